@@ -1,0 +1,32 @@
+-- What can be asked of one quantity: to hold an amount more, and to move the value at once.
+use Rattle.std.specs.Prelude.{◌≡◌, ℕ, ◌+◌, ℤ, pos, ◌+ℤ◌, ◌-ℤ◌}
+use Rattle.escrow.specs.Choices.{EveryChoice, IsWithin}
+use Rattle.escrow.specs.Stock.{Stock}
+use Rattle.escrow.specs.declared.quantity.Bound.{Bound}
+use Rattle.escrow.specs.declared.quantity.Bound.TheVariants.{TooLittle, TooMuch}
+use Rattle.escrow.specs.declared.quantity.Way.{Way}
+use Rattle.escrow.specs.declared.quantity.Way.TheVariants.{Add, Take}
+
+-- the quantity with n more held
+abbrev pub holding : Stock → Way → ℕ → Stock
+holding q Take n = record q { held_to_take = q.held_to_take + n }
+holding q Add n = record q { held_to_add = q.held_to_add + n }
+
+-- a number moved by n
+abbrev pub moved : Way → ℕ → ℤ → ℤ
+moved Take n z = z -ℤ pos n
+moved Add n z = z +ℤ pos n
+
+-- each choice would stay within the bounds, were the value moved by n
+abbrev pub IsSafeMoved : Stock → Way → ℕ → Type 0
+IsSafeMoved q way n = EveryChoice q (λ z. IsWithin q (moved way n z))
+
+-- the new quantity is the old one with its value moved by n, and all else as it was
+pub record MovesValue (old : Stock) (way : Way) (n : ℕ) (new : Stock) : Type 0 where
+  pub value : pos new.value ≡ moved way n (pos old.value)
+  pub others : new ≡ record old { value = new.value }
+
+-- the bound that a step this way may pass
+abbrev pub bound_of : Way → Bound
+bound_of Take = TooLittle
+bound_of Add = TooMuch

@@ -1,0 +1,172 @@
+//! One quantity of stock under escrow.
+
+ghost use Rattle.std.specs.Prelude.{◌≡◌, ◌≤◌, ◌↔◌, pos, IsOk, IfErr, IfOk, OnErr, OnOk};
+ghost use Rattle.escrow.specs.Choices.{IsInfimum, IsSafe, IsSupremum};
+ghost use Rattle.escrow.specs.Escrow.{IsSafeMoved, MovesValue, bound_of, holding};
+ghost use Rattle.escrow.specs.Stock.{Stock};
+
+use crate::number::{Level, Qty};
+use std::marker::Model;
+use thiserror::Error;
+
+/// Whether stock is taken or added.
+#[derive(Clone, Copy, Debug, PartialEq, Eq)]
+pub enum Way {
+    Take,
+    Add,
+}
+
+/// The value does not lie within the bounds.
+#[derive(Clone, Copy, Debug, PartialEq, Eq, Error)]
+#[error("not lo <= value <= hi")]
+pub struct BadBounds;
+
+/// The bound that some outcome of the open orders would pass.
+#[derive(Clone, Copy, Debug, PartialEq, Eq, Error)]
+pub enum Bound {
+    #[error("some outcome is below the lower bound")]
+    TooLittle,
+    #[error("some outcome is above the upper bound")]
+    TooMuch,
+}
+
+/// A quantity of stock, in pieces: its bounds, its settled value, and the amounts that open orders hold
+/// to take and to add.
+///
+/// Each order that is open may still take or add any part of what it holds. So a request is tested
+/// against the worst outcome of all of them (O'Neil's escrow method), and whatever is held can be used
+/// or given back in any order, within the bounds.
+#[derive(Clone, Copy, Debug, PartialEq, Eq)]
+pub struct Quantity {
+    lo: u64,
+    hi: u64,
+    value: u64,
+    held_to_take: u64,
+    held_to_add: u64,
+}
+
+impl Model for Quantity {
+    ghost use Rattle.std.specs.Prelude.{◌+◌, ◌≤◌};
+    ghost use Rattle.escrow.specs.Ranges.{IsLevel};
+    ghost use Rattle.escrow.specs.Stock.{Stock};
+
+    ghost Value = { Stock };
+
+    ghost view = { λ q. record { lo = q.lo; hi = q.hi; value = q.value; held_to_take = q.held_to_take; held_to_add = q.held_to_add } };
+
+    ghost invariant = { λ q. (q.lo + q.held_to_take ≤ q.value) × (q.value + q.held_to_add ≤ q.hi) × IsLevel q.hi };
+
+    ghost inverse = { λ s. record { lo = s.lo; hi = s.hi; value = s.value; held_to_take = s.held_to_take; held_to_add = s.held_to_add } };
+}
+
+impl Quantity {
+    /// A quantity of which nothing is held, or `BadBounds` exactly where not `lo <= value <= hi`.
+    pub fn start(lo: Level, hi: Level, value: Level) -> Result<Quantity, BadBounds>
+        ensures within { IsOk result ↔ ((lo ≤ value) × (value ≤ hi)) }
+        ensures ok { IfOk result (λ q. q ≡ record { lo = lo; hi = hi; value = value; held_to_take = 0; held_to_add = 0 }) }
+    {
+        if lo > value || value > hi {
+            return Err(BadBounds);
+        }
+        Ok(Quantity {
+            lo: lo.get(),
+            hi: hi.get(),
+            value: value.get(),
+            held_to_take: 0,
+            held_to_add: 0,
+        })
+    }
+
+    /// Holds an amount to take or to add, where the stock stays within its bounds whatever becomes of all
+    /// that is then held. Else a take is `TooLittle`, an add `TooMuch`, and the quantity is as it was.
+    pub fn ask(&mut self, way: Way, qty: Qty) -> Result<(), Bound>
+        ensures granted { IsOk result ↔ IsSafe (holding self.old way qty) }
+        ensures ok { OnOk result (self.new ≡ holding self.old way qty) }
+        ensures err { OnErr result (self.new ≡ self.old) }
+        ensures bound { IfErr result (λ bound. bound ≡ bound_of way) }
+    {
+        let amount = qty.get();
+        match way {
+            Way::Take => {
+                let least = self.value - self.held_to_take;
+                if least < self.lo + amount {
+                    return Err(Bound::TooLittle);
+                }
+                self.held_to_take += amount;
+            }
+            Way::Add => {
+                let greatest = self.value + self.held_to_add;
+                if greatest + amount > self.hi {
+                    return Err(Bound::TooMuch);
+                }
+                self.held_to_add += amount;
+            }
+        }
+        Ok(())
+    }
+
+    /// Moves the value itself, down for a write-off and up for a delivery, where the stock stays within its
+    /// bounds whatever becomes of what is held. Else a take is `TooLittle`, an add `TooMuch`, and the
+    /// quantity is as it was.
+    pub fn at_once(&mut self, way: Way, qty: Qty) -> Result<(), Bound>
+        ensures granted { IsOk result ↔ IsSafeMoved self.old way qty }
+        ensures ok { OnOk result (MovesValue self.old way qty self.new) }
+        ensures err { OnErr result (self.new ≡ self.old) }
+        ensures bound { IfErr result (λ bound. bound ≡ bound_of way) }
+    {
+        let amount = qty.get();
+        let inf = self.value - self.held_to_take;
+        let sup = self.value + self.held_to_add;
+        match way {
+            Way::Take => {
+                if inf < self.lo + amount {
+                    return Err(Bound::TooLittle);
+                }
+                self.value -= amount;
+            }
+            Way::Add => {
+                if sup + amount > self.hi {
+                    return Err(Bound::TooMuch);
+                }
+                self.value += amount;
+            }
+        }
+        Ok(())
+    }
+
+    /// The lower bound.
+    pub fn lo(&self) -> Level
+        ensures { result ≡ self.now.lo }
+    {
+        Level::of(self.lo)
+    }
+
+    /// The upper bound.
+    pub fn hi(&self) -> Level
+        ensures { result ≡ self.now.hi }
+    {
+        Level::of(self.hi)
+    }
+
+    /// The settled value. Whatever becomes of what is held, the stock stays within its bounds.
+    pub fn value(&self) -> Level
+        ensures value { result ≡ self.now.value }
+        ensures safe { IsSafe self.now }
+    {
+        Level::of(self.value)
+    }
+
+    /// The infimum (O'Neil's inf): the least value that the outcomes of the open orders can leave.
+    pub fn inf(&self) -> Level
+        ensures { IsInfimum self.now (pos result) }
+    {
+        Level::of(self.value - self.held_to_take)
+    }
+
+    /// The supremum (O'Neil's sup): the greatest value that they can leave.
+    pub fn sup(&self) -> Level
+        ensures { IsSupremum self.now (pos result) }
+    {
+        Level::of(self.value + self.held_to_add)
+    }
+}

@@ -1,0 +1,146 @@
+use super::*;
+use std::process::Abort;
+use std::test::Fail;
+
+fn level(amount: u64) -> Result<Level, Fail> {
+    Ok(Level::new(amount).ok_or("a level")?)
+}
+
+fn qty(pieces: u64) -> Result<Qty, Fail> {
+    Ok(Qty::new(pieces).ok_or("a quantity")?)
+}
+
+fn start(lo: u64, hi: u64, value: u64) -> Result<Quantity, Fail> {
+    Ok(Quantity::start(level(lo)?, level(hi)?, level(value)?)?)
+}
+
+/// Compares the value, the infimum and the supremum.
+fn shows<R: Abort>(rt: &R, stock: &Quantity, value: u64, inf: u64, sup: u64) {
+    assert_eq!(rt; stock.value().get(), value);
+    assert_eq!(rt; stock.inf().get(), inf);
+    assert_eq!(rt; stock.sup().get(), sup);
+}
+
+#[test]
+fn codes_are_read_by_their_form(rt: HostRuntime) -> Result<(), Fail> {
+    for text in ["N", "N1", "0", "ABCDEFG8"] {
+        assert!(rt;
+            Branch::read(text.as_bytes())?.as_bytes() == text.as_bytes(),
+            "{text}"
+        );
+    }
+    for text in ["", "n1", "N 1", "N-1", "ABCDEFGH9", "Ä"] {
+        assert!(rt; Branch::read(text.as_bytes()) == Err(BadCode), "{text}");
+    }
+    for text in ["A", "A-1", "1-", "ABCDEFGHIJKLMNO6"] {
+        assert!(rt;
+            Article::read(text.as_bytes())?.as_bytes() == text.as_bytes(),
+            "{text}"
+        );
+    }
+    for text in ["", "-A", "a-1", "A_1", "ABCDEFGHIJKLMNOP7"] {
+        assert!(rt; Article::read(text.as_bytes()) == Err(BadCode), "{text}");
+    }
+    for text in ["K1", "-", "a-Z", "0123456789ABCDEFabcdef-0123456789ABC"] {
+        assert!(rt;
+            Key::read(text.as_bytes())?.as_bytes() == text.as_bytes(),
+            "{text}"
+        );
+    }
+    for text in [
+        "",
+        "?",
+        "K 1",
+        "K1\r",
+        "0123456789ABCDEFabcdef-0123456789ABC7",
+    ] {
+        assert!(rt; Key::read(text.as_bytes()) == Err(BadCode), "{text}");
+    }
+    Ok(())
+}
+
+#[test]
+fn codes_are_ordered_by_their_bytes(rt: HostRuntime) -> Result<(), Fail> {
+    let (nine, a, ab) = (
+        Branch::read(b"9")?,
+        Branch::read(b"A")?,
+        Branch::read(b"AB")?,
+    );
+    assert!(rt; nine < a && a < ab && ab == ab && a != ab);
+    let (hyphen, plain) = (Article::read(b"A-1")?, Article::read(b"A1")?);
+    assert!(rt; hyphen < plain && plain <= plain && hyphen != plain);
+    let (upper, lower) = (Key::read(b"K1")?, Key::read(b"k1")?);
+    assert!(rt; upper < lower && lower > upper && upper != lower);
+    Ok(())
+}
+
+#[test]
+fn numbers_are_in_their_ranges(rt: HostRuntime) {
+    for (number, is_level, is_qty, is_moment, is_order_no) in [
+        (0, true, false, true, false),
+        (1, true, true, true, true),
+        (1_000_000, true, true, true, true),
+        (1_000_001, true, false, true, true),
+        (999_999_999, true, false, true, true),
+        (1_000_000_000, true, false, true, false),
+        (1_000_000_001, false, false, true, false),
+        (4_000_000_000, false, false, true, false),
+        (4_000_000_001, false, false, false, false),
+        (u64::MAX, false, false, false, false),
+    ] {
+        let of = |is_there: bool| if is_there { Some(number) } else { None };
+        assert_eq!(rt;
+            Level::new(number).map(|x| x.get()),
+            of(is_level),
+            "{number}"
+        );
+        assert_eq!(rt; Qty::new(number).map(|x| x.get()), of(is_qty), "{number}");
+        assert_eq!(rt;
+            Moment::new(number).map(|x| x.get()),
+            of(is_moment),
+            "{number}"
+        );
+        assert_eq!(rt;
+            OrderNo::new(number).map(|x| x.get()),
+            of(is_order_no),
+            "{number}"
+        );
+    }
+}
+
+#[test]
+fn requests_are_tested_against_the_worst_outcome(rt: HostRuntime) -> Result<(), Fail> {
+    let mut stock = start(0, 100, 40)?;
+    assert!(rt; stock.lo() == level(0)? && stock.hi() == level(100)?);
+    shows(&rt, &stock, 40, 40, 40);
+    assert_eq!(rt; stock.ask(Way::Take, qty(35)?), Ok(()));
+    shows(&rt, &stock, 40, 5, 40);
+    assert_eq!(rt; stock.ask(Way::Take, qty(6)?), Err(Bound::TooLittle));
+    shows(&rt, &stock, 40, 5, 40);
+    assert_eq!(rt; stock.ask(Way::Take, qty(5)?), Ok(()));
+    shows(&rt, &stock, 40, 0, 40);
+    assert_eq!(rt; stock.at_once(Way::Add, qty(60)?), Ok(()));
+    shows(&rt, &stock, 100, 60, 100);
+    assert_eq!(rt; stock.at_once(Way::Add, qty(1)?), Err(Bound::TooMuch));
+    assert_eq!(rt; stock.ask(Way::Add, qty(1)?), Err(Bound::TooMuch));
+    assert_eq!(rt; stock.at_once(Way::Take, qty(61)?), Err(Bound::TooLittle));
+    shows(&rt, &stock, 100, 60, 100);
+    assert_eq!(rt; stock.at_once(Way::Take, qty(60)?), Ok(()));
+    shows(&rt, &stock, 40, 0, 40);
+    assert_eq!(rt; stock.ask(Way::Add, qty(60)?), Ok(()));
+    shows(&rt, &stock, 40, 0, 100);
+    Ok(())
+}
+
+#[test]
+fn bounds_may_leave_no_room(rt: HostRuntime) -> Result<(), Fail> {
+    let mut stock = start(5, 5, 5)?;
+    assert_eq!(rt; stock.ask(Way::Take, qty(1)?), Err(Bound::TooLittle));
+    assert_eq!(rt; stock.ask(Way::Add, qty(1)?), Err(Bound::TooMuch));
+    shows(&rt, &stock, 5, 5, 5);
+    for (lo, hi, value) in [(5, 4, 5), (5, 9, 4), (0, 4, 5)] {
+        let made = Quantity::start(level(lo)?, level(hi)?, level(value)?);
+        assert_eq!(rt; made, Err(BadBounds));
+    }
+    Ok(())
+}

@@ -1,0 +1,9 @@
+pub mod Answered
+pub mod Cuts
+pub mod Decided
+pub mod Decimals
+pub mod OneText
+pub mod SomeItems
+pub mod SomeText
+pub mod Spaced
+pub mod Texts

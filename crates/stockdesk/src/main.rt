@@ -1,0 +1,90 @@
+//! The desk of one field, over lines of text on standard input and output.
+#![tactic(auto)]
+
+ghost use Rattle.std.specs.Prelude.{◌≡◌, ◌≤◌, ◌↔◌, IsTrue};
+ghost use Rattle.std.specs.Io.KnownBytes.{Keeps};
+ghost use Rattle.stockdesk.specs.Runs.{AreRun, RunsInPart, RunsWhole};
+
+mod desk;
+mod engine;
+mod line;
+mod reply;
+mod streams;
+#[cfg(test)]
+mod tests;
+mod words;
+
+use crate::engine::run;
+use crate::streams::{Fault, write_all};
+use std::env::{self, Env};
+use std::io::{self, Read, Write};
+use std::process::ExitCode;
+
+/// Does what the words behind the program's name say, and gives the status to end with: 0 where it is
+/// done, 1 after a fault, 2 for other words than the one word `run`. A fault and other words are told in a
+/// line of `errors`.
+pub fn go<H, R, W, E>(rt: &H, words: &[&str], reader: &mut R, writer: &mut W, errors: &mut E) -> u8
+where
+    H: AllocGlobal,
+    R: Read,
+    W: Write,
+    E: Write,
+    ensures status { result ≤ 2 }
+    ensures done { result ≡ 0 → RunsWhole (R.remaining reader.old) (R.remaining reader.new) (W.contents writer.old) (W.contents writer.new) }
+    ensures fault { result ≡ 1 → RunsInPart (R.remaining reader.old) (R.remaining reader.new) (W.contents writer.old) (W.contents writer.new) }
+    ensures usage { (result ≡ 2) ↔ (AreRun words.now → ⊥) }
+    ensures untouched { result ≡ 2 → Keeps (R.remaining reader.old) (R.remaining reader.new) × Keeps (W.contents writer.old) (W.contents writer.new) }
+{
+    if !are_run(words) {
+        return tell(errors, b"stockdesk: usage\n", 2);
+    }
+    match run(rt.alloc(), reader, writer) {
+        Ok(()) => 0,
+        Err(Fault::Memory) => tell(errors, b"stockdesk: memory\n", 1),
+        Err(Fault::Read) => tell(errors, b"stockdesk: io\n", 1),
+        Err(Fault::Write) => tell(errors, b"stockdesk: io\n", 1),
+    }
+}
+
+/// Whether the words are the one word `run`.
+fn are_run(words: &[&str]) -> bool
+    ensures { IsTrue result ↔ AreRun words.now }
+{
+    match words {
+        [word] => *word == "run",
+        _ => false,
+    }
+}
+
+/// Writes a line, if that can be done, and gives the status.
+fn tell<E: Write>(errors: &mut E, line: &[u8], status: u8) -> u8
+    ensures { result ≡ status }
+{
+    let _ = write_all(errors, line);
+    status
+}
+
+fn main(rt: HostRuntime) -> ExitCode {
+    let alloc = rt.alloc();
+    let mut errors = rt.stderr();
+    let Ok(args) = env::args(&rt) else {
+        return ExitCode::from(tell(&mut errors, b"stockdesk: io\n", 1));
+    };
+    let Ok(args) = args.skip(1).collect::<Vec<String>>(alloc) else {
+        return ExitCode::from(tell(&mut errors, b"stockdesk: memory\n", 1));
+    };
+    let Ok(words) = args
+        .iter()
+        .map(|word| word.as_str())
+        .collect::<Vec<&str>>(alloc)
+    else {
+        return ExitCode::from(tell(&mut errors, b"stockdesk: memory\n", 1));
+    };
+    ExitCode::from(go(
+        &rt,
+        words.as_slice(),
+        &mut rt.stdin(),
+        &mut rt.stdout(),
+        &mut errors,
+    ))
+}

@@ -1,0 +1,186 @@
+use super::*;
+use std::process::Abort;
+use std::test::Fail;
+
+/// A script and its reply lines.
+const ROWS: [(&str, &str); 5] = [
+    ("", ""),
+    ("K1 field N1 A-1 0 100 40\n? field N1 A-1\n", FIRST),
+    (
+        "K1 field N1 A-1 0 100 40\nK2 deliver N1 A-1 60\n? field N1 A-1\nK3 deliver N1 A-1 1\nK4 writeoff N1 A-1 100\n? field N1 A-1\nK5 writeoff N1 A-1 1\nK6 field N2 A-1 0 1 0\nK7 deliver N2 A-1 1\n? field N2 A-1\n",
+        "K1 done 1\nK2 done 2\n? field N1 A-1 lo 0 hi 100 value 100 inf 100 sup 100\nK3 refused 14 TooMuch 0\nK4 done 3\n? field N1 A-1 lo 0 hi 100 value 0 inf 0 sup 0\nK5 refused 13 TooLittle 0\nK6 refused 2 Full 0\nK7 refused 4 NoField 0\n? none\n",
+    ),
+    (
+        "K1 field N1 A-1 0 100 40\nK9 deliver N1 A-1 5",
+        "K1 done 1\n- refused 20 BadCommand 0\n",
+    ),
+    (
+        "Z4 field N1 E-1 5 4 5\nZ1 field N1 D-1 5 5 5\nZ1 field N1 D-1 5 5 5\n",
+        "Z4 refused 5 BadBounds 0\nZ1 done 1\nZ1 refused 2 Full 0\n",
+    ),
+];
+
+const FIRST: &str = "K1 done 1\n? field N1 A-1 lo 0 hi 100 value 40 inf 40 sup 40\n";
+
+/// Gives its bytes one at a time, and fails in the place of the byte with this number.
+#[derive(Drop)]
+struct Drip<'a> {
+    bytes: &'a [u8],
+    before_fault: usize,
+}
+
+impl Read for Drip<'_> {
+    fn read(&mut self, buffer: &mut [u8]) -> io::Result<usize> {
+        if self.before_fault == 0 {
+            return Err(io::Error::from(io::ErrorKind::Interrupted));
+        }
+        let bytes = self.bytes;
+        match (bytes, buffer) {
+            ([first, rest @ ..], [cell, ..]) => {
+                *cell = *first;
+                self.bytes = rest;
+                self.before_fault -= 1;
+                Ok(1)
+            }
+            _ => Ok(0),
+        }
+    }
+}
+
+/// Takes a byte at a time, and takes none or fails after so many.
+#[derive(Drop)]
+struct Sink {
+    taken: Vec<u8>,
+    before_fault: usize,
+    takes_none: bool,
+}
+
+impl Write for Sink {
+    fn write(&mut self, bytes: &[u8]) -> io::Result<usize> {
+        if self.before_fault == 0 && self.takes_none {
+            return Ok(0);
+        }
+        if self.before_fault == 0 {
+            return Err(io::Error::from(io::ErrorKind::Interrupted));
+        }
+        let Some(first) = bytes.first() else {
+            return Ok(0);
+        };
+        self.taken.push(*first)?;
+        self.before_fault -= 1;
+        Ok(1)
+    }
+
+    fn flush(&mut self) -> io::Result<()> {
+        Ok(())
+    }
+}
+
+fn expect<R: Abort + AllocGlobal>(rt: &R, script: &str, replies: &str) -> Result<(), Fail> {
+    let mut out: Vec<u8> = Vec::new(rt.alloc());
+    let mut errors: Vec<u8> = Vec::new(rt.alloc());
+    let status = go(rt, &["run"], &mut script.as_bytes(), &mut out, &mut errors);
+    assert_eq!(rt; status, 0);
+    assert!(rt; out.as_slice() == replies.as_bytes(), "{script}");
+    assert!(rt; errors.is_empty());
+    Ok(())
+}
+
+#[test]
+fn scripts_are_answered(rt: HostRuntime) -> Result<(), Fail> {
+    for (script, replies) in ROWS {
+        expect(&rt, script, replies)?;
+    }
+    Ok(())
+}
+
+#[test]
+fn lines_have_one_spelling(rt: HostRuntime) -> Result<(), Fail> {
+    for script in [
+        "\n",
+        "K1  commit 7\n",
+        "K1 deliver N1 A-1 05\n",
+        "K1 deliver N1 A-1 0\n",
+        "K1 deliver N1 A-1 1000001\n",
+        "K1 deliver n1 A-1 5\n",
+        "K1 deliver N1 -A 5\n",
+        "K1 commit 7\r\n",
+        "K9 use 7 N1 A-1 5",
+        "K1 deliver N1 A-1 +5\n",
+        "K1 deliver N1 A-1 5 \n",
+        "K1 field N1 A-1 00 100 40\n",
+        "K1 field N1 A-1 0 1000000001 40\n",
+        "? field  N1 A-1\n",
+        "? order 7\n",
+        "\0\n",
+    ] {
+        expect(&rt, script, "- refused 20 BadCommand 0\n")?;
+    }
+    expect(
+        &rt,
+        "K1 deliver N1 A-1 1000000\n",
+        "K1 refused 4 NoField 0\n",
+    )
+}
+
+#[test]
+fn other_words_are_usage(rt: HostRuntime) -> Result<(), Fail> {
+    let none: [&str; 0] = [];
+    for words in [none.as_slice(), &["Run"], &["run", "FILE"], &["--help"]] {
+        let mut out: Vec<u8> = Vec::new(rt.alloc());
+        let mut errors: Vec<u8> = Vec::new(rt.alloc());
+        let status = go(&rt, words, &mut b"\n".as_slice(), &mut out, &mut errors);
+        assert_eq!(rt; status, 2);
+        assert!(rt; out.is_empty());
+        assert!(rt; errors.as_slice() == b"stockdesk: usage\n".as_slice());
+    }
+    Ok(())
+}
+
+#[test]
+fn a_failing_reader_is_a_fault(rt: HostRuntime) -> Result<(), Fail> {
+    let bytes = b"K1 field N1 A-1 0 100 40\n? field N1 A-1\n".as_slice();
+    for before_fault in 0..bytes.len() {
+        let mut out: Vec<u8> = Vec::new(rt.alloc());
+        let mut errors: Vec<u8> = Vec::new(rt.alloc());
+        let mut reader = Drip {
+            bytes,
+            before_fault,
+        };
+        let status = go(&rt, &["run"], &mut reader, &mut out, &mut errors);
+        assert_eq!(rt; status, 1);
+        assert!(rt; out.is_empty());
+        assert!(rt; errors.as_slice() == b"stockdesk: io\n".as_slice());
+    }
+    let mut out: Vec<u8> = Vec::new(rt.alloc());
+    let mut errors: Vec<u8> = Vec::new(rt.alloc());
+    let mut reader = Drip {
+        bytes,
+        before_fault: bytes.len() + 1,
+    };
+    assert_eq!(rt; go(&rt, &["run"], &mut reader, &mut out, &mut errors), 0);
+    assert!(rt; out.as_slice() == FIRST.as_bytes());
+    Ok(())
+}
+
+#[test]
+fn a_failing_writer_is_a_fault(rt: HostRuntime) -> Result<(), Fail> {
+    let script = b"K1 field N1 A-1 0 100 40\n? field N1 A-1\n".as_slice();
+    for before_fault in 0..FIRST.len() {
+        for takes_none in [false, true] {
+            let mut errors: Vec<u8> = Vec::new(rt.alloc());
+            let mut writer = Sink {
+                taken: Vec::new(rt.alloc()),
+                before_fault,
+                takes_none,
+            };
+            let mut reader = script;
+            let status = go(&rt, &["run"], &mut reader, &mut writer, &mut errors);
+            assert_eq!(rt; status, 1);
+            assert_eq!(rt; writer.taken.len(), before_fault);
+            assert!(rt; FIRST.as_bytes().starts_with(writer.taken.as_slice()));
+            assert!(rt; errors.as_slice() == b"stockdesk: io\n".as_slice());
+        }
+    }
+    Ok(())
+}
