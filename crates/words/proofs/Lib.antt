@@ -1,0 +1,11 @@
+pub mod ByItem
+pub mod ByKind
+pub mod Cuts
+pub mod Cutting
+pub mod Decimals
+pub mod Longest
+pub mod OneItem
+pub mod OrderLines
+pub mod Pieces
+pub mod Spaced
+pub mod Written

@@ -1,0 +1,28 @@
+-- What a line is.
+use Rattle.std.specs.Prelude.{◌≡◌, ℕ, ◌≤◌, List, [], ◌∷◌, codes, decimal, length}
+use Rattle.escrow.specs.Codes.{IsArticle, IsBranch, IsKey}
+use Rattle.escrow.specs.Ranges.{IsOrderNo}
+use Rattle.words.specs.Spelling.{IsInRange, command_words}
+use Rattle.words.specs.Words.{spaced}
+use Rattle.words.specs.declared.command.Request.{Request as RequestOf}
+use Rattle.words.specs.declared.item.Item.{Item}
+use Rattle.words.specs.declared.item.Item.TheVariants.{AskField, AskOrder, Bad, Request}
+use Rattle.words.specs.declared.limits.TheConstants.{MAX_LINE_LEN}
+
+-- a key, a space and a command
+abbrev pub IsRequest : List ℕ → RequestOf → Type 0
+IsRequest line r = IsKey r.key × IsInRange r.command × (line ≡ spaced (r.key ∷ command_words r.command))
+
+-- what the line says
+abbrev pub Says : List ℕ → Item → Type 0
+Says line (Request r) = IsRequest line r
+Says line (AskField b a) = IsBranch b × IsArticle a × (line ≡ spaced (codes "?" ∷ codes "field" ∷ b ∷ a ∷ []))
+Says line (AskOrder n) = IsOrderNo n × (line ≡ spaced (codes "?" ∷ codes "order" ∷ decimal n ∷ []))
+Says line Bad = ⊥
+
+-- The line is the item that it says. A line that says nothing, or is longer than a line may be, is bad.
+abbrev pub IsItem : List ℕ → Item → Type 0
+IsItem line (Request r) = (length line ≤ MAX_LINE_LEN) × Says line (Request r)
+IsItem line (AskField b a) = (length line ≤ MAX_LINE_LEN) × Says line (AskField b a)
+IsItem line (AskOrder n) = (length line ≤ MAX_LINE_LEN) × Says line (AskOrder n)
+IsItem line Bad = (item : Item) → length line ≤ MAX_LINE_LEN → Says line item → ⊥

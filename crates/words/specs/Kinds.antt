@@ -1,0 +1,44 @@
+-- Words that are those of no command of a kind.
+use Rattle.std.specs.Prelude.{◌≡◌, ℕ, List}
+use Rattle.escrow.specs.declared.quantity.Way.{Way}
+use Rattle.words.specs.Spelling.{IsInRange, command_words}
+use Rattle.words.specs.declared.command.Command.{Command}
+use Rattle.words.specs.declared.command.Command.TheVariants.{Abort, Commit, Deliver, Expire, Field, More, Open, Release, Transfer, Use, Writeoff}
+use Rattle.words.specs.declared.open_line.OpenLine.{OpenLine}
+
+-- the words are not those of the command, or it is not in range
+abbrev pub AreNot : List (List ℕ) → Command → Type 0
+AreNot words c = IsInRange c → words ≡ command_words c → ⊥
+
+abbrev pub NoField : List (List ℕ) → Type 0
+NoField words = (b a : List ℕ) (lo hi start : ℕ) → AreNot words (Field b a lo hi start)
+
+abbrev pub NoDeliver : List (List ℕ) → Type 0
+NoDeliver words = (b a : List ℕ) (qty : ℕ) → AreNot words (Deliver b a qty)
+
+abbrev pub NoWriteoff : List (List ℕ) → Type 0
+NoWriteoff words = (b a : List ℕ) (qty : ℕ) → AreNot words (Writeoff b a qty)
+
+abbrev pub NoOpen : List (List ℕ) → Type 0
+NoOpen words = (n until : ℕ) (lines : List OpenLine) → AreNot words (Open n until lines)
+
+abbrev pub NoTransfer : List (List ℕ) → Type 0
+NoTransfer words = (n until : ℕ) (a from to : List ℕ) (qty : ℕ) → AreNot words (Transfer n until a from to qty)
+
+abbrev pub NoMore : List (List ℕ) → Type 0
+NoMore words = (n : ℕ) (way : Way) (b a : List ℕ) (qty : ℕ) → AreNot words (More n way b a qty)
+
+abbrev pub NoUse : List (List ℕ) → Type 0
+NoUse words = (n : ℕ) (b a : List ℕ) (qty : ℕ) → AreNot words (Use n b a qty)
+
+abbrev pub NoRelease : List (List ℕ) → Type 0
+NoRelease words = (n : ℕ) (b a : List ℕ) (qty : ℕ) → AreNot words (Release n b a qty)
+
+abbrev pub NoCommit : List (List ℕ) → Type 0
+NoCommit words = (n : ℕ) → AreNot words (Commit n)
+
+abbrev pub NoAbort : List (List ℕ) → Type 0
+NoAbort words = (n : ℕ) → AreNot words (Abort n)
+
+abbrev pub NoExpire : List (List ℕ) → Type 0
+NoExpire words = (now : ℕ) → AreNot words (Expire now)

@@ -1,0 +1,30 @@
+-- The lines of an `open`.
+use Rattle.std.specs.Prelude.{ℕ, ◌≤◌, List, [], ◌∷◌, codes, decimal, length}
+use Rattle.std.specs.List.{All}
+use Rattle.escrow.specs.Codes.{IsArticle, IsBranch}
+use Rattle.escrow.specs.Ranges.{IsQty}
+use Rattle.escrow.specs.declared.quantity.Way.{Way}
+use Rattle.escrow.specs.declared.quantity.Way.TheVariants.{Add, Take}
+use Rattle.words.specs.declared.limits.TheConstants.{MAX_ORDER_LINES}
+use Rattle.words.specs.declared.open_line.OpenLine.{OpenLine}
+
+-- its codes are codes, and its quantity is in range
+pub record IsOpenLine (line : OpenLine) : Type 0 where
+  pub branch : IsBranch line.branch
+  pub article : IsArticle line.article
+  pub qty : IsQty line.qty
+
+-- 1 to 64 lines
+pub record AreOpenLines (lines : List OpenLine) : Type 0 where
+  pub some : 1 ≤ length lines
+  pub fits : length lines ≤ MAX_ORDER_LINES
+  pub each : All IsOpenLine lines
+
+abbrev pub way_word : Way → List ℕ
+way_word Take = codes "take"
+way_word Add = codes "add"
+
+-- the words of the lines, four a line
+abbrev pub line_words : List OpenLine → List (List ℕ)
+line_words [] = []
+line_words (line ∷ lines) = way_word line.way ∷ line.branch ∷ line.article ∷ decimal line.qty ∷ line_words lines

@@ -1,0 +1,121 @@
+//! What a line is.
+
+ghost use Rattle.std.specs.Prelude.{◌≡◌, ◌≤◌, ◌∷◌, [], List, ℕ, IfNone, IfOk, IfSome, codes, decimal, length};
+ghost use Rattle.escrow.specs.Codes.{IsArticle, IsBranch};
+ghost use Rattle.escrow.specs.Ranges.{IsOrderNo};
+ghost use Rattle.words.specs.Items.{IsItem, IsRequest};
+ghost use Rattle.words.specs.Words.{words_of};
+ghost use Rattle.words.specs.declared.command.Request.{Request};
+ghost use Rattle.words.specs.declared.item.Item.{Item};
+
+use crate::command::Request;
+use crate::cut::cut;
+use crate::limits::{LONGEST_REQUEST, MAX_LINE_LEN};
+use crate::read::{WordsFault, read_command};
+use crate::reply::Memory;
+use crate::word::{last_word, word_then};
+use escrow::{Article, Branch, Key, OrderNo};
+use std::alloc::Global;
+
+/// What a line is.
+#[derive(Debug, Drop)]
+pub enum Item {
+    /// A key and a command.
+    Request(Request),
+    /// `? field BRANCH ARTICLE`
+    AskField(Branch, Article),
+    /// `? order NUMBER`
+    AskOrder(OrderNo),
+    /// Any other line.
+    Bad,
+}
+
+/// What stands behind the words of an ask.
+fn ask_then<'a>(bytes: &'a [u8], noun: &[u8]) -> Option<&'a [u8]>
+    ensures found { IfSome result (λ rest. words_of bytes.now ≡ codes "?" ∷ noun.now ∷ words_of rest.now) }
+    ensures none { IfNone result ((word : List ℕ) (words : List (List ℕ)) → words_of bytes.now ≡ codes "?" ∷ noun.now ∷ word ∷ words → ⊥) }
+{
+    let (mark, rest) = cut(bytes, b' ')?;
+    if mark != b"?".as_slice() {
+        return None;
+    }
+    let (word, rest) = cut(rest, b' ')?;
+    if word != noun {
+        return None;
+    }
+    Some(rest)
+}
+
+/// An ask for a field.
+fn read_ask_field(bytes: &[u8]) -> Option<(Branch, Article)>
+    ensures form { IfSome result (λ r. IsBranch r.0 × IsArticle r.1) }
+    ensures found { IfSome result (λ r. words_of bytes.now ≡ codes "?" ∷ codes "field" ∷ r.0 ∷ r.1 ∷ []) }
+    ensures none { IfNone result ((b a : List ℕ) → IsBranch b → IsArticle a → words_of bytes.now ≡ codes "?" ∷ codes "field" ∷ b ∷ a ∷ [] → ⊥) }
+{
+    let rest = ask_then(bytes, b"field")?;
+    let Some((branch, rest)) = word_then::<Branch>(rest) else {
+        return None;
+    };
+    let article = last_word::<Article>(rest)?;
+    Some((branch, article))
+}
+
+/// An ask for an order.
+fn read_ask_order(bytes: &[u8]) -> Option<OrderNo>
+    ensures form { IfSome result IsOrderNo }
+    ensures found { IfSome result (λ n. words_of bytes.now ≡ codes "?" ∷ codes "order" ∷ decimal n ∷ []) }
+    ensures none { IfNone result ((n : ℕ) → IsOrderNo n → words_of bytes.now ≡ codes "?" ∷ codes "order" ∷ decimal n ∷ [] → ⊥) }
+{
+    let rest = ask_then(bytes, b"order")?;
+    last_word::<OrderNo>(rest)
+}
+
+/// A key and a command.
+fn read_request(alloc: Global, bytes: &[u8]) -> Result<Option<Request>, Memory>
+    ensures found { IfOk result (λ found. IfSome found (IsRequest bytes.now)) }
+    ensures none { IfOk result (λ found. IfNone found ((r : Request) → IsRequest bytes.now r → ⊥)) }
+{
+    let Some(key) = word_then::<Key>(bytes) else {
+        return Ok(None);
+    };
+    match read_command(alloc, key.1) {
+        Ok(command) => Ok(Some(Request {
+            key: key.0,
+            command,
+        })),
+        Err(WordsFault::BadCommand) => Ok(None),
+        Err(WordsFault::Memory) => Err(Memory),
+    }
+}
+
+/// The item that a line is; the line stands without its newline.
+pub fn read_item(alloc: Global, line: &[u8]) -> Result<Item, Memory>
+    ensures { IfOk result (λ item. IsItem line.now item) }
+{
+    if line.len() > MAX_LINE_LEN {
+        return Ok(Item::Bad);
+    }
+    if let Some((branch, article)) = read_ask_field(line) {
+        return Ok(Item::AskField(branch, article));
+    }
+    if let Some(number) = read_ask_order(line) {
+        return Ok(Item::AskOrder(number));
+    }
+    match read_request(alloc, line) {
+        Ok(Some(request)) => Ok(Item::Request(request)),
+        Ok(None) => Ok(Item::Bad),
+        Err(Memory) => Err(Memory),
+    }
+}
+
+/// A line is one item and no other.
+pub fn one_item()
+    ensures { (line : List ℕ) (i j : Item) → IsItem line i → IsItem line j → i ≡ j }
+{}
+
+/// No line that is a request is longer than 2,558 bytes, and a line may be longer: the limit of a line refuses
+/// no request.
+pub fn no_request_is_too_long()
+    ensures length { (line : List ℕ) (r : Request) → IsRequest line r → length line ≤ LONGEST_REQUEST }
+    ensures limit { LONGEST_REQUEST ≤ MAX_LINE_LEN }
+{}

@@ -1,0 +1,28 @@
+//! The desk's grammar: commands and replies, read and written exactly, and a stream of lines cut in any
+//! pieces. Beside it stand the one read and the one write that every stream above goes through.
+#![tactic(auto)]
+
+mod command;
+mod cut;
+mod item;
+mod limits;
+mod lines;
+mod open_line;
+mod read;
+mod reply;
+mod streams;
+#[cfg(test)]
+mod tests;
+mod word;
+mod write;
+
+pub use command::{Command, Request};
+pub use item::{Item, no_request_is_too_long, one_item, read_item};
+pub use limits::{LONGEST_REQUEST, MAX_LINE_LEN, MAX_ORDER_LINES};
+pub use lines::{Lines, cuts_do_not_matter};
+pub use open_line::{OpenLine, OpenLines};
+pub use read::{WordsFault, read_command};
+pub use reply::{Memory, Refusal, Reply, write_reply};
+pub use streams::{ReadFault, WriteFault, read_piece, write_whole};
+pub use word::{read_number, read_way};
+pub use write::write_command;

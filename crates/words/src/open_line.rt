@@ -1,0 +1,90 @@
+//! The lines of an `open`.
+
+ghost use Rattle.std.specs.Prelude.{◌≡◌, ◌≤◌, ◌↔◌, IsSome, IfSome, length};
+ghost use Rattle.std.specs.List.{All};
+ghost use Rattle.words.specs.OpenLines.{IsOpenLine};
+
+use crate::limits::MAX_ORDER_LINES;
+use escrow::{Article, Branch, Qty, Way};
+use std::marker::Model;
+
+/// A line of an order: an amount to take or to add, of one article at one branch.
+#[derive(Clone, Copy, Debug)]
+pub struct OpenLine {
+    pub way: Way,
+    pub branch: Branch,
+    pub article: Article,
+    pub qty: Qty,
+}
+
+impl OpenLine {
+    ghost use Rattle.words.specs.OpenLines.{IsOpenLine};
+
+    /// Its codes are codes, and its quantity is in range.
+    pub fn in_range(&self)
+        ensures { IsOpenLine self.now }
+    {
+        self.branch.as_bytes();
+        self.article.as_bytes();
+        self.qty.get();
+    }
+}
+
+/// 1 to 64 lines of an order, in their order.
+#[derive(Debug, Drop)]
+pub struct OpenLines {
+    lines: Vec<OpenLine>,
+}
+
+impl Model for OpenLines {
+    ghost use Rattle.std.specs.Prelude.{List};
+    ghost use Rattle.words.specs.OpenLines.{AreOpenLines};
+    ghost use Rattle.words.specs.declared.open_line.OpenLine.{OpenLine};
+
+    ghost Value = { List OpenLine };
+
+    ghost view = { λ a. a.lines.items };
+
+    ghost invariant = { λ a. AreOpenLines a.lines.items };
+}
+
+impl OpenLines {
+    ghost use Rattle.words.specs.OpenLines.{AreOpenLines};
+
+    /// These lines, or `None` exactly where they are none or more than 64.
+    pub fn new(lines: Vec<OpenLine>) -> Option<OpenLines>
+        ensures some { IsSome result ↔ ((1 ≤ length lines.items) × (length lines.items ≤ MAX_ORDER_LINES)) }
+        ensures lines { IfSome result (λ made. made ≡ lines.items) }
+        ensures form { IfSome result AreOpenLines }
+    {
+        if lines.is_empty() || lines.len() > MAX_ORDER_LINES {
+            return None;
+        }
+        all_in_range(&lines);
+        Some(OpenLines { lines })
+    }
+
+    /// The lines.
+    pub fn as_slice(&self) -> &[OpenLine]
+        ensures value { result.now ≡ self.now }
+        ensures form { AreOpenLines self.now }
+    {
+        &self.lines
+    }
+
+    /// The lines, without taking memory.
+    pub fn into_vec(self) -> Vec<OpenLine>
+        ensures value { result.items ≡ self }
+        ensures form { AreOpenLines self }
+    {
+        self.lines
+    }
+}
+
+fn all_in_range(lines: &[OpenLine])
+    ensures { All IsOpenLine lines.now }
+{
+    for line in lines {
+        line.in_range();
+    }
+}

@@ -1,0 +1,387 @@
+use super::*;
+use escrow::Way;
+use std::alloc::{AllocGlobal, Global};
+use std::io::{self, Read, Write};
+use std::process::Abort;
+use std::test::Fail;
+
+/// A command of each kind.
+const COMMANDS: [&str; 12] = [
+    "field N1 A-1 0 100 40",
+    "deliver N1 A-1 1000000",
+    "writeoff N1 A-1 5",
+    "open 7 2000000000 take N1 A-1 60",
+    "open 7 2000000000 take N1 A-1 60 add N2 A-1 5",
+    "transfer 8 2000000000 A-1 N1 N2 5",
+    "more 7 add N2 A-2 1",
+    "use 7 N1 A-1 5",
+    "release 7 N1 A-1 5",
+    "commit 7",
+    "abort 999999999",
+    "expire 4000000000",
+];
+
+/// Lines that are no request.
+const BAD: [&str; 26] = [
+    "",
+    " ",
+    "K1",
+    "K1 ",
+    "K1  commit 7",
+    "K1 commit  7",
+    "K1 commit 7 ",
+    " K1 commit 7",
+    "K1 commit 7\r",
+    "K1 commit 07",
+    "K1 commit +7",
+    "K1 commit 0",
+    "K1 commit 1000000000",
+    "K1 Commit 7",
+    "K1 deliver N1 A-1 05",
+    "K1 deliver N1 A-1 0",
+    "K1 deliver N1 A-1 1000001",
+    "K1 deliver n1 A-1 5",
+    "K1 deliver N1 -A 5",
+    "K1 field N1 A-1 00 100 40",
+    "K1 field N1 A-1 0 1000000001 40",
+    "K1 expire 4000000001",
+    "K1 open 7 2000000000",
+    "K1 open 7 2000000000 Take N1 A-1 60",
+    "? field  N1 A-1",
+    "? order 07",
+];
+
+const SCRIPT: &str =
+    "K1 field N1 A-1 0 100 40\nK2 deliver N1 A-1 60\n? field N1 A-1\n\n? order 7\nK9 open 7 2000000000 take N1 A-1 60\nK5 writeoff N1 A-1 1\n";
+
+/// Every refusal with its number and its name.
+const REFUSALS: [(Refusal, u64, &str); 19] = [
+    (Refusal::KeyReused, 1, "KeyReused"),
+    (Refusal::Full, 2, "Full"),
+    (Refusal::FieldThere, 3, "FieldThere"),
+    (Refusal::NoField, 4, "NoField"),
+    (Refusal::BadBounds, 5, "BadBounds"),
+    (Refusal::OrderThere, 6, "OrderThere"),
+    (Refusal::NoOrder, 7, "NoOrder"),
+    (Refusal::Ended, 8, "Ended"),
+    (Refusal::Past, 9, "Past"),
+    (Refusal::SameField, 10, "SameField"),
+    (Refusal::OtherWay, 11, "OtherWay"),
+    (Refusal::TooManyLines, 12, "TooManyLines"),
+    (Refusal::TooLittle, 13, "TooLittle"),
+    (Refusal::TooMuch, 14, "TooMuch"),
+    (Refusal::NotHeld, 15, "NotHeld"),
+    (Refusal::OverUse, 16, "OverUse"),
+    (Refusal::TransferFixed, 17, "TransferFixed"),
+    (Refusal::ClockBack, 18, "ClockBack"),
+    (Refusal::BadCommand, 20, "BadCommand"),
+];
+
+/// Appends a line as the item that it was read as, with its newline.
+fn push_item(alloc: Global, out: &mut Vec<u8>, item: &Item) -> Result<(), Fail> {
+    match item {
+        Item::Request(request) => {
+            out.extend_from_slice(request.key.as_bytes())?;
+            out.push(b' ')?;
+            write_command(&request.command, out)?;
+        }
+        Item::AskField(branch, article) => {
+            out.extend_from_slice(b"? field ")?;
+            out.extend_from_slice(branch.as_bytes())?;
+            out.push(b' ')?;
+            out.extend_from_slice(article.as_bytes())?;
+        }
+        Item::AskOrder(number) => {
+            let mut text = Vec::from_slice(alloc, b"? order")?;
+            write::push_number(&mut text, number.get())?;
+            out.extend_from_slice(&text)?;
+        }
+        Item::Bad => {}
+    }
+    out.push(b'\n')?;
+    Ok(())
+}
+
+/// The items of a script fed in pieces of one length, as lines; a bad one is an empty line.
+fn fed(alloc: Global, lines: &mut Lines, script: &[u8], size: usize) -> Result<Vec<u8>, Fail> {
+    let mut out = Vec::new(alloc);
+    if size == 0 {
+        return Ok(out);
+    }
+    for piece in script.chunks(size) {
+        let items = lines.feed(alloc, piece)?;
+        for item in items.as_slice() {
+            push_item(alloc, &mut out, item)?;
+        }
+    }
+    Ok(out)
+}
+
+#[test]
+fn each_kind_is_read_and_written_back(rt: HostRuntime) -> Result<(), Fail> {
+    for text in COMMANDS {
+        let command = read_command(rt.alloc(), text.as_bytes())?;
+        command.in_range();
+        let mut out = Vec::from_slice(rt.alloc(), b"K1 ")?;
+        write_command(&command, &mut out)?;
+        let (front, back) = out.as_slice().split_at(3);
+        assert!(rt; front == b"K1 ".as_slice());
+        assert!(rt; back == text.as_bytes(), "{text}");
+    }
+    Ok(())
+}
+
+#[test]
+fn the_parts_of_a_command_are_read(rt: HostRuntime) -> Result<(), Fail> {
+    let command = read_command(rt.alloc(), b"open 7 2000000000 take N1 A-1 60 add N2 B 5")?;
+    let Command::Open {
+        number,
+        until,
+        lines,
+    } = command
+    else {
+        return Err(Fail::from("no open"));
+    };
+    assert_eq!(rt; number.get(), 7);
+    assert_eq!(rt; until.get(), 2_000_000_000);
+    let lines = lines.into_vec();
+    assert_eq!(rt; lines.len(), 2);
+    let second = lines.get(1).ok_or("a second line")?;
+    second.in_range();
+    assert!(rt; second.way == Way::Add);
+    assert!(rt; second.branch.as_bytes() == b"N2".as_slice());
+    assert!(rt; second.article.as_bytes() == b"B".as_slice());
+    assert_eq!(rt; second.qty.get(), 5);
+    Ok(())
+}
+
+#[test]
+fn lines_have_one_spelling(rt: HostRuntime) -> Result<(), Fail> {
+    for text in BAD {
+        let item = read_item(rt.alloc(), text.as_bytes())?;
+        assert!(rt; matches!(item, Item::Bad), "{text}");
+    }
+    for text in COMMANDS {
+        let mut line = Vec::from_slice(rt.alloc(), b"K-1 ")?;
+        line.extend_from_slice(text.as_bytes())?;
+        let Item::Request(request) = read_item(rt.alloc(), &line)? else {
+            return Err(Fail::from("no request"));
+        };
+        request.in_range();
+        assert!(rt; request.key.as_bytes() == b"K-1".as_slice());
+        line.push(b' ')?;
+        let longer = read_item(rt.alloc(), &line)?;
+        assert!(rt; matches!(longer, Item::Bad), "{text}");
+    }
+    Ok(())
+}
+
+#[test]
+fn an_order_has_1_to_64_lines(rt: HostRuntime) -> Result<(), Fail> {
+    let line = b" take ABCDEFG8 ABCDEFGHIJKLMNO6 1000000".as_slice();
+    let mut text = Vec::from_slice(rt.alloc(), b"open 999999999 4000000000")?;
+    assert!(rt; matches!(read_command(rt.alloc(), &text), Err(WordsFault::BadCommand)));
+    let mut longest = 0;
+    for count in 1..=65 {
+        text.extend_from_slice(line)?;
+        match read_command(rt.alloc(), &text) {
+            Ok(Command::Open { lines, .. }) => {
+                assert!(rt; count <= MAX_ORDER_LINES);
+                assert_eq!(rt; lines.as_slice().len(), count);
+                longest = text.len();
+            }
+            Err(WordsFault::BadCommand) => assert_eq!(rt; count, 65),
+            _ => return Err(Fail::from("no open")),
+        }
+    }
+    // with a key of 36 bytes and a space in front
+    assert_eq!(rt; longest, LONGEST_REQUEST - 37);
+    assert!(rt; OpenLines::new(Vec::new(rt.alloc())).is_none());
+    Ok(())
+}
+
+#[test]
+fn words_are_numbers_and_ways(rt: HostRuntime) -> Result<(), Fail> {
+    for (text, number) in [
+        ("0", 0),
+        ("7", 7),
+        ("10", 10),
+        ("4000000000", 4_000_000_000),
+    ] {
+        assert!(rt; read_number(text.as_bytes()) == Some(number), "{text}");
+    }
+    for text in [
+        "",
+        "00",
+        "07",
+        "+7",
+        "-7",
+        "7 ",
+        "7a",
+        "4000000001",
+        "99999999999999999999",
+    ] {
+        assert!(rt; read_number(text.as_bytes()).is_none(), "{text}");
+    }
+    assert!(rt; read_way(b"take") == Some(Way::Take));
+    assert!(rt; read_way(b"add") == Some(Way::Add));
+    for text in ["", "Take", "takes", "ad"] {
+        assert!(rt; read_way(text.as_bytes()).is_none(), "{text}");
+    }
+    Ok(())
+}
+
+#[test]
+fn replies_have_their_text(rt: HostRuntime) -> Result<(), Fail> {
+    for (refusal, code, name) in REFUSALS {
+        assert_eq!(rt; refusal.code(), code);
+        assert!(rt; refusal.name() == name, "{name}");
+    }
+    let mut out = Vec::from_slice(rt.alloc(), b"K1 ")?;
+    write_reply(&Reply::Done(7), &mut out)?;
+    out.extend_from_slice(b"\nK2 ")?;
+    write_reply(&Reply::Refused(Refusal::TooLittle, 2), &mut out)?;
+    out.extend_from_slice(b"\n- ")?;
+    write_reply(&Reply::Refused(Refusal::BadCommand, 0), &mut out)?;
+    let text = b"K1 done 7\nK2 refused 13 TooLittle 2\n- refused 20 BadCommand 0".as_slice();
+    assert!(rt; out.as_slice() == text);
+    Ok(())
+}
+
+#[test]
+fn a_script_is_the_same_in_any_pieces(rt: HostRuntime) -> Result<(), Fail> {
+    for size in 1..=40 {
+        let mut lines = Lines::new(rt.alloc());
+        let text = fed(rt.alloc(), &mut lines, SCRIPT.as_bytes(), size)?;
+        assert!(rt; text.as_slice() == SCRIPT.as_bytes(), "{size}");
+        assert!(rt; lines.finish().is_none(), "{size}");
+    }
+    Ok(())
+}
+
+#[test]
+fn an_unended_line_is_bad(rt: HostRuntime) -> Result<(), Fail> {
+    let mut lines = Lines::new(rt.alloc());
+    let text = fed(rt.alloc(), &mut lines, b"K1 commit 7", 4)?;
+    assert!(rt; text.is_empty());
+    assert!(rt; matches!(lines.finish(), Some(Item::Bad)));
+    assert!(rt; lines.finish().is_none());
+    Ok(())
+}
+
+#[test]
+fn a_longer_line_is_let_go(rt: HostRuntime) -> Result<(), Fail> {
+    for length in [MAX_LINE_LEN, MAX_LINE_LEN + 1, 3 * MAX_LINE_LEN] {
+        for size in [1, 40, 512, 20_000] {
+            let mut script: Vec<u8> = Vec::new(rt.alloc());
+            for _ in 0..length {
+                script.push(b'A')?;
+            }
+            let mut lines = Lines::new(rt.alloc());
+            assert!(rt; fed(rt.alloc(), &mut lines, &script, size)?.is_empty());
+            assert!(rt; matches!(lines.finish(), Some(Item::Bad)));
+            script.extend_from_slice(b"\nK1 commit 7\n")?;
+            let text = fed(rt.alloc(), &mut lines, &script, size)?;
+            assert!(rt;
+                text.as_slice() == b"\nK1 commit 7\n".as_slice(),
+                "{length} {size}"
+            );
+            assert!(rt; lines.finish().is_none());
+        }
+    }
+    Ok(())
+}
+
+/// Gives its bytes one at a time, and fails in the place of the byte with this number.
+#[derive(Drop)]
+struct Drip<'a> {
+    bytes: &'a [u8],
+    before_fault: usize,
+}
+
+impl Read for Drip<'_> {
+    fn read(&mut self, buffer: &mut [u8]) -> io::Result<usize> {
+        if self.before_fault == 0 {
+            return Err(io::Error::from(io::ErrorKind::Interrupted));
+        }
+        let bytes = self.bytes;
+        match (bytes, buffer) {
+            ([first, rest @ ..], [cell, ..]) => {
+                *cell = *first;
+                self.bytes = rest;
+                self.before_fault -= 1;
+                Ok(1)
+            }
+            _ => Ok(0),
+        }
+    }
+}
+
+/// Takes a byte at a time, and takes none or fails after so many.
+#[derive(Drop)]
+struct Sink {
+    taken: Vec<u8>,
+    before_fault: usize,
+    takes_none: bool,
+}
+
+impl Write for Sink {
+    fn write(&mut self, bytes: &[u8]) -> io::Result<usize> {
+        if self.before_fault == 0 && self.takes_none {
+            return Ok(0);
+        }
+        if self.before_fault == 0 {
+            return Err(io::Error::from(io::ErrorKind::Interrupted));
+        }
+        let Some(first) = bytes.first() else {
+            return Ok(0);
+        };
+        self.taken.push(*first)?;
+        self.before_fault -= 1;
+        Ok(1)
+    }
+
+    fn flush(&mut self) -> io::Result<()> {
+        Ok(())
+    }
+}
+
+#[test]
+fn a_read_is_a_piece_or_a_fault(rt: HostRuntime) -> Result<(), Fail> {
+    let mut buffer = [0; 8];
+    let mut whole = b"K1 commit 7\n".as_slice();
+    assert!(rt; read_piece(&mut whole, &mut buffer) == Ok(8));
+    assert!(rt; buffer.as_slice() == b"K1 commi".as_slice());
+    assert!(rt; read_piece(&mut whole, &mut buffer) == Ok(4));
+    assert!(rt; buffer.starts_with(b"t 7\n"));
+    assert!(rt; read_piece(&mut whole, &mut buffer) == Ok(0));
+    let mut drip = Drip {
+        bytes: b"K1",
+        before_fault: 1,
+    };
+    assert!(rt; read_piece(&mut drip, &mut buffer) == Ok(1));
+    assert!(rt; read_piece(&mut drip, &mut buffer) == Err(ReadFault));
+    assert!(rt; drip.bytes == b"1".as_slice());
+    Ok(())
+}
+
+#[test]
+fn a_text_is_written_whole_or_a_beginning(rt: HostRuntime) -> Result<(), Fail> {
+    let text = b"K1 done 7\n".as_slice();
+    let mut whole: Vec<u8> = Vec::new(rt.alloc());
+    assert!(rt; write_whole(&mut whole, text) == Ok(()));
+    assert!(rt; whole.as_slice() == text);
+    for before_fault in 0..text.len() {
+        for takes_none in [false, true] {
+            let mut sink = Sink {
+                taken: Vec::new(rt.alloc()),
+                before_fault,
+                takes_none,
+            };
+            assert!(rt; write_whole(&mut sink, text) == Err(WriteFault));
+            assert_eq!(rt; sink.taken.len(), before_fault);
+            assert!(rt; text.starts_with(sink.taken.as_slice()));
+        }
+    }
+    Ok(())
+}
