@@ -159,8 +159,8 @@ fn ended_items(alloc: Global, first: Item, bytes: &[u8]) -> Result<(Vec<Item>, &
     Ok((items, rest))
 }
 
-/// However a stream is cut, its items are the same: those of two pieces, one after the other, are those of
-/// the two in one, and so is what is kept behind them.
+/// A stream may be cut anywhere: two pieces, one after the other, give the items that the two in one give,
+/// and what is kept behind them is the same.
 pub fn cuts_do_not_matter()
     ensures { (old mid new : Option (List ℕ)) (p q : List ℕ) (xs ys : List Item) → Feeds old p xs mid → Feeds mid q ys new → Feeds old (p ++ q) (xs ++ ys) new }
 {}
