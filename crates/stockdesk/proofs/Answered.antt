@@ -1,5 +1,5 @@
 -- Each way in which the checks of a command can end.
-use Rattle.std.proofs.Common.{◌≡◌, ℕ, ◌+◌, ◌≤◌, ◌<◌, List, Option, None, Some, IsNone, IsSome, IfSome, inl, inr, refl, sym, subst, ap, ◌∙◌, arith, true, false, cond, pos, true≢false}
+use Rattle.std.proofs.Common.{◌≡◌, ℕ, ◌+◌, ◌≤◌, ◌<◌, List, [], ◌∷◌, Option, None, Some, IsNone, IsSome, IfSome, inl, inr, refl, sym, subst, ap, ◌∙◌, arith, true, false, cond, pos, true≢false}
 use Rattle.std.proofs.lemmas.Int.{ints}
 use Rattle.escrow.specs.Escrow.{IsSafeMoved, MovesValue, bound_of, moved}
 use Rattle.escrow.specs.Stock.{Stock}
@@ -7,27 +7,27 @@ use Rattle.escrow.specs.declared.quantity.Bound.TheVariants.{TooLittle, TooMuch}
 use Rattle.escrow.specs.declared.quantity.Way.{Way}
 use Rattle.escrow.specs.declared.quantity.Way.TheVariants.{Add, Take}
 use Rattle.std.specs.Option.{option_map}
-use Rattle.stockdesk.specs.Answers.{Answers, AnswersBy, bound_refusal, is_at, move_checks, moved_desk, moved_field, moved_value, stock_at, stock_in}
+use Rattle.stockdesk.specs.Answers.{AnswersBy, added_desk, bound_refusal, field_checks, is_at, move_checks, moved_desk, moved_field, moved_value, no_order, no_place, stock_at, stock_in}
 use Rattle.stockdesk.specs.declared.desk.Desk.{Desk}
 use Rattle.stockdesk.specs.declared.desk.Field.{Field as DeskField}
-use Rattle.stockdesk.specs.declared.desk.Refusal.TheVariants.{BadBounds, Full, NoField, TooLittle as LittleRefusal, TooMuch as MuchRefusal}
-use Rattle.stockdesk.specs.declared.desk.Reply.TheVariants.{Done, Refused}
+use Rattle.words.specs.declared.reply.Refusal.{Refusal}
+use Rattle.words.specs.declared.reply.Refusal.TheVariants.{BadBounds, Full, NoField, NoOrder, TooLittle as LittleRefusal, TooMuch as MuchRefusal}
+use Rattle.words.specs.declared.reply.Reply.TheVariants.{Done, Refused}
 use Rattle.stockdesk.specs.declared.desk.TheConstants.{MAX_PLACES}
-use Rattle.stockdesk.specs.declared.line.Command.TheVariants.{Field}
 
-pub field_full : (old : Desk) (b a : List ℕ) (lo hi start : ℕ) → MAX_PLACES ≤ old.places → Answers old (Field b a lo hi start) (Refused Full) old
+pub field_full : (old : Desk) (b a : List ℕ) (lo hi start : ℕ) → MAX_PLACES ≤ old.places → AnswersBy (field_checks old lo hi start) old (added_desk old b a lo hi start) (Refused Full 0) old
 field_full old b a lo hi start full = (Some Full, inl (omega arith, refl), (refl, refl))
 
-pub field_no_room : (old : Desk) (b a : List ℕ) (lo hi start : ℕ) → old.places < MAX_PLACES → IsSome old.field → Answers old (Field b a lo hi start) (Refused Full) old
+pub field_no_room : (old : Desk) (b a : List ℕ) (lo hi start : ℕ) → old.places < MAX_PLACES → IsSome old.field → AnswersBy (field_checks old lo hi start) old (added_desk old b a lo hi start) (Refused Full 0) old
 field_no_room old b a lo hi start room there = (Some Full, inr (λ full. absurd (omega arith), inl (there, refl)), (refl, refl))
 
-pub field_bounds : (old : Desk) (b a : List ℕ) (lo hi start : ℕ) → old.places < MAX_PLACES → (IsSome old.field → ⊥) → ((lo ≤ start) × (start ≤ hi) → ⊥) → Answers old (Field b a lo hi start) (Refused BadBounds) old
+pub field_bounds : (old : Desk) (b a : List ℕ) (lo hi start : ℕ) → old.places < MAX_PLACES → (IsSome old.field → ⊥) → ((lo ≤ start) × (start ≤ hi) → ⊥) → AnswersBy (field_checks old lo hi start) old (added_desk old b a lo hi start) (Refused BadBounds 0) old
 field_bounds old b a lo hi start room none bad = (Some BadBounds, inr (λ full. absurd (omega arith), inr (none, inl (bad, refl))), (refl, refl))
 
-pub move_full : (old : Desk) (b a : List ℕ) (way : Way) (qty : ℕ) → MAX_PLACES ≤ old.places → AnswersBy (move_checks old b a way qty) old (moved_desk old way qty) (Refused Full) old
+pub move_full : (old : Desk) (b a : List ℕ) (way : Way) (qty : ℕ) → MAX_PLACES ≤ old.places → AnswersBy (move_checks old b a way qty) old (moved_desk old way qty) (Refused Full 0) old
 move_full old b a way qty full = (Some Full, inl (omega arith, refl), (refl, refl))
 
-pub move_no_field : (old : Desk) (b a : List ℕ) (way : Way) (qty : ℕ) → old.places < MAX_PLACES → IsNone (stock_at old b a) → AnswersBy (move_checks old b a way qty) old (moved_desk old way qty) (Refused NoField) old
+pub move_no_field : (old : Desk) (b a : List ℕ) (way : Way) (qty : ℕ) → old.places < MAX_PLACES → IsNone (stock_at old b a) → AnswersBy (move_checks old b a way qty) old (moved_desk old way qty) (Refused NoField 0) old
 move_no_field old b a way qty room none = (Some NoField, inr (λ full. absurd (omega arith), inl (none, refl)), (refl, refl))
 
 -- the field is another, or there is none
@@ -44,18 +44,18 @@ no_none : (q : Option Stock) (s : Stock) → q ≡ Some s → IsNone q → ⊥
 no_none q s e none = true≢false (subst IsNone e none)
 
 move_bound : (old : Desk) (f : DeskField) (b a : List ℕ) (way : Way) (qty : ℕ) → old.places < MAX_PLACES → old.field ≡ Some f → is_at f b a ≡ true → (IsSafeMoved f.stock way qty → ⊥)
-    → AnswersBy (move_checks old b a way qty) old (moved_desk old way qty) (Refused (bound_refusal way)) old
+    → AnswersBy (move_checks old b a way qty) old (moved_desk old way qty) (Refused (bound_refusal way) 0) old
 move_bound old f b a way qty room e at passes =
     let there = stock_there old.field f b a e at in
     (Some (bound_refusal way), inr (λ full. absurd (omega arith), inr (no_none (stock_at old b a) f.stock there, inl (subst (λ q. IfSome q (λ q. IsSafeMoved q way qty → ⊥)) (sym there) passes, refl))), (refl, refl))
 
 pub move_too_little : (old : Desk) (f : DeskField) (b a : List ℕ) (way : Way) (qty : ℕ) → TooLittle ≡ bound_of way → old.places < MAX_PLACES → old.field ≡ Some f → is_at f b a ≡ true → (IsSafeMoved f.stock way qty → ⊥)
-    → AnswersBy (move_checks old b a way qty) old (moved_desk old way qty) (Refused LittleRefusal) old
+    → AnswersBy (move_checks old b a way qty) old (moved_desk old way qty) (Refused LittleRefusal 0) old
 move_too_little old f b a Take qty bound room e at passes = move_bound old f b a Take qty room e at passes
 move_too_little old f b a Add qty bound room e at passes = (cc)
 
 pub move_too_much : (old : Desk) (f : DeskField) (b a : List ℕ) (way : Way) (qty : ℕ) → TooMuch ≡ bound_of way → old.places < MAX_PLACES → old.field ≡ Some f → is_at f b a ≡ true → (IsSafeMoved f.stock way qty → ⊥)
-    → AnswersBy (move_checks old b a way qty) old (moved_desk old way qty) (Refused MuchRefusal) old
+    → AnswersBy (move_checks old b a way qty) old (moved_desk old way qty) (Refused MuchRefusal 0) old
 move_too_much old f b a Take qty bound room e at passes = (cc)
 move_too_much old f b a Add qty bound room e at passes = move_bound old f b a Add qty room e at passes
 
@@ -78,3 +78,15 @@ move_done old f b a way qty s room e at safe moves =
       inr (λ full. absurd (omega arith), inr (no_none (stock_at old b a) f.stock there, inr ((λ passes. subst (λ q. IfSome q (λ q. IsSafeMoved q way qty → ⊥)) there passes safe), refl))),
       (refl, ap (λ x. record { places = old.places + 1; field = x }) (moved_there old.field f way qty s e moves)),
     )
+
+-- ---- commands on orders
+
+pub order_full : (old : Desk) → MAX_PLACES ≤ old.places → AnswersBy (no_place old ∷ no_order ∷ []) old old (Refused Full 0) old
+order_full old full = (Some Full, inl (omega arith, refl), (refl, refl))
+
+pub order_none : (old : Desk) → old.places < MAX_PLACES → AnswersBy (no_place old ∷ no_order ∷ []) old old (Refused NoOrder 0) old
+order_none old room = (Some NoOrder, inr (λ full. absurd (omega arith), inl (tt, refl)), (refl, refl))
+
+-- a check that always fails
+pub always : (old : Desk) (refusal : Refusal) → AnswersBy (record { fails = Unit {0}; refusal = refusal } ∷ []) old old (Refused refusal 0) old
+always old refusal = (Some refusal, inl (tt, refl), (refl, refl))

@@ -1,9 +1,5 @@
 pub mod Answered
-pub mod Cuts
-pub mod Decided
-pub mod Decimals
 pub mod OneText
-pub mod SomeItems
 pub mod SomeText
-pub mod Spaced
+pub mod Standing
 pub mod Texts

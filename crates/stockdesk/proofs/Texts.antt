@@ -1,24 +1,39 @@
--- Texts, a line at a time.
-use Rattle.std.proofs.Common.{◌≡◌, ℕ, List, [], ◌∷◌, ◌++◌, refl, sym, subst}
-use Rattle.stockdesk.specs.Items.{IsItem}
-use Rattle.stockdesk.specs.Replies.{bad_line, unended_line}
-use Rattle.stockdesk.specs.Text.{IsTextFrom, Replies}
+-- Texts, a piece at a time.
+use Rattle.std.proofs.Common.{◌∙◌, ℕ, List, [], ◌∷◌, ◌++◌, Option, Some, ap, append-nil, append_assoc, refl, sym, subst}
+use Rattle.words.proofs.Cutting.{feeds_joined}
+use Rattle.words.specs.declared.item.Item.{Item}
+use Rattle.stockdesk.specs.Answers.{new_desk}
+use Rattle.stockdesk.specs.Replies.{unended_line}
+use Rattle.stockdesk.specs.Text.{AnswersPiece, IsText, Replies, RepliesAll}
 use Rattle.stockdesk.specs.declared.desk.Desk.{Desk}
-use Rattle.stockdesk.specs.declared.line.Item.{Item}
-use Rattle.stockdesk.specs.declared.line.Item.TheVariants.{Bad}
 
--- a line in front of a text
-pub text_more : (old mid : Desk) (line : List ℕ) (item : Item) (reply rest : List ℕ) (all parts : List (List ℕ))
-    → IsItem line item → Replies old item reply mid → all ≡ line ∷ parts → (parts ≡ [] → ⊥) → IsTextFrom mid parts rest → IsTextFrom old all (reply ++ rest)
-text_more old mid line item reply rest all [] is replies e some text = absurd (some refl)
-text_more old mid line item reply rest all (next ∷ parts) is replies e some text =
-    subst (λ (x : List (List ℕ)). IsTextFrom old x (reply ++ rest)) (sym e)
-    (item ∷ text.0, text.1, (is, text.2), (reply, mid, rest, replies, text.3, refl))
+-- the replies to some items, and then to more
+pub replies_joined : (xs ys : List Item) (old mid new : Desk) (out more : List ℕ) → RepliesAll old xs out mid → RepliesAll mid ys more new → RepliesAll old (xs ++ ys) (out ++ more) new
+replies_joined [] ys old mid new out more first second =
+    subst (λ (text : List ℕ). RepliesAll old ys (text ++ more) new) (sym first.0)
+    (subst (λ (desk : Desk). RepliesAll desk ys more new) first.1 second)
+replies_joined (x ∷ xs) ys old mid new out more (line, after, rest, reply, others, e) second =
+    (line, after, rest ++ more, reply, replies_joined xs ys after mid new rest more others second, ap (λ (text : List ℕ). text ++ more) e ∙ append_assoc line rest more)
 
--- the text of the bytes that no newline ends
-pub text_last : (desk : Desk) (rest : List ℕ) (parts : List (List ℕ)) → parts ≡ rest ∷ [] → IsTextFrom desk parts (unended_line rest)
-text_last desk rest parts e = subst (λ (x : List (List ℕ)). IsTextFrom desk x (unended_line rest)) (sym e) (of rest)
-  where
-    of : (rest : List ℕ) → IsTextFrom desk (rest ∷ []) (unended_line rest)
-    of [] = ([], desk, refl, (refl, refl))
-    of (byte ∷ bytes) = (Bad ∷ [], desk, refl, (bad_line, desk, [], (refl, refl), (refl, refl), refl))
+-- a reply more
+pub replies_more : (xs : List Item) (x : Item) (old mid new : Desk) (out line : List ℕ) → RepliesAll old xs out mid → Replies mid x line new → RepliesAll old (xs ++ x ∷ []) (out ++ line) new
+replies_more xs x old mid new out line first second =
+    replies_joined xs (x ∷ []) old mid new out line first (line, new, [], second, (refl, refl), sym (append-nil line))
+
+-- two pieces, one after the other, are answered as the two in one
+pub pieces_joined : (kept rest last : Option (List ℕ)) (old mid new : Desk) (p q out more : List ℕ)
+    → AnswersPiece kept old p out rest mid → AnswersPiece rest mid q more last new → AnswersPiece kept old (p ++ q) (out ++ more) last new
+pieces_joined kept rest last old mid new p q out more first second =
+    record {
+      items = first.items ++ second.items;
+      feeds = feeds_joined kept rest last p q first.items second.items first.feeds second.feeds;
+      replies = replies_joined first.items second.items old mid new out more first.replies second.replies;
+    }
+
+-- before anything is read
+pub nothing_read : AnswersPiece (Some []) new_desk [] [] (Some []) new_desk
+nothing_read = record { items = []; feeds = (refl, refl); replies = (refl, refl) }
+
+-- the text of what was read, if the input ends here
+pub text_here : (read written : List ℕ) (rest : Option (List ℕ)) (desk : Desk) → AnswersPiece (Some []) new_desk read written rest desk → IsText read (written ++ unended_line rest)
+text_here read written rest desk h = record { lines = written; rest = rest; desk = desk; answers = h; text = refl }

@@ -1,4 +1,4 @@
--- A desk with one field at the most: what a command is answered, and which desk is left.
+-- A desk with one field at the most and no orders: what a command is answered, and which desk is left.
 use Rattle.std.specs.Prelude.{◌≡◌, ℕ, ◌+◌, ◌-◌, ◌≤◌, ◌<◌, Bool, ◌&&◌, ◌⊎◌, if◌then◌else◌, List, [], ◌∷◌, Option, None, Some, IsNone, IsSome, IfSome, MatchOption}
 use Rattle.std.specs.Str.{bytes_eq}
 use Rattle.std.specs.Option.{option_map}
@@ -6,15 +6,15 @@ use Rattle.escrow.specs.Escrow.{IsSafeMoved}
 use Rattle.escrow.specs.Stock.{Stock}
 use Rattle.escrow.specs.declared.quantity.Way.{Way}
 use Rattle.escrow.specs.declared.quantity.Way.TheVariants.{Add, Take}
+use Rattle.words.specs.declared.command.Command.{Command}
+use Rattle.words.specs.declared.command.Command.TheVariants.{Abort, Commit, Deliver, Expire, Field, More, Open, Release, Transfer, Use, Writeoff}
+use Rattle.words.specs.declared.reply.Refusal.{Refusal}
+use Rattle.words.specs.declared.reply.Refusal.TheVariants.{BadBounds, Full, NoField, NoOrder, TooLittle, TooMuch}
+use Rattle.words.specs.declared.reply.Reply.{Reply}
+use Rattle.words.specs.declared.reply.Reply.TheVariants.{Done, Refused}
 use Rattle.stockdesk.specs.declared.desk.Desk.{Desk}
 use Rattle.stockdesk.specs.declared.desk.Field.{Field as DeskField}
-use Rattle.stockdesk.specs.declared.desk.Refusal.{Refusal}
-use Rattle.stockdesk.specs.declared.desk.Refusal.TheVariants.{BadBounds, Full, NoField, TooLittle, TooMuch}
-use Rattle.stockdesk.specs.declared.desk.Reply.{Reply}
-use Rattle.stockdesk.specs.declared.desk.Reply.TheVariants.{Done, Refused}
 use Rattle.stockdesk.specs.declared.desk.TheConstants.{MAX_PLACES}
-use Rattle.stockdesk.specs.declared.line.Command.{Command}
-use Rattle.stockdesk.specs.declared.line.Command.TheVariants.{Deliver, Field, Writeoff}
 
 -- a new desk
 abbrev pub new_desk : Desk
@@ -64,15 +64,28 @@ no_field desk b a = record { fails = IsNone (stock_at desk b a); refusal = NoFie
 abbrev pub passes_bound : Desk → List ℕ → List ℕ → Way → ℕ → Check
 passes_bound desk b a way qty = record { fails = IfSome (stock_at desk b a) (λ q. IsSafeMoved q way qty → ⊥); refusal = bound_refusal way }
 
+-- no order is there yet, and none fits
+abbrev pub no_order : Check
+no_order = record { fails = Unit {0}; refusal = NoOrder }
+
+abbrev pub no_room_for_orders : Check
+no_room_for_orders = record { fails = Unit {0}; refusal = Full }
+
+-- the checks of a field, in their order
+abbrev pub field_checks : Desk → ℕ → ℕ → ℕ → List Check
+field_checks desk lo hi start = no_place desk ∷ no_room desk ∷ bad_bounds lo hi start ∷ []
+
 -- the checks of a delivery or a write-off
 abbrev pub move_checks : Desk → List ℕ → List ℕ → Way → ℕ → List Check
 move_checks desk b a way qty = no_place desk ∷ no_field desk b a ∷ passes_bound desk b a way qty ∷ []
 
--- the checks of a command in their order
-abbrev pub checks : Desk → Command → List Check
-checks desk (Field b a lo hi start) = no_place desk ∷ no_room desk ∷ bad_bounds lo hi start ∷ []
-checks desk (Deliver b a qty) = move_checks desk b a Add qty
-checks desk (Writeoff b a qty) = move_checks desk b a Take qty
+-- a stock of which nothing is held
+abbrev pub started : ℕ → ℕ → ℕ → Stock
+started lo hi start = record { lo = lo; hi = hi; value = start; held_to_take = 0; held_to_add = 0 }
+
+-- the desk with this field, at the next place
+abbrev pub added_desk : Desk → List ℕ → List ℕ → ℕ → ℕ → ℕ → Desk
+added_desk desk b a lo hi start = record { places = desk.places + 1; field = Some (record { branch = b; article = a; stock = started lo hi start }) }
 
 -- a value moved
 abbrev pub moved_value : Way → ℕ → ℕ → ℕ
@@ -87,21 +100,30 @@ moved_field way qty f = record f { stock = record f.stock { value = moved_value 
 abbrev pub moved_desk : Desk → Way → ℕ → Desk
 moved_desk desk way qty = record { places = desk.places + 1; field = option_map (moved_field way qty) desk.field }
 
--- a stock of which nothing is held
-abbrev pub started : ℕ → ℕ → ℕ → Stock
-started lo hi start = record { lo = lo; hi = hi; value = start; held_to_take = 0; held_to_add = 0 }
-
--- the desk after the command; it looks at no bound
-abbrev pub next : Desk → Command → Desk
-next desk (Field b a lo hi start) = record { places = desk.places + 1; field = Some (record { branch = b; article = a; stock = started lo hi start }) }
-next desk (Deliver b a qty) = moved_desk desk Add qty
-next desk (Writeoff b a qty) = moved_desk desk Take qty
-
 -- The first of the checks that fails is answered, and changes nothing; else the answer is the next place.
 abbrev pub AnswersBy : List Check → Desk → Desk → Reply → Desk → Type 0
 AnswersBy tests old accepted reply new = (found : Option Refusal) × FirstFailure tests found
-    × MatchOption found ((reply ≡ Done (old.places + 1)) × (new ≡ accepted)) (λ refusal. (reply ≡ Refused refusal) × (new ≡ old))
+    × MatchOption found ((reply ≡ Done (old.places + 1)) × (new ≡ accepted)) (λ refusal. (reply ≡ Refused refusal 0) × (new ≡ old))
 
--- the answer to a command, and the desk after it
-abbrev pub Answers : Desk → Command → Reply → Desk → Type 0
-Answers old c reply new = AnswersBy (checks old c) old (next old c) reply new
+-- the desk knows the command, and answers it by its checks
+abbrev pub Known : List Check → Desk → Desk → Option Reply → Desk → Type 0
+Known tests old accepted answer new = MatchOption answer ⊥ (λ reply. AnswersBy tests old accepted reply new)
+
+-- the desk does not know the command yet
+abbrev pub Unknown : Desk → Option Reply → Desk → Type 0
+Unknown old answer new = (answer ≡ None) × (new ≡ old)
+
+-- The answer to a command, if the desk knows it, and the desk after it: the checks in their order, and the desk where
+-- none of them fails; it looks at no bound.
+abbrev pub Answers : Desk → Command → Option Reply → Desk → Type 0
+Answers old (Field b a lo hi start) answer new = Known (field_checks old lo hi start) old (added_desk old b a lo hi start) answer new
+Answers old (Deliver b a qty) answer new = Known (move_checks old b a Add qty) old (moved_desk old Add qty) answer new
+Answers old (Writeoff b a qty) answer new = Known (move_checks old b a Take qty) old (moved_desk old Take qty) answer new
+Answers old (Open n until lines) answer new = Known (no_room_for_orders ∷ []) old old answer new
+Answers old (Transfer n until a from to qty) answer new = Unknown old answer new
+Answers old (More n way b a qty) answer new = Known (no_place old ∷ no_order ∷ []) old old answer new
+Answers old (Use n b a qty) answer new = Known (no_place old ∷ no_order ∷ []) old old answer new
+Answers old (Release n b a qty) answer new = Known (no_place old ∷ no_order ∷ []) old old answer new
+Answers old (Commit n) answer new = Known (no_order ∷ []) old old answer new
+Answers old (Abort n) answer new = Known (no_order ∷ []) old old answer new
+Answers old (Expire now) answer new = Unknown old answer new

@@ -1,7 +1,4 @@
 pub mod Answers
-pub mod Items
 pub mod Replies
 pub mod Runs
-pub mod Spelling
 pub mod Text
-pub mod Words

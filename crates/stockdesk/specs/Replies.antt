@@ -1,36 +1,32 @@
 -- The lines of replies.
-use Rattle.std.specs.Prelude.{◌≡◌, ℕ, List, [], ◌∷◌, ◌++◌, Option, MatchOption, codes, decimal, pos}
+use Rattle.std.specs.Prelude.{◌≡◌, ℕ, List, [], ◌∷◌, ◌++◌, Option, None, Some, MatchOption, codes, decimal, pos}
 use Rattle.escrow.specs.Choices.{IsInfimum, IsSupremum}
 use Rattle.escrow.specs.Stock.{Stock}
-use Rattle.stockdesk.specs.declared.desk.Refusal.{Refusal}
-use Rattle.stockdesk.specs.declared.desk.Refusal.TheVariants.{BadBounds, Full, NoField, TooLittle, TooMuch}
-use Rattle.stockdesk.specs.declared.desk.Reply.{Reply}
-use Rattle.stockdesk.specs.declared.desk.Reply.TheVariants.{Done, Refused}
+use Rattle.words.specs.Replies.{reply_text}
+use Rattle.words.specs.declared.reply.Reply.{Reply}
 
--- a refusal's number and name
-abbrev pub refusal_text : Refusal → List ℕ
-refusal_text Full = codes "2 Full"
-refusal_text NoField = codes "4 NoField"
-refusal_text BadBounds = codes "5 BadBounds"
-refusal_text TooLittle = codes "13 TooLittle"
-refusal_text TooMuch = codes "14 TooMuch"
-
--- a reply; no line of an order is at fault, so that a refusal ends with 0
-abbrev pub reply_text : Reply → List ℕ
-reply_text (Done place) = codes "done " ++ decimal place
-reply_text (Refused refusal) = codes "refused " ++ (refusal_text refusal ++ codes " 0")
+-- a line that is bad
+abbrev pub bad_line : List ℕ
+bad_line = codes "- refused 20 BadCommand 0\n"
 
 -- the key, a space and the reply
 abbrev pub request_line : List ℕ → Reply → List ℕ
 request_line key reply = key ++ (codes " " ++ (reply_text reply ++ codes "\n"))
 
-abbrev pub bad_line : List ℕ
-bad_line = codes "- refused 20 BadCommand 0\n"
+-- the line of an answer; a command that the desk does not know is a bad line
+abbrev pub answer_line : List ℕ → Option Reply → List ℕ
+answer_line key None = bad_line
+answer_line key (Some reply) = request_line key reply
 
--- what is written for the bytes behind the last newline, if there are any
-abbrev pub unended_line : List ℕ → List ℕ
-unended_line [] = []
-unended_line (byte ∷ bytes) = bad_line
+-- what is written at the end for what is kept of a line that has not ended, if there is such a line
+abbrev pub unended_line : Option (List ℕ) → List ℕ
+unended_line None = bad_line
+unended_line (Some []) = []
+unended_line (Some (byte ∷ bytes)) = bad_line
+
+-- the answer to an ask for what is not there
+abbrev pub none_line : List ℕ
+none_line = codes "? none\n"
 
 -- the numbers of a field, each behind its name
 abbrev pub numbers_text : Stock → ℕ → ℕ → List ℕ
@@ -51,4 +47,4 @@ pub record ShowsStock (b a : List ℕ) (q : Stock) (line : List ℕ) : Type 0 wh
 
 -- the answer to an ask for a field
 abbrev pub ShowsField : List ℕ → List ℕ → Option Stock → List ℕ → Type 0
-ShowsField b a found line = MatchOption found (line ≡ codes "? none\n") (λ q. ShowsStock b a q line)
+ShowsField b a found line = MatchOption found (line ≡ none_line) (λ q. ShowsStock b a q line)

@@ -1,8 +1,10 @@
 -- What a run reads and writes, where the reader and the writer tell their bytes.
-use Rattle.std.specs.Prelude.{◌≡◌, ◌≤◌, ℕ, List, [], ◌∷◌, Option, codes, length, map, take}
+use Rattle.std.specs.Prelude.{◌≡◌, ℕ, List, [], ◌∷◌, ◌++◌, Option, Some, codes, map}
 use Rattle.std.specs.Borrow.{Bor}
 use Rattle.std.specs.Io.KnownBytes.{Appends, Consumes, IsAtEnd}
-use Rattle.stockdesk.specs.Text.{IsText}
+use Rattle.stockdesk.specs.Answers.{new_desk}
+use Rattle.stockdesk.specs.Text.{AnswersPiece, IsText}
+use Rattle.stockdesk.specs.declared.desk.Desk.{Desk}
 
 -- all that was there was read, and its text was written
 pub record RunsWhole (reader_old reader_new writer_old writer_new : Option (List ℕ)) : Type 0 where
@@ -13,15 +15,25 @@ pub record RunsWhole (reader_old reader_new writer_old writer_new : Option (List
   pub text : IsText read out
   pub writes : Appends writer_old writer_new out
 
--- some of it was read, and a beginning of the text of that was written
+-- some of it was read, and what was written is a beginning of the text of that
 pub record RunsInPart (reader_old reader_new writer_old writer_new : Option (List ℕ)) : Type 0 where
   pub read : List ℕ
-  pub out : List ℕ
-  pub count : ℕ
+  pub written : List ℕ
+  pub left : List ℕ
   pub reads : Consumes reader_old reader_new read
-  pub text : IsText read out
-  pub within : count ≤ length out
-  pub writes : Appends writer_old writer_new (take count out)
+  pub text : IsText read (written ++ left)
+  pub writes : Appends writer_old writer_new written
+
+-- Some of it was read, and what was written is the answer to every line that ended in that. So no reply waits for what
+-- comes after its line.
+pub record RunsSoFar (reader_old reader_new writer_old writer_new : Option (List ℕ)) : Type 0 where
+  pub read : List ℕ
+  pub written : List ℕ
+  pub rest : Option (List ℕ)
+  pub desk : Desk
+  pub reads : Consumes reader_old reader_new read
+  pub answers : AnswersPiece (Some []) new_desk read written rest desk
+  pub writes : Appends writer_old writer_new written
 
 -- the words are the one word `run`
 abbrev pub AreRun : List (Bor (List ℕ)) → Type 0

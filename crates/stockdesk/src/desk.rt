@@ -1,11 +1,10 @@
-//! A desk with one field at the most, and what it answers.
+//! A desk with one field at the most and no orders, and what it answers.
 
-ghost use Rattle.std.specs.Prelude.{◌≡◌};
-ghost use Rattle.stockdesk.specs.Answers.{Answers, AnswersBy, move_checks, moved_desk, new_desk, stock_at};
-ghost use Rattle.stockdesk.specs.declared.line.Command.{Command};
+ghost use Rattle.std.specs.Prelude.{◌≡◌, ◌∷◌, []};
+ghost use Rattle.stockdesk.specs.Answers.{Answers, AnswersBy, added_desk, field_checks, move_checks, moved_desk, new_desk, no_order, no_place, stock_at};
 
-use crate::line::Command;
 use escrow::{Article, Bound, Branch, Level, Qty, Quantity, Way};
+use words::{Command, Refusal, Reply};
 
 /// The greatest number of accepted commands.
 pub const MAX_PLACES: u64 = 200_000;
@@ -35,23 +34,6 @@ pub struct Desk {
     pub field: Option<Field>,
 }
 
-/// Why a command is refused.
-#[derive(Clone, Copy)]
-pub enum Refusal {
-    Full,
-    NoField,
-    BadBounds,
-    TooLittle,
-    TooMuch,
-}
-
-/// The answer to a command: its place, or why it is refused.
-#[derive(Clone, Copy)]
-pub enum Reply {
-    Done(u64),
-    Refused(Refusal),
-}
-
 impl Desk {
     /// A new desk.
     pub fn new() -> Desk
@@ -73,20 +55,36 @@ impl Desk {
         }
     }
 
-    /// The answer to a command. A refused one changes nothing.
-    pub fn call(&mut self, command: Command) -> Reply
-        ensures { Answers self.old command result self.new }
+    /// The answer to a command, if the desk knows it: transfers and the clock come with the ledger. A refusal
+    /// changes nothing, and neither does a command that is not known.
+    pub fn call(&mut self, command: &Command) -> Option<Reply>
+        ensures { Answers self.old command.now result self.new }
     {
         match command {
-            Command::Field(branch, article, lo, hi, start) => {
-                self.add_field(branch, article, lo, hi, start)
+            Command::Field {
+                branch,
+                article,
+                lo,
+                hi,
+                start,
+            } => Some(self.add_field(*branch, *article, *lo, *hi, *start)),
+            Command::Deliver {
+                branch,
+                article,
+                qty,
+            } => Some(self.move_at_once(*branch, *article, Way::Add, *qty)),
+            Command::Writeoff {
+                branch,
+                article,
+                qty,
+            } => Some(self.move_at_once(*branch, *article, Way::Take, *qty)),
+            Command::Open { .. } => Some(Reply::Refused(Refusal::Full, 0)),
+            Command::More { .. } | Command::Use { .. } | Command::Release { .. } => {
+                Some(self.without_order())
             }
-            Command::Deliver(branch, article, qty) => {
-                self.move_at_once(branch, article, Way::Add, qty)
-            }
-            Command::Writeoff(branch, article, qty) => {
-                self.move_at_once(branch, article, Way::Take, qty)
-            }
+            Command::Commit { .. } => Some(Reply::Refused(Refusal::NoOrder, 0)),
+            Command::Abort { .. } => Some(Reply::Refused(Refusal::NoOrder, 0)),
+            Command::Transfer { .. } | Command::Expire { .. } => None,
         }
     }
 
@@ -98,16 +96,16 @@ impl Desk {
         hi: Level,
         start: Level,
     ) -> Reply
-        ensures { Answers self.old (Command.Field branch article lo hi start) result self.new }
+        ensures { AnswersBy (field_checks self.old lo hi start) self.old (added_desk self.old branch article lo hi start) result self.new }
     {
         if self.places >= MAX_PLACES {
-            return Reply::Refused(Refusal::Full);
+            return Reply::Refused(Refusal::Full, 0);
         }
         if self.field.is_some() {
-            return Reply::Refused(Refusal::Full);
+            return Reply::Refused(Refusal::Full, 0);
         }
         let Ok(stock) = Quantity::start(lo, hi, start) else {
-            return Reply::Refused(Refusal::BadBounds);
+            return Reply::Refused(Refusal::BadBounds, 0);
         };
         self.field = Some(Field {
             branch,
@@ -122,13 +120,13 @@ impl Desk {
         ensures { AnswersBy (move_checks self.old branch article way qty) self.old (moved_desk self.old way qty) result self.new }
     {
         if self.places >= MAX_PLACES {
-            return Reply::Refused(Refusal::Full);
+            return Reply::Refused(Refusal::Full, 0);
         }
         let Some(mut field) = self.field else {
-            return Reply::Refused(Refusal::NoField);
+            return Reply::Refused(Refusal::NoField, 0);
         };
         if !field.is_at(branch, article) {
-            return Reply::Refused(Refusal::NoField);
+            return Reply::Refused(Refusal::NoField, 0);
         }
         match field.stock.at_once(way, qty) {
             Ok(()) => {
@@ -136,8 +134,18 @@ impl Desk {
                 self.places += 1;
                 Reply::Done(self.places)
             }
-            Err(Bound::TooLittle) => Reply::Refused(Refusal::TooLittle),
-            Err(Bound::TooMuch) => Reply::Refused(Refusal::TooMuch),
+            Err(Bound::TooLittle) => Reply::Refused(Refusal::TooLittle, 0),
+            Err(Bound::TooMuch) => Reply::Refused(Refusal::TooMuch, 0),
         }
+    }
+
+    /// The answer to a command on an order that takes a place.
+    fn without_order(&self) -> Reply
+        ensures { AnswersBy (no_place self.now ∷ no_order ∷ []) self.now self.now result self.now }
+    {
+        if self.places >= MAX_PLACES {
+            return Reply::Refused(Refusal::Full, 0);
+        }
+        Reply::Refused(Refusal::NoOrder, 0)
     }
 }

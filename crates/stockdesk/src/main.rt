@@ -7,18 +7,15 @@ ghost use Rattle.stockdesk.specs.Runs.{AreRun, RunsInPart, RunsWhole};
 
 mod desk;
 mod engine;
-mod line;
 mod reply;
-mod streams;
 #[cfg(test)]
 mod tests;
-mod words;
 
-use crate::engine::run;
-use crate::streams::{Fault, write_all};
+use crate::engine::{Fault, run};
 use std::env::{self, Env};
 use std::io::{self, Read, Write};
 use std::process::ExitCode;
+use words::write_whole;
 
 /// Does what the words behind the program's name say, and gives the status to end with: 0 where it is
 /// done, 1 after a fault, 2 for other words than the one word `run`. A fault and other words are told in a
@@ -60,7 +57,7 @@ fn are_run(words: &[&str]) -> bool
 fn tell<E: Write>(errors: &mut E, line: &[u8], status: u8) -> u8
     ensures { result ≡ status }
 {
-    let _ = write_all(errors, line);
+    let _ = write_whole(errors, line);
     status
 }
 

@@ -3,7 +3,7 @@ use std::process::Abort;
 use std::test::Fail;
 
 /// A script and its reply lines.
-const ROWS: [(&str, &str); 5] = [
+const ROWS: [(&str, &str); 7] = [
     ("", ""),
     ("K1 field N1 A-1 0 100 40\n? field N1 A-1\n", FIRST),
     (
@@ -18,14 +18,23 @@ const ROWS: [(&str, &str); 5] = [
         "Z4 field N1 E-1 5 4 5\nZ1 field N1 D-1 5 5 5\nZ1 field N1 D-1 5 5 5\n",
         "Z4 refused 5 BadBounds 0\nZ1 done 1\nZ1 refused 2 Full 0\n",
     ),
+    (
+        "K1 open 7 120 take N1 A-1 35\nK2 more 7 take N1 A-1 5\nK3 use 7 N1 A-1 5\nK4 release 7 N1 A-1 5\nK5 commit 7\nK6 abort 7\n? order 7\n",
+        "K1 refused 2 Full 0\nK2 refused 7 NoOrder 0\nK3 refused 7 NoOrder 0\nK4 refused 7 NoOrder 0\nK5 refused 7 NoOrder 0\nK6 refused 7 NoOrder 0\n? none\n",
+    ),
+    (
+        "K1 transfer 8 120 A-1 N1 N2 5\nK2 expire 120\n",
+        "- refused 20 BadCommand 0\n- refused 20 BadCommand 0\n",
+    ),
 ];
 
 const FIRST: &str = "K1 done 1\n? field N1 A-1 lo 0 hi 100 value 40 inf 40 sup 40\n";
 
-/// Gives its bytes one at a time, and fails in the place of the byte with this number.
+/// Gives so many of its bytes at a time, at the most, and fails where a read would begin behind so many.
 #[derive(Drop)]
 struct Drip<'a> {
     bytes: &'a [u8],
+    size: usize,
     before_fault: usize,
 }
 
@@ -35,15 +44,15 @@ impl Read for Drip<'_> {
             return Err(io::Error::from(io::ErrorKind::Interrupted));
         }
         let bytes = self.bytes;
-        match (bytes, buffer) {
-            ([first, rest @ ..], [cell, ..]) => {
-                *cell = *first;
-                self.bytes = rest;
-                self.before_fault -= 1;
-                Ok(1)
-            }
-            _ => Ok(0),
-        }
+        let count = bytes
+            .len()
+            .min(buffer.len())
+            .min(self.size)
+            .min(self.before_fault);
+        buffer[..count].copy_from_slice(&bytes[..count]);
+        self.bytes = &bytes[count..];
+        self.before_fault -= count;
+        Ok(count)
     }
 }
 
@@ -111,7 +120,8 @@ fn lines_have_one_spelling(rt: HostRuntime) -> Result<(), Fail> {
         "K1 field N1 A-1 00 100 40\n",
         "K1 field N1 A-1 0 1000000001 40\n",
         "? field  N1 A-1\n",
-        "? order 7\n",
+        "? order 07\n",
+        "K1 expire 4000000001\n",
         "\0\n",
     ] {
         expect(&rt, script, "- refused 20 BadCommand 0\n")?;
@@ -138,28 +148,64 @@ fn other_words_are_usage(rt: HostRuntime) -> Result<(), Fail> {
 }
 
 #[test]
+fn a_script_is_answered_alike_in_any_pieces(rt: HostRuntime) -> Result<(), Fail> {
+    engine::exactly_one_text();
+    for (script, replies) in ROWS {
+        for size in 1..=40 {
+            let mut out: Vec<u8> = Vec::new(rt.alloc());
+            let mut reader = Drip {
+                bytes: script.as_bytes(),
+                size,
+                before_fault: usize::MAX,
+            };
+            assert!(rt; run(rt.alloc(), &mut reader, &mut out) == Ok(()));
+            assert!(rt; out.as_slice() == replies.as_bytes(), "{size}");
+        }
+    }
+    Ok(())
+}
+
+#[test]
+fn a_line_too_long_is_bad_once(rt: HostRuntime) -> Result<(), Fail> {
+    for length in [4_096, 4_097, 10_000] {
+        let mut script: Vec<u8> = Vec::new(rt.alloc());
+        for _ in 0..length {
+            script.push(b'A')?;
+        }
+        let mut out: Vec<u8> = Vec::new(rt.alloc());
+        assert!(rt; run(rt.alloc(), &mut script.as_slice(), &mut out) == Ok(()));
+        assert!(rt; out.as_slice() == b"- refused 20 BadCommand 0\n".as_slice());
+        script.extend_from_slice(b"\nK1 field N1 A-1 0 100 40\n")?;
+        let mut out: Vec<u8> = Vec::new(rt.alloc());
+        assert!(rt; run(rt.alloc(), &mut script.as_slice(), &mut out) == Ok(()));
+        assert!(rt; out.as_slice() == b"- refused 20 BadCommand 0\nK1 done 1\n".as_slice());
+    }
+    Ok(())
+}
+
+#[test]
 fn a_failing_reader_is_a_fault(rt: HostRuntime) -> Result<(), Fail> {
     let bytes = b"K1 field N1 A-1 0 100 40\n? field N1 A-1\n".as_slice();
-    for before_fault in 0..bytes.len() {
+    for before_fault in 0..=bytes.len() {
         let mut out: Vec<u8> = Vec::new(rt.alloc());
         let mut errors: Vec<u8> = Vec::new(rt.alloc());
         let mut reader = Drip {
             bytes,
+            size: 1,
             before_fault,
         };
         let status = go(&rt, &["run"], &mut reader, &mut out, &mut errors);
         assert_eq!(rt; status, 1);
-        assert!(rt; out.is_empty());
         assert!(rt; errors.as_slice() == b"stockdesk: io\n".as_slice());
+        let answered = if before_fault < 25 {
+            ""
+        } else if before_fault < 40 {
+            "K1 done 1\n"
+        } else {
+            FIRST
+        };
+        assert!(rt; out.as_slice() == answered.as_bytes(), "{before_fault}");
     }
-    let mut out: Vec<u8> = Vec::new(rt.alloc());
-    let mut errors: Vec<u8> = Vec::new(rt.alloc());
-    let mut reader = Drip {
-        bytes,
-        before_fault: bytes.len() + 1,
-    };
-    assert_eq!(rt; go(&rt, &["run"], &mut reader, &mut out, &mut errors), 0);
-    assert!(rt; out.as_slice() == FIRST.as_bytes());
     Ok(())
 }
 

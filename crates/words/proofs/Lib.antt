@@ -2,10 +2,13 @@ pub mod ByItem
 pub mod ByKind
 pub mod Cuts
 pub mod Cutting
+pub mod Decided
 pub mod Decimals
 pub mod Longest
+pub mod OneFeed
 pub mod OneItem
 pub mod OrderLines
 pub mod Pieces
+pub mod SomeItem
 pub mod Spaced
 pub mod Written

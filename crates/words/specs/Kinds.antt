@@ -1,10 +1,34 @@
--- Words that are those of no command of a kind.
-use Rattle.std.specs.Prelude.{◌≡◌, ℕ, List}
+-- The kinds of commands.
+use Rattle.std.specs.Prelude.{◌≡◌, ℕ, Bool, true, false, List}
 use Rattle.escrow.specs.declared.quantity.Way.{Way}
 use Rattle.words.specs.Spelling.{IsInRange, command_words}
 use Rattle.words.specs.declared.command.Command.{Command}
 use Rattle.words.specs.declared.command.Command.TheVariants.{Abort, Commit, Deliver, Expire, Field, More, Open, Release, Transfer, Use, Writeoff}
 use Rattle.words.specs.declared.open_line.OpenLine.{OpenLine}
+
+-- ---- groups of kinds
+
+-- a command about stock: a field, a delivery or a write-off
+abbrev pub is_stock : Command → Bool
+is_stock (Field b a lo hi start) = true
+is_stock (Deliver b a qty) = true
+is_stock (Writeoff b a qty) = true
+is_stock c = false
+
+-- a command that opens an order
+abbrev pub is_opening : Command → Bool
+is_opening (Open n until lines) = true
+is_opening (Transfer n until a from to qty) = true
+is_opening c = false
+
+-- a command that changes what an order holds
+abbrev pub is_change : Command → Bool
+is_change (More n way b a qty) = true
+is_change (Use n b a qty) = true
+is_change (Release n b a qty) = true
+is_change c = false
+
+-- ---- words that are those of no command of a kind
 
 -- the words are not those of the command, or it is not in range
 abbrev pub AreNot : List (List ℕ) → Command → Type 0

@@ -1,6 +1,8 @@
 //! What can be asked of the desk.
 
+ghost use Rattle.std.specs.Bool.{OnTrue};
 ghost use Rattle.escrow.specs.Codes.{IsKey};
+ghost use Rattle.words.specs.Kinds.{is_change, is_opening, is_stock};
 ghost use Rattle.words.specs.Spelling.{IsInRange};
 
 use crate::open_line::OpenLines;
@@ -104,6 +106,29 @@ impl Command {
         ensures { IsInRange self.now }
     {
         match self {
+            Command::Field { .. } | Command::Deliver { .. } | Command::Writeoff { .. } => {
+                self.stock_in_range();
+            }
+            Command::Open { .. } | Command::Transfer { .. } => {
+                self.opening_in_range();
+            }
+            Command::More { .. } | Command::Use { .. } | Command::Release { .. } => {
+                self.change_in_range();
+            }
+            Command::Commit { number } | Command::Abort { number } => {
+                number.get();
+            }
+            Command::Expire { now } => {
+                now.get();
+            }
+        }
+    }
+
+    /// A command about stock is in range.
+    fn stock_in_range(&self)
+        ensures { OnTrue (is_stock self.now) (IsInRange self.now) }
+    {
+        match self {
             Command::Field {
                 branch,
                 article,
@@ -131,6 +156,15 @@ impl Command {
                 article.as_bytes();
                 qty.get();
             }
+            _ => {}
+        }
+    }
+
+    /// A command that opens an order is in range.
+    fn opening_in_range(&self)
+        ensures { OnTrue (is_opening self.now) (IsInRange self.now) }
+    {
+        match self {
             Command::Open {
                 number,
                 until,
@@ -155,6 +189,15 @@ impl Command {
                 to.as_bytes();
                 qty.get();
             }
+            _ => {}
+        }
+    }
+
+    /// A command that changes what an order holds is in range.
+    fn change_in_range(&self)
+        ensures { OnTrue (is_change self.now) (IsInRange self.now) }
+    {
+        match self {
             Command::More {
                 number,
                 branch,
@@ -179,12 +222,7 @@ impl Command {
                 article.as_bytes();
                 qty.get();
             }
-            Command::Commit { number } | Command::Abort { number } => {
-                number.get();
-            }
-            Command::Expire { now } => {
-                now.get();
-            }
+            _ => {}
         }
     }
 }

@@ -109,8 +109,9 @@ pub fn read_item(alloc: Global, line: &[u8]) -> Result<Item, Memory>
 }
 
 /// A line is one item and no other.
-pub fn one_item()
-    ensures { (line : List ℕ) (i j : Item) → IsItem line i → IsItem line j → i ≡ j }
+pub fn exactly_one_item()
+    ensures some { (line : List ℕ) → (item : Item) × IsItem line item }
+    ensures one { (line : List ℕ) (i j : Item) → IsItem line i → IsItem line j → i ≡ j }
 {}
 
 /// No line that is a request is longer than 2,558 bytes, and a line may be longer: the limit of a line refuses

@@ -159,8 +159,10 @@ fn ended_items(alloc: Global, first: Item, bytes: &[u8]) -> Result<(Vec<Item>, &
     Ok((items, rest))
 }
 
-/// A stream may be cut anywhere: two pieces, one after the other, give the items that the two in one give,
-/// and what is kept behind them is the same.
+/// A stream may be cut anywhere: a piece gives its items and what is kept behind them, and no others; two
+/// pieces, one after the other, give what the two in one give.
 pub fn cuts_do_not_matter()
-    ensures { (old mid new : Option (List ℕ)) (p q : List ℕ) (xs ys : List Item) → Feeds old p xs mid → Feeds mid q ys new → Feeds old (p ++ q) (xs ++ ys) new }
+    ensures some { (old : Option (List ℕ)) (piece : List ℕ) → (items : List Item) × (new : Option (List ℕ)) × Feeds old piece items new }
+    ensures one { (old new other : Option (List ℕ)) (piece : List ℕ) (xs ys : List Item) → Feeds old piece xs new → Feeds old piece ys other → (xs ≡ ys) × (new ≡ other) }
+    ensures joined { (old mid new : Option (List ℕ)) (p q : List ℕ) (xs ys : List Item) → Feeds old p xs mid → Feeds mid q ys new → Feeds old (p ++ q) (xs ++ ys) new }
 {}

@@ -157,6 +157,7 @@ fn the_parts_of_a_command_are_read(rt: HostRuntime) -> Result<(), Fail> {
 
 #[test]
 fn lines_have_one_spelling(rt: HostRuntime) -> Result<(), Fail> {
+    exactly_one_item();
     for text in BAD {
         let item = read_item(rt.alloc(), text.as_bytes())?;
         assert!(rt; matches!(item, Item::Bad), "{text}");
@@ -178,6 +179,7 @@ fn lines_have_one_spelling(rt: HostRuntime) -> Result<(), Fail> {
 
 #[test]
 fn an_order_has_1_to_64_lines(rt: HostRuntime) -> Result<(), Fail> {
+    no_request_is_too_long();
     let line = b" take ABCDEFG8 ABCDEFGHIJKLMNO6 1000000".as_slice();
     let mut text = Vec::from_slice(rt.alloc(), b"open 999999999 4000000000")?;
     assert!(rt; matches!(read_command(rt.alloc(), &text), Err(WordsFault::BadCommand)));
@@ -188,6 +190,9 @@ fn an_order_has_1_to_64_lines(rt: HostRuntime) -> Result<(), Fail> {
             Ok(Command::Open { lines, .. }) => {
                 assert!(rt; count <= MAX_ORDER_LINES);
                 assert_eq!(rt; lines.as_slice().len(), count);
+                let lines = lines.into_vec();
+                assert_eq!(rt; lines.len(), count);
+                assert!(rt; OpenLines::new(lines).is_some());
                 longest = text.len();
             }
             Err(WordsFault::BadCommand) => assert_eq!(rt; count, 65),
@@ -250,12 +255,43 @@ fn replies_have_their_text(rt: HostRuntime) -> Result<(), Fail> {
 
 #[test]
 fn a_script_is_the_same_in_any_pieces(rt: HostRuntime) -> Result<(), Fail> {
+    cuts_do_not_matter();
     for size in 1..=40 {
         let mut lines = Lines::new(rt.alloc());
         let text = fed(rt.alloc(), &mut lines, SCRIPT.as_bytes(), size)?;
         assert!(rt; text.as_slice() == SCRIPT.as_bytes(), "{size}");
         assert!(rt; lines.finish().is_none(), "{size}");
     }
+    Ok(())
+}
+
+/// The key of each request in the script, `?` for an ask and `-` for a bad line.
+const MARKS: [&str; 7] = ["K1", "K2", "?", "-", "?", "K9", "K5"];
+
+/// Each allocation may be refused once: then the piece is fed again, and nothing of it was taken in before.
+#[test]
+fn a_refused_piece_is_fed_again(rt: HostRuntime) -> Result<(), Fail> {
+    let alloc = rt.alloc();
+    let mut lines = Lines::new(alloc);
+    let mut marks = MARKS.iter();
+    for piece in SCRIPT.as_bytes().chunks(7) {
+        let items = match lines.feed(alloc, piece) {
+            Ok(items) => items,
+            Err(Memory) => lines.feed(alloc, piece)?,
+        };
+        for item in items.as_slice() {
+            let mark = match item {
+                Item::Request(request) => request.key.as_bytes(),
+                Item::AskField(_, _) | Item::AskOrder(_) => b"?",
+                Item::Bad => b"-",
+            };
+            let Some(expected) = marks.next() else {
+                return Err(Fail::from("more items than lines"));
+            };
+            assert!(rt; mark == expected.as_bytes(), "{expected}");
+        }
+    }
+    assert!(rt; marks.next().is_none());
     Ok(())
 }
 

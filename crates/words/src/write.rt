@@ -1,6 +1,7 @@
 //! Commands, written in their one spelling.
 
-ghost use Rattle.std.specs.Prelude.{◌≡◌, ◌++◌, ◌∷◌, [], IfOk, OnErr, OnOk, codes, decimal};
+ghost use Rattle.std.specs.Prelude.{◌≡◌, ◌++◌, ◌∷◌, [], IfOk, OnErr, OnOk, codes, decimal, if◌then◌else◌};
+ghost use Rattle.words.specs.Kinds.{is_change, is_opening, is_stock};
 ghost use Rattle.words.specs.OpenLines.{line_words, way_word};
 ghost use Rattle.words.specs.Spelling.{spelling};
 ghost use Rattle.words.specs.Words.{after_space, spaced};
@@ -127,9 +128,9 @@ fn move_text(
     Ok(text)
 }
 
-/// The spelling of a command.
-fn text_of(alloc: Global, command: &Command) -> Result<Vec<u8>, AllocError>
-    ensures { IfOk result (λ text. text.items ≡ spelling command.now) }
+/// The spelling of a command about stock, and no text for another.
+fn stock_text(alloc: Global, command: &Command) -> Result<Vec<u8>, AllocError>
+    ensures { IfOk result (λ text. text.items ≡ (if is_stock command.now then spelling command.now else [])) }
 {
     match command {
         Command::Field {
@@ -157,6 +158,15 @@ fn text_of(alloc: Global, command: &Command) -> Result<Vec<u8>, AllocError>
             article,
             qty,
         } => move_text(alloc, b"writeoff", *branch, *article, *qty),
+        _ => Ok(Vec::new(alloc)),
+    }
+}
+
+/// The spelling of a command that opens an order, and no text for another.
+fn opening_text(alloc: Global, command: &Command) -> Result<Vec<u8>, AllocError>
+    ensures { IfOk result (λ text. text.items ≡ (if is_opening command.now then spelling command.now else [])) }
+{
+    match command {
         Command::Open {
             number,
             until,
@@ -179,6 +189,15 @@ fn text_of(alloc: Global, command: &Command) -> Result<Vec<u8>, AllocError>
             push_number(&mut text, qty.get())?;
             Ok(text)
         }
+        _ => Ok(Vec::new(alloc)),
+    }
+}
+
+/// The spelling of a command that changes what an order holds, and no text for another.
+fn change_text(alloc: Global, command: &Command) -> Result<Vec<u8>, AllocError>
+    ensures { IfOk result (λ text. text.items ≡ (if is_change command.now then spelling command.now else [])) }
+{
+    match command {
         Command::More {
             number,
             way,
@@ -204,6 +223,22 @@ fn text_of(alloc: Global, command: &Command) -> Result<Vec<u8>, AllocError>
             article,
             qty,
         } => part_text(alloc, b"release", *number, *branch, *article, *qty),
+        _ => Ok(Vec::new(alloc)),
+    }
+}
+
+/// The spelling of a command.
+fn text_of(alloc: Global, command: &Command) -> Result<Vec<u8>, AllocError>
+    ensures { IfOk result (λ text. text.items ≡ spelling command.now) }
+{
+    match command {
+        Command::Field { .. } | Command::Deliver { .. } | Command::Writeoff { .. } => {
+            stock_text(alloc, command)
+        }
+        Command::Open { .. } | Command::Transfer { .. } => opening_text(alloc, command),
+        Command::More { .. } | Command::Use { .. } | Command::Release { .. } => {
+            change_text(alloc, command)
+        }
         Command::Commit { number } => end_text(alloc, b"commit", number.get()),
         Command::Abort { number } => end_text(alloc, b"abort", number.get()),
         Command::Expire { now } => end_text(alloc, b"expire", now.get()),

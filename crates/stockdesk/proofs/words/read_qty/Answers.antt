@@ -1,5 +1,0 @@
-use Rattle.stockdesk.proofs.Decimals.{qty_none}
-use Rattle.stockdesk.proofs.words.read_qty.Goals as goal
-
-pub returns-clause-none : goal.returns-clause-none
-returns-clause-none c = qty_none _ _ _ c.in_ok-number.ensures.range c.in_ok-number.ensures.found c.new.ensures
