@@ -125,6 +125,13 @@ impl Moment {
         }
     }
 
+    /// The first moment, at which the clock of a new desk stands.
+    pub fn first() -> Moment
+        ensures { result ≡ 0 }
+    {
+        Moment { minutes: 0 }
+    }
+
     /// The moment, in whole minutes.
     pub fn get(self) -> u64
         ensures value { result ≡ self }

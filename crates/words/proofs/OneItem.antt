@@ -10,7 +10,7 @@ use Rattle.escrow.specs.declared.quantity.Way.{Way}
 use Rattle.escrow.specs.declared.quantity.Way.TheVariants.{Add, Take}
 use Rattle.words.specs.Items.{IsItem, IsRequest, Says}
 use Rattle.words.specs.OpenLines.{IsOpenLine, line_words, way_word}
-use Rattle.words.specs.Spelling.{IsInRange, command_words}
+use Rattle.words.specs.Spelling.{IsInRange, command_words, spelling}
 use Rattle.words.specs.Words.{words_of}
 use Rattle.words.specs.declared.command.Command.{Command}
 use Rattle.words.specs.declared.command.Command.TheVariants.{Abort, Commit, Deliver, Expire, Field, More, Open, Release, Transfer, Use, Writeoff}
@@ -19,7 +19,7 @@ use Rattle.words.specs.declared.item.Item.{Item}
 use Rattle.words.specs.declared.item.Item.TheVariants.{AskField, AskOrder, Bad, Request}
 use Rattle.words.specs.declared.open_line.OpenLine.{OpenLine}
 use Rattle.words.proofs.ByItem.{words_of_request}
-use Rattle.words.proofs.Spaced.{words-ask_field, words-ask_order}
+use Rattle.words.proofs.Spaced.{words-ask_field, words-ask_order, words-command}
 
 -- ---- the command of the words; words that are no command's give some command
 
@@ -115,6 +115,10 @@ command_of-command_words (Expire now) h = let x = value-decimal now (let y = h i
 -- commands of the same words are one
 pub command_one : (c d : Command) → IsInRange c → IsInRange d → command_words c ≡ command_words d → c ≡ d
 command_one c d h k e = sym (command_of-command_words c h) ∙ ap command_of e ∙ command_of-command_words d k
+
+-- and so are commands of the same spelling
+pub spelling_one : (c d : Command) → IsInRange c → IsInRange d → spelling c ≡ spelling d → c ≡ d
+spelling_one c d h k e = command_one c d h k (sym (words-command c h) ∙ ap words_of e ∙ words-command d k)
 
 -- ---- a line is one item
 

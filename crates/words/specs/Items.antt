@@ -2,7 +2,7 @@
 use Rattle.std.specs.Prelude.{◌≡◌, ℕ, ◌≤◌, List, [], ◌∷◌, codes, decimal, length}
 use Rattle.escrow.specs.Codes.{IsArticle, IsBranch, IsKey}
 use Rattle.escrow.specs.Ranges.{IsOrderNo}
-use Rattle.words.specs.Spelling.{IsInRange, command_words}
+use Rattle.words.specs.Spelling.{IsInRange, IsOpening, command_words}
 use Rattle.words.specs.Words.{spaced}
 use Rattle.words.specs.declared.command.Request.{Request as RequestOf}
 use Rattle.words.specs.declared.item.Item.{Item}
@@ -12,6 +12,10 @@ use Rattle.words.specs.declared.limits.TheConstants.{MAX_LINE_LEN}
 -- a key, a space and a command
 abbrev pub IsRequest : List ℕ → RequestOf → Type 0
 IsRequest line r = IsKey r.key × IsInRange r.command × (line ≡ spaced (r.key ∷ command_words r.command))
+
+-- a key, a space and what begins as an `open` does
+abbrev pub IsOpeningLine : List ℕ → Type 0
+IsOpeningLine line = (key : List ℕ) × (rest : List ℕ) × IsKey key × IsOpening rest × (line ≡ spaced (key ∷ rest ∷ []))
 
 -- what the line says
 abbrev pub Says : List ℕ → Item → Type 0

@@ -6,7 +6,7 @@ use Rattle.words.specs.declared.reply.Reply.{Reply}
 use Rattle.words.specs.declared.reply.Reply.TheVariants.{Done, Refused}
 use Rattle.words.specs.Words.{spaced}
 
--- the number of a refusal; 19 is not used yet
+-- the number of a refusal; 19 is not used
 abbrev pub refusal_code : Refusal → ℕ
 refusal_code KeyReused = 1
 refusal_code Full = 2

@@ -1,6 +1,6 @@
 //! A stream of lines that comes in pieces.
 
-ghost use Rattle.std.specs.Prelude.{◌≡◌, ◌∷◌, ◌++◌, [], ℕ, List, Option, None, Some, IfOk, MatchOption, OnErr, OnOk, ◌≢◌};
+ghost use Rattle.std.specs.Prelude.{◌≡◌, ◌∷◌, ◌++◌, [], ℕ, List, Option, None, Some, IfOk, IsOk, MatchOption, OnErr, OnOk, ◌≢◌};
 ghost use Rattle.words.specs.Items.{IsItem};
 ghost use Rattle.words.specs.Stream.{EndsBehind, EndsLine, Feeds, HasNoNewline, extended, kept};
 ghost use Rattle.words.specs.Words.{parts_at};
@@ -56,10 +56,11 @@ impl Lines {
     }
 
     /// Takes the next piece of the stream: the items of the lines that end in it. An `Err` has taken in
-    /// nothing.
+    /// nothing. More of a line that is too long wants no memory.
     pub fn feed(&mut self, alloc: Global, piece: &[u8]) -> Result<Vec<Item>, Memory>
         ensures ok { IfOk result (λ items. Feeds self.old piece.now items.items self.new) }
         ensures err { OnErr result (self.new ≡ self.old) }
+        ensures overlong { self.old ≡ None → parts_at 10 piece.now ≡ piece.now ∷ [] → IsOk result }
     {
         let Some((end, after)) = cut(piece, b'\n') else {
             return match self.extend(piece) {
@@ -84,6 +85,7 @@ impl Lines {
         requires { parts_at 10 piece.now ≡ piece.now ∷ [] }
         ensures ok { OnOk result (self.new ≡ extended self.old piece.now) }
         ensures err { OnErr result (self.new ≡ self.old) }
+        ensures overlong { self.old ≡ None → IsOk result }
         ensures one { HasNoNewline self.old }
     {
         if self.is_overlong {

@@ -38,7 +38,7 @@ pub enum Refusal {
     SameField,
     /// The order's line on this field has the other way.
     OtherWay,
-    /// The order has 64 lines.
+    /// The order has 64 lines, none of them on this field.
     TooManyLines,
     /// Some outcome would be below the lower bound.
     TooLittle,

@@ -33,9 +33,10 @@ pub fn read_piece<R: Read>(reader: &mut R, buffer: &mut [u8]) -> Result<usize, R
 }
 
 /// Writes the whole text. A failing write, of whatever kind, and one that takes nothing is a fault at once;
-/// then a beginning of the text is written.
+/// then a beginning of the text is written. A text without bytes has no fault.
 pub fn write_whole<W: Write>(writer: &mut W, text: &[u8]) -> Result<(), WriteFault>
     ensures whole { OnOk result (Appends (W.contents writer.old) (W.contents writer.new) text.now) }
+    ensures some { OnErr result (0 < length text.now) }
     ensures beginning { OnErr result ((count : ℕ) × (count ≤ length text.now) × Appends (W.contents writer.old) (W.contents writer.new) (take count text.now)) }
 {
     let mut written = 0;

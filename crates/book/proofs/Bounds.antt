@@ -1,0 +1,298 @@
+-- The least and the greatest result over all outcomes, by what is held.
+use Rattle.std.proofs.Common.{Option, Some, None, IsSomeAnd, ◌≡◌, ℕ, ◌≤◌, ℤ, pos, ◌+ℤ◌, ◌-ℤ◌, neg_ℤ, ◌≤ℤ◌, ◌<ℤ◌, List, [], ◌∷◌, Bool, true, false, ◌&&◌, ◌||◌, IsTrue, refl, sym, ◌∙◌, subst, arith, if◌then◌else◌, true≢false, ◌↔◌}
+use Rattle.std.proofs.lemmas.Int.{ints}
+use Rattle.std.specs.List.{AllByRecursion as Each, list_any}
+use Rattle.escrow.specs.declared.quantity.Way.{Way}
+use Rattle.escrow.specs.declared.quantity.Way.TheVariants.{Take, Add}
+use Rattle.book.specs.declared.order.Line.{Line}
+use Rattle.book.specs.Ledger.{Name, Field, Order, Ledger, on, is_open, field_named}
+use Rattle.book.specs.Outcomes.{total, signed, moved, settled, Outcome, IsOutcome, outcome_result, IsSafe, IsInfimum, IsSupremum, FallsBelow, RisesAbove, IsWithin}
+use Rattle.book.specs.Held.{if_take, if_add, held_to_take, held_to_add}
+use Rattle.book.proofs.Sums.{each-imp}
+
+-- at most one line is on the field
+abbrev pub OneOn : Name → List Line → Type 0
+OneOn f [] = Unit {0}
+OneOn f (l ∷ ls) = (on f l ≡ true → Each (λ m. on f m ≡ false) ls) × OneOn f ls
+
+-- the field is within its bounds where all takes are used and where all adds are
+abbrev pub HasRoom : Ledger → Field → Type 0
+HasRoom A f = (pos f.lo ≤ℤ (settled A f -ℤ held_to_take A f.name)) × ((settled A f +ℤ held_to_add A f.name) ≤ℤ pos f.hi)
+
+-- what the bounds need of an order
+pub record Sound (o : Order) : Type 0 where
+  pub used : Each (λ l. l.used ≤ l.held) o.lines
+  pub one : (f : Name) → OneOn f o.lines
+
+is_take : Way → Bool
+is_take Take = true
+is_take Add = false
+
+is_add : Way → Bool
+is_add Take = false
+is_add Add = true
+
+abbrev pub takes : Name → Line → ℤ
+takes f l = if on f l then pos (if_take l.way l.held) else pos 0
+
+abbrev pub adds : Name → Line → ℤ
+adds f l = if on f l then pos (if_add l.way l.held) else pos 0
+
+has : (Way → Bool) → Name → List Line → Bool
+has w f ls = list_any (λ l. on f l && w l.way) ls
+
+-- one line, at any amount up to what is held
+
+line_low : (b : Bool) (w : Way) (a h : ℕ) → a ≤ h → neg_ℤ (if b then pos (if_take w h) else pos 0) ≤ℤ (if b then signed w a else pos 0)
+line_low true Take a h p = omega (arith, ints)
+line_low true Add a h p = omega (arith, ints)
+line_low false w a h p = omega (arith, ints)
+
+line_high : (b : Bool) (w : Way) (a h : ℕ) → a ≤ h → (if b then signed w a else pos 0) ≤ℤ (if b then pos (if_add w h) else pos 0)
+line_high true Take a h p = omega (arith, ints)
+line_high true Add a h p = omega (arith, ints)
+line_high false w a h p = omega (arith, ints)
+
+not_negative : (b : Bool) (n : ℕ) → pos 0 ≤ℤ (if b then pos n else pos 0)
+not_negative true n = omega (arith, ints)
+not_negative false n = omega (arith, ints)
+
+pub takes-not_negative : (f : Name) (ls : List Line) → pos 0 ≤ℤ total (takes f) ls
+takes-not_negative f [] = omega (arith, ints)
+takes-not_negative f (l ∷ ls) = let a : pos 0 ≤ℤ takes f l = not_negative (on f l) (if_take l.way l.held) in
+    let b : pos 0 ≤ℤ total (takes f) ls = takes-not_negative f ls in omega (arith, ints)
+
+pub adds-not_negative : (f : Name) (ls : List Line) → pos 0 ≤ℤ total (adds f) ls
+adds-not_negative f [] = omega (arith, ints)
+adds-not_negative f (l ∷ ls) = let a : pos 0 ≤ℤ adds f l = not_negative (on f l) (if_add l.way l.held) in
+    let b : pos 0 ≤ℤ total (adds f) ls = adds-not_negative f ls in omega (arith, ints)
+
+Chosen : Outcome → Order → Line → Type 0
+Chosen X o l = (l.used ≤ X.amount o l) × (X.amount o l ≤ l.held)
+
+pub moved-low : (f : Name) (amount : Line → ℕ) (ls : List Line) → Each (λ l. (l.used ≤ amount l) × (amount l ≤ l.held)) ls
+    → neg_ℤ (total (takes f) ls) ≤ℤ total (λ l. if on f l then signed l.way (amount l) else pos 0) ls
+moved-low f amount [] h = omega (arith, ints)
+moved-low f amount (l ∷ ls) h =
+    let a : neg_ℤ (takes f l) ≤ℤ (if on f l then signed l.way (amount l) else pos 0) = line_low (on f l) l.way (amount l) l.held h.0.1 in
+    let b : neg_ℤ (total (takes f) ls) ≤ℤ total (λ l. if on f l then signed l.way (amount l) else pos 0) ls = moved-low f amount ls h.1 in
+    omega (arith, ints)
+
+pub moved-high : (f : Name) (amount : Line → ℕ) (ls : List Line) → Each (λ l. (l.used ≤ amount l) × (amount l ≤ l.held)) ls
+    → total (λ l. if on f l then signed l.way (amount l) else pos 0) ls ≤ℤ total (adds f) ls
+moved-high f amount [] h = omega (arith, ints)
+moved-high f amount (l ∷ ls) h =
+    let a : (if on f l then signed l.way (amount l) else pos 0) ≤ℤ adds f l = line_high (on f l) l.way (amount l) l.held h.0.1 in
+    let b : total (λ l. if on f l then signed l.way (amount l) else pos 0) ls ≤ℤ total (adds f) ls = moved-high f amount ls h.1 in
+    omega (arith, ints)
+
+-- one order: it is open or not, and commits or not
+
+order_low : (b c : Bool) (held m : ℤ) → pos 0 ≤ℤ held → (IsTrue (b && c) → neg_ℤ held ≤ℤ m) → neg_ℤ (if b then held else pos 0) ≤ℤ (if b && c then m else pos 0)
+order_low true true held m p q = q refl
+order_low true false held m p q = omega (arith, ints)
+order_low false c held m p q = omega (arith, ints)
+
+order_high : (b c : Bool) (held m : ℤ) → pos 0 ≤ℤ held → (IsTrue (b && c) → m ≤ℤ held) → (if b && c then m else pos 0) ≤ℤ (if b then held else pos 0)
+order_high true true held m p q = q refl
+order_high true false held m p q = omega (arith, ints)
+order_high false c held m p q = omega (arith, ints)
+
+-- every outcome is within what is held
+
+least : (A : Ledger) (f : Field) (X : Outcome) → IsOutcome A X → (settled A f -ℤ held_to_take A f.name) ≤ℤ outcome_result A X f
+least A f X h = let below : neg_ℤ (held_to_take A f.name) ≤ℤ total (λ o. if is_open o && X.commits o then moved f.name (X.amount o) o else pos 0) A.orders = go A.orders h in omega (arith, ints)
+  where
+    go : (os : List Order) → Each (λ o. IsTrue (is_open o && X.commits o) → Each (λ l. (l.used ≤ X.amount o l) × (X.amount o l ≤ l.held)) o.lines) os
+        → neg_ℤ (total (λ o. if is_open o then total (takes f.name) o.lines else pos 0) os) ≤ℤ total (λ o. if is_open o && X.commits o then moved f.name (X.amount o) o else pos 0) os
+    go [] h = omega (arith, ints)
+    go (o ∷ os) h =
+        let a : neg_ℤ (if is_open o then total (takes f.name) o.lines else pos 0) ≤ℤ (if is_open o && X.commits o then moved f.name (X.amount o) o else pos 0)
+        = order_low (is_open o) (X.commits o) (total (takes f.name) o.lines) (moved f.name (X.amount o) o) (takes-not_negative f.name o.lines) (λ c. moved-low f.name (X.amount o) o.lines (h.0 c)) in
+        let b = go os h.1 in
+        omega (arith, ints)
+
+greatest : (A : Ledger) (f : Field) (X : Outcome) → IsOutcome A X → outcome_result A X f ≤ℤ (settled A f +ℤ held_to_add A f.name)
+greatest A f X h = let above : total (λ o. if is_open o && X.commits o then moved f.name (X.amount o) o else pos 0) A.orders ≤ℤ held_to_add A f.name = go A.orders h in omega (arith, ints)
+  where
+    go : (os : List Order) → Each (λ o. IsTrue (is_open o && X.commits o) → Each (λ l. (l.used ≤ X.amount o l) × (X.amount o l ≤ l.held)) o.lines) os
+        → total (λ o. if is_open o && X.commits o then moved f.name (X.amount o) o else pos 0) os ≤ℤ total (λ o. if is_open o then total (adds f.name) o.lines else pos 0) os
+    go [] h = omega (arith, ints)
+    go (o ∷ os) h =
+        let a : (if is_open o && X.commits o then moved f.name (X.amount o) o else pos 0) ≤ℤ (if is_open o then total (adds f.name) o.lines else pos 0)
+        = order_high (is_open o) (X.commits o) (total (adds f.name) o.lines) (moved f.name (X.amount o) o) (adds-not_negative f.name o.lines) (λ c. moved-high f.name (X.amount o) o.lines (h.0 c)) in
+        let b = go os h.1 in
+        omega (arith, ints)
+
+-- the outcome that reaches the bound
+
+-- the lines that are on no field
+pub none-total : (f : Name) (g : Line → ℤ) (ls : List Line) → Each (λ m. on f m ≡ false) ls → total (λ l. if on f l then g l else pos 0) ls ≡ pos 0
+none-total f g [] h = refl
+none-total f g (l ∷ ls) h = rw h.0 (let b : total (λ l. if on f l then g l else pos 0) ls ≡ pos 0 = none-total f g ls h.1 in omega (arith, ints))
+
+none-has : (w : Way → Bool) (f : Name) (ls : List Line) → Each (λ m. on f m ≡ false) ls → has w f ls ≡ false
+unfolding has
+none-has w f [] h = refl
+none-has w f (l ∷ ls) h = rw h.0 (none-has w f ls h.1)
+
+take_step : (b : Bool) (w : Way) (h : ℕ) (r s : ℤ) (any : Bool) → (b ≡ true → (r ≡ pos 0) × (s ≡ pos 0) × (any ≡ false)) → (any ≡ true → r ≡ neg_ℤ s)
+    → (b && is_take w || any) ≡ true → (if b then signed w h else pos 0) +ℤ r ≡ neg_ℤ ((if b then pos (if_take w h) else pos 0) +ℤ s)
+unfolding is_take
+take_step true Take h r s any p q e = let z = p refl in let z0 = z.0 in let z1 = z.1 in omega (arith, ints)
+take_step true Add h r s any p q e = absurd (true≢false (sym e ∙ (p refl).2))
+take_step false w h r s any p q e = let z = q e in omega (arith, ints)
+
+take_in_full : (f : Name) (ls : List Line) → OneOn f ls → has is_take f ls ≡ true → total (λ l. if on f l then signed l.way l.held else pos 0) ls ≡ neg_ℤ (total (takes f) ls)
+unfolding has
+take_in_full f [] one e = absurd (true≢false (sym e))
+take_in_full f (l ∷ ls) one e = take_step (on f l) l.way l.held (total (λ l. if on f l then signed l.way l.held else pos 0) ls) (total (takes f) ls) (has is_take f ls)
+    (λ b. (none-total f (λ l. signed l.way l.held) ls (one.0 b), none-total f (λ l. pos (if_take l.way l.held)) ls (one.0 b), none-has is_take f ls (one.0 b)))
+    (λ h. take_in_full f ls one.1 h) e
+
+no_take_step : (b : Bool) (w : Way) (h : ℕ) (s : ℤ) (any : Bool) → (any ≡ false → s ≡ pos 0) → (b && is_take w || any) ≡ false → (if b then pos (if_take w h) else pos 0) +ℤ s ≡ pos 0
+unfolding is_take
+no_take_step true Take h s any q e = absurd (true≢false e)
+no_take_step true Add h s any q e = let z = q e in omega (arith, ints)
+no_take_step false w h s any q e = let z = q e in omega (arith, ints)
+
+no_take : (f : Name) (ls : List Line) → has is_take f ls ≡ false → total (takes f) ls ≡ pos 0
+unfolding has
+no_take f [] e = refl
+no_take f (l ∷ ls) e = no_take_step (on f l) l.way l.held (total (takes f) ls) (has is_take f ls) (λ h. no_take f ls h) e
+
+-- every open order with a take on the field commits in full, and no other
+worst : Name → Outcome
+worst f = record { commits = λ o. has is_take f o.lines; amount = λ o l. l.held }
+
+in_full : (ls : List Line) → Each (λ l. l.used ≤ l.held) ls → Each (λ l. (l.used ≤ l.held) × (l.held ≤ l.held)) ls
+in_full [] h = tt
+in_full (l ∷ ls) h = ((h.0, omega arith), in_full ls h.1)
+
+worst-outcome : (f : Name) (A : Ledger) → Each Sound A.orders → IsOutcome A (worst f)
+unfolding worst
+worst-outcome f A h = each-imp (λ o s c. in_full o.lines s.used) A.orders h
+
+worst_order : (b c : Bool) (m held : ℤ) → (c ≡ true → m ≡ neg_ℤ held) → (c ≡ false → held ≡ pos 0) → (if b && c then m else pos 0) ≡ neg_ℤ (if b then held else pos 0)
+worst_order true true m held p q = p refl
+worst_order true false m held p q = let z = q refl in omega (arith, ints)
+worst_order false c m held p q = refl
+
+worst-result : (f : Field) (A : Ledger) → Each Sound A.orders → outcome_result A (worst f.name) f ≡ settled A f -ℤ held_to_take A f.name
+unfolding worst
+worst-result f A h = let e = go A.orders h in omega (arith, ints)
+  where
+    go : (os : List Order) → Each Sound os → total (λ o. if is_open o && has is_take f.name o.lines then moved f.name (λ l. l.held) o else pos 0) os ≡ neg_ℤ (total (λ o. if is_open o then total (takes f.name) o.lines else pos 0) os)
+    go [] h = refl
+    go (o ∷ os) h =
+        let a = worst_order (is_open o) (has is_take f.name o.lines) (moved f.name (λ l. l.held) o) (total (takes f.name) o.lines) (take_in_full f.name o.lines (h.0.one f.name)) (no_take f.name o.lines) in
+        let b = go os h.1 in
+        omega (arith, ints)
+
+-- the same for adds
+
+add_step : (b : Bool) (w : Way) (h : ℕ) (r s : ℤ) (any : Bool) → (b ≡ true → (r ≡ pos 0) × (s ≡ pos 0) × (any ≡ false)) → (any ≡ true → r ≡ s)
+    → (b && is_add w || any) ≡ true → (if b then signed w h else pos 0) +ℤ r ≡ (if b then pos (if_add w h) else pos 0) +ℤ s
+unfolding is_add
+add_step true Add h r s any p q e = let z = p refl in let z0 = z.0 in let z1 = z.1 in omega (arith, ints)
+add_step true Take h r s any p q e = absurd (true≢false (sym e ∙ (p refl).2))
+add_step false w h r s any p q e = let z = q e in omega (arith, ints)
+
+add_in_full : (f : Name) (ls : List Line) → OneOn f ls → has is_add f ls ≡ true → total (λ l. if on f l then signed l.way l.held else pos 0) ls ≡ total (adds f) ls
+unfolding has
+add_in_full f [] one e = absurd (true≢false (sym e))
+add_in_full f (l ∷ ls) one e = add_step (on f l) l.way l.held (total (λ l. if on f l then signed l.way l.held else pos 0) ls) (total (adds f) ls) (has is_add f ls)
+    (λ b. (none-total f (λ l. signed l.way l.held) ls (one.0 b), none-total f (λ l. pos (if_add l.way l.held)) ls (one.0 b), none-has is_add f ls (one.0 b)))
+    (λ h. add_in_full f ls one.1 h) e
+
+no_add_step : (b : Bool) (w : Way) (h : ℕ) (s : ℤ) (any : Bool) → (any ≡ false → s ≡ pos 0) → (b && is_add w || any) ≡ false → (if b then pos (if_add w h) else pos 0) +ℤ s ≡ pos 0
+unfolding is_add
+no_add_step true Add h s any q e = absurd (true≢false e)
+no_add_step true Take h s any q e = let z = q e in omega (arith, ints)
+no_add_step false w h s any q e = let z = q e in omega (arith, ints)
+
+no_add : (f : Name) (ls : List Line) → has is_add f ls ≡ false → total (adds f) ls ≡ pos 0
+unfolding has
+no_add f [] e = refl
+no_add f (l ∷ ls) e = no_add_step (on f l) l.way l.held (total (adds f) ls) (has is_add f ls) (λ h. no_add f ls h) e
+
+-- every open order with an add on the field commits in full, and no other
+best : Name → Outcome
+best f = record { commits = λ o. has is_add f o.lines; amount = λ o l. l.held }
+
+best-outcome : (f : Name) (A : Ledger) → Each Sound A.orders → IsOutcome A (best f)
+unfolding best
+best-outcome f A h = each-imp (λ o s c. in_full o.lines s.used) A.orders h
+
+best_order : (b c : Bool) (m held : ℤ) → (c ≡ true → m ≡ held) → (c ≡ false → held ≡ pos 0) → (if b && c then m else pos 0) ≡ (if b then held else pos 0)
+best_order true true m held p q = p refl
+best_order true false m held p q = let z = q refl in omega (arith, ints)
+best_order false c m held p q = refl
+
+best-result : (f : Field) (A : Ledger) → Each Sound A.orders → outcome_result A (best f.name) f ≡ settled A f +ℤ held_to_add A f.name
+unfolding best
+best-result f A h = let e = go A.orders h in omega (arith, ints)
+  where
+    go : (os : List Order) → Each Sound os → total (λ o. if is_open o && has is_add f.name o.lines then moved f.name (λ l. l.held) o else pos 0) os ≡ total (λ o. if is_open o then total (adds f.name) o.lines else pos 0) os
+    go [] h = refl
+    go (o ∷ os) h =
+        let a = best_order (is_open o) (has is_add f.name o.lines) (moved f.name (λ l. l.held) o) (total (adds f.name) o.lines) (add_in_full f.name o.lines (h.0.one f.name)) (no_add f.name o.lines) in
+        let b = go os h.1 in
+        omega (arith, ints)
+
+pub inf_is : (A : Ledger) → Each Sound A.orders → (f : Field) → IsInfimum A f (settled A f -ℤ held_to_take A f.name)
+inf_is A h f = record { reached = (worst f.name, worst-outcome f.name A h, worst-result f A h); least = least A f }
+
+pub sup_is : (A : Ledger) → Each Sound A.orders → (f : Field) → IsSupremum A f (settled A f +ℤ held_to_add A f.name)
+sup_is A h f = record { reached = (best f.name, best-outcome f.name A h, best-result f A h); greatest = greatest A f }
+
+-- an infimum is unique
+pub inf_unique : (A : Ledger) (f : Field) (a b : ℤ) → IsInfimum A f a → IsInfimum A f b → a ≡ b
+inf_unique A f a b h k =
+    let x = h.least k.reached.0 k.reached.1 in let x' = k.reached.2 in
+    let y = k.least h.reached.0 h.reached.1 in let y' = h.reached.2 in omega (arith, ints)
+
+-- the code's two comparisons are the model's safety
+all_at : (A : Ledger) (P : Field → Type 0) (fs : List Field)
+    → ((X : Outcome) → IsOutcome A X → Each (λ f. IsWithin f (outcome_result A X f)) fs)
+    → ((f : Field) → ((X : Outcome) → IsOutcome A X → IsWithin f (outcome_result A X f)) → P f) → Each P fs
+all_at A P [] h p = tt
+all_at A P (f ∷ fs) h p = (p f (λ X o. (h X o).0), all_at A P fs (λ X o. (h X o).1) p)
+
+pub room_from_safe : (A : Ledger) → Each Sound A.orders → IsSafe A → Each (HasRoom A) A.fields
+room_from_safe A s h = all_at A (HasRoom A) A.fields h (λ f w. (
+  subst (λ z. pos f.lo ≤ℤ z) (worst-result f A s) (w (worst f.name) (worst-outcome f.name A s)).0,
+  subst (λ z. z ≤ℤ pos f.hi) (best-result f A s) (w (best f.name) (best-outcome f.name A s)).1,
+))
+
+pub safe_from_room : (A : Ledger) → Each (HasRoom A) A.fields → IsSafe A
+safe_from_room A h X o = each-imp (λ f r. within f r) A.fields h
+  where
+    within : (f : Field) → HasRoom A f → IsWithin f (outcome_result A X f)
+    within f r = let a = r.0 in let b = r.1 in let c = least A f X o in let d = greatest A f X o in omega (arith, ints)
+
+pub safe_iff_room : (A : Ledger) → Each Sound A.orders → IsSafe A ↔ Each (HasRoom A) A.fields
+safe_iff_room A s = (room_from_safe A s, safe_from_room A)
+
+-- the test for a take looks at one number, and so does the test for an add
+pub falls_below_iff : (B : Ledger) → Each Sound B.orders → (name : Name) → FallsBelow B name ↔ IsSomeAnd (field_named B name) (λ f. (settled B f -ℤ held_to_take B f.name) <ℤ pos f.lo)
+falls_below_iff B s name = (there (field_named B name), back (field_named B name))
+  where
+    there : (o : Option Field) → IsSomeAnd o (λ f. (X : Outcome) × IsOutcome B X × (outcome_result B X f <ℤ pos f.lo)) → IsSomeAnd o (λ f. (settled B f -ℤ held_to_take B f.name) <ℤ pos f.lo)
+    there None h = h
+    there (Some f) h = let a = least B f h.0 h.1 in let b = h.2 in omega (arith, ints)
+
+    back : (o : Option Field) → IsSomeAnd o (λ f. (settled B f -ℤ held_to_take B f.name) <ℤ pos f.lo) → IsSomeAnd o (λ f. (X : Outcome) × IsOutcome B X × (outcome_result B X f <ℤ pos f.lo))
+    back None h = h
+    back (Some f) h = (worst f.name, worst-outcome f.name B s, subst (λ z. z <ℤ pos f.lo) (sym (worst-result f B s)) h)
+
+pub rises_above_iff : (B : Ledger) → Each Sound B.orders → (name : Name) → RisesAbove B name ↔ IsSomeAnd (field_named B name) (λ f. pos f.hi <ℤ (settled B f +ℤ held_to_add B f.name))
+rises_above_iff B s name = (there (field_named B name), back (field_named B name))
+  where
+    there : (o : Option Field) → IsSomeAnd o (λ f. (X : Outcome) × IsOutcome B X × (pos f.hi <ℤ outcome_result B X f)) → IsSomeAnd o (λ f. pos f.hi <ℤ (settled B f +ℤ held_to_add B f.name))
+    there None h = h
+    there (Some f) h = let a = greatest B f h.0 h.1 in let b = h.2 in omega (arith, ints)
+
+    back : (o : Option Field) → IsSomeAnd o (λ f. pos f.hi <ℤ (settled B f +ℤ held_to_add B f.name)) → IsSomeAnd o (λ f. (X : Outcome) × IsOutcome B X × (pos f.hi <ℤ outcome_result B X f))
+    back None h = h
+    back (Some f) h = (best f.name, best-outcome f.name B s, subst (λ z. pos f.hi <ℤ z) (sym (best-result f B s)) h)

@@ -1,0 +1,491 @@
+-- From a good ledger every future keeps the bounds and the commits.
+use Rattle.std.proofs.Common.{◌≡◌, ℕ, ◌+◌, ◌-◌, ◌<◌, ◌≤◌, ℤ, pos, ◌+ℤ◌, ◌-ℤ◌, neg_ℤ, ◌≤ℤ◌, List, [], ◌∷◌, map, Bool, true, false, ◌&&◌, ◌||◌, IsTrue, IsFalse, IsNone, is_some, IsSomeAnd, Option, Some, None, find, refl, sym, ap, ◌∙◌, subst, arith, if◌then◌else◌, true≢false, inl, inr, ◌==◌, nat_le, nat_cmp, Less, MatchOption}
+use Rattle.std.proofs.lemmas.Int.{ints}
+use Rattle.std.specs.Cmp.{ranks}
+use Rattle.std.specs.Ordering.{MatchOrdering}
+use Rattle.std.specs.List.{AllByRecursion as Each, IsDistinct}
+use Rattle.std.specs.List.Sorted.{IsStrictlySortedBy}
+use lib.Pointwise.{bytes_decides}
+use Rattle.escrow.specs.declared.quantity.Way.{Way}
+use Rattle.escrow.specs.declared.quantity.Way.TheVariants.{Take, Add}
+use Rattle.words.specs.declared.command.Command.{Command}
+use Rattle.words.specs.declared.command.Command.TheVariants as command
+use Rattle.words.specs.declared.command.Request.{Request}
+use Rattle.words.specs.declared.reply.Refusal.{Refusal}
+use Rattle.words.specs.declared.reply.Refusal.TheVariants.{KeyReused}
+use Rattle.words.specs.declared.reply.Reply.{Reply}
+use Rattle.words.specs.declared.reply.Reply.TheVariants.{Done, Refused}
+use Rattle.book.specs.declared.order.State.{State}
+use Rattle.book.specs.declared.order.State.TheVariants.{Open, Committed, Aborted}
+use Rattle.book.specs.declared.order.Line.{Line}
+use Rattle.book.specs.Ledger.{open_state, committed_state, Name, Field, Order, Ledger, Kept, on, is_open, is_committed, is_transfer, line_name, same_name, order_numbered, line_on, kept_under, places}
+use Rattle.book.specs.Outcomes.{total, signed, moved, settled, IsWithin}
+use Rattle.book.specs.Held.{if_take, if_add, held_to_take, held_to_add}
+use Rattle.book.specs.Next.{accept, change_lines, raise_used, lower_held, set_state}
+use Rattle.book.specs.Answers.{Check, FirstFailure, checks, Answers, AnswersNew, Runs, same_command}
+use Rattle.book.specs.Good.{Good, IsGoodOrder, IsTransferPair}
+use Rattle.book.specs.Future.{AsksNoStock, IsFuture, Stands, HonoursAlways}
+use Rattle.book.proofs.Sums.{each-imp, each-both, each-map}
+use Rattle.book.proofs.Bounds.{OneOn, Sound, takes, adds, takes-not_negative, adds-not_negative, moved-low, moved-high, room_from_safe, HasRoom}
+
+-- a good order is sound
+
+pub same_parts : (a b : Bool) → (a && b) ≡ true → (a ≡ true) × (b ≡ true)
+same_parts true true e = (refl, refl)
+same_parts true false e = absurd (true≢false (sym e))
+same_parts false b e = absurd (true≢false (sym e))
+
+pub name_is : (f g : Name) → same_name f g ≡ true → f ≡ g
+name_is f g e = let p = same_parts _ _ e in
+    let b = (bytes_decides f.branch g.branch).0 p.0 in let a = (bytes_decides f.article g.article).0 p.1 in
+    λ i. record { branch = b i; article = a i }
+
+pub one_on : (f : Name) (ls : List Line) → IsDistinct same_name (map line_name ls) → OneOn f ls
+unfolding IsDistinct
+one_on f [] d = tt
+one_on f (l ∷ ls) d = (λ e. subst (λ g. Each (λ m. same_name g (line_name m) ≡ false) ls) (sym (name_is f (line_name l) e)) (unmap ls d.0), one_on f ls d.1)
+  where
+    unmap : (ms : List Line) → Each (λ y. same_name (line_name l) y ≡ false) (map line_name ms) → Each (λ m. same_name (line_name l) (line_name m) ≡ false) ms
+    unmap [] h = tt
+    unmap (m ∷ ms) h = (h.0, unmap ms h.1)
+
+pub sound_from_good : (A : Ledger) (o : Order) → IsGoodOrder A o → Sound o
+sound_from_good A o g = record { used = each-imp (λ l h. h.used) o.lines g.lines; one = λ f. one_on f o.lines g.apart }
+
+-- what stays true under every future
+
+pub record Fine (o : Order) : Type 0 where
+  pub sound : Sound o
+  pub pair : IsTrue (is_transfer o) → IsTransferPair o.lines
+
+abbrev pub low : Name → Order → ℤ
+low f o = (if is_committed o then moved f (λ l. l.used) o else pos 0) -ℤ (if is_open o then total (takes f) o.lines else pos 0)
+
+abbrev pub high : Name → Order → ℤ
+high f o = (if is_committed o then moved f (λ l. l.used) o else pos 0) +ℤ (if is_open o then total (adds f) o.lines else pos 0)
+
+-- the order after a step keeps its number, and has no lower and no higher result than before
+pub record Better (o new : Order) : Type 0 where
+  pub number : new.number ≡ o.number
+  pub fine : Fine new
+  pub low_is : (f : Name) → low f o ≤ℤ low f new
+  pub high_is : (f : Name) → high f new ≤ℤ high f o
+
+pub record Fit (A : Ledger) : Type 0 where
+  pub orders : Each Fine A.orders
+  pub numbers : IsStrictlySortedBy nat_cmp (map (λ o. o.number) A.orders)
+  pub room : Each (HasRoom A) A.fields
+
+same_numbers : (h : Order → Order) (os : List Order) → Each (λ o. Better o (h o)) os → map (λ o. o.number) (map h os) ≡ map (λ o. o.number) os
+same_numbers h [] b = refl
+same_numbers h (o ∷ os) b = λ i. b.0.number i ∷ same_numbers h os b.1 i
+
+committed_part : Name → List Order → ℤ
+committed_part f os = total (λ o. if is_committed o then moved f (λ l. l.used) o else pos 0) os
+
+takes_part : Name → List Order → ℤ
+takes_part f os = total (λ o. if is_open o then total (takes f) o.lines else pos 0) os
+
+adds_part : Name → List Order → ℤ
+adds_part f os = total (λ o. if is_open o then total (adds f) o.lines else pos 0) os
+
+lower : (f : Name) (h : Order → Order) (os : List Order) → Each (λ o. Better o (h o)) os
+    → (committed_part f os -ℤ takes_part f os) ≤ℤ (committed_part f (map h os) -ℤ takes_part f (map h os))
+unfolding committed_part takes_part
+lower f h [] b = omega (arith, ints)
+lower f h (o ∷ os) b = let x = b.0.low_is f in let y = lower f h os b.1 in omega (arith, ints)
+
+higher : (f : Name) (h : Order → Order) (os : List Order) → Each (λ o. Better o (h o)) os
+    → (committed_part f (map h os) +ℤ adds_part f (map h os)) ≤ℤ (committed_part f os +ℤ adds_part f os)
+unfolding committed_part adds_part
+higher f h [] b = omega (arith, ints)
+higher f h (o ∷ os) b = let x = b.0.high_is f in let y = higher f h os b.1 in omega (arith, ints)
+
+-- the ledger with each order changed
+abbrev changed : (Order → Order) → ℕ → List Kept → Ledger → Ledger
+changed h clock kept A = record { clock = clock; fields = A.fields; moves = A.moves; orders = map h A.orders; kept = kept }
+
+room-changed : (A : Ledger) (h : Order → Order) (clock : ℕ) (kept : List Kept) → Each (λ o. Better o (h o)) A.orders → (f : Field) → HasRoom A f → HasRoom (changed h clock kept A) f
+unfolding committed_part takes_part adds_part
+room-changed A h clock kept b f r =
+    let p : (pos f.lo) ≤ℤ (settled A f -ℤ held_to_take A f.name) = r.0 in let q : (settled A f +ℤ held_to_add A f.name) ≤ℤ pos f.hi = r.1 in
+    let x : (committed_part f.name A.orders -ℤ takes_part f.name A.orders) ≤ℤ (committed_part f.name (map h A.orders) -ℤ takes_part f.name (map h A.orders)) = lower f.name h A.orders b in
+    let y : (committed_part f.name (map h A.orders) +ℤ adds_part f.name (map h A.orders)) ≤ℤ (committed_part f.name A.orders +ℤ adds_part f.name A.orders) = higher f.name h A.orders b in
+    (omega (arith, ints), omega (arith, ints))
+
+fit-changed : (A : Ledger) (h : Order → Order) (clock : ℕ) (kept : List Kept) → Fit A → Each (λ o. Better o (h o)) A.orders → Fit (changed h clock kept A)
+fit-changed A h clock kept fit b = record {
+  orders = each-map Fine h A.orders (each-imp (λ o x. x.fine) A.orders b);
+  numbers = subst (IsStrictlySortedBy nat_cmp) (sym (same_numbers h A.orders b)) fit.numbers;
+  room = each-imp (λ f r. room-changed A h clock kept b f r) A.fields fit.room;
+}
+
+-- one order
+
+same_low : (o : Order) → Fine o → Better o o
+same_low o fine = record { number = refl; fine = fine; low_is = λ f. omega (arith, ints); high_is = λ f. omega (arith, ints) }
+
+better_if : (b : Bool) (o new : Order) → Fine o → (b ≡ true → Better o new) → Better o (if b then new else o)
+better_if true o new fine h = h refl
+better_if false o new fine h = same_low o fine
+
+used_in_held : (ls : List Line) → Each (λ l. l.used ≤ l.held) ls → Each (λ l. (l.used ≤ l.used) × (l.used ≤ l.held)) ls
+used_in_held [] h = tt
+used_in_held (l ∷ ls) h = ((omega arith, h.0), used_in_held ls h.1)
+
+commit_low : (s : State) (u t : ℤ) → open_state s ≡ true → neg_ℤ t ≤ℤ u → ((if committed_state s then u else pos 0) -ℤ (if open_state s then t else pos 0)) ≤ℤ (u -ℤ pos 0)
+commit_low Open u t e h = omega (arith, ints)
+commit_low Committed u t e h = absurd (true≢false (sym e))
+commit_low Aborted u t e h = absurd (true≢false (sym e))
+
+commit_high : (s : State) (u t : ℤ) → open_state s ≡ true → u ≤ℤ t → (u +ℤ pos 0) ≤ℤ ((if committed_state s then u else pos 0) +ℤ (if open_state s then t else pos 0))
+commit_high Open u t e h = omega (arith, ints)
+commit_high Committed u t e h = absurd (true≢false (sym e))
+commit_high Aborted u t e h = absurd (true≢false (sym e))
+
+better-commit : (o : Order) → Fine o → is_open o ≡ true → Better o (set_state Committed o)
+better-commit o fine e = record {
+  number = refl;
+  fine = record { sound = record { used = fine.sound.used; one = fine.sound.one }; pair = fine.pair };
+  low_is = λ f. commit_low o.state (moved f (λ l. l.used) o) (total (takes f) o.lines) e (moved-low f (λ l. l.used) o.lines (used_in_held o.lines fine.sound.used));
+  high_is = λ f. commit_high o.state (moved f (λ l. l.used) o) (total (adds f) o.lines) e (moved-high f (λ l. l.used) o.lines (used_in_held o.lines fine.sound.used));
+}
+
+abort_low : (s : State) (u t : ℤ) → open_state s ≡ true → pos 0 ≤ℤ t → ((if committed_state s then u else pos 0) -ℤ (if open_state s then t else pos 0)) ≤ℤ (pos 0 -ℤ pos 0)
+abort_low Open u t e h = omega (arith, ints)
+abort_low Committed u t e h = absurd (true≢false (sym e))
+abort_low Aborted u t e h = absurd (true≢false (sym e))
+
+abort_high : (s : State) (u t : ℤ) → open_state s ≡ true → pos 0 ≤ℤ t → (pos 0 +ℤ pos 0) ≤ℤ ((if committed_state s then u else pos 0) +ℤ (if open_state s then t else pos 0))
+abort_high Open u t e h = omega (arith, ints)
+abort_high Committed u t e h = absurd (true≢false (sym e))
+abort_high Aborted u t e h = absurd (true≢false (sym e))
+
+better-abort : (o : Order) → Fine o → is_open o ≡ true → Better o (set_state Aborted o)
+better-abort o fine e = record {
+  number = refl;
+  fine = record { sound = record { used = fine.sound.used; one = fine.sound.one }; pair = fine.pair };
+  low_is = λ f. abort_low o.state (moved f (λ l. l.used) o) (total (takes f) o.lines) e (takes-not_negative f o.lines);
+  high_is = λ f. abort_high o.state (moved f (λ l. l.used) o) (total (adds f) o.lines) e (adds-not_negative f o.lines);
+}
+
+-- a use or a release, on an open order
+
+-- the line after it: the same line, which holds no more, and uses no more than it holds
+pub record LineStep (l new : Line) : Type 0 where
+  pub name : line_name new ≡ line_name l
+  pub way : new.way ≡ l.way
+  pub held : new.held ≤ l.held
+  pub used : new.used ≤ new.held
+
+pub one_on-map : (f : Name) (h : Line → Line) (ls : List Line) → Each (λ l. LineStep l (h l)) ls → OneOn f ls → OneOn f (map h ls)
+one_on-map f h [] s one = tt
+one_on-map f h (l ∷ ls) s one = (λ e. none ls s.1 (one.0 (subst (λ g. same_name f g ≡ true) s.0.name e)), one_on-map f h ls s.1 one.1)
+  where
+    none : (ms : List Line) → Each (λ l. LineStep l (h l)) ms → Each (λ m. on f m ≡ false) ms → Each (λ m. on f m ≡ false) (map h ms)
+    none [] t e = tt
+    none (m ∷ ms) t e = (subst (λ g. same_name f g ≡ false) (sym t.0.name) e.0, none ms t.1 e.1)
+
+take_less : (b : Bool) (w : Way) (m n : ℕ) → m ≤ n → (if b then pos (if_take w m) else pos 0) ≤ℤ (if b then pos (if_take w n) else pos 0)
+take_less true Take m n h = omega (arith, ints)
+take_less true Add m n h = omega (arith, ints)
+take_less false w m n h = omega (arith, ints)
+
+add_less : (b : Bool) (w : Way) (m n : ℕ) → m ≤ n → (if b then pos (if_add w m) else pos 0) ≤ℤ (if b then pos (if_add w n) else pos 0)
+add_less true Take m n h = omega (arith, ints)
+add_less true Add m n h = omega (arith, ints)
+add_less false w m n h = omega (arith, ints)
+
+takes-step : (f : Name) (l new : Line) → LineStep l new → takes f new ≤ℤ takes f l
+takes-step f l new s = subst (λ n. (if same_name f n then pos (if_take new.way new.held) else pos 0) ≤ℤ takes f l) (sym s.name)
+    (subst (λ w. (if on f l then pos (if_take w new.held) else pos 0) ≤ℤ takes f l) (sym s.way) (take_less (on f l) l.way new.held l.held s.held))
+
+adds-step : (f : Name) (l new : Line) → LineStep l new → adds f new ≤ℤ adds f l
+adds-step f l new s = subst (λ n. (if same_name f n then pos (if_add new.way new.held) else pos 0) ≤ℤ adds f l) (sym s.name)
+    (subst (λ w. (if on f l then pos (if_add w new.held) else pos 0) ≤ℤ adds f l) (sym s.way) (add_less (on f l) l.way new.held l.held s.held))
+
+takes-map : (f : Name) (h : Line → Line) (ls : List Line) → Each (λ l. LineStep l (h l)) ls → total (takes f) (map h ls) ≤ℤ total (takes f) ls
+takes-map f h [] s = omega (arith, ints)
+takes-map f h (l ∷ ls) s = let a : takes f (h l) ≤ℤ takes f l = takes-step f l (h l) s.0 in let b : total (takes f) (map h ls) ≤ℤ total (takes f) ls = takes-map f h ls s.1 in omega (arith, ints)
+
+adds-map : (f : Name) (h : Line → Line) (ls : List Line) → Each (λ l. LineStep l (h l)) ls → total (adds f) (map h ls) ≤ℤ total (adds f) ls
+adds-map f h [] s = omega (arith, ints)
+adds-map f h (l ∷ ls) s = let a : adds f (h l) ≤ℤ adds f l = adds-step f l (h l) s.0 in let b : total (adds f) (map h ls) ≤ℤ total (adds f) ls = adds-map f h ls s.1 in omega (arith, ints)
+
+held_low : (s : State) (u v t n : ℤ) → open_state s ≡ true → n ≤ℤ t → ((if committed_state s then u else pos 0) -ℤ (if open_state s then t else pos 0)) ≤ℤ ((if committed_state s then v else pos 0) -ℤ (if open_state s then n else pos 0))
+held_low Open u v t n e h = omega (arith, ints)
+held_low Committed u v t n e h = absurd (true≢false (sym e))
+held_low Aborted u v t n e h = absurd (true≢false (sym e))
+
+held_high : (s : State) (u v t n : ℤ) → open_state s ≡ true → n ≤ℤ t → ((if committed_state s then v else pos 0) +ℤ (if open_state s then n else pos 0)) ≤ℤ ((if committed_state s then u else pos 0) +ℤ (if open_state s then t else pos 0))
+held_high Open u v t n e h = omega (arith, ints)
+held_high Committed u v t n e h = absurd (true≢false (sym e))
+held_high Aborted u v t n e h = absurd (true≢false (sym e))
+
+used-map : (h : Line → Line) (ls : List Line) → Each (λ l. LineStep l (h l)) ls → Each (λ l. l.used ≤ l.held) (map h ls)
+used-map h [] s = tt
+used-map h (l ∷ ls) s = (s.0.used, used-map h ls s.1)
+
+better-lines : (o : Order) (h : Line → Line) → Fine o → is_open o ≡ true → Each (λ l. LineStep l (h l)) o.lines → (IsTrue (is_transfer o) → IsTransferPair (map h o.lines))
+    → Better o (record o { lines = map h o.lines })
+better-lines o h fine e s pair = record {
+  number = refl;
+  fine = record { sound = record { used = used-map h o.lines s; one = λ f. one_on-map f h o.lines s (fine.sound.one f) }; pair = pair };
+  low_is = λ f. held_low o.state (moved f (λ l. l.used) o) (total (λ l. if on f l then signed l.way l.used else pos 0) (map h o.lines)) (total (takes f) o.lines) (total (takes f) (map h o.lines)) e (takes-map f h o.lines s);
+  high_is = λ f. held_high o.state (moved f (λ l. l.used) o) (total (λ l. if on f l then signed l.way l.used else pos 0) (map h o.lines)) (total (adds f) o.lines) (total (adds f) (map h o.lines)) e (adds-map f h o.lines s);
+}
+
+-- what passing the checks says
+
+-- the line on the field has the fact, and so has each line on it, since there is one
+pub at_line : (P : Line → Type 0) (f : Name) (ls : List Line) → OneOn f ls → IsSomeAnd (find (on f) ls) P → Each (λ l. on f l ≡ true → P l) ls
+at_line P f [] one h = tt
+at_line P f (l ∷ ls) one h = step (λ k. at_line P f ls one.1 k) (on f l) refl h
+  where
+    step : (IsSomeAnd (find (on f) ls) P → Each (λ l. on f l ≡ true → P l) ls) → (b : Bool) → on f l ≡ b → IsSomeAnd (if b then Some l else find (on f) ls) P → Each (λ l. on f l ≡ true → P l) (l ∷ ls)
+    step more true e h = (λ _. h, each-imp (λ m no yes. absurd (true≢false (sym yes ∙ no))) ls (one.0 e))
+    step more false e h = (λ yes. absurd (true≢false (sym yes ∙ e)), more h)
+
+pub less_is : (a b : ℕ) → nat_cmp a b ≡ Less → a < b
+less_is a b e = subst (λ r. MatchOrdering r (a < b) (a ≡ b) (b < a)) e (ranks a b)
+
+-- likewise the order under the number
+pub at_number : (P : Order → Type 0) (n : ℕ) (os : List Order) → IsStrictlySortedBy nat_cmp (map (λ o. o.number) os) → IsSomeAnd (find (λ o. o.number == n) os) P → Each (λ o. (o.number == n) ≡ true → P o) os
+unfolding IsStrictlySortedBy
+at_number P n [] sorted h = tt
+at_number P n (o ∷ os) sorted h = step (λ k. at_number P n os sorted.1 k) (o.number == n) refl h
+  where
+    rest : (o.number == n) ≡ true → (ms : List Order) → Each (λ y. nat_cmp o.number y ≡ Less) (map (λ o. o.number) ms) → Each (λ m. (m.number == n) ≡ true → P m) ms
+    rest e [] k = tt
+    rest e (m ∷ ms) k = (λ yes. let a : o.number < m.number = less_is o.number m.number k.0 in absurd (apart e yes a), rest e ms k.1)
+      where
+        apart : (o.number == n) ≡ true → (m.number == n) ≡ true → o.number < m.number → ⊥
+        apart e e2 a = grind arith
+
+    step : (IsSomeAnd (find (λ o. o.number == n) os) P → Each (λ o. (o.number == n) ≡ true → P o) os) → (b : Bool) → (o.number == n) ≡ b → IsSomeAnd (if b then Some o else find (λ o. o.number == n) os) P → Each (λ o. (o.number == n) ≡ true → P o) (o ∷ os)
+    step more true e h = (λ _. h, rest e os sorted.0)
+    step more false e h = (λ yes. absurd (true≢false (sym yes ∙ e)), more h)
+
+none-is-not-some : {X : Type 0} (x : X) → None ≡ Some x → ⊥
+none-is-not-some x e = true≢false (sym (ap is_some e))
+
+abbrev pub AllPass : List Check → Type 0
+AllPass [] = Unit {0}
+AllPass (c ∷ cs) = (c.fails → ⊥) × AllPass cs
+
+pub all_pass : (cs : List Check) → FirstFailure cs None → AllPass cs
+all_pass [] h = tt
+all_pass (c ∷ cs) (inl h) = absurd (none-is-not-some (c.refusal, c.line) h.1)
+all_pass (c ∷ cs) (inr h) = (h.0, all_pass cs h.1)
+
+pub open_there : (o : Option Order) → (IsNone o → ⊥) → (IsSomeAnd o (λ o. IsFalse (is_open o)) → ⊥) → IsSomeAnd o (λ o. is_open o ≡ true)
+open_there None h k = h refl
+open_there (Some o) h k = bool (is_open o) refl
+  where
+    bool : (b : Bool) → is_open o ≡ b → is_open o ≡ true
+    bool true e = e
+    bool false e = absurd (k e)
+
+-- The order is open, and its line on f has q left.
+abbrev Usable : Name → ℕ → Order → Type 0
+Usable f q o = (is_open o ≡ true) × IsSomeAnd (line_on o f) (λ l. l.used + q ≤ l.held)
+
+line_there : (q : ℕ) (l : Option Line) → (IsNone l → ⊥) → (IsSomeAnd l (λ l. l.held < l.used + q) → ⊥) → IsSomeAnd l (λ l. l.used + q ≤ l.held)
+line_there q None h k = h refl
+line_there q (Some l) h k = not_less l.held (l.used + q) k
+  where
+    not_less : (a b : ℕ) → (a < b → ⊥) → b ≤ a
+    not_less a b k = omega arith
+
+usable_there : (f : Name) (q : ℕ) (o : Option Order) → (IsNone o → ⊥) → (IsSomeAnd o (λ o. IsFalse (is_open o)) → ⊥) → (IsSomeAnd o (λ o. IsNone (line_on o f)) → ⊥)
+    → (IsSomeAnd o (λ o. IsSomeAnd (line_on o f) (λ l. l.held < l.used + q)) → ⊥) → IsSomeAnd o (Usable f q)
+usable_there f q None a b c d = a refl
+usable_there f q (Some o) a b c d = (open_there (Some o) a b, line_there q (line_on o f) c d)
+
+-- on a transfer both lines have the same left, else the one line on the field
+pair_left : (f : Name) (q : ℕ) (ls : List Line) → IsTransferPair ls → IsSomeAnd (find (on f) ls) (λ l. l.used + q ≤ l.held) → Each (λ l. l.used + q ≤ l.held) ls
+pair_left f q [] p h = tt
+pair_left f q (l ∷ []) p h = absurd p
+pair_left f q (l ∷ m ∷ k ∷ ls) p h = absurd p
+pair_left f q (l ∷ m ∷ []) p h = step (on f l) (on f m) h
+  where
+    step : (b c : Bool) → IsSomeAnd (if b then Some l else (if c then Some m else None)) (λ l. l.used + q ≤ l.held) → (l.used + q ≤ l.held) × ((m.used + q ≤ m.held) × Unit {0})
+    step true c h = let e : l.held ≡ m.held = p.3 in let d : l.used ≡ m.used = p.4 in (h, (omega arith, tt))
+    step false true h = let e : l.held ≡ m.held = p.3 in let d : l.used ≡ m.used = p.4 in (omega arith, (h, tt))
+    step false false h = absurd h
+
+left_on : (f : Name) (q : ℕ) (o : Order) → Fine o → Usable f q o → Each (λ l. (is_transfer o || on f l) ≡ true → l.used + q ≤ l.held) o.lines
+left_on f q o fine u = step (is_transfer o) refl
+  where
+    step : (b : Bool) → is_transfer o ≡ b → Each (λ l. (b || on f l) ≡ true → l.used + q ≤ l.held) o.lines
+    step true e = each-imp (λ l h _. h) o.lines (pair_left f q o.lines (fine.pair e) u.1)
+    step false e = at_line (λ l. l.used + q ≤ l.held) f o.lines (fine.sound.one f) u.1
+
+pub line_step : (b : Bool) (l new : Line) → l.used ≤ l.held → (b ≡ true → LineStep l new) → LineStep l (if b then new else l)
+line_step true l new h s = s refl
+line_step false l new h s = record { name = refl; way = refl; held = omega arith; used = h }
+
+-- what a use and a release do to a line
+pub record IsClosingChange (q : ℕ) (change : Line → Line) : Type 0 where
+  pub step : (l : Line) → l.used + q ≤ l.held → LineStep l (change l)
+  pub pair : (l m : Line) → l.held ≡ m.held → l.used ≡ m.used → ((change l).held ≡ (change m).held) × ((change l).used ≡ (change m).used)
+
+use_change : (q : ℕ) → IsClosingChange q (raise_used q)
+use_change q = record { step = λ l h. record { name = refl; way = refl; held = omega arith; used = h }; pair = λ l m a b. (a, ap (λ n. n + q) b) }
+
+release_change : (q : ℕ) → IsClosingChange q (lower_held q)
+release_change q = record { step = λ l h. record { name = refl; way = refl; held = omega arith; used = omega arith }; pair = λ l m a b. (ap (λ n. n - q) a, b) }
+
+steps : (f : Name) (q : ℕ) (change : Line → Line) (t : Bool) (ls : List Line) → IsClosingChange q change → Each (λ l. l.used ≤ l.held) ls → Each (λ l. (t || on f l) ≡ true → l.used + q ≤ l.held) ls
+    → Each (λ l. LineStep l (if t || on f l then change l else l)) ls
+steps f q change t ls c u left = each-both (λ l used h. line_step (t || on f l) l (change l) used (λ e. c.step l (h e))) ls u left
+
+pair-map : (f : Name) (q : ℕ) (change : Line → Line) (t : Bool) (ls : List Line) → IsClosingChange q change → (IsTrue t → IsTransferPair ls) → (IsTrue t → Each (λ l. LineStep l (if t || on f l then change l else l)) ls)
+    → IsTrue t → IsTransferPair (map (λ l. if t || on f l then change l else l) ls)
+pair-map f q change t ls c pair s e = subst (λ t. IsTransferPair (map (λ l. if t || on f l then change l else l) ls)) (sym e)
+    (both ls (pair e) (subst (λ t. Each (λ l. LineStep l (if t || on f l then change l else l)) ls) e (s e)))
+  where
+    both : (ls : List Line) → IsTransferPair ls → Each (λ l. LineStep l (change l)) ls → IsTransferPair (map change ls)
+    both [] p s = absurd p
+    both (l ∷ []) p s = absurd p
+    both (l ∷ m ∷ k ∷ ls) p s = absurd p
+    both (l ∷ m ∷ []) p s = (s.0.way ∙ p.0, s.1.0.way ∙ p.1, ap (λ n. n.article) s.0.name ∙ p.2 ∙ sym (ap (λ n. n.article) s.1.0.name), (c.pair l m p.3 p.4).0, (c.pair l m p.3 p.4).1)
+
+better-change : (f : Name) (q : ℕ) (change : Line → Line) (o : Order) → IsClosingChange q change → Fine o → Usable f q o → Better o (change_lines f change o)
+better-change f q change o c fine u = let s = steps f q change (is_transfer o) o.lines c fine.sound.used (left_on f q o fine u) in
+    better-lines o (λ l. if is_transfer o || on f l then change l else l) fine u.0 s (pair-map f q change (is_transfer o) o.lines c fine.pair (λ _. s))
+
+-- each command of a future
+
+fit-commit : (A : Ledger) (key : List ℕ) (n : ℕ) → Fit A → FirstFailure (checks A (command.Commit n)) None → Fit (accept A (record { key = key; command = command.Commit n }))
+fit-commit A key n fit h = let p = all_pass (checks A (command.Commit n)) h in
+    let there = at_number (λ o. is_open o ≡ true) n A.orders fit.numbers (open_there (order_numbered A n) p.0 p.1.0) in
+    fit-changed A (λ o. if o.number == n then set_state Committed o else o) _ _ fit (each-both (λ o fine e. better_if (o.number == n) o (set_state Committed o) fine (λ y. better-commit o fine (e y))) A.orders fit.orders there)
+
+fit-abort : (A : Ledger) (key : List ℕ) (n : ℕ) → Fit A → FirstFailure (checks A (command.Abort n)) None → Fit (accept A (record { key = key; command = command.Abort n }))
+fit-abort A key n fit h = let p = all_pass (checks A (command.Abort n)) h in
+    let there = at_number (λ o. is_open o ≡ true) n A.orders fit.numbers (open_there (order_numbered A n) p.0 p.1.0) in
+    fit-changed A (λ o. if o.number == n then set_state Aborted o else o) _ _ fit (each-both (λ o fine e. better_if (o.number == n) o (set_state Aborted o) fine (λ y. better-abort o fine (e y))) A.orders fit.orders there)
+
+expired_open : (b c : Bool) → (b && c) ≡ true → b ≡ true
+expired_open b c e = (same_parts b c e).0
+
+fit-expire : (A : Ledger) (key : List ℕ) (now : ℕ) → Fit A → Fit (accept A (record { key = key; command = command.Expire now }))
+fit-expire A key now fit = fit-changed A (λ o. if is_open o && nat_le o.until now then set_state Aborted o else o) _ _ fit
+    (each-imp (λ o fine. better_if (is_open o && nat_le o.until now) o (set_state Aborted o) fine (λ y. better-abort o fine (expired_open (is_open o) (nat_le o.until now) y))) A.orders fit.orders)
+
+fit-change : (A : Ledger) (n : ℕ) (f : Name) (q : ℕ) (change : Line → Line) (kept : List Kept) → IsClosingChange q change → Fit A → IsSomeAnd (order_numbered A n) (Usable f q)
+    → Fit (changed (λ o. if o.number == n then change_lines f change o else o) A.clock kept A)
+fit-change A n f q change kept c fit u = let there = at_number (Usable f q) n A.orders fit.numbers u in
+    fit-changed A (λ o. if o.number == n then change_lines f change o else o) _ _ fit (each-both (λ o fine e. better_if (o.number == n) o (change_lines f change o) fine (λ y. better-change f q change o c fine (e y))) A.orders fit.orders there)
+
+fit-use : (A : Ledger) (key : List ℕ) (n : ℕ) (br ar : List ℕ) (q : ℕ) → Fit A → FirstFailure (checks A (command.Use n br ar q)) None → Fit (accept A (record { key = key; command = command.Use n br ar q }))
+fit-use A key n br ar q fit h = let f : Name = record { branch = br; article = ar } in let p = all_pass (checks A (command.Use n br ar q)) h in
+    fit-change A n f q (raise_used q) _ (use_change q) fit (usable_there f q (order_numbered A n) p.1.0 p.1.1.0 p.1.1.1.0 p.1.1.1.1.0)
+
+fit-release : (A : Ledger) (key : List ℕ) (n : ℕ) (br ar : List ℕ) (q : ℕ) → Fit A → FirstFailure (checks A (command.Release n br ar q)) None → Fit (accept A (record { key = key; command = command.Release n br ar q }))
+fit-release A key n br ar q fit h = let f : Name = record { branch = br; article = ar } in let p = all_pass (checks A (command.Release n br ar q)) h in
+    fit-change A n f q (lower_held q) _ (release_change q) fit (usable_there f q (order_numbered A n) p.1.0 p.1.1.0 p.1.1.1.0 p.1.1.1.1.0)
+
+pub fit-accept : (A : Ledger) (key : List ℕ) (c : Command) → AsksNoStock c → Fit A → FirstFailure (checks A c) None → Fit (accept A (record { key = key; command = c }))
+fit-accept A key (command.Field b a lo hi start) w fit h = absurd w
+fit-accept A key (command.Deliver b a q) w fit h = absurd w
+fit-accept A key (command.Writeoff b a q) w fit h = absurd w
+fit-accept A key (command.Open n until lines) w fit h = absurd w
+fit-accept A key (command.Transfer n until a from to q) w fit h = absurd w
+fit-accept A key (command.More n way b a q) w fit h = absurd w
+fit-accept A key (command.Use n b a q) w fit h = fit-use A key n b a q fit h
+fit-accept A key (command.Release n b a q) w fit h = fit-release A key n b a q fit h
+fit-accept A key (command.Commit n) w fit h = fit-commit A key n fit h
+fit-accept A key (command.Abort n) w fit h = fit-abort A key n fit h
+fit-accept A key (command.Expire now) w fit h = fit-expire A key now fit
+
+pub fit-answer : (A : Ledger) (r : Request) (reply : Reply) (B : Ledger) → AsksNoStock r.command → Fit A → Answers A r reply B → Fit B
+fit-answer A r reply B w fit h = by_key (kept_under A r.key) h
+  where
+    by_found : (found : Option (Refusal × ℕ)) → FirstFailure (checks A r.command) found → MatchOption found ((reply ≡ Done (places A + 1)) × (B ≡ accept A r)) (λ e. (reply ≡ Refused e.0 e.1) × (B ≡ A)) → Fit B
+    by_found None f m = subst Fit (sym m.1) (fit-accept A r.key r.command w fit f)
+    by_found (Some e) f m = subst Fit (sym m.1) fit
+
+    by_key : (k : Option Kept) → MatchOption k (AnswersNew A r reply B) (λ k. (reply ≡ (if same_command k.command r.command then Done k.place else Refused KeyReused 0)) × (B ≡ A)) → Fit B
+    by_key None m = by_found m.0 m.1 m.2
+    by_key (Some k) m = subst Fit (sym m.1) fit
+
+fit-run : (A : Ledger) (rs : List Request) (replies : List Reply) (B : Ledger) → IsFuture rs → Fit A → Runs A rs replies B → Fit B
+fit-run A [] [] B w fit h = subst Fit (sym h) fit
+fit-run A [] (r ∷ rs) B w fit h = absurd h
+fit-run A (r ∷ rs) [] B w fit h = absurd h
+fit-run A (r ∷ rs) (reply ∷ replies) B w fit h = fit-run h.0 rs replies B w.1 (fit-answer A r reply h.0 w.0 fit h.1) h.2
+
+-- a ledger that is fit stands
+
+pub fit_from_good : (A : Ledger) → Good A → Fit A
+fit_from_good A g = let s = each-imp (λ o x. sound_from_good A o x) A.orders g.orders in record {
+  orders = each-imp (λ o x. record { sound = sound_from_good A o x; pair = x.transfer }) A.orders g.orders;
+  numbers = g.orders_in_order;
+  room = room_from_safe A s g.safe;
+}
+
+held_take-not_negative : (f : Name) (os : List Order) → pos 0 ≤ℤ takes_part f os
+unfolding takes_part
+held_take-not_negative f [] = omega (arith, ints)
+held_take-not_negative f (o ∷ os) = let a = if_not_negative (is_open o) (total (takes f) o.lines) (takes-not_negative f o.lines) in let b = held_take-not_negative f os in omega (arith, ints)
+  where
+    if_not_negative : (b : Bool) (z : ℤ) → pos 0 ≤ℤ z → pos 0 ≤ℤ (if b then z else pos 0)
+    if_not_negative true z h = h
+    if_not_negative false z h = omega (arith, ints)
+
+held_add-not_negative : (f : Name) (os : List Order) → pos 0 ≤ℤ adds_part f os
+unfolding adds_part
+held_add-not_negative f [] = omega (arith, ints)
+held_add-not_negative f (o ∷ os) = let a = if_not_negative (is_open o) (total (adds f) o.lines) (adds-not_negative f o.lines) in let b = held_add-not_negative f os in omega (arith, ints)
+  where
+    if_not_negative : (b : Bool) (z : ℤ) → pos 0 ≤ℤ z → pos 0 ≤ℤ (if b then z else pos 0)
+    if_not_negative true z h = h
+    if_not_negative false z h = omega (arith, ints)
+
+settled_within : (A : Ledger) (f : Field) → HasRoom A f → IsWithin f (settled A f)
+unfolding takes_part adds_part
+settled_within A f r = let p : (pos f.lo) ≤ℤ (settled A f -ℤ held_to_take A f.name) = r.0 in let q : (settled A f +ℤ held_to_add A f.name) ≤ℤ pos f.hi = r.1 in
+    let x : pos 0 ≤ℤ held_to_take A f.name = held_take-not_negative f.name A.orders in let y : pos 0 ≤ℤ held_to_add A f.name = held_add-not_negative f.name A.orders in
+    (omega (arith, ints), omega (arith, ints))
+
+-- an order is found under its number
+found : (os : List Order) → IsStrictlySortedBy nat_cmp (map (λ o. o.number) os) → Each (λ o. find (λ e. e.number == o.number) os ≡ Some o) os
+unfolding IsStrictlySortedBy
+found [] sorted = tt
+found (o ∷ os) sorted = (here, each-both (λ m a e. step m a e) os (unmap os sorted.0) (found os sorted.1))
+  where
+    here : find (λ e. e.number == o.number) (o ∷ os) ≡ Some o
+    here = let e : (o.number == o.number) ≡ true = grind arith in rw e refl
+
+    unmap : (ms : List Order) → Each (λ y. nat_cmp o.number y ≡ Less) (map (λ o. o.number) ms) → Each (λ m. o.number < m.number) ms
+    unmap [] h = tt
+    unmap (m ∷ ms) h = (less_is o.number m.number h.0, unmap ms h.1)
+
+    step : (m : Order) → o.number < m.number → find (λ e. e.number == m.number) os ≡ Some m → find (λ e. e.number == m.number) (o ∷ os) ≡ Some m
+    step m a e = let d : (o.number == m.number) ≡ false = grind arith in rw d e
+
+commit_passes : (A : Ledger) (o : Order) → order_numbered A o.number ≡ Some o → is_open o ≡ true → FirstFailure (checks A (command.Commit o.number)) None
+commit_passes A o e open_is = rw e (inr ((λ h. true≢false h), inr ((λ h. true≢false (sym open_is ∙ h)), refl)))
+
+commits : (A : Ledger) → Fit A → Each (λ o. IsTrue (is_open o) → (key : List ℕ) → IsNone (kept_under A key)
+    → (C : Ledger) × Answers A (record { key = key; command = command.Commit o.number }) (Done (places A + 1)) C) A.orders
+commits A fit = each-imp (λ o e. commit o e) A.orders (found A.orders fit.numbers)
+  where
+    commit : (o : Order) → order_numbered A o.number ≡ Some o → IsTrue (is_open o) → (key : List ℕ) → IsNone (kept_under A key) → (C : Ledger) × Answers A (record { key = key; command = command.Commit o.number }) (Done (places A + 1)) C
+    commit o e t key none = (accept A (record { key = key; command = command.Commit o.number }), answer (kept_under A key) none)
+      where
+        answer : (k : Option Kept) → IsNone k → MatchOption k (AnswersNew A (record { key = key; command = command.Commit o.number }) (Done (places A + 1)) (accept A (record { key = key; command = command.Commit o.number })))
+            (λ k. (Done (places A + 1) ≡ (if same_command k.command (command.Commit o.number) then Done k.place else Refused KeyReused 0)) × (accept A (record { key = key; command = command.Commit o.number }) ≡ A))
+        answer None none = (None, commit_passes A o e t, (refl, refl))
+        answer (Some k) none = absurd (true≢false none)
+
+pub stands_if_fit : (A : Ledger) → Fit A → Stands A
+stands_if_fit A fit = record { within = each-imp (λ f r. settled_within A f r) A.fields fit.room; commits = commits A fit }
+
+pub honours_always : (A : Ledger) → Good A → HonoursAlways A
+honours_always A g rs w replies B h = stands_if_fit B (fit-run A rs replies B w (fit_from_good A g) h)
+
+pub sounds_from_good : (A : Ledger) → Good A → Each Sound A.orders
+sounds_from_good A g = each-imp (λ o x. sound_from_good A o x) A.orders g.orders

@@ -1,0 +1,160 @@
+-- Each test of a check by all outcomes is one comparison with the numbers of the ledger as it is.
+use Rattle.std.proofs.Common.{◌≡◌, ◌∙◌, ℕ, ◌+◌, ℤ, pos, ◌+ℤ◌, ◌==◌, ◌↔◌, Bool, true, false, List, [], ◌∷◌, ◌++◌, Option, None, Some, IsNone, IsSomeAnd, MatchOption, ap, arith, find, if◌then◌else◌, map, nat_cmp, Less, refl, subst, sym, true≢false}
+use Rattle.std.proofs.lemmas.Int.{ints}
+use Rattle.std.specs.List.{AllByRecursion as Each, IsDistinct}
+use Rattle.std.specs.List.Sorted.{IsStrictlySortedBy}
+use Rattle.escrow.specs.declared.quantity.Way.{Way}
+use Rattle.escrow.specs.declared.quantity.Way.TheVariants.{Add, Take}
+use Rattle.words.specs.declared.open_line.OpenLine.{OpenLine}
+use Rattle.book.specs.declared.order.Kind.{Kind}
+use Rattle.book.specs.declared.order.Line.{Line}
+use Rattle.book.specs.Answers.{bound}
+use Rattle.book.specs.Good.{Good}
+use Rattle.book.specs.Held.{MayHoldMore, BreaksBound, held_to_add, held_to_take, if_add, if_take}
+use Rattle.book.specs.Ledger.{Ledger, Name, Order, is_open, line_name, line_on, on, open_state, order_numbered, same_name}
+use Rattle.book.specs.Next.{add_hold, change_order, new_line, new_order, raise_held, with_order}
+use Rattle.book.specs.Outcomes.{total}
+use Rattle.book.proofs.Asked.{add_line_test, named, same_self, take_line_test, total-push}
+use Rattle.book.proofs.Bounds.{OneOn, Sound, falls_below_iff, rises_above_iff}
+use Rattle.book.proofs.Closing.{at_number, less_is, one_on, sounds_from_good}
+use Rattle.book.proofs.Lists.{each-unmap}
+use Rattle.book.proofs.Raising.{Rising, part, raised, same_settled, sound-more}
+use Rattle.book.proofs.Sums.{each-both, each-imp}
+use Rattle.book.proofs.Transfers.{found_is, not_same}
+
+-- ---- a line of a new order
+
+pub line_test : (A : Ledger) (n : ℕ) (k : Kind) (u : ℕ) (before : List OpenLine) (l : OpenLine) (i : ℕ) → Good A
+    → IsDistinct same_name (map line_name (new_order n k u before).lines) → IsNone (line_on (new_order n k u before) (line_name (new_line l)))
+    → (bound l.way (with_order (new_order n k u (before ++ l ∷ [])) A) (line_name (new_line l)) i).fails ↔ BreaksBound l.way A (line_name (new_line l)) l.qty
+line_test A n k u before l i good apart none = by l.way refl
+  where
+    alone : (x : Option Line) → IsNone x → x ≡ None
+    alone None e = refl
+    alone (Some line) e = absurd (true≢false e)
+
+    by : (w : Way) → l.way ≡ w → (bound w (with_order (new_order n k u (before ++ l ∷ [])) A) (line_name (new_line l)) i).fails ↔ BreaksBound w A (line_name (new_line l)) l.qty
+    by Take e = take_line_test A n k u before l (sounds_from_good A good) (λ g. one_on g (map new_line before) apart) (alone _ none) e
+    by Add e = add_line_test A n k u before l (sounds_from_good A good) (λ g. one_on g (map new_line before) apart) (alone _ none) e
+
+-- ---- an amount more on an order's line
+
+-- what is held one way of two amounts
+abbrev IsSum : (Way → ℕ → ℕ) → Type 0
+IsSum p = (w : Way) (m n : ℕ) → p w (m + n) ≡ p w m + p w n
+
+take_sum : IsSum if_take
+take_sum Take m n = refl
+take_sum Add m n = refl
+
+add_sum : IsSum if_add
+add_sum Take m n = refl
+add_sum Add m n = refl
+
+part_none : (p : Way → ℕ → ℕ) (name : Name) (q : ℕ) (ls : List Line) → Each (λ m. on name m ≡ false) ls
+    → total (part p name) (map (λ m. if on name m then raise_held q m else m) ls) ≡ total (part p name) ls
+part_none p name q [] h = refl
+part_none p name q (m ∷ ms) h =
+    let same : (if on name m then raise_held q m else m) ≡ m = rw h.0 refl in let b = part_none p name q ms h.1 in λ i. part p name (same i) +ℤ b i
+
+part_raised : (p : Way → ℕ → ℕ) → IsSum p → (name : Name) (w : Way) (q : ℕ) (ls : List Line) → OneOn name ls → IsSomeAnd (find (on name) ls) (λ m. m.way ≡ w)
+    → total (part p name) (map (λ m. if on name m then raise_held q m else m) ls) ≡ total (part p name) ls +ℤ pos (p w q)
+part_raised p sum name w q [] one found = absurd found
+part_raised p sum name w q (m ∷ ms) one found = step (on name m) refl found (λ k. part_raised p sum name w q ms one.1 k)
+  where
+    lifted : (b : Bool) → b ≡ true → m.way ≡ w → (if b then pos (p m.way (m.held + q)) else pos 0) ≡ (if b then pos (p m.way m.held) else pos 0) +ℤ pos (p w q)
+    lifted true e way = ap pos (sum m.way m.held q ∙ ap (λ v. p m.way m.held + p v q) way)
+    lifted false e way = absurd (true≢false (sym e))
+
+    step : (b : Bool) → on name m ≡ b → IsSomeAnd (if b then Some m else find (on name) ms) (λ m. m.way ≡ w)
+        → (IsSomeAnd (find (on name) ms) (λ m. m.way ≡ w) → total (part p name) (map (λ m. if on name m then raise_held q m else m) ms) ≡ total (part p name) ms +ℤ pos (p w q))
+        → total (part p name) (map (λ m. if on name m then raise_held q m else m) (m ∷ ms)) ≡ total (part p name) (m ∷ ms) +ℤ pos (p w q)
+    step true e way more =
+        let same : (if on name m then raise_held q m else m) ≡ raise_held q m = rw e refl in
+        let a : part p name (if on name m then raise_held q m else m) ≡ part p name m +ℤ pos (p w q) = ap (part p name) same ∙ lifted (on name m) e way in
+        let b = part_none p name q ms (one.0 e) in omega (arith, ints)
+    step false e found more =
+        let same : (if on name m then raise_held q m else m) ≡ m = rw e refl in
+        let a : part p name (if on name m then raise_held q m else m) ≡ part p name m = ap (part p name) same in
+        let b = more found in omega (arith, ints)
+
+part_more : (p : Way → ℕ → ℕ) → IsSum p → (l : OpenLine) (o : Order) → Sound o → MayHoldMore (line_name (new_line l)) l.way o
+    → total (part p (line_name (new_line l))) (add_hold l o).lines ≡ total (part p (line_name (new_line l))) o.lines +ℤ pos (p l.way l.qty)
+part_more p sum l o sound may = by (line_on o name) refl may.2
+  where
+    name : Name
+    name = line_name (new_line l)
+
+    by : (x : Option Line) → line_on o name ≡ x → MatchOption x (Unit {0}) (λ m. m.way ≡ l.way) → total (part p name) (add_hold l o).lines ≡ total (part p name) o.lines +ℤ pos (p l.way l.qty)
+    by None e m = rw e (let a = total-push (part p name) o.lines (new_line l) in let b : part p name (new_line l) ≡ pos (p l.way l.qty) = rw (same_self name) refl in omega (arith, ints))
+    by (Some x) e m = rw e (part_raised p sum name l.way l.qty o.lines (sound.one name) (subst (λ x. IsSomeAnd x (λ m. m.way ≡ l.way)) (sym e) m))
+
+-- the one order of that number is changed, and its part by z
+total_changed : (g : Order → ℤ) (h : Order → Order) (n : ℕ) (z : ℤ) (os : List Order) → IsStrictlySortedBy nat_cmp (map (λ o. o.number) os)
+    → IsSomeAnd (find (λ o. o.number == n) os) (λ o. g (h o) ≡ g o +ℤ z) → total g (map (λ o. if o.number == n then h o else o) os) ≡ total g os +ℤ z
+unfolding IsStrictlySortedBy
+total_changed g h n z [] sorted found = absurd found
+total_changed g h n z (m ∷ ms) sorted found = step (m.number == n) refl found (λ k. total_changed g h n z ms sorted.1 k)
+  where
+    rest : (os : List Order) → Each (λ k. (k.number == n) ≡ false) os → total g (map (λ o. if o.number == n then h o else o) os) ≡ total g os
+    rest [] e = refl
+    rest (k ∷ ks) e = let a : g (if k.number == n then h k else k) ≡ g k = rw e.0 refl in let b = rest ks e.1 in λ i. a i +ℤ b i
+
+    step : (b : Bool) → (m.number == n) ≡ b → IsSomeAnd (if b then Some m else find (λ o. o.number == n) ms) (λ o. g (h o) ≡ g o +ℤ z)
+        → (IsSomeAnd (find (λ o. o.number == n) ms) (λ o. g (h o) ≡ g o +ℤ z) → total g (map (λ o. if o.number == n then h o else o) ms) ≡ total g ms +ℤ z)
+        → total g (map (λ o. if o.number == n then h o else o) (m ∷ ms)) ≡ total g (m ∷ ms) +ℤ z
+    step true t found more =
+        let a : g (if m.number == n then h m else m) ≡ g m +ℤ z = rw t found in
+        let b = rest ms (each-imp (λ k less. not_same m k n t (less_is m.number k.number less)) ms (each-unmap (λ k. nat_cmp m.number k ≡ Less) (λ o. o.number) ms sorted.0)) in omega (arith, ints)
+    step false t found more = let a : g (if m.number == n then h m else m) ≡ g m = rw t refl in let b = more found in omega (arith, ints)
+
+-- what open orders hold on the field, with that much more
+held_more : (p : Way → ℕ → ℕ) → IsSum p → (A : Ledger) (n : ℕ) (l : OpenLine) → Good A → IsSomeAnd (order_numbered A n) (MayHoldMore (line_name (new_line l)) l.way)
+    → total (λ o. if is_open o then total (part p (line_name (new_line l))) o.lines else pos 0) (change_order n (add_hold l) A).orders
+    ≡ total (λ o. if is_open o then total (part p (line_name (new_line l))) o.lines else pos 0) A.orders +ℤ pos (p l.way l.qty)
+held_more p sum A n l good may = total_changed held (add_hold l) n (pos (p l.way l.qty)) A.orders good.orders_in_order (by (order_numbered A n) refl may)
+  where
+    name : Name
+    name = line_name (new_line l)
+
+    held : Order → ℤ
+    held o = if is_open o then total (part p name) o.lines else pos 0
+
+    by : (x : Option Order) → order_numbered A n ≡ x → IsSomeAnd x (MayHoldMore name l.way) → IsSomeAnd x (λ o. held (add_hold l o) ≡ held o +ℤ pos (p l.way l.qty))
+    by None e m = m
+    by (Some o) e m =
+        let sound = found_is Sound n A.orders o (sounds_from_good A good) e in
+        let stays : is_open (add_hold l o) ≡ true = subst (λ s. open_state s ≡ true) (sym (raised l o sound m).state) m.0 in
+        rw (stays, m.0) (part_more p sum l o sound m)
+
+pub more_test : (A : Ledger) (n : ℕ) (l : OpenLine) (i : ℕ) → Good A → IsSomeAnd (order_numbered A n) (MayHoldMore (line_name (new_line l)) l.way)
+    → (bound l.way (change_order n (add_hold l) A) (line_name (new_line l)) i).fails ↔ BreaksBound l.way A (line_name (new_line l)) l.qty
+more_test A n l i good may = by l.way refl
+  where
+    name : Name
+    name = line_name (new_line l)
+
+    B : Ledger
+    B = change_order n (add_hold l) A
+
+    sound : Each Sound A.orders
+    sound = sounds_from_good A good
+
+    rising : Each (Rising n l) A.orders
+    rising = each-both (λ o s k e. ((k e).0, raised l o s (k e))) A.orders sound (at_number (MayHoldMore name l.way) n A.orders good.orders_in_order may)
+
+    takes : l.way ≡ Take → held_to_take B name ≡ held_to_take A name +ℤ pos l.qty
+    takes e = held_more if_take take_sum A n l good may ∙ ap (λ w. held_to_take A name +ℤ pos (if_take w l.qty)) e
+
+    adds : l.way ≡ Add → held_to_add B name ≡ held_to_add A name +ℤ pos l.qty
+    adds e = held_more if_add add_sum A n l good may ∙ ap (λ w. held_to_add A name +ℤ pos (if_add w l.qty)) e
+
+    by : (w : Way) → l.way ≡ w → (bound w B name i).fails ↔ BreaksBound w A name l.qty
+    by Take e = let iff = falls_below_iff B (sound-more A n l sound rising) name in (
+      (λ h. named A.fields name _ _ (λ f is x. let s = same_settled A n l rising f in let t = subst (λ g. held_to_take B g ≡ held_to_take A g +ℤ pos l.qty) (sym is) (takes e) in omega (arith, ints)) (iff.0 h)),
+      (λ h. iff.1 (named A.fields name _ _ (λ f is x. let s = same_settled A n l rising f in let t = subst (λ g. held_to_take B g ≡ held_to_take A g +ℤ pos l.qty) (sym is) (takes e) in omega (arith, ints)) h)),
+    )
+    by Add e = let iff = rises_above_iff B (sound-more A n l sound rising) name in (
+      (λ h. named A.fields name _ _ (λ f is x. let s = same_settled A n l rising f in let t = subst (λ g. held_to_add B g ≡ held_to_add A g +ℤ pos l.qty) (sym is) (adds e) in omega (arith, ints)) (iff.0 h)),
+      (λ h. iff.1 (named A.fields name _ _ (λ f is x. let s = same_settled A n l rising f in let t = subst (λ g. held_to_add B g ≡ held_to_add A g +ℤ pos l.qty) (sym is) (adds e) in omega (arith, ints)) h)),
+    )

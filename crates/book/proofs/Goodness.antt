@@ -1,0 +1,514 @@
+-- From a good ledger every accepted command leaves a good one.
+use Rattle.std.proofs.Common.{◌≡◌, ℕ, ◌+◌, ◌<◌, ◌≤◌, ℤ, pos, neg_ℤ, nat_abs, ◌+ℤ◌, ◌-ℤ◌, ◌≤ℤ◌, List, [], ◌∷◌, ◌++◌, map, find, Bool, true, false, ◌&&◌, ◌||◌, ◌==◌, IsTrue, IsFalse, IsNone, IsSome, IsSomeAnd, MatchOption, Option, Some, None, refl, sym, ap, ◌∙◌, subst, arith, if◌then◌else◌, true≢false, nat_cmp, nat_lt, nat_le, Less, Equal, length, count_by, is_some, zero, suc, append_assoc, append-nil}
+use Rattle.std.proofs.lemmas.Int.{ints}
+use Rattle.std.proofs.lemmas.Cmp.{nat_cmp_total, nat_list_cmp_total, then_total, on_total}
+use Rattle.std.proofs.lemmas.Map.Text.{is_eq-slice_cmp}
+use Rattle.std.specs.declared.cmp.Ordering.{Ordering}
+use Rattle.std.specs.declared.cmp.Ordering.TheVariants.{Greater}
+use Rattle.std.specs.Cmp.{IsTotalOrder, ranks}
+use Rattle.std.specs.Ordering.{is_lt, is_eq, ordering_then, MatchOrdering}
+use Rattle.std.specs.Cmp.Lexicographic.{slice_cmp}
+use Rattle.std.specs.List.{AllByRecursion as Each, IsDistinct}
+use Rattle.std.specs.List.Sorted.{IsStrictlySortedBy}
+use lib.Pointwise.{bytes_decides}
+use Rattle.std.specs.Str.{bytes_eq}
+use Rattle.escrow.specs.declared.quantity.Way.{Way}
+use Rattle.escrow.specs.declared.quantity.Way.TheVariants.{Take, Add}
+use Rattle.escrow.specs.Codes.{IsKey}
+use Rattle.escrow.specs.Ranges.{IsLevel, IsMoment, IsOrderNo, IsQty}
+use Rattle.words.specs.declared.open_line.OpenLine.{OpenLine}
+use Rattle.words.specs.declared.command.Command.{Command}
+use Rattle.words.specs.declared.command.Command.TheVariants as command
+use Rattle.words.specs.declared.command.Request.{Request}
+use Rattle.words.specs.declared.reply.Refusal.{Refusal}
+use Rattle.words.specs.declared.reply.Refusal.TheVariants.{KeyReused}
+use Rattle.words.specs.declared.reply.Reply.{Reply}
+use Rattle.words.specs.declared.reply.Reply.TheVariants.{Done, Refused}
+use Rattle.words.specs.OpenLines.{AreOpenLines, IsOpenLine}
+use Rattle.words.specs.Spelling.{IsInRange}
+use Rattle.std.proofs.lemmas.List.Elements.{recursion_from_All}
+use Rattle.book.specs.declared.order.Kind.{Kind}
+use Rattle.book.specs.declared.order.Kind.TheVariants.{Plain, Transfer}
+use Rattle.book.specs.declared.order.State.{State}
+use Rattle.book.specs.declared.order.State.TheVariants.{Committed, Aborted}
+use Rattle.book.specs.declared.order.Line.{Line}
+use Rattle.book.specs.Ledger.{Name, Field, Move, Order, Ledger, Kept, on, is_open, is_transfer, open_state, line_name, same_name, name_cmp, line_on, order_numbered, field_named, kept_under, places, open_orders, insert_in_order}
+use Rattle.book.specs.Outcomes.{total, settled, IsSafe}
+use Rattle.book.specs.Held.{if_take, if_add, held_to_take, held_to_add, MayHoldMore}
+use Rattle.book.specs.Next.{accept, set_state, change_lines, raise_used, lower_held, raise_held, hold_more, add_hold, new_line, new_order, with_order, with_move, transfer_lines, change_order}
+use Rattle.book.specs.Answers.{FirstFailure, checks, line_checks, Answers, AnswersNew, same_command}
+use Rattle.book.specs.Good.{Good, IsGoodField, IsGoodMove, IsGoodLine, IsGoodOrder, IsGoodKept, IsTransferPair}
+use Rattle.book.proofs.Sums.{each, each-imp, each-both, each-map}
+use Rattle.book.proofs.Bounds.{OneOn, Sound, takes, adds, takes-not_negative, adds-not_negative, room_from_safe, HasRoom}
+use Rattle.book.proofs.Closing.{Fit, Fine, fit_from_good, fit-accept, all_pass, AllPass, name_is, sounds_from_good, open_there, at_number}
+use Rattle.book.proofs.Asked.{each-insert, none_found, same_self, fresh-push}
+use Rattle.book.proofs.Growing.{Room, none_if_not_some, room-order}
+use Rattle.book.proofs.Raising.{sound-more, raised}
+use Rattle.book.proofs.Safety.{safe_after, takes_more, not_false}
+use Rattle.book.proofs.Lists.{each-unmap, each-two, each-all, each-of-push, sorted-insert, sorted-push, cmp_less, distinct-insert, length-insert, length-of-map, length-of-push, count-insert, count-map, count-fewer, find-insert, total-has}
+
+-- orders of names, keys and numbers
+
+pub name_cmp_total : IsTotalOrder name_cmp
+name_cmp_total = then_total (on_total (λ f. f.branch) nat_list_cmp_total) (on_total (λ f. f.article) nat_list_cmp_total)
+
+both_equal : (a b : Ordering) → ordering_then a b ≡ Equal → (a ≡ Equal) × (b ≡ Equal)
+both_equal Less b e = absurd (true≢false (ap is_lt e))
+both_equal Equal b e = (refl, e)
+both_equal Greater b e = absurd (true≢false (sym (ap is_eq e)))
+
+equal_text : (xs ys : List ℕ) → slice_cmp nat_cmp xs ys ≡ Equal → bytes_eq xs ys ≡ true
+equal_text xs ys e = sym (is_eq-slice_cmp xs ys) ∙ ap is_eq e
+
+both_true : (a b : Bool) → a ≡ true → b ≡ true → (a && b) ≡ true
+both_true true true e h = refl
+both_true true false e h = h
+both_true false b e h = e
+
+pub equal_name : (f g : Name) → name_cmp f g ≡ Equal → same_name f g ≡ true
+equal_name f g e = let p = both_equal _ _ e in both_true _ _ (equal_text f.branch g.branch p.0) (equal_text f.article g.article p.1)
+
+equal_number : (a b : ℕ) → nat_cmp a b ≡ Equal → a ≡ b
+equal_number a b e = subst (λ r. MatchOrdering r (a < b) (a ≡ b) (b < a)) e (ranks a b)
+
+other_number : (n m : ℕ) → (m == n) ≡ false → nat_cmp n m ≡ Equal → ⊥
+other_number n m e h = let d = equal_number n m h in bad d
+  where
+    bad : n ≡ m → ⊥
+    bad d = grind arith
+
+other_key : (k key : List ℕ) → bytes_eq k key ≡ false → slice_cmp nat_cmp key k ≡ Equal → ⊥
+other_key k key e h = let d : key ≡ k = (bytes_decides key k).0 (equal_text key k h) in true≢false (sym ((bytes_decides k key).1 (sym d)) ∙ e)
+
+lt_is : (a b : ℕ) → nat_lt a b ≡ is_lt (nat_cmp a b)
+lt_is a b = by (nat_lt a b) (a == b)
+  where
+    by : (c d : Bool) → c ≡ is_lt (if c then Less else (if d then Equal else Greater))
+    by true d = refl
+    by false true = refl
+    by false false = refl
+
+-- what stays
+
+abbrev StillThere : Ledger → Ledger → Type 0
+StillThere A B = (f : Name) → IsSome (field_named A f) → IsSome (field_named B f)
+
+line_kept : (A B : Ledger) → StillThere A B → (l : Line) → IsGoodLine A l → IsGoodLine B l
+line_kept A B still l x = record { field = still (line_name l) x.field; held = x.held; used = x.used }
+
+order_kept : (A B : Ledger) → StillThere A B → (o : Order) → IsGoodOrder A o → IsGoodOrder B o
+order_kept A B still o x = record { number = x.number; until = x.until; some = x.some; few = x.few; lines = each-imp (line_kept A B still) o.lines x.lines; apart = x.apart; transfer = x.transfer }
+
+order_stated : (A B : Ledger) → StillThere A B → (s : State) (o : Order) → IsGoodOrder A o → IsGoodOrder B (set_state s o)
+order_stated A B still s o x = record { number = x.number; until = x.until; some = x.some; few = x.few; lines = each-imp (line_kept A B still) o.lines x.lines; apart = x.apart; transfer = x.transfer }
+
+either : (P : Order → Type 0) (b : Bool) (o new : Order) → P o → (b ≡ true → P new) → P (if b then new else o)
+either P true o new x y = y refl
+either P false o new x y = x
+
+same_number : (b : Bool) (o new : Order) → new.number ≡ o.number → (if b then new else o).number ≡ o.number
+same_number true o new e = e
+same_number false o new e = refl
+
+same_numbers : (h : Order → Order) → ((o : Order) → (h o).number ≡ o.number) → (os : List Order) → map (λ o. o.number) (map h os) ≡ map (λ o. o.number) os
+same_numbers h e [] = refl
+same_numbers h e (o ∷ os) = λ i. e o i ∷ same_numbers h e os i
+
+move_kept : (A B : Ledger) → StillThere A B → places A ≤ places B → (m : Move) → IsGoodMove A m → IsGoodMove B m
+move_kept A B still more m x = record { first = x.first; last = (let a = x.last in omega arith); field = still m.field x.field; size = x.size }
+
+-- no two lines are on one field, where at most one line is on each
+apart_lines : (ls : List Line) → ((g : Name) → OneOn g ls) → IsDistinct same_name (map line_name ls)
+unfolding IsDistinct
+apart_lines [] one = tt
+apart_lines (l ∷ ls) one = (each-map (λ n. same_name (line_name l) n ≡ false) line_name ls ((one (line_name l)).0 (same_self (line_name l))), apart_lines ls (λ g. (one g).1))
+
+-- all of a good ledger but its kept keys and its safety
+record Parts (B : Ledger) : Type 0 where
+  clock : IsMoment B.clock
+  fields : Each IsGoodField B.fields
+  fields_in_order : IsStrictlySortedBy name_cmp (map (λ f. f.name) B.fields)
+  few_fields : length B.fields ≤ 10000
+  moves : Each (IsGoodMove B) B.moves
+  moves_in_order : IsStrictlySortedBy nat_cmp (map (λ m. m.place) B.moves)
+  orders : Each (IsGoodOrder B) B.orders
+  orders_in_order : IsStrictlySortedBy nat_cmp (map (λ o. o.number) B.orders)
+  few_orders : length B.orders ≤ 100000
+  room : places B + open_orders B ≤ 200000
+
+not_full : (n : ℕ) → (200000 < n → ⊥) → n ≤ 200000
+not_full n h = omega arith
+
+not_many : (m n : ℕ) → (m ≤ n → ⊥) → n + 1 ≤ m
+not_many m n h = omega arith
+
+-- the orders alone are changed, one by one
+abbrev changed : (Order → Order) → ℕ → List Kept → Ledger → Ledger
+changed h clock kept A = record { clock = clock; fields = A.fields; moves = A.moves; orders = map h A.orders; kept = kept }
+
+changing : (A : Ledger) (h : Order → Order) (clock : ℕ) (kept : List Kept) → Good A → IsMoment clock → length kept ≡ places A + 1 → ((o : Order) → (h o).number ≡ o.number)
+    → Each (λ o. IsGoodOrder (changed h clock kept A) (h o)) A.orders → places A + count_by is_open (map h A.orders) + 1 ≤ 200000 → Parts (changed h clock kept A)
+changing A h clock kept g moment more number orders room = record {
+  clock = moment;
+  fields = g.fields;
+  fields_in_order = g.fields_in_order;
+  few_fields = g.few_fields;
+  moves = each-imp (move_kept A (changed h clock kept A) (λ f x. x) (omega arith)) A.moves g.moves;
+  moves_in_order = g.moves_in_order;
+  orders = each-map (IsGoodOrder (changed h clock kept A)) h A.orders orders;
+  orders_in_order = subst (IsStrictlySortedBy nat_cmp) (sym (same_numbers h number A.orders)) g.orders_in_order;
+  few_orders = (let e = length-of-map h A.orders in let f = g.few_orders in omega arith);
+  room = omega arith;
+}
+
+-- a commit and an abort
+stating : (A : Ledger) (n : ℕ) (s : State) (kept : List Kept) → open_state s ≡ false → Good A → length kept ≡ places A + 1 → (IsNone (order_numbered A n) → ⊥) → (IsSomeAnd (order_numbered A n) (λ o. IsFalse (is_open o)) → ⊥)
+    → Parts (changed (λ o. if o.number == n then set_state s o else o) A.clock kept A)
+stating A n s kept closed g more there open_is =
+    let h : Order → Order = λ o. if o.number == n then set_state s o else o in
+    let B : Ledger = changed h A.clock kept A in
+    changing A h A.clock kept g g.clock more (λ o. same_number (o.number == n) o (set_state s o) refl)
+    (each-imp (λ o x. either (IsGoodOrder B) (o.number == n) o (set_state s o) (order_kept A B (λ f y. y) o x) (λ _. order_stated A B (λ f y. y) s o x)) A.orders g.orders)
+    (let c = count-fewer is_open (λ o. o.number == n) (set_state s) A.orders (λ _. closed) (open_there (order_numbered A n) there open_is) in let r = g.places_fit in omega arith)
+
+expiring : (A : Ledger) (now : ℕ) (kept : List Kept) → Good A → IsMoment now → length kept ≡ places A + 1 → places A + open_orders A + 1 ≤ 200000
+    → Parts (changed (λ o. if is_open o && nat_le o.until now then set_state Aborted o else o) now kept A)
+expiring A now kept g moment more room =
+    let h : Order → Order = λ o. if is_open o && nat_le o.until now then set_state Aborted o else o in
+    let B : Ledger = changed h now kept A in
+    changing A h now kept g moment more (λ o. same_number (is_open o && nat_le o.until now) o (set_state Aborted o) refl)
+    (each-imp (λ o x. either (IsGoodOrder B) (is_open o && nat_le o.until now) o (set_state Aborted o) (order_kept A B (λ f y. y) o x) (λ _. order_stated A B (λ f y. y) Aborted o x)) A.orders g.orders)
+    (let c = count-map is_open h A.orders (each (λ o. closes o (is_open o && nat_le o.until now)) A.orders) in omega arith)
+  where
+    closes : (o : Order) (b : Bool) → is_open (if b then set_state Aborted o else o) ≡ true → is_open o ≡ true
+    closes o true e = absurd (true≢false (sym e))
+    closes o false e = e
+
+-- a use and a release
+abbrev Lessens : (Line → Line) → Type 0
+Lessens change = (l : Line) → (line_name (change l) ≡ line_name l) × ((change l).held ≤ l.held)
+
+using : (A : Ledger) (n : ℕ) (f : Name) (change : Line → Line) (kept : List Kept) → Lessens change → Good A → length kept ≡ places A + 1 → places A + open_orders A + 1 ≤ 200000
+    → Fit (changed (λ o. if o.number == n then change_lines f change o else o) A.clock kept A) → Parts (changed (λ o. if o.number == n then change_lines f change o else o) A.clock kept A)
+using A n f change kept less g more room fit =
+    let h : Order → Order = λ o. if o.number == n then change_lines f change o else o in
+    let B : Ledger = changed h A.clock kept A in
+    changing A h A.clock kept g g.clock more (λ o. same_number (o.number == n) o (change_lines f change o) refl)
+    (each-both (λ o x y. used_order B o (o.number == n) (λ m z. z) x y) A.orders g.orders (each-unmap Fine h A.orders fit.orders))
+    (let c = count-map is_open h A.orders (each (λ o. open_as o (o.number == n)) A.orders) in omega arith)
+  where
+    open_as : (o : Order) (b : Bool) → is_open (if b then change_lines f change o else o) ≡ true → is_open o ≡ true
+    open_as o true e = e
+    open_as o false e = e
+
+    less_line : (B : Ledger) → StillThere A B → (t : Bool) (l : Line) → IsGoodLine A l → (if t then change l else l).used ≤ (if t then change l else l).held → IsGoodLine B (if t then change l else l)
+    less_line B still true l x u = record { field = subst (λ m. IsSome (field_named B m)) (sym (less l).0) (still (line_name l) x.field); held = (let a = (less l).1 in let b : l.held ≤ 1000000000 = x.held in omega arith); used = u }
+    less_line B still false l x u = line_kept A B still l x
+
+    used_order : (B : Ledger) (o : Order) (b : Bool) → StillThere A B → IsGoodOrder A o → Fine (if b then change_lines f change o else o) → IsGoodOrder B (if b then change_lines f change o else o)
+    used_order B o false still x y = order_kept A B still o x
+    used_order B o true still x y =
+        let c : Line → Line = λ l. if is_transfer o || on f l then change l else l in
+        let e = length-of-map c o.lines in let some = x.some in let few = x.few in
+        record {
+          number = x.number;
+          until = x.until;
+          some = omega arith;
+          few = omega arith;
+          lines = each-map (IsGoodLine B) c o.lines (each-both (λ l p u. less_line B still (is_transfer o || on f l) l p u) o.lines x.lines (each-unmap (λ l. l.used ≤ l.held) c o.lines y.sound.used));
+          apart = apart_lines (map c o.lines) y.sound.one;
+          transfer = y.pair;
+        }
+
+-- what is held on a field that is there is a level
+
+level : (w : Way) (h lo hi : ℕ) (s t a : ℤ) → pos (if_take w h) ≤ℤ t → pos (if_add w h) ≤ℤ a → pos lo ≤ℤ (s -ℤ t) → (s +ℤ a) ≤ℤ pos hi → hi ≤ 1000000000 → h ≤ 1000000000
+level Take h lo hi s t a p q r u v = omega (arith, ints)
+level Add h lo hi s t a p q r u v = omega (arith, ints)
+
+find_named : (P : Field → Type 0) (name : Name) (fs : List Field) → Each P fs → IsSome (find (λ e. same_name name e.name) fs) → (f : Field) × (f.name ≡ name) × P f
+find_named P name [] h e = absurd (true≢false (sym e))
+find_named P name (f ∷ fs) h e = step (same_name name f.name) refl e (λ k. find_named P name fs h.1 k)
+  where
+    step : (b : Bool) → same_name name f.name ≡ b → IsSome (if b then Some f else find (λ e. same_name name e.name) fs) → (IsSome (find (λ e. same_name name e.name) fs) → (f : Field) × (f.name ≡ name) × P f) → (f : Field) × (f.name ≡ name) × P f
+    step true t e more = (f, sym (name_is name f.name t), h.0)
+    step false t e more = more e
+
+part_not_negative : (b : Bool) (n : ℕ) → pos 0 ≤ℤ (if b then pos n else pos 0)
+part_not_negative true n = omega (arith, ints)
+part_not_negative false n = omega (arith, ints)
+
+open_not_negative : (b : Bool) (z : ℤ) → pos 0 ≤ℤ z → pos 0 ≤ℤ (if b then z else pos 0)
+open_not_negative true z h = h
+open_not_negative false z h = omega (arith, ints)
+
+when_open : (b : Bool) (z t : ℤ) → b ≡ true → (if b then z else pos 0) ≤ℤ t → z ≤ℤ t
+when_open true z t e h = h
+when_open false z t e h = absurd (true≢false (sym e))
+
+pub held_levels : (B : Ledger) → Each IsGoodField B.fields → Room B → Each (λ o. is_open o ≡ true → Each (λ l. IsSome (field_named B (line_name l)) → IsLevel l.held) o.lines) B.orders
+held_levels B good room = each-imp (λ o p e. of_order o e p.0 p.1) B.orders
+    (each-two _ _ B.orders
+    (each-all (λ f o. (if is_open o then total (takes f) o.lines else pos 0) ≤ℤ held_to_take B f) B.orders (λ f. total-has (λ o. if is_open o then total (takes f) o.lines else pos 0) (λ o. open_not_negative (is_open o) (total (takes f) o.lines) (takes-not_negative f o.lines)) B.orders))
+    (each-all (λ f o. (if is_open o then total (adds f) o.lines else pos 0) ≤ℤ held_to_add B f) B.orders (λ f. total-has (λ o. if is_open o then total (adds f) o.lines else pos 0) (λ o. open_not_negative (is_open o) (total (adds f) o.lines) (adds-not_negative f o.lines)) B.orders)))
+  where
+    of_line : (o : Order) → is_open o ≡ true → ((f : Name) → (if is_open o then total (takes f) o.lines else pos 0) ≤ℤ held_to_take B f) → ((f : Name) → (if is_open o then total (adds f) o.lines else pos 0) ≤ℤ held_to_add B f)
+        → (l : Line) → ((f : Name) → takes f l ≤ℤ total (takes f) o.lines) → ((f : Name) → adds f l ≤ℤ total (adds f) o.lines) → IsSome (field_named B (line_name l)) → IsLevel l.held
+    of_line o e t a l p q some =
+        let name : Name = line_name l in
+        let f = find_named (λ f. IsGoodField f × HasRoom B f) name B.fields (each-two IsGoodField (HasRoom B) B.fields good room) some in
+        let x : pos (if_take l.way l.held) ≤ℤ total (takes name) o.lines = subst (λ b. (if b then pos (if_take l.way l.held) else pos 0) ≤ℤ total (takes name) o.lines) (same_self name) (p name) in
+        let y : pos (if_add l.way l.held) ≤ℤ total (adds name) o.lines = subst (λ b. (if b then pos (if_add l.way l.held) else pos 0) ≤ℤ total (adds name) o.lines) (same_self name) (q name) in
+        let u = when_open (is_open o) (total (takes name) o.lines) (held_to_take B name) e (t name) in
+        let v = when_open (is_open o) (total (adds name) o.lines) (held_to_add B name) e (a name) in
+        level l.way l.held f.0.lo f.0.hi (settled B f.0) (held_to_take B f.0.name) (held_to_add B f.0.name)
+        (subst (λ g. pos (if_take l.way l.held) ≤ℤ held_to_take B g) (sym f.1) (omega (arith, ints)))
+        (subst (λ g. pos (if_add l.way l.held) ≤ℤ held_to_add B g) (sym f.1) (omega (arith, ints)))
+        f.2.1.0 f.2.1.1 f.2.0.hi
+
+    of_order : (o : Order) → is_open o ≡ true → ((f : Name) → (if is_open o then total (takes f) o.lines else pos 0) ≤ℤ held_to_take B f) → ((f : Name) → (if is_open o then total (adds f) o.lines else pos 0) ≤ℤ held_to_add B f)
+        → Each (λ l. IsSome (field_named B (line_name l)) → IsLevel l.held) o.lines
+    of_order o e t a = each-both (λ l p q. of_line o e t a l p q) o.lines
+        (each-all (λ f l. takes f l ≤ℤ total (takes f) o.lines) o.lines (λ f. total-has (takes f) (λ l. part_not_negative (on f l) (if_take l.way l.held)) o.lines))
+        (each-all (λ f l. adds f l ≤ℤ total (adds f) o.lines) o.lines (λ f. total-has (adds f) (λ l. part_not_negative (on f l) (if_add l.way l.held)) o.lines))
+
+-- a delivery and a write-off
+moving : (A : Ledger) (f : Name) (z : ℤ) (kept : List Kept) → Good A → length kept ≡ places A + 1 → IsSome (field_named A f) → IsQty (nat_abs z) → places A + open_orders A + 1 ≤ 200000
+    → Parts (record (with_move f z A) { kept = kept })
+moving A f z kept g more there size room =
+    let m : Move = record { place = places A + 1; field = f; amount = z } in
+    let B : Ledger = record (with_move f z A) { kept = kept } in
+    record {
+      clock = g.clock;
+      fields = g.fields;
+      fields_in_order = g.fields_in_order;
+      few_fields = g.few_fields;
+      moves = each-of-push (IsGoodMove B) A.moves m (each-imp (move_kept A B (λ f x. x) (omega arith)) A.moves g.moves) (record { first = omega arith; last = omega arith; field = there; size = size });
+      moves_in_order = sorted-push nat_cmp (λ m. m.place) A.moves m (each-imp (λ n x. cmp_less n.place m.place (before n x)) A.moves g.moves) g.moves_in_order;
+      orders = each-imp (order_kept A B (λ f x. x)) A.orders g.orders;
+      orders_in_order = g.orders_in_order;
+      few_orders = g.few_orders;
+      room = omega arith;
+    }
+  where
+    before : (n : Move) → IsGoodMove A n → n.place < places A + 1
+    before n x = let a = x.last in omega arith
+
+size-neg : (q : ℕ) → nat_abs (neg_ℤ (pos q)) ≡ q
+size-neg zero = refl
+size-neg (suc q) = refl
+
+-- a new field
+fielding : (A : Ledger) (f : Field) (kept : List Kept) → Good A → IsGoodField f → length kept ≡ places A + 1 → (IsSome (field_named A f.name) → ⊥) → (10000 ≤ length A.fields → ⊥) → places A + open_orders A + 1 ≤ 200000
+    → Parts (record A { fields = insert_in_order (λ f g. is_lt (name_cmp f.name g.name)) f A.fields; kept = kept })
+fielding A f kept g good more new few room =
+    let precedes : Field → Field → Bool = λ f g. is_lt (name_cmp f.name g.name) in
+    let B : Ledger = record A { fields = insert_in_order precedes f A.fields; kept = kept } in
+    let still : StillThere A B = λ n x. find-insert (λ e. same_name n e.name) precedes f A.fields x in
+    record {
+      clock = g.clock;
+      fields = each-insert IsGoodField precedes f A.fields good g.fields;
+      fields_in_order = sorted-insert name_cmp name_cmp_total (λ f. f.name) precedes (λ a b. refl) f A.fields
+          (each-imp (λ e x y. true≢false (sym (equal_name f.name e.name y) ∙ x)) A.fields (none_found (λ e. same_name f.name e.name) A.fields (none_if_not_some (find (λ e. same_name f.name e.name) A.fields) new))) g.fields_in_order;
+      few_fields = (let e = length-insert precedes f A.fields in let d = not_many 10000 (length A.fields) few in omega arith);
+      moves = each-imp (move_kept A B still (omega arith)) A.moves g.moves;
+      moves_in_order = g.moves_in_order;
+      orders = each-imp (order_kept A B still) A.orders g.orders;
+      orders_in_order = g.orders_in_order;
+      few_orders = g.few_orders;
+      room = omega arith;
+    }
+
+-- a new order
+fields_there : (A : Ledger) (order : List OpenLine → Order) (before ls : List OpenLine) → AllPass (line_checks A order before ls) → Each (λ l. IsSome (field_named A (line_name (new_line l)))) ls
+fields_there A order before [] p = tt
+fields_there A order before (l ∷ ls) p = (not_false (is_some (field_named A (line_name (new_line l)))) p.1.0, fields_there A order (before ++ l ∷ []) ls p.1.1.1)
+
+new_lines : (B : Ledger) (ls : List OpenLine) → Each (λ l. IsSome (field_named B (line_name (new_line l)))) ls → Each (λ l. IsQty l.qty) ls → Each (IsGoodLine B) (map new_line ls)
+new_lines B [] there q = tt
+new_lines B (l ∷ ls) there q = (record { field = there.0; held = (let a = q.0.1 in omega arith); used = omega arith }, new_lines B ls there.1 q.1)
+
+opening : (A : Ledger) (n : ℕ) (k : Kind) (u : ℕ) (ls : List OpenLine) (kept : List Kept) → Good A → length kept ≡ places A + 1 → IsOrderNo n → IsMoment u → 1 ≤ length ls → length ls ≤ 64 → Each (λ l. IsQty l.qty) ls
+    → (IsTrue (is_transfer (new_order n k u ls)) → IsTransferPair (map new_line ls)) → AllPass (line_checks A (new_order n k u) [] ls)
+    → (IsSome (order_numbered A n) → ⊥) → (100000 ≤ length A.orders → ⊥) → places A + open_orders A + 2 ≤ 200000
+    → Each Sound (with_order (new_order n k u ls) A).orders → ((g : Name) → OneOn g (map new_line ls)) → Parts (record (with_order (new_order n k u ls) A) { kept = kept })
+opening A n k u ls kept g more number until some few quantities pair pass new many room sound one =
+    let o : Order = new_order n k u ls in
+    let precedes : Order → Order → Bool = λ a b. nat_lt a.number b.number in
+    let B : Ledger = record (with_order o A) { kept = kept } in
+    let e = length-of-map new_line ls in
+    record {
+      clock = g.clock;
+      fields = g.fields;
+      fields_in_order = g.fields_in_order;
+      few_fields = g.few_fields;
+      moves = each-imp (move_kept A B (λ f x. x) (omega arith)) A.moves g.moves;
+      moves_in_order = g.moves_in_order;
+      orders = each-insert (IsGoodOrder B) precedes o A.orders
+          (record { number = number; until = until; some = omega arith; few = omega arith; lines = new_lines B ls (fields_there A (new_order n k u) [] ls pass) quantities; apart = apart_lines (map new_line ls) one; transfer = pair })
+          (each-imp (order_kept A B (λ f x. x)) A.orders g.orders);
+      orders_in_order = sorted-insert nat_cmp nat_cmp_total (λ o. o.number) precedes (λ a b. lt_is a.number b.number) o A.orders
+          (each-imp (λ e x y. other_number n e.number x y) A.orders (none_found (λ o. o.number == n) A.orders (none_if_not_some (find (λ o. o.number == n) A.orders) new))) g.orders_in_order;
+      few_orders = (let d = length-insert precedes o A.orders in let c = not_many 100000 (length A.orders) many in omega arith);
+      room = (let c = count-insert is_open precedes o A.orders in omega arith);
+    }
+
+-- more held
+MoreFits : Ledger → Name → Order → Type 0
+MoreFits A f o = IsNone (line_on o f) → length o.lines ≤ 63
+
+adding : (A : Ledger) (n : ℕ) (l : OpenLine) (kept : List Kept) → Good A → length kept ≡ places A + 1 → places A + open_orders A + 1 ≤ 200000 → IsSome (field_named A (line_name (new_line l))) → IsQty l.qty
+    → Each (λ o. (o.number == n) ≡ true → MayHoldMore (line_name (new_line l)) l.way o) A.orders → Each (λ o. (o.number == n) ≡ true → IsNone (line_on o (line_name (new_line l))) → length o.lines ≤ 63) A.orders
+    → Each Sound (change_order n (add_hold l) A).orders → Room (record (change_order n (add_hold l) A) { kept = kept })
+    → Parts (record (change_order n (add_hold l) A) { kept = kept })
+adding A n l kept g more full there qty takes_it fits sound room =
+    let h : Order → Order = λ o. if o.number == n then add_hold l o else o in
+    let B : Ledger = changed h A.clock kept A in
+    let levels = each-unmap (λ o. is_open o ≡ true → Each (λ m. IsSome (field_named B (line_name m)) → IsLevel m.held) o.lines) h A.orders (held_levels B g.fields room) in
+    changing A h A.clock kept g g.clock more (λ o. same_number (o.number == n) o (add_hold l o) (number_as o (is_some (line_on o name))))
+    (each-both (λ o x y. by B o (o.number == n) (λ f z. z) x y.0.0 y.0.1 y.1.0 y.1.1) A.orders g.orders (each-two _ _ A.orders (each-two _ _ A.orders takes_it fits) (each-two _ _ A.orders (each-unmap Sound h A.orders sound) levels)))
+    (let c = count-map is_open h A.orders (each (λ o. open_as o (o.number == n) (is_some (line_on o name))) A.orders) in omega arith)
+  where
+    name : Name
+    name = line_name (new_line l)
+
+    number_as : (o : Order) (b : Bool) → (if b then hold_more name l.qty o else record o { lines = o.lines ++ new_line l ∷ [] }).number ≡ o.number
+    number_as o true = refl
+    number_as o false = refl
+
+    open_as : (o : Order) (b c : Bool) → is_open (if b then (if c then hold_more name l.qty o else record o { lines = o.lines ++ new_line l ∷ [] }) else o) ≡ true → is_open o ≡ true
+    open_as o true true e = e
+    open_as o true false e = e
+    open_as o false c e = e
+
+    raised_good : (B : Ledger) → StillThere A B → (t : Bool) (m : Line) → IsGoodLine A m → (if t then raise_held l.qty m else m).used ≤ (if t then raise_held l.qty m else m).held
+        → (IsSome (field_named B (line_name (if t then raise_held l.qty m else m))) → IsLevel (if t then raise_held l.qty m else m).held) → IsGoodLine B (if t then raise_held l.qty m else m)
+    raised_good B still true m x u v = record { field = still (line_name m) x.field; held = v (still (line_name m) x.field); used = u }
+    raised_good B still false m x u v = line_kept A B still m x
+
+    held_more : (B : Ledger) (o : Order) → StillThere A B → IsGoodOrder A o → MayHoldMore name l.way o → (c : Bool) → ((c ≡ false) → length o.lines ≤ 63)
+        → Sound (if c then hold_more name l.qty o else record o { lines = o.lines ++ new_line l ∷ [] })
+        → (is_open (if c then hold_more name l.qty o else record o { lines = o.lines ++ new_line l ∷ [] }) ≡ true → Each (λ m. IsSome (field_named B (line_name m)) → IsLevel m.held) (if c then hold_more name l.qty o else record o { lines = o.lines ++ new_line l ∷ [] }).lines)
+        → IsGoodOrder B (if c then hold_more name l.qty o else record o { lines = o.lines ++ new_line l ∷ [] })
+    held_more B o still x t true fit s v =
+        let c : Line → Line = λ m. if on name m then raise_held l.qty m else m in
+        let e = length-of-map c o.lines in let some = x.some in let few = x.few in
+        record {
+          number = x.number;
+          until = x.until;
+          some = omega arith;
+          few = omega arith;
+          lines = each-map (IsGoodLine B) c o.lines (each-both (λ m p u. raised_good B still (on name m) m p u.0 u.1) o.lines x.lines
+              (each-two _ _ o.lines (each-unmap (λ m. m.used ≤ m.held) c o.lines s.used) (each-unmap (λ m. IsSome (field_named B (line_name m)) → IsLevel m.held) c o.lines (v t.0))));
+          apart = apart_lines (map c o.lines) s.one;
+          transfer = λ e. absurd (true≢false (sym e ∙ t.1));
+        }
+    held_more B o still x t false fit s v =
+        let e = length-of-push o.lines (new_line l) in let some = x.some in let few = fit refl in
+        record {
+          number = x.number;
+          until = x.until;
+          some = omega arith;
+          few = omega arith;
+          lines = each-of-push (IsGoodLine B) o.lines (new_line l) (each-imp (line_kept A B still) o.lines x.lines) (record { field = still name there; held = (let q = qty.1 in omega arith); used = omega arith });
+          apart = apart_lines (o.lines ++ new_line l ∷ []) s.one;
+          transfer = λ e. absurd (true≢false (sym e ∙ t.1));
+        }
+
+    by : (B : Ledger) (o : Order) (b : Bool) → StillThere A B → IsGoodOrder A o → (b ≡ true → MayHoldMore name l.way o) → (b ≡ true → IsNone (line_on o name) → length o.lines ≤ 63) → Sound (if b then add_hold l o else o)
+        → (is_open (if b then add_hold l o else o) ≡ true → Each (λ m. IsSome (field_named B (line_name m)) → IsLevel m.held) (if b then add_hold l o else o).lines) → IsGoodOrder B (if b then add_hold l o else o)
+    by B o true still x t fit s v = held_more B o still x (t refl) (is_some (line_on o name)) (fit refl) s v
+    by B o false still x t fit s v = order_kept A B still o x
+
+few_more : (f : Name) (o : Option Order) → (IsNone o → ⊥) → (IsSomeAnd o (λ o. IsNone (line_on o f) × (64 ≤ length o.lines)) → ⊥) → IsSomeAnd o (λ o. IsNone (line_on o f) → length o.lines ≤ 63)
+few_more f None there h = there refl
+few_more f (Some o) there h = λ none. by (λ k. h (none, k))
+  where
+    by : (64 ≤ length o.lines → ⊥) → length o.lines ≤ 63
+    by k = omega arith
+
+one_lines : (A : Ledger) (n : ℕ) (k : Kind) (u : ℕ) (before ls : List OpenLine) → ((g : Name) → OneOn g (map new_line before)) → AllPass (line_checks A (new_order n k u) before ls) → (g : Name) → OneOn g (map new_line (before ++ ls))
+one_lines A n k u before [] one p = subst (λ ls. (g : Name) → OneOn g (map new_line ls)) (sym (append-nil before)) one
+one_lines A n k u before (l ∷ ls) one p = subst (λ ls. (g : Name) → OneOn g (map new_line ls)) (append_assoc before (l ∷ []) ls)
+    (one_lines A n k u (before ++ l ∷ []) ls (fresh-push before l one (none_if_not_some (find (on (line_name (new_line l))) (map new_line before)) p.0)) p.1.1.1)
+
+kept_more : (A : Ledger) (k : Kept) → length (insert_in_order (λ a b. is_lt (slice_cmp nat_cmp a.key b.key)) k A.kept) ≡ places A + 1
+kept_more A k = length-insert (λ a b. is_lt (slice_cmp nat_cmp a.key b.key)) k A.kept
+
+-- the quantities of the lines of an `open`
+quantities : (ls : List OpenLine) → AreOpenLines ls → Each (λ l. IsQty l.qty) ls
+quantities ls h = each-imp (λ (l : OpenLine) (x : IsOpenLine l). x.qty) ls (recursion_from_All IsOpenLine ls h.each)
+
+parts_accept : (A : Ledger) (key : List ℕ) (c : Command) → Good A → IsInRange c → FirstFailure (checks A c) None → Parts (accept A (record { key = key; command = c }))
+parts_accept A key (command.Field b a lo hi start) g i h = let p = all_pass (checks A (command.Field b a lo hi start)) h in
+    fielding A (record { name = record { branch = b; article = a }; lo = lo; hi = hi; start = start }) _ g (record { branch = i.0; article = i.1; lo = i.2; hi = i.3; start = i.4 }) (kept_more A _) p.1.1.0 p.1.0 (not_full _ p.0)
+parts_accept A key (command.Deliver b a q) g i h = let p = all_pass (checks A (command.Deliver b a q)) h in
+    moving A (record { branch = b; article = a }) (pos q) _ g (kept_more A _) (not_false _ p.1.0) i.2 (not_full _ p.0)
+parts_accept A key (command.Writeoff b a q) g i h = let p = all_pass (checks A (command.Writeoff b a q)) h in
+    moving A (record { branch = b; article = a }) (neg_ℤ (pos q)) _ g (kept_more A _) (not_false _ p.1.0) (subst IsQty (sym (size-neg q)) i.2) (not_full _ p.0)
+parts_accept A key (command.Open n until lines) g i h = let p = all_pass (checks A (command.Open n until lines)) h in
+    let r = room-order A n Plain until lines (sounds_from_good A g) g.fields_in_order (fit_from_good A g).room p.1.1.1.1 in
+    opening A n Plain until lines _ g (kept_more A _) i.0 i.1 i.2.some i.2.fits (quantities lines i.2) (λ e. absurd (true≢false (sym e))) p.1.1.1.1 p.1.1.0 p.1.0 (not_full _ p.0) r.1 (one_lines A n Plain until [] lines (λ _. tt) p.1.1.1.1)
+parts_accept A key (command.Transfer n until a from to q) g i h = let p = all_pass (checks A (command.Transfer n until a from to q)) h in
+    let ls : List OpenLine = transfer_lines a from to q in
+    let r = room-order A n Transfer until ls (sounds_from_good A g) g.fields_in_order (fit_from_good A g).room p.1.1.1.1 in
+    opening A n Transfer until ls _ g (kept_more A _) i.0 i.1 (omega arith) (omega arith) (i.5, (i.5, tt)) (λ _. (refl, refl, refl, refl, refl)) p.1.1.1.1 p.1.1.0 p.1.0 (not_full _ p.0) r.1 (one_lines A n Transfer until [] ls (λ _. tt) p.1.1.1.1)
+parts_accept A key (command.More n way b a q) g i h = let p = all_pass (checks A (command.More n way b a q)) h in
+    let f : Name = record { branch = b; article = a } in
+    let l : OpenLine = record { way = way; branch = b; article = a; qty = q } in
+    let t = at_number (MayHoldMore f way) n A.orders g.orders_in_order (takes_more f way (order_numbered A n) p.1.0 p.1.1.0 p.1.1.1.0 p.1.1.1.1.1.0) in
+    let few = at_number (λ o. IsNone (line_on o f) → length o.lines ≤ 63) n A.orders g.orders_in_order (few_more f (order_numbered A n) p.1.0 p.1.1.1.1.1.1.0) in
+    let sounds = sounds_from_good A g in
+    let sound : Each Sound (change_order n (add_hold l) A).orders = sound-more A n l sounds (each-both (λ o s k e. ((k e).0, raised l o s (k e))) A.orders sounds t) in
+    adding A n l _ g (kept_more A _) (not_full _ p.0) (not_false _ p.1.1.1.1.0) i.3 t few sound
+    (room_from_safe (accept A (record { key = key; command = command.More n way b a q })) sound (safe_after A (record { key = key; command = command.More n way b a q }) g h))
+parts_accept A key (command.Use n b a q) g i h = let p = all_pass (checks A (command.Use n b a q)) h in
+    using A n (record { branch = b; article = a }) (raise_used q) _ (λ l. (refl, omega arith)) g (kept_more A _) (not_full _ p.0) (fit-accept A key (command.Use n b a q) tt (fit_from_good A g) h)
+parts_accept A key (command.Release n b a q) g i h = let p = all_pass (checks A (command.Release n b a q)) h in
+    using A n (record { branch = b; article = a }) (lower_held q) _ (λ l. (refl, omega arith)) g (kept_more A _) (not_full _ p.0) (fit-accept A key (command.Release n b a q) tt (fit_from_good A g) h)
+parts_accept A key (command.Commit n) g i h = let p = all_pass (checks A (command.Commit n)) h in stating A n Committed _ refl g (kept_more A _) p.0 p.1.0
+parts_accept A key (command.Abort n) g i h = let p = all_pass (checks A (command.Abort n)) h in stating A n Aborted _ refl g (kept_more A _) p.0 p.1.0
+parts_accept A key (command.Expire now) g i h = let p = all_pass (checks A (command.Expire now)) h in expiring A now _ g i (kept_more A _) (not_full _ p.0)
+
+keeping : (A : Ledger) (r : Request) → Good A → IsKey r.key → IsInRange r.command → kept_under A r.key ≡ None → Parts (accept A r) → IsSafe (accept A r) → Good (accept A r)
+keeping A r g key range none p safe =
+    let k : Kept = record { key = r.key; place = places A + 1; command = r.command } in
+    let precedes : Kept → Kept → Bool = λ a b. is_lt (slice_cmp nat_cmp a.key b.key) in
+    let more = kept_more A k in
+    record {
+      clock = p.clock;
+      fields = p.fields;
+      fields_in_order = p.fields_in_order;
+      few_fields = p.few_fields;
+      moves = p.moves;
+      moves_in_order = p.moves_in_order;
+      orders = p.orders;
+      orders_in_order = p.orders_in_order;
+      few_orders = p.few_orders;
+      kept = each-insert IsGoodKept precedes k A.kept (record { key = key; command = range }) g.kept;
+      kept_in_order = sorted-insert (slice_cmp nat_cmp) nat_list_cmp_total (λ k. k.key) precedes (λ a b. refl) k A.kept (each-imp (λ e x y. other_key e.key r.key x y) A.kept (none_found (λ k. bytes_eq k.key r.key) A.kept none)) g.kept_in_order;
+      places_in_range = each-insert (λ k. (1 ≤ k.place) × (k.place ≤ places (accept A r))) precedes k A.kept (omega arith, omega arith) (each-imp (λ e x. (x.0, up e x.1 more)) A.kept g.places_in_range);
+      places_apart = distinct-insert (λ k. k.place) precedes k A.kept (each-imp (λ e x. below e x.1) A.kept g.places_in_range) g.places_apart;
+      places_fit = p.room;
+      safe = safe;
+    }
+  where
+    up : (e : Kept) → e.place ≤ places A → places (accept A r) ≡ places A + 1 → e.place ≤ places (accept A r)
+    up e h m = omega arith
+
+    below : (e : Kept) → e.place ≤ places A → e.place < places A + 1
+    below e h = omega arith
+
+pub good_accept : (A : Ledger) (r : Request) → Good A → IsKey r.key → IsInRange r.command → kept_under A r.key ≡ None → FirstFailure (checks A r.command) None → Good (accept A r)
+good_accept A r g key range none h = keeping A r g key range none (parts_accept A r.key r.command g range h) (safe_after A r g h)
+
+pub good_answer : (A : Ledger) (r : Request) (reply : Reply) (B : Ledger) → Good A → IsKey r.key → IsInRange r.command → Answers A r reply B → Good B
+good_answer A r reply B g key range h = by_key (kept_under A r.key) refl h
+  where
+    by_found : kept_under A r.key ≡ None → (found : Option (Refusal × ℕ)) → FirstFailure (checks A r.command) found → MatchOption found ((reply ≡ Done (places A + 1)) × (B ≡ accept A r)) (λ e. (reply ≡ Refused e.0 e.1) × (B ≡ A)) → Good B
+    by_found none None f m = subst Good (sym m.1) (good_accept A r g key range none f)
+    by_found none (Some e) f m = subst Good (sym m.1) g
+
+    by_key : (k : Option Kept) → kept_under A r.key ≡ k → MatchOption k (AnswersNew A r reply B) (λ k. (reply ≡ (if same_command k.command r.command then Done k.place else Refused KeyReused 0)) × (B ≡ A)) → Good B
+    by_key None e m = by_found e m.0 m.1 m.2
+    by_key (Some k) e m = subst Good (sym m.1) g

@@ -1,0 +1,201 @@
+-- A delivery, a write-off, and a new order that pass their checks leave every field its room.
+use Rattle.std.proofs.Common.{◌≡◌, ℕ, ◌+◌, ℤ, pos, ◌+ℤ◌, ◌-ℤ◌, neg_ℤ, ◌≤ℤ◌, ◌<ℤ◌, List, [], ◌∷◌, ◌++◌, map, find, Bool, true, false, IsSome, IsSomeAnd, Option, Some, None, refl, sym, ap, ◌∙◌, subst, arith, if◌then◌else◌, true≢false, nat_cmp, nat_lt, Less, Equal, append_assoc, append-nil, length}
+use Rattle.std.proofs.lemmas.Int.{ints, by_lt_z}
+use Rattle.std.specs.List.{AllByRecursion as Each}
+use Rattle.std.specs.List.Sorted.{IsStrictlySortedBy}
+use Rattle.std.specs.Ordering.{is_lt}
+use Rattle.std.specs.Cmp.Lexicographic.{slice_cmp}
+use Rattle.escrow.specs.declared.quantity.Way.{Way}
+use Rattle.escrow.specs.declared.quantity.Way.TheVariants.{Take, Add}
+use Rattle.words.specs.declared.open_line.OpenLine.{OpenLine}
+use Rattle.book.specs.declared.order.Kind.{Kind}
+use Rattle.book.specs.Ledger.{Name, Field, Ledger, on, line_name, same_name, name_cmp, places}
+use Rattle.book.specs.Outcomes.{total, settled, FallsBelow, RisesAbove}
+use Rattle.book.specs.Held.{if_take, if_add, held_to_take, held_to_add}
+use Rattle.book.specs.Next.{with_move, with_order, new_order, new_line}
+use Rattle.book.specs.Answers.{line_checks, bound}
+use Rattle.book.proofs.Sums.{each-imp, each-both}
+use Rattle.book.proofs.Bounds.{OneOn, Sound, takes, adds, falls_below_iff, rises_above_iff, HasRoom}
+use Rattle.book.proofs.Closing.{name_is, AllPass}
+use Rattle.book.proofs.Asked.{total-push, each-insert, map-push, same_self, fresh-push, fresh-sound, settled-order, held_take-order, held_add-order, moved-settled}
+
+-- no name is before itself
+cmp_self : (xs : List ℕ) → slice_cmp nat_cmp xs xs ≡ Equal
+cmp_self [] = refl
+cmp_self (x ∷ xs) = let e : nat_cmp x x ≡ Equal = same x in rw e (cmp_self xs)
+  where
+    same : (x : ℕ) → nat_cmp x x ≡ Equal
+    same x = grind arith
+
+not_before_itself : (f : Name) → name_cmp f f ≡ Less → ⊥
+not_before_itself f e = let d : name_cmp f f ≡ Equal = rw (cmp_self f.branch) (cmp_self f.article) in true≢false (ap is_lt (sym e ∙ d))
+
+abbrev pub InOrder : Ledger → Type 0
+InOrder A = IsStrictlySortedBy name_cmp (map (λ f. f.name) A.fields)
+
+-- what does not hold of the field under a name does not hold of any field with it, since there is one
+pub none_bad : (P : Field → Type 0) (name : Name) (fs : List Field) → IsStrictlySortedBy name_cmp (map (λ f. f.name) fs) → (IsSomeAnd (find (λ e. same_name name e.name) fs) P → ⊥)
+    → Each (λ f. same_name name f.name ≡ true → P f → ⊥) fs
+unfolding IsStrictlySortedBy
+none_bad P name [] sorted h = tt
+none_bad P name (f ∷ fs) sorted h = step (same_name name f.name) refl h (λ k. none_bad P name fs sorted.1 k)
+  where
+    rest : same_name name f.name ≡ true → (ms : List Field) → Each (λ y. name_cmp f.name y ≡ Less) (map (λ f. f.name) ms) → Each (λ m. same_name name m.name ≡ true → P m → ⊥) ms
+    rest e [] k = tt
+    rest e (m ∷ ms) k = ((λ d _. not_before_itself f.name (subst (λ g. name_cmp f.name g ≡ Less) (sym (name_is name m.name d) ∙ name_is name f.name e) k.0)), rest e ms k.1)
+
+    step : (b : Bool) → same_name name f.name ≡ b → (IsSomeAnd (if b then Some f else find (λ e. same_name name e.name) fs) P → ⊥) → ((IsSomeAnd (find (λ e. same_name name e.name) fs) P → ⊥) → Each (λ f. same_name name f.name ≡ true → P f → ⊥) fs)
+        → Each (λ f. same_name name f.name ≡ true → P f → ⊥) (f ∷ fs)
+    step true e k more = ((λ _. k), rest e fs sorted.0)
+    step false e k more = ((λ d. absurd (true≢false (sym d ∙ e))), more k)
+
+-- the other way round
+pub other_way : (f g : Name) → same_name f g ≡ false → same_name g f ≡ false
+other_way f g e = go (same_name g f) refl
+  where
+    go : (b : Bool) → same_name g f ≡ b → same_name g f ≡ false
+    go false d = d
+    go true d = absurd (true≢false (sym (subst (λ h. same_name f h ≡ true) (sym (name_is g f d)) (same_self f)) ∙ e))
+
+abbrev pub Room : Ledger → Type 0
+Room A = Each (HasRoom A) A.fields
+
+-- another field is not moved
+moved-other : (A : Ledger) (name : Name) (z : ℤ) (f : Field) → same_name name f.name ≡ false → settled (with_move name z A) f ≡ settled A f
+moved-other A name z f e =
+    let a = total-push (λ m. if same_name f.name m.field then m.amount else pos 0) A.moves (record { place = places A + 1; field = name; amount = z }) in
+    let b : (if same_name f.name name then z else pos 0) ≡ pos 0 = rw (other_way name f.name e) refl in
+    omega (arith, ints)
+
+pub not_less : (a b : ℤ) → (a <ℤ b → ⊥) → b ≤ℤ a
+not_less a b h = by_lt_z a b (λ k. absurd (h k)) (λ k. k)
+
+pub room-delivery : (A : Ledger) (name : Name) (q : ℕ) → Each Sound A.orders → InOrder A → Room A → (RisesAbove (with_move name (pos q) A) name → ⊥) → Room (with_move name (pos q) A)
+room-delivery A name q sound sorted room check = each-both (λ f r n. one f r (same_name name f.name) refl n) A.fields room
+    (none_bad (λ f. pos f.hi <ℤ (settled (with_move name (pos q) A) f +ℤ held_to_add A f.name)) name A.fields sorted (λ h. check ((rises_above_iff (with_move name (pos q) A) sound name).1 h)))
+  where
+    one : (f : Field) → HasRoom A f → (b : Bool) → same_name name f.name ≡ b → (same_name name f.name ≡ true → pos f.hi <ℤ (settled (with_move name (pos q) A) f +ℤ held_to_add A f.name) → ⊥) → HasRoom (with_move name (pos q) A) f
+    one f r true e n = let low = r.0 in let s = moved-settled A name (pos q) f (sym (name_is name f.name e)) in (omega (arith, ints), not_less _ _ (n e))
+    one f r false e n = let s = moved-other A name (pos q) f e in let low = r.0 in let high = r.1 in (omega (arith, ints), omega (arith, ints))
+
+pub room-write_off : (A : Ledger) (name : Name) (q : ℕ) → Each Sound A.orders → InOrder A → Room A → (FallsBelow (with_move name (neg_ℤ (pos q)) A) name → ⊥) → Room (with_move name (neg_ℤ (pos q)) A)
+room-write_off A name q sound sorted room check = each-both (λ f r n. one f r (same_name name f.name) refl n) A.fields room
+    (none_bad (λ f. (settled (with_move name (neg_ℤ (pos q)) A) f -ℤ held_to_take A f.name) <ℤ pos f.lo) name A.fields sorted (λ h. check ((falls_below_iff (with_move name (neg_ℤ (pos q)) A) sound name).1 h)))
+  where
+    one : (f : Field) → HasRoom A f → (b : Bool) → same_name name f.name ≡ b → (same_name name f.name ≡ true → (settled (with_move name (neg_ℤ (pos q)) A) f -ℤ held_to_take A f.name) <ℤ pos f.lo → ⊥) → HasRoom (with_move name (neg_ℤ (pos q)) A) f
+    one f r true e n = let high = r.1 in let s = moved-settled A name (neg_ℤ (pos q)) f (sym (name_is name f.name e)) in (not_less _ _ (n e), omega (arith, ints))
+    one f r false e n = let s = moved-other A name (neg_ℤ (pos q)) f e in let low = r.0 in let high = r.1 in (omega (arith, ints), omega (arith, ints))
+
+-- a new order, line by line
+
+-- what one more line adds to what is held
+takes-more : (f : Name) (ls : List OpenLine) (l : OpenLine) → total (takes f) (map new_line (ls ++ l ∷ [])) ≡ total (takes f) (map new_line ls) +ℤ takes f (new_line l)
+takes-more f ls l = rw (map-push ls l) (total-push (takes f) (map new_line ls) (new_line l))
+
+adds-more : (f : Name) (ls : List OpenLine) (l : OpenLine) → total (adds f) (map new_line (ls ++ l ∷ [])) ≡ total (adds f) (map new_line ls) +ℤ adds f (new_line l)
+adds-more f ls l = rw (map-push ls l) (total-push (adds f) (map new_line ls) (new_line l))
+
+no_add : (b : Bool) (w : Way) (q : ℕ) → w ≡ Take → (if b then pos (if_add w q) else pos 0) ≡ pos 0
+no_add true w q e = ap (λ w. pos (if_add w q)) e
+no_add false w q e = refl
+
+no_take : (b : Bool) (w : Way) (q : ℕ) → w ≡ Add → (if b then pos (if_take w q) else pos 0) ≡ pos 0
+no_take true w q e = ap (λ w. pos (if_take w q)) e
+no_take false w q e = refl
+
+-- what the check of a line says, by its way
+abbrev pub LinePasses : Ledger → Name → Way → Type 0
+LinePasses B f Take = FallsBelow B f → ⊥
+LinePasses B f Add = RisesAbove B f → ⊥
+
+room-line : (A : Ledger) (n : ℕ) (k : Kind) (u : ℕ) (ls : List OpenLine) (l : OpenLine) (w : Way) → l.way ≡ w → Each Sound A.orders → InOrder A
+    → ((g : Name) → OneOn g (map new_line (ls ++ l ∷ []))) → Room (with_order (new_order n k u ls) A)
+    → LinePasses (with_order (new_order n k u (ls ++ l ∷ [])) A) (line_name (new_line l)) w → Room (with_order (new_order n k u (ls ++ l ∷ [])) A)
+room-line A n k u ls l Take way sound sorted one room check = each-both (λ f r n. at f r (same_name name f.name) refl n) A.fields room
+    (none_bad (λ f. (settled B f -ℤ held_to_take B f.name) <ℤ pos f.lo) name A.fields sorted (λ h. check ((falls_below_iff B (each-insert Sound (λ a b. nat_lt a.number b.number) (new_order n k u (ls ++ l ∷ [])) A.orders (fresh-sound n k u (ls ++ l ∷ []) one) sound) name).1 h)))
+  where
+    name : Name
+    name = line_name (new_line l)
+
+    B : Ledger
+    B = with_order (new_order n k u (ls ++ l ∷ [])) A
+
+    C : Ledger
+    C = with_order (new_order n k u ls) A
+
+    at : (f : Field) → HasRoom C f → (b : Bool) → same_name name f.name ≡ b → (same_name name f.name ≡ true → (settled B f -ℤ held_to_take B f.name) <ℤ pos f.lo → ⊥) → HasRoom B f
+    at f r b e bad =
+        let low = r.0 in let high = r.1 in
+        let s = settled-order A n k u (ls ++ l ∷ []) f in let s' = settled-order A n k u ls f in
+        let t = held_take-order A n k u (ls ++ l ∷ []) f.name in let t' = held_take-order A n k u ls f.name in
+        let a = held_add-order A n k u (ls ++ l ∷ []) f.name in let a' = held_add-order A n k u ls f.name in
+        let x = adds-more f.name ls l in let y = no_add (on f.name (new_line l)) l.way l.qty way in
+        (by b e, omega (arith, ints))
+      where
+        by : (b : Bool) → same_name name f.name ≡ b → pos f.lo ≤ℤ (settled B f -ℤ held_to_take B f.name)
+        by true e = not_less _ _ (bad e)
+        by false e =
+            let low = r.0 in
+            let s = settled-order A n k u (ls ++ l ∷ []) f in let s' = settled-order A n k u ls f in
+            let t = held_take-order A n k u (ls ++ l ∷ []) f.name in let t' = held_take-order A n k u ls f.name in
+            let x = takes-more f.name ls l in
+            let y : takes f.name (new_line l) ≡ pos 0 = rw (other_way name f.name e) refl in omega (arith, ints)
+room-line A n k u ls l Add way sound sorted one room check = each-both (λ f r n. at f r (same_name name f.name) refl n) A.fields room
+    (none_bad (λ f. pos f.hi <ℤ (settled B f +ℤ held_to_add B f.name)) name A.fields sorted (λ h. check ((rises_above_iff B (each-insert Sound (λ a b. nat_lt a.number b.number) (new_order n k u (ls ++ l ∷ [])) A.orders (fresh-sound n k u (ls ++ l ∷ []) one) sound) name).1 h)))
+  where
+    name : Name
+    name = line_name (new_line l)
+
+    B : Ledger
+    B = with_order (new_order n k u (ls ++ l ∷ [])) A
+
+    C : Ledger
+    C = with_order (new_order n k u ls) A
+
+    at : (f : Field) → HasRoom C f → (b : Bool) → same_name name f.name ≡ b → (same_name name f.name ≡ true → pos f.hi <ℤ (settled B f +ℤ held_to_add B f.name) → ⊥) → HasRoom B f
+    at f r b e bad =
+        let low = r.0 in let high = r.1 in
+        let s = settled-order A n k u (ls ++ l ∷ []) f in let s' = settled-order A n k u ls f in
+        let t = held_take-order A n k u (ls ++ l ∷ []) f.name in let t' = held_take-order A n k u ls f.name in
+        let x = takes-more f.name ls l in let y = no_take (on f.name (new_line l)) l.way l.qty way in
+        (omega (arith, ints), by b e)
+      where
+        by : (b : Bool) → same_name name f.name ≡ b → (settled B f +ℤ held_to_add B f.name) ≤ℤ pos f.hi
+        by true e = not_less _ _ (bad e)
+        by false e =
+            let high = r.1 in
+            let s = settled-order A n k u (ls ++ l ∷ []) f in let s' = settled-order A n k u ls f in
+            let a = held_add-order A n k u (ls ++ l ∷ []) f.name in let a' = held_add-order A n k u ls f.name in
+            let x = adds-more f.name ls l in
+            let y : adds f.name (new_line l) ≡ pos 0 = rw (other_way name f.name e) refl in omega (arith, ints)
+
+pub none_if_not_some : {X : Type 0} (o : Option X) → (IsSome o → ⊥) → o ≡ None
+none_if_not_some None h = refl
+none_if_not_some (Some x) h = absurd (h refl)
+
+pub line_passes : (w : Way) (B : Ledger) (f : Name) (i : ℕ) → ((bound w B f i).fails → ⊥) → LinePasses B f w
+line_passes Take B f i h = h
+line_passes Add B f i h = h
+
+-- all lines of a new order, each checked beside those before it
+pub room-lines : (A : Ledger) (n : ℕ) (k : Kind) (u : ℕ) (before ls : List OpenLine) → Each Sound A.orders → InOrder A
+    → ((g : Name) → OneOn g (map new_line before)) → Room (with_order (new_order n k u before) A) → AllPass (line_checks A (new_order n k u) before ls)
+    → Room (with_order (new_order n k u (before ++ ls)) A) × ((g : Name) → OneOn g (map new_line (before ++ ls)))
+room-lines A n k u before [] sound sorted one room pass = subst (λ ls. Room (with_order (new_order n k u ls) A) × ((g : Name) → OneOn g (map new_line ls))) (sym (append-nil before)) (room, one)
+room-lines A n k u before (l ∷ ls) sound sorted one room pass =
+    let none = none_if_not_some (find (on (line_name (new_line l))) (map new_line before)) pass.0 in
+    let one' : (g : Name) → OneOn g (map new_line (before ++ l ∷ [])) = fresh-push before l one none in
+    let check = line_passes l.way (with_order (new_order n k u (before ++ l ∷ [])) A) (line_name (new_line l)) (length before + 1) pass.1.1.0 in
+    let room' : Room (with_order (new_order n k u (before ++ l ∷ [])) A) = room-line A n k u before l l.way refl sound sorted one' room check in
+    subst (λ ls. Room (with_order (new_order n k u ls) A) × ((g : Name) → OneOn g (map new_line ls))) (append_assoc before (l ∷ []) ls)
+    (room-lines A n k u (before ++ l ∷ []) ls sound sorted one' room' pass.1.1.1)
+
+-- an order without lines holds nothing
+room-empty : (A : Ledger) (n : ℕ) (k : Kind) (u : ℕ) → Room A → Room (with_order (new_order n k u []) A)
+room-empty A n k u room = each-imp (λ f r. let low = r.0 in let high = r.1 in let s = settled-order A n k u [] f in let t = held_take-order A n k u [] f.name in let a = held_add-order A n k u [] f.name in
+    (omega (arith, ints), omega (arith, ints))) A.fields room
+
+pub room-order : (A : Ledger) (n : ℕ) (k : Kind) (u : ℕ) (ls : List OpenLine) → Each Sound A.orders → InOrder A → Room A → AllPass (line_checks A (new_order n k u) [] ls)
+    → Room (with_order (new_order n k u ls) A) × Each Sound (with_order (new_order n k u ls) A).orders
+room-order A n k u ls sound sorted room pass = let r = room-lines A n k u [] ls sound sorted (λ g. tt) (room-empty A n k u room) pass in
+    (r.0, each-insert Sound (λ a b. nat_lt a.number b.number) (new_order n k u ls) A.orders (fresh-sound n k u ls r.1) sound)

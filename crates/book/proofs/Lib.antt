@@ -1,0 +1,16 @@
+pub mod Sums
+pub mod Bounds
+pub mod Closing
+pub mod Once
+pub mod Asked
+pub mod Growing
+pub mod Raising
+pub mod Safety
+pub mod Total
+pub mod Lists
+pub mod Goodness
+pub mod Transfers
+pub mod Runs
+pub mod Compared
+pub mod Tests
+pub mod Played

@@ -1,0 +1,75 @@
+-- Whole runs from a good ledger, and the numbers of a good ledger's fields.
+use Rattle.std.proofs.Common.{◌≡◌, ℕ, zero, suc, ◌≤◌, ℤ, pos, ◌+ℤ◌, ◌-ℤ◌, ◌≤ℤ◌, List, [], ◌∷◌, Bool, true, false, refl, sym, ap, ◌∙◌, subst, arith, if◌then◌else◌, ◌↔◌, take}
+use Rattle.std.proofs.lemmas.Int.{ints}
+use Rattle.std.specs.List.{AllByRecursion as Each}
+use lib.Pointwise.{bytes_decides}
+use Rattle.escrow.specs.Codes.{IsKey}
+use Rattle.words.specs.declared.command.Command.{Command}
+use Rattle.words.specs.declared.command.Request.{Request}
+use Rattle.words.specs.declared.reply.Reply.{Reply}
+use Rattle.words.specs.Spelling.{IsInRange, spelling}
+use Rattle.book.specs.Ledger.{Field, Ledger, is_open}
+use Rattle.book.specs.Outcomes.{total, settled}
+use Rattle.book.specs.Held.{held_to_take, held_to_add}
+use Rattle.book.specs.Answers.{Runs, After, same_command}
+use Rattle.book.specs.Good.{Good, IsGoodField}
+use Rattle.book.proofs.Sums.{each-both}
+use Rattle.book.proofs.Bounds.{takes, adds, takes-not_negative, adds-not_negative, room_from_safe, HasRoom}
+use Rattle.book.proofs.Closing.{sounds_from_good}
+use Rattle.book.proofs.Once.{answered_once}
+use Rattle.book.proofs.Total.{answered_if_good}
+use Rattle.book.proofs.Lists.{total-not_negative}
+use Rattle.book.proofs.Goodness.{good_answer}
+use Rattle.words.proofs.OneItem.{spelling_one}
+
+-- the same text is the same command
+pub same_is : (c d : Command) → IsInRange c → IsInRange d → (same_command c d ≡ true) ↔ (c ≡ d)
+same_is c d h k = ((λ e. spelling_one c d h k ((bytes_decides (spelling c) (spelling d)).0 e)), (λ e. (bytes_decides (spelling c) (spelling d)).1 (ap spelling e)))
+
+abbrev InRanges : List Request → Type 0
+InRanges rs = Each (λ r. IsKey r.key × IsInRange r.command) rs
+
+pub runs_once : (A : Ledger) (rs : List Request) (ps qs : List Reply) (B C : Ledger) → Runs A rs ps B → Runs A rs qs C → (ps ≡ qs) × (B ≡ C)
+runs_once A [] [] [] B C h k = (refl, h ∙ sym k)
+runs_once A [] (p ∷ ps) qs B C h k = absurd h
+runs_once A [] [] (q ∷ qs) B C h k = absurd k
+runs_once A (r ∷ rs) [] qs B C h k = absurd h
+runs_once A (r ∷ rs) (p ∷ ps) [] B C h k = absurd k
+runs_once A (r ∷ rs) (p ∷ ps) (q ∷ qs) B C h k =
+    let a = answered_once A r p q h.0 k.0 h.1 k.1 in
+    let b = runs_once k.0 rs ps qs B C (subst (λ M. Runs M rs ps B) a.1 h.2) k.2 in ((λ i. a.0 i ∷ b.0 i), b.1)
+
+pub runs_stay_good : (A : Ledger) (rs : List Request) (ps : List Reply) (B : Ledger) → Good A → InRanges rs → Runs A rs ps B → Good B
+runs_stay_good A [] [] B g w h = subst Good (sym h) g
+runs_stay_good A [] (p ∷ ps) B g w h = absurd h
+runs_stay_good A (r ∷ rs) [] B g w h = absurd h
+runs_stay_good A (r ∷ rs) (p ∷ ps) B g w h = runs_stay_good h.0 rs ps B (good_answer A r p h.0 g w.0.0 w.0.1 h.1) w.1 h.2
+
+pub a_run : (A : Ledger) (rs : List Request) → Good A → InRanges rs → (ps : List Reply) × (B : Ledger) × Runs A rs ps B
+a_run A [] g w = ([], A, refl)
+a_run A (r ∷ rs) g w = let a = answered_if_good A r g in let b = a_run a.1 rs (good_answer A r a.0 a.1 g w.0.0 w.0.1 a.2) w.1 in (a.0 ∷ b.0, b.1, (a.1, a.2, b.2))
+
+ranges_take : (rs : List Request) (i : ℕ) → InRanges rs → InRanges (take i rs)
+ranges_take rs zero h = tt
+ranges_take [] (suc i) h = tt
+ranges_take (r ∷ rs) (suc i) h = (h.0, ranges_take rs i h.1)
+
+pub after_there : (A : Ledger) (rs : List Request) (i : ℕ) → Good A → InRanges rs → (B : Ledger) × After A rs i B
+after_there A rs i g w = let run = a_run A (take i rs) g (ranges_take rs i w) in (run.1, (run.0, run.2))
+
+pub after_once : (A : Ledger) (rs : List Request) (i : ℕ) (B C : Ledger) → After A rs i B → After A rs i C → B ≡ C
+after_once A rs i B C h k = (runs_once A (take i rs) h.0 k.0 B C h.1 k.1).1
+
+-- all numbers of a field are levels, in their order
+pub in_order : (A : Ledger) → Good A → Each (λ f. (pos f.lo ≤ℤ (settled A f -ℤ held_to_take A f.name)) × ((settled A f -ℤ held_to_take A f.name) ≤ℤ settled A f) × (settled A f ≤ℤ (settled A f +ℤ held_to_add A f.name)) × ((settled A f +ℤ held_to_add A f.name) ≤ℤ pos f.hi) × (f.hi ≤ 1000000000)) A.fields
+in_order A g = each-both (λ f r x. one f r x) A.fields (room_from_safe A (sounds_from_good A g) g.safe) g.fields
+  where
+    part : (b : Bool) (z : ℤ) → pos 0 ≤ℤ z → pos 0 ≤ℤ (if b then z else pos 0)
+    part true z h = h
+    part false z h = omega (arith, ints)
+
+    one : (f : Field) → HasRoom A f → IsGoodField f → (pos f.lo ≤ℤ (settled A f -ℤ held_to_take A f.name)) × ((settled A f -ℤ held_to_take A f.name) ≤ℤ settled A f) × (settled A f ≤ℤ (settled A f +ℤ held_to_add A f.name)) × ((settled A f +ℤ held_to_add A f.name) ≤ℤ pos f.hi) × (f.hi ≤ 1000000000)
+    one f r x =
+        let t : pos 0 ≤ℤ held_to_take A f.name = total-not_negative (λ o. if is_open o then total (takes f.name) o.lines else pos 0) (λ o. part (is_open o) (total (takes f.name) o.lines) (takes-not_negative f.name o.lines)) A.orders in
+        let a : pos 0 ≤ℤ held_to_add A f.name = total-not_negative (λ o. if is_open o then total (adds f.name) o.lines else pos 0) (λ o. part (is_open o) (total (adds f.name) o.lines) (adds-not_negative f.name o.lines)) A.orders in
+        (r.0, (omega (arith, ints)), (omega (arith, ints)), r.1, x.hi)

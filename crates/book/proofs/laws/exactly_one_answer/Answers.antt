@@ -1,0 +1,15 @@
+use Rattle.book.proofs.Once.{accepted_once, answered_once, others_stay}
+use Rattle.book.proofs.Total.{answered_if_good}
+use Rattle.book.proofs.laws.exactly_one_answer.Goals as goal
+
+pub returns-clause-some : goal.returns-clause-some
+returns-clause-some c = answered_if_good
+
+pub returns-clause-one : goal.returns-clause-one
+returns-clause-one c = answered_once
+
+pub returns-clause-accepted : goal.returns-clause-accepted
+returns-clause-accepted c = accepted_once
+
+pub returns-clause-others : goal.returns-clause-others
+returns-clause-others c = others_stay

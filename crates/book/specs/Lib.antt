@@ -1,0 +1,9 @@
+pub mod Ledger
+pub mod Outcomes
+pub mod Held
+pub mod Next
+pub mod Answers
+pub mod Good
+pub mod Future
+pub mod View
+pub mod Examples

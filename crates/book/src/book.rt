@@ -1,0 +1,49 @@
+//! The ledger in memory.
+
+ghost use Rattle.std.specs.Prelude.{◌≡◌};
+ghost use Rattle.book.specs.Ledger.{new_ledger};
+
+use crate::entries::{FieldEntry, KeptEntry, MoveEntry, OrderEntry};
+use escrow::Moment;
+use std::alloc::Global;
+use std::marker::Model;
+
+#[cfg(test)]
+mod tests;
+
+/// A good ledger: all fields, moves, orders and kept keys of the desk. Contracts see it as its ledger and, beside
+/// that, the room that has been made for entries to come.
+#[derive(Debug, Drop)]
+pub struct Book {
+    clock: Moment,
+    fields: Vec<FieldEntry>,
+    moves: Vec<MoveEntry>,
+    orders: Vec<OrderEntry>,
+    kept: Vec<KeptEntry>,
+}
+
+impl Model for Book {
+    ghost use Rattle.book.specs.Good.{Good};
+    ghost use Rattle.book.specs.View.{BookView, ledger_of, view_of};
+
+    ghost Value = { BookView };
+
+    ghost view = { view_of };
+
+    ghost invariant = { λ b. Good (ledger_of b) };
+}
+
+impl Book {
+    /// The book of a new desk: its clock stands at 0, and nothing else is in it. Takes no memory.
+    pub fn new(alloc: Global) -> Book
+        ensures { result.ledger ≡ new_ledger }
+    {
+        Book {
+            clock: Moment::first(),
+            fields: Vec::new(alloc),
+            moves: Vec::new(alloc),
+            orders: Vec::new(alloc),
+            kept: Vec::new(alloc),
+        }
+    }
+}

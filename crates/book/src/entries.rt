@@ -1,0 +1,42 @@
+//! The entries of a ledger, as they lie in memory.
+
+use crate::order::{Kind, Line, State};
+use escrow::{Article, Branch, Key, Level, Moment, OrderNo};
+use words::Command;
+
+/// A field: its bounds, and the level at which it started.
+#[derive(Debug, Drop)]
+pub struct FieldEntry {
+    pub branch: Branch,
+    pub article: Article,
+    pub lo: Level,
+    pub hi: Level,
+    pub start: Level,
+}
+
+/// A delivery (above 0) or a write-off (below 0), with the place of its command.
+#[derive(Debug, Drop)]
+pub struct MoveEntry {
+    pub place: u64,
+    pub branch: Branch,
+    pub article: Article,
+    pub amount: i64,
+}
+
+/// An order, open or ended.
+#[derive(Debug, Drop)]
+pub struct OrderEntry {
+    pub number: OrderNo,
+    pub kind: Kind,
+    pub until: Moment,
+    pub state: State,
+    pub lines: Vec<Line>,
+}
+
+/// An accepted key, with its place and its command.
+#[derive(Debug, Drop)]
+pub struct KeptEntry {
+    pub key: Key,
+    pub place: u64,
+    pub command: Command,
+}

@@ -1,0 +1,84 @@
+//! Laws of ledgers, answers and runs.
+
+ghost use Rattle.std.specs.Prelude.{◌≡◌, ◌+◌, ◌↔◌, ◌∷◌, ◌++◌, [], ◌+ℤ◌, ◌-ℤ◌, ℕ, List, IsNone, IsSomeAnd, IsTrue, map};
+ghost use Rattle.std.specs.List.{AllByRecursion as Each, IsDistinct};
+ghost use Rattle.escrow.specs.Codes.{IsKey};
+ghost use Rattle.escrow.specs.declared.quantity.Way.{Way};
+ghost use Rattle.escrow.specs.declared.quantity.Way.TheVariants.{Add, Take};
+ghost use Rattle.words.specs.Spelling.{IsInRange};
+ghost use Rattle.words.specs.declared.command.Command.{Command};
+ghost use Rattle.words.specs.declared.command.Command.TheVariants.{Commit, Deliver, More, Writeoff};
+ghost use Rattle.words.specs.declared.command.Request.{Request};
+ghost use Rattle.words.specs.declared.open_line.OpenLine.{OpenLine};
+ghost use Rattle.words.specs.declared.reply.Reply.{Reply};
+ghost use Rattle.words.specs.declared.reply.Reply.TheVariants.{Done};
+ghost use Rattle.book.specs.Answers.{After, Answers, IsAccepted, Runs, bound, same_command};
+ghost use Rattle.book.specs.Future.{Honours, HonoursAlways};
+ghost use Rattle.book.specs.Good.{Good};
+ghost use Rattle.book.specs.Held.{MayHoldMore, BreaksBound, held_to_add, held_to_take};
+ghost use Rattle.book.specs.Ledger.{Field, Ledger, Name, is_transfer, line_name, line_on, order_numbered, places, same_name};
+ghost use Rattle.book.specs.Next.{accept, new_line, new_order, next, with_order};
+ghost use Rattle.book.specs.Outcomes.{FallsBelow, IsInfimum, IsSupremum, RisesAbove, article_total, settled};
+ghost use Rattle.book.specs.declared.order.Kind.{Kind};
+
+/// At a good ledger every request has an answer; at no ledger it has two. An accepted one is done at the next
+/// place, and any other leaves the ledger as it was.
+pub fn exactly_one_answer()
+    ensures some { (A : Ledger) (r : Request) → Good A → (reply : Reply) × (B : Ledger) × Answers A r reply B }
+    ensures one { (A : Ledger) (r : Request) (p q : Reply) (B C : Ledger) → Answers A r p B → Answers A r q C → (p ≡ q) × (B ≡ C) }
+    ensures accepted { (A : Ledger) (r : Request) (reply : Reply) (B : Ledger) → IsAccepted A r → Answers A r reply B → (reply ≡ Done (places A + 1)) × (B ≡ accept A r) }
+    ensures others { (A : Ledger) (r : Request) (reply : Reply) (B : Ledger) → (IsAccepted A r → ⊥) → Answers A r reply B → B ≡ A }
+{}
+
+/// What a good ledger answers to a request in range leaves a good ledger.
+pub fn answers_stay_good()
+    ensures { (A : Ledger) (r : Request) (reply : Reply) (B : Ledger) → Good A → IsKey r.key → IsInRange r.command → Answers A r reply B → Good B }
+{}
+
+/// A run of requests in range from a good ledger has a course, and ends at a good ledger; no run has two
+/// courses. So after each number of its requests there is exactly one ledger.
+pub fn runs_stay_good()
+    ensures some { (A : Ledger) (rs : List Request) → Good A → Each (λ r. IsKey r.key × IsInRange r.command) rs → (replies : List Reply) × (B : Ledger) × Runs A rs replies B }
+    ensures one { (A : Ledger) (rs : List Request) (ps qs : List Reply) (B C : Ledger) → Runs A rs ps B → Runs A rs qs C → (ps ≡ qs) × (B ≡ C) }
+    ensures reached { (A : Ledger) (rs : List Request) (i : ℕ) → Good A → Each (λ r. IsKey r.key × IsInRange r.command) rs → (B : Ledger) × After A rs i B }
+    ensures after { (A : Ledger) (rs : List Request) (i : ℕ) (B C : Ledger) → After A rs i B → After A rs i C → B ≡ C }
+    ensures good { (A : Ledger) (rs : List Request) (replies : List Reply) (B : Ledger) → Good A → Each (λ r. IsKey r.key × IsInRange r.command) rs → Runs A rs replies B → Good B }
+{}
+
+/// The infimum is the settled value less all that open orders hold to take, and the supremum the settled value
+/// plus all that they hold to add.
+pub fn bounds_are_held()
+    ensures infimum { (A : Ledger) (f : Field) → Good A → IsInfimum A f (settled A f -ℤ held_to_take A f.name) }
+    ensures supremum { (A : Ledger) (f : Field) → Good A → IsSupremum A f (settled A f +ℤ held_to_add A f.name) }
+{}
+
+/// The test of a check by all outcomes of the ledger with the amount in it is one comparison with the infimum or
+/// the supremum of the ledger as it is: for a delivery, a write-off, an amount more on an order that may hold it,
+/// and a line of an `open` or a `transfer`, where it and those before it are each on a field of its own.
+pub fn tests_are_comparisons()
+    ensures deliver { (A : Ledger) (f : Name) (q : ℕ) → Good A → RisesAbove (next A (Deliver f.branch f.article q)) f ↔ BreaksBound Add A f q }
+    ensures writeoff { (A : Ledger) (f : Name) (q : ℕ) → Good A → FallsBelow (next A (Writeoff f.branch f.article q)) f ↔ BreaksBound Take A f q }
+    ensures more { (A : Ledger) (n : ℕ) (l : OpenLine) (i : ℕ) → Good A → IsSomeAnd (order_numbered A n) (MayHoldMore (line_name (new_line l)) l.way)
+        → (bound l.way (next A (More n l.way l.branch l.article l.qty)) (line_name (new_line l)) i).fails ↔ BreaksBound l.way A (line_name (new_line l)) l.qty }
+    ensures line { (A : Ledger) (n : ℕ) (kind : Kind) (until : ℕ) (before : List OpenLine) (l : OpenLine) (i : ℕ) → Good A
+        → IsDistinct same_name (map line_name (new_order n kind until before).lines) → IsNone (line_on (new_order n kind until before) (line_name (new_line l)))
+        → (bound l.way (with_order (new_order n kind until (before ++ l ∷ [])) A) (line_name (new_line l)) i).fails ↔ BreaksBound l.way A (line_name (new_line l)) l.qty }
+{}
+
+/// Whatever uses, releases, commits, aborts and expiries come to a good ledger, every field stays within its
+/// bounds and no open order is refused its commit.
+pub fn good_ledgers_honour()
+    ensures answered { (A : Ledger) → Good A → Honours A }
+    ensures always { (A : Ledger) → Good A → HonoursAlways A }
+{}
+
+/// The commit of a transfer leaves the total of every article as it was.
+pub fn transfers_even_out()
+    ensures { (A : Ledger) (r : Request) (n : ℕ) (reply : Reply) (B : Ledger) (article : List ℕ) → Good A → r.command ≡ Commit n → Answers A r reply B
+        → IsSomeAnd (order_numbered A n) (λ o. IsTrue (is_transfer o)) → article_total B article ≡ article_total A article }
+{}
+
+/// Commands in range are the same exactly where their spellings are.
+pub fn spellings_tell_commands()
+    ensures { (c d : Command) → IsInRange c → IsInRange d → IsTrue (same_command c d) ↔ (c ≡ d) }
+{}

@@ -1,0 +1,18 @@
+//! The ledger: all fields, orders and keys of the desk, and what it answers.
+#![tactic(auto)]
+
+mod book;
+mod entries;
+mod examples;
+mod laws;
+mod limits;
+mod order;
+
+pub use book::Book;
+pub use examples::worked_examples_hold;
+pub use laws::{
+    answers_stay_good, bounds_are_held, exactly_one_answer, good_ledgers_honour, runs_stay_good,
+    spellings_tell_commands, tests_are_comparisons, transfers_even_out,
+};
+pub use limits::{MAX_FIELDS, MAX_ORDERS, MAX_PLACES};
+pub use order::{Kind, Line, State};
