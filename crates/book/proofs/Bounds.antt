@@ -252,6 +252,12 @@ inf_unique A f a b h k =
     let x = h.least k.reached.0 k.reached.1 in let x' = k.reached.2 in
     let y = k.least h.reached.0 h.reached.1 in let y' = h.reached.2 in omega (arith, ints)
 
+-- and so is a supremum
+pub sup_unique : (A : Ledger) (f : Field) (a b : ℤ) → IsSupremum A f a → IsSupremum A f b → a ≡ b
+sup_unique A f a b h k =
+    let x = h.greatest k.reached.0 k.reached.1 in let x' = k.reached.2 in
+    let y = k.greatest h.reached.0 h.reached.1 in let y' = h.reached.2 in omega (arith, ints)
+
 -- the code's two comparisons are the model's safety
 all_at : (A : Ledger) (P : Field → Type 0) (fs : List Field)
     → ((X : Outcome) → IsOutcome A X → Each (λ f. IsWithin f (outcome_result A X f)) fs)

@@ -287,7 +287,7 @@ open_there (Some o) h k = bool (is_open o) refl
     bool false e = absurd (k e)
 
 -- The order is open, and its line on f has q left.
-abbrev Usable : Name → ℕ → Order → Type 0
+abbrev pub Usable : Name → ℕ → Order → Type 0
 Usable f q o = (is_open o ≡ true) × IsSomeAnd (line_on o f) (λ l. l.used + q ≤ l.held)
 
 line_there : (q : ℕ) (l : Option Line) → (IsNone l → ⊥) → (IsSomeAnd l (λ l. l.held < l.used + q) → ⊥) → IsSomeAnd l (λ l. l.used + q ≤ l.held)
@@ -297,7 +297,7 @@ line_there q (Some l) h k = not_less l.held (l.used + q) k
     not_less : (a b : ℕ) → (a < b → ⊥) → b ≤ a
     not_less a b k = omega arith
 
-usable_there : (f : Name) (q : ℕ) (o : Option Order) → (IsNone o → ⊥) → (IsSomeAnd o (λ o. IsFalse (is_open o)) → ⊥) → (IsSomeAnd o (λ o. IsNone (line_on o f)) → ⊥)
+pub usable_there : (f : Name) (q : ℕ) (o : Option Order) → (IsNone o → ⊥) → (IsSomeAnd o (λ o. IsFalse (is_open o)) → ⊥) → (IsSomeAnd o (λ o. IsNone (line_on o f)) → ⊥)
     → (IsSomeAnd o (λ o. IsSomeAnd (line_on o f) (λ l. l.held < l.used + q)) → ⊥) → IsSomeAnd o (Usable f q)
 usable_there f q None a b c d = a refl
 usable_there f q (Some o) a b c d = (open_there (Some o) a b, line_there q (line_on o f) c d)
@@ -314,7 +314,7 @@ pair_left f q (l ∷ m ∷ []) p h = step (on f l) (on f m) h
     step false true h = let e : l.held ≡ m.held = p.3 in let d : l.used ≡ m.used = p.4 in (omega arith, (h, tt))
     step false false h = absurd h
 
-left_on : (f : Name) (q : ℕ) (o : Order) → Fine o → Usable f q o → Each (λ l. (is_transfer o || on f l) ≡ true → l.used + q ≤ l.held) o.lines
+pub left_on : (f : Name) (q : ℕ) (o : Order) → Fine o → Usable f q o → Each (λ l. (is_transfer o || on f l) ≡ true → l.used + q ≤ l.held) o.lines
 left_on f q o fine u = step (is_transfer o) refl
   where
     step : (b : Bool) → is_transfer o ≡ b → Each (λ l. (b || on f l) ≡ true → l.used + q ≤ l.held) o.lines

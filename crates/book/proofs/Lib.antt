@@ -14,3 +14,12 @@ pub mod Runs
 pub mod Compared
 pub mod Tests
 pub mod Played
+pub mod Walking
+pub mod Walked
+pub mod Found
+pub mod Placing
+pub mod Adopted
+pub mod Allowed
+pub mod Viewed
+pub mod Checked
+pub mod LineChecks

@@ -39,13 +39,16 @@ answered_once A r p q B C h k = by_key (kept_under A r.key) h k
     by_key None h k = left_once A r h.0 p q B C h.2 (subst (λ f. Left A r f q C) (first_once (checks A r.command) k.0 h.0 k.1 h.1) k.2)
     by_key (Some o) h k = (h.0 ∙ sym k.0, h.1 ∙ sym k.1)
 
-no_key : (o : Option Kept) → IsNone o → o ≡ None
+pub no_key : (o : Option Kept) → IsNone o → o ≡ None
 no_key None e = refl
 no_key (Some k) e = absurd (true≢false e)
 
 -- an accepted request is done at the next place
+pub accepted_answered : (A : Ledger) (r : Request) → IsAccepted A r → Answers A r (Done (places A + 1)) (accept A r)
+accepted_answered A r (none, passed) = rw (no_key (kept_under A r.key) none) (None, passed, (refl, refl))
+
 pub accepted_once : (A : Ledger) (r : Request) (reply : Reply) (B : Ledger) → IsAccepted A r → Answers A r reply B → (reply ≡ Done (places A + 1)) × (B ≡ accept A r)
-accepted_once A r reply B (none, passed) h = answered_once A r reply (Done (places A + 1)) B (accept A r) h (rw (no_key (kept_under A r.key) none) (None, passed, (refl, refl)))
+accepted_once A r reply B accepted h = answered_once A r reply (Done (places A + 1)) B (accept A r) h (accepted_answered A r accepted)
 
 -- any other leaves the ledger
 pub others_stay : (A : Ledger) (r : Request) (reply : Reply) (B : Ledger) → (IsAccepted A r → ⊥) → Answers A r reply B → B ≡ A

@@ -1,14 +1,15 @@
 -- Whole runs from a good ledger, and the numbers of a good ledger's fields.
 use Rattle.std.proofs.Common.{◌≡◌, ℕ, zero, suc, ◌≤◌, ℤ, pos, ◌+ℤ◌, ◌-ℤ◌, ◌≤ℤ◌, List, [], ◌∷◌, Bool, true, false, refl, sym, ap, ◌∙◌, subst, arith, if◌then◌else◌, ◌↔◌, take}
 use Rattle.std.proofs.lemmas.Int.{ints}
-use Rattle.std.specs.List.{AllByRecursion as Each}
+use Rattle.std.specs.List.{AllByRecursion as Each, IsDistinct}
+use Rattle.std.specs.List.Sorted.{IsStrictlySortedBy}
 use lib.Pointwise.{bytes_decides}
 use Rattle.escrow.specs.Codes.{IsKey}
 use Rattle.words.specs.declared.command.Command.{Command}
 use Rattle.words.specs.declared.command.Request.{Request}
 use Rattle.words.specs.declared.reply.Reply.{Reply}
 use Rattle.words.specs.Spelling.{IsInRange, spelling}
-use Rattle.book.specs.Ledger.{Field, Ledger, is_open}
+use Rattle.book.specs.Ledger.{Field, Ledger, is_open, new_ledger}
 use Rattle.book.specs.Outcomes.{total, settled}
 use Rattle.book.specs.Held.{held_to_take, held_to_add}
 use Rattle.book.specs.Answers.{Runs, After, same_command}
@@ -73,3 +74,24 @@ in_order A g = each-both (λ f r x. one f r x) A.fields (room_from_safe A (sound
         let t : pos 0 ≤ℤ held_to_take A f.name = total-not_negative (λ o. if is_open o then total (takes f.name) o.lines else pos 0) (λ o. part (is_open o) (total (takes f.name) o.lines) (takes-not_negative f.name o.lines)) A.orders in
         let a : pos 0 ≤ℤ held_to_add A f.name = total-not_negative (λ o. if is_open o then total (adds f.name) o.lines else pos 0) (λ o. part (is_open o) (total (adds f.name) o.lines) (adds-not_negative f.name o.lines)) A.orders in
         (r.0, (omega (arith, ints)), (omega (arith, ints)), r.1, x.hi)
+
+-- the ledger of a new desk is good
+pub good_new : Good new_ledger
+unfolding IsStrictlySortedBy IsDistinct
+good_new = record {
+  clock = omega arith;
+  fields = tt;
+  fields_in_order = tt;
+  few_fields = omega arith;
+  moves = tt;
+  moves_in_order = tt;
+  orders = tt;
+  orders_in_order = tt;
+  few_orders = omega arith;
+  kept = tt;
+  kept_in_order = tt;
+  places_in_range = tt;
+  places_apart = tt;
+  places_fit = omega arith;
+  safe = λ X h. tt;
+}

@@ -7,3 +7,9 @@ pub mod Good
 pub mod Future
 pub mod View
 pub mod Examples
+pub mod InPlace
+pub mod Walk
+pub mod Plans
+pub mod Views
+pub mod Checking
+pub mod Planned

@@ -1,5 +1,6 @@
 -- How contracts see a book: as its ledger, and the room that has been made.
-use Rattle.std.specs.Prelude.{ℕ, ◌-◌, map, min}
+use Rattle.std.specs.Prelude.{ℕ, ◌-◌, List, map}
+use Rattle.std.specs.Vec.{vec_capacity, vec_len}
 use Rattle.book.specs.Ledger.{Field, Kept, Ledger, Move, Order}
 use Rattle.book.specs.declared.book.Book.TheInside.{Inside}
 use Rattle.book.specs.declared.entries.FieldEntry.{FieldEntry}
@@ -7,11 +8,23 @@ use Rattle.book.specs.declared.entries.KeptEntry.{KeptEntry}
 use Rattle.book.specs.declared.entries.MoveEntry.{MoveEntry}
 use Rattle.book.specs.declared.entries.OrderEntry.{OrderEntry}
 
--- the ledger, and how many fields, moves, orders and kept keys more fit without memory; the lines of an order are not
--- counted
+-- how many lines more an order takes without memory
+pub record OrderRoom : Type 0 where
+  pub number : ℕ
+  pub lines : ℕ
+
+-- how many fields, moves, orders and kept keys more fit without memory, and how many lines of each order
+pub record Room : Type 0 where
+  pub fields : ℕ
+  pub moves : ℕ
+  pub orders : ℕ
+  pub kept : ℕ
+  pub lines : List OrderRoom
+
+-- the ledger, and the room that has been made beside it
 pub record BookView : Type 0 where
   pub ledger : Ledger
-  pub room : ℕ
+  pub room : Room
 
 abbrev pub field_of : FieldEntry → Field
 field_of e = record { name = record { branch = e.branch; article = e.article }; lo = e.lo; hi = e.hi; start = e.start }
@@ -34,9 +47,17 @@ ledger_of b = record {
   kept = map kept_of b.kept.items;
 }
 
--- the least room of the four lists
-abbrev pub room_of : Inside → ℕ
-room_of b = min (min (b.fields.cap - b.fields.len) (b.moves.cap - b.moves.len)) (min (b.orders.cap - b.orders.len) (b.kept.cap - b.kept.len))
+abbrev pub order_room : OrderEntry → OrderRoom
+order_room e = record { number = e.number; lines = vec_capacity e.lines - vec_len e.lines }
+
+abbrev pub room_of : Inside → Room
+room_of b = record {
+  fields = vec_capacity b.fields - vec_len b.fields;
+  moves = vec_capacity b.moves - vec_len b.moves;
+  orders = vec_capacity b.orders - vec_len b.orders;
+  kept = vec_capacity b.kept - vec_len b.kept;
+  lines = map order_room b.orders.items;
+}
 
 abbrev pub view_of : Inside → BookView
 view_of b = record { ledger = ledger_of b; room = room_of b }

@@ -8,8 +8,21 @@ use escrow::Moment;
 use std::alloc::Global;
 use std::marker::Model;
 
+mod adopt;
+mod changes;
+mod checks;
+mod find;
+mod insert;
+mod line_checks;
+mod plan;
+mod room;
 #[cfg(test)]
 mod tests;
+mod views;
+mod walk;
+
+pub use plan::Planned;
+pub use views::{FieldView, OrderView};
 
 /// A good ledger: all fields, moves, orders and kept keys of the desk. Contracts see it as its ledger and, beside
 /// that, the room that has been made for entries to come.

@@ -7,8 +7,9 @@ mod examples;
 mod laws;
 mod limits;
 mod order;
+mod plan;
 
-pub use book::Book;
+pub use book::{Book, FieldView, OrderView, Planned};
 pub use examples::worked_examples_hold;
 pub use laws::{
     answers_stay_good, bounds_are_held, exactly_one_answer, good_ledgers_honour, runs_stay_good,
@@ -16,3 +17,4 @@ pub use laws::{
 };
 pub use limits::{MAX_FIELDS, MAX_ORDERS, MAX_PLACES};
 pub use order::{Kind, Line, State};
+pub use plan::Plan;

@@ -1,5 +1,5 @@
--- What can be asked of one quantity: to hold an amount more, and to move the value at once.
-use Rattle.std.specs.Prelude.{◌≡◌, ℕ, ◌+◌, ℤ, pos, ◌+ℤ◌, ◌-ℤ◌}
+-- What can be asked of one quantity: to hold an amount more, to give back what is held, and to move the value.
+use Rattle.std.specs.Prelude.{◌≡◌, ℕ, ◌+◌, ◌-◌, ℤ, pos, ◌+ℤ◌, ◌-ℤ◌}
 use Rattle.escrow.specs.Choices.{EveryChoice, IsWithin}
 use Rattle.escrow.specs.Stock.{Stock}
 use Rattle.escrow.specs.declared.quantity.Bound.{Bound}
@@ -11,6 +11,16 @@ use Rattle.escrow.specs.declared.quantity.Way.TheVariants.{Add, Take}
 abbrev pub holding : Stock → Way → ℕ → Stock
 holding q Take n = record q { held_to_take = q.held_to_take + n }
 holding q Add n = record q { held_to_add = q.held_to_add + n }
+
+-- what is held this way
+abbrev pub held_of : Stock → Way → ℕ
+held_of q Take = q.held_to_take
+held_of q Add = q.held_to_add
+
+-- the quantity with n less held, where so much is held
+abbrev pub giving_back : Stock → Way → ℕ → Stock
+giving_back q Take n = record q { held_to_take = q.held_to_take - n }
+giving_back q Add n = record q { held_to_add = q.held_to_add - n }
 
 -- a number moved by n
 abbrev pub moved : Way → ℕ → ℤ → ℤ

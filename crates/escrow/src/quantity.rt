@@ -1,8 +1,8 @@
 //! One quantity of stock under escrow.
 
-ghost use Rattle.std.specs.Prelude.{◌≡◌, ◌≤◌, ◌↔◌, pos, IsOk, IfErr, IfOk, OnErr, OnOk};
+ghost use Rattle.std.specs.Prelude.{◌≡◌, ◌-◌, ◌≤◌, ◌↔◌, pos, IsOk, IfErr, IfOk, OnErr, OnOk};
 ghost use Rattle.escrow.specs.Choices.{IsInfimum, IsSafe, IsSupremum};
-ghost use Rattle.escrow.specs.Escrow.{IsSafeMoved, MovesValue, bound_of, holding};
+ghost use Rattle.escrow.specs.Escrow.{IsSafeMoved, MovesValue, bound_of, giving_back, held_of, holding};
 ghost use Rattle.escrow.specs.Stock.{Stock};
 
 use crate::number::{Level, Qty};
@@ -16,9 +16,9 @@ pub enum Way {
     Add,
 }
 
-/// The value does not lie within the bounds.
+/// The value does not lie within the bounds, or the infimum and the supremum do not lie between it and them.
 #[derive(Clone, Copy, Debug, PartialEq, Eq, Error)]
-#[error("not lo <= value <= hi")]
+#[error("not lo <= inf <= value <= sup <= hi")]
 pub struct BadBounds;
 
 /// The bound that some outcome of the open orders would pass.
@@ -77,6 +77,30 @@ impl Quantity {
         })
     }
 
+    /// The quantity with these numbers, of which `value - inf` is held to take and `sup - value` to add, or
+    /// `BadBounds` exactly where not `lo <= inf <= value <= sup <= hi`.
+    pub fn restore(
+        lo: Level,
+        hi: Level,
+        value: Level,
+        inf: Level,
+        sup: Level,
+    ) -> Result<Quantity, BadBounds>
+        ensures within { IsOk result ↔ ((lo ≤ inf) × (inf ≤ value) × (value ≤ sup) × (sup ≤ hi)) }
+        ensures ok { IfOk result (λ q. q ≡ record { lo = lo; hi = hi; value = value; held_to_take = value - inf; held_to_add = sup - value }) }
+    {
+        if lo > inf || inf > value || value > sup || sup > hi {
+            return Err(BadBounds);
+        }
+        Ok(Quantity {
+            lo: lo.get(),
+            hi: hi.get(),
+            value: value.get(),
+            held_to_take: value.get() - inf.get(),
+            held_to_add: sup.get() - value.get(),
+        })
+    }
+
     /// Holds an amount to take or to add, where the stock stays within its bounds whatever becomes of all
     /// that is then held. Else a take is `TooLittle`, an add `TooMuch`, and the quantity is as it was.
     pub fn ask(&mut self, way: Way, qty: Qty) -> Result<(), Bound>
@@ -103,6 +127,37 @@ impl Quantity {
             }
         }
         Ok(())
+    }
+
+    /// Gives back an amount, in pieces, of what is held to take or to add; all else is as it was. At least so
+    /// much must be held that way.
+    pub fn give_back(&mut self, way: Way, amount: u64)
+        requires { amount ≤ held_of self.old way }
+        ensures { self.new ≡ giving_back self.old way amount }
+    {
+        match way {
+            Way::Take => self.held_to_take -= amount,
+            Way::Add => self.held_to_add -= amount,
+        }
+    }
+
+    /// Takes `held` pieces out of what is held to take or to add, and moves the value by `used`, down for a
+    /// take and up for an add; all else is as it was. At least `held` must be held that way, and no more used.
+    pub fn settle(&mut self, way: Way, held: u64, used: u64)
+        requires held { held ≤ held_of self.old way }
+        requires used { used ≤ held }
+        ensures { MovesValue (giving_back self.old way held) way used self.new }
+    {
+        match way {
+            Way::Take => {
+                self.held_to_take -= held;
+                self.value -= used;
+            }
+            Way::Add => {
+                self.held_to_add -= held;
+                self.value += used;
+            }
+        }
     }
 
     /// Moves the value itself, down for a write-off and up for a delivery, where the stock stays within its

@@ -1,17 +1,32 @@
+ghost use Rattle.std.specs.Prelude.{◌≡◌, ◌-◌, IfOk};
+
 use super::*;
 use std::process::Abort;
 use std::test::Fail;
 
-fn level(amount: u64) -> Result<Level, Fail> {
+fn level(amount: u64) -> Result<Level, Fail>
+    ensures { IfOk result (λ level. level ≡ amount) }
+{
     Ok(Level::new(amount).ok_or("a level")?)
 }
 
-fn qty(pieces: u64) -> Result<Qty, Fail> {
+fn qty(pieces: u64) -> Result<Qty, Fail>
+    ensures { IfOk result (λ qty. qty ≡ pieces) }
+{
     Ok(Qty::new(pieces).ok_or("a quantity")?)
 }
 
-fn start(lo: u64, hi: u64, value: u64) -> Result<Quantity, Fail> {
+fn start(lo: u64, hi: u64, value: u64) -> Result<Quantity, Fail>
+    ensures { IfOk result (λ q. q ≡ record { lo = lo; hi = hi; value = value; held_to_take = 0; held_to_add = 0 }) }
+{
     Ok(Quantity::start(level(lo)?, level(hi)?, level(value)?)?)
+}
+
+fn restore(lo: u64, hi: u64, value: u64, inf: u64, sup: u64) -> Result<Quantity, Fail>
+    ensures { IfOk result (λ q. q ≡ record { lo = lo; hi = hi; value = value; held_to_take = value - inf; held_to_add = sup - value }) }
+{
+    let (lo, hi, value) = (level(lo)?, level(hi)?, level(value)?);
+    Ok(Quantity::restore(lo, hi, value, level(inf)?, level(sup)?)?)
 }
 
 /// Compares the value, the infimum and the supremum.
@@ -140,6 +155,66 @@ fn bounds_may_leave_no_room(rt: HostRuntime) -> Result<(), Fail> {
     shows(&rt, &stock, 5, 5, 5);
     for (lo, hi, value) in [(5, 4, 5), (5, 9, 4), (0, 4, 5)] {
         let made = Quantity::start(level(lo)?, level(hi)?, level(value)?);
+        assert_eq!(rt; made, Err(BadBounds));
+    }
+    Ok(())
+}
+
+#[test]
+fn what_is_held_is_given_back(rt: HostRuntime) -> Result<(), Fail> {
+    let mut stock = restore(0, 100, 40, 5, 90)?;
+    assert!(rt; stock.lo() == level(0)? && stock.hi() == level(100)?);
+    shows(&rt, &stock, 40, 5, 90);
+    stock.give_back(Way::Add, 20);
+    shows(&rt, &stock, 40, 5, 70);
+    stock.give_back(Way::Take, 35);
+    shows(&rt, &stock, 40, 40, 70);
+    stock.give_back(Way::Add, 30);
+    assert!(rt; stock == start(0, 100, 40)?);
+    stock.ask(Way::Take, qty(35)?)?;
+    stock.give_back(Way::Take, 35);
+    assert!(rt; stock == start(0, 100, 40)?);
+    Ok(())
+}
+
+#[test]
+fn what_is_held_is_settled_by_what_was_used(rt: HostRuntime) -> Result<(), Fail> {
+    let mut stock = restore(0, 100, 40, 5, 40)?;
+    stock.settle(Way::Take, 35, 20);
+    assert!(rt; stock == start(0, 100, 20)?);
+    stock.ask(Way::Add, qty(80)?)?;
+    shows(&rt, &stock, 20, 20, 100);
+    stock.settle(Way::Add, 50, 0);
+    shows(&rt, &stock, 20, 20, 50);
+    stock.settle(Way::Add, 30, 30);
+    assert!(rt; stock == start(0, 100, 50)?);
+
+    let mut stock = restore(0, 100, 40, 5, 90)?;
+    stock.settle(Way::Take, 25, 20);
+    shows(&rt, &stock, 20, 10, 70);
+    stock.settle(Way::Add, 40, 15);
+    shows(&rt, &stock, 35, 25, 45);
+    Ok(())
+}
+
+#[test]
+fn quantities_are_restored_in_their_order(rt: HostRuntime) -> Result<(), Fail> {
+    for (lo, hi, value, inf, sup) in [
+        (0, 100, 40, 5, 40),
+        (0, 0, 0, 0, 0),
+        (0, 1_000_000_000, 500_000_000, 0, 1_000_000_000),
+    ] {
+        let stock = restore(lo, hi, value, inf, sup)?;
+        shows(&rt, &stock, value, inf, sup);
+    }
+    for (lo, hi, value, inf, sup) in [
+        (6, 100, 40, 5, 40),
+        (0, 100, 40, 41, 41),
+        (0, 100, 40, 5, 39),
+        (0, 100, 40, 5, 101),
+    ] {
+        let (lo, hi, value) = (level(lo)?, level(hi)?, level(value)?);
+        let made = Quantity::restore(lo, hi, value, level(inf)?, level(sup)?);
         assert_eq!(rt; made, Err(BadBounds));
     }
     Ok(())

@@ -1,5 +1,5 @@
-pub mod Answered
 pub mod OneText
+pub mod OrderWords
 pub mod SomeText
 pub mod Standing
 pub mod Texts

@@ -2,44 +2,43 @@
 use Rattle.std.proofs.Common.{◌≡◌, ◌∙◌, ℕ, List, [], ◌++◌, Option, Some, ap, append-nil, append_assoc, subst, sym}
 use Rattle.std.specs.Io.KnownBytes.{Appends, Consumes, IsAtEnd, Keeps}
 use Rattle.std.proofs.KnownBytes.{Appends-trans, Consumes-kept, Consumes-trans}
-use Rattle.stockdesk.specs.Answers.{new_desk}
+use Rattle.book.specs.Ledger.{Ledger, new_ledger}
 use Rattle.stockdesk.specs.Replies.{unended_line}
 use Rattle.stockdesk.specs.Runs.{RunsInPart, RunsSoFar, RunsWhole}
 use Rattle.stockdesk.specs.Text.{AnswersPiece, IsText}
-use Rattle.stockdesk.specs.declared.desk.Desk.{Desk}
 use Rattle.stockdesk.proofs.SomeText.{text_with}
 use Rattle.stockdesk.proofs.Texts.{pieces_joined, text_here}
 
 -- what was read is answered, and the answers are written
-abbrev pub Stands : (reader_old reader writer_old writer rest : Option (List ℕ)) → Desk → Type 0
-Stands reader_old reader writer_old writer rest desk =
-    (read : List ℕ) × (written : List ℕ) × Consumes reader_old reader read × Appends writer_old writer written × AnswersPiece (Some []) new_desk read written rest desk
+abbrev pub Stands : (reader_old reader writer_old writer rest : Option (List ℕ)) → Ledger → Type 0
+Stands reader_old reader writer_old writer rest ledger =
+    (read : List ℕ) × (written : List ℕ) × Consumes reader_old reader read × Appends writer_old writer written × AnswersPiece (Some []) new_ledger read written rest ledger
 
 -- nothing more is read or written
-pub ends_here : (R r W w rest : Option (List ℕ)) (desk : Desk) → Stands R r W w rest desk → RunsInPart R r W w
-ends_here R r W w rest desk (read, written, reads, writes, answers) =
-    record { read = read; written = written; left = unended_line rest; reads = reads; text = text_here read written rest desk answers; writes = writes }
+pub ends_here : (R r W w rest : Option (List ℕ)) (ledger : Ledger) → Stands R r W w rest ledger → RunsInPart R r W w
+ends_here R r W w rest ledger (read, written, reads, writes, answers) =
+    record { read = read; written = written; left = unended_line rest; reads = reads; text = text_here read written rest ledger answers; writes = writes }
 
 -- the same, said of all that was read
-pub so_far : (R r W w rest : Option (List ℕ)) (desk : Desk) → Stands R r W w rest desk → RunsSoFar R r W w
-so_far R r W w rest desk (read, written, reads, writes, answers) =
-    record { read = read; written = written; rest = rest; desk = desk; reads = reads; answers = answers; writes = writes }
+pub so_far : (R r W w rest : Option (List ℕ)) (ledger : Ledger) → Stands R r W w rest ledger → RunsSoFar R r W w
+so_far R r W w rest ledger (read, written, reads, writes, answers) =
+    record { read = read; written = written; rest = rest; ledger = ledger; reads = reads; answers = answers; writes = writes }
 
 -- a read that fails takes nothing
-pub stands_unread : (R r s W w rest : Option (List ℕ)) (desk : Desk) → Stands R r W w rest desk → Keeps r s → Stands R s W w rest desk
-stands_unread R r s W w rest desk (read, written, reads, writes, answers) keeps = (read, written, Consumes-kept _ _ _ _ reads keeps, writes, answers)
+pub stands_unread : (R r s W w rest : Option (List ℕ)) (ledger : Ledger) → Stands R r W w rest ledger → Keeps r s → Stands R s W w rest ledger
+stands_unread R r s W w rest ledger (read, written, reads, writes, answers) keeps = (read, written, Consumes-kept _ _ _ _ reads keeps, writes, answers)
 
 -- a piece is read and not answered
-pub ends_unanswered : (R r s W w rest : Option (List ℕ)) (desk : Desk) (piece : List ℕ) → Stands R r W w rest desk → Consumes r s piece → RunsInPart R s W w
-ends_unanswered R r s W w rest desk piece (read, written, reads, writes, answers) more =
-    let text = text_with read written piece rest desk answers in
+pub ends_unanswered : (R r s W w rest : Option (List ℕ)) (ledger : Ledger) (piece : List ℕ) → Stands R r W w rest ledger → Consumes r s piece → RunsInPart R s W w
+ends_unanswered R r s W w rest ledger piece (read, written, reads, writes, answers) more =
+    let text = text_with read written piece rest ledger answers in
     record { read = read ++ piece; written = written; left = text.0; reads = Consumes-trans _ _ _ _ _ reads more; text = text.1; writes = writes }
 
 -- a piece is answered, and a beginning of the answer is written
-pub ends_unwritten : (R r s W w v rest last : Option (List ℕ)) (desk new : Desk) (piece out begun left : List ℕ)
-    → Stands R r W w rest desk → Consumes r s piece → AnswersPiece rest desk piece out last new → out ≡ begun ++ left → Appends w v begun → RunsInPart R s W v
-ends_unwritten R r s W w v rest last desk new piece out begun left (read, written, reads, writes, answers) more answered e begins =
-    let joined = pieces_joined (Some []) rest last new_desk desk new read piece written out answers answered in
+pub ends_unwritten : (R r s W w v rest last : Option (List ℕ)) (ledger new : Ledger) (piece out begun left : List ℕ)
+    → Stands R r W w rest ledger → Consumes r s piece → AnswersPiece rest ledger piece out last new → out ≡ begun ++ left → Appends w v begun → RunsInPart R s W v
+ends_unwritten R r s W w v rest last ledger new piece out begun left (read, written, reads, writes, answers) more answered e begins =
+    let joined = pieces_joined (Some []) rest last new_ledger ledger new read piece written out answers answered in
     let same : (written ++ out) ++ unended_line last ≡ (written ++ begun) ++ (left ++ unended_line last) =
     ap (λ (text : List ℕ). (written ++ text) ++ unended_line last) e
     ∙ ap (λ (text : List ℕ). text ++ unended_line last) (sym (append_assoc written begun left))
@@ -54,37 +53,37 @@ ends_unwritten R r s W w v rest last desk new piece out begun left (read, writte
     }
 
 -- a piece is answered, and the answer is written
-pub stands_on : (R r s W w v rest last : Option (List ℕ)) (desk new : Desk) (piece out : List ℕ)
-    → Stands R r W w rest desk → Consumes r s piece → AnswersPiece rest desk piece out last new → Appends w v out → Stands R s W v last new
-stands_on R r s W w v rest last desk new piece out (read, written, reads, writes, answers) more answered writes_more = (
+pub stands_on : (R r s W w v rest last : Option (List ℕ)) (ledger new : Ledger) (piece out : List ℕ)
+    → Stands R r W w rest ledger → Consumes r s piece → AnswersPiece rest ledger piece out last new → Appends w v out → Stands R s W v last new
+stands_on R r s W w v rest last ledger new piece out (read, written, reads, writes, answers) more answered writes_more = (
   read ++ piece,
   written ++ out,
   Consumes-trans _ _ _ _ _ reads more,
   Appends-trans _ _ _ _ _ writes writes_more,
-  pieces_joined (Some []) rest last new_desk desk new read piece written out answers answered,
+  pieces_joined (Some []) rest last new_ledger ledger new read piece written out answers answered,
 )
 
 -- no byte more has come
-pub stands_still : (R r s W w rest : Option (List ℕ)) (desk : Desk) → Stands R r W w rest desk → Consumes r s [] → Stands R s W w rest desk
-stands_still R r s W w rest desk (read, written, reads, writes, answers) none =
+pub stands_still : (R r s W w rest : Option (List ℕ)) (ledger : Ledger) → Stands R r W w rest ledger → Consumes r s [] → Stands R s W w rest ledger
+stands_still R r s W w rest ledger (read, written, reads, writes, answers) none =
     (read, written, subst (λ (bytes : List ℕ). Consumes R s bytes) (append-nil read) (Consumes-trans _ _ _ _ _ reads none), writes, answers)
 
 -- the input has ended, and what is left is written
-pub ends_whole : (R r W w v rest : Option (List ℕ)) (desk : Desk) (out : List ℕ) → Stands R r W w rest desk → IsAtEnd r → out ≡ unended_line rest → Appends w v out → RunsWhole R r W v
-ends_whole R r W w v rest desk out (read, written, reads, writes, answers) at_end e last =
+pub ends_whole : (R r W w v rest : Option (List ℕ)) (ledger : Ledger) (out : List ℕ) → Stands R r W w rest ledger → IsAtEnd r → out ≡ unended_line rest → Appends w v out → RunsWhole R r W v
+ends_whole R r W w v rest ledger out (read, written, reads, writes, answers) at_end e last =
     record {
       read = read;
       out = written ++ out;
       reads = reads;
       ends = at_end;
-      text = subst (λ (text : List ℕ). IsText read (written ++ text)) (sym e) (text_here read written rest desk answers);
+      text = subst (λ (text : List ℕ). IsText read (written ++ text)) (sym e) (text_here read written rest ledger answers);
       writes = Appends-trans _ _ _ _ _ writes last;
     }
 
 -- the input has ended, and a beginning of what is left is written
-pub ends_cut : (R r W w v rest : Option (List ℕ)) (desk : Desk) (out begun left : List ℕ)
-    → Stands R r W w rest desk → out ≡ unended_line rest → out ≡ begun ++ left → Appends w v begun → RunsInPart R r W v
-ends_cut R r W w v rest desk out begun left (read, written, reads, writes, answers) e f begins =
+pub ends_cut : (R r W w v rest : Option (List ℕ)) (ledger : Ledger) (out begun left : List ℕ)
+    → Stands R r W w rest ledger → out ≡ unended_line rest → out ≡ begun ++ left → Appends w v begun → RunsInPart R r W v
+ends_cut R r W w v rest ledger out begun left (read, written, reads, writes, answers) e f begins =
     let same : written ++ unended_line rest ≡ (written ++ begun) ++ left =
     ap (λ (text : List ℕ). written ++ text) (sym e ∙ f) ∙ sym (append_assoc written begun left) in
     record {
@@ -92,6 +91,6 @@ ends_cut R r W w v rest desk out begun left (read, written, reads, writes, answe
       written = written ++ begun;
       left = left;
       reads = reads;
-      text = subst (λ (text : List ℕ). IsText read text) same (text_here read written rest desk answers);
+      text = subst (λ (text : List ℕ). IsText read text) same (text_here read written rest ledger answers);
       writes = Appends-trans _ _ _ _ _ writes begins;
     }

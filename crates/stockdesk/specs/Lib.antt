@@ -1,4 +1,3 @@
-pub mod Answers
 pub mod Replies
 pub mod Runs
 pub mod Text

@@ -1,9 +1,18 @@
 -- The lines of replies.
-use Rattle.std.specs.Prelude.{◌≡◌, ℕ, List, [], ◌∷◌, ◌++◌, Option, None, Some, MatchOption, codes, decimal, pos}
-use Rattle.escrow.specs.Choices.{IsInfimum, IsSupremum}
-use Rattle.escrow.specs.Stock.{Stock}
+use Rattle.std.specs.Prelude.{◌≡◌, ℕ, List, [], ◌∷◌, ◌++◌, Option, None, Some, MatchOption, codes, decimal}
+use Rattle.words.specs.OpenLines.{way_word}
 use Rattle.words.specs.Replies.{reply_text}
+use Rattle.words.specs.Words.{after_space}
 use Rattle.words.specs.declared.reply.Reply.{Reply}
+use Rattle.book.specs.Ledger.{Field, Ledger, Order, field_named, order_numbered}
+use Rattle.book.specs.Views.{ShowsField}
+use Rattle.book.specs.Walk.{name_of}
+use Rattle.book.specs.declared.book.views.FieldView.{FieldView}
+use Rattle.book.specs.declared.order.Kind.{Kind}
+use Rattle.book.specs.declared.order.Kind.TheVariants.{Plain, Transfer}
+use Rattle.book.specs.declared.order.Line.{Line}
+use Rattle.book.specs.declared.order.State.{State}
+use Rattle.book.specs.declared.order.State.TheVariants.{Aborted, Committed, Open}
 
 -- a line that is bad
 abbrev pub bad_line : List ℕ
@@ -12,11 +21,6 @@ bad_line = codes "- refused 20 BadCommand 0\n"
 -- the key, a space and the reply
 abbrev pub request_line : List ℕ → Reply → List ℕ
 request_line key reply = key ++ (codes " " ++ (reply_text reply ++ codes "\n"))
-
--- the line of an answer; a command that the desk does not know is a bad line
-abbrev pub answer_line : List ℕ → Option Reply → List ℕ
-answer_line key None = bad_line
-answer_line key (Some reply) = request_line key reply
 
 -- what is written at the end for what is kept of a line that has not ended, if there is such a line
 abbrev pub unended_line : Option (List ℕ) → List ℕ
@@ -28,23 +32,44 @@ unended_line (Some (byte ∷ bytes)) = bad_line
 abbrev pub none_line : List ℕ
 none_line = codes "? none\n"
 
+-- ---- fields
+
 -- the numbers of a field, each behind its name
-abbrev pub numbers_text : Stock → ℕ → ℕ → List ℕ
-numbers_text q inf sup =
-    (codes " lo " ++ decimal q.lo) ++ ((codes " hi " ++ decimal q.hi) ++ ((codes " value " ++ decimal q.value)
-    ++ ((codes " inf " ++ decimal inf) ++ (codes " sup " ++ decimal sup))))
+abbrev pub number_words : FieldView → List (List ℕ)
+number_words v = codes "lo" ∷ decimal v.lo ∷ codes "hi" ∷ decimal v.hi ∷ codes "value" ∷ decimal v.value
+    ∷ codes "inf" ∷ decimal v.inf ∷ codes "sup" ∷ decimal v.sup ∷ []
 
-abbrev pub field_line : List ℕ → List ℕ → Stock → ℕ → ℕ → List ℕ
-field_line b a q inf sup = codes "? field " ++ (b ++ (codes " " ++ (a ++ (numbers_text q inf sup ++ codes "\n"))))
+abbrev pub field_line : FieldView → List ℕ
+field_line v = codes "? field" ++ (after_space (v.branch ∷ v.article ∷ number_words v) ++ codes "\n")
 
--- the line of a field, with its infimum and its supremum
-pub record ShowsStock (b a : List ℕ) (q : Stock) (line : List ℕ) : Type 0 where
-  pub inf : ℕ
-  pub sup : ℕ
-  pub is_inf : IsInfimum q (pos inf)
-  pub is_sup : IsSupremum q (pos sup)
-  pub text : line ≡ field_line b a q inf sup
+-- the line of a field, with its settled value, its infimum and its supremum
+abbrev pub AnswersField : Ledger → Field → List ℕ → Type 0
+AnswersField A f line = (view : FieldView) × ShowsField A f view × (line ≡ field_line view)
 
 -- the answer to an ask for a field
-abbrev pub ShowsField : List ℕ → List ℕ → Option Stock → List ℕ → Type 0
-ShowsField b a found line = MatchOption found (line ≡ none_line) (λ q. ShowsStock b a q line)
+abbrev pub AnswersFieldAsk : Ledger → List ℕ → List ℕ → List ℕ → Type 0
+AnswersFieldAsk A b a line = MatchOption (field_named A (name_of b a)) (line ≡ none_line) (λ f. AnswersField A f line)
+
+-- ---- orders
+
+abbrev pub kind_word : Kind → List ℕ
+kind_word Plain = codes "plain"
+kind_word Transfer = codes "transfer"
+
+abbrev pub state_word : State → List ℕ
+state_word Open = codes "open"
+state_word Committed = codes "committed"
+state_word Aborted = codes "aborted"
+
+-- the words of an order's lines: five for each
+abbrev pub held_words : List Line → List (List ℕ)
+held_words [] = []
+held_words (l ∷ ls) = way_word l.way ∷ l.branch ∷ l.article ∷ decimal l.held ∷ decimal l.used ∷ held_words ls
+
+abbrev pub order_line : Order → List ℕ
+order_line o = codes "? order"
+    ++ (after_space (decimal o.number ∷ kind_word o.kind ∷ decimal o.until ∷ state_word o.state ∷ held_words o.lines) ++ codes "\n")
+
+-- the answer to an ask for an order
+abbrev pub AnswersOrderAsk : Ledger → ℕ → List ℕ → Type 0
+AnswersOrderAsk A n line = MatchOption (order_numbered A n) (line ≡ none_line) (λ o. line ≡ order_line o)

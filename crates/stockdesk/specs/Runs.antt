@@ -2,9 +2,8 @@
 use Rattle.std.specs.Prelude.{◌≡◌, ℕ, List, [], ◌∷◌, ◌++◌, Option, Some, codes, map}
 use Rattle.std.specs.Borrow.{Bor}
 use Rattle.std.specs.Io.KnownBytes.{Appends, Consumes, IsAtEnd}
-use Rattle.stockdesk.specs.Answers.{new_desk}
+use Rattle.book.specs.Ledger.{Ledger, new_ledger}
 use Rattle.stockdesk.specs.Text.{AnswersPiece, IsText}
-use Rattle.stockdesk.specs.declared.desk.Desk.{Desk}
 
 -- all that was there was read, and its text was written
 pub record RunsWhole (reader_old reader_new writer_old writer_new : Option (List ℕ)) : Type 0 where
@@ -24,15 +23,14 @@ pub record RunsInPart (reader_old reader_new writer_old writer_new : Option (Lis
   pub text : IsText read (written ++ left)
   pub writes : Appends writer_old writer_new written
 
--- Some of it was read, and what was written is the answer to every line that ended in that. So no reply waits for what
--- comes after its line.
+-- Some of it was read, and what was written is the answer to every line that ended in that.
 pub record RunsSoFar (reader_old reader_new writer_old writer_new : Option (List ℕ)) : Type 0 where
   pub read : List ℕ
   pub written : List ℕ
   pub rest : Option (List ℕ)
-  pub desk : Desk
+  pub ledger : Ledger
   pub reads : Consumes reader_old reader_new read
-  pub answers : AnswersPiece (Some []) new_desk read written rest desk
+  pub answers : AnswersPiece (Some []) new_ledger read written rest ledger
   pub writes : Appends writer_old writer_new written
 
 -- the words are the one word `run`

@@ -6,8 +6,8 @@ ghost use Rattle.stockdesk.specs.Replies.{unended_line};
 ghost use Rattle.stockdesk.specs.Runs.{RunsInPart, RunsSoFar, RunsWhole};
 ghost use Rattle.stockdesk.specs.Text.{AnswersPiece, IsText, RepliesAll};
 
-use crate::desk::Desk;
 use crate::reply::{BAD_LINE, reply};
+use book::Book;
 use std::alloc::Global;
 use std::io::{Read, Write};
 use thiserror::Error;
@@ -28,12 +28,12 @@ pub enum Fault {
 }
 
 /// The lines that a desk writes for items, in their order.
-fn replies(alloc: Global, desk: &mut Desk, items: &[Item]) -> Result<Vec<u8>, Memory>
-    ensures { IfOk result (λ out. RepliesAll desk.old items.now out.items desk.new) }
+fn replies(alloc: Global, book: &mut Book, items: &[Item]) -> Result<Vec<u8>, Memory>
+    ensures { IfOk result (λ out. RepliesAll book.old.ledger items.now out.items book.new.ledger) }
 {
     let mut out = Vec::new(alloc);
     for item in items {
-        let line = reply(alloc, desk, item)?;
+        let line = reply(alloc, book, item)?;
         let Ok(()) = out.extend_from_slice(&line) else {
             return Err(Memory);
         };
@@ -45,13 +45,13 @@ fn replies(alloc: Global, desk: &mut Desk, items: &[Item]) -> Result<Vec<u8>, Me
 fn answer(
     alloc: Global,
     lines: &mut Lines,
-    desk: &mut Desk,
+    book: &mut Book,
     piece: &[u8],
 ) -> Result<Vec<u8>, Memory>
-    ensures { IfOk result (λ out. AnswersPiece lines.old desk.old piece.now out.items lines.new desk.new) }
+    ensures { IfOk result (λ out. AnswersPiece lines.old book.old.ledger piece.now out.items lines.new book.new.ledger) }
 {
     let items = lines.feed(alloc, piece)?;
-    replies(alloc, desk, &items)
+    replies(alloc, book, &items)
 }
 
 /// What is written at the end: a bad line where bytes stand behind the last newline.
@@ -84,7 +84,7 @@ pub fn run<R: Read, W: Write>(alloc: Global, reader: &mut R, writer: &mut W) -> 
     ensures beginning { OnErr result (RunsInPart (R.remaining reader.old) (R.remaining reader.new) (W.contents writer.old) (W.contents writer.new)) }
     ensures prompt { IfErr result (λ fault. fault ≡ Fault.Read → RunsSoFar (R.remaining reader.old) (R.remaining reader.new) (W.contents writer.old) (W.contents writer.new)) }
 {
-    let mut desk = Desk::new();
+    let mut book = Book::new(alloc);
     let mut lines = Lines::new(alloc);
     let mut piece = [0; PIECE];
     for _turn in 0..u64::MAX {
@@ -94,7 +94,7 @@ pub fn run<R: Read, W: Write>(alloc: Global, reader: &mut R, writer: &mut W) -> 
         if count == 0 {
             return write(writer, unended(&mut lines));
         }
-        let Ok(out) = answer(alloc, &mut lines, &mut desk, &piece[..count]) else {
+        let Ok(out) = answer(alloc, &mut lines, &mut book, &piece[..count]) else {
             return Err(Fault::Memory);
         };
         write(writer, &out)?;

@@ -1,19 +1,19 @@
-//! The desk of one field, over lines of text on standard input and output.
+//! The desk, over lines of text on standard input and output.
 #![tactic(auto)]
 
 ghost use Rattle.std.specs.Prelude.{◌≡◌, ◌≤◌, ◌↔◌, IsTrue};
 ghost use Rattle.std.specs.Io.KnownBytes.{Keeps};
 ghost use Rattle.stockdesk.specs.Runs.{AreRun, RunsInPart, RunsWhole};
 
-mod desk;
 mod engine;
+mod lines;
 mod reply;
 #[cfg(test)]
 mod tests;
 
 use crate::engine::{Fault, run};
 use std::env::{self, Env};
-use std::io::{self, Read, Write};
+use std::io::{self, ErrorKind, Read, Write};
 use std::process::ExitCode;
 use words::write_whole;
 
@@ -61,11 +61,23 @@ fn tell<E: Write>(errors: &mut E, line: &[u8], status: u8) -> u8
     status
 }
 
+/// The words could not be read: memory was refused, or one of them is no UTF-8 and so not the word `run`.
+fn unread_words<E: Write>(errors: &mut E, kind: ErrorKind) -> u8
+    ensures status { (1 ≤ result) × (result ≤ 2) }
+{
+    match kind {
+        ErrorKind::OutOfMemory => tell(errors, b"stockdesk: memory\n", 1),
+        ErrorKind::InvalidData => tell(errors, b"stockdesk: usage\n", 2),
+        _ => tell(errors, b"stockdesk: io\n", 1),
+    }
+}
+
 fn main(rt: HostRuntime) -> ExitCode {
     let alloc = rt.alloc();
     let mut errors = rt.stderr();
-    let Ok(args) = env::args(&rt) else {
-        return ExitCode::from(tell(&mut errors, b"stockdesk: io\n", 1));
+    let args = match env::args(&rt) {
+        Ok(args) => args,
+        Err(fault) => return ExitCode::from(unread_words(&mut errors, fault.kind())),
     };
     let Ok(args) = args.skip(1).collect::<Vec<String>>(alloc) else {
         return ExitCode::from(tell(&mut errors, b"stockdesk: memory\n", 1));

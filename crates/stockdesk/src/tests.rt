@@ -1,34 +1,12 @@
+//! The program, by what it reads and writes.
+
+mod rows;
+
 use super::*;
+use itoa::Buffer;
+use rows::{FIRST, ROWS};
 use std::process::Abort;
 use std::test::Fail;
-
-/// A script and its reply lines.
-const ROWS: [(&str, &str); 7] = [
-    ("", ""),
-    ("K1 field N1 A-1 0 100 40\n? field N1 A-1\n", FIRST),
-    (
-        "K1 field N1 A-1 0 100 40\nK2 deliver N1 A-1 60\n? field N1 A-1\nK3 deliver N1 A-1 1\nK4 writeoff N1 A-1 100\n? field N1 A-1\nK5 writeoff N1 A-1 1\nK6 field N2 A-1 0 1 0\nK7 deliver N2 A-1 1\n? field N2 A-1\n",
-        "K1 done 1\nK2 done 2\n? field N1 A-1 lo 0 hi 100 value 100 inf 100 sup 100\nK3 refused 14 TooMuch 0\nK4 done 3\n? field N1 A-1 lo 0 hi 100 value 0 inf 0 sup 0\nK5 refused 13 TooLittle 0\nK6 refused 2 Full 0\nK7 refused 4 NoField 0\n? none\n",
-    ),
-    (
-        "K1 field N1 A-1 0 100 40\nK9 deliver N1 A-1 5",
-        "K1 done 1\n- refused 20 BadCommand 0\n",
-    ),
-    (
-        "Z4 field N1 E-1 5 4 5\nZ1 field N1 D-1 5 5 5\nZ1 field N1 D-1 5 5 5\n",
-        "Z4 refused 5 BadBounds 0\nZ1 done 1\nZ1 refused 2 Full 0\n",
-    ),
-    (
-        "K1 open 7 120 take N1 A-1 35\nK2 more 7 take N1 A-1 5\nK3 use 7 N1 A-1 5\nK4 release 7 N1 A-1 5\nK5 commit 7\nK6 abort 7\n? order 7\n",
-        "K1 refused 2 Full 0\nK2 refused 7 NoOrder 0\nK3 refused 7 NoOrder 0\nK4 refused 7 NoOrder 0\nK5 refused 7 NoOrder 0\nK6 refused 7 NoOrder 0\n? none\n",
-    ),
-    (
-        "K1 transfer 8 120 A-1 N1 N2 5\nK2 expire 120\n",
-        "- refused 20 BadCommand 0\n- refused 20 BadCommand 0\n",
-    ),
-];
-
-const FIRST: &str = "K1 done 1\n? field N1 A-1 lo 0 hi 100 value 40 inf 40 sup 40\n";
 
 /// Gives so many of its bytes at a time, at the most, and fails where a read would begin behind so many.
 #[derive(Drop)]
@@ -133,6 +111,73 @@ fn lines_have_one_spelling(rt: HostRuntime) -> Result<(), Fail> {
     )
 }
 
+/// The fields `N1 A0` and on, so many, each with the bounds 0 and 1,000 and 500 pieces.
+fn add_fields(script: &mut Vec<u8>, count: u64) -> Result<(), Fail> {
+    let mut buffer = Buffer::new();
+    for i in 0..count {
+        script.extend_from_slice(b"F")?;
+        script.extend_from_slice(buffer.format(i).as_bytes())?;
+        script.extend_from_slice(b" field N1 A")?;
+        script.extend_from_slice(buffer.format(i).as_bytes())?;
+        script.extend_from_slice(b" 0 1000 500\n")?;
+    }
+    Ok(())
+}
+
+/// An `open` of a line on each of so many of these fields.
+fn add_open(script: &mut Vec<u8>, count: u64) -> Result<(), Fail> {
+    let mut buffer = Buffer::new();
+    script.extend_from_slice(b"K open 7 120")?;
+    for i in 0..count {
+        script.extend_from_slice(b" take N1 A")?;
+        script.extend_from_slice(buffer.format(i).as_bytes())?;
+        script.extend_from_slice(b" 1")?;
+    }
+    script.extend_from_slice(b"\n")?;
+    Ok(())
+}
+
+#[test]
+fn an_open_has_64_lines_at_the_most(rt: HostRuntime) -> Result<(), Fail> {
+    for (count, last) in [(64, "K done 66\n"), (65, "- refused 20 BadCommand 0\n")] {
+        let mut script: Vec<u8> = Vec::new(rt.alloc());
+        add_fields(&mut script, 65)?;
+        add_open(&mut script, count)?;
+        let mut out: Vec<u8> = Vec::new(rt.alloc());
+        assert!(rt; run(rt.alloc(), &mut script.as_slice(), &mut out) == Ok(()));
+        assert!(rt; out.as_slice().ends_with(last.as_bytes()));
+        assert!(rt; out.as_slice().starts_with(b"F0 done 1\nF1 done 2\n"));
+    }
+    Ok(())
+}
+
+#[test]
+fn a_script_of_2000_commands_is_answered(rt: HostRuntime) -> Result<(), Fail> {
+    let mut buffer = Buffer::new();
+    let mut script: Vec<u8> = Vec::new(rt.alloc());
+    add_fields(&mut script, 50)?;
+    for i in 0..1950u64 {
+        script.extend_from_slice(b"K")?;
+        script.extend_from_slice(buffer.format(i).as_bytes())?;
+        if i % 3 == 0 {
+            script.extend_from_slice(b" open ")?;
+            script.extend_from_slice(buffer.format(i + 1).as_bytes())?;
+            script.extend_from_slice(b" 120 take N1 A")?;
+        } else {
+            script.extend_from_slice(b" deliver N1 A")?;
+        }
+        script.extend_from_slice(buffer.format(i % 50).as_bytes())?;
+        script.extend_from_slice(b" 1\n")?;
+    }
+    script.extend_from_slice(b"? field N1 A0\n")?;
+    let mut out: Vec<u8> = Vec::new(rt.alloc());
+    assert!(rt; run(rt.alloc(), &mut script.as_slice(), &mut out) == Ok(()));
+    // of the 39 commands on this field every third is an order
+    let last = "K1949 done 2000\n? field N1 A0 lo 0 hi 1000 value 526 inf 513 sup 526\n";
+    assert!(rt; out.as_slice().ends_with(last.as_bytes()));
+    Ok(())
+}
+
 #[test]
 fn other_words_are_usage(rt: HostRuntime) -> Result<(), Fail> {
     let none: [&str; 0] = [];
@@ -228,5 +273,25 @@ fn a_failing_writer_is_a_fault(rt: HostRuntime) -> Result<(), Fail> {
             assert!(rt; errors.as_slice() == b"stockdesk: io\n".as_slice());
         }
     }
+    Ok(())
+}
+
+#[test]
+fn a_reply_comes_before_the_next_read(rt: HostRuntime) -> Result<(), Fail> {
+    let script = b"K1 field N1 A-1 0 100 40\n? field N1 A-1\n".as_slice();
+    let mut reader = Drip {
+        bytes: script,
+        size: 1,
+        before_fault: usize::MAX,
+    };
+    let mut writer = Sink {
+        taken: Vec::new(rt.alloc()),
+        before_fault: 0,
+        takes_none: false,
+    };
+    let ended = run(rt.alloc(), &mut reader, &mut writer);
+    assert!(rt; ended == Err(Fault::Write));
+    // the first line was read, and nothing behind it
+    assert!(rt; reader.bytes == b"? field N1 A-1\n".as_slice());
     Ok(())
 }

@@ -12,6 +12,6 @@ loop-item-preserved c =
     let item = c.item-item.result in
     let longer = sym (take_more items i item c.loop-item-test.true ∙ ap (λ (x : Item). take i items ++ x ∷ []) (sym c.item-item.is)) in
     let out = sym (c.in-Ok.ensures.items ∙ ap (λ (line : List ℕ). c.loop-item.out.items ++ line) c.deref.ensures.value) in
-    subst (λ (xs : List Item). RepliesAll c.args.desk.now xs c.extend_from_slice.new.self.items c.reply.new.desk) longer
-    (subst (λ (text : List ℕ). RepliesAll c.args.desk.now (take i items ++ item ∷ []) text c.reply.new.desk) out
-    (replies_more (take i items) item c.args.desk.now c.loop-item.desk c.reply.new.desk c.loop-item.out.items c.in_ok-line.line.items c.loop-item.invariant c.in_ok-line.ensures))
+    subst (λ (xs : List Item). RepliesAll c.args.book.now.ledger xs c.extend_from_slice.new.self.items c.reply.new.book.ledger) longer
+    (subst (λ (text : List ℕ). RepliesAll c.args.book.now.ledger (take i items ++ item ∷ []) text c.reply.new.book.ledger) out
+    (replies_more (take i items) item c.args.book.now.ledger c.loop-item.book.ledger c.reply.new.book.ledger c.loop-item.out.items c.in_ok-line.line.items c.loop-item.invariant c.in_ok-line.ensures))

@@ -1,0 +1,109 @@
+-- What the comparisons of a program say of the checks of a command.
+use Rattle.std.proofs.Common.{◌≡◌, ◌≢◌, ◌∙◌, ◌↔◌, ◌≤◌, ℕ, List, [], ◌∷◌, ◌++◌, Bool, false, Option, None, Some, IsFalse, IsNone, IsSomeAnd, IsTrue, MatchOption, inl, inr, is_some, length, refl, sym, true≢false}
+use denote.Enum.Bare.{sameb}
+use Rattle.escrow.specs.declared.quantity.Way.{Way}
+use Rattle.escrow.specs.declared.quantity.Way.TheVariants.{Add, Take}
+use Rattle.words.specs.declared.command.Command.TheVariants.{More}
+use Rattle.words.specs.declared.limits.TheConstants.{MAX_ORDER_LINES}
+use Rattle.words.specs.declared.open_line.OpenLine.{OpenLine}
+use Rattle.words.specs.declared.reply.Refusal.{Refusal}
+use Rattle.words.specs.declared.reply.Refusal.TheVariants.{OtherWay, TooManyLines, TransferFixed}
+use Rattle.book.specs.contracts.order.Kind.{the_type}
+use Rattle.book.specs.declared.order.Kind.{Kind}
+use Rattle.book.specs.declared.order.Kind.TheVariants.{Plain, Transfer}
+use Rattle.book.specs.declared.order.Line.{Line}
+use Rattle.book.specs.Answers.{Check, FirstFailure, OfLine, OfOrder, bound, check, checks, full, no_field}
+use Rattle.book.specs.Checking.{bound_checks, hold_checks, open_checks, stock_checks}
+use Rattle.book.specs.Good.{Good}
+use Rattle.book.specs.Held.{BreaksBound, MayHoldMore}
+use Rattle.book.specs.Ledger.{Field, Ledger, Name, Order, field_named, is_open, is_transfer, line_on, order_numbered, transfer_kind}
+use Rattle.book.specs.Next.{next}
+use Rattle.book.proofs.Compared.{more_test}
+
+-- ---- lists of checks
+
+-- what one list of checks finds, another before more checks finds
+pub cut_short : (cs ds : List Check) (x : Refusal × ℕ) → FirstFailure cs (Some x) → FirstFailure (cs ++ ds) (Some x)
+cut_short [] ds x e = cc
+cut_short (c ∷ cs) ds x (inl h) = inl h
+cut_short (c ∷ cs) ds x (inr h) = inr (h.0, cut_short cs ds x h.1)
+
+-- where it finds nothing, those after it decide
+pub go_on : (cs ds : List Check) (first found : Option (Refusal × ℕ)) → FirstFailure cs first → is_some first ≡ false → FirstFailure ds found → FirstFailure (cs ++ ds) found
+go_on cs ds (Some x) found e none k = absurd (true≢false none)
+go_on [] ds None found e none k = k
+go_on (c ∷ cs) ds None found (inl h) none k = let e = h.1 in cc
+go_on (c ∷ cs) ds None found (inr h) none k = inr (h.0, go_on cs ds None found h.1 refl k)
+
+-- the check of a bound, of a ledger that has the amount, as one comparison with the ledger before
+has_bound : (A B : Ledger) (w : Way) (f : Name) (q line : ℕ) (found : Option (Refusal × ℕ)) → (bound w B f line).fails ↔ BreaksBound w A f q
+    → FirstFailure (bound_checks w A f q line) found → FirstFailure (bound w B f line ∷ []) found
+has_bound A B Take f q line found same (inl h) = inl (same.1 h.0, h.1)
+has_bound A B Take f q line found same (inr h) = inr ((λ k. h.0 (same.0 k)), h.1)
+has_bound A B Add f q line found same (inl h) = inl (same.1 h.0, h.1)
+has_bound A B Add f q line found same (inr h) = inr ((λ k. h.0 (same.0 k)), h.1)
+
+pub has_stock : (A B : Ledger) (w : Way) (f : Name) (q line : ℕ) (found : Option (Refusal × ℕ)) → (bound w B f line).fails ↔ BreaksBound w A f q
+    → FirstFailure (stock_checks w A f q line) found → FirstFailure (no_field A f line ∷ bound w B f line ∷ []) found
+has_stock A B w f q line found same (inl h) = inl h
+has_stock A B w f q line found same (inr h) = inr (h.0, has_bound A B w f q line found same h.1)
+
+-- what a test that says no decides
+pub no : {P : Type 0} {b : Bool} → IsTrue b ↔ P → b ≡ false → P → ⊥
+no iff e h = true≢false (sym (iff.1 h) ∙ e)
+
+-- ---- an amount more on an order
+
+same_way : (v w : Way) → (v ≢ w → ⊥) → v ≡ w
+same_way Take Take h = refl
+same_way Add Add h = refl
+same_way Take Add h = absurd (h (λ e. cc))
+same_way Add Take h = absurd (h (λ e. cc))
+
+-- a kind that is not the kind of transfers
+pub no_transfer_kind : (k : Kind) → sameb the_type k Transfer ≡ false → IsFalse (transfer_kind k)
+no_transfer_kind Plain e = refl
+no_transfer_kind Transfer e = absurd (true≢false e)
+
+-- an open order that is no transfer, where the checks of its lines find nothing
+pub may_hold : (o : Order) (w : Way) (f : Name) (fault : Option (Refusal × ℕ)) → IsTrue (is_open o) → IsFalse (is_transfer o) → FirstFailure (hold_checks o w f) fault → is_some fault ≡ false → MayHoldMore f w o
+may_hold o w f (Some x) opened plain held none = absurd (true≢false none)
+may_hold o w f None opened plain (inl h) none = let e = h.1 in cc
+may_hold o w f None opened plain (inr h) none = (opened, plain, by (line_on o f) h.0)
+  where
+    by : (x : Option Line) → (IsSomeAnd x (λ l. l.way ≢ w) → ⊥) → MatchOption x (Unit {0}) (λ m. m.way ≡ w)
+    by None h = tt
+    by (Some l) h = same_way l.way w h
+
+-- the checks that its line makes, and the one of the bound
+abbrev of_line : Ledger → ℕ → Way → Name → List Check
+of_line A n w f = check (OfLine A n f (λ l. l.way ≢ w)) OtherWay ∷ check (OfOrder A n (λ o. IsNone (line_on o f) × (MAX_ORDER_LINES ≤ length o.lines))) TooManyLines ∷ []
+
+abbrev of_bound : Ledger → ℕ → Way → Name → ℕ → List Check
+of_bound A n w f q = bound w (next A (More n w f.branch f.article q)) f 0 ∷ []
+
+-- The check of the bound decides.
+pub more_decides : (A : Ledger) (n : ℕ) (w : Way) (f : Name) (q : ℕ) (o : Order) (e : Field) (fault found : Option (Refusal × ℕ)) → Good A
+    → ((full A 1).fails → ⊥) → FirstFailure (open_checks A n) None → order_numbered A n ≡ Some o → IsTrue (is_open o) → IsFalse (is_transfer o) → field_named A f ≡ Some e
+    → FirstFailure (hold_checks o w f) fault → is_some fault ≡ false → FirstFailure (bound_checks w A f q 0) found → FirstFailure (checks A (More n w f.branch f.article q)) found
+more_decides A n w f q o e fault found good room ordered numbered opened plain there held none bounded =
+    inr (
+      room,
+      go_on (open_checks A n) (check (OfOrder A n (λ o. IsTrue (is_transfer o))) TransferFixed ∷ no_field A f 0 ∷ of_line A n w f ++ of_bound A n w f q) None found ordered refl
+          (inr (no_transfer, inr (field, go_on (of_line A n w f) (of_bound A n w f q) fault found holds none more))),
+    )
+  where
+    no_transfer : OfOrder A n (λ o. IsTrue (is_transfer o)) → ⊥
+    no_transfer = rw numbered (λ h. true≢false (sym h ∙ plain))
+
+    field : IsNone (field_named A f) → ⊥
+    field = rw there (λ h. true≢false h)
+
+    holds : FirstFailure (of_line A n w f) fault
+    holds = rw numbered held
+
+    asked : OpenLine
+    asked = record { way = w; branch = f.branch; article = f.article; qty = q }
+
+    more : FirstFailure (of_bound A n w f q) found
+    more = has_bound A (next A (More n w f.branch f.article q)) w f q 0 found (more_test A n asked 0 good (rw numbered (may_hold o w f fault opened plain held none))) bounded

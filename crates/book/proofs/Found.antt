@@ -1,0 +1,77 @@
+-- The first element that passes a test, found by a walk.
+use Rattle.std.proofs.Common.{◌≡◌, ℕ, ◌+◌, ◌<◌, ◌≤◌, List, [], ◌∷◌, ◌++◌, map, Option, MatchOption, take, drop, length, get_or, find, Bool, true, false, None, Some, is_some, refl, sym, ap, ◌∙◌, subst, if◌then◌else◌, true≢false}
+use Rattle.std.proofs.lemmas.List.{take_all}
+use Rattle.book.proofs.Walked.{cut_at, take-step}
+
+find-past : {X : Type 0} (p : X → Bool) (xs ys : List X) → find p xs ≡ None → find p (xs ++ ys) ≡ find p ys
+find-past p [] ys n = refl
+find-past p (x ∷ xs) ys n = step (p x) n (λ k. find-past p xs ys k)
+  where
+    step : (b : Bool) → (if b then Some x else find p xs) ≡ None → (find p xs ≡ None → find p (xs ++ ys) ≡ find p ys) → (if b then Some x else find p (xs ++ ys)) ≡ find p ys
+    step true n k = absurd (true≢false (ap is_some n))
+    step false n k = k n
+
+-- none before, and not this one
+pub find-next : {X : Type 0} (p : X → Bool) (xs : List X) (i : ℕ) (x : X) → i < length xs → x ≡ get_or xs i x → find p (take i xs) ≡ None → p x ≡ false → find p (take (i + 1) xs) ≡ None
+find-next p xs i x h e n f = ap (find p) (take-step xs i x h e) ∙ find-past p (take i xs) (x ∷ []) n ∙ ap (λ b. if b then Some x else None) f
+
+find-left : {X : Type 0} (p : X → Bool) (x : X) (us vs : List X) → find p us ≡ Some x → find p (us ++ vs) ≡ Some x
+find-left p x [] vs k = absurd (true≢false (sym (ap is_some k)))
+find-left p x (u ∷ us) vs k = by (p u) k (λ z. find-left p x us vs z)
+  where
+    by : (b : Bool) → (if b then Some u else find p us) ≡ Some x → (find p us ≡ Some x → find p (us ++ vs) ≡ Some x) → (if b then Some u else find p (us ++ vs)) ≡ Some x
+    by true k z = k
+    by false k z = z k
+
+-- none before, but this one
+pub find-here : {X : Type 0} (p : X → Bool) (xs : List X) (i : ℕ) (x : X) → i < length xs → x ≡ get_or xs i x → find p (take i xs) ≡ None → p x ≡ true → find p xs ≡ Some x
+find-here p xs i x h e n t = ap (find p) (cut_at xs i x h e) ∙ found (find-past p (take i xs) (x ∷ []) n)
+  where
+    here : find p (x ∷ []) ≡ Some x
+    here = ap (λ b. if b then Some x else None) t
+
+    found : find p (take i xs ++ x ∷ []) ≡ find p (x ∷ []) → find p ((take i xs ++ x ∷ []) ++ drop (i + 1) xs) ≡ Some x
+    found q = find-left p x (take i xs ++ x ∷ []) (drop (i + 1) xs) (q ∙ here)
+
+-- none in all that the walk went over
+pub find-all : {X : Type 0} (p : X → Bool) (xs : List X) (i : ℕ) → length xs ≤ i → find p (take i xs) ≡ None → find p xs ≡ None
+find-all p xs i h n = ap (find p) (sym (take_all i xs h)) ∙ n
+
+-- ---- in a list and in what it is mapped to
+
+pub find-map-none : {X Y : Type 0} (p : Y → Bool) (h : X → Y) (xs : List X) → find (λ x. p (h x)) xs ≡ None → find p (map h xs) ≡ None
+find-map-none p h [] n = refl
+find-map-none p h (x ∷ xs) n = by (p (h x)) n (λ k. find-map-none p h xs k)
+  where
+    by : (b : Bool) → (if b then Some x else find (λ x. p (h x)) xs) ≡ None → (find (λ x. p (h x)) xs ≡ None → find p (map h xs) ≡ None) → (if b then Some (h x) else find p (map h xs)) ≡ None
+    by true n k = absurd (true≢false (ap is_some n))
+    by false n k = k n
+
+-- the element, or else d
+abbrev pub from_some : {X : Type 0} → X → Option X → X
+from_some d None = d
+from_some d (Some x) = x
+
+pub find-map-some : {X Y : Type 0} (p : Y → Bool) (h : X → Y) (xs : List X) (y : X) → find (λ x. p (h x)) xs ≡ Some y → find p (map h xs) ≡ Some (h y)
+find-map-some p h [] y n = absurd (true≢false (sym (ap is_some n)))
+find-map-some p h (x ∷ xs) y n = by (p (h x)) n (λ k. find-map-some p h xs y k)
+  where
+    by : (b : Bool) → (if b then Some x else find (λ x. p (h x)) xs) ≡ Some y → (find (λ x. p (h x)) xs ≡ Some y → find p (map h xs) ≡ Some (h y)) → (if b then Some (h x) else find p (map h xs)) ≡ Some (h y)
+    by true n k = ap (λ o. Some (h (from_some x o))) n
+    by false n k = k n
+
+-- the same, said of a look-up's result
+pub match-map : {X Y R : Type 0} (p : Y → Bool) (h : X → Y) (xs : List X) (at : R → X) (found : Option R)
+    → MatchOption found (find (λ x. p (h x)) xs ≡ None) (λ r. find (λ x. p (h x)) xs ≡ Some (at r))
+    → MatchOption found (find p (map h xs) ≡ None) (λ r. find p (map h xs) ≡ Some (h (at r)))
+match-map p h xs at None e = find-map-none p h xs e
+match-map p h xs at (Some r) e = find-map-some p h xs (at r) e
+
+-- what was found passes the test
+pub find-true : {X : Type 0} (p : X → Bool) (xs : List X) (y : X) → find p xs ≡ Some y → p y ≡ true
+find-true p [] y n = absurd (true≢false (sym (ap is_some n)))
+find-true p (x ∷ xs) y n = by (p x) refl n (λ k. find-true p xs y k)
+  where
+    by : (b : Bool) → p x ≡ b → (if b then Some x else find p xs) ≡ Some y → (find p xs ≡ Some y → p y ≡ true) → p y ≡ true
+    by true e n k = subst (λ z. p z ≡ true) (ap (from_some x) n) e
+    by false e n k = k n

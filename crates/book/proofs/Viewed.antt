@@ -1,0 +1,47 @@
+-- The numbers that a book shows of its fields.
+use Rattle.std.proofs.Common.{◌≡◌, ℕ, suc, ◌<◌, pos, ◌+ℤ◌, ◌-ℤ◌, ◌≤ℤ◌, List, [], ◌∷◌, find, get_or, length, option_map, slice_get, Bool, true, false, Some, is_some, refl, sym, ap, ◌∙◌, arith, if◌then◌else◌, true≢false}
+use Rattle.std.proofs.lemmas.Int.{ints}
+use Rattle.std.proofs.lemmas.Option.{get_or_from_slice_get, slice_get-map, slice_get_read, slice_get_within}
+use Rattle.std.specs.List.{Contains}
+use Rattle.escrow.specs.declared.limits.TheConstants.{MAX_LEVEL}
+use Rattle.book.specs.declared.book.Book.TheInside.{Inside}
+use Rattle.book.specs.declared.entries.FieldEntry.{FieldEntry}
+use Rattle.book.specs.Ledger.{Field, Ledger}
+use Rattle.book.specs.Outcomes.{settled}
+use Rattle.book.specs.Held.{held_to_add, held_to_take}
+use Rattle.book.specs.Good.{Good}
+use Rattle.book.specs.View.{BookView, field_of, view_of}
+use Rattle.book.proofs.Found.{from_some}
+use Rattle.book.proofs.Runs.{in_order}
+use Rattle.book.proofs.Walked.{each-at}
+
+pub Contains-of_find : {X : Type 0} (p : X → Bool) (xs : List X) (x : X) → find p xs ≡ Some x → Contains xs x
+Contains-of_find p [] x n = absurd (true≢false (sym (ap is_some n)))
+Contains-of_find p (y ∷ ys) x n = by (p y) n (λ k. Contains-of_find p ys x k)
+  where
+    by : (b : Bool) → (if b then Some y else find p ys) ≡ Some x → (find p ys ≡ Some x → Contains ys x) → Contains (y ∷ ys) x
+    by true n k = (0, omega arith, ap (from_some y) n)
+    by false n k = let c = k n in (suc c.0, omega arith, c.2)
+
+pub Contains-of_slice_get : {X : Type 0} (xs : List X) (i : ℕ) (x : X) → slice_get xs i ≡ Some x → Contains xs x
+Contains-of_slice_get xs i x e = (i, slice_get_within xs i x e, get_or_from_slice_get xs i x x e)
+
+-- the field at an index is shown from the entry there
+pub slice_get-fields : (b : Inside) (A : BookView) (xs : List FieldEntry) (i : ℕ) (x : FieldEntry) → view_of b ≡ A → xs ≡ b.fields.items → i < length xs → x ≡ get_or xs i x
+    → slice_get A.ledger.fields i ≡ Some (field_of x)
+slice_get-fields b A xs i x same items h e =
+    let read : slice_get b.fields.items i ≡ Some x = rw (← items) (slice_get_read xs (length xs) i x refl h e) in
+    rw (← same) (slice_get-map field_of b.fields.items i ∙ ap (option_map field_of) read)
+
+-- from 0 to the greatest level, and in their order
+pub record AreLevels (A : Ledger) (f : Field) : Type 0 where
+  pub least : pos 0 ≤ℤ (settled A f -ℤ held_to_take A f.name)
+  pub inf : (settled A f -ℤ held_to_take A f.name) ≤ℤ settled A f
+  pub sup : settled A f ≤ℤ (settled A f +ℤ held_to_add A f.name)
+  pub greatest : (settled A f +ℤ held_to_add A f.name) ≤ℤ pos MAX_LEVEL
+
+pub levels_of : (A : Ledger) (f : Field) → Good A → Contains A.fields f → AreLevels A f
+levels_of A f g h =
+    let r = each-at _ A.fields h.0 f h.1 (sym h.2) (in_order A g) in
+    let least = r.0 in let greatest = r.3 in let high = r.4 in
+    record { least = omega (arith, ints); inf = r.1; sup = r.2; greatest = omega (arith, ints) }

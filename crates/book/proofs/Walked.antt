@@ -1,0 +1,81 @@
+-- A walk over a list, one element at a time.
+use Rattle.std.proofs.Common.{◌≡◌, ℕ, ◌+◌, ◌<◌, ◌≤◌, ℤ, pos, ◌+ℤ◌, nat_abs, List, [], ◌∷◌, ◌++◌, map, take, drop, length, get_or, sym, ap, ◌∙◌, subst, arith, if◌then◌else◌, nat_cmp, Less}
+use Rattle.std.proofs.lemmas.Int.{ints}
+use Rattle.std.proofs.lemmas.List.{take-append-drop}
+use Rattle.std.proofs.lemmas.Grind.{take_at_read}
+use Rattle.std.specs.List.{AllByRecursion as Each}
+use Rattle.std.specs.List.Sorted.{IsStrictlySortedBy}
+use Rattle.escrow.specs.Ranges.{IsQty}
+use Rattle.words.specs.declared.limits.TheConstants.{MAX_ORDER_LINES}
+use Rattle.book.specs.declared.limits.TheConstants.{MAX_PLACES}
+use Rattle.book.specs.declared.book.Book.TheInside.{Inside}
+use Rattle.book.specs.declared.entries.MoveEntry.{MoveEntry}
+use Rattle.book.specs.declared.entries.OrderEntry.{OrderEntry}
+use Rattle.book.specs.Ledger.{Field, Ledger, Move, Name, is_committed, places, same_name}
+use Rattle.book.specs.Outcomes.{moved, settled, total}
+use Rattle.book.specs.Held.{held_to_add, held_to_take}
+use Rattle.book.specs.Good.{Good, IsGoodMove, IsGoodOrder}
+use Rattle.book.specs.View.{ledger_of, move_of, order_of}
+use Rattle.book.specs.Walk.{added_by_order, moved_by_move, moved_by_order, taken_by_order}
+use Rattle.book.proofs.Asked.{total-push}
+use Rattle.book.proofs.Closing.{less_is}
+use Rattle.book.proofs.Lists.{each-unmap, length-of-map}
+use Rattle.book.proofs.Sums.{each-imp, total-map}
+
+pub take-step : {X : Type 0} (xs : List X) (i : ℕ) (x : X) → i < length xs → x ≡ get_or xs i x → take (i + 1) xs ≡ take i xs ++ x ∷ []
+take-step xs i x h e = (take_at_read xs i x h).1 ∙ ap (λ y. take i xs ++ y ∷ []) (sym e)
+
+pub cut_at : {X : Type 0} (xs : List X) (i : ℕ) (x : X) → i < length xs → x ≡ get_or xs i x → xs ≡ (take i xs ++ x ∷ []) ++ drop (i + 1) xs
+cut_at xs i x h e = sym (take-append-drop (i + 1) xs) ∙ ap (λ t. t ++ drop (i + 1) xs) (take-step xs i x h e)
+
+-- one element more of a sum
+pub total-step : {X : Type 0} (g : X → ℤ) (xs : List X) (i : ℕ) (x : X) → i < length xs → x ≡ get_or xs i x → total g (take (i + 1) xs) ≡ total g (take i xs) +ℤ g x
+total-step g xs i x h e = ap (total g) (take-step xs i x h e) ∙ total-push g (take i xs) x
+
+each-left : {X : Type 0} (P : X → Type 0) (xs ys : List X) → Each P (xs ++ ys) → Each P xs
+each-left P [] ys k = tt
+each-left P (x ∷ xs) ys k = (k.0, each-left P xs ys k.1)
+
+each-last : {X : Type 0} (P : X → Type 0) (xs : List X) (x : X) → Each P (xs ++ x ∷ []) → P x
+each-last P [] x k = k.0
+each-last P (y ∷ ys) x k = each-last P ys x k.1
+
+-- what holds of each holds of the one that the walk is at
+pub each-at : {X : Type 0} (P : X → Type 0) (xs : List X) (i : ℕ) (x : X) → i < length xs → x ≡ get_or xs i x → Each P xs → P x
+each-at P xs i x h e k = each-last P (take i xs) x (each-left P (take i xs ++ x ∷ []) (drop (i + 1) xs) (subst (Each P) (cut_at xs i x h e) k))
+
+-- ---- the entries of a good ledger
+
+few_sorted : (first last : ℕ) (ms : List Move) → first ≤ last → Each (λ m. first < m.place) ms → Each (λ m. m.place ≤ last) ms → IsStrictlySortedBy nat_cmp (map (λ m. m.place) ms) → length ms + first ≤ last
+unfolding IsStrictlySortedBy
+few_sorted first last [] h a b s = omega arith
+few_sorted first last (m ∷ ms) h a b s =
+    let r = few_sorted m.place last ms b.0 (each-imp (λ x e. less_is m.place x.place e) ms (each-unmap (λ k. nat_cmp m.place k ≡ Less) (λ x. x.place) ms s.0)) b.1 s.1 in
+    let z = a.0 in omega arith
+
+-- no more moves than places
+pub few_moves : (b : Inside) → Good (ledger_of b) → length b.moves.items ≤ MAX_PLACES
+few_moves b g =
+    let A : Ledger = ledger_of b in
+    let r = few_sorted 0 (places A) A.moves (omega arith) (each-imp (λ m x. x.first) A.moves g.moves) (each-imp (λ m x. x.last) A.moves g.moves) g.moves_in_order in
+    let fit = g.places_fit in
+    let same = length-of-map move_of b.moves.items in
+    omega arith
+
+pub small_moves : (A : Ledger) (ms : List MoveEntry) → Each (IsGoodMove A) (map move_of ms) → Each (λ m. IsQty (nat_abs m.amount)) ms
+small_moves A ms k = each-imp (λ m x. x.size) ms (each-unmap (IsGoodMove A) move_of ms k)
+
+pub short_orders : (A : Ledger) (os : List OrderEntry) → Each (IsGoodOrder A) (map order_of os) → Each (λ o. length o.lines.items ≤ MAX_ORDER_LINES) os
+short_orders A os k = each-imp (λ o x. x.few) os (each-unmap (IsGoodOrder A) order_of os k)
+
+pub settled-walk : (b : Inside) (f : Field) (n : Name) → f.name ≡ n → settled (ledger_of b) f ≡ pos f.start +ℤ (total (moved_by_move n) b.moves.items +ℤ total (moved_by_order n) b.orders.items)
+settled-walk b f n e = subst (λ n. settled (ledger_of b) f ≡ pos f.start +ℤ (total (moved_by_move n) b.moves.items +ℤ total (moved_by_order n) b.orders.items)) e
+    (let x : total (λ m. if same_name f.name m.field then m.amount else pos 0) (map move_of b.moves.items) ≡ total (moved_by_move f.name) b.moves.items = total-map _ move_of b.moves.items in
+    let y : total (λ o. if is_committed o then moved f.name (λ l. l.used) o else pos 0) (map order_of b.orders.items) ≡ total (moved_by_order f.name) b.orders.items = total-map _ order_of b.orders.items in
+    omega (arith, ints))
+
+pub held_to_take-walk : (b : Inside) (n : Name) → held_to_take (ledger_of b) n ≡ total (taken_by_order n) b.orders.items
+held_to_take-walk b n = total-map _ order_of b.orders.items
+
+pub held_to_add-walk : (b : Inside) (n : Name) → held_to_add (ledger_of b) n ≡ total (added_by_order n) b.orders.items
+held_to_add-walk b n = total-map _ order_of b.orders.items

@@ -1,0 +1,20 @@
+use Rattle.std.proofs.Common.{inr}
+use Rattle.escrow.specs.declared.quantity.Way.TheVariants as way
+use Rattle.words.specs.declared.command.Command.TheVariants.{Writeoff}
+use Rattle.book.specs.Ledger.{Ledger, Name}
+use Rattle.book.specs.Next.{next}
+use Rattle.book.specs.Walk.{name_of}
+use Rattle.book.proofs.Asked.{write_off_test}
+use Rattle.book.proofs.Checked.{has_stock, no}
+use Rattle.book.proofs.Closing.{sounds_from_good}
+use Rattle.book.proofs.book.Book.check_writeoff.Goals as goal
+
+pub returns : goal.returns
+returns c =
+    let A : Ledger = c.args.self.now.ledger in
+    let f : Name = name_of c.args.branch c.args.article in
+    inr (
+      no c.is_full.ensures c.if-is_full.false,
+      has_stock A (next A (Writeoff f.branch f.article c.args.qty)) way.Take f c.args.qty 0 c.check_stock.result
+          (write_off_test A f c.args.qty (sounds_from_good A c.check_stock.ensures.good)) c.check_stock.ensures.found,
+    )

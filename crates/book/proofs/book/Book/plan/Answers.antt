@@ -1,0 +1,22 @@
+use Rattle.std.proofs.Common.{◌≡◌, ◌∙◌, ap, arith, is_some, subst, sym}
+use Rattle.words.specs.declared.command.Request.{Request}
+use Rattle.book.specs.Answers.{IsAccepted}
+use Rattle.book.specs.Ledger.{places}
+use Rattle.book.specs.View.{BookView, kept_of}
+use Rattle.book.proofs.Lists.{length-of-map}
+use Rattle.book.proofs.book.Book.plan.Goals as goal
+
+pub returns : goal.returns
+returns c =
+    let same : ◌≡◌ {A = Request} c.new.result.request c.args.request.now = λ i. record { key = c.new.ensures.key i; command = (c.new.ensures.command ∙ c.in_ok-command.ensures) i } in
+    let place = c.new.ensures.place in
+    let count = c.len.ensures in
+    let kept = c.self.inside.kept.ok.0 in
+    let seen = length-of-map kept_of c.self.inside.kept.items in
+    let is = ap (λ (v : BookView). places v.ledger) c.self.view_is in (
+      same,
+      record {
+        accepted = subst (λ (r : Request). IsAccepted c.args.self.now.ledger r) (sym same) (ap is_some c.in_default.ensures, c.in_default-check.ensures);
+        place = (omega arith);
+      },
+    )

@@ -1,0 +1,7 @@
+-- the lines so far are made
+use Rattle.std.proofs.Common.{◌≡◌, map, take}
+use Rattle.book.specs.Next.{new_line}
+use Rattle.book.proofs.book.plan.new_lines.Given as goal
+
+abbrev pub invariant-loop-line : goal.invariant-loop-line
+invariant-loop-line l = l.made.items ≡ map new_line (take l.line-index l.lines)

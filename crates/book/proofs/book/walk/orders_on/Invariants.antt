@@ -1,0 +1,12 @@
+use Rattle.std.proofs.Common.{◌≡◌, ◌*◌, take}
+use Rattle.book.specs.Outcomes.{total}
+use Rattle.book.specs.Walk.{added_by_order, moved_by_order, most_of_lines, name_of, taken_by_order, IsSmall}
+use Rattle.book.proofs.book.walk.orders_on.Given as goal
+
+abbrev pub invariant-loop-entry : goal.invariant-loop-entry
+invariant-loop-entry l = record {
+  moved : l.sum.moved ≡ total (moved_by_order (name_of l.branch l.article)) (take l.entry-index l.orders);
+  takes : l.sum.takes ≡ total (taken_by_order (name_of l.branch l.article)) (take l.entry-index l.orders);
+  adds : l.sum.adds ≡ total (added_by_order (name_of l.branch l.article)) (take l.entry-index l.orders);
+  small : IsSmall (most_of_lines * l.entry-index) l.sum;
+}

@@ -1,0 +1,24 @@
+-- What a view of a field or an order tells of it.
+use Rattle.std.specs.Prelude.{pos, ◌≡◌}
+use Rattle.book.specs.declared.book.views.FieldView.{FieldView}
+use Rattle.book.specs.declared.book.views.OrderView.{OrderView}
+use Rattle.book.specs.Ledger.{Field, Ledger, Order}
+use Rattle.book.specs.Outcomes.{IsInfimum, IsSupremum, settled}
+use Rattle.book.specs.Walk.{name_of}
+
+-- the field's name and bounds, its settled value, and its infimum and supremum over the outcomes of the open orders
+pub record ShowsField (A : Ledger) (f : Field) (view : FieldView) : Type 0 where
+  pub name : name_of view.branch view.article ≡ f.name
+  pub lo : view.lo ≡ f.lo
+  pub hi : view.hi ≡ f.hi
+  pub value : pos view.value ≡ settled A f
+  pub inf : IsInfimum A f (pos view.inf)
+  pub sup : IsSupremum A f (pos view.sup)
+
+-- all of the order
+pub record ShowsOrder (o : Order) (view : OrderView) : Type 0 where
+  pub number : view.number ≡ o.number
+  pub kind : view.kind ≡ o.kind
+  pub until : view.until ≡ o.until
+  pub state : view.state ≡ o.state
+  pub lines : view.lines.now ≡ o.lines

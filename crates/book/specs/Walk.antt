@@ -1,0 +1,75 @@
+-- What a walk over the entries adds up on a field, and how much that can be.
+use Rattle.std.specs.Prelude.{ℕ, ◌*◌, ℤ, pos, neg_ℤ, ◌≤ℤ◌, List, if◌then◌else◌}
+use Rattle.escrow.specs.declared.limits.TheConstants.{MAX_LEVEL, MAX_QTY}
+use Rattle.words.specs.declared.limits.TheConstants.{MAX_ORDER_LINES}
+use Rattle.book.specs.declared.limits.TheConstants.{MAX_ORDERS, MAX_PLACES}
+use Rattle.book.specs.declared.book.walk.Numbers.{Numbers}
+use Rattle.book.specs.declared.entries.MoveEntry.{MoveEntry}
+use Rattle.book.specs.declared.entries.OrderEntry.{OrderEntry}
+use Rattle.book.specs.declared.order.Line.{Line}
+use Rattle.book.specs.Ledger.{Name, committed_state, on, open_state, same_name}
+use Rattle.book.specs.Outcomes.{signed, total}
+use Rattle.book.specs.Held.{if_add, if_take}
+use Rattle.book.specs.View.{move_of}
+
+-- the name of the article's field at the branch
+abbrev pub name_of : List ℕ → List ℕ → Name
+name_of branch article = record { branch = branch; article = article }
+
+-- what a delivery or a write-off moves on the field
+abbrev pub moved_by_move : Name → MoveEntry → ℤ
+moved_by_move f e = if same_name f (move_of e).field then e.amount else pos 0
+
+-- what a line moves on the field once it is settled
+abbrev pub moved_by_line : Name → Line → ℤ
+moved_by_line f l = if on f l then signed l.way l.used else pos 0
+
+-- what a line holds to take on the field
+abbrev pub taken_by_line : Name → Line → ℤ
+taken_by_line f l = if on f l then pos (if_take l.way l.held) else pos 0
+
+-- what it holds to add
+abbrev pub added_by_line : Name → Line → ℤ
+added_by_line f l = if on f l then pos (if_add l.way l.held) else pos 0
+
+-- what an order has moved, if it is committed
+abbrev pub moved_by_order : Name → OrderEntry → ℤ
+moved_by_order f o = if committed_state o.state then total (moved_by_line f) o.lines.items else pos 0
+
+-- what an order holds to take, if it is open
+abbrev pub taken_by_order : Name → OrderEntry → ℤ
+taken_by_order f o = if open_state o.state then total (taken_by_line f) o.lines.items else pos 0
+
+-- what it holds to add, if it is open
+abbrev pub added_by_order : Name → OrderEntry → ℤ
+added_by_order f o = if open_state o.state then total (added_by_line f) o.lines.items else pos 0
+
+-- ---- how much these can be
+
+abbrev pub most_of_move : ℕ
+most_of_move = MAX_QTY
+
+abbrev pub most_of_moves : ℕ
+most_of_moves = most_of_move * MAX_PLACES
+
+abbrev pub most_of_line : ℕ
+most_of_line = MAX_LEVEL
+
+abbrev pub most_of_lines : ℕ
+most_of_lines = most_of_line * MAX_ORDER_LINES
+
+abbrev pub most_of_orders : ℕ
+most_of_orders = most_of_lines * MAX_ORDERS
+
+-- up or down, at most so much
+pub record IsBetween (most : ℕ) (z : ℤ) : Type 0 where
+  pub low : neg_ℤ (pos most) ≤ℤ z
+  pub high : z ≤ℤ pos most
+
+pub record IsSmall (most : ℕ) (n : Numbers) : Type 0 where
+  pub low : neg_ℤ (pos most) ≤ℤ n.moved
+  pub high : n.moved ≤ℤ pos most
+  pub take_low : pos 0 ≤ℤ n.takes
+  pub take_high : n.takes ≤ℤ pos most
+  pub add_low : pos 0 ≤ℤ n.adds
+  pub add_high : n.adds ≤ℤ pos most

@@ -1,0 +1,167 @@
+//! Plans carried out.
+
+ghost use Rattle.std.specs.Prelude.{◌≡◌, ℕ, List, IsSomeAnd, IsTrue};
+ghost use Rattle.words.specs.declared.command.Command.TheVariants.{Commit};
+ghost use Rattle.book.specs.Future.{Honours, HonoursAlways};
+ghost use Rattle.book.specs.Good.{Good};
+ghost use Rattle.book.specs.Ledger.{is_transfer, order_numbered};
+ghost use Rattle.book.specs.Outcomes.{article_total};
+ghost use Rattle.book.specs.declared.order.State.TheVariants as State;
+ghost use Rattle.book.specs.InPlace.{order_change_of};
+ghost use Rattle.book.specs.Next.{accept};
+ghost use Rattle.book.specs.Plans.{Fits, HasRoomFor};
+ghost use Rattle.book.specs.View.{field_of, order_of};
+ghost use Rattle.book.specs.Walk.{name_of};
+
+use super::Book;
+use super::changes::{LineChange, OrderChange, change_numbered_order, expire_orders};
+use super::insert::{insert_field, insert_kept, insert_order, push_move};
+use crate::entries::{FieldEntry, KeptEntry, OrderEntry};
+use crate::order::{Kind, Line, State};
+use crate::plan::Plan;
+use escrow::{Article, Branch, Level, Moment, OrderNo};
+use std::mem;
+use words::{Command, OpenLine};
+
+/// An open order, which gets these lines.
+fn opened(number: OrderNo, kind: Kind, until: Moment, lines: &mut Vec<Line>) -> OrderEntry
+    ensures { order_of result ≡ record { number = number; kind = kind; until = until; state = State.Open; lines = lines.old.items } }
+{
+    let empty = Vec::new(*lines.allocator());
+    OrderEntry {
+        number,
+        kind,
+        until,
+        state: State::Open,
+        lines: mem::replace(lines, empty),
+    }
+}
+
+/// The order that the command changes, and how; none for a command that changes no one order.
+fn order_change(command: &Command) -> Option<(OrderNo, OrderChange)>
+    ensures { result ≡ order_change_of command.now }
+{
+    match command {
+        Command::More {
+            number,
+            way,
+            branch,
+            article,
+            qty,
+        } => {
+            let line = OpenLine {
+                way: *way,
+                branch: *branch,
+                article: *article,
+                qty: *qty,
+            };
+            Some((*number, OrderChange::HoldMore(line)))
+        }
+        Command::Use {
+            number,
+            branch,
+            article,
+            qty,
+        } => {
+            let change = LineChange::Use(*qty);
+            Some((*number, OrderChange::ChangeLines(*branch, *article, change)))
+        }
+        Command::Release {
+            number,
+            branch,
+            article,
+            qty,
+        } => {
+            let change = LineChange::Release(*qty);
+            Some((*number, OrderChange::ChangeLines(*branch, *article, change)))
+        }
+        Command::Commit { number } => Some((*number, OrderChange::End(State::Committed))),
+        Command::Abort { number } => Some((*number, OrderChange::End(State::Aborted))),
+        _ => None,
+    }
+}
+
+fn field_entry(branch: Branch, article: Article, lo: Level, hi: Level, start: Level) -> FieldEntry
+    ensures { field_of result ≡ record { name = name_of branch article; lo = lo; hi = hi; start = start } }
+{
+    FieldEntry {
+        branch,
+        article,
+        lo,
+        hi,
+        start,
+    }
+}
+
+impl Book {
+    /// Carries the plan out. Takes no memory, and always succeeds. The ledger stays good, and honours its open
+    /// orders; the commit of a transfer leaves the total of every article as it was.
+    pub fn adopt(&mut self, plan: Plan)
+        requires fits { Fits self.old.ledger plan }
+        requires room { HasRoomFor self.old plan }
+        ensures next { self.new.ledger ≡ accept self.old.ledger plan.request }
+        ensures good { Good self.new.ledger }
+        ensures honours { Honours self.new.ledger × HonoursAlways self.new.ledger }
+        ensures even { (n : ℕ) (article : List ℕ) → plan.request.command ≡ Commit n → IsSomeAnd (order_numbered self.old.ledger n) (λ o. IsTrue (is_transfer o)) → article_total self.new.ledger article ≡ article_total self.old.ledger article }
+    {
+        let (key, command, place, mut lines) = plan.into_parts();
+        key.as_bytes();
+        command.in_range();
+        match &command {
+            Command::Field {
+                branch,
+                article,
+                lo,
+                hi,
+                start,
+            } => insert_field(
+                &mut self.fields,
+                field_entry(*branch, *article, *lo, *hi, *start),
+            ),
+            Command::Deliver {
+                branch,
+                article,
+                qty,
+            } => push_move(&mut self.moves, place, *branch, *article, qty.get() as i64),
+            Command::Writeoff {
+                branch,
+                article,
+                qty,
+            } => push_move(
+                &mut self.moves,
+                place,
+                *branch,
+                *article,
+                -(qty.get() as i64),
+            ),
+            Command::Open { number, until, .. } => {
+                insert_order(
+                    &mut self.orders,
+                    opened(*number, Kind::Plain, *until, &mut lines),
+                );
+            }
+            Command::Transfer { number, until, .. } => {
+                insert_order(
+                    &mut self.orders,
+                    opened(*number, Kind::Transfer, *until, &mut lines),
+                );
+            }
+            Command::Expire { now } => {
+                self.clock = *now;
+                expire_orders(&mut self.orders, *now);
+            }
+            _ => match order_change(&command) {
+                Some(change) => change_numbered_order(&mut self.orders, change),
+                None => unreachable!(),
+            },
+        }
+        insert_kept(
+            &mut self.kept,
+            KeptEntry {
+                key,
+                place,
+                command,
+            },
+        );
+    }
+}

@@ -1,0 +1,377 @@
+//! Which check of a command fails first.
+
+ghost use Rattle.std.specs.Bool.{OnTrue};
+ghost use Rattle.std.specs.Prelude.{◌≡◌, None, Some, IfOk, IsTrue, MatchResult};
+ghost use Rattle.words.specs.Kinds.{is_change, is_opening, is_stock};
+ghost use Rattle.words.specs.declared.command.Command.TheVariants.{Abort, Commit, Deliver, Expire, Field, More, Open, Release, Transfer, Use, Writeoff};
+ghost use Rattle.book.specs.Answers.{FirstFailure, checks, order_checks};
+ghost use Rattle.book.specs.Checking.{hold_checks, open_checks, part_checks};
+ghost use Rattle.book.specs.Ledger.{is_open, order_numbered};
+ghost use Rattle.book.specs.View.{order_of};
+ghost use Rattle.book.specs.Walk.{name_of};
+
+use super::Book;
+use super::find::line_in;
+use crate::entries::OrderEntry;
+use crate::limits::{MAX_FIELDS, MAX_ORDERS};
+use crate::order::{Kind, State};
+use escrow::{Article, Branch, Level, Moment, OrderNo, Qty, Way};
+use words::{Command, MAX_ORDER_LINES, OpenLine, OpenLines, Refusal};
+
+impl Book {
+    /// The refusal and the line of the first check of the command that fails, or `None`. Takes no memory.
+    pub(super) fn check(&self, command: &Command) -> Option<(Refusal, u64)>
+        ensures { FirstFailure (checks self.now.ledger command.now) result }
+    {
+        match command {
+            Command::Field { .. } => self.check_on_stock(command),
+            Command::Deliver { .. } => self.check_on_stock(command),
+            Command::Writeoff { .. } => self.check_on_stock(command),
+            Command::Open { .. } => self.check_opening(command),
+            Command::Transfer { .. } => self.check_opening(command),
+            Command::More { .. } => self.check_change(command),
+            Command::Use { .. } => self.check_change(command),
+            Command::Release { .. } => self.check_change(command),
+            Command::Commit { number } => self.check_commit(*number),
+            Command::Abort { number } => self.check_abort(*number),
+            Command::Expire { now } => self.check_expire(*now),
+        }
+    }
+
+    /// The same for a command about stock.
+    fn check_on_stock(&self, command: &Command) -> Option<(Refusal, u64)>
+        ensures { OnTrue (is_stock command.now) (FirstFailure (checks self.now.ledger command.now) result) }
+    {
+        match command {
+            Command::Field {
+                branch,
+                article,
+                lo,
+                hi,
+                start,
+            } => self.check_field(*branch, *article, *lo, *hi, *start),
+            Command::Deliver {
+                branch,
+                article,
+                qty,
+            } => self.check_deliver(*branch, *article, *qty),
+            Command::Writeoff {
+                branch,
+                article,
+                qty,
+            } => self.check_writeoff(*branch, *article, *qty),
+            _ => None,
+        }
+    }
+
+    /// The same for a command that opens an order.
+    fn check_opening(&self, command: &Command) -> Option<(Refusal, u64)>
+        ensures { OnTrue (is_opening command.now) (FirstFailure (checks self.now.ledger command.now) result) }
+    {
+        match command {
+            Command::Open {
+                number,
+                until,
+                lines,
+            } => self.check_open(*number, *until, lines),
+            Command::Transfer {
+                number,
+                until,
+                article,
+                from,
+                to,
+                qty,
+            } => self.check_transfer(*number, *until, *article, *from, *to, *qty),
+            _ => None,
+        }
+    }
+
+    /// The same for a command that changes what an order holds.
+    fn check_change(&self, command: &Command) -> Option<(Refusal, u64)>
+        ensures { OnTrue (is_change command.now) (FirstFailure (checks self.now.ledger command.now) result) }
+    {
+        match command {
+            Command::More {
+                number,
+                way,
+                branch,
+                article,
+                qty,
+            } => self.check_more(*number, *way, *branch, *article, *qty),
+            Command::Use {
+                number,
+                branch,
+                article,
+                qty,
+            } => self.check_use(*number, *branch, *article, *qty),
+            Command::Release {
+                number,
+                branch,
+                article,
+                qty,
+            } => self.check_release(*number, *branch, *article, *qty),
+            _ => None,
+        }
+    }
+
+    fn check_field(
+        &self,
+        branch: Branch,
+        article: Article,
+        lo: Level,
+        hi: Level,
+        start: Level,
+    ) -> Option<(Refusal, u64)>
+        ensures { FirstFailure (checks self.now.ledger (Field branch article lo hi start)) result }
+    {
+        if self.is_full(1) || self.fields.len() >= MAX_FIELDS {
+            return Some((Refusal::Full, 0));
+        }
+        if self.field_entry(branch, article).is_some() {
+            return Some((Refusal::FieldThere, 0));
+        }
+        if lo > start || start > hi {
+            return Some((Refusal::BadBounds, 0));
+        }
+        None
+    }
+
+    fn check_deliver(&self, branch: Branch, article: Article, qty: Qty) -> Option<(Refusal, u64)>
+        ensures { FirstFailure (checks self.now.ledger (Deliver branch article qty)) result }
+    {
+        if self.is_full(1) {
+            return Some((Refusal::Full, 0));
+        }
+        self.check_stock(Way::Add, branch, article, qty, 0)
+    }
+
+    fn check_writeoff(&self, branch: Branch, article: Article, qty: Qty) -> Option<(Refusal, u64)>
+        ensures { FirstFailure (checks self.now.ledger (Writeoff branch article qty)) result }
+    {
+        if self.is_full(1) {
+            return Some((Refusal::Full, 0));
+        }
+        self.check_stock(Way::Take, branch, article, qty, 0)
+    }
+
+    fn check_open(
+        &self,
+        number: OrderNo,
+        until: Moment,
+        lines: &OpenLines,
+    ) -> Option<(Refusal, u64)>
+        ensures { FirstFailure (checks self.now.ledger (Open number until lines.now)) result }
+    {
+        let fault = self.check_order(number, until);
+        if fault.is_some() {
+            return fault;
+        }
+        self.check_lines(lines.as_slice())
+    }
+
+    fn check_transfer(
+        &self,
+        number: OrderNo,
+        until: Moment,
+        article: Article,
+        from: Branch,
+        to: Branch,
+        qty: Qty,
+    ) -> Option<(Refusal, u64)>
+        ensures { FirstFailure (checks self.now.ledger (Transfer number until article from to qty)) result }
+    {
+        let fault = self.check_order(number, until);
+        if fault.is_some() {
+            return fault;
+        }
+        let lines = [
+            OpenLine {
+                way: Way::Take,
+                branch: from,
+                article,
+                qty,
+            },
+            OpenLine {
+                way: Way::Add,
+                branch: to,
+                article,
+                qty,
+            },
+        ];
+        self.check_lines(&lines)
+    }
+
+    fn check_more(
+        &self,
+        number: OrderNo,
+        way: Way,
+        branch: Branch,
+        article: Article,
+        qty: Qty,
+    ) -> Option<(Refusal, u64)>
+        ensures { FirstFailure (checks self.now.ledger (More number way branch article qty)) result }
+    {
+        if self.is_full(1) {
+            return Some((Refusal::Full, 0));
+        }
+        let order = match self.open_order(number) {
+            Ok(order) => order,
+            Err(refusal) => return Some((refusal, 0)),
+        };
+        if order.kind == Kind::Transfer {
+            return Some((Refusal::TransferFixed, 0));
+        }
+        let Some(field) = self.field_entry(branch, article) else {
+            return Some((Refusal::NoField, 0));
+        };
+        let fault = check_hold(order, way, branch, article);
+        if fault.is_some() {
+            return fault;
+        }
+        self.check_bound(field, way, qty, 0)
+    }
+
+    fn check_use(
+        &self,
+        number: OrderNo,
+        branch: Branch,
+        article: Article,
+        qty: Qty,
+    ) -> Option<(Refusal, u64)>
+        ensures { FirstFailure (checks self.now.ledger (Use number branch article qty)) result }
+    {
+        self.check_part(number, branch, article, qty)
+    }
+
+    fn check_release(
+        &self,
+        number: OrderNo,
+        branch: Branch,
+        article: Article,
+        qty: Qty,
+    ) -> Option<(Refusal, u64)>
+        ensures { FirstFailure (checks self.now.ledger (Release number branch article qty)) result }
+    {
+        self.check_part(number, branch, article, qty)
+    }
+
+    fn check_commit(&self, number: OrderNo) -> Option<(Refusal, u64)>
+        ensures { FirstFailure (checks self.now.ledger (Commit number)) result }
+    {
+        self.check_end(number)
+    }
+
+    fn check_abort(&self, number: OrderNo) -> Option<(Refusal, u64)>
+        ensures { FirstFailure (checks self.now.ledger (Abort number)) result }
+    {
+        self.check_end(number)
+    }
+
+    fn check_expire(&self, now: Moment) -> Option<(Refusal, u64)>
+        ensures { FirstFailure (checks self.now.ledger (Expire now)) result }
+    {
+        if self.is_full(1) {
+            return Some((Refusal::Full, 0));
+        }
+        if now < self.clock {
+            return Some((Refusal::ClockBack, 0));
+        }
+        None
+    }
+
+    /// A use or a release of a part of what the order's line on the field holds.
+    fn check_part(
+        &self,
+        number: OrderNo,
+        branch: Branch,
+        article: Article,
+        qty: Qty,
+    ) -> Option<(Refusal, u64)>
+        ensures { FirstFailure (part_checks self.now.ledger number (name_of branch article) qty) result }
+    {
+        if self.is_full(1) {
+            return Some((Refusal::Full, 0));
+        }
+        let order = match self.open_order(number) {
+            Ok(order) => order,
+            Err(refusal) => return Some((refusal, 0)),
+        };
+        match line_in(&order.lines, branch, article) {
+            None => Some((Refusal::NotHeld, 0)),
+            Some(line) => {
+                if line.held.get() < line.used.get() + qty.get() {
+                    return Some((Refusal::OverUse, 0));
+                }
+                None
+            }
+        }
+    }
+
+    /// A commit or an abort.
+    fn check_end(&self, number: OrderNo) -> Option<(Refusal, u64)>
+        ensures { FirstFailure (open_checks self.now.ledger number) result }
+    {
+        match self.open_order(number) {
+            Ok(_) => None,
+            Err(refusal) => Some((refusal, 0)),
+        }
+    }
+
+    /// A new order, apart from its lines.
+    fn check_order(&self, number: OrderNo, until: Moment) -> Option<(Refusal, u64)>
+        ensures { FirstFailure (order_checks self.now.ledger number until) result }
+    {
+        if self.is_full(2) || self.orders.len() >= MAX_ORDERS {
+            return Some((Refusal::Full, 0));
+        }
+        if self.order_entry(number).is_some() {
+            return Some((Refusal::OrderThere, 0));
+        }
+        if until <= self.clock {
+            return Some((Refusal::Past, 0));
+        }
+        None
+    }
+
+    /// The open order of that number, or why there is none.
+    fn open_order(&self, number: OrderNo) -> Result<&OrderEntry, Refusal>
+        ensures found { MatchResult result (λ order. FirstFailure (open_checks self.now.ledger number) None) (λ refusal. FirstFailure (open_checks self.now.ledger number) (Some (refusal, 0))) }
+        ensures order { IfOk result (λ order. order_numbered self.now.ledger number ≡ Some (order_of order.now)) }
+        ensures open { IfOk result (λ order. IsTrue (is_open (order_of order.now))) }
+    {
+        match self.order_entry(number) {
+            None => Err(Refusal::NoOrder),
+            Some(order) => {
+                if order.state != State::Open {
+                    return Err(Refusal::Ended);
+                }
+                Ok(order)
+            }
+        }
+    }
+}
+
+/// What keeps the order from holding more on the field.
+fn check_hold(
+    order: &OrderEntry,
+    way: Way,
+    branch: Branch,
+    article: Article,
+) -> Option<(Refusal, u64)>
+    ensures { FirstFailure (hold_checks (order_of order.now) way (name_of branch article)) result }
+{
+    match line_in(&order.lines, branch, article) {
+        Some(line) => {
+            if line.way != way {
+                return Some((Refusal::OtherWay, 0));
+            }
+            None
+        }
+        None => {
+            if order.lines.len() >= MAX_ORDER_LINES {
+                return Some((Refusal::TooManyLines, 0));
+            }
+            None
+        }
+    }
+}

@@ -1,0 +1,112 @@
+//! Entries by their names.
+
+ghost use Rattle.std.specs.Prelude.{◌≡◌, ◌==◌, MatchOption, find};
+ghost use Rattle.std.specs.Str.{bytes_eq};
+ghost use Rattle.book.specs.Ledger.{field_named, kept_under, on, order_numbered, same_name};
+ghost use Rattle.book.specs.View.{field_of, kept_of, order_of};
+ghost use Rattle.book.specs.Walk.{name_of};
+
+use super::Book;
+use crate::entries::{FieldEntry, KeptEntry, OrderEntry};
+use crate::order::Line;
+use escrow::{Article, Branch, Key, OrderNo};
+
+impl Book {
+    /// The field of that name.
+    pub(super) fn field_entry(&self, branch: Branch, article: Article) -> Option<&FieldEntry>
+        ensures { let found = field_named self.now.ledger (name_of branch article) in MatchOption result (found ≡ None) (λ entry. found ≡ Some (field_of entry.now)) }
+    {
+        field_in(&self.fields, branch, article)
+    }
+
+    /// The order of that number.
+    pub(super) fn order_entry(&self, number: OrderNo) -> Option<&OrderEntry>
+        ensures { let found = order_numbered self.now.ledger number in MatchOption result (found ≡ None) (λ entry. found ≡ Some (order_of entry.now)) }
+    {
+        order_in(&self.orders, number)
+    }
+
+    /// What is kept under that key.
+    pub(super) fn kept_entry(&self, key: Key) -> Option<&KeptEntry>
+        ensures { let found = kept_under self.now.ledger key in MatchOption result (found ≡ None) (λ entry. found ≡ Some (kept_of entry.now)) }
+    {
+        kept_in(&self.kept, key)
+    }
+}
+
+/// The first field of that name.
+pub(super) fn field_in(
+    fields: &[FieldEntry],
+    branch: Branch,
+    article: Article,
+) -> Option<&FieldEntry>
+    ensures { let found = find (λ entry. same_name (name_of branch article) (field_of entry).name) fields.now in MatchOption result (found ≡ None) (λ entry. found ≡ Some entry.now) }
+{
+    for entry in fields {
+        if is_named(entry, branch, article) {
+            return Some(entry);
+        }
+    }
+    None
+}
+
+fn is_named(entry: &FieldEntry, branch: Branch, article: Article) -> bool
+    ensures { result ≡ same_name (name_of branch article) (field_of entry.now).name }
+{
+    branch == entry.branch && article == entry.article
+}
+
+/// The first order of that number.
+pub(super) fn order_in(orders: &[OrderEntry], number: OrderNo) -> Option<&OrderEntry>
+    ensures { let found = find (λ entry. entry.number == number) orders.now in MatchOption result (found ≡ None) (λ entry. found ≡ Some entry.now) }
+{
+    for entry in orders {
+        if is_numbered(entry, number) {
+            return Some(entry);
+        }
+    }
+    None
+}
+
+pub(super) fn is_numbered(entry: &OrderEntry, number: OrderNo) -> bool
+    ensures { result ≡ (entry.now.number == number) }
+{
+    entry.number == number
+}
+
+/// The first that is kept under that key.
+pub(super) fn kept_in(kept: &[KeptEntry], key: Key) -> Option<&KeptEntry>
+    ensures { let found = find (λ entry. bytes_eq entry.key key) kept.now in MatchOption result (found ≡ None) (λ entry. found ≡ Some entry.now) }
+{
+    for entry in kept {
+        if is_under(entry, key) {
+            return Some(entry);
+        }
+    }
+    None
+}
+
+fn is_under(entry: &KeptEntry, key: Key) -> bool
+    ensures { result ≡ bytes_eq entry.now.key key }
+{
+    entry.key == key
+}
+
+/// The first line on that field.
+pub(super) fn line_in(lines: &[Line], branch: Branch, article: Article) -> Option<&Line>
+    ensures { let found = find (on (name_of branch article)) lines.now in MatchOption result (found ≡ None) (λ line. found ≡ Some line.now) }
+{
+    for line in lines {
+        if is_on(line, branch, article) {
+            return Some(line);
+        }
+    }
+    None
+}
+
+/// Whether the line is on that field.
+pub(super) fn is_on(line: &Line, branch: Branch, article: Article) -> bool
+    ensures { result ≡ on (name_of branch article) line.now }
+{
+    branch == line.branch && article == line.article
+}

@@ -1,0 +1,128 @@
+//! Entries put among others in the order of their keys. Where there is room no memory is taken.
+
+ghost use Rattle.std.specs.Prelude.{◌≡◌, ◌<◌, ◌≤◌, ◌∷◌, ◌++◌, [], length, map, nat_lt};
+ghost use Rattle.std.specs.Cmp.Lexicographic.{slice_cmp};
+ghost use Rattle.std.specs.List.{insert};
+ghost use Rattle.std.specs.Ordering.{is_lt, nat_cmp};
+ghost use Rattle.std.specs.Vec.{vec_capacity, vec_len};
+ghost use Rattle.book.specs.Ledger.{insert_in_order, name_cmp};
+ghost use Rattle.book.specs.View.{field_of, kept_of, move_of, order_of};
+ghost use Rattle.book.specs.Walk.{name_of};
+
+use crate::entries::{FieldEntry, KeptEntry, MoveEntry, OrderEntry};
+use escrow::{Article, Branch};
+use std::cmp::Ordering;
+
+/// Whether the one field stands before the other: by branch, then by article.
+fn is_field_before(one: &FieldEntry, other: &FieldEntry) -> bool
+    ensures { result ≡ is_lt (name_cmp (field_of one.now).name (field_of other.now).name) }
+{
+    match one.branch.cmp(&other.branch) {
+        Ordering::Less => true,
+        Ordering::Equal => one.article < other.article,
+        Ordering::Greater => false,
+    }
+}
+
+fn field_place(fields: &[FieldEntry], entry: &FieldEntry) -> usize
+    ensures within { result ≤ length fields.now }
+    ensures there { map field_of (insert fields.now result entry.now) ≡ insert_in_order (λ f g. is_lt (name_cmp f.name g.name)) (field_of entry.now) (map field_of fields.now) }
+{
+    for (place, other) in fields.iter().enumerate() {
+        if is_field_before(entry, other) {
+            return place;
+        }
+    }
+    fields.len()
+}
+
+pub(super) fn insert_field(fields: &mut Vec<FieldEntry>, entry: FieldEntry)
+    requires { vec_len fields.old < vec_capacity fields.old }
+    ensures { map field_of fields.new.items ≡ insert_in_order (λ f g. is_lt (name_cmp f.name g.name)) (field_of entry) (map field_of fields.old.items) }
+{
+    let place = field_place(fields, &entry);
+    match fields.insert(place, entry) {
+        Ok(()) => {}
+        Err(_) => unreachable!(),
+    }
+}
+
+fn is_order_before(one: &OrderEntry, other: &OrderEntry) -> bool
+    ensures { result ≡ nat_lt one.now.number other.now.number }
+{
+    one.number < other.number
+}
+
+fn order_place(orders: &[OrderEntry], entry: &OrderEntry) -> usize
+    ensures within { result ≤ length orders.now }
+    ensures there { map order_of (insert orders.now result entry.now) ≡ insert_in_order (λ a b. nat_lt a.number b.number) (order_of entry.now) (map order_of orders.now) }
+{
+    for (place, other) in orders.iter().enumerate() {
+        if is_order_before(entry, other) {
+            return place;
+        }
+    }
+    orders.len()
+}
+
+pub(super) fn insert_order(orders: &mut Vec<OrderEntry>, entry: OrderEntry)
+    requires { vec_len orders.old < vec_capacity orders.old }
+    ensures { map order_of orders.new.items ≡ insert_in_order (λ a b. nat_lt a.number b.number) (order_of entry) (map order_of orders.old.items) }
+{
+    let place = order_place(orders, &entry);
+    match orders.insert(place, entry) {
+        Ok(()) => {}
+        Err(_) => unreachable!(),
+    }
+}
+
+fn is_key_before(one: &KeptEntry, other: &KeptEntry) -> bool
+    ensures { result ≡ is_lt (slice_cmp nat_cmp one.now.key other.now.key) }
+{
+    one.key < other.key
+}
+
+fn kept_place(kept: &[KeptEntry], entry: &KeptEntry) -> usize
+    ensures within { result ≤ length kept.now }
+    ensures there { map kept_of (insert kept.now result entry.now) ≡ insert_in_order (λ a b. is_lt (slice_cmp nat_cmp a.key b.key)) (kept_of entry.now) (map kept_of kept.now) }
+{
+    for (place, other) in kept.iter().enumerate() {
+        if is_key_before(entry, other) {
+            return place;
+        }
+    }
+    kept.len()
+}
+
+pub(super) fn insert_kept(kept: &mut Vec<KeptEntry>, entry: KeptEntry)
+    requires { vec_len kept.old < vec_capacity kept.old }
+    ensures { map kept_of kept.new.items ≡ insert_in_order (λ a b. is_lt (slice_cmp nat_cmp a.key b.key)) (kept_of entry) (map kept_of kept.old.items) }
+{
+    let place = kept_place(kept, &entry);
+    match kept.insert(place, entry) {
+        Ok(()) => {}
+        Err(_) => unreachable!(),
+    }
+}
+
+pub(super) fn push_move(
+    moves: &mut Vec<MoveEntry>,
+    place: u64,
+    branch: Branch,
+    article: Article,
+    amount: i64,
+)
+    requires { vec_len moves.old < vec_capacity moves.old }
+    ensures { map move_of moves.new.items ≡ map move_of moves.old.items ++ record { place = place; field = name_of branch article; amount = amount } ∷ [] }
+{
+    let entry = MoveEntry {
+        place,
+        branch,
+        article,
+        amount,
+    };
+    match moves.push(entry) {
+        Ok(()) => {}
+        Err(_) => unreachable!(),
+    }
+}
