@@ -23,3 +23,7 @@ pub mod Allowed
 pub mod Viewed
 pub mod Checked
 pub mod LineChecks
+pub mod Told
+pub mod InOrder
+pub mod Puts
+pub mod Changed

@@ -13,3 +13,5 @@ pub mod Plans
 pub mod Views
 pub mod Checking
 pub mod Planned
+pub mod Rows
+pub mod Changes

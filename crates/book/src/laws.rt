@@ -13,12 +13,14 @@ ghost use Rattle.words.specs.declared.open_line.OpenLine.{OpenLine};
 ghost use Rattle.words.specs.declared.reply.Reply.{Reply};
 ghost use Rattle.words.specs.declared.reply.Reply.TheVariants.{Done};
 ghost use Rattle.book.specs.Answers.{After, Answers, IsAccepted, Runs, bound, same_command};
+ghost use Rattle.book.specs.Changes.{changed_rows, put_content};
 ghost use Rattle.book.specs.Future.{Honours, HonoursAlways};
 ghost use Rattle.book.specs.Good.{Good};
 ghost use Rattle.book.specs.Held.{MayHoldMore, BreaksBound, held_to_add, held_to_take};
 ghost use Rattle.book.specs.Ledger.{Field, Ledger, Name, is_transfer, line_name, line_on, order_numbered, places, same_name};
 ghost use Rattle.book.specs.Next.{accept, new_line, new_order, next, with_order};
 ghost use Rattle.book.specs.Outcomes.{FallsBelow, IsInfimum, IsSupremum, RisesAbove, article_total, settled};
+ghost use Rattle.book.specs.Rows.{Content, IsInKeyOrder, IsRowsOf};
 ghost use Rattle.book.specs.declared.order.Kind.{Kind};
 
 /// At a good ledger every request has an answer; at no ledger it has two. An accepted one is done at the next
@@ -81,4 +83,21 @@ pub fn transfers_even_out()
 /// Commands in range are the same exactly where their spellings are.
 pub fn spellings_tell_commands()
     ensures { (c d : Command) → IsInRange c → IsInRange d → IsTrue (same_command c d) ↔ (c ≡ d) }
+{}
+
+/// Two good ledgers with equal rows are equal.
+pub fn rows_tell_all()
+    ensures { (A B : Ledger) (C : Content) → Good A → Good B → IsRowsOf A C → IsRowsOf B C → A ≡ B }
+{}
+
+/// A ledger has not two contents; a good one has one, whose rows stand in the order of their keys.
+pub fn rows_are_one()
+    ensures some { (A : Ledger) → Good A → (C : Content) × IsRowsOf A C }
+    ensures one { (A : Ledger) (C D : Content) → IsRowsOf A C → IsRowsOf A D → C ≡ D }
+    ensures order { (A : Ledger) (C : Content) → Good A → IsRowsOf A C → IsInKeyOrder C }
+{}
+
+/// The rows that an accepted request changes, put into the rows of a good ledger, give those of the next one.
+pub fn changes_suffice()
+    ensures { (A : Ledger) (r : Request) (C D : Content) → Good A → IsKey r.key → IsInRange r.command → IsAccepted A r → IsRowsOf A C → IsRowsOf (accept A r) D → put_content (changed_rows A r D) C ≡ D }
 {}

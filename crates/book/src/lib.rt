@@ -12,8 +12,9 @@ mod plan;
 pub use book::{Book, FieldView, OrderView, Planned};
 pub use examples::worked_examples_hold;
 pub use laws::{
-    answers_stay_good, bounds_are_held, exactly_one_answer, good_ledgers_honour, runs_stay_good,
-    spellings_tell_commands, tests_are_comparisons, transfers_even_out,
+    answers_stay_good, bounds_are_held, changes_suffice, exactly_one_answer, good_ledgers_honour,
+    rows_are_one, rows_tell_all, runs_stay_good, spellings_tell_commands, tests_are_comparisons,
+    transfers_even_out,
 };
 pub use limits::{MAX_FIELDS, MAX_ORDERS, MAX_PLACES};
 pub use order::{Kind, Line, State};

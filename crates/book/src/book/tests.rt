@@ -29,7 +29,12 @@ fn carry_out<R: Abort + AllocGlobal>(
     command: &[u8],
     place: u64,
 ) -> Result<(), Fail> {
-    let Planned::Accept(plan) = planned(rt, book, key, command)? else {
+    let alloc = rt.alloc();
+    let request = Request {
+        key: Key::read(key)?,
+        command: read_command(alloc, command)?,
+    };
+    let Planned::Accept(plan) = book.plan(alloc, &request)? else {
         return Err(Fail::from("refused"));
     };
     assert_eq!(rt; plan.place(), place);
@@ -55,6 +60,9 @@ fn a_new_book_is_empty(rt: HostRuntime) -> Result<(), Fail> {
     laws::good_ledgers_honour();
     laws::transfers_even_out();
     laws::spellings_tell_commands();
+    laws::rows_tell_all();
+    laws::rows_are_one();
+    laws::changes_suffice();
     crate::examples::worked_examples_hold();
     Ok(())
 }
@@ -80,7 +88,9 @@ fn a_book_shows_what_is_carried_out(rt: HostRuntime) -> Result<(), Fail> {
     carry_out(&rt, &mut book, b"K3", b"open 7 120 take N2 A-1 35", 3)?;
     carry_out(&rt, &mut book, b"K4", b"use 7 N2 A-1 20", 4)?;
     let number = OrderNo::new(7).ok_or("a number")?;
-    let order = book.order(number).ok_or("an order")?;
+    let Some(order) = book.order(number) else {
+        return Err(Fail::from("an order"));
+    };
     assert_eq!(rt; order.kind, Kind::Plain);
     assert_eq!(rt; order.state, State::Open);
     assert_eq!(rt; order.until.get(), 120);

@@ -9,7 +9,8 @@ use Rattle.book.specs.InPlace.{LineMayCome}
 use Rattle.book.specs.Plans.{HasRoomFor, LinesFit}
 use Rattle.book.specs.View.{BookView, OrderRoom, order_room, view_of}
 use Rattle.book.specs.declared.entries.OrderEntry.{OrderEntry}
-use Rattle.book.proofs.Sums.{each-map, each-unmap}
+use Rattle.book.proofs.Lists.{each-unmap}
+use Rattle.book.proofs.Sums.{each-map}
 use Rattle.book.proofs.book.Book.make_room.Goals as goal
 
 fits_kept : (c : Command) (old new : List OrderEntry) → ((n : ℕ) → LineMayCome n old → LineMayCome n new) → LinesFit c (map order_room old) → LinesFit c (map order_room new)

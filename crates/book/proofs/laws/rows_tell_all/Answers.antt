@@ -1,0 +1,5 @@
+use Rattle.book.proofs.Told.{told_by_rows}
+use Rattle.book.proofs.laws.rows_tell_all.Goals as goal
+
+pub returns : goal.returns
+returns c = told_by_rows
