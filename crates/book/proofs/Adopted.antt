@@ -10,11 +10,10 @@ use Rattle.words.specs.declared.command.Command.TheVariants as command
 use Rattle.words.specs.declared.command.Request.{Request}
 use Rattle.words.specs.declared.open_line.OpenLine.{OpenLine}
 use Rattle.book.specs.InPlace.{changed_order, order_change_of}
-use Rattle.book.specs.Ledger.{Ledger, insert_in_order, is_open, name_cmp, places}
+use Rattle.book.specs.Ledger.{Ledger, insert_in_order, is_open, name_cmp, places, name_of}
 use Rattle.book.specs.Next.{accept, new_line, next, set_state}
 use Rattle.book.specs.Plans.{opened_lines}
 use Rattle.book.specs.View.{field_of, kept_of, ledger_of, move_of, order_of}
-use Rattle.book.specs.Walk.{name_of}
 use Rattle.book.specs.declared.book.Book.TheInside.{Inside}
 use Rattle.book.specs.declared.book.changes.OrderChange.{OrderChange}
 use Rattle.book.specs.declared.entries.FieldEntry.{FieldEntry}

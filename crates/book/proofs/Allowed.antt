@@ -9,11 +9,10 @@ use Rattle.words.specs.declared.open_line.OpenLine.{OpenLine}
 use Rattle.book.specs.Answers.{FirstFailure, checks}
 use Rattle.book.specs.Good.{Good, IsGoodLine, IsGoodOrder}
 use Rattle.book.specs.InPlace.{MayChangeOrder, order_change_of}
-use Rattle.book.specs.Ledger.{Ledger, Name, is_transfer, line_name, on, order_numbered}
+use Rattle.book.specs.Ledger.{Ledger, Name, is_transfer, line_name, on, order_numbered, name_of}
 use Rattle.book.specs.Next.{accept, add_hold, new_line, raise_held}
 use Rattle.book.specs.Plans.{LinesFit}
 use Rattle.book.specs.View.{ledger_of, order_of, order_room}
-use Rattle.book.specs.Walk.{name_of}
 use Rattle.book.specs.declared.book.Book.TheInside.{Inside}
 use Rattle.book.specs.declared.book.changes.OrderChange.{OrderChange}
 use Rattle.book.specs.declared.book.changes.OrderChange.TheVariants.{HoldMore}

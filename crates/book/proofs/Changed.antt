@@ -18,18 +18,17 @@ use Rattle.book.specs.declared.order.Kind.TheVariants.{Plain, Transfer}
 use Rattle.book.specs.declared.order.State.{State}
 use Rattle.book.specs.declared.order.State.TheVariants.{Open, Committed, Aborted}
 use Rattle.book.specs.declared.order.Line.{Line}
-use Rattle.book.specs.Ledger.{kept_under, Name, Field, Move, Order, Ledger, Kept, on, is_open, is_committed, open_state, committed_state, is_transfer, line_name, same_name, name_cmp, line_on, order_numbered, places, insert_in_order}
+use Rattle.book.specs.Ledger.{kept_under, Name, Field, Move, Order, Ledger, Kept, on, is_open, is_committed, open_state, committed_state, is_transfer, line_name, same_name, name_cmp, line_on, order_numbered, places, insert_in_order, name_of}
 use Rattle.book.specs.Outcomes.{total, signed, moved, settled, IsSupremum}
 use Rattle.book.specs.Held.{if_take, if_add, held_to_take, held_to_add}
-use Rattle.book.specs.Next.{accept, set_state, change_lines, raise_used, lower_held, raise_held, hold_more, add_hold, new_line, new_order, with_order, transfer_lines}
+use Rattle.book.specs.Next.{accept, expires, set_state, change_lines, raise_used, lower_held, raise_held, hold_more, add_hold, new_line, new_order, with_order, transfer_lines}
 use Rattle.book.specs.Answers.{FirstFailure, checks}
 use Rattle.book.specs.Good.{Good}
 use Rattle.book.specs.Rows.{DeskCells, FieldCells, OrderCells, LineCells, Content, IsFieldRow, move_row, order_row, line_row, lines_from, order_lines, kept_row, desk_row, IsRowsOf, desk_cmp, field_cmp, move_cmp, order_cmp, line_cmp, kept_cmp}
-use Rattle.book.specs.Walk.{name_of}
 use Rattle.escrow.specs.Codes.{IsKey}
 use Rattle.words.specs.declared.command.Request.{Request}
 use Rattle.words.specs.Spelling.{IsInRange}
-use Rattle.book.specs.Changes.{has_line_on, expires, order_is, changes_field, changes_move, changes_order, changes_line, put_rows, changed_rows, put_content}
+use Rattle.book.specs.Changes.{has_line_on, order_is, changes_field, changes_move, changes_order, changes_line, put_rows, changed_rows, put_content}
 use Rattle.book.proofs.Sums.{each, each-imp, each-both, each-map, total-map, total-eq}
 use Rattle.book.proofs.Bounds.{takes, adds, none-total, inf_is, sup_is, inf_unique}
 use Rattle.book.proofs.Closing.{all_pass, at_number, name_is, open_there, sounds_from_good}

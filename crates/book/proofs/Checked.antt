@@ -12,8 +12,8 @@ use Rattle.book.specs.contracts.order.Kind.{the_type}
 use Rattle.book.specs.declared.order.Kind.{Kind}
 use Rattle.book.specs.declared.order.Kind.TheVariants.{Plain, Transfer}
 use Rattle.book.specs.declared.order.Line.{Line}
-use Rattle.book.specs.Answers.{Check, FirstFailure, OfLine, OfOrder, bound, check, checks, full, no_field}
-use Rattle.book.specs.Checking.{bound_checks, hold_checks, open_checks, stock_checks}
+use Rattle.book.specs.Answers.{Check, FirstFailure, OfLine, OfOrder, bound, check, checks, full, no_field, open_checks}
+use Rattle.book.specs.Checking.{bound_checks, hold_checks, stock_checks}
 use Rattle.book.specs.Good.{Good}
 use Rattle.book.specs.Held.{BreaksBound, MayHoldMore}
 use Rattle.book.specs.Ledger.{Field, Ledger, Name, Order, field_named, is_open, is_transfer, line_on, order_numbered, transfer_kind}

@@ -16,6 +16,14 @@ pub mod Tests
 pub mod Played
 pub mod Walking
 pub mod Walked
+pub mod Zipped
+pub mod Tested
+pub mod Grouped
+pub mod RowsTold
+pub mod InRow
+pub mod Places
+pub mod Whole
+pub mod SumsOnFields
 pub mod Found
 pub mod Placing
 pub mod Adopted

@@ -26,7 +26,7 @@ line_field l = line_name (new_line l)
 abbrev pub AreApart : List OpenLine → Type 0
 AreApart lines = IsDistinct same_name (map line_name (map new_line lines))
 
-apart_push : (ls : List Line) (l : Line) → IsDistinct same_name (map line_name ls) → Each (λ m. on (line_name l) m ≡ false) ls → IsDistinct same_name (map line_name (ls ++ l ∷ []))
+pub apart_push : (ls : List Line) (l : Line) → IsDistinct same_name (map line_name ls) → Each (λ m. on (line_name l) m ≡ false) ls → IsDistinct same_name (map line_name (ls ++ l ∷ []))
 unfolding IsDistinct
 apart_push [] l d h = (tt, tt)
 apart_push (m ∷ ms) l d h = (last ms d.0, apart_push ms l d.1 h.1)

@@ -1,4 +1,4 @@
--- Two good ledgers with equal rows are equal.
+-- Two good ledgers with equal rows are equal, and so is whatever the same rows tell.
 use Rattle.std.proofs.Common.{◌≡◌, ℕ, ◌+◌, ◌<◌, pos, List, [], ◌∷◌, ◌++◌, map, flat_map, Bool, true, false, refl, sym, ap, ◌∙◌, subst, arith, true≢false, nat_cmp, Less}
 use Rattle.std.proofs.lemmas.Int.{ints}
 use Rattle.std.specs.List.{AllByRecursion as Each, AllZip}
@@ -12,13 +12,14 @@ use Rattle.book.specs.declared.order.State.TheVariants.{Open, Committed, Aborted
 use Rattle.book.specs.declared.order.Line.{Line}
 use Rattle.book.specs.Ledger.{Field, Move, Order, Ledger, Kept}
 use Rattle.book.specs.Good.{Good, IsGoodKept}
-use Rattle.book.specs.Rows.{FieldCells, LineCells, kind_code, state_code, way_code, IsFieldRow, move_row, order_row, line_row, lines_from, order_lines, kept_row, desk_row, Content, IsRowsOf}
+use Rattle.book.specs.Told.{AreOthers, TellsField, TellsLedger}
+use Rattle.book.specs.Rows.{FieldCells, LineCells, OrderCells, kind_code, state_code, way_code, IsFieldRow, move_row, order_row, line_row, lines_from, order_lines, kept_row, desk_row, Content, IsRowsOf}
 use Rattle.book.proofs.Sums.{each-imp}
 use Rattle.book.proofs.Closing.{less_is}
 use Rattle.book.proofs.Lists.{each-unmap}
 use Rattle.words.proofs.OneItem.{spelling_one}
 
-same_pos : (a b : ℕ) → pos a ≡ pos b → a ≡ b
+pub same_pos : (a b : ℕ) → pos a ≡ pos b → a ≡ b
 same_pos a b e = omega (arith, ints)
 
 head_or : {X : Type 0} → X → List X → X
@@ -53,19 +54,25 @@ map_tells P f one (x ∷ xs) (y ∷ ys) h k e = let a = one x y h.0 k.0 (same_fi
 
 -- fields
 
-same_field : (A B : Ledger) (f g : Field) (row : FieldCells) → IsFieldRow A f row → IsFieldRow B g row → f ≡ g
-same_field A B f g row h k =
+same_field : (f g : Field) (row : FieldCells) → TellsField f row → TellsField g row → f ≡ g
+same_field f g row h k =
     let b = sym h.branch ∙ k.branch in let a = sym h.article ∙ k.article in
     let l = same_pos f.lo g.lo (sym h.lo ∙ k.lo) in let u = same_pos f.hi g.hi (sym h.hi ∙ k.hi) in let s = same_pos f.start g.start (sym h.start ∙ k.start) in
     λ i. record { name = record { branch = b i; article = a i }; lo = l i; hi = u i; start = s i }
 
-same_fields : (A B : Ledger) (fs gs : List Field) (rows : List FieldCells) → AllZip (IsFieldRow A) fs rows → AllZip (IsFieldRow B) gs rows → fs ≡ gs
-same_fields A B [] [] rows h k = refl
-same_fields A B [] (g ∷ gs) [] h k = absurd k
-same_fields A B [] (g ∷ gs) (r ∷ rows) h k = absurd h
-same_fields A B (f ∷ fs) gs [] h k = absurd h
-same_fields A B (f ∷ fs) [] (r ∷ rows) h k = absurd k
-same_fields A B (f ∷ fs) (g ∷ gs) (r ∷ rows) h k = let a = same_field A B f g r h.0 k.0 in let b = same_fields A B fs gs rows h.1 k.1 in λ i. a i ∷ b i
+same_fields : (fs gs : List Field) (rows : List FieldCells) → AllZip TellsField fs rows → AllZip TellsField gs rows → fs ≡ gs
+same_fields [] [] rows h k = refl
+same_fields [] (g ∷ gs) [] h k = absurd k
+same_fields [] (g ∷ gs) (r ∷ rows) h k = absurd h
+same_fields (f ∷ fs) gs [] h k = absurd h
+same_fields (f ∷ fs) [] (r ∷ rows) h k = absurd k
+same_fields (f ∷ fs) (g ∷ gs) (r ∷ rows) h k = let a = same_field f g r h.0 k.0 in let b = same_fields fs gs rows h.1 k.1 in λ i. a i ∷ b i
+
+fields_tell : (A : Ledger) (fs : List Field) (rows : List FieldCells) → AllZip (IsFieldRow A) fs rows → AllZip TellsField fs rows
+fields_tell A [] [] h = tt
+fields_tell A [] (r ∷ rows) h = absurd h
+fields_tell A (f ∷ fs) [] h = absurd h
+fields_tell A (f ∷ fs) (r ∷ rows) h = (record { branch = h.0.branch; article = h.0.article; lo = h.0.lo; hi = h.0.hi; start = h.0.start }, fields_tell A fs rows h.1)
 
 -- moves
 
@@ -75,13 +82,13 @@ same_move m n e = let p = same_pos m.place n.place (ap (λ r. r.place) e) in
 
 -- codes
 
-same_kind : (k j : Kind) → kind_code k ≡ kind_code j → k ≡ j
+pub same_kind : (k j : Kind) → kind_code k ≡ kind_code j → k ≡ j
 same_kind Plain Plain e = refl
 same_kind Transfer Transfer e = refl
 same_kind Plain Transfer e = absurd (omega (arith, ints))
 same_kind Transfer Plain e = absurd (omega (arith, ints))
 
-same_state : (s t : State) → state_code s ≡ state_code t → s ≡ t
+pub same_state : (s t : State) → state_code s ≡ state_code t → s ≡ t
 same_state Open Open e = refl
 same_state Committed Committed e = refl
 same_state Aborted Aborted e = refl
@@ -92,7 +99,7 @@ same_state Committed Aborted e = absurd (omega (arith, ints))
 same_state Aborted Open e = absurd (omega (arith, ints))
 same_state Aborted Committed e = absurd (omega (arith, ints))
 
-same_way : (v w : Way) → way_code v ≡ way_code w → v ≡ w
+pub same_way : (v w : Way) → way_code v ≡ way_code w → v ≡ w
 same_way Take Take e = refl
 same_way Add Add e = refl
 same_way Take Add e = absurd (omega (arith, ints))
@@ -104,15 +111,11 @@ same_line : (n nr : ℕ) (l m : Line) → line_row n nr l ≡ line_row n nr m �
 same_line n nr l m e = let w = same_way l.way m.way (ap (λ r. r.way) e) in let h = same_pos l.held m.held (ap (λ r. r.held) e) in let u = same_pos l.used m.used (ap (λ r. r.used) e) in
     λ i. record { way = w i; branch = (e i).branch; article = (e i).article; held = h i; used = u i }
 
--- rows of other orders
-abbrev Others : ℕ → List LineCells → Type 0
-Others n rows = Each (λ r. r.number ≡ pos n → ⊥) rows
-
-no_other : (n nr : ℕ) (l : Line) (rest rows : List LineCells) → Others n rows → line_row n nr l ∷ rest ≡ rows → ⊥
+no_other : (n nr : ℕ) (l : Line) (rest rows : List LineCells) → AreOthers n rows → line_row n nr l ∷ rest ≡ rows → ⊥
 no_other n nr l rest [] o e = not_empty _ _ e
 no_other n nr l rest (r ∷ rows) o e = o.0 (sym (ap (λ r. r.number) (same_first _ _ _ _ e)))
 
-same_lines : (n nr : ℕ) (ls ms : List Line) (rest others : List LineCells) → Others n rest → Others n others → lines_from n nr ls ++ rest ≡ lines_from n nr ms ++ others → (ls ≡ ms) × (rest ≡ others)
+same_lines : (n nr : ℕ) (ls ms : List Line) (rest others : List LineCells) → AreOthers n rest → AreOthers n others → lines_from n nr ls ++ rest ≡ lines_from n nr ms ++ others → (ls ≡ ms) × (rest ≡ others)
 same_lines n nr [] [] rest others p q e = (refl, e)
 same_lines n nr [] (m ∷ ms) rest others p q e = absurd (no_other n nr m (lines_from n (nr + 1) ms ++ others) rest p (sym e))
 same_lines n nr (l ∷ ls) [] rest others p q e = absurd (no_other n nr l (lines_from n (nr + 1) ls ++ rest) others q e)
@@ -125,15 +128,15 @@ pub each-join : {X : Type 0} (P : X → Type 0) (xs ys : List X) → Each P xs �
 each-join P [] ys h k = k
 each-join P (x ∷ xs) ys h k = (h.0, each-join P xs ys h.1 k)
 
-lines_number : (n m nr : ℕ) (ls : List Line) → n < m → Others n (lines_from m nr ls)
+lines_number : (n m nr : ℕ) (ls : List Line) → n < m → AreOthers n (lines_from m nr ls)
 lines_number n m nr [] h = tt
 lines_number n m nr (l ∷ ls) h = ((λ e. omega (arith, ints)), lines_number n m (nr + 1) ls h)
 
-others_after : (n : ℕ) (os : List Order) → Each (λ o. n < o.number) os → Others n (flat_map order_lines os)
+pub others_after : (n : ℕ) (os : List Order) → Each (λ o. n < o.number) os → AreOthers n (flat_map order_lines os)
 others_after n [] h = tt
 others_after n (o ∷ os) h = each-join _ (order_lines o) (flat_map order_lines os) (lines_number n o.number 1 o.lines h.0) (others_after n os h.1)
 
-after : (o : Order) (os : List Order) → Each (λ n. nat_cmp o.number n ≡ Less) (map (λ o. o.number) os) → Each (λ m. o.number < m.number) os
+pub after : (o : Order) (os : List Order) → Each (λ n. nat_cmp o.number n ≡ Less) (map (λ o. o.number) os) → Each (λ m. o.number < m.number) os
 after o os h = each-imp (λ m e. less_is o.number m.number e) os (each-unmap (λ n. nat_cmp o.number n ≡ Less) (λ o. o.number) os h)
 
 same_orders : (os ps : List Order) → IsStrictlySortedBy nat_cmp (map (λ o. o.number) os) → IsStrictlySortedBy nat_cmp (map (λ o. o.number) ps) → map order_row os ≡ map order_row ps → flat_map order_lines os ≡ flat_map order_lines ps → os ≡ ps
@@ -148,7 +151,7 @@ same_orders (o ∷ os) (p ∷ ps) h k e d =
     let u = same_pos o.until p.until (ap (λ r. r.until) row) in
     let s = same_state o.state p.state (ap (λ r. r.state) row) in
     let ls = same_lines o.number 1 o.lines p.lines (flat_map order_lines os) (flat_map order_lines ps) (others_after o.number os (after o os h.0))
-    (subst (λ n. Others n (flat_map order_lines ps)) (sym n) (others_after p.number ps (after p ps k.0)))
+    (subst (λ n. AreOthers n (flat_map order_lines ps)) (sym n) (others_after p.number ps (after p ps k.0)))
     (d ∙ ap (λ n. lines_from n 1 p.lines ++ flat_map order_lines ps) (sym n)) in
     let more = same_orders os ps h.1 k.1 (same_rest (order_row o) (order_row p) (map order_row os) (map order_row ps) e) ls.1 in
     λ i. record { number = n i; kind = ki i; until = u i; state = s i; lines = ls.0 i } ∷ more i
@@ -161,11 +164,28 @@ any : {X : Type 0} (xs : List X) → Each (λ x. Unit {0}) xs
 any [] = tt
 any (x ∷ xs) = (tt, any xs)
 
-pub told_by_rows : (A B : Ledger) (C : Content) → Good A → Good B → IsRowsOf A C → IsRowsOf B C → A ≡ B
-told_by_rows A B C g h r s =
+same_numbers : (os ps : List Order) → map order_row os ≡ map order_row ps → map (λ o. o.number) os ≡ map (λ o. o.number) ps
+same_numbers [] [] e = refl
+same_numbers [] (p ∷ ps) e = absurd (not_empty _ _ (sym e))
+same_numbers (o ∷ os) [] e = absurd (not_empty _ _ e)
+same_numbers (o ∷ os) (p ∷ ps) e =
+    let a = same_pos o.number p.number (ap (λ (r : OrderCells). r.number) (same_first (order_row o) (order_row p) (map order_row os) (map order_row ps) e)) in
+    let b = same_numbers os ps (same_rest (order_row o) (order_row p) (map order_row os) (map order_row ps) e) in
+    λ i. a i ∷ b i
+
+pub rows_tell : (A : Ledger) (C : Content) → IsRowsOf A C → TellsLedger A C
+rows_tell A C r = record { desk = r.desk; fields = fields_tell A A.fields C.fields r.fields; moves = r.moves; orders = r.orders; lines = r.lines; kept = r.kept }
+
+-- a good ledger, and another of the same rows whose kept keys are in form
+pub told_once : (A B : Ledger) (C : Content) → Good A → Each IsGoodKept B.kept → TellsLedger A C → TellsLedger B C → A ≡ B
+told_once A B C g h r s =
+    let rows = sym r.orders ∙ s.orders in
     let t = same_pos A.clock B.clock (ap (λ d. d.clock) (same_first (desk_row A) (desk_row B) [] [] (sym r.desk ∙ s.desk))) in
-    let f = same_fields A B A.fields B.fields C.fields r.fields s.fields in
+    let f = same_fields A.fields B.fields C.fields r.fields s.fields in
     let m = map_tells (λ _. Unit {0}) move_row (λ a b _ _ e. same_move a b e) A.moves B.moves (any A.moves) (any B.moves) (sym r.moves ∙ s.moves) in
-    let o = same_orders A.orders B.orders g.orders_in_order h.orders_in_order (sym r.orders ∙ s.orders) (sym r.lines ∙ s.lines) in
-    let k = map_tells IsGoodKept kept_row same_kept A.kept B.kept g.kept h.kept (sym r.kept ∙ s.kept) in
+    let o = same_orders A.orders B.orders g.orders_in_order (subst (IsStrictlySortedBy nat_cmp) (same_numbers A.orders B.orders rows) g.orders_in_order) rows (sym r.lines ∙ s.lines) in
+    let k = map_tells IsGoodKept kept_row same_kept A.kept B.kept g.kept h (sym r.kept ∙ s.kept) in
     λ i. record { clock = t i; fields = f i; moves = m i; orders = o i; kept = k i }
+
+pub told_by_rows : (A B : Ledger) (C : Content) → Good A → Good B → IsRowsOf A C → IsRowsOf B C → A ≡ B
+told_by_rows A B C g h r s = told_once A B C g h.kept (rows_tell A C r) (rows_tell B C s)

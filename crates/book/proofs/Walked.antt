@@ -1,7 +1,7 @@
 -- A walk over a list, one element at a time.
 use Rattle.std.proofs.Common.{◌≡◌, ℕ, ◌+◌, ◌<◌, ◌≤◌, ℤ, pos, ◌+ℤ◌, nat_abs, List, [], ◌∷◌, ◌++◌, map, take, drop, length, get_or, sym, ap, ◌∙◌, subst, arith, if◌then◌else◌, nat_cmp, Less}
 use Rattle.std.proofs.lemmas.Int.{ints}
-use Rattle.std.proofs.lemmas.List.{take-append-drop}
+use Rattle.std.proofs.lemmas.List.{take-append-drop, take_all}
 use Rattle.std.proofs.lemmas.Grind.{take_at_read}
 use Rattle.std.specs.List.{AllByRecursion as Each}
 use Rattle.std.specs.List.Sorted.{IsStrictlySortedBy}
@@ -19,7 +19,7 @@ use Rattle.book.specs.View.{ledger_of, move_of, order_of}
 use Rattle.book.specs.Walk.{added_by_order, moved_by_move, moved_by_order, taken_by_order}
 use Rattle.book.proofs.Asked.{total-push}
 use Rattle.book.proofs.Closing.{less_is}
-use Rattle.book.proofs.Lists.{each-unmap, length-of-map}
+use Rattle.book.proofs.Lists.{each-of-push, each-unmap, length-of-map}
 use Rattle.book.proofs.Sums.{each-imp, total-map}
 
 pub take-step : {X : Type 0} (xs : List X) (i : ℕ) (x : X) → i < length xs → x ≡ get_or xs i x → take (i + 1) xs ≡ take i xs ++ x ∷ []
@@ -44,9 +44,16 @@ each-last P (y ∷ ys) x k = each-last P ys x k.1
 pub each-at : {X : Type 0} (P : X → Type 0) (xs : List X) (i : ℕ) (x : X) → i < length xs → x ≡ get_or xs i x → Each P xs → P x
 each-at P xs i x h e k = each-last P (take i xs) x (each-left P (take i xs ++ x ∷ []) (drop (i + 1) xs) (subst (Each P) (cut_at xs i x h e) k))
 
+-- what holds of each so far holds of one more
+pub each-next : {X : Type 0} (P : X → Type 0) (xs : List X) (i : ℕ) (x : X) → i < length xs → x ≡ get_or xs i x → Each P (take i xs) → P x → Each P (take (i + 1) xs)
+each-next P xs i x h e all p = subst (Each P) (sym (take-step xs i x h e)) (each-of-push P (take i xs) x all p)
+
+pub each-end : {X : Type 0} (P : X → Type 0) (xs : List X) (i : ℕ) → length xs ≤ i → Each P (take i xs) → Each P xs
+each-end P xs i past all = subst (Each P) (take_all i xs past) all
+
 -- ---- the entries of a good ledger
 
-few_sorted : (first last : ℕ) (ms : List Move) → first ≤ last → Each (λ m. first < m.place) ms → Each (λ m. m.place ≤ last) ms → IsStrictlySortedBy nat_cmp (map (λ m. m.place) ms) → length ms + first ≤ last
+pub few_sorted : (first last : ℕ) (ms : List Move) → first ≤ last → Each (λ m. first < m.place) ms → Each (λ m. m.place ≤ last) ms → IsStrictlySortedBy nat_cmp (map (λ m. m.place) ms) → length ms + first ≤ last
 unfolding IsStrictlySortedBy
 few_sorted first last [] h a b s = omega arith
 few_sorted first last (m ∷ ms) h a b s =

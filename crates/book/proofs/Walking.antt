@@ -96,6 +96,11 @@ pub each_step : {X : Type 0} (P : X → Type 0) (xs : List X) (i : ℕ) (x : X) 
 each_step P xs i x lt h p = let more : suc i ≡ i + 1 = omega arith in subst (λ k. Each P (take k (set xs i x))) more (each_next P xs i x lt h p)
 
 -- an element is replaced by one of which the same holds
+pub each_get : {X : Type 0} (P : X → Type 0) (xs : List X) (i : ℕ) (d : X) → i < length xs → Each P xs → P (get_or xs i d)
+each_get P [] i d lt each = absurd (omega arith)
+each_get P (x ∷ xs) zero d lt each = each.0
+each_get P (x ∷ xs) (suc i) d lt each = each_get P xs i d (omega arith) each.1
+
 pub each_set : {X : Type 0} (P : X → Type 0) (xs : List X) (i : ℕ) (d x : X) → i < length xs → Each P xs → (P (get_or xs i d) → P x) → Each P (set xs i x)
 each_set P [] i d x lt h p = absurd (omega arith)
 each_set P (y ∷ ys) zero d x lt h p = (p h.0, h.1)

@@ -17,7 +17,7 @@ use Rattle.words.specs.declared.limits.TheConstants.{MAX_ORDER_LINES}
 use Rattle.book.specs.declared.limits.TheConstants.{MAX_FIELDS, MAX_ORDERS, MAX_PLACES}
 use Rattle.book.specs.declared.order.Kind.TheVariants as kind
 use Rattle.book.specs.declared.order.Line.{Line}
-use Rattle.book.specs.Ledger.{Name, Order, Ledger, places, is_open, is_transfer, open_orders, field_named, order_numbered, line_on, kept_under}
+use Rattle.book.specs.Ledger.{Name, Order, Ledger, places, is_open, is_transfer, open_orders, field_named, order_numbered, line_on, kept_under, name_of}
 use Rattle.book.specs.Outcomes.{FallsBelow, RisesAbove}
 use Rattle.book.specs.Next.{next, accept, with_order, new_order, transfer_lines}
 
@@ -78,7 +78,7 @@ over_use A n f q = check (OfLine A n f (λ l. l.held < l.used + q)) refusal.Over
 -- those and this one.
 abbrev pub line_checks : Ledger → (List OpenLine → Order) → List OpenLine → List OpenLine → List Check
 line_checks A order before [] = []
-line_checks A order before (l ∷ ls) = let f : Name = record { branch = l.branch; article = l.article } in
+line_checks A order before (l ∷ ls) = let f = name_of l.branch l.article in
     record { fails = IsSome (line_on (order before) f); refusal = refusal.SameField; line = length before + 1 }
     ∷ no_field A f (length before + 1)
     ∷ bound l.way (with_order (order (before ++ l ∷ [])) A) f (length before + 1)
@@ -90,31 +90,37 @@ abbrev pub order_checks : Ledger → ℕ → ℕ → List Check
 order_checks A n until = full A 2 ∷ check (MAX_ORDERS ≤ length A.orders) refusal.Full
     ∷ check (IsSome (order_numbered A n)) refusal.OrderThere ∷ check (until ≤ A.clock) refusal.Past ∷ []
 
+-- the checks of a use and of a release, both of a part of what the order's line holds
+abbrev pub part_checks : Ledger → ℕ → Name → ℕ → List Check
+part_checks A n f q = full A 1 ∷ no_order A n ∷ ended A n ∷ not_held A n f ∷ over_use A n f q ∷ []
+
+-- the checks of a commit and of an abort: there is an open order under that number
+abbrev pub open_checks : Ledger → ℕ → List Check
+open_checks A n = no_order A n ∷ ended A n ∷ []
+
 -- the checks of a command, in their order
 abbrev pub checks : Ledger → Command → List Check
 checks A (Field b a lo hi start) = full A 1 ∷ check (MAX_FIELDS ≤ length A.fields) refusal.Full
-    ∷ check (IsSome (field_named A (record { branch = b; article = a }))) refusal.FieldThere
+    ∷ check (IsSome (field_named A (name_of b a))) refusal.FieldThere
     ∷ check ((lo ≤ start) × (start ≤ hi) → ⊥) refusal.BadBounds ∷ []
-checks A (Deliver b a q) = let f : Name = record { branch = b; article = a } in
+checks A (Deliver b a q) = let f = name_of b a in
     full A 1 ∷ no_field A f 0 ∷ bound way.Add (next A (Deliver b a q)) f 0 ∷ []
-checks A (Writeoff b a q) = let f : Name = record { branch = b; article = a } in
+checks A (Writeoff b a q) = let f = name_of b a in
     full A 1 ∷ no_field A f 0 ∷ bound way.Take (next A (Writeoff b a q)) f 0 ∷ []
 checks A (Open n until lines) = order_checks A n until ++ line_checks A (new_order n kind.Plain until) [] lines
 checks A (Transfer n until a from to q) = order_checks A n until
     ++ line_checks A (new_order n kind.Transfer until) [] (transfer_lines a from to q)
-checks A (More n way b a q) = let f : Name = record { branch = b; article = a } in
+checks A (More n way b a q) = let f = name_of b a in
     full A 1 ∷ no_order A n ∷ ended A n
     ∷ check (OfOrder A n (λ o. IsTrue (is_transfer o))) refusal.TransferFixed
     ∷ no_field A f 0
     ∷ check (OfLine A n f (λ l. l.way ≢ way)) refusal.OtherWay
     ∷ check (OfOrder A n (λ o. IsNone (line_on o f) × (MAX_ORDER_LINES ≤ length o.lines))) refusal.TooManyLines
     ∷ bound way (next A (More n way b a q)) f 0 ∷ []
-checks A (Use n b a q) = let f : Name = record { branch = b; article = a } in
-    full A 1 ∷ no_order A n ∷ ended A n ∷ not_held A n f ∷ over_use A n f q ∷ []
-checks A (Release n b a q) = let f : Name = record { branch = b; article = a } in
-    full A 1 ∷ no_order A n ∷ ended A n ∷ not_held A n f ∷ over_use A n f q ∷ []
-checks A (Commit n) = no_order A n ∷ ended A n ∷ []
-checks A (Abort n) = no_order A n ∷ ended A n ∷ []
+checks A (Use n b a q) = part_checks A n (name_of b a) q
+checks A (Release n b a q) = part_checks A n (name_of b a) q
+checks A (Commit n) = open_checks A n
+checks A (Abort n) = open_checks A n
 checks A (Expire now) = full A 1 ∷ check (now < A.clock) refusal.ClockBack ∷ []
 
 -- two commands are the same if their spellings are; for commands in range that is equality, by a law

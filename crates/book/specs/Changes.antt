@@ -1,6 +1,6 @@
 -- Which rows an accepted command changes, besides the row of `desk` and the new row of `kept`; and rows put in by their
 -- keys.
-use Rattle.std.specs.Prelude.{ℕ, ◌+◌, ℤ, pos, Bool, false, ◌&&◌, ◌||◌, ◌==◌, nat_le, List, [], ◌∷◌, if◌then◌else◌}
+use Rattle.std.specs.Prelude.{ℕ, ◌+◌, ℤ, pos, Bool, false, ◌&&◌, ◌||◌, ◌==◌, List, [], ◌∷◌, if◌then◌else◌}
 use Rattle.std.specs.declared.cmp.Ordering.{Ordering}
 use Rattle.std.specs.Ordering.{int_eq, is_eq, is_lt}
 use Rattle.std.specs.Str.{bytes_eq}
@@ -8,17 +8,13 @@ use Rattle.std.specs.List.{list_any, filter, fold}
 use Rattle.words.specs.declared.command.Command.{Command}
 use Rattle.words.specs.declared.command.Command.TheVariants.{Field, Deliver, Writeoff, Open, Transfer, More, Use, Release, Commit, Abort, Expire}
 use Rattle.words.specs.declared.command.Request.{Request}
-use Rattle.book.specs.Ledger.{Name, Order, Ledger, same_name, on, is_open, is_transfer, places}
-use Rattle.book.specs.Walk.{name_of}
+use Rattle.book.specs.Ledger.{Name, Order, Ledger, same_name, on, is_transfer, places, name_of}
+use Rattle.book.specs.Next.{expires}
 use Rattle.book.specs.Rows.{Content, desk_cmp, field_cmp, move_cmp, order_cmp, line_cmp, kept_cmp}
 
 -- some line of the order is on the field
 abbrev pub has_line_on : Name → Order → Bool
 has_line_on f o = list_any (on f) o.lines
-
--- the expiry aborts the order
-abbrev pub expires : ℕ → Order → Bool
-expires now o = is_open o && nat_le o.until now
 
 -- some order under that number passes the test
 abbrev pub order_is : Ledger → ℕ → (Order → Bool) → Bool

@@ -5,17 +5,9 @@ use Rattle.escrow.specs.declared.quantity.Way.TheVariants.{Add, Take}
 use Rattle.words.specs.declared.reply.Refusal.{Refusal}
 use Rattle.words.specs.declared.reply.Refusal.TheVariants.{OtherWay, TooLittle, TooManyLines, TooMuch}
 use Rattle.words.specs.declared.limits.TheConstants.{MAX_ORDER_LINES}
-use Rattle.book.specs.Answers.{Check, check, ended, full, no_field, no_order, not_held, over_use}
+use Rattle.book.specs.Answers.{Check, check, no_field}
 use Rattle.book.specs.Held.{BreaksBound}
 use Rattle.book.specs.Ledger.{Ledger, Name, Order, line_on}
-
--- there is an open order under that number
-abbrev pub open_checks : Ledger → ℕ → List Check
-open_checks A n = no_order A n ∷ ended A n ∷ []
-
--- the checks of a use and of a release
-abbrev pub part_checks : Ledger → ℕ → Name → ℕ → List Check
-part_checks A n f q = full A 1 ∷ no_order A n ∷ ended A n ∷ not_held A n f ∷ over_use A n f q ∷ []
 
 -- the order's line on the field, if there is one, has the way, and else there is room for one
 abbrev pub hold_checks : Order → Way → Name → List Check

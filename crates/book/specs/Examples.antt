@@ -12,7 +12,7 @@ use Rattle.words.specs.declared.command.Request.{Request}
 use Rattle.words.specs.declared.reply.Refusal.TheVariants.{KeyReused, NoField, BadBounds, Ended, Past, SameField, OtherWay, TooLittle, TooMuch, NotHeld, OverUse, TransferFixed, ClockBack}
 use Rattle.words.specs.declared.reply.Reply.{Reply}
 use Rattle.words.specs.declared.reply.Reply.TheVariants.{Done, Refused}
-use Rattle.book.specs.Ledger.{Ledger, field_named}
+use Rattle.book.specs.Ledger.{Ledger, field_named, name_of}
 use Rattle.book.specs.Outcomes.{settled, article_total, IsInfimum, IsSupremum}
 use Rattle.book.specs.Answers.{Answers}
 
@@ -23,7 +23,7 @@ pub data Numbers : Type 0 where
 
 -- The field is there and has these numbers; the article has this total.
 abbrev pub Shows : Ledger → Numbers → Type 0
-Shows A (numbers branch article value infimum supremum) = IsSomeAnd (field_named A (record { branch = branch; article = article }))
+Shows A (numbers branch article value infimum supremum) = IsSomeAnd (field_named A (name_of branch article))
     (λ f. (settled A f ≡ pos value) × IsInfimum A f (pos infimum) × IsSupremum A f (pos supremum))
 Shows A (total article amount) = article_total A article ≡ pos amount
 

@@ -13,9 +13,8 @@ use Rattle.book.specs.declared.book.changes.OrderChange.TheVariants.{ChangeLines
 use Rattle.book.specs.declared.entries.OrderEntry.{OrderEntry}
 use Rattle.book.specs.declared.order.Line.{Line}
 use Rattle.book.specs.declared.order.State.TheVariants.{Aborted, Committed}
-use Rattle.book.specs.Ledger.{Order, line_name, on, transfer_kind}
+use Rattle.book.specs.Ledger.{Order, line_name, on, transfer_kind, name_of}
 use Rattle.book.specs.View.{order_room}
-use Rattle.book.specs.Walk.{name_of}
 use Rattle.book.specs.Next.{add_hold, change_lines, lower_held, new_line, raise_held, raise_used, set_state}
 
 abbrev pub changed_line : LineChange → Line → Line

@@ -64,6 +64,10 @@ places A = length A.kept
 
 -- ---- names of fields
 
+-- the name of the article's field at the branch
+abbrev pub name_of : List ℕ → List ℕ → Name
+name_of branch article = record { branch = branch; article = article }
+
 abbrev pub same_name : Name → Name → Bool
 same_name f g = bytes_eq f.branch g.branch && bytes_eq f.article g.article
 
@@ -73,7 +77,7 @@ name_cmp f g = ordering_then (slice_cmp nat_cmp f.branch g.branch) (slice_cmp na
 
 -- the field that a line is on
 abbrev pub line_name : Line → Name
-line_name l = record { branch = l.branch; article = l.article }
+line_name l = name_of l.branch l.article
 
 -- the line is on the field
 abbrev pub on : Name → Line → Bool

@@ -15,3 +15,6 @@ pub mod Checking
 pub mod Planned
 pub mod Rows
 pub mod Changes
+pub mod Tables
+pub mod Told
+pub mod Sums

@@ -1,5 +1,5 @@
 -- The ledger after an accepted command: the entries that it adds or changes. It looks at no stock.
-use Rattle.std.specs.Prelude.{ℕ, ◌+◌, ◌-◌, ℤ, pos, neg_ℤ, ◌&&◌, ◌||◌, ◌==◌, nat_lt, nat_le, List, [], ◌∷◌, ◌++◌, map, is_some, if◌then◌else◌}
+use Rattle.std.specs.Prelude.{ℕ, ◌+◌, ◌-◌, ℤ, Bool, pos, neg_ℤ, ◌&&◌, ◌||◌, ◌==◌, nat_lt, nat_le, List, [], ◌∷◌, ◌++◌, map, is_some, if◌then◌else◌}
 use Rattle.std.specs.Ordering.{is_lt, nat_cmp}
 use Rattle.std.specs.Cmp.Lexicographic.{slice_cmp}
 use Rattle.escrow.specs.declared.quantity.Way.TheVariants as way
@@ -12,7 +12,7 @@ use Rattle.book.specs.declared.order.Kind.TheVariants as kind
 use Rattle.book.specs.declared.order.State.{State}
 use Rattle.book.specs.declared.order.State.TheVariants as state
 use Rattle.book.specs.declared.order.Line.{Line}
-use Rattle.book.specs.Ledger.{Name, Order, Ledger, places, name_cmp, on, is_open, is_transfer, line_on, insert_in_order}
+use Rattle.book.specs.Ledger.{Name, Order, Ledger, places, name_cmp, on, is_open, is_transfer, line_on, insert_in_order, name_of}
 
 -- one move more, at the next place
 abbrev pub with_move : Name → ℤ → Ledger → Ledger
@@ -58,30 +58,34 @@ hold_more f q o = record o { lines = map (λ l. if on f l then raise_held q l el
 
 -- more held on the order's line on that field; without such a line, one more line at the end
 abbrev pub add_hold : OpenLine → Order → Order
-add_hold l o = let f : Name = record { branch = l.branch; article = l.article } in
+add_hold l o = let f = name_of l.branch l.article in
     if is_some (line_on o f) then hold_more f l.qty o else record o { lines = o.lines ++ new_line l ∷ [] }
 
 abbrev pub set_state : State → Order → Order
 set_state state o = record o { state = state }
 
+-- the expiry aborts the order: it is open, and its moment has come
+abbrev pub expires : ℕ → Order → Bool
+expires now o = is_open o && nat_le o.until now
+
 -- the ledger that a command makes of another
 abbrev pub next : Ledger → Command → Ledger
 next A (Field b a lo hi start) = record A {
   fields = insert_in_order (λ f g. is_lt (name_cmp f.name g.name))
-      (record { name = record { branch = b; article = a }; lo = lo; hi = hi; start = start }) A.fields;
+      (record { name = name_of b a; lo = lo; hi = hi; start = start }) A.fields;
 }
-next A (Deliver b a q) = with_move (record { branch = b; article = a }) (pos q) A
-next A (Writeoff b a q) = with_move (record { branch = b; article = a }) (neg_ℤ (pos q)) A
+next A (Deliver b a q) = with_move (name_of b a) (pos q) A
+next A (Writeoff b a q) = with_move (name_of b a) (neg_ℤ (pos q)) A
 next A (Open n until lines) = with_order (new_order n kind.Plain until lines) A
 next A (Transfer n until a from to q) = with_order (new_order n kind.Transfer until (transfer_lines a from to q)) A
 next A (More n way b a q) = change_order n (add_hold (record { way = way; branch = b; article = a; qty = q })) A
-next A (Use n b a q) = change_order n (change_lines (record { branch = b; article = a }) (raise_used q)) A
-next A (Release n b a q) = change_order n (change_lines (record { branch = b; article = a }) (lower_held q)) A
+next A (Use n b a q) = change_order n (change_lines (name_of b a) (raise_used q)) A
+next A (Release n b a q) = change_order n (change_lines (name_of b a) (lower_held q)) A
 next A (Commit n) = change_order n (set_state state.Committed) A
 next A (Abort n) = change_order n (set_state state.Aborted) A
 next A (Expire now) = record A {
   clock = now;
-  orders = map (λ o. if is_open o && nat_le o.until now then set_state state.Aborted o else o) A.orders;
+  orders = map (λ o. if expires now o then set_state state.Aborted o else o) A.orders;
 }
 
 -- the next ledger, with the request's key kept at the next place

@@ -1,7 +1,7 @@
 -- How contracts see a book: as its ledger, and the room that has been made.
 use Rattle.std.specs.Prelude.{ℕ, ◌-◌, List, map}
 use Rattle.std.specs.Vec.{vec_capacity, vec_len}
-use Rattle.book.specs.Ledger.{Field, Kept, Ledger, Move, Order}
+use Rattle.book.specs.Ledger.{Field, Kept, Ledger, Move, Order, name_of}
 use Rattle.book.specs.declared.book.Book.TheInside.{Inside}
 use Rattle.book.specs.declared.entries.FieldEntry.{FieldEntry}
 use Rattle.book.specs.declared.entries.KeptEntry.{KeptEntry}
@@ -27,10 +27,10 @@ pub record BookView : Type 0 where
   pub room : Room
 
 abbrev pub field_of : FieldEntry → Field
-field_of e = record { name = record { branch = e.branch; article = e.article }; lo = e.lo; hi = e.hi; start = e.start }
+field_of e = record { name = name_of e.branch e.article; lo = e.lo; hi = e.hi; start = e.start }
 
 abbrev pub move_of : MoveEntry → Move
-move_of e = record { place = e.place; field = record { branch = e.branch; article = e.article }; amount = e.amount }
+move_of e = record { place = e.place; field = name_of e.branch e.article; amount = e.amount }
 
 abbrev pub order_of : OrderEntry → Order
 order_of e = record { number = e.number; kind = e.kind; until = e.until; state = e.state; lines = e.lines.items }

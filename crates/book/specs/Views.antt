@@ -2,9 +2,8 @@
 use Rattle.std.specs.Prelude.{pos, ◌≡◌}
 use Rattle.book.specs.declared.book.views.FieldView.{FieldView}
 use Rattle.book.specs.declared.book.views.OrderView.{OrderView}
-use Rattle.book.specs.Ledger.{Field, Ledger, Order}
+use Rattle.book.specs.Ledger.{Field, Ledger, Order, name_of}
 use Rattle.book.specs.Outcomes.{IsInfimum, IsSupremum, settled}
-use Rattle.book.specs.Walk.{name_of}
 
 -- the field's name and bounds, its settled value, and its infimum and supremum over the outcomes of the open orders
 pub record ShowsField (A : Ledger) (f : Field) (view : FieldView) : Type 0 where

@@ -1,5 +1,5 @@
 -- What a walk over the entries adds up on a field, and how much that can be.
-use Rattle.std.specs.Prelude.{ℕ, ◌*◌, ℤ, pos, neg_ℤ, ◌≤ℤ◌, List, if◌then◌else◌}
+use Rattle.std.specs.Prelude.{ℕ, ◌*◌, ℤ, pos, neg_ℤ, ◌≤ℤ◌, if◌then◌else◌}
 use Rattle.escrow.specs.declared.limits.TheConstants.{MAX_LEVEL, MAX_QTY}
 use Rattle.words.specs.declared.limits.TheConstants.{MAX_ORDER_LINES}
 use Rattle.book.specs.declared.limits.TheConstants.{MAX_ORDERS, MAX_PLACES}
@@ -11,10 +11,6 @@ use Rattle.book.specs.Ledger.{Name, committed_state, on, open_state, same_name}
 use Rattle.book.specs.Outcomes.{signed, total}
 use Rattle.book.specs.Held.{if_add, if_take}
 use Rattle.book.specs.View.{move_of}
-
--- the name of the article's field at the branch
-abbrev pub name_of : List ℕ → List ℕ → Name
-name_of branch article = record { branch = branch; article = article }
 
 -- what a delivery or a write-off moves on the field
 abbrev pub moved_by_move : Name → MoveEntry → ℤ

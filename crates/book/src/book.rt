@@ -16,12 +16,15 @@ mod insert;
 mod line_checks;
 mod plan;
 mod room;
+mod sums;
+mod tables;
 #[cfg(test)]
 mod tests;
 mod views;
 mod walk;
 
 pub use plan::Planned;
+pub use tables::TablesFault;
 pub use views::{FieldView, OrderView};
 
 /// A good ledger: all fields, moves, orders and kept keys of the desk. Contracts see it as its ledger and, beside

@@ -8,6 +8,7 @@ mod laws;
 mod limits;
 mod order;
 mod plan;
+mod rows;
 
 pub use book::{Book, FieldView, OrderView, Planned};
 pub use examples::worked_examples_hold;
@@ -19,3 +20,4 @@ pub use laws::{
 pub use limits::{MAX_FIELDS, MAX_ORDERS, MAX_PLACES};
 pub use order::{Kind, Line, State};
 pub use plan::Plan;
+pub use rows::{Change, DeskRow, FieldRow, KeptRow, LineRow, MoveRow, OrderRow, Rows, Tables};

@@ -3,9 +3,8 @@ use Rattle.std.proofs.Common.{◌≡◌, ◌∙◌, ℕ, pos, List, [], ◌∷�
 use Rattle.words.proofs.OneFeed.{feeds_one}
 use Rattle.words.specs.declared.item.Item.{Item}
 use Rattle.words.specs.declared.item.Item.TheVariants.{AskField, AskOrder, Bad, Request}
-use Rattle.book.specs.Ledger.{Field, Ledger, Name, Order, field_named, new_ledger, order_numbered}
+use Rattle.book.specs.Ledger.{Field, Ledger, Name, Order, field_named, new_ledger, order_numbered, name_of}
 use Rattle.book.specs.Views.{ShowsField}
-use Rattle.book.specs.Walk.{name_of}
 use Rattle.book.specs.declared.book.views.FieldView.{FieldView}
 use Rattle.book.proofs.Bounds.{inf_unique, sup_unique}
 use Rattle.book.proofs.Once.{answered_once}

@@ -11,9 +11,8 @@ use Rattle.words.specs.Words.{parts_at}
 use Rattle.words.specs.declared.item.Item.{Item}
 use Rattle.words.specs.declared.item.Item.TheVariants.{AskField, AskOrder, Bad, Request}
 use Rattle.book.specs.Good.{Good}
-use Rattle.book.specs.Ledger.{Field, Ledger, Order, field_named, new_ledger, order_numbered, same_name}
+use Rattle.book.specs.Ledger.{Field, Ledger, Order, field_named, new_ledger, order_numbered, same_name, name_of}
 use Rattle.book.specs.Views.{ShowsField}
-use Rattle.book.specs.Walk.{name_of}
 use Rattle.book.specs.declared.book.views.FieldView.{FieldView}
 use Rattle.book.specs.Held.{held_to_add, held_to_take}
 use Rattle.book.specs.Outcomes.{settled}

@@ -4,9 +4,8 @@ use Rattle.words.specs.OpenLines.{way_word}
 use Rattle.words.specs.Replies.{reply_text}
 use Rattle.words.specs.Words.{after_space}
 use Rattle.words.specs.declared.reply.Reply.{Reply}
-use Rattle.book.specs.Ledger.{Field, Ledger, Order, field_named, order_numbered}
+use Rattle.book.specs.Ledger.{Field, Ledger, Order, field_named, order_numbered, name_of}
 use Rattle.book.specs.Views.{ShowsField}
-use Rattle.book.specs.Walk.{name_of}
 use Rattle.book.specs.declared.book.views.FieldView.{FieldView}
 use Rattle.book.specs.declared.order.Kind.{Kind}
 use Rattle.book.specs.declared.order.Kind.TheVariants.{Plain, Transfer}

@@ -78,7 +78,8 @@ fn write<W: Write>(writer: &mut W, text: &[u8]) -> Result<(), Fault>
 
 /// Reads to the end by pieces of at most 512 bytes, and writes what a new desk answers to each before it
 /// reads the next, so that someone who types sees each reply. After a fault what is written is a beginning of
-/// the text for what was read; after a failing read, the answer to each line that was read.
+/// the text for what was read, with the whole answer to all of that but the last piece; after a failing read,
+/// the answer to each line that was read.
 pub fn run<R: Read, W: Write>(alloc: Global, reader: &mut R, writer: &mut W) -> Result<(), Fault>
     ensures whole { OnOk result (RunsWhole (R.remaining reader.old) (R.remaining reader.new) (W.contents writer.old) (W.contents writer.new)) }
     ensures beginning { OnErr result (RunsInPart (R.remaining reader.old) (R.remaining reader.new) (W.contents writer.old) (W.contents writer.new)) }

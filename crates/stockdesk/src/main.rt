@@ -1,7 +1,7 @@
 //! The desk, over lines of text on standard input and output.
 #![tactic(auto)]
 
-ghost use Rattle.std.specs.Prelude.{◌≡◌, ◌≤◌, ◌↔◌, IsTrue};
+ghost use Rattle.std.specs.Prelude.{◌≡◌, ◌≢◌, ◌≤◌, ◌↔◌, IsTrue};
 ghost use Rattle.std.specs.Io.KnownBytes.{Keeps};
 ghost use Rattle.stockdesk.specs.Runs.{AreRun, RunsInPart, RunsWhole};
 
@@ -19,7 +19,8 @@ use words::write_whole;
 
 /// Does what the words behind the program's name say, and gives the status to end with: 0 where it is
 /// done, 1 after a fault, 2 for other words than the one word `run`. A fault and other words are told in a
-/// line of `errors`.
+/// line of `errors`. After a fault all that was read but the last piece, of 512 bytes at the most, is
+/// answered, and the answer is written whole.
 pub fn go<H, R, W, E>(rt: &H, words: &[&str], reader: &mut R, writer: &mut W, errors: &mut E) -> u8
 where
     H: AllocGlobal,
@@ -63,7 +64,8 @@ fn tell<E: Write>(errors: &mut E, line: &[u8], status: u8) -> u8
 
 /// The words could not be read: memory was refused, or one of them is no UTF-8 and so not the word `run`.
 fn unread_words<E: Write>(errors: &mut E, kind: ErrorKind) -> u8
-    ensures status { (1 ≤ result) × (result ≤ 2) }
+    ensures usage { kind ≡ ErrorKind.InvalidData → result ≡ 2 }
+    ensures fault { kind ≢ ErrorKind.InvalidData → result ≡ 1 }
 {
     match kind {
         ErrorKind::OutOfMemory => tell(errors, b"stockdesk: memory\n", 1),

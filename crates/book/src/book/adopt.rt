@@ -4,14 +4,13 @@ ghost use Rattle.std.specs.Prelude.{◌≡◌, ℕ, List, IsSomeAnd, IsTrue};
 ghost use Rattle.words.specs.declared.command.Command.TheVariants.{Commit};
 ghost use Rattle.book.specs.Future.{Honours, HonoursAlways};
 ghost use Rattle.book.specs.Good.{Good};
-ghost use Rattle.book.specs.Ledger.{is_transfer, order_numbered};
+ghost use Rattle.book.specs.Ledger.{is_transfer, order_numbered, name_of};
 ghost use Rattle.book.specs.Outcomes.{article_total};
 ghost use Rattle.book.specs.declared.order.State.TheVariants as State;
 ghost use Rattle.book.specs.InPlace.{order_change_of};
 ghost use Rattle.book.specs.Next.{accept};
 ghost use Rattle.book.specs.Plans.{Fits, HasRoomFor};
 ghost use Rattle.book.specs.View.{field_of, order_of};
-ghost use Rattle.book.specs.Walk.{name_of};
 
 use super::Book;
 use super::changes::{LineChange, OrderChange, change_numbered_order, expire_orders};

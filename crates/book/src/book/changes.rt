@@ -1,16 +1,15 @@
 //! Changes of entries in place. None of them takes memory.
 
-ghost use Rattle.std.specs.Prelude.{◌≡◌, ◌<◌, ◌&&◌, ◌||◌, ◌==◌, true, MatchOption, find, if◌then◌else◌, map, nat_le};
+ghost use Rattle.std.specs.Prelude.{◌≡◌, ◌<◌, ◌||◌, ◌==◌, true, MatchOption, find, if◌then◌else◌, map};
 ghost use Rattle.std.specs.List.{AllByRecursion as Each};
 ghost use Rattle.std.specs.Vec.{vec_capacity, vec_len};
 ghost use Rattle.escrow.specs.Ranges.{IsLevel};
 ghost use Rattle.book.specs.InPlace.{MayChange, MayChangeOrder, changed_line, changed_order, held_lines};
-ghost use Rattle.book.specs.Ledger.{is_open, line_name, on};
+ghost use Rattle.book.specs.Ledger.{line_name, on, name_of};
 ghost use Rattle.book.specs.declared.book.changes.LineChange.TheVariants as LineChange;
 ghost use Rattle.book.specs.declared.order.State.TheVariants as State;
-ghost use Rattle.book.specs.Next.{new_line, set_state};
+ghost use Rattle.book.specs.Next.{expires, new_line, set_state};
 ghost use Rattle.book.specs.View.{order_of};
-ghost use Rattle.book.specs.Walk.{name_of};
 
 use super::find::{is_numbered, is_on, line_in};
 use crate::entries::OrderEntry;
@@ -173,7 +172,7 @@ fn change_orders(orders: &mut [OrderEntry], number: OrderNo, change: &OrderChang
 
 /// The order is aborted where its moment has come.
 fn expire_order(order: &mut OrderEntry, now: Moment)
-    ensures { order_of order.new ≡ (if is_open (order_of order.old) && nat_le order.old.until now then set_state State.Aborted (order_of order.old) else order_of order.old) }
+    ensures { order_of order.new ≡ (if expires now (order_of order.old) then set_state State.Aborted (order_of order.old) else order_of order.old) }
 {
     if matches!(order.state, State::Open) && order.until <= now {
         order.state = State::Aborted;
@@ -182,7 +181,7 @@ fn expire_order(order: &mut OrderEntry, now: Moment)
 
 /// Each open order whose moment has come is aborted.
 pub(super) fn expire_orders(orders: &mut [OrderEntry], now: Moment)
-    ensures { map order_of orders.new ≡ map (λ o. if is_open o && nat_le o.until now then set_state State.Aborted o else o) (map order_of orders.old) }
+    ensures { map order_of orders.new ≡ map (λ o. if expires now o then set_state State.Aborted o else o) (map order_of orders.old) }
 {
     for order in orders.iter_mut() {
         expire_order(order, now);

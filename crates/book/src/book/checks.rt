@@ -4,11 +4,10 @@ ghost use Rattle.std.specs.Bool.{OnTrue};
 ghost use Rattle.std.specs.Prelude.{◌≡◌, None, Some, IfOk, IsTrue, MatchResult};
 ghost use Rattle.words.specs.Kinds.{is_change, is_opening, is_stock};
 ghost use Rattle.words.specs.declared.command.Command.TheVariants.{Abort, Commit, Deliver, Expire, Field, More, Open, Release, Transfer, Use, Writeoff};
-ghost use Rattle.book.specs.Answers.{FirstFailure, checks, order_checks};
-ghost use Rattle.book.specs.Checking.{hold_checks, open_checks, part_checks};
-ghost use Rattle.book.specs.Ledger.{is_open, order_numbered};
+ghost use Rattle.book.specs.Answers.{FirstFailure, checks, open_checks, order_checks, part_checks};
+ghost use Rattle.book.specs.Checking.{hold_checks};
+ghost use Rattle.book.specs.Ledger.{is_open, order_numbered, name_of};
 ghost use Rattle.book.specs.View.{order_of};
-ghost use Rattle.book.specs.Walk.{name_of};
 
 use super::Book;
 use super::find::line_in;
@@ -32,8 +31,8 @@ impl Book {
             Command::More { .. } => self.check_change(command),
             Command::Use { .. } => self.check_change(command),
             Command::Release { .. } => self.check_change(command),
-            Command::Commit { number } => self.check_commit(*number),
-            Command::Abort { number } => self.check_abort(*number),
+            Command::Commit { number } => self.check_end(*number),
+            Command::Abort { number } => self.check_end(*number),
             Command::Expire { now } => self.check_expire(*now),
         }
     }
@@ -103,13 +102,13 @@ impl Book {
                 branch,
                 article,
                 qty,
-            } => self.check_use(*number, *branch, *article, *qty),
+            } => self.check_part(*number, *branch, *article, *qty),
             Command::Release {
                 number,
                 branch,
                 article,
                 qty,
-            } => self.check_release(*number, *branch, *article, *qty),
+            } => self.check_part(*number, *branch, *article, *qty),
             _ => None,
         }
     }
@@ -229,42 +228,6 @@ impl Book {
             return fault;
         }
         self.check_bound(field, way, qty, 0)
-    }
-
-    fn check_use(
-        &self,
-        number: OrderNo,
-        branch: Branch,
-        article: Article,
-        qty: Qty,
-    ) -> Option<(Refusal, u64)>
-        ensures { FirstFailure (checks self.now.ledger (Use number branch article qty)) result }
-    {
-        self.check_part(number, branch, article, qty)
-    }
-
-    fn check_release(
-        &self,
-        number: OrderNo,
-        branch: Branch,
-        article: Article,
-        qty: Qty,
-    ) -> Option<(Refusal, u64)>
-        ensures { FirstFailure (checks self.now.ledger (Release number branch article qty)) result }
-    {
-        self.check_part(number, branch, article, qty)
-    }
-
-    fn check_commit(&self, number: OrderNo) -> Option<(Refusal, u64)>
-        ensures { FirstFailure (checks self.now.ledger (Commit number)) result }
-    {
-        self.check_end(number)
-    }
-
-    fn check_abort(&self, number: OrderNo) -> Option<(Refusal, u64)>
-        ensures { FirstFailure (checks self.now.ledger (Abort number)) result }
-    {
-        self.check_end(number)
     }
 
     fn check_expire(&self, now: Moment) -> Option<(Refusal, u64)>

@@ -2,9 +2,8 @@
 
 ghost use Rattle.std.specs.Prelude.{◌≡◌, ◌==◌, MatchOption, find};
 ghost use Rattle.std.specs.Str.{bytes_eq};
-ghost use Rattle.book.specs.Ledger.{field_named, kept_under, on, order_numbered, same_name};
+ghost use Rattle.book.specs.Ledger.{field_named, kept_under, on, order_numbered, same_name, name_of};
 ghost use Rattle.book.specs.View.{field_of, kept_of, order_of};
-ghost use Rattle.book.specs.Walk.{name_of};
 
 use super::Book;
 use crate::entries::{FieldEntry, KeptEntry, OrderEntry};

@@ -5,16 +5,15 @@ ghost use Rattle.std.specs.Cmp.Lexicographic.{slice_cmp};
 ghost use Rattle.std.specs.List.{insert};
 ghost use Rattle.std.specs.Ordering.{is_lt, nat_cmp};
 ghost use Rattle.std.specs.Vec.{vec_capacity, vec_len};
-ghost use Rattle.book.specs.Ledger.{insert_in_order, name_cmp};
+ghost use Rattle.book.specs.Ledger.{insert_in_order, name_cmp, name_of};
 ghost use Rattle.book.specs.View.{field_of, kept_of, move_of, order_of};
-ghost use Rattle.book.specs.Walk.{name_of};
 
 use crate::entries::{FieldEntry, KeptEntry, MoveEntry, OrderEntry};
 use escrow::{Article, Branch};
 use std::cmp::Ordering;
 
 /// Whether the one field stands before the other: by branch, then by article.
-fn is_field_before(one: &FieldEntry, other: &FieldEntry) -> bool
+pub(super) fn is_field_before(one: &FieldEntry, other: &FieldEntry) -> bool
     ensures { result ≡ is_lt (name_cmp (field_of one.now).name (field_of other.now).name) }
 {
     match one.branch.cmp(&other.branch) {
@@ -47,7 +46,7 @@ pub(super) fn insert_field(fields: &mut Vec<FieldEntry>, entry: FieldEntry)
     }
 }
 
-fn is_order_before(one: &OrderEntry, other: &OrderEntry) -> bool
+pub(super) fn is_order_before(one: &OrderEntry, other: &OrderEntry) -> bool
     ensures { result ≡ nat_lt one.now.number other.now.number }
 {
     one.number < other.number
@@ -76,7 +75,7 @@ pub(super) fn insert_order(orders: &mut Vec<OrderEntry>, entry: OrderEntry)
     }
 }
 
-fn is_key_before(one: &KeptEntry, other: &KeptEntry) -> bool
+pub(super) fn is_key_before(one: &KeptEntry, other: &KeptEntry) -> bool
     ensures { result ≡ is_lt (slice_cmp nat_cmp one.now.key other.now.key) }
 {
     one.key < other.key

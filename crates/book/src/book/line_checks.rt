@@ -4,10 +4,9 @@ ghost use Rattle.std.specs.Prelude.{◌≡◌, ℕ, [], Some, find, is_some, map
 ghost use Rattle.book.specs.Answers.{FirstFailure, line_checks};
 ghost use Rattle.book.specs.Checking.{bound_checks, stock_checks};
 ghost use Rattle.book.specs.Good.{Good};
-ghost use Rattle.book.specs.Ledger.{Name, field_named, on};
+ghost use Rattle.book.specs.Ledger.{Name, field_named, on, name_of};
 ghost use Rattle.book.specs.Next.{new_line, new_order};
 ghost use Rattle.book.specs.View.{field_of};
-ghost use Rattle.book.specs.Walk.{name_of};
 ghost use Rattle.book.specs.declared.order.Kind.{Kind};
 
 use super::Book;

@@ -1,7 +1,8 @@
 //! What is answered to a request, before it is carried out.
 
-ghost use Rattle.std.specs.Prelude.{◌≡◌, IfOk, map};
-ghost use Rattle.book.specs.Answers.{same_command};
+ghost use Rattle.std.specs.Prelude.{◌≡◌, ◌⊎◌, IfOk, IsSome, OnErr, map};
+ghost use Rattle.book.specs.Answers.{IsAccepted, same_command};
+ghost use Rattle.book.specs.Ledger.{kept_under};
 ghost use Rattle.book.specs.Next.{new_line};
 ghost use Rattle.book.specs.Planned.{Plans};
 ghost use Rattle.book.specs.Plans.{opened_lines};
@@ -94,9 +95,11 @@ fn lines_of(alloc: Global, command: &Command) -> Result<Vec<Line>, Memory>
 }
 
 impl Book {
-    /// What is answered to the request. The book is as it was.
+    /// What is answered to the request. The book is as it was. Memory is wanted only for a repeated key, whose
+    /// commands are compared, and for a command that is accepted.
     pub fn plan(&self, alloc: Global, request: &Request) -> Result<Planned, Memory>
-        ensures { IfOk result (λ planned. Plans self.now.ledger request.now planned) }
+        ensures planned { IfOk result (λ planned. Plans self.now.ledger request.now planned) }
+        ensures memory { OnErr result (IsSome (kept_under self.now.ledger request.now.key) ⊎ IsAccepted self.now.ledger request.now) }
     {
         if let Some(kept) = self.kept_entry(request.key) {
             return if is_same(alloc, &kept.command, &request.command)? {

@@ -3,10 +3,9 @@
 ghost use Rattle.std.specs.Prelude.{◌≡◌, pos, ◌≤ℤ◌, length, map, slice_get, Contains, IsSomeAnd, MatchOption};
 ghost use Rattle.std.specs.List.Sorted.{IsStrictlySortedBy};
 ghost use Rattle.escrow.specs.declared.limits.TheConstants.{MAX_LEVEL};
-ghost use Rattle.book.specs.Ledger.{field_named, name_cmp, order_numbered};
+ghost use Rattle.book.specs.Ledger.{field_named, name_cmp, order_numbered, name_of};
 ghost use Rattle.book.specs.View.{field_of};
 ghost use Rattle.book.specs.Views.{ShowsField, ShowsOrder};
-ghost use Rattle.book.specs.Walk.{name_of};
 
 use super::Book;
 use crate::entries::FieldEntry;

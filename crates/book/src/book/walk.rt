@@ -5,11 +5,11 @@ ghost use Rattle.std.specs.List.{AllByRecursion as Each};
 ghost use Rattle.escrow.specs.Ranges.{IsQty};
 ghost use Rattle.words.specs.declared.limits.TheConstants.{MAX_ORDER_LINES};
 ghost use Rattle.book.specs.declared.limits.TheConstants.{MAX_ORDERS};
-ghost use Rattle.book.specs.Ledger.{Field, open_orders, open_state, places};
+ghost use Rattle.book.specs.Ledger.{Field, open_orders, open_state, places, name_of};
 ghost use Rattle.book.specs.Outcomes.{settled, total};
 ghost use Rattle.book.specs.Good.{Good};
 ghost use Rattle.book.specs.Held.{held_to_add, held_to_take};
-ghost use Rattle.book.specs.Walk.{added_by_line, added_by_order, moved_by_line, moved_by_move, moved_by_order, most_of_line, most_of_lines, most_of_move, most_of_moves, most_of_orders, name_of, taken_by_line, taken_by_order, IsBetween, IsSmall};
+ghost use Rattle.book.specs.Walk.{added_by_line, added_by_order, moved_by_line, moved_by_move, moved_by_order, most_of_line, most_of_lines, most_of_move, most_of_moves, most_of_orders, taken_by_line, taken_by_order, IsBetween, IsSmall};
 
 use super::Book;
 use super::find::is_on;
@@ -29,7 +29,7 @@ pub(super) struct Numbers {
     pub adds: i64,
 }
 
-const NOTHING: Numbers = Numbers {
+pub(super) const NOTHING: Numbers = Numbers {
     moved: 0,
     takes: 0,
     adds: 0,
@@ -181,7 +181,8 @@ fn line_on(line: &Line, branch: Branch, article: Article) -> Numbers
     }
 }
 
-fn count_open(orders: &[OrderEntry]) -> usize
+/// How many of the orders are open.
+pub(super) fn count_open(orders: &[OrderEntry]) -> usize
     ensures { result ≡ count_by (λ entry. open_state entry.state) orders.now }
 {
     orders

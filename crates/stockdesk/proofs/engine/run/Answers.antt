@@ -1,6 +1,9 @@
-use Rattle.std.proofs.Common.{◌∙◌, List, ℕ, Err, Ok, OnErr, Result, subst, sym, take}
+use Rattle.std.proofs.Common.{◌≡◌, ◌≤◌, ◌∙◌, List, ℕ, Err, Ok, OnErr, Result, arith, length, subst, sym, take}
 use Rattle.std.specs.Io.KnownBytes.{Appends, Consumes}
+use Rattle.std.proofs.lemmas.List.{length-take}
 use Rattle.std.proofs.lemmas.Result.{on_err_weaker, on_ok_weaker}
+use Rattle.stockdesk.specs.Runs.{longest_piece}
+use Rattle.stockdesk.specs.declared.engine.TheConstants.{PIECE}
 use Rattle.stockdesk.proofs.Standing.{ends_cut, ends_here, ends_unanswered, ends_unwritten, ends_whole, so_far, stands_on, stands_still, stands_unread}
 use Rattle.stockdesk.proofs.engine.run.Goals as goal
 
@@ -22,8 +25,13 @@ returns-then-count-eq0-clause-beginning g c =
     let stands = stands_still _ _ _ _ _ _ _ c.loop-turn.invariant.1 none in
     on_err_weaker c.write.result (λ (begun, left, e, wrote). ends_cut _ _ _ _ _ _ _ _ begun left stands c.unended.ensures e wrote) c.write.ensures.beginning
 
+-- what is read into the buffer is no longer than it
+short : (count : ℕ) (buffer : List ℕ) → length buffer ≡ PIECE → length (take count buffer) ≤ longest_piece
+short count buffer size = omega (arith, length-take count buffer, size)
+
 pub returns-in_default-answer-clause-beginning : goal.returns-in_default-answer-clause-beginning
-returns-in_default-answer-clause-beginning g c = ends_unanswered _ _ _ _ _ _ _ _ c.loop-turn.invariant.1 c.in-Ok.ensures.taken
+returns-in_default-answer-clause-beginning g c =
+    ends_unanswered _ _ _ _ _ _ _ _ c.loop-turn.invariant.1 c.in-Ok.ensures.taken (short _ _ (c.read_piece.ensures.size ∙ c.loop-turn.invariant.0))
 
 on_err : {T E P : Type 0} (r : Result T E) → P → OnErr r P
 on_err (Ok value) p = tt
@@ -32,7 +40,8 @@ on_err (Err fault) p = p
 pub returns-in_err-write-clause-beginning : goal.returns-in_err-write-clause-beginning
 returns-in_err-write-clause-beginning g c =
     let (begun, left, e, wrote) = c.in_err-write.ensures.beginning in
-    on_err c.from_residual.result (ends_unwritten _ _ _ _ _ _ _ _ _ _ _ _ begun left c.loop-turn.invariant.1 c.in-Ok.ensures.taken c.in-Ok-answer.ensures (sym c.deref.ensures.value ∙ e) wrote)
+    let fits = short _ _ (c.read_piece.ensures.size ∙ c.loop-turn.invariant.0) in
+    on_err c.from_residual.result (ends_unwritten _ _ _ _ _ _ _ _ _ _ _ _ begun left c.loop-turn.invariant.1 c.in-Ok.ensures.taken fits c.in-Ok-answer.ensures (sym c.deref.ensures.value ∙ e) wrote)
 
 pub loop-turn-preserved : goal.loop-turn-preserved
 loop-turn-preserved g c =

@@ -1,6 +1,5 @@
-use Rattle.book.specs.Ledger.{same_name}
+use Rattle.book.specs.Ledger.{same_name, name_of}
 use Rattle.book.specs.View.{field_of}
-use Rattle.book.specs.Walk.{name_of}
 use Rattle.book.proofs.Viewed.{Contains-of_find}
 use Rattle.book.proofs.book.Book.field.Goals as goal
 

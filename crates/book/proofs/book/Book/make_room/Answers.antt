@@ -1,6 +1,6 @@
 use Rattle.std.proofs.Common.{◌≡◌, ◌∙◌, ◌≤◌, ◌==◌, ℕ, List, arith, map, subst, sym, true}
 use Rattle.std.proofs.lemmas.List.{with_items_is}
-use Rattle.std.proofs.lemmas.Result.{on_ok_weaker}
+use Rattle.std.proofs.lemmas.Result.{on_err_weaker, on_ok_weaker}
 use Rattle.std.specs.List.{AllByRecursion as Each}
 use Rattle.std.specs.Vec.{with_items}
 use Rattle.words.specs.declared.command.Command.{Command}
@@ -74,3 +74,13 @@ returns-in-More-clause-ok c =
           (each-map (λ (r : OrderRoom). (r.number == c.in-More.number) ≡ true → 1 ≤ r.lines) order_room list.items
           (subst (λ (os : List OrderEntry). Each (λ (o : OrderEntry). (o.number == c.in-More.number) ≡ true → 1 ≤ (order_room o).lines) os) (sym kept) room));
     }) c.reserve_lines.ensures.ok
+
+pub returns-in-More-clause-memory : goal.returns-in-More-clause-memory
+returns-in-More-clause-memory c =
+    let before : c.deref_mut.result.now ≡ c.self.inside.orders.items = c.deref_mut.ensures.value ∙ c.reserve-3.ensures.items in
+    let is : c.args.plan.now.request.command ≡ More c.in-More.number c.in-More.way c.in-More.branch c.in-More.article c.in-More.qty = sym c.command.ensures ∙ c.in-More.is in
+    on_err_weaker c.reserve_lines.result
+    (λ none had. let h : HasRoomFor (view_of c.self.inside) c.args.plan.now = subst (λ (v : BookView). HasRoomFor v c.args.plan.now) (sym c.self.view_is) had in
+    none (subst (LineMayCome c.in-More.number) (sym before)
+    (each-unmap (λ (r : OrderRoom). (r.number == c.in-More.number) ≡ true → 1 ≤ r.lines) order_room c.self.inside.orders.items
+    (subst (λ (k : Command). LinesFit k (map order_room c.self.inside.orders.items)) is h.lines)))) c.reserve_lines.ensures.memory

@@ -1,10 +1,10 @@
 use Rattle.std.proofs.Common.{sym, ap, ◌∙◌, arith}
 use Rattle.std.proofs.lemmas.Int.{ints}
-use Rattle.book.specs.Ledger.{Name}
+use Rattle.book.specs.Ledger.{Name, name_of}
 use Rattle.book.specs.View.{ledger_of}
 use Rattle.book.specs.Outcomes.{settled, total}
 use Rattle.book.specs.Held.{held_to_add, held_to_take}
-use Rattle.book.specs.Walk.{added_by_order, moved_by_move, moved_by_order, name_of, taken_by_order}
+use Rattle.book.specs.Walk.{added_by_order, moved_by_move, moved_by_order, taken_by_order}
 use Rattle.book.proofs.Walked.{few_moves, held_to_add-walk, held_to_take-walk, settled-walk, short_orders, small_moves}
 use Rattle.book.proofs.book.Book.numbers_of.Goals as goal
 

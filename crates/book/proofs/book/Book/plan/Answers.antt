@@ -13,10 +13,13 @@ returns c =
     let count = c.len.ensures in
     let kept = c.self.inside.kept.ok.0 in
     let seen = length-of-map kept_of c.self.inside.kept.items in
-    let is = ap (λ (v : BookView). places v.ledger) c.self.view_is in (
-      same,
-      record {
-        accepted = subst (λ (r : Request). IsAccepted c.args.self.now.ledger r) (sym same) (ap is_some c.in_default.ensures, c.in_default-check.ensures);
-        place = (omega arith);
-      },
-    )
+    let is = ap (λ (v : BookView). places v.ledger) c.self.view_is in record {
+      planned = (
+        same,
+        record {
+          accepted = subst (λ (r : Request). IsAccepted c.args.self.now.ledger r) (sym same) (ap is_some c.in_default.ensures, c.in_default-check.ensures);
+          place = (omega arith);
+        },
+      );
+      memory = tt;
+    }

@@ -1,7 +1,6 @@
 use Rattle.std.proofs.Common.{◌∙◌, ◌||◌, ap, arith, get_or, if◌then◌else◌}
 use Rattle.book.specs.InPlace.{changed_line}
-use Rattle.book.specs.Walk.{name_of}
-use Rattle.book.specs.Ledger.{on}
+use Rattle.book.specs.Ledger.{on, name_of}
 use Rattle.book.specs.declared.order.Line.{Line}
 use Rattle.book.proofs.Walking.{walk_end, walk_step}
 use Rattle.book.proofs.book.changes.change_lines.Goals as goal

@@ -1,8 +1,7 @@
 -- the lines so far are changed
 use Rattle.std.proofs.Common.{◌≡◌, ◌||◌, if◌then◌else◌}
 use Rattle.book.specs.InPlace.{changed_line}
-use Rattle.book.specs.Walk.{name_of}
-use Rattle.book.specs.Ledger.{on}
+use Rattle.book.specs.Ledger.{on, name_of}
 use Rattle.book.proofs.Walking.{walked}
 use Rattle.book.proofs.book.changes.change_lines.Given as goal
 

@@ -1,7 +1,6 @@
 use Rattle.std.proofs.Common.{◌≡◌, take, find, None}
-use Rattle.book.specs.Ledger.{same_name}
+use Rattle.book.specs.Ledger.{same_name, name_of}
 use Rattle.book.specs.View.{field_of}
-use Rattle.book.specs.Walk.{name_of}
 use Rattle.book.proofs.book.find.field_in.Given as goal
 
 abbrev pub invariant-loop-entry : goal.invariant-loop-entry

@@ -1,6 +1,5 @@
 use Rattle.std.proofs.Common.{◌≡◌, take, find, None}
-use Rattle.book.specs.Ledger.{on}
-use Rattle.book.specs.Walk.{name_of}
+use Rattle.book.specs.Ledger.{on, name_of}
 use Rattle.book.proofs.book.find.line_in.Given as goal
 
 abbrev pub invariant-loop-line : goal.invariant-loop-line

@@ -1,7 +1,6 @@
 use Rattle.std.proofs.Common.{◌∙◌, ap, arith, is_some, sym}
-use Rattle.book.specs.Ledger.{Name, on}
+use Rattle.book.specs.Ledger.{Name, on, name_of}
 use Rattle.book.specs.Next.{new_line}
-use Rattle.book.specs.Walk.{name_of}
 use Rattle.book.proofs.Found.{find-all, find-here, find-map-none, find-map-some, find-next}
 use Rattle.book.proofs.book.line_checks.has_line_on.Goals as goal
 

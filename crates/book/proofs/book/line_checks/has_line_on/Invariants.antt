@@ -1,7 +1,6 @@
 use Rattle.std.proofs.Common.{◌≡◌, take, find, None}
-use Rattle.book.specs.Ledger.{on}
+use Rattle.book.specs.Ledger.{on, name_of}
 use Rattle.book.specs.Next.{new_line}
-use Rattle.book.specs.Walk.{name_of}
 use Rattle.book.proofs.book.line_checks.has_line_on.Given as goal
 
 abbrev pub invariant-loop-line : goal.invariant-loop-line

@@ -1,7 +1,7 @@
 use Rattle.std.proofs.Common.{arith}
 use Rattle.std.proofs.lemmas.Int.{ints}
-use Rattle.book.specs.Ledger.{Name}
-use Rattle.book.specs.Walk.{added_by_line, moved_by_line, name_of, taken_by_line}
+use Rattle.book.specs.Ledger.{Name, name_of}
+use Rattle.book.specs.Walk.{added_by_line, moved_by_line, taken_by_line}
 use Rattle.book.proofs.Walked.{total-step}
 use Rattle.book.proofs.book.walk.lines_on.Goals as goal
 

@@ -1,6 +1,7 @@
 use Rattle.std.proofs.Common.{◌≡◌, ◌*◌, take}
 use Rattle.book.specs.Outcomes.{total}
-use Rattle.book.specs.Walk.{added_by_line, moved_by_line, most_of_line, name_of, taken_by_line, IsSmall}
+use Rattle.book.specs.Ledger.{name_of}
+use Rattle.book.specs.Walk.{added_by_line, moved_by_line, most_of_line, taken_by_line, IsSmall}
 use Rattle.book.proofs.book.walk.lines_on.Given as goal
 
 abbrev pub invariant-loop-line : goal.invariant-loop-line

@@ -1,7 +1,8 @@
 use Rattle.std.proofs.Common.{nat_abs, arith}
 use Rattle.std.proofs.lemmas.Int.{ints}
 use Rattle.escrow.specs.Ranges.{IsQty}
-use Rattle.book.specs.Walk.{moved_by_move, name_of}
+use Rattle.book.specs.Ledger.{name_of}
+use Rattle.book.specs.Walk.{moved_by_move}
 use Rattle.book.proofs.Walked.{each-at, total-step}
 use Rattle.book.proofs.book.walk.moves_on.Goals as goal
 

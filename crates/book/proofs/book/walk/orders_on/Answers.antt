@@ -1,7 +1,7 @@
 use Rattle.std.proofs.Common.{arith}
 use Rattle.std.proofs.lemmas.Int.{ints}
-use Rattle.book.specs.Ledger.{Name}
-use Rattle.book.specs.Walk.{added_by_order, moved_by_order, name_of, taken_by_order}
+use Rattle.book.specs.Ledger.{Name, name_of}
+use Rattle.book.specs.Walk.{added_by_order, moved_by_order, taken_by_order}
 use Rattle.book.proofs.Walked.{total-step}
 use Rattle.book.proofs.book.walk.orders_on.Goals as goal
 

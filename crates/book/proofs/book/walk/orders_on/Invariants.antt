@@ -1,6 +1,7 @@
 use Rattle.std.proofs.Common.{◌≡◌, ◌*◌, take}
 use Rattle.book.specs.Outcomes.{total}
-use Rattle.book.specs.Walk.{added_by_order, moved_by_order, most_of_lines, name_of, taken_by_order, IsSmall}
+use Rattle.book.specs.Ledger.{name_of}
+use Rattle.book.specs.Walk.{added_by_order, moved_by_order, most_of_lines, taken_by_order, IsSmall}
 use Rattle.book.proofs.book.walk.orders_on.Given as goal
 
 abbrev pub invariant-loop-entry : goal.invariant-loop-entry

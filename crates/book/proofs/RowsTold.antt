@@ -1,0 +1,130 @@
+-- Rows of a good ledger each tell something in range, and rows that each tell something tell a ledger.
+use Rattle.std.proofs.Common.{◌≡◌, ◌∙◌, ℕ, ◌+◌, List, [], ◌∷◌, ap, arith, flat_map, map, refl, subst, sym, find, IsSome, true, false, Bool, if◌then◌else◌, Some, true≢false}
+use Rattle.std.specs.List.{AllByRecursion as Each, AllZip}
+use Rattle.escrow.specs.Codes.{IsArticle, IsBranch}
+use Rattle.escrow.specs.Ranges.{IsLevel}
+use Rattle.book.specs.declared.book.tables.group.Head.{Head}
+use Rattle.book.specs.declared.entries.FieldEntry.{FieldEntry}
+use Rattle.book.specs.declared.entries.KeptEntry.{KeptEntry}
+use Rattle.book.specs.declared.entries.MoveEntry.{MoveEntry}
+use Rattle.book.specs.declared.order.Line.{Line}
+use Rattle.book.specs.declared.rows.FieldRow.{FieldRow}
+use Rattle.book.specs.declared.rows.KeptRow.{KeptRow}
+use Rattle.book.specs.declared.rows.LineRow.{LineRow}
+use Rattle.book.specs.declared.rows.MoveRow.{MoveRow}
+use Rattle.book.specs.declared.rows.OrderRow.{OrderRow}
+use Rattle.book.specs.Good.{Good, IsGoodField, IsGoodKept, IsGoodLine, IsGoodMove, IsGoodOrder}
+use Rattle.book.specs.Ledger.{Field, Ledger, Name, Order, line_name, same_name}
+use Rattle.book.specs.Rows.{IsFieldRow, LineCells, OrderCells, kept_row, lines_from, move_row, order_lines, order_row}
+use Rattle.book.specs.Tables.{field_cells, kept_cells, line_cells, move_cells, order_cells}
+use Rattle.book.specs.Told.{IsFieldTold, IsHeadTold, IsKeptTold, IsLineTold, IsMoveTold, TellsLine, head_of, head_row}
+use Rattle.book.proofs.Closing.{name_is}
+use Rattle.book.proofs.Lists.{each-unmap}
+use Rattle.book.proofs.Sums.{each-imp}
+use Rattle.book.proofs.Told.{each-join, not_empty, same_first, same_kind, same_pos, same_rest, same_state}
+
+-- ---- rows, one by one
+
+each_row : {X Y V : Type 0} (f : X → V) (g : Y → V) (Q : X → Type 0) (P : Y → Type 0) → ((x : X) (y : Y) → Q x → g y ≡ f x → P y) → (xs : List X) (ys : List Y) → Each Q xs → map g ys ≡ map f xs → Each P ys
+each_row f g Q P to [] [] all e = tt
+each_row f g Q P to [] (y ∷ ys) all e = absurd (not_empty _ _ e)
+each_row f g Q P to (x ∷ xs) [] all e = tt
+each_row f g Q P to (x ∷ xs) (y ∷ ys) all e = (to x y all.0 (same_first _ _ _ _ e), each_row f g Q P to xs ys all.1 (same_rest (g y) (f x) (map g ys) (map f xs) e))
+
+each_zip : {X Y V : Type 0} (R : X → V → Type 0) (g : Y → V) (Q : X → Type 0) (P : Y → Type 0) → ((x : X) (y : Y) → Q x → R x (g y) → P y) → (xs : List X) (ys : List Y) → Each Q xs → AllZip R xs (map g ys) → Each P ys
+each_zip R g Q P to [] [] all z = tt
+each_zip R g Q P to [] (y ∷ ys) all z = absurd z
+each_zip R g Q P to (x ∷ xs) [] all z = tt
+each_zip R g Q P to (x ∷ xs) (y ∷ ys) all z = (to x y all.0 z.0, each_zip R g Q P to xs ys all.1 z.1)
+
+-- the codes of a field that is there
+pub named_codes : (n : Name) (fs : List Field) → Each IsGoodField fs → IsSome (find (λ f. same_name n f.name) fs) → IsBranch n.branch × IsArticle n.article
+named_codes n [] good there = absurd (true≢false (sym there))
+named_codes n (f ∷ fs) good there = step (same_name n f.name) refl (λ k. named_codes n fs good.1 k) there
+  where
+    step : (b : Bool) → same_name n f.name ≡ b → (IsSome (find (λ f. same_name n f.name) fs) → IsBranch n.branch × IsArticle n.article)
+        → IsSome (if b then Some f else find (λ f. same_name n f.name) fs) → IsBranch n.branch × IsArticle n.article
+    step true e more h = let is = name_is n f.name e in (subst (λ (m : Name). IsBranch m.branch) (sym is) good.0.branch, subst (λ (m : Name). IsArticle m.article) (sym is) good.0.article)
+    step false e more h = more h
+
+pub fields_told : (A : Ledger) (rows : List FieldRow) → Good A → AllZip (IsFieldRow A) A.fields (map field_cells rows) → Each (λ row. (e : FieldEntry) × IsFieldTold e row) rows
+fields_told A rows g z = each_zip (IsFieldRow A) field_cells IsGoodField (λ row. (e : FieldEntry) × IsFieldTold e row)
+    (λ f row good is. (record { branch = f.name.branch; article = f.name.article; lo = f.lo; hi = f.hi; start = f.start }, (good, record { branch = is.branch; article = is.article; lo = is.lo; hi = is.hi; start = is.start })))
+    A.fields rows g.fields z
+
+pub moves_told : (A : Ledger) (rows : List MoveRow) → Good A → map move_cells rows ≡ map move_row A.moves → Each (λ row. (e : MoveEntry) × IsMoveTold e row) rows
+moves_told A rows g e = each_row move_row move_cells (IsGoodMove A) (λ row. (e : MoveEntry) × IsMoveTold e row)
+    (λ m row good is. let codes = named_codes m.field A.fields g.fields good.field in
+    (record { place = m.place; branch = m.field.branch; article = m.field.article; amount = m.amount }, record { branch = codes.0; article = codes.1; cells = is }))
+    A.moves rows g.moves e
+
+pub heads_told : (A : Ledger) (rows : List OrderRow) → Good A → map order_cells rows ≡ map order_row A.orders → Each (λ row. (h : Head) × IsHeadTold h row) rows
+heads_told A rows g e = each_row order_row order_cells (IsGoodOrder A) (λ row. (h : Head) × IsHeadTold h row)
+    (λ o row good is. (head_of o, record { number = good.number; until = good.until; cells = is })) A.orders rows g.orders e
+
+pub kept_told : (A : Ledger) (rows : List KeptRow) → Good A → map kept_cells rows ≡ map kept_row A.kept → Each (λ row. (e : KeptEntry) × IsKeptTold e row) rows
+kept_told A rows g e = each_row kept_row kept_cells IsGoodKept (λ row. (e : KeptEntry) × IsKeptTold e row)
+    (λ k row good is. (record { key = k.key; place = k.place; command = k.command }, record { key = good.key; command = good.command; cells = is })) A.kept rows g.kept e
+
+-- a line in range that the cells tell
+record Line_told (cells : LineCells) : Type 0 where
+  line : Line
+  branch : IsBranch line.branch
+  article : IsArticle line.article
+  held : IsLevel line.held
+  used : IsLevel line.used
+  tells : TellsLine line cells
+
+lines_each : (A : Ledger) (n nr : ℕ) (ls : List Line) → Good A → Each (IsGoodLine A) ls → Each Line_told (lines_from n nr ls)
+lines_each A n nr [] g good = tt
+lines_each A n nr (l ∷ ls) g good =
+    let codes = named_codes (line_name l) A.fields g.fields good.0.field in
+    let used = good.0.used in
+    let held = good.0.held in
+    (record { line = l; branch = codes.0; article = codes.1; held = good.0.held; used = omega arith; tells = record { branch = refl; article = refl; way = refl; held = refl; used = refl } }, lines_each A n (nr + 1) ls g good.1)
+
+orders_each : (A : Ledger) (os : List Order) → Good A → Each (IsGoodOrder A) os → Each Line_told (flat_map order_lines os)
+orders_each A [] g good = tt
+orders_each A (o ∷ os) g good = each-join _ (order_lines o) (flat_map order_lines os) (lines_each A o.number 1 o.lines g good.0.lines) (orders_each A os g good.1)
+
+pub lines_told : (A : Ledger) (rows : List LineRow) → Good A → map line_cells rows ≡ flat_map order_lines A.orders → Each (λ row. (l : Line) × IsLineTold l row) rows
+lines_told A rows g e =
+    each-imp (λ row told. (told.line, record { branch = told.branch; article = told.article; held = told.held; used = told.used; cells = told.tells })) rows
+    (each-unmap Line_told line_cells rows (subst (Each Line_told) (sym e) (orders_each A A.orders g g.orders)))
+
+-- the heads that the rows tell are those of the orders
+pub heads_same : (hs : List Head) (rows : List OrderRow) (os : List Order) → AllZip IsHeadTold hs rows → map order_cells rows ≡ map order_row os → map head_of os ≡ hs
+heads_same [] [] [] z e = refl
+heads_same [] [] (o ∷ os) z e = absurd (not_empty _ _ (sym e))
+heads_same [] (r ∷ rows) os z e = absurd z
+heads_same (h ∷ hs) [] os z e = absurd z
+heads_same (h ∷ hs) (r ∷ rows) [] z e = absurd (not_empty _ _ e)
+heads_same (h ∷ hs) (r ∷ rows) (o ∷ os) z e =
+    let is = sym (same_first (order_cells r) (order_row o) (map order_cells rows) (map order_row os) e) ∙ z.0.cells in
+    let n = same_pos o.number h.number (ap (λ (r : OrderCells). r.number) is) in
+    let k = same_kind o.kind h.kind (ap (λ (r : OrderCells). r.kind) is) in
+    let u = same_pos o.until h.until (ap (λ (r : OrderCells). r.until) is) in
+    let s = same_state o.state h.state (ap (λ (r : OrderCells). r.state) is) in
+    let more = heads_same hs rows os z.1 (same_rest (order_cells r) (order_row o) (map order_cells rows) (map order_row os) e) in
+    λ i. record { number = n i; kind = k i; until = u i; state = s i } ∷ more i
+
+-- ---- rows, all together
+
+pub rows_of : {E Y X V : Type 0} (P : E → Y → Type 0) (view : E → X) (row : X → V) (cells : Y → V) → ((e : E) (y : Y) → P e y → cells y ≡ row (view e)) → (es : List E) (ys : List Y) → AllZip P es ys → map cells ys ≡ map row (map view es)
+rows_of P view row cells to [] [] z = refl
+rows_of P view row cells to [] (y ∷ ys) z = absurd z
+rows_of P view row cells to (e ∷ es) [] z = absurd z
+rows_of P view row cells to (e ∷ es) (y ∷ ys) z = let a = to e y z.0 in let b = rows_of P view row cells to es ys z.1 in λ i. a i ∷ b i
+
+heads_rows : (os : List Order) → map head_row (map head_of os) ≡ map order_row os
+heads_rows [] = refl
+heads_rows (o ∷ os) = ap (λ rows. order_row o ∷ rows) (heads_rows os)
+
+pub orders_rows : (hs : List Head) (rows : List OrderRow) (os : List Order) → AllZip IsHeadTold hs rows → map head_of os ≡ hs → map order_cells rows ≡ map order_row os
+orders_rows hs rows os z e = by hs rows z ∙ ap (map head_row) (sym e) ∙ heads_rows os
+  where
+    by : (hs : List Head) (rows : List OrderRow) → AllZip IsHeadTold hs rows → map order_cells rows ≡ map head_row hs
+    by [] [] z = refl
+    by [] (r ∷ rows) z = absurd z
+    by (h ∷ hs) [] z = absurd z
+    by (h ∷ hs) (r ∷ rows) z = let a = z.0.cells in let b = by hs rows z.1 in λ i. a i ∷ b i

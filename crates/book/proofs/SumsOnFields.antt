@@ -1,0 +1,290 @@
+-- Sums on each of the fields: where a field stands among those in order, and what an entry more adds.
+use Rattle.std.proofs.Common.{◌≡◌, ◌∙◌, ℕ, zero, suc, ◌+◌, ◌<◌, ◌≤◌, pos, ◌+ℤ◌, Bool, true, false, true≢false, List, [], ◌∷◌, Some, is_some, IsSome, IsNone, if◌then◌else◌, ap, arith, get_or, length, map, refl, set, subst, sym, take, Less, Equal, Greater, Result, Ok, Err, MatchResult}
+use Rattle.std.proofs.lemmas.Int.{ints}
+use Rattle.std.proofs.lemmas.Cmp.{tied_itself}
+use Rattle.std.proofs.lemmas.List.Sorted.{searchable_from_sorted}
+use Rattle.std.specs.declared.cmp.Ordering.{Ordering}
+use Rattle.std.specs.Ordering.{is_lt, is_gt, ordering_index, ordering_reverse}
+use Rattle.std.specs.List.{AllByRecursion as Each}
+use Rattle.std.specs.List.Sorted.{IsBinarySearchResult, IsNonDecreasingBy, IsSearchInRange, IsStrictlySortedBy}
+use Rattle.book.specs.declared.book.walk.Numbers.{Numbers}
+use Rattle.book.specs.declared.entries.FieldEntry.{FieldEntry}
+use Rattle.book.specs.declared.entries.MoveEntry.{MoveEntry}
+use Rattle.book.specs.declared.entries.OrderEntry.{OrderEntry}
+use Rattle.book.specs.declared.order.Line.{Line}
+use Rattle.book.specs.declared.order.State.{State}
+use Rattle.book.specs.declared.order.State.TheVariants.{Open, Committed, Aborted}
+use Rattle.book.specs.Ledger.{Name, committed_state, line_name, name_cmp, open_state, same_name}
+use Rattle.book.specs.Outcomes.{signed}
+use Rattle.book.specs.Held.{if_add, if_take}
+use Rattle.book.specs.View.{field_of}
+use Rattle.book.specs.Walk.{added_by_line, added_by_order, moved_by_line, moved_by_move, moved_by_order, taken_by_line, taken_by_order, IsSmall}
+use Rattle.book.specs.Sums.{added, entry_name, field_among, lines_numbers, nothing, numbers_on, only_on, part_of_line, plus, AreFieldsInOrder, IsField, IsFieldAt}
+use Rattle.book.proofs.Asked.{same_self}
+use Rattle.book.proofs.Closing.{name_is}
+use Rattle.book.proofs.Goodness.{equal_name, name_cmp_total}
+use Rattle.book.proofs.Lists.{each-of-push, each-unmap}
+use Rattle.book.proofs.Sums.{each, each-imp, each-map}
+use Rattle.book.proofs.Walked.{take-step, total-step}
+use Rattle.book.proofs.Walking.{each_get, each_set}
+
+-- ---- numbers
+
+-- numbers with equal parts are equal
+pub same-numbers : (n m : Numbers) → n.moved ≡ m.moved → n.takes ≡ m.takes → n.adds ≡ m.adds → n ≡ m
+same-numbers n m a b c = λ i. record { moved = a i; takes = b i; adds = c i }
+
+plus-nothing : (n : Numbers) → plus n nothing ≡ n
+plus-nothing n = same-numbers _ _ (omega (arith, ints)) (omega (arith, ints)) (omega (arith, ints))
+
+nothing-plus : (n : Numbers) → plus nothing n ≡ n
+nothing-plus n = same-numbers _ _ (omega (arith, ints)) (omega (arith, ints)) (omega (arith, ints))
+
+plus-assoc : (a b c : Numbers) → plus (plus a b) c ≡ plus a (plus b c)
+plus-assoc a b c = same-numbers _ _ (omega (arith, ints)) (omega (arith, ints)) (omega (arith, ints))
+
+small-up : (k m : ℕ) (n : Numbers) → k ≤ m → IsSmall k n → IsSmall m n
+small-up k m n h s = record { low = omega (arith, ints); high = omega (arith, ints); take_low = omega (arith, ints); take_high = omega (arith, ints); add_low = omega (arith, ints); add_high = omega (arith, ints) }
+
+small-plus : (k m : ℕ) (a b : Numbers) → IsSmall k a → IsSmall m b → IsSmall (k + m) (plus a b)
+small-plus k m a b s t = record { low = omega (arith, ints); high = omega (arith, ints); take_low = omega (arith, ints); take_high = omega (arith, ints); add_low = omega (arith, ints); add_high = omega (arith, ints) }
+
+-- a bound may be raised
+pub each-small-up : (k m : ℕ) (ns : List Numbers) → k ≤ m → Each (IsSmall k) ns → Each (IsSmall m) ns
+each-small-up k m ns h s = each-imp (λ n t. small-up k m n h t) ns s
+
+-- where a sum is added to, the bounds add up
+pub each-small-set : (k m i : ℕ) (d part : Numbers) (ns : List Numbers) → i < length ns → Each (IsSmall k) ns → IsSmall m part → Each (IsSmall (k + m)) (set ns i (plus (get_or ns i d) part))
+each-small-set k m i d part ns lt s t =
+    let here = small-plus k m (get_or ns i d) part (each_get (IsSmall k) ns i d lt s) t in
+    each_set (IsSmall (k + m)) ns i d (plus (get_or ns i d) part) lt (each-small-up k (k + m) ns (omega arith) s) (λ h. here)
+
+-- ---- what is added on each field
+
+-- nothing added leaves the sums
+pub added-nothing : (part : Name → Numbers) → ((f : Name) → part f ≡ nothing) → (fs : List FieldEntry) (ns : List Numbers) → added part fs ns ≡ ns
+added-nothing part h [] ns = refl
+added-nothing part h (f ∷ fs) [] = refl
+added-nothing part h (f ∷ fs) (n ∷ ns) =
+    let first : plus n (part (entry_name f)) ≡ n = ap (plus n) (h (entry_name f)) ∙ plus-nothing n in
+    let more = added-nothing part h fs ns in
+    λ i. first i ∷ more i
+
+-- the same added gives the same
+pub added-same : (g h : Name → Numbers) → ((f : Name) → g f ≡ h f) → (fs : List FieldEntry) (ns : List Numbers) → added g fs ns ≡ added h fs ns
+added-same g h same [] ns = refl
+added-same g h same (f ∷ fs) [] = refl
+added-same g h same (f ∷ fs) (n ∷ ns) =
+    let first = ap (plus n) (same (entry_name f)) in
+    let more = added-same g h same fs ns in
+    λ i. first i ∷ more i
+
+-- first one, then the other
+pub added-twice : (g h k : Name → Numbers) → ((f : Name) → plus (g f) (h f) ≡ k f) → (fs : List FieldEntry) (ns : List Numbers) → added h fs (added g fs ns) ≡ added k fs ns
+added-twice g h k both [] ns = refl
+added-twice g h k both (f ∷ fs) [] = refl
+added-twice g h k both (f ∷ fs) (n ∷ ns) =
+    let name : Name = entry_name f in
+    let first = plus-assoc n (g name) (h name) ∙ ap (plus n) (both name) in
+    let more = added-twice g h k both fs ns in
+    λ i. first i ∷ more i
+
+-- added to nothing, the parts alone are left
+added-to_nothing : (h : Name → Numbers) (fs : List FieldEntry) → added h fs (map (λ f. nothing) fs) ≡ map (λ f. h (entry_name f)) fs
+added-to_nothing h [] = refl
+added-to_nothing h (f ∷ fs) =
+    let first = nothing-plus (h (entry_name f)) in
+    let more = added-to_nothing h fs in
+    λ i. first i ∷ more i
+
+-- ---- names of fields in order
+
+is_false : (b : Bool) → (b ≡ true → ⊥) → b ≡ false
+is_false true h = absurd (h refl)
+is_false false h = refl
+
+-- names that do not compare as equal are different
+other_name : (f g : Name) → (name_cmp f g ≡ Equal → ⊥) → (same_name f g ≡ false) × (same_name g f ≡ false)
+other_name f g h = (
+  is_false _ (λ t. h (subst (λ k. name_cmp f k ≡ Equal) (name_is f g t) (tied_itself name_cmp_total f))),
+  is_false _ (λ t. h (subst (λ k. name_cmp k g ≡ Equal) (name_is g f t) (tied_itself name_cmp_total g))),
+)
+
+not_less : (o : Ordering) → o ≡ Less → o ≡ Equal → ⊥
+not_less o a b = true≢false (ap is_lt (sym a ∙ b))
+
+not_greater : (o : Ordering) → o ≡ Greater → o ≡ Equal → ⊥
+not_greater o a b = true≢false (ap is_gt (sym a ∙ b))
+
+-- no field stands before the one before it
+ascending : (fs : List FieldEntry) → AreFieldsInOrder fs → (k : ℕ) (d : FieldEntry) → k + 1 < length fs → is_lt (name_cmp (entry_name (get_or fs (k + 1) d)) (entry_name (get_or fs k d))) ≡ false
+unfolding IsStrictlySortedBy
+ascending [] s k d lt = absurd (omega arith)
+ascending (f ∷ []) s k d lt = absurd (omega arith)
+ascending (f ∷ g ∷ fs) s zero d lt = ap is_lt (name_cmp_total.antisymm (entry_name g) (entry_name f) ∙ ap ordering_reverse s.0.0)
+ascending (f ∷ g ∷ fs) s (suc k) d lt =
+    let more : suc (k + 1) ≡ suc k + 1 = omega arith in
+    subst (λ j. is_lt (name_cmp (entry_name (get_or (f ∷ g ∷ fs) j d)) (entry_name (get_or (g ∷ fs) k d))) ≡ false) more (ascending (g ∷ fs) s.1 k d (omega arith))
+
+-- so their comparisons with a name rise, as a binary search asks
+rising : (name : Name) (fs : List FieldEntry) → AreFieldsInOrder fs → IsNonDecreasingBy (λ e. ordering_index (name_cmp (entry_name e) name)) fs
+rising name fs s = searchable_from_sorted name_cmp_total entry_name fs name (λ k d a lt. ascending fs s k d lt)
+
+-- where no field compares as equal, none has the name
+none_there : (name : Name) (fs : List FieldEntry) → ((j : ℕ) (d : FieldEntry) → j < length fs → name_cmp (entry_name (get_or fs j d)) name ≡ Equal → ⊥) → IsNone (field_among fs name)
+none_there name [] h = refl
+none_there name (f ∷ fs) h =
+    let here = (other_name (entry_name f) name (h 0 f (omega arith))).1 in
+    rw here (none_there name fs (λ j d lt. h (suc j) d (omega arith)))
+
+-- what a search for the name answers
+pub searched : (name : Name) (fs : List FieldEntry) → AreFieldsInOrder fs → (r : Result ℕ ℕ) → IsSearchInRange r (length fs) → IsBinarySearchResult (λ e. name_cmp (entry_name e) name) fs r
+    → MatchResult r (IsFieldAt fs name) (λ i. IsNone (field_among fs name))
+searched name fs s (Ok i) range found = record { within = range; named = λ d. name_is _ name (equal_name _ name (found d)) }
+searched name fs s (Err i) range parted =
+    let parts = parted (rising name fs s) in
+    none_there name fs (λ j d lt. by j d lt (parts.0 j d (omega arith)) (parts.1 j d))
+  where
+    by : (j : ℕ) (d : FieldEntry) → j < length fs → (j < i → name_cmp (entry_name (get_or fs j d)) name ≡ Less) → (i ≤ j → j < length fs → name_cmp (entry_name (get_or fs j d)) name ≡ Greater)
+        → name_cmp (entry_name (get_or fs j d)) name ≡ Equal → ⊥
+    by j d lt below above e = let past : j < i → ⊥ = λ b. not_less _ (below b) e in not_greater _ (above (omega arith) lt) e
+
+-- a field at a place is among them
+pub there_at : (name : Name) (fs : List FieldEntry) (i : ℕ) → IsFieldAt fs name i → IsField fs name
+there_at name [] i at = absurd (omega arith)
+there_at name (f ∷ fs) zero at = rw (same_as (at.named f)) refl
+  where
+    same_as : entry_name f ≡ name → same_name name (entry_name f) ≡ true
+    same_as e = subst (λ g. same_name name g ≡ true) (sym e) (same_self name)
+there_at name (f ∷ fs) (suc i) at = by (same_name name (entry_name f)) (there_at name fs i (record { within = omega arith; named = at.named }))
+  where
+    by : (b : Bool) → IsField fs name → IsSome (if b then Some (field_of f) else field_among fs name)
+    by true h = refl
+    by false h = h
+
+-- ---- a sum that is added to
+
+-- where no field has the name, nothing is added
+added-elsewhere : (name : Name) (part : Numbers) (fs : List FieldEntry) (ns : List Numbers) → Each (λ f. same_name (entry_name f) name ≡ false) fs → added (only_on name part) fs ns ≡ ns
+added-elsewhere name part [] ns h = refl
+added-elsewhere name part (f ∷ fs) [] h = refl
+added-elsewhere name part (f ∷ fs) (n ∷ ns) h =
+    let first : plus n (only_on name part (entry_name f)) ≡ n = ap (λ b. plus n (if b then part else nothing)) h.0 ∙ plus-nothing n in
+    let more = added-elsewhere name part fs ns h.1 in
+    λ i. first i ∷ more i
+
+-- the same, where a look-up finds none
+pub added-none : (name : Name) (part : Numbers) (fs : List FieldEntry) (ns : List Numbers) → IsNone (field_among fs name) → added (only_on name part) fs ns ≡ ns
+added-none name part fs ns none = added-elsewhere name part fs ns (all fs none)
+  where
+    all : (fs : List FieldEntry) → IsNone (field_among fs name) → Each (λ f. same_name (entry_name f) name ≡ false) fs
+    all [] h = tt
+    all (f ∷ fs) h = by (same_name name (entry_name f)) refl h (λ k. all fs k)
+      where
+        by : (b : Bool) → same_name name (entry_name f) ≡ b → is_some (if b then Some (field_of f) else field_among fs name) ≡ false
+            → (IsNone (field_among fs name) → Each (λ f. same_name (entry_name f) name ≡ false) fs) → Each (λ f. same_name (entry_name f) name ≡ false) (f ∷ fs)
+        by true e h k = absurd (true≢false h)
+        by false e h k = (is_false _ (λ t. true≢false (sym (turn t) ∙ e)), k h)
+          where
+            turn : same_name (entry_name f) name ≡ true → same_name name (entry_name f) ≡ true
+            turn t = subst (λ g. same_name g (entry_name f) ≡ true) (name_is _ _ t) (same_self (entry_name f))
+
+-- no other field has the name, so nothing is added elsewhere
+pub added-at : (name : Name) (part : Numbers) (fs : List FieldEntry) (ns : List Numbers) (i : ℕ) → AreFieldsInOrder fs → length ns ≡ length fs → IsFieldAt fs name i
+    → set ns i (plus (get_or ns i nothing) part) ≡ added (only_on name part) fs ns
+unfolding IsStrictlySortedBy
+added-at name part [] ns i s long at = absurd (omega arith)
+added-at name part (f ∷ fs) [] i s long at = absurd (omega arith)
+added-at name part (f ∷ fs) (n ∷ ns) zero s long at = λ i. first i ∷ sym more i
+  where
+    here : same_name (entry_name f) name ≡ true
+    here = subst (λ g. same_name (entry_name f) g ≡ true) (at.named f) (same_self (entry_name f))
+
+    first : plus n part ≡ plus n (only_on name part (entry_name f))
+    first = ap (λ b. plus n (if b then part else nothing)) (sym here)
+
+    after : (g : FieldEntry) → name_cmp (entry_name f) (entry_name g) ≡ Less → same_name (entry_name g) name ≡ false
+    after g less = subst (λ k. same_name (entry_name g) k ≡ false) (at.named f) (other_name (entry_name f) (entry_name g) (not_less _ less)).1
+
+    more : added (only_on name part) fs ns ≡ ns
+    more = added-elsewhere name part fs ns (each-imp after fs (each-unmap (λ g. name_cmp (entry_name f) g.name ≡ Less) field_of fs (each-unmap (λ k. name_cmp (entry_name f) k ≡ Less) (λ g. g.name) (map field_of fs) s.0)))
+added-at name part (f ∷ fs) (n ∷ ns) (suc i) s long at =
+    let more = added-at name part fs ns i s.1 (omega arith) (record { within = omega (arith, at.within); named = at.named }) in
+    λ j. sym first j ∷ more j
+  where
+    before : name_cmp (entry_name f) name ≡ Less
+    before = subst (λ k. name_cmp (entry_name f) k ≡ Less) (at.named f)
+        (each_get (λ g. name_cmp (entry_name f) (entry_name g) ≡ Less) fs i f (omega (arith, at.within)) (each-unmap (λ g. name_cmp (entry_name f) g.name ≡ Less) field_of fs (each-unmap (λ k. name_cmp (entry_name f) k ≡ Less) (λ g. g.name) (map field_of fs) s.0)))
+
+    first : plus n (only_on name part (entry_name f)) ≡ n
+    first = ap (λ b. plus n (if b then part else nothing)) (other_name (entry_name f) name (not_less _ before)).0 ∙ plus-nothing n
+
+-- ---- what entries add
+
+-- a line adds its part to its field alone
+pub part-line : (s : State) (l : Line) (f : Name) → only_on (line_name l) (part_of_line s l) f ≡ lines_numbers s (l ∷ []) f
+part-line s l f = by (same_name f (line_name l)) s
+  where
+    numbers : Bool → State → Numbers
+    numbers b s = record {
+      moved = if committed_state s then (if b then signed l.way l.used else pos 0) +ℤ pos 0 else pos 0;
+      takes = if open_state s then (if b then pos (if_take l.way l.held) else pos 0) +ℤ pos 0 else pos 0;
+      adds = if open_state s then (if b then pos (if_add l.way l.held) else pos 0) +ℤ pos 0 else pos 0;
+    }
+
+    by : (b : Bool) (s : State) → (if b then part_of_line s l else nothing) ≡ numbers b s
+    by true Open = same-numbers _ _ refl (omega (arith, ints)) (omega (arith, ints))
+    by true Committed = same-numbers _ _ (omega (arith, ints)) refl refl
+    by true Aborted = refl
+    by false Open = same-numbers _ _ refl (omega (arith, ints)) (omega (arith, ints))
+    by false Committed = same-numbers _ _ (omega (arith, ints)) refl refl
+    by false Aborted = refl
+
+-- one move more
+pub move-step : (ms : List MoveEntry) (i : ℕ) (m : MoveEntry) → i < length ms → m ≡ get_or ms i m → (f : Name) → plus (numbers_on (take i ms) [] f) (numbers_on (m ∷ []) [] f) ≡ numbers_on (take (i + 1) ms) [] f
+move-step ms i m h e f =
+    let step = total-step (moved_by_move f) ms i m h e in
+    same-numbers _ _ (omega (arith, ints)) (omega (arith, ints)) (omega (arith, ints))
+
+-- one line more
+pub line-step : (s : State) (ls : List Line) (i : ℕ) (l : Line) → i < length ls → l ≡ get_or ls i l → (f : Name) → plus (lines_numbers s (take i ls) f) (lines_numbers s (l ∷ []) f) ≡ lines_numbers s (take (i + 1) ls) f
+line-step s ls i l h e f = by s
+  where
+    by : (s : State) → plus (lines_numbers s (take i ls) f) (lines_numbers s (l ∷ []) f) ≡ lines_numbers s (take (i + 1) ls) f
+    by Open =
+        let takes = total-step (taken_by_line f) ls i l h e in
+        let adds = total-step (added_by_line f) ls i l h e in
+        same-numbers _ _ (omega (arith, ints)) (omega (arith, ints)) (omega (arith, ints))
+    by Committed =
+        let moved = total-step (moved_by_line f) ls i l h e in
+        same-numbers _ _ (omega (arith, ints)) (omega (arith, ints)) (omega (arith, ints))
+    by Aborted = same-numbers _ _ (omega (arith, ints)) (omega (arith, ints)) (omega (arith, ints))
+
+-- no lines come to nothing
+pub lines-none : (s : State) (f : Name) → lines_numbers s [] f ≡ nothing
+lines-none Open f = refl
+lines-none Committed f = refl
+lines-none Aborted f = refl
+
+-- one order more
+pub order-step : (os : List OrderEntry) (i : ℕ) (o : OrderEntry) → i < length os → o ≡ get_or os i o → (f : Name) → plus (numbers_on [] (take i os) f) (lines_numbers o.state o.lines.items f) ≡ numbers_on [] (take (i + 1) os) f
+order-step os i o h e f =
+    let moved = total-step (moved_by_order f) os i o h e in
+    let takes = total-step (taken_by_order f) os i o h e in
+    let adds = total-step (added_by_order f) os i o h e in
+    same-numbers _ _ (omega (arith, ints)) (omega (arith, ints)) (omega (arith, ints))
+
+-- one element more has the fact
+pub each-more : {X : Type 0} (P : X → Type 0) (xs : List X) (i : ℕ) (x : X) → i < length xs → x ≡ get_or xs i x → Each P (take i xs) → P x → Each P (take (i + 1) xs)
+each-more P xs i x h e so_far here = subst (Each P) (sym (take-step xs i x h e)) (each-of-push P (take i xs) x so_far here)
+
+-- the moves' sums, and then the orders', from nothing
+pub added-all : (ms : List MoveEntry) (os : List OrderEntry) (fs : List FieldEntry) → added (numbers_on [] os) fs (added (numbers_on ms []) fs (map (λ f. nothing) fs)) ≡ map (λ f. numbers_on ms os (entry_name f)) fs
+added-all ms os fs = added-twice (numbers_on ms []) (numbers_on [] os) (numbers_on ms os) (λ f. same-numbers _ _ (omega (arith, ints)) (omega (arith, ints)) (omega (arith, ints))) fs (map (λ f. nothing) fs) ∙ added-to_nothing (numbers_on ms os) fs
+
+-- nothing is small
+pub small-nothing : (fs : List FieldEntry) (ns : List Numbers) → ns ≡ map (λ f. nothing) fs → Each (IsSmall 0) ns
+small-nothing fs ns e = subst (Each (IsSmall 0)) (sym e) (each-map (IsSmall 0) (λ f. nothing) fs (each (λ f. small) fs))
+  where
+    small : IsSmall 0 nothing
+    small = record { low = omega (arith, ints); high = omega (arith, ints); take_low = omega (arith, ints); take_high = omega (arith, ints); add_low = omega (arith, ints); add_high = omega (arith, ints) }

@@ -1,0 +1,21 @@
+use Rattle.std.proofs.Common.{List, map, subst, sym}
+use Rattle.std.specs.List.{AllZip}
+use Rattle.book.specs.declared.rows.FieldRow.{FieldRow}
+use Rattle.book.specs.Good.{Good}
+use Rattle.book.specs.Ledger.{Ledger}
+use Rattle.book.specs.Rows.{IsFieldRow}
+use Rattle.book.specs.Tables.{content_of, field_cells}
+use Rattle.book.specs.Told.{told_ledger}
+use Rattle.book.proofs.Tested.{true_not_false}
+use Rattle.book.proofs.Told.{rows_tell, told_once}
+use Rattle.book.proofs.book.Book.of_tables.Goals as goal
+
+pub returns-in-Ok-false-clause-damaged : goal.returns-in-Ok-false-clause-damaged
+returns-in-Ok-false-clause-damaged c _ A g rows =
+    let B : Ledger = told_ledger c.in_ok-entries.entries in
+    let same = told_once A B (content_of c.args.tables) g c.in_ok-entries.ensures.form.kept (rows_tell A (content_of c.args.tables) rows) c.in_ok-entries.ensures.told in
+    let fields = subst (λ (L : Ledger). AllZip (IsFieldRow L) L.fields (map field_cells c.args.tables.fields)) same rows.fields in
+    true_not_false (c.in-Ok-false.ensures.1 (
+      subst Good same g,
+      subst (λ (rows : List FieldRow). AllZip (IsFieldRow B) B.fields (map field_cells rows)) (sym c.as_slice.ensures) fields,
+    )) c.in-Ok-false.field-0-test

@@ -1,0 +1,13 @@
+-- the lines so far are on fields, and added
+use Rattle.std.proofs.Common.{◌≡◌, ℕ, ◌+◌, ◌*◌, take}
+use Rattle.std.specs.List.{AllByRecursion as Each}
+use Rattle.book.specs.Walk.{most_of_line, IsSmall}
+use Rattle.book.specs.Sums.{added, lines_numbers, AreLinesOnFields}
+use Rattle.book.proofs.book.sums.add_lines.Given as goal
+
+abbrev pub invariant-loop-line : goal.invariant-loop-line
+invariant-loop-line l = record {
+  there : AreLinesOnFields l.fields (take l.line-index l.lines);
+  sums : l.sums ≡ added (lines_numbers l.state (take l.line-index l.lines)) l.fields l.initial.sums;
+  small : (k : ℕ) → Each (IsSmall k) l.initial.sums → Each (IsSmall (k + most_of_line * l.line-index)) l.sums;
+}

@@ -1,0 +1,13 @@
+-- the moves so far are on fields, and added
+use Rattle.std.proofs.Common.{◌≡◌, ◌*◌, [], take}
+use Rattle.std.specs.List.{AllByRecursion as Each}
+use Rattle.book.specs.Walk.{most_of_move, IsSmall}
+use Rattle.book.specs.Sums.{added, numbers_on, AreMovesOnFields}
+use Rattle.book.proofs.book.sums.add_moves.Given as goal
+
+abbrev pub invariant-loop-entry : goal.invariant-loop-entry
+invariant-loop-entry l = record {
+  there : AreMovesOnFields l.fields (take l.entry-index l.moves);
+  sums : l.sums ≡ added (numbers_on (take l.entry-index l.moves) []) l.fields l.initial.sums;
+  small : Each (IsSmall (most_of_move * l.entry-index)) l.sums;
+}

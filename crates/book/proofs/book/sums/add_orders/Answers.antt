@@ -1,0 +1,40 @@
+use Rattle.std.proofs.Common.{◌≡◌, ◌∙◌, ℕ, ◌+◌, ◌*◌, ◌≤◌, List, [], ap, arith, refl, subst, sym, take}
+use Rattle.std.specs.List.{AllByRecursion as Each}
+use Rattle.book.specs.declared.order.Line.{Line}
+use Rattle.book.specs.Walk.{most_of_lines, most_of_moves, IsSmall}
+use Rattle.book.specs.Sums.{added, lines_numbers, most_of_all, numbers_on, AreLinesOnFields}
+use Rattle.book.proofs.SumsOnFields.{added-nothing, added-twice, each-more, each-small-up, order-step}
+use Rattle.book.proofs.book.sums.add_orders.Goals as goal
+
+pub loop-entry-init : goal.loop-entry-init
+loop-entry-init c = record { there = tt; sums = sym (added-nothing (numbers_on [] []) (λ f. refl) c.args.fields.now c.args.sums.now); small = c.requires.room }
+
+pub add_lines-requires-clause-room : goal.add_lines-requires-clause-room
+add_lines-requires-clause-room c =
+    let i : ℕ = c.loop-entry.entry-index in
+    let up : most_of_moves + most_of_lines * i ≤ most_of_all = omega arith in
+    each-small-up (most_of_moves + most_of_lines * i) most_of_all c.loop-entry.sums up c.loop-entry.invariant.small
+
+pub loop-entry-preserved : goal.loop-entry-preserved
+loop-entry-preserved c =
+    let i : ℕ = c.loop-entry.entry-index in
+    let fields = c.args.fields.now in
+    let orders = c.args.orders.now in
+    let entry = c.entry-item.result in
+    let more : (most_of_moves + most_of_lines * i) + most_of_lines ≡ most_of_moves + most_of_lines * (i + 1) = omega arith in
+    record {
+      there = each-more (λ o. AreLinesOnFields fields o.lines.items) orders i entry c.loop-entry-test.true c.entry-item.is c.loop-entry.invariant.there (subst (AreLinesOnFields fields) c.deref.ensures.value (c.if-not-add_lines.ensures.there.0 refl));
+      sums = c.if-not-add_lines.ensures.sums refl
+          ∙ ap (λ (lines : List Line). added (lines_numbers entry.state lines) fields c.loop-entry.sums) c.deref.ensures.value
+          ∙ ap (added (lines_numbers entry.state entry.lines.items) fields) c.loop-entry.invariant.sums
+          ∙ added-twice (numbers_on [] (take i orders)) (lines_numbers entry.state entry.lines.items) (numbers_on [] (take (i + 1) orders)) (order-step orders i entry c.loop-entry-test.true c.entry-item.is) fields c.args.sums.now;
+      small = subst (λ k. Each (IsSmall k) c.add_lines.new.sums) more (c.if-not-add_lines.ensures.small refl (most_of_moves + most_of_lines * i) c.loop-entry.invariant.small);
+    }
+
+pub returns-clause-small : goal.returns-clause-small
+returns-clause-small c _ =
+    let i : ℕ = c.loop-entry.entry-index in
+    let few = c.requires.few in
+    let so_far = c.loop-entry.auto.entry-index-end in
+    let up : most_of_moves + most_of_lines * i ≤ most_of_all = omega arith in
+    each-small-up (most_of_moves + most_of_lines * i) most_of_all c.loop-entry.sums up c.loop-entry.invariant.small

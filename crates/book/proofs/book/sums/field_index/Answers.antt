@@ -1,0 +1,18 @@
+use Rattle.std.proofs.Common.{◌≡◌, rules, of_calls, Ok, Err}
+use Rattle.std.proofs.lemmas.Fn.{always_returns_same}
+use Rattle.book.specs.Ledger.{Name, name_cmp, name_of}
+use Rattle.book.specs.Sums.{entry_name}
+use Rattle.book.proofs.SumsOnFields.{searched}
+use Rattle.book.proofs.book.sums.field_index.Goals as goal
+
+pub returns-in-Ok : goal.returns-in-Ok
+returns-in-Ok c =
+    let name : Name = name_of c.args.branch c.args.article in
+    searched name c.args.fields.now c.requires (Ok c.in-Ok.place) c.in-Ok.ensures.bound
+    (c.in-Ok.ensures.position (λ entry. name_cmp (entry_name entry) name) (always_returns_same _ (λ a r. r ≡ name_cmp (entry_name a.0.now) name) _ (λ a r f k. search (rules, of_calls))))
+
+pub returns-in-Err : goal.returns-in-Err
+returns-in-Err c =
+    let name : Name = name_of c.args.branch c.args.article in
+    searched name c.args.fields.now c.requires (Err c.in-Err.field-0) c.in-Err.ensures.bound
+    (c.in-Err.ensures.position (λ entry. name_cmp (entry_name entry) name) (always_returns_same _ (λ a r. r ≡ name_cmp (entry_name a.0.now) name) _ (λ a r f k. search (rules, of_calls))))

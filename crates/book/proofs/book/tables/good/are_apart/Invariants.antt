@@ -1,0 +1,8 @@
+-- no two of the lines so far are on one field
+use Rattle.std.proofs.Common.{map, take}
+use Rattle.std.specs.List.{IsDistinct}
+use Rattle.book.specs.Ledger.{line_name, same_name}
+use Rattle.book.proofs.book.tables.good.are_apart.Given as goal
+
+abbrev pub invariant-loop-i : goal.invariant-loop-i
+invariant-loop-i l = IsDistinct same_name (map line_name (take l.i l.lines))

@@ -1,0 +1,8 @@
+-- the lines so far use no more than they hold
+use Rattle.std.proofs.Common.{◌≤◌, take}
+use Rattle.std.specs.List.{AllByRecursion as Each}
+use Rattle.escrow.specs.Ranges.{IsLevel}
+use Rattle.book.proofs.book.tables.good.are_lines_good.Given as goal
+
+abbrev pub invariant-loop-line : goal.invariant-loop-line
+invariant-loop-line l = Each (λ l. IsLevel l.held × (l.used ≤ l.held)) (take l.line-index l.lines)

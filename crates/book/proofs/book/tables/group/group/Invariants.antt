@@ -1,0 +1,19 @@
+-- the orders so far have the heads so far and the rows of lines up to the start of the rest, and whatever good orders all
+-- the rows tell, those left are told by the heads and rows that are left
+use Rattle.std.proofs.Common.{◌≡◌, ◌≤◌, ◌++◌, List, drop, flat_map, length, map, nat_cmp, take}
+use Rattle.std.specs.List.Sorted.{IsStrictlySortedBy}
+use Rattle.book.specs.Ledger.{Order}
+use Rattle.book.specs.Rows.{order_lines}
+use Rattle.book.specs.Tables.{line_cells}
+use Rattle.book.specs.Told.{TellOrders, head_of}
+use Rattle.book.specs.View.{order_of}
+use Rattle.book.proofs.Grouped.{Tail}
+use Rattle.book.proofs.book.tables.group.group.Given as goal
+
+abbrev pub invariant-loop-head : goal.invariant-loop-head
+invariant-loop-head l = record {
+  within : l.start ≤ length l.rows;
+  heads : map head_of (map order_of l.orders.items) ≡ take l.head-index l.heads;
+  lines : flat_map order_lines (map order_of l.orders.items) ++ map line_cells (drop l.start l.rows) ≡ map line_cells l.rows;
+  left : (orders : List Order) → IsStrictlySortedBy nat_cmp (map (λ o. o.number) orders) → TellOrders orders l.heads (map line_cells l.rows) → Tail (drop l.head-index l.heads) (map line_cells (drop l.start l.rows));
+}

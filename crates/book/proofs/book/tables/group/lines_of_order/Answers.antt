@@ -1,0 +1,45 @@
+use Rattle.std.proofs.Common.{◌≡◌, ◌∙◌, ◌++◌, List, ap, arith, drop, length, map, sym, subst, take, true≢false}
+use Rattle.std.proofs.lemmas.List.{length-take-le, map-append, take-append-drop}
+use Rattle.book.specs.declared.rows.LineRow.{LineRow}
+use Rattle.book.specs.Rows.{LineCells, lines_from}
+use Rattle.book.specs.Tables.{line_cells}
+use Rattle.book.specs.Told.{BeginsOther, IsLineTold}
+use Rattle.book.proofs.Grouped.{begins-cells, number-cells, numbered-from, own_rows, split_rows}
+use Rattle.book.proofs.Zipped.{zip-length, zip-take}
+use Rattle.book.proofs.book.tables.group.lines_of_order.Goals as goal
+
+pub slice_bounds-from_slice-end : goal.slice_bounds-from_slice-end
+slice_bounds-from_slice-end c =
+    let within = c.run_length-count.ensures.within in
+    let long = zip-length IsLineTold c.args.lines.now c.args.rows.now c.requires in
+    sym (length-take-le c.run_length-count.result c.args.lines.now (omega arith))
+
+cut : (rows : List LineRow) (i : _) → map line_cells (take i rows) ++ map line_cells (drop i rows) ≡ map line_cells rows
+cut rows i = sym (map-append line_cells (take i rows) (drop i rows)) ∙ ap (map line_cells) (take-append-drop i rows)
+
+own_length : (c : goal.In-Ok) → length c.in-Ok.own.items ≡ c.run_length-count.result
+own_length c =
+    let within = c.run_length-count.ensures.within in
+    let long = zip-length IsLineTold c.args.lines.now c.args.rows.now c.requires in
+    ap (λ ls. length ls) c.in-Ok.ensures.items ∙ length-take-le c.run_length-count.result c.args.lines.now (omega arith)
+
+pub returns-then-not-are_numbered-clause-damaged : goal.returns-then-not-are_numbered-clause-damaged
+returns-then-not-are_numbered-clause-damaged c _ own rest others e =
+    let n = c.run_length-count.result in
+    let rows = c.args.rows.now in
+    let parts = split_rows c.args.number 1 own rest (map line_cells (take n rows)) (map line_cells (drop n rows)) others (number-cells c.args.number (take n rows) c.run_length-count.ensures.run)
+    (begins-cells c.args.number (drop n rows) c.run_length-count.ensures.end) (e ∙ sym (cut rows n)) in
+    true≢false (sym (c.are_numbered.ensures.1 (numbered-from c.args.number 1 own (take n rows) parts.0)) ∙ c.if-not-are_numbered.true)
+
+pub returns-in-Ok-clause-told : goal.returns-in-Ok-clause-told
+returns-in-Ok-clause-told c =
+    let n = c.run_length-count.result in
+    let rows = c.args.rows.now in
+    let own : lines_from c.args.number 1 c.in-Ok.own.items ≡ map line_cells (take n rows) =
+    ap (lines_from c.args.number 1) c.in-Ok.ensures.items
+    ∙ own_rows c.args.number 1 (take n c.args.lines.now) (take n rows) (zip-take IsLineTold n c.args.lines.now rows c.requires) c.run_length-count.ensures.run (c.are_numbered.ensures.0 c.if-not-are_numbered.false) in
+    ap (λ (first : List LineCells). first ++ map line_cells (drop (length c.in-Ok.own.items) rows)) own
+    ∙ ap (λ k. map line_cells (take n rows) ++ map line_cells (drop k rows)) (own_length c) ∙ cut rows n
+
+pub returns-in-Ok-clause-end : goal.returns-in-Ok-clause-end
+returns-in-Ok-clause-end c = subst (λ k. BeginsOther c.args.number (drop k c.args.rows.now)) (sym (own_length c)) c.run_length-count.ensures.end

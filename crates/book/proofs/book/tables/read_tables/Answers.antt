@@ -1,0 +1,102 @@
+use Rattle.std.proofs.Common.{◌≡◌, ◌∙◌, ℕ, [], ◌∷◌, List, ap, arith, length, map, pos, subst, sym}
+use Rattle.std.specs.List.{AllByRecursion as Each, AllZip}
+use Rattle.book.specs.declared.entries.FieldEntry.{FieldEntry}
+use Rattle.book.specs.declared.entries.KeptEntry.{KeptEntry}
+use Rattle.book.specs.declared.rows.FieldRow.{FieldRow}
+use Rattle.book.specs.declared.rows.KeptRow.{KeptRow}
+use Rattle.book.specs.Good.{IsGoodField, IsGoodKept}
+use Rattle.book.specs.Ledger.{places}
+use Rattle.book.specs.Rows.{DeskCells, IsFieldRow, KeptCells, kept_row, move_row}
+use Rattle.book.specs.Tables.{field_cells, kept_cells, line_cells, move_cells, order_cells}
+use Rattle.book.specs.Told.{IsFieldTold, IsKeptTold, IsLineTold, IsMoveTold, TellsField}
+use Rattle.book.specs.View.{field_of, kept_of, move_of, order_of}
+use Rattle.book.proofs.RowsTold.{fields_told, heads_same, heads_told, kept_told, lines_told, moves_told, orders_rows, rows_of}
+use Rattle.book.proofs.Lists.{length-of-map}
+use Rattle.book.proofs.Told.{same_first}
+use Rattle.book.proofs.Tested.{passed_up}
+use Rattle.book.proofs.Zipped.{zip-length, zip-map}
+use Rattle.book.proofs.book.tables.read_tables.Goals as goal
+
+abbrev desk_at : ℕ → ℕ → DeskCells
+desk_at clock places = record { one = pos 1; version = pos 1; clock = pos clock; places = pos places }
+
+pub returns-in_err-fields-clause-damaged : goal.returns-in_err-fields-clause-damaged
+returns-in_err-fields-clause-damaged c = passed_up c.from_residual.result c.in_err-fields.field-0.0 _ c.from_residual.ensures.1
+    (λ is A g rows. c.in_err-fields.ensures.damaged is
+    (fields_told A c.as_slice.result.now g (subst (λ (fs : List FieldRow). AllZip (IsFieldRow A) A.fields (map field_cells fs)) (sym c.as_slice.ensures) rows.fields)))
+
+pub returns-in_err-moves-clause-damaged : goal.returns-in_err-moves-clause-damaged
+returns-in_err-moves-clause-damaged c = passed_up c.from_residual-in_err-moves.result c.in_err-moves.field-0.0 _ c.from_residual-in_err-moves.ensures.1
+    (λ is A g rows. c.in_err-moves.ensures.damaged is (moves_told A c.as_slice-2.result.now g (ap (map move_cells) c.as_slice-2.ensures ∙ rows.moves)))
+
+pub returns-in_err-heads-clause-damaged : goal.returns-in_err-heads-clause-damaged
+returns-in_err-heads-clause-damaged c = passed_up c.from_residual-in_err-heads.result c.in_err-heads.field-0.0 _ c.from_residual-in_err-heads.ensures.1
+    (λ is A g rows. c.in_err-heads.ensures.damaged is (heads_told A c.as_slice-3.result.now g (ap (map order_cells) c.as_slice-3.ensures ∙ rows.orders)))
+
+pub returns-in_err-lines-clause-damaged : goal.returns-in_err-lines-clause-damaged
+returns-in_err-lines-clause-damaged c = passed_up c.from_residual-in_err-lines.result c.in_err-lines.field-0.0 _ c.from_residual-in_err-lines.ensures.1
+    (λ is A g rows. c.in_err-lines.ensures.damaged is (lines_told A c.as_slice-4.result.now g (ap (map line_cells) c.as_slice-4.ensures ∙ rows.lines)))
+
+pub returns-in_err-orders-clause-damaged : goal.returns-in_err-orders-clause-damaged
+returns-in_err-orders-clause-damaged c = passed_up c.from_residual-in_err-orders.result c.in_err-orders.field-0.0 _ c.from_residual-in_err-orders.ensures.1
+    (λ is A g rows. c.in_err-orders.ensures.damaged is A.orders g.orders_in_order
+    (record {
+      heads_are = heads_same c.in_ok-heads.heads.items c.as_slice-3.result.now A.orders c.in_ok-heads.ensures.told (ap (map order_cells) c.as_slice-3.ensures ∙ rows.orders) ∙ sym c.deref.ensures.value;
+      lines_are = sym (ap (map line_cells) c.as_slice-5.ensures ∙ rows.lines);
+    }))
+
+pub returns-in_err-kept-clause-damaged : goal.returns-in_err-kept-clause-damaged
+returns-in_err-kept-clause-damaged c = passed_up c.from_residual-in_err-kept.result c.in_err-kept.field-0.0 _ c.from_residual-in_err-kept.ensures.1
+    (λ is A g rows. c.in_err-kept.ensures.damaged is (kept_told A c.as_slice-6.result.now g (ap (map kept_cells) c.as_slice-6.ensures ∙ rows.kept)))
+
+pub group-requires : goal.group-requires
+group-requires c =
+    subst (λ ls. AllZip IsLineTold ls c.as_slice-5.result.now) (sym c.deref-2.ensures.value)
+    (subst (AllZip IsLineTold c.in_ok-lines.lines.items) (c.as_slice-4.ensures ∙ sym c.as_slice-5.ensures) c.in_ok-lines.ensures.told)
+
+pub returns-in_default-clause-damaged : goal.returns-in_default-clause-damaged
+returns-in_default-clause-damaged c _ A g rows =
+    let counted = c.len.ensures in
+    let kept = c.in_ok-kept.kept.ok.0 in
+    let told = zip-length IsKeptTold c.in_ok-kept.kept.items c.as_slice-6.result.now c.in_ok-kept.ensures.told in
+    let same = ap (λ (cells : List KeptCells). length cells) (ap (map kept_cells) c.as_slice-6.ensures ∙ rows.kept) in
+    let cells = length-of-map kept_cells c.as_slice-6.result.now in
+    let ledger = length-of-map kept_row A.kept in
+    let places : places A ≡ c.len.result = omega arith in
+    c.in_default.ensures A.clock g.clock (same_first _ _ _ _ rows.desk ∙ ap (desk_at A.clock) places)
+
+pub returns-clause-told : goal.returns-clause-told
+returns-clause-told c = record {
+  desk =
+      let counted = c.len.ensures in
+      let kept = c.in_ok-kept.kept.ok.0 in
+      let entries = length-of-map kept_of c.in_ok-kept.kept.items in
+      let places : c.len.result ≡ length (map kept_of c.in_ok-kept.kept.items) = omega arith in
+      ap (λ (d : DeskCells). d ∷ []) (c.in-Some.ensures.1 ∙ ap (desk_at c.in-Some.clock) places);
+  fields = subst (λ (fs : List FieldRow). AllZip TellsField (map field_of c.in_ok-fields.fields.items) (map field_cells fs)) c.as_slice.ensures
+      (zip-map IsFieldTold TellsField field_of field_cells (λ e row told. told.1) c.in_ok-fields.fields.items c.as_slice.result.now c.in_ok-fields.ensures.told);
+  moves = ap (map move_cells) (sym c.as_slice-2.ensures) ∙ rows_of IsMoveTold move_of move_row move_cells (λ e row told. told.cells) c.in_ok-moves.moves.items c.as_slice-2.result.now c.in_ok-moves.ensures.told;
+  orders = ap (map order_cells) (sym c.as_slice-3.ensures)
+      ∙ orders_rows c.in_ok-heads.heads.items c.as_slice-3.result.now (map order_of c.in_ok-orders.orders.items) c.in_ok-heads.ensures.told (c.in_ok-orders.ensures.told.heads_are ∙ c.deref.ensures.value);
+  lines = ap (map line_cells) (sym c.as_slice-5.ensures) ∙ sym c.in_ok-orders.ensures.told.lines_are;
+  kept = ap (map kept_cells) (sym c.as_slice-6.ensures) ∙ rows_of IsKeptTold kept_of kept_row kept_cells (λ e row told. told.cells) c.in_ok-kept.kept.items c.as_slice-6.result.now c.in_ok-kept.ensures.told;
+}
+
+good_fields : (es : List FieldEntry) (rows : List FieldRow) → AllZip IsFieldTold es rows → Each IsGoodField (map field_of es)
+good_fields [] [] told = tt
+good_fields [] (r ∷ rows) told = absurd told
+good_fields (e ∷ es) [] told = absurd told
+good_fields (e ∷ es) (r ∷ rows) told = (told.0.0, good_fields es rows told.1)
+
+good_kept : (es : List KeptEntry) (rows : List KeptRow) → AllZip IsKeptTold es rows → Each IsGoodKept (map kept_of es)
+good_kept [] [] told = tt
+good_kept [] (r ∷ rows) told = absurd told
+good_kept (e ∷ es) [] told = absurd told
+good_kept (e ∷ es) (r ∷ rows) told = (record { key = told.0.key; command = told.0.command }, good_kept es rows told.1)
+
+pub returns-clause-form : goal.returns-clause-form
+returns-clause-form c = record {
+  clock = c.in-Some.ensures.0;
+  fields = good_fields c.in_ok-fields.fields.items c.as_slice.result.now c.in_ok-fields.ensures.told;
+  kept = good_kept c.in_ok-kept.kept.items c.as_slice-6.result.now c.in_ok-kept.ensures.told;
+}

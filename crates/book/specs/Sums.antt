@@ -1,0 +1,102 @@
+-- What all moves and orders add up to on each of the fields.
+use Rattle.std.specs.Prelude.{◌≡◌, ℕ, ◌+◌, ◌<◌, pos, ◌+ℤ◌, List, [], ◌∷◌, length, map, Option, find, if◌then◌else◌, IsSome}
+use Rattle.std.specs.List.{AllByRecursion as Each, HoldsAt}
+use Rattle.std.specs.List.Sorted.{IsStrictlySortedBy}
+use Rattle.book.specs.declared.book.walk.Numbers.{Numbers}
+use Rattle.book.specs.declared.entries.FieldEntry.{FieldEntry}
+use Rattle.book.specs.declared.entries.MoveEntry.{MoveEntry}
+use Rattle.book.specs.declared.entries.OrderEntry.{OrderEntry}
+use Rattle.book.specs.declared.order.Line.{Line}
+use Rattle.book.specs.declared.order.State.{State}
+use Rattle.book.specs.Ledger.{Field, Name, committed_state, line_name, name_cmp, open_state, same_name}
+use Rattle.book.specs.Outcomes.{signed, total}
+use Rattle.book.specs.Held.{if_add, if_take}
+use Rattle.book.specs.View.{field_of, move_of}
+use Rattle.book.specs.Walk.{added_by_line, added_by_order, moved_by_line, moved_by_move, moved_by_order, most_of_moves, most_of_orders, taken_by_line, taken_by_order}
+
+-- what the moves and the orders add up to on the field
+abbrev pub numbers_on : List MoveEntry → List OrderEntry → Name → Numbers
+numbers_on ms os f = record {
+  moved = total (moved_by_move f) ms +ℤ total (moved_by_order f) os;
+  takes = total (taken_by_order f) os;
+  adds = total (added_by_order f) os;
+}
+
+-- ---- the fields that entries are on
+
+-- the name of the entry's field
+abbrev pub entry_name : FieldEntry → Name
+entry_name e = (field_of e).name
+
+-- the fields stand in the order of their names
+abbrev pub AreFieldsInOrder : List FieldEntry → Type 0
+AreFieldsInOrder fs = IsStrictlySortedBy name_cmp (map (λ f. f.name) (map field_of fs))
+
+-- the field of that name
+abbrev pub field_among : List FieldEntry → Name → Option Field
+field_among fs name = find (λ e. same_name name e.name) (map field_of fs)
+
+-- there is a field of that name
+abbrev pub IsField : List FieldEntry → Name → Type 0
+IsField fs name = IsSome (field_among fs name)
+
+-- the field at that place has the name
+pub record IsFieldAt (fs : List FieldEntry) (name : Name) (place : ℕ) : Type 0 where
+  pub within : place < length fs
+  pub named : HoldsAt (λ e. entry_name e ≡ name) fs place
+
+-- each move is on a field
+abbrev pub AreMovesOnFields : List FieldEntry → List MoveEntry → Type 0
+AreMovesOnFields fs ms = Each (λ m. IsField fs (move_of m).field) ms
+
+-- each line is on a field
+abbrev pub AreLinesOnFields : List FieldEntry → List Line → Type 0
+AreLinesOnFields fs ls = Each (λ l. IsField fs (line_name l)) ls
+
+-- each line of each order is on a field, whether the order is open or has ended
+abbrev pub AreOrdersOnFields : List FieldEntry → List OrderEntry → Type 0
+AreOrdersOnFields fs os = Each (λ o. AreLinesOnFields fs o.lines.items) os
+
+-- each move, and each line of each order, is on a field
+abbrev pub AreOnFields : List FieldEntry → List MoveEntry → List OrderEntry → Type 0
+AreOnFields fs ms os = AreMovesOnFields fs ms × AreOrdersOnFields fs os
+
+-- ---- numbers added to numbers
+
+-- the numbers of what adds up to nothing
+abbrev pub nothing : Numbers
+nothing = record { moved = pos 0; takes = pos 0; adds = pos 0 }
+
+-- the numbers of both together
+abbrev pub plus : Numbers → Numbers → Numbers
+plus n m = record { moved = n.moved +ℤ m.moved; takes = n.takes +ℤ m.takes; adds = n.adds +ℤ m.adds }
+
+-- the numbers on one field, and nothing on the others
+abbrev pub only_on : Name → Numbers → Name → Numbers
+only_on name part f = if same_name f name then part else nothing
+
+-- to the number of each field, in their order, its part is added
+abbrev pub added : (Name → Numbers) → List FieldEntry → List Numbers → List Numbers
+added part [] ns = ns
+added part (f ∷ fs) [] = []
+added part (f ∷ fs) (n ∷ ns) = plus n (part (entry_name f)) ∷ added part fs ns
+
+-- what a line adds to its field, where its order has the state
+abbrev pub part_of_line : State → Line → Numbers
+part_of_line s l = record {
+  moved = if committed_state s then signed l.way l.used else pos 0;
+  takes = if open_state s then pos (if_take l.way l.held) else pos 0;
+  adds = if open_state s then pos (if_add l.way l.held) else pos 0;
+}
+
+-- what the lines of an order in that state add up to on the field
+abbrev pub lines_numbers : State → List Line → Name → Numbers
+lines_numbers s ls f = record {
+  moved = if committed_state s then total (moved_by_line f) ls else pos 0;
+  takes = if open_state s then total (taken_by_line f) ls else pos 0;
+  adds = if open_state s then total (added_by_line f) ls else pos 0;
+}
+
+-- as much as all moves and all orders can come to
+abbrev pub most_of_all : ℕ
+most_of_all = most_of_moves + most_of_orders

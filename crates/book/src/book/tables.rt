@@ -1,0 +1,170 @@
+//! A ledger from the rows of its tables.
+
+ghost use Rattle.std.specs.Prelude.{◌≡◌, ◌↔◌, pos, ℕ, IfErr, IfOk, IsTrue, MatchOption, map};
+ghost use Rattle.std.specs.List.{AllZip};
+ghost use Rattle.book.specs.Good.{Good};
+ghost use Rattle.book.specs.Tables.{content_of, desk_cells, field_cells};
+ghost use Rattle.book.specs.Told.{AreInOrder, IsDamaged, IsInForm, IsWhole, KeepsLimits, TellsField, TellsLedger, told_ledger};
+ghost use Rattle.escrow.specs.Ranges.{IsMoment};
+ghost use Rattle.book.specs.Rows.{IsFieldRow, IsRowsOf};
+ghost use Rattle.book.specs.declared.book.tables.TablesFault.TheVariants as TablesFault;
+
+mod good;
+mod group;
+mod numbers;
+mod places;
+#[cfg(test)]
+mod tests;
+mod told;
+
+use self::good::{
+    are_fields_in_order, are_keys_in_order, are_moves_good, are_moves_in_order, are_orders_good,
+    are_orders_in_order,
+};
+use self::group::{Head, group};
+use self::numbers::fit_rows;
+use self::places::are_places_good;
+use self::told::{moment, natural, read_all};
+use crate::book::Book;
+use crate::book::walk::count_open;
+use crate::entries::{FieldEntry, KeptEntry, MoveEntry, OrderEntry};
+use crate::limits::{MAX_FIELDS, MAX_ORDERS, MAX_PLACES};
+use crate::order::Line;
+use crate::rows::{DeskRow, FieldRow, Tables};
+use escrow::Moment;
+use std::alloc::Global;
+use thiserror::Error;
+use words::Memory;
+
+/// Why no book was made of tables.
+#[derive(Clone, Copy, Debug, PartialEq, Eq, Error)]
+pub enum TablesFault {
+    /// They are the rows of no good ledger.
+    #[error("damaged")]
+    Damaged,
+    /// Memory was refused.
+    #[error("out of memory")]
+    Memory,
+}
+
+/// What the rows of tables tell, be the ledger good or not.
+#[derive(Drop)]
+struct Entries {
+    clock: Moment,
+    fields: Vec<FieldEntry>,
+    moves: Vec<MoveEntry>,
+    orders: Vec<OrderEntry>,
+    kept: Vec<KeptEntry>,
+}
+
+/// The clock, where the row has it and these places.
+fn read_desk(row: &DeskRow, places: usize) -> Option<Moment>
+    ensures { MatchOption result ((clock : ℕ) → IsMoment clock → desk_cells row.now ≡ record { one = pos 1; version = pos 1; clock = pos clock; places = pos places } → ⊥)
+        (λ clock. IsMoment clock × (desk_cells row.now ≡ record { one = pos 1; version = pos 1; clock = pos clock; places = pos places })) }
+{
+    let known = natural(row.places)?;
+    if row.one != 1 || row.version != 1 || known != places as u64 {
+        return None;
+    }
+    moment(row.clock)
+}
+
+/// What the rows tell, where they tell a ledger, good or not.
+fn read_tables(alloc: Global, tables: &Tables) -> Result<Entries, TablesFault>
+    ensures told { IfOk result (λ entries. TellsLedger (told_ledger entries) (content_of tables.now)) }
+    ensures form { IfOk result (λ entries. IsInForm (told_ledger entries)) }
+    ensures damaged { IfErr result (λ fault. fault ≡ TablesFault.Damaged → IsDamaged (content_of tables.now)) }
+{
+    let fields = read_all(alloc, tables.fields.as_slice())?;
+    let moves = read_all(alloc, tables.moves.as_slice())?;
+    let heads: Vec<Head> = read_all(alloc, tables.orders.as_slice())?;
+    let lines: Vec<Line> = read_all(alloc, tables.lines.as_slice())?;
+    let orders = group(alloc, &heads, tables.lines.as_slice(), &lines)?;
+    let kept = read_all(alloc, tables.kept.as_slice())?;
+    let Some(clock) = read_desk(&tables.desk, kept.len()) else {
+        return Err(TablesFault::Damaged);
+    };
+    Ok(Entries {
+        clock,
+        fields,
+        moves,
+        orders,
+        kept,
+    })
+}
+
+/// Whether each list is in the order of its keys.
+fn are_in_order(entries: &Entries) -> bool
+    ensures { IsTrue result ↔ AreInOrder (told_ledger entries.now) }
+{
+    are_fields_in_order(&entries.fields)
+        && are_moves_in_order(&entries.moves)
+        && are_orders_in_order(&entries.orders)
+        && are_keys_in_order(&entries.kept)
+}
+
+/// Whether they keep the limits.
+fn keep_limits(entries: &Entries) -> bool
+    ensures { IsTrue result ↔ KeepsLimits (told_ledger entries.now) }
+{
+    entries.fields.len() <= MAX_FIELDS
+        && entries.orders.len() <= MAX_ORDERS
+        && entries.kept.len() <= MAX_PLACES
+        && entries.kept.len() + count_open(&entries.orders) <= MAX_PLACES
+}
+
+/// Whether they are those of a good ledger, apart from whether fields are there, and safe.
+fn are_whole(alloc: Global, entries: &Entries) -> Result<bool, Memory>
+    ensures { IfOk result (λ whole. IsTrue whole ↔ IsWhole (told_ledger entries.now)) }
+{
+    if !are_in_order(entries) || !keep_limits(entries) {
+        return Ok(false);
+    }
+    if !are_moves_good(&entries.moves, entries.kept.len()) || !are_orders_good(&entries.orders) {
+        return Ok(false);
+    }
+    are_places_good(alloc, &entries.kept)
+}
+
+/// Whether they are those of a good ledger, and the rows have the numbers of its fields.
+fn are_good(alloc: Global, entries: &Entries, rows: &[FieldRow]) -> Result<bool, Memory>
+    requires form { IsInForm (told_ledger entries.now) }
+    requires told { AllZip TellsField (told_ledger entries.now).fields (map field_cells rows.now) }
+    ensures { IfOk result (λ good. let A = told_ledger entries.now in IsTrue good ↔ (Good A × AllZip (IsFieldRow A) A.fields (map field_cells rows.now))) }
+{
+    if !are_whole(alloc, entries)? {
+        return Ok(false);
+    }
+    fit_rows(
+        alloc,
+        &entries.fields,
+        &entries.moves,
+        &entries.orders,
+        rows,
+    )
+}
+
+impl Book {
+    /// The book of the ledger whose rows the tables are, or `Damaged` exactly where they are the rows of no good
+    /// ledger. That goes for their order, codes, ranges and places, what one row names of another, safety, and
+    /// the numbers of fields; nothing is mended. Its time is that of the rows, times the logarithm of the number
+    /// of fields.
+    pub fn of_tables(alloc: Global, tables: Tables) -> Result<Book, TablesFault>
+        ensures ok { IfOk result (λ book. Good book.ledger × IsRowsOf book.ledger (content_of tables)) }
+        ensures damaged { IfErr result (λ fault. fault ≡ TablesFault.Damaged → IsDamaged (content_of tables)) }
+    {
+        let entries = read_tables(alloc, &tables)?;
+        match are_good(alloc, &entries, tables.fields.as_slice()) {
+            Ok(true) => {}
+            Ok(false) => return Err(TablesFault::Damaged),
+            Err(Memory) => return Err(TablesFault::Memory),
+        }
+        Ok(Book {
+            clock: entries.clock,
+            fields: entries.fields,
+            moves: entries.moves,
+            orders: entries.orders,
+            kept: entries.kept,
+        })
+    }
+}

@@ -1,0 +1,163 @@
+//! Whether entries are those of a good ledger, whatever their fields' numbers.
+
+ghost use Rattle.std.specs.Prelude.{◌≡◌, ◌≤◌, ◌↔◌, IsTrue, map, nat_lt};
+ghost use Rattle.std.specs.Cmp.Lexicographic.{slice_cmp};
+ghost use Rattle.std.specs.List.{AllByRecursion as Each, IsDistinct};
+ghost use Rattle.std.specs.List.Sorted.{IsStrictlySortedBy};
+ghost use Rattle.std.specs.Ordering.{nat_cmp};
+ghost use Rattle.escrow.specs.Ranges.{IsLevel};
+ghost use Rattle.book.specs.Good.{IsTransferPair};
+ghost use Rattle.book.specs.Ledger.{line_name, name_cmp, same_name};
+ghost use Rattle.book.specs.Told.{IsMoveByItself, IsOrderByItself};
+ghost use Rattle.book.specs.View.{field_of, kept_of, move_of, order_of};
+
+use crate::book::find::line_in;
+use crate::book::insert::{is_field_before, is_key_before, is_order_before};
+use crate::entries::{FieldEntry, KeptEntry, MoveEntry, OrderEntry};
+use crate::order::{Kind, Line};
+use escrow::{Qty, Way};
+use words::MAX_ORDER_LINES;
+
+/// Whether the fields stand in the order of their names, each once.
+pub(super) fn are_fields_in_order(fields: &[FieldEntry]) -> bool
+    ensures { IsTrue result ↔ IsStrictlySortedBy name_cmp (map (λ f. f.name) (map field_of fields.now)) }
+{
+    for i in 1..fields.len() {
+        if !is_field_before(&fields[i - 1], &fields[i]) {
+            return false;
+        }
+    }
+    true
+}
+
+fn is_move_before(one: &MoveEntry, other: &MoveEntry) -> bool
+    ensures { result ≡ nat_lt one.now.place other.now.place }
+{
+    one.place < other.place
+}
+
+/// Whether the moves stand in the order of their places, one at each.
+pub(super) fn are_moves_in_order(moves: &[MoveEntry]) -> bool
+    ensures { IsTrue result ↔ IsStrictlySortedBy nat_cmp (map (λ m. m.place) (map move_of moves.now)) }
+{
+    for i in 1..moves.len() {
+        if !is_move_before(&moves[i - 1], &moves[i]) {
+            return false;
+        }
+    }
+    true
+}
+
+/// Whether the orders stand in the order of their numbers, one of each.
+pub(super) fn are_orders_in_order(orders: &[OrderEntry]) -> bool
+    ensures { IsTrue result ↔ IsStrictlySortedBy nat_cmp (map (λ o. o.number) (map order_of orders.now)) }
+{
+    for i in 1..orders.len() {
+        if !is_order_before(&orders[i - 1], &orders[i]) {
+            return false;
+        }
+    }
+    true
+}
+
+/// Whether the kept keys stand in their order, each once.
+pub(super) fn are_keys_in_order(kept: &[KeptEntry]) -> bool
+    ensures { IsTrue result ↔ IsStrictlySortedBy (slice_cmp nat_cmp) (map (λ k. k.key) (map kept_of kept.now)) }
+{
+    for i in 1..kept.len() {
+        if !is_key_before(&kept[i - 1], &kept[i]) {
+            return false;
+        }
+    }
+    true
+}
+
+fn is_move_good(entry: &MoveEntry, places: usize) -> bool
+    ensures { IsTrue result ↔ IsMoveByItself places (move_of entry.now) }
+{
+    1 <= entry.place
+        && entry.place <= places as u64
+        && Qty::new(entry.amount.unsigned_abs()).is_some()
+}
+
+/// Whether each move has a place that is taken, and its amount is in range.
+pub(super) fn are_moves_good(moves: &[MoveEntry], places: usize) -> bool
+    ensures { IsTrue result ↔ Each (IsMoveByItself places) (map move_of moves.now) }
+{
+    for entry in moves {
+        if !is_move_good(entry, places) {
+            return false;
+        }
+    }
+    true
+}
+
+/// Whether no line has used more than it holds.
+fn are_lines_good(lines: &[Line]) -> bool
+    ensures { IsTrue result ↔ Each (λ l. IsLevel l.held × (l.used ≤ l.held)) lines.now }
+{
+    for line in lines {
+        if line.used.get() > line.held.get() {
+            return false;
+        }
+    }
+    true
+}
+
+/// Whether no two lines are on one field.
+fn are_apart(lines: &[Line]) -> bool
+    ensures { IsTrue result ↔ IsDistinct same_name (map line_name lines.now) }
+{
+    for (i, line) in lines.iter().enumerate() {
+        if line_in(&lines[..i], line.branch, line.article).is_some() {
+            return false;
+        }
+    }
+    true
+}
+
+/// Whether they are the two lines of a transfer.
+fn are_transfer_pair(lines: &[Line]) -> bool
+    ensures { IsTrue result ↔ IsTransferPair lines.now }
+{
+    match lines {
+        [take, add] => {
+            take.way == Way::Take
+                && add.way == Way::Add
+                && take.article == add.article
+                && take.held == add.held
+                && take.used == add.used
+        }
+        _ => false,
+    }
+}
+
+fn is_order_good(order: &OrderEntry) -> bool
+    ensures { IsTrue result ↔ IsOrderByItself (order_of order.now) }
+{
+    // so that the proof has their ranges
+    order.number.get();
+    order.until.get();
+    if order.lines.is_empty() || order.lines.len() > MAX_ORDER_LINES {
+        return false;
+    }
+    if !are_lines_good(&order.lines) || !are_apart(&order.lines) {
+        return false;
+    }
+    match order.kind {
+        Kind::Plain => true,
+        Kind::Transfer => are_transfer_pair(&order.lines),
+    }
+}
+
+/// Whether each order is good, apart from whether its fields are there.
+pub(super) fn are_orders_good(orders: &[OrderEntry]) -> bool
+    ensures { IsTrue result ↔ Each IsOrderByItself (map order_of orders.now) }
+{
+    for order in orders {
+        if !is_order_good(order) {
+            return false;
+        }
+    }
+    true
+}

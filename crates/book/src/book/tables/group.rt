@@ -1,0 +1,125 @@
+//! Orders, from their rows and those of their lines.
+
+ghost use Rattle.std.specs.Prelude.{◌≡◌, ◌≤◌, ◌↔◌, ◌++◌, pos, List, IfErr, IfOk, IsTrue, drop, length, map, take};
+ghost use Rattle.std.specs.List.{AllByRecursion as Each, AllZip};
+ghost use Rattle.std.specs.List.Sorted.{IsStrictlySortedBy};
+ghost use Rattle.std.specs.Ordering.{nat_cmp};
+ghost use Rattle.book.specs.Ledger.{Order};
+ghost use Rattle.book.specs.Rows.{LineCells, lines_from};
+ghost use Rattle.book.specs.Tables.{line_cells};
+ghost use Rattle.book.specs.Told.{AreNumbered, AreOthers, BeginsOther, IsLineTold, TellOrders};
+ghost use Rattle.book.specs.View.{order_of};
+ghost use Rattle.book.specs.declared.book.tables.TablesFault.TheVariants as TablesFault;
+ghost use Rattle.book.specs.declared.order.Line.{Line};
+
+use super::TablesFault;
+use crate::entries::OrderEntry;
+use crate::order::{Kind, Line, State};
+use crate::rows::LineRow;
+use escrow::{Moment, OrderNo};
+use std::alloc::Global;
+
+/// An order but for its lines.
+#[derive(Clone, Copy, Debug)]
+pub(super) struct Head {
+    pub number: OrderNo,
+    pub kind: Kind,
+    pub until: Moment,
+    pub state: State,
+}
+
+/// How many rows at the front are of that order.
+fn run_length(rows: &[LineRow], number: OrderNo) -> usize
+    ensures within { result ≤ length rows.now }
+    ensures run { Each (λ row. row.number ≡ pos number) (take result rows.now) }
+    ensures end { BeginsOther number (drop result rows.now) }
+{
+    for (i, row) in rows.iter().enumerate() {
+        if row.number != number.get() as i64 {
+            return i;
+        }
+    }
+    rows.len()
+}
+
+/// Whether the rows count from 1.
+fn are_numbered(rows: &[LineRow]) -> bool
+    ensures { IsTrue result ↔ AreNumbered 1 rows.now }
+{
+    for (i, row) in rows.iter().enumerate() {
+        if row.nr != i as i64 + 1 {
+            return false;
+        }
+    }
+    true
+}
+
+/// The lines of that order, whose rows stand at the front.
+fn lines_of_order(
+    alloc: Global,
+    number: OrderNo,
+    rows: &[LineRow],
+    lines: &[Line],
+) -> Result<Vec<Line>, TablesFault>
+    requires { AllZip IsLineTold lines.now rows.now }
+    ensures within { IfOk result (λ own. length own.items ≤ length rows.now) }
+    ensures told { IfOk result (λ own. lines_from number 1 own.items ++ map line_cells (drop (length own.items) rows.now) ≡ map line_cells rows.now) }
+    ensures end { IfOk result (λ own. BeginsOther number (drop (length own.items) rows.now)) }
+    ensures damaged { IfErr result (λ fault. fault ≡ TablesFault.Damaged → (own : List Line) (rest : List LineCells) → AreOthers number rest → lines_from number 1 own ++ rest ≡ map line_cells rows.now → ⊥) }
+{
+    let count = run_length(rows, number);
+    if !are_numbered(&rows[..count]) {
+        return Err(TablesFault::Damaged);
+    }
+    match Vec::from_slice(alloc, &lines[..count]) {
+        Ok(own) => Ok(own),
+        Err(_) => Err(TablesFault::Memory),
+    }
+}
+
+/// The orders that the rows of orders and those of lines tell together.
+pub(super) fn group(
+    alloc: Global,
+    heads: &[Head],
+    rows: &[LineRow],
+    lines: &[Line],
+) -> Result<Vec<OrderEntry>, TablesFault>
+    requires { AllZip IsLineTold lines.now rows.now }
+    ensures told { IfOk result (λ orders. TellOrders (map order_of orders.items) heads.now (map line_cells rows.now)) }
+    ensures damaged { IfErr result (λ fault. fault ≡ TablesFault.Damaged → (orders : List Order) → IsStrictlySortedBy nat_cmp (map (λ o. o.number) orders) → TellOrders orders heads.now (map line_cells rows.now) → ⊥) }
+{
+    let mut orders = Vec::new(alloc);
+    let mut start = 0;
+    for head in heads {
+        let (rows_left, lines_left) = (behind(rows, start), behind(lines, start));
+        let own = lines_of_order(alloc, head.number, rows_left, lines_left)?;
+        start += own.len();
+        let order = with_lines(head, own);
+        let Ok(()) = orders.push(order) else {
+            return Err(TablesFault::Memory);
+        };
+    }
+    if start != rows.len() {
+        return Err(TablesFault::Damaged);
+    }
+    Ok(orders)
+}
+
+fn behind<T>(items: &[T], start: usize) -> &[T]
+    requires { start ≤ length items.now }
+    ensures { result.now ≡ drop start items.now }
+{
+    &items[start..]
+}
+
+fn with_lines(head: &Head, lines: Vec<Line>) -> OrderEntry
+    ensures { order_of result ≡ record { number = head.now.number; kind = head.now.kind; until = head.now.until; state = head.now.state; lines = lines.items } }
+{
+    OrderEntry {
+        number: head.number,
+        kind: head.kind,
+        until: head.until,
+        state: head.state,
+        lines,
+    }
+}

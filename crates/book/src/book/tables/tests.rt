@@ -1,0 +1,413 @@
+use super::*;
+use crate::book::Planned;
+use crate::order::State;
+use crate::rows::{FieldRow, KeptRow, LineRow, MoveRow, OrderRow, Rows};
+use escrow::{Article, Branch, Key, OrderNo};
+use std::process::Abort;
+use std::test::Fail;
+use words::{Refusal, Request, read_command};
+
+/// Rows to be changed before they are opened.
+#[derive(Drop)]
+struct Parts {
+    desk: DeskRow,
+    fields: Vec<FieldRow>,
+    moves: Vec<MoveRow>,
+    orders: Vec<OrderRow>,
+    lines: Vec<LineRow>,
+    kept: Vec<KeptRow>,
+}
+
+impl Parts {
+    fn into_tables(self) -> Tables {
+        Tables {
+            desk: self.desk,
+            fields: Rows::new(self.fields),
+            moves: Rows::new(self.moves),
+            orders: Rows::new(self.orders),
+            lines: Rows::new(self.lines),
+            kept: Rows::new(self.kept),
+        }
+    }
+
+    fn push_field<R: AllocGlobal>(
+        &mut self,
+        rt: &R,
+        branch: &str,
+        bounds: (i64, i64),
+        start: i64,
+        numbers: (i64, i64, i64),
+    ) -> Result<(), Fail> {
+        let alloc = rt.alloc();
+        Ok(
+            self.fields.push(FieldRow {
+                branch: String::from_str(alloc, branch)?,
+                article: String::from_str(alloc, "A-1")?,
+                lo: bounds.0,
+                hi: bounds.1,
+                start,
+                value: numbers.0,
+                inf: numbers.1,
+                sup: numbers.2,
+            })?,
+        )
+    }
+
+    fn push_move<R: AllocGlobal>(
+        &mut self,
+        rt: &R,
+        place: i64,
+        branch: &str,
+        qty: i64,
+    ) -> Result<(), Fail> {
+        let alloc = rt.alloc();
+        Ok(
+            self.moves.push(MoveRow {
+                place,
+                branch: String::from_str(alloc, branch)?,
+                article: String::from_str(alloc, "A-1")?,
+                qty,
+            })?,
+        )
+    }
+
+    fn push_line<R: AllocGlobal>(
+        &mut self,
+        rt: &R,
+        numbers: (i64, i64),
+        way: i64,
+        branch: &str,
+        amounts: (i64, i64),
+    ) -> Result<(), Fail> {
+        let alloc = rt.alloc();
+        Ok(
+            self.lines.push(LineRow {
+                number: numbers.0,
+                nr: numbers.1,
+                branch: String::from_str(alloc, branch)?,
+                article: String::from_str(alloc, "A-1")?,
+                way,
+                held: amounts.0,
+                used: amounts.1,
+            })?,
+        )
+    }
+
+    fn push_kept<R: AllocGlobal>(
+        &mut self,
+        rt: &R,
+        key: &str,
+        place: i64,
+        words: &str,
+    ) -> Result<(), Fail> {
+        let alloc = rt.alloc();
+        Ok(
+            self.kept.push(KeptRow {
+                reqkey: String::from_str(alloc, key)?,
+                place,
+                words: String::from_str(alloc, words)?,
+            })?,
+        )
+    }
+}
+
+/// Two fields of one article with a delivery and a write-off, an open order, and a transfer that is committed.
+fn sample<R: AllocGlobal>(rt: &R) -> Result<Parts, Fail> {
+    let alloc = rt.alloc();
+    let mut parts = Parts {
+        desk: DeskRow {
+            one: 1,
+            version: 1,
+            clock: 0,
+            places: 8,
+        },
+        fields: Vec::new(alloc),
+        moves: Vec::new(alloc),
+        orders: Vec::new(alloc),
+        lines: Vec::new(alloc),
+        kept: Vec::new(alloc),
+    };
+    // 40 + 10 - 4, of which 35 may be taken
+    parts.push_field(rt, "N1", (0, 100), 40, (46, 11, 46))?;
+    // 5 + 4 - 2
+    parts.push_field(rt, "N2", (0, 50), 5, (7, 7, 7))?;
+    parts.push_move(rt, 3, "N1", 10)?;
+    parts.push_move(rt, 8, "N2", -2)?;
+    push_order(&mut parts, 7, 0, 120, 0)?;
+    push_order(&mut parts, 20, 1, 900, 1)?;
+    parts.push_line(rt, (7, 1), 0, "N1", (35, 0))?;
+    parts.push_line(rt, (20, 1), 0, "N1", (10, 4))?;
+    parts.push_line(rt, (20, 2), 1, "N2", (10, 4))?;
+    parts.push_kept(rt, "K1", 1, "field N1 A-1 0 100 40")?;
+    parts.push_kept(rt, "K2", 2, "field N2 A-1 0 50 5")?;
+    parts.push_kept(rt, "K3", 3, "deliver N1 A-1 10")?;
+    parts.push_kept(rt, "K4", 4, "open 7 120 take N1 A-1 35")?;
+    parts.push_kept(rt, "K5", 5, "transfer 20 900 A-1 N1 N2 10")?;
+    parts.push_kept(rt, "K6", 6, "use 20 N2 A-1 4")?;
+    parts.push_kept(rt, "K7", 7, "commit 20")?;
+    parts.push_kept(rt, "K8", 8, "writeoff N2 A-1 2")?;
+    Ok(parts)
+}
+
+fn push_order(
+    parts: &mut Parts,
+    number: i64,
+    kind: i64,
+    until: i64,
+    state: i64,
+) -> Result<(), Fail> {
+    Ok(
+        parts.orders.push(OrderRow {
+            number,
+            kind,
+            until,
+            state,
+        })?,
+    )
+}
+
+/// They are the rows of no good ledger.
+fn expect_damaged<R: AllocGlobal>(rt: &R, parts: Parts) -> Result<(), Fail> {
+    match Book::of_tables(rt.alloc(), parts.into_tables()) {
+        Err(TablesFault::Damaged) => Ok(()),
+        Err(TablesFault::Memory) => Err(Fail::from("out of memory")),
+        Ok(_) => Err(Fail::from("not damaged")),
+    }
+}
+
+#[test]
+fn rows_of_a_good_ledger_open(rt: HostRuntime) -> Result<(), Fail> {
+    let book = Book::of_tables(rt.alloc(), sample(&rt)?.into_tables())?;
+    let Some(field) = book.field(Branch::read(b"N1")?, Article::read(b"A-1")?) else {
+        return Err(Fail::from("no field"));
+    };
+    assert_eq!(rt; field.value.get(), 46);
+    assert_eq!(rt; field.inf.get(), 11);
+    assert_eq!(rt; field.sup.get(), 46);
+    let Some(number) = OrderNo::new(7) else {
+        return Err(Fail::from("no number"));
+    };
+    let Some(order) = book.order(number) else {
+        return Err(Fail::from("no order"));
+    };
+    assert!(rt; matches!(order.state, State::Open));
+    let [line] = order.lines else {
+        return Err(Fail::from("not one line"));
+    };
+    assert_eq!(rt; line.held.get(), 35);
+    Ok(())
+}
+
+#[test]
+fn rows_of_a_new_desk_open(rt: HostRuntime) -> Result<(), Fail> {
+    let alloc = rt.alloc();
+    let tables = Tables {
+        desk: DeskRow {
+            one: 1,
+            version: 1,
+            clock: 0,
+            places: 0,
+        },
+        fields: Rows::new(Vec::new(alloc)),
+        moves: Rows::new(Vec::new(alloc)),
+        orders: Rows::new(Vec::new(alloc)),
+        lines: Rows::new(Vec::new(alloc)),
+        kept: Rows::new(Vec::new(alloc)),
+    };
+    let book = Book::of_tables(alloc, tables)?;
+    assert_eq!(rt; book.field_count(), 0);
+    Ok(())
+}
+
+#[test]
+fn a_stored_infimum_one_too_high_is_damaged(rt: HostRuntime) -> Result<(), Fail> {
+    let mut parts = sample(&rt)?;
+    let Some(row) = parts.fields.first_mut() else {
+        return Err(Fail::from("no row"));
+    };
+    row.inf = 12;
+    expect_damaged(&rt, parts)
+}
+
+#[test]
+fn a_field_that_may_fall_below_its_bound_is_damaged(rt: HostRuntime) -> Result<(), Fail> {
+    let mut parts = sample(&rt)?;
+    let Some(row) = parts.fields.first_mut() else {
+        return Err(Fail::from("no row"));
+    };
+    row.lo = 12;
+    expect_damaged(&rt, parts)
+}
+
+#[test]
+fn another_version_is_damaged(rt: HostRuntime) -> Result<(), Fail> {
+    let mut parts = sample(&rt)?;
+    parts.desk.version = 2;
+    expect_damaged(&rt, parts)
+}
+
+#[test]
+fn a_place_too_few_is_damaged(rt: HostRuntime) -> Result<(), Fail> {
+    let mut parts = sample(&rt)?;
+    parts.desk.places = 7;
+    expect_damaged(&rt, parts)
+}
+
+#[test]
+fn an_order_out_of_order_is_damaged(rt: HostRuntime) -> Result<(), Fail> {
+    let mut parts = sample(&rt)?;
+    parts.orders.reverse();
+    expect_damaged(&rt, parts)
+}
+
+#[test]
+fn a_code_that_is_none_is_damaged(rt: HostRuntime) -> Result<(), Fail> {
+    let mut parts = sample(&rt)?;
+    let Some(row) = parts.moves.first_mut() else {
+        return Err(Fail::from("no row"));
+    };
+    row.branch = String::from_str(rt.alloc(), "n1")?;
+    expect_damaged(&rt, parts)
+}
+
+#[test]
+fn a_text_that_is_no_spelling_is_damaged(rt: HostRuntime) -> Result<(), Fail> {
+    let mut parts = sample(&rt)?;
+    let Some(row) = parts.kept.last_mut() else {
+        return Err(Fail::from("no row"));
+    };
+    row.words = String::from_str(rt.alloc(), "writeoff N2 A-1 02")?;
+    expect_damaged(&rt, parts)
+}
+
+#[test]
+fn a_place_taken_twice_is_damaged(rt: HostRuntime) -> Result<(), Fail> {
+    let mut parts = sample(&rt)?;
+    let Some(row) = parts.kept.last_mut() else {
+        return Err(Fail::from("no row"));
+    };
+    row.place = 7;
+    expect_damaged(&rt, parts)
+}
+
+#[test]
+fn a_move_on_no_field_is_damaged(rt: HostRuntime) -> Result<(), Fail> {
+    let mut parts = sample(&rt)?;
+    let Some(row) = parts.moves.first_mut() else {
+        return Err(Fail::from("no row"));
+    };
+    row.branch = String::from_str(rt.alloc(), "N3")?;
+    expect_damaged(&rt, parts)
+}
+
+#[test]
+fn a_line_without_its_order_is_damaged(rt: HostRuntime) -> Result<(), Fail> {
+    let mut parts = sample(&rt)?;
+    parts.push_line(&rt, (21, 1), 0, "N1", (1, 0))?;
+    expect_damaged(&rt, parts)
+}
+
+#[test]
+fn an_order_without_lines_is_damaged(rt: HostRuntime) -> Result<(), Fail> {
+    let mut parts = sample(&rt)?;
+    push_order(&mut parts, 21, 0, 900, 2)?;
+    expect_damaged(&rt, parts)
+}
+
+#[test]
+fn more_used_than_held_is_damaged(rt: HostRuntime) -> Result<(), Fail> {
+    let mut parts = sample(&rt)?;
+    let Some(row) = parts.lines.first_mut() else {
+        return Err(Fail::from("no row"));
+    };
+    row.used = 36;
+    expect_damaged(&rt, parts)
+}
+
+#[test]
+fn unequal_halves_of_a_transfer_are_damaged(rt: HostRuntime) -> Result<(), Fail> {
+    let mut parts = sample(&rt)?;
+    let Some(row) = parts.lines.last_mut() else {
+        return Err(Fail::from("no row"));
+    };
+    row.held = 11;
+    expect_damaged(&rt, parts)
+}
+
+/// `K` and the number in six digits, so that keys stand in the order of their numbers.
+fn numbered_key<R: AllocGlobal>(rt: &R, number: u64) -> Result<String, Fail> {
+    let mut digits = [b'0'; 7];
+    digits[0] = b'K';
+    let mut rest = number;
+    for place in 0..6 {
+        digits[6 - place] = b'0' + (rest % 10) as u8;
+        rest /= 10;
+    }
+    Ok(String::from_utf8_lossy(rt.alloc(), &digits)?)
+}
+
+/// 199,999 accepted commands, and one open order that holds 5 of a field.
+fn full_desk<R: AllocGlobal>(rt: &R) -> Result<Parts, Fail> {
+    let alloc = rt.alloc();
+    let mut parts = Parts {
+        desk: DeskRow {
+            one: 1,
+            version: 1,
+            clock: 0,
+            places: 199_999,
+        },
+        fields: Vec::new(alloc),
+        moves: Vec::new(alloc),
+        orders: Vec::new(alloc),
+        lines: Vec::new(alloc),
+        kept: Vec::new(alloc),
+    };
+    parts.push_field(rt, "N1", (0, 100), 40, (40, 35, 40))?;
+    push_order(&mut parts, 7, 0, 120, 0)?;
+    parts.push_line(rt, (7, 1), 0, "N1", (5, 0))?;
+    for number in 1..200_000 {
+        parts.kept.push(KeptRow {
+            reqkey: numbered_key(rt, number)?,
+            place: number as i64,
+            words: String::from_str(alloc, "expire 0")?,
+        })?;
+    }
+    Ok(parts)
+}
+
+/// How the command is refused.
+fn refusal_of<R: AllocGlobal>(
+    rt: &R,
+    book: &Book,
+    command: &[u8],
+) -> Result<Option<(Refusal, u64)>, Fail> {
+    let alloc = rt.alloc();
+    let request = Request {
+        key: Key::read(b"NEW")?,
+        command: read_command(alloc, command)?,
+    };
+    match book.plan(alloc, &request)? {
+        Planned::Refused(refusal, line) => Ok(Some((refusal, line))),
+        _ => Ok(None),
+    }
+}
+
+#[test]
+fn a_full_desk_still_ends_its_order(rt: HostRuntime) -> Result<(), Fail> {
+    let mut book = Book::of_tables(rt.alloc(), full_desk(&rt)?.into_tables())?;
+    let refused = refusal_of(&rt, &book, b"deliver N1 A-1 1")?;
+    assert!(rt; refused == Some((Refusal::Full, 0)));
+    let refused = refusal_of(&rt, &book, b"expire 120")?;
+    assert!(rt; refused == Some((Refusal::Full, 0)));
+    let request = Request {
+        key: Key::read(b"NEW")?,
+        command: read_command(rt.alloc(), b"commit 7")?,
+    };
+    let Planned::Accept(plan) = book.plan(rt.alloc(), &request)? else {
+        return Err(Fail::from("refused"));
+    };
+    assert_eq!(rt; plan.place(), 200_000);
+    book.make_room(&plan)?;
+    book.adopt(plan);
+    Ok(())
+}
