@@ -24,7 +24,7 @@ use Rattle.book.proofs.Lists.{each-unmap}
 use Rattle.book.proofs.Sums.{each, each-both, each-imp}
 
 -- an amount more, on the line that is there or on one at the end
-hold_allowed : (B : Ledger) (l : OpenLine) (o : OrderEntry) → 1 ≤ vec_capacity o.lines - vec_len o.lines → IsGoodOrder B (add_hold l (order_of o)) → MayChangeOrder (HoldMore l) o
+pub hold_allowed : (B : Ledger) (l : OpenLine) (o : OrderEntry) → 1 ≤ vec_capacity o.lines - vec_len o.lines → IsGoodOrder B (add_hold l (order_of o)) → MayChangeOrder (HoldMore l) o
 hold_allowed B l o room good = by (find (on f) o.lines.items) refl
   where
     f : Name

@@ -1,5 +1,5 @@
 -- A good ledger has one content, and its rows stand in the order of their keys.
-use Rattle.std.proofs.Common.{◌≡◌, ℕ, ◌+◌, ◌<◌, pos, ◌+ℤ◌, ◌-ℤ◌, List, [], ◌∷◌, ◌++◌, map, flat_map, refl, sym, ◌∙◌, subst, arith, nat_cmp, Less}
+use Rattle.std.proofs.Common.{◌≡◌, ℕ, ◌+◌, ◌<◌, pos, List, [], ◌∷◌, ◌++◌, map, flat_map, refl, sym, ◌∙◌, subst, arith, nat_cmp, Less}
 use Rattle.std.proofs.lemmas.Int.{ints}
 use Rattle.std.proofs.lemmas.Cmp.{int_cmp_total, tied_itself}
 use Rattle.std.specs.declared.cmp.Ordering.{Ordering}
@@ -9,10 +9,9 @@ use Rattle.std.specs.List.{AllByRecursion as Each, AllZip}
 use Rattle.std.specs.List.Sorted.{IsStrictlySortedBy}
 use Rattle.book.specs.declared.order.Line.{Line}
 use Rattle.book.specs.Ledger.{Field, Order, Ledger, name_cmp}
-use Rattle.book.specs.Outcomes.{settled}
-use Rattle.book.specs.Held.{held_to_take, held_to_add}
 use Rattle.book.specs.Good.{Good}
-use Rattle.book.specs.Rows.{Content, FieldCells, IsFieldRow, IsInKeyOrder, IsRowsOf, desk_row, field_cmp, kept_cmp, kept_row, line_cmp, line_row, lines_from, move_cmp, move_row, order_cmp, order_lines, order_row}
+use Rattle.book.specs.After.{field_row, rows_of}
+use Rattle.book.specs.Rows.{Content, FieldCells, IsFieldRow, IsInKeyOrder, IsRowsOf, field_cmp, kept_cmp, kept_row, line_cmp, line_row, lines_from, move_cmp, move_row, order_cmp, order_lines, order_row}
 use Rattle.book.proofs.Sums.{each-imp, each-map}
 use Rattle.book.proofs.Bounds.{inf_is, inf_unique, sup_is, sup_unique}
 use Rattle.book.proofs.Closing.{less_is, sounds_from_good}
@@ -101,19 +100,15 @@ one_content A C D x y =
     let kept = x.kept ∙ sym y.kept in
     λ i. record { desk = desk i; fields = fields i; moves = moves i; orders = orders i; lines = lines i; kept = kept i }
 
-field_row : Ledger → Field → FieldCells
-field_row A f = record { branch = f.name.branch; article = f.name.article; lo = pos f.lo; hi = pos f.hi; start = pos f.start; value = settled A f; inf = settled A f -ℤ held_to_take A f.name; sup = settled A f +ℤ held_to_add A f.name }
-
 field_rows : (A : Ledger) (fs : List Field) → Good A → AllZip (IsFieldRow A) fs (map (field_row A) fs)
-unfolding field_row
 field_rows A [] g = tt
 field_rows A (f ∷ fs) g = (record { branch = refl; article = refl; lo = refl; hi = refl; start = refl; value = refl; inf = inf_is A (sounds_from_good A g) f; sup = sup_is A (sounds_from_good A g) f }, field_rows A fs g)
 
+pub rows_are : (A : Ledger) → Good A → IsRowsOf A (rows_of A)
+rows_are A g = record { desk = refl; fields = field_rows A A.fields g; moves = refl; orders = refl; lines = refl; kept = refl }
+
 pub a_content : (A : Ledger) → Good A → (C : Content) × IsRowsOf A C
-a_content A g = (
-  record { desk = desk_row A ∷ []; fields = map (field_row A) A.fields; moves = map move_row A.moves; orders = map order_row A.orders; lines = flat_map order_lines A.orders; kept = map kept_row A.kept },
-  record { desk = refl; fields = field_rows A A.fields g; moves = refl; orders = refl; lines = refl; kept = refl },
-)
+a_content A g = (rows_of A, rows_are A g)
 
 pub rows_in_order : (A : Ledger) (C : Content) → Good A → IsRowsOf A C → IsInKeyOrder C
 rows_in_order A C g x = record {

@@ -35,3 +35,11 @@ pub mod Told
 pub mod InOrder
 pub mod Puts
 pub mod Changed
+pub mod Among
+pub mod Texts
+pub mod Lined
+pub mod Chosen
+pub mod Made
+pub mod After
+pub mod Copied
+pub mod NextRows

@@ -18,3 +18,4 @@ pub mod Changes
 pub mod Tables
 pub mod Told
 pub mod Sums
+pub mod After

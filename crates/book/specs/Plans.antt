@@ -1,24 +1,37 @@
 -- Plans of accepted requests, and what carrying one out needs.
-use Rattle.std.specs.Prelude.{ℕ, ◌+◌, ◌≤◌, ◌≡◌, ◌==◌, true, List, []}
+use Rattle.std.specs.Prelude.{ℕ, ◌+◌, ◌≤◌, ◌≡◌, ◌==◌, true, List, [], ◌∷◌}
 use Rattle.std.specs.List.{AllByRecursion as Each}
 use Rattle.words.specs.declared.command.Command.{Command}
 use Rattle.words.specs.declared.command.Command.TheVariants as command
 use Rattle.words.specs.declared.command.Request.{Request}
 use Rattle.words.specs.declared.open_line.OpenLine.{OpenLine}
 use Rattle.book.specs.Answers.{IsAccepted}
+use Rattle.book.specs.Changes.{changed_rows, put_content}
 use Rattle.book.specs.Ledger.{Ledger, places}
-use Rattle.book.specs.Next.{transfer_lines}
+use Rattle.book.specs.Next.{accept, transfer_lines}
+use Rattle.book.specs.Rows.{Content, IsRowsOf, desk_row}
 use Rattle.book.specs.View.{BookView, OrderRoom}
 
--- a plan as it is seen: the request that it carries out, and the place that its command gets
+-- a plan as it is seen: the request that it carries out, the place that its command gets, and the rows that change
 pub record PlanView : Type 0 where
   pub request : Request
   pub place : ℕ
+  pub changes : Content
 
--- The plan fits the ledger: its request is accepted there, at that place.
+-- The rows are those that the request changes.
+pub record ChangesTo (A : Ledger) (r : Request) (rows : Content) : Type 0 where
+  -- of the next ledger's rows they are those that the request changes
+  pub changed : (D : Content) → IsRowsOf (accept A r) D → rows ≡ changed_rows A r D
+  -- put into the rows of the ledger by their keys, they give those of the next one
+  pub suffice : (C D : Content) → IsRowsOf A C → IsRowsOf (accept A r) D → put_content rows C ≡ D
+  -- the desk row is the next ledger's
+  pub desk : rows.desk ≡ desk_row (accept A r) ∷ []
+
+-- The plan fits the ledger: its request is accepted there, at that place, and its rows are those that change.
 pub record Fits (A : Ledger) (plan : PlanView) : Type 0 where
   pub accepted : IsAccepted A plan.request
   pub place : plan.place ≡ places A + 1
+  pub changes : ChangesTo A plan.request plan.changes
 
 -- the lines of the order that a command opens
 abbrev pub opened_lines : Command → List OpenLine

@@ -9,13 +9,17 @@ use std::alloc::Global;
 use std::marker::Model;
 
 mod adopt;
+mod after;
+mod changed;
 mod changes;
 mod checks;
+mod choose;
 mod find;
 mod insert;
 mod line_checks;
 mod plan;
 mod room;
+mod row;
 mod sums;
 mod tables;
 #[cfg(test)]

@@ -3,47 +3,59 @@
 ghost use Rattle.std.specs.Prelude.{◌≡◌, IfOk, map};
 ghost use Rattle.book.specs.Next.{new_line};
 ghost use Rattle.book.specs.Plans.{PlanView, opened_lines};
+ghost use Rattle.book.specs.Tables.{rows_among};
 ghost use Rattle.words.specs.declared.command.Command.{Command};
 
 use crate::order::Line;
+use crate::rows::Change;
 use escrow::Key;
 use std::marker::Model;
 use words::Command;
 
-/// An accepted request with its place, and the lines of the order that it opens. `Book::plan` gives one that
-/// fits the book's ledger.
+/// An accepted request with its place, the rows that it changes, and the lines of the order that it opens.
+/// `Book::plan` gives one that fits the book's ledger.
 #[derive(Debug, Drop)]
 pub struct Plan {
     key: Key,
     command: Command,
     place: u64,
     lines: Vec<Line>,
+    changes: Vec<Change>,
 }
 
 impl Model for Plan {
     ghost use Rattle.std.specs.Prelude.{◌≡◌, map};
     ghost use Rattle.book.specs.Next.{new_line};
     ghost use Rattle.book.specs.Plans.{PlanView, opened_lines};
+    ghost use Rattle.book.specs.Tables.{rows_among};
 
     ghost Value = { PlanView };
 
-    ghost view = { λ p. record { request = record { key = p.key; command = p.command }; place = p.place } };
+    ghost view = { λ p. record { request = record { key = p.key; command = p.command }; place = p.place; changes = rows_among p.changes.items } };
 
     ghost invariant = { λ p. p.lines.items ≡ map new_line (opened_lines p.command) };
 }
 
 impl Plan {
-    pub(crate) fn new(key: Key, command: Command, place: u64, lines: Vec<Line>) -> Plan
+    pub(crate) fn new(
+        key: Key,
+        command: Command,
+        place: u64,
+        lines: Vec<Line>,
+        changes: Vec<Change>,
+    ) -> Plan
         requires { lines.items ≡ map new_line (opened_lines command) }
         ensures key { result.request.key ≡ key }
         ensures command { result.request.command ≡ command }
         ensures place { result.place ≡ place }
+        ensures changes { result.changes ≡ rows_among changes.items }
     {
         Plan {
             key,
             command,
             place,
             lines,
+            changes,
         }
     }
 
@@ -52,6 +64,14 @@ impl Plan {
         ensures { result ≡ self.now.place }
     {
         self.place
+    }
+
+    /// The rows that the request changes, table by table, each in the order of its key: put into the tables they
+    /// give those of the ledger that `Book::adopt` leaves.
+    pub fn changes(&self) -> &[Change]
+        ensures { rows_among result.now ≡ self.now.changes }
+    {
+        &self.changes
     }
 
     /// The command.

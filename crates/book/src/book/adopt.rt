@@ -23,7 +23,12 @@ use std::mem;
 use words::{Command, OpenLine};
 
 /// An open order, which gets these lines.
-fn opened(number: OrderNo, kind: Kind, until: Moment, lines: &mut Vec<Line>) -> OrderEntry
+pub(super) fn opened(
+    number: OrderNo,
+    kind: Kind,
+    until: Moment,
+    lines: &mut Vec<Line>,
+) -> OrderEntry
     ensures { order_of result ≡ record { number = number; kind = kind; until = until; state = State.Open; lines = lines.old.items } }
 {
     let empty = Vec::new(*lines.allocator());
@@ -37,7 +42,7 @@ fn opened(number: OrderNo, kind: Kind, until: Moment, lines: &mut Vec<Line>) -> 
 }
 
 /// The order that the command changes, and how; none for a command that changes no one order.
-fn order_change(command: &Command) -> Option<(OrderNo, OrderChange)>
+pub(super) fn order_change(command: &Command) -> Option<(OrderNo, OrderChange)>
     ensures { result ≡ order_change_of command.now }
 {
     match command {
@@ -80,7 +85,13 @@ fn order_change(command: &Command) -> Option<(OrderNo, OrderChange)>
     }
 }
 
-fn field_entry(branch: Branch, article: Article, lo: Level, hi: Level, start: Level) -> FieldEntry
+pub(super) fn field_entry(
+    branch: Branch,
+    article: Article,
+    lo: Level,
+    hi: Level,
+    start: Level,
+) -> FieldEntry
     ensures { field_of result ≡ record { name = name_of branch article; lo = lo; hi = hi; start = start } }
 {
     FieldEntry {

@@ -129,7 +129,7 @@ pub(super) fn new_line(line: &OpenLine) -> Line
     }
 }
 
-fn change_order(order: &mut OrderEntry, change: &OrderChange)
+pub(super) fn change_order(order: &mut OrderEntry, change: &OrderChange)
     requires { MayChangeOrder change.now order.old }
     ensures { order_of order.new ≡ changed_order change.now (order_of order.old) }
 {
@@ -170,11 +170,18 @@ fn change_orders(orders: &mut [OrderEntry], number: OrderNo, change: &OrderChang
     }
 }
 
+/// Whether the expiry aborts the order.
+pub(super) fn expires(order: &OrderEntry, now: Moment) -> bool
+    ensures { result ≡ expires now (order_of order.now) }
+{
+    matches!(order.state, State::Open) && order.until <= now
+}
+
 /// The order is aborted where its moment has come.
 fn expire_order(order: &mut OrderEntry, now: Moment)
     ensures { order_of order.new ≡ (if expires now (order_of order.old) then set_state State.Aborted (order_of order.old) else order_of order.old) }
 {
-    if matches!(order.state, State::Open) && order.until <= now {
+    if expires(order, now) {
         order.state = State::Aborted;
     }
 }

@@ -65,7 +65,7 @@ fn new_lines(alloc: Global, lines: &[OpenLine]) -> Result<Vec<Line>, Memory>
 }
 
 /// The lines of the order that the command opens.
-fn lines_of(alloc: Global, command: &Command) -> Result<Vec<Line>, Memory>
+pub(super) fn lines_of(alloc: Global, command: &Command) -> Result<Vec<Line>, Memory>
     ensures { IfOk result (λ made. made.items ≡ map new_line (opened_lines command.now)) }
 {
     match command {
@@ -114,6 +114,8 @@ impl Book {
         let command = copy_of(alloc, &request.command)?;
         let lines = lines_of(alloc, &command)?;
         let place = self.kept.len() as u64 + 1;
-        Ok(Planned::Accept(Plan::new(request.key, command, place, lines)))
+        let changes = self.changes_of(alloc, request)?;
+        let plan = Plan::new(request.key, command, place, lines, changes);
+        Ok(Planned::Accept(plan))
     }
 }

@@ -14,6 +14,8 @@ mod group;
 mod numbers;
 mod places;
 #[cfg(test)]
+mod put_tests;
+#[cfg(test)]
 mod tests;
 mod told;
 

@@ -70,7 +70,7 @@ impl Book {
 }
 
 /// What the moves add up to on the field.
-fn moves_on(moves: &[MoveEntry], branch: Branch, article: Article) -> i64
+pub(super) fn moves_on(moves: &[MoveEntry], branch: Branch, article: Article) -> i64
     requires few { length moves.now ≤ MAX_PLACES }
     requires amounts { Each (λ entry. IsQty (nat_abs entry.amount)) moves.now }
     ensures sum { result ≡ total (moved_by_move (name_of branch article)) moves.now }
@@ -115,7 +115,7 @@ fn orders_on(orders: &[OrderEntry], branch: Branch, article: Article) -> Numbers
     sum
 }
 
-fn order_on(entry: &OrderEntry, branch: Branch, article: Article) -> Numbers
+pub(super) fn order_on(entry: &OrderEntry, branch: Branch, article: Article) -> Numbers
     requires { length entry.now.lines.items ≤ MAX_ORDER_LINES }
     ensures moved { result.moved ≡ moved_by_order (name_of branch article) entry.now }
     ensures takes { result.takes ≡ taken_by_order (name_of branch article) entry.now }

@@ -9,17 +9,35 @@ use words::{Refusal, Request, read_command};
 
 /// Rows to be changed before they are opened.
 #[derive(Drop)]
-struct Parts {
-    desk: DeskRow,
-    fields: Vec<FieldRow>,
-    moves: Vec<MoveRow>,
-    orders: Vec<OrderRow>,
-    lines: Vec<LineRow>,
-    kept: Vec<KeptRow>,
+pub(super) struct Parts {
+    pub desk: DeskRow,
+    pub fields: Vec<FieldRow>,
+    pub moves: Vec<MoveRow>,
+    pub orders: Vec<OrderRow>,
+    pub lines: Vec<LineRow>,
+    pub kept: Vec<KeptRow>,
 }
 
 impl Parts {
-    fn into_tables(self) -> Tables {
+    /// So many places, and no rows yet.
+    pub fn new<R: AllocGlobal>(rt: &R, places: i64) -> Parts {
+        let alloc = rt.alloc();
+        Parts {
+            desk: DeskRow {
+                one: 1,
+                version: 1,
+                clock: 0,
+                places,
+            },
+            fields: Vec::new(alloc),
+            moves: Vec::new(alloc),
+            orders: Vec::new(alloc),
+            lines: Vec::new(alloc),
+            kept: Vec::new(alloc),
+        }
+    }
+
+    pub fn into_tables(self) -> Tables {
         Tables {
             desk: self.desk,
             fields: Rows::new(self.fields),
@@ -113,20 +131,7 @@ impl Parts {
 
 /// Two fields of one article with a delivery and a write-off, an open order, and a transfer that is committed.
 fn sample<R: AllocGlobal>(rt: &R) -> Result<Parts, Fail> {
-    let alloc = rt.alloc();
-    let mut parts = Parts {
-        desk: DeskRow {
-            one: 1,
-            version: 1,
-            clock: 0,
-            places: 8,
-        },
-        fields: Vec::new(alloc),
-        moves: Vec::new(alloc),
-        orders: Vec::new(alloc),
-        lines: Vec::new(alloc),
-        kept: Vec::new(alloc),
-    };
+    let mut parts = Parts::new(rt, 8);
     // 40 + 10 - 4, of which 35 may be taken
     parts.push_field(rt, "N1", (0, 100), 40, (46, 11, 46))?;
     // 5 + 4 - 2
@@ -200,21 +205,7 @@ fn rows_of_a_good_ledger_open(rt: HostRuntime) -> Result<(), Fail> {
 
 #[test]
 fn rows_of_a_new_desk_open(rt: HostRuntime) -> Result<(), Fail> {
-    let alloc = rt.alloc();
-    let tables = Tables {
-        desk: DeskRow {
-            one: 1,
-            version: 1,
-            clock: 0,
-            places: 0,
-        },
-        fields: Rows::new(Vec::new(alloc)),
-        moves: Rows::new(Vec::new(alloc)),
-        orders: Rows::new(Vec::new(alloc)),
-        lines: Rows::new(Vec::new(alloc)),
-        kept: Rows::new(Vec::new(alloc)),
-    };
-    let book = Book::of_tables(alloc, tables)?;
+    let book = Book::of_tables(rt.alloc(), Parts::new(&rt, 0).into_tables())?;
     assert_eq!(rt; book.field_count(), 0);
     Ok(())
 }
@@ -349,19 +340,7 @@ fn numbered_key<R: AllocGlobal>(rt: &R, number: u64) -> Result<String, Fail> {
 /// 199,999 accepted commands, and one open order that holds 5 of a field.
 fn full_desk<R: AllocGlobal>(rt: &R) -> Result<Parts, Fail> {
     let alloc = rt.alloc();
-    let mut parts = Parts {
-        desk: DeskRow {
-            one: 1,
-            version: 1,
-            clock: 0,
-            places: 199_999,
-        },
-        fields: Vec::new(alloc),
-        moves: Vec::new(alloc),
-        orders: Vec::new(alloc),
-        lines: Vec::new(alloc),
-        kept: Vec::new(alloc),
-    };
+    let mut parts = Parts::new(rt, 199_999);
     parts.push_field(rt, "N1", (0, 100), 40, (40, 35, 40))?;
     push_order(&mut parts, 7, 0, 120, 0)?;
     parts.push_line(rt, (7, 1), 0, "N1", (5, 0))?;

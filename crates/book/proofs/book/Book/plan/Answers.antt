@@ -2,14 +2,17 @@ use Rattle.std.proofs.Common.{◌≡◌, ◌∙◌, ap, arith, is_some, subst, s
 use Rattle.words.specs.declared.command.Request.{Request}
 use Rattle.book.specs.Answers.{IsAccepted}
 use Rattle.book.specs.Ledger.{places}
+use Rattle.book.specs.Plans.{ChangesTo}
+use Rattle.book.specs.Rows.{Content}
+use Rattle.book.specs.Tables.{rows_among}
 use Rattle.book.specs.View.{BookView, kept_of}
 use Rattle.book.proofs.Lists.{length-of-map}
 use Rattle.book.proofs.book.Book.plan.Goals as goal
 
 pub returns : goal.returns
 returns c =
-    let same : ◌≡◌ {A = Request} c.new.result.request c.args.request.now = λ i. record { key = c.new.ensures.key i; command = (c.new.ensures.command ∙ c.in_ok-command.ensures) i } in
-    let place = c.new.ensures.place in
+    let same : ◌≡◌ {A = Request} c.new-plan.result.request c.args.request.now = λ i. record { key = c.new-plan.ensures.key i; command = (c.new-plan.ensures.command ∙ c.in_ok-command.ensures) i } in
+    let place = c.new-plan.ensures.place in
     let count = c.len.ensures in
     let kept = c.self.inside.kept.ok.0 in
     let seen = length-of-map kept_of c.self.inside.kept.items in
@@ -19,6 +22,8 @@ returns c =
         record {
           accepted = subst (λ (r : Request). IsAccepted c.args.self.now.ledger r) (sym same) (ap is_some c.in_default.ensures, c.in_default-check.ensures);
           place = (omega arith);
+          changes = subst (λ (rows : Content). ChangesTo c.args.self.now.ledger c.new-plan.result.request rows) (sym c.new-plan.ensures.changes)
+              (subst (λ (r : Request). ChangesTo c.args.self.now.ledger r (rows_among c.in_ok-changes.changes.items)) (sym same) c.in_ok-changes.ensures);
         },
       );
       memory = tt;

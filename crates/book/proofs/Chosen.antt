@@ -1,0 +1,83 @@
+-- Which of the rows of a list pass a test.
+use Rattle.std.proofs.Common.{◌≡◌, ℕ, ◌<◌, Bool, true, false, ◌&&◌, ◌||◌, ◌==◌, List, [], ◌∷◌, ◌++◌, Some, ap, arith, find, flat_map, if◌then◌else◌, map, nat_cmp, Less, refl}
+use Rattle.std.specs.List.{AllByRecursion as Each, filter, list_any}
+use Rattle.book.specs.Ledger.{Order, insert_in_order}
+use Rattle.book.proofs.Closing.{less_is}
+use Rattle.book.proofs.Found.{from_some}
+use Rattle.book.proofs.Lists.{each-unmap}
+use Rattle.book.proofs.Sums.{each-imp}
+
+pub filter-none : {X R : Type 0} (t : R → Bool) (row : X → R) (xs : List X) → Each (λ y. t (row y) ≡ false) xs → filter t (map row xs) ≡ []
+filter-none t row [] h = refl
+filter-none t row (x ∷ xs) h = rw h.0 (filter-none t row xs h.1)
+
+pub filter-insert : {X R : Type 0} (t : R → Bool) (row : X → R) (p : X → X → Bool) (x : X) (xs : List X) → t (row x) ≡ true → Each (λ y. t (row y) ≡ false) xs → filter t (map row (insert_in_order p x xs)) ≡ row x ∷ []
+filter-insert t row p x [] e h = rw e refl
+filter-insert t row p x (y ∷ ys) e h = step (p x y) (filter-insert t row p x ys e h.1)
+  where
+    step : (b : Bool) → filter t (map row (insert_in_order p x ys)) ≡ row x ∷ [] → filter t (map row (if b then x ∷ y ∷ ys else y ∷ insert_in_order p x ys)) ≡ row x ∷ []
+    step true more = rw (e, h.0) (ap (λ zs. row x ∷ zs) (filter-none t row ys h.1))
+    step false more = rw h.0 more
+
+pub filter-push : {X R : Type 0} (t : R → Bool) (row : X → R) (x : X) (xs : List X) → t (row x) ≡ true → Each (λ y. t (row y) ≡ false) xs → filter t (map row (xs ++ x ∷ [])) ≡ row x ∷ []
+filter-push t row x [] e h = rw e refl
+filter-push t row x (y ∷ ys) e h = rw h.0 (filter-push t row x ys e h.1)
+
+-- the rows that pass, one element at a time
+pub filter-each : {X R : Type 0} (t : R → Bool) (row made : X → R) (s : X → Bool) (xs : List X) → Each (λ x. t (row x) ≡ s x) xs → Each (λ x. s x ≡ true → made x ≡ row x) xs
+    → flat_map (λ x. if s x then made x ∷ [] else []) xs ≡ filter t (map row xs)
+filter-each t row made s [] h k = refl
+filter-each {R = R} t row made s (x ∷ xs) h k = step (s x) h.0 k.0 (filter-each t row made s xs h.1 k.1)
+  where
+    rest : List R
+    rest = flat_map (λ x. if s x then made x ∷ [] else []) xs
+
+    step : (b : Bool) → t (row x) ≡ b → (b ≡ true → made x ≡ row x) → rest ≡ filter t (map row xs) → (if b then made x ∷ [] else []) ++ rest ≡ filter t (map row (x ∷ xs))
+    step true e same more = rw e (λ i. same refl i ∷ more i)
+    step false e same more = rw e more
+
+-- tests over lists
+
+pub none_any : {X : Type 0} (t : X → Bool) (xs : List X) → Each (λ x. t x ≡ false) xs → list_any t xs ≡ false
+none_any t [] h = refl
+none_any t (x ∷ xs) h = rw h.0 (none_any t xs h.1)
+
+pub any-map : {X Y : Type 0} (t : Y → Bool) (h : X → Y) (xs : List X) → list_any t (map h xs) ≡ list_any (λ x. t (h x)) xs
+any-map t h [] = refl
+any-map t h (x ∷ xs) = ap (λ b. t (h x) || b) (any-map t h xs)
+
+pub any-eq : {X : Type 0} (s t : X → Bool) (xs : List X) → Each (λ x. s x ≡ t x) xs → list_any s xs ≡ list_any t xs
+any-eq s t [] h = refl
+any-eq s t (x ∷ xs) h = let a = h.0 in let b = any-eq s t xs h.1 in λ i. a i || b i
+
+-- ---- the order under a number
+
+pub number_is : (a b : ℕ) → (a == b) ≡ true → a ≡ b
+number_is a b e = grind arith
+
+other : (m n k : ℕ) → (m == n) ≡ true → m < k → (k == n) ≡ false
+other m n k e h = grind arith
+
+-- those after the one that has it do not
+pub none_after : (n : ℕ) (m : Order) (ms : List Order) → (m.number == n) ≡ true → Each (λ y. nat_cmp m.number y ≡ Less) (map (λ o. o.number) ms) → Each (λ k. (k.number == n) ≡ false) ms
+none_after n m ms e h = each-imp (λ k z. other m.number n k.number e (less_is m.number k.number z)) ms (each-unmap (λ y. nat_cmp m.number y ≡ Less) (λ o. o.number) ms h)
+
+pub some_is : {X : Type 0} (x y : X) → Some x ≡ Some y → x ≡ y
+some_is x y e = ap (from_some x) e
+
+-- what is found of an insertion, where it was not there
+pub find-new : (n : ℕ) (p : Order → Order → Bool) (o : Order) (os : List Order) → (o.number == n) ≡ true → Each (λ m. (m.number == n) ≡ false) os → find (λ m. m.number == n) (insert_in_order p o os) ≡ Some o
+find-new n p o [] e h = rw e refl
+find-new n p o (m ∷ ms) e h = step (p o m) (find-new n p o ms e h.1)
+  where
+    step : (b : Bool) → find (λ m. m.number == n) (insert_in_order p o ms) ≡ Some o → find (λ m. m.number == n) (if b then o ∷ m ∷ ms else m ∷ insert_in_order p o ms) ≡ Some o
+    step true more = rw e refl
+    step false more = rw h.0 more
+
+pub any-filter : {X : Type 0} (s t : X → Bool) (xs : List X) → list_any t (filter s xs) ≡ list_any (λ x. s x && t x) xs
+any-filter s t [] = refl
+any-filter s t (x ∷ xs) = by (s x) (any-filter s t xs)
+  where
+    by : (b : Bool) → list_any t (filter s xs) ≡ list_any (λ x. s x && t x) xs → list_any t (if b then x ∷ filter s xs else filter s xs) ≡ ((b && t x) || list_any (λ x. s x && t x) xs)
+    by true e = ap (λ c. t x || c) e
+    by false e = e

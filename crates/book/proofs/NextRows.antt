@@ -1,0 +1,410 @@
+-- The rows of the next ledger that an accepted request changes, table by table.
+use Rattle.std.proofs.Common.{◌≡◌, ◌∙◌, ℕ, ◌+◌, ◌<◌, ◌≤◌, pos, Bool, true, false, ◌&&◌, ◌||◌, ◌==◌, List, [], ◌∷◌, ◌++◌, Option, None, Some, ap, arith, find, flat_map, if◌then◌else◌, is_some, map, length, nat_cmp, Less, refl, subst, sym, true≢false}
+use Rattle.std.proofs.lemmas.Bool.Decides.{Decides-int_eq}
+use Rattle.std.proofs.lemmas.Int.{ints}
+use Rattle.std.proofs.lemmas.List.{append-nil}
+use Rattle.std.proofs.lemmas.List.Elements.{filter-append}
+use Rattle.std.specs.Cmp.Lexicographic.{slice_cmp}
+use Rattle.std.specs.List.{AllByRecursion as Each, filter, list_any}
+use Rattle.std.specs.List.Sorted.{IsStrictlySortedBy}
+use Rattle.std.specs.Option.{option_map}
+use Rattle.std.specs.Ordering.{int_eq, is_lt}
+use Rattle.std.specs.Str.{bytes_eq}
+use lib.Pointwise.{bytes_decides}
+use Rattle.escrow.specs.Codes.{IsKey}
+use Rattle.escrow.specs.declared.quantity.Way.{Way}
+use Rattle.words.specs.Spelling.{IsInRange}
+use Rattle.words.specs.declared.command.Command.{Command}
+use Rattle.words.specs.declared.command.Command.TheVariants as command
+use Rattle.words.specs.declared.command.Request.{Request}
+use Rattle.book.specs.After.{changed_fields, changed_orders, changes_state, expired_rows, field_row, line_rows, new_field_rows, order_after, order_number, own_line_rows, own_move_rows, own_order_rows, rows_of, with_fields, with_kept, with_lines, with_moves, with_orders}
+use Rattle.book.specs.Answers.{FirstFailure, IsAccepted, checks}
+use Rattle.book.specs.Changes.{put_content, changed_rows, changes_field, changes_line, changes_move, changes_order, order_is}
+use Rattle.book.specs.Good.{Good}
+use Rattle.book.specs.Ledger.{Field, Ledger, Name, Order, field_named, is_transfer, line_name, name_cmp, name_of, order_numbered, places, same_name, transfer_kind}
+use Rattle.book.specs.Plans.{ChangesTo}
+use Rattle.book.specs.Next.{accept, change_lines, expires, lower_held, next, raise_used, set_state}
+use Rattle.book.specs.Rows.{Content, DeskCells, IsRowsOf, FieldCells, LineCells, OrderCells, desk_row, kept_row, line_row, lines_from, move_row, order_lines, order_row}
+use Rattle.book.specs.Tables.{no_content}
+use Rattle.book.specs.View.{BookView, kept_of, ledger_of, view_of}
+use Rattle.book.specs.declared.book.Book.TheInside.{Inside}
+use Rattle.book.specs.declared.limits.TheConstants.{MAX_PLACES}
+use Rattle.book.specs.declared.order.Line.{Line}
+use Rattle.book.specs.declared.order.State.TheVariants.{Aborted}
+use Rattle.book.proofs.Asked.{none_found, same_self}
+use Rattle.book.proofs.Changed.{changes_suffice}
+use Rattle.book.proofs.Chosen.{filter-each, filter-insert, filter-none, filter-push, none_after, none_any, number_is, some_is}
+use Rattle.book.proofs.Closing.{all_pass, less_is}
+use Rattle.book.proofs.Goodness.{good_accept}
+use Rattle.book.proofs.InOrder.{one_content, rows_are}
+use Rattle.book.proofs.Growing.{none_if_not_some, other_way}
+use Rattle.book.proofs.Lists.{length-insert, length-of-map}
+use Rattle.book.proofs.Made.{any_one, made_there, only_one}
+use Rattle.book.proofs.Once.{no_key}
+use Rattle.book.proofs.Sums.{each, each-imp}
+
+pos_same : (m n : ℕ) → (m == n) ≡ true → int_eq (pos m) (pos n) ≡ true
+pos_same m n e = (Decides-int_eq (pos m) (pos n)).1 (ap pos (number_is m n e))
+
+pos_other : (m n : ℕ) → (m == n) ≡ false → int_eq (pos m) (pos n) ≡ false
+pos_other m n e = by (int_eq (pos m) (pos n)) refl
+  where
+    same_pos : pos m ≡ pos n → m ≡ n
+    same_pos k = omega (arith, ints)
+
+    apart : m ≡ n → (m == n) ≡ false → ⊥
+    apart k e = grind arith
+
+    by : (b : Bool) → int_eq (pos m) (pos n) ≡ b → b ≡ false
+    by true t = absurd (apart (same_pos ((Decides-int_eq (pos m) (pos n)).0 t)) e)
+    by false t = refl
+
+pos_above : (m n : ℕ) → m ≤ n → int_eq (pos m) (pos (n + 1)) ≡ false
+pos_above m n h = pos_other m (n + 1) (less_other m n h)
+  where
+    less_other : (m n : ℕ) → m ≤ n → (m == n + 1) ≡ false
+    less_other m n h = grind arith
+
+same_number : (n : ℕ) → (n == n) ≡ true
+same_number n = grind arith
+
+filter-false : {X : Type 0} (xs : List X) → filter (λ x. false) xs ≡ []
+filter-false [] = refl
+filter-false (x ∷ xs) = filter-false xs
+
+-- ---- moves
+
+moves_changed : (A : Ledger) (key : List ℕ) (c : Command) → Good A → filter (λ row. changes_move A c row.place) (map move_row (accept A (record { key = key; command = c })).moves) ≡ own_move_rows (places A + 1) c
+moves_changed A key (command.Deliver b a q) g = filter-push (λ row. int_eq row.place (pos (places A + 1))) move_row _ A.moves (pos_same (places A + 1) (places A + 1) (same_number (places A + 1))) (each-imp (λ m x. pos_above m.place (places A) x.last) A.moves g.moves)
+moves_changed A key (command.Writeoff b a q) g = filter-push (λ row. int_eq row.place (pos (places A + 1))) move_row _ A.moves (pos_same (places A + 1) (places A + 1) (same_number (places A + 1))) (each-imp (λ m x. pos_above m.place (places A) x.last) A.moves g.moves)
+moves_changed A key (command.Field b a lo hi start) g = filter-false (map move_row A.moves)
+moves_changed A key (command.Open n until lines) g = filter-false (map move_row A.moves)
+moves_changed A key (command.Transfer n until a from to q) g = filter-false (map move_row A.moves)
+moves_changed A key (command.More n way b a q) g = filter-false (map move_row A.moves)
+moves_changed A key (command.Use n b a q) g = filter-false (map move_row A.moves)
+moves_changed A key (command.Release n b a q) g = filter-false (map move_row A.moves)
+moves_changed A key (command.Commit n) g = filter-false (map move_row A.moves)
+moves_changed A key (command.Abort n) g = filter-false (map move_row A.moves)
+moves_changed A key (command.Expire now) g = filter-false (map move_row A.moves)
+
+-- ---- kept keys
+
+kept_changed : (A : Ledger) (r : Request) → IsAccepted A r → ((k : List ℕ) → bytes_eq k k ≡ true) → filter (λ row. bytes_eq row.reqkey r.key) (map kept_row (accept A r).kept) ≡ kept_row (record { key = r.key; place = places A + 1; command = r.command }) ∷ []
+kept_changed A r ok same = filter-insert (λ row. bytes_eq row.reqkey r.key) kept_row (λ a b. is_lt (slice_cmp nat_cmp a.key b.key)) (record { key = r.key; place = places A + 1; command = r.command }) A.kept (same r.key)
+    (none_found (λ k. bytes_eq k.key r.key) A.kept (no_key _ ok.0))
+
+-- ---- fields
+
+all_fields : (A : Ledger) (r : Request) (fs : List Field) → changed_fields A r fs ≡ filter (λ row. changes_field A r.command (name_of row.branch row.article)) (map (field_row (accept A r)) fs)
+all_fields A r fs = filter-each (λ (row : FieldCells). changes_field A r.command (name_of row.branch row.article)) (field_row (accept A r)) (field_row (accept A r)) (λ f. changes_field A r.command f.name) fs (each (λ f. refl) fs) (each (λ f e. refl) fs)
+
+no_more : {X : Type 0} (xs ys : List X) → xs ≡ ys → ys ≡ xs ++ []
+no_more xs ys e = sym e ∙ sym (append-nil xs)
+
+fields_changed : (A : Ledger) (key : List ℕ) (c : Command) → FirstFailure (checks A c) None
+    → filter (λ (row : FieldCells). changes_field A c (name_of row.branch row.article)) (map (field_row (accept A (record { key = key; command = c }))) (accept A (record { key = key; command = c })).fields)
+    ≡ changed_fields A (record { key = key; command = c }) A.fields ++ new_field_rows (accept A (record { key = key; command = c })) c
+fields_changed A key (command.Field b a lo hi start) h =
+    let r : Request = record { key = key; command = command.Field b a lo hi start } in
+    let B : Ledger = accept A r in
+    let chosen : FieldCells → Bool = λ row. same_name (name_of row.branch row.article) (name_of b a) in
+    let new : Field = record { name = name_of b a; lo = lo; hi = hi; start = start } in
+    let k = all_pass (checks A (command.Field b a lo hi start)) h in
+    let none : Each (λ f. chosen (field_row B f) ≡ false) A.fields = each-imp (λ f e. other_way (name_of b a) f.name e) A.fields (none_found (λ e. same_name (name_of b a) e.name) A.fields (none_if_not_some (field_named A (name_of b a)) k.1.1.0)) in
+    let before : changed_fields A r A.fields ≡ [] = all_fields A r A.fields ∙ filter-none chosen (field_row B) A.fields none in
+    filter-insert chosen (field_row B) (λ f g. is_lt (name_cmp f.name g.name)) new A.fields (same_self (name_of b a)) none ∙ ap (λ (rows : List FieldCells). rows ++ field_row B new ∷ []) (sym before)
+fields_changed A key (command.Deliver b a q) h = no_more _ _ (all_fields A (record { key = key; command = command.Deliver b a q }) A.fields)
+fields_changed A key (command.Writeoff b a q) h = no_more _ _ (all_fields A (record { key = key; command = command.Writeoff b a q }) A.fields)
+fields_changed A key (command.Open n until lines) h = no_more _ _ (all_fields A (record { key = key; command = command.Open n until lines }) A.fields)
+fields_changed A key (command.Transfer n until a from to q) h = no_more _ _ (all_fields A (record { key = key; command = command.Transfer n until a from to q }) A.fields)
+fields_changed A key (command.More n way b a q) h = no_more _ _ (all_fields A (record { key = key; command = command.More n way b a q }) A.fields)
+fields_changed A key (command.Use n b a q) h = no_more _ _ (all_fields A (record { key = key; command = command.Use n b a q }) A.fields)
+fields_changed A key (command.Release n b a q) h = no_more _ _ (all_fields A (record { key = key; command = command.Release n b a q }) A.fields)
+fields_changed A key (command.Commit n) h = no_more _ _ (all_fields A (record { key = key; command = command.Commit n }) A.fields)
+fields_changed A key (command.Abort n) h = no_more _ _ (all_fields A (record { key = key; command = command.Abort n }) A.fields)
+fields_changed A key (command.Expire now) h = no_more _ _ (all_fields A (record { key = key; command = command.Expire now }) A.fields)
+
+-- ---- orders
+
+abbrev row_there : Option Order → List OrderCells
+row_there None = []
+row_there (Some o) = order_row o ∷ []
+
+order_one : (n : ℕ) (os : List Order) → IsStrictlySortedBy nat_cmp (map (λ o. o.number) os) → filter (λ row. int_eq row.number (pos n)) (map order_row os) ≡ row_there (find (λ o. o.number == n) os)
+unfolding IsStrictlySortedBy
+order_one n [] sorted = refl
+order_one n (o ∷ os) sorted = by (o.number == n) refl (order_one n os sorted.1)
+  where
+    by : (b : Bool) → (o.number == n) ≡ b → filter (λ row. int_eq row.number (pos n)) (map order_row os) ≡ row_there (find (λ o. o.number == n) os)
+        → filter (λ row. int_eq row.number (pos n)) (map order_row (o ∷ os)) ≡ row_there (if b then Some o else find (λ o. o.number == n) os)
+    by true e more = rw (pos_same o.number n e) (ap (λ (rows : List OrderCells). order_row o ∷ rows) (filter-none (λ row. int_eq row.number (pos n)) order_row os (each-imp (λ m k. pos_other m.number n k) os (none_after n o os e sorted.0))))
+    by false e more = rw (pos_other o.number n e) more
+
+find_self : (os : List Order) → IsStrictlySortedBy nat_cmp (map (λ o. o.number) os) → Each (λ o. find (λ m. m.number == o.number) os ≡ Some o) os
+unfolding IsStrictlySortedBy
+find_self [] sorted = tt
+find_self (o ∷ os) sorted = (ap (λ b. if b then Some o else find (λ m. m.number == o.number) os) (same_number o.number), later os sorted.0 (find_self os sorted.1))
+  where
+    less_other : (m n : ℕ) → m < n → (m == n) ≡ false
+    less_other m n h = grind arith
+
+    later : (ms : List Order) → Each (λ k. nat_cmp o.number k ≡ Less) (map (λ m. m.number) ms) → Each (λ m. find (λ k. k.number == m.number) os ≡ Some m) ms → Each (λ m. find (λ k. k.number == m.number) (o ∷ os) ≡ Some m) ms
+    later [] h k = tt
+    later (m ∷ ms) h k = (ap (λ b. if b then Some o else find (λ k. k.number == m.number) os) (less_other o.number m.number (less_is o.number m.number h.0)) ∙ k.0, later ms h.1 k.1)
+
+number_kept : (b : Bool) (o : Order) → (if b then set_state Aborted o else o).number ≡ o.number
+number_kept true o = refl
+number_kept false o = refl
+
+and_false : (a b : Bool) → (b ≡ true → a ≡ false) → (a && b) ≡ false
+and_false true true h = absurd (true≢false (h refl))
+and_false true false h = refl
+and_false false b h = refl
+
+and_true : (a b : Bool) → a ≡ true → b ≡ true → (a && b) ≡ true
+and_true true b e h = h
+and_true false b e h = absurd (true≢false (sym e))
+
+any_there : (t : Order → Bool) (n : ℕ) (o : Order) (os : List Order) → find (λ m. m.number == n) os ≡ Some o → t o ≡ true → list_any t os ≡ true
+any_there t n o [] e h = absurd (true≢false (sym (ap is_some e)))
+any_there t n o (m ∷ ms) e h = by (m.number == n) e (λ k. any_there t n o ms k h)
+  where
+    or_right : (a b : Bool) → b ≡ true → (a || b) ≡ true
+    or_right true b e = refl
+    or_right false b e = e
+
+    by : (b : Bool) → (if b then Some m else find (λ m. m.number == n) ms) ≡ Some o → (find (λ m. m.number == n) ms ≡ Some o → list_any t ms ≡ true) → (t m || list_any t ms) ≡ true
+    by true k more = rw (ap t (some_is m o k) ∙ h) refl
+    by false k more = or_right (t m) (list_any t ms) (more k)
+
+-- some order that expires has the number exactly where the order does
+number_expires : (now : ℕ) (o : Order) (os : List Order) → IsStrictlySortedBy nat_cmp (map (λ o. o.number) os) → find (λ m. m.number == o.number) os ≡ Some o → list_any (λ p. expires now p && int_eq (pos o.number) (pos p.number)) os ≡ expires now o
+number_expires now o os sorted e = by (expires now o) refl
+  where
+    same_of : (p : Order) → int_eq (pos o.number) (pos p.number) ≡ true → (p.number == o.number) ≡ true
+    same_of p t = let k = (Decides-int_eq (pos o.number) (pos p.number)).0 t in numbers p.number o.number (pos_is o.number p.number k)
+      where
+        pos_is : (m n : ℕ) → pos m ≡ pos n → m ≡ n
+        pos_is m n k = omega (arith, ints)
+
+        numbers : (m n : ℕ) → n ≡ m → (m == n) ≡ true
+        numbers m n h = grind arith
+
+    by : (b : Bool) → expires now o ≡ b → list_any (λ p. expires now p && int_eq (pos o.number) (pos p.number)) os ≡ b
+    by true x = any_there (λ p. expires now p && int_eq (pos o.number) (pos p.number)) o.number o os e (and_true (expires now o) _ x (pos_same o.number o.number (same_number o.number)))
+    by false x = none_any (λ p. expires now p && int_eq (pos o.number) (pos p.number)) os
+        (each-imp (λ p same. and_false (expires now p) (int_eq (pos o.number) (pos p.number)) (λ t. ap (expires now) (same (same_of p t)) ∙ x)) os (only_one o.number o os sorted e))
+
+map-twice : (h : Order → Order) (os : List Order) → map order_row (map h os) ≡ map (λ o. order_row (h o)) os
+map-twice h [] = refl
+map-twice h (o ∷ os) = ap (λ (rows : List OrderCells). order_row (h o) ∷ rows) (map-twice h os)
+
+orders_expired : (A : Ledger) (now : ℕ) → Good A → filter (λ row. changes_order A (command.Expire now) row.number) (map order_row (next A (command.Expire now)).orders) ≡ expired_rows now A.orders
+orders_expired A now g =
+    let h : Order → Order = λ o. if expires now o then set_state Aborted o else o in
+    let t : OrderCells → Bool = λ row. changes_order A (command.Expire now) row.number in
+    ap (filter t) (map-twice h A.orders)
+    ∙ sym (filter-each t (λ o. order_row (h o)) (λ o. order_row (set_state Aborted o)) (expires now) A.orders
+    (each-imp (λ o e. ap (λ n. list_any (λ p. expires now p && int_eq (pos n) (pos p.number)) A.orders) (number_kept (expires now o) o) ∙ number_expires now o A.orders g.orders_in_order e) A.orders (find_self A.orders g.orders_in_order))
+    (each (λ o e. ap (λ b. order_row (if b then set_state Aborted o else o)) (sym e)) A.orders))
+
+no_state : (c : Command) (x : Option Order) → changes_state c ≡ false → own_order_rows c x ≡ []
+no_state c None e = refl
+no_state c (Some o) e = ap (λ b. if b then order_row o ∷ [] else []) e
+
+with_state : (c : Command) (x : Option Order) → changes_state c ≡ true → row_there x ≡ own_order_rows c x
+with_state c None e = refl
+with_state c (Some o) e = ap (λ b. if b then order_row o ∷ [] else []) (sym e)
+
+own_order : (A : Ledger) (key : List ℕ) (c : Command) (n : ℕ) → Good (accept A (record { key = key; command = c })) → FirstFailure (checks A c) None → order_number c ≡ Some n → changes_state c ≡ true
+    → filter (λ row. int_eq row.number (pos n)) (map order_row (accept A (record { key = key; command = c })).orders) ≡ own_order_rows c (order_after A c)
+own_order A key c n k h is state = order_one n (next A c).orders k.orders_in_order ∙ ap row_there (made_there A c n h is) ∙ with_state c (order_after A c) state
+
+orders_changed : (A : Ledger) (key : List ℕ) (c : Command) → Good A → Good (accept A (record { key = key; command = c })) → FirstFailure (checks A c) None
+    → filter (λ row. changes_order A c row.number) (map order_row (accept A (record { key = key; command = c })).orders) ≡ changed_orders A c
+orders_changed A key (command.Open n until lines) g k h = own_order A key (command.Open n until lines) n k h refl refl
+orders_changed A key (command.Transfer n until a from to q) g k h = own_order A key (command.Transfer n until a from to q) n k h refl refl
+orders_changed A key (command.Commit n) g k h = own_order A key (command.Commit n) n k h refl refl
+orders_changed A key (command.Abort n) g k h = own_order A key (command.Abort n) n k h refl refl
+orders_changed A key (command.Expire now) g k h = orders_expired A now g
+orders_changed A key (command.Field b a lo hi start) g k h = filter-false (map order_row A.orders)
+orders_changed A key (command.Deliver b a q) g k h = filter-false (map order_row A.orders)
+orders_changed A key (command.Writeoff b a q) g k h = filter-false (map order_row A.orders)
+orders_changed A key (command.More n way b a q) g k h = filter-false (map order_row (next A (command.More n way b a q)).orders) ∙ sym (no_state (command.More n way b a q) (order_after A (command.More n way b a q)) refl)
+orders_changed A key (command.Use n b a q) g k h = filter-false (map order_row (next A (command.Use n b a q)).orders) ∙ sym (no_state (command.Use n b a q) (order_after A (command.Use n b a q)) refl)
+orders_changed A key (command.Release n b a q) g k h = filter-false (map order_row (next A (command.Release n b a q)).orders) ∙ sym (no_state (command.Release n b a q) (order_after A (command.Release n b a q)) refl)
+
+-- ---- lines
+
+abbrev lines_there : (Line → Bool) → Option Order → List LineCells
+lines_there t None = []
+lines_there t (Some o) = line_rows t o.number 1 o.lines
+
+lines_none : (chosen : LineCells → Bool) (m k : ℕ) (ls : List Line) → ((k : ℕ) (l : Line) → chosen (line_row m k l) ≡ false) → filter chosen (lines_from m k ls) ≡ []
+lines_none chosen m k [] h = refl
+lines_none chosen m k (l ∷ ls) h = rw (h k l) (lines_none chosen m (k + 1) ls h)
+
+lines_chosen : (chosen : LineCells → Bool) (t : Line → Bool) (m k : ℕ) (ls : List Line) → ((k : ℕ) (l : Line) → chosen (line_row m k l) ≡ t l) → filter chosen (lines_from m k ls) ≡ line_rows t m k ls
+lines_chosen chosen t m k [] h = refl
+lines_chosen chosen t m k (l ∷ ls) h = by (t l) (h k l) (lines_chosen chosen t m (k + 1) ls h)
+  where
+    by : (b : Bool) → chosen (line_row m k l) ≡ b → filter chosen (lines_from m (k + 1) ls) ≡ line_rows t m (k + 1) ls → filter chosen (lines_from m k (l ∷ ls)) ≡ (if b then line_row m k l ∷ [] else []) ++ line_rows t m (k + 1) ls
+    by true e more = rw e (ap (λ (rows : List LineCells). line_row m k l ∷ rows) more)
+    by false e more = rw e more
+
+-- of the lines of others none
+all_none : (chosen : LineCells → Bool) (n : ℕ) (os : List Order) → ((m k : ℕ) (l : Line) → (m == n) ≡ false → chosen (line_row m k l) ≡ false) → Each (λ o. (o.number == n) ≡ false) os → filter chosen (flat_map order_lines os) ≡ []
+all_none chosen n [] h none = refl
+all_none chosen n (o ∷ os) h none = filter-append chosen (order_lines o) (flat_map order_lines os)
+    ∙ ap (λ (rows : List LineCells). rows ++ filter chosen (flat_map order_lines os)) (lines_none chosen o.number 1 o.lines (λ k l. h o.number k l none.0)) ∙ all_none chosen n os h none.1
+
+lines_one : (chosen : LineCells → Bool) (t : Line → Bool) (n : ℕ) (os : List Order) → IsStrictlySortedBy nat_cmp (map (λ o. o.number) os)
+    → ((m k : ℕ) (l : Line) → (m == n) ≡ false → chosen (line_row m k l) ≡ false) → ((m k : ℕ) (l : Line) → (m == n) ≡ true → chosen (line_row m k l) ≡ t l)
+    → filter chosen (flat_map order_lines os) ≡ lines_there t (find (λ o. o.number == n) os)
+unfolding IsStrictlySortedBy
+lines_one chosen t n [] sorted other own = refl
+lines_one chosen t n (o ∷ os) sorted other own = filter-append chosen (order_lines o) (flat_map order_lines os) ∙ by (o.number == n) refl (lines_one chosen t n os sorted.1 other own)
+  where
+    by : (b : Bool) → (o.number == n) ≡ b → filter chosen (flat_map order_lines os) ≡ lines_there t (find (λ o. o.number == n) os)
+        → filter chosen (order_lines o) ++ filter chosen (flat_map order_lines os) ≡ lines_there t (if b then Some o else find (λ o. o.number == n) os)
+    by true e more =
+        let here = lines_chosen chosen t o.number 1 o.lines (λ k l. own o.number k l e) in
+        let rest = all_none chosen n os other (none_after n o os e sorted.0) in
+        (λ i. here i ++ rest i) ∙ append-nil (line_rows t o.number 1 o.lines)
+    by false e more = ap (λ (rows : List LineCells). rows ++ filter chosen (flat_map order_lines os)) (lines_none chosen o.number 1 o.lines (λ k l. other o.number k l e)) ∙ more
+
+and_second : (a b : Bool) → a ≡ true → (a && b) ≡ b
+and_second a b e = ap (λ x. x && b) e
+
+and_first : (a b : Bool) → a ≡ false → (a && b) ≡ false
+and_first a b e = ap (λ x. x && b) e
+
+-- those of the order that the command makes whose fields pass
+own_lines : (A : Ledger) (key : List ℕ) (c : Command) (n : ℕ) (u : Name → Bool) → Good (accept A (record { key = key; command = c })) → FirstFailure (checks A c) None → order_number c ≡ Some n
+    → filter (λ (row : LineCells). int_eq row.number (pos n) && u (name_of row.branch row.article)) (flat_map order_lines (accept A (record { key = key; command = c })).orders) ≡ lines_there (λ l. u (line_name l)) (order_after A c)
+own_lines A key c n u k h is = lines_one (λ (row : LineCells). int_eq row.number (pos n) && u (name_of row.branch row.article)) (λ l. u (line_name l)) n (next A c).orders k.orders_in_order
+    (λ m i l e. and_first (int_eq (pos m) (pos n)) (u (line_name l)) (pos_other m n e)) (λ m i l e. and_second (int_eq (pos m) (pos n)) (u (line_name l)) (pos_same m n e)) ∙ ap (lines_there (λ l. u (line_name l))) (made_there A c n h is)
+
+-- all of them
+all_lines : (A : Ledger) (key : List ℕ) (c : Command) (n : ℕ) → Good (accept A (record { key = key; command = c })) → FirstFailure (checks A c) None → order_number c ≡ Some n
+    → filter (λ (row : LineCells). int_eq row.number (pos n)) (flat_map order_lines (accept A (record { key = key; command = c })).orders) ≡ lines_there (λ l. true) (order_after A c)
+all_lines A key c n k h is = lines_one (λ (row : LineCells). int_eq row.number (pos n)) (λ l. true) n (next A c).orders k.orders_in_order (λ m i l e. pos_other m n e) (λ m i l e. pos_same m n e) ∙ ap (lines_there (λ l. true)) (made_there A c n h is)
+
+more_lines : (n : ℕ) (way : Way) (b a : List ℕ) (q : ℕ) (x : Option Order) → lines_there (λ l. same_name (line_name l) (name_of b a)) x ≡ own_line_rows (command.More n way b a q) x
+more_lines n way b a q None = refl
+more_lines n way b a q (Some o) = refl
+
+-- a use or a release, which changes both lines of a transfer
+part_lines : (A : Ledger) (c : Command) (n : ℕ) (b a : List ℕ) (change : Order → Order) → Good A → ((o : Order) → (change o).kind ≡ o.kind)
+    → ((o : Order) → own_line_rows c (Some o) ≡ line_rows (λ l. is_transfer o || same_name (line_name l) (name_of b a)) o.number 1 o.lines)
+    → lines_there (λ l. order_is A n is_transfer || same_name (line_name l) (name_of b a)) (option_map change (order_numbered A n)) ≡ own_line_rows c (option_map change (order_numbered A n))
+part_lines A c n b a change g keeps own = by (order_numbered A n) refl
+  where
+    by : (x : Option Order) → order_numbered A n ≡ x → lines_there (λ l. order_is A n is_transfer || same_name (line_name l) (name_of b a)) (option_map change x) ≡ own_line_rows c (option_map change x)
+    by None e = refl
+    by (Some o) e = ap (λ t. line_rows (λ l. t || same_name (line_name l) (name_of b a)) (change o).number 1 (change o).lines) (any_one n is_transfer o A.orders g.orders_in_order e ∙ sym (ap transfer_kind (keeps o))) ∙ sym (own (change o))
+
+rows_false : (n k : ℕ) (ls : List Line) → line_rows (λ l. false) n k ls ≡ []
+rows_false n k [] = refl
+rows_false n k (l ∷ ls) = rows_false n (k + 1) ls
+
+commit_lines : (n : ℕ) (x : Option Order) → own_line_rows (command.Commit n) x ≡ []
+commit_lines n None = refl
+commit_lines n (Some o) = rows_false o.number 1 o.lines
+
+abort_lines : (n : ℕ) (x : Option Order) → own_line_rows (command.Abort n) x ≡ []
+abort_lines n None = refl
+abort_lines n (Some o) = rows_false o.number 1 o.lines
+
+lines_changed : (A : Ledger) (key : List ℕ) (c : Command) → Good A → Good (accept A (record { key = key; command = c })) → FirstFailure (checks A c) None
+    → filter (λ (row : LineCells). changes_line A c row.number (name_of row.branch row.article)) (flat_map order_lines (accept A (record { key = key; command = c })).orders) ≡ own_line_rows c (order_after A c)
+lines_changed A key (command.Open n until lines) g k h = all_lines A key (command.Open n until lines) n k h refl
+lines_changed A key (command.Transfer n until a from to q) g k h = all_lines A key (command.Transfer n until a from to q) n k h refl
+lines_changed A key (command.More n way b a q) g k h = own_lines A key (command.More n way b a q) n (λ f. same_name f (name_of b a)) k h refl ∙ more_lines n way b a q (order_after A (command.More n way b a q))
+lines_changed A key (command.Use n b a q) g k h = own_lines A key (command.Use n b a q) n (λ f. order_is A n is_transfer || same_name f (name_of b a)) k h refl ∙ part_lines A (command.Use n b a q) n b a (change_lines (name_of b a) (raise_used q)) g (λ o. refl) (λ o. refl)
+lines_changed A key (command.Release n b a q) g k h = own_lines A key (command.Release n b a q) n (λ f. order_is A n is_transfer || same_name f (name_of b a)) k h refl ∙ part_lines A (command.Release n b a q) n b a (change_lines (name_of b a) (lower_held q)) g (λ o. refl) (λ o. refl)
+lines_changed A key (command.Commit n) g k h = filter-false (flat_map order_lines (next A (command.Commit n)).orders) ∙ sym (commit_lines n (order_after A (command.Commit n)))
+lines_changed A key (command.Abort n) g k h = filter-false (flat_map order_lines (next A (command.Abort n)).orders) ∙ sym (abort_lines n (order_after A (command.Abort n)))
+lines_changed A key (command.Field b a lo hi start) g k h = filter-false (flat_map order_lines A.orders)
+lines_changed A key (command.Deliver b a q) g k h = filter-false (flat_map order_lines A.orders)
+lines_changed A key (command.Writeoff b a q) g k h = filter-false (flat_map order_lines A.orders)
+lines_changed A key (command.Expire now) g k h = filter-false (flat_map order_lines (next A (command.Expire now)).orders)
+
+-- ---- all tables
+
+-- the rows that the book makes for the request
+abbrev pub rows_made : Ledger → Request → Content
+rows_made A r = record {
+  desk = desk_row (accept A r) ∷ [];
+  fields = changed_fields A r A.fields ++ new_field_rows (accept A r) r.command;
+  moves = own_move_rows (places A + 1) r.command;
+  orders = changed_orders A r.command;
+  lines = own_line_rows r.command (order_after A r.command);
+  kept = kept_row (record { key = r.key; place = places A + 1; command = r.command }) ∷ [];
+}
+
+made_changed : (A : Ledger) (r : Request) → Good A → Good (accept A r) → IsAccepted A r → changed_rows A r (rows_of (accept A r)) ≡ rows_made A r
+made_changed A r g k ok =
+    let fields = fields_changed A r.key r.command ok.1 in
+    let moves = moves_changed A r.key r.command g in
+    let orders = orders_changed A r.key r.command g k ok.1 in
+    let lines = lines_changed A r.key r.command g k ok.1 in
+    let kept = kept_changed A r ok (λ key. (bytes_decides key key).1 refl) in
+    λ i. record { desk = desk_row (accept A r) ∷ []; fields = fields i; moves = moves i; orders = orders i; lines = lines i; kept = kept i }
+
+-- they are those that change
+pub changes_to : (A : Ledger) (r : Request) (rows : Content) → Good A → IsKey r.key → IsInRange r.command → IsAccepted A r → rows ≡ rows_made A r → ChangesTo A r rows
+changes_to A r rows g key range ok is = record {
+  changed = changed;
+  suffice = λ C D x y. ap (λ (new : Content). put_content new C) (changed D y) ∙ changes_suffice A r C D g key range (no_key _ ok.0) ok.1 x y;
+  desk = ap (λ (made : Content). made.desk) is;
+}
+  where
+    k : Good (accept A r)
+    k = good_accept A r g key range (no_key _ ok.0) ok.1
+
+    changed : (D : Content) → IsRowsOf (accept A r) D → rows ≡ changed_rows A r D
+    changed D y = is ∙ sym (made_changed A r g k ok) ∙ ap (changed_rows A r) (one_content (accept A r) (rows_of (accept A r)) D (rows_are (accept A r) k) y)
+
+-- ---- what the book knows as it makes them
+
+pub good_now : (b : Inside) (v : BookView) → view_of b ≡ v → Good (ledger_of b) → Good v.ledger
+good_now b v e g = subst (λ (v : BookView). Good v.ledger) e g
+
+pub good_next : (b : Inside) (v : BookView) (r : Request) → view_of b ≡ v → Good (ledger_of b) → IsKey r.key → IsInRange r.command → IsAccepted v.ledger r → Good (accept v.ledger r)
+good_next b v r e g key range ok = good_accept v.ledger r (good_now b v e g) key range (no_key _ ok.0) ok.1
+
+-- the place of the command is there
+pub place_fits : (b : Inside) (v : BookView) (r : Request) (n : ℕ) → view_of b ≡ v → n ≡ length b.kept.items → Good (accept v.ledger r) → n + 1 ≤ MAX_PLACES
+place_fits b v r n e is g =
+    let fit = g.places_fit in
+    let more = length-insert (λ a b. is_lt (slice_cmp nat_cmp a.key b.key)) (record { key = r.key; place = places v.ledger + 1; command = r.command }) v.ledger.kept in
+    let here = ap (λ (v : BookView). places v.ledger) e in
+    let same = length-of-map kept_of b.kept.items in
+    omega arith
+
+pub place_is : (b : Inside) (v : BookView) (n : ℕ) → view_of b ≡ v → n ≡ length b.kept.items → n + 1 ≡ places v.ledger + 1
+place_is b v n e is =
+    let here = ap (λ (v : BookView). places v.ledger) e in
+    let same = length-of-map kept_of b.kept.items in
+    omega arith
+
+-- the rows as they are made one after the other
+pub rows_in_turn : (A : Ledger) (r : Request) (place clock : ℕ) (made : Option Order) (cells : DeskCells) (desk fields field moves orders lines kept : Content) → place ≡ places A + 1 → clock ≡ (next A r.command).clock → made ≡ order_after A r.command
+    → cells ≡ record { one = pos 1; version = pos 1; clock = pos clock; places = pos place } → desk ≡ record no_content { desk = cells ∷ [] } → fields ≡ with_fields (changed_fields A r A.fields) desk → field ≡ with_fields (new_field_rows (accept A r) r.command) fields
+    → moves ≡ with_moves (own_move_rows place r.command) field → orders ≡ with_orders (changed_orders A r.command) moves → lines ≡ with_lines (own_line_rows r.command made) orders
+    → kept ≡ with_kept (kept_row (record { key = r.key; place = place; command = r.command }) ∷ []) lines → kept ≡ rows_made A r
+rows_in_turn A r place clock made cells desk fields field moves orders lines kept at time is a b d e f g h k =
+    let more : places (accept A r) ≡ places A + 1 = length-insert (λ a b. is_lt (slice_cmp nat_cmp a.key b.key)) (record { key = r.key; place = places A + 1; command = r.command }) A.kept in
+    let count = at ∙ sym more in
+    let row : cells ≡ desk_row (accept A r) = a ∙ (λ i. record { one = pos 1; version = pos 1; clock = pos (time i); places = pos (count i) }) in
+    k ∙ ap (with_kept (kept_row (record { key = r.key; place = place; command = r.command }) ∷ [])) (h ∙ ap (with_lines (own_line_rows r.command made)) (g ∙ ap (with_orders (changed_orders A r.command)) (f
+    ∙ ap (with_moves (own_move_rows place r.command)) (e ∙ ap (with_fields (new_field_rows (accept A r) r.command)) (d ∙ ap (with_fields (changed_fields A r A.fields)) b)))))
+    ∙ (λ i. record {
+      desk = row i ∷ [];
+      fields = changed_fields A r A.fields ++ new_field_rows (accept A r) r.command;
+      moves = own_move_rows (at i) r.command;
+      orders = changed_orders A r.command;
+      lines = own_line_rows r.command (is i);
+      kept = kept_row (record { key = r.key; place = at i; command = r.command }) ∷ [];
+    })

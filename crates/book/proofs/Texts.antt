@@ -1,0 +1,93 @@
+-- Codes, keys and the spellings of commands are in ASCII.
+use Rattle.std.proofs.Common.{◌≡◌, ℕ, zero, suc, ◌<◌, ◌≤◌, Bool, true, false, ◌&&◌, List, [], ◌∷◌, codes, decimal, refl, sym, arith, true≢false}
+use Rattle.std.proofs.lemmas.Bool.Decides.{nat_tests}
+use Rattle.std.proofs.lemmas.Fmt.{IsAscii-decimal}
+use Rattle.std.proofs.lemmas.List.Elements.{recursion_from_All}
+use Rattle.std.proofs.lemmas.Str.{IsAscii-append, IsUtf8-from_ascii}
+use Rattle.std.proofs.lemmas.Str.Ascii.{IsAscii-nil}
+use Rattle.std.specs.List.{AllByRecursion as Each, list_all}
+use Rattle.std.specs.Str.{IsAscii, IsUtf8}
+use Rattle.escrow.specs.Codes.{IsArticle, IsBranch, IsKey, is_article_byte, is_branch_byte, is_key_byte}
+use Rattle.escrow.specs.declared.quantity.Way.{Way}
+use Rattle.escrow.specs.declared.quantity.Way.TheVariants.{Add, Take}
+use Rattle.words.specs.OpenLines.{IsOpenLine, line_words, way_word}
+use Rattle.words.specs.Spelling.{IsInRange, command_words, spelling}
+use Rattle.words.specs.Words.{spaced}
+use Rattle.words.specs.declared.command.Command.{Command}
+use Rattle.words.specs.declared.command.Command.TheVariants.{Abort, Commit, Deliver, Expire, Field, More, Open, Release, Transfer, Use, Writeoff}
+use Rattle.words.specs.declared.open_line.OpenLine.{OpenLine}
+
+ascii_cons : (b : ℕ) (bs : List ℕ) → b < 128 → IsAscii bs → IsAscii (b ∷ bs)
+ascii_cons b bs h k zero = h
+ascii_cons b bs h k (suc i) = k i
+
+both : (a b : Bool) → (a && b) ≡ true → (a ≡ true) × (b ≡ true)
+both true b h = (refl, h)
+both false b h = absurd (true≢false (sym h))
+
+ascii_all : (p : ℕ → Bool) → ((b : ℕ) → p b ≡ true → b < 128) → (bs : List ℕ) → list_all p bs ≡ true → IsAscii bs
+ascii_all p small [] h = IsAscii-nil
+ascii_all p small (b ∷ bs) h = let k = both (p b) (list_all p bs) h in ascii_cons b bs (small b k.0) (ascii_all p small bs k.1)
+
+branch_byte : (b : ℕ) → is_branch_byte b ≡ true → b < 128
+branch_byte b h = grind (arith, nat_tests)
+
+article_byte : (b : ℕ) → is_article_byte b ≡ true → b < 128
+article_byte b h = grind (arith, nat_tests)
+
+key_byte : (b : ℕ) → is_key_byte b ≡ true → b < 128
+key_byte b h = grind (arith, nat_tests)
+
+branch_ascii : (bs : List ℕ) → IsBranch bs → IsAscii bs
+branch_ascii bs h = ascii_all is_branch_byte branch_byte bs h.each
+
+article_ascii : (bs : List ℕ) → IsArticle bs → IsAscii bs
+article_ascii bs h = ascii_all is_article_byte article_byte bs h.each
+
+pub branch_utf8 : (bs : List ℕ) → IsBranch bs → IsUtf8 bs
+branch_utf8 bs h = IsUtf8-from_ascii bs (branch_ascii bs h)
+
+pub article_utf8 : (bs : List ℕ) → IsArticle bs → IsUtf8 bs
+article_utf8 bs h = IsUtf8-from_ascii bs (article_ascii bs h)
+
+pub key_utf8 : (bs : List ℕ) → IsKey bs → IsUtf8 bs
+key_utf8 bs h = IsUtf8-from_ascii bs (ascii_all is_key_byte key_byte bs h.each)
+
+-- ---- spellings
+
+text_ascii : (bs : List ℕ) → Each (λ b. b < 128) bs → IsAscii bs
+text_ascii [] h = IsAscii-nil
+text_ascii (b ∷ bs) h = ascii_cons b bs h.0 (text_ascii bs h.1)
+
+number_ascii : (n : ℕ) → n ≤ 4000000000 → IsAscii (decimal n)
+number_ascii n h = IsAscii-decimal n (omega arith)
+
+spaced_ascii : (words : List (List ℕ)) → Each IsAscii words → IsAscii (spaced words)
+spaced_ascii [] h = IsAscii-nil
+spaced_ascii (w ∷ []) h = h.0
+spaced_ascii (w ∷ v ∷ ws) h = IsAscii-append w (32 ∷ spaced (v ∷ ws)) h.0 (ascii_cons 32 (spaced (v ∷ ws)) (omega arith) (spaced_ascii (v ∷ ws) h.1))
+
+way_ascii : (way : Way) → IsAscii (way_word way)
+way_ascii Take = text_ascii (codes "take") (omega arith, (omega arith, (omega arith, (omega arith, tt))))
+way_ascii Add = text_ascii (codes "add") (omega arith, (omega arith, (omega arith, tt)))
+
+lines_ascii : (lines : List OpenLine) → Each IsOpenLine lines → Each IsAscii (line_words lines)
+lines_ascii [] h = tt
+lines_ascii (line ∷ lines) h =
+    (way_ascii line.way, (branch_ascii line.branch h.0.branch, (article_ascii line.article h.0.article, (number_ascii line.qty (let q = h.0.qty in omega arith), lines_ascii lines h.1))))
+
+words_ascii : (c : Command) → IsInRange c → Each IsAscii (command_words c)
+words_ascii (Field b a lo hi start) h = (text_ascii (codes "field") (omega arith, (omega arith, (omega arith, (omega arith, (omega arith, tt))))), (branch_ascii b h.0, (article_ascii a h.1, (number_ascii lo (let k = h.2 in omega arith), (number_ascii hi (let k = h.3 in omega arith), (number_ascii start (let k = h.4 in omega arith), tt))))))
+words_ascii (Deliver b a qty) h = (text_ascii (codes "deliver") (omega arith, (omega arith, (omega arith, (omega arith, (omega arith, (omega arith, (omega arith, tt))))))), (branch_ascii b h.0, (article_ascii a h.1, (number_ascii qty (let k = h.2 in omega arith), tt))))
+words_ascii (Writeoff b a qty) h = (text_ascii (codes "writeoff") (omega arith, (omega arith, (omega arith, (omega arith, (omega arith, (omega arith, (omega arith, (omega arith, tt)))))))), (branch_ascii b h.0, (article_ascii a h.1, (number_ascii qty (let k = h.2 in omega arith), tt))))
+words_ascii (Open n until lines) h = (text_ascii (codes "open") (omega arith, (omega arith, (omega arith, (omega arith, tt)))), (number_ascii n (let k = h.0 in omega arith), (number_ascii until (let k = h.1 in omega arith), lines_ascii lines (recursion_from_All IsOpenLine lines h.2.each))))
+words_ascii (Transfer n until a from to qty) h = (text_ascii (codes "transfer") (omega arith, (omega arith, (omega arith, (omega arith, (omega arith, (omega arith, (omega arith, (omega arith, tt)))))))), (number_ascii n (let k = h.0 in omega arith), (number_ascii until (let k = h.1 in omega arith), (article_ascii a h.2, (branch_ascii from h.3, (branch_ascii to h.4, (number_ascii qty (let k = h.5 in omega arith), tt)))))))
+words_ascii (More n way b a qty) h = (text_ascii (codes "more") (omega arith, (omega arith, (omega arith, (omega arith, tt)))), (number_ascii n (let k = h.0 in omega arith), (way_ascii way, (branch_ascii b h.1, (article_ascii a h.2, (number_ascii qty (let k = h.3 in omega arith), tt))))))
+words_ascii (Use n b a qty) h = (text_ascii (codes "use") (omega arith, (omega arith, (omega arith, tt))), (number_ascii n (let k = h.0 in omega arith), (branch_ascii b h.1, (article_ascii a h.2, (number_ascii qty (let k = h.3 in omega arith), tt)))))
+words_ascii (Release n b a qty) h = (text_ascii (codes "release") (omega arith, (omega arith, (omega arith, (omega arith, (omega arith, (omega arith, (omega arith, tt))))))), (number_ascii n (let k = h.0 in omega arith), (branch_ascii b h.1, (article_ascii a h.2, (number_ascii qty (let k = h.3 in omega arith), tt)))))
+words_ascii (Commit n) h = (text_ascii (codes "commit") (omega arith, (omega arith, (omega arith, (omega arith, (omega arith, (omega arith, tt)))))), (number_ascii n (omega arith), tt))
+words_ascii (Abort n) h = (text_ascii (codes "abort") (omega arith, (omega arith, (omega arith, (omega arith, (omega arith, tt))))), (number_ascii n (omega arith), tt))
+words_ascii (Expire now) h = (text_ascii (codes "expire") (omega arith, (omega arith, (omega arith, (omega arith, (omega arith, (omega arith, tt)))))), (number_ascii now (omega arith), tt))
+
+pub spelling_utf8 : (c : Command) → IsInRange c → IsUtf8 (spelling c)
+spelling_utf8 c h = IsUtf8-from_ascii (spelling c) (spaced_ascii (command_words c) (words_ascii c h))

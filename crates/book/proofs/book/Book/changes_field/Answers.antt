@@ -1,0 +1,55 @@
+use Rattle.std.proofs.Common.{◌≡◌, ◌∙◌, Bor, Bool, true, false, ◌&&◌, Option, ap, sym}
+use Rattle.std.specs.List.{list_any}
+use Rattle.book.specs.After.{changes_state, order_after, some_has_line, some_is_transfer}
+use Rattle.book.specs.Changes.{has_line_on}
+use Rattle.book.specs.Ledger.{Ledger, Name, Order, name_of}
+use Rattle.book.specs.View.{order_of}
+use Rattle.book.specs.declared.entries.OrderEntry.{OrderEntry}
+use Rattle.book.proofs.Chosen.{any-map}
+use Rattle.book.proofs.Made.{expired_lined, lined, released}
+use Rattle.book.proofs.book.Book.changes_field.Goals as goal
+
+pub returns-in-Open : goal.returns-in-Open
+returns-in-Open c =
+    let f : Name = name_of c.args.branch c.args.article in
+    c.makes_line.ensures ∙ ap (some_has_line f) c.requires.made ∙ lined c.args.self.now.ledger c.args.command.now f c.requires.good (ap changes_state c.in-Open.is)
+
+pub returns-in-Transfer : goal.returns-in-Transfer
+returns-in-Transfer c =
+    let f : Name = name_of c.args.branch c.args.article in
+    c.makes_line-in-Transfer.ensures ∙ ap (some_has_line f) c.requires.made ∙ lined c.args.self.now.ledger c.args.command.now f c.requires.good (ap changes_state c.in-Transfer.is)
+
+pub returns-in-Commit : goal.returns-in-Commit
+returns-in-Commit c =
+    let f : Name = name_of c.args.branch c.args.article in
+    c.makes_line-in-Commit.ensures ∙ ap (some_has_line f) c.requires.made ∙ lined c.args.self.now.ledger c.args.command.now f c.requires.good (ap changes_state c.in-Commit.is)
+
+pub returns-in-Abort : goal.returns-in-Abort
+returns-in-Abort c =
+    let f : Name = name_of c.args.branch c.args.article in
+    c.makes_line-in-Abort.ensures ∙ ap (some_has_line f) c.requires.made ∙ lined c.args.self.now.ledger c.args.command.now f c.requires.good (ap changes_state c.in-Abort.is)
+
+pub returns-in-Expire : goal.returns-in-Expire
+returns-in-Expire c =
+    let A : Ledger = c.args.self.now.ledger in
+    let f : Name = name_of c.args.branch c.args.article in
+    c.some_has_line.ensures ∙ sym (any-map (has_line_on f) (λ (entry : Bor OrderEntry). order_of entry.now) c.args.expired.now) ∙ ap (list_any (has_line_on f)) c.requires.expired
+    ∙ expired_lined A c.args.command.now c.in-Expire.now f c.in-Expire.is
+
+pub returns-then-makes_transfer : goal.returns-then-makes_transfer
+returns-then-makes_transfer c =
+    let A : Ledger = c.args.self.now.ledger in
+    let f : Name = name_of c.args.branch c.args.article in
+    let x : Option Order = order_after A c.args.command.now in
+    let is : some_is_transfer x ≡ true = sym (c.makes_transfer.ensures ∙ ap some_is_transfer c.requires.made) ∙ c.if-makes_transfer.true in
+    c.makes_line-then-makes_transfer.ensures ∙ ap (some_has_line f) c.requires.made ∙ sym (ap (λ (b : Bool). b && some_has_line f x) is)
+    ∙ released A c.args.command.now _ _ _ _ f c.requires.good c.in-Release.is (sym c.names_field-names.ensures ∙ c.if-names.false)
+
+pub returns-else-makes_transfer : goal.returns-else-makes_transfer
+returns-else-makes_transfer c =
+    let A : Ledger = c.args.self.now.ledger in
+    let f : Name = name_of c.args.branch c.args.article in
+    let x : Option Order = order_after A c.args.command.now in
+    let is : some_is_transfer x ≡ false = sym (c.makes_transfer.ensures ∙ ap some_is_transfer c.requires.made) ∙ c.if-makes_transfer.false in
+    c.if-makes_transfer.false ∙ sym (ap (λ (b : Bool). b && some_has_line f x) is)
+    ∙ released A c.args.command.now _ _ _ _ f c.requires.good c.in-Release.is (sym c.names_field-names.ensures ∙ c.if-names.false)

@@ -1,0 +1,199 @@
+-- What an accepted command leaves of the orders, and the rows of a ledger as sums over its entries give them.
+use Rattle.std.specs.Prelude.{ℕ, ◌+◌, ◌≤◌, ℤ, pos, neg_ℤ, ◌+ℤ◌, ◌-ℤ◌, Bool, true, false, ◌||◌, ◌==◌, ◌++◌, List, [], ◌∷◌, filter, map, flat_map, Option, None, Some, option_map, MatchOption, length, if◌then◌else◌}
+use Rattle.words.specs.declared.command.Command.{Command}
+use Rattle.words.specs.declared.command.Request.{Request}
+use Rattle.words.specs.declared.command.Command.TheVariants.{Abort, Commit, Deliver, Expire, Field, More, Open, Release, Transfer, Use, Writeoff}
+use Rattle.words.specs.declared.limits.TheConstants.{MAX_ORDER_LINES}
+use Rattle.book.specs.declared.entries.OrderEntry.{OrderEntry}
+use Rattle.book.specs.declared.order.Line.{Line}
+use Rattle.book.specs.Changes.{changes_field, has_line_on}
+use Rattle.book.specs.declared.order.Kind.TheVariants as kind
+use Rattle.book.specs.declared.order.State.TheVariants as state
+use Rattle.book.specs.Held.{held_to_add, held_to_take, if_add, if_take}
+use Rattle.book.specs.Ledger.{Field as FieldOf, Ledger, Name, Order, is_committed, is_open, is_transfer, line_name, name_of, on, order_numbered, same_name}
+use Rattle.book.specs.Next.{accept, add_hold, change_lines, expires, lower_held, new_order, raise_used, set_state, transfer_lines}
+use Rattle.book.specs.Outcomes.{moved, settled, total}
+use Rattle.book.specs.Rows.{Content, FieldCells, KeptCells, LineCells, MoveCells, OrderCells, desk_row, kept_row, line_row, move_row, order_lines, order_row}
+use Rattle.book.specs.View.{order_of}
+
+-- ---- orders
+
+-- the order that the command opens or changes, as it is in the next ledger; none where it is about no one order
+abbrev pub order_after : Ledger → Command → Option Order
+order_after A (Open n until lines) = Some (new_order n kind.Plain until lines)
+order_after A (Transfer n until a from to q) = Some (new_order n kind.Transfer until (transfer_lines a from to q))
+order_after A (More n way b a q) = option_map (add_hold (record { way = way; branch = b; article = a; qty = q })) (order_numbered A n)
+order_after A (Use n b a q) = option_map (change_lines (name_of b a) (raise_used q)) (order_numbered A n)
+order_after A (Release n b a q) = option_map (change_lines (name_of b a) (lower_held q)) (order_numbered A n)
+order_after A (Commit n) = option_map (set_state state.Committed) (order_numbered A n)
+order_after A (Abort n) = option_map (set_state state.Aborted) (order_numbered A n)
+order_after A (Field b a lo hi start) = None
+order_after A (Deliver b a q) = None
+order_after A (Writeoff b a q) = None
+order_after A (Expire now) = None
+
+-- the command changes the order, or opens one under its number
+abbrev pub is_touched : Command → Order → Bool
+is_touched (Open n until lines) o = o.number == n
+is_touched (Transfer n until a from to q) o = o.number == n
+is_touched (More n way b a q) o = o.number == n
+is_touched (Use n b a q) o = o.number == n
+is_touched (Release n b a q) o = o.number == n
+is_touched (Commit n) o = o.number == n
+is_touched (Abort n) o = o.number == n
+is_touched (Expire now) o = expires now o
+is_touched (Field b a lo hi start) o = false
+is_touched (Deliver b a q) o = false
+is_touched (Writeoff b a q) o = false
+
+-- what an order adds to a sum, where it stays as it was
+abbrev pub part_left : (OrderEntry → ℤ) → Command → OrderEntry → ℤ
+part_left part c o = if is_touched c (order_of o) then pos 0 else part o
+
+-- what the command itself moves on the field
+abbrev pub moved_by_command : Name → Command → ℤ
+moved_by_command f (Deliver b a q) = if same_name f (name_of b a) then pos q else pos 0
+moved_by_command f (Writeoff b a q) = if same_name f (name_of b a) then neg_ℤ (pos q) else pos 0
+moved_by_command f c = pos 0
+
+-- what an order adds to a sum, if there is one
+abbrev pub some_part : (Order → ℤ) → Option Order → ℤ
+some_part part None = pos 0
+some_part part (Some o) = part o
+
+-- the lines of the order, if there is one, are at most 64
+abbrev pub IsShort : Option Order → Type 0
+IsShort o = MatchOption o (Unit {0}) (λ o. length o.lines ≤ MAX_ORDER_LINES)
+
+-- what an order has moved on the field, if it is committed
+abbrev pub moved_part : Name → Order → ℤ
+moved_part f o = if is_committed o then moved f (λ l. l.used) o else pos 0
+
+-- what it holds there to take, if it is open
+abbrev pub taken_part : Name → Order → ℤ
+taken_part f o = if is_open o then total (λ l. if on f l then pos (if_take l.way l.held) else pos 0) o.lines else pos 0
+
+-- what it holds there to add
+abbrev pub added_part : Name → Order → ℤ
+added_part f o = if is_open o then total (λ l. if on f l then pos (if_add l.way l.held) else pos 0) o.lines else pos 0
+
+-- the number of the order that the command opens or changes
+abbrev pub order_number : Command → Option ℕ
+order_number (Open n until lines) = Some n
+order_number (Transfer n until a from to q) = Some n
+order_number (More n way b a q) = Some n
+order_number (Use n b a q) = Some n
+order_number (Release n b a q) = Some n
+order_number (Commit n) = Some n
+order_number (Abort n) = Some n
+order_number c = None
+
+-- ---- rows
+
+-- the row of a field: the infimum is the value less all that is held to take, the supremum the value plus all that is
+-- held to add
+abbrev pub field_row : Ledger → FieldOf → FieldCells
+field_row A f = record { branch = f.name.branch; article = f.name.article; lo = pos f.lo; hi = pos f.hi; start = pos f.start; value = settled A f; inf = settled A f -ℤ held_to_take A f.name; sup = settled A f +ℤ held_to_add A f.name }
+
+-- the rows of a good ledger
+abbrev pub rows_of : Ledger → Content
+rows_of A = record { desk = desk_row A ∷ []; fields = map (field_row A) A.fields; moves = map move_row A.moves; orders = map order_row A.orders; lines = flat_map order_lines A.orders; kept = map kept_row A.kept }
+
+-- ---- rows after those that are there
+
+abbrev pub with_fields : List FieldCells → Content → Content
+with_fields rows C = record C { fields = C.fields ++ rows }
+
+abbrev pub with_moves : List MoveCells → Content → Content
+with_moves rows C = record C { moves = C.moves ++ rows }
+
+abbrev pub with_orders : List OrderCells → Content → Content
+with_orders rows C = record C { orders = C.orders ++ rows }
+
+abbrev pub with_lines : List LineCells → Content → Content
+with_lines rows C = record C { lines = C.lines ++ rows }
+
+abbrev pub with_kept : List KeptCells → Content → Content
+with_kept rows C = record C { kept = C.kept ++ rows }
+
+-- ---- tests of single entries
+
+-- the order, if there is one, has a line on the field
+abbrev pub some_has_line : Name → Option Order → Bool
+some_has_line f None = false
+some_has_line f (Some o) = has_line_on f o
+
+-- the order, if there is one, is a transfer
+abbrev pub some_is_transfer : Option Order → Bool
+some_is_transfer None = false
+some_is_transfer (Some o) = is_transfer o
+
+-- the command is about that one field
+abbrev pub names_field : Name → Command → Bool
+names_field f (Field b a lo hi start) = same_name f (name_of b a)
+names_field f (Deliver b a q) = same_name f (name_of b a)
+names_field f (Writeoff b a q) = same_name f (name_of b a)
+names_field f (More n way b a q) = same_name f (name_of b a)
+names_field f (Release n b a q) = same_name f (name_of b a)
+names_field f c = false
+
+-- the orders that the command aborts as expired
+abbrev pub expired_orders : Ledger → Command → List Order
+expired_orders A (Expire now) = filter (expires now) A.orders
+expired_orders A c = []
+
+-- the row of a line of the order that the command makes is new, or its amounts change
+abbrev pub changes_own_line : Bool → Command → Line → Bool
+changes_own_line transfer (Open n until lines) l = true
+changes_own_line transfer (Transfer n until a from to q) l = true
+changes_own_line transfer (More n way b a q) l = same_name (line_name l) (name_of b a)
+changes_own_line transfer (Use n b a q) l = transfer || same_name (line_name l) (name_of b a)
+changes_own_line transfer (Release n b a q) l = transfer || same_name (line_name l) (name_of b a)
+changes_own_line transfer c l = false
+
+-- the rows of the lines of an order that pass a test
+abbrev pub line_rows : (Line → Bool) → ℕ → ℕ → List Line → List LineCells
+line_rows chosen number nr [] = []
+line_rows chosen number nr (l ∷ ls) = (if chosen l then line_row number nr l ∷ [] else []) ++ line_rows chosen number (nr + 1) ls
+
+-- the rows of the orders that expire
+abbrev pub expired_rows : ℕ → List Order → List OrderCells
+expired_rows now os = flat_map (λ o. if expires now o then order_row (set_state state.Aborted o) ∷ [] else []) os
+
+-- the rows of the lines of the order that the command makes, if it makes one
+abbrev pub own_line_rows : Command → Option Order → List LineCells
+own_line_rows c None = []
+own_line_rows c (Some o) = line_rows (changes_own_line (is_transfer o) c) o.number 1 o.lines
+
+-- the command opens an order or ends one
+abbrev pub changes_state : Command → Bool
+changes_state (Open n until lines) = true
+changes_state (Transfer n until a from to q) = true
+changes_state (Commit n) = true
+changes_state (Abort n) = true
+changes_state c = false
+
+-- the row of the order that the command makes, if it opens it or ends it
+abbrev pub own_order_rows : Command → Option Order → List OrderCells
+own_order_rows c None = []
+own_order_rows c (Some o) = if changes_state c then order_row o ∷ [] else []
+
+-- the row of the move that the command makes
+abbrev pub own_move_rows : ℕ → Command → List MoveCells
+own_move_rows place (Deliver b a q) = move_row (record { place = place; field = name_of b a; amount = pos q }) ∷ []
+own_move_rows place (Writeoff b a q) = move_row (record { place = place; field = name_of b a; amount = neg_ℤ (pos q) }) ∷ []
+own_move_rows place c = []
+
+-- the row of the field that the command adds to the ledger
+abbrev pub new_field_rows : Ledger → Command → List FieldCells
+new_field_rows B (Field b a lo hi start) = field_row B (record { name = name_of b a; lo = lo; hi = hi; start = start }) ∷ []
+new_field_rows B c = []
+
+-- the rows of those of the fields that the request changes
+abbrev pub changed_fields : Ledger → Request → List FieldOf → List FieldCells
+changed_fields A r fs = flat_map (λ f. if changes_field A r.command f.name then field_row (accept A r) f ∷ [] else []) fs
+
+-- the rows of the orders whose states the command makes
+abbrev pub changed_orders : Ledger → Command → List OrderCells
+changed_orders A (Expire now) = expired_rows now A.orders
+changed_orders A c = own_order_rows c (order_after A c)
