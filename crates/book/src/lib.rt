@@ -10,7 +10,7 @@ mod order;
 mod plan;
 mod rows;
 
-pub use book::{Book, FieldView, OrderView, Planned};
+pub use book::{Book, FieldView, OrderView, Planned, TablesFault};
 pub use examples::worked_examples_hold;
 pub use laws::{
     answers_stay_good, bounds_are_held, changes_suffice, exactly_one_answer, good_ledgers_honour,

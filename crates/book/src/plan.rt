@@ -66,7 +66,7 @@ impl Plan {
         self.place
     }
 
-    /// The rows that the request changes, table by table, each in the order of its key: put into the tables they
+    /// The rows that the request changes, those of each table in the order of its key: put into the tables they
     /// give those of the ledger that `Book::adopt` leaves.
     pub fn changes(&self) -> &[Change]
         ensures { rows_among result.now ≡ self.now.changes }

@@ -104,22 +104,22 @@ fn command_on(command: &Command, branch: Branch, article: Article) -> i64
 {
     match command {
         Command::Deliver {
-            branch: at,
-            article: of,
+            branch: command_branch,
+            article: command_article,
             qty,
         } => {
-            if branch == *at && article == *of {
+            if branch == *command_branch && article == *command_article {
                 qty.get() as i64
             } else {
                 0
             }
         }
         Command::Writeoff {
-            branch: at,
-            article: of,
+            branch: command_branch,
+            article: command_article,
             qty,
         } => {
-            if branch == *at && article == *of {
+            if branch == *command_branch && article == *command_article {
                 -(qty.get() as i64)
             } else {
                 0

@@ -300,7 +300,7 @@ impl Book {
         }
     }
 
-    /// The rows that the accepted request changes, table by table, each in the order of its key.
+    /// The rows that the accepted request changes, those of each table in the order of its key.
     pub(super) fn changes_of(&self, alloc: Global, request: &Request) -> Result<Vec<Change>, Memory>
         requires { IsAccepted self.now.ledger request.now }
         ensures { IfOk result (λ changes. ChangesTo self.now.ledger request.now (rows_among changes.items)) }

@@ -19,10 +19,15 @@ use std::alloc::Global;
 use words::{Command, Memory};
 
 /// Whether the two name the same field.
-fn is_same_field(branch: Branch, article: Article, at: &Branch, of: &Article) -> bool
-    ensures { result ≡ same_name (name_of branch article) (name_of at.now of.now) }
+fn is_same_field(
+    branch: Branch,
+    article: Article,
+    command_branch: &Branch,
+    command_article: &Article,
+) -> bool
+    ensures { result ≡ same_name (name_of branch article) (name_of command_branch.now command_article.now) }
 {
-    branch == *at && article == *of
+    branch == *command_branch && article == *command_article
 }
 
 /// Whether some line is on the field.
@@ -98,30 +103,30 @@ fn names_field(command: &Command, branch: Branch, article: Article) -> bool
 {
     match command {
         Command::Field {
-            branch: at,
-            article: of,
+            branch: command_branch,
+            article: command_article,
             ..
-        } => is_same_field(branch, article, at, of),
+        } => is_same_field(branch, article, command_branch, command_article),
         Command::Deliver {
-            branch: at,
-            article: of,
+            branch: command_branch,
+            article: command_article,
             ..
-        } => is_same_field(branch, article, at, of),
+        } => is_same_field(branch, article, command_branch, command_article),
         Command::Writeoff {
-            branch: at,
-            article: of,
+            branch: command_branch,
+            article: command_article,
             ..
-        } => is_same_field(branch, article, at, of),
+        } => is_same_field(branch, article, command_branch, command_article),
         Command::More {
-            branch: at,
-            article: of,
+            branch: command_branch,
+            article: command_article,
             ..
-        } => is_same_field(branch, article, at, of),
+        } => is_same_field(branch, article, command_branch, command_article),
         Command::Release {
-            branch: at,
-            article: of,
+            branch: command_branch,
+            article: command_article,
             ..
-        } => is_same_field(branch, article, at, of),
+        } => is_same_field(branch, article, command_branch, command_article),
         _ => false,
     }
 }

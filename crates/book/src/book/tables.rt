@@ -147,10 +147,10 @@ fn are_good(alloc: Global, entries: &Entries, rows: &[FieldRow]) -> Result<bool,
 }
 
 impl Book {
-    /// The book of the ledger whose rows the tables are, or `Damaged` exactly where they are the rows of no good
-    /// ledger. That goes for their order, codes, ranges and places, what one row names of another, safety, and
-    /// the numbers of fields; nothing is mended. Its time is that of the rows, times the logarithm of the number
-    /// of fields.
+    /// The book of the ledger whose rows the tables are, or `Damaged` where they are the rows of no good ledger;
+    /// unless memory is refused, exactly there. That goes for their order, codes, ranges and places, what one row
+    /// names of another, safety, and the numbers of fields; nothing is mended. Its time is that of the rows, times
+    /// the logarithm of the number of fields; each line is also compared with those before it in its order.
     pub fn of_tables(alloc: Global, tables: Tables) -> Result<Book, TablesFault>
         ensures ok { IfOk result (λ book. Good book.ledger × IsRowsOf book.ledger (content_of tables)) }
         ensures damaged { IfErr result (λ fault. fault ≡ TablesFault.Damaged → IsDamaged (content_of tables)) }

@@ -1,9 +1,10 @@
 //! Rows that are planned, put into tables by their keys, and read back. Those that are added come in the order
-//! of their keys.
+//! of their keys, and all fields are of one article.
 
 use super::tests::Parts;
 use super::*;
 use crate::book::Planned;
+use crate::order::State;
 use crate::rows::{Change, FieldRow, KeptRow, LineRow, MoveRow, OrderRow};
 use escrow::{Article, Branch, Key, OrderNo};
 use std::process::Abort;
@@ -15,15 +16,7 @@ fn copied<R: AllocGlobal>(rt: &R, text: &String) -> Result<String, Fail> {
 }
 
 fn put_field<R: AllocGlobal>(rt: &R, rows: &mut Vec<FieldRow>, row: &FieldRow) -> Result<(), Fail> {
-    for old in rows.iter_mut() {
-        if old.branch.as_str() == row.branch.as_str() {
-            old.value = row.value;
-            old.inf = row.inf;
-            old.sup = row.sup;
-            return Ok(());
-        }
-    }
-    Ok(rows.push(FieldRow {
+    let new = FieldRow {
         branch: copied(rt, &row.branch)?,
         article: copied(rt, &row.article)?,
         lo: row.lo,
@@ -32,7 +25,14 @@ fn put_field<R: AllocGlobal>(rt: &R, rows: &mut Vec<FieldRow>, row: &FieldRow) -
         value: row.value,
         inf: row.inf,
         sup: row.sup,
-    })?)
+    };
+    for old in rows.iter_mut() {
+        if old.branch.as_str() == new.branch.as_str() {
+            *old = new;
+            return Ok(());
+        }
+    }
+    Ok(rows.push(new)?)
 }
 
 fn put_order(rows: &mut Vec<OrderRow>, row: &OrderRow) -> Result<(), Fail> {
@@ -46,14 +46,7 @@ fn put_order(rows: &mut Vec<OrderRow>, row: &OrderRow) -> Result<(), Fail> {
 }
 
 fn put_line<R: AllocGlobal>(rt: &R, rows: &mut Vec<LineRow>, row: &LineRow) -> Result<(), Fail> {
-    for old in rows.iter_mut() {
-        if old.number == row.number && old.nr == row.nr {
-            old.held = row.held;
-            old.used = row.used;
-            return Ok(());
-        }
-    }
-    Ok(rows.push(LineRow {
+    let new = LineRow {
         number: row.number,
         nr: row.nr,
         branch: copied(rt, &row.branch)?,
@@ -61,7 +54,14 @@ fn put_line<R: AllocGlobal>(rt: &R, rows: &mut Vec<LineRow>, row: &LineRow) -> R
         way: row.way,
         held: row.held,
         used: row.used,
-    })?)
+    };
+    for old in rows.iter_mut() {
+        if old.number == new.number && old.nr == new.nr {
+            *old = new;
+            return Ok(());
+        }
+    }
+    Ok(rows.push(new)?)
 }
 
 fn put<R: AllocGlobal>(rt: &R, parts: &mut Parts, change: &Change) -> Result<(), Fail> {
@@ -158,7 +158,44 @@ fn rows_that_are_put_in_are_read_back(rt: HostRuntime) -> Result<(), Fail> {
     // 40 + 10, of which 20 + 15 and 10 may be taken
     expect_numbers(&rt, &again, b"N1", (50, 5, 50))?;
     // 5, to which 10 may be added
-    expect_numbers(&rt, &again, b"N2", (5, 5, 15))
+    expect_numbers(&rt, &again, b"N2", (5, 5, 15))?;
+    let Some(number) = OrderNo::new(20) else {
+        return Err(Fail::from("no number"));
+    };
+    let Some(order) = again.order(number) else {
+        return Err(Fail::from("no order"));
+    };
+    let [take, add] = order.lines else {
+        return Err(Fail::from("not two lines"));
+    };
+    assert_eq!(rt; (take.held.get(), take.used.get()), (10, 4));
+    assert_eq!(rt; (add.held.get(), add.used.get()), (10, 4));
+    let request = Request {
+        key: Key::read(b"K7")?,
+        command: read_command(rt.alloc(), b"use 20 N2 A-1 4")?,
+    };
+    let Planned::Again(place) = again.plan(rt.alloc(), &request)? else {
+        return Err(Fail::from("not kept"));
+    };
+    assert_eq!(rt; place, 7);
+    Ok(())
+}
+
+/// The order of that number stands so.
+fn expect_state<R: Abort + AllocGlobal>(
+    rt: &R,
+    book: &Book,
+    number: u64,
+    state: State,
+) -> Result<(), Fail> {
+    let Some(number) = OrderNo::new(number) else {
+        return Err(Fail::from("no number"));
+    };
+    let Some(order) = book.order(number) else {
+        return Err(Fail::from("no order"));
+    };
+    assert!(rt; order.state == state);
+    Ok(())
 }
 
 #[test]
@@ -196,12 +233,7 @@ fn ended_orders_are_read_back(rt: HostRuntime) -> Result<(), Fail> {
     let again = Book::of_tables(rt.alloc(), parts.into_tables())?;
     // 40 - 2 - 4, and nothing is held
     expect_numbers(&rt, &again, b"N1", (34, 34, 34))?;
-    let Some(number) = OrderNo::new(8) else {
-        return Err(Fail::from("no number"));
-    };
-    let Some(order) = again.order(number) else {
-        return Err(Fail::from("no order"));
-    };
-    assert!(rt; matches!(order.state, crate::order::State::Aborted));
-    Ok(())
+    expect_state(&rt, &again, 7, State::Committed)?;
+    expect_state(&rt, &again, 8, State::Aborted)?;
+    expect_state(&rt, &again, 9, State::Aborted)
 }

@@ -171,6 +171,15 @@ fn push_order(
     )
 }
 
+/// The first field has the numbers that it would have without its delivery of 10.
+fn without_the_delivery(parts: &mut Parts) {
+    if let Some(row) = parts.fields.first_mut() {
+        row.value = 36;
+        row.inf = 1;
+        row.sup = 36;
+    }
+}
+
 /// They are the rows of no good ledger.
 fn expect_damaged<R: AllocGlobal>(rt: &R, parts: Parts) -> Result<(), Fail> {
     match Book::of_tables(rt.alloc(), parts.into_tables()) {
@@ -258,6 +267,7 @@ fn a_code_that_is_none_is_damaged(rt: HostRuntime) -> Result<(), Fail> {
         return Err(Fail::from("no row"));
     };
     row.branch = String::from_str(rt.alloc(), "n1")?;
+    without_the_delivery(&mut parts);
     expect_damaged(&rt, parts)
 }
 
@@ -288,6 +298,7 @@ fn a_move_on_no_field_is_damaged(rt: HostRuntime) -> Result<(), Fail> {
         return Err(Fail::from("no row"));
     };
     row.branch = String::from_str(rt.alloc(), "N3")?;
+    without_the_delivery(&mut parts);
     expect_damaged(&rt, parts)
 }
 
@@ -388,5 +399,9 @@ fn a_full_desk_still_ends_its_order(rt: HostRuntime) -> Result<(), Fail> {
     assert_eq!(rt; plan.place(), 200_000);
     book.make_room(&plan)?;
     book.adopt(plan);
+    let Some(field) = book.field(Branch::read(b"N1")?, Article::read(b"A-1")?) else {
+        return Err(Fail::from("no field"));
+    };
+    assert_eq!(rt; field.inf.get(), 40);
     Ok(())
 }
