@@ -220,6 +220,18 @@ fn rows_of_a_new_desk_open(rt: HostRuntime) -> Result<(), Fail> {
 }
 
 #[test]
+fn rows_give_back_their_vector(rt: HostRuntime) -> Result<(), Fail> {
+    let tables = sample(&rt)?.into_tables();
+    assert_eq!(rt; tables.orders.as_slice().len(), 2);
+    let orders = tables.orders.into_vec();
+    let [one, other] = orders.as_slice() else {
+        return Err(Fail::from("not two rows"));
+    };
+    assert_eq!(rt; (one.number, other.number), (7, 20));
+    Ok(())
+}
+
+#[test]
 fn a_stored_infimum_one_too_high_is_damaged(rt: HostRuntime) -> Result<(), Fail> {
     let mut parts = sample(&rt)?;
     let Some(row) = parts.fields.first_mut() else {
