@@ -15,6 +15,7 @@ use Rattle.book.specs.declared.order.State.TheVariants.{Open, Committed, Aborted
 use Rattle.book.specs.declared.order.Line.{Line}
 use Rattle.book.specs.Ledger.{Field, Move, Order, Kept, Ledger, places}
 use Rattle.book.specs.Outcomes.{settled, IsInfimum, IsSupremum}
+use Rattle.book.specs.Good.{Good}
 
 -- the rows, with their texts as bytes
 pub record DeskCells : Type 0 where
@@ -154,3 +155,7 @@ pub record IsInKeyOrder (C : Content) : Type 0 where
   pub orders : IsStrictlySortedBy order_cmp C.orders
   pub lines : IsStrictlySortedBy line_cmp C.lines
   pub kept : IsStrictlySortedBy kept_cmp C.kept
+
+-- the content is the rows of no good ledger
+abbrev pub IsDamaged : Content → Type 0
+IsDamaged C = (A : Ledger) → Good A → IsRowsOf A C → ⊥

@@ -171,7 +171,3 @@ pub record HasNumbers (n : Numbers) (f : Field) (row : FieldCells) : Type 0 wher
 -- each row has what these numbers give its field
 abbrev pub HaveNumbers : (Name → Numbers) → List FieldEntry → List FieldRow → Type 0
 HaveNumbers numbers fields rows = AllZip (λ f row. HasNumbers (numbers (field_of f).name) (field_of f) (field_cells row)) fields rows
-
--- the content is the rows of no good ledger
-abbrev pub IsDamaged : Content → Type 0
-IsDamaged C = (A : Ledger) → Good A → IsRowsOf A C → ⊥

@@ -4,9 +4,9 @@ ghost use Rattle.std.specs.Prelude.{◌≡◌, ◌↔◌, pos, ℕ, IfErr, IfOk,
 ghost use Rattle.std.specs.List.{AllZip};
 ghost use Rattle.book.specs.Good.{Good};
 ghost use Rattle.book.specs.Tables.{content_of, desk_cells, field_cells};
-ghost use Rattle.book.specs.Told.{AreInOrder, IsDamaged, IsInForm, IsWhole, KeepsLimits, TellsField, TellsLedger, told_ledger};
+ghost use Rattle.book.specs.Told.{AreInOrder, IsInForm, IsWhole, KeepsLimits, TellsField, TellsLedger, told_ledger};
 ghost use Rattle.escrow.specs.Ranges.{IsMoment};
-ghost use Rattle.book.specs.Rows.{IsFieldRow, IsRowsOf};
+ghost use Rattle.book.specs.Rows.{IsDamaged, IsFieldRow, IsRowsOf};
 ghost use Rattle.book.specs.declared.book.tables.TablesFault.TheVariants as TablesFault;
 
 mod good;

@@ -1,0 +1,106 @@
+-- What the upsert of the row of `desk` does.
+use Rattle.std.proofs.Common.{◌≡◌, ◌∙◌, ℕ, ℤ, Bool, true, false, ◌&&◌, ◌||◌, List, [], ◌∷◌, Some, Ok, Equal, refl, sym, ap, subst, is_eq, IsTrue}
+use Rattle.std.specs.Cmp.{IsTotalOrder}
+use Rattle.std.proofs.lemmas.Cmp.{on_total, int_cmp_total, int_ranked}
+use Rattle.sqlite.specs.declared.types.Value.TheVariants.{Null, Int}
+use Rattle.sqlite.specs.Order.{Row, column, value_cmp}
+use Rattle.sqlite.specs.State.{State, mode_of, Executes}
+use Rattle.sqlite.specs.Listing.{understood}
+use Rattle.sqlite.specs.Term.{lit, col}
+use Rattle.sqlite.proofs.Callers.{statement_of, runs_as}
+use Rattle.sqlite_rules.specs.declared.error.Rowids.TheVariants.{Chosen}
+use Rattle.sqlite_rules.specs.Cast.{cast_row}
+use Rattle.sqlite_rules.specs.Lists.{Has}
+use Rattle.sqlite_rules.specs.Keys.{conflicts}
+use Rattle.sqlite_rules.specs.Edit.{id_in, with_rowid}
+use Rattle.sqlite_rules.proofs.ListLemmas.{all_has}
+use Rattle.sqlite_rules.proofs.TableLemmas.{int_is}
+use Rattle.sqlite_trees.specs.Tree.{Trees, rowid}
+use Rattle.sqlite_trees.specs.View.{is_int}
+use Rattle.sqlite_trees.specs.Objects.{catalog_tree}
+use Rattle.sqlite_catalog.specs.Listing.{Lists}
+use Rattle.sqlite_value.proofs.OrderLemmas.{value_cmp-Int}
+use Rattle.sqlite_value.proofs.KeyLemmas.{first_key-plain}
+use Rattle.sqlite_schema.specs.Rules.{equal}
+use Rattle.book.specs.Rows.{DeskCells, desk_cmp}
+use Rattle.book.specs.Changes.{put_row}
+use Rattle.keep.specs.Schema.{desk_schema, desk_table}
+use Rattle.keep.specs.Columns.{desk_stored, desk_columns}
+use Rattle.keep.specs.Content.{AreRows}
+use Rattle.keep.proofs.Texts.{desk_upsert}
+use Rattle.keep.proofs.Meanings.{puts, numbered_terms, desk_upsert_is, desk_upsert_plain}
+use Rattle.keep.proofs.Values.{cast_int, cast_null, equal_int, is_equal}
+use Rattle.keep.proofs.Upserted.{Upserted}
+use Rattle.keep.proofs.Upsert.{upserts}
+use Rattle.keep.proofs.UpsertRows.{shown_key, rows_kept}
+
+pub desk_cmp_total : IsTotalOrder desk_cmp
+desk_cmp_total = on_total (λ (x : DeskCells). x.one) int_cmp_total
+
+abbrev AreDesk : List Row → List DeskCells → Type 0
+AreDesk = AreRows desk_cmp desk_stored desk_columns
+
+-- the row without its rowid, as the table stores it
+abbrev kept : DeskCells → Row
+kept x = Null ∷ Int x.version ∷ Int x.clock ∷ Int x.places ∷ []
+
+abbrev source : DeskCells → Row
+source x = Int x.one ∷ Null ∷ Int x.version ∷ Int x.clock ∷ Int x.places ∷ []
+
+-- the row as it goes in where no row has its key
+abbrev fresh : List Row → DeskCells → Row
+fresh rows x = source x
+
+cast_source : (x : DeskCells) → cast_row desk_table (source x) ≡ source x
+cast_source x = rw (cast_int x.one, cast_null, cast_int x.version, cast_int x.clock, cast_int x.places) refl
+
+steady : (n : ℤ) (x : DeskCells) → cast_row desk_table (Int n ∷ kept x) ≡ Int n ∷ kept x
+steady n x = rw (cast_int n, cast_int x.version, cast_int x.clock, cast_int x.places, cast_null) refl
+
+in_place : (rows : List Row) (x : DeskCells) → with_rowid Chosen rows (cast_row desk_table (source x)) ≡ fresh rows x
+in_place rows x = ap (with_rowid Chosen rows) (cast_source x)
+
+-- the columns of the key are these
+abbrev same : DeskCells → Row → Bool
+same x c = is_eq (value_cmp (column c 0) (Int x.one))
+
+tells : (x y : DeskCells) → same x (desk_columns y) ≡ is_eq (desk_cmp y x)
+tells x y = ap is_eq (value_cmp-Int y.one x.one)
+
+bare : (a : Bool) → ((true && (a && true)) || (false || (false || (false || false)))) ≡ a
+bare true = refl
+bare false = refl
+
+meant : (rows : List Row) (x : DeskCells) (r : Row) → conflicts (Some (0 ∷ [])) desk_schema.indexes desk_table (fresh rows x) r ≡ same x (desk_stored r)
+meant rows x r = ap (λ k. (true && (equal k.collation (column r 0) (Int x.one) && true)) || (false || (false || (false || false)))) first_key-plain ∙ bare _ ∙ equal_int (column r 0) x.one
+
+module _ (rows : List Row) (x : DeskCells) (xs : List DeskCells) (are : AreDesk rows xs) (was : Row) (there : Has rows was) (is : same x (desk_stored was) ≡ true) where
+  remade : cast_row desk_table (rowid was ∷ Null ∷ Int x.version ∷ Int x.clock ∷ Int x.places ∷ []) ≡ rowid was ∷ kept x
+  remade =
+      let int = int_is (rowid was) (all_has (λ r. IsTrue (is_int (rowid r))) rows was are.numbers there) in
+      rw (int) (steady (id_in (rowid was)) x)
+
+  shown_again : desk_stored (rowid was ∷ kept x) ≡ desk_columns x
+  shown_again =
+      let y = shown_key desk_cmp desk_cmp_total desk_stored desk_columns x (same x) (tells x) rows xs are was there is in
+      let key0 : column was 0 ≡ Int x.one = ap (λ c. column c 0) y.1 ∙ ap Int (int_ranked y.0.one x.one Equal (sym (is_equal _ y.2))) in
+      ap (λ v. desk_stored (v ∷ kept x)) key0
+
+pub desk_put : (old next : Trees) (x : DeskCells) (xs : List DeskCells) → Upserted desk_schema desk_table (0 ∷ []) (fresh (old 0) x) old next (kept x)
+    → AreDesk (old 0) xs → AreDesk (next 0) (put_row desk_cmp x xs)
+desk_put old next x xs h are =
+    rows_kept desk_cmp desk_cmp_total desk_stored desk_columns x (same x) (tells x) desk_schema desk_table (0 ∷ []) (fresh (old 0) x) old next (kept x) xs
+    (λ r _. meant (old 0) x r) refl (shown_again (old 0) x xs are) refl are h
+
+-- the table after the statement, and the other trees
+pub desk_step : (old new : State) (x : DeskCells) (count : ℕ) (has : old.now.schema ≡ desk_schema) (xs : List DeskCells) (are : AreDesk (old.now.trees 0) xs) → Executes desk_upsert (desk_columns x) old new (Ok count)
+    → (new.now.schema ≡ desk_schema) × Lists (new.now.trees catalog_tree) desk_schema × Upserted desk_schema desk_table (0 ∷ []) (fresh (old.now.trees 0) x) old.now.trees new.now.trees (kept x)
+desk_step old new x count has xs are h =
+    let w = runs_as desk_upsert (desk_columns x) old new desk_schema has (puts 0 numbered_terms 5 (0 ∷ []) 0 4 (lit Null ∷ col 0 1 ∷ col 0 2 ∷ col 0 3 ∷ [])) desk_upsert_is desk_upsert_plain count h in
+    let db = old.now.trees in
+    let settled = subst (λ r. cast_row desk_table r ≡ r) (sym (in_place (db 0) x)) (cast_source x) in
+    let done = upserts old.step_limit (mode_of old) (desk_columns x) desk_schema 0 desk_table refl refl (λ gone news. refl) (λ db. refl) numbered_terms 5 (source x) refl (0 ∷ []) 4 (λ v more. refl) (lit Null ∷ col 0 1 ∷ col 0 2 ∷ col 0 3 ∷ [])
+    (statement_of desk_upsert (understood desk_schema desk_upsert)) old.now has w.tally new.now are.numbers (kept x) settled
+    (λ was there is. remade (db 0) x xs are was there (sym (meant (db 0) x was) ∙ subst (λ r. conflicts (Some (0 ∷ [])) desk_schema.indexes desk_table r was ≡ true) (in_place (db 0) x) is))
+    w.changed in
+    (done.0, subst (Lists (new.now.trees catalog_tree)) done.0 w.sound.lists, subst (λ r. Upserted desk_schema desk_table (0 ∷ []) r db new.now.trees (kept x)) (in_place (db 0) x) done.1)

@@ -1,0 +1,67 @@
+-- What a stop left is found again.
+use Rattle.std.proofs.Common.{◌≡◌, inl, inr, List, [], ◌∷◌, Ok, Err, Result, IsTrue, subst, sym}
+use Rattle.std.specs.Prelude.{IfOk, OnOk}
+use Rattle.std.specs.List.{AllByRecursion}
+use Rattle.std.proofs.Math.Logic.{∥∥₁_map}
+use Rattle.sqlite_disk.specs.declared.Disk.{Ghosts}
+use Rattle.sqlite_wal.specs.Recovery.{Image}
+use Rattle.sqlite_wal.specs.Files.{outcomes}
+use Rattle.sqlite_wal.specs.Reads.{AreClean}
+use Rattle.sqlite_pool.proofs.StateLemmas.{may_leave_is}
+use Rattle.sqlite_catalog.specs.Listing.{IsSound}
+use Rattle.sqlite_catalog.proofs.ReadLemmas.{lists_once}
+use Rattle.sqlite_trees.specs.Objects.{catalog_tree}
+use Rattle.sqlite_schema.specs.declared.schema.Schema.{Schema}
+use Rattle.sqlite_store.specs.declared.store.FileStore.{FileStore}
+use Rattle.sqlite_store.specs.FileStore.{state, view, recovers, files}
+use Rattle.sqlite.specs.Held.{AreDatabases}
+use Rattle.sqlite.specs.State.{State}
+use Rattle.sqlite.specs.Effect.{Database, IsDatabase}
+use Rattle.sqlite.specs.Start.{FindsIn}
+use Rattle.sqlite.proofs.Theorems.{next_run}
+use Rattle.book.specs.declared.rows.Tables.{Tables}
+use Rattle.book.specs.Rows.{Content}
+use Rattle.book.specs.Tables.{content_of}
+use Rattle.keep.specs.declared.keep.KeepFault.{KeepFault}
+use Rattle.keep.specs.Content.{Holds, IsAmong, IsContent, IsDesk, LeavesOnly}
+
+-- a sound database over trees that have a content holds it
+pub holds_content : (db : Database) (x : Content) → IsSound db.schema db.trees → IsContent db.trees x → Holds db x
+holds_content db x sound has =
+    let same : db.schema ≡ has.0 = lists_once (db.trees catalog_tree) db.schema has.0 sound.lists has.1.lists in
+    subst (λ (s : Schema). Holds (record { schema = s; trees = db.trees }) x) (sym same) has.1
+
+-- The files hold what a stop could leave of this store. Then an open finds one of the contents that it could leave.
+pub found_again : {D : Type 0} {g : Ghosts D} (it : FileStore D g) → IsTrue (view it).is_numbered → AreDatabases (recovers it)
+    → (left : Image) → (state it).may_leave left → (these : List Content) → LeavesOnly (recovers it) these
+    → (opened : State) → IsDatabase opened.committed → FindsIn left opened → ∥ ((x : Content) × Holds opened.committed x × IsAmong these x) ∥₁
+found_again it numbered sound left may these only opened db found =
+    ∥∥₁_map (next_run it numbered sound left may opened found) (λ may_be.
+    let has = only opened.committed.trees may_be in
+    let r : ((x : Content) × Holds opened.committed x × IsAmong these x) = (has.0, holds_content opened.committed has.0 db has.1, has.2) in r)
+
+pub may_after : {D : Type 0} {g : Ghosts D} (it : FileStore D g) (log db : D) (image : Image) → (log, db) ≡ files it → AreClean g log db → outcomes g log db image → (state it).may_leave image
+may_after {g = g} it log db image same clean may = may_leave_is it.pool image (subst (λ p. AreClean g p.0 p.1) same clean) (subst (λ p. outcomes g p.0 p.1 image) same may)
+
+each_is : (P : Content → Type 0) (these : List Content) (x : Content) → AllByRecursion P these → IsAmong these x → P x
+each_is P [] x all none = absurd none
+each_is P (y ∷ these) x all (inl is) = subst P (sym is) all.0
+each_is P (y ∷ these) x all (inr more) = each_is P these x all.1 more
+
+module _ (Held : Content → Type 0) (these : List Content) where
+  pub which : (r : Result Tables KeepFault) → IfOk r (λ t. (x : Content) → Held x → content_of t ≡ x) → ∥ ((x : Content) × Held x × IsAmong these x) ∥₁
+      → IfOk r (λ t. ∥ IsAmong these (content_of t) ∥₁)
+  which (Ok t) one found = ∥∥₁_map found (λ f. let r : IsAmong these (content_of t) = subst (IsAmong these) (sym (one f.0 f.1)) f.2 in r)
+  which (Err e) one found = tt
+
+  pub is_desk : (f : (x : Content) × Held x × IsAmong these x) → AllByRecursion IsDesk these → IsDesk f.0
+  is_desk f all = each_is IsDesk these f.0 all f.2
+
+pub alone_after : (Held : Content → Type 0) (Old New : List Content → Type 0) (r : Result Tables KeepFault) → IfOk r (λ t. Held (content_of t)) → ((x : Content) → Held x → Old (x ∷ []))
+    → ((these : List Content) → Old these → New these) → IfOk r (λ t. New (content_of t ∷ []))
+alone_after Held Old New (Ok t) held before after = after (content_of t ∷ []) (before (content_of t) held)
+alone_after Held Old New (Err e) held before after = tt
+
+pub if_held : (r : Result Tables KeepFault) (Was Held : Content → Type 0) → OnOk r ((x : Content) → (Was x → Held x) × (Held x → Was x)) → IfOk r (λ t. Held (content_of t)) → IfOk r (λ t. Was (content_of t))
+if_held (Ok t) Was Held turn h = (turn (content_of t)).1 h
+if_held (Err e) Was Held turn h = tt

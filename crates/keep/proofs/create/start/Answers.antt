@@ -1,0 +1,7 @@
+use Rattle.sqlite.specs.Held.{state}
+use Rattle.keep.proofs.MakingRow.{started}
+use Rattle.keep.proofs.create.start.Goals as goal
+
+pub returns-clause-made : goal.returns-clause-made
+returns-clause-made g c clean begun bare =
+    started (state g.S.Store c.args.tx.now.conn.now) (state g.S.Store c.execute.new.self.conn.now) c.execute.result bare (c.execute.ensures.runs clean begun)

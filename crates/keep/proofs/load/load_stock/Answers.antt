@@ -1,0 +1,20 @@
+use Rattle.std.proofs.Common.{map}
+use Rattle.sqlite.specs.Held.{state}
+use Rattle.book.specs.Rows.{field_cmp, move_cmp}
+use Rattle.book.specs.Tables.{field_cells, move_cells}
+use Rattle.keep.specs.Columns.{field_stored, field_columns, move_stored, move_columns}
+use Rattle.keep.specs.Content.{AreRows}
+use Rattle.keep.proofs.Steps.{finds_then, reads_only}
+use Rattle.keep.proofs.load.load_stock.Goals as goal
+
+pub returns-in_err-moves-clause-survives : goal.returns-in_err-moves-clause-survives
+returns-in_err-moves-clause-survives g c = reads_only (state g.S.Store c.args.conn.now) (state g.S.Store c.load.new.conn) (state g.S.Store c.load-2.new.conn) c.load-2.ensures.survives (λ clean has. (c.in_ok-fields.ensures.found clean has).0) c.load.ensures.survives
+
+pub returns-clause-survives : goal.returns-clause-survives
+returns-clause-survives g c = reads_only (state g.S.Store c.args.conn.now) (state g.S.Store c.load.new.conn) (state g.S.Store c.load-2.new.conn) c.load-2.ensures.survives (λ clean has. (c.in_ok-fields.ensures.found clean has).0) c.load.ensures.survives
+
+pub returns-clause-found : goal.returns-clause-found
+returns-clause-found g c =
+    finds_then (state g.S.Store c.args.conn.now) (state g.S.Store c.load.new.conn) (state g.S.Store c.load-2.new.conn)
+    (λ trees. AreRows field_cmp field_stored field_columns (trees 1) (map field_cells c.in_ok-fields.fields.items)) (λ trees. AreRows move_cmp move_stored move_columns (trees 3) (map move_cells c.in_ok-moves.moves.items)) _
+    c.load-2.ensures.survives c.in_ok-fields.ensures.found c.in_ok-moves.ensures.found

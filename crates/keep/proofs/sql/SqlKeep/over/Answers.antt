@@ -1,0 +1,9 @@
+use Rattle.std.proofs.Common.{◌∙◌, IsTrue, ap, not, sym}
+use Rattle.sqlite.specs.Held.{state}
+use Rattle.keep.proofs.Leaving.{leaves_now}
+use Rattle.keep.proofs.sql.SqlKeep.over.Goals as goal
+
+pub returns-clause-alone : goal.returns-clause-alone
+returns-clause-alone g c is_open x held =
+    let idle : IsTrue c.is_autocommit-settled.result = c.is_autocommit-settled.ensures.value ∙ ap not c.requires in
+    leaves_now (state g.S.Store c.args.conn) x (λ trees left. g.met.S.Store.settled c.args.conn.store trees is_open left) (sym (c.is_autocommit-settled.ensures.settled idle is_open)) held

@@ -1,0 +1,15 @@
+use Rattle.std.proofs.Common.{◌≡◌, rules}
+use Rattle.sqlite.specs.Held.{state}
+use Rattle.sqlite_value.specs.Value.{owned}
+use Rattle.sqlite.specs.declared.types.Value.TheVariants.{Int}
+use Rattle.keep.proofs.Puts.{desk_upserted}
+use Rattle.keep.proofs.tables.desk.upsert.Goals as goal
+
+pub returns-clause-put : goal.returns-clause-put
+returns-clause-put g c clean begun =
+    let v0 : owned c.params-to_sql.result ≡ Int c.args.row.now.one = search rules in
+    let v1 : owned c.params-to_sql-2.result ≡ Int c.args.row.now.version = search rules in
+    let v2 : owned c.params-to_sql-3.result ≡ Int c.args.row.now.clock = search rules in
+    let v3 : owned c.params-to_sql-4.result ≡ Int c.args.row.now.places = search rules in
+    desk_upserted (state g.S.Store c.args.tx.now.conn.now) (state g.S.Store c.execute.new.self.conn.now) c.args.row.now c.execute.result
+    (rw (v0, v1, v2, v3) at (c.execute.ensures.runs clean begun))

@@ -1,0 +1,9 @@
+pub mod Schema
+pub mod Columns
+pub mod Content
+pub mod Transactions
+pub mod Loading
+pub mod Names
+pub mod Keeper
+pub mod Stages
+pub mod Plain

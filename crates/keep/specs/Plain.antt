@@ -1,0 +1,66 @@
+-- A keeper in memory.
+use Rattle.std.specs.Prelude.{◌≡◌, ◌+◌, ◌-◌, ◌≤◌, ℕ, Bool, false, true, if◌then◌else◌, Option, Some, List, [], ◌∷◌, map, option_map}
+use Rattle.std.specs.Vec.{vec_capacity, vec_len}
+use Rattle.book.specs.declared.rows.Change.{Change}
+use Rattle.book.specs.Rows.{Content, IsInKeyOrder}
+use Rattle.book.specs.Tables.{desk_cells, field_cells, kept_cells, line_cells, move_cells, no_content, order_cells, with_change}
+use Rattle.keep.specs.Content.{IsTheRow}
+use Rattle.keep.specs.Transactions.{with_changes}
+use Rattle.keep.specs.declared.plain.shelf.Shelf.{Shelf}
+
+-- what the vectors hold
+abbrev pub shelf_content : Shelf → Content
+shelf_content s = record {
+  desk = desk_cells s.desk ∷ [];
+  fields = map field_cells s.fields.items;
+  moves = map move_cells s.moves.items;
+  orders = map order_cells s.orders.items;
+  lines = map line_cells s.lines.items;
+  kept = map kept_cells s.kept.items;
+}
+
+-- the rows stand in the order of their keys, and the one of `desk` is of the version that is written here
+pub record IsInOrder (s : Shelf) : Type 0 where
+  pub rows : IsInKeyOrder (shelf_content s)
+  pub desk : IsTheRow (desk_cells s.desk)
+
+-- in each vector there is room for so many rows more
+pub record HasRoom (more : ℕ) (s : Shelf) : Type 0 where
+  pub fields : vec_len s.fields + more ≤ vec_capacity s.fields
+  pub moves : vec_len s.moves + more ≤ vec_capacity s.moves
+  pub orders : vec_len s.orders + more ≤ vec_capacity s.orders
+  pub lines : vec_len s.lines + more ≤ vec_capacity s.lines
+  pub kept : vec_len s.kept + more ≤ vec_capacity s.kept
+
+-- the content that is this row alone
+abbrev pub row_of : Change → Content
+row_of change = with_change change no_content
+
+-- the other has the same cells
+abbrev pub IsCopy : Change → Change → Type 0
+IsCopy change copy = (x : Content) → with_change copy x ≡ with_change change x
+
+-- what is seen of the keeper
+pub record Plain : Type 0 where
+  pub content : Content
+  -- the commits until and with the one that fails
+  pub fails_in : Option ℕ
+  -- whether that commit's changes are found by a reopening
+  pub lands : Bool
+  pub stopped : Bool
+
+-- the next commit is the one that fails
+abbrev pub IsToFail : Plain → Type 0
+IsToFail k = (k.stopped ≡ false) × (k.fails_in ≡ Some 1)
+
+-- after a commit that does not fail
+abbrev pub after_commit : List Change → Plain → Plain
+after_commit changes k = record k { content = with_changes changes k.content; fails_in = option_map (λ n. n - 1) k.fails_in }
+
+-- after the commit that fails
+abbrev pub after_failure : List Change → Plain → Plain
+after_failure changes k = record k { content = (if k.lands then with_changes changes k.content else k.content); stopped = true }
+
+-- after another error
+abbrev pub after_error : Plain → Plain
+after_error k = record k { stopped = true }

@@ -1,0 +1,105 @@
+-- The six tables as SQL declares them, in the order in which they are made. All are STRICT, and each column is NOT NULL.
+use Rattle.std.specs.Prelude.{true, false, [], ◌∷◌, Some, None, codes, List, ℕ}
+use Rattle.sqlite.specs.declared.types.Value.TheVariants.{Null}
+use Rattle.sqlite.specs.Collation.TheVariants.{Binary}
+use Rattle.sqlite.specs.Table.{Table}
+use Rattle.sqlite.specs.Schema.{Schema}
+use Rattle.sqlite.specs.Kind.{Kind}
+use Rattle.sqlite.specs.Kind.TheVariants.{Integer, Text}
+use Rattle.sqlite_schema.specs.declared.schema.Column.{Column}
+use Rattle.sqlite_schema.specs.declared.schema.Index.{Index}
+use Rattle.sqlite_value.specs.declared.keys.Order.{Order}
+
+abbrev pub column : Kind → List ℕ → Column
+column kind name = record { name = name; kind = kind; is_strict = true; not_null = true; default = Null; collation = Binary }
+
+abbrev pub whole_number : List ℕ → Column
+whole_number = column Integer
+
+abbrev pub words : List ℕ → Column
+words = column Text
+
+-- its key is its first column, a whole number, which SQLite keeps as the rowid
+abbrev pub numbered_table : List ℕ → ℕ → List Column → Table
+numbered_table name tree columns = record {
+  name = name;
+  tree = tree;
+  columns = columns;
+  key = Some 0;
+  primary = 0 ∷ [];
+  uniques = [];
+  orders = [];
+  checks = [];
+  references = [];
+  computed = [];
+  stamps = record { places = []; terms = []; formats = [] };
+  is_counted = false;
+}
+
+abbrev pub plain_order : Order
+plain_order = record { digits = 0 }
+
+-- its key is the columns at these places, counted from 1 past the rowid
+abbrev pub keyed_table : List ℕ → ℕ → List Column → List ℕ → Table
+keyed_table name tree columns places = record {
+  name = name;
+  tree = tree;
+  columns = columns;
+  key = None;
+  primary = places;
+  uniques = places ∷ [];
+  orders = plain_order ∷ [];
+  checks = [];
+  references = [];
+  computed = [];
+  stamps = record { places = []; terms = []; formats = [] };
+  is_counted = false;
+}
+
+-- the index that SQLite makes for the key of such a table
+abbrev pub key_index : List ℕ → ℕ → ℕ → List ℕ → Index
+key_index name tree table places = record { name = name; tree = tree; table = table; columns = places; order = plain_order; is_unique = true }
+
+abbrev pub desk_table : Table
+desk_table = numbered_table (codes "desk") 0 (whole_number (codes "one") ∷ whole_number (codes "version") ∷ whole_number (codes "clock") ∷ whole_number (codes "places") ∷ [])
+
+abbrev pub field_table : Table
+field_table = keyed_table (codes "field") 1
+    (words (codes "branch") ∷ words (codes "article") ∷ whole_number (codes "lo") ∷ whole_number (codes "hi") ∷ whole_number (codes "start")
+    ∷ whole_number (codes "value") ∷ whole_number (codes "inf") ∷ whole_number (codes "sup") ∷ [])
+    (1 ∷ 2 ∷ [])
+
+abbrev pub field_index : Index
+field_index = key_index (codes "sqlite_autoindex_field_1") 2 1 (1 ∷ 2 ∷ [])
+
+abbrev pub move_table : Table
+move_table = numbered_table (codes "move") 3 (whole_number (codes "place") ∷ words (codes "branch") ∷ words (codes "article") ∷ whole_number (codes "qty") ∷ [])
+
+abbrev pub orders_table : Table
+orders_table = numbered_table (codes "orders") 4 (whole_number (codes "number") ∷ whole_number (codes "kind") ∷ whole_number (codes "until") ∷ whole_number (codes "state") ∷ [])
+
+abbrev pub line_table : Table
+line_table = keyed_table (codes "line") 5
+    (whole_number (codes "number") ∷ whole_number (codes "nr") ∷ words (codes "branch") ∷ words (codes "article") ∷ whole_number (codes "way")
+    ∷ whole_number (codes "held") ∷ whole_number (codes "used") ∷ [])
+    (1 ∷ 2 ∷ [])
+
+abbrev pub line_index : Index
+line_index = key_index (codes "sqlite_autoindex_line_1") 6 5 (1 ∷ 2 ∷ [])
+
+abbrev pub kept_table : Table
+kept_table = keyed_table (codes "kept") 7 (words (codes "reqkey") ∷ whole_number (codes "place") ∷ words (codes "words") ∷ []) (1 ∷ [])
+
+abbrev pub kept_index : Index
+kept_index = key_index (codes "sqlite_autoindex_kept_1") 8 7 (1 ∷ [])
+
+abbrev pub no_schema : Schema
+no_schema = record { tables = []; indexes = []; views = [] }
+
+-- the schema of a desk, as it is made
+abbrev pub desk_schema : Schema
+desk_schema = record {
+  tables = desk_table ∷ field_table ∷ move_table ∷ orders_table ∷ line_table ∷ kept_table ∷ [];
+  indexes = field_index ∷ line_index ∷ kept_index ∷ [];
+  views = [];
+}

@@ -1,0 +1,162 @@
+//! A new desk.
+
+ghost use Rattle.std.specs.Prelude.{◌≡◌, ◌⊎◌, false, [], ◌∷◌, IsTrue, IfErr, OnOk, Err};
+ghost use Rattle.sqlite.specs.Held.{state};
+ghost use Rattle.sqlite.specs.State.{HasCleanDisk, Survives};
+ghost use Rattle.sqlite_trees.specs.Tree.{Trees};
+ghost use Rattle.keep.specs.Content.{Holds, IsContent, LeavesOnly, new_content};
+ghost use Rattle.keep.specs.Schema.{desk_schema, no_schema};
+ghost use Rattle.keep.specs.Stages.{IsBare, with_desk, with_field, with_line, with_move, with_orders};
+ghost use Rattle.keep.specs.Transactions.{IsSettled, Makes};
+
+#[cfg(test)]
+mod tests;
+
+use crate::keep::{KeepFault, fault_of};
+use crate::schema::is_empty;
+use sqlite::types::ValueRef;
+use sqlite::{Alter, Connection, Error, Transaction};
+
+/// Makes the table of the desk's own state.
+fn create_desk<S: Alter>(tx: &mut Transaction<'_, S>) -> Result<usize, Error>
+    ensures same_reference { tx.new.conn.ghost_name ≡ tx.old.conn.ghost_name }
+    ensures made { HasCleanDisk (state S.Store tx.new.conn.now) → IsTrue (state S.Store tx.old.conn.now).in_transaction → IsBare no_schema (state S.Store tx.old.conn.now).now
+        → OnOk result (Makes (IsBare with_desk) (state S.Store tx.old.conn.now) (state S.Store tx.new.conn.now)) }
+    ensures survives { Survives (state S.Store tx.old.conn.now) (state S.Store tx.new.conn.now) (λ _. ⊥) }
+{
+    tx.execute(
+        "CREATE TABLE desk (one INTEGER NOT NULL PRIMARY KEY, version INTEGER NOT NULL, clock INTEGER NOT NULL, places INTEGER NOT NULL) STRICT",
+        &[],
+    )
+}
+
+/// Makes the table of the fields.
+fn create_field<S: Alter>(tx: &mut Transaction<'_, S>) -> Result<usize, Error>
+    ensures same_reference { tx.new.conn.ghost_name ≡ tx.old.conn.ghost_name }
+    ensures made { HasCleanDisk (state S.Store tx.new.conn.now) → IsTrue (state S.Store tx.old.conn.now).in_transaction → IsBare with_desk (state S.Store tx.old.conn.now).now
+        → OnOk result (Makes (IsBare with_field) (state S.Store tx.old.conn.now) (state S.Store tx.new.conn.now)) }
+    ensures survives { Survives (state S.Store tx.old.conn.now) (state S.Store tx.new.conn.now) (λ _. ⊥) }
+{
+    tx.execute(
+        "CREATE TABLE field (branch TEXT NOT NULL, article TEXT NOT NULL, lo INTEGER NOT NULL, hi INTEGER NOT NULL, start INTEGER NOT NULL, value INTEGER NOT NULL, inf INTEGER NOT NULL, sup INTEGER NOT NULL, PRIMARY KEY (branch, article)) STRICT",
+        &[],
+    )
+}
+
+/// Makes the table of the moves.
+fn create_move<S: Alter>(tx: &mut Transaction<'_, S>) -> Result<usize, Error>
+    ensures same_reference { tx.new.conn.ghost_name ≡ tx.old.conn.ghost_name }
+    ensures made { HasCleanDisk (state S.Store tx.new.conn.now) → IsTrue (state S.Store tx.old.conn.now).in_transaction → IsBare with_field (state S.Store tx.old.conn.now).now
+        → OnOk result (Makes (IsBare with_move) (state S.Store tx.old.conn.now) (state S.Store tx.new.conn.now)) }
+    ensures survives { Survives (state S.Store tx.old.conn.now) (state S.Store tx.new.conn.now) (λ _. ⊥) }
+{
+    tx.execute(
+        "CREATE TABLE move (place INTEGER NOT NULL PRIMARY KEY, branch TEXT NOT NULL, article TEXT NOT NULL, qty INTEGER NOT NULL) STRICT",
+        &[],
+    )
+}
+
+/// Makes the table of the orders.
+fn create_orders<S: Alter>(tx: &mut Transaction<'_, S>) -> Result<usize, Error>
+    ensures same_reference { tx.new.conn.ghost_name ≡ tx.old.conn.ghost_name }
+    ensures made { HasCleanDisk (state S.Store tx.new.conn.now) → IsTrue (state S.Store tx.old.conn.now).in_transaction → IsBare with_move (state S.Store tx.old.conn.now).now
+        → OnOk result (Makes (IsBare with_orders) (state S.Store tx.old.conn.now) (state S.Store tx.new.conn.now)) }
+    ensures survives { Survives (state S.Store tx.old.conn.now) (state S.Store tx.new.conn.now) (λ _. ⊥) }
+{
+    tx.execute(
+        "CREATE TABLE orders (number INTEGER NOT NULL PRIMARY KEY, kind INTEGER NOT NULL, until INTEGER NOT NULL, state INTEGER NOT NULL) STRICT",
+        &[],
+    )
+}
+
+/// Makes the table of the lines of orders.
+fn create_line<S: Alter>(tx: &mut Transaction<'_, S>) -> Result<usize, Error>
+    ensures same_reference { tx.new.conn.ghost_name ≡ tx.old.conn.ghost_name }
+    ensures made { HasCleanDisk (state S.Store tx.new.conn.now) → IsTrue (state S.Store tx.old.conn.now).in_transaction → IsBare with_orders (state S.Store tx.old.conn.now).now
+        → OnOk result (Makes (IsBare with_line) (state S.Store tx.old.conn.now) (state S.Store tx.new.conn.now)) }
+    ensures survives { Survives (state S.Store tx.old.conn.now) (state S.Store tx.new.conn.now) (λ _. ⊥) }
+{
+    tx.execute(
+        "CREATE TABLE line (number INTEGER NOT NULL, nr INTEGER NOT NULL, branch TEXT NOT NULL, article TEXT NOT NULL, way INTEGER NOT NULL, held INTEGER NOT NULL, used INTEGER NOT NULL, PRIMARY KEY (number, nr)) STRICT",
+        &[],
+    )
+}
+
+/// Makes the table of the kept keys.
+fn create_kept<S: Alter>(tx: &mut Transaction<'_, S>) -> Result<usize, Error>
+    ensures same_reference { tx.new.conn.ghost_name ≡ tx.old.conn.ghost_name }
+    ensures made { HasCleanDisk (state S.Store tx.new.conn.now) → IsTrue (state S.Store tx.old.conn.now).in_transaction → IsBare with_line (state S.Store tx.old.conn.now).now
+        → OnOk result (Makes (IsBare desk_schema) (state S.Store tx.old.conn.now) (state S.Store tx.new.conn.now)) }
+    ensures survives { Survives (state S.Store tx.old.conn.now) (state S.Store tx.new.conn.now) (λ _. ⊥) }
+{
+    tx.execute(
+        "CREATE TABLE kept (reqkey TEXT NOT NULL, place INTEGER NOT NULL, words TEXT NOT NULL, PRIMARY KEY (reqkey)) STRICT",
+        &[],
+    )
+}
+
+/// Puts the one row of `desk` in.
+fn start<S: Alter>(tx: &mut Transaction<'_, S>) -> Result<usize, Error>
+    ensures same_reference { tx.new.conn.ghost_name ≡ tx.old.conn.ghost_name }
+    ensures made { HasCleanDisk (state S.Store tx.new.conn.now) → IsTrue (state S.Store tx.old.conn.now).in_transaction → IsBare desk_schema (state S.Store tx.old.conn.now).now
+        → OnOk result (Makes (λ db. Holds db new_content) (state S.Store tx.old.conn.now) (state S.Store tx.new.conn.now)) }
+    ensures survives { Survives (state S.Store tx.old.conn.now) (state S.Store tx.new.conn.now) (λ _. ⊥) }
+{
+    tx.execute(
+        "INSERT INTO desk (one, version, clock, places) VALUES (?1, ?2, ?3, ?4)",
+        &[
+            ValueRef::Int(1),
+            ValueRef::Int(1),
+            ValueRef::Int(0),
+            ValueRef::Int(0),
+        ],
+    )
+}
+
+/// Makes the six tables, in the order of the schema.
+fn create_tables<S: Alter>(tx: &mut Transaction<'_, S>) -> Result<(), Error>
+    ensures same_reference { tx.new.conn.ghost_name ≡ tx.old.conn.ghost_name }
+    ensures made { HasCleanDisk (state S.Store tx.new.conn.now) → IsTrue (state S.Store tx.old.conn.now).in_transaction → IsBare no_schema (state S.Store tx.old.conn.now).now
+        → OnOk result (Makes (IsBare desk_schema) (state S.Store tx.old.conn.now) (state S.Store tx.new.conn.now)) }
+    ensures survives { Survives (state S.Store tx.old.conn.now) (state S.Store tx.new.conn.now) (λ _. ⊥) }
+{
+    create_desk(tx)?;
+    create_field(tx)?;
+    create_move(tx)?;
+    create_orders(tx)?;
+    create_line(tx)?;
+    create_kept(tx)?;
+    Ok(())
+}
+
+/// Makes a new desk where there is nothing yet, in one transaction.
+fn create<S: Alter>(conn: &mut Connection<S>) -> Result<(), Error>
+    requires idle { conn.old.in_transaction ≡ false }
+    requires empty { (state S.Store conn.old).now.schema ≡ no_schema }
+    ensures idle { conn.new.in_transaction ≡ false }
+    ensures made { HasCleanDisk (state S.Store conn.new) → OnOk result (IsSettled (λ db. Holds db new_content) (state S.Store conn.new)) }
+    ensures survives { Survives (state S.Store conn.old) (state S.Store conn.new) (λ trees. IsContent trees new_content) }
+{
+    let mut tx = conn.transaction();
+    create_tables(&mut tx)?;
+    start(&mut tx)?;
+    tx.commit()
+}
+
+/// Makes the six tables and the one row of `desk` in one transaction. A store in which a table or anything else is
+/// declared already is refused with `Store` and left as it is. A stop leaves what was before or the whole new desk.
+pub fn create_over<S: Alter>(conn: &mut Connection<S>) -> Result<(), KeepFault>
+    requires { conn.old.in_transaction ≡ false }
+    ensures idle { conn.new.in_transaction ≡ false }
+    ensures taken { ¬ ((state S.Store conn.old).now.schema ≡ no_schema) → (result ≡ Err KeepFault.Store) × (conn.new ≡ conn.old) }
+    ensures fault { IfErr result (λ fault. (fault ≡ KeepFault.Memory) ⊎ (fault ≡ KeepFault.Store)) }
+    ensures clean { HasCleanDisk (state S.Store conn.new) → HasCleanDisk (state S.Store conn.old) }
+    ensures made { HasCleanDisk (state S.Store conn.new) → OnOk result (IsSettled (λ db. Holds db new_content) (state S.Store conn.new)) }
+    ensures alone { HasCleanDisk (state S.Store conn.new) → OnOk result (LeavesOnly (state S.Store conn.new).may_leave (new_content ∷ [])) }
+    ensures either { HasCleanDisk (state S.Store conn.new) → (trees : Trees) → (state S.Store conn.new).may_leave trees → (state S.Store conn.old).may_leave trees ⊎ IsContent trees new_content }
+{
+    if !is_empty(conn.schema()) {
+        return Err(KeepFault::Store);
+    }
+    create(conn).map_err(fault_of)
+}

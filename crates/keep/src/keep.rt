@@ -1,0 +1,92 @@
+//! What a keeper promises.
+
+ghost use Rattle.std.specs.Prelude.{◌≡◌, ◌≢◌};
+
+use book::{Change, Tables};
+use sqlite::{Error as SqlError, ErrorCode};
+use std::alloc::Global;
+use thiserror::Error;
+
+/// Why a keeper did not do it.
+#[derive(Clone, Copy, Debug, PartialEq, Eq, Error)]
+pub enum KeepFault {
+    /// There is no memory for it.
+    #[error("no memory")]
+    Memory,
+    /// The store failed, or is not one that is written here.
+    #[error("the store failed")]
+    Store,
+    /// The store has no six tables with one row of `desk` of version 1.
+    #[error("not a desk")]
+    NotADesk,
+    /// An earlier call failed, and the keeper takes no more.
+    #[error("the keeper is stopped")]
+    Stopped,
+}
+
+/// Keeps the six tables, so that a stop at any moment leaves what was before a commit or the whole of it. An error
+/// leaves a keeper stopped, and a stopped one touches nothing more: its store is opened anew.
+pub trait Keep {
+    ghost use Rattle.std.specs.Prelude.{◌≡◌, ◌≢◌, Bool, false, List, [], ◌∷◌, IsTrue, IfOk, OnOk, OnErr, Err, All};
+    ghost use Rattle.book.specs.Rows.{Content, IsInKeyOrder};
+    ghost use Rattle.book.specs.Tables.{content_of, rows_among};
+    ghost use Rattle.keep.specs.Content.{IsDesk, IsTheRow};
+    ghost use Rattle.keep.specs.Transactions.{with_changes};
+
+    // The disk has returned what was written so far.
+    ghost is_honest: { Self → Type 0 };
+
+    // The content: what the six tables hold.
+    ghost holds: { Self → Content → Type 0 };
+
+    // Whatever a stop leaves now, it is the six tables, and their content is one of these.
+    ghost leaves: { Self → List Content → Type 0 };
+
+    ghost stopped: { Self → Bool };
+
+    /// Whether an earlier call failed. Takes no memory.
+    fn is_stopped(&self) -> bool
+        ensures { result ≡ stopped self.now };
+
+    /// The content, each table in the order of its key. Changes nothing.
+    fn load(&mut self, alloc: Global) -> Result<Tables, KeepFault>
+        ensures refused { IsTrue (stopped self.old) → (result ≡ Err KeepFault.Stopped) × (self.new ≡ self.old) }
+        ensures going { stopped self.old ≡ false → result ≢ Err KeepFault.Stopped }
+        ensures honest { is_honest self.new → is_honest self.old }
+        ensures ok { OnOk result (stopped self.new ≡ false) }
+        ensures err { OnErr result (IsTrue (stopped self.new)) }
+        ensures content { is_honest self.new → IfOk result (λ tables. holds self.new (content_of tables)) }
+        ensures one { is_honest self.new → IfOk result (λ tables. (x : Content) → holds self.old x → content_of tables ≡ x) }
+        ensures same { is_honest self.new → OnOk result ((x : Content) → (holds self.old x → holds self.new x) × (holds self.new x → holds self.old x)) }
+        ensures order { IfOk result (λ tables. IsInKeyOrder (content_of tables)) }
+        ensures version { IfOk result (λ tables. IsDesk (content_of tables)) }
+        ensures desk { is_honest self.new → result ≡ Err KeepFault.NotADesk → (x : Content) → holds self.old x → ¬ IsDesk x }
+        // nothing is added to what a stop may leave
+        ensures adds_nothing { is_honest self.new → (these : List Content) → leaves self.old these → leaves self.new these };
+
+    /// Puts the rows in by their keys, all or none. Each row of `desk` among them has one = 1 and the version of the
+    /// schema.
+    fn commit(&mut self, changes: &[Change]) -> Result<(), KeepFault>
+        requires { All IsTheRow (rows_among changes.now).desk }
+        ensures refused { IsTrue (stopped self.old) → (result ≡ Err KeepFault.Stopped) × (self.new ≡ self.old) }
+        ensures going { stopped self.old ≡ false → result ≢ Err KeepFault.Stopped }
+        ensures desk { result ≢ Err KeepFault.NotADesk }
+        ensures honest { is_honest self.new → is_honest self.old }
+        ensures ok { OnOk result (stopped self.new ≡ false) }
+        ensures err { OnErr result (IsTrue (stopped self.new)) }
+        ensures put { is_honest self.new → OnOk result ((x : Content) → holds self.old x → holds self.new (with_changes changes.now x)) }
+        ensures alone { is_honest self.new → OnOk result ((x : Content) → holds self.new x → leaves self.new (x ∷ [])) }
+        ensures either { is_honest self.new → stopped self.old ≡ false → (x : Content) → holds self.old x → leaves self.old (x ∷ [])
+            → leaves self.new (x ∷ with_changes changes.now x ∷ []) };
+}
+
+/// The fault that an error of the store is told as.
+pub(crate) fn fault_of(error: SqlError) -> KeepFault
+    ensures memory { error ≡ SqlError.SqliteFailure ErrorCode.OutOfMemory → result ≡ KeepFault.Memory }
+    ensures store { error ≢ SqlError.SqliteFailure ErrorCode.OutOfMemory → result ≡ KeepFault.Store }
+{
+    match error {
+        SqlError::SqliteFailure(ErrorCode::OutOfMemory) => KeepFault::Memory,
+        _ => KeepFault::Store,
+    }
+}

@@ -1,0 +1,26 @@
+//! Keepers: the tables on a disk, so that a stop at any moment leaves what was before a commit or the whole of it.
+#![tactic(auto)]
+
+mod commit;
+mod create;
+#[cfg(test)]
+mod disks;
+mod keep;
+mod load;
+mod plain;
+mod reopening;
+mod row;
+#[cfg(test)]
+mod samples;
+mod schema;
+mod sql;
+mod stored;
+mod tables;
+#[cfg(test)]
+mod tests;
+
+pub use create::create_over;
+pub use keep::{Keep, KeepFault};
+pub use plain::PlainKeep;
+pub use reopening::{open_path, reopen, reopen_and_load};
+pub use sql::SqlKeep;

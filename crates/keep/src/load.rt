@@ -1,0 +1,81 @@
+//! A load is six selects over the schema of a desk.
+
+ghost use Rattle.std.specs.Prelude.{◌≡◌, false, [], ◌∷◌, None, IfOk, IfSome, map};
+ghost use Rattle.std.specs.List.Sorted.{IsStrictlySortedBy};
+ghost use Rattle.sqlite.specs.State.{HasCleanDisk, IsLive, IsUnchanged, Survives};
+ghost use Rattle.sqlite.specs.Held.{state};
+ghost use Rattle.book.specs.Rows.{Content, IsInKeyOrder, field_cmp, move_cmp, order_cmp, line_cmp, kept_cmp};
+ghost use Rattle.book.specs.Tables.{content_of, field_cells, move_cells, order_cells, line_cells, kept_cells};
+ghost use Rattle.keep.specs.Schema.{desk_schema};
+ghost use Rattle.keep.specs.Columns.{field_stored, move_stored, order_stored, line_stored, kept_stored, field_columns, move_columns, order_columns, line_columns, kept_columns};
+ghost use Rattle.keep.specs.Content.{AreRows, Holds, IsDesk};
+ghost use Rattle.keep.specs.Loading.{Finds};
+
+use crate::tables::{desk, field, kept, line, moves, orders};
+use book::{FieldRow, LineRow, MoveRow, OrderRow, Rows, Tables};
+use sqlite::{Alter, Connection, Error};
+use std::alloc::Global;
+
+/// The fields, and the moves on them.
+fn load_stock<S: Alter>(
+    alloc: Global,
+    conn: &mut Connection<S>,
+) -> Result<(Vec<FieldRow>, Vec<MoveRow>), Error>
+    ensures mode { conn.old.in_transaction ≡ false → conn.new.in_transaction ≡ false }
+    ensures order { IfOk result (λ stock. IsStrictlySortedBy field_cmp (map field_cells stock.0.items) × IsStrictlySortedBy move_cmp (map move_cells stock.1.items)) }
+    ensures found { IfOk result (λ stock. Finds (state S.Store conn.old) (state S.Store conn.new) (λ trees. AreRows field_cmp field_stored field_columns (trees 1) (map field_cells stock.0.items)
+        × AreRows move_cmp move_stored move_columns (trees 3) (map move_cells stock.1.items))) }
+    ensures survives { Survives (state S.Store conn.old) (state S.Store conn.new) (λ _. ¬ ((state S.Store conn.old).now.schema ≡ desk_schema)) }
+{
+    let fields = field::load(alloc, conn)?;
+    let moves = moves::load(alloc, conn)?;
+    Ok((fields, moves))
+}
+
+/// The orders, and their lines.
+fn load_orders<S: Alter>(
+    alloc: Global,
+    conn: &mut Connection<S>,
+) -> Result<(Vec<OrderRow>, Vec<LineRow>), Error>
+    ensures mode { conn.old.in_transaction ≡ false → conn.new.in_transaction ≡ false }
+    ensures order { IfOk result (λ orders. IsStrictlySortedBy order_cmp (map order_cells orders.0.items) × IsStrictlySortedBy line_cmp (map line_cells orders.1.items)) }
+    ensures found { IfOk result (λ orders. Finds (state S.Store conn.old) (state S.Store conn.new) (λ trees. AreRows order_cmp order_stored order_columns (trees 4) (map order_cells orders.0.items)
+        × AreRows line_cmp line_stored line_columns (trees 5) (map line_cells orders.1.items))) }
+    ensures survives { Survives (state S.Store conn.old) (state S.Store conn.new) (λ _. ¬ ((state S.Store conn.old).now.schema ≡ desk_schema)) }
+{
+    let orders = orders::load(alloc, conn)?;
+    let lines = line::load(alloc, conn)?;
+    Ok((orders, lines))
+}
+
+/// The content of a store with the schema of a desk, or None where `desk` has no one row of this version.
+pub(crate) fn load_all<S: Alter>(
+    alloc: Global,
+    conn: &mut Connection<S>,
+) -> Result<Option<Tables>, Error>
+    requires idle { conn.old.in_transaction ≡ false }
+    requires schema { (state S.Store conn.old).now.schema ≡ desk_schema }
+    requires live { IsLive (state S.Store conn.old) }
+    ensures idle { conn.new.in_transaction ≡ false }
+    ensures order { IfOk result (λ found. IfSome found (λ tables. IsInKeyOrder (content_of tables))) }
+    ensures version { IfOk result (λ found. IfSome found (λ tables. IsDesk (content_of tables))) }
+    ensures content { HasCleanDisk (state S.Store conn.new) → IfOk result (λ found. IfSome found (λ tables. Holds (state S.Store conn.old).now (content_of tables) × IsUnchanged (state S.Store conn.old) (state S.Store conn.new))) }
+    ensures one { HasCleanDisk (state S.Store conn.new) → IfOk result (λ found. IfSome found (λ tables. (x : Content) → Holds (state S.Store conn.old).now x → content_of tables ≡ x)) }
+    ensures none { HasCleanDisk (state S.Store conn.new) → IfOk result (λ found. found ≡ None → (x : Content) → Holds (state S.Store conn.old).now x → ¬ IsDesk x) }
+    ensures survives { Survives (state S.Store conn.old) (state S.Store conn.new) (λ _. ⊥) }
+{
+    let Some(desk) = desk::load(conn)? else {
+        return Ok(None);
+    };
+    let (fields, moves) = load_stock(alloc, conn)?;
+    let (orders, lines) = load_orders(alloc, conn)?;
+    let kept = kept::load(alloc, conn)?;
+    Ok(Some(Tables {
+        desk,
+        fields: Rows::new(fields),
+        moves: Rows::new(moves),
+        orders: Rows::new(orders),
+        lines: Rows::new(lines),
+        kept: Rows::new(kept),
+    }))
+}

@@ -1,0 +1,138 @@
+//! A keeper in memory, which fails at one commit on purpose.
+
+ghost use Rattle.std.specs.Prelude.{◌≡◌, ◌≢◌, ◌⊎◌, false, All, Err, IfOk, IsTrue, OnErr, OnOk};
+ghost use Rattle.book.specs.Rows.{IsInKeyOrder};
+ghost use Rattle.book.specs.Tables.{content_of, rows_among};
+ghost use Rattle.keep.specs.Content.{IsDesk, IsTheRow, new_content};
+ghost use Rattle.keep.specs.Plain.{IsToFail, after_commit, after_error, after_failure};
+ghost use Rattle.keep.specs.Transactions.{with_changes};
+
+mod shelf;
+#[cfg(test)]
+mod tests;
+
+use crate::keep::{Keep, KeepFault};
+use book::{Change, Tables};
+use shelf::Shelf;
+use std::alloc::Global;
+use std::marker::Model;
+
+/// Keeps the tables in memory, so that what stands above a keeper can be tried, also where a commit fails.
+#[derive(Drop)]
+pub struct PlainKeep {
+    shelf: Shelf,
+    /// The commits until and with the one that fails.
+    fails_in: Option<u64>,
+    /// Whether the changes of that commit are found by a reopening.
+    lands: bool,
+    stopped: bool,
+}
+
+impl Model for PlainKeep {
+    ghost use Rattle.keep.specs.Plain.{IsInOrder, Plain, shelf_content};
+
+    ghost Value = { Plain };
+
+    ghost view = { λ k. record { content = shelf_content k.shelf; fails_in = k.fails_in; lands = k.lands; stopped = k.stopped } };
+
+    ghost invariant = { λ k. IsInOrder k.shelf };
+}
+
+impl PlainKeep {
+    /// Keeps a new desk. The commit of that number, counted from 1, fails; `lands` says whether its changes are found
+    /// by a reopening. Takes no memory.
+    pub fn start(alloc: Global, fail_at: Option<u64>, lands: bool) -> PlainKeep
+        ensures { result ≡ record { content = new_content; fails_in = fail_at; lands = lands; stopped = false } }
+    {
+        PlainKeep {
+            shelf: Shelf::new(alloc),
+            fails_in: fail_at,
+            lands,
+            stopped: false,
+        }
+    }
+
+    /// The same content, kept by a keeper that goes on. Its commits are counted from 1 again. Takes no memory.
+    pub fn reopen(mut self, fail_at: Option<u64>, lands: bool) -> PlainKeep
+        ensures { result ≡ record { content = self.content; fails_in = fail_at; lands = lands; stopped = false } }
+    {
+        self.fails_in = fail_at;
+        self.lands = lands;
+        self.stopped = false;
+        self
+    }
+}
+
+impl Keep for PlainKeep {
+    ghost use Rattle.std.specs.Prelude.{◌≡◌, ⊤};
+    ghost use Rattle.keep.specs.Content.{IsAmong};
+
+    ghost is_honest = { λ _. ⊤ };
+
+    ghost holds = { λ k x. k.content ≡ x };
+
+    ghost leaves = { λ k these. IsAmong these k.content };
+
+    ghost stopped = { λ k. k.stopped };
+
+    fn is_stopped(&self) -> bool {
+        self.stopped
+    }
+
+    /// Copies the rows. Fails for memory alone, if it is not stopped.
+    fn load(&mut self, alloc: Global) -> Result<Tables, KeepFault>
+        ensures refused { IsTrue self.old.stopped → (result ≡ Err KeepFault.Stopped) × (self.new ≡ self.old) }
+        ensures going { self.old.stopped ≡ false → result ≢ Err KeepFault.Stopped }
+        ensures store { result ≢ Err KeepFault.Store }
+        ensures desk { result ≢ Err KeepFault.NotADesk }
+        ensures ok { OnOk result ((self.new ≡ self.old) × (self.new.stopped ≡ false)) }
+        ensures err { OnErr result (self.new ≡ after_error self.old) }
+        ensures same { (self.new.content ≡ self.old.content) × (self.new.fails_in ≡ self.old.fails_in) × (self.new.lands ≡ self.old.lands) }
+        ensures content { IfOk result (λ tables. content_of tables ≡ self.old.content) }
+        ensures order { IfOk result (λ tables. IsInKeyOrder (content_of tables)) }
+        ensures version { IfOk result (λ tables. IsDesk (content_of tables)) }
+    {
+        if self.is_stopped() {
+            return Err(KeepFault::Stopped);
+        }
+        match self.shelf.copy(alloc) {
+            Ok(tables) => Ok(tables),
+            Err(_) => {
+                self.stopped = true;
+                Err(KeepFault::Memory)
+            }
+        }
+    }
+
+    /// Fails as the store does at the commit of its number alone, and there always, unless memory is wanted first.
+    fn commit(&mut self, changes: &[Change]) -> Result<(), KeepFault>
+        requires { All IsTheRow (rows_among changes.now).desk }
+        ensures refused { IsTrue self.old.stopped → (result ≡ Err KeepFault.Stopped) × (self.new ≡ self.old) }
+        ensures going { self.old.stopped ≡ false → result ≢ Err KeepFault.Stopped }
+        ensures desk { result ≢ Err KeepFault.NotADesk }
+        ensures fails { IsToFail self.old → OnOk result ⊥ }
+        ensures at_once { IsToFail self.old → self.old.lands ≡ false → result ≡ Err KeepFault.Store }
+        ensures ok { OnOk result ((self.new ≡ after_commit changes.now self.old) × (self.new.stopped ≡ false)) }
+        ensures store { result ≡ Err KeepFault.Store → IsToFail self.old × (self.new ≡ after_failure changes.now self.old) }
+        ensures memory { result ≡ Err KeepFault.Memory → self.new ≡ after_error self.old }
+        ensures err { OnErr result (IsTrue self.new.stopped) }
+        ensures lands { self.new.lands ≡ self.old.lands }
+        ensures either { (self.new.content ≡ self.old.content) ⊎ (self.new.content ≡ with_changes changes.now self.old.content) }
+    {
+        if self.stopped {
+            return Err(KeepFault::Stopped);
+        }
+        let is_to_fail = self.fails_in == Some(1);
+        self.stopped = true;
+        if is_to_fail && !self.lands {
+            return Err(KeepFault::Store);
+        }
+        self.shelf.commit(changes).map_err(|_| KeepFault::Memory)?;
+        if is_to_fail {
+            return Err(KeepFault::Store);
+        }
+        self.fails_in = self.fails_in.map(|n| n.saturating_sub(1));
+        self.stopped = false;
+        Ok(())
+    }
+}

@@ -1,0 +1,183 @@
+//! The rows of the six tables, in vectors.
+
+ghost use Rattle.std.specs.Prelude.{◌≡◌, ◌+◌, ◌<◌, ◌≤◌, IfErr, IfOk, OnErr, OnOk, ℕ, length, slice_set};
+ghost use Rattle.std.specs.List.{All, AllZip, insert};
+ghost use Rattle.std.specs.List.Sorted.{IsStrictlySortedBy};
+ghost use Rattle.std.specs.Vec.{vec_capacity, vec_len};
+ghost use Rattle.book.specs.Changes.{put_content, put_row};
+ghost use Rattle.book.specs.Tables.{content_of, rows_among};
+ghost use Rattle.keep.specs.Content.{IsTheRow, new_content};
+ghost use Rattle.keep.specs.Plain.{HasRoom, IsCopy, IsInOrder, row_of, shelf_content};
+ghost use Rattle.keep.specs.Transactions.{with_changes};
+
+use crate::row::TableRow;
+use book::{Change, DeskRow, FieldRow, KeptRow, LineRow, MoveRow, OrderRow, Rows, Tables};
+use std::alloc::{AllocError, Global};
+
+/// The rows of the six tables, each table in the order of its key.
+#[derive(Drop)]
+pub(super) struct Shelf {
+    pub desk: DeskRow,
+    pub fields: Vec<FieldRow>,
+    pub moves: Vec<MoveRow>,
+    pub orders: Vec<OrderRow>,
+    pub lines: Vec<LineRow>,
+    pub kept: Vec<KeptRow>,
+}
+
+/// Where the row with that key stands, or the place for it among the others.
+fn place_of<R: TableRow>(rows: &[R], row: &R) -> Result<usize, usize>
+    requires { IsStrictlySortedBy R.cmp rows.now }
+    ensures there { IfOk result (λ i. (i < length rows.now) × (slice_set rows.now i row.now ≡ put_row R.cmp row.now rows.now)) }
+    ensures between { IfErr result (λ i. (i ≤ length rows.now) × (insert rows.now i row.now ≡ put_row R.cmp row.now rows.now)) }
+{
+    rows.binary_search_by(|other| other.compare(row))
+}
+
+/// Puts the row in by its key: in place of the row that has it, or else between the others.
+fn put_row<R: TableRow + Drop>(rows: &mut Vec<R>, row: R)
+    requires sorted { IsStrictlySortedBy R.cmp rows.old.items }
+    requires room { vec_len rows.old < vec_capacity rows.old }
+    ensures put { rows.new.items ≡ put_row R.cmp row rows.old.items }
+    ensures len { vec_len rows.new ≤ vec_len rows.old + 1 }
+    ensures capacity { vec_capacity rows.old ≤ vec_capacity rows.new }
+{
+    match place_of(rows, &row) {
+        Ok(place) => rows[place] = row,
+        Err(place) => match rows.insert(place, row) {
+            Ok(()) => {}
+            Err(_) => unreachable!(),
+        },
+    }
+}
+
+/// The rows, each copied.
+fn copy_rows<R: TableRow + Drop>(alloc: Global, rows: &[R]) -> Result<Vec<R>, AllocError>
+    ensures { IfOk result (λ copies. AllZip R.is_copy rows.now copies.items) }
+{
+    let mut copies = Vec::new(alloc);
+    for row in rows {
+        copies.push(row.copy(alloc)?)?;
+    }
+    Ok(copies)
+}
+
+fn copy_change(alloc: Global, change: &Change) -> Result<Change, AllocError>
+    ensures { IfOk result (λ copy. IsCopy change.now copy) }
+{
+    Ok(match change {
+        Change::Desk(row) => Change::Desk(*row),
+        Change::Field(row) => Change::Field(row.copy(alloc)?),
+        Change::Move(row) => Change::Move(row.copy(alloc)?),
+        Change::Order(row) => Change::Order(row.copy(alloc)?),
+        Change::Line(row) => Change::Line(row.copy(alloc)?),
+        Change::Kept(row) => Change::Kept(row.copy(alloc)?),
+    })
+}
+
+/// The changes, each copied.
+fn copy_changes(alloc: Global, changes: &[Change]) -> Result<Vec<Change>, AllocError>
+    ensures same { IfOk result (λ copies. rows_among copies.items ≡ rows_among changes.now) }
+    ensures length { IfOk result (λ copies. length copies.items ≡ length changes.now) }
+{
+    let mut copies = Vec::new(alloc);
+    for change in changes {
+        copies.push(copy_change(alloc, change)?)?;
+    }
+    Ok(copies)
+}
+
+impl Shelf {
+    /// The rows of a new desk. Takes no memory.
+    pub fn new(alloc: Global) -> Shelf
+        ensures content { shelf_content result ≡ new_content }
+        ensures order { IsInOrder result }
+    {
+        Shelf {
+            desk: DeskRow {
+                one: 1,
+                version: 1,
+                clock: 0,
+                places: 0,
+            },
+            fields: Vec::new(alloc),
+            moves: Vec::new(alloc),
+            orders: Vec::new(alloc),
+            lines: Vec::new(alloc),
+            kept: Vec::new(alloc),
+        }
+    }
+
+    /// A copy of the rows.
+    pub fn copy(&self, alloc: Global) -> Result<Tables, AllocError>
+        ensures { IfOk result (λ tables. content_of tables ≡ shelf_content self.now) }
+    {
+        Ok(Tables {
+            desk: self.desk,
+            fields: Rows::new(copy_rows(alloc, &self.fields)?),
+            moves: Rows::new(copy_rows(alloc, &self.moves)?),
+            orders: Rows::new(copy_rows(alloc, &self.orders)?),
+            lines: Rows::new(copy_rows(alloc, &self.lines)?),
+            kept: Rows::new(copy_rows(alloc, &self.kept)?),
+        })
+    }
+
+    /// Makes room for so many rows more in each table.
+    fn reserve(&mut self, more: usize) -> Result<(), AllocError>
+        requires { IsInOrder self.old }
+        ensures same { shelf_content self.new ≡ shelf_content self.old }
+        ensures order { IsInOrder self.new }
+        ensures room { OnOk result (HasRoom more self.new) }
+    {
+        self.fields.reserve(more)?;
+        self.moves.reserve(more)?;
+        self.orders.reserve(more)?;
+        self.lines.reserve(more)?;
+        self.kept.reserve(more)
+    }
+
+    /// Puts the row in by its key, where there is room for one.
+    fn put(&mut self, change: Change)
+        requires order { IsInOrder self.old }
+        requires one { All IsTheRow (row_of change).desk }
+        requires room { HasRoom 1 self.old }
+        ensures put { shelf_content self.new ≡ put_content (row_of change) (shelf_content self.old) }
+        ensures room { (n : ℕ) → HasRoom (n + 1) self.old → HasRoom n self.new }
+    {
+        match change {
+            Change::Desk(row) => self.desk = row,
+            Change::Field(row) => put_row(&mut self.fields, row),
+            Change::Move(row) => put_row(&mut self.moves, row),
+            Change::Order(row) => put_row(&mut self.orders, row),
+            Change::Line(row) => put_row(&mut self.lines, row),
+            Change::Kept(row) => put_row(&mut self.kept, row),
+        }
+    }
+
+    /// Puts the rows in by their keys, where there is room for all of them.
+    fn put_all(&mut self, changes: Vec<Change>)
+        requires order { IsInOrder self.old }
+        requires one { All IsTheRow (rows_among changes.items).desk }
+        requires room { HasRoom (length changes.items) self.old }
+        ensures put { shelf_content self.new ≡ put_content (rows_among changes.items) (shelf_content self.old) }
+        ensures order { IsInOrder self.new }
+    {
+        for change in changes {
+            self.put(change);
+        }
+    }
+
+    /// Puts copies of the rows in by their keys: all of them, or none where there is no memory for it.
+    pub fn commit(&mut self, changes: &[Change]) -> Result<(), AllocError>
+        requires order { IsInOrder self.old }
+        requires one { All IsTheRow (rows_among changes.now).desk }
+        ensures ok { OnOk result (shelf_content self.new ≡ with_changes changes.now (shelf_content self.old)) }
+        ensures err { OnErr result (shelf_content self.new ≡ shelf_content self.old) }
+        ensures order { IsInOrder self.new }
+    {
+        let copies = copy_changes(*self.fields.allocator(), changes)?;
+        self.reserve(copies.len())?;
+        self.put_all(copies);
+        Ok(())
+    }
+}

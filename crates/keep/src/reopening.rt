@@ -1,0 +1,93 @@
+//! From a stop to the next open.
+
+ghost use Rattle.std.specs.Prelude.{◌≡◌, ◌≢◌, List, [], ◌∷◌, false, IsTrue, IfSome, IfOk, Err};
+ghost use Rattle.std.specs.List.{AllByRecursion};
+ghost use Rattle.sqlite.specs.State.{HasCleanDisk};
+ghost use Rattle.sqlite.specs.Files.{file_state, HoldsDatabase};
+ghost use Rattle.sqlite.specs.WalFiles.{image_at};
+ghost use Rattle.sqlite_trees.specs.Tree.{Trees};
+ghost use Rattle.book.specs.Rows.{Content};
+ghost use Rattle.book.specs.Tables.{content_of};
+ghost use Rattle.keep.specs.Content.{Holds, IsAmong, IsContent, IsDesk, LeavesOnly};
+
+#[cfg(test)]
+mod tests;
+
+use crate::keep::{Keep, KeepFault};
+use crate::sql::SqlKeep;
+use book::Tables;
+use sqlite::{Connection, Error, FileFrom, FileStore, Options, Start};
+use sqlite_disk::{Crash, Disk};
+use std::alloc::Global;
+
+/// What the next open finds on the two files of a connection after a power cut, or None where it fails. It finds one
+/// of the contents that a stop could leave.
+fn cut_and_open<D: Crash + Drop>(
+    alloc: Global,
+    conn: Connection<FileStore<D>>,
+    options: Options,
+) -> Option<Connection<FileStore<D>>>
+    ensures idle { IfSome result (λ again. again.in_transaction ≡ false) }
+    ensures open { IfSome result (λ again. HasCleanDisk (file_state again) → IsTrue (file_state again).is_open) }
+    ensures found { IfSome result (λ again. HasCleanDisk (file_state again) → (these : List Content) → LeavesOnly (file_state conn).may_leave these
+        → ∥ ((x : Content) × Holds (file_state again).now x × IsAmong these x) ∥₁) }
+{
+    let store = conn.into_store();
+    let mut files = store.close();
+    files.log.crash();
+    files.db.crash();
+    match Connection::open_files(alloc, files, options) {
+        Ok(again) => Some(again),
+        Err(_) => None,
+    }
+}
+
+/// A keeper over what the next open finds on the two files of a keeper after a power cut, or None where the open fails.
+/// It holds one of the contents that a stop could leave, and a stop leaves that alone.
+pub fn reopen<D: Crash + Drop>(
+    alloc: Global,
+    keep: SqlKeep<FileStore<D>>,
+    options: Options,
+) -> Option<SqlKeep<FileStore<D>>>
+    ensures going { IfSome result (λ again. again.stopped ≡ false) }
+    ensures found { IfSome result (λ again. HasCleanDisk (file_state again.connection) → (these : List Content) → LeavesOnly (file_state keep.connection).may_leave these
+        → ∥ ((x : Content) × Holds (file_state again.connection).now x × IsAmong these x) ∥₁) }
+    ensures alone { IfSome result (λ again. HasCleanDisk (file_state again.connection) → (x : Content) → Holds (file_state again.connection).now x → LeavesOnly (file_state again.connection).may_leave (x ∷ [])) }
+{
+    let conn = cut_and_open(alloc, keep.into_connection(), options)?;
+    Some(SqlKeep::over(conn))
+}
+
+/// The same, and what the keeper loads: one of those contents, and never `NotADesk` where each of them is a desk.
+pub fn reopen_and_load<D: Crash + Drop>(
+    alloc: Global,
+    keep: SqlKeep<FileStore<D>>,
+    options: Options,
+) -> Option<(SqlKeep<FileStore<D>>, Result<Tables, KeepFault>)>
+    ensures found { IfSome result (λ r. HasCleanDisk (file_state r.0.connection) → (these : List Content) → LeavesOnly (file_state keep.connection).may_leave these
+        → IfOk r.1 (λ tables. ∥ IsAmong these (content_of tables) ∥₁)) }
+    ensures desk { IfSome result (λ r. HasCleanDisk (file_state r.0.connection) → (these : List Content) → LeavesOnly (file_state keep.connection).may_leave these → AllByRecursion IsDesk these
+        → r.1 ≢ Err KeepFault.NotADesk) }
+    ensures alone { IfSome result (λ r. HasCleanDisk (file_state r.0.connection) → IfOk r.1 (λ tables. LeavesOnly (file_state r.0.connection).may_leave (content_of tables ∷ []))) }
+{
+    let mut again = reopen(alloc, keep, options)?;
+    let tables = again.load(alloc);
+    Some((again, tables))
+}
+
+/// A keeper over the file of this path, whose contents at the start are named: it holds what they hold, and a stop
+/// leaves that alone.
+pub fn open_path<S: Start>(
+    rt: &HostRuntime,
+    path: &str,
+    start: S,
+) -> Result<SqlKeep<FileStore<FileFrom<S>>>, Error>
+    ensures going { IfOk result (λ keep. keep.stopped ≡ false) }
+    ensures found { IfOk result (λ keep. HasCleanDisk (file_state keep.connection) → (trees : Trees) (x : Content) → HoldsDatabase (image_at S.Start) trees → IsContent trees x → Holds (file_state keep.connection).now x) }
+    ensures alone { IfOk result (λ keep. HasCleanDisk (file_state keep.connection) → (x : Content) → Holds (file_state keep.connection).now x → LeavesOnly (file_state keep.connection).may_leave (x ∷ [])) }
+{
+    match Connection::open_from(rt, path, false, start) {
+        Ok(conn) => Ok(SqlKeep::over(conn)),
+        Err((error, _)) => Err(error),
+    }
+}

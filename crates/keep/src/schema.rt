@@ -1,0 +1,307 @@
+//! Whether a schema is that of a desk as it is made.
+
+ghost use Rattle.std.specs.Prelude.{◌≡◌, ◌↔◌, IsTrue, None, Some, false, [], ◌∷◌, codes};
+ghost use Rattle.sqlite.specs.Kind.TheVariants.{Integer, Text};
+ghost use Rattle.keep.specs.Names.{HasNames, HasTableNamed};
+ghost use Rattle.keep.specs.Schema.{column, desk_schema, desk_table, field_table, key_index, kept_table, keyed_table, line_table, move_table, no_schema, numbered_table, orders_table, plain_order, whole_number, words};
+
+use sqlite_items::Items;
+use sqlite_schema::code::Terms;
+use sqlite_schema::schema::{Column, Index, Kind, Schema, Stamps, Table};
+use sqlite_value::keys::{Collation, Order};
+use sqlite_value::value::Value;
+
+fn is_column(found: &Column, name: &[u8], kind: Kind) -> bool
+    ensures { IsTrue result ↔ (found.now ≡ column kind name.now) }
+{
+    found.name.as_slice() == name
+        && found.kind == kind
+        && found.is_strict
+        && found.not_null
+        && matches!(found.default, Value::Null)
+        && found.collation == Collation::Binary
+}
+
+fn is_whole_number(found: &Column, name: &[u8]) -> bool
+    ensures { IsTrue result ↔ (found.now ≡ whole_number name.now) }
+{
+    is_column(found, name, Kind::Integer)
+}
+
+fn is_text(found: &Column, name: &[u8]) -> bool
+    ensures { IsTrue result ↔ (found.now ≡ words name.now) }
+{
+    is_column(found, name, Kind::Text)
+}
+
+fn is_none(terms: &Terms) -> bool
+    ensures { IsTrue result ↔ (terms.now ≡ []) }
+{
+    terms.roots.is_empty()
+}
+
+fn is_unstamped(stamps: &Stamps) -> bool
+    ensures { IsTrue result ↔ (stamps.now ≡ record { places = []; terms = []; formats = [] }) }
+{
+    stamps.places.is_empty() && is_none(&stamps.terms) && stamps.formats.is_empty()
+}
+
+/// The table has no rule but its key and its columns.
+fn is_plain(table: &Table) -> bool
+    ensures { IsTrue result ↔ (table.now ≡ record table.now { checks = []; references = []; computed = []; stamps = record { places = []; terms = []; formats = [] }; is_counted = false }) }
+{
+    is_none(&table.checks)
+        && table.references.is_empty()
+        && table.computed.is_empty()
+        && is_unstamped(&table.stamps)
+        && !table.is_counted
+}
+
+/// The first column is the key.
+fn has_number(table: &Table) -> bool
+    ensures { IsTrue result ↔ (table.now ≡ record table.now { key = Some 0; primary = 0 ∷ []; uniques = []; orders = [] }) }
+{
+    table.key == Some(0)
+        && table.primary.as_slice() == [0].as_slice()
+        && table.uniques.is_empty()
+        && table.orders.is_empty()
+}
+
+fn are_places(found: &Items<usize>, places: &[usize]) -> bool
+    ensures { IsTrue result ↔ (found.now ≡ places.now) }
+{
+    found.as_slice() == places
+}
+
+fn is_one_key(keys: &[Items<usize>], places: &[usize]) -> bool
+    ensures { IsTrue result ↔ (keys.now ≡ places.now ∷ []) }
+{
+    let [key] = keys else {
+        return false;
+    };
+    are_places(key, places)
+}
+
+fn is_one_plain_order(orders: &[Order]) -> bool
+    ensures { IsTrue result ↔ (orders.now ≡ plain_order ∷ []) }
+{
+    let [order] = orders else {
+        return false;
+    };
+    *order == (Order { digits: 0 })
+}
+
+/// The columns at these places are the key.
+fn has_key(table: &Table, places: &[usize]) -> bool
+    ensures { IsTrue result ↔ (table.now ≡ record table.now { key = None; primary = places.now; uniques = places.now ∷ []; orders = plain_order ∷ [] }) }
+{
+    table.key == None
+        && are_places(&table.primary, places)
+        && is_one_key(table.uniques.as_slice(), places)
+        && is_one_plain_order(table.orders.as_slice())
+}
+
+fn is_numbered_table(table: &Table, name: &[u8], tree: u32) -> bool
+    ensures { IsTrue result ↔ (table.now ≡ numbered_table name.now tree table.now.columns) }
+{
+    table.name.as_slice() == name && table.tree == tree && has_number(table) && is_plain(table)
+}
+
+fn is_keyed_table(table: &Table, name: &[u8], tree: u32, places: &[usize]) -> bool
+    ensures { IsTrue result ↔ (table.now ≡ keyed_table name.now tree table.now.columns places.now) }
+{
+    table.name.as_slice() == name && table.tree == tree && has_key(table, places) && is_plain(table)
+}
+
+fn is_key_index(index: &Index, name: &[u8], tree: u32, table: u32, places: &[usize]) -> bool
+    ensures { IsTrue result ↔ (index.now ≡ key_index name.now tree table places.now) }
+{
+    index.name.as_slice() == name
+        && index.tree == tree
+        && index.table == table
+        && are_places(&index.columns, places)
+        && index.order == (Order { digits: 0 })
+        && index.is_unique
+}
+
+fn is_desk_table(table: &Table) -> bool
+    ensures { IsTrue result ↔ (table.now ≡ desk_table) }
+{
+    let [one, version, clock, places] = table.columns.as_slice() else {
+        return false;
+    };
+    is_numbered_table(table, b"desk", 0)
+        && is_whole_number(one, b"one")
+        && is_whole_number(version, b"version")
+        && is_whole_number(clock, b"clock")
+        && is_whole_number(places, b"places")
+}
+
+fn are_bounds(columns: &[Column]) -> bool
+    ensures { IsTrue result ↔ (columns.now ≡ whole_number (codes "lo") ∷ whole_number (codes "hi") ∷ whole_number (codes "start") ∷ whole_number (codes "value") ∷ whole_number (codes "inf") ∷ whole_number (codes "sup") ∷ []) }
+{
+    let [lo, hi, start, value, inf, sup] = columns else {
+        return false;
+    };
+    is_whole_number(lo, b"lo")
+        && is_whole_number(hi, b"hi")
+        && is_whole_number(start, b"start")
+        && is_whole_number(value, b"value")
+        && is_whole_number(inf, b"inf")
+        && is_whole_number(sup, b"sup")
+}
+
+/// The columns of a field: where it is, and what bounds it.
+fn are_field_columns(columns: &[Column]) -> bool
+    ensures { IsTrue result ↔ (columns.now ≡ field_table.columns) }
+{
+    let [branch, article, bounds @ ..] = columns else {
+        return false;
+    };
+    is_text(branch, b"branch") && is_text(article, b"article") && are_bounds(bounds)
+}
+
+fn is_field_table(table: &Table) -> bool
+    ensures { IsTrue result ↔ (table.now ≡ field_table) }
+{
+    is_keyed_table(table, b"field", 1, [1, 2].as_slice())
+        && are_field_columns(table.columns.as_slice())
+}
+
+fn is_move_table(table: &Table) -> bool
+    ensures { IsTrue result ↔ (table.now ≡ move_table) }
+{
+    let [place, branch, article, qty] = table.columns.as_slice() else {
+        return false;
+    };
+    is_numbered_table(table, b"move", 3)
+        && is_whole_number(place, b"place")
+        && is_text(branch, b"branch")
+        && is_text(article, b"article")
+        && is_whole_number(qty, b"qty")
+}
+
+fn is_orders_table(table: &Table) -> bool
+    ensures { IsTrue result ↔ (table.now ≡ orders_table) }
+{
+    let [number, kind, until, state] = table.columns.as_slice() else {
+        return false;
+    };
+    is_numbered_table(table, b"orders", 4)
+        && is_whole_number(number, b"number")
+        && is_whole_number(kind, b"kind")
+        && is_whole_number(until, b"until")
+        && is_whole_number(state, b"state")
+}
+
+fn are_part_columns(columns: &[Column]) -> bool
+    ensures { IsTrue result ↔ (columns.now ≡ words (codes "branch") ∷ words (codes "article") ∷ whole_number (codes "way") ∷ whole_number (codes "held") ∷ whole_number (codes "used") ∷ []) }
+{
+    let [branch, article, way, held, used] = columns else {
+        return false;
+    };
+    is_text(branch, b"branch")
+        && is_text(article, b"article")
+        && is_whole_number(way, b"way")
+        && is_whole_number(held, b"held")
+        && is_whole_number(used, b"used")
+}
+
+/// The columns of a line of an order: its number in the order, and what it holds.
+fn are_line_columns(columns: &[Column]) -> bool
+    ensures { IsTrue result ↔ (columns.now ≡ line_table.columns) }
+{
+    let [number, nr, parts @ ..] = columns else {
+        return false;
+    };
+    is_whole_number(number, b"number") && is_whole_number(nr, b"nr") && are_part_columns(parts)
+}
+
+fn is_line_table(table: &Table) -> bool
+    ensures { IsTrue result ↔ (table.now ≡ line_table) }
+{
+    is_keyed_table(table, b"line", 5, [1, 2].as_slice())
+        && are_line_columns(table.columns.as_slice())
+}
+
+fn is_kept_table(table: &Table) -> bool
+    ensures { IsTrue result ↔ (table.now ≡ kept_table) }
+{
+    let [reqkey, place, words] = table.columns.as_slice() else {
+        return false;
+    };
+    is_keyed_table(table, b"kept", 7, [1].as_slice())
+        && is_text(reqkey, b"reqkey")
+        && is_whole_number(place, b"place")
+        && is_text(words, b"words")
+}
+
+/// The indexes that the three keys of texts and pairs make.
+fn are_key_indexes(indexes: &[Index]) -> bool
+    ensures { IsTrue result ↔ (indexes.now ≡ desk_schema.indexes) }
+{
+    let [field, line, kept] = indexes else {
+        return false;
+    };
+    is_key_index(field, b"sqlite_autoindex_field_1", 2, 1, [1, 2].as_slice())
+        && is_key_index(line, b"sqlite_autoindex_line_1", 6, 5, [1, 2].as_slice())
+        && is_key_index(kept, b"sqlite_autoindex_kept_1", 8, 7, [1].as_slice())
+}
+
+fn are_desk_tables(tables: &[Table]) -> bool
+    ensures { IsTrue result ↔ (tables.now ≡ desk_schema.tables) }
+{
+    let [desk, field, moves, orders, line, kept] = tables else {
+        return false;
+    };
+    is_desk_table(desk)
+        && is_field_table(field)
+        && is_move_table(moves)
+        && is_orders_table(orders)
+        && is_line_table(line)
+        && is_kept_table(kept)
+}
+
+/// Whether it has the six tables of a desk as it is made, and nothing else. Takes no memory.
+pub(crate) fn is_desk_schema(found: &Schema) -> bool
+    ensures { IsTrue result ↔ (found.now ≡ desk_schema) }
+{
+    are_desk_tables(found.tables.as_slice())
+        && are_key_indexes(found.indexes.as_slice())
+        && found.views.is_empty()
+}
+
+/// Whether there is nothing in it. Takes no memory.
+pub(crate) fn is_empty(found: &Schema) -> bool
+    ensures { IsTrue result ↔ (found.now ≡ no_schema) }
+{
+    found.tables.is_empty() && found.indexes.is_empty() && found.views.is_empty()
+}
+
+fn is_named(table: &Table, name: &[u8]) -> bool
+    ensures { IsTrue result ↔ (table.now.name ≡ name.now) }
+{
+    table.name.as_slice() == name
+}
+
+fn has_table(found: &Schema, name: &[u8]) -> bool
+    ensures { IsTrue result ↔ HasTableNamed found.now name.now }
+{
+    found
+        .tables
+        .as_slice()
+        .iter()
+        .any(|table| is_named(table, name))
+}
+
+/// Whether each of the six names is the name of a table. Takes no memory.
+pub(crate) fn has_names(found: &Schema) -> bool
+    ensures { IsTrue result ↔ HasNames found.now }
+{
+    has_table(found, b"desk")
+        && has_table(found, b"field")
+        && has_table(found, b"move")
+        && has_table(found, b"orders")
+        && has_table(found, b"line")
+        && has_table(found, b"kept")
+}

@@ -1,0 +1,142 @@
+//! The keeper over SQLite.
+
+ghost use Rattle.std.specs.Prelude.{◌≡◌, ◌≢◌, ◌⊎◌, false, [], ◌∷◌, IsTrue, IfOk, IfErr, OnOk, OnErr, Err};
+ghost use Rattle.sqlite.specs.State.{HasCleanDisk, IsUnchanged, Survives};
+ghost use Rattle.sqlite.specs.Held.{state};
+ghost use Rattle.book.specs.Rows.{Content, IsInKeyOrder};
+ghost use Rattle.book.specs.Tables.{content_of};
+ghost use Rattle.keep.specs.Content.{Holds, IsDesk, LeavesOnly};
+ghost use Rattle.keep.specs.Transactions.{Committed, AreChanged};
+ghost use Rattle.keep.specs.Schema.{desk_schema};
+
+use crate::commit::commit_all;
+use crate::keep::{Keep, KeepFault, fault_of};
+use crate::load::load_all;
+use crate::schema::{has_names, is_desk_schema};
+use book::{Change, Tables};
+use sqlite::{Alter, Connection};
+use std::alloc::Global;
+use std::marker::Model;
+
+/// A keeper over a connection to SQLite, which is in no transaction between the calls.
+#[derive(Drop)]
+pub struct SqlKeep<S: Alter> {
+    conn: Connection<S>,
+    stopped: bool,
+}
+
+impl<S: Alter> Model for SqlKeep<S> {
+    ghost use Rattle.std.specs.Prelude.{◌≡◌, false};
+    ghost use Rattle.keep.specs.Keeper.{Keeper, keeper_code};
+
+    ghost Value = { Keeper S };
+
+    ghost coded = { keeper_code S.code };
+
+    ghost view = { λ k. record { connection = k.conn; stopped = k.stopped } };
+
+    ghost invariant = { λ k. k.conn.in_transaction ≡ false };
+}
+
+impl<S: Alter> SqlKeep<S> {
+    /// Adopts a connection, in which no transaction is open. Changes nothing, and takes no memory.
+    pub fn over(conn: Connection<S>) -> SqlKeep<S>
+        requires { conn.in_transaction ≡ false }
+        ensures keeper { result ≡ record { connection = conn; stopped = false } }
+        // what a stop leaves of an open store is its content alone
+        ensures alone { IsTrue (state S.Store conn).is_open → (x : Content) → Holds (state S.Store conn).now x → LeavesOnly (state S.Store conn).may_leave (x ∷ []) }
+    {
+        let _settled = conn.is_autocommit();
+        SqlKeep {
+            conn,
+            stopped: false,
+        }
+    }
+
+    /// The connection, as it stands. Changes nothing, and takes no memory.
+    pub fn into_connection(self) -> Connection<S>
+        ensures connection { result ≡ self.connection }
+        ensures idle { result.in_transaction ≡ false }
+    {
+        let SqlKeep { conn, stopped: _ } = self;
+        conn
+    }
+
+    fn expect_going(&self) -> Result<(), KeepFault>
+        ensures going { self.now.stopped ≡ false → OnErr result ⊥ }
+        ensures stopped { IsTrue self.now.stopped → result ≡ Err KeepFault.Stopped }
+    {
+        if self.stopped {
+            Err(KeepFault::Stopped)
+        } else {
+            Ok(())
+        }
+    }
+}
+
+/// The content of a store that is a desk, read by a connection in no transaction.
+fn load_from<S: Alter>(alloc: Global, conn: &mut Connection<S>) -> Result<Tables, KeepFault>
+    requires { conn.old.in_transaction ≡ false }
+    ensures idle { conn.new.in_transaction ≡ false }
+    ensures going { result ≢ Err KeepFault.Stopped }
+    ensures order { IfOk result (λ tables. IsInKeyOrder (content_of tables)) }
+    ensures version { IfOk result (λ tables. IsDesk (content_of tables)) }
+    ensures content { HasCleanDisk (state S.Store conn.new) → IfOk result (λ tables. Holds (state S.Store conn.old).now (content_of tables) × IsUnchanged (state S.Store conn.old) (state S.Store conn.new)) }
+    ensures one { HasCleanDisk (state S.Store conn.new) → IfOk result (λ tables. (x : Content) → Holds (state S.Store conn.old).now x → content_of tables ≡ x) }
+    ensures desk { HasCleanDisk (state S.Store conn.new) → result ≡ Err KeepFault.NotADesk → (x : Content) → Holds (state S.Store conn.old).now x → ¬ IsDesk x }
+    ensures survives { Survives (state S.Store conn.old) (state S.Store conn.new) (λ _. ⊥) }
+{
+    if !has_names(conn.schema()) {
+        return Err(KeepFault::NotADesk);
+    }
+    if !is_desk_schema(conn.schema()) {
+        return Err(KeepFault::Store);
+    }
+    match load_all(alloc, conn) {
+        Ok(Some(tables)) => Ok(tables),
+        Ok(None) => Err(KeepFault::NotADesk),
+        Err(error) => Err(fault_of(error)),
+    }
+}
+
+/// Puts the rows into a store that is a desk, by a connection in no transaction.
+fn commit_to<S: Alter>(conn: &mut Connection<S>, changes: &[Change]) -> Result<(), KeepFault>
+    requires { conn.old.in_transaction ≡ false }
+    ensures idle { conn.new.in_transaction ≡ false }
+    ensures fault { IfErr result (λ fault. (fault ≡ KeepFault.Memory) ⊎ (fault ≡ KeepFault.Store)) }
+    ensures put { HasCleanDisk (state S.Store conn.new) → OnOk result (Committed (state S.Store conn.old) (state S.Store conn.new) changes.now × ((state S.Store conn.old).now.schema ≡ desk_schema)) }
+    ensures survives { Survives (state S.Store conn.old) (state S.Store conn.new) (λ trees. AreChanged (state S.Store conn.old).now changes.now trees × ((state S.Store conn.old).now.schema ≡ desk_schema)) }
+{
+    if !is_desk_schema(conn.schema()) {
+        return Err(KeepFault::Store);
+    }
+    commit_all(conn, changes).map_err(fault_of)
+}
+
+impl<S: Alter> Keep for SqlKeep<S> {
+    ghost is_honest = { λ k. HasCleanDisk (state S.Store k.connection) };
+
+    ghost holds = { λ k. Holds (state S.Store k.connection).now };
+
+    ghost leaves = { λ k. LeavesOnly (state S.Store k.connection).may_leave };
+
+    ghost stopped = { λ k. k.stopped };
+
+    fn is_stopped(&self) -> bool {
+        self.stopped
+    }
+
+    fn load(&mut self, alloc: Global) -> Result<Tables, KeepFault> {
+        self.expect_going()?;
+        let loaded = load_from(alloc, &mut self.conn);
+        self.stopped = loaded.is_err();
+        loaded
+    }
+
+    fn commit(&mut self, changes: &[Change]) -> Result<(), KeepFault> {
+        self.expect_going()?;
+        let done = commit_to(&mut self.conn, changes);
+        self.stopped = done.is_err();
+        done
+    }
+}

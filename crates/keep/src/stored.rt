@@ -1,0 +1,45 @@
+//! Rows as the answers of queries show them.
+
+ghost use Rattle.std.specs.Prelude.{◌↔◌, IsTrue, IfOk};
+ghost use Rattle.std.specs.List.{AllZip};
+ghost use Rattle.std.specs.List.Sorted.{IsStrictlySortedBy};
+
+use crate::row::TableRow;
+use sqlite::{Error, Row};
+use std::alloc::Global;
+
+/// A row that an answer shows.
+pub(crate) trait Stored: Sized {
+    ghost use Rattle.std.specs.Prelude.{IfOk};
+    ghost use Rattle.sqlite.specs.Order.{Row};
+
+    // The answer shows this row, and its rowid is a whole number.
+    ghost is_shown: { Row → Self → Type 0 };
+
+    /// The row that the answer shows.
+    fn read(row: &Row) -> Result<Self, Error>
+        ensures { IfOk result (λ found. is_shown row.now found) };
+}
+
+/// The rows that the answers show.
+pub(crate) fn read_all<R: Stored + Drop>(alloc: Global, answers: &[Row]) -> Result<Vec<R>, Error>
+    ensures { IfOk result (λ rows. AllZip R.is_shown answers.now rows.items) }
+{
+    let mut rows = Vec::new(alloc);
+    for answer in answers {
+        rows.push(R::read(answer)?)?;
+    }
+    Ok(rows)
+}
+
+/// Whether the rows stand in the order of their keys, each once.
+pub(crate) fn are_in_order<R: TableRow>(rows: &[R]) -> bool
+    ensures { IsTrue result ↔ IsStrictlySortedBy R.cmp rows.now }
+{
+    for i in 1..rows.len() {
+        if !rows[i - 1].compare(&rows[i]).is_lt() {
+            return false;
+        }
+    }
+    true
+}
