@@ -33,3 +33,8 @@ pub alone_if : {U E : Type 0} (old new : State) (changes : List Change) (r : Res
     → OnOk r (Committed old new changes × (old.now.schema ≡ desk_schema)) → OnOk r ((x : Content) → Holds new.now x → LeavesOnly new.may_leave (x ∷ []))
 alone_if old new changes (Ok u) settled h = λ x held. leaves_now new x (settled h.0.is_open) h.0.settled held
 alone_if old new changes (Err e) settled h = tt
+
+pub settled_if : {U E : Type 0} (s : State) (r : Result U E) → (IsTrue s.is_open → (trees : Trees) → s.may_leave trees → trees ≡ s.committed.trees) → OnOk r (IsTrue s.is_open × (s.committed ≡ s.now))
+    → OnOk r ((x : Content) → Holds s.now x → LeavesOnly s.may_leave (x ∷ []))
+settled_if s (Ok u) settled h = λ x held. leaves_now s x (settled h.0) h.1 held
+settled_if s (Err e) settled h = tt

@@ -52,6 +52,10 @@ IsContent trees x = (schema : Schema) × Holds (record { schema = schema; trees 
 abbrev pub LeavesOnly : (Trees → Type 0) → List Content → Type 0
 LeavesOnly may_leave these = (trees : Trees) → may_leave trees → (x : Content) × IsContent trees x × IsAmong these x
 
+-- a stop may leave trees with this content
+abbrev pub MayLeave : (Trees → Type 0) → Content → Type 0
+MayLeave may_leave x = (trees : Trees) × may_leave trees × IsContent trees x
+
 -- the row of `desk` is of this version of the schema
 abbrev pub IsVersion : DeskCells → Type 0
 IsVersion row = row.version ≡ pos 1

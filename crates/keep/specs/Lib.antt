@@ -7,3 +7,4 @@ pub mod Names
 pub mod Keeper
 pub mod Stages
 pub mod Plain
+pub mod Laws

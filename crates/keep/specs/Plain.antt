@@ -43,7 +43,7 @@ IsCopy change copy = (x : Content) → with_change copy x ≡ with_change change
 -- what is seen of the keeper
 pub record Plain : Type 0 where
   pub content : Content
-  -- the commits until and with the one that fails
+  -- how many commits remain up to the one that fails, it included
   pub fails_in : Option ℕ
   -- whether that commit's changes are found by a reopening
   pub lands : Bool

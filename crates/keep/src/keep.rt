@@ -42,13 +42,21 @@ pub trait Keep {
     // Whatever a stop leaves now, it is the six tables, and their content is one of these.
     ghost leaves: { Self → List Content → Type 0 };
 
+    // A stop may leave this content now.
+    ghost may_leave: { Self → Content → Type 0 };
+
+    // An earlier call failed.
     ghost stopped: { Self → Bool };
 
     /// Whether an earlier call failed. Takes no memory.
     fn is_stopped(&self) -> bool
         ensures { result ≡ stopped self.now };
 
-    /// The content, each table in the order of its key. Changes nothing.
+    /// The content, each table in the order of its key. Changes nothing, and a stop then leaves that content alone. Whatever
+    /// is answered, nothing is added to what a stop may leave.
+    ///
+    /// `Stopped` on a stopped keeper; `NotADesk` only where the store does not hold the six tables with one row of `desk`
+    /// of version 1; `Memory` and `Store` where that is refused or fails.
     fn load(&mut self, alloc: Global) -> Result<Tables, KeepFault>
         ensures refused { IsTrue (stopped self.old) → (result ≡ Err KeepFault.Stopped) × (self.new ≡ self.old) }
         ensures going { stopped self.old ≡ false → result ≢ Err KeepFault.Stopped }
@@ -61,11 +69,16 @@ pub trait Keep {
         ensures order { IfOk result (λ tables. IsInKeyOrder (content_of tables)) }
         ensures version { IfOk result (λ tables. IsDesk (content_of tables)) }
         ensures desk { is_honest self.new → result ≡ Err KeepFault.NotADesk → (x : Content) → holds self.old x → ¬ IsDesk x }
+        ensures alone { is_honest self.new → OnOk result ((x : Content) → holds self.new x → leaves self.new (x ∷ [])) }
         // nothing is added to what a stop may leave
-        ensures adds_nothing { is_honest self.new → (these : List Content) → leaves self.old these → leaves self.new these };
+        ensures adds_nothing { is_honest self.new → (these : List Content) → leaves self.old these → leaves self.new these }
+        ensures no_more { is_honest self.new → (x : Content) → may_leave self.new x → may_leave self.old x };
 
     /// Puts the rows in by their keys, all or none. Each row of `desk` among them has one = 1 and the version of the
     /// schema.
+    ///
+    /// `Stopped` on a stopped keeper; `Memory` and `Store` where that is refused or fails: a stop then leaves what was before
+    /// or the whole.
     fn commit(&mut self, changes: &[Change]) -> Result<(), KeepFault>
         requires { All IsTheRow (rows_among changes.now).desk }
         ensures refused { IsTrue (stopped self.old) → (result ≡ Err KeepFault.Stopped) × (self.new ≡ self.old) }
@@ -78,6 +91,9 @@ pub trait Keep {
         ensures alone { is_honest self.new → OnOk result ((x : Content) → holds self.new x → leaves self.new (x ∷ [])) }
         ensures either { is_honest self.new → stopped self.old ≡ false → (x : Content) → holds self.old x → leaves self.old (x ∷ [])
             → leaves self.new (x ∷ with_changes changes.now x ∷ []) };
+
+    // A stop leaves something.
+    ghost something: { (k : Self) → is_honest k → leaves k [] → ⊥ };
 }
 
 /// The fault that an error of the store is told as.

@@ -4,10 +4,10 @@ ghost use Rattle.std.specs.Prelude.{◌≡◌, false, [], ◌∷◌, None, IfOk,
 ghost use Rattle.std.specs.List.Sorted.{IsStrictlySortedBy};
 ghost use Rattle.sqlite.specs.State.{HasCleanDisk, IsLive, IsUnchanged, Survives};
 ghost use Rattle.sqlite.specs.Held.{state};
-ghost use Rattle.book.specs.Rows.{Content, IsInKeyOrder, field_cmp, move_cmp, order_cmp, line_cmp, kept_cmp};
-ghost use Rattle.book.specs.Tables.{content_of, field_cells, move_cells, order_cells, line_cells, kept_cells};
+ghost use Rattle.book.specs.Rows.{Content, IsInKeyOrder, field_cmp, move_cmp, order_cmp, line_cmp};
+ghost use Rattle.book.specs.Tables.{content_of, field_cells, move_cells, order_cells, line_cells};
 ghost use Rattle.keep.specs.Schema.{desk_schema};
-ghost use Rattle.keep.specs.Columns.{field_stored, move_stored, order_stored, line_stored, kept_stored, field_columns, move_columns, order_columns, line_columns, kept_columns};
+ghost use Rattle.keep.specs.Columns.{field_stored, move_stored, order_stored, line_stored, field_columns, move_columns, order_columns, line_columns};
 ghost use Rattle.keep.specs.Content.{AreRows, Holds, IsDesk};
 ghost use Rattle.keep.specs.Loading.{Finds};
 

@@ -21,7 +21,7 @@ use std::marker::Model;
 #[derive(Drop)]
 pub struct PlainKeep {
     shelf: Shelf,
-    /// The commits until and with the one that fails.
+    /// How many commits remain up to the one that fails, it included.
     fails_in: Option<u64>,
     /// Whether the changes of that commit are found by a reopening.
     lands: bool,
@@ -73,6 +73,8 @@ impl Keep for PlainKeep {
 
     ghost leaves = { λ k these. IsAmong these k.content };
 
+    ghost may_leave = { λ k x. k.content ≡ x };
+
     ghost stopped = { λ k. k.stopped };
 
     fn is_stopped(&self) -> bool {
@@ -104,7 +106,8 @@ impl Keep for PlainKeep {
         }
     }
 
-    /// Fails as the store does at the commit of its number alone, and there always, unless memory is wanted first.
+    /// Fails as the store does at the commit of its number alone, and there always, unless memory is wanted first. A
+    /// commit that is to fail and not to land wants none.
     fn commit(&mut self, changes: &[Change]) -> Result<(), KeepFault>
         requires { All IsTheRow (rows_among changes.now).desk }
         ensures refused { IsTrue self.old.stopped → (result ≡ Err KeepFault.Stopped) × (self.new ≡ self.old) }
@@ -135,4 +138,6 @@ impl Keep for PlainKeep {
         self.stopped = false;
         Ok(())
     }
+
+    ghost something = { λ _ _ none. none };
 }

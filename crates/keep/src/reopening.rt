@@ -58,7 +58,8 @@ pub fn reopen<D: Crash + Drop>(
     Some(SqlKeep::over(conn))
 }
 
-/// The same, and what the keeper loads: one of those contents, and never `NotADesk` where each of them is a desk.
+/// A keeper over what the next open finds on the two files of a keeper after a power cut, and what it loads: one of the
+/// contents that a stop could leave, and never `NotADesk` where each of them is a desk. None where the open fails.
 pub fn reopen_and_load<D: Crash + Drop>(
     alloc: Global,
     keep: SqlKeep<FileStore<D>>,
@@ -75,8 +76,8 @@ pub fn reopen_and_load<D: Crash + Drop>(
     Some((again, tables))
 }
 
-/// A keeper over the file of this path, whose contents at the start are named: it holds what they hold, and a stop
-/// leaves that alone.
+/// A keeper over the file of this path, whose bytes at the start are named by `start`: it holds what they hold, and a stop
+/// leaves that alone. A file that is not there is made, without tables. The error is that of the open.
 pub fn open_path<S: Start>(
     rt: &HostRuntime,
     path: &str,

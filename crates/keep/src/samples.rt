@@ -4,8 +4,11 @@ ghost use Rattle.std.specs.Prelude.{All};
 ghost use Rattle.book.specs.Tables.{rows_among};
 ghost use Rattle.keep.specs.Content.{IsTheRow};
 
+use crate::create::create_over;
 use crate::keep::{Keep, KeepFault};
+use crate::sql::SqlKeep;
 use book::{Change, DeskRow, FieldRow, KeptRow, LineRow, MoveRow, OrderRow, Tables};
+use sqlite::{Alter, Connection};
 use std::alloc::{AllocError, Global};
 use std::process::Abort;
 use std::test::Fail;
@@ -270,4 +273,25 @@ pub(crate) fn expect_rows_by_their_keys<R: Abort + AllocGlobal, K: Keep>(
             "kept K2 4 abort 8",
         ],
     )
+}
+
+/// A keeper over the connection, which is in no transaction.
+pub(crate) fn keeper<S: Alter + Drop>(conn: Connection<S>) -> Result<SqlKeep<S>, Fail> {
+    if conn.is_autocommit() {
+        Ok(SqlKeep::over(conn))
+    } else {
+        Err("a transaction is open")?
+    }
+}
+
+pub(crate) fn create<S: Alter>(conn: &mut Connection<S>) -> Result<(), KeepFault> {
+    if conn.is_autocommit() {
+        create_over(conn)
+    } else {
+        Err(KeepFault::Store)
+    }
+}
+
+pub(crate) fn connection_of<S: Alter>(keep: SqlKeep<S>) -> Connection<S> {
+    keep.into_connection()
 }

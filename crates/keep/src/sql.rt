@@ -5,7 +5,7 @@ ghost use Rattle.sqlite.specs.State.{HasCleanDisk, IsUnchanged, Survives};
 ghost use Rattle.sqlite.specs.Held.{state};
 ghost use Rattle.book.specs.Rows.{Content, IsInKeyOrder};
 ghost use Rattle.book.specs.Tables.{content_of};
-ghost use Rattle.keep.specs.Content.{Holds, IsDesk, LeavesOnly};
+ghost use Rattle.keep.specs.Content.{Holds, IsDesk, LeavesOnly, MayLeave};
 ghost use Rattle.keep.specs.Transactions.{Committed, AreChanged};
 ghost use Rattle.keep.specs.Schema.{desk_schema};
 
@@ -83,6 +83,7 @@ fn load_from<S: Alter>(alloc: Global, conn: &mut Connection<S>) -> Result<Tables
     ensures version { IfOk result (λ tables. IsDesk (content_of tables)) }
     ensures content { HasCleanDisk (state S.Store conn.new) → IfOk result (λ tables. Holds (state S.Store conn.old).now (content_of tables) × IsUnchanged (state S.Store conn.old) (state S.Store conn.new)) }
     ensures one { HasCleanDisk (state S.Store conn.new) → IfOk result (λ tables. (x : Content) → Holds (state S.Store conn.old).now x → content_of tables ≡ x) }
+    ensures settled { HasCleanDisk (state S.Store conn.new) → OnOk result (IsTrue (state S.Store conn.new).is_open × ((state S.Store conn.new).committed ≡ (state S.Store conn.new).now)) }
     ensures desk { HasCleanDisk (state S.Store conn.new) → result ≡ Err KeepFault.NotADesk → (x : Content) → Holds (state S.Store conn.old).now x → ¬ IsDesk x }
     ensures survives { Survives (state S.Store conn.old) (state S.Store conn.new) (λ _. ⊥) }
 {
@@ -92,6 +93,7 @@ fn load_from<S: Alter>(alloc: Global, conn: &mut Connection<S>) -> Result<Tables
     if !is_desk_schema(conn.schema()) {
         return Err(KeepFault::Store);
     }
+    let _settled = conn.is_autocommit();
     match load_all(alloc, conn) {
         Ok(Some(tables)) => Ok(tables),
         Ok(None) => Err(KeepFault::NotADesk),
@@ -114,11 +116,15 @@ fn commit_to<S: Alter>(conn: &mut Connection<S>, changes: &[Change]) -> Result<(
 }
 
 impl<S: Alter> Keep for SqlKeep<S> {
+    ghost use Rattle.keep.specs.Laws.{leaves_something};
+
     ghost is_honest = { λ k. HasCleanDisk (state S.Store k.connection) };
 
     ghost holds = { λ k. Holds (state S.Store k.connection).now };
 
     ghost leaves = { λ k. LeavesOnly (state S.Store k.connection).may_leave };
+
+    ghost may_leave = { λ k. MayLeave (state S.Store k.connection).may_leave };
 
     ghost stopped = { λ k. k.stopped };
 
@@ -139,4 +145,6 @@ impl<S: Alter> Keep for SqlKeep<S> {
         self.stopped = done.is_err();
         done
     }
+
+    ghost something = { λ k clean. leaves_something _ (S.survives k.connection.store clean) };
 }

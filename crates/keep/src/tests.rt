@@ -1,29 +1,14 @@
-use crate::create::create_over;
 use crate::keep::{Keep, KeepFault};
-use crate::samples::{commit, expect_rows, expect_rows_by_their_keys, field, kept, load};
+use crate::samples::{
+    commit, connection_of, create, expect_rows, expect_rows_by_their_keys, field, keeper, kept,
+    load,
+};
 use crate::sql::SqlKeep;
 use book::{Change, Tables};
 use sqlite::{Alter, Connection, MemStore};
 use std::alloc::Global;
 use std::process::Abort;
 use std::test::Fail;
-
-/// A keeper over the connection, which is in no transaction.
-fn keeper<S: Alter + Drop>(conn: Connection<S>) -> Result<SqlKeep<S>, Fail> {
-    if conn.is_autocommit() {
-        Ok(SqlKeep::over(conn))
-    } else {
-        Err("a transaction is open")?
-    }
-}
-
-fn create<S: Alter>(conn: &mut Connection<S>) -> Result<(), KeepFault> {
-    if conn.is_autocommit() {
-        create_over(conn)
-    } else {
-        Err(KeepFault::Store)
-    }
-}
 
 /// A keeper over a new desk in memory.
 fn new_desk<R: AllocGlobal>(rt: &R) -> Result<SqlKeep<MemStore>, Fail> {
@@ -35,10 +20,6 @@ fn new_desk<R: AllocGlobal>(rt: &R) -> Result<SqlKeep<MemStore>, Fail> {
 fn run<S: Alter>(conn: &mut Connection<S>, statement: &str) -> Result<(), Fail> {
     conn.execute(statement, &[])?;
     Ok(())
-}
-
-fn connection_of<S: Alter>(keep: SqlKeep<S>) -> Connection<S> {
-    keep.into_connection()
 }
 
 /// What the load of a new desk in memory answers, after this statement.
@@ -71,32 +52,48 @@ fn rows_outlive_their_keeper(rt: HostRuntime) -> Result<(), Fail> {
     expect_rows(&rt, &mut again, &rows)
 }
 
-/// Codes with every byte that one may have, a spelling, and a text that SQL would read as a statement.
+/// Codes that have every byte of their alphabets, each as long as it may be or shorter.
 #[test]
 fn texts_come_back_byte_for_byte(rt: HostRuntime) -> Result<(), Fail> {
     let mut keep = new_desk(&rt)?;
     let changes = [
-        Change::Field(field(&rt, "IJKLMNOPQRSTUVWX", "YZ-ABCDEFGHIJKLMNOPQRSTUVW", 1)?),
-        Change::Field(field(&rt, "0123456789ABCDEF", "X-", 2)?),
+        Change::Field(field(&rt, "ABCDEFGH", "A-BCDEFGHIJKLMNO", 1)?),
+        Change::Field(field(&rt, "IJKLMNOP", "PQRSTUVWXYZ-0123", 2)?),
+        Change::Field(field(&rt, "QRSTUVWX", "456789", 3)?),
+        Change::Field(field(&rt, "YZ012345", "Z", 4)?),
+        Change::Field(field(&rt, "6789", "Z-", 5)?),
         Change::Kept(kept(
             &rt,
-            "z-0123456789ABCDEFGHIJKLMNOPQRSTUVWXYZ",
+            "abcdefghijklmnopqrstuvwxyz-012345678",
             "open 7 60 take N1 A-1 30",
         )?),
         Change::Kept(kept(
             &rt,
-            "abcdefghijklmnopqrstuvwxyz",
-            "'\"; DROP TABLE kept; --",
+            "9ABCDEFGHIJKLMNOPQRSTUVWXYZ",
+            "transfer 8 90 A-1 N1 N2 5",
         )?),
     ];
     commit(&mut keep, &changes)?;
     let rows = [
         "desk 1 1 0 0",
-        "field 0123456789ABCDEF X- 1 90 50 2 30 70",
-        "field IJKLMNOPQRSTUVWX YZ-ABCDEFGHIJKLMNOPQRSTUVW 1 90 50 1 30 70",
-        "kept abcdefghijklmnopqrstuvwxyz 4 '\"; DROP TABLE kept; --",
-        "kept z-0123456789ABCDEFGHIJKLMNOPQRSTUVWXYZ 4 open 7 60 take N1 A-1 30",
+        "field 6789 Z- 1 90 50 5 30 70",
+        "field ABCDEFGH A-BCDEFGHIJKLMNO 1 90 50 1 30 70",
+        "field IJKLMNOP PQRSTUVWXYZ-0123 1 90 50 2 30 70",
+        "field QRSTUVWX 456789 1 90 50 3 30 70",
+        "field YZ012345 Z 1 90 50 4 30 70",
+        "kept 9ABCDEFGHIJKLMNOPQRSTUVWXYZ 4 transfer 8 90 A-1 N1 N2 5",
+        "kept abcdefghijklmnopqrstuvwxyz-012345678 4 open 7 60 take N1 A-1 30",
     ];
+    expect_rows(&rt, &mut keep, &rows)
+}
+
+/// A text that SQL would read as the end of a string and a statement is a text like any other.
+#[test]
+fn a_text_is_no_statement(rt: HostRuntime) -> Result<(), Fail> {
+    let mut keep = new_desk(&rt)?;
+    let words = "'); DROP TABLE kept; --";
+    commit(&mut keep, &[Change::Kept(kept(&rt, "K1", words)?)])?;
+    let rows = ["desk 1 1 0 0", "kept K1 4 '); DROP TABLE kept; --"];
     expect_rows(&rt, &mut keep, &rows)
 }
 
@@ -107,6 +104,7 @@ fn a_store_without_tables_is_no_desk(rt: HostRuntime) -> Result<(), Fail> {
     assert!(rt; keep.is_stopped());
     assert!(rt; matches!(load(&mut keep, rt.alloc()), Err(KeepFault::Stopped)));
     assert_eq!(rt; commit(&mut keep, &[]), Err(KeepFault::Stopped));
+    assert!(rt; connection_of(keep).schema().tables.is_empty());
     Ok(())
 }
 

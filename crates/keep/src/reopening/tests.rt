@@ -2,21 +2,13 @@ ghost use Rattle.std.specs.Prelude.{IsTrue, IfOk};
 ghost use Rattle.sqlite_disk.specs.Memory.{memory_is_usable};
 
 use super::*;
-use crate::create::create_over;
 use crate::disks::{files_of, open, open_again};
-use crate::samples::{commit, load, order};
+use crate::samples::{commit, connection_of, create, keeper, load, order};
 use book::Change;
-use sqlite::{Alter, Files};
+use sqlite::{Alter, Files, Unknown};
 use sqlite_disk::{Fuse, Memory};
+use std::fs;
 use std::test::Fail;
-
-fn create<S: Alter>(conn: &mut Connection<S>) -> Result<(), KeepFault> {
-    if conn.is_autocommit() {
-        create_over(conn)
-    } else {
-        Err(KeepFault::Store)
-    }
-}
 
 /// The files of a new desk.
 fn made(alloc: Global) -> Result<Files<Memory>, Fail>
@@ -37,36 +29,47 @@ fn made(alloc: Global) -> Result<Files<Memory>, Fail>
     }
 }
 
-/// Commits two orders and one of them again, then a third: how many commits were acknowledged, and the connection.
-fn commit_twice<S: Alter>(conn: Connection<S>) -> (Connection<S>, u8) {
-    if !conn.is_autocommit() {
-        return (conn, 0);
-    }
-    let mut keep = SqlKeep::over(conn);
+/// Commits two orders, then one of them again and a third: how many commits were acknowledged, and the answer to the
+/// last.
+fn commit_twice<K: Keep>(keep: &mut K) -> (u8, Result<(), KeepFault>) {
     let first = [Change::Order(order(1, 0)), Change::Order(order(2, 0))];
     let second = [Change::Order(order(2, 1)), Change::Order(order(3, 0))];
-    let mut done = 0;
-    if commit(&mut keep, &first).is_ok() {
-        done = 1;
-        if commit(&mut keep, &second).is_ok() {
-            done = 2;
-        }
+    if let Err(fault) = commit(keep, &first) {
+        return (0, Err(fault));
     }
-    (keep.into_connection(), done)
+    match commit(keep, &second) {
+        Ok(()) => (2, Ok(())),
+        Err(fault) => (1, Err(fault)),
+    }
 }
 
-/// The numbers and states of the orders that are loaded.
-fn orders_in<S: Alter + Drop>(alloc: Global, conn: Connection<S>) -> Result<Vec<(i64, i64)>, Fail> {
-    if !conn.is_autocommit() {
-        Err("a transaction is open")?;
+/// The same over a connection. A commit that fails is told as the store, and leaves the keeper stopped.
+fn commit_over<S: Alter + Drop>(conn: Connection<S>) -> Result<(Connection<S>, u8), Fail> {
+    let mut keep = keeper(conn)?;
+    let (done, last) = commit_twice(&mut keep);
+    if keep.is_stopped() != last.is_err() {
+        Err("not stopped by its failure")?;
     }
-    let mut keep = SqlKeep::over(conn);
-    let tables = load(&mut keep, alloc)?;
+    if last == Err(KeepFault::Memory) || last == Err(KeepFault::Stopped) {
+        Err("the store is told as something else")?;
+    }
+    Ok((connection_of(keep), done))
+}
+
+/// The numbers and states of the orders.
+fn numbered(alloc: Global, tables: &Tables) -> Result<Vec<(i64, i64)>, Fail> {
     let mut orders = Vec::new(alloc);
     for row in tables.orders.as_slice() {
         orders.push((row.number, row.state))?;
     }
     Ok(orders)
+}
+
+/// The numbers and states of the orders that are loaded.
+fn orders_in<S: Alter + Drop>(alloc: Global, conn: Connection<S>) -> Result<Vec<(i64, i64)>, Fail> {
+    let mut keep = keeper(conn)?;
+    let tables = load(&mut keep, alloc)?;
+    numbered(alloc, &tables)
 }
 
 /// Where the files fail after so many calls, with a power cut at the end or not: how many commits were acknowledged, and
@@ -90,7 +93,7 @@ fn orders_after(
     let (files, done) = match open(alloc, files) {
         Err(files) => (files, 0),
         Ok(conn) => {
-            let (conn, done) = commit_twice(conn);
+            let (conn, done) = commit_over(conn)?;
             (files_of(conn), done)
         }
     };
@@ -164,7 +167,28 @@ fn a_cut_leaves_what_is_loaded(rt: HostRuntime) -> Result<(), Fail> {
     )?;
     assert!(rt; !keep.is_stopped());
     let tables = loaded?;
-    assert_eq!(rt; tables.orders.as_slice().len(), 1);
-    assert_eq!(rt; tables.desk.places, 0);
+    let orders = numbered(alloc, &tables)?;
+    assert_eq!(rt; orders.as_slice(), [(4i64, 1i64)].as_slice());
+    Ok(())
+}
+
+/// Makes a desk in a file that is not there, with one order.
+fn fill(rt: &HostRuntime, path: &str) -> Result<(), Fail> {
+    let mut conn = connection_of(open_path(rt, path, Unknown)?);
+    create(&mut conn)?;
+    let mut keep = keeper(conn)?;
+    commit(&mut keep, &[Change::Order(order(4, 1))])?;
+    Ok(())
+}
+
+#[test]
+fn a_file_is_opened_again(rt: HostRuntime) -> Result<(), Fail> {
+    let _ = fs::remove_dir_all(&rt, "keep_test");
+    fs::create_dir(&rt, "keep_test")?;
+    fill(&rt, "keep_test/desk.db")?;
+    let conn = connection_of(open_path(&rt, "keep_test/desk.db", Unknown)?);
+    let orders = orders_in(rt.alloc(), conn)?;
+    fs::remove_dir_all(&rt, "keep_test")?;
+    assert_eq!(rt; orders.as_slice(), [(4i64, 1i64)].as_slice());
     Ok(())
 }

@@ -1,4 +1,6 @@
 use Rattle.std.proofs.Common.{◌≡◌, ap}
+use Rattle.sqlite.specs.Held.{state}
+use Rattle.keep.proofs.Leaving.{settled_if}
 use Rattle.keep.proofs.sql.SqlKeepKeep.load.Goals as goal
 
 pub returns-clause-one : goal.returns-clause-one
@@ -10,3 +12,8 @@ pub returns-clause-desk : goal.returns-clause-desk
 returns-clause-desk g c =
     let same : c.self.inside.conn ≡ c.args.self.now.connection = ap (λ k. k.connection) c.self.view_is in
     rw same at c.load_from-loaded.ensures.desk
+
+pub returns-clause-alone : goal.returns-clause-alone
+returns-clause-alone g c clean =
+    settled_if (state g.S.Store c.load_from-loaded.new.conn) c.load_from-loaded.result
+    (λ is_open trees left. g.met.S.Store.settled c.load_from-loaded.new.conn.store trees is_open left) (c.load_from-loaded.ensures.settled clean)
