@@ -1,6 +1,6 @@
 //! From a stop to the next open.
 
-ghost use Rattle.std.specs.Prelude.{◌≡◌, ◌≢◌, List, [], ◌∷◌, false, IsTrue, IfSome, IfOk, Err};
+ghost use Rattle.std.specs.Prelude.{◌≡◌, ◌≢◌, List, [], ◌∷◌, false, IsTrue, IfSome, IfOk, OnOk, OnErr, Err};
 ghost use Rattle.std.specs.List.{AllByRecursion};
 ghost use Rattle.sqlite.specs.State.{HasCleanDisk};
 ghost use Rattle.sqlite.specs.Files.{file_state, HoldsDatabase};
@@ -65,6 +65,9 @@ pub fn reopen_and_load<D: Crash + Drop>(
     keep: SqlKeep<FileStore<D>>,
     options: Options,
 ) -> Option<(SqlKeep<FileStore<D>>, Result<Tables, KeepFault>)>
+    ensures going { IfSome result (λ r. OnOk r.1 (r.0.stopped ≡ false)) }
+    ensures stopped { IfSome result (λ r. OnErr r.1 (IsTrue r.0.stopped)) }
+    ensures held { IfSome result (λ r. HasCleanDisk (file_state r.0.connection) → IfOk r.1 (λ tables. Holds (file_state r.0.connection).now (content_of tables))) }
     ensures found { IfSome result (λ r. HasCleanDisk (file_state r.0.connection) → (these : List Content) → LeavesOnly (file_state keep.connection).may_leave these
         → IfOk r.1 (λ tables. ∥ IsAmong these (content_of tables) ∥₁)) }
     ensures desk { IfSome result (λ r. HasCleanDisk (file_state r.0.connection) → (these : List Content) → LeavesOnly (file_state keep.connection).may_leave these → AllByRecursion IsDesk these
