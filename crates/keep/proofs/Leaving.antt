@@ -6,32 +6,31 @@ use Rattle.sqlite.specs.State.{State, HasCleanDisk, Survives}
 use Rattle.sqlite_trees.specs.Tree.{Trees}
 use Rattle.book.specs.declared.rows.Change.{Change}
 use Rattle.book.specs.Rows.{Content}
-use Rattle.keep.specs.Schema.{desk_schema}
 use Rattle.keep.specs.Content.{Holds, IsContent, LeavesOnly}
 use Rattle.keep.specs.Transactions.{Committed, AreChanged, with_changes}
 
 -- trees that are those of the database hold its content
 pub held_by : (db : Database) (trees : Trees) (x : Content) → trees ≡ db.trees → Holds db x → IsContent trees x
-held_by db trees x is held = (db.schema, subst (λ (t : Trees). Holds (record { schema = db.schema; trees = t }) x) (sym is) held)
+held_by db trees x is held = subst (λ (t : Trees). IsContent t x) (sym is) held.content
 
 -- of an open store between transactions, a stop leaves what it shows
 pub leaves_now : (s : State) (x : Content) → ((trees : Trees) → s.may_leave trees → trees ≡ s.committed.trees) → s.committed ≡ s.now → Holds s.now x → LeavesOnly s.may_leave (x ∷ [])
 leaves_now s x settled same held trees left = (x, held_by s.now trees x (settled trees left ∙ ap (λ (d : Database). d.trees) same) held, inl refl)
 
-pub leaves_either : (old new : State) (changes : List Change) (x : Content) → Survives old new (λ trees. AreChanged old.now changes trees × (old.now.schema ≡ desk_schema)) → HasCleanDisk new
+pub leaves_either : (old new : State) (changes : List Change) (x : Content) → Survives old new (AreChanged old.now changes) → HasCleanDisk new
     → Holds old.now x → LeavesOnly old.may_leave (x ∷ []) → LeavesOnly new.may_leave (x ∷ with_changes changes x ∷ [])
 leaves_either old new changes x survives clean held alone trees left = elim (survives.crash clean trees left) [
   | inl before ↦ (let was = alone trees before in (was.0, was.1, elim was.2 [ inl e ↦ inl e | inr none ↦ absurd none ]))
-  | inr made ↦ (with_changes changes x, made.0 x (made.1, held), inr (inl refl))
+  | inr made ↦ (with_changes changes x, made x held, inr (inl refl))
 ]
 
-pub put_if : {U E : Type 0} (old new : State) (changes : List Change) (r : Result U E) → OnOk r (Committed old new changes × (old.now.schema ≡ desk_schema)) → OnOk r ((x : Content) → Holds old.now x → Holds new.now (with_changes changes x))
-put_if old new changes (Ok u) h = λ x held. (h.0.put_in x (h.1, held)).1
+pub put_if : {U E : Type 0} (old new : State) (changes : List Change) (r : Result U E) → OnOk r (Committed old new changes) → OnOk r ((x : Content) → Holds old.now x → Holds new.now (with_changes changes x))
+put_if old new changes (Ok u) h = h.put_in
 put_if old new changes (Err e) h = tt
 
 pub alone_if : {U E : Type 0} (old new : State) (changes : List Change) (r : Result U E) → (IsTrue new.is_open → (trees : Trees) → new.may_leave trees → trees ≡ new.committed.trees)
-    → OnOk r (Committed old new changes × (old.now.schema ≡ desk_schema)) → OnOk r ((x : Content) → Holds new.now x → LeavesOnly new.may_leave (x ∷ []))
-alone_if old new changes (Ok u) settled h = λ x held. leaves_now new x (settled h.0.is_open) h.0.settled held
+    → OnOk r (Committed old new changes) → OnOk r ((x : Content) → Holds new.now x → LeavesOnly new.may_leave (x ∷ []))
+alone_if old new changes (Ok u) settled h = λ x held. leaves_now new x (settled h.is_open) h.settled held
 alone_if old new changes (Err e) settled h = tt
 
 pub settled_if : {U E : Type 0} (s : State) (r : Result U E) → (IsTrue s.is_open → (trees : Trees) → s.may_leave trees → trees ≡ s.committed.trees) → OnOk r (IsTrue s.is_open × (s.committed ≡ s.now))

@@ -1,4 +1,3 @@
-pub mod Literal
 pub mod Keyed
 pub mod Values
 pub mod Upserted

@@ -32,7 +32,6 @@ use Rattle.keep.specs.Content.{AreRows, HaveNumbers, Holds, new_content, new_row
 use Rattle.keep.specs.Schema.{desk_schema, desk_table}
 use Rattle.keep.specs.Stages.{IsBare}
 use Rattle.keep.specs.Transactions.{Makes}
-use Rattle.keep.proofs.Literal.{from_literal}
 use Rattle.keep.proofs.Making.{same_value, went}
 use Rattle.keep.proofs.MakingTexts.{row_is, row_plain, row_terms, row_text}
 
@@ -106,15 +105,18 @@ the_one rows is = record { same = IsPermutation-same _ _ (ap (map desk_stored) i
 
 -- the row of a new desk, and nothing else
 holds_new : (old new : Database) → IsBare desk_schema old → IsDatabase new → (new.schema ≡ desk_schema) × PutsRow old.trees new.trees → Holds new new_content
-holds_new old new bare sound put = from_literal new new_content put.0 (record {
-  lists = subst (Lists (new.trees catalog_tree)) put.0 sound.lists;
-  desk = the_one _ put.1.desk;
-  fields = none _ _ _ _ (put.1.others.1.0 (λ e. omega (arith, e)) ∙ bare.no_rows.1.0);
-  moves = none _ _ _ _ (put.1.others.1.1.0 (λ e. omega (arith, e)) ∙ bare.no_rows.1.1.0);
-  orders = none _ _ _ _ (put.1.others.1.1.1.0 (λ e. omega (arith, e)) ∙ bare.no_rows.1.1.1.0);
-  lines = none _ _ _ _ (put.1.others.1.1.1.1.0 (λ e. omega (arith, e)) ∙ bare.no_rows.1.1.1.1.0);
-  kept = none _ _ _ _ (put.1.others.1.1.1.1.1.0 (λ e. omega (arith, e)) ∙ bare.no_rows.1.1.1.1.1.0);
-})
+holds_new old new bare sound put = record {
+  schema_is = put.0;
+  content = record {
+    lists = subst (Lists (new.trees catalog_tree)) put.0 sound.lists;
+    desk = the_one _ put.1.desk;
+    fields = none _ _ _ _ (put.1.others.1.0 (λ e. omega (arith, e)) ∙ bare.no_rows.1.0);
+    moves = none _ _ _ _ (put.1.others.1.1.0 (λ e. omega (arith, e)) ∙ bare.no_rows.1.1.0);
+    orders = none _ _ _ _ (put.1.others.1.1.1.0 (λ e. omega (arith, e)) ∙ bare.no_rows.1.1.1.0);
+    lines = none _ _ _ _ (put.1.others.1.1.1.1.0 (λ e. omega (arith, e)) ∙ bare.no_rows.1.1.1.1.0);
+    kept = none _ _ _ _ (put.1.others.1.1.1.1.1.0 (λ e. omega (arith, e)) ∙ bare.no_rows.1.1.1.1.1.0);
+  };
+}
 
 pub started : (old new : State) (r : Result ℕ Error) → IsBare desk_schema old.now → ExecutesInside 0 row_text (desk_columns new_row) old new r → OnOk r (Makes (λ db. Holds db new_content) old new)
 started old new (Err e) bare h = tt

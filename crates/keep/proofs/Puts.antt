@@ -14,10 +14,9 @@ use Rattle.book.specs.declared.rows.LineRow.{LineRow}
 use Rattle.book.specs.declared.rows.KeptRow.{KeptRow}
 use Rattle.book.specs.Tables.{desk_cells, field_cells, move_cells, order_cells, line_cells, kept_cells}
 use Rattle.keep.specs.Columns.{desk_stored, field_stored, move_stored, order_stored, line_stored, kept_stored, desk_columns, field_columns, move_columns, order_columns, line_columns, kept_columns}
-use Rattle.keep.specs.Content.{AreRows}
-use Rattle.keep.specs.Transactions.{HoldsAsMade, PutsIn, with_changes}
+use Rattle.keep.specs.Content.{AreRows, Holds}
+use Rattle.keep.specs.Transactions.{PutsIn, with_changes}
 use Rattle.keep.proofs.Texts as t
-use Rattle.keep.proofs.Literal.{literal, from_literal}
 use Rattle.keep.proofs.DeskPut.{desk_put, desk_step}
 use Rattle.keep.proofs.FieldPut.{field_put, field_step}
 use Rattle.keep.proofs.MovePut.{move_put, move_step}
@@ -26,12 +25,12 @@ use Rattle.keep.proofs.LinePut.{line_put, line_step}
 use Rattle.keep.proofs.KeptPut.{kept_put, kept_step}
 
 desk_holds : (old new : State) (row : DeskRow) (count : ℕ) → Executes t.desk_upsert (desk_columns (desk_cells row)) old new (Ok count)
-    → (x : Content) → HoldsAsMade old.now x → HoldsAsMade new.now (with_changes (change.Desk row ∷ []) x)
+    → (x : Content) → Holds old.now x → Holds new.now (with_changes (change.Desk row ∷ []) x)
 desk_holds old new row count h x held =
-    let was = literal old.now x held.0 held.1 in
-    let s = desk_step old new (desk_cells row) count held.0 x.desk was.desk h in (
-      s.0,
-      from_literal new.now (with_changes (change.Desk row ∷ []) x) s.0 (record {
+    let was = held.content in
+    let s = desk_step old new (desk_cells row) count held.schema_is x.desk was.desk h in record {
+      schema_is = s.0;
+      content = record {
         lists = s.1;
         desk = desk_put old.now.trees new.now.trees (desk_cells row) x.desk s.2 was.desk;
         fields = subst (λ rows. AreRows field_cmp field_stored field_columns rows x.fields) (sym (s.2.others.1.0 (λ e. omega (arith, e)))) was.fields;
@@ -39,8 +38,8 @@ desk_holds old new row count h x held =
         orders = subst (λ rows. AreRows order_cmp order_stored order_columns rows x.orders) (sym (s.2.others.1.1.1.0 (λ e. omega (arith, e)))) was.orders;
         lines = subst (λ rows. AreRows line_cmp line_stored line_columns rows x.lines) (sym (s.2.others.1.1.1.1.0 (λ e. omega (arith, e)))) was.lines;
         kept = subst (λ rows. AreRows kept_cmp kept_stored kept_columns rows x.kept) (sym (s.2.others.1.1.1.1.1.0 (λ e. omega (arith, e)))) was.kept;
-      }),
-    )
+      };
+    }
 
 pub desk_upserted : (old new : State) (row : DeskRow) (r : Result ℕ Error) → ExecutesInside 0 t.desk_upsert (desk_columns (desk_cells row)) old new r → OnOk r (PutsIn old new (change.Desk row ∷ []))
 desk_upserted old new row (Ok count) h = record {
@@ -51,12 +50,12 @@ desk_upserted old new row (Ok count) h = record {
 desk_upserted old new row (Err e) h = tt
 
 field_holds : (old new : State) (row : FieldRow) (count : ℕ) → Executes t.field_upsert (field_columns (field_cells row)) old new (Ok count)
-    → (x : Content) → HoldsAsMade old.now x → HoldsAsMade new.now (with_changes (change.Field row ∷ []) x)
+    → (x : Content) → Holds old.now x → Holds new.now (with_changes (change.Field row ∷ []) x)
 field_holds old new row count h x held =
-    let was = literal old.now x held.0 held.1 in
-    let s = field_step old new (field_cells row) count held.0 x.fields was.fields h in (
-      s.0,
-      from_literal new.now (with_changes (change.Field row ∷ []) x) s.0 (record {
+    let was = held.content in
+    let s = field_step old new (field_cells row) count held.schema_is x.fields was.fields h in record {
+      schema_is = s.0;
+      content = record {
         lists = s.1;
         desk = subst (λ rows. AreRows desk_cmp desk_stored desk_columns rows x.desk) (sym (s.2.others.0 (λ e. omega (arith, e)))) was.desk;
         fields = field_put old.now.trees new.now.trees (field_cells row) x.fields s.2 was.fields;
@@ -64,8 +63,8 @@ field_holds old new row count h x held =
         orders = subst (λ rows. AreRows order_cmp order_stored order_columns rows x.orders) (sym (s.2.others.1.1.1.0 (λ e. omega (arith, e)))) was.orders;
         lines = subst (λ rows. AreRows line_cmp line_stored line_columns rows x.lines) (sym (s.2.others.1.1.1.1.0 (λ e. omega (arith, e)))) was.lines;
         kept = subst (λ rows. AreRows kept_cmp kept_stored kept_columns rows x.kept) (sym (s.2.others.1.1.1.1.1.0 (λ e. omega (arith, e)))) was.kept;
-      }),
-    )
+      };
+    }
 
 pub field_upserted : (old new : State) (row : FieldRow) (r : Result ℕ Error) → ExecutesInside 0 t.field_upsert (field_columns (field_cells row)) old new r → OnOk r (PutsIn old new (change.Field row ∷ []))
 field_upserted old new row (Ok count) h = record {
@@ -76,12 +75,12 @@ field_upserted old new row (Ok count) h = record {
 field_upserted old new row (Err e) h = tt
 
 move_holds : (old new : State) (row : MoveRow) (count : ℕ) → Executes t.move_upsert (move_columns (move_cells row)) old new (Ok count)
-    → (x : Content) → HoldsAsMade old.now x → HoldsAsMade new.now (with_changes (change.Move row ∷ []) x)
+    → (x : Content) → Holds old.now x → Holds new.now (with_changes (change.Move row ∷ []) x)
 move_holds old new row count h x held =
-    let was = literal old.now x held.0 held.1 in
-    let s = move_step old new (move_cells row) count held.0 x.moves was.moves h in (
-      s.0,
-      from_literal new.now (with_changes (change.Move row ∷ []) x) s.0 (record {
+    let was = held.content in
+    let s = move_step old new (move_cells row) count held.schema_is x.moves was.moves h in record {
+      schema_is = s.0;
+      content = record {
         lists = s.1;
         desk = subst (λ rows. AreRows desk_cmp desk_stored desk_columns rows x.desk) (sym (s.2.others.0 (λ e. omega (arith, e)))) was.desk;
         fields = subst (λ rows. AreRows field_cmp field_stored field_columns rows x.fields) (sym (s.2.others.1.0 (λ e. omega (arith, e)))) was.fields;
@@ -89,8 +88,8 @@ move_holds old new row count h x held =
         orders = subst (λ rows. AreRows order_cmp order_stored order_columns rows x.orders) (sym (s.2.others.1.1.1.0 (λ e. omega (arith, e)))) was.orders;
         lines = subst (λ rows. AreRows line_cmp line_stored line_columns rows x.lines) (sym (s.2.others.1.1.1.1.0 (λ e. omega (arith, e)))) was.lines;
         kept = subst (λ rows. AreRows kept_cmp kept_stored kept_columns rows x.kept) (sym (s.2.others.1.1.1.1.1.0 (λ e. omega (arith, e)))) was.kept;
-      }),
-    )
+      };
+    }
 
 pub move_upserted : (old new : State) (row : MoveRow) (r : Result ℕ Error) → ExecutesInside 0 t.move_upsert (move_columns (move_cells row)) old new r → OnOk r (PutsIn old new (change.Move row ∷ []))
 move_upserted old new row (Ok count) h = record {
@@ -101,12 +100,12 @@ move_upserted old new row (Ok count) h = record {
 move_upserted old new row (Err e) h = tt
 
 order_holds : (old new : State) (row : OrderRow) (count : ℕ) → Executes t.order_upsert (order_columns (order_cells row)) old new (Ok count)
-    → (x : Content) → HoldsAsMade old.now x → HoldsAsMade new.now (with_changes (change.Order row ∷ []) x)
+    → (x : Content) → Holds old.now x → Holds new.now (with_changes (change.Order row ∷ []) x)
 order_holds old new row count h x held =
-    let was = literal old.now x held.0 held.1 in
-    let s = order_step old new (order_cells row) count held.0 x.orders was.orders h in (
-      s.0,
-      from_literal new.now (with_changes (change.Order row ∷ []) x) s.0 (record {
+    let was = held.content in
+    let s = order_step old new (order_cells row) count held.schema_is x.orders was.orders h in record {
+      schema_is = s.0;
+      content = record {
         lists = s.1;
         desk = subst (λ rows. AreRows desk_cmp desk_stored desk_columns rows x.desk) (sym (s.2.others.0 (λ e. omega (arith, e)))) was.desk;
         fields = subst (λ rows. AreRows field_cmp field_stored field_columns rows x.fields) (sym (s.2.others.1.0 (λ e. omega (arith, e)))) was.fields;
@@ -114,8 +113,8 @@ order_holds old new row count h x held =
         orders = order_put old.now.trees new.now.trees (order_cells row) x.orders s.2 was.orders;
         lines = subst (λ rows. AreRows line_cmp line_stored line_columns rows x.lines) (sym (s.2.others.1.1.1.1.0 (λ e. omega (arith, e)))) was.lines;
         kept = subst (λ rows. AreRows kept_cmp kept_stored kept_columns rows x.kept) (sym (s.2.others.1.1.1.1.1.0 (λ e. omega (arith, e)))) was.kept;
-      }),
-    )
+      };
+    }
 
 pub order_upserted : (old new : State) (row : OrderRow) (r : Result ℕ Error) → ExecutesInside 0 t.order_upsert (order_columns (order_cells row)) old new r → OnOk r (PutsIn old new (change.Order row ∷ []))
 order_upserted old new row (Ok count) h = record {
@@ -126,12 +125,12 @@ order_upserted old new row (Ok count) h = record {
 order_upserted old new row (Err e) h = tt
 
 line_holds : (old new : State) (row : LineRow) (count : ℕ) → Executes t.line_upsert (line_columns (line_cells row)) old new (Ok count)
-    → (x : Content) → HoldsAsMade old.now x → HoldsAsMade new.now (with_changes (change.Line row ∷ []) x)
+    → (x : Content) → Holds old.now x → Holds new.now (with_changes (change.Line row ∷ []) x)
 line_holds old new row count h x held =
-    let was = literal old.now x held.0 held.1 in
-    let s = line_step old new (line_cells row) count held.0 x.lines was.lines h in (
-      s.0,
-      from_literal new.now (with_changes (change.Line row ∷ []) x) s.0 (record {
+    let was = held.content in
+    let s = line_step old new (line_cells row) count held.schema_is x.lines was.lines h in record {
+      schema_is = s.0;
+      content = record {
         lists = s.1;
         desk = subst (λ rows. AreRows desk_cmp desk_stored desk_columns rows x.desk) (sym (s.2.others.0 (λ e. omega (arith, e)))) was.desk;
         fields = subst (λ rows. AreRows field_cmp field_stored field_columns rows x.fields) (sym (s.2.others.1.0 (λ e. omega (arith, e)))) was.fields;
@@ -139,8 +138,8 @@ line_holds old new row count h x held =
         orders = subst (λ rows. AreRows order_cmp order_stored order_columns rows x.orders) (sym (s.2.others.1.1.1.0 (λ e. omega (arith, e)))) was.orders;
         lines = line_put old.now.trees new.now.trees (line_cells row) x.lines s.2 was.lines;
         kept = subst (λ rows. AreRows kept_cmp kept_stored kept_columns rows x.kept) (sym (s.2.others.1.1.1.1.1.0 (λ e. omega (arith, e)))) was.kept;
-      }),
-    )
+      };
+    }
 
 pub line_upserted : (old new : State) (row : LineRow) (r : Result ℕ Error) → ExecutesInside 0 t.line_upsert (line_columns (line_cells row)) old new r → OnOk r (PutsIn old new (change.Line row ∷ []))
 line_upserted old new row (Ok count) h = record {
@@ -151,12 +150,12 @@ line_upserted old new row (Ok count) h = record {
 line_upserted old new row (Err e) h = tt
 
 kept_holds : (old new : State) (row : KeptRow) (count : ℕ) → Executes t.kept_upsert (kept_columns (kept_cells row)) old new (Ok count)
-    → (x : Content) → HoldsAsMade old.now x → HoldsAsMade new.now (with_changes (change.Kept row ∷ []) x)
+    → (x : Content) → Holds old.now x → Holds new.now (with_changes (change.Kept row ∷ []) x)
 kept_holds old new row count h x held =
-    let was = literal old.now x held.0 held.1 in
-    let s = kept_step old new (kept_cells row) count held.0 x.kept was.kept h in (
-      s.0,
-      from_literal new.now (with_changes (change.Kept row ∷ []) x) s.0 (record {
+    let was = held.content in
+    let s = kept_step old new (kept_cells row) count held.schema_is x.kept was.kept h in record {
+      schema_is = s.0;
+      content = record {
         lists = s.1;
         desk = subst (λ rows. AreRows desk_cmp desk_stored desk_columns rows x.desk) (sym (s.2.others.0 (λ e. omega (arith, e)))) was.desk;
         fields = subst (λ rows. AreRows field_cmp field_stored field_columns rows x.fields) (sym (s.2.others.1.0 (λ e. omega (arith, e)))) was.fields;
@@ -164,8 +163,8 @@ kept_holds old new row count h x held =
         orders = subst (λ rows. AreRows order_cmp order_stored order_columns rows x.orders) (sym (s.2.others.1.1.1.0 (λ e. omega (arith, e)))) was.orders;
         lines = subst (λ rows. AreRows line_cmp line_stored line_columns rows x.lines) (sym (s.2.others.1.1.1.1.0 (λ e. omega (arith, e)))) was.lines;
         kept = kept_put old.now.trees new.now.trees (kept_cells row) x.kept s.2 was.kept;
-      }),
-    )
+      };
+    }
 
 pub kept_upserted : (old new : State) (row : KeptRow) (r : Result ℕ Error) → ExecutesInside 0 t.kept_upsert (kept_columns (kept_cells row)) old new r → OnOk r (PutsIn old new (change.Kept row ∷ []))
 kept_upserted old new row (Ok count) h = record {
@@ -196,5 +195,5 @@ pub puts_then : (a b c : State) (xs : List Change) (x : Change) → PutsIn a b x
 puts_then a b c xs x p q = record {
   mode = q.mode;
   committed = q.committed ∙ p.committed;
-  put_in = λ y held. subst (HoldsAsMade c.now) (sym (one_more xs x y)) (q.put_in _ (p.put_in y held));
+  put_in = λ y held. subst (Holds c.now) (sym (one_more xs x y)) (q.put_in _ (p.put_in y held));
 }

@@ -11,7 +11,6 @@ use Rattle.sqlite_pool.proofs.StateLemmas.{may_leave_is}
 use Rattle.sqlite_catalog.specs.Listing.{IsSound}
 use Rattle.sqlite_catalog.proofs.ReadLemmas.{lists_once}
 use Rattle.sqlite_trees.specs.Objects.{catalog_tree}
-use Rattle.sqlite_schema.specs.declared.schema.Schema.{Schema}
 use Rattle.sqlite_store.specs.declared.store.FileStore.{FileStore}
 use Rattle.sqlite_store.specs.FileStore.{state, view, recovers, files}
 use Rattle.sqlite.specs.Held.{AreDatabases}
@@ -22,14 +21,13 @@ use Rattle.sqlite.proofs.Theorems.{next_run}
 use Rattle.book.specs.declared.rows.Tables.{Tables}
 use Rattle.book.specs.Rows.{Content}
 use Rattle.book.specs.Tables.{content_of}
+use Rattle.keep.specs.Schema.{desk_schema}
 use Rattle.keep.specs.declared.keep.KeepFault.{KeepFault}
 use Rattle.keep.specs.Content.{Holds, IsAmong, IsContent, IsDesk, LeavesOnly}
 
 -- a sound database over trees that have a content holds it
 pub holds_content : (db : Database) (x : Content) → IsSound db.schema db.trees → IsContent db.trees x → Holds db x
-holds_content db x sound has =
-    let same : db.schema ≡ has.0 = lists_once (db.trees catalog_tree) db.schema has.0 sound.lists has.1.lists in
-    subst (λ (s : Schema). Holds (record { schema = s; trees = db.trees }) x) (sym same) has.1
+holds_content db x sound has = record { schema_is = lists_once (db.trees catalog_tree) db.schema desk_schema sound.lists has.lists; content = has }
 
 -- The files hold what a stop could leave of this store. Then an open finds one of the contents that it could leave.
 pub found_again : {D : Type 0} {g : Ghosts D} (it : FileStore D g) → IsTrue (view it).is_numbered → AreDatabases (recovers it)

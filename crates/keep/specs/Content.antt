@@ -12,7 +12,7 @@ use Rattle.sqlite_trees.specs.Objects.{catalog_tree}
 use Rattle.sqlite_trees.specs.View.{is_int}
 use Rattle.sqlite_catalog.specs.Listing.{Lists}
 use Rattle.book.specs.Rows.{Content, DeskCells, desk_cmp, field_cmp, move_cmp, order_cmp, line_cmp, kept_cmp}
-use Rattle.keep.specs.Schema.{desk_table, field_table, move_table, orders_table, line_table, kept_table}
+use Rattle.keep.specs.Schema.{desk_table, field_table, move_table, orders_table, line_table, kept_table, desk_schema}
 use Rattle.keep.specs.Columns.{desk_stored, field_stored, move_stored, order_stored, line_stored, kept_stored, desk_columns, field_columns, move_columns, order_columns, line_columns, kept_columns}
 
 -- it is one of these
@@ -30,13 +30,27 @@ pub record AreRows {X : Type 0} (cmp : X → X → Ordering) (stored : Row → R
   pub sorted : IsStrictlySortedBy cmp xs
   pub numbers : HaveNumbers rows
 
+-- trees with the six tables where the schema of a desk has them, and with these rows; their catalog lists that schema
+pub record IsContent (trees : Trees) (x : Content) : Type 0 where
+  pub lists : Lists (trees catalog_tree) desk_schema
+  pub desk : AreRows desk_cmp desk_stored desk_columns (trees desk_table.tree) x.desk
+  pub fields : AreRows field_cmp field_stored field_columns (trees field_table.tree) x.fields
+  pub moves : AreRows move_cmp move_stored move_columns (trees move_table.tree) x.moves
+  pub orders : AreRows order_cmp order_stored order_columns (trees orders_table.tree) x.orders
+  pub lines : AreRows line_cmp line_stored line_columns (trees line_table.tree) x.lines
+  pub kept : AreRows kept_cmp kept_stored kept_columns (trees kept_table.tree) x.kept
+
+-- the schema is that of a desk as it is made, and nothing else is declared; this is what the six tables hold
+pub record Holds (db : Database) (x : Content) : Type 0 where
+  pub schema_is : db.schema ≡ desk_schema
+  pub content : IsContent db.trees x
+
 -- a table that is declared so, in whatever tree it lies, and its rows are such
 abbrev pub HasTable : Schema → Trees → Table → (List Row → Type 0) → Type 0
 HasTable schema trees table Are = (tree : ℕ) × IsAmong schema.tables (record table { tree = tree }) × Are (trees tree)
 
--- the six tables are declared, beside whatever others, and this is what they hold; the catalog lists the schema
-pub record Holds (db : Database) (x : Content) : Type 0 where
-  pub lists : Lists (db.trees catalog_tree) db.schema
+-- the six tables are declared, in whatever order and beside whatever others, and this is what they hold
+pub record HasTables (db : Database) (x : Content) : Type 0 where
   pub desk : HasTable db.schema db.trees desk_table (λ rows. AreRows desk_cmp desk_stored desk_columns rows x.desk)
   pub fields : HasTable db.schema db.trees field_table (λ rows. AreRows field_cmp field_stored field_columns rows x.fields)
   pub moves : HasTable db.schema db.trees move_table (λ rows. AreRows move_cmp move_stored move_columns rows x.moves)
@@ -44,11 +58,7 @@ pub record Holds (db : Database) (x : Content) : Type 0 where
   pub lines : HasTable db.schema db.trees line_table (λ rows. AreRows line_cmp line_stored line_columns rows x.lines)
   pub kept : HasTable db.schema db.trees kept_table (λ rows. AreRows kept_cmp kept_stored kept_columns rows x.kept)
 
--- the same of trees alone, as a stop leaves them, with the schema that their catalog lists
-abbrev pub IsContent : Trees → Content → Type 0
-IsContent trees x = (schema : Schema) × Holds (record { schema = schema; trees = trees }) x
-
--- whatever a stop leaves, it is the six tables, and their content is one of these
+-- whatever a stop leaves, it is a desk's six tables alone, and their content is one of these
 abbrev pub LeavesOnly : (Trees → Type 0) → List Content → Type 0
 LeavesOnly may_leave these = (trees : Trees) → may_leave trees → (x : Content) × IsContent trees x × IsAmong these x
 

@@ -1,9 +1,30 @@
 -- What is true of every keeper over a connection.
-use Rattle.std.specs.Prelude.{[]}
+use Rattle.std.proofs.Common.{◌≡◌, inl, inr, [], List, refl, subst, sym}
 use Rattle.std.proofs.Math.Logic.{∥∥₁_elim}
+use Rattle.sqlite.specs.Order.{Row}
+use Rattle.sqlite.specs.Table.{Table}
+use Rattle.sqlite.specs.Schema.{Schema}
+use Rattle.sqlite.specs.Effect.{Database}
 use Rattle.sqlite_trees.specs.Tree.{Trees}
-use Rattle.keep.specs.Content.{LeavesOnly}
+use Rattle.book.specs.Rows.{Content, desk_cmp, field_cmp, move_cmp, order_cmp, line_cmp, kept_cmp}
+use Rattle.keep.specs.Schema.{desk_table, field_table, move_table, orders_table, line_table, kept_table, desk_schema}
+use Rattle.keep.specs.Columns.{desk_stored, field_stored, move_stored, order_stored, line_stored, kept_stored, desk_columns, field_columns, move_columns, order_columns, line_columns, kept_columns}
+use Rattle.keep.specs.Content.{AreRows, HasTable, HasTables, Holds, IsAmong, LeavesOnly}
 
 -- a stop leaves something, so it is not bounded by nothing
 pub leaves_something : (may_leave : Trees → Type 0) → ∥ ((trees : Trees) × may_leave trees) ∥₁ → LeavesOnly may_leave [] → ⊥
 leaves_something may_leave some none = ∥∥₁_elim some (λ p q. absurd p) (λ left. (none left.0 left.1).2)
+
+declared : (db : Database) (table : Table) (Are : List Row → Type 0) → db.schema ≡ desk_schema → IsAmong desk_schema.tables table → Are (db.trees table.tree) → HasTable db.schema db.trees table Are
+declared db table Are is among are = (table.tree, subst (λ (s : Schema). IsAmong s.tables table) (sym is) among, are)
+
+-- what is held stands in the six tables
+pub holds_tables : (db : Database) (x : Content) → Holds db x → HasTables db x
+holds_tables db x held = record {
+  desk = declared db desk_table (λ rows. AreRows desk_cmp desk_stored desk_columns rows x.desk) held.schema_is (inl refl) held.content.desk;
+  fields = declared db field_table (λ rows. AreRows field_cmp field_stored field_columns rows x.fields) held.schema_is (inr (inl refl)) held.content.fields;
+  moves = declared db move_table (λ rows. AreRows move_cmp move_stored move_columns rows x.moves) held.schema_is (inr (inr (inl refl))) held.content.moves;
+  orders = declared db orders_table (λ rows. AreRows order_cmp order_stored order_columns rows x.orders) held.schema_is (inr (inr (inr (inl refl)))) held.content.orders;
+  lines = declared db line_table (λ rows. AreRows line_cmp line_stored line_columns rows x.lines) held.schema_is (inr (inr (inr (inr (inl refl))))) held.content.lines;
+  kept = declared db kept_table (λ rows. AreRows kept_cmp kept_stored kept_columns rows x.kept) held.schema_is (inr (inr (inr (inr (inr (inl refl)))))) held.content.kept;
+}

@@ -16,8 +16,8 @@ column kind name = record { name = name; kind = kind; is_strict = true; not_null
 abbrev pub whole_number : List ℕ → Column
 whole_number = column Integer
 
-abbrev pub words : List ℕ → Column
-words = column Text
+abbrev pub text : List ℕ → Column
+text = column Text
 
 -- its key is its first column, a whole number, which SQLite keeps as the rowid
 abbrev pub numbered_table : List ℕ → ℕ → List Column → Table
@@ -65,7 +65,7 @@ desk_table = numbered_table (codes "desk") 0 (whole_number (codes "one") ∷ who
 
 abbrev pub field_table : Table
 field_table = keyed_table (codes "field") 1
-    (words (codes "branch") ∷ words (codes "article") ∷ whole_number (codes "lo") ∷ whole_number (codes "hi") ∷ whole_number (codes "start")
+    (text (codes "branch") ∷ text (codes "article") ∷ whole_number (codes "lo") ∷ whole_number (codes "hi") ∷ whole_number (codes "start")
     ∷ whole_number (codes "value") ∷ whole_number (codes "inf") ∷ whole_number (codes "sup") ∷ [])
     (1 ∷ 2 ∷ [])
 
@@ -73,14 +73,14 @@ abbrev pub field_index : Index
 field_index = key_index (codes "sqlite_autoindex_field_1") 2 1 (1 ∷ 2 ∷ [])
 
 abbrev pub move_table : Table
-move_table = numbered_table (codes "move") 3 (whole_number (codes "place") ∷ words (codes "branch") ∷ words (codes "article") ∷ whole_number (codes "qty") ∷ [])
+move_table = numbered_table (codes "move") 3 (whole_number (codes "place") ∷ text (codes "branch") ∷ text (codes "article") ∷ whole_number (codes "qty") ∷ [])
 
 abbrev pub orders_table : Table
 orders_table = numbered_table (codes "orders") 4 (whole_number (codes "number") ∷ whole_number (codes "kind") ∷ whole_number (codes "until") ∷ whole_number (codes "state") ∷ [])
 
 abbrev pub line_table : Table
 line_table = keyed_table (codes "line") 5
-    (whole_number (codes "number") ∷ whole_number (codes "nr") ∷ words (codes "branch") ∷ words (codes "article") ∷ whole_number (codes "way")
+    (whole_number (codes "number") ∷ whole_number (codes "nr") ∷ text (codes "branch") ∷ text (codes "article") ∷ whole_number (codes "way")
     ∷ whole_number (codes "held") ∷ whole_number (codes "used") ∷ [])
     (1 ∷ 2 ∷ [])
 
@@ -88,7 +88,7 @@ abbrev pub line_index : Index
 line_index = key_index (codes "sqlite_autoindex_line_1") 6 5 (1 ∷ 2 ∷ [])
 
 abbrev pub kept_table : Table
-kept_table = keyed_table (codes "kept") 7 (words (codes "reqkey") ∷ whole_number (codes "place") ∷ words (codes "words") ∷ []) (1 ∷ [])
+kept_table = keyed_table (codes "kept") 7 (text (codes "reqkey") ∷ whole_number (codes "place") ∷ text (codes "words") ∷ []) (1 ∷ [])
 
 abbrev pub kept_index : Index
 kept_index = key_index (codes "sqlite_autoindex_kept_1") 8 7 (1 ∷ [])

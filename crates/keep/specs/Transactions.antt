@@ -7,32 +7,27 @@ use Rattle.book.specs.declared.rows.Change.{Change}
 use Rattle.book.specs.Rows.{Content}
 use Rattle.book.specs.Changes.{put_content}
 use Rattle.book.specs.Tables.{rows_among}
-use Rattle.keep.specs.Schema.{desk_schema}
 use Rattle.keep.specs.Content.{Holds, IsContent}
 
 -- the content with the rows of the changes put in by their keys
 abbrev pub with_changes : List Change → Content → Content
 with_changes changes x = put_content (rows_among changes) x
 
--- the schema is that of a desk as it is made, and this is what the tables hold
-abbrev pub HoldsAsMade : Database → Content → Type 0
-HoldsAsMade db x = (db.schema ≡ desk_schema) × Holds db x
-
 -- the transaction goes on with the rows put in, and nothing is committed
 pub record PutsIn (old new : State) (changes : List Change) : Type 0 where
   pub mode : IsTrue new.in_transaction
   pub committed : new.committed ≡ old.committed
-  pub put_in : (x : Content) → HoldsAsMade old.now x → HoldsAsMade new.now (with_changes changes x)
+  pub put_in : (x : Content) → Holds old.now x → Holds new.now (with_changes changes x)
 
 -- the rows are put in and committed
 pub record Committed (old new : State) (changes : List Change) : Type 0 where
   pub is_open : IsTrue new.is_open
   pub settled : new.committed ≡ new.now
-  pub put_in : (x : Content) → HoldsAsMade old.now x → HoldsAsMade new.now (with_changes changes x)
+  pub put_in : (x : Content) → Holds old.now x → Holds new.now (with_changes changes x)
 
 -- these trees hold the content with all the changes
 abbrev pub AreChanged : Database → List Change → Trees → Type 0
-AreChanged db changes trees = (x : Content) → HoldsAsMade db x → IsContent trees (with_changes changes x)
+AreChanged db changes trees = (x : Content) → Holds db x → IsContent trees (with_changes changes x)
 
 -- the transaction goes on, and such is made in it
 pub record Makes (Is : Database → Type 0) (old new : State) : Type 0 where

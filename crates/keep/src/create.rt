@@ -14,6 +14,7 @@ mod tests;
 
 use crate::keep::{KeepFault, fault_of};
 use crate::schema::is_empty;
+use crate::tables::desk::VERSION;
 use sqlite::types::ValueRef;
 use sqlite::{Alter, Connection, Error, Transaction};
 
@@ -106,7 +107,7 @@ fn start<S: Alter>(tx: &mut Transaction<'_, S>) -> Result<usize, Error>
         "INSERT INTO desk (one, version, clock, places) VALUES (?1, ?2, ?3, ?4)",
         &[
             ValueRef::Int(1),
-            ValueRef::Int(1),
+            ValueRef::Int(VERSION),
             ValueRef::Int(0),
             ValueRef::Int(0),
         ],

@@ -36,8 +36,11 @@ pub trait Keep {
     // The disk has returned what was written so far.
     ghost is_honest: { Self → Type 0 };
 
-    // The content: what the six tables hold.
+    // The content: what the six tables hold, and there is nothing beside them.
     ghost holds: { Self → Content → Type 0 };
+
+    // The six tables are there, beside whatever else, and this is what they hold.
+    ghost has_tables: { Self → Content → Type 0 };
 
     // Whatever a stop leaves now, it is the six tables, and their content is one of these.
     ghost leaves: { Self → List Content → Type 0 };
@@ -68,7 +71,7 @@ pub trait Keep {
         ensures same { is_honest self.new → OnOk result ((x : Content) → (holds self.old x → holds self.new x) × (holds self.new x → holds self.old x)) }
         ensures order { IfOk result (λ tables. IsInKeyOrder (content_of tables)) }
         ensures version { IfOk result (λ tables. IsDesk (content_of tables)) }
-        ensures desk { is_honest self.new → result ≡ Err KeepFault.NotADesk → (x : Content) → holds self.old x → ¬ IsDesk x }
+        ensures desk { is_honest self.new → result ≡ Err KeepFault.NotADesk → (x : Content) → has_tables self.old x → ¬ IsDesk x }
         ensures alone { is_honest self.new → OnOk result ((x : Content) → holds self.new x → leaves self.new (x ∷ [])) }
         // nothing is added to what a stop may leave
         ensures adds_nothing { is_honest self.new → (these : List Content) → leaves self.old these → leaves self.new these }
@@ -91,6 +94,9 @@ pub trait Keep {
         ensures alone { is_honest self.new → OnOk result ((x : Content) → holds self.new x → leaves self.new (x ∷ [])) }
         ensures either { is_honest self.new → stopped self.old ≡ false → (x : Content) → holds self.old x → leaves self.old (x ∷ [])
             → leaves self.new (x ∷ with_changes changes.now x ∷ []) };
+
+    // What is held stands in the six tables.
+    ghost in_tables: { (k : Self) (x : Content) → holds k x → has_tables k x };
 
     // A stop leaves something.
     ghost something: { (k : Self) → is_honest k → leaves k [] → ⊥ };

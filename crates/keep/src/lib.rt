@@ -6,6 +6,7 @@ mod create;
 #[cfg(test)]
 mod disks;
 mod keep;
+mod laws;
 mod load;
 mod plain;
 mod reopening;
@@ -21,6 +22,7 @@ mod tests;
 
 pub use create::create_over;
 pub use keep::{Keep, KeepFault};
+pub use laws::keepers_in_memory_are_honest;
 pub use plain::PlainKeep;
 pub use reopening::{open_path, reopen, reopen_and_load};
 pub use sql::SqlKeep;

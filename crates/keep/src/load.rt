@@ -8,7 +8,7 @@ ghost use Rattle.book.specs.Rows.{Content, IsInKeyOrder, field_cmp, move_cmp, or
 ghost use Rattle.book.specs.Tables.{content_of, field_cells, move_cells, order_cells, line_cells};
 ghost use Rattle.keep.specs.Schema.{desk_schema};
 ghost use Rattle.keep.specs.Columns.{field_stored, move_stored, order_stored, line_stored, field_columns, move_columns, order_columns, line_columns};
-ghost use Rattle.keep.specs.Content.{AreRows, Holds, IsDesk};
+ghost use Rattle.keep.specs.Content.{AreRows, HasTables, Holds, IsDesk};
 ghost use Rattle.keep.specs.Loading.{Finds};
 
 use crate::tables::{desk, field, kept, line, moves, orders};
@@ -61,7 +61,7 @@ pub(crate) fn load_all<S: Alter>(
     ensures version { IfOk result (λ found. IfSome found (λ tables. IsDesk (content_of tables))) }
     ensures content { HasCleanDisk (state S.Store conn.new) → IfOk result (λ found. IfSome found (λ tables. Holds (state S.Store conn.old).now (content_of tables) × IsUnchanged (state S.Store conn.old) (state S.Store conn.new))) }
     ensures one { HasCleanDisk (state S.Store conn.new) → IfOk result (λ found. IfSome found (λ tables. (x : Content) → Holds (state S.Store conn.old).now x → content_of tables ≡ x)) }
-    ensures none { HasCleanDisk (state S.Store conn.new) → IfOk result (λ found. found ≡ None → (x : Content) → Holds (state S.Store conn.old).now x → ¬ IsDesk x) }
+    ensures none { HasCleanDisk (state S.Store conn.new) → IfOk result (λ found. found ≡ None → (x : Content) → HasTables (state S.Store conn.old).now x → ¬ IsDesk x) }
     ensures survives { Survives (state S.Store conn.old) (state S.Store conn.new) (λ _. ⊥) }
 {
     let Some(desk) = desk::load(conn)? else {

@@ -71,6 +71,8 @@ impl Keep for PlainKeep {
 
     ghost holds = { λ k x. k.content ≡ x };
 
+    ghost has_tables = { λ k x. k.content ≡ x };
+
     ghost leaves = { λ k these. IsAmong these k.content };
 
     ghost may_leave = { λ k x. k.content ≡ x };
@@ -138,6 +140,8 @@ impl Keep for PlainKeep {
         self.stopped = false;
         Ok(())
     }
+
+    ghost in_tables = { λ _ _ held. held };
 
     ghost something = { λ _ _ none. none };
 }

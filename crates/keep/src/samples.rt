@@ -182,10 +182,7 @@ pub(crate) fn kept<R: AllocGlobal>(rt: &R, reqkey: &str, words: &str) -> Result<
     })
 }
 
-pub(crate) fn commit_new_rows<R: Abort + AllocGlobal, K: Keep>(
-    rt: &R,
-    keep: &mut K,
-) -> Result<(), Fail> {
+fn commit_new_rows<R: Abort + AllocGlobal, K: Keep>(rt: &R, keep: &mut K) -> Result<(), Fail> {
     let changes = [
         Change::Kept(kept(rt, "K2", "commit 7")?),
         Change::Line(line(rt, 20, 1, 5)?),
@@ -204,10 +201,7 @@ pub(crate) fn commit_new_rows<R: Abort + AllocGlobal, K: Keep>(
     Ok(commit(keep, &changes)?)
 }
 
-pub(crate) fn commit_more_rows<R: Abort + AllocGlobal, K: Keep>(
-    rt: &R,
-    keep: &mut K,
-) -> Result<(), Fail> {
+fn commit_more_rows<R: Abort + AllocGlobal, K: Keep>(rt: &R, keep: &mut K) -> Result<(), Fail> {
     let changes = [
         Change::Desk(DeskRow {
             one: 1,
@@ -225,54 +219,56 @@ pub(crate) fn commit_more_rows<R: Abort + AllocGlobal, K: Keep>(
     Ok(commit(keep, &changes)?)
 }
 
+fn expect_new_rows<R: Abort + AllocGlobal, K: Keep>(rt: &R, keep: &mut K) -> Result<(), Fail> {
+    let rows = [
+        "desk 1 1 0 0",
+        "field N1 A-1 1 90 50 43 30 70",
+        "field N1 A-2 1 90 50 42 30 70",
+        "field N10 A-1 1 90 50 41 30 70",
+        "field N2 A-1 1 90 50 40 30 70",
+        "move 9 N1 A-1 -8",
+        "move 11 N1 A-1 8",
+        "orders 7 1 900 0",
+        "orders 20 1 900 0",
+        "line 7 1 N2 A-3 1 7 2",
+        "line 7 2 N2 A-3 1 6 2",
+        "line 20 1 N2 A-3 1 5 2",
+        "kept K10 4 abort 7",
+        "kept K2 4 commit 7",
+    ];
+    expect_rows(rt, keep, &rows)
+}
+
+fn expect_more_rows<R: Abort + AllocGlobal, K: Keep>(rt: &R, keep: &mut K) -> Result<(), Fail> {
+    let rows = [
+        "desk 1 1 30 12",
+        "field N1 A-1 1 90 50 43 30 70",
+        "field N1 A-2 1 90 50 42 30 70",
+        "field N10 A-1 1 90 50 60 30 70",
+        "field N2 A-1 1 90 50 40 30 70",
+        "move 9 N1 A-1 -8",
+        "move 11 N1 A-1 15",
+        "orders 7 1 900 2",
+        "orders 12 1 900 1",
+        "orders 20 1 900 0",
+        "line 7 1 N2 A-3 1 7 2",
+        "line 7 2 N2 A-3 1 16 2",
+        "line 20 1 N2 A-3 1 5 2",
+        "kept K10 4 abort 7",
+        "kept K2 4 abort 8",
+    ];
+    expect_rows(rt, keep, &rows)
+}
+
 /// New rows come back in the order of their keys, and rows with keys that are there in place of the old ones.
 pub(crate) fn expect_rows_by_their_keys<R: Abort + AllocGlobal, K: Keep>(
     rt: &R,
     keep: &mut K,
 ) -> Result<(), Fail> {
     commit_new_rows(rt, keep)?;
-    expect_rows(
-        rt,
-        keep,
-        &[
-            "desk 1 1 0 0",
-            "field N1 A-1 1 90 50 43 30 70",
-            "field N1 A-2 1 90 50 42 30 70",
-            "field N10 A-1 1 90 50 41 30 70",
-            "field N2 A-1 1 90 50 40 30 70",
-            "move 9 N1 A-1 -8",
-            "move 11 N1 A-1 8",
-            "orders 7 1 900 0",
-            "orders 20 1 900 0",
-            "line 7 1 N2 A-3 1 7 2",
-            "line 7 2 N2 A-3 1 6 2",
-            "line 20 1 N2 A-3 1 5 2",
-            "kept K10 4 abort 7",
-            "kept K2 4 commit 7",
-        ],
-    )?;
+    expect_new_rows(rt, keep)?;
     commit_more_rows(rt, keep)?;
-    expect_rows(
-        rt,
-        keep,
-        &[
-            "desk 1 1 30 12",
-            "field N1 A-1 1 90 50 43 30 70",
-            "field N1 A-2 1 90 50 42 30 70",
-            "field N10 A-1 1 90 50 60 30 70",
-            "field N2 A-1 1 90 50 40 30 70",
-            "move 9 N1 A-1 -8",
-            "move 11 N1 A-1 15",
-            "orders 7 1 900 2",
-            "orders 12 1 900 1",
-            "orders 20 1 900 0",
-            "line 7 1 N2 A-3 1 7 2",
-            "line 7 2 N2 A-3 1 16 2",
-            "line 20 1 N2 A-3 1 5 2",
-            "kept K10 4 abort 7",
-            "kept K2 4 abort 8",
-        ],
-    )
+    expect_more_rows(rt, keep)
 }
 
 /// A keeper over the connection, which is in no transaction.

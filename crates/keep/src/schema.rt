@@ -3,7 +3,7 @@
 ghost use Rattle.std.specs.Prelude.{◌≡◌, ◌↔◌, IsTrue, None, Some, false, [], ◌∷◌, codes};
 ghost use Rattle.sqlite.specs.Kind.TheVariants.{Integer, Text};
 ghost use Rattle.keep.specs.Names.{HasNames, HasTableNamed};
-ghost use Rattle.keep.specs.Schema.{column, desk_schema, desk_table, field_table, key_index, kept_table, keyed_table, line_table, move_table, no_schema, numbered_table, orders_table, plain_order, whole_number, words};
+ghost use Rattle.keep.specs.Schema.{column, desk_schema, desk_table, field_table, key_index, kept_table, keyed_table, line_table, move_table, no_schema, numbered_table, orders_table, plain_order, text, whole_number};
 
 use sqlite_items::Items;
 use sqlite_schema::code::Terms;
@@ -29,7 +29,7 @@ fn is_whole_number(found: &Column, name: &[u8]) -> bool
 }
 
 fn is_text(found: &Column, name: &[u8]) -> bool
-    ensures { IsTrue result ↔ (found.now ≡ words name.now) }
+    ensures { IsTrue result ↔ (found.now ≡ text name.now) }
 {
     is_column(found, name, Kind::Text)
 }
@@ -137,7 +137,8 @@ fn is_desk_table(table: &Table) -> bool
         && is_whole_number(places, b"places")
 }
 
-fn are_bounds(columns: &[Column]) -> bool
+/// The columns of a field's numbers.
+fn are_number_columns(columns: &[Column]) -> bool
     ensures { IsTrue result ↔ (columns.now ≡ whole_number (codes "lo") ∷ whole_number (codes "hi") ∷ whole_number (codes "start") ∷ whole_number (codes "value") ∷ whole_number (codes "inf") ∷ whole_number (codes "sup") ∷ []) }
 {
     let [lo, hi, start, value, inf, sup] = columns else {
@@ -151,14 +152,14 @@ fn are_bounds(columns: &[Column]) -> bool
         && is_whole_number(sup, b"sup")
 }
 
-/// The columns of a field: where it is, and what bounds it.
+/// The columns of a field: its name, and its numbers.
 fn are_field_columns(columns: &[Column]) -> bool
     ensures { IsTrue result ↔ (columns.now ≡ field_table.columns) }
 {
-    let [branch, article, bounds @ ..] = columns else {
+    let [branch, article, numbers @ ..] = columns else {
         return false;
     };
-    is_text(branch, b"branch") && is_text(article, b"article") && are_bounds(bounds)
+    is_text(branch, b"branch") && is_text(article, b"article") && are_number_columns(numbers)
 }
 
 fn is_field_table(table: &Table) -> bool
@@ -194,8 +195,9 @@ fn is_orders_table(table: &Table) -> bool
         && is_whole_number(state, b"state")
 }
 
-fn are_part_columns(columns: &[Column]) -> bool
-    ensures { IsTrue result ↔ (columns.now ≡ words (codes "branch") ∷ words (codes "article") ∷ whole_number (codes "way") ∷ whole_number (codes "held") ∷ whole_number (codes "used") ∷ []) }
+/// The columns of what a line holds: on which field, which way and how much.
+fn are_holding_columns(columns: &[Column]) -> bool
+    ensures { IsTrue result ↔ (columns.now ≡ text (codes "branch") ∷ text (codes "article") ∷ whole_number (codes "way") ∷ whole_number (codes "held") ∷ whole_number (codes "used") ∷ []) }
 {
     let [branch, article, way, held, used] = columns else {
         return false;
@@ -207,14 +209,16 @@ fn are_part_columns(columns: &[Column]) -> bool
         && is_whole_number(used, b"used")
 }
 
-/// The columns of a line of an order: its number in the order, and what it holds.
+/// The columns of a line of an order: the order, the line's number in it, and what it holds.
 fn are_line_columns(columns: &[Column]) -> bool
     ensures { IsTrue result ↔ (columns.now ≡ line_table.columns) }
 {
-    let [number, nr, parts @ ..] = columns else {
+    let [number, nr, holdings @ ..] = columns else {
         return false;
     };
-    is_whole_number(number, b"number") && is_whole_number(nr, b"nr") && are_part_columns(parts)
+    is_whole_number(number, b"number")
+        && is_whole_number(nr, b"nr")
+        && are_holding_columns(holdings)
 }
 
 fn is_line_table(table: &Table) -> bool

@@ -5,7 +5,7 @@ ghost use Rattle.sqlite.specs.State.{HasCleanDisk, IsUnchanged, Survives};
 ghost use Rattle.sqlite.specs.Held.{state};
 ghost use Rattle.book.specs.Rows.{Content, IsInKeyOrder};
 ghost use Rattle.book.specs.Tables.{content_of};
-ghost use Rattle.keep.specs.Content.{Holds, IsDesk, LeavesOnly, MayLeave};
+ghost use Rattle.keep.specs.Content.{HasTables, Holds, IsDesk, LeavesOnly, MayLeave};
 ghost use Rattle.keep.specs.Transactions.{Committed, AreChanged};
 ghost use Rattle.keep.specs.Schema.{desk_schema};
 
@@ -84,7 +84,7 @@ fn load_from<S: Alter>(alloc: Global, conn: &mut Connection<S>) -> Result<Tables
     ensures content { HasCleanDisk (state S.Store conn.new) → IfOk result (λ tables. Holds (state S.Store conn.old).now (content_of tables) × IsUnchanged (state S.Store conn.old) (state S.Store conn.new)) }
     ensures one { HasCleanDisk (state S.Store conn.new) → IfOk result (λ tables. (x : Content) → Holds (state S.Store conn.old).now x → content_of tables ≡ x) }
     ensures settled { HasCleanDisk (state S.Store conn.new) → OnOk result (IsTrue (state S.Store conn.new).is_open × ((state S.Store conn.new).committed ≡ (state S.Store conn.new).now)) }
-    ensures desk { HasCleanDisk (state S.Store conn.new) → result ≡ Err KeepFault.NotADesk → (x : Content) → Holds (state S.Store conn.old).now x → ¬ IsDesk x }
+    ensures desk { HasCleanDisk (state S.Store conn.new) → result ≡ Err KeepFault.NotADesk → (x : Content) → HasTables (state S.Store conn.old).now x → ¬ IsDesk x }
     ensures survives { Survives (state S.Store conn.old) (state S.Store conn.new) (λ _. ⊥) }
 {
     if !has_names(conn.schema()) {
@@ -106,8 +106,9 @@ fn commit_to<S: Alter>(conn: &mut Connection<S>, changes: &[Change]) -> Result<(
     requires { conn.old.in_transaction ≡ false }
     ensures idle { conn.new.in_transaction ≡ false }
     ensures fault { IfErr result (λ fault. (fault ≡ KeepFault.Memory) ⊎ (fault ≡ KeepFault.Store)) }
-    ensures put { HasCleanDisk (state S.Store conn.new) → OnOk result (Committed (state S.Store conn.old) (state S.Store conn.new) changes.now × ((state S.Store conn.old).now.schema ≡ desk_schema)) }
-    ensures survives { Survives (state S.Store conn.old) (state S.Store conn.new) (λ trees. AreChanged (state S.Store conn.old).now changes.now trees × ((state S.Store conn.old).now.schema ≡ desk_schema)) }
+    ensures other { ¬ ((state S.Store conn.old).now.schema ≡ desk_schema) → (result ≡ Err KeepFault.Store) × (conn.new ≡ conn.old) }
+    ensures put { HasCleanDisk (state S.Store conn.new) → OnOk result (Committed (state S.Store conn.old) (state S.Store conn.new) changes.now) }
+    ensures survives { Survives (state S.Store conn.old) (state S.Store conn.new) (AreChanged (state S.Store conn.old).now changes.now) }
 {
     if !is_desk_schema(conn.schema()) {
         return Err(KeepFault::Store);
@@ -116,11 +117,13 @@ fn commit_to<S: Alter>(conn: &mut Connection<S>, changes: &[Change]) -> Result<(
 }
 
 impl<S: Alter> Keep for SqlKeep<S> {
-    ghost use Rattle.keep.specs.Laws.{leaves_something};
+    ghost use Rattle.keep.specs.Laws.{holds_tables, leaves_something};
 
     ghost is_honest = { λ k. HasCleanDisk (state S.Store k.connection) };
 
     ghost holds = { λ k. Holds (state S.Store k.connection).now };
+
+    ghost has_tables = { λ k. HasTables (state S.Store k.connection).now };
 
     ghost leaves = { λ k. LeavesOnly (state S.Store k.connection).may_leave };
 
@@ -145,6 +148,8 @@ impl<S: Alter> Keep for SqlKeep<S> {
         self.stopped = done.is_err();
         done
     }
+
+    ghost in_tables = { λ k. holds_tables _ };
 
     ghost something = { λ k clean. leaves_something _ (S.survives k.connection.store clean) };
 }

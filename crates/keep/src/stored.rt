@@ -5,7 +5,7 @@ ghost use Rattle.std.specs.List.{AllZip};
 ghost use Rattle.std.specs.List.Sorted.{IsStrictlySortedBy};
 
 use crate::row::TableRow;
-use sqlite::{Error, Row};
+use sqlite::{Error, ErrorCode, Row};
 use std::alloc::Global;
 
 /// A row that an answer shows.
@@ -22,7 +22,7 @@ pub(crate) trait Stored: Sized {
 }
 
 /// The rows that the answers show.
-pub(crate) fn read_all<R: Stored + Drop>(alloc: Global, answers: &[Row]) -> Result<Vec<R>, Error>
+fn read_all<R: Stored + Drop>(alloc: Global, answers: &[Row]) -> Result<Vec<R>, Error>
     ensures { IfOk result (λ rows. AllZip R.is_shown answers.now rows.items) }
 {
     let mut rows = Vec::new(alloc);
@@ -33,7 +33,7 @@ pub(crate) fn read_all<R: Stored + Drop>(alloc: Global, answers: &[Row]) -> Resu
 }
 
 /// Whether the rows stand in the order of their keys, each once.
-pub(crate) fn are_in_order<R: TableRow>(rows: &[R]) -> bool
+fn are_in_order<R: TableRow>(rows: &[R]) -> bool
     ensures { IsTrue result ↔ IsStrictlySortedBy R.cmp rows.now }
 {
     for i in 1..rows.len() {
@@ -42,4 +42,20 @@ pub(crate) fn are_in_order<R: TableRow>(rows: &[R]) -> bool
         }
     }
     true
+}
+
+/// The rows that the answers show, in the order of their keys. Rows out of order are an error.
+pub(crate) fn read_in_order<R: Stored + TableRow + Drop>(
+    alloc: Global,
+    answers: &[Row],
+) -> Result<Vec<R>, Error>
+    ensures shown { IfOk result (λ rows. AllZip R.is_shown answers.now rows.items) }
+    ensures order { IfOk result (λ rows. IsStrictlySortedBy R.cmp rows.items) }
+{
+    let rows = read_all(alloc, answers)?;
+    if are_in_order(rows.as_slice()) {
+        Ok(rows)
+    } else {
+        Err(Error::SqliteFailure(ErrorCode::DatabaseCorrupt))
+    }
 }

@@ -11,6 +11,7 @@ ghost use Rattle.keep.specs.Plain.{HasRoom, IsCopy, IsInOrder, row_of, shelf_con
 ghost use Rattle.keep.specs.Transactions.{with_changes};
 
 use crate::row::TableRow;
+use crate::tables::desk::VERSION;
 use book::{Change, DeskRow, FieldRow, KeptRow, LineRow, MoveRow, OrderRow, Rows, Tables};
 use std::alloc::{AllocError, Global};
 
@@ -96,7 +97,7 @@ impl Shelf {
         Shelf {
             desk: DeskRow {
                 one: 1,
-                version: 1,
+                version: VERSION,
                 clock: 0,
                 places: 0,
             },

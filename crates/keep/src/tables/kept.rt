@@ -13,9 +13,9 @@ ghost use Rattle.keep.specs.Content.{AreRows};
 ghost use Rattle.keep.specs.Loading.{Finds};
 ghost use Rattle.keep.specs.Transactions.{PutsIn};
 
-use crate::stored::{Stored, are_in_order, read_all};
+use crate::stored::{Stored, read_in_order};
 use book::KeptRow;
-use sqlite::{Alter, Connection, Error, ErrorCode, Row, Transaction, params};
+use sqlite::{Alter, Connection, Error, Row, Transaction, params};
 use std::alloc::Global;
 
 /// Puts a row in by its key.
@@ -54,12 +54,7 @@ pub(crate) fn load<S: Alter>(alloc: Global, conn: &mut Connection<S>) -> Result<
     ensures survives { Survives (state S.Store conn.old) (state S.Store conn.new) (λ _. ¬ ((state S.Store conn.old).now.schema ≡ desk_schema)) }
 {
     let answers = select(conn)?;
-    let rows = read_all(alloc, answers.as_slice())?;
-    if are_in_order(rows.as_slice()) {
-        Ok(rows)
-    } else {
-        Err(Error::SqliteFailure(ErrorCode::DatabaseCorrupt))
-    }
+    read_in_order(alloc, answers.as_slice())
 }
 
 impl Stored for KeptRow {

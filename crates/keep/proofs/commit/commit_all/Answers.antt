@@ -2,15 +2,13 @@ use Rattle.std.proofs.Common.{◌≡◌, ◌∙◌, Ok, Err, Result, List, sym, 
 use Rattle.std.specs.Prelude.{OnOk}
 use Rattle.sqlite.specs.State.{HasCleanDisk, Survives, Shows}
 use Rattle.sqlite.specs.Held.{Held, state}
-use Rattle.sqlite.specs.Effect.{Database}
-use Rattle.sqlite_trees.specs.Tree.{Trees}
 use Rattle.sqlite_trees.specs.declared.store.Store.{Ghosts}
 use Rattle.sqlite.proofs.StateLemmas.{survives_then}
 use Rattle.sqlite.proofs.Callers.{survives_begin}
 use Rattle.book.specs.declared.rows.Change.{Change}
-use Rattle.book.specs.Rows.{Content}
-use Rattle.keep.specs.Content.{Holds, IsContent}
-use Rattle.keep.specs.Transactions.{HoldsAsMade, PutsIn, Committed, AreChanged, with_changes}
+use Rattle.keep.specs.Content.{Holds}
+use Rattle.keep.specs.Transactions.{PutsIn, Committed, AreChanged, with_changes}
+use Rattle.keep.proofs.Leaving.{held_by}
 use Rattle.keep.proofs.commit.commit_all.Goals as goal
 
 on_ok : {U E A B : Type 0} (r : Result U E) → (A → B) → OnOk r A → OnOk r B
@@ -22,12 +20,8 @@ done : {S : Type 0} (g : Ghosts S) (old last new : Held S) (changes : List Chang
 done g old last new changes puts h = record {
   is_open = h.is_open;
   settled = h.committed_is ∙ sym h.now_is;
-  put_in = λ x held. subst (λ d. HoldsAsMade d (with_changes changes x)) (sym h.now_is) (puts.put_in x held);
+  put_in = λ x held. subst (λ d. Holds d (with_changes changes x)) (sym h.now_is) (puts.put_in x held);
 }
-
--- trees that are those of the transaction are such a content
-left_by : (db : Database) (trees : Trees) (x : Content) → trees ≡ db.trees → Holds db x → IsContent trees x
-left_by db trees x is held = (db.schema, subst (λ (t : Trees). Holds (record { schema = db.schema; trees = t }) x) (sym is) held)
 
 pub returns-clause-put : goal.returns-clause-put
 returns-clause-put g c clean =
@@ -47,7 +41,7 @@ returns-clause-survives g c =
     λ clean. (rw begun at c.in_ok-put_all.ensures.put) clean refl in
     let P = AreChanged (state g.S.Store old).now changes in
     let whole = survives_then (state g.S.Store old) (state g.S.Store last) (state g.S.Store c.commit.new.self.0) _ _ P (λ _ db none. absurd none)
-    (λ clean db is x held. left_by (state g.S.Store last).now db (with_changes changes x) is ((puts (omega (arith, c.commit.ensures.survives.clean))).put_in x held).1)
+    (λ clean db is x held. held_by (state g.S.Store last).now db (with_changes changes x) is ((puts (omega (arith, c.commit.ensures.survives.clean))).put_in x held))
     (survives_begin g.S.Store old (state g.S.Store last) _ (rw begun at c.put_all.ensures.survives)) c.commit.ensures.survives in
     let same : c.commit.new.self.0 ≡ c.conn-2-1.given.0 = search rules in
     subst (λ h. Survives (state g.S.Store old) (state g.S.Store h) P) same whole

@@ -7,11 +7,10 @@ use Rattle.sqlite_catalog.specs.Listing.{Lists}
 use Rattle.book.specs.Rows.{desk_cmp, field_cmp, move_cmp, order_cmp, line_cmp, kept_cmp}
 use Rattle.book.specs.Tables.{desk_cells, field_cells, move_cells, order_cells, line_cells, kept_cells}
 use Rattle.keep.specs.Columns.{desk_stored, field_stored, move_stored, order_stored, line_stored, kept_stored, desk_columns, field_columns, move_columns, order_columns, line_columns, kept_columns}
-use Rattle.keep.specs.Content.{AreRows}
+use Rattle.keep.specs.Content.{AreRows, IsContent}
 use Rattle.keep.specs.Loading.{Finds}
 use Rattle.keep.proofs.Steps.{finds_then}
-use Rattle.keep.proofs.Literal.{HoldsLiteral, literal, from_literal}
-use Rattle.keep.proofs.Only.{one_holds}
+use Rattle.keep.proofs.Only.{only_content}
 use Rattle.keep.proofs.load.load_all.Goals as goal
 
 module _ (g : _) (c : goal.After-new-5 g) where
@@ -40,7 +39,7 @@ module _ (g : _) (c : goal.After-new-5 g) where
       (finds_then s0 s1 s2 Desk Stock _ c.load_stock.ensures.survives desk c.in_ok-fields.ensures.found) c.in_ok-orders.ensures.found)
       c.in_ok-kept.ensures.found
 
-  holds : HasCleanDisk (state g.S.Store c.load-2.new.conn) → HoldsLiteral (state g.S.Store c.args.conn.now).now
+  holds : HasCleanDisk (state g.S.Store c.load-2.new.conn) → IsContent (state g.S.Store c.args.conn.now).now.trees
       (record { desk = desk_cells c.in-Some.desk ∷ []; fields = map field_cells c.new.result; moves = map move_cells c.new-2.result; orders = map order_cells c.new-3.result; lines = map line_cells c.new-4.result; kept = map kept_cells c.new-5.result })
   holds clean =
       let all = found clean c.requires.schema in
@@ -55,7 +54,7 @@ module _ (g : _) (c : goal.After-new-5 g) where
       })
 
 pub returns-clause-content : goal.returns-clause-content
-returns-clause-content g c clean = (from_literal (state g.S.Store c.args.conn.now).now _ c.requires.schema (holds g c clean), (found g c clean c.requires.schema).0)
+returns-clause-content g c clean = (record { schema_is = c.requires.schema; content = holds g c clean }, (found g c clean c.requires.schema).0)
 
 pub returns-clause-one : goal.returns-clause-one
-returns-clause-one g c clean x held = one_holds (state g.S.Store c.args.conn.now).now x _ (literal (state g.S.Store c.args.conn.now).now x c.requires.schema held) (holds g c clean)
+returns-clause-one g c clean x held = only_content (state g.S.Store c.args.conn.now).now.trees x _ held.content (holds g c clean)

@@ -1,6 +1,7 @@
 use Rattle.std.proofs.Math.Logic.{∥∥₁_elim}
 use Rattle.sqlite.specs.Files.{file_state}
 use Rattle.keep.specs.Content.{Holds, LeavesOnly}
+use Rattle.keep.specs.Laws.{holds_tables}
 use Rattle.keep.proofs.Reopened.{which, is_desk, alone_after, if_held}
 use Rattle.keep.proofs.reopening.reopen_and_load.Goals as goal
 
@@ -12,7 +13,7 @@ returns-clause-found g c clean these only =
 pub returns-clause-desk : goal.returns-clause-desk
 returns-clause-desk g c clean these only desks refused =
     ∥∥₁_elim (c.in_ok-again.ensures.found (c.load-tables.ensures.honest clean) these only) (λ p q. absurd p)
-    (λ f. c.load-tables.ensures.desk clean refused f.0 f.1 (is_desk (Holds (file_state c.in_ok-again.again.connection).now) these f desks))
+    (λ f. c.load-tables.ensures.desk clean refused f.0 (holds_tables _ f.0 f.1) (is_desk (Holds (file_state c.in_ok-again.again.connection).now) these f desks))
 
 pub returns-clause-alone : goal.returns-clause-alone
 returns-clause-alone g c clean =

@@ -1,21 +1,17 @@
-use Rattle.std.proofs.Common.{refl, map, [], ◌∷◌}
-use Rattle.std.specs.List.Sorted.{IsStrictlySortedBy}
+use Rattle.std.proofs.Common.{refl, [], ◌∷◌}
+use Rattle.sqlite.specs.Held.{state}
 use Rattle.sqlite.specs.Order.{column}
 use Rattle.book.specs.Rows.{kept_cmp}
 use Rattle.book.specs.Tables.{kept_cells}
 use Rattle.keep.specs.Columns.{kept_stored, kept_columns, kept_selected, kept_shown}
-use Rattle.keep.proofs.Loaded.{loaded, sorted_cells}
+use Rattle.keep.proofs.Loaded.{order_if, found_if}
 use Rattle.keep.proofs.tables.kept.load.Goals as goal
 
-in_order : (g : _) (c : goal.After-drop-answers-then-are_in_order g) → IsStrictlySortedBy kept_cmp (map kept_cells c.in_ok-rows.rows.items)
-in_order g c = sorted_cells kept_cmp kept_cells c.in_ok-rows.rows.items (rw c.as_slice-2.ensures.value at (c.if-are_in_order.ensures.0 refl))
+pub returns-clause-order : goal.returns-clause-order
+returns-clause-order g c = order_if kept_cmp kept_cells c.read_in_order.result c.read_in_order.ensures.order
 
-pub returns-then-are_in_order-clause-order : goal.returns-then-are_in_order-clause-order
-returns-then-are_in_order-clause-order g c = in_order g c
-
-pub returns-then-are_in_order-clause-found : goal.returns-then-are_in_order-clause-found
-returns-then-are_in_order-clause-found g c clean has = (
-  c.in_ok-answers.ensures.same clean has,
-  loaded kept_cmp kept_stored kept_columns kept_cells kept_selected (λ c. column c 0 ∷ column c 1 ∷ column c 2 ∷ []) 3 kept_shown (λ _ _ h. h) (λ _. refl) (λ _. refl) _ _ c.in_ok-rows.rows.items
-      (c.in_ok-answers.ensures.rows clean has) (rw c.as_slice.ensures.value at c.in_ok-rows.ensures) (in_order g c),
-)
+pub returns-clause-found : goal.returns-clause-found
+returns-clause-found g c =
+    found_if kept_cmp kept_stored kept_columns kept_cells kept_selected (λ c. column c 0 ∷ column c 1 ∷ column c 2 ∷ []) 3 kept_shown (λ _ _ h. h) (λ _. refl) (λ _. refl)
+    (state g.S.Store c.args.conn.now) (state g.S.Store c.select.new.conn) 7 c.in_ok-answers.answers.items c.in_ok-answers.ensures.rows c.in_ok-answers.ensures.same
+    c.read_in_order.result (rw c.as_slice.ensures.value at c.read_in_order.ensures.shown) c.read_in_order.ensures.order
