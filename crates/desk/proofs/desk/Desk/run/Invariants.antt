@@ -1,0 +1,13 @@
+-- the requests so far are answered, and the desk goes on as it began
+use Rattle.std.proofs.Common.{◌≡◌, false, length, take}
+use Rattle.book.specs.Answers.{Runs}
+use Rattle.desk.specs.Desk.{Keeps}
+use Rattle.desk.proofs.desk.Desk.run.Given as goal
+
+abbrev pub invariant-loop-request : goal.invariant-loop-request
+invariant-loop-request g l =
+    Runs l.initial.self.ledger (take l.request-index l.requests) l.replies.items l.self.ledger
+    × (length l.replies.items ≡ l.request-index)
+    × (g.K.Keep.stopped l.self.keep ≡ g.K.Keep.stopped l.initial.self.keep)
+    × (g.K.Keep.is_honest l.self.keep → g.K.Keep.is_honest l.initial.self.keep)
+    × (g.K.Keep.stopped l.self.keep ≡ false → g.K.Keep.is_honest l.self.keep → Keeps (g.K.Keep.holds l.self.keep) (g.K.Keep.leaves l.self.keep) l.self.ledger)

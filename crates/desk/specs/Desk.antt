@@ -1,0 +1,42 @@
+-- A desk as it is seen, and what its keeper holds for it.
+use Rattle.std.specs.Prelude.{◌≡◌, ◌⊎◌, Bool, false, List, [], ◌∷◌, Result, Ok, Err}
+use Rattle.book.specs.Good.{Good}
+use Rattle.book.specs.Ledger.{Ledger}
+use Rattle.book.specs.Rows.{Content, IsRowsOf}
+use Rattle.desk.specs.declared.fault.OpenFault.{OpenFault}
+use Rattle.desk.specs.declared.fault.OpenFault.TheVariants.{Memory, Store}
+
+-- a desk as it is seen: its ledger, and the keeper of its rows
+pub record DeskView (K : Type 0) : Type 0 where
+  pub ledger : Ledger
+  pub keep : K
+
+-- the rows of the ledger are held, and a stop leaves these alone
+pub record Keeps (holds : Content → Type 0) (leaves : List Content → Type 0) (A : Ledger) : Type 0 where
+  pub rows : Content
+  pub are_rows : IsRowsOf A rows
+  pub held : holds rows
+  pub alone : leaves (rows ∷ [])
+
+-- The ledger is good. While the keeper is not stopped, and the disk is honest, it holds the ledger's rows.
+pub record IsInOrder (stopped : Bool) (is_honest : Type 0) (holds : Content → Type 0) (leaves : List Content → Type 0) (A : Ledger) : Type 0 where
+  pub good : Good A
+  pub keeps : stopped ≡ false → is_honest → Keeps holds leaves A
+
+-- a stop leaves the rows of the one ledger or those of the other
+pub record LeavesEither (leaves : List Content → Type 0) (A B : Ledger) : Type 0 where
+  pub before : Content
+  pub after : Content
+  pub are_before : IsRowsOf A before
+  pub are_after : IsRowsOf B after
+  pub either : leaves (before ∷ after ∷ [])
+
+-- opened at that ledger, or refused for memory or by the store, and nothing else
+abbrev pub OpensAt : {K : Type 0} → Ledger → Result (DeskView K) (OpenFault × K) → Type 0
+OpensAt A (Ok desk) = desk.ledger ≡ A
+OpensAt A (Err e) = (e.0 ≡ Memory) ⊎ (e.0 ≡ Store)
+
+-- the keeper after an opening: the desk's, or the one that is given back
+abbrev pub keeper_after : {K E : Type 0} → Result (DeskView K) (E × K) → K
+keeper_after (Ok desk) = desk.keep
+keeper_after (Err e) = e.1

@@ -1,0 +1,175 @@
+//! A ledger, and the keeper of its rows.
+
+ghost use Rattle.std.specs.Prelude.{◌≡◌, ◌⊎◌, false, List, IsTrue, IfOk, IfErr, IsSome, IsSomeAnd, MatchOption, Err};
+ghost use Rattle.escrow.specs.Codes.{IsKey};
+ghost use Rattle.words.specs.Spelling.{IsInRange};
+ghost use Rattle.book.specs.Answers.{Answers, IsAccepted};
+ghost use Rattle.book.specs.Future.{Honours, HonoursAlways};
+ghost use Rattle.book.specs.Good.{Good};
+ghost use Rattle.book.specs.Ledger.{Ledger, field_named, kept_under, name_of, order_numbered};
+ghost use Rattle.book.specs.Next.{accept};
+ghost use Rattle.book.specs.Plans.{Fits};
+ghost use Rattle.book.specs.Rows.{Content, IsDamaged, IsRowsOf};
+ghost use Rattle.book.specs.Views.{ShowsField, ShowsOrder};
+ghost use Rattle.keep.specs.Content.{IsDesk};
+ghost use Rattle.desk.specs.Desk.{Keeps, LeavesEither, OpensAt, keeper_after};
+
+use crate::fault::{CallFault, OpenFault, load_fault};
+use book::{Book, FieldView, OrderView, Plan, Planned, TablesFault};
+use escrow::{Article, Branch, OrderNo};
+use keep::Keep;
+use std::alloc::Global;
+use std::marker::Model;
+use words::{Memory, Reply, Request};
+
+/// The stock desk over a keeper. While it is not stopped and the disk is honest, its keeper holds the rows of its
+/// ledger, and a stop leaves these alone.
+#[derive(Drop)]
+pub struct Desk<K: Keep> {
+    pub(crate) book: Book,
+    keep: K,
+}
+
+impl<K: Keep> Model for Desk<K> {
+    ghost use Rattle.desk.specs.Desk.{DeskView, IsInOrder};
+
+    ghost Value = { DeskView K };
+
+    ghost view = { λ d. record { ledger = d.book.ledger; keep = d.keep } };
+
+    ghost invariant = { λ d. IsInOrder (K.stopped d.keep) (K.is_honest d.keep) (K.holds d.keep) (K.leaves d.keep) d.book.ledger };
+}
+
+impl<K: Keep> Desk<K> {
+    /// Opens the desk whose rows the keeper holds. An error gives the keeper back.
+    ///
+    /// `NotADesk` only where the keeper does not hold the six tables with one row of `desk` of version 1, `Damaged` only
+    /// where they are the rows of no good ledger; `Store` where the store fails or the keeper is stopped, `Memory` where
+    /// memory is refused.
+    pub fn open(alloc: Global, keep: K) -> Result<Desk<K>, (OpenFault, K)>
+        ensures refused { IsTrue (K.stopped keep) → result ≡ Err (OpenFault.Store, keep) }
+        ensures going { IfOk result (λ desk. K.stopped desk.keep ≡ false) }
+        ensures good { IfOk result (λ desk. Good desk.ledger × Honours desk.ledger × HonoursAlways desk.ledger) }
+        ensures honest { K.is_honest (keeper_after result) → K.is_honest keep }
+        ensures keeps { IfOk result (λ desk. K.is_honest desk.keep → Keeps (K.holds keep) (K.leaves desk.keep) desk.ledger) }
+        ensures rows { IfOk result (λ desk. K.is_honest desk.keep → (x : Content) → K.holds keep x → IsRowsOf desk.ledger x) }
+        ensures nothing_else { K.is_honest (keeper_after result) → (A : Ledger) (x : Content) → Good A → IsRowsOf A x → K.holds keep x → OpensAt A result }
+        ensures damaged { IfErr result (λ e. e.0 ≡ OpenFault.Damaged → K.is_honest e.1 → (x : Content) → K.holds keep x → IsDamaged x) }
+        ensures loaded { IfErr result (λ e. e.0 ≡ OpenFault.Damaged → K.stopped e.1 ≡ false) }
+        ensures not_a_desk { IfErr result (λ e. e.0 ≡ OpenFault.NotADesk → K.is_honest e.1 → (x : Content) → K.has_tables keep x → ¬ IsDesk x) }
+        ensures stopped { IfErr result (λ e. (e.0 ≡ OpenFault.Store) ⊎ (e.0 ≡ OpenFault.NotADesk) → IsTrue (K.stopped e.1)) }
+        ensures same { K.is_honest (keeper_after result) → K.stopped (keeper_after result) ≡ false → (x : Content)
+            → (K.holds keep x → K.holds (keeper_after result) x) × (K.holds (keeper_after result) x → K.holds keep x) }
+        // nothing is added to what a stop may leave
+        ensures adds_nothing { K.is_honest (keeper_after result) → (these : List Content) → K.leaves keep these → K.leaves (keeper_after result) these }
+        ensures no_more { K.is_honest (keeper_after result) → (x : Content) → K.may_leave (keeper_after result) x → K.may_leave keep x }
+    {
+        let mut keep = keep;
+        let tables = match keep.load(alloc) {
+            Ok(tables) => tables,
+            Err(fault) => return Err((load_fault(fault), keep)),
+        };
+        match Book::of_tables(alloc, tables) {
+            Ok(book) => Ok(Desk { book, keep }),
+            Err(TablesFault::Damaged) => Err((OpenFault::Damaged, keep)),
+            Err(TablesFault::Memory) => Err((OpenFault::Memory, keep)),
+        }
+    }
+
+    /// Answers a request, and keeps what it changes before it answers `Done`. A request that is not accepted changes
+    /// nothing.
+    ///
+    /// `Memory` where memory is refused, and nothing has changed then; it is wanted only for a repeated key and for a
+    /// request that is accepted. `Stopped` where the keeper is stopped, by a fault in this call or earlier: the ledger is
+    /// as it was, a stop leaves its rows or those after the request, and every later call answers `Stopped`.
+    pub fn call(&mut self, alloc: Global, request: &Request) -> Result<Reply, CallFault>
+        ensures refused { IsTrue (K.stopped self.old.keep) → (result ≡ Err CallFault.Stopped) × (self.new ≡ self.old) }
+        ensures answer { IfOk result (λ reply. Answers self.old.ledger request.now reply self.new.ledger) }
+        ensures going { IfOk result (λ reply. K.stopped self.new.keep ≡ false) }
+        ensures keeps { K.stopped self.new.keep ≡ false → K.is_honest self.new.keep → Keeps (K.holds self.new.keep) (K.leaves self.new.keep) self.new.ledger }
+        ensures others { (IsAccepted self.old.ledger request.now → ⊥) → self.new ≡ self.old }
+        ensures memory { result ≡ Err CallFault.Memory → self.new ≡ self.old }
+        ensures wanted { result ≡ Err CallFault.Memory → IsSome (kept_under self.old.ledger request.now.key) ⊎ IsAccepted self.old.ledger request.now }
+        ensures stopped { result ≡ Err CallFault.Stopped → IsTrue (K.stopped self.new.keep) × (self.new.ledger ≡ self.old.ledger) }
+        ensures accepted { result ≡ Err CallFault.Stopped → K.stopped self.old.keep ≡ false → IsAccepted self.old.ledger request.now }
+        ensures either { result ≡ Err CallFault.Stopped → K.stopped self.old.keep ≡ false → K.is_honest self.new.keep → LeavesEither (K.leaves self.new.keep) self.old.ledger (accept self.old.ledger request.now) }
+        ensures honest { K.is_honest self.new.keep → K.is_honest self.old.keep }
+    {
+        if self.keep.is_stopped() {
+            return Err(CallFault::Stopped);
+        }
+        request.in_range();
+        match self.book.plan(alloc, request) {
+            Ok(Planned::Again(place)) => Ok(Reply::Done(place)),
+            Ok(Planned::Refused(refusal, line)) => Ok(Reply::Refused(refusal, line)),
+            Ok(Planned::Accept(plan)) => self.carry_out(plan),
+            Err(Memory) => Err(CallFault::Memory),
+        }
+    }
+
+    /// Keeps the rows that an accepted request changes, and then carries it out.
+    fn carry_out(&mut self, plan: Plan) -> Result<Reply, CallFault>
+        requires going { K.stopped self.old.keep ≡ false }
+        requires fits { Fits self.old.ledger plan }
+        requires key { IsKey plan.request.key }
+        requires command { IsInRange plan.request.command }
+        ensures answer { IfOk result (λ reply. Answers self.old.ledger plan.request reply self.new.ledger) }
+        ensures going { IfOk result (λ reply. K.stopped self.new.keep ≡ false) }
+        ensures kept { IfOk result (λ reply. K.is_honest self.new.keep → Keeps (K.holds self.new.keep) (K.leaves self.new.keep) self.new.ledger) }
+        ensures memory { result ≡ Err CallFault.Memory → self.new ≡ self.old }
+        ensures stopped { result ≡ Err CallFault.Stopped → IsTrue (K.stopped self.new.keep) × (self.new.ledger ≡ self.old.ledger) }
+        ensures either { result ≡ Err CallFault.Stopped → K.is_honest self.new.keep → LeavesEither (K.leaves self.new.keep) self.old.ledger (accept self.old.ledger plan.request) }
+        ensures honest { K.is_honest self.new.keep → K.is_honest self.old.keep }
+    {
+        let place = plan.place();
+        let Ok(()) = self.book.make_room(&plan) else {
+            return Err(CallFault::Memory);
+        };
+        let Ok(()) = self.keep.commit(plan.changes()) else {
+            return Err(CallFault::Stopped);
+        };
+        self.book.adopt(plan);
+        Ok(Reply::Done(place))
+    }
+
+    /// The field of that name, or `None` exactly where there is none; on a stopped desk that of the ledger after the last
+    /// request that was answered. Takes no memory.
+    pub fn field(&self, branch: Branch, article: Article) -> Option<FieldView>
+        ensures { let found = field_named self.now.ledger (name_of branch article) in MatchOption result (found ≡ None) (λ view. IsSomeAnd found (λ f. ShowsField self.now.ledger f view)) }
+    {
+        self.book.field(branch, article)
+    }
+
+    /// The order of that number, or `None` exactly where there is none; on a stopped desk that of the ledger after the
+    /// last request that was answered. Takes no memory.
+    pub fn order(&self, number: OrderNo) -> Option<OrderView<'_>>
+        ensures { let found = order_numbered self.now.ledger number in MatchOption result (found ≡ None) (λ view. IsSomeAnd found (λ o. ShowsOrder o view)) }
+    {
+        self.book.order(number)
+    }
+
+    /// Whether a fault of the keeper has stopped the desk. While none has, the keeper holds the rows of the ledger, and a
+    /// stop leaves these alone. Takes no memory.
+    pub fn is_stopped(&self) -> bool
+        ensures stopped { result ≡ K.stopped self.now.keep }
+        ensures keeps { K.stopped self.now.keep ≡ false → K.is_honest self.now.keep → Keeps (K.holds self.now.keep) (K.leaves self.now.keep) self.now.ledger }
+    {
+        self.keep.is_stopped()
+    }
+
+    /// The book, which has the desk's ledger. Takes no memory.
+    pub fn book(&self) -> &Book
+        ensures ledger { result.now.ledger ≡ self.now.ledger }
+        ensures good { Good self.now.ledger }
+    {
+        &self.book
+    }
+
+    /// The keeper, as it stands. Takes no memory.
+    pub fn into_keep(self) -> K
+        ensures { result ≡ self.keep }
+    {
+        let Desk { book: _, keep } = self;
+        keep
+    }
+}

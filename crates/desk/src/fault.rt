@@ -1,0 +1,48 @@
+//! Why a desk did not do it.
+
+ghost use Rattle.std.specs.Prelude.{◌≡◌, ◌≢◌, ◌↔◌, ◌⊎◌};
+
+use keep::KeepFault;
+use thiserror::Error;
+
+/// Why a desk was not opened.
+#[derive(Clone, Copy, Debug, PartialEq, Eq, Error)]
+pub enum OpenFault {
+    /// The tables are the rows of no good ledger.
+    #[error("damaged")]
+    Damaged,
+    /// The keeper does not hold the six tables with one row of `desk` of version 1.
+    #[error("not a desk")]
+    NotADesk,
+    /// There is no memory for it.
+    #[error("out of memory")]
+    Memory,
+    /// The store failed, or the keeper was stopped before.
+    #[error("the store failed")]
+    Store,
+}
+
+/// Why a request was not answered.
+#[derive(Clone, Copy, Debug, PartialEq, Eq, Error)]
+pub enum CallFault {
+    /// There is no memory for it, and nothing has changed.
+    #[error("out of memory")]
+    Memory,
+    /// The keeper is stopped, by a fault in this call or earlier.
+    #[error("the desk is stopped")]
+    Stopped,
+}
+
+/// What a fault of the load is told as.
+pub(crate) fn load_fault(fault: KeepFault) -> OpenFault
+    ensures memory { fault ≡ KeepFault.Memory → result ≡ OpenFault.Memory }
+    ensures desk { result ≡ OpenFault.NotADesk ↔ fault ≡ KeepFault.NotADesk }
+    ensures store { (fault ≡ KeepFault.Store) ⊎ (fault ≡ KeepFault.Stopped) → result ≡ OpenFault.Store }
+    ensures damaged { result ≢ OpenFault.Damaged }
+{
+    match fault {
+        KeepFault::Memory => OpenFault::Memory,
+        KeepFault::NotADesk => OpenFault::NotADesk,
+        KeepFault::Store | KeepFault::Stopped => OpenFault::Store,
+    }
+}
