@@ -26,7 +26,7 @@ use words::{Memory, Reply, Request};
 /// ledger, and a stop leaves these alone.
 #[derive(Drop)]
 pub struct Desk<K: Keep> {
-    pub(crate) book: Book,
+    book: Book,
     keep: K,
 }
 
@@ -163,6 +163,15 @@ impl<K: Keep> Desk<K> {
         ensures good { Good self.now.ledger }
     {
         &self.book
+    }
+
+    /// Its ledger is good; while it is not stopped, the keeper holds the rows of the ledger, and a stop leaves these alone.
+    pub(crate) fn in_order(&self)
+        ensures good { Good self.now.ledger }
+        ensures keeps { K.stopped self.now.keep ≡ false → K.is_honest self.now.keep → Keeps (K.holds self.now.keep) (K.leaves self.now.keep) self.now.ledger }
+    {
+        self.book();
+        self.is_stopped();
     }
 
     /// The keeper, as it stands. Takes no memory.

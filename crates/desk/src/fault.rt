@@ -33,6 +33,23 @@ pub enum CallFault {
     Stopped,
 }
 
+/// Why a script ended early.
+#[derive(Clone, Copy, Debug, PartialEq, Eq, Error)]
+pub enum ScriptFault {
+    /// There is no memory for it.
+    #[error("out of memory")]
+    Memory,
+    /// The desk is stopped.
+    #[error("the desk is stopped")]
+    Stopped,
+    /// A read failed.
+    #[error("reading failed")]
+    Read,
+    /// A write failed, or took nothing.
+    #[error("writing failed")]
+    Write,
+}
+
 /// What a fault of the load is told as.
 pub(crate) fn load_fault(fault: KeepFault) -> OpenFault
     ensures memory { fault ≡ KeepFault.Memory → result ≡ OpenFault.Memory }

@@ -3,12 +3,18 @@
 
 mod desk;
 mod fault;
+mod laws;
+mod lines;
+mod reply;
 mod run;
 #[cfg(test)]
 mod samples;
+mod scripts;
 #[cfg(test)]
 mod tests;
 
 pub use desk::Desk;
-pub use fault::{CallFault, OpenFault};
+pub use fault::{CallFault, OpenFault, ScriptFault};
+pub use laws::exactly_one_text;
 pub use run::{Ending, Run};
+pub use scripts::script;

@@ -46,8 +46,7 @@ impl<K: Keep> Desk<K> {
             → (next : Ledger) × After self.old.ledger requests.now (length result.replies.items + 1) next × LeavesEither (K.leaves self.new.keep) self.new.ledger next }
         ensures honest { K.is_honest self.new.keep → K.is_honest self.old.keep }
     {
-        // what is always so of a desk, where no request comes
-        let _ = &self.book;
+        self.in_order();
         let mut replies = Vec::new(alloc);
         for request in requests {
             let Ok(()) = replies.reserve(1) else {

@@ -5,8 +5,9 @@ ghost use Rattle.book.specs.Tables.{rows_among};
 ghost use Rattle.keep.specs.Content.{IsTheRow};
 
 use crate::desk::Desk;
-use crate::fault::{CallFault, OpenFault};
+use crate::fault::{CallFault, OpenFault, ScriptFault};
 use crate::run::Run;
+use crate::scripts::script;
 use book::{Change, FieldView, Kind, Line, OrderView, State, Tables};
 use escrow::Way;
 use keep::{Keep, KeepFault, SqlKeep, create_over};
@@ -172,6 +173,17 @@ pub(crate) fn call<K: Keep>(
 /// The call without its clauses, likewise.
 pub(crate) fn run<K: Keep>(alloc: Global, desk: &mut Desk<K>, requests: &[Request]) -> Run {
     desk.run(alloc, requests)
+}
+
+/// What a script of these bytes ends with, likewise.
+pub(crate) fn answer_script<K: Keep>(
+    alloc: Global,
+    text: &[u8],
+    out: &mut Vec<u8>,
+    desk: &mut Desk<K>,
+) -> Result<(), ScriptFault> {
+    let mut reader = text;
+    script(alloc, &mut reader, out, desk)
 }
 
 /// The connection of the desk's keeper.

@@ -1,8 +1,8 @@
 use crate::samples::{
-    LONG_SCRIPT, RELEASE_AND_ABORT, Row, TRANSFER, call, commit, connection_of, keeper, load, open,
-    opened, play, play_from, request, run, sql_keeper,
+    LONG_SCRIPT, RELEASE_AND_ABORT, Row, TRANSFER, answer_script, call, commit, connection_of,
+    keeper, load, open, opened, play, play_from, request, run, sql_keeper,
 };
-use crate::{CallFault, Desk, Ending, OpenFault};
+use crate::{CallFault, Desk, Ending, OpenFault, ScriptFault};
 use book::{Change, FieldRow, Tables};
 use keep::{Keep, PlainKeep};
 use sqlite::Connection;
@@ -309,4 +309,59 @@ fn expect_cut_run<R: Abort + AllocGlobal>(rt: &R, lands: bool, inf: u64) -> Resu
 fn a_run_ends_where_a_commit_fails(rt: HostRuntime) -> Result<(), Fail> {
     expect_cut_run(&rt, false, 30)?;
     expect_cut_run(&rt, true, 20)
+}
+
+/// The script of these rows, and what is answered to it.
+fn texts<R: AllocGlobal>(rt: &R, rows: &[Row]) -> Result<(String, String), Fail> {
+    let mut script = String::new(rt.alloc());
+    let mut replies = String::new(rt.alloc());
+    for (line, reply) in rows {
+        writeln!(script, "{line}")?;
+        writeln!(replies, "{reply}")?;
+    }
+    Ok((script, replies))
+}
+
+#[test]
+fn a_script_is_answered(rt: HostRuntime) -> Result<(), Fail> {
+    for rows in [LONG_SCRIPT.as_slice(), &TRANSFER, &RELEASE_AND_ABORT] {
+        let (text, replies) = texts(&rt, rows)?;
+        let mut desk = opened(&rt, sql_keeper(&rt)?)?;
+        let mut out: Vec<u8> = Vec::new(rt.alloc());
+        assert_eq!(rt;
+            answer_script(rt.alloc(), text.as_bytes(), &mut out, &mut desk),
+            Ok(())
+        );
+        assert!(rt; out.as_slice() == replies.as_bytes());
+    }
+    crate::laws::exactly_one_text();
+    Ok(())
+}
+
+/// A script in which that commit fails: every line before that request is answered, and nothing else.
+fn expect_cut_script<R: Abort + AllocGlobal>(
+    rt: &R,
+    fail_at: u64,
+    lands: bool,
+) -> Result<(), Fail> {
+    let (text, _) = texts(rt, &LONG_SCRIPT)?;
+    let mut desk = opened(rt, PlainKeep::start(rt.alloc(), Some(fail_at), lands))?;
+    let mut out: Vec<u8> = Vec::new(rt.alloc());
+    let ended = answer_script(rt.alloc(), text.as_bytes(), &mut out, &mut desk);
+    assert_eq!(rt; ended, Err(ScriptFault::Stopped));
+    assert!(rt; desk.is_stopped());
+    let mut desk = opened(rt, PlainKeep::start(rt.alloc(), Some(fail_at), lands))?;
+    let cut = play_from(rt, &mut desk, &LONG_SCRIPT, 0)?;
+    let (_, replies) = texts(rt, LONG_SCRIPT.get(..cut).ok_or("rows")?)?;
+    assert!(rt; out.as_slice() == replies.as_bytes());
+    Ok(())
+}
+
+#[test]
+fn a_script_ends_where_a_commit_fails(rt: HostRuntime) -> Result<(), Fail> {
+    for fail_at in 1..8 {
+        expect_cut_script(&rt, fail_at, false)?;
+        expect_cut_script(&rt, fail_at, true)?;
+    }
+    Ok(())
 }

@@ -1,5 +1,1 @@
-pub mod OneText
-pub mod OrderWords
-pub mod SomeText
-pub mod Standing
-pub mod Texts
+mod Played

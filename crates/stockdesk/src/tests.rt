@@ -1,10 +1,13 @@
 //! The program, by what it reads and writes.
 
+mod files;
 mod rows;
 
 use super::*;
+use crate::memory::run;
 use itoa::Buffer;
 use rows::{FIRST, ROWS};
+use std::fs;
 use std::process::Abort;
 use std::test::Fail;
 
@@ -63,14 +66,34 @@ impl Write for Sink {
     }
 }
 
-fn expect<R: Abort + AllocGlobal>(rt: &R, script: &str, replies: &str) -> Result<(), Fail> {
+/// The bytes are these.
+fn expect_bytes(bytes: &[u8], want: &str) -> Result<(), Fail> {
+    if bytes == want.as_bytes() {
+        Ok(())
+    } else {
+        Err("other bytes")?
+    }
+}
+
+/// The program ends with this status, after this output and these lines of faults.
+fn expect_done(
+    rt: &HostRuntime,
+    words: &[&str],
+    input: &str,
+    want: (u8, &str, &str),
+) -> Result<(), Fail> {
     let mut out: Vec<u8> = Vec::new(rt.alloc());
     let mut errors: Vec<u8> = Vec::new(rt.alloc());
-    let status = go(rt, &["run"], &mut script.as_bytes(), &mut out, &mut errors);
-    assert_eq!(rt; status, 0);
-    assert!(rt; out.as_slice() == replies.as_bytes(), "{script}");
-    assert!(rt; errors.is_empty());
-    Ok(())
+    let status = go(rt, words, &mut input.as_bytes(), &mut out, &mut errors);
+    if status != want.0 {
+        Err("another status")?;
+    }
+    expect_bytes(&out, want.1)?;
+    expect_bytes(&errors, want.2)
+}
+
+fn expect(rt: &HostRuntime, script: &str, replies: &str) -> Result<(), Fail> {
+    expect_done(rt, &["stockdesk", "run"], script, (0, replies, ""))
 }
 
 #[test]
@@ -178,23 +201,32 @@ fn a_script_of_2000_commands_is_answered(rt: HostRuntime) -> Result<(), Fail> {
     Ok(())
 }
 
+/// Words that ask for nothing that the program does: no words, others, too many, and those that ask for help.
 #[test]
 fn other_words_are_usage(rt: HostRuntime) -> Result<(), Fail> {
-    let none: [&str; 0] = [];
-    for words in [none.as_slice(), &["Run"], &["run", "FILE"], &["--help"]] {
+    for words in [
+        ["stockdesk"].as_slice(),
+        &["stockdesk", "Run"],
+        &["stockdesk", "init"],
+        &["stockdesk", "run", "usage.db", "more"],
+        &["stockdesk", "init", "usage.db", "more"],
+        &["stockdesk", "--help"],
+        &["stockdesk", "--version"],
+    ] {
         let mut out: Vec<u8> = Vec::new(rt.alloc());
         let mut errors: Vec<u8> = Vec::new(rt.alloc());
         let status = go(&rt, words, &mut b"\n".as_slice(), &mut out, &mut errors);
         assert_eq!(rt; status, 2);
         assert!(rt; out.is_empty());
-        assert!(rt; errors.as_slice() == b"stockdesk: usage\n".as_slice());
+        assert!(rt; !errors.is_empty());
+        assert!(rt; !fs::exists(&rt, "usage.db")?);
     }
     Ok(())
 }
 
 #[test]
 fn a_script_is_answered_alike_in_any_pieces(rt: HostRuntime) -> Result<(), Fail> {
-    engine::exactly_one_text();
+    desk::exactly_one_text();
     for (script, replies) in ROWS {
         for size in 1..=40 {
             let mut out: Vec<u8> = Vec::new(rt.alloc());
@@ -239,7 +271,13 @@ fn a_failing_reader_is_a_fault(rt: HostRuntime) -> Result<(), Fail> {
             size: 1,
             before_fault,
         };
-        let status = go(&rt, &["run"], &mut reader, &mut out, &mut errors);
+        let status = go(
+            &rt,
+            &["stockdesk", "run"],
+            &mut reader,
+            &mut out,
+            &mut errors,
+        );
         assert_eq!(rt; status, 1);
         assert!(rt; errors.as_slice() == b"stockdesk: io\n".as_slice());
         let answered = if before_fault < 25 {
@@ -266,7 +304,13 @@ fn a_failing_writer_is_a_fault(rt: HostRuntime) -> Result<(), Fail> {
                 takes_none,
             };
             let mut reader = script;
-            let status = go(&rt, &["run"], &mut reader, &mut writer, &mut errors);
+            let status = go(
+                &rt,
+                &["stockdesk", "run"],
+                &mut reader,
+                &mut writer,
+                &mut errors,
+            );
             assert_eq!(rt; status, 1);
             assert_eq!(rt; writer.taken.len(), before_fault);
             assert!(rt; FIRST.as_bytes().starts_with(writer.taken.as_slice()));

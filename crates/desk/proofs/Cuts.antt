@@ -1,0 +1,111 @@
+-- How far the answers to items have come at a fault.
+use Rattle.std.proofs.Common.{◌≡◌, ◌≢◌, ◌⊎◌, ◌∙◌, ◌+◌, ◌<◌, ℕ, Bool, Err, IfErr, Ok, Result, true, false, true≢false, List, [], ◌∷◌, ◌++◌, ap, append_assoc, drop, get_or, length, refl, subst, sym, take}
+use Rattle.std.proofs.Math.Logic.{inl, inr}
+use Rattle.words.specs.declared.command.Request.{Request}
+use Rattle.words.specs.declared.item.Item.{Item}
+use Rattle.words.specs.declared.item.Item.TheVariants as item
+use Rattle.book.specs.Answers.{IsAccepted}
+use Rattle.book.specs.Ledger.{Ledger}
+use Rattle.book.specs.Next.{accept}
+use Rattle.book.specs.Rows.{Content}
+use Rattle.desk.specs.Desk.{LeavesEither}
+use Rattle.desk.specs.Script.{AlmostWritten, IsCut, LacksRest, StopsAt}
+use Rattle.desk.specs.Text.{Replies, RepliesAll}
+use Rattle.desk.specs.declared.fault.ScriptFault.{ScriptFault}
+use Rattle.desk.specs.declared.fault.ScriptFault.TheVariants as ScriptFault
+use Rattle.desk.proofs.Texts.{around, replies_joined}
+
+abbrev is_stopped : ScriptFault → Bool
+is_stopped ScriptFault.Stopped = true
+is_stopped ScriptFault.Memory = false
+is_stopped ScriptFault.Read = false
+is_stopped ScriptFault.Write = false
+
+pub memory_stops_nothing : ScriptFault.Memory ≢ ScriptFault.Stopped
+memory_stops_nothing e = true≢false (sym (ap is_stopped e))
+
+pub write_stops_nothing : ScriptFault.Write ≢ ScriptFault.Stopped
+write_stops_nothing e = true≢false (sym (ap is_stopped e))
+
+pub read_stops_nothing : ScriptFault.Read ≢ ScriptFault.Stopped
+read_stops_nothing e = true≢false (sym (ap is_stopped e))
+
+-- none of the items is answered
+pub cut_before : (fault : ScriptFault) (W H : Type 0) (leaves : List Content → Type 0) (old new : Ledger) (items : List Item) → fault ≢ ScriptFault.Stopped → new ≡ old
+    → IsCut fault W H leaves old items [] new
+cut_before fault W H leaves old new items other same =
+    record { answered = []; left = items; split = refl; lines = inl (refl, same); stopped = λ e went honest. absurd (other e) }
+
+-- the item is answered, and a beginning of its line is written
+pub cut_within : (fault : ScriptFault) (W H : Type 0) (leaves : List Content → Type 0) (old new : Ledger) (x : Item) (begun left : List ℕ) → fault ≢ ScriptFault.Stopped
+    → Replies old x (begun ++ left) new → IsCut fault W H leaves old (x ∷ []) begun new
+cut_within fault W H leaves old new x begun left other h = record {
+  answered = x ∷ [];
+  left = [];
+  split = refl;
+  lines = inr (record { before = []; last = x; mid = old; lines = []; begun = begun; left = left; split = refl; replies = (refl, refl); reply = h; written_are = refl });
+  stopped = λ e went honest. absurd (other e);
+}
+
+-- the desk is stopped by the request
+pub cut_stopped : (W H : Type 0) (leaves : List Content → Type 0) (old new : Ledger) (r : Request) → new ≡ old → (W → IsAccepted old r)
+    → (W → H → LeavesEither leaves old (accept old r)) → IsCut ScriptFault.Stopped W H leaves old (item.Request r ∷ []) [] new
+cut_stopped W H leaves old new r same accepted either = record {
+  answered = [];
+  left = item.Request r ∷ [];
+  split = refl;
+  lines = inl (refl, same);
+  stopped = λ e went honest. record {
+    request = r;
+    more = [];
+    next = refl;
+    accepted = subst (λ (A : Ledger). IsAccepted A r) (sym same) (accepted went);
+    either = subst (λ (A : Ledger). LeavesEither leaves A (accept A r)) (sym same) (either went honest);
+  };
+}
+
+-- items that are answered before, and items that are not come to
+pub cut_behind : (fault : ScriptFault) (V W H : Type 0) (leaves : List Content → Type 0) (old mid new : Ledger) (before items more : List Item) (lines written : List ℕ) → (V → W)
+    → RepliesAll old before lines mid → IsCut fault W H leaves mid items written new → IsCut fault V H leaves old (before ++ (items ++ more)) (lines ++ written) new
+cut_behind fault V W H leaves old mid new before items more lines written on done cut = record {
+  answered = before ++ cut.answered;
+  left = cut.left ++ more;
+  split = ap (λ (xs : List Item). before ++ xs) (ap (λ (xs : List Item). xs ++ more) cut.split ∙ append_assoc cut.answered cut.left more)
+      ∙ sym (append_assoc before cut.answered (cut.left ++ more));
+  lines = almost cut.lines;
+  stopped = λ e went honest. let s = cut.stopped e (on went) honest in record {
+    request = s.request;
+    more = s.more ++ more;
+    next = ap (λ (xs : List Item). xs ++ more) s.next;
+    accepted = s.accepted;
+    either = s.either;
+  };
+}
+  where
+    almost : AlmostWritten mid cut.answered written new → AlmostWritten old (before ++ cut.answered) (lines ++ written) new
+    almost (inl all) = inl (replies_joined before cut.answered old mid new lines written done all)
+    almost (inr l) = inr (record {
+      before = before ++ l.before;
+      last = l.last;
+      mid = l.mid;
+      lines = lines ++ l.lines;
+      begun = l.begun;
+      left = l.left;
+      split = ap (λ (xs : List Item). before ++ xs) l.split ∙ sym (append_assoc before l.before (l.last ∷ []));
+      replies = replies_joined before l.before old mid l.mid lines l.lines done l.replies;
+      reply = l.reply;
+      written_are = ap (λ (w : List ℕ). lines ++ w) l.written_are ∙ sym (append_assoc lines l.lines l.begun);
+    })
+
+-- the answers to items are cut at one of them
+pub cut_at : (fault : ScriptFault) (V W H : Type 0) (leaves : List Content → Type 0) (old mid new : Ledger) (items : List Item) (i : ℕ) (x : Item) (lines written : List ℕ)
+    → i < length items → x ≡ get_or items i x → (V → W) → RepliesAll old (take i items) lines mid → IsCut fault W H leaves mid (x ∷ []) written new
+    → IsCut fault V H leaves old items (lines ++ written) new
+cut_at fault V W H leaves old mid new items i x lines written lt is on done cut =
+    subst (λ (xs : List Item). IsCut fault V H leaves old xs (lines ++ written) new) (sym (around items i x lt is))
+    (cut_behind fault V W H leaves old mid new (take i items) (x ∷ []) (drop (i + 1) items) lines written on done cut)
+
+-- what holds of an error that is answered
+pub of_error : {T E : Type 0} (r : Result T E) (P Q : E → Type 0) → ((e : E) → r ≡ Err e → P e → Q e) → IfErr r P → IfErr r Q
+of_error (Ok x) P Q on p = tt
+of_error (Err e) P Q on p = on e refl p

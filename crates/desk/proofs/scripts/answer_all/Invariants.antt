@@ -1,0 +1,11 @@
+-- the items so far are answered, and their lines written
+use Rattle.std.proofs.Common.{◌≡◌, List, ℕ, take}
+use Rattle.std.specs.Io.KnownBytes.{Appends}
+use Rattle.desk.specs.Text.{RepliesAll}
+use Rattle.desk.proofs.scripts.answer_all.Given as goal
+
+abbrev pub invariant-loop-item : goal.invariant-loop-item
+invariant-loop-item g l =
+    ((lines : List ℕ) × RepliesAll l.initial.desk.ledger (take l.item-index l.items) lines l.desk.ledger × Appends (g.W.Write.contents l.initial.writer) (g.W.Write.contents l.writer) lines)
+    × (g.K.Keep.stopped l.desk.keep ≡ g.K.Keep.stopped l.initial.desk.keep)
+    × (g.K.Keep.is_honest l.desk.keep → g.K.Keep.is_honest l.initial.desk.keep)

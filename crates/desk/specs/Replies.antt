@@ -1,0 +1,68 @@
+-- The lines of replies.
+use Rattle.std.specs.Prelude.{◌≡◌, ℕ, List, [], ◌∷◌, ◌++◌, Option, None, Some, MatchOption, codes, decimal}
+use Rattle.words.specs.OpenLines.{way_word}
+use Rattle.words.specs.Replies.{reply_text}
+use Rattle.words.specs.Words.{after_space}
+use Rattle.words.specs.declared.reply.Reply.{Reply}
+use Rattle.book.specs.Ledger.{Field, Ledger, Order, field_named, order_numbered, name_of}
+use Rattle.book.specs.Views.{ShowsField}
+use Rattle.book.specs.declared.book.views.FieldView.{FieldView}
+use Rattle.book.specs.declared.order.Kind.{Kind}
+use Rattle.book.specs.declared.order.Kind.TheVariants.{Plain, Transfer}
+use Rattle.book.specs.declared.order.Line.{Line}
+use Rattle.book.specs.declared.order.State.{State}
+use Rattle.book.specs.declared.order.State.TheVariants.{Aborted, Committed, Open}
+
+-- a line that is bad
+abbrev pub bad_line : List ℕ
+bad_line = codes "- refused 20 BadCommand 0\n"
+
+-- the key, a space and the reply
+abbrev pub request_line : List ℕ → Reply → List ℕ
+request_line key reply = key ++ (codes " " ++ (reply_text reply ++ codes "\n"))
+
+-- the answer to an ask for what is not there
+abbrev pub none_line : List ℕ
+none_line = codes "? none\n"
+
+-- ---- fields
+
+-- the numbers of a field, each behind its name
+abbrev pub number_words : FieldView → List (List ℕ)
+number_words v = codes "lo" ∷ decimal v.lo ∷ codes "hi" ∷ decimal v.hi ∷ codes "value" ∷ decimal v.value
+    ∷ codes "inf" ∷ decimal v.inf ∷ codes "sup" ∷ decimal v.sup ∷ []
+
+abbrev pub field_line : FieldView → List ℕ
+field_line v = codes "? field" ++ (after_space (v.branch ∷ v.article ∷ number_words v) ++ codes "\n")
+
+-- the line of a field, with its settled value, its infimum and its supremum
+abbrev pub AnswersField : Ledger → Field → List ℕ → Type 0
+AnswersField A f line = (view : FieldView) × ShowsField A f view × (line ≡ field_line view)
+
+-- the answer to an ask for a field
+abbrev pub AnswersFieldAsk : Ledger → List ℕ → List ℕ → List ℕ → Type 0
+AnswersFieldAsk A b a line = MatchOption (field_named A (name_of b a)) (line ≡ none_line) (λ f. AnswersField A f line)
+
+-- ---- orders
+
+abbrev pub kind_word : Kind → List ℕ
+kind_word Plain = codes "plain"
+kind_word Transfer = codes "transfer"
+
+abbrev pub state_word : State → List ℕ
+state_word Open = codes "open"
+state_word Committed = codes "committed"
+state_word Aborted = codes "aborted"
+
+-- the words of an order's lines: five for each
+abbrev pub held_words : List Line → List (List ℕ)
+held_words [] = []
+held_words (l ∷ ls) = way_word l.way ∷ l.branch ∷ l.article ∷ decimal l.held ∷ decimal l.used ∷ held_words ls
+
+abbrev pub order_line : Order → List ℕ
+order_line o = codes "? order"
+    ++ (after_space (decimal o.number ∷ kind_word o.kind ∷ decimal o.until ∷ state_word o.state ∷ held_words o.lines) ++ codes "\n")
+
+-- the answer to an ask for an order
+abbrev pub AnswersOrderAsk : Ledger → ℕ → List ℕ → Type 0
+AnswersOrderAsk A n line = MatchOption (order_numbered A n) (line ≡ none_line) (λ o. line ≡ order_line o)

@@ -1,0 +1,95 @@
+-- How a script ends, where the reader and the writer tell their bytes.
+use Rattle.std.specs.Prelude.{◌≡◌, ◌⊎◌, ◌≤◌, ℕ, length, List, [], ◌∷◌, ◌++◌, Option, Some}
+use Rattle.std.specs.Io.KnownBytes.{Appends, Consumes, IsAtEnd}
+use Rattle.words.specs.Stream.{Feeds}
+use Rattle.words.specs.declared.command.Request.{Request}
+use Rattle.words.specs.declared.item.Item.{Item}
+use Rattle.words.specs.declared.item.Item.TheVariants as item
+use Rattle.book.specs.Answers.{IsAccepted}
+use Rattle.book.specs.Ledger.{Ledger}
+use Rattle.book.specs.Next.{accept}
+use Rattle.book.specs.Rows.{Content}
+use Rattle.desk.specs.Desk.{LeavesEither}
+use Rattle.desk.specs.Text.{IsText, Replies, RepliesAll, unended}
+use Rattle.desk.specs.declared.fault.ScriptFault.{ScriptFault}
+use Rattle.desk.specs.declared.fault.ScriptFault.TheVariants as ScriptFault
+
+-- all that was there was read, and its text was written
+pub record EndsWhole (old new : Ledger) (reader_old reader_new writer_old writer_new : Option (List ℕ)) : Type 0 where
+  pub read : List ℕ
+  pub out : List ℕ
+  pub reads : Consumes reader_old reader_new read
+  pub ends : IsAtEnd reader_new
+  pub text : IsText old read out new
+  pub writes : Appends writer_old writer_new out
+
+-- the items are answered; their lines are written but for a rest of the last one
+pub record LacksRest (old : Ledger) (items : List Item) (written : List ℕ) (new : Ledger) : Type 0 where
+  pub before : List Item
+  pub last : Item
+  pub mid : Ledger
+  pub lines : List ℕ
+  pub begun : List ℕ
+  pub left : List ℕ
+  pub split : items ≡ before ++ last ∷ []
+  pub replies : RepliesAll old before lines mid
+  pub reply : Replies mid last (begun ++ left) new
+  pub written_are : written ≡ lines ++ begun
+
+-- the items are answered, and of their lines at most the last is missing or cut
+abbrev pub AlmostWritten : Ledger → List Item → List ℕ → Ledger → Type 0
+AlmostWritten old items written new = RepliesAll old items written new ⊎ LacksRest old items written new
+
+-- the next item is a request that is accepted, and a stop leaves the rows before it or after it
+pub record StopsAt (leaves : List Content → Type 0) (ledger : Ledger) (items : List Item) : Type 0 where
+  pub request : Request
+  pub more : List Item
+  pub next : items ≡ item.Request request ∷ more
+  pub accepted : IsAccepted ledger request
+  pub either : LeavesEither leaves ledger (accept ledger request)
+
+-- How far the answers to items have come at a fault. Where it stopped a desk that went on before, over an honest disk, it is
+-- known what a stop leaves.
+pub record IsCut (fault : ScriptFault) (went_on is_honest : Type 0) (leaves : List Content → Type 0) (old : Ledger) (items : List Item) (written : List ℕ) (new : Ledger) : Type 0 where
+  pub answered : List Item
+  pub left : List Item
+  pub split : items ≡ answered ++ left
+  pub lines : AlmostWritten old answered written new
+  pub stopped : fault ≡ ScriptFault.Stopped → went_on → is_honest → StopsAt leaves new left
+
+-- how many bytes a piece of the input has, at the most
+abbrev pub longest_piece : ℕ
+longest_piece = 512
+
+-- all that was read but a last piece is answered, and the answers are written whole
+pub record IsPrompt (old : Ledger) (read written : List ℕ) : Type 0 where
+  pub before : List ℕ
+  pub piece : List ℕ
+  pub out : List ℕ
+  pub begun : List ℕ
+  pub ended : List Item
+  pub rest : Option (List ℕ)
+  pub ledger : Ledger
+  pub read_is : read ≡ before ++ piece
+  pub short : length piece ≤ longest_piece
+  pub written_is : written ≡ out ++ begun
+  pub feeds : Feeds (Some []) before ended rest
+  pub replies : RepliesAll old ended out ledger
+
+-- Some of the input was read, and of its items the first are answered. What is written is a beginning of the text for what
+-- was read; where a read failed, it is the answer to every line that ended in that.
+pub record EndsCut (fault : ScriptFault) (went_on is_honest : Type 0) (leaves : List Content → Type 0) (old new : Ledger) (reader_old reader_new writer_old writer_new : Option (List ℕ)) : Type 0 where
+  pub read : List ℕ
+  pub written : List ℕ
+  pub ended : List Item
+  pub rest : Option (List ℕ)
+  pub reads : Consumes reader_old reader_new read
+  pub writes : Appends writer_old writer_new written
+  pub feeds : Feeds (Some []) read ended rest
+  pub cut : IsCut fault went_on is_honest leaves old (ended ++ unended rest) written new
+  pub prompt : IsPrompt old read written
+  pub all_ended : fault ≡ ScriptFault.Read → RepliesAll old ended written new
+  -- the text goes on from there
+  pub unwritten : List ℕ
+  pub last : Ledger
+  pub text : IsText old read (written ++ unwritten) last

@@ -1,0 +1,100 @@
+//! What is written for an item.
+
+ghost use Rattle.std.specs.Prelude.{◌≡◌, ◌≢◌, ◌⊎◌, ◌∷◌, [], false, IfErr, IfOk, IsTrue, Err};
+ghost use Rattle.desk.specs.Replies.{AnswersFieldAsk, AnswersOrderAsk, request_line};
+ghost use Rattle.desk.specs.Script.{IsCut};
+ghost use Rattle.desk.specs.Text.{Replies};
+ghost use Rattle.words.specs.declared.item.Item.TheVariants as item;
+
+use crate::desk::Desk;
+use crate::fault::{CallFault, ScriptFault};
+use crate::lines::{field_text, order_text, push_text, text};
+use escrow::{Article, Branch, Key, OrderNo};
+use keep::Keep;
+use std::alloc::Global;
+use words::{Item, Memory, Reply, Request, write_reply};
+
+/// What is written for a line that is bad.
+const BAD_LINE: &[u8] = b"- refused 20 BadCommand 0\n";
+
+/// What is written where a field or an order is asked for that is not there.
+const NONE_LINE: &[u8] = b"? none\n";
+
+/// The line of a reply: its key, and its text.
+pub fn line_of_reply(alloc: Global, key: Key, reply: &Reply) -> Result<Vec<u8>, Memory>
+    ensures { IfOk result (λ out. out.items ≡ request_line key reply.now) }
+{
+    let mut out = text(alloc, key.as_bytes())?;
+    push_text(&mut out, b" ")?;
+    write_reply(reply, &mut out)?;
+    push_text(&mut out, b"\n")?;
+    Ok(out)
+}
+
+fn line_of_field<K: Keep>(
+    alloc: Global,
+    desk: &Desk<K>,
+    branch: Branch,
+    article: Article,
+) -> Result<Vec<u8>, Memory>
+    ensures { IfOk result (λ out. AnswersFieldAsk desk.now.ledger branch article out.items) }
+{
+    match desk.field(branch, article) {
+        Some(view) => field_text(alloc, view),
+        None => text(alloc, NONE_LINE),
+    }
+}
+
+fn line_of_order<K: Keep>(alloc: Global, desk: &Desk<K>, number: OrderNo) -> Result<Vec<u8>, Memory>
+    ensures { IfOk result (λ out. AnswersOrderAsk desk.now.ledger number out.items) }
+{
+    match desk.order(number) {
+        Some(view) => order_text(alloc, &view),
+        None => text(alloc, NONE_LINE),
+    }
+}
+
+/// The line for a request, which is called. Memory may be refused after it is done.
+fn line_of_request<K: Keep>(
+    alloc: Global,
+    desk: &mut Desk<K>,
+    request: &Request,
+) -> Result<Vec<u8>, ScriptFault>
+    ensures line { IfOk result (λ out. Replies desk.old.ledger (item.Request request.now) out.items desk.new.ledger) }
+    ensures cut { IfErr result (λ fault. IsCut fault (K.stopped desk.old.keep ≡ false) (K.is_honest desk.new.keep) (K.leaves desk.new.keep) desk.old.ledger (item.Request request.now ∷ []) [] desk.new.ledger) }
+    ensures fault { IfErr result (λ fault. (fault ≡ ScriptFault.Memory) ⊎ (fault ≡ ScriptFault.Stopped)) }
+    ensures going { result ≢ Err ScriptFault.Stopped → K.stopped desk.new.keep ≡ K.stopped desk.old.keep }
+    ensures stopped { result ≡ Err ScriptFault.Stopped → IsTrue (K.stopped desk.new.keep) }
+    ensures honest { K.is_honest desk.new.keep → K.is_honest desk.old.keep }
+{
+    match desk.call(alloc, request) {
+        Ok(reply) => match line_of_reply(alloc, request.key, &reply) {
+            Ok(line) => Ok(line),
+            Err(Memory) => Err(ScriptFault::Memory),
+        },
+        Err(CallFault::Memory) => Err(ScriptFault::Memory),
+        Err(CallFault::Stopped) => Err(ScriptFault::Stopped),
+    }
+}
+
+/// The line for an item. A request is called; memory may be refused after it is done.
+pub fn line_of<K: Keep>(
+    alloc: Global,
+    desk: &mut Desk<K>,
+    item: &Item,
+) -> Result<Vec<u8>, ScriptFault>
+    ensures line { IfOk result (λ out. Replies desk.old.ledger item.now out.items desk.new.ledger) }
+    ensures cut { IfErr result (λ fault. IsCut fault (K.stopped desk.old.keep ≡ false) (K.is_honest desk.new.keep) (K.leaves desk.new.keep) desk.old.ledger (item.now ∷ []) [] desk.new.ledger) }
+    ensures fault { IfErr result (λ fault. (fault ≡ ScriptFault.Memory) ⊎ (fault ≡ ScriptFault.Stopped)) }
+    ensures going { result ≢ Err ScriptFault.Stopped → K.stopped desk.new.keep ≡ K.stopped desk.old.keep }
+    ensures stopped { result ≡ Err ScriptFault.Stopped → IsTrue (K.stopped desk.new.keep) }
+    ensures honest { K.is_honest desk.new.keep → K.is_honest desk.old.keep }
+{
+    let line = match item {
+        Item::Request(request) => return line_of_request(alloc, desk, request),
+        Item::AskField(branch, article) => line_of_field(alloc, desk, *branch, *article),
+        Item::AskOrder(number) => line_of_order(alloc, desk, *number),
+        Item::Bad => text(alloc, BAD_LINE),
+    };
+    line.map_err(|_| ScriptFault::Memory)
+}

@@ -1,0 +1,121 @@
+//! A desk in a file.
+
+ghost use Rattle.std.specs.Prelude.{◌≡◌, ◌⊎◌, IfErr, OnErr, OnOk};
+ghost use Rattle.stockdesk.specs.Runs.{PlaysInPart, PlaysWhole};
+
+use crate::session::{Fault, session};
+use keep::{KeepFault, create_over, open_path};
+use sqlite::{Connection, Error, ErrorCode, FileFrom, FileStore, Start};
+use std::fs;
+use std::io::{ErrorKind, Read, Write};
+
+/// What lies at a path.
+#[derive(Clone, Copy, Debug, PartialEq, Eq)]
+enum Found {
+    /// No file, or one without bytes.
+    Nothing,
+    Directory,
+    /// A file of one byte, which `sqlite` would take for one half made.
+    OneByte,
+    File,
+}
+
+/// What lies at the path. It is looked at before it is opened, since an opening may make or replace it.
+fn look(rt: &HostRuntime, path: &str) -> Result<Found, Fault>
+    ensures { IfErr result (λ fault. fault ≡ Fault.Store) }
+{
+    match fs::metadata(rt, path) {
+        Ok(found) if found.is_dir() => Ok(Found::Directory),
+        Ok(found) => match found.len() {
+            0 => Ok(Found::Nothing),
+            1 => Ok(Found::OneByte),
+            _ => Ok(Found::File),
+        },
+        Err(error) if error.kind() == ErrorKind::NotFound => Ok(Found::Nothing),
+        Err(_) => Err(Fault::Store),
+    }
+}
+
+/// The fault that an error of an opening is told as.
+fn open_fault(error: Error) -> Fault
+    ensures { (result ≡ Fault.Memory) ⊎ (result ≡ Fault.Store) }
+{
+    match error {
+        Error::SqliteFailure(ErrorCode::OutOfMemory) => Fault::Memory,
+        _ => Fault::Store,
+    }
+}
+
+/// Copies the log into the file where that succeeds, and closes both.
+fn close<S: Start>(conn: Connection<FileStore<FileFrom<S>>>) {
+    match conn.close_files() {
+        Ok(files) => drop(files),
+        Err((_, store)) => drop(store.close()),
+    }
+}
+
+/// Makes a new desk in the file at the path.
+fn make<S: Start>(rt: &HostRuntime, path: &str, start: S) -> Result<(), Fault>
+    ensures { IfErr result (λ fault. (fault ≡ Fault.Memory) ⊎ (fault ≡ Fault.Store)) }
+{
+    let mut conn = match Connection::open_from(rt, path, false, start) {
+        Ok(conn) => conn,
+        Err((error, _)) => return Err(open_fault(error)),
+    };
+    let made = create_over(&mut conn);
+    close(conn);
+    match made {
+        Ok(()) => Ok(()),
+        Err(KeepFault::Memory) => Err(Fault::Memory),
+        Err(_) => Err(Fault::Store),
+    }
+}
+
+/// Makes a new desk in a file that is not there or has no bytes, and leaves any other alone: `NotADesk`.
+pub fn init<S: Start>(rt: &HostRuntime, path: &str, start: S) -> Result<(), Fault>
+    ensures { IfErr result (λ fault. (fault ≡ Fault.NotADesk) ⊎ ((fault ≡ Fault.Memory) ⊎ (fault ≡ Fault.Store))) }
+{
+    match look(rt, path)? {
+        Found::Nothing => make(rt, path, start),
+        Found::Directory | Found::OneByte | Found::File => Err(Fault::NotADesk),
+    }
+}
+
+/// Plays a script on the desk in the file at the path, and closes the file.
+fn play<S: Start, R: Read, W: Write>(
+    rt: &HostRuntime,
+    path: &str,
+    start: S,
+    reader: &mut R,
+    writer: &mut W,
+) -> Result<(), Fault>
+    ensures whole { OnOk result (PlaysWhole (R.remaining reader.old) (R.remaining reader.new) (W.contents writer.old) (W.contents writer.new)) }
+    ensures beginning { OnErr result (PlaysInPart (R.remaining reader.old) (R.remaining reader.new) (W.contents writer.old) (W.contents writer.new)) }
+{
+    let keep = match open_path(rt, path, start) {
+        Ok(keep) => keep,
+        Err(error) => return Err(open_fault(error)),
+    };
+    let (keep, ended) = session(rt.alloc(), keep, reader, writer);
+    close(keep.into_connection());
+    ended
+}
+
+/// Plays a script on the desk in the file at the path. A file that is not there or has no bytes is `NotADesk`, and none is
+/// made.
+pub fn run<S: Start, R: Read, W: Write>(
+    rt: &HostRuntime,
+    path: &str,
+    start: S,
+    reader: &mut R,
+    writer: &mut W,
+) -> Result<(), Fault>
+    ensures whole { OnOk result (PlaysWhole (R.remaining reader.old) (R.remaining reader.new) (W.contents writer.old) (W.contents writer.new)) }
+    ensures beginning { OnErr result (PlaysInPart (R.remaining reader.old) (R.remaining reader.new) (W.contents writer.old) (W.contents writer.new)) }
+{
+    match look(rt, path)? {
+        Found::Nothing => Err(Fault::NotADesk),
+        Found::Directory | Found::OneByte => Err(Fault::Store),
+        Found::File => play(rt, path, start, reader, writer),
+    }
+}

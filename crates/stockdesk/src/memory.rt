@@ -1,0 +1,40 @@
+//! A new desk in memory, which ends with the program.
+
+ghost use Rattle.std.specs.Prelude.{◌≡◌, ◌≢◌, IfErr, IfOk, OnErr, OnOk};
+ghost use Rattle.book.specs.Ledger.{new_ledger};
+ghost use Rattle.keep.specs.Content.{new_content};
+ghost use Rattle.stockdesk.specs.Runs.{BeginsText, RunsSoFar, RunsWhole};
+
+use crate::session::{Fault, session};
+use keep::{Keep, KeepFault, SqlKeep, create_over};
+use sqlite::{Connection, MemStore};
+use std::alloc::Global;
+use std::io::{Read, Write};
+
+/// The keeper of a new desk, in a database in memory.
+fn new_keeper(alloc: Global) -> Result<SqlKeep<MemStore>, Fault>
+    ensures held { IfOk result (λ keep. ⟦<SqlKeep<MemStore> as Keep>⟧.holds keep new_content) }
+    ensures fault { IfErr result (λ fault. fault ≢ Fault.Read) }
+{
+    let Ok(mut conn) = Connection::open_in_memory(alloc) else {
+        return Err(Fault::Memory);
+    };
+    match create_over(&mut conn) {
+        Ok(()) => Ok(SqlKeep::over(conn)),
+        Err(KeepFault::Memory) => Err(Fault::Memory),
+        Err(_) => Err(Fault::Store),
+    }
+}
+
+/// Reads to the end, and writes what a new desk answers, each reply line before the next line is answered. After a fault
+/// what is written is a beginning of the text for what was read, with the whole answer to all of that but the last piece,
+/// of 512 bytes at the most; after a failing read, the answer to each line that was read.
+pub fn run<R: Read, W: Write>(alloc: Global, reader: &mut R, writer: &mut W) -> Result<(), Fault>
+    ensures whole { OnOk result (RunsWhole (R.remaining reader.old) (R.remaining reader.new) (W.contents writer.old) (W.contents writer.new)) }
+    ensures beginning { OnErr result (BeginsText new_ledger (R.remaining reader.old) (R.remaining reader.new) (W.contents writer.old) (W.contents writer.new)) }
+    ensures prompt { IfErr result (λ fault. fault ≡ Fault.Read → RunsSoFar new_ledger (R.remaining reader.old) (R.remaining reader.new) (W.contents writer.old) (W.contents writer.new)) }
+{
+    let keep = new_keeper(alloc)?;
+    let (_, ended) = session(alloc, keep, reader, writer);
+    ended
+}
