@@ -47,7 +47,7 @@ fn open_fault(error: Error) -> Fault
 }
 
 /// Copies the log into the file where that succeeds, and closes both.
-fn close<S: Start>(conn: Connection<FileStore<FileFrom<S>>>) {
+pub fn close<S: Start>(conn: Connection<FileStore<FileFrom<S>>>) {
     match conn.close_files() {
         Ok(files) => drop(files),
         Err((_, store)) => drop(store.close()),

@@ -2,6 +2,9 @@
 
 use super::rows::{FIRST, LONG};
 use super::{expect_bytes, expect_done};
+use crate::file::close;
+use keep::open_path;
+use sqlite::Unknown;
 use std::fs;
 use std::test::Fail;
 
@@ -69,6 +72,78 @@ fn expect_left_alone(
     expect_bytes(&fs::read(rt, file)?, bytes)?;
     expect_done(rt, &["stockdesk", "run", file], "K1 expire 1\n", run)?;
     expect_bytes(&fs::read(rt, file)?, bytes)?;
+    Ok(())
+}
+
+/// Carries the statement out on the database in the file, and closes it.
+fn execute(rt: &HostRuntime, file: &str, statement: &str) -> Result<(), Fail> {
+    let mut conn = open_path(rt, file, Unknown)?.into_connection();
+    conn.execute(statement, &[])?;
+    close(conn);
+    Ok(())
+}
+
+#[test]
+fn a_damaged_file_is_left_alone(rt: HostRuntime) -> Result<(), Fail> {
+    folder(&rt, "damaged_test")?;
+    let file = "damaged_test/a.db";
+    expect_done(&rt, &["stockdesk", "init", file], "", (0, "", ""))?;
+    let run = ["stockdesk", "run", file];
+    expect_done(
+        &rt,
+        &run,
+        "K1 field N1 A-1 0 100 40\n? field N1 A-1\n",
+        (0, FIRST, ""),
+    )?;
+    execute(&rt, file, "UPDATE field SET inf = inf + 1")?;
+    let bytes = fs::read(&rt, file)?;
+    expect_done(&rt, &run, "K2 expire 1\n", (3, "", "stockdesk: damaged\n"))?;
+    assert!(rt; fs::read(&rt, file)?.as_slice() == bytes.as_slice());
+    fs::remove_dir_all(&rt, "damaged_test")?;
+    Ok(())
+}
+
+#[test]
+fn another_database_is_no_desk(rt: HostRuntime) -> Result<(), Fail> {
+    folder(&rt, "database_test")?;
+    let file = "database_test/a.db";
+    execute(&rt, file, "CREATE TABLE note (id INTEGER)")?;
+    let bytes = fs::read(&rt, file)?;
+    let not_a_desk = (3, "", "stockdesk: not a desk\n");
+    expect_done(&rt, &["stockdesk", "init", file], "", not_a_desk)?;
+    expect_done(
+        &rt,
+        &["stockdesk", "run", file],
+        "K1 expire 1\n",
+        not_a_desk,
+    )?;
+    assert!(rt; fs::read(&rt, file)?.as_slice() == bytes.as_slice());
+    fs::remove_dir_all(&rt, "database_test")?;
+    Ok(())
+}
+
+#[test]
+fn a_line_in_a_file_has_one_spelling(rt: HostRuntime) -> Result<(), Fail> {
+    folder(&rt, "spelling_test")?;
+    let file = "spelling_test/a.db";
+    expect_done(&rt, &["stockdesk", "init", file], "", (0, "", ""))?;
+    for line in [
+        "\n",
+        "K1  commit 7\n",
+        "K1 deliver N1 A-1 05\n",
+        "K1 deliver N1 A-1 0\n",
+        "K1 deliver N1 A-1 1000001\n",
+        "K1 deliver n1 A-1 5\n",
+        "K1 deliver N1 -A 5\n",
+        "K1 commit 7\r\n",
+    ] {
+        let bad = (0, "- refused 20 BadCommand 0\n", "");
+        expect_done(&rt, &["stockdesk", "run", file], line, bad)?;
+    }
+    let last = "K1 deliver N1 A-1 1000000\n";
+    let refused = (0, "K1 refused 4 NoField 0\n", "");
+    expect_done(&rt, &["stockdesk", "run", file], last, refused)?;
+    fs::remove_dir_all(&rt, "spelling_test")?;
     Ok(())
 }
 

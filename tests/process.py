@@ -1,0 +1,191 @@
+"""Tests of the built program as a real process: replies on a pipe that stays open, the file as another SQLite reads it,
+and sessions that are killed. The one argument is the program."""
+
+import os
+import random
+import shutil
+import signal
+import subprocess
+import sys
+import tempfile
+import threading
+
+try:
+    import sqlite3
+except ImportError:
+    sqlite3 = None
+
+ROUNDS = 50
+LINES = 1000
+SECONDS = 30
+
+TRANSFER = """T1 field N1 A-1 0 100 40
+T2 field N2 A-1 0 50 5
+T3 transfer 20 900 A-1 N1 N2 10
+T4 use 20 N2 A-1 4
+T5 more 20 take N1 A-1 1
+T6 commit 20
+D1 deliver N1 A-1 3
+"""
+
+# what the rules say that each table holds after that script
+ROWS = {
+    "desk": (["one", "version", "clock", "places"], [(1, 1, 0, 6)]),
+    "field": (
+        ["branch", "article", "lo", "hi", "start", "value", "inf", "sup"],
+        [("N1", "A-1", 0, 100, 40, 39, 39, 39), ("N2", "A-1", 0, 50, 5, 9, 9, 9)],
+    ),
+    "move": (["place", "branch", "article", "qty"], [(6, "N1", "A-1", 3)]),
+    "orders": (["number", "kind", "until", "state"], [(20, 1, 900, 1)]),
+    "line": (
+        ["number", "nr", "branch", "article", "way", "held", "used"],
+        [(20, 1, "N1", "A-1", 0, 10, 4), (20, 2, "N2", "A-1", 1, 10, 4)],
+    ),
+    "kept": (
+        ["reqkey", "place", "words"],
+        [
+            ("D1", 6, "deliver N1 A-1 3"),
+            ("T1", 1, "field N1 A-1 0 100 40"),
+            ("T2", 2, "field N2 A-1 0 50 5"),
+            ("T3", 3, "transfer 20 900 A-1 N1 N2 10"),
+            ("T4", 4, "use 20 N2 A-1 4"),
+            ("T6", 5, "commit 20"),
+        ],
+    ),
+}
+
+
+def say(text):
+    print(text, file=sys.stderr, flush=True)
+
+
+def expect(fact, text):
+    if not fact:
+        raise AssertionError(text)
+
+
+def done(program, words, text=""):
+    """The output of a run that ends with status 0."""
+    ended = subprocess.run([program, *words], input=text.encode(), capture_output=True, timeout=SECONDS)
+    expect(ended.returncode == 0, f"{words}: status {ended.returncode}, {ended.stderr!r}")
+    return ended.stdout.decode().splitlines()
+
+
+def new_desk(program, folder):
+    path = os.path.join(folder, "desk.db")
+    done(program, ["init", path])
+    return path
+
+
+class Session:
+    """A run on a file whose input stays open."""
+
+    def __init__(self, program, path):
+        self.process = subprocess.Popen([program, "run", path], stdin=subprocess.PIPE, stdout=subprocess.PIPE)
+        # a reply that never comes ends the test
+        self.clock = threading.Timer(SECONDS, self.process.kill)
+        self.clock.start()
+
+    def ask(self, line):
+        self.process.stdin.write(line.encode() + b"\n")
+        self.process.stdin.flush()
+        return self.process.stdout.readline().decode().rstrip("\n")
+
+    def end(self):
+        self.process.stdin.close()
+        self.process.wait()
+        self.process.stdout.close()
+        self.clock.cancel()
+
+
+def test_replies_come_line_by_line(program, folder):
+    session = Session(program, new_desk(program, folder))
+    try:
+        expect(session.ask("K1 field N1 A-1 0 100 40") == "K1 done 1", "no reply to the first line")
+        shown = session.ask("? field N1 A-1")
+        expect(shown == "? field N1 A-1 lo 0 hi 100 value 40 inf 40 sup 40", f"another field: {shown}")
+        expect(session.ask("x") == "- refused 20 BadCommand 0", "no reply to a bad line")
+    finally:
+        session.end()
+
+
+def test_another_sqlite_reads_the_file(program, folder):
+    path = new_desk(program, folder)
+    done(program, ["run", path], TRANSFER)
+    if sqlite3 is None or sqlite3.sqlite_version_info < (3, 37):
+        say("  not read: no other SQLite with strict tables is here")
+        return
+    database = sqlite3.connect(path)
+    try:
+        expect(database.execute("PRAGMA integrity_check").fetchall() == [("ok",)], "the file is not whole")
+        names = {name for (name,) in database.execute("SELECT name FROM sqlite_schema WHERE type = 'table'")}
+        expect(names == set(ROWS), f"other tables: {names}")
+        for table, (columns, rows) in ROWS.items():
+            found = [row[1] for row in database.execute(f"PRAGMA table_info({table})")]
+            expect(found == columns, f"{table} has other columns: {found}")
+            order = ", ".join(str(n) for n in range(1, len(columns) + 1))
+            found = database.execute(f"SELECT {', '.join(columns)} FROM {table} ORDER BY {order}").fetchall()
+            expect(found == rows, f"{table} has other rows: {found}")
+    finally:
+        database.close()
+
+
+def killed(program, path, first, seconds):
+    """Delivers one piece after another, from that place on, until it is killed after so many seconds: how many replies came."""
+    session = Session(program, path)
+    lines = "".join(f"K{place} deliver N1 A-1 1\n" for place in range(first, first + LINES))
+    moment = threading.Timer(seconds, session.process.send_signal, [signal.SIGKILL])
+    moment.start()
+    try:
+        session.process.stdin.write(lines.encode())
+        session.process.stdin.flush()
+    except BrokenPipeError:
+        pass
+    replies = session.process.stdout.read().decode().split("\n")[:-1]
+    moment.join()
+    try:
+        session.end()
+    except BrokenPipeError:
+        session.clock.cancel()
+    for place, reply in enumerate(replies, first):
+        expect(reply == f"K{place} done {place}", f"another reply: {reply}")
+    return len(replies)
+
+
+def test_nothing_acknowledged_is_lost(program, folder):
+    generator = random.Random(1986)
+    path = new_desk(program, folder)
+    done(program, ["run", path], "K1 field N1 A-1 0 1000000000 0\n")
+    place, cut = 2, 0
+    for _ in range(ROUNDS):
+        acknowledged = killed(program, path, place, generator.uniform(0, 0.15))
+        [shown] = done(program, ["run", path], "? field N1 A-1\n")
+        found = int(shown.split()[9]) - (place - 2)
+        expect(acknowledged <= found <= LINES, f"{acknowledged} acknowledged, {found} found")
+        # what is found has the first of the commands, each at its place
+        again = "".join(f"K{n} deliver N1 A-1 1\n" for n in range(2, place + found))
+        want = [f"K{n} done {n}" for n in range(2, place + found)]
+        expect(done(program, ["run", path], again) == want, "not the first of the commands")
+        cut += acknowledged < LINES
+        place += found
+    say(f"  {ROUNDS} sessions, {cut} of them killed before their end, {place - 1} commands")
+
+
+def main():
+    [program] = sys.argv[1:]
+    program = os.path.abspath(program)
+    for test in [
+        test_replies_come_line_by_line,
+        test_another_sqlite_reads_the_file,
+        test_nothing_acknowledged_is_lost,
+    ]:
+        say(f"process {test.__name__}")
+        folder = tempfile.mkdtemp()
+        try:
+            test(program, folder)
+        finally:
+            shutil.rmtree(folder)
+
+
+if __name__ == "__main__":
+    main()
