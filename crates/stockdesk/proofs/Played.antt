@@ -8,17 +8,18 @@ use Rattle.book.specs.Ledger.{Ledger, new_ledger}
 use Rattle.book.specs.Rows.{Content, IsRowsOf}
 use Rattle.book.proofs.Runs.{good_new}
 use Rattle.book.proofs.Told.{told_by_rows}
-use Rattle.keep.specs.Content.{new_content}
+use Rattle.keep.specs.Content.{new_content, new_row}
 use Rattle.desk.specs.Script.{EndsWhole}
 use Rattle.stockdesk.specs.Runs.{BeginsText, PlaysInPart, PlaysWhole, RunsSoFar, RunsWhole}
-use Rattle.stockdesk.specs.Sessions.{SessionCut, SessionInPart, SessionWhole}
+use Rattle.stockdesk.specs.Sessions.{IsNoDesk, ReadsDesks, SessionCut, SessionInPart, SessionWhole}
 use Rattle.stockdesk.specs.declared.session.Fault.{Fault}
-use Rattle.stockdesk.specs.declared.session.Fault.TheVariants as Fault
+
+rows_new : IsRowsOf new_ledger new_content
+rows_new = record { desk = refl; fields = tt; moves = refl; orders = refl; lines = refl; kept = refl }
 
 -- a good ledger whose rows are those of a new desk is that of one
 is_new : (A : Ledger) → Good A → IsRowsOf A new_content → A ≡ new_ledger
-is_new A good rows = told_by_rows A new_ledger new_content good good_new rows
-    (record { desk = refl; fields = tt; moves = refl; orders = refl; lines = refl; kept = refl })
+is_new A good rows = told_by_rows A new_ledger new_content good good_new rows rows_new
 
 -- nothing is read, and nothing written
 nothing_read : (A : Ledger) (R r W w : Option (List ℕ)) → Keeps R r → Keeps W w → BeginsText A R r W w
@@ -77,29 +78,35 @@ cut_begins fault H held leaves R r W w s = record {
 pub plays_whole : (H : Type 0) (held : Content → Type 0) (K : Ledger → Type 0) (R r W w : Option (List ℕ)) → SessionWhole H held K R r W w → PlaysWhole R r W w
 plays_whole H held K R r W w s = (s.first, s.last, s.good, s.ends)
 
-pub plays_part : (fault : Fault) (H : Type 0) (held : Content → Type 0) (leaves : List Content → Type 0) (R r W w : Option (List ℕ)) → SessionInPart fault H held leaves R r W w
+pub plays_part : (fault : Fault) (H : Type 0) (held tables : Content → Type 0) (leaves : List Content → Type 0) (R r W w : Option (List ℕ)) → SessionInPart fault H held tables leaves R r W w
     → PlaysInPart R r W w
-plays_part fault H held leaves R r W w (inl keeps) = (new_ledger, good_new, nothing_read new_ledger R r W w keeps.0 keeps.1)
-plays_part fault H held leaves R r W w (inr s) = (s.first, s.good, cut_begins fault H held leaves R r W w s)
+plays_part fault H held tables leaves R r W w (inl s) = (new_ledger, good_new, nothing_read new_ledger R r W w s.reads s.writes)
+plays_part fault H held tables leaves R r W w (inr s) = (s.first, s.good, cut_begins fault H held leaves R r W w s)
 
 pub plays_nothing : (R W : Option (List ℕ)) → PlaysInPart R R W W
 plays_nothing R W = (new_ledger, good_new, nothing_read new_ledger R R W W (Keeps-refl R) (Keeps-refl W))
+
+-- where there is no desk, nothing is read or written
+pub reads_desks : (fault : Fault) (H : Type 0) (held tables : Content → Type 0) (leaves : List Content → Type 0) (R r W w : Option (List ℕ))
+    → SessionInPart fault H held tables leaves R r W w → ReadsDesks fault R r W w
+reads_desks fault H held tables leaves R r W w (inl s) is = (s.reads, s.writes)
+reads_desks fault H held tables leaves R r W w (inr s) is = absurd (s.desk is)
 
 -- ---- over a new desk
 
 pub runs_whole : (H : Type 0) (held : Content → Type 0) (K : Ledger → Type 0) (R r W w : Option (List ℕ)) → H → held new_content → SessionWhole H held K R r W w → RunsWhole R r W w
 runs_whole H held K R r W w honest new s = (s.last, subst (λ (A : Ledger). EndsWhole A s.last R r W w) (is_new s.first s.good (s.rows honest new_content new)) s.ends)
 
-pub runs_part : (fault : Fault) (H : Type 0) (held : Content → Type 0) (leaves : List Content → Type 0) (R r W w : Option (List ℕ)) → H → held new_content
-    → SessionInPart fault H held leaves R r W w → BeginsText new_ledger R r W w
-runs_part fault H held leaves R r W w honest new (inl keeps) = nothing_read new_ledger R r W w keeps.0 keeps.1
-runs_part fault H held leaves R r W w honest new (inr s) =
+pub runs_part : (fault : Fault) (H : Type 0) (held tables : Content → Type 0) (leaves : List Content → Type 0) (R r W w : Option (List ℕ)) → H → held new_content
+    → SessionInPart fault H held tables leaves R r W w → BeginsText new_ledger R r W w
+runs_part fault H held tables leaves R r W w honest new (inl s) = nothing_read new_ledger R r W w s.reads s.writes
+runs_part fault H held tables leaves R r W w honest new (inr s) =
     subst (λ (A : Ledger). BeginsText A R r W w) (is_new s.first s.good (s.rows honest new_content new)) (cut_begins fault H held leaves R r W w s)
 
-pub runs_so_far : (fault : Fault) (H : Type 0) (held : Content → Type 0) (leaves : List Content → Type 0) (R r W w : Option (List ℕ)) → H → held new_content
-    → SessionInPart fault H held leaves R r W w → fault ≡ Fault.Read → RunsSoFar new_ledger R r W w
-runs_so_far fault H held leaves R r W w honest new (inl keeps) is = nothing_so_far new_ledger R r W w keeps.0 keeps.1
-runs_so_far fault H held leaves R r W w honest new (inr s) is =
+pub runs_so_far : (fault : Fault) (H : Type 0) (held tables : Content → Type 0) (leaves : List Content → Type 0) (R r W w : Option (List ℕ)) → H → held new_content
+    → SessionInPart fault H held tables leaves R r W w → fault ≡ Fault.Read → RunsSoFar new_ledger R r W w
+runs_so_far fault H held tables leaves R r W w honest new (inl s) is = nothing_so_far new_ledger R r W w s.reads s.writes
+runs_so_far fault H held tables leaves R r W w honest new (inr s) is =
     subst (λ (A : Ledger). RunsSoFar A R r W w) (is_new s.first s.good (s.rows honest new_content new)) (record {
       read = s.ends.read;
       written = s.ends.written;
@@ -109,8 +116,15 @@ runs_so_far fault H held leaves R r W w honest new (inr s) is =
       reads = s.ends.reads;
       writes = s.ends.writes;
       feeds = s.ends.feeds;
-      replies = s.ends.all_ended (s.read.0 is);
+      replies = s.ends.all_ended (s.told.read.0 is);
     })
+
+-- a new desk is a desk, and not damaged
+pub opens_new : (fault : Fault) (H : Type 0) (held tables : Content → Type 0) (leaves : List Content → Type 0) (R r W w : Option (List ℕ)) → H → held new_content → tables new_content
+    → SessionInPart fault H held tables leaves R r W w → IsNoDesk fault → ⊥
+opens_new fault H held tables leaves R r W w honest new there (inl s) (inl is) = s.not_a_desk is honest new_content there (new_row, refl, refl)
+opens_new fault H held tables leaves R r W w honest new there (inl s) (inr is) = s.damaged is honest new_content new new_ledger good_new rows_new
+opens_new fault H held tables leaves R r W w honest new there (inr s) is = s.desk is
 
 pub runs_nothing : (R W : Option (List ℕ)) → BeginsText new_ledger R R W W
 runs_nothing R W = nothing_read new_ledger R R W W (Keeps-refl R) (Keeps-refl W)

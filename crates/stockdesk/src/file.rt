@@ -2,6 +2,7 @@
 
 ghost use Rattle.std.specs.Prelude.{◌≡◌, ◌⊎◌, IfErr, OnErr, OnOk};
 ghost use Rattle.stockdesk.specs.Runs.{PlaysInPart, PlaysWhole};
+ghost use Rattle.stockdesk.specs.Sessions.{ReadsDesks};
 
 use crate::session::{Fault, session};
 use keep::{KeepFault, create_over, open_path};
@@ -91,6 +92,7 @@ fn play<S: Start, R: Read, W: Write>(
 ) -> Result<(), Fault>
     ensures whole { OnOk result (PlaysWhole (R.remaining reader.old) (R.remaining reader.new) (W.contents writer.old) (W.contents writer.new)) }
     ensures beginning { OnErr result (PlaysInPart (R.remaining reader.old) (R.remaining reader.new) (W.contents writer.old) (W.contents writer.new)) }
+    ensures desk { IfErr result (λ fault. ReadsDesks fault (R.remaining reader.old) (R.remaining reader.new) (W.contents writer.old) (W.contents writer.new)) }
 {
     let keep = match open_path(rt, path, start) {
         Ok(keep) => keep,
@@ -112,6 +114,7 @@ pub fn run<S: Start, R: Read, W: Write>(
 ) -> Result<(), Fault>
     ensures whole { OnOk result (PlaysWhole (R.remaining reader.old) (R.remaining reader.new) (W.contents writer.old) (W.contents writer.new)) }
     ensures beginning { OnErr result (PlaysInPart (R.remaining reader.old) (R.remaining reader.new) (W.contents writer.old) (W.contents writer.new)) }
+    ensures desk { IfErr result (λ fault. ReadsDesks fault (R.remaining reader.old) (R.remaining reader.new) (W.contents writer.old) (W.contents writer.new)) }
 {
     match look(rt, path)? {
         Found::Nothing => Err(Fault::NotADesk),

@@ -1,9 +1,13 @@
 //! The desk, over lines of text on standard input and output.
 #![tactic(auto)]
 
-ghost use Rattle.std.specs.Prelude.{◌≡◌, ◌≢◌, ◌≤◌, ◌⊎◌, None, OnErr, OnOk};
+ghost use Rattle.std.specs.Prelude.{◌≡◌, ◌≢◌, ◌≤◌, ◌⊎◌, ◌↔◌, None, map, IfErr, OnErr, OnOk};
 ghost use Rattle.std.specs.Io.KnownBytes.{Keeps};
-ghost use Rattle.stockdesk.specs.Runs.{PlaysInPart, PlaysWhole, RunsWhole};
+ghost use Rattle.book.specs.Ledger.{new_ledger};
+ghost use Rattle.clap.specs.Words.{kind_of};
+ghost use Rattle.stockdesk.specs.Runs.{BeginsText, PlaysInPart, PlaysWhole, RunsWhole};
+ghost use Rattle.stockdesk.specs.Sessions.{IsNoDesk, ReadsDesks};
+ghost use Rattle.stockdesk.specs.Tasks.{IsPlainRun};
 
 mod file;
 mod memory;
@@ -13,7 +17,8 @@ mod tasks;
 mod tests;
 
 use crate::session::Fault;
-use crate::tasks::{Task, command, task_of};
+use crate::tasks::{Task, read_task};
+use clap::Error as WordsError;
 use clap::error::ErrorKind as WordsKind;
 use sqlite::Unknown;
 use std::env::{self, Env};
@@ -29,9 +34,12 @@ pub fn perform<R: Read, W: Write>(
     writer: &mut W,
 ) -> Result<(), Fault>
     ensures memory { task.entry ≡ Task.Run None → OnOk result (RunsWhole (R.remaining reader.old) (R.remaining reader.new) (W.contents writer.old) (W.contents writer.new)) }
+    ensures begun { task.entry ≡ Task.Run None → OnErr result (BeginsText new_ledger (R.remaining reader.old) (R.remaining reader.new) (W.contents writer.old) (W.contents writer.new)) }
+    ensures new { task.entry ≡ Task.Run None → IfErr result (λ fault. ¬ IsNoDesk fault) }
     ensures whole { OnOk result ((Keeps (R.remaining reader.old) (R.remaining reader.new) × Keeps (W.contents writer.old) (W.contents writer.new))
         ⊎ PlaysWhole (R.remaining reader.old) (R.remaining reader.new) (W.contents writer.old) (W.contents writer.new)) }
     ensures beginning { OnErr result (PlaysInPart (R.remaining reader.old) (R.remaining reader.new) (W.contents writer.old) (W.contents writer.new)) }
+    ensures desk { IfErr result (λ fault. ReadsDesks fault (R.remaining reader.old) (R.remaining reader.new) (W.contents writer.old) (W.contents writer.new)) }
 {
     match task {
         Task::Init(path) => file::init(rt, path, Unknown),
@@ -42,7 +50,9 @@ pub fn perform<R: Read, W: Write>(
 
 /// The status of a fault, which is told in a line of `errors`.
 fn tell_fault<E: Write>(errors: &mut E, fault: Fault) -> u8
-    ensures { (result ≡ 1) ⊎ (result ≡ 3) }
+    ensures desk { IsNoDesk fault → result ≡ 3 }
+    ensures other { (¬ IsNoDesk fault) → result ≡ 1 }
+    ensures only { (result ≡ 1) ⊎ ((result ≡ 3) × IsNoDesk fault) }
 {
     match fault {
         Fault::NotADesk => tell(errors, b"stockdesk: not a desk\n", 3),
@@ -79,28 +89,33 @@ where
     ensures done { result ≡ 0 → (Keeps (R.remaining reader.old) (R.remaining reader.new) × Keeps (W.contents writer.old) (W.contents writer.new))
         ⊎ PlaysWhole (R.remaining reader.old) (R.remaining reader.new) (W.contents writer.old) (W.contents writer.new) }
     ensures fault { result ≢ 0 → PlaysInPart (R.remaining reader.old) (R.remaining reader.new) (W.contents writer.old) (W.contents writer.new) }
-    ensures untouched { result ≡ 2 → Keeps (R.remaining reader.old) (R.remaining reader.new) × Keeps (W.contents writer.old) (W.contents writer.new) }
+    ensures untouched { (result ≡ 2) ⊎ (result ≡ 3) → Keeps (R.remaining reader.old) (R.remaining reader.new) × Keeps (W.contents writer.old) (W.contents writer.new) }
+    // the one word `run`: status 0, and all that was there is answered, or status 1 and a beginning of that
+    ensures plain { IsPlainRun (map (λ s. s.now) words.entry.now)
+        → ((result ≡ 0) × RunsWhole (R.remaining reader.old) (R.remaining reader.new) (W.contents writer.old) (W.contents writer.new))
+        ⊎ ((result ≡ 1) × BeginsText new_ledger (R.remaining reader.old) (R.remaining reader.new) (W.contents writer.old) (W.contents writer.new)) }
 {
-    let Ok(command) = command(rt.alloc()) else {
-        return tell(errors, b"stockdesk: memory\n", 1);
-    };
-    let matches = match command.try_get_matches_from(words) {
-        Ok(matches) => matches,
-        Err(error) if error.kind() == WordsKind::OutOfMemory => {
-            return tell(errors, b"stockdesk: memory\n", 1);
-        }
-        Err(error) => {
-            let _ = write!(errors, "{error}");
-            return 2;
-        }
-    };
-    let Some(task) = task_of(&matches) else {
-        return 2;
+    let task = match read_task(rt.alloc(), words) {
+        Ok(Some(task)) => task,
+        Ok(None) => return 2,
+        Err(error) => return tell_words(errors, &error),
     };
     match perform(rt, task, reader, writer) {
         Ok(()) => 0,
         Err(fault) => tell_fault(errors, fault),
     }
+}
+
+/// The status where words ask for nothing, or memory for them was refused. It is told on `errors`.
+fn tell_words<E: Write>(errors: &mut E, error: &WordsError) -> u8
+    ensures memory { kind_of error.now ≡ WordsKind.OutOfMemory → result ≡ 1 }
+    ensures words { kind_of error.now ≢ WordsKind.OutOfMemory → result ≡ 2 }
+{
+    if error.kind() == WordsKind::OutOfMemory {
+        return tell(errors, b"stockdesk: memory\n", 1);
+    }
+    let _ = write!(errors, "{error}");
+    2
 }
 
 /// The words could not be read: memory was refused, or one of them is no UTF-8.

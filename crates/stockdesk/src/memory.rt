@@ -1,9 +1,10 @@
 //! A new desk in memory, which ends with the program.
 
-ghost use Rattle.std.specs.Prelude.{◌≡◌, ◌≢◌, IfErr, IfOk, OnErr, OnOk};
+ghost use Rattle.std.specs.Prelude.{◌≡◌, ◌⊎◌, IfErr, IfOk, OnErr, OnOk};
 ghost use Rattle.book.specs.Ledger.{new_ledger};
 ghost use Rattle.keep.specs.Content.{new_content};
 ghost use Rattle.stockdesk.specs.Runs.{BeginsText, RunsSoFar, RunsWhole};
+ghost use Rattle.stockdesk.specs.Sessions.{IsNoDesk};
 
 use crate::session::{Fault, session};
 use keep::{Keep, KeepFault, SqlKeep, create_over};
@@ -14,7 +15,7 @@ use std::io::{Read, Write};
 /// The keeper of a new desk, in a database in memory.
 fn new_keeper(alloc: Global) -> Result<SqlKeep<MemStore>, Fault>
     ensures held { IfOk result (λ keep. ⟦<SqlKeep<MemStore> as Keep>⟧.holds keep new_content) }
-    ensures fault { IfErr result (λ fault. fault ≢ Fault.Read) }
+    ensures fault { IfErr result (λ fault. (fault ≡ Fault.Memory) ⊎ (fault ≡ Fault.Store)) }
 {
     let Ok(mut conn) = Connection::open_in_memory(alloc) else {
         return Err(Fault::Memory);
@@ -32,6 +33,7 @@ fn new_keeper(alloc: Global) -> Result<SqlKeep<MemStore>, Fault>
 pub fn run<R: Read, W: Write>(alloc: Global, reader: &mut R, writer: &mut W) -> Result<(), Fault>
     ensures whole { OnOk result (RunsWhole (R.remaining reader.old) (R.remaining reader.new) (W.contents writer.old) (W.contents writer.new)) }
     ensures beginning { OnErr result (BeginsText new_ledger (R.remaining reader.old) (R.remaining reader.new) (W.contents writer.old) (W.contents writer.new)) }
+    ensures desk { IfErr result (λ fault. ¬ IsNoDesk fault) }
     ensures prompt { IfErr result (λ fault. fault ≡ Fault.Read → RunsSoFar new_ledger (R.remaining reader.old) (R.remaining reader.new) (W.contents writer.old) (W.contents writer.new)) }
 {
     let keep = new_keeper(alloc)?;

@@ -1,10 +1,10 @@
 //! A script on a desk that a keeper holds.
 
-ghost use Rattle.std.specs.Prelude.{◌≡◌, ◌≢◌, ◌↔◌, false, IfErr, OnOk};
+ghost use Rattle.std.specs.Prelude.{◌≡◌, ◌↔◌, false, IfErr, OnOk};
 ghost use Rattle.desk.specs.Desk.{Keeps};
 ghost use Rattle.desk.specs.Script.{EndsCut, EndsWhole};
 ghost use Rattle.desk.specs.declared.fault.ScriptFault.{ScriptFault};
-ghost use Rattle.stockdesk.specs.Sessions.{SessionInPart, SessionWhole};
+ghost use Rattle.stockdesk.specs.Sessions.{IsNoDesk, IsToldAs, SessionInPart, SessionWhole};
 
 use desk::{Desk, OpenFault, ScriptFault, script};
 use keep::Keep;
@@ -29,8 +29,12 @@ pub enum Fault {
     Write,
 }
 
+/// The fault that one of the opening is told as.
 fn open_fault(fault: OpenFault) -> Fault
-    ensures { result ≢ Fault.Read }
+    ensures not_a_desk { result ≡ Fault.NotADesk ↔ fault ≡ OpenFault.NotADesk }
+    ensures damaged { result ≡ Fault.Damaged ↔ fault ≡ OpenFault.Damaged }
+    ensures memory { result ≡ Fault.Memory ↔ fault ≡ OpenFault.Memory }
+    ensures store { result ≡ Fault.Store ↔ fault ≡ OpenFault.Store }
 {
     match fault {
         OpenFault::NotADesk => Fault::NotADesk,
@@ -40,9 +44,10 @@ fn open_fault(fault: OpenFault) -> Fault
     }
 }
 
+/// The fault that one of the script is told as.
 fn script_fault(fault: ScriptFault) -> Fault
-    ensures read { result ≡ Fault.Read ↔ fault ≡ ScriptFault.Read }
-    ensures desk { (result ≢ Fault.NotADesk) × (result ≢ Fault.Damaged) }
+    ensures told { IsToldAs fault result }
+    ensures desk { ¬ IsNoDesk result }
 {
     match fault {
         ScriptFault::Memory => Fault::Memory,
@@ -60,7 +65,7 @@ fn play<K: Keep, R: Read, W: Write>(
     writer: &mut W,
 ) -> Result<(), Fault>
     ensures whole { OnOk result (EndsWhole desk.old.ledger desk.new.ledger (R.remaining reader.old) (R.remaining reader.new) (W.contents writer.old) (W.contents writer.new)) }
-    ensures cut { IfErr result (λ fault. (cause : ScriptFault) × (fault ≡ Fault.Read ↔ cause ≡ ScriptFault.Read) × (fault ≢ Fault.NotADesk) × (fault ≢ Fault.Damaged) × EndsCut cause (K.stopped desk.old.keep ≡ false) (K.is_honest desk.new.keep) (K.leaves desk.new.keep) desk.old.ledger desk.new.ledger
+    ensures cut { IfErr result (λ fault. (cause : ScriptFault) × IsToldAs cause fault × (¬ IsNoDesk fault) × EndsCut cause (K.stopped desk.old.keep ≡ false) (K.is_honest desk.new.keep) (K.leaves desk.new.keep) desk.old.ledger desk.new.ledger
         (R.remaining reader.old) (R.remaining reader.new) (W.contents writer.old) (W.contents writer.new)) }
     ensures going { OnOk result (K.stopped desk.new.keep ≡ K.stopped desk.old.keep) }
     ensures keeps { K.stopped desk.new.keep ≡ false → K.is_honest desk.new.keep → Keeps (K.holds desk.new.keep) (K.leaves desk.new.keep) desk.new.ledger }
@@ -84,7 +89,7 @@ pub fn session<K: Keep, R: Read, W: Write>(
     writer: &mut W,
 ) -> (K, Result<(), Fault>)
     ensures whole { OnOk result.1 (SessionWhole (K.is_honest result.0) (K.holds keep) (Keeps (K.holds result.0) (K.leaves result.0)) (R.remaining reader.old) (R.remaining reader.new) (W.contents writer.old) (W.contents writer.new)) }
-    ensures cut { IfErr result.1 (λ fault. SessionInPart fault (K.is_honest result.0) (K.holds keep) (K.leaves result.0) (R.remaining reader.old) (R.remaining reader.new) (W.contents writer.old) (W.contents writer.new)) }
+    ensures cut { IfErr result.1 (λ fault. SessionInPart fault (K.is_honest result.0) (K.holds keep) (K.has_tables keep) (K.leaves result.0) (R.remaining reader.old) (R.remaining reader.new) (W.contents writer.old) (W.contents writer.new)) }
     ensures honest { K.is_honest result.0 → K.is_honest keep }
 {
     let mut desk = match Desk::open(alloc, keep) {

@@ -1,6 +1,11 @@
 //! What the words behind the program's name ask for.
 
-use clap::{Arg, ArgAction, ArgMatches, Command};
+ghost use Rattle.std.specs.Prelude.{◌≡◌, Some, None, codes, [], true, map, IfErr, IfOk, IfSome};
+ghost use Rattle.clap.specs.Words.{app_of, kind_of, subcommand_rows_of, takes};
+ghost use Rattle.stockdesk.specs.Tasks.{AsksFor, IsPlainRun, stockdesk};
+
+use clap::error::ErrorKind;
+use clap::{Arg, ArgAction, ArgMatches, Command, Error};
 use std::alloc::{AllocError, Global};
 
 /// What is asked for.
@@ -13,7 +18,9 @@ pub enum Task<'a> {
 }
 
 /// The words that the program takes.
-pub fn command<'a>(alloc: Global) -> Result<Command<'a>, AllocError> {
+fn command<'a>(alloc: Global) -> Result<Command<'a>, AllocError>
+    ensures { IfOk result (λ command. app_of command ≡ stockdesk) }
+{
     let file = Arg::new(alloc, "FILE")
         .required(true)
         .action(ArgAction::Set);
@@ -27,10 +34,23 @@ pub fn command<'a>(alloc: Global) -> Result<Command<'a>, AllocError> {
 }
 
 /// The task that the words have been read as.
-pub fn task_of<'a>(matches: &ArgMatches<'a>) -> Option<Task<'a>> {
+fn task_of<'a>(matches: &ArgMatches<'a>) -> Option<Task<'a>>
+    ensures asked { IfSome result (λ task. AsksFor (subcommand_rows_of matches.now) task) }
+    ensures run { subcommand_rows_of matches.now ≡ Some (codes "run", []) → result ≡ Some (Task.Run None) }
+{
     match matches.subcommand() {
         Some(("init", found)) => Some(Task::Init(found.get_str("FILE")?)),
         Some(("run", found)) => Some(Task::Run(found.get_str("FILE"))),
         _ => None,
     }
+}
+
+/// The task that the words ask for, of which the first is the program's name. Words that the program takes fail only for
+/// want of memory.
+pub fn read_task<'a>(alloc: Global, words: &'a [&'a str]) -> Result<Option<Task<'a>>, Error>
+    ensures asked { IsPlainRun (map (λ s. s.now) words.entry.now) → IfOk result (λ task. task ≡ Some (Task.Run None)) }
+    ensures taken { takes stockdesk (map (λ s. s.now) words.entry.now) ≡ true → IfErr result (λ error. kind_of error ≡ ErrorKind.OutOfMemory) }
+{
+    let matches = command(alloc)?.try_get_matches_from(words)?;
+    Ok(task_of(&matches))
 }

@@ -1,14 +1,13 @@
-use Rattle.stockdesk.proofs.Played.{plays_nothing}
+use Rattle.std.proofs.Math.Logic.{inr}
+use Rattle.stockdesk.proofs.PlainRun.{plain_taken}
+use Rattle.stockdesk.proofs.Played.{plays_nothing, runs_nothing}
 use Rattle.stockdesk.proofs.go.Goals as goal
 
-pub returns-in_default-clause-fault : goal.returns-in_default-clause-fault
-returns-in_default-clause-fault g c is = plays_nothing _ _
+pub returns-in-Ok-None-clause-fault : goal.returns-in-Ok-None-clause-fault
+returns-in-Ok-None-clause-fault g c is = plays_nothing _ _
+
+pub returns-in-Err-clause-plain : goal.returns-in-Err-clause-plain
+returns-in-Err-clause-plain g c plain = inr (c.tell_words.ensures.memory (c.in-Err.ensures.taken (plain_taken _ plain)), runs_nothing _ _)
 
 pub returns-in-Err-clause-fault : goal.returns-in-Err-clause-fault
 returns-in-Err-clause-fault g c is = plays_nothing _ _
-
-pub returns-in-Err-2-clause-fault : goal.returns-in-Err-2-clause-fault
-returns-in-Err-2-clause-fault g c is = plays_nothing _ _
-
-pub returns-in_default-task_of-clause-fault : goal.returns-in_default-task_of-clause-fault
-returns-in_default-task_of-clause-fault g c is = plays_nothing _ _

@@ -1,7 +1,8 @@
 use Rattle.std.proofs.lemmas.Result.{on_ok_weaker}
 use Rattle.sqlite.proofs.Callers.{memory_is_clean}
 use Rattle.desk.proofs.Cuts.{of_error}
-use Rattle.stockdesk.proofs.Played.{on_err, on_error, runs_nothing, runs_part, runs_so_far, runs_whole}
+use Rattle.keep.specs.Laws.{holds_tables}
+use Rattle.stockdesk.proofs.Played.{on_err, on_error, opens_new, runs_nothing, runs_part, runs_so_far, runs_whole}
 use Rattle.stockdesk.proofs.memory.run.Goals as goal
 
 pub returns-in_err-keep-clause-beginning : goal.returns-in_err-keep-clause-beginning
@@ -13,8 +14,14 @@ returns-clause-whole g c =
 
 pub returns-clause-beginning : goal.returns-clause-beginning
 returns-clause-beginning g c =
-    on_error c.session-ended.result.1 _ _ (λ fault s. runs_part fault _ _ _ _ _ _ _ (memory_is_clean c.session-ended.result.0.connection) c.in_ok-keep.ensures.held s) c.session-ended.ensures.cut
+    on_error c.session-ended.result.1 _ _ (λ fault s. runs_part fault _ _ _ _ _ _ _ _ (memory_is_clean c.session-ended.result.0.connection) c.in_ok-keep.ensures.held s) c.session-ended.ensures.cut
 
 pub returns-clause-prompt : goal.returns-clause-prompt
 returns-clause-prompt g c =
-    of_error c.session-ended.result.1 _ _ (λ fault is s. runs_so_far fault _ _ _ _ _ _ _ (memory_is_clean c.session-ended.result.0.connection) c.in_ok-keep.ensures.held s) c.session-ended.ensures.cut
+    of_error c.session-ended.result.1 _ _ (λ fault is s. runs_so_far fault _ _ _ _ _ _ _ _ (memory_is_clean c.session-ended.result.0.connection) c.in_ok-keep.ensures.held s) c.session-ended.ensures.cut
+
+pub returns-clause-desk : goal.returns-clause-desk
+returns-clause-desk g c =
+    of_error c.session-ended.result.1 _ _
+    (λ fault is s. opens_new fault _ _ _ _ _ _ _ _ (memory_is_clean c.session-ended.result.0.connection) c.in_ok-keep.ensures.held (holds_tables _ _ c.in_ok-keep.ensures.held) s)
+    c.session-ended.ensures.cut
