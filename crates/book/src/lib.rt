@@ -17,7 +17,7 @@ pub use laws::{
     rows_are_one, rows_tell_all, runs_stay_good, spellings_tell_commands, tests_are_comparisons,
     transfers_even_out,
 };
-pub use limits::{MAX_FIELDS, MAX_ORDERS, MAX_PLACES};
+pub use limits::{MAX_FIELDS, MAX_ORDERS, MAX_PLACES, limits_are_those_of_the_rules};
 pub use order::{Kind, Line, State};
 pub use plan::Plan;
 pub use rows::{Change, DeskRow, FieldRow, KeptRow, LineRow, MoveRow, OrderRow, Rows, Tables};

@@ -1,5 +1,7 @@
 //! The limits of the ledger.
 
+ghost use Rattle.std.specs.Prelude.{◌≡◌};
+
 /// The greatest number of fields.
 pub const MAX_FIELDS: usize = 10_000;
 
@@ -8,3 +10,10 @@ pub const MAX_ORDERS: usize = 100_000;
 
 /// The greatest number of accepted commands. Each open order has one of them set aside for its end.
 pub const MAX_PLACES: usize = 200_000;
+
+/// The limits are the numbers of the rules.
+pub fn limits_are_those_of_the_rules()
+    ensures fields { MAX_FIELDS ≡ 10000 }
+    ensures orders { MAX_ORDERS ≡ 100000 }
+    ensures places { MAX_PLACES ≡ 200000 }
+{}

@@ -1,6 +1,7 @@
 -- How a script ends, where the reader and the writer tell their bytes.
 use Rattle.std.specs.Prelude.{◌≡◌, ◌⊎◌, ◌≤◌, ℕ, length, List, [], ◌∷◌, ◌++◌, Option, Some}
 use Rattle.std.specs.Io.KnownBytes.{Appends, Consumes, IsAtEnd}
+use Rattle.std.specs.List.{AllByRecursion as Each}
 use Rattle.words.specs.Stream.{Feeds}
 use Rattle.words.specs.declared.command.Request.{Request}
 use Rattle.words.specs.declared.item.Item.{Item}
@@ -10,9 +11,21 @@ use Rattle.book.specs.Ledger.{Ledger}
 use Rattle.book.specs.Next.{accept}
 use Rattle.book.specs.Rows.{Content}
 use Rattle.desk.specs.Desk.{LeavesEither}
-use Rattle.desk.specs.Text.{IsText, Replies, RepliesAll, unended}
+use Rattle.desk.specs.Text.{AreItems, IsText, Replies, RepliesAll, unended}
 use Rattle.desk.specs.declared.fault.ScriptFault.{ScriptFault}
 use Rattle.desk.specs.declared.fault.ScriptFault.TheVariants as ScriptFault
+
+-- a request is answered only by a desk that went on
+abbrev pub MayAnswer : Type 0 → Item → Type 0
+MayAnswer went_on (item.Request r) = went_on
+MayAnswer went_on (item.AskField b a) = Unit {0}
+MayAnswer went_on (item.AskOrder n) = Unit {0}
+MayAnswer went_on item.Bad = Unit {0}
+
+-- what was read has a request only where the desk went on
+abbrev pub MayRead : Type 0 → Option (List ℕ) → Option (List ℕ) → Type 0
+MayRead went_on reader_old reader_new =
+    (read : List ℕ) × (items : List Item) × Consumes reader_old reader_new read × AreItems read items × Each (MayAnswer went_on) items
 
 -- all that was there was read, and its text was written
 pub record EndsWhole (old new : Ledger) (reader_old reader_new writer_old writer_new : Option (List ℕ)) : Type 0 where
@@ -40,6 +53,10 @@ pub record LacksRest (old : Ledger) (items : List Item) (written : List ℕ) (ne
 abbrev pub AlmostWritten : Ledger → List Item → List ℕ → Ledger → Type 0
 AlmostWritten old items written new = RepliesAll old items written new ⊎ LacksRest old items written new
 
+-- the next item is a request
+abbrev pub IsRequestNext : List Item → Type 0
+IsRequestNext items = (request : Request) × (more : List Item) × (items ≡ item.Request request ∷ more)
+
 -- the next item is a request that is accepted, and a stop leaves the rows before it or after it
 pub record StopsAt (leaves : List Content → Type 0) (ledger : Ledger) (items : List Item) : Type 0 where
   pub request : Request
@@ -48,13 +65,16 @@ pub record StopsAt (leaves : List Content → Type 0) (ledger : Ledger) (items :
   pub accepted : IsAccepted ledger request
   pub either : LeavesEither leaves ledger (accept ledger request)
 
--- How far the answers to items have come at a fault. Where it stopped a desk that went on before, over an honest disk, it is
--- known what a stop leaves.
+-- How far the answers to items have come at a fault. A desk that was stopped before has answered no request, and a stopped
+-- desk ends them at a request alone. Where the fault stopped a desk that went on before, over an honest disk, it is known what
+-- a stop leaves.
 pub record IsCut (fault : ScriptFault) (went_on is_honest : Type 0) (leaves : List Content → Type 0) (old : Ledger) (items : List Item) (written : List ℕ) (new : Ledger) : Type 0 where
   pub answered : List Item
   pub left : List Item
   pub split : items ≡ answered ++ left
   pub lines : AlmostWritten old answered written new
+  pub may : Each (MayAnswer went_on) answered
+  pub next : fault ≡ ScriptFault.Stopped → IsRequestNext left
   pub stopped : fault ≡ ScriptFault.Stopped → went_on → is_honest → StopsAt leaves new left
 
 -- how many bytes a piece of the input has, at the most

@@ -81,7 +81,8 @@ impl<K: Keep> Desk<K> {
     ///
     /// `Memory` where memory is refused, and nothing has changed then; it is wanted only for a repeated key and for a
     /// request that is accepted. `Stopped` where the keeper is stopped, by a fault in this call or earlier: the ledger is
-    /// as it was, a stop leaves its rows or those after the request, and every later call answers `Stopped`.
+    /// as it was, and every later call answers `Stopped`. Where it is this call that stopped it, a stop leaves the ledger's
+    /// rows or those after the request.
     pub fn call(&mut self, alloc: Global, request: &Request) -> Result<Reply, CallFault>
         ensures refused { IsTrue (K.stopped self.old.keep) → (result ≡ Err CallFault.Stopped) × (self.new ≡ self.old) }
         ensures answer { IfOk result (λ reply. Answers self.old.ledger request.now reply self.new.ledger) }

@@ -2,7 +2,7 @@
 
 ghost use Rattle.std.specs.Prelude.{◌≡◌, ◌≢◌, ◌⊎◌, ◌∷◌, [], false, IfErr, IfOk, IsTrue, Err};
 ghost use Rattle.desk.specs.Replies.{AnswersFieldAsk, AnswersOrderAsk, request_line};
-ghost use Rattle.desk.specs.Script.{IsCut};
+ghost use Rattle.desk.specs.Script.{IsCut, MayAnswer};
 ghost use Rattle.desk.specs.Text.{Replies};
 ghost use Rattle.words.specs.declared.item.Item.TheVariants as item;
 
@@ -61,10 +61,12 @@ fn line_of_request<K: Keep>(
     request: &Request,
 ) -> Result<Vec<u8>, ScriptFault>
     ensures line { IfOk result (λ out. Replies desk.old.ledger (item.Request request.now) out.items desk.new.ledger) }
+    ensures went_on { IfOk result (λ _. K.stopped desk.old.keep ≡ false) }
     ensures cut { IfErr result (λ fault. IsCut fault (K.stopped desk.old.keep ≡ false) (K.is_honest desk.new.keep) (K.leaves desk.new.keep) desk.old.ledger (item.Request request.now ∷ []) [] desk.new.ledger) }
     ensures fault { IfErr result (λ fault. (fault ≡ ScriptFault.Memory) ⊎ (fault ≡ ScriptFault.Stopped)) }
     ensures going { result ≢ Err ScriptFault.Stopped → K.stopped desk.new.keep ≡ K.stopped desk.old.keep }
     ensures stopped { result ≡ Err ScriptFault.Stopped → IsTrue (K.stopped desk.new.keep) }
+    ensures untouched { IsTrue (K.stopped desk.old.keep) → desk.new ≡ desk.old }
     ensures honest { K.is_honest desk.new.keep → K.is_honest desk.old.keep }
 {
     match desk.call(alloc, request) {
@@ -84,10 +86,12 @@ pub fn line_of<K: Keep>(
     item: &Item,
 ) -> Result<Vec<u8>, ScriptFault>
     ensures line { IfOk result (λ out. Replies desk.old.ledger item.now out.items desk.new.ledger) }
+    ensures may { IfOk result (λ _. MayAnswer (K.stopped desk.old.keep ≡ false) item.now) }
     ensures cut { IfErr result (λ fault. IsCut fault (K.stopped desk.old.keep ≡ false) (K.is_honest desk.new.keep) (K.leaves desk.new.keep) desk.old.ledger (item.now ∷ []) [] desk.new.ledger) }
     ensures fault { IfErr result (λ fault. (fault ≡ ScriptFault.Memory) ⊎ (fault ≡ ScriptFault.Stopped)) }
     ensures going { result ≢ Err ScriptFault.Stopped → K.stopped desk.new.keep ≡ K.stopped desk.old.keep }
     ensures stopped { result ≡ Err ScriptFault.Stopped → IsTrue (K.stopped desk.new.keep) }
+    ensures untouched { IsTrue (K.stopped desk.old.keep) → desk.new ≡ desk.old }
     ensures honest { K.is_honest desk.new.keep → K.is_honest desk.old.keep }
 {
     let line = match item {

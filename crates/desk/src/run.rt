@@ -34,11 +34,13 @@ impl<K: Keep> Desk<K> {
     /// Answers the requests in their order. A refusal does not end a run; a fault does, and the replies are those of the
     /// requests before it. Room for a reply is made before its request is called, so nothing is done and not told.
     ///
-    /// The ledger is the one after the requests that are answered; a stop leaves its rows alone, or, where the run ended
-    /// `Stopped`, those or the rows after one request more.
+    /// The ledger is the one after the requests that are answered. Of a desk that was not stopped before, a stop leaves its
+    /// rows alone, or, where the run ended `Stopped`, those or the rows after one request more. A desk that was stopped
+    /// before answers none and changes nothing.
     pub fn run(&mut self, alloc: Global, requests: &[Request]) -> Run
         ensures replies { Runs self.old.ledger (take (length result.replies.items) requests.now) result.replies.items self.new.ledger }
         ensures all { result.ending ≡ Ending.All ↔ length result.replies.items ≡ length requests.now }
+        ensures refused { IsTrue (K.stopped self.old.keep) → (result.replies.items ≡ []) × (self.new ≡ self.old) }
         ensures stopped { result.ending ≡ Ending.Stopped → IsTrue (K.stopped self.new.keep) }
         ensures going { result.ending ≢ Ending.Stopped → K.stopped self.new.keep ≡ K.stopped self.old.keep }
         ensures keeps { K.stopped self.new.keep ≡ false → K.is_honest self.new.keep → Keeps (K.holds self.new.keep) (K.leaves self.new.keep) self.new.ledger }

@@ -10,9 +10,10 @@ use crate::run::Run;
 use crate::scripts::script;
 use book::{Change, FieldView, Kind, Line, OrderView, State, Tables};
 use escrow::Way;
-use keep::{Keep, KeepFault, SqlKeep, create_over};
+use keep::{Keep, KeepFault, SqlKeep};
 use sqlite::{Connection, MemStore};
 use std::alloc::Global;
+use std::io::{Read, Write};
 use std::process::Abort;
 use std::test::Fail;
 use words::{Item, Reply, Request, read_item, write_reply};
@@ -175,7 +176,17 @@ pub(crate) fn run<K: Keep>(alloc: Global, desk: &mut Desk<K>, requests: &[Reques
     desk.run(alloc, requests)
 }
 
-/// What a script of these bytes ends with, likewise.
+/// What a script on these streams ends with, likewise.
+pub(crate) fn answer_stream<K: Keep, R: Read, W: Write>(
+    alloc: Global,
+    reader: &mut R,
+    writer: &mut W,
+    desk: &mut Desk<K>,
+) -> Result<(), ScriptFault> {
+    script(alloc, reader, writer, desk)
+}
+
+/// What a script of these bytes ends with.
 pub(crate) fn answer_script<K: Keep>(
     alloc: Global,
     text: &[u8],
@@ -183,7 +194,7 @@ pub(crate) fn answer_script<K: Keep>(
     desk: &mut Desk<K>,
 ) -> Result<(), ScriptFault> {
     let mut reader = text;
-    script(alloc, &mut reader, out, desk)
+    answer_stream(alloc, &mut reader, out, desk)
 }
 
 /// The connection of the desk's keeper.
@@ -215,7 +226,7 @@ pub(crate) fn keeper(conn: Connection<MemStore>) -> Result<SqlKeep<MemStore>, Fa
 /// Makes a new desk over the connection, which is in no transaction.
 fn create(conn: &mut Connection<MemStore>) -> Result<(), Fail> {
     if conn.is_autocommit() {
-        Ok(create_over(conn)?)
+        Ok(SqlKeep::create_over(conn)?)
     } else {
         Err("a transaction is open")?
     }

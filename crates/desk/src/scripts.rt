@@ -2,9 +2,10 @@
 
 ghost use Rattle.std.specs.Prelude.{◌≡◌, ◌≢◌, ◌++◌, ◌∷◌, [], ℕ, List, Option, false, IfErr, OnErr, OnOk, IsTrue, Err};
 ghost use Rattle.std.specs.Io.KnownBytes.{Appends};
+ghost use Rattle.std.specs.List.{AllByRecursion as Each};
 ghost use Rattle.words.specs.Stream.{Feeds};
 ghost use Rattle.desk.specs.Desk.{Keeps};
-ghost use Rattle.desk.specs.Script.{EndsCut, EndsWhole, IsCut};
+ghost use Rattle.desk.specs.Script.{EndsCut, EndsWhole, IsCut, MayAnswer, MayRead};
 ghost use Rattle.desk.specs.Text.{Replies, RepliesAll, unended};
 ghost use Rattle.words.specs.declared.item.Item.{Item};
 
@@ -27,11 +28,13 @@ fn answer<K: Keep, W: Write>(
     item: &Item,
 ) -> Result<(), ScriptFault>
     ensures whole { OnOk result ((line : List ℕ) × Replies desk.old.ledger item.now line desk.new.ledger × Appends (W.contents writer.old) (W.contents writer.new) line) }
+    ensures may { OnOk result (MayAnswer (K.stopped desk.old.keep ≡ false) item.now) }
     ensures cut { IfErr result (λ fault. (written : List ℕ) × Appends (W.contents writer.old) (W.contents writer.new) written
         × IsCut fault (K.stopped desk.old.keep ≡ false) (K.is_honest desk.new.keep) (K.leaves desk.new.keep) desk.old.ledger (item.now ∷ []) written desk.new.ledger) }
     ensures read { result ≢ Err ScriptFault.Read }
     ensures going { result ≢ Err ScriptFault.Stopped → K.stopped desk.new.keep ≡ K.stopped desk.old.keep }
     ensures stopped { result ≡ Err ScriptFault.Stopped → IsTrue (K.stopped desk.new.keep) }
+    ensures untouched { IsTrue (K.stopped desk.old.keep) → desk.new ≡ desk.old }
     ensures honest { K.is_honest desk.new.keep → K.is_honest desk.old.keep }
 {
     let line = line_of(alloc, desk, item)?;
@@ -49,11 +52,13 @@ fn answer_all<K: Keep, W: Write>(
     items: &[Item],
 ) -> Result<(), ScriptFault>
     ensures whole { OnOk result ((lines : List ℕ) × RepliesAll desk.old.ledger items.now lines desk.new.ledger × Appends (W.contents writer.old) (W.contents writer.new) lines) }
+    ensures may { OnOk result (Each (MayAnswer (K.stopped desk.old.keep ≡ false)) items.now) }
     ensures cut { IfErr result (λ fault. (written : List ℕ) × Appends (W.contents writer.old) (W.contents writer.new) written
         × IsCut fault (K.stopped desk.old.keep ≡ false) (K.is_honest desk.new.keep) (K.leaves desk.new.keep) desk.old.ledger items.now written desk.new.ledger) }
     ensures read { result ≢ Err ScriptFault.Read }
     ensures going { result ≢ Err ScriptFault.Stopped → K.stopped desk.new.keep ≡ K.stopped desk.old.keep }
     ensures stopped { result ≡ Err ScriptFault.Stopped → IsTrue (K.stopped desk.new.keep) }
+    ensures untouched { IsTrue (K.stopped desk.old.keep) → desk.new ≡ desk.old }
     ensures honest { K.is_honest desk.new.keep → K.is_honest desk.old.keep }
 {
     for item in items {
@@ -70,12 +75,14 @@ fn answer_piece<K: Keep, W: Write>(
     desk: &mut Desk<K>,
     piece: &[u8],
 ) -> Result<(), ScriptFault>
-    ensures whole { OnOk result ((items : List Item) × (out : List ℕ) × Feeds lines.old piece.now items lines.new × RepliesAll desk.old.ledger items out desk.new.ledger × Appends (W.contents writer.old) (W.contents writer.new) out) }
+    ensures whole { OnOk result ((items : List Item) × (out : List ℕ) × Feeds lines.old piece.now items lines.new × RepliesAll desk.old.ledger items out desk.new.ledger × Appends (W.contents writer.old) (W.contents writer.new) out
+        × Each (MayAnswer (K.stopped desk.old.keep ≡ false)) items) }
     ensures cut { IfErr result (λ fault. (items : List Item) × (rest : Option (List ℕ)) × (written : List ℕ) × Feeds lines.old piece.now items rest × Appends (W.contents writer.old) (W.contents writer.new) written
         × IsCut fault (K.stopped desk.old.keep ≡ false) (K.is_honest desk.new.keep) (K.leaves desk.new.keep) desk.old.ledger items written desk.new.ledger) }
     ensures read { result ≢ Err ScriptFault.Read }
     ensures going { result ≢ Err ScriptFault.Stopped → K.stopped desk.new.keep ≡ K.stopped desk.old.keep }
     ensures stopped { result ≡ Err ScriptFault.Stopped → IsTrue (K.stopped desk.new.keep) }
+    ensures untouched { IsTrue (K.stopped desk.old.keep) → desk.new ≡ desk.old }
     ensures honest { K.is_honest desk.new.keep → K.is_honest desk.old.keep }
 {
     match lines.feed(alloc, piece) {
@@ -97,6 +104,7 @@ fn answer_rest<K: Keep, W: Write>(
     ensures read { result ≢ Err ScriptFault.Read }
     ensures going { result ≢ Err ScriptFault.Stopped → K.stopped desk.new.keep ≡ K.stopped desk.old.keep }
     ensures stopped { result ≡ Err ScriptFault.Stopped → IsTrue (K.stopped desk.new.keep) }
+    ensures untouched { IsTrue (K.stopped desk.old.keep) → desk.new ≡ desk.old }
     ensures honest { K.is_honest desk.new.keep → K.is_honest desk.old.keep }
 {
     match lines.finish() {
@@ -110,8 +118,9 @@ fn answer_rest<K: Keep, W: Write>(
 ///
 /// After a fault what is written is a beginning of the text for what was read: of the reply lines to what the desk has done
 /// at most the last is missing or cut, and after a failing read none. `Stopped` is answered only where the desk is
-/// stopped: a stop then leaves the rows before the request that it is cut at, or after it. In every other case a stop leaves
-/// the rows of the desk's ledger alone.
+/// stopped. Of a desk that was not stopped before, a stop then leaves the rows before the request that it is cut at, or after
+/// it, and in every other case the rows of the desk's ledger alone. A desk that was stopped before answers the lines up to the
+/// first request, and changes nothing.
 pub fn script<K: Keep, R: Read, W: Write>(
     alloc: Global,
     reader: &mut R,
@@ -119,10 +128,12 @@ pub fn script<K: Keep, R: Read, W: Write>(
     desk: &mut Desk<K>,
 ) -> Result<(), ScriptFault>
     ensures whole { OnOk result (EndsWhole desk.old.ledger desk.new.ledger (R.remaining reader.old) (R.remaining reader.new) (W.contents writer.old) (W.contents writer.new)) }
+    ensures may { OnOk result (MayRead (K.stopped desk.old.keep ≡ false) (R.remaining reader.old) (R.remaining reader.new)) }
     ensures cut { IfErr result (λ fault. EndsCut fault (K.stopped desk.old.keep ≡ false) (K.is_honest desk.new.keep) (K.leaves desk.new.keep) desk.old.ledger desk.new.ledger
         (R.remaining reader.old) (R.remaining reader.new) (W.contents writer.old) (W.contents writer.new)) }
     ensures going { result ≢ Err ScriptFault.Stopped → K.stopped desk.new.keep ≡ K.stopped desk.old.keep }
     ensures stopped { result ≡ Err ScriptFault.Stopped → IsTrue (K.stopped desk.new.keep) }
+    ensures untouched { IsTrue (K.stopped desk.old.keep) → desk.new ≡ desk.old }
     ensures keeps { K.stopped desk.new.keep ≡ false → K.is_honest desk.new.keep → Keeps (K.holds desk.new.keep) (K.leaves desk.new.keep) desk.new.ledger }
     ensures honest { K.is_honest desk.new.keep → K.is_honest desk.old.keep }
 {
@@ -139,10 +150,12 @@ fn answer_input<K: Keep, R: Read, W: Write>(
     desk: &mut Desk<K>,
 ) -> Result<(), ScriptFault>
     ensures whole { OnOk result (EndsWhole desk.old.ledger desk.new.ledger (R.remaining reader.old) (R.remaining reader.new) (W.contents writer.old) (W.contents writer.new)) }
+    ensures may { OnOk result (MayRead (K.stopped desk.old.keep ≡ false) (R.remaining reader.old) (R.remaining reader.new)) }
     ensures cut { IfErr result (λ fault. EndsCut fault (K.stopped desk.old.keep ≡ false) (K.is_honest desk.new.keep) (K.leaves desk.new.keep) desk.old.ledger desk.new.ledger
         (R.remaining reader.old) (R.remaining reader.new) (W.contents writer.old) (W.contents writer.new)) }
     ensures going { result ≢ Err ScriptFault.Stopped → K.stopped desk.new.keep ≡ K.stopped desk.old.keep }
     ensures stopped { result ≡ Err ScriptFault.Stopped → IsTrue (K.stopped desk.new.keep) }
+    ensures untouched { IsTrue (K.stopped desk.old.keep) → desk.new ≡ desk.old }
     ensures honest { K.is_honest desk.new.keep → K.is_honest desk.old.keep }
 {
     desk.in_order();

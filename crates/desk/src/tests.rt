@@ -1,14 +1,16 @@
 use crate::samples::{
-    LONG_SCRIPT, RELEASE_AND_ABORT, Row, TRANSFER, answer_script, call, commit, connection_of,
-    keeper, load, open, opened, play, play_from, request, run, sql_keeper,
+    LONG_SCRIPT, RELEASE_AND_ABORT, Row, TRANSFER, answer_script, answer_stream, call, commit,
+    connection_of, keeper, load, open, opened, play, play_from, request, run, sql_keeper,
 };
 use crate::{CallFault, Desk, Ending, OpenFault, ScriptFault};
 use book::{Change, FieldRow, Tables};
 use keep::{Keep, PlainKeep};
 use sqlite::Connection;
+use std::io;
+use std::io::{Read, Write};
 use std::process::Abort;
 use std::test::Fail;
-use words::{Reply, Request};
+use words::{Refusal, Reply, Request};
 
 /// A keeper of a new desk that never fails.
 fn plain_keeper<R: AllocGlobal>(rt: &R) -> PlainKeep {
@@ -311,6 +313,30 @@ fn a_run_ends_where_a_commit_fails(rt: HostRuntime) -> Result<(), Fail> {
     expect_cut_run(&rt, true, 20)
 }
 
+#[test]
+fn a_refusal_ends_no_run(rt: HostRuntime) -> Result<(), Fail> {
+    let mut requests = Vec::new(rt.alloc());
+    for line in [
+        "K1 field N1 A-1 0 100 40",
+        "K2 deliver N1 A-1 61",
+        "K3 deliver N1 A-1 60",
+        "K1 field N1 A-1 0 100 40",
+    ] {
+        requests.push(request(&rt, line)?)?;
+    }
+    let mut desk = opened(&rt, sql_keeper(&rt)?)?;
+    let done = run(rt.alloc(), &mut desk, &requests);
+    assert_eq!(rt; done.ending, Ending::All);
+    let replies = [
+        Reply::Done(1),
+        Reply::Refused(Refusal::TooMuch, 0),
+        Reply::Done(2),
+        Reply::Done(1),
+    ];
+    assert!(rt; done.replies.as_slice() == replies.as_slice());
+    Ok(())
+}
+
 /// The script of these rows, and what is answered to it.
 fn texts<R: AllocGlobal>(rt: &R, rows: &[Row]) -> Result<(String, String), Fail> {
     let mut script = String::new(rt.alloc());
@@ -338,7 +364,8 @@ fn a_script_is_answered(rt: HostRuntime) -> Result<(), Fail> {
     Ok(())
 }
 
-/// A script in which that commit fails: every line before that request is answered, and nothing else.
+/// A script in which that commit fails: every line before that request is answered, and nothing else. A further script is
+/// answered up to its first request.
 fn expect_cut_script<R: Abort + AllocGlobal>(
     rt: &R,
     fail_at: u64,
@@ -350,6 +377,11 @@ fn expect_cut_script<R: Abort + AllocGlobal>(
     let ended = answer_script(rt.alloc(), text.as_bytes(), &mut out, &mut desk);
     assert_eq!(rt; ended, Err(ScriptFault::Stopped));
     assert!(rt; desk.is_stopped());
+    let mut more: Vec<u8> = Vec::new(rt.alloc());
+    let text = b"? order 99\nK1 field N1 A-1 0 100 40\n? order 99\n".as_slice();
+    let ended = answer_script(rt.alloc(), text, &mut more, &mut desk);
+    assert_eq!(rt; ended, Err(ScriptFault::Stopped));
+    assert!(rt; more.as_slice() == b"? none\n".as_slice());
     let mut desk = opened(rt, PlainKeep::start(rt.alloc(), Some(fail_at), lands))?;
     let cut = play_from(rt, &mut desk, &LONG_SCRIPT, 0)?;
     let (_, replies) = texts(rt, LONG_SCRIPT.get(..cut).ok_or("rows")?)?;
@@ -363,5 +395,54 @@ fn a_script_ends_where_a_commit_fails(rt: HostRuntime) -> Result<(), Fail> {
         expect_cut_script(&rt, fail_at, false)?;
         expect_cut_script(&rt, fail_at, true)?;
     }
+    Ok(())
+}
+
+/// A stream that fails at its first read or write, and not again.
+#[derive(Drop)]
+struct FailsOnce {
+    has_failed: bool,
+}
+
+impl Read for FailsOnce {
+    fn read(&mut self, _buffer: &mut [u8]) -> io::Result<usize> {
+        if self.has_failed {
+            return Ok(0);
+        }
+        self.has_failed = true;
+        Err(io::Error::from(io::ErrorKind::Interrupted))
+    }
+}
+
+impl Write for FailsOnce {
+    fn write(&mut self, bytes: &[u8]) -> io::Result<usize> {
+        if self.has_failed {
+            return Ok(bytes.len());
+        }
+        self.has_failed = true;
+        Err(io::Error::from(io::ErrorKind::Interrupted))
+    }
+
+    fn flush(&mut self) -> io::Result<()> {
+        Ok(())
+    }
+}
+
+#[test]
+fn a_stream_that_fails_once_is_a_fault_at_once(rt: HostRuntime) -> Result<(), Fail> {
+    let mut desk = opened(&rt, plain_keeper(&rt))?;
+    let mut out: Vec<u8> = Vec::new(rt.alloc());
+    let mut reader = FailsOnce { has_failed: false };
+    assert_eq!(rt;
+        answer_stream(rt.alloc(), &mut reader, &mut out, &mut desk),
+        Err(ScriptFault::Read)
+    );
+    assert!(rt; out.is_empty());
+    let mut text = b"? order 7\n".as_slice();
+    let mut writer = FailsOnce { has_failed: false };
+    assert_eq!(rt;
+        answer_stream(rt.alloc(), &mut text, &mut writer, &mut desk),
+        Err(ScriptFault::Write)
+    );
     Ok(())
 }

@@ -1,8 +1,8 @@
--- The forms of codes: so many bytes, each of them of the code's kind.
+-- The forms of codes: so many bytes, each of them of the code's kind. How many stands here as a number, so that
+-- another limit of the code is refused.
 use Rattle.std.specs.Prelude.{ℕ, ◌<◌, ◌≤◌, ◌≢◌, Bool, ◌||◌, ◌==◌, List, length, slice_index, IsTrue}
 use Rattle.std.specs.Char.{is_ascii_digit, is_ascii_lowercase, is_ascii_uppercase}
 use Rattle.std.specs.List.{list_all}
-use Rattle.escrow.specs.declared.limits.TheConstants.{MAX_ARTICLE_LEN, MAX_BRANCH_LEN, MAX_KEY_LEN}
 
 -- A-Z and 0-9
 abbrev pub is_branch_byte : ℕ → Bool
@@ -19,18 +19,18 @@ is_key_byte byte = is_article_byte byte || is_ascii_lowercase byte
 -- the code of a branch
 pub record IsBranch (bytes : List ℕ) : Type 0 where
   pub some : 0 < length bytes
-  pub fits : length bytes ≤ MAX_BRANCH_LEN
+  pub fits : length bytes ≤ 8
   pub each : IsTrue (list_all is_branch_byte bytes)
 
 -- the code of an article, which doesn't begin with a hyphen
 pub record IsArticle (bytes : List ℕ) : Type 0 where
   pub some : 0 < length bytes
-  pub fits : length bytes ≤ MAX_ARTICLE_LEN
+  pub fits : length bytes ≤ 16
   pub first : slice_index bytes 0 ≢ 45
   pub each : IsTrue (list_all is_article_byte bytes)
 
 -- the key of a request
 pub record IsKey (bytes : List ℕ) : Type 0 where
   pub some : 0 < length bytes
-  pub fits : length bytes ≤ MAX_KEY_LEN
+  pub fits : length bytes ≤ 36
   pub each : IsTrue (list_all is_key_byte bytes)

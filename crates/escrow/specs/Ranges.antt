@@ -1,19 +1,18 @@
--- The ranges of numbers.
+-- The ranges of numbers. They stand here as numbers, so that another limit of the code is refused.
 use Rattle.std.specs.Prelude.{ℕ, ◌≤◌}
-use Rattle.escrow.specs.declared.limits.TheConstants.{MAX_LEVEL, MAX_MOMENT, MAX_ORDER_NO, MAX_QTY}
 
 -- a level of stock: a bound, a value, or an amount that is held or used
 abbrev pub IsLevel : ℕ → Type 0
-IsLevel n = n ≤ MAX_LEVEL
+IsLevel n = n ≤ 1000000000
 
 -- a quantity in a command
 abbrev pub IsQty : ℕ → Type 0
-IsQty n = (1 ≤ n) × (n ≤ MAX_QTY)
+IsQty n = (1 ≤ n) × (n ≤ 1000000)
 
 -- a moment in whole minutes
 abbrev pub IsMoment : ℕ → Type 0
-IsMoment n = n ≤ MAX_MOMENT
+IsMoment n = n ≤ 4000000000
 
 -- the number of an order
 abbrev pub IsOrderNo : ℕ → Type 0
-IsOrderNo n = (1 ≤ n) × (n ≤ MAX_ORDER_NO)
+IsOrderNo n = (1 ≤ n) × (n ≤ 999999999)

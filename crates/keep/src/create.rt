@@ -14,6 +14,7 @@ mod tests;
 
 use crate::keep::{KeepFault, fault_of};
 use crate::schema::is_empty;
+use crate::sql::SqlKeep;
 use crate::tables::desk::VERSION;
 use sqlite::types::ValueRef;
 use sqlite::{Alter, Connection, Error, Transaction};
@@ -144,20 +145,22 @@ fn create<S: Alter>(conn: &mut Connection<S>) -> Result<(), Error>
     tx.commit()
 }
 
-/// Makes the six tables and the one row of `desk` in one transaction. A store in which a table or anything else is
-/// declared already is refused with `Store` and left as it is. A stop leaves what was before or the whole new desk.
-pub fn create_over<S: Alter>(conn: &mut Connection<S>) -> Result<(), KeepFault>
-    requires { conn.old.in_transaction ≡ false }
-    ensures idle { conn.new.in_transaction ≡ false }
-    ensures taken { ¬ ((state S.Store conn.old).now.schema ≡ no_schema) → (result ≡ Err KeepFault.Store) × (conn.new ≡ conn.old) }
-    ensures fault { IfErr result (λ fault. (fault ≡ KeepFault.Memory) ⊎ (fault ≡ KeepFault.Store)) }
-    ensures clean { HasCleanDisk (state S.Store conn.new) → HasCleanDisk (state S.Store conn.old) }
-    ensures made { HasCleanDisk (state S.Store conn.new) → OnOk result (IsSettled (λ db. Holds db new_content) (state S.Store conn.new)) }
-    ensures alone { HasCleanDisk (state S.Store conn.new) → OnOk result (LeavesOnly (state S.Store conn.new).may_leave (new_content ∷ [])) }
-    ensures either { HasCleanDisk (state S.Store conn.new) → (trees : Trees) → (state S.Store conn.new).may_leave trees → (state S.Store conn.old).may_leave trees ⊎ IsContent trees new_content }
-{
-    if !is_empty(conn.schema()) {
-        return Err(KeepFault::Store);
+impl<S: Alter> SqlKeep<S> {
+    /// Makes the six tables and the one row of `desk` in one transaction. A store in which a table or anything else is
+    /// declared already is refused with `Store` and left as it is. A stop leaves what was before or the whole new desk.
+    pub fn create_over(conn: &mut Connection<S>) -> Result<(), KeepFault>
+        requires { conn.old.in_transaction ≡ false }
+        ensures idle { conn.new.in_transaction ≡ false }
+        ensures taken { ¬ ((state S.Store conn.old).now.schema ≡ no_schema) → (result ≡ Err KeepFault.Store) × (conn.new ≡ conn.old) }
+        ensures fault { IfErr result (λ fault. (fault ≡ KeepFault.Memory) ⊎ (fault ≡ KeepFault.Store)) }
+        ensures clean { HasCleanDisk (state S.Store conn.new) → HasCleanDisk (state S.Store conn.old) }
+        ensures made { HasCleanDisk (state S.Store conn.new) → OnOk result (IsSettled (λ db. Holds db new_content) (state S.Store conn.new)) }
+        ensures alone { HasCleanDisk (state S.Store conn.new) → OnOk result (LeavesOnly (state S.Store conn.new).may_leave (new_content ∷ [])) }
+        ensures either { HasCleanDisk (state S.Store conn.new) → (trees : Trees) → (state S.Store conn.new).may_leave trees → (state S.Store conn.old).may_leave trees ⊎ IsContent trees new_content }
+    {
+        if !is_empty(conn.schema()) {
+            return Err(KeepFault::Store);
+        }
+        create(conn).map_err(fault_of)
     }
-    create(conn).map_err(fault_of)
 }

@@ -51,18 +51,22 @@ pub trait Keep {
     // An earlier call failed.
     ghost stopped: { Self → Bool };
 
+    // Beside what it holds it is set as it was.
+    ghost same_settings: { Self → Self → Type 0 };
+
     /// Whether an earlier call failed. Takes no memory.
     fn is_stopped(&self) -> bool
         ensures { result ≡ stopped self.now };
 
     /// The content, each table in the order of its key. Changes nothing, and a stop then leaves that content alone. Whatever
-    /// is answered, nothing is added to what a stop may leave.
+    /// is answered, nothing is added to what a stop may leave, and the keeper is set as it was.
     ///
     /// `Stopped` on a stopped keeper; `NotADesk` only where the store does not hold the six tables with one row of `desk`
     /// of version 1; `Memory` and `Store` where that is refused or fails.
     fn load(&mut self, alloc: Global) -> Result<Tables, KeepFault>
         ensures refused { IsTrue (stopped self.old) → (result ≡ Err KeepFault.Stopped) × (self.new ≡ self.old) }
         ensures going { stopped self.old ≡ false → result ≢ Err KeepFault.Stopped }
+        ensures settings { same_settings self.old self.new }
         ensures honest { is_honest self.new → is_honest self.old }
         ensures ok { OnOk result (stopped self.new ≡ false) }
         ensures err { OnErr result (IsTrue (stopped self.new)) }
@@ -78,7 +82,7 @@ pub trait Keep {
         ensures no_more { is_honest self.new → (x : Content) → may_leave self.new x → may_leave self.old x };
 
     /// Puts the rows in by their keys, all or none. Each row of `desk` among them has one = 1 and the version of the
-    /// schema.
+    /// schema. Whatever is answered, the keeper is set as it was.
     ///
     /// `Stopped` on a stopped keeper; `Memory` and `Store` where that is refused or fails: a stop then leaves what was before
     /// or the whole.
@@ -87,6 +91,7 @@ pub trait Keep {
         ensures refused { IsTrue (stopped self.old) → (result ≡ Err KeepFault.Stopped) × (self.new ≡ self.old) }
         ensures going { stopped self.old ≡ false → result ≢ Err KeepFault.Stopped }
         ensures desk { result ≢ Err KeepFault.NotADesk }
+        ensures settings { same_settings self.old self.new }
         ensures honest { is_honest self.new → is_honest self.old }
         ensures ok { OnOk result (stopped self.new ≡ false) }
         ensures err { OnErr result (IsTrue (stopped self.new)) }

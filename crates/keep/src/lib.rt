@@ -20,7 +20,6 @@ mod tables;
 #[cfg(test)]
 mod tests;
 
-pub use create::create_over;
 pub use keep::{Keep, KeepFault};
 pub use laws::keepers_in_memory_are_honest;
 pub use plain::PlainKeep;

@@ -79,6 +79,9 @@ impl Keep for PlainKeep {
 
     ghost stopped = { λ k. k.stopped };
 
+    // whether the commit that fails lands
+    ghost same_settings = { λ old new. new.lands ≡ old.lands };
+
     fn is_stopped(&self) -> bool {
         self.stopped
     }

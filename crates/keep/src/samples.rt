@@ -4,7 +4,6 @@ ghost use Rattle.std.specs.Prelude.{All};
 ghost use Rattle.book.specs.Tables.{rows_among};
 ghost use Rattle.keep.specs.Content.{IsTheRow};
 
-use crate::create::create_over;
 use crate::keep::{Keep, KeepFault};
 use crate::sql::SqlKeep;
 use book::{Change, DeskRow, FieldRow, KeptRow, LineRow, MoveRow, OrderRow, Tables};
@@ -282,7 +281,7 @@ pub(crate) fn keeper<S: Alter + Drop>(conn: Connection<S>) -> Result<SqlKeep<S>,
 
 pub(crate) fn create<S: Alter>(conn: &mut Connection<S>) -> Result<(), KeepFault> {
     if conn.is_autocommit() {
-        create_over(conn)
+        SqlKeep::create_over(conn)
     } else {
         Err(KeepFault::Store)
     }

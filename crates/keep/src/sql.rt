@@ -46,6 +46,7 @@ impl<S: Alter> SqlKeep<S> {
         // what a stop leaves of an open store is its content alone
         ensures alone { IsTrue (state S.Store conn).is_open → (x : Content) → Holds (state S.Store conn).now x → LeavesOnly (state S.Store conn).may_leave (x ∷ []) }
     {
+        // between transactions an open store shows what is committed
         let _settled = conn.is_autocommit();
         SqlKeep {
             conn,
@@ -93,6 +94,7 @@ fn load_from<S: Alter>(alloc: Global, conn: &mut Connection<S>) -> Result<Tables
     if !is_desk_schema(conn.schema()) {
         return Err(KeepFault::Store);
     }
+    // between transactions an open store shows what is committed
     let _settled = conn.is_autocommit();
     match load_all(alloc, conn) {
         Ok(Some(tables)) => Ok(tables),
@@ -130,6 +132,9 @@ impl<S: Alter> Keep for SqlKeep<S> {
     ghost may_leave = { λ k. MayLeave (state S.Store k.connection).may_leave };
 
     ghost stopped = { λ k. k.stopped };
+
+    // how many steps a statement may take
+    ghost same_settings = { λ old new. new.connection.step_limit ≡ old.connection.step_limit };
 
     fn is_stopped(&self) -> bool {
         self.stopped

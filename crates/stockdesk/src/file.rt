@@ -1,11 +1,11 @@
 //! A desk in a file.
 
-ghost use Rattle.std.specs.Prelude.{◌≡◌, ◌⊎◌, IfErr, OnErr, OnOk};
+ghost use Rattle.std.specs.Prelude.{◌≡◌, ◌⊎◌, ◌↔◌, IfErr, OnErr, OnOk};
 ghost use Rattle.stockdesk.specs.Runs.{PlaysInPart, PlaysWhole};
 ghost use Rattle.stockdesk.specs.Sessions.{ReadsDesks};
 
 use crate::session::{Fault, session};
-use keep::{KeepFault, create_over, open_path};
+use keep::{KeepFault, SqlKeep, open_path};
 use sqlite::{Connection, Error, ErrorCode, FileFrom, FileStore, Start};
 use std::fs;
 use std::io::{ErrorKind, Read, Write};
@@ -39,7 +39,8 @@ fn look(rt: &HostRuntime, path: &str) -> Result<Found, Fault>
 
 /// The fault that an error of an opening is told as.
 fn open_fault(error: Error) -> Fault
-    ensures { (result ≡ Fault.Memory) ⊎ (result ≡ Fault.Store) }
+    ensures memory { result ≡ Fault.Memory ↔ error ≡ Error.SqliteFailure ErrorCode.OutOfMemory }
+    ensures store { (result ≡ Fault.Memory) ⊎ (result ≡ Fault.Store) }
 {
     match error {
         Error::SqliteFailure(ErrorCode::OutOfMemory) => Fault::Memory,
@@ -63,7 +64,7 @@ fn make<S: Start>(rt: &HostRuntime, path: &str, start: S) -> Result<(), Fault>
         Ok(conn) => conn,
         Err((error, _)) => return Err(open_fault(error)),
     };
-    let made = create_over(&mut conn);
+    let made = SqlKeep::create_over(&mut conn);
     close(conn);
     match made {
         Ok(()) => Ok(()),

@@ -7,7 +7,7 @@ ghost use Rattle.stockdesk.specs.Runs.{BeginsText, RunsSoFar, RunsWhole};
 ghost use Rattle.stockdesk.specs.Sessions.{IsNoDesk};
 
 use crate::session::{Fault, session};
-use keep::{Keep, KeepFault, SqlKeep, create_over};
+use keep::{Keep, KeepFault, SqlKeep};
 use sqlite::{Connection, MemStore};
 use std::alloc::Global;
 use std::io::{Read, Write};
@@ -20,7 +20,7 @@ fn new_keeper(alloc: Global) -> Result<SqlKeep<MemStore>, Fault>
     let Ok(mut conn) = Connection::open_in_memory(alloc) else {
         return Err(Fault::Memory);
     };
-    match create_over(&mut conn) {
+    match SqlKeep::create_over(&mut conn) {
         Ok(()) => Ok(SqlKeep::over(conn)),
         Err(KeepFault::Memory) => Err(Fault::Memory),
         Err(_) => Err(Fault::Store),

@@ -11,7 +11,7 @@ use std::fs;
 use std::process::Abort;
 use std::test::Fail;
 
-/// Gives so many of its bytes at a time, at the most, and fails where a read would begin behind so many.
+/// Gives so many of its bytes at a time, at the most; fails once where a read would begin behind so many, and goes on.
 #[derive(Drop)]
 struct Drip<'a> {
     bytes: &'a [u8],
@@ -22,6 +22,7 @@ struct Drip<'a> {
 impl Read for Drip<'_> {
     fn read(&mut self, buffer: &mut [u8]) -> io::Result<usize> {
         if self.before_fault == 0 {
+            self.before_fault = usize::MAX;
             return Err(io::Error::from(io::ErrorKind::Interrupted));
         }
         let bytes = self.bytes;
@@ -37,7 +38,7 @@ impl Read for Drip<'_> {
     }
 }
 
-/// Takes a byte at a time, and takes none or fails after so many.
+/// Takes a byte at a time, after so many takes none once or fails once, and goes on.
 #[derive(Drop)]
 struct Sink {
     taken: Vec<u8>,
@@ -47,10 +48,11 @@ struct Sink {
 
 impl Write for Sink {
     fn write(&mut self, bytes: &[u8]) -> io::Result<usize> {
-        if self.before_fault == 0 && self.takes_none {
-            return Ok(0);
-        }
         if self.before_fault == 0 {
+            self.before_fault = usize::MAX;
+            if self.takes_none {
+                return Ok(0);
+            }
             return Err(io::Error::from(io::ErrorKind::Interrupted));
         }
         let Some(first) = bytes.first() else {

@@ -2,12 +2,11 @@
 use Rattle.std.proofs.Common.{◌≡◌, ◌∙◌, ℕ, ◌<◌, ◌==◌, Bool, true, false, cond, List, [], ◌∷◌, ◌++◌, Option, None, Some, ap, append_assoc, arith, inl, inr, length, length-append, nat_le, refl, sym, subst}
 use Rattle.std.specs.List.{onto_first}
 use Rattle.std.proofs.lemmas.Bool.{cases_Bool}
-use Rattle.words.specs.Items.{IsItem}
+use Rattle.words.specs.Items.{IsItem, longest_line}
 use Rattle.words.specs.Stream.{Ends, EndsBehind, EndsOverlong, Feeds, kept}
 use Rattle.words.specs.Words.{parts_at}
 use Rattle.words.specs.declared.item.Item.{Item}
 use Rattle.words.specs.declared.item.Item.TheVariants.{Bad}
-use Rattle.words.specs.declared.limits.TheConstants.{MAX_LINE_LEN}
 use borrow.Author.Tests.{leb-false, leb-true}
 use Rattle.words.proofs.Cuts.{parts_some}
 use Rattle.words.proofs.Pieces.{ends_more}
@@ -47,7 +46,7 @@ parts-append at (x ∷ xs) ys = elim (cases_Bool (x == at)) [
 ]
 
 -- a line that is too long is bad
-too_long : (line : List ℕ) → MAX_LINE_LEN < length line → IsItem line Bad
+too_long : (line : List ℕ) → longest_line < length line → IsItem line Bad
 too_long line long item short says = absurd (omega arith)
 
 -- the last of the parts has no newline
@@ -78,15 +77,15 @@ joined_some p [] (q ∷ qs) e = cc e
 joined_some p (next ∷ ps) qs e = cc e
 
 -- what is kept of bytes that are too many
-kept_none : (bytes : List ℕ) → MAX_LINE_LEN < length bytes → kept bytes ≡ None
-kept_none bytes long = by (nat_le (length bytes) MAX_LINE_LEN) refl
+kept_none : (bytes : List ℕ) → longest_line < length bytes → kept bytes ≡ None
+kept_none bytes long = by (nat_le (length bytes) longest_line) refl
   where
-    by : (fits : Bool) → nat_le (length bytes) MAX_LINE_LEN ≡ fits → cond fits (Some bytes) None ≡ None
+    by : (fits : Bool) → nat_le (length bytes) longest_line ≡ fits → cond fits (Some bytes) None ≡ None
     by true e = absurd (omega (arith, leb-true _ _ e))
     by false e = refl
 
 -- a line that was too long already goes on
-long_on : (last : List ℕ) (qs : List (List ℕ)) (ys : List Item) (new : Option (List ℕ)) → MAX_LINE_LEN < length last → EndsOverlong qs ys new → Ends (joined (last ∷ []) qs) ys new
+long_on : (last : List ℕ) (qs : List (List ℕ)) (ys : List Item) (new : Option (List ℕ)) → longest_line < length last → EndsOverlong qs ys new → Ends (joined (last ∷ []) qs) ys new
 long_on last [] ys new long h = absurd h
 long_on last (q ∷ []) ys new long h = (h.0, h.1 ∙ sym (kept_none (last ++ q) (omega (arith, length-append last q))))
 long_on last (q ∷ r ∷ qs) ys new long h =
@@ -94,9 +93,9 @@ long_on last (q ∷ r ∷ qs) ys new long h =
 
 -- what was kept goes on
 kept_on : (last q : List ℕ) (ys : List Item) (new : Option (List ℕ)) → parts_at 10 last ≡ last ∷ [] → Feeds (kept last) q ys new → Ends (joined (last ∷ []) (parts_at 10 q)) ys new
-kept_on last q ys new one h = by (nat_le (length last) MAX_LINE_LEN) refl h
+kept_on last q ys new one h = by (nat_le (length last) longest_line) refl h
   where
-    by : (fits : Bool) → nat_le (length last) MAX_LINE_LEN ≡ fits → Feeds (cond fits (Some last) None) q ys new → Ends (joined (last ∷ []) (parts_at 10 q)) ys new
+    by : (fits : Bool) → nat_le (length last) longest_line ≡ fits → Feeds (cond fits (Some last) None) q ys new → Ends (joined (last ∷ []) (parts_at 10 q)) ys new
     by true e h = subst (λ (ps : List (List ℕ)). Ends ps ys new) (parts-append 10 last q ∙ ap (λ (ps : List (List ℕ)). joined ps (parts_at 10 q)) one) h
     by false e h = long_on last (parts_at 10 q) ys new (leb-false _ _ e) h
 

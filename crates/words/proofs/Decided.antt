@@ -6,11 +6,10 @@ use native.Mathlib.Decide.{dec_le, dec_lt}
 use Rattle.escrow.specs.Codes.{IsArticle, IsBranch, IsKey, is_article_byte, is_branch_byte, is_key_byte}
 use Rattle.escrow.specs.Ranges.{IsLevel, IsMoment, IsOrderNo, IsQty}
 use Rattle.escrow.specs.declared.limits.TheConstants.{MAX_ARTICLE_LEN, MAX_BRANCH_LEN, MAX_KEY_LEN, MAX_LEVEL, MAX_MOMENT, MAX_ORDER_NO, MAX_QTY}
-use Rattle.words.specs.OpenLines.{AreOpenLines, IsOpenLine}
+use Rattle.words.specs.OpenLines.{AreOpenLines, IsOpenLine, most_lines}
 use Rattle.words.specs.Spelling.{IsInRange}
 use Rattle.words.specs.declared.command.Command.{Command}
 use Rattle.words.specs.declared.command.Command.TheVariants.{Abort, Commit, Deliver, Expire, Field, More, Open, Release, Transfer, Use, Writeoff}
-use Rattle.words.specs.declared.limits.TheConstants.{MAX_ORDER_LINES}
 use Rattle.words.specs.declared.open_line.OpenLine.{OpenLine}
 
 abbrev pub Decided : Type 0 → Type 0
@@ -108,7 +107,7 @@ decided_open_lines : (lines : List OpenLine) → Decided (AreOpenLines lines)
 decided_open_lines lines =
     decided_by (λ h. record { some = h.0.0; fits = h.0.1; each = All-from_recursion IsOpenLine lines h.1 })
     (λ (h : AreOpenLines lines). ((h.some, h.fits), recursion_from_All IsOpenLine lines h.each))
-    (decided_both (decided_both (decided_le 1 (length lines)) (decided_le (length lines) MAX_ORDER_LINES)) (decided_each lines))
+    (decided_both (decided_both (decided_le 1 (length lines)) (decided_le (length lines) most_lines)) (decided_each lines))
 
 -- ---- commands
 

@@ -4,14 +4,13 @@ use Rattle.std.specs.Str.Parse.{digits_value}
 use Rattle.std.proofs.lemmas.Fmt.{decimal_is_IsNumeral}
 use Rattle.escrow.specs.Codes.{IsArticle, IsBranch, IsKey}
 use Rattle.escrow.specs.Ranges.{IsOrderNo}
-use Rattle.words.specs.Items.{IsItem}
+use Rattle.words.specs.Items.{IsItem, longest_line}
 use Rattle.words.specs.Spelling.{IsInRange, command_words}
 use Rattle.words.specs.Words.{words_of}
 use Rattle.words.specs.declared.command.Command.{Command}
 use Rattle.words.specs.declared.command.Request.{Request as RequestOf}
 use Rattle.words.specs.declared.item.Item.{Item}
 use Rattle.words.specs.declared.item.Item.TheVariants.{AskField, AskOrder, Bad, Request}
-use Rattle.words.specs.declared.limits.TheConstants.{MAX_LINE_LEN}
 use Rattle.words.proofs.ByItem.{says_none, words_of_request}
 use Rattle.words.proofs.Decided.{Decided, decided_article, decided_both, decided_branch, decided_by, decided_in_range, decided_key, decided_le, decided_order_no, decided_word, decided_words}
 use Rattle.words.proofs.OneItem.{command_of, command_of-command_words}
@@ -100,9 +99,9 @@ decided_order (m ∷ v ∷ w ∷ x ∷ words) = inr (λ h. cc (h.2))
 -- ---- lines
 
 pub some_item : (line : List ℕ) → (item : Item) × IsItem line item
-some_item line = by (decided_le (length line) MAX_LINE_LEN) (decided_field (words_of line)) (decided_order (words_of line)) (decided_request (words_of line))
+some_item line = by (decided_le (length line) longest_line) (decided_field (words_of line)) (decided_order (words_of line)) (decided_request (words_of line))
   where
-    by : Decided (length line ≤ MAX_LINE_LEN) → Decided (FieldWords (words_of line)) → Decided (OrderWords (words_of line)) → Decided (RequestWords (words_of line))
+    by : Decided (length line ≤ longest_line) → Decided (FieldWords (words_of line)) → Decided (OrderWords (words_of line)) → Decided (RequestWords (words_of line))
         → (item : Item) × IsItem line item
     by (inr long) field order request = (Bad, λ item short says. long short)
     by (inl short) (inl (b, a, h, k, e)) order request = (AskField b a, (short, (h, k, line_of line _ e)))

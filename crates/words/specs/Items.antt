@@ -7,7 +7,10 @@ use Rattle.words.specs.Words.{spaced}
 use Rattle.words.specs.declared.command.Request.{Request as RequestOf}
 use Rattle.words.specs.declared.item.Item.{Item}
 use Rattle.words.specs.declared.item.Item.TheVariants.{AskField, AskOrder, Bad, Request}
-use Rattle.words.specs.declared.limits.TheConstants.{MAX_LINE_LEN}
+
+-- the greatest length of a line, as a number, so that another limit of the code is refused
+abbrev pub longest_line : ℕ
+longest_line = 4096
 
 -- a key, a space and a command
 abbrev pub IsRequest : List ℕ → RequestOf → Type 0
@@ -26,7 +29,7 @@ Says line Bad = ⊥
 
 -- The line is the item that it says. A line that says nothing, or is longer than a line may be, is bad.
 abbrev pub IsItem : List ℕ → Item → Type 0
-IsItem line (Request r) = (length line ≤ MAX_LINE_LEN) × Says line (Request r)
-IsItem line (AskField b a) = (length line ≤ MAX_LINE_LEN) × Says line (AskField b a)
-IsItem line (AskOrder n) = (length line ≤ MAX_LINE_LEN) × Says line (AskOrder n)
-IsItem line Bad = (item : Item) → length line ≤ MAX_LINE_LEN → Says line item → ⊥
+IsItem line (Request r) = (length line ≤ longest_line) × Says line (Request r)
+IsItem line (AskField b a) = (length line ≤ longest_line) × Says line (AskField b a)
+IsItem line (AskOrder n) = (length line ≤ longest_line) × Says line (AskOrder n)
+IsItem line Bad = (item : Item) → length line ≤ longest_line → Says line item → ⊥

@@ -5,8 +5,11 @@ use Rattle.escrow.specs.Codes.{IsArticle, IsBranch}
 use Rattle.escrow.specs.Ranges.{IsQty}
 use Rattle.escrow.specs.declared.quantity.Way.{Way}
 use Rattle.escrow.specs.declared.quantity.Way.TheVariants.{Add, Take}
-use Rattle.words.specs.declared.limits.TheConstants.{MAX_ORDER_LINES}
 use Rattle.words.specs.declared.open_line.OpenLine.{OpenLine}
+
+-- the greatest number of lines, as a number, so that another limit of the code is refused
+abbrev pub most_lines : ℕ
+most_lines = 64
 
 -- its codes are codes, and its quantity is in range
 pub record IsOpenLine (line : OpenLine) : Type 0 where
@@ -17,7 +20,7 @@ pub record IsOpenLine (line : OpenLine) : Type 0 where
 -- 1 to 64 lines
 pub record AreOpenLines (lines : List OpenLine) : Type 0 where
   pub some : 1 ≤ length lines
-  pub fits : length lines ≤ MAX_ORDER_LINES
+  pub fits : length lines ≤ most_lines
   pub each : All IsOpenLine lines
 
 abbrev pub way_word : Way → List ℕ

@@ -1,15 +1,14 @@
 -- A stream of lines that comes in pieces. What has come of a line that has not ended is its bytes (`Some`), or that
 -- they are more than a line may have (`None`).
 use Rattle.std.specs.Prelude.{◌≡◌, ℕ, List, [], ◌∷◌, ◌++◌, Option, None, Some, if◌then◌else◌, length, nat_le}
-use Rattle.words.specs.Items.{IsItem}
+use Rattle.words.specs.Items.{IsItem, longest_line}
 use Rattle.words.specs.Words.{parts_at}
 use Rattle.words.specs.declared.item.Item.{Item}
 use Rattle.words.specs.declared.item.Item.TheVariants.{Bad}
-use Rattle.words.specs.declared.limits.TheConstants.{MAX_LINE_LEN}
 
 -- what is kept of bytes that no newline ends
 abbrev pub kept : List ℕ → Option (List ℕ)
-kept bytes = if nat_le (length bytes) MAX_LINE_LEN then Some bytes else None
+kept bytes = if nat_le (length bytes) longest_line then Some bytes else None
 
 -- what is kept of a line with these bytes more
 abbrev pub extended : Option (List ℕ) → List ℕ → Option (List ℕ)

@@ -2,7 +2,7 @@
 
 ghost use Rattle.std.specs.Prelude.{◌≡◌, ◌≤◌, ◌↔◌, IsSome, IfSome, length};
 ghost use Rattle.std.specs.List.{All};
-ghost use Rattle.words.specs.OpenLines.{IsOpenLine};
+ghost use Rattle.words.specs.OpenLines.{IsOpenLine, most_lines};
 
 use crate::limits::MAX_ORDER_LINES;
 use escrow::{Article, Branch, Qty, Way};
@@ -53,7 +53,7 @@ impl OpenLines {
 
     /// These lines, or `None` exactly where they are none or more than 64.
     pub fn new(lines: Vec<OpenLine>) -> Option<OpenLines>
-        ensures some { IsSome result ↔ ((1 ≤ length lines.items) × (length lines.items ≤ MAX_ORDER_LINES)) }
+        ensures some { IsSome result ↔ ((1 ≤ length lines.items) × (length lines.items ≤ most_lines)) }
         ensures lines { IfSome result (λ made. made ≡ lines.items) }
         ensures form { IfSome result AreOpenLines }
     {

@@ -328,7 +328,7 @@ fn a_longer_line_is_let_go(rt: HostRuntime) -> Result<(), Fail> {
     Ok(())
 }
 
-/// Gives its bytes one at a time, and fails in the place of the byte with this number.
+/// Gives its bytes one at a time, fails once, in the place of the byte with this number, and goes on.
 #[derive(Drop)]
 struct Drip<'a> {
     bytes: &'a [u8],
@@ -338,6 +338,7 @@ struct Drip<'a> {
 impl Read for Drip<'_> {
     fn read(&mut self, buffer: &mut [u8]) -> io::Result<usize> {
         if self.before_fault == 0 {
+            self.before_fault = usize::MAX;
             return Err(io::Error::from(io::ErrorKind::Interrupted));
         }
         let bytes = self.bytes;
@@ -353,7 +354,7 @@ impl Read for Drip<'_> {
     }
 }
 
-/// Takes a byte at a time, and takes none or fails after so many.
+/// Takes a byte at a time, after so many takes none once or fails once, and goes on.
 #[derive(Drop)]
 struct Sink {
     taken: Vec<u8>,
@@ -363,10 +364,11 @@ struct Sink {
 
 impl Write for Sink {
     fn write(&mut self, bytes: &[u8]) -> io::Result<usize> {
-        if self.before_fault == 0 && self.takes_none {
-            return Ok(0);
-        }
         if self.before_fault == 0 {
+            self.before_fault = usize::MAX;
+            if self.takes_none {
+                return Ok(0);
+            }
             return Err(io::Error::from(io::ErrorKind::Interrupted));
         }
         let Some(first) = bytes.first() else {
@@ -392,12 +394,14 @@ fn a_read_is_a_piece_or_a_fault(rt: HostRuntime) -> Result<(), Fail> {
     assert!(rt; buffer.starts_with(b"t 7\n"));
     assert!(rt; read_piece(&mut whole, &mut buffer) == Ok(0));
     let mut drip = Drip {
-        bytes: b"K1",
-        before_fault: 1,
+        bytes: b"K1\n",
+        before_fault: 2,
     };
     assert!(rt; read_piece(&mut drip, &mut buffer) == Ok(1));
+    assert!(rt; read_piece(&mut drip, &mut buffer) == Ok(1));
     assert!(rt; read_piece(&mut drip, &mut buffer) == Err(ReadFault));
-    assert!(rt; drip.bytes == b"1".as_slice());
+    assert!(rt; drip.bytes == b"\n".as_slice());
+    assert!(rt; read_piece(&mut drip, &mut buffer) == Ok(1));
     Ok(())
 }
 

@@ -10,7 +10,7 @@ fn create<S: Alter>(conn: &mut Connection<S>) -> Result<(), KeepFault> {
     if !conn.is_autocommit() {
         return Err(KeepFault::Stopped);
     }
-    create_over(conn)
+    SqlKeep::create_over(conn)
 }
 
 /// The row of `desk`.
@@ -78,8 +78,11 @@ fn made_after(
     let (files, is_done) = match open(alloc, files) {
         Err(files) => (files, false),
         Ok(mut conn) => {
-            let is_done = create(&mut conn).is_ok();
-            (files_of(conn), is_done)
+            let made = create(&mut conn);
+            if made.is_err() && made != Err(KeepFault::Store) {
+                Err("the store is told as something else")?;
+            }
+            (files_of(conn), made.is_ok())
         }
     };
     let mut conn = open_again(alloc, files, is_cut)?;

@@ -1,5 +1,6 @@
 use super::*;
 use crate::book::Planned;
+use crate::limits::limits_are_those_of_the_rules;
 use crate::order::State;
 use crate::rows::{FieldRow, KeptRow, LineRow, MoveRow, OrderRow, Rows};
 use escrow::{Article, Branch, Key, OrderNo};
@@ -348,6 +349,17 @@ fn unequal_halves_of_a_transfer_are_damaged(rt: HostRuntime) -> Result<(), Fail>
     expect_damaged(&rt, parts)
 }
 
+#[test]
+fn faults_have_their_texts(rt: HostRuntime) -> Result<(), Fail> {
+    let damaged = format!(in rt.alloc(); "{}", TablesFault::Damaged)?;
+    let memory = format!(in rt.alloc(); "{}", TablesFault::Memory)?;
+    assert_eq!(rt;
+        (damaged.as_str(), memory.as_str()),
+        ("damaged", "out of memory")
+    );
+    Ok(())
+}
+
 /// `K` and the number in six digits, so that keys stand in the order of their numbers.
 fn numbered_key<R: AllocGlobal>(rt: &R, number: u64) -> Result<String, Fail> {
     let mut digits = [b'0'; 7];
@@ -416,4 +428,41 @@ fn a_full_desk_still_ends_its_order(rt: HostRuntime) -> Result<(), Fail> {
     };
     assert_eq!(rt; field.inf.get(), 40);
     Ok(())
+}
+
+/// So many fields, with nothing in stock.
+fn many_fields<R: AllocGlobal>(rt: &R, count: u64) -> Result<Parts, Fail> {
+    let mut parts = Parts::new(rt, 0);
+    for number in 0..count {
+        let branch = numbered_key(rt, number)?;
+        parts.push_field(rt, branch.as_str(), (0, 0), 0, (0, 0, 0))?;
+    }
+    Ok(parts)
+}
+
+#[test]
+fn a_field_over_the_limit_is_damaged(rt: HostRuntime) -> Result<(), Fail> {
+    limits_are_those_of_the_rules();
+    let book = Book::of_tables(rt.alloc(), many_fields(&rt, 10_000)?.into_tables())?;
+    assert_eq!(rt; book.field_count(), 10_000);
+    expect_damaged(&rt, many_fields(&rt, 10_001)?)
+}
+
+/// The aborted orders of the numbers 1 to this one, with nothing held.
+fn many_orders<R: AllocGlobal>(rt: &R, last: i64) -> Result<Parts, Fail> {
+    let mut parts = Parts::new(rt, 0);
+    parts.push_field(rt, "N1", (0, 0), 0, (0, 0, 0))?;
+    for number in 1..=last {
+        push_order(&mut parts, number, 0, 0, 2)?;
+        parts.push_line(rt, (number, 1), 0, "N1", (0, 0))?;
+    }
+    Ok(parts)
+}
+
+#[test]
+fn an_order_over_the_limit_is_damaged(rt: HostRuntime) -> Result<(), Fail> {
+    let book = Book::of_tables(rt.alloc(), many_orders(&rt, 100_000)?.into_tables())?;
+    let last = OrderNo::new(100_000).ok_or("a number")?;
+    assert!(rt; book.order(last).is_some());
+    expect_damaged(&rt, many_orders(&rt, 100_001)?)
 }

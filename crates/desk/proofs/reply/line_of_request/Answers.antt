@@ -1,9 +1,9 @@
-use Rattle.std.proofs.Common.{[], Err, ap, refl}
+use Rattle.std.proofs.Common.{[], Err, ap, refl, rules}
 use Rattle.desk.proofs.Cuts.{cut_stopped, cut_within, memory_stops_nothing}
 use Rattle.desk.proofs.reply.line_of_request.Goals as goal
 
 pub returns-in-Err-clause-cut : goal.returns-in-Err-clause-cut
-returns-in-Err-clause-cut g c = cut_within _ _ _ _ _ _ _ [] _ memory_stops_nothing (c.in-Ok.reply, c.in-Ok.ensures.answer, refl)
+returns-in-Err-clause-cut g c = cut_within _ _ _ _ _ _ _ [] _ memory_stops_nothing (c.in-Ok.reply, c.in-Ok.ensures.answer, refl) (search rules)
 
 pub returns-in-Err-Stopped-clause-cut : goal.returns-in-Err-Stopped-clause-cut
 returns-in-Err-Stopped-clause-cut g c =

@@ -12,5 +12,5 @@ returns-clause-cut g c =
       take begun.0 text,
       begun.2,
       cut_within _ _ _ _ _ _ _ (take begun.0 text) (drop begun.0 text) write_stops_nothing
-          (subst (λ (l : List ℕ). Replies c.args.desk.now.ledger c.args.item.now l c.line_of.new.desk.ledger) (sym line) c.in_ok-line.ensures.line),
+          (subst (λ (l : List ℕ). Replies c.args.desk.now.ledger c.args.item.now l c.line_of.new.desk.ledger) (sym line) c.in_ok-line.ensures.line) c.in_ok-line.ensures.may,
     )

@@ -49,4 +49,5 @@ loop-request-preserved g c =
       search rules,
       search rules,
       search rules,
+      search rules,
     )

@@ -1,5 +1,5 @@
--- the requests so far are answered, and the desk goes on as it began
-use Rattle.std.proofs.Common.{◌≡◌, false, length, take}
+-- the requests so far are answered, and the desk goes on as it began; a stopped one answers none
+use Rattle.std.proofs.Common.{◌≡◌, [], false, length, take, IsTrue}
 use Rattle.book.specs.Answers.{Runs}
 use Rattle.desk.specs.Desk.{Keeps}
 use Rattle.desk.proofs.desk.Desk.run.Given as goal
@@ -11,3 +11,4 @@ invariant-loop-request g l =
     × (g.K.Keep.stopped l.self.keep ≡ g.K.Keep.stopped l.initial.self.keep)
     × (g.K.Keep.is_honest l.self.keep → g.K.Keep.is_honest l.initial.self.keep)
     × (g.K.Keep.stopped l.self.keep ≡ false → g.K.Keep.is_honest l.self.keep → Keeps (g.K.Keep.holds l.self.keep) (g.K.Keep.leaves l.self.keep) l.self.ledger)
+    × (IsTrue (g.K.Keep.stopped l.initial.self.keep) → (l.replies.items ≡ []) × (l.self ≡ l.initial.self))
