@@ -10,8 +10,8 @@ use Rattle.std.specs.List.Sorted.{IsStrictlySortedBy}
 use Rattle.book.specs.declared.order.Line.{Line}
 use Rattle.book.specs.Ledger.{Field, Order, Ledger, name_cmp}
 use Rattle.book.specs.Good.{Good}
-use Rattle.book.specs.After.{field_row, rows_of}
-use Rattle.book.specs.Rows.{Content, FieldCells, IsFieldRow, IsInKeyOrder, IsRowsOf, field_cmp, kept_cmp, kept_row, line_cmp, line_row, lines_from, move_cmp, move_row, order_cmp, order_lines, order_row}
+use Rattle.book.specs.After.{field_row}
+use Rattle.book.specs.Rows.{Content, FieldCells, IsFieldRow, IsInKeyOrder, IsRowsOf, desk_row, field_cmp, kept_cmp, kept_row, line_cmp, line_row, lines_from, move_cmp, move_row, order_cmp, order_lines, order_row}
 use Rattle.book.proofs.Sums.{each-imp, each-map}
 use Rattle.book.proofs.Bounds.{inf_is, inf_unique, sup_is, sup_unique}
 use Rattle.book.proofs.Closing.{less_is, sounds_from_good}
@@ -103,6 +103,10 @@ one_content A C D x y =
 field_rows : (A : Ledger) (fs : List Field) → Good A → AllZip (IsFieldRow A) fs (map (field_row A) fs)
 field_rows A [] g = tt
 field_rows A (f ∷ fs) g = (record { branch = refl; article = refl; lo = refl; hi = refl; start = refl; value = refl; inf = inf_is A (sounds_from_good A g) f; sup = sup_is A (sounds_from_good A g) f }, field_rows A fs g)
+
+-- the rows of a good ledger
+abbrev pub rows_of : Ledger → Content
+rows_of A = record { desk = desk_row A ∷ []; fields = map (field_row A) A.fields; moves = map move_row A.moves; orders = map order_row A.orders; lines = flat_map order_lines A.orders; kept = map kept_row A.kept }
 
 pub rows_are : (A : Ledger) → Good A → IsRowsOf A (rows_of A)
 rows_are A g = record { desk = refl; fields = field_rows A A.fields g; moves = refl; orders = refl; lines = refl; kept = refl }

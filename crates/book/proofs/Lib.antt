@@ -8,6 +8,7 @@ pub mod Raising
 pub mod Safety
 pub mod Total
 pub mod Lists
+pub mod Staying
 pub mod Goodness
 pub mod Transfers
 pub mod Runs

@@ -17,7 +17,7 @@ use Rattle.words.specs.Spelling.{IsInRange}
 use Rattle.words.specs.declared.command.Command.{Command}
 use Rattle.words.specs.declared.command.Command.TheVariants as command
 use Rattle.words.specs.declared.command.Request.{Request}
-use Rattle.book.specs.After.{changed_fields, changed_orders, changes_state, expired_rows, field_row, line_rows, new_field_rows, order_after, order_number, own_line_rows, own_move_rows, own_order_rows, rows_of, with_fields, with_kept, with_lines, with_moves, with_orders}
+use Rattle.book.specs.After.{changed_fields, changed_orders, changes_state, expired_rows, field_row, line_rows, new_field_rows, order_after, order_number, own_line_rows, own_move_rows, own_order_rows, with_fields, with_kept, with_lines, with_moves, with_orders}
 use Rattle.book.specs.Answers.{FirstFailure, IsAccepted, checks}
 use Rattle.book.specs.Changes.{put_content, changed_rows, changes_field, changes_line, changes_move, changes_order, order_is}
 use Rattle.book.specs.Good.{Good}
@@ -36,7 +36,7 @@ use Rattle.book.proofs.Changed.{changes_suffice}
 use Rattle.book.proofs.Chosen.{filter-each, filter-insert, filter-none, filter-push, none_after, none_any, number_is, some_is}
 use Rattle.book.proofs.Closing.{all_pass, less_is}
 use Rattle.book.proofs.Goodness.{good_accept}
-use Rattle.book.proofs.InOrder.{one_content, rows_are}
+use Rattle.book.proofs.InOrder.{one_content, rows_are, rows_of}
 use Rattle.book.proofs.Growing.{none_if_not_some, other_way}
 use Rattle.book.proofs.Lists.{length-insert, length-of-map}
 use Rattle.book.proofs.Made.{any_one, made_there, only_one}

@@ -22,7 +22,7 @@ use Rattle.book.specs.Walk.{added_by_line, added_by_order, moved_by_line, moved_
 use Rattle.book.specs.Sums.{added, entry_name, field_among, lines_numbers, nothing, numbers_on, only_on, part_of_line, plus, AreFieldsInOrder, IsField, IsFieldAt}
 use Rattle.book.proofs.Asked.{same_self}
 use Rattle.book.proofs.Closing.{name_is}
-use Rattle.book.proofs.Goodness.{equal_name, name_cmp_total}
+use Rattle.book.proofs.Staying.{equal_name, name_cmp_total}
 use Rattle.book.proofs.Lists.{each-of-push, each-unmap}
 use Rattle.book.proofs.Sums.{each, each-imp, each-map}
 use Rattle.book.proofs.Walked.{take-step, total-step}

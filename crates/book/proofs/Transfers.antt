@@ -24,7 +24,7 @@ use Rattle.book.proofs.Sums.{each, each-imp, total-eq, total-sum, total-zero}
 use Rattle.book.proofs.Closing.{all_pass, name_is, open_there, less_is}
 use Rattle.std.proofs.lemmas.Cmp.{tied_itself}
 use Rattle.std.specs.Ordering.{is_lt}
-use Rattle.book.proofs.Goodness.{name_cmp_total}
+use Rattle.book.proofs.Staying.{name_cmp_total}
 use Rattle.book.proofs.Lists.{each-unmap}
 
 not_before_itself : (f : Name) → name_cmp f f ≡ Less → ⊥

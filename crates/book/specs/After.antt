@@ -1,5 +1,5 @@
 -- What an accepted command leaves of the orders, and the rows of a ledger as sums over its entries give them.
-use Rattle.std.specs.Prelude.{ℕ, ◌+◌, ◌≤◌, ℤ, pos, neg_ℤ, ◌+ℤ◌, ◌-ℤ◌, Bool, true, false, ◌||◌, ◌==◌, ◌++◌, List, [], ◌∷◌, filter, map, flat_map, Option, None, Some, option_map, MatchOption, length, if◌then◌else◌}
+use Rattle.std.specs.Prelude.{ℕ, ◌+◌, ◌≤◌, ℤ, pos, neg_ℤ, ◌+ℤ◌, ◌-ℤ◌, Bool, true, false, ◌||◌, ◌==◌, ◌++◌, List, [], ◌∷◌, filter, flat_map, Option, None, Some, option_map, MatchOption, length, if◌then◌else◌}
 use Rattle.words.specs.declared.command.Command.{Command}
 use Rattle.words.specs.declared.command.Request.{Request}
 use Rattle.words.specs.declared.command.Command.TheVariants.{Abort, Commit, Deliver, Expire, Field, More, Open, Release, Transfer, Use, Writeoff}
@@ -13,7 +13,7 @@ use Rattle.book.specs.Held.{held_to_add, held_to_take, if_add, if_take}
 use Rattle.book.specs.Ledger.{Field as FieldOf, Ledger, Name, Order, is_committed, is_open, is_transfer, line_name, name_of, on, order_numbered, same_name}
 use Rattle.book.specs.Next.{accept, add_hold, change_lines, expires, lower_held, new_order, raise_used, set_state, transfer_lines}
 use Rattle.book.specs.Outcomes.{moved, settled, total}
-use Rattle.book.specs.Rows.{Content, FieldCells, KeptCells, LineCells, MoveCells, OrderCells, desk_row, kept_row, line_row, move_row, order_lines, order_row}
+use Rattle.book.specs.Rows.{Content, FieldCells, KeptCells, LineCells, MoveCells, OrderCells, line_row, move_row, order_row}
 use Rattle.book.specs.View.{order_of}
 
 -- ---- orders
@@ -94,10 +94,6 @@ order_number c = None
 -- held to add
 abbrev pub field_row : Ledger → FieldOf → FieldCells
 field_row A f = record { branch = f.name.branch; article = f.name.article; lo = pos f.lo; hi = pos f.hi; start = pos f.start; value = settled A f; inf = settled A f -ℤ held_to_take A f.name; sup = settled A f +ℤ held_to_add A f.name }
-
--- the rows of a good ledger
-abbrev pub rows_of : Ledger → Content
-rows_of A = record { desk = desk_row A ∷ []; fields = map (field_row A) A.fields; moves = map move_row A.moves; orders = map order_row A.orders; lines = flat_map order_lines A.orders; kept = map kept_row A.kept }
 
 -- ---- rows after those that are there
 

@@ -23,7 +23,7 @@ use Rattle.book.specs.declared.rows.MoveRow.{MoveRow}
 use Rattle.book.specs.declared.rows.OrderRow.{OrderRow}
 use Rattle.book.specs.Good.{IsGoodField, IsGoodKept, IsTransferPair}
 use Rattle.book.specs.Ledger.{Field, Ledger, Move, Name, Order, is_transfer, line_name, name_cmp, open_orders, places, same_name}
-use Rattle.book.specs.Rows.{Content, FieldCells, IsRowsOf, LineCells, OrderCells, desk_row, kind_code, kept_row, move_row, order_lines, order_row, state_code, way_code}
+use Rattle.book.specs.Rows.{Content, FieldCells, LineCells, OrderCells, desk_row, kind_code, kept_row, move_row, order_lines, order_row, state_code, way_code}
 use Rattle.book.specs.Tables.{field_cells, kept_cells, line_cells, move_cells, order_cells}
 use Rattle.book.specs.View.{field_of, kept_of, move_of, order_of}
 

@@ -129,6 +129,23 @@ fn another_schema_is_not_read(rt: HostRuntime) -> Result<(), Fail> {
     Ok(())
 }
 
+/// A store that refuses a statement has failed: it wants no memory, and may well hold a desk.
+#[test]
+fn a_load_that_the_store_refuses_is_its_failure(rt: HostRuntime) -> Result<(), Fail> {
+    let mut keep = new_desk(&rt)?;
+    let changes = [
+        Change::Field(field(&rt, "N1", "A-1", 43)?),
+        Change::Field(field(&rt, "N1", "A-2", 43)?),
+    ];
+    commit(&mut keep, &changes)?;
+    let mut conn = connection_of(keep);
+    conn.set_step_limit(Some(1));
+    let mut limited = keeper(conn)?;
+    assert!(rt; matches!(load(&mut limited, rt.alloc()), Err(KeepFault::Store)));
+    assert!(rt; limited.is_stopped());
+    Ok(())
+}
+
 /// Such a row is read as it is, and the ledger above is to call it damaged.
 #[test]
 fn another_number_of_the_one_row_is_read(rt: HostRuntime) -> Result<(), Fail> {

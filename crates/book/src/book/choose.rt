@@ -106,23 +106,23 @@ fn names_field(command: &Command, branch: Branch, article: Article) -> bool
             branch: command_branch,
             article: command_article,
             ..
-        } => is_same_field(branch, article, command_branch, command_article),
-        Command::Deliver {
+        }
+        | Command::Deliver {
             branch: command_branch,
             article: command_article,
             ..
-        } => is_same_field(branch, article, command_branch, command_article),
-        Command::Writeoff {
+        }
+        | Command::Writeoff {
             branch: command_branch,
             article: command_article,
             ..
-        } => is_same_field(branch, article, command_branch, command_article),
-        Command::More {
+        }
+        | Command::More {
             branch: command_branch,
             article: command_article,
             ..
-        } => is_same_field(branch, article, command_branch, command_article),
-        Command::Release {
+        }
+        | Command::Release {
             branch: command_branch,
             article: command_article,
             ..

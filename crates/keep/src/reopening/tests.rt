@@ -56,42 +56,6 @@ fn commit_over<S: Alter + Drop>(conn: Connection<S>) -> Result<(Connection<S>, u
     Ok((connection_of(keep), done))
 }
 
-/// What a load answers where the files of a desk fail after so many calls, or None where they are not opened.
-fn load_after(alloc: Global, calls: u64) -> Result<Option<Result<(), KeepFault>>, Fail> {
-    let start = made(alloc)?;
-    let files = Files {
-        log: Fuse::new(start.log, calls),
-        db: Fuse::new(start.db, calls),
-    };
-    let Ok(conn) = open(alloc, files) else {
-        return Ok(None);
-    };
-    let mut keep = keeper(conn)?;
-    let loaded = load(&mut keep, alloc);
-    if keep.is_stopped() != loaded.is_err() {
-        Err("not stopped by its failure")?;
-    }
-    Ok(Some(loaded.map(|_| ())))
-}
-
-/// Fails at each call in turn, up to the first load that succeeds. A failing store is told as that.
-#[test]
-fn a_load_tells_a_failing_store_as_that(rt: HostRuntime) -> Result<(), Fail> {
-    let mut failed = 0u64;
-    for calls in 0..100u64 {
-        match load_after(rt.alloc(), calls)? {
-            None => {}
-            Some(Ok(())) => break,
-            Some(Err(fault)) => {
-                assert_eq!(rt; fault, KeepFault::Store);
-                failed = failed.saturating_add(1);
-            }
-        }
-    }
-    assert!(rt; failed > 0);
-    Ok(())
-}
-
 /// The numbers and states of the orders.
 fn numbered(alloc: Global, tables: &Tables) -> Result<Vec<(i64, i64)>, Fail> {
     let mut orders = Vec::new(alloc);

@@ -1,6 +1,6 @@
 use Rattle.std.proofs.Common.{◌∙◌, arith, subst, sym}
 use Rattle.book.specs.Ledger.{Name, name_cmp}
-use Rattle.book.proofs.Goodness.{name_cmp_total}
+use Rattle.book.proofs.Staying.{name_cmp_total}
 use Rattle.book.specs.Ledger.{Field}
 use Rattle.std.specs.List.Sorted.{IsStrictlySortedBy}
 use Rattle.book.specs.declared.entries.FieldEntry.{FieldEntry}
