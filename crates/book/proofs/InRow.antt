@@ -1,67 +1,54 @@
 -- Whether a list is in the order of its keys, told from each two neighbours.
-use Rattle.std.proofs.Common.{◌≡◌, ◌∙◌, ℕ, zero, suc, ◌+◌, ◌-◌, ◌<◌, ◌≤◌, List, [], ◌∷◌, true, false, Less, Equal, ap, arith, get_or, length, map, refl, subst, sym, take, true≢false}
-use Rattle.std.proofs.lemmas.List.{take_all}
+use Rattle.std.proofs.Common.{◌≡◌, ◌↔◌, ◌∙◌, ℕ, zero, suc, ◌+◌, ◌<◌, Bool, IsTrue, List, [], ◌∷◌, true, false, Less, Equal, ap, arith, length, map, refl, subst, sym, true≢false}
+use Rattle.std.proofs.lemmas.Simd.{map-map}
 use Rattle.std.specs.declared.cmp.Ordering.{Ordering}
 use Rattle.std.specs.declared.cmp.Ordering.TheVariants.{Greater}
-use Rattle.std.specs.Ordering.{is_lt}
+use Rattle.std.specs.Ordering.{is_lt, nat_cmp}
 use Rattle.std.specs.Cmp.{IsTotalOrder}
+use Rattle.std.specs.List.{AllAdjacentBelow, IsAllAdjacentAnswer}
 use Rattle.std.specs.List.Sorted.{IsStrictlySortedBy}
+use Rattle.std.specs.Prelude.{nat_lt, slice_index_or}
 use Rattle.book.proofs.Sums.{each-imp}
+use Rattle.book.proofs.Tested.{no, yes}
 
 less_if : (o : Ordering) → is_lt o ≡ true → o ≡ Less
 less_if Less e = refl
 less_if Equal e = absurd (true≢false (sym e))
 less_if Greater e = absurd (true≢false (sym e))
 
--- the keys of the list, in order
-abbrev Rises : {X K : Type 0} → (K → K → Ordering) → (X → K) → List X → Type 0
-Rises cmp key xs = IsStrictlySortedBy cmp (map key xs)
+-- numbers compared as they are ordered
+pub numbers_less : (a b : ℕ) → nat_lt a b ≡ is_lt (nat_cmp a b)
+numbers_less a b = grind arith
 
-pub sorted-one : {X K : Type 0} (cmp : K → K → Ordering) (key : X → K) (xs : List X) → IsStrictlySortedBy cmp (map key (take 1 xs))
+after : (k : ℕ) → suc k + 1 ≡ suc (k + 1)
+after k = omega arith
+
+-- The test of two neighbours, and the keys that it compares.
+record Compares {X K : Type 0} (cmp : K → K → Ordering) (key : X → K) (test : X → X → Bool) : Type 0 where
+  total : IsTotalOrder cmp
+  same : (x y : X) → test x y ≡ is_lt (cmp (key x) (key y))
+
+-- each before the next
+rises : {X K : Type 0} (cmp : K → K → Ordering) (key : X → K) (test : X → X → Bool) → Compares cmp key test → (xs : List X) → AllAdjacentBelow (λ x y. true ≡ test x y) xs (length xs) → IsStrictlySortedBy cmp (map key xs)
 unfolding IsStrictlySortedBy
-sorted-one cmp key [] = tt
-sorted-one cmp key (x ∷ xs) = (tt, tt)
+rises cmp key test c [] all = tt
+rises cmp key test c (x ∷ []) all = (tt, tt)
+rises cmp key test c (x ∷ y ∷ ys) all =
+    let less = less_if _ (sym (c.same x y) ∙ sym (all zero x (omega arith))) in
+    let more = rises cmp key test c (y ∷ ys) (λ k d lt. subst (λ j. true ≡ test (slice_index_or (y ∷ ys) k d) (slice_index_or (x ∷ y ∷ ys) j d)) (after k) (all (suc k) d (omega arith))) in
+    ((less, each-imp (λ k more. c.total.trans (key x) (key y) k less more) (map key ys) more.0), more)
 
-next_to : {X K : Type 0} (cmp : K → K → Ordering) → IsTotalOrder cmp → (key : X → K) (xs : List X) (i : ℕ) (d e : X) → suc i < length xs → Rises cmp key (take (suc i) xs) → cmp (key (get_or xs i d)) (key (get_or xs (suc i) e)) ≡ Less → Rises cmp key (take (suc (suc i)) xs)
+-- one not before the next
+falls : {X K : Type 0} (cmp : K → K → Ordering) (key : X → K) (test : X → X → Bool) → Compares cmp key test → (xs : List X) (k : ℕ) → k + 1 < length xs → ((d : X) → false ≡ test (slice_index_or xs k d) (slice_index_or xs (k + 1) d)) → IsStrictlySortedBy cmp (map key xs) → ⊥
 unfolding IsStrictlySortedBy
-next_to cmp o key [] i d e lt h less = absurd (omega arith)
-next_to cmp o key (x ∷ []) i d e lt h less = absurd (omega arith)
-next_to cmp o key (x ∷ y ∷ ys) zero d e lt h less = ((less, tt), (tt, tt))
-next_to cmp o key (x ∷ y ∷ ys) (suc j) d e lt h less =
-    let more = next_to cmp o key (y ∷ ys) j d e (omega arith) h.1 less in
-    ((h.0.0, each-imp (λ k after. o.trans (key x) (key y) k h.0.0 after) (map key (take (suc j) ys)) more.0), more)
+falls cmp key test c [] k lt not sorted = omega arith
+falls cmp key test c (x ∷ []) k lt not sorted = omega arith
+falls cmp key test c (x ∷ y ∷ ys) zero lt not sorted = true≢false (ap is_lt (sym sorted.0.0) ∙ sym (c.same x y) ∙ sym (not x))
+falls cmp key test c (x ∷ y ∷ ys) (suc k) lt not sorted = falls cmp key test c (y ∷ ys) k (omega arith) (λ d. subst (λ j. false ≡ test (slice_index_or (y ∷ ys) k d) (slice_index_or (x ∷ y ∷ ys) j d)) (after k) (not d)) sorted.1
 
-two_at : {X K : Type 0} (cmp : K → K → Ordering) (key : X → K) (xs : List X) (i : ℕ) (d e : X) → suc i < length xs → Rises cmp key xs → cmp (key (get_or xs i d)) (key (get_or xs (suc i) e)) ≡ Less
-unfolding IsStrictlySortedBy
-two_at cmp key [] i d e lt h = absurd (omega arith)
-two_at cmp key (x ∷ []) i d e lt h = absurd (omega arith)
-two_at cmp key (x ∷ y ∷ ys) zero d e lt h = h.0.0
-two_at cmp key (x ∷ y ∷ ys) (suc j) d e lt h = two_at cmp key (y ∷ ys) j d e (omega arith) h.1
-
--- one element more, greater than the one before it
-pub sorted-next : {X K : Type 0} (cmp : K → K → Ordering) → IsTotalOrder cmp → (key : X → K) (xs : List X) (i : ℕ) (a b : X) → 1 ≤ i → i < length xs → a ≡ get_or xs (i - 1) a → b ≡ get_or xs i b
-    → IsStrictlySortedBy cmp (map key (take i xs)) → is_lt (cmp (key a) (key b)) ≡ true → IsStrictlySortedBy cmp (map key (take (i + 1) xs))
-sorted-next cmp o key xs zero a b some lt p q h less = absurd (omega arith)
-sorted-next cmp o key xs (suc j) a b some lt p q h less =
-    let before : suc j - 1 ≡ j = omega arith in
-    let after : suc (suc j) ≡ suc j + 1 = omega arith in
-    subst (λ k. Rises cmp key (take k xs)) after
-    (next_to cmp o key xs j a b lt h (less_if _ (ap (λ x. is_lt (cmp (key x) (key (get_or xs (suc j) b)))) (sym (p ∙ ap (λ k. get_or xs k a) before)) ∙ ap (λ y. is_lt (cmp (key a) (key y))) (sym q) ∙ less)))
-
--- two neighbours out of order
-pub sorted-not : {X K : Type 0} (cmp : K → K → Ordering) (key : X → K) (xs : List X) (i : ℕ) (a b : X) → 1 ≤ i → i < length xs → a ≡ get_or xs (i - 1) a → b ≡ get_or xs i b
-    → is_lt (cmp (key a) (key b)) ≡ false → IsStrictlySortedBy cmp (map key xs) → ⊥
-sorted-not cmp key xs zero a b some lt p q not h = absurd (omega arith)
-sorted-not cmp key xs (suc j) a b some lt p q not h =
-    let before : suc j - 1 ≡ j = omega arith in
-    let less = two_at cmp key xs j a b lt h in
-    let same : is_lt (cmp (key a) (key b)) ≡ true = ap (λ x. is_lt (cmp (key x) (key b))) (p ∙ ap (λ k. get_or xs k a) before) ∙ ap (λ y. is_lt (cmp (key (get_or xs j a)) (key y))) q ∙ ap is_lt less in
-    true≢false (sym same ∙ not)
-
-pub sorted-all : {X K : Type 0} (cmp : K → K → Ordering) (key : X → K) (xs : List X) (i : ℕ) → length xs ≤ i → IsStrictlySortedBy cmp (map key (take i xs)) → IsStrictlySortedBy cmp (map key xs)
-sorted-all cmp key xs i past h = subst (Rises cmp key) (take_all i xs past) h
-
--- keys seen through a view
-pub keys_seen : {X Y K : Type 0} (key : Y → K) (view : X → Y) (xs : List X) → map key (map view xs) ≡ map (λ x. key (view x)) xs
-keys_seen key view [] = refl
-keys_seen key view (x ∷ xs) = ap (λ ks. key (view x) ∷ ks) (keys_seen key view xs)
+-- what a test of each two neighbours answers, of elements that are seen through a view
+pub in_order : {X Y K : Type 0} (cmp : K → K → Ordering) → IsTotalOrder cmp → (key : Y → K) (view : X → Y) (test : X → X → Bool) → ((x y : X) → test x y ≡ is_lt (cmp (key (view x)) (key (view y))))
+    → (xs : List X) (r : Bool) → IsAllAdjacentAnswer (λ x y b. b ≡ test x y) xs r → IsTrue r ↔ IsStrictlySortedBy cmp (map key (map view xs))
+in_order cmp total key view test same xs true all = yes (subst (IsStrictlySortedBy cmp) (sym (map-map key view xs)) (rises cmp (λ x. key (view x)) test (record { total = total; same = same }) xs all))
+in_order cmp total key view test same xs false (k, lt, not) = no (λ sorted.
+    falls cmp (λ x. key (view x)) test (record { total = total; same = same }) xs k lt not (subst (IsStrictlySortedBy cmp) (map-map key view xs) sorted))

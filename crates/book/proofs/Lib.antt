@@ -24,6 +24,7 @@ pub mod RowsTold
 pub mod InRow
 pub mod Places
 pub mod Whole
+pub mod Numbers
 pub mod SumsOnFields
 pub mod Found
 pub mod Placing

@@ -18,36 +18,18 @@ use Rattle.book.specs.Ledger.{Name, committed_state, line_name, name_cmp, open_s
 use Rattle.book.specs.Outcomes.{signed}
 use Rattle.book.specs.Held.{if_add, if_take}
 use Rattle.book.specs.View.{field_of}
-use Rattle.book.specs.Walk.{added_by_line, added_by_order, moved_by_line, moved_by_move, moved_by_order, taken_by_line, taken_by_order, IsSmall}
-use Rattle.book.specs.Sums.{added, entry_name, field_among, lines_numbers, nothing, numbers_on, only_on, part_of_line, plus, AreFieldsInOrder, IsField, IsFieldAt}
+use Rattle.book.specs.Walk.{added_by_line, added_by_order, moved_by_line, moved_by_move, moved_by_order, nothing, plus, taken_by_line, taken_by_order, IsSmall}
+use Rattle.book.specs.Sums.{added, entry_name, field_among, lines_numbers, numbers_on, only_on, part_of_line, AreFieldsInOrder, IsField, IsFieldAt}
 use Rattle.book.proofs.Asked.{same_self}
 use Rattle.book.proofs.Closing.{name_is}
 use Rattle.book.proofs.Staying.{equal_name, name_cmp_total}
 use Rattle.book.proofs.Lists.{each-of-push, each-unmap}
+use Rattle.book.proofs.Numbers.{nothing-plus, plus-assoc, plus-nothing, same-numbers, small-plus, small-up}
 use Rattle.book.proofs.Sums.{each, each-imp, each-map}
 use Rattle.book.proofs.Walked.{take-step, total-step}
 use Rattle.book.proofs.Walking.{each_get, each_set}
 
--- ---- numbers
-
--- numbers with equal parts are equal
-pub same-numbers : (n m : Numbers) → n.moved ≡ m.moved → n.takes ≡ m.takes → n.adds ≡ m.adds → n ≡ m
-same-numbers n m a b c = λ i. record { moved = a i; takes = b i; adds = c i }
-
-plus-nothing : (n : Numbers) → plus n nothing ≡ n
-plus-nothing n = same-numbers _ _ (omega (arith, ints)) (omega (arith, ints)) (omega (arith, ints))
-
-nothing-plus : (n : Numbers) → plus nothing n ≡ n
-nothing-plus n = same-numbers _ _ (omega (arith, ints)) (omega (arith, ints)) (omega (arith, ints))
-
-plus-assoc : (a b c : Numbers) → plus (plus a b) c ≡ plus a (plus b c)
-plus-assoc a b c = same-numbers _ _ (omega (arith, ints)) (omega (arith, ints)) (omega (arith, ints))
-
-small-up : (k m : ℕ) (n : Numbers) → k ≤ m → IsSmall k n → IsSmall m n
-small-up k m n h s = record { low = omega (arith, ints); high = omega (arith, ints); take_low = omega (arith, ints); take_high = omega (arith, ints); add_low = omega (arith, ints); add_high = omega (arith, ints) }
-
-small-plus : (k m : ℕ) (a b : Numbers) → IsSmall k a → IsSmall m b → IsSmall (k + m) (plus a b)
-small-plus k m a b s t = record { low = omega (arith, ints); high = omega (arith, ints); take_low = omega (arith, ints); take_high = omega (arith, ints); add_low = omega (arith, ints); add_high = omega (arith, ints) }
+-- ---- bounds of the sums
 
 -- a bound may be raised
 pub each-small-up : (k m : ℕ) (ns : List Numbers) → k ≤ m → Each (IsSmall k) ns → Each (IsSmall m) ns

@@ -32,6 +32,10 @@ cut_at xs i x h e = sym (take-append-drop (i + 1) xs) ∙ ap (λ t. t ++ drop (i
 pub total-step : {X : Type 0} (g : X → ℤ) (xs : List X) (i : ℕ) (x : X) → i < length xs → x ≡ get_or xs i x → total g (take (i + 1) xs) ≡ total g (take i xs) +ℤ g x
 total-step g xs i x h e = ap (total g) (take-step xs i x h e) ∙ total-push g (take i xs) x
 
+-- the same, of a sum that has the element's part added
+pub sum-step : {X : Type 0} (g : X → ℤ) (xs : List X) (i : ℕ) (x : X) → i < length xs → x ≡ get_or xs i x → (before part after : ℤ) → after ≡ before +ℤ part → before ≡ total g (take i xs) → part ≡ g x → after ≡ total g (take (i + 1) xs)
+sum-step g xs i x h e before part after added so_far here = added ∙ ap (λ z. z +ℤ part) so_far ∙ ap (λ z. total g (take i xs) +ℤ z) here ∙ sym (total-step g xs i x h e)
+
 each-left : {X : Type 0} (P : X → Type 0) (xs ys : List X) → Each P (xs ++ ys) → Each P xs
 each-left P [] ys k = tt
 each-left P (x ∷ xs) ys k = (k.0, each-left P xs ys k.1)

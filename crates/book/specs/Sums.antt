@@ -1,5 +1,5 @@
 -- What all moves and orders add up to on each of the fields.
-use Rattle.std.specs.Prelude.{◌≡◌, ℕ, ◌+◌, ◌<◌, pos, ◌+ℤ◌, List, [], ◌∷◌, length, map, Option, find, if◌then◌else◌, IsSome}
+use Rattle.std.specs.Prelude.{◌≡◌, ℕ, ◌<◌, pos, ◌+ℤ◌, List, [], ◌∷◌, length, map, Option, find, if◌then◌else◌, IsSome}
 use Rattle.std.specs.List.{AllByRecursion as Each, HoldsAt}
 use Rattle.std.specs.List.Sorted.{IsStrictlySortedBy}
 use Rattle.book.specs.declared.book.walk.Numbers.{Numbers}
@@ -12,7 +12,7 @@ use Rattle.book.specs.Ledger.{Field, Name, committed_state, line_name, name_cmp,
 use Rattle.book.specs.Outcomes.{signed, total}
 use Rattle.book.specs.Held.{if_add, if_take}
 use Rattle.book.specs.View.{field_of, move_of}
-use Rattle.book.specs.Walk.{added_by_line, added_by_order, moved_by_line, moved_by_move, moved_by_order, most_of_moves, most_of_orders, taken_by_line, taken_by_order}
+use Rattle.book.specs.Walk.{added_by_line, added_by_order, moved_by_line, moved_by_move, moved_by_order, nothing, plus, taken_by_line, taken_by_order}
 
 -- what the moves and the orders add up to on the field
 abbrev pub numbers_on : List MoveEntry → List OrderEntry → Name → Numbers
@@ -63,14 +63,6 @@ AreOnFields fs ms os = AreMovesOnFields fs ms × AreOrdersOnFields fs os
 
 -- ---- numbers added to numbers
 
--- the numbers of what adds up to nothing
-abbrev pub nothing : Numbers
-nothing = record { moved = pos 0; takes = pos 0; adds = pos 0 }
-
--- the numbers of both together
-abbrev pub plus : Numbers → Numbers → Numbers
-plus n m = record { moved = n.moved +ℤ m.moved; takes = n.takes +ℤ m.takes; adds = n.adds +ℤ m.adds }
-
 -- the numbers on one field, and nothing on the others
 abbrev pub only_on : Name → Numbers → Name → Numbers
 only_on name part f = if same_name f name then part else nothing
@@ -96,7 +88,3 @@ lines_numbers s ls f = record {
   takes = if open_state s then total (taken_by_line f) ls else pos 0;
   adds = if open_state s then total (added_by_line f) ls else pos 0;
 }
-
--- as much as all moves and all orders can come to
-abbrev pub most_of_all : ℕ
-most_of_all = most_of_moves + most_of_orders

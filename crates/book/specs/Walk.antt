@@ -1,5 +1,5 @@
 -- What a walk over the entries adds up on a field, and how much that can be.
-use Rattle.std.specs.Prelude.{ℕ, ◌*◌, ℤ, pos, neg_ℤ, ◌≤ℤ◌, if◌then◌else◌}
+use Rattle.std.specs.Prelude.{ℕ, ◌+◌, ◌*◌, ℤ, pos, neg_ℤ, ◌+ℤ◌, ◌≤ℤ◌, if◌then◌else◌}
 use Rattle.escrow.specs.declared.limits.TheConstants.{MAX_LEVEL, MAX_QTY}
 use Rattle.words.specs.declared.limits.TheConstants.{MAX_ORDER_LINES}
 use Rattle.book.specs.declared.limits.TheConstants.{MAX_ORDERS, MAX_PLACES}
@@ -40,6 +40,16 @@ taken_by_order f o = if open_state o.state then total (taken_by_line f) o.lines.
 abbrev pub added_by_order : Name → OrderEntry → ℤ
 added_by_order f o = if open_state o.state then total (added_by_line f) o.lines.items else pos 0
 
+-- ---- numbers together
+
+-- the numbers of what adds up to nothing
+abbrev pub nothing : Numbers
+nothing = record { moved = pos 0; takes = pos 0; adds = pos 0 }
+
+-- the numbers of both together
+abbrev pub plus : Numbers → Numbers → Numbers
+plus n m = record { moved = n.moved +ℤ m.moved; takes = n.takes +ℤ m.takes; adds = n.adds +ℤ m.adds }
+
 -- ---- how much these can be
 
 abbrev pub most_of_move : ℕ
@@ -56,6 +66,9 @@ most_of_lines = most_of_line * MAX_ORDER_LINES
 
 abbrev pub most_of_orders : ℕ
 most_of_orders = most_of_lines * MAX_ORDERS
+
+abbrev pub most_of_all : ℕ
+most_of_all = most_of_moves + most_of_orders
 
 -- up or down, at most so much
 pub record IsBetween (most : ℕ) (z : ℤ) : Type 0 where

@@ -89,10 +89,7 @@ fn others_on(orders: &[OrderEntry], command: &Command, branch: Branch, article: 
 {
     let mut sum = NOTHING;
     for entry in orders {
-        let part = other_on(entry, command, branch, article);
-        sum.moved += part.moved;
-        sum.takes += part.takes;
-        sum.adds += part.adds;
+        sum = sum.plus(other_on(entry, command, branch, article));
     }
     sum
 }
@@ -137,22 +134,6 @@ fn moves_after(moves: &[MoveEntry], command: &Command, branch: Branch, article: 
     ensures small { IsBetween (most_of_moves + most_of_move) result }
 {
     moves_on(moves, branch, article) + command_on(command, branch, article)
-}
-
-/// Both together.
-fn sum(one: Numbers, more: Numbers) -> Numbers
-    requires one { IsSmall most_of_orders one }
-    requires more { IsSmall most_of_lines more }
-    ensures moved { result.moved ≡ (one.moved +ℤ more.moved) }
-    ensures takes { result.takes ≡ (one.takes +ℤ more.takes) }
-    ensures adds { result.adds ≡ (one.adds +ℤ more.adds) }
-    ensures small { IsSmall (most_of_orders + most_of_lines) result }
-{
-    Numbers {
-        moved: one.moved + more.moved,
-        takes: one.takes + more.takes,
-        adds: one.adds + more.adds,
-    }
 }
 
 /// What the order, if there is one, adds up to on the field.
@@ -234,7 +215,7 @@ impl Book {
     {
         let moved = moves_after(&self.moves, &request.command, branch, article);
         let others = others_on(&self.orders, &request.command, branch, article);
-        let ordered = sum(others, made_on(made, branch, article));
+        let ordered = others.plus(made_on(made, branch, article));
         Numbers {
             moved: moved + ordered.moved,
             takes: ordered.takes,

@@ -27,12 +27,10 @@ fn field_place(fields: &[FieldEntry], entry: &FieldEntry) -> usize
     ensures within { result ≤ length fields.now }
     ensures there { map field_of (insert fields.now result entry.now) ≡ insert_in_order (λ f g. is_lt (name_cmp f.name g.name)) (field_of entry.now) (map field_of fields.now) }
 {
-    for (place, other) in fields.iter().enumerate() {
-        if is_field_before(entry, other) {
-            return place;
-        }
-    }
-    fields.len()
+    let place = fields
+        .iter()
+        .position(|other| is_field_before(entry, other));
+    place.unwrap_or(fields.len())
 }
 
 pub(super) fn insert_field(fields: &mut Vec<FieldEntry>, entry: FieldEntry)
@@ -56,12 +54,10 @@ fn order_place(orders: &[OrderEntry], entry: &OrderEntry) -> usize
     ensures within { result ≤ length orders.now }
     ensures there { map order_of (insert orders.now result entry.now) ≡ insert_in_order (λ a b. nat_lt a.number b.number) (order_of entry.now) (map order_of orders.now) }
 {
-    for (place, other) in orders.iter().enumerate() {
-        if is_order_before(entry, other) {
-            return place;
-        }
-    }
-    orders.len()
+    let place = orders
+        .iter()
+        .position(|other| is_order_before(entry, other));
+    place.unwrap_or(orders.len())
 }
 
 pub(super) fn insert_order(orders: &mut Vec<OrderEntry>, entry: OrderEntry)
@@ -85,12 +81,8 @@ fn kept_place(kept: &[KeptEntry], entry: &KeptEntry) -> usize
     ensures within { result ≤ length kept.now }
     ensures there { map kept_of (insert kept.now result entry.now) ≡ insert_in_order (λ a b. is_lt (slice_cmp nat_cmp a.key b.key)) (kept_of entry.now) (map kept_of kept.now) }
 {
-    for (place, other) in kept.iter().enumerate() {
-        if is_key_before(entry, other) {
-            return place;
-        }
-    }
-    kept.len()
+    let place = kept.iter().position(|other| is_key_before(entry, other));
+    place.unwrap_or(kept.len())
 }
 
 pub(super) fn insert_kept(kept: &mut Vec<KeptEntry>, entry: KeptEntry)

@@ -9,8 +9,8 @@ ghost use Rattle.book.specs.declared.limits.TheConstants.{MAX_ORDERS, MAX_PLACES
 ghost use Rattle.book.specs.declared.order.State.TheVariants as State;
 ghost use Rattle.book.specs.Ledger.{line_name, name_cmp, name_of};
 ghost use Rattle.book.specs.View.{field_of, move_of};
-ghost use Rattle.book.specs.Walk.{most_of_line, most_of_lines, most_of_move, most_of_moves, IsSmall};
-ghost use Rattle.book.specs.Sums.{added, entry_name, field_among, lines_numbers, most_of_all, nothing, numbers_on, only_on, part_of_line, plus, AreFieldsInOrder, AreLinesOnFields, AreMovesOnFields, AreOnFields, AreOrdersOnFields, IsField, IsFieldAt};
+ghost use Rattle.book.specs.Walk.{most_of_all, most_of_line, most_of_lines, most_of_move, most_of_moves, nothing, plus, IsSmall};
+ghost use Rattle.book.specs.Sums.{added, entry_name, field_among, lines_numbers, numbers_on, only_on, part_of_line, AreFieldsInOrder, AreLinesOnFields, AreMovesOnFields, AreOnFields, AreOrdersOnFields, IsField, IsFieldAt};
 
 use super::walk::{NOTHING, Numbers};
 use crate::entries::{FieldEntry, MoveEntry, OrderEntry};
@@ -97,19 +97,6 @@ fn field_index(fields: &[FieldEntry], branch: Branch, article: Article) -> Optio
     }
 }
 
-/// The numbers of both together.
-fn plus(one: &Numbers, other: &Numbers) -> Numbers
-    requires one { IsSmall (most_of_all + most_of_all) one.now }
-    requires other { IsSmall most_of_line other.now }
-    ensures { result ≡ plus one.now other.now }
-{
-    Numbers {
-        moved: one.moved + other.moved,
-        takes: one.takes + other.takes,
-        adds: one.adds + other.adds,
-    }
-}
-
 /// Adds to the sum at that place.
 fn add_at(sums: &mut [Numbers], place: usize, part: &Numbers)
     requires within { place < length sums.old }
@@ -118,7 +105,7 @@ fn add_at(sums: &mut [Numbers], place: usize, part: &Numbers)
     ensures sums { sums.new ≡ set sums.old place (plus (slice_index_or sums.old place nothing) part.now) }
     ensures small { (k m : ℕ) → Each (IsSmall k) sums.old → IsSmall m part.now → Each (IsSmall (k + m)) sums.new }
 {
-    sums[place] = plus(&sums[place], part);
+    sums[place] = sums[place].plus(*part);
 }
 
 /// Adds to the sum of the field of that name. Whether there is such a field; if not, nothing changes.

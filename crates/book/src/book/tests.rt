@@ -7,41 +7,42 @@ use std::process::Abort;
 use std::test::Fail;
 use words::{Refusal, Request, read_command};
 
+pub(super) fn request(alloc: Global, key: &str, command: &str) -> Result<Request, Fail> {
+    let key = Key::read(key.as_bytes())?;
+    let command = read_command(alloc, command.as_bytes())?;
+    Ok(Request { key, command })
+}
+
 /// What is planned for the command under the key.
-fn planned<R: Abort + AllocGlobal>(
-    rt: &R,
-    book: &Book,
-    key: &[u8],
-    command: &[u8],
-) -> Result<Planned, Fail> {
-    let alloc = rt.alloc();
-    let request = Request {
-        key: Key::read(key)?,
-        command: read_command(alloc, command)?,
-    };
+fn planned(alloc: Global, book: &Book, key: &str, command: &str) -> Result<Planned, Fail> {
+    let request = request(alloc, key, command)?;
     Ok(book.plan(alloc, &request)?)
 }
 
-/// Carries the command out, at that place.
-fn carry_out<R: Abort + AllocGlobal>(
-    rt: &R,
+/// Carries the command out. Its place.
+pub(super) fn carry_out(
+    alloc: Global,
     book: &mut Book,
-    key: &[u8],
-    command: &[u8],
-    place: u64,
-) -> Result<(), Fail> {
-    let alloc = rt.alloc();
-    let request = Request {
-        key: Key::read(key)?,
-        command: read_command(alloc, command)?,
-    };
+    key: &str,
+    command: &str,
+) -> Result<u64, Fail> {
+    let request = request(alloc, key, command)?;
     let Planned::Accept(plan) = book.plan(alloc, &request)? else {
         return Err(Fail::from("refused"));
     };
-    assert_eq!(rt; plan.place(), place);
+    let place = plan.place();
     book.make_room(&plan)?;
     book.adopt(plan);
-    Ok(())
+    Ok(place)
+}
+
+/// A book that has carried these out, one after the other, each under its key.
+fn book_after(alloc: Global, script: &[(&str, &str)]) -> Result<Book, Fail> {
+    let mut book = Book::new(alloc);
+    for (key, command) in script {
+        carry_out(alloc, &mut book, key, command)?;
+    }
+    Ok(book)
 }
 
 #[test]
@@ -81,16 +82,19 @@ fn a_new_book_shows_nothing(rt: HostRuntime) -> Result<(), Fail> {
     Ok(())
 }
 
+const USED: [(&str, &str); 4] = [
+    ("K1", "field N2 A-1 0 100 40"),
+    ("K2", "field N1 A-1 0 50 5"),
+    ("K3", "open 7 120 take N2 A-1 35"),
+    ("K4", "use 7 N2 A-1 20"),
+];
+
 #[test]
-fn a_book_shows_what_is_carried_out(rt: HostRuntime) -> Result<(), Fail> {
-    let mut book = Book::new(rt.alloc());
-    carry_out(&rt, &mut book, b"K1", b"field N2 A-1 0 100 40", 1)?;
-    carry_out(&rt, &mut book, b"K2", b"field N1 A-1 0 50 5", 2)?;
-    carry_out(&rt, &mut book, b"K3", b"open 7 120 take N2 A-1 35", 3)?;
-    carry_out(&rt, &mut book, b"K4", b"use 7 N2 A-1 20", 4)?;
+fn an_order_is_shown(rt: HostRuntime) -> Result<(), Fail> {
+    let book = book_after(rt.alloc(), &USED)?;
     let number = OrderNo::new(7).ok_or("a number")?;
     let Some(order) = book.order(number) else {
-        return Err(Fail::from("an order"));
+        return Err(Fail::from("no order"));
     };
     assert_eq!(rt; order.kind, Kind::Plain);
     assert_eq!(rt; order.state, State::Open);
@@ -100,39 +104,53 @@ fn a_book_shows_what_is_carried_out(rt: HostRuntime) -> Result<(), Fail> {
     };
     assert_eq!(rt; line.way, Way::Take);
     assert_eq!(rt; (line.held.get(), line.used.get()), (35, 20));
-    assert_eq!(rt; book.field_count(), 2);
-    let first = book.field_at(0).ok_or("a field")?;
-    assert!(rt; first.branch.as_bytes() == b"N1".as_slice());
-    let last = book.field_at(1).ok_or("a field")?;
-    assert_eq!(rt;
-        (last.value.get(), last.inf.get(), last.sup.get()),
-        (40, 5, 40)
-    );
-    assert_eq!(rt; book.field(last.branch, last.article), Some(last));
-    assert_eq!(rt; book.field_at(2), None);
-    carry_out(&rt, &mut book, b"K5", b"commit 7", 5)?;
-    let last = book.field_at(1).ok_or("a field")?;
-    assert_eq!(rt;
-        (last.value.get(), last.inf.get(), last.sup.get()),
-        (20, 20, 20)
-    );
     Ok(())
 }
 
 #[test]
+fn fields_are_shown_in_order(rt: HostRuntime) -> Result<(), Fail> {
+    let book = book_after(rt.alloc(), &USED)?;
+    assert_eq!(rt; book.field_count(), 2);
+    let first = book.field_at(0).ok_or("a field")?;
+    assert!(rt; first.branch.as_bytes() == b"N1".as_slice());
+    let last = book.field_at(1).ok_or("a field")?;
+    assert_eq!(rt; book.field(last.branch, last.article), Some(last));
+    assert_eq!(rt; book.field_at(2), None);
+    Ok(())
+}
+
+/// The settled value, the infimum and the supremum of the last field.
+fn numbers_of_last(book: &Book) -> Result<(u64, u64, u64), Fail> {
+    let last = book.field_at(1).ok_or("a field")?;
+    Ok((last.value.get(), last.inf.get(), last.sup.get()))
+}
+
+#[test]
+fn a_commit_settles_what_was_used(rt: HostRuntime) -> Result<(), Fail> {
+    let mut book = book_after(rt.alloc(), &USED)?;
+    assert_eq!(rt; numbers_of_last(&book)?, (40, 5, 40));
+    assert_eq!(rt; carry_out(rt.alloc(), &mut book, "K5", "commit 7")?, 5);
+    assert_eq!(rt; numbers_of_last(&book)?, (20, 20, 20));
+    Ok(())
+}
+
+const DELIVERED: [(&str, &str); 2] = [("K1", "field N1 A-1 0 100 40"), ("K2", "deliver N1 A-1 60")];
+
+#[test]
 fn a_key_is_kept(rt: HostRuntime) -> Result<(), Fail> {
-    let mut book = Book::new(rt.alloc());
-    carry_out(&rt, &mut book, b"K1", b"field N1 A-1 0 100 40", 1)?;
-    carry_out(&rt, &mut book, b"K2", b"deliver N1 A-1 60", 2)?;
-    assert!(rt;
-        matches!(
-            planned(&rt, &book, b"K2", b"deliver N1 A-1 60")?,
-            Planned::Again(2)
-        )
-    );
-    let reused = planned(&rt, &book, b"K2", b"deliver N1 A-1 59")?;
+    let book = book_after(rt.alloc(), &DELIVERED)?;
+    let again = planned(rt.alloc(), &book, "K2", "deliver N1 A-1 60")?;
+    assert!(rt; matches!(again, Planned::Again(2)));
+    let reused = planned(rt.alloc(), &book, "K2", "deliver N1 A-1 59")?;
     assert!(rt; matches!(reused, Planned::Refused(Refusal::KeyReused, 0)));
-    let refused = planned(&rt, &book, b"K3", b"open 7 120 take N1 A-1 1 add N1 B-1 1")?;
+    Ok(())
+}
+
+#[test]
+fn a_refusal_names_the_line_at_fault(rt: HostRuntime) -> Result<(), Fail> {
+    let book = book_after(rt.alloc(), &DELIVERED)?;
+    let command = "open 7 120 take N1 A-1 1 add N1 B-1 1";
+    let refused = planned(rt.alloc(), &book, "K3", command)?;
     assert!(rt; matches!(refused, Planned::Refused(Refusal::NoField, 2)));
     Ok(())
 }
@@ -167,6 +185,9 @@ fn shown(alloc: Global, change: &Change) -> Result<String, Fail> {
     Ok(text)
 }
 
+/// A key, a command, and the rows that it changes.
+type Step = (&'static str, &'static str, &'static [&'static str]);
+
 /// The changes are those of these rows.
 fn compare<R: Abort + AllocGlobal>(rt: &R, changes: &[Change], rows: &[&str]) -> Result<(), Fail> {
     assert_eq!(rt; changes.len(), rows.len());
@@ -177,184 +198,241 @@ fn compare<R: Abort + AllocGlobal>(rt: &R, changes: &[Change], rows: &[&str]) ->
     Ok(())
 }
 
-/// Carries the command out, which changes these rows.
-fn changes<R: Abort + AllocGlobal>(
-    rt: &R,
-    book: &mut Book,
-    key: &[u8],
-    command: &[u8],
-    rows: &[&str],
-) -> Result<(), Fail> {
-    let alloc = rt.alloc();
-    let request = Request {
-        key: Key::read(key)?,
-        command: read_command(alloc, command)?,
-    };
-    let Planned::Accept(plan) = book.plan(alloc, &request)? else {
+/// Carries the command out, and compares the rows that it changes.
+fn step<R: Abort + AllocGlobal>(rt: &R, book: &mut Book, step: &Step) -> Result<(), Fail> {
+    let request = request(rt.alloc(), step.0, step.1)?;
+    let Planned::Accept(plan) = book.plan(rt.alloc(), &request)? else {
         return Err(Fail::from("refused"));
     };
-    compare(rt, plan.changes(), rows)?;
+    compare(rt, plan.changes(), step.2)?;
     book.make_room(&plan)?;
     book.adopt(plan);
     Ok(())
 }
 
-/// A book of two fields of one article, at N1 and at S1.
-fn two_fields<R: Abort + AllocGlobal>(rt: &R) -> Result<Book, Fail> {
-    let mut book = Book::new(rt.alloc());
-    carry_out(rt, &mut book, b"K1", b"field N1 A-1 0 100 40", 1)?;
-    carry_out(rt, &mut book, b"K2", b"field S1 A-1 0 50 10", 2)?;
-    Ok(book)
+/// Carries the commands out, behind those of a script, and compares the rows that they change.
+fn compare_all<R: Abort + AllocGlobal>(
+    rt: &R,
+    script: &[(&str, &str)],
+    steps: &[Step],
+) -> Result<(), Fail> {
+    let mut book = book_after(rt.alloc(), script)?;
+    for one in steps {
+        step(rt, &mut book, one)?;
+    }
+    Ok(())
 }
+
+/// Two fields of one article, at N1 and at S1.
+const TWO_FIELDS: [(&str, &str); 2] = [
+    ("K1", "field N1 A-1 0 100 40"),
+    ("K2", "field S1 A-1 0 50 10"),
+];
+
+const STOCK: [Step; 3] = [
+    (
+        "K3",
+        "field N1 B-1 2 9 5",
+        &[
+            "desk 1 1 0 3",
+            "field N1 B-1 2 9 5 5 5 5",
+            "kept K3 3 field N1 B-1 2 9 5",
+        ],
+    ),
+    (
+        "K4",
+        "deliver N1 A-1 5",
+        &[
+            "desk 1 1 0 4",
+            "field N1 A-1 0 100 40 45 45 45",
+            "move 4 N1 A-1 5",
+            "kept K4 4 deliver N1 A-1 5",
+        ],
+    ),
+    (
+        "k-5",
+        "writeoff S1 A-1 3",
+        &[
+            "desk 1 1 0 5",
+            "field S1 A-1 0 50 10 7 7 7",
+            "move 5 S1 A-1 -3",
+            "kept k-5 5 writeoff S1 A-1 3",
+        ],
+    ),
+];
 
 #[test]
 fn commands_about_stock_change_rows(rt: HostRuntime) -> Result<(), Fail> {
-    let mut book = two_fields(&rt)?;
-    let field = [
-        "desk 1 1 0 3",
-        "field N1 B-1 2 9 5 5 5 5",
-        "kept K3 3 field N1 B-1 2 9 5",
-    ];
-    changes(&rt, &mut book, b"K3", b"field N1 B-1 2 9 5", &field)?;
-    let deliver = [
-        "desk 1 1 0 4",
-        "field N1 A-1 0 100 40 45 45 45",
-        "move 4 N1 A-1 5",
-        "kept K4 4 deliver N1 A-1 5",
-    ];
-    changes(&rt, &mut book, b"K4", b"deliver N1 A-1 5", &deliver)?;
-    let writeoff = [
-        "desk 1 1 0 5",
-        "field S1 A-1 0 50 10 7 7 7",
-        "move 5 S1 A-1 -3",
-        "kept k-5 5 writeoff S1 A-1 3",
-    ];
-    changes(&rt, &mut book, b"k-5", b"writeoff S1 A-1 3", &writeoff)
+    compare_all(&rt, &TWO_FIELDS, &STOCK)
 }
+
+const OPENED: [Step; 3] = [
+    (
+        "K3",
+        "open 7 120 add S1 A-1 4 take N1 A-1 30",
+        &[
+            "desk 1 1 0 3",
+            "field N1 A-1 0 100 40 40 10 40",
+            "field S1 A-1 0 50 10 10 10 14",
+            "order 7 0 120 0",
+            "line 7 1 S1 A-1 1 4 0",
+            "line 7 2 N1 A-1 0 30 0",
+            "kept K3 3 open 7 120 add S1 A-1 4 take N1 A-1 30",
+        ],
+    ),
+    (
+        "K4",
+        "use 7 N1 A-1 12",
+        &[
+            "desk 1 1 0 4",
+            "line 7 2 N1 A-1 0 30 12",
+            "kept K4 4 use 7 N1 A-1 12",
+        ],
+    ),
+    (
+        "K5",
+        "more 7 take N1 A-1 5",
+        &[
+            "desk 1 1 0 5",
+            "field N1 A-1 0 100 40 40 5 40",
+            "line 7 2 N1 A-1 0 35 12",
+            "kept K5 5 more 7 take N1 A-1 5",
+        ],
+    ),
+];
 
 #[test]
 fn an_order_opened_and_used_changes_rows(rt: HostRuntime) -> Result<(), Fail> {
-    let mut book = two_fields(&rt)?;
-    let open = [
-        "desk 1 1 0 3",
-        "field N1 A-1 0 100 40 40 10 40",
-        "field S1 A-1 0 50 10 10 10 14",
-        "order 7 0 120 0",
-        "line 7 1 S1 A-1 1 4 0",
-        "line 7 2 N1 A-1 0 30 0",
-        "kept K3 3 open 7 120 add S1 A-1 4 take N1 A-1 30",
-    ];
-    let command = b"open 7 120 add S1 A-1 4 take N1 A-1 30";
-    changes(&rt, &mut book, b"K3", command, &open)?;
-    let uses = [
-        "desk 1 1 0 4",
-        "line 7 2 N1 A-1 0 30 12",
-        "kept K4 4 use 7 N1 A-1 12",
-    ];
-    changes(&rt, &mut book, b"K4", b"use 7 N1 A-1 12", &uses)?;
-    let more = [
-        "desk 1 1 0 5",
-        "field N1 A-1 0 100 40 40 5 40",
-        "line 7 2 N1 A-1 0 35 12",
-        "kept K5 5 more 7 take N1 A-1 5",
-    ];
-    changes(&rt, &mut book, b"K5", b"more 7 take N1 A-1 5", &more)
+    compare_all(&rt, &TWO_FIELDS, &OPENED)
 }
+
+const ORDER_USED: [(&str, &str); 5] = [
+    ("K1", "field N1 A-1 0 100 40"),
+    ("K2", "field S1 A-1 0 50 10"),
+    ("K3", "open 7 120 add S1 A-1 4 take N1 A-1 35"),
+    ("K4", "use 7 N1 A-1 12"),
+    ("K5", "use 7 S1 A-1 1"),
+];
+
+const COMMITTED: [Step; 2] = [
+    (
+        "K6",
+        "release 7 N1 A-1 3",
+        &[
+            "desk 1 1 0 6",
+            "field N1 A-1 0 100 40 40 8 40",
+            "line 7 2 N1 A-1 0 32 12",
+            "kept K6 6 release 7 N1 A-1 3",
+        ],
+    ),
+    (
+        "K7",
+        "commit 7",
+        &[
+            "desk 1 1 0 7",
+            "field N1 A-1 0 100 40 28 28 28",
+            "field S1 A-1 0 50 10 11 11 11",
+            "order 7 0 120 1",
+            "kept K7 7 commit 7",
+        ],
+    ),
+];
 
 #[test]
 fn an_order_released_and_committed_changes_rows(rt: HostRuntime) -> Result<(), Fail> {
-    let mut book = two_fields(&rt)?;
-    let open = b"open 7 120 add S1 A-1 4 take N1 A-1 35";
-    carry_out(&rt, &mut book, b"K3", open, 3)?;
-    carry_out(&rt, &mut book, b"K4", b"use 7 N1 A-1 12", 4)?;
-    carry_out(&rt, &mut book, b"K5", b"use 7 S1 A-1 1", 5)?;
-    let release = [
-        "desk 1 1 0 6",
-        "field N1 A-1 0 100 40 40 8 40",
-        "line 7 2 N1 A-1 0 32 12",
-        "kept K6 6 release 7 N1 A-1 3",
-    ];
-    changes(&rt, &mut book, b"K6", b"release 7 N1 A-1 3", &release)?;
-    let commit = [
-        "desk 1 1 0 7",
-        "field N1 A-1 0 100 40 28 28 28",
-        "field S1 A-1 0 50 10 11 11 11",
-        "order 7 0 120 1",
-        "kept K7 7 commit 7",
-    ];
-    changes(&rt, &mut book, b"K7", b"commit 7", &commit)
+    compare_all(&rt, &ORDER_USED, &COMMITTED)
 }
 
-#[test]
-fn a_transfer_opened_and_used_changes_rows(rt: HostRuntime) -> Result<(), Fail> {
-    let mut book = two_fields(&rt)?;
-    let transfer = [
-        "desk 1 1 0 3",
-        "field N1 A-1 0 100 40 40 34 40",
-        "field S1 A-1 0 50 10 10 10 16",
-        "order 8 1 200 0",
-        "line 8 1 N1 A-1 0 6 0",
-        "line 8 2 S1 A-1 1 6 0",
-        "kept K3 3 transfer 8 200 A-1 N1 S1 6",
-    ];
-    let command = b"transfer 8 200 A-1 N1 S1 6";
-    changes(&rt, &mut book, b"K3", command, &transfer)?;
-    let uses = [
-        "desk 1 1 0 4",
-        "line 8 1 N1 A-1 0 6 2",
-        "line 8 2 S1 A-1 1 6 2",
-        "kept K4 4 use 8 S1 A-1 2",
-    ];
-    changes(&rt, &mut book, b"K4", b"use 8 S1 A-1 2", &uses)
-}
+const TRANSFER: [Step; 4] = [
+    (
+        "K3",
+        "transfer 8 200 A-1 N1 S1 6",
+        &[
+            "desk 1 1 0 3",
+            "field N1 A-1 0 100 40 40 34 40",
+            "field S1 A-1 0 50 10 10 10 16",
+            "order 8 1 200 0",
+            "line 8 1 N1 A-1 0 6 0",
+            "line 8 2 S1 A-1 1 6 0",
+            "kept K3 3 transfer 8 200 A-1 N1 S1 6",
+        ],
+    ),
+    (
+        "K4",
+        "use 8 S1 A-1 2",
+        &[
+            "desk 1 1 0 4",
+            "line 8 1 N1 A-1 0 6 2",
+            "line 8 2 S1 A-1 1 6 2",
+            "kept K4 4 use 8 S1 A-1 2",
+        ],
+    ),
+    (
+        "K5",
+        "release 8 N1 A-1 1",
+        &[
+            "desk 1 1 0 5",
+            "field N1 A-1 0 100 40 40 35 40",
+            "field S1 A-1 0 50 10 10 10 15",
+            "line 8 1 N1 A-1 0 5 2",
+            "line 8 2 S1 A-1 1 5 2",
+            "kept K5 5 release 8 N1 A-1 1",
+        ],
+    ),
+    (
+        "K6",
+        "abort 8",
+        &[
+            "desk 1 1 0 6",
+            "field N1 A-1 0 100 40 40 40 40",
+            "field S1 A-1 0 50 10 10 10 10",
+            "order 8 1 200 2",
+            "kept K6 6 abort 8",
+        ],
+    ),
+];
 
 #[test]
-fn a_transfer_released_and_aborted_changes_rows(rt: HostRuntime) -> Result<(), Fail> {
-    let mut book = two_fields(&rt)?;
-    carry_out(&rt, &mut book, b"K3", b"transfer 8 200 A-1 N1 S1 6", 3)?;
-    carry_out(&rt, &mut book, b"K4", b"use 8 S1 A-1 2", 4)?;
-    let release = [
-        "desk 1 1 0 5",
-        "field N1 A-1 0 100 40 40 35 40",
-        "field S1 A-1 0 50 10 10 10 15",
-        "line 8 1 N1 A-1 0 5 2",
-        "line 8 2 S1 A-1 1 5 2",
-        "kept K5 5 release 8 N1 A-1 1",
-    ];
-    changes(&rt, &mut book, b"K5", b"release 8 N1 A-1 1", &release)?;
-    let abort = [
-        "desk 1 1 0 6",
-        "field N1 A-1 0 100 40 40 40 40",
-        "field S1 A-1 0 50 10 10 10 10",
-        "order 8 1 200 2",
-        "kept K6 6 abort 8",
-    ];
-    changes(&rt, &mut book, b"K6", b"abort 8", &abort)
+fn a_transfer_changes_rows(rt: HostRuntime) -> Result<(), Fail> {
+    compare_all(&rt, &TWO_FIELDS, &TRANSFER)
 }
+
+const THREE_ORDERS: [(&str, &str); 6] = [
+    ("K1", "field N1 A-1 0 100 40"),
+    ("K2", "field S1 A-1 0 50 10"),
+    ("K3", "open 9 50 take N1 A-1 10"),
+    ("K4", "open 4 60 add S1 A-1 3"),
+    ("K5", "use 9 N1 A-1 4"),
+    ("K6", "open 2 90 take N1 A-1 1"),
+];
+
+const EXPIRED: [Step; 3] = [
+    (
+        "K7",
+        "more 4 take N1 A-1 2",
+        &[
+            "desk 1 1 0 7",
+            "field N1 A-1 0 100 40 40 27 40",
+            "line 4 2 N1 A-1 0 2 0",
+            "kept K7 7 more 4 take N1 A-1 2",
+        ],
+    ),
+    ("K8", "expire 49", &["desk 1 1 49 8", "kept K8 8 expire 49"]),
+    (
+        "K9",
+        "expire 60",
+        &[
+            "desk 1 1 60 9",
+            "field N1 A-1 0 100 40 40 39 40",
+            "field S1 A-1 0 50 10 10 10 10",
+            "order 4 0 60 2",
+            "order 9 0 50 2",
+            "kept K9 9 expire 60",
+        ],
+    ),
+];
 
 #[test]
 fn an_expiry_changes_rows(rt: HostRuntime) -> Result<(), Fail> {
-    let mut book = two_fields(&rt)?;
-    carry_out(&rt, &mut book, b"K3", b"open 9 50 take N1 A-1 10", 3)?;
-    carry_out(&rt, &mut book, b"K4", b"open 4 60 add S1 A-1 3", 4)?;
-    carry_out(&rt, &mut book, b"K5", b"use 9 N1 A-1 4", 5)?;
-    carry_out(&rt, &mut book, b"K6", b"open 2 90 take N1 A-1 1", 6)?;
-    let more = [
-        "desk 1 1 0 7",
-        "field N1 A-1 0 100 40 40 27 40",
-        "line 4 2 N1 A-1 0 2 0",
-        "kept K7 7 more 4 take N1 A-1 2",
-    ];
-    changes(&rt, &mut book, b"K7", b"more 4 take N1 A-1 2", &more)?;
-    let nothing = ["desk 1 1 49 8", "kept K8 8 expire 49"];
-    changes(&rt, &mut book, b"K8", b"expire 49", &nothing)?;
-    let expire = [
-        "desk 1 1 60 9",
-        "field N1 A-1 0 100 40 40 39 40",
-        "field S1 A-1 0 50 10 10 10 10",
-        "order 4 0 60 2",
-        "order 9 0 50 2",
-        "kept K9 9 expire 60",
-    ];
-    changes(&rt, &mut book, b"K9", b"expire 60", &expire)
+    compare_all(&rt, &THREE_ORDERS, &EXPIRED)
 }

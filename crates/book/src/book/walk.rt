@@ -9,7 +9,7 @@ ghost use Rattle.book.specs.Ledger.{Field, open_orders, open_state, places, name
 ghost use Rattle.book.specs.Outcomes.{settled, total};
 ghost use Rattle.book.specs.Good.{Good};
 ghost use Rattle.book.specs.Held.{held_to_add, held_to_take};
-ghost use Rattle.book.specs.Walk.{added_by_line, added_by_order, moved_by_line, moved_by_move, moved_by_order, most_of_line, most_of_lines, most_of_move, most_of_moves, most_of_orders, taken_by_line, taken_by_order, IsBetween, IsSmall};
+ghost use Rattle.book.specs.Walk.{added_by_line, added_by_order, moved_by_line, moved_by_move, moved_by_order, most_of_all, most_of_line, most_of_lines, most_of_move, most_of_moves, most_of_orders, plus, taken_by_line, taken_by_order, IsBetween, IsSmall};
 
 use super::Book;
 use super::find::is_on;
@@ -34,6 +34,21 @@ pub(super) const NOTHING: Numbers = Numbers {
     takes: 0,
     adds: 0,
 };
+
+impl Numbers {
+    /// Both together.
+    pub(super) fn plus(self, more: Numbers) -> Numbers
+        requires room { IsSmall (most_of_all + most_of_all) self }
+        requires more { IsSmall most_of_all more }
+        ensures { result ≡ plus self more }
+    {
+        Numbers {
+            moved: self.moved + more.moved,
+            takes: self.takes + more.takes,
+            adds: self.adds + more.adds,
+        }
+    }
+}
 
 impl Book {
     /// What the whole ledger adds up to on the field.
@@ -107,10 +122,7 @@ fn orders_on(orders: &[OrderEntry], branch: Branch, article: Article) -> Numbers
 {
     let mut sum = NOTHING;
     for entry in orders {
-        let part = order_on(entry, branch, article);
-        sum.moved += part.moved;
-        sum.takes += part.takes;
-        sum.adds += part.adds;
+        sum = sum.plus(order_on(entry, branch, article));
     }
     sum
 }
@@ -148,10 +160,7 @@ fn lines_on(lines: &[Line], branch: Branch, article: Article) -> Numbers
 {
     let mut sum = NOTHING;
     for line in lines {
-        let part = line_on(line, branch, article);
-        sum.moved += part.moved;
-        sum.takes += part.takes;
-        sum.adds += part.adds;
+        sum = sum.plus(line_on(line, branch, article));
     }
     sum
 }

@@ -22,12 +22,7 @@ use words::MAX_ORDER_LINES;
 pub(super) fn are_fields_in_order(fields: &[FieldEntry]) -> bool
     ensures { IsTrue result ↔ IsStrictlySortedBy name_cmp (map (λ f. f.name) (map field_of fields.now)) }
 {
-    for i in 1..fields.len() {
-        if !is_field_before(&fields[i - 1], &fields[i]) {
-            return false;
-        }
-    }
-    true
+    fields.is_sorted_by(|one, other| is_field_before(one, other))
 }
 
 fn is_move_before(one: &MoveEntry, other: &MoveEntry) -> bool
@@ -40,36 +35,21 @@ fn is_move_before(one: &MoveEntry, other: &MoveEntry) -> bool
 pub(super) fn are_moves_in_order(moves: &[MoveEntry]) -> bool
     ensures { IsTrue result ↔ IsStrictlySortedBy nat_cmp (map (λ m. m.place) (map move_of moves.now)) }
 {
-    for i in 1..moves.len() {
-        if !is_move_before(&moves[i - 1], &moves[i]) {
-            return false;
-        }
-    }
-    true
+    moves.is_sorted_by(|one, other| is_move_before(one, other))
 }
 
 /// Whether the orders stand in the order of their numbers, one of each.
 pub(super) fn are_orders_in_order(orders: &[OrderEntry]) -> bool
     ensures { IsTrue result ↔ IsStrictlySortedBy nat_cmp (map (λ o. o.number) (map order_of orders.now)) }
 {
-    for i in 1..orders.len() {
-        if !is_order_before(&orders[i - 1], &orders[i]) {
-            return false;
-        }
-    }
-    true
+    orders.is_sorted_by(|one, other| is_order_before(one, other))
 }
 
 /// Whether the kept keys stand in their order, each once.
 pub(super) fn are_keys_in_order(kept: &[KeptEntry]) -> bool
     ensures { IsTrue result ↔ IsStrictlySortedBy (slice_cmp nat_cmp) (map (λ k. k.key) (map kept_of kept.now)) }
 {
-    for i in 1..kept.len() {
-        if !is_key_before(&kept[i - 1], &kept[i]) {
-            return false;
-        }
-    }
-    true
+    kept.is_sorted_by(|one, other| is_key_before(one, other))
 }
 
 fn is_move_good(entry: &MoveEntry, places: usize) -> bool

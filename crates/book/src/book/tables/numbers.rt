@@ -6,11 +6,11 @@ ghost use Rattle.escrow.specs.Ranges.{IsQty};
 ghost use Rattle.words.specs.declared.limits.TheConstants.{MAX_ORDER_LINES};
 ghost use Rattle.book.specs.declared.limits.TheConstants.{MAX_ORDERS, MAX_PLACES};
 ghost use Rattle.book.specs.Ledger.{Name};
-ghost use Rattle.book.specs.Sums.{AreFieldsInOrder, AreOnFields, entry_name, most_of_all, numbers_on};
+ghost use Rattle.book.specs.Sums.{AreFieldsInOrder, AreOnFields, entry_name, numbers_on};
 ghost use Rattle.book.specs.Tables.{field_cells};
 ghost use Rattle.book.specs.Told.{HasNumbers, HaveNumbers};
 ghost use Rattle.book.specs.View.{field_of};
-ghost use Rattle.book.specs.Walk.{IsSmall};
+ghost use Rattle.book.specs.Walk.{most_of_all, IsSmall};
 ghost use Rattle.book.specs.declared.book.walk.Numbers.{Numbers};
 
 use crate::book::sums::sums_of;

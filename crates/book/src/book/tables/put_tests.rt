@@ -4,12 +4,12 @@
 use super::tests::Parts;
 use super::*;
 use crate::book::Planned;
+use crate::book::tests::request;
 use crate::order::State;
 use crate::rows::{Change, FieldRow, KeptRow, LineRow, MoveRow, OrderRow};
-use escrow::{Article, Branch, Key, OrderNo};
+use escrow::{Article, Branch, OrderNo};
 use std::process::Abort;
 use std::test::Fail;
-use words::{Request, read_command};
 
 fn copied<R: AllocGlobal>(rt: &R, text: &String) -> Result<String, Fail> {
     Ok(String::from_str(rt.alloc(), text.as_str())?)
@@ -96,15 +96,11 @@ fn carry_out<R: Abort + AllocGlobal>(
     rt: &R,
     book: &mut Book,
     parts: &mut Parts,
-    key: &[u8],
-    command: &[u8],
+    key: &str,
+    command: &str,
 ) -> Result<(), Fail> {
-    let alloc = rt.alloc();
-    let request = Request {
-        key: Key::read(key)?,
-        command: read_command(alloc, command)?,
-    };
-    let Planned::Accept(plan) = book.plan(alloc, &request)? else {
+    let request = request(rt.alloc(), key, command)?;
+    let Planned::Accept(plan) = book.plan(rt.alloc(), &request)? else {
         return Err(Fail::from("refused"));
     };
     for change in plan.changes() {
@@ -115,53 +111,47 @@ fn carry_out<R: Abort + AllocGlobal>(
     Ok(())
 }
 
-/// The field of the one article at the branch has these numbers.
-fn expect_numbers<R: Abort + AllocGlobal>(
-    rt: &R,
-    book: &Book,
-    branch: &[u8],
-    numbers: (u64, u64, u64),
-) -> Result<(), Fail> {
-    let Some(field) = book.field(Branch::read(branch)?, Article::read(b"A-1")?) else {
-        return Err(Fail::from("no field"));
-    };
-    assert_eq!(rt; field.value.get(), numbers.0);
-    assert_eq!(rt; field.inf.get(), numbers.1);
-    assert_eq!(rt; field.sup.get(), numbers.2);
+/// A book from the rows that these commands have put in, one after the other, each under its key.
+fn book_of_rows<R: Abort + AllocGlobal>(rt: &R, script: &[(&str, &str)]) -> Result<Book, Fail> {
+    let mut book = Book::new(rt.alloc());
+    let mut parts = Parts::new(rt, 0);
+    for (key, command) in script {
+        carry_out(rt, &mut book, &mut parts, key, command)?;
+    }
+    Ok(Book::of_tables(rt.alloc(), parts.into_tables())?)
+}
+
+/// The settled value, the infimum and the supremum of the field of the one article at the branch.
+fn numbers_at(book: &Book, branch: &[u8]) -> Result<(u64, u64, u64), Fail> {
+    let field = book.field(Branch::read(branch)?, Article::read(b"A-1")?);
+    let field = field.ok_or("a field")?;
+    Ok((field.value.get(), field.inf.get(), field.sup.get()))
+}
+
+const OPEN_ORDERS: [(&str, &str); 7] = [
+    ("K1", "field N1 A-1 0 100 40"),
+    ("K2", "field N2 A-1 0 50 5"),
+    ("K3", "deliver N1 A-1 10"),
+    ("K4", "open 7 120 take N1 A-1 20"),
+    ("K5", "more 7 take N1 A-1 15"),
+    ("K6", "transfer 20 900 A-1 N1 N2 10"),
+    ("K7", "use 20 N2 A-1 4"),
+];
+
+#[test]
+fn fields_are_read_back(rt: HostRuntime) -> Result<(), Fail> {
+    let again = book_of_rows(&rt, &OPEN_ORDERS)?;
+    // 40 + 10, of which 20 + 15 and 10 may be taken
+    assert_eq!(rt; numbers_at(&again, b"N1")?, (50, 5, 50));
+    // 5, to which 10 may be added
+    assert_eq!(rt; numbers_at(&again, b"N2")?, (5, 5, 15));
     Ok(())
 }
 
 #[test]
-fn rows_that_are_put_in_are_read_back(rt: HostRuntime) -> Result<(), Fail> {
-    let mut book = Book::new(rt.alloc());
-    let mut parts = Parts::new(&rt, 0);
-    carry_out(&rt, &mut book, &mut parts, b"K1", b"field N1 A-1 0 100 40")?;
-    carry_out(&rt, &mut book, &mut parts, b"K2", b"field N2 A-1 0 50 5")?;
-    carry_out(&rt, &mut book, &mut parts, b"K3", b"deliver N1 A-1 10")?;
-    carry_out(
-        &rt,
-        &mut book,
-        &mut parts,
-        b"K4",
-        b"open 7 120 take N1 A-1 20",
-    )?;
-    carry_out(&rt, &mut book, &mut parts, b"K5", b"more 7 take N1 A-1 15")?;
-    carry_out(
-        &rt,
-        &mut book,
-        &mut parts,
-        b"K6",
-        b"transfer 20 900 A-1 N1 N2 10",
-    )?;
-    carry_out(&rt, &mut book, &mut parts, b"K7", b"use 20 N2 A-1 4")?;
-    let again = Book::of_tables(rt.alloc(), parts.into_tables())?;
-    // 40 + 10, of which 20 + 15 and 10 may be taken
-    expect_numbers(&rt, &again, b"N1", (50, 5, 50))?;
-    // 5, to which 10 may be added
-    expect_numbers(&rt, &again, b"N2", (5, 5, 15))?;
-    let Some(number) = OrderNo::new(20) else {
-        return Err(Fail::from("no number"));
-    };
+fn an_open_order_is_read_back(rt: HostRuntime) -> Result<(), Fail> {
+    let again = book_of_rows(&rt, &OPEN_ORDERS)?;
+    let number = OrderNo::new(20).ok_or("a number")?;
     let Some(order) = again.order(number) else {
         return Err(Fail::from("no order"));
     };
@@ -170,70 +160,46 @@ fn rows_that_are_put_in_are_read_back(rt: HostRuntime) -> Result<(), Fail> {
     };
     assert_eq!(rt; (take.held.get(), take.used.get()), (10, 4));
     assert_eq!(rt; (add.held.get(), add.used.get()), (10, 4));
-    let request = Request {
-        key: Key::read(b"K7")?,
-        command: read_command(rt.alloc(), b"use 20 N2 A-1 4")?,
-    };
-    let Planned::Again(place) = again.plan(rt.alloc(), &request)? else {
-        return Err(Fail::from("not kept"));
-    };
-    assert_eq!(rt; place, 7);
-    Ok(())
-}
-
-/// The order of that number stands so.
-fn expect_state<R: Abort + AllocGlobal>(
-    rt: &R,
-    book: &Book,
-    number: u64,
-    state: State,
-) -> Result<(), Fail> {
-    let Some(number) = OrderNo::new(number) else {
-        return Err(Fail::from("no number"));
-    };
-    let Some(order) = book.order(number) else {
-        return Err(Fail::from("no order"));
-    };
-    assert!(rt; order.state == state);
     Ok(())
 }
 
 #[test]
+fn a_kept_key_is_read_back(rt: HostRuntime) -> Result<(), Fail> {
+    let again = book_of_rows(&rt, &OPEN_ORDERS)?;
+    let request = request(rt.alloc(), "K7", "use 20 N2 A-1 4")?;
+    let planned = again.plan(rt.alloc(), &request)?;
+    assert!(rt; matches!(planned, Planned::Again(7)));
+    Ok(())
+}
+
+const ENDED_ORDERS: [(&str, &str); 10] = [
+    ("K1", "field N1 A-1 0 100 40"),
+    ("K2", "writeoff N1 A-1 2"),
+    ("K3", "open 7 120 take N1 A-1 9"),
+    ("K4", "open 8 120 take N1 A-1 5"),
+    ("K5", "open 9 130 take N1 A-1 3"),
+    ("K6", "use 7 N1 A-1 4"),
+    ("K7", "release 7 N1 A-1 2"),
+    ("K8", "commit 7"),
+    ("K9", "abort 9"),
+    ("KA", "expire 120"),
+];
+
+#[test]
 fn ended_orders_are_read_back(rt: HostRuntime) -> Result<(), Fail> {
-    let mut book = Book::new(rt.alloc());
-    let mut parts = Parts::new(&rt, 0);
-    carry_out(&rt, &mut book, &mut parts, b"K1", b"field N1 A-1 0 100 40")?;
-    carry_out(&rt, &mut book, &mut parts, b"K2", b"writeoff N1 A-1 2")?;
-    carry_out(
-        &rt,
-        &mut book,
-        &mut parts,
-        b"K3",
-        b"open 7 120 take N1 A-1 9",
-    )?;
-    carry_out(
-        &rt,
-        &mut book,
-        &mut parts,
-        b"K4",
-        b"open 8 120 take N1 A-1 5",
-    )?;
-    carry_out(
-        &rt,
-        &mut book,
-        &mut parts,
-        b"K5",
-        b"open 9 130 take N1 A-1 3",
-    )?;
-    carry_out(&rt, &mut book, &mut parts, b"K6", b"use 7 N1 A-1 4")?;
-    carry_out(&rt, &mut book, &mut parts, b"K7", b"release 7 N1 A-1 2")?;
-    carry_out(&rt, &mut book, &mut parts, b"K8", b"commit 7")?;
-    carry_out(&rt, &mut book, &mut parts, b"K9", b"abort 9")?;
-    carry_out(&rt, &mut book, &mut parts, b"KA", b"expire 120")?;
-    let again = Book::of_tables(rt.alloc(), parts.into_tables())?;
+    let again = book_of_rows(&rt, &ENDED_ORDERS)?;
     // 40 - 2 - 4, and nothing is held
-    expect_numbers(&rt, &again, b"N1", (34, 34, 34))?;
-    expect_state(&rt, &again, 7, State::Committed)?;
-    expect_state(&rt, &again, 8, State::Aborted)?;
-    expect_state(&rt, &again, 9, State::Aborted)
+    assert_eq!(rt; numbers_at(&again, b"N1")?, (34, 34, 34));
+    for (number, state) in [
+        (7, State::Committed),
+        (8, State::Aborted),
+        (9, State::Aborted),
+    ] {
+        let number = OrderNo::new(number).ok_or("a number")?;
+        let Some(order) = again.order(number) else {
+            return Err(Fail::from("no order"));
+        };
+        assert!(rt; order.state == state);
+    }
+    Ok(())
 }

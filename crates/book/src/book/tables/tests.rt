@@ -1,12 +1,12 @@
 use super::*;
 use crate::book::Planned;
+use crate::book::tests::{carry_out, request};
 use crate::limits::limits_are_those_of_the_rules;
 use crate::order::State;
 use crate::rows::{FieldRow, KeptRow, LineRow, MoveRow, OrderRow, Rows};
-use escrow::{Article, Branch, Key, OrderNo};
-use std::process::Abort;
+use escrow::{Article, Branch, OrderNo};
 use std::test::Fail;
-use words::{Refusal, Request, read_command};
+use words::Refusal;
 
 /// Rows to be changed before they are opened.
 #[derive(Drop)]
@@ -130,6 +130,17 @@ impl Parts {
     }
 }
 
+const KEPT: [(&str, &str); 8] = [
+    ("K1", "field N1 A-1 0 100 40"),
+    ("K2", "field N2 A-1 0 50 5"),
+    ("K3", "deliver N1 A-1 10"),
+    ("K4", "open 7 120 take N1 A-1 35"),
+    ("K5", "transfer 20 900 A-1 N1 N2 10"),
+    ("K6", "use 20 N2 A-1 4"),
+    ("K7", "commit 20"),
+    ("K8", "writeoff N2 A-1 2"),
+];
+
 /// Two fields of one article with a delivery and a write-off, an open order, and a transfer that is committed.
 fn sample<R: AllocGlobal>(rt: &R) -> Result<Parts, Fail> {
     let mut parts = Parts::new(rt, 8);
@@ -144,14 +155,9 @@ fn sample<R: AllocGlobal>(rt: &R) -> Result<Parts, Fail> {
     parts.push_line(rt, (7, 1), 0, "N1", (35, 0))?;
     parts.push_line(rt, (20, 1), 0, "N1", (10, 4))?;
     parts.push_line(rt, (20, 2), 1, "N2", (10, 4))?;
-    parts.push_kept(rt, "K1", 1, "field N1 A-1 0 100 40")?;
-    parts.push_kept(rt, "K2", 2, "field N2 A-1 0 50 5")?;
-    parts.push_kept(rt, "K3", 3, "deliver N1 A-1 10")?;
-    parts.push_kept(rt, "K4", 4, "open 7 120 take N1 A-1 35")?;
-    parts.push_kept(rt, "K5", 5, "transfer 20 900 A-1 N1 N2 10")?;
-    parts.push_kept(rt, "K6", 6, "use 20 N2 A-1 4")?;
-    parts.push_kept(rt, "K7", 7, "commit 20")?;
-    parts.push_kept(rt, "K8", 8, "writeoff N2 A-1 2")?;
+    for (place, (key, words)) in KEPT.iter().enumerate() {
+        parts.push_kept(rt, key, place as i64 + 1, words)?;
+    }
     Ok(parts)
 }
 
@@ -193,15 +199,19 @@ fn expect_damaged<R: AllocGlobal>(rt: &R, parts: Parts) -> Result<(), Fail> {
 #[test]
 fn rows_of_a_good_ledger_open(rt: HostRuntime) -> Result<(), Fail> {
     let book = Book::of_tables(rt.alloc(), sample(&rt)?.into_tables())?;
-    let Some(field) = book.field(Branch::read(b"N1")?, Article::read(b"A-1")?) else {
-        return Err(Fail::from("no field"));
-    };
-    assert_eq!(rt; field.value.get(), 46);
-    assert_eq!(rt; field.inf.get(), 11);
-    assert_eq!(rt; field.sup.get(), 46);
-    let Some(number) = OrderNo::new(7) else {
-        return Err(Fail::from("no number"));
-    };
+    let field = book.field(Branch::read(b"N1")?, Article::read(b"A-1")?);
+    let field = field.ok_or("a field")?;
+    assert_eq!(rt;
+        (field.value.get(), field.inf.get(), field.sup.get()),
+        (46, 11, 46)
+    );
+    Ok(())
+}
+
+#[test]
+fn an_open_order_of_a_good_ledger_is_shown(rt: HostRuntime) -> Result<(), Fail> {
+    let book = Book::of_tables(rt.alloc(), sample(&rt)?.into_tables())?;
+    let number = OrderNo::new(7).ok_or("a number")?;
     let Some(order) = book.order(number) else {
         return Err(Fail::from("no order"));
     };
@@ -390,16 +400,8 @@ fn full_desk<R: AllocGlobal>(rt: &R) -> Result<Parts, Fail> {
 }
 
 /// How the command is refused.
-fn refusal_of<R: AllocGlobal>(
-    rt: &R,
-    book: &Book,
-    command: &[u8],
-) -> Result<Option<(Refusal, u64)>, Fail> {
-    let alloc = rt.alloc();
-    let request = Request {
-        key: Key::read(b"NEW")?,
-        command: read_command(alloc, command)?,
-    };
+fn refusal_of(alloc: Global, book: &Book, command: &str) -> Result<Option<(Refusal, u64)>, Fail> {
+    let request = request(alloc, "NEW", command)?;
     match book.plan(alloc, &request)? {
         Planned::Refused(refusal, line) => Ok(Some((refusal, line))),
         _ => Ok(None),
@@ -407,25 +409,21 @@ fn refusal_of<R: AllocGlobal>(
 }
 
 #[test]
+fn a_full_desk_refuses(rt: HostRuntime) -> Result<(), Fail> {
+    let book = Book::of_tables(rt.alloc(), full_desk(&rt)?.into_tables())?;
+    for command in ["deliver N1 A-1 1", "expire 120"] {
+        let refused = refusal_of(rt.alloc(), &book, command)?;
+        assert!(rt; refused == Some((Refusal::Full, 0)), "{command}");
+    }
+    Ok(())
+}
+
+#[test]
 fn a_full_desk_still_ends_its_order(rt: HostRuntime) -> Result<(), Fail> {
     let mut book = Book::of_tables(rt.alloc(), full_desk(&rt)?.into_tables())?;
-    let refused = refusal_of(&rt, &book, b"deliver N1 A-1 1")?;
-    assert!(rt; refused == Some((Refusal::Full, 0)));
-    let refused = refusal_of(&rt, &book, b"expire 120")?;
-    assert!(rt; refused == Some((Refusal::Full, 0)));
-    let request = Request {
-        key: Key::read(b"NEW")?,
-        command: read_command(rt.alloc(), b"commit 7")?,
-    };
-    let Planned::Accept(plan) = book.plan(rt.alloc(), &request)? else {
-        return Err(Fail::from("refused"));
-    };
-    assert_eq!(rt; plan.place(), 200_000);
-    book.make_room(&plan)?;
-    book.adopt(plan);
-    let Some(field) = book.field(Branch::read(b"N1")?, Article::read(b"A-1")?) else {
-        return Err(Fail::from("no field"));
-    };
+    let place = carry_out(rt.alloc(), &mut book, "NEW", "commit 7")?;
+    assert_eq!(rt; place, 200_000);
+    let field = book.field_at(0).ok_or("a field")?;
     assert_eq!(rt; field.inf.get(), 40);
     Ok(())
 }

@@ -1,6 +1,7 @@
-use Rattle.std.proofs.Common.{◌≡◌, ◌∙◌, ◌+ℤ◌, sym, ap, subst, arith}
+use Rattle.std.proofs.Common.{◌≡◌, ◌∙◌, ◌+◌, ◌+ℤ◌, sym, ap, refl, subst, arith}
 use Rattle.std.proofs.lemmas.Int.{ints}
 use Rattle.std.specs.Option.{option_map}
+use Rattle.book.specs.declared.book.walk.Numbers.{Numbers}
 use Rattle.book.specs.After.{moved_by_command, part_left, order_after, IsShort}
 use Rattle.book.specs.Answers.{IsAccepted}
 use Rattle.book.specs.Held.{held_to_add, held_to_take}
@@ -8,9 +9,10 @@ use Rattle.book.specs.Ledger.{Name, name_of}
 use Rattle.book.specs.Next.{accept}
 use Rattle.book.specs.Outcomes.{settled, total}
 use Rattle.book.specs.View.{BookView, ledger_of, order_of}
-use Rattle.book.specs.Walk.{added_by_order, moved_by_move, moved_by_order, taken_by_order}
+use Rattle.book.specs.Walk.{added_by_order, most_of_lines, most_of_orders, moved_by_move, moved_by_order, plus, taken_by_order, IsSmall}
 use Rattle.book.proofs.After.{held_to_add-after, held_to_take-after, settled-after}
 use Rattle.book.proofs.Made.{made_short}
+use Rattle.book.proofs.Numbers.{small-step}
 use Rattle.book.proofs.Walked.{few_moves, short_orders, small_moves}
 use Rattle.book.proofs.book.Book.numbers_after.Goals as goal
 
@@ -35,6 +37,7 @@ returns-clause-moved c f e =
     let same = ap (λ (v : BookView). settled (accept v.ledger c.args.request.now) f) (sym c.self.view_is) in
     let moves = c.moves_after-moved.ensures.sum ∙ ap (λ xs. total (moved_by_move n) xs +ℤ moved_by_command n c.args.request.now.command) c.deref.ensures.value in
     let orders = c.others_on-others.ensures.moved ∙ ap (λ xs. total (part_left (moved_by_order n) c.args.request.now.command) xs) c.deref-2.ensures.value in
+    let both = ap (λ n. n.moved) c.plus-ordered.ensures in
     omega (arith, ints)
 
 pub returns-clause-takes : goal.returns-clause-takes
@@ -45,6 +48,7 @@ returns-clause-takes c =
     let walk = held_to_take-after c.self.inside c.args.request.now n c.args.made.now c.self.invariant ok made in
     let same = ap (λ (v : BookView). held_to_take (accept v.ledger c.args.request.now) n) (sym c.self.view_is) in
     let orders = c.others_on-others.ensures.takes ∙ ap (λ xs. total (part_left (taken_by_order n) c.args.request.now.command) xs) c.deref-2.ensures.value in
+    let both = ap (λ n. n.takes) c.plus-ordered.ensures in
     omega (arith, ints)
 
 pub returns-clause-adds : goal.returns-clause-adds
@@ -55,10 +59,21 @@ returns-clause-adds c =
     let walk = held_to_add-after c.self.inside c.args.request.now n c.args.made.now c.self.invariant ok made in
     let same = ap (λ (v : BookView). held_to_add (accept v.ledger c.args.request.now) n) (sym c.self.view_is) in
     let orders = c.others_on-others.ensures.adds ∙ ap (λ xs. total (part_left (added_by_order n) c.args.request.now.command) xs) c.deref-2.ensures.value in
+    let both = ap (λ n. n.adds) c.plus-ordered.ensures in
+    omega (arith, ints)
+
+-- how great the numbers of all orders are
+small_orders : (others made both : Numbers) → both ≡ plus others made → IsSmall most_of_orders others → IsSmall most_of_lines made → IsSmall (most_of_orders + most_of_lines) both
+small_orders others made both e s t = small-step most_of_orders most_of_lines (most_of_orders + most_of_lines) others made both refl e s t
+
+pub overflow_add-result : goal.overflow_add-result
+overflow_add-result c =
+    let moves = c.moves_after-moved.ensures.small in
+    let orders = small_orders c.others_on-others.result c.made_on.result c.plus-ordered.result c.plus-ordered.ensures c.others_on-others.ensures.small c.made_on.ensures.small in
     omega (arith, ints)
 
 pub returns-clause-small : goal.returns-clause-small
 returns-clause-small c =
     let moves = c.moves_after-moved.ensures.small in
-    let ordered = c.sum-ordered.ensures.small in
+    let orders = small_orders c.others_on-others.result c.made_on.result c.plus-ordered.result c.plus-ordered.ensures c.others_on-others.ensures.small c.made_on.ensures.small in
     record { low = omega (arith, ints); high = omega (arith, ints); take_low = omega (arith, ints); take_high = omega (arith, ints); add_low = omega (arith, ints); add_high = omega (arith, ints) }

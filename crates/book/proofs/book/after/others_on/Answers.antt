@@ -1,20 +1,32 @@
-use Rattle.std.proofs.Common.{arith}
-use Rattle.std.proofs.lemmas.Int.{ints}
+use Rattle.std.proofs.Common.{◌+◌, ◌*◌, ap, arith}
 use Rattle.book.specs.After.{part_left}
 use Rattle.book.specs.Ledger.{Name, name_of}
-use Rattle.book.specs.Walk.{added_by_order, moved_by_order, taken_by_order}
-use Rattle.book.proofs.Walked.{total-step}
+use Rattle.book.specs.Walk.{added_by_order, moved_by_order, most_of_all, most_of_lines, taken_by_order}
+use Rattle.book.proofs.Numbers.{small-step, small-up}
+use Rattle.book.proofs.Walked.{sum-step}
 use Rattle.book.proofs.book.after.others_on.Goals as goal
+
+pub plus-sum-requires-clause-room : goal.plus-sum-requires-clause-room
+plus-sum-requires-clause-room c = small-up (most_of_lines * c.loop-entry.entry-index) (most_of_all + most_of_all) c.loop-entry.sum (let few = c.requires.few in omega arith) c.loop-entry.invariant.small
+
+pub plus-sum-requires-clause-more : goal.plus-sum-requires-clause-more
+plus-sum-requires-clause-more c = small-up most_of_lines most_of_all c.other_on.result (omega arith) c.other_on.ensures.small
 
 pub loop-entry-preserved : goal.loop-entry-preserved
 loop-entry-preserved c =
     let n : Name = name_of c.args.branch c.args.article in
-    let moved = total-step (part_left (moved_by_order n) c.args.command.now) c.args.orders.now c.loop-entry.entry-index c.entry-item.result c.loop-entry-test.true c.entry-item.is in
-    let takes = total-step (part_left (taken_by_order n) c.args.command.now) c.args.orders.now c.loop-entry.entry-index c.entry-item.result c.loop-entry-test.true c.entry-item.is in
-    let adds = total-step (part_left (added_by_order n) c.args.command.now) c.args.orders.now c.loop-entry.entry-index c.entry-item.result c.loop-entry-test.true c.entry-item.is in
+    let sum = c.loop-entry.sum in
+    let part = c.other_on.result in
+    let after = c.plus-sum.result in
+    let same = c.loop-entry.invariant in
+    let xs = c.args.orders.now in
+    let i = c.loop-entry.entry-index in
+    let x = c.entry-item.result in
+    let here = c.loop-entry-test.true in
+    let is = c.entry-item.is in
     record {
-      moved = omega (arith, ints);
-      takes = omega (arith, ints);
-      adds = omega (arith, ints);
-      small = record { low = omega (arith, ints); high = omega (arith, ints); take_low = omega (arith, ints); take_high = omega (arith, ints); add_low = omega (arith, ints); add_high = omega (arith, ints) };
+      moved = sum-step (part_left (moved_by_order n) c.args.command.now) xs i x here is sum.moved part.moved after.moved (ap (λ n. n.moved) c.plus-sum.ensures) same.moved c.other_on.ensures.moved;
+      takes = sum-step (part_left (taken_by_order n) c.args.command.now) xs i x here is sum.takes part.takes after.takes (ap (λ n. n.takes) c.plus-sum.ensures) same.takes c.other_on.ensures.takes;
+      adds = sum-step (part_left (added_by_order n) c.args.command.now) xs i x here is sum.adds part.adds after.adds (ap (λ n. n.adds) c.plus-sum.ensures) same.adds c.other_on.ensures.adds;
+      small = small-step (most_of_lines * i) most_of_lines (most_of_lines * (i + 1)) sum part after (omega arith) c.plus-sum.ensures same.small c.other_on.ensures.small;
     }

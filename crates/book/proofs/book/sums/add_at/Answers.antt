@@ -1,7 +1,6 @@
 use Rattle.std.proofs.Common.{◌+◌, ap, set, subst, sym}
 use Rattle.std.specs.List.{AllByRecursion as Each}
-use Rattle.book.specs.Sums.{nothing}
-use Rattle.book.specs.Walk.{IsSmall}
+use Rattle.book.specs.Walk.{nothing, IsSmall}
 use Rattle.book.proofs.SumsOnFields.{each-small-set}
 use Rattle.book.proofs.book.sums.add_at.Goals as goal
 

@@ -1,19 +1,31 @@
-use Rattle.std.proofs.Common.{arith}
-use Rattle.std.proofs.lemmas.Int.{ints}
+use Rattle.std.proofs.Common.{◌+◌, ◌*◌, ap, arith}
 use Rattle.book.specs.Ledger.{Name, name_of}
-use Rattle.book.specs.Walk.{added_by_order, moved_by_order, taken_by_order}
-use Rattle.book.proofs.Walked.{total-step}
+use Rattle.book.specs.Walk.{added_by_order, moved_by_order, most_of_all, most_of_lines, taken_by_order}
+use Rattle.book.proofs.Numbers.{small-step, small-up}
+use Rattle.book.proofs.Walked.{sum-step}
 use Rattle.book.proofs.book.walk.orders_on.Goals as goal
+
+pub plus-sum-requires-clause-room : goal.plus-sum-requires-clause-room
+plus-sum-requires-clause-room c = small-up (most_of_lines * c.loop-entry.entry-index) (most_of_all + most_of_all) c.loop-entry.sum (let few = c.requires.few in omega arith) c.loop-entry.invariant.small
+
+pub plus-sum-requires-clause-more : goal.plus-sum-requires-clause-more
+plus-sum-requires-clause-more c = small-up most_of_lines most_of_all c.order_on.result (omega arith) c.order_on.ensures.small
 
 pub loop-entry-preserved : goal.loop-entry-preserved
 loop-entry-preserved c =
     let n : Name = name_of c.args.branch c.args.article in
-    let moved = total-step (moved_by_order n) c.args.orders.now c.loop-entry.entry-index c.entry-item.result c.loop-entry-test.true c.entry-item.is in
-    let takes = total-step (taken_by_order n) c.args.orders.now c.loop-entry.entry-index c.entry-item.result c.loop-entry-test.true c.entry-item.is in
-    let adds = total-step (added_by_order n) c.args.orders.now c.loop-entry.entry-index c.entry-item.result c.loop-entry-test.true c.entry-item.is in
+    let sum = c.loop-entry.sum in
+    let part = c.order_on.result in
+    let after = c.plus-sum.result in
+    let same = c.loop-entry.invariant in
+    let xs = c.args.orders.now in
+    let i = c.loop-entry.entry-index in
+    let x = c.entry-item.result in
+    let here = c.loop-entry-test.true in
+    let is = c.entry-item.is in
     record {
-      moved = omega (arith, ints);
-      takes = omega (arith, ints);
-      adds = omega (arith, ints);
-      small = record { low = omega (arith, ints); high = omega (arith, ints); take_low = omega (arith, ints); take_high = omega (arith, ints); add_low = omega (arith, ints); add_high = omega (arith, ints) };
+      moved = sum-step (moved_by_order n) xs i x here is sum.moved part.moved after.moved (ap (λ n. n.moved) c.plus-sum.ensures) same.moved c.order_on.ensures.moved;
+      takes = sum-step (taken_by_order n) xs i x here is sum.takes part.takes after.takes (ap (λ n. n.takes) c.plus-sum.ensures) same.takes c.order_on.ensures.takes;
+      adds = sum-step (added_by_order n) xs i x here is sum.adds part.adds after.adds (ap (λ n. n.adds) c.plus-sum.ensures) same.adds c.order_on.ensures.adds;
+      small = small-step (most_of_lines * i) most_of_lines (most_of_lines * (i + 1)) sum part after (omega arith) c.plus-sum.ensures same.small c.order_on.ensures.small;
     }

@@ -1,10 +1,10 @@
 use Rattle.std.proofs.Common.{◌≡◌, ◌∙◌, ◌+◌, ◌≤◌, ℕ, Bool, List, ap, arith, length, map, refl, nat_eq, slice_index_or, subst, sym, take, true, false}
+use Rattle.std.proofs.lemmas.Simd.{map-map}
 use Rattle.std.proofs.lemmas.List.{get_or-replicate, length-set, take_all}
 use Rattle.std.specs.List.{IsDistinct, list_any}
 use Rattle.book.specs.declared.entries.KeptEntry.{KeptEntry}
 use Rattle.book.specs.Ledger.{Kept}
 use Rattle.book.specs.View.{kept_of}
-use Rattle.book.proofs.InRow.{keys_seen}
 use Rattle.book.proofs.Lists.{each-unmap}
 use Rattle.book.proofs.Places.{apart_next, marks_next, not_before}
 use Rattle.book.proofs.Sums.{each-map}
@@ -59,7 +59,7 @@ returns-then-not-is_free c = no (λ good.
     let long = ap (λ (bs : List Bool). length bs) same in
     let size = c.loop-entry.invariant.long in
     let off = subst (λ (x : KeptEntry). list_any (λ y. nat_eq (place y) (place x)) (take i kept) ≡ false) (sym c.entry-item.is)
-    (not_before place kept i e c.loop-entry-test.true (subst (IsDistinct nat_eq) (keys_seen (λ (k : Kept). k.place) kept_of kept) good.1)) in
+    (not_before place kept i e c.loop-entry-test.true (subst (IsDistinct nat_eq) (map-map (λ (k : Kept). k.place) kept_of kept) good.1)) in
     let free = ap (λ (bs : List Bool). slice_index_or bs e.place true) same ∙ c.loop-entry.invariant.marks e.place high ∙ off in
     true_not_false (c.is_free.ensures.1 (low, omega arith, free)) c.if-not-is_free.true)
 
@@ -69,5 +69,5 @@ returns c =
     let i = c.loop-entry.entry-index in
     yes (
       each-map (λ (k : Kept). (1 ≤ k.place) × (k.place ≤ length kept)) kept_of kept (each-end (λ e. (1 ≤ e.place) × (e.place ≤ length kept)) kept i c.loop-entry-test.false c.loop-entry.invariant.range),
-      subst (IsDistinct nat_eq) (sym (keys_seen (λ (k : Kept). k.place) kept_of kept)) (subst (λ (es : List KeptEntry). IsDistinct nat_eq (map place es)) (take_all i kept c.loop-entry-test.false) c.loop-entry.invariant.apart),
+      subst (IsDistinct nat_eq) (sym (map-map (λ (k : Kept). k.place) kept_of kept)) (subst (λ (es : List KeptEntry). IsDistinct nat_eq (map place es)) (take_all i kept c.loop-entry-test.false) c.loop-entry.invariant.apart),
     )

@@ -1,7 +1,7 @@
 use Rattle.std.proofs.Common.{arith}
 use Rattle.std.proofs.lemmas.Int.{ints}
-use Rattle.book.proofs.SumsOnFields.{same-numbers}
-use Rattle.book.proofs.book.sums.plus.Goals as goal
+use Rattle.book.proofs.Numbers.{same-numbers}
+use Rattle.book.proofs.book.walk.Numbers.plus.Goals as goal
 
 pub returns : goal.returns
 returns c = same-numbers _ _ (omega (arith, ints)) (omega (arith, ints)) (omega (arith, ints))
