@@ -46,9 +46,13 @@ falls cmp key test c (x ∷ []) k lt not sorted = omega arith
 falls cmp key test c (x ∷ y ∷ ys) zero lt not sorted = true≢false (ap is_lt (sym sorted.0.0) ∙ sym (c.same x y) ∙ sym (not x))
 falls cmp key test c (x ∷ y ∷ ys) (suc k) lt not sorted = falls cmp key test c (y ∷ ys) k (omega arith) (λ d. subst (λ j. false ≡ test (slice_index_or (y ∷ ys) k d) (slice_index_or (x ∷ y ∷ ys) j d)) (after k) (not d)) sorted.1
 
--- what a test of each two neighbours answers, of elements that are seen through a view
+-- what a test of each two neighbours answers
+pub neighbours : {X K : Type 0} (cmp : K → K → Ordering) → IsTotalOrder cmp → (key : X → K) (test : X → X → Bool) → ((x y : X) → test x y ≡ is_lt (cmp (key x) (key y))) → (xs : List X) (r : Bool) → IsAllAdjacentAnswer (λ x y b. b ≡ test x y) xs r
+    → IsTrue r ↔ IsStrictlySortedBy cmp (map key xs)
+neighbours cmp total key test same xs true all = yes (rises cmp key test (record { total = total; same = same }) xs all)
+neighbours cmp total key test same xs false (k, lt, not) = no (λ sorted. falls cmp key test (record { total = total; same = same }) xs k lt not sorted)
+
+-- the same, of elements that are seen through a view
 pub in_order : {X Y K : Type 0} (cmp : K → K → Ordering) → IsTotalOrder cmp → (key : Y → K) (view : X → Y) (test : X → X → Bool) → ((x y : X) → test x y ≡ is_lt (cmp (key (view x)) (key (view y))))
     → (xs : List X) (r : Bool) → IsAllAdjacentAnswer (λ x y b. b ≡ test x y) xs r → IsTrue r ↔ IsStrictlySortedBy cmp (map key (map view xs))
-in_order cmp total key view test same xs true all = yes (subst (IsStrictlySortedBy cmp) (sym (map-map key view xs)) (rises cmp (λ x. key (view x)) test (record { total = total; same = same }) xs all))
-in_order cmp total key view test same xs false (k, lt, not) = no (λ sorted.
-    falls cmp (λ x. key (view x)) test (record { total = total; same = same }) xs k lt not (subst (IsStrictlySortedBy cmp) (map-map key view xs) sorted))
+in_order cmp total key view test same xs r all = subst (λ ks. IsTrue r ↔ IsStrictlySortedBy cmp ks) (sym (map-map key view xs)) (neighbours cmp total (λ x. key (view x)) test same xs r all)

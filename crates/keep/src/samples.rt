@@ -181,83 +181,111 @@ pub(crate) fn kept<R: AllocGlobal>(rt: &R, reqkey: &str, words: &str) -> Result<
     })
 }
 
+fn new_fields<R: AllocGlobal>(rt: &R) -> Result<(FieldRow, FieldRow, FieldRow, FieldRow), Fail> {
+    let first = field(rt, "N2", "A-1", 40)?;
+    let second = field(rt, "N10", "A-1", 41)?;
+    let third = field(rt, "N1", "A-2", 42)?;
+    Ok((first, second, third, field(rt, "N1", "A-1", 43)?))
+}
+
+fn new_lines<R: AllocGlobal>(rt: &R) -> Result<(LineRow, LineRow, LineRow), Fail> {
+    let first = line(rt, 20, 1, 5)?;
+    let second = line(rt, 7, 2, 6)?;
+    Ok((first, second, line(rt, 7, 1, 7)?))
+}
+
+fn new_moves<R: AllocGlobal>(rt: &R) -> Result<(MoveRow, MoveRow), Fail> {
+    let first = delivery(rt, 11, 8)?;
+    Ok((first, delivery(rt, 9, -8)?))
+}
+
+fn new_keys<R: AllocGlobal>(rt: &R) -> Result<(KeptRow, KeptRow), Fail> {
+    let first = kept(rt, "K2", "commit 7")?;
+    Ok((first, kept(rt, "K10", "abort 7")?))
+}
+
+/// Commits new rows of all tables but `desk`, out of their order.
 fn commit_new_rows<R: Abort + AllocGlobal, K: Keep>(rt: &R, keep: &mut K) -> Result<(), Fail> {
+    let fields = new_fields(rt)?;
+    let lines = new_lines(rt)?;
+    let moves = new_moves(rt)?;
+    let keys = new_keys(rt)?;
     let changes = [
-        Change::Kept(kept(rt, "K2", "commit 7")?),
-        Change::Line(line(rt, 20, 1, 5)?),
+        Change::Kept(keys.0),
+        Change::Line(lines.0),
         Change::Order(order(20, 0)),
-        Change::Move(delivery(rt, 11, 8)?),
-        Change::Field(field(rt, "N2", "A-1", 40)?),
-        Change::Line(line(rt, 7, 2, 6)?),
+        Change::Move(moves.0),
+        Change::Field(fields.0),
+        Change::Line(lines.1),
         Change::Order(order(7, 0)),
-        Change::Field(field(rt, "N10", "A-1", 41)?),
-        Change::Line(line(rt, 7, 1, 7)?),
-        Change::Kept(kept(rt, "K10", "abort 7")?),
-        Change::Field(field(rt, "N1", "A-2", 42)?),
-        Change::Move(delivery(rt, 9, -8)?),
-        Change::Field(field(rt, "N1", "A-1", 43)?),
+        Change::Field(fields.1),
+        Change::Line(lines.2),
+        Change::Kept(keys.1),
+        Change::Field(fields.2),
+        Change::Move(moves.1),
+        Change::Field(fields.3),
     ];
     Ok(commit(keep, &changes)?)
 }
 
+/// Commits a row of each table, most of them in place of rows that are there.
 fn commit_more_rows<R: Abort + AllocGlobal, K: Keep>(rt: &R, keep: &mut K) -> Result<(), Fail> {
+    let field = field(rt, "N10", "A-1", 60)?;
+    let delivery = delivery(rt, 11, 15)?;
+    let line = line(rt, 7, 2, 16)?;
+    let kept = kept(rt, "K2", "abort 8")?;
+    let desk = DeskRow {
+        one: 1,
+        version: 1,
+        clock: 30,
+        places: 12,
+    };
     let changes = [
-        Change::Desk(DeskRow {
-            one: 1,
-            version: 1,
-            clock: 30,
-            places: 12,
-        }),
-        Change::Field(field(rt, "N10", "A-1", 60)?),
-        Change::Move(delivery(rt, 11, 15)?),
+        Change::Desk(desk),
+        Change::Field(field),
+        Change::Move(delivery),
         Change::Order(order(7, 2)),
-        Change::Line(line(rt, 7, 2, 16)?),
-        Change::Kept(kept(rt, "K2", "abort 8")?),
+        Change::Line(line),
+        Change::Kept(kept),
         Change::Order(order(12, 1)),
     ];
     Ok(commit(keep, &changes)?)
 }
 
-fn expect_new_rows<R: Abort + AllocGlobal, K: Keep>(rt: &R, keep: &mut K) -> Result<(), Fail> {
-    let rows = [
-        "desk 1 1 0 0",
-        "field N1 A-1 1 90 50 43 30 70",
-        "field N1 A-2 1 90 50 42 30 70",
-        "field N10 A-1 1 90 50 41 30 70",
-        "field N2 A-1 1 90 50 40 30 70",
-        "move 9 N1 A-1 -8",
-        "move 11 N1 A-1 8",
-        "orders 7 1 900 0",
-        "orders 20 1 900 0",
-        "line 7 1 N2 A-3 1 7 2",
-        "line 7 2 N2 A-3 1 6 2",
-        "line 20 1 N2 A-3 1 5 2",
-        "kept K10 4 abort 7",
-        "kept K2 4 commit 7",
-    ];
-    expect_rows(rt, keep, &rows)
-}
+const NEW_ROWS: [&str; 14] = [
+    "desk 1 1 0 0",
+    "field N1 A-1 1 90 50 43 30 70",
+    "field N1 A-2 1 90 50 42 30 70",
+    "field N10 A-1 1 90 50 41 30 70",
+    "field N2 A-1 1 90 50 40 30 70",
+    "move 9 N1 A-1 -8",
+    "move 11 N1 A-1 8",
+    "orders 7 1 900 0",
+    "orders 20 1 900 0",
+    "line 7 1 N2 A-3 1 7 2",
+    "line 7 2 N2 A-3 1 6 2",
+    "line 20 1 N2 A-3 1 5 2",
+    "kept K10 4 abort 7",
+    "kept K2 4 commit 7",
+];
 
-fn expect_more_rows<R: Abort + AllocGlobal, K: Keep>(rt: &R, keep: &mut K) -> Result<(), Fail> {
-    let rows = [
-        "desk 1 1 30 12",
-        "field N1 A-1 1 90 50 43 30 70",
-        "field N1 A-2 1 90 50 42 30 70",
-        "field N10 A-1 1 90 50 60 30 70",
-        "field N2 A-1 1 90 50 40 30 70",
-        "move 9 N1 A-1 -8",
-        "move 11 N1 A-1 15",
-        "orders 7 1 900 2",
-        "orders 12 1 900 1",
-        "orders 20 1 900 0",
-        "line 7 1 N2 A-3 1 7 2",
-        "line 7 2 N2 A-3 1 16 2",
-        "line 20 1 N2 A-3 1 5 2",
-        "kept K10 4 abort 7",
-        "kept K2 4 abort 8",
-    ];
-    expect_rows(rt, keep, &rows)
-}
+const MORE_ROWS: [&str; 15] = [
+    "desk 1 1 30 12",
+    "field N1 A-1 1 90 50 43 30 70",
+    "field N1 A-2 1 90 50 42 30 70",
+    "field N10 A-1 1 90 50 60 30 70",
+    "field N2 A-1 1 90 50 40 30 70",
+    "move 9 N1 A-1 -8",
+    "move 11 N1 A-1 15",
+    "orders 7 1 900 2",
+    "orders 12 1 900 1",
+    "orders 20 1 900 0",
+    "line 7 1 N2 A-3 1 7 2",
+    "line 7 2 N2 A-3 1 16 2",
+    "line 20 1 N2 A-3 1 5 2",
+    "kept K10 4 abort 7",
+    "kept K2 4 abort 8",
+];
 
 /// New rows come back in the order of their keys, and rows with keys that are there in place of the old ones.
 pub(crate) fn expect_rows_by_their_keys<R: Abort + AllocGlobal, K: Keep>(
@@ -265,9 +293,9 @@ pub(crate) fn expect_rows_by_their_keys<R: Abort + AllocGlobal, K: Keep>(
     keep: &mut K,
 ) -> Result<(), Fail> {
     commit_new_rows(rt, keep)?;
-    expect_new_rows(rt, keep)?;
+    expect_rows(rt, keep, &NEW_ROWS)?;
     commit_more_rows(rt, keep)?;
-    expect_more_rows(rt, keep)
+    expect_rows(rt, keep, &MORE_ROWS)
 }
 
 /// A keeper over the connection, which is in no transaction.

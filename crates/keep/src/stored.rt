@@ -36,12 +36,7 @@ fn read_all<R: Stored + Drop>(alloc: Global, answers: &[Row]) -> Result<Vec<R>, 
 fn are_in_order<R: TableRow>(rows: &[R]) -> bool
     ensures { IsTrue result ↔ IsStrictlySortedBy R.cmp rows.now }
 {
-    for i in 1..rows.len() {
-        if !rows[i - 1].compare(&rows[i]).is_lt() {
-            return false;
-        }
-    }
-    true
+    rows.is_sorted_by(|one, other| one.compare(other).is_lt())
 }
 
 /// The rows that the answers show, in the order of their keys. Rows out of order are an error.

@@ -53,38 +53,56 @@ fn rows_outlive_their_keeper(rt: HostRuntime) -> Result<(), Fail> {
 }
 
 /// Codes that have every byte of their alphabets, each as long as it may be or shorter.
+const CODES: [(&str, &str); 5] = [
+    ("ABCDEFGH", "A-BCDEFGHIJKLMNO"),
+    ("IJKLMNOP", "PQRSTUVWXYZ-0123"),
+    ("QRSTUVWX", "456789"),
+    ("YZ012345", "Z"),
+    ("6789", "Z-"),
+];
+
+const FIELDS: [&str; 6] = [
+    "desk 1 1 0 0",
+    "field 6789 Z- 1 90 50 43 30 70",
+    "field ABCDEFGH A-BCDEFGHIJKLMNO 1 90 50 43 30 70",
+    "field IJKLMNOP PQRSTUVWXYZ-0123 1 90 50 43 30 70",
+    "field QRSTUVWX 456789 1 90 50 43 30 70",
+    "field YZ012345 Z 1 90 50 43 30 70",
+];
+
 #[test]
-fn texts_come_back_byte_for_byte(rt: HostRuntime) -> Result<(), Fail> {
+fn codes_come_back_byte_for_byte(rt: HostRuntime) -> Result<(), Fail> {
     let mut keep = new_desk(&rt)?;
-    let changes = [
-        Change::Field(field(&rt, "ABCDEFGH", "A-BCDEFGHIJKLMNO", 1)?),
-        Change::Field(field(&rt, "IJKLMNOP", "PQRSTUVWXYZ-0123", 2)?),
-        Change::Field(field(&rt, "QRSTUVWX", "456789", 3)?),
-        Change::Field(field(&rt, "YZ012345", "Z", 4)?),
-        Change::Field(field(&rt, "6789", "Z-", 5)?),
-        Change::Kept(kept(
-            &rt,
-            "abcdefghijklmnopqrstuvwxyz-012345678",
-            "open 7 60 take N1 A-1 30",
-        )?),
-        Change::Kept(kept(
-            &rt,
-            "9ABCDEFGHIJKLMNOPQRSTUVWXYZ",
-            "transfer 8 90 A-1 N1 N2 5",
-        )?),
-    ];
-    commit(&mut keep, &changes)?;
-    let rows = [
-        "desk 1 1 0 0",
-        "field 6789 Z- 1 90 50 5 30 70",
-        "field ABCDEFGH A-BCDEFGHIJKLMNO 1 90 50 1 30 70",
-        "field IJKLMNOP PQRSTUVWXYZ-0123 1 90 50 2 30 70",
-        "field QRSTUVWX 456789 1 90 50 3 30 70",
-        "field YZ012345 Z 1 90 50 4 30 70",
-        "kept 9ABCDEFGHIJKLMNOPQRSTUVWXYZ 4 transfer 8 90 A-1 N1 N2 5",
-        "kept abcdefghijklmnopqrstuvwxyz-012345678 4 open 7 60 take N1 A-1 30",
-    ];
-    expect_rows(&rt, &mut keep, &rows)
+    for (branch, article) in CODES {
+        let row = field(&rt, branch, article, 43)?;
+        commit(&mut keep, &[Change::Field(row)])?;
+    }
+    expect_rows(&rt, &mut keep, &FIELDS)
+}
+
+/// Keys that have every byte of their alphabet, one as long as it may be.
+const KEYS: [(&str, &str); 2] = [
+    (
+        "abcdefghijklmnopqrstuvwxyz-012345678",
+        "open 7 60 take N1 A-1 30",
+    ),
+    ("9ABCDEFGHIJKLMNOPQRSTUVWXYZ", "transfer 8 90 A-1 N1 N2 5"),
+];
+
+const KEPT: [&str; 3] = [
+    "desk 1 1 0 0",
+    "kept 9ABCDEFGHIJKLMNOPQRSTUVWXYZ 4 transfer 8 90 A-1 N1 N2 5",
+    "kept abcdefghijklmnopqrstuvwxyz-012345678 4 open 7 60 take N1 A-1 30",
+];
+
+#[test]
+fn keys_come_back_byte_for_byte(rt: HostRuntime) -> Result<(), Fail> {
+    let mut keep = new_desk(&rt)?;
+    for (key, words) in KEYS {
+        let row = kept(&rt, key, words)?;
+        commit(&mut keep, &[Change::Kept(row)])?;
+    }
+    expect_rows(&rt, &mut keep, &KEPT)
 }
 
 /// A text that SQL would read as the end of a string and a statement is a text like any other.

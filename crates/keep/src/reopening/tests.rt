@@ -138,21 +138,30 @@ fn a_commit_is_whole_where_the_database_fails(rt: HostRuntime) -> Result<(), Fai
     Ok(())
 }
 
+type FileKeep = SqlKeep<FileStore<Memory>>;
+
 /// A keeper over the files of a new desk, after one commit.
-fn kept_over(alloc: Global) -> Result<SqlKeep<FileStore<Memory>>, Fail> {
+fn kept_over(alloc: Global) -> Result<FileKeep, Fail> {
     let conn = open(alloc, made(alloc)?).ok().ok_or("not opened")?;
-    if !conn.is_autocommit() {
-        Err("a transaction is open")?;
-    }
-    let mut keep = SqlKeep::over(conn);
+    let mut keep = keeper(conn)?;
     commit(&mut keep, &[Change::Order(order(4, 1))])?;
     Ok(keep)
+}
+
+/// What is reopened: the call without its clauses, so that a test's proof need not carry them.
+fn reopened(alloc: Global, keep: FileKeep) -> Option<FileKeep> {
+    reopen(alloc, keep, Options::new(2))
+}
+
+/// What is reopened and loaded, likewise.
+fn reloaded(alloc: Global, keep: FileKeep) -> Option<(FileKeep, Result<Tables, KeepFault>)> {
+    reopen_and_load(alloc, keep, Options::new(3))
 }
 
 #[test]
 fn a_cut_leaves_what_was_committed(rt: HostRuntime) -> Result<(), Fail> {
     let alloc = rt.alloc();
-    let again = reopen(alloc, kept_over(alloc)?, Options::new(2)).ok_or("not reopened")?;
+    let again = reopened(alloc, kept_over(alloc)?).ok_or("not reopened")?;
     assert!(rt; !again.is_stopped());
     let orders = orders_in(alloc, again.into_connection())?;
     assert_eq!(rt; orders.as_slice(), [(4i64, 1i64)].as_slice());
@@ -162,9 +171,7 @@ fn a_cut_leaves_what_was_committed(rt: HostRuntime) -> Result<(), Fail> {
 #[test]
 fn a_cut_leaves_what_is_loaded(rt: HostRuntime) -> Result<(), Fail> {
     let alloc = rt.alloc();
-    let (keep, loaded) = reopen_and_load(alloc, kept_over(alloc)?, Options::new(3)).ok_or(
-        "not reopened",
-    )?;
+    let (keep, loaded) = reloaded(alloc, kept_over(alloc)?).ok_or("not reopened")?;
     assert!(rt; !keep.is_stopped());
     let tables = loaded?;
     let orders = numbered(alloc, &tables)?;
@@ -172,9 +179,17 @@ fn a_cut_leaves_what_is_loaded(rt: HostRuntime) -> Result<(), Fail> {
     Ok(())
 }
 
+/// A connection to the file, which is made where it is not there.
+fn connected(
+    rt: &HostRuntime,
+    path: &str,
+) -> Result<Connection<FileStore<FileFrom<Unknown>>>, Fail> {
+    Ok(connection_of(open_path(rt, path, Unknown)?))
+}
+
 /// Makes a desk in a file that is not there, with one order.
 fn fill(rt: &HostRuntime, path: &str) -> Result<(), Fail> {
-    let mut conn = connection_of(open_path(rt, path, Unknown)?);
+    let mut conn = connected(rt, path)?;
     create(&mut conn)?;
     let mut keep = keeper(conn)?;
     commit(&mut keep, &[Change::Order(order(4, 1))])?;
@@ -186,7 +201,7 @@ fn a_file_is_opened_again(rt: HostRuntime) -> Result<(), Fail> {
     let _ = fs::remove_dir_all(&rt, "keep_test");
     fs::create_dir(&rt, "keep_test")?;
     fill(&rt, "keep_test/desk.db")?;
-    let conn = connection_of(open_path(&rt, "keep_test/desk.db", Unknown)?);
+    let conn = connected(&rt, "keep_test/desk.db")?;
     let orders = orders_in(rt.alloc(), conn)?;
     fs::remove_dir_all(&rt, "keep_test")?;
     assert_eq!(rt; orders.as_slice(), [(4i64, 1i64)].as_slice());
