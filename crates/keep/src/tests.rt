@@ -53,28 +53,28 @@ fn rows_outlive_their_keeper(rt: HostRuntime) -> Result<(), Fail> {
 }
 
 /// Codes that have every byte of their alphabets, each as long as it may be or shorter.
-const CODES: [(&str, &str); 5] = [
-    ("ABCDEFGH", "A-BCDEFGHIJKLMNO"),
-    ("IJKLMNOP", "PQRSTUVWXYZ-0123"),
-    ("QRSTUVWX", "456789"),
-    ("YZ012345", "Z"),
-    ("6789", "Z-"),
+const CODES: [(&str, &str, i64); 5] = [
+    ("ABCDEFGH", "A-BCDEFGHIJKLMNO", 1),
+    ("IJKLMNOP", "PQRSTUVWXYZ-0123", 2),
+    ("QRSTUVWX", "456789", 3),
+    ("YZ012345", "Z", 4),
+    ("6789", "Z-", 5),
 ];
 
 const FIELDS: [&str; 6] = [
     "desk 1 1 0 0",
-    "field 6789 Z- 1 90 50 43 30 70",
-    "field ABCDEFGH A-BCDEFGHIJKLMNO 1 90 50 43 30 70",
-    "field IJKLMNOP PQRSTUVWXYZ-0123 1 90 50 43 30 70",
-    "field QRSTUVWX 456789 1 90 50 43 30 70",
-    "field YZ012345 Z 1 90 50 43 30 70",
+    "field 6789 Z- 1 90 50 5 30 70",
+    "field ABCDEFGH A-BCDEFGHIJKLMNO 1 90 50 1 30 70",
+    "field IJKLMNOP PQRSTUVWXYZ-0123 1 90 50 2 30 70",
+    "field QRSTUVWX 456789 1 90 50 3 30 70",
+    "field YZ012345 Z 1 90 50 4 30 70",
 ];
 
 #[test]
 fn codes_come_back_byte_for_byte(rt: HostRuntime) -> Result<(), Fail> {
     let mut keep = new_desk(&rt)?;
-    for (branch, article) in CODES {
-        let row = field(&rt, branch, article, 43)?;
+    for (branch, article, value) in CODES {
+        let row = field(&rt, branch, article, value)?;
         commit(&mut keep, &[Change::Field(row)])?;
     }
     expect_rows(&rt, &mut keep, &FIELDS)
