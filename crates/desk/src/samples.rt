@@ -22,7 +22,11 @@ use words::{Item, Reply, Request, read_item, write_reply};
 pub(crate) type Row = (&'static str, &'static str);
 
 /// The long script.
-pub(crate) const LONG_SCRIPT: [Row; 29] = [
+pub(crate) fn long_script() -> &'static [Row] {
+    &LONG_SCRIPT
+}
+
+const LONG_SCRIPT: [Row; 29] = [
     ("K1 field N1 A-1 0 100 40", "K1 done 1"),
     (
         "? field N1 A-1",
@@ -82,7 +86,11 @@ pub(crate) const LONG_SCRIPT: [Row; 29] = [
 ];
 
 /// A transfer, which is used and committed.
-pub(crate) const TRANSFER: [Row; 13] = [
+pub(crate) fn transfer() -> &'static [Row] {
+    &TRANSFER
+}
+
+const TRANSFER: [Row; 13] = [
     ("T1 field N1 A-1 0 100 40", "T1 done 1"),
     ("T2 field N2 A-1 0 50 5", "T2 done 2"),
     ("T3 transfer 20 900 A-1 N1 N2 10", "T3 done 3"),
@@ -117,7 +125,11 @@ pub(crate) const TRANSFER: [Row; 13] = [
 ];
 
 /// An order that is used, released and aborted.
-pub(crate) const RELEASE_AND_ABORT: [Row; 19] = [
+pub(crate) fn release_and_abort() -> &'static [Row] {
+    &RELEASE_AND_ABORT
+}
+
+const RELEASE_AND_ABORT: [Row; 19] = [
     ("P1 field N1 A-1 0 100 40", "P1 done 1"),
     ("P2 field N1 B-2 0 10 0", "P2 done 2"),
     ("P3 open 5 300 take N1 A-1 10", "P3 done 3"),
@@ -306,6 +318,24 @@ fn show_order(out: &mut String, view: &OrderView<'_>) -> Result<(), Fail> {
     Ok(())
 }
 
+/// What the desk answers to a request, with its key; none where it is stopped.
+fn answer_request<R: AllocGlobal, K: Keep>(
+    rt: &R,
+    desk: &mut Desk<K>,
+    request: &Request,
+) -> Result<Option<String>, Fail> {
+    let reply = match call(rt.alloc(), desk, request) {
+        Ok(reply) => reply,
+        Err(CallFault::Stopped) => return Ok(None),
+        Err(fault) => Err(fault)?,
+    };
+    let mut out = String::new(rt.alloc());
+    let key = str::from_utf8(request.key.as_bytes())?;
+    write!(out, "{key} ")?;
+    show_reply(rt, &mut out, &reply)?;
+    Ok(Some(out))
+}
+
 /// What the desk answers to a line; none where it is stopped.
 fn answer<R: AllocGlobal, K: Keep>(
     rt: &R,
@@ -314,15 +344,7 @@ fn answer<R: AllocGlobal, K: Keep>(
 ) -> Result<Option<String>, Fail> {
     let mut out = String::new(rt.alloc());
     match &read_item(rt.alloc(), line.as_bytes())? {
-        Item::Request(request) => match call(rt.alloc(), desk, request) {
-            Ok(reply) => {
-                let key = str::from_utf8(request.key.as_bytes())?;
-                write!(out, "{key} ")?;
-                show_reply(rt, &mut out, &reply)?;
-            }
-            Err(CallFault::Stopped) => return Ok(None),
-            Err(fault) => Err(fault)?,
-        },
+        Item::Request(request) => return answer_request(rt, desk, request),
         Item::AskField(branch, article) => match desk.field(*branch, *article) {
             Some(view) => show_field(&mut out, view)?,
             None => out.push_str("? none")?,

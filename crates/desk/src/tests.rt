@@ -1,11 +1,11 @@
 use crate::samples::{
-    LONG_SCRIPT, RELEASE_AND_ABORT, Row, TRANSFER, answer_script, answer_stream, call, commit,
-    connection_of, keeper, load, open, opened, play, play_from, request, run, sql_keeper,
+    Row, answer_script, answer_stream, call, commit, connection_of, keeper, load, long_script,
+    open, opened, play, play_from, release_and_abort, request, run, sql_keeper, transfer,
 };
 use crate::{CallFault, Desk, Ending, OpenFault, ScriptFault};
 use book::{Change, FieldRow, Tables};
 use keep::{Keep, PlainKeep};
-use sqlite::Connection;
+use sqlite::{Connection, MemStore};
 use std::io;
 use std::io::{Read, Write};
 use std::process::Abort;
@@ -19,27 +19,31 @@ fn plain_keeper<R: AllocGlobal>(rt: &R) -> PlainKeep {
 
 #[test]
 fn sql_answers_the_long_script(rt: HostRuntime) -> Result<(), Fail> {
-    play(&rt, &mut opened(&rt, sql_keeper(&rt)?)?, &LONG_SCRIPT)
+    play(&rt, &mut opened(&rt, sql_keeper(&rt)?)?, long_script())
 }
 
 #[test]
 fn sql_answers_a_transfer(rt: HostRuntime) -> Result<(), Fail> {
-    play(&rt, &mut opened(&rt, sql_keeper(&rt)?)?, &TRANSFER)
+    play(&rt, &mut opened(&rt, sql_keeper(&rt)?)?, transfer())
 }
 
 #[test]
 fn sql_answers_release_and_abort(rt: HostRuntime) -> Result<(), Fail> {
-    play(&rt, &mut opened(&rt, sql_keeper(&rt)?)?, &RELEASE_AND_ABORT)
+    play(
+        &rt,
+        &mut opened(&rt, sql_keeper(&rt)?)?,
+        release_and_abort(),
+    )
 }
 
 #[test]
 fn plain_answers_the_same(rt: HostRuntime) -> Result<(), Fail> {
-    play(&rt, &mut opened(&rt, plain_keeper(&rt))?, &LONG_SCRIPT)?;
-    play(&rt, &mut opened(&rt, plain_keeper(&rt))?, &TRANSFER)?;
+    play(&rt, &mut opened(&rt, plain_keeper(&rt))?, long_script())?;
+    play(&rt, &mut opened(&rt, plain_keeper(&rt))?, transfer())?;
     play(
         &rt,
         &mut opened(&rt, plain_keeper(&rt))?,
-        &RELEASE_AND_ABORT,
+        release_and_abort(),
     )
 }
 
@@ -67,7 +71,7 @@ fn play_plain_reopened<R: Abort + AllocGlobal>(rt: &R, rows: &[Row]) -> Result<(
 
 #[test]
 fn a_reopening_changes_no_answer(rt: HostRuntime) -> Result<(), Fail> {
-    for rows in [LONG_SCRIPT.as_slice(), &TRANSFER, &RELEASE_AND_ABORT] {
+    for rows in [long_script(), transfer(), release_and_abort()] {
         play_sql_reopened(&rt, rows)?;
         play_plain_reopened(&rt, rows)?;
     }
@@ -113,92 +117,131 @@ fn expect_after<R: Abort + AllocGlobal, K: Keep>(
     Ok(())
 }
 
-/// A session in which that commit fails: the desk answers no more. What a reopening finds has that request exactly
-/// where its changes landed, and the session goes on with the request that was cut.
+/// The desk is stopped, and answers no request.
+fn expect_stopped<R: Abort + AllocGlobal, K: Keep>(
+    rt: &R,
+    desk: &mut Desk<K>,
+    line: &str,
+) -> Result<(), Fail> {
+    assert!(rt; desk.is_stopped());
+    let repeat = request(rt, line)?;
+    assert_eq!(rt; call(rt.alloc(), desk, &repeat), Err(CallFault::Stopped));
+    Ok(())
+}
+
+/// A session in which that commit fails, so that the desk answers no more: the index of the request that was cut, and
+/// the keeper.
+fn cut_session<R: Abort + AllocGlobal>(
+    rt: &R,
+    fail_at: u64,
+    lands: bool,
+    rows: &[Row],
+) -> Result<(usize, PlainKeep), Fail> {
+    let mut desk = opened(rt, PlainKeep::start(rt.alloc(), Some(fail_at), lands))?;
+    let cut = play_from(rt, &mut desk, rows, 0)?;
+    assert!(rt; cut < rows.len());
+    expect_stopped(rt, &mut desk, rows[0].0)?;
+    Ok((cut, desk.into_keep()))
+}
+
+/// A session in which that commit fails. What a reopening finds has the request that was cut exactly where its changes
+/// landed, and the session goes on with it.
 fn expect_resumed<R: Abort + AllocGlobal>(
     rt: &R,
     fail_at: u64,
     lands: bool,
     rows: &[Row],
 ) -> Result<(), Fail> {
-    let mut desk = opened(rt, PlainKeep::start(rt.alloc(), Some(fail_at), lands))?;
-    let cut = play_from(rt, &mut desk, rows, 0)?;
-    assert!(rt; cut < rows.len());
-    assert!(rt; desk.is_stopped());
-    let repeat = request(rt, rows[0].0)?;
-    assert_eq!(rt;
-        call(rt.alloc(), &mut desk, &repeat),
-        Err(CallFault::Stopped)
-    );
-    let mut again = opened(rt, desk.into_keep().reopen(None, false))?;
-    match if lands {
+    let (cut, keep) = cut_session(rt, fail_at, lands, rows)?;
+    let last = if lands {
         Some(cut)
     } else {
         last_done(rows, cut)
-    } {
-        Some(index) => expect_after(rt, &mut again, rows, index)?,
-        None => assert_eq!(rt; again.book().field_count(), 0),
+    };
+    let mut desk = opened(rt, keep.reopen(None, false))?;
+    match last {
+        Some(index) => expect_after(rt, &mut desk, rows, index)?,
+        None => assert_eq!(rt; desk.book().field_count(), 0),
     }
-    assert_eq!(rt; play_from(rt, &mut again, rows, cut)?, rows.len());
+    assert_eq!(rt; play_from(rt, &mut desk, rows, cut)?, rows.len());
     Ok(())
 }
 
 #[test]
 fn a_session_goes_on_after_any_failing_commit(rt: HostRuntime) -> Result<(), Fail> {
     for fail_at in 1..8 {
-        expect_resumed(&rt, fail_at, false, &LONG_SCRIPT)?;
-        expect_resumed(&rt, fail_at, true, &LONG_SCRIPT)?;
+        expect_resumed(&rt, fail_at, false, long_script())?;
+        expect_resumed(&rt, fail_at, true, long_script())?;
     }
     Ok(())
+}
+
+/// The desk's one field has this value and this infimum.
+fn expect_field<R: Abort, K: Keep>(
+    rt: &R,
+    desk: &Desk<K>,
+    value: u64,
+    inf: u64,
+) -> Result<(), Fail> {
+    let view = desk.book().field_at(0).ok_or("a field")?;
+    assert_eq!(rt; (view.value.get(), view.inf.get()), (value, inf));
+    assert_eq!(rt; desk.field(view.branch, view.article), Some(view));
+    Ok(())
+}
+
+/// The keeper, over which a desk is not opened by this fault.
+fn refused<R: Abort + AllocGlobal, K: Keep + Drop>(
+    rt: &R,
+    keep: K,
+    want: OpenFault,
+) -> Result<K, Fail> {
+    match open(rt.alloc(), keep) {
+        Ok(_) => Err("opened")?,
+        Err((fault, keep)) => {
+            assert_eq!(rt; fault, want);
+            Ok(keep)
+        }
+    }
 }
 
 #[test]
 fn a_stopped_keeper_opens_no_desk(rt: HostRuntime) -> Result<(), Fail> {
     let mut desk = opened(&rt, PlainKeep::start(rt.alloc(), Some(2), true))?;
-    let first = request(&rt, "K1 field N1 A-1 0 100 40")?;
-    let second = request(&rt, "K2 deliver N1 A-1 5")?;
-    assert_eq!(rt; call(rt.alloc(), &mut desk, &first), Ok(Reply::Done(1)));
-    assert_eq!(rt;
-        call(rt.alloc(), &mut desk, &second),
-        Err(CallFault::Stopped)
-    );
-    let view = desk.book().field_at(0).ok_or("a field")?;
-    assert_eq!(rt; view.value.get(), 40);
-    assert_eq!(rt; desk.field(view.branch, view.article), Some(view));
-    let Err((fault, keep)) = open(rt.alloc(), desk.into_keep()) else {
-        return Err(Fail::from("opened"));
-    };
-    assert_eq!(rt; fault, OpenFault::Store);
+    let rows = [
+        ("K1 field N1 A-1 0 100 40", "K1 done 1"),
+        ("K2 deliver N1 A-1 5", ""),
+    ];
+    assert_eq!(rt; play_from(&rt, &mut desk, &rows, 0)?, 1);
+    expect_field(&rt, &desk, 40, 40)?;
+    let keep = refused(&rt, desk.into_keep(), OpenFault::Store)?;
+    assert!(rt; keep.is_stopped());
+    Ok(())
+}
+
+/// No desk is opened over the connection by this fault, and its keeper is stopped; then none by a store that fails.
+fn expect_no_desk<R: Abort + AllocGlobal>(
+    rt: &R,
+    conn: Connection<MemStore>,
+    want: OpenFault,
+) -> Result<(), Fail> {
+    let keep = refused(rt, keeper(conn)?, want)?;
+    assert!(rt; keep.is_stopped());
+    let keep = refused(rt, keep, OpenFault::Store)?;
     assert!(rt; keep.is_stopped());
     Ok(())
 }
 
 #[test]
 fn a_store_without_tables_opens_no_desk(rt: HostRuntime) -> Result<(), Fail> {
-    let keep = keeper(Connection::open_in_memory(rt.alloc())?)?;
-    let Err((fault, keep)) = open(rt.alloc(), keep) else {
-        return Err(Fail::from("opened"));
-    };
-    assert_eq!(rt; fault, OpenFault::NotADesk);
-    assert!(rt; keep.is_stopped());
-    let Err((fault, keep)) = open(rt.alloc(), keep) else {
-        return Err(Fail::from("opened"));
-    };
-    assert_eq!(rt; fault, OpenFault::Store);
-    assert!(rt; keep.is_stopped());
-    Ok(())
+    let conn = Connection::open_in_memory(rt.alloc())?;
+    expect_no_desk(&rt, conn, OpenFault::NotADesk)
 }
 
 #[test]
 fn a_store_with_one_table_more_is_a_store_fault(rt: HostRuntime) -> Result<(), Fail> {
     let mut conn = connection_of(opened(&rt, sql_keeper(&rt)?)?);
     conn.execute("CREATE TABLE more (x INTEGER)", &[])?;
-    let Err((fault, keep)) = open(rt.alloc(), keeper(conn)?) else {
-        return Err(Fail::from("opened"));
-    };
-    assert_eq!(rt; fault, OpenFault::Store);
-    assert!(rt; keep.is_stopped());
-    Ok(())
+    expect_no_desk(&rt, conn, OpenFault::Store)
 }
 
 /// The row of the field after the first request of the long script, but for its infimum.
@@ -215,52 +258,76 @@ fn field_row<R: AllocGlobal>(rt: &R, inf: i64) -> Result<FieldRow, Fail> {
     })
 }
 
+/// The rows are those after the first request of the long script, but for the infimum of the field.
+fn expect_field_row<R: Abort>(rt: &R, row: &FieldRow, inf: i64) {
+    assert_eq!(rt; (row.branch.as_str(), row.article.as_str()), ("N1", "A-1"));
+    assert_eq!(rt; (row.lo, row.hi, row.start), (0, 100, 40));
+    assert_eq!(rt; (row.value, row.inf, row.sup), (40, inf, 40));
+}
+
 /// The tables are those after the first request of the long script, but for the infimum of the field.
 fn expect_rows<R: Abort + AllocGlobal>(rt: &R, tables: &Tables, inf: i64) -> Result<(), Fail> {
     let [field] = tables.fields.as_slice() else {
         return Err(Fail::from("one field"));
     };
+    expect_field_row(rt, field, inf);
     let [kept] = tables.kept.as_slice() else {
         return Err(Fail::from("one kept key"));
     };
+    assert_eq!(rt; (kept.reqkey.as_str(), kept.place), ("K1", 1));
+    assert_eq!(rt; kept.words.as_str(), "field N1 A-1 0 100 40");
     let desk = &tables.desk;
     assert_eq!(rt;
         (desk.one, desk.version, desk.clock, desk.places),
         (1, 1, 0, 1)
     );
-    assert_eq!(rt;
-        (field.branch.as_str(), field.article.as_str()),
-        ("N1", "A-1")
-    );
-    assert_eq!(rt; (field.lo, field.hi, field.start), (0, 100, 40));
-    assert_eq!(rt; (field.value, field.inf, field.sup), (40, inf, 40));
-    assert_eq!(rt; (kept.reqkey.as_str(), kept.place), ("K1", 1));
-    assert_eq!(rt; kept.words.as_str(), "field N1 A-1 0 100 40");
     assert!(rt; tables.moves.as_slice().is_empty());
     assert!(rt; tables.orders.as_slice().is_empty());
     assert!(rt; tables.lines.as_slice().is_empty());
     Ok(())
 }
 
-/// A desk is damaged by one number of one row, and the rows stay as they are; with the number mended it opens.
-fn expect_damaged<R: Abort + AllocGlobal, K: Keep + Drop>(rt: &R, keep: K) -> Result<(), Fail> {
+/// The keeper after the first request of the long script.
+fn after_first<R: Abort + AllocGlobal, K: Keep + Drop>(rt: &R, keep: K) -> Result<K, Fail> {
     let mut desk = opened(rt, keep)?;
-    play(rt, &mut desk, &LONG_SCRIPT[..1])?;
-    let mut keep = desk.into_keep();
-    commit(&mut keep, &[Change::Field(field_row(rt, 41)?)])?;
-    let Err((fault, mut keep)) = open(rt.alloc(), keep) else {
-        return Err(Fail::from("opened"));
-    };
-    assert_eq!(rt; fault, OpenFault::Damaged);
+    let first = long_script().first().ok_or("rows")?;
+    play(rt, &mut desk, &[*first])?;
+    Ok(desk.into_keep())
+}
+
+/// Writes this infimum into the row of the field.
+fn put_infimum<R: AllocGlobal, K: Keep>(rt: &R, keep: &mut K, inf: i64) -> Result<(), Fail> {
+    commit(keep, &[Change::Field(field_row(rt, inf)?)])?;
+    Ok(())
+}
+
+/// What the keeper loads are the rows after the first request, but for the infimum of the field.
+fn expect_loaded<R: Abort + AllocGlobal, K: Keep>(
+    rt: &R,
+    keep: &mut K,
+    inf: i64,
+) -> Result<(), Fail> {
+    expect_rows(rt, &load(rt.alloc(), keep)?, inf)
+}
+
+/// A desk is damaged by one number of one row: it is not opened, and the rows stay as they are.
+fn damaged<R: Abort + AllocGlobal, K: Keep + Drop>(rt: &R, keep: K) -> Result<K, Fail> {
+    let mut keep = after_first(rt, keep)?;
+    put_infimum(rt, &mut keep, 41)?;
+    let mut keep = refused(rt, keep, OpenFault::Damaged)?;
     assert!(rt; !keep.is_stopped());
-    expect_rows(rt, &load(rt.alloc(), &mut keep)?, 41)?;
-    commit(&mut keep, &[Change::Field(field_row(rt, 40)?)])?;
-    expect_rows(rt, &load(rt.alloc(), &mut keep)?, 40)?;
-    let mut desk = opened(rt, keep)?;
-    assert_eq!(rt;
-        play_from(rt, &mut desk, &LONG_SCRIPT, 1)?,
-        LONG_SCRIPT.len()
-    );
+    expect_loaded(rt, &mut keep, 41)?;
+    Ok(keep)
+}
+
+/// With the number of a damaged desk mended it opens, and goes on.
+fn expect_damaged<R: Abort + AllocGlobal, K: Keep + Drop>(rt: &R, keep: K) -> Result<(), Fail> {
+    let mut keep = damaged(rt, keep)?;
+    put_infimum(rt, &mut keep, 40)?;
+    expect_loaded(rt, &mut keep, 40)?;
+    let rows = long_script();
+    let end = play_from(rt, &mut opened(rt, keep)?, rows, 1)?;
+    assert_eq!(rt; end, rows.len());
     Ok(())
 }
 
@@ -270,41 +337,57 @@ fn a_damaged_desk_is_not_opened(rt: HostRuntime) -> Result<(), Fail> {
     expect_damaged(&rt, plain_keeper(&rt))
 }
 
-/// Three orders under keys of their own, each of 10 pieces.
-fn orders<R: AllocGlobal>(rt: &R) -> Result<Vec<Request>, Fail> {
+/// The requests of these lines.
+fn requests<R: AllocGlobal>(rt: &R, lines: &[&str]) -> Result<Vec<Request>, Fail> {
     let mut requests = Vec::new(rt.alloc());
-    for line in [
-        "F1 open 31 500 take N1 A-1 10",
-        "F2 open 32 500 take N1 A-1 10",
-        "F3 open 33 500 take N1 A-1 10",
-    ] {
+    for line in lines {
         requests.push(request(rt, line)?)?;
     }
     Ok(requests)
 }
 
-/// A run whose second commit fails: what is answered, and what a reopening finds.
+/// A run of these requests ends like this, with these replies.
+fn expect_run<R: Abort + AllocGlobal, K: Keep>(
+    rt: &R,
+    desk: &mut Desk<K>,
+    requests: &[Request],
+    ending: Ending,
+    replies: &[Reply],
+) {
+    let done = run(rt.alloc(), desk, requests);
+    assert_eq!(rt; done.ending, ending);
+    assert!(rt; done.replies.as_slice() == replies);
+}
+
+/// Three orders under keys of their own, each of 10 pieces.
+const ORDERS: [&str; 3] = [
+    "F1 open 31 500 take N1 A-1 10",
+    "F2 open 32 500 take N1 A-1 10",
+    "F3 open 33 500 take N1 A-1 10",
+];
+
+/// The keeper after a run whose second commit fails, and one that is stopped from its beginning.
+fn cut_run<R: Abort + AllocGlobal>(
+    rt: &R,
+    orders: &[Request],
+    lands: bool,
+) -> Result<PlainKeep, Fail> {
+    let keep = after_first(rt, plain_keeper(rt))?;
+    let mut desk = opened(rt, keep.reopen(Some(2), lands))?;
+    expect_run(rt, &mut desk, orders, Ending::Stopped, &[Reply::Done(2)]);
+    expect_run(rt, &mut desk, orders, Ending::Stopped, &[]);
+    Ok(desk.into_keep())
+}
+
+/// A run whose second commit fails: the infimum that a reopening finds, and the same run again.
 fn expect_cut_run<R: Abort + AllocGlobal>(rt: &R, lands: bool, inf: u64) -> Result<(), Fail> {
-    let requests = orders(rt)?;
-    let mut desk = opened(rt, plain_keeper(rt))?;
-    play(rt, &mut desk, &LONG_SCRIPT[..1])?;
-    let mut desk = opened(rt, desk.into_keep().reopen(Some(2), lands))?;
-    let done = run(rt.alloc(), &mut desk, &requests);
-    assert_eq!(rt; done.ending, Ending::Stopped);
-    assert!(rt; done.replies.as_slice() == [Reply::Done(2)].as_slice());
-    let done = run(rt.alloc(), &mut desk, &requests);
-    assert_eq!(rt; done.ending, Ending::Stopped);
-    assert!(rt; done.replies.is_empty());
-    let mut desk = opened(rt, desk.into_keep().reopen(None, false))?;
-    let view = desk.book().field_at(0).ok_or("a field")?;
-    assert_eq!(rt; view.inf.get(), inf);
-    let done = run(rt.alloc(), &mut desk, &requests);
-    assert_eq!(rt; done.ending, Ending::All);
-    let places = [Reply::Done(2), Reply::Done(3), Reply::Done(4)];
-    assert!(rt; done.replies.as_slice() == places.as_slice());
-    let view = desk.book().field_at(0).ok_or("a field")?;
-    assert_eq!(rt; view.inf.get(), 10);
-    Ok(())
+    let orders = requests(rt, &ORDERS)?;
+    let keep = cut_run(rt, &orders, lands)?;
+    let mut desk = opened(rt, keep.reopen(None, false))?;
+    expect_field(rt, &desk, 40, inf)?;
+    let replies = [Reply::Done(2), Reply::Done(3), Reply::Done(4)];
+    expect_run(rt, &mut desk, &orders, Ending::All, &replies);
+    expect_field(rt, &desk, 40, 10)
 }
 
 #[test]
@@ -315,25 +398,21 @@ fn a_run_ends_where_a_commit_fails(rt: HostRuntime) -> Result<(), Fail> {
 
 #[test]
 fn a_refusal_ends_no_run(rt: HostRuntime) -> Result<(), Fail> {
-    let mut requests = Vec::new(rt.alloc());
-    for line in [
+    let lines = [
         "K1 field N1 A-1 0 100 40",
         "K2 deliver N1 A-1 61",
         "K3 deliver N1 A-1 60",
         "K1 field N1 A-1 0 100 40",
-    ] {
-        requests.push(request(&rt, line)?)?;
-    }
-    let mut desk = opened(&rt, sql_keeper(&rt)?)?;
-    let done = run(rt.alloc(), &mut desk, &requests);
-    assert_eq!(rt; done.ending, Ending::All);
+    ];
     let replies = [
         Reply::Done(1),
         Reply::Refused(Refusal::TooMuch, 0),
         Reply::Done(2),
         Reply::Done(1),
     ];
-    assert!(rt; done.replies.as_slice() == replies.as_slice());
+    let requests = requests(&rt, &lines)?;
+    let mut desk = opened(&rt, sql_keeper(&rt)?)?;
+    expect_run(&rt, &mut desk, &requests, Ending::All, &replies);
     Ok(())
 }
 
@@ -350,7 +429,7 @@ fn texts<R: AllocGlobal>(rt: &R, rows: &[Row]) -> Result<(String, String), Fail>
 
 #[test]
 fn a_script_is_answered(rt: HostRuntime) -> Result<(), Fail> {
-    for rows in [LONG_SCRIPT.as_slice(), &TRANSFER, &RELEASE_AND_ABORT] {
+    for rows in [long_script(), transfer(), release_and_abort()] {
         let (text, replies) = texts(&rt, rows)?;
         let mut desk = opened(&rt, sql_keeper(&rt)?)?;
         let mut out: Vec<u8> = Vec::new(rt.alloc());
@@ -364,27 +443,37 @@ fn a_script_is_answered(rt: HostRuntime) -> Result<(), Fail> {
     Ok(())
 }
 
-/// A script in which that commit fails: every line before that request is answered, and nothing else. A further script is
-/// answered up to its first request.
+/// A further script on a stopped desk is answered up to its first request.
+fn expect_no_more<R: Abort + AllocGlobal, K: Keep>(rt: &R, desk: &mut Desk<K>) -> Result<(), Fail> {
+    assert!(rt; desk.is_stopped());
+    let mut out: Vec<u8> = Vec::new(rt.alloc());
+    let text = b"? order 99\nK1 field N1 A-1 0 100 40\n? order 99\n".as_slice();
+    let ended = answer_script(rt.alloc(), text, &mut out, desk);
+    assert_eq!(rt; ended, Err(ScriptFault::Stopped));
+    assert!(rt; out.as_slice() == b"? none\n".as_slice());
+    Ok(())
+}
+
+/// What is written of the long script where that commit fails.
+fn cut_script<R: Abort + AllocGlobal>(rt: &R, fail_at: u64, lands: bool) -> Result<Vec<u8>, Fail> {
+    let (text, _) = texts(rt, long_script())?;
+    let mut desk = opened(rt, PlainKeep::start(rt.alloc(), Some(fail_at), lands))?;
+    let mut out: Vec<u8> = Vec::new(rt.alloc());
+    let ended = answer_script(rt.alloc(), text.as_bytes(), &mut out, &mut desk);
+    assert_eq!(rt; ended, Err(ScriptFault::Stopped));
+    expect_no_more(rt, &mut desk)?;
+    Ok(out)
+}
+
+/// A script in which that commit fails: every line before that request is answered, and nothing else.
 fn expect_cut_script<R: Abort + AllocGlobal>(
     rt: &R,
     fail_at: u64,
     lands: bool,
 ) -> Result<(), Fail> {
-    let (text, _) = texts(rt, &LONG_SCRIPT)?;
-    let mut desk = opened(rt, PlainKeep::start(rt.alloc(), Some(fail_at), lands))?;
-    let mut out: Vec<u8> = Vec::new(rt.alloc());
-    let ended = answer_script(rt.alloc(), text.as_bytes(), &mut out, &mut desk);
-    assert_eq!(rt; ended, Err(ScriptFault::Stopped));
-    assert!(rt; desk.is_stopped());
-    let mut more: Vec<u8> = Vec::new(rt.alloc());
-    let text = b"? order 99\nK1 field N1 A-1 0 100 40\n? order 99\n".as_slice();
-    let ended = answer_script(rt.alloc(), text, &mut more, &mut desk);
-    assert_eq!(rt; ended, Err(ScriptFault::Stopped));
-    assert!(rt; more.as_slice() == b"? none\n".as_slice());
-    let mut desk = opened(rt, PlainKeep::start(rt.alloc(), Some(fail_at), lands))?;
-    let cut = play_from(rt, &mut desk, &LONG_SCRIPT, 0)?;
-    let (_, replies) = texts(rt, LONG_SCRIPT.get(..cut).ok_or("rows")?)?;
+    let out = cut_script(rt, fail_at, lands)?;
+    let (cut, _) = cut_session(rt, fail_at, lands, long_script())?;
+    let (_, replies) = texts(rt, long_script().get(..cut).ok_or("rows")?)?;
     assert!(rt; out.as_slice() == replies.as_bytes());
     Ok(())
 }

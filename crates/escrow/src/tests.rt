@@ -37,30 +37,34 @@ fn shows<R: Abort>(rt: &R, stock: &Quantity, value: u64, inf: u64, sup: u64) {
 }
 
 #[test]
-fn codes_are_read_by_their_form(rt: HostRuntime) -> Result<(), Fail> {
+fn branches_are_read_by_their_form(rt: HostRuntime) -> Result<(), Fail> {
     for text in ["N", "N1", "0", "ABCDEFG8"] {
-        assert!(rt;
-            Branch::read(text.as_bytes())?.as_bytes() == text.as_bytes(),
-            "{text}"
-        );
+        let branch = Branch::read(text.as_bytes())?;
+        assert!(rt; branch.as_bytes() == text.as_bytes(), "{text}");
     }
     for text in ["", "n1", "N 1", "N-1", "ABCDEFGH9", "Ä"] {
         assert!(rt; Branch::read(text.as_bytes()) == Err(BadCode), "{text}");
     }
+    Ok(())
+}
+
+#[test]
+fn articles_are_read_by_their_form(rt: HostRuntime) -> Result<(), Fail> {
     for text in ["A", "A-1", "1-", "ABCDEFGHIJKLMNO6"] {
-        assert!(rt;
-            Article::read(text.as_bytes())?.as_bytes() == text.as_bytes(),
-            "{text}"
-        );
+        let article = Article::read(text.as_bytes())?;
+        assert!(rt; article.as_bytes() == text.as_bytes(), "{text}");
     }
     for text in ["", "-A", "a-1", "A_1", "ABCDEFGHIJKLMNOP7"] {
         assert!(rt; Article::read(text.as_bytes()) == Err(BadCode), "{text}");
     }
+    Ok(())
+}
+
+#[test]
+fn keys_are_read_by_their_form(rt: HostRuntime) -> Result<(), Fail> {
     for text in ["K1", "-", "a-Z", "0123456789ABCDEFabcdef-0123456789ABC"] {
-        assert!(rt;
-            Key::read(text.as_bytes())?.as_bytes() == text.as_bytes(),
-            "{text}"
-        );
+        let key = Key::read(text.as_bytes())?;
+        assert!(rt; key.as_bytes() == text.as_bytes(), "{text}");
     }
     for text in [
         "",
@@ -123,27 +127,51 @@ fn numbers_are_in_their_ranges(rt: HostRuntime) {
     }
 }
 
+/// A request, to be held or to be done at once; what is answered; then the value, the infimum and the supremum.
+type Row = (When, Way, u64, Result<(), Bound>, u64, u64, u64);
+
+#[derive(Clone, Copy)]
+enum When {
+    Held,
+    AtOnce,
+}
+
+const REQUESTS: [Row; 9] = [
+    (When::Held, Way::Take, 35, Ok(()), 40, 5, 40),
+    (When::Held, Way::Take, 6, Err(Bound::TooLittle), 40, 5, 40),
+    (When::Held, Way::Take, 5, Ok(()), 40, 0, 40),
+    (When::AtOnce, Way::Add, 60, Ok(()), 100, 60, 100),
+    (When::AtOnce, Way::Add, 1, Err(Bound::TooMuch), 100, 60, 100),
+    (When::Held, Way::Add, 1, Err(Bound::TooMuch), 100, 60, 100),
+    (
+        When::AtOnce,
+        Way::Take,
+        61,
+        Err(Bound::TooLittle),
+        100,
+        60,
+        100,
+    ),
+    (When::AtOnce, Way::Take, 60, Ok(()), 40, 0, 40),
+    (When::Held, Way::Add, 60, Ok(()), 40, 0, 100),
+];
+
+fn request(stock: &mut Quantity, when: When, way: Way, qty: Qty) -> Result<(), Bound> {
+    match when {
+        When::Held => stock.ask(way, qty),
+        When::AtOnce => stock.at_once(way, qty),
+    }
+}
+
 #[test]
 fn requests_are_tested_against_the_worst_outcome(rt: HostRuntime) -> Result<(), Fail> {
     let mut stock = start(0, 100, 40)?;
     assert!(rt; stock.lo() == level(0)? && stock.hi() == level(100)?);
     shows(&rt, &stock, 40, 40, 40);
-    assert_eq!(rt; stock.ask(Way::Take, qty(35)?), Ok(()));
-    shows(&rt, &stock, 40, 5, 40);
-    assert_eq!(rt; stock.ask(Way::Take, qty(6)?), Err(Bound::TooLittle));
-    shows(&rt, &stock, 40, 5, 40);
-    assert_eq!(rt; stock.ask(Way::Take, qty(5)?), Ok(()));
-    shows(&rt, &stock, 40, 0, 40);
-    assert_eq!(rt; stock.at_once(Way::Add, qty(60)?), Ok(()));
-    shows(&rt, &stock, 100, 60, 100);
-    assert_eq!(rt; stock.at_once(Way::Add, qty(1)?), Err(Bound::TooMuch));
-    assert_eq!(rt; stock.ask(Way::Add, qty(1)?), Err(Bound::TooMuch));
-    assert_eq!(rt; stock.at_once(Way::Take, qty(61)?), Err(Bound::TooLittle));
-    shows(&rt, &stock, 100, 60, 100);
-    assert_eq!(rt; stock.at_once(Way::Take, qty(60)?), Ok(()));
-    shows(&rt, &stock, 40, 0, 40);
-    assert_eq!(rt; stock.ask(Way::Add, qty(60)?), Ok(()));
-    shows(&rt, &stock, 40, 0, 100);
+    for (when, way, pieces, answer, value, inf, sup) in REQUESTS {
+        assert_eq!(rt; request(&mut stock, when, way, qty(pieces)?), answer);
+        shows(&rt, &stock, value, inf, sup);
+    }
     Ok(())
 }
 

@@ -1,8 +1,10 @@
+ghost use Rattle.std.specs.Prelude.{IsTrue};
+
 use super::*;
 use crate::disks::{files_of, open, open_again};
 use crate::schema::{has_names, is_desk_schema};
 use sqlite::Files;
-use sqlite_disk::{Fuse, Memory};
+use sqlite_disk::{Disk, Fuse, Memory};
 use std::alloc::Global;
 use std::test::Fail;
 
@@ -63,6 +65,33 @@ fn a_store_with_another_table_is_refused(rt: HostRuntime) -> Result<(), Fail> {
     Ok(())
 }
 
+/// The connection, and whether a new desk was made over it; a failure is told as the store.
+fn tried<S: Alter + Drop>(mut conn: Connection<S>) -> Result<(Connection<S>, bool), Fail> {
+    let made = create(&mut conn);
+    if made.is_err() && made != Err(KeepFault::Store) {
+        Err("the store is told as something else")?;
+    }
+    Ok((conn, made.is_ok()))
+}
+
+/// The files, and whether a new desk was made in them.
+fn tried_over<D: Disk + Drop>(alloc: Global, files: Files<D>) -> Result<(Files<D>, bool), Fail>
+    requires { IsTrue (D.Disk.is_usable files.log) × IsTrue (D.Disk.is_usable files.db) }
+{
+    match open(alloc, files) {
+        Err(files) => Ok((files, false)),
+        Ok(conn) => {
+            let (conn, is_made) = tried(conn)?;
+            Ok((files_of(conn), is_made))
+        }
+    }
+}
+
+/// Whether there is a new desk over the connection.
+fn is_found<S: Alter + Drop>(mut conn: Connection<S>) -> Result<bool, Fail> {
+    is_made(&mut conn)
+}
+
 /// Where the files fail after so many calls, with a power cut at the end or not: whether the new desk was made, and
 /// whether the next open finds one.
 fn made_after(
@@ -75,18 +104,8 @@ fn made_after(
         log: Fuse::new(Memory::new(alloc), log_calls),
         db: Fuse::new(Memory::new(alloc), db_calls),
     };
-    let (files, is_done) = match open(alloc, files) {
-        Err(files) => (files, false),
-        Ok(mut conn) => {
-            let made = create(&mut conn);
-            if made.is_err() && made != Err(KeepFault::Store) {
-                Err("the store is told as something else")?;
-            }
-            (files_of(conn), made.is_ok())
-        }
-    };
-    let mut conn = open_again(alloc, files, is_cut)?;
-    Ok((is_done, is_made(&mut conn)?))
+    let (files, is_done) = tried_over(alloc, files)?;
+    Ok((is_done, is_found(open_again(alloc, files, is_cut)?)?))
 }
 
 /// Fails at each call in turn, up to the first run that makes the desk, and says how many calls that took.

@@ -10,6 +10,12 @@ use sqlite_disk::{Fuse, Memory};
 use std::fs;
 use std::test::Fail;
 
+/// The connection, once a new desk is made over it.
+fn created<S: Alter + Drop>(mut conn: Connection<S>) -> Result<Connection<S>, Fail> {
+    create(&mut conn)?;
+    Ok(conn)
+}
+
 /// The files of a new desk.
 fn made(alloc: Global) -> Result<Files<Memory>, Fail>
     ensures { IfOk result (λ f. IsTrue (memory_is_usable f.log) × IsTrue (memory_is_usable f.db)) }
@@ -18,8 +24,7 @@ fn made(alloc: Global) -> Result<Files<Memory>, Fail>
         log: Memory::new(alloc),
         db: Memory::new(alloc),
     };
-    let mut conn = open(alloc, files).ok().ok_or("not opened")?;
-    create(&mut conn)?;
+    let conn = created(open(alloc, files).ok().ok_or("not opened")?)?;
     match conn.close_files() {
         Ok(files) => Ok(files),
         Err((_, store)) => {
@@ -140,12 +145,16 @@ fn a_commit_is_whole_where_the_database_fails(rt: HostRuntime) -> Result<(), Fai
 
 type FileKeep = SqlKeep<FileStore<Memory>>;
 
-/// A keeper over the files of a new desk, after one commit.
-fn kept_over(alloc: Global) -> Result<FileKeep, Fail> {
-    let conn = open(alloc, made(alloc)?).ok().ok_or("not opened")?;
+/// A keeper over the connection, after one commit.
+fn with_order<S: Alter + Drop>(conn: Connection<S>) -> Result<SqlKeep<S>, Fail> {
     let mut keep = keeper(conn)?;
     commit(&mut keep, &[Change::Order(order(4, 1))])?;
     Ok(keep)
+}
+
+/// A keeper over the files of a new desk, after one commit.
+fn kept_over(alloc: Global) -> Result<FileKeep, Fail> {
+    with_order(open(alloc, made(alloc)?).ok().ok_or("not opened")?)
 }
 
 /// What is reopened: the call without its clauses, so that a test's proof need not carry them.
@@ -179,31 +188,33 @@ fn a_cut_leaves_what_is_loaded(rt: HostRuntime) -> Result<(), Fail> {
     Ok(())
 }
 
-/// A connection to the file, which is made where it is not there.
-fn connected(
-    rt: &HostRuntime,
-    path: &str,
-) -> Result<Connection<FileStore<FileFrom<Unknown>>>, Fail> {
-    Ok(connection_of(open_path(rt, path, Unknown)?))
+/// The orders that are found over the connection. Where there is no desk yet it is made, with one order.
+fn visited<S: Alter + Drop>(
+    alloc: Global,
+    conn: Connection<S>,
+    is_new: bool,
+) -> Result<Vec<(i64, i64)>, Fail> {
+    if is_new {
+        orders_in(alloc, connection_of(with_order(created(conn)?)?))
+    } else {
+        orders_in(alloc, conn)
+    }
 }
 
-/// Makes a desk in a file that is not there, with one order.
-fn fill(rt: &HostRuntime, path: &str) -> Result<(), Fail> {
-    let mut conn = connected(rt, path)?;
-    create(&mut conn)?;
-    let mut keep = keeper(conn)?;
-    commit(&mut keep, &[Change::Order(order(4, 1))])?;
-    Ok(())
+/// The orders that are found in the file, which is made where it is not there.
+fn orders_in_file(rt: &HostRuntime, path: &str, is_new: bool) -> Result<Vec<(i64, i64)>, Fail> {
+    let conn = connection_of(open_path(rt, path, Unknown)?);
+    visited(rt.alloc(), conn, is_new)
 }
 
 #[test]
 fn a_file_is_opened_again(rt: HostRuntime) -> Result<(), Fail> {
     let _ = fs::remove_dir_all(&rt, "keep_test");
     fs::create_dir(&rt, "keep_test")?;
-    fill(&rt, "keep_test/desk.db")?;
-    let conn = connected(&rt, "keep_test/desk.db")?;
-    let orders = orders_in(rt.alloc(), conn)?;
+    for is_new in [true, false] {
+        let orders = orders_in_file(&rt, "keep_test/desk.db", is_new)?;
+        assert_eq!(rt; orders.as_slice(), [(4i64, 1i64)].as_slice());
+    }
     fs::remove_dir_all(&rt, "keep_test")?;
-    assert_eq!(rt; orders.as_slice(), [(4i64, 1i64)].as_slice());
     Ok(())
 }

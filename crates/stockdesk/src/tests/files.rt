@@ -4,7 +4,7 @@ use super::rows::{FIRST, LONG};
 use super::{expect_bytes, expect_done};
 use crate::file::close;
 use keep::open_path;
-use sqlite::Unknown;
+use sqlite::{Alter, Connection, Unknown};
 use std::fs;
 use std::test::Fail;
 
@@ -75,11 +75,19 @@ fn expect_left_alone(
     Ok(())
 }
 
+/// The connection, over which the statement is carried out.
+fn executed<S: Alter + Drop>(
+    mut conn: Connection<S>,
+    statement: &str,
+) -> Result<Connection<S>, Fail> {
+    conn.execute(statement, &[])?;
+    Ok(conn)
+}
+
 /// Carries the statement out on the database in the file, and closes it.
 fn execute(rt: &HostRuntime, file: &str, statement: &str) -> Result<(), Fail> {
-    let mut conn = open_path(rt, file, Unknown)?.into_connection();
-    conn.execute(statement, &[])?;
-    close(conn);
+    let conn = open_path(rt, file, Unknown)?.into_connection();
+    close(executed(conn, statement)?);
     Ok(())
 }
 
