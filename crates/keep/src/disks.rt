@@ -36,19 +36,20 @@ pub(crate) fn copy(alloc: Global, bytes: &[u8]) -> Result<Memory, Fail>
     Ok(file)
 }
 
-/// What the next open finds, after a power cut or without one.
-pub(crate) fn open_again(
+/// The bytes that are left for the next open, after a power cut or without one.
+pub(crate) fn left_by(
     alloc: Global,
     mut files: Files<Fuse<Memory>>,
     is_cut: bool,
-) -> Result<Connection<FileStore<Memory>>, Fail> {
+) -> Result<Files<Memory>, Fail>
+    ensures { IfOk result (λ f. IsTrue (memory_is_usable f.log) × IsTrue (memory_is_usable f.db)) }
+{
     if is_cut {
         files.log.crash();
         files.db.crash();
     }
-    let again = Files {
+    Ok(Files {
         log: copy(alloc, files.log.inner().bytes())?,
         db: copy(alloc, files.db.inner().bytes())?,
-    };
-    Ok(open(alloc, again).ok().ok_or("not opened again")?)
+    })
 }

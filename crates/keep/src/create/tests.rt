@@ -1,7 +1,7 @@
 ghost use Rattle.std.specs.Prelude.{IsTrue};
 
 use super::*;
-use crate::disks::{files_of, open, open_again};
+use crate::disks::{files_of, left_by, open};
 use crate::schema::{has_names, is_desk_schema};
 use sqlite::Files;
 use sqlite_disk::{Disk, Fuse, Memory};
@@ -87,8 +87,11 @@ fn tried_over<D: Disk + Drop>(alloc: Global, files: Files<D>) -> Result<(Files<D
     }
 }
 
-/// Whether there is a new desk over the connection.
-fn is_found<S: Alter + Drop>(mut conn: Connection<S>) -> Result<bool, Fail> {
+/// Whether the next open finds a new desk in the files.
+fn is_found<D: Disk + Drop>(alloc: Global, files: Files<D>) -> Result<bool, Fail>
+    requires { IsTrue (D.Disk.is_usable files.log) × IsTrue (D.Disk.is_usable files.db) }
+{
+    let mut conn = open(alloc, files).ok().ok_or("not opened again")?;
     is_made(&mut conn)
 }
 
@@ -105,7 +108,8 @@ fn made_after(
         db: Fuse::new(Memory::new(alloc), db_calls),
     };
     let (files, is_done) = tried_over(alloc, files)?;
-    Ok((is_done, is_found(open_again(alloc, files, is_cut)?)?))
+    let left = left_by(alloc, files, is_cut)?;
+    Ok((is_done, is_found(alloc, left)?))
 }
 
 /// Fails at each call in turn, up to the first run that makes the desk, and says how many calls that took.

@@ -2,11 +2,11 @@ ghost use Rattle.std.specs.Prelude.{IsTrue, IfOk};
 ghost use Rattle.sqlite_disk.specs.Memory.{memory_is_usable};
 
 use super::*;
-use crate::disks::{files_of, open, open_again};
+use crate::disks::{files_of, left_by, open};
 use crate::samples::{commit, connection_of, create, keeper, load, order};
 use book::Change;
 use sqlite::{Alter, Files, Unknown};
-use sqlite_disk::{Fuse, Memory};
+use sqlite_disk::{Crash, Disk, Fuse, Memory};
 use std::fs;
 use std::test::Fail;
 
@@ -14,6 +14,21 @@ use std::test::Fail;
 fn created<S: Alter + Drop>(mut conn: Connection<S>) -> Result<Connection<S>, Fail> {
     create(&mut conn)?;
     Ok(conn)
+}
+
+/// The files, once a new desk is made in them.
+fn created_over<D: Disk + Drop>(alloc: Global, files: Files<D>) -> Result<Files<D>, Fail>
+    requires { IsTrue (D.Disk.is_usable files.log) × IsTrue (D.Disk.is_usable files.db) }
+    ensures { IfOk result (λ f. IsTrue (D.Disk.is_usable f.log) × IsTrue (D.Disk.is_usable f.db)) }
+{
+    let conn = created(open(alloc, files).ok().ok_or("not opened")?)?;
+    match conn.close_files() {
+        Ok(files) => Ok(files),
+        Err((_, store)) => {
+            drop(store.close());
+            Err("not closed")?
+        }
+    }
 }
 
 /// The files of a new desk.
@@ -24,14 +39,7 @@ fn made(alloc: Global) -> Result<Files<Memory>, Fail>
         log: Memory::new(alloc),
         db: Memory::new(alloc),
     };
-    let conn = created(open(alloc, files).ok().ok_or("not opened")?)?;
-    match conn.close_files() {
-        Ok(files) => Ok(files),
-        Err((_, store)) => {
-            drop(store.close());
-            Err("not closed")?
-        }
-    }
+    created_over(alloc, files)
 }
 
 /// Commits two orders, then one of them again and a third: how many commits were acknowledged, and the answer to the
@@ -77,6 +85,26 @@ fn orders_in<S: Alter + Drop>(alloc: Global, conn: Connection<S>) -> Result<Vec<
     numbered(alloc, &tables)
 }
 
+/// The files behind these commits, and how many were acknowledged.
+fn committed_over<D: Disk + Drop>(alloc: Global, files: Files<D>) -> Result<(Files<D>, u8), Fail>
+    requires { IsTrue (D.Disk.is_usable files.log) × IsTrue (D.Disk.is_usable files.db) }
+{
+    match open(alloc, files) {
+        Err(files) => Ok((files, 0)),
+        Ok(conn) => {
+            let (conn, done) = commit_over(conn)?;
+            Ok((files_of(conn), done))
+        }
+    }
+}
+
+/// The orders that the next open finds in the files.
+fn orders_over<D: Disk + Drop>(alloc: Global, files: Files<D>) -> Result<Vec<(i64, i64)>, Fail>
+    requires { IsTrue (D.Disk.is_usable files.log) × IsTrue (D.Disk.is_usable files.db) }
+{
+    orders_in(alloc, open(alloc, files).ok().ok_or("not opened again")?)
+}
+
 /// Where the files fail after so many calls, with a power cut at the end or not: how many commits were acknowledged, and
 /// the orders that the next open finds.
 fn orders_after(
@@ -95,15 +123,9 @@ fn orders_after(
         log: Fuse::new(start.log, log_calls),
         db: Fuse::new(start.db, db_calls),
     };
-    let (files, done) = match open(alloc, files) {
-        Err(files) => (files, 0),
-        Ok(conn) => {
-            let (conn, done) = commit_over(conn)?;
-            (files_of(conn), done)
-        }
-    };
-    let conn = open_again(alloc, files, is_cut)?;
-    Ok((done, orders_in(alloc, conn)?))
+    let (files, done) = committed_over(alloc, files)?;
+    let left = left_by(alloc, files, is_cut)?;
+    Ok((done, orders_over(alloc, left)?))
 }
 
 /// Fails at each call in turn, up to the first run that is acknowledged whole, and says how many calls that took. All
@@ -143,8 +165,6 @@ fn a_commit_is_whole_where_the_database_fails(rt: HostRuntime) -> Result<(), Fai
     Ok(())
 }
 
-type FileKeep = SqlKeep<FileStore<Memory>>;
-
 /// A keeper over the connection, after one commit.
 fn with_order<S: Alter + Drop>(conn: Connection<S>) -> Result<SqlKeep<S>, Fail> {
     let mut keep = keeper(conn)?;
@@ -152,48 +172,51 @@ fn with_order<S: Alter + Drop>(conn: Connection<S>) -> Result<SqlKeep<S>, Fail> 
     Ok(keep)
 }
 
-/// A keeper over the files of a new desk, after one commit.
-fn kept_over(alloc: Global) -> Result<FileKeep, Fail> {
-    with_order(open(alloc, made(alloc)?).ok().ok_or("not opened")?)
+/// The orders that a reopening finds after one commit and a power cut.
+fn orders_reopened<D: Crash + Drop>(alloc: Global, files: Files<D>) -> Result<Vec<(i64, i64)>, Fail>
+    requires { IsTrue (D.Disk.is_usable files.log) × IsTrue (D.Disk.is_usable files.db) }
+{
+    let keep = with_order(open(alloc, files).ok().ok_or("not opened")?)?;
+    let again = reopen(alloc, keep, Options::new(2)).ok_or("not reopened")?;
+    if again.is_stopped() {
+        Err("stopped")?;
+    }
+    orders_in(alloc, again.into_connection())
 }
 
-/// What is reopened: the call without its clauses, so that a test's proof need not carry them.
-fn reopened(alloc: Global, keep: FileKeep) -> Option<FileKeep> {
-    reopen(alloc, keep, Options::new(2))
-}
-
-/// What is reopened and loaded, likewise.
-fn reloaded(alloc: Global, keep: FileKeep) -> Option<(FileKeep, Result<Tables, KeepFault>)> {
-    reopen_and_load(alloc, keep, Options::new(3))
+/// The orders that a reopening loads after one commit and a power cut.
+fn orders_reloaded<D: Crash + Drop>(alloc: Global, files: Files<D>) -> Result<Vec<(i64, i64)>, Fail>
+    requires { IsTrue (D.Disk.is_usable files.log) × IsTrue (D.Disk.is_usable files.db) }
+{
+    let keep = with_order(open(alloc, files).ok().ok_or("not opened")?)?;
+    let (again, loaded) = reopen_and_load(alloc, keep, Options::new(3)).ok_or("not reopened")?;
+    if again.is_stopped() {
+        Err("stopped")?;
+    }
+    numbered(alloc, &loaded?)
 }
 
 #[test]
 fn a_cut_leaves_what_was_committed(rt: HostRuntime) -> Result<(), Fail> {
-    let alloc = rt.alloc();
-    let again = reopened(alloc, kept_over(alloc)?).ok_or("not reopened")?;
-    assert!(rt; !again.is_stopped());
-    let orders = orders_in(alloc, again.into_connection())?;
+    let orders = orders_reopened(rt.alloc(), made(rt.alloc())?)?;
     assert_eq!(rt; orders.as_slice(), [(4i64, 1i64)].as_slice());
     Ok(())
 }
 
 #[test]
 fn a_cut_leaves_what_is_loaded(rt: HostRuntime) -> Result<(), Fail> {
-    let alloc = rt.alloc();
-    let (keep, loaded) = reloaded(alloc, kept_over(alloc)?).ok_or("not reopened")?;
-    assert!(rt; !keep.is_stopped());
-    let tables = loaded?;
-    let orders = numbered(alloc, &tables)?;
+    let orders = orders_reloaded(rt.alloc(), made(rt.alloc())?)?;
     assert_eq!(rt; orders.as_slice(), [(4i64, 1i64)].as_slice());
     Ok(())
 }
 
-/// The orders that are found over the connection. Where there is no desk yet it is made, with one order.
+/// The orders that the keeper holds. Where there is no desk yet it is made, with one order.
 fn visited<S: Alter + Drop>(
     alloc: Global,
-    conn: Connection<S>,
+    keep: SqlKeep<S>,
     is_new: bool,
 ) -> Result<Vec<(i64, i64)>, Fail> {
+    let conn = connection_of(keep);
     if is_new {
         orders_in(alloc, connection_of(with_order(created(conn)?)?))
     } else {
@@ -203,8 +226,7 @@ fn visited<S: Alter + Drop>(
 
 /// The orders that are found in the file, which is made where it is not there.
 fn orders_in_file(rt: &HostRuntime, path: &str, is_new: bool) -> Result<Vec<(i64, i64)>, Fail> {
-    let conn = connection_of(open_path(rt, path, Unknown)?);
-    visited(rt.alloc(), conn, is_new)
+    visited(rt.alloc(), open_path(rt, path, Unknown)?, is_new)
 }
 
 #[test]
