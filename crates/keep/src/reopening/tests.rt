@@ -172,28 +172,63 @@ fn with_order<S: Alter + Drop>(conn: Connection<S>) -> Result<SqlKeep<S>, Fail> 
     Ok(keep)
 }
 
+/// What is reopened: the call without its clauses, so that a test's proof need not carry them.
+fn reopened<D: Crash + Drop>(
+    alloc: Global,
+    keep: SqlKeep<FileStore<D>>,
+) -> Option<SqlKeep<FileStore<D>>> {
+    reopen(alloc, keep, Options::new(2))
+}
+
+/// What is reopened and loaded, likewise.
+fn reloaded<D: Crash + Drop>(
+    alloc: Global,
+    keep: SqlKeep<FileStore<D>>,
+) -> Option<(SqlKeep<FileStore<D>>, Result<Tables, KeepFault>)> {
+    reopen_and_load(alloc, keep, Options::new(3))
+}
+
+/// The orders that a keeper that is not stopped holds.
+fn orders_going<S: Alter + Drop>(alloc: Global, keep: SqlKeep<S>) -> Result<Vec<(i64, i64)>, Fail> {
+    if keep.is_stopped() {
+        Err("stopped")?;
+    }
+    orders_in(alloc, connection_of(keep))
+}
+
+/// The orders that were loaded by a keeper that is not stopped.
+fn orders_loaded<S: Alter + Drop>(
+    alloc: Global,
+    keep: SqlKeep<S>,
+    loaded: Result<Tables, KeepFault>,
+) -> Result<Vec<(i64, i64)>, Fail> {
+    if keep.is_stopped() {
+        Err("stopped")?;
+    }
+    numbered(alloc, &loaded?)
+}
+
+/// A keeper over the files, after one commit.
+fn kept_over<D: Disk + Drop>(alloc: Global, files: Files<D>) -> Result<SqlKeep<FileStore<D>>, Fail>
+    requires { IsTrue (D.Disk.is_usable files.log) × IsTrue (D.Disk.is_usable files.db) }
+{
+    with_order(open(alloc, files).ok().ok_or("not opened")?)
+}
+
 /// The orders that a reopening finds after one commit and a power cut.
 fn orders_reopened<D: Crash + Drop>(alloc: Global, files: Files<D>) -> Result<Vec<(i64, i64)>, Fail>
     requires { IsTrue (D.Disk.is_usable files.log) × IsTrue (D.Disk.is_usable files.db) }
 {
-    let keep = with_order(open(alloc, files).ok().ok_or("not opened")?)?;
-    let again = reopen(alloc, keep, Options::new(2)).ok_or("not reopened")?;
-    if again.is_stopped() {
-        Err("stopped")?;
-    }
-    orders_in(alloc, again.into_connection())
+    let again = reopened(alloc, kept_over(alloc, files)?).ok_or("not reopened")?;
+    orders_going(alloc, again)
 }
 
 /// The orders that a reopening loads after one commit and a power cut.
 fn orders_reloaded<D: Crash + Drop>(alloc: Global, files: Files<D>) -> Result<Vec<(i64, i64)>, Fail>
     requires { IsTrue (D.Disk.is_usable files.log) × IsTrue (D.Disk.is_usable files.db) }
 {
-    let keep = with_order(open(alloc, files).ok().ok_or("not opened")?)?;
-    let (again, loaded) = reopen_and_load(alloc, keep, Options::new(3)).ok_or("not reopened")?;
-    if again.is_stopped() {
-        Err("stopped")?;
-    }
-    numbered(alloc, &loaded?)
+    let (again, loaded) = reloaded(alloc, kept_over(alloc, files)?).ok_or("not reopened")?;
+    orders_loaded(alloc, again, loaded)
 }
 
 #[test]
