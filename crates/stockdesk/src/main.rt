@@ -97,7 +97,7 @@ where
 {
     let task = match read_task(rt.alloc(), words) {
         Ok(Some(task)) => task,
-        Ok(None) => return 2,
+        Ok(None) => return tell(errors, b"stockdesk: usage\n", 2),
         Err(error) => return tell_words(errors, &error),
     };
     match perform(rt, task, reader, writer) {

@@ -13,7 +13,6 @@ use Rattle.words.specs.Words.{after_space, spaced}
 use Rattle.words.specs.declared.command.Command.{Command}
 use Rattle.words.specs.declared.command.Command.TheVariants.{Abort, Commit, Deliver, Expire, Field, More, Open, Release, Transfer, Use, Writeoff}
 use Rattle.words.specs.declared.command.Request.{Request}
-use Rattle.words.specs.declared.limits.TheConstants.{LONGEST_REQUEST}
 use Rattle.words.specs.declared.open_line.OpenLine.{OpenLine}
 use Rattle.words.proofs.Written.{spaced-after}
 
@@ -56,7 +55,7 @@ lines_le (line ∷ lines) h =
 
 -- ---- the words of a command, behind the longest key
 
-command_le : (c : Command) → IsInRange c → 36 + spaces_and (command_words c) ≤ LONGEST_REQUEST
+command_le : (c : Command) → IsInRange c → 36 + spaces_and (command_words c) ≤ 2558
 command_le (Field b a lo hi start) h = omega (arith, h.0.fits, h.1.fits, level_le lo h.2, level_le hi h.3, level_le start h.4)
 command_le (Deliver b a qty) h = omega (arith, h.0.fits, h.1.fits, qty_le qty h.2)
 command_le (Writeoff b a qty) h = omega (arith, h.0.fits, h.1.fits, qty_le qty h.2)
@@ -71,6 +70,6 @@ command_le (Commit n) h = omega (arith, number_of_order_le n h)
 command_le (Abort n) h = omega (arith, number_of_order_le n h)
 command_le (Expire now) h = omega (arith, moment_le now h)
 
-pub request_le : (line : List ℕ) (r : Request) → IsRequest line r → length line ≤ LONGEST_REQUEST
+pub request_le : (line : List ℕ) (r : Request) → IsRequest line r → length line ≤ 2558
 request_le line r h =
     omega (arith, ap length h.2, length-spaced r.key (command_words r.command), h.0.fits, command_le r.command h.1)

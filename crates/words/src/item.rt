@@ -10,7 +10,7 @@ ghost use Rattle.words.specs.declared.item.Item.{Item};
 
 use crate::command::Request;
 use crate::cut::cut;
-use crate::limits::{LONGEST_REQUEST, MAX_LINE_LEN};
+use crate::limits::MAX_LINE_LEN;
 use crate::read::{WordsFault, read_command};
 use crate::reply::Memory;
 use crate::word::{last_word, word_then};
@@ -117,9 +117,9 @@ pub fn exactly_one_item()
     ensures one { (line : List ℕ) (i j : Item) → IsItem line i → IsItem line j → i ≡ j }
 {}
 
-/// No line that is a request is longer than 2,558 bytes, and a line may be longer: the limit of a line refuses
-/// no request.
+/// No line that is a request is longer than 2,558 bytes, those of an `open` of 64 lines with the longest key, codes and
+/// numbers. A line may be longer, so the limit of a line refuses no request.
 pub fn no_request_is_too_long()
-    ensures length { (line : List ℕ) (r : Request) → IsRequest line r → length line ≤ LONGEST_REQUEST }
-    ensures limit { LONGEST_REQUEST ≤ MAX_LINE_LEN }
+    ensures length { (line : List ℕ) (r : Request) → IsRequest line r → length line ≤ 2558 }
+    ensures limit { 2558 ≤ MAX_LINE_LEN }
 {}

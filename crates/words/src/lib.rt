@@ -18,7 +18,7 @@ mod write;
 
 pub use command::{Command, Request};
 pub use item::{Item, exactly_one_item, no_request_is_too_long, read_item};
-pub use limits::{LONGEST_REQUEST, MAX_LINE_LEN, MAX_ORDER_LINES};
+pub use limits::{MAX_LINE_LEN, MAX_ORDER_LINES};
 pub use lines::{Lines, cuts_do_not_matter};
 pub use open_line::{OpenLine, OpenLines};
 pub use read::{WordsFault, read_command};

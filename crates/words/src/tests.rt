@@ -200,7 +200,7 @@ fn an_order_has_1_to_64_lines(rt: HostRuntime) -> Result<(), Fail> {
         }
     }
     // with a key of 36 bytes and a space in front
-    assert_eq!(rt; longest, LONGEST_REQUEST - 37);
+    assert_eq!(rt; longest, 2558 - 37);
     assert!(rt; OpenLines::new(Vec::new(rt.alloc())).is_none());
     Ok(())
 }
