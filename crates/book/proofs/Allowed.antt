@@ -2,6 +2,7 @@
 use Rattle.std.proofs.Common.{◌≡◌, ℕ, ◌+◌, ◌-◌, ◌≤◌, ◌==◌, ◌||◌, List, true, None, Option, Some, ap, arith, find, if◌then◌else◌, is_some, map, refl, subst, sym, true≢false}
 use Rattle.std.specs.List.{AllByRecursion as Each}
 use Rattle.std.specs.Vec.{vec_capacity, vec_len}
+use Rattle.std.proofs.lemmas.Option.{same_Some}
 use Rattle.escrow.specs.Ranges.{IsLevel}
 use Rattle.words.specs.declared.command.Command.{Command}
 use Rattle.words.specs.declared.command.Command.TheVariants as command
@@ -18,7 +19,6 @@ use Rattle.book.specs.declared.book.changes.OrderChange.{OrderChange}
 use Rattle.book.specs.declared.book.changes.OrderChange.TheVariants.{HoldMore}
 use Rattle.book.specs.declared.entries.OrderEntry.{OrderEntry}
 use Rattle.book.specs.declared.order.Line.{Line}
-use Rattle.book.proofs.Adopted.{some_is}
 use Rattle.book.proofs.Closing.{Usable, all_pass, at_number, fit_from_good, left_on, usable_there}
 use Rattle.book.proofs.Lists.{each-unmap}
 use Rattle.book.proofs.Sums.{each, each-both, each-imp}
@@ -58,20 +58,20 @@ lines_allowed b n f q good usable =
 pub may_change : (b : Inside) (key : List ℕ) (c : Command) (p : ℕ × OrderChange) → Good (ledger_of b) → Good (accept (ledger_of b) (record { key = key; command = c }))
     → FirstFailure (checks (ledger_of b) c) None → LinesFit c (map order_room b.orders.items) → order_change_of c ≡ Some p → Each (λ o. (o.number == p.0) ≡ true → MayChangeOrder p.1 o) b.orders.items
 may_change b key (command.More n way br ar q) p good after passed room e =
-    subst (λ (x : ℕ × OrderChange). Each (λ o. (o.number == x.0) ≡ true → MayChangeOrder x.1 o) b.orders.items) (some_is _ p e)
+    subst (λ (x : ℕ × OrderChange). Each (λ o. (o.number == x.0) ≡ true → MayChangeOrder x.1 o) b.orders.items) (same_Some _ p e)
     (more_allowed b key n (record { way = way; branch = br; article = ar; qty = q }) after room)
 may_change b key (command.Use n br ar q) p good after passed room e =
     let A = ledger_of b in let f = name_of br ar in let k = all_pass (checks A (command.Use n br ar q)) passed in
-    subst (λ (x : ℕ × OrderChange). Each (λ o. (o.number == x.0) ≡ true → MayChangeOrder x.1 o) b.orders.items) (some_is _ p e)
+    subst (λ (x : ℕ × OrderChange). Each (λ o. (o.number == x.0) ≡ true → MayChangeOrder x.1 o) b.orders.items) (same_Some _ p e)
     (lines_allowed b n f q good (at_number (Usable f q) n A.orders good.orders_in_order (usable_there f q (order_numbered A n) k.1.0 k.1.1.0 k.1.1.1.0 k.1.1.1.1.0)))
 may_change b key (command.Release n br ar q) p good after passed room e =
     let A = ledger_of b in let f = name_of br ar in let k = all_pass (checks A (command.Release n br ar q)) passed in
-    subst (λ (x : ℕ × OrderChange). Each (λ o. (o.number == x.0) ≡ true → MayChangeOrder x.1 o) b.orders.items) (some_is _ p e)
+    subst (λ (x : ℕ × OrderChange). Each (λ o. (o.number == x.0) ≡ true → MayChangeOrder x.1 o) b.orders.items) (same_Some _ p e)
     (lines_allowed b n f q good (at_number (Usable f q) n A.orders good.orders_in_order (usable_there f q (order_numbered A n) k.1.0 k.1.1.0 k.1.1.1.0 k.1.1.1.1.0)))
 may_change b key (command.Commit n) p good after passed room e =
-    subst (λ (x : ℕ × OrderChange). Each (λ o. (o.number == x.0) ≡ true → MayChangeOrder x.1 o) b.orders.items) (some_is _ p e) (each (λ o is. tt) b.orders.items)
+    subst (λ (x : ℕ × OrderChange). Each (λ o. (o.number == x.0) ≡ true → MayChangeOrder x.1 o) b.orders.items) (same_Some _ p e) (each (λ o is. tt) b.orders.items)
 may_change b key (command.Abort n) p good after passed room e =
-    subst (λ (x : ℕ × OrderChange). Each (λ o. (o.number == x.0) ≡ true → MayChangeOrder x.1 o) b.orders.items) (some_is _ p e) (each (λ o is. tt) b.orders.items)
+    subst (λ (x : ℕ × OrderChange). Each (λ o. (o.number == x.0) ≡ true → MayChangeOrder x.1 o) b.orders.items) (same_Some _ p e) (each (λ o is. tt) b.orders.items)
 may_change b key (command.Field br ar lo hi start) p good after passed room e = absurd (true≢false (sym (ap is_some e)))
 may_change b key (command.Deliver br ar q) p good after passed room e = absurd (true≢false (sym (ap is_some e)))
 may_change b key (command.Writeoff br ar q) p good after passed room e = absurd (true≢false (sym (ap is_some e)))

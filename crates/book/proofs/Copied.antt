@@ -2,6 +2,7 @@
 use Rattle.std.proofs.Common.{◌≡◌, ℕ, ◌<◌, ◌∙◌, ◌==◌, Option, None, Some, ap, arith, is_some, refl, subst, sym, true≢false, IsSomeAnd}
 use Rattle.std.specs.Option.{option_map}
 use Rattle.std.specs.Vec.{vec_capacity, vec_len}
+use Rattle.std.proofs.lemmas.Option.{same_Some}
 use Rattle.words.specs.declared.command.Command.{Command}
 use Rattle.words.specs.declared.command.Command.TheVariants as command
 use Rattle.words.specs.declared.command.Request.{Request}
@@ -15,7 +16,6 @@ use Rattle.book.specs.Next.{accept, add_hold}
 use Rattle.book.specs.View.{order_of}
 use Rattle.book.specs.declared.book.changes.OrderChange.{OrderChange}
 use Rattle.book.specs.declared.entries.OrderEntry.{OrderEntry}
-use Rattle.book.proofs.Adopted.{some_is}
 use Rattle.book.proofs.Allowed.{hold_allowed}
 use Rattle.book.proofs.Closing.{Fine, Usable, all_pass, fit_from_good, left_on, usable_there}
 use Rattle.book.proofs.Made.{each-found, made_there}
@@ -31,24 +31,24 @@ pub copy_may_change : (A : Ledger) (r : Request) (p : ℕ × OrderChange) (o : O
 copy_may_change A r p o good after ok e there room = by r.command refl p e there
   where
     by : (c : Command) → r.command ≡ c → (p : ℕ × OrderChange) → order_change_of c ≡ Some p → order_numbered A p.0 ≡ Some (order_of o) → MayChangeOrder p.1 o
-    by (command.More n way b a q) is p e there = subst (λ (x : ℕ × OrderChange). order_numbered A x.0 ≡ Some (order_of o) → MayChangeOrder x.1 o) (some_is _ p e) (λ there.
+    by (command.More n way b a q) is p e there = subst (λ (x : ℕ × OrderChange). order_numbered A x.0 ≡ Some (order_of o) → MayChangeOrder x.1 o) (same_Some _ p e) (λ there.
         let l : OpenLine = record { way = way; branch = b; article = a; qty = q } in
         let passed = subst (λ (c : Command). FirstFailure (checks A c) None) is ok.1 in
         let new = made_there A (command.More n way b a q) n passed refl ∙ ap (option_map (add_hold l)) there in
         let orders = subst (λ (c : Command). Good (accept A (record { key = r.key; command = c }))) is after in
         hold_allowed (accept A (record { key = r.key; command = command.More n way b a q })) l o (omega arith) (each-found (IsGoodOrder (accept A (record { key = r.key; command = command.More n way b a q }))) (λ m. m.number == n) (add_hold l (order_of o)) _ orders.orders new)) there
-    by (command.Use n b a q) is p e there = subst (λ (x : ℕ × OrderChange). order_numbered A x.0 ≡ Some (order_of o) → MayChangeOrder x.1 o) (some_is _ p e) (λ there.
+    by (command.Use n b a q) is p e there = subst (λ (x : ℕ × OrderChange). order_numbered A x.0 ≡ Some (order_of o) → MayChangeOrder x.1 o) (same_Some _ p e) (λ there.
         let k = all_pass (checks A (command.Use n b a q)) (subst (λ (c : Command). FirstFailure (checks A c) None) is ok.1) in
         let f : Name = name_of b a in
         let w = part_may A n f q o good (usable_there f q (order_numbered A n) k.1.0 k.1.1.0 k.1.1.1.0 k.1.1.1.1.0) there in
         left_on f q (order_of o) w.0 w.1) there
-    by (command.Release n b a q) is p e there = subst (λ (x : ℕ × OrderChange). order_numbered A x.0 ≡ Some (order_of o) → MayChangeOrder x.1 o) (some_is _ p e) (λ there.
+    by (command.Release n b a q) is p e there = subst (λ (x : ℕ × OrderChange). order_numbered A x.0 ≡ Some (order_of o) → MayChangeOrder x.1 o) (same_Some _ p e) (λ there.
         let k = all_pass (checks A (command.Release n b a q)) (subst (λ (c : Command). FirstFailure (checks A c) None) is ok.1) in
         let f : Name = name_of b a in
         let w = part_may A n f q o good (usable_there f q (order_numbered A n) k.1.0 k.1.1.0 k.1.1.1.0 k.1.1.1.1.0) there in
         left_on f q (order_of o) w.0 w.1) there
-    by (command.Commit n) is p e there = subst (λ (x : ℕ × OrderChange). MayChangeOrder x.1 o) (some_is _ p e) tt
-    by (command.Abort n) is p e there = subst (λ (x : ℕ × OrderChange). MayChangeOrder x.1 o) (some_is _ p e) tt
+    by (command.Commit n) is p e there = subst (λ (x : ℕ × OrderChange). MayChangeOrder x.1 o) (same_Some _ p e) tt
+    by (command.Abort n) is p e there = subst (λ (x : ℕ × OrderChange). MayChangeOrder x.1 o) (same_Some _ p e) tt
     by (command.Field br ar lo hi start) is p e there = absurd (true≢false (sym (ap is_some e)))
     by (command.Deliver br ar q) is p e there = absurd (true≢false (sym (ap is_some e)))
     by (command.Writeoff br ar q) is p e there = absurd (true≢false (sym (ap is_some e)))
@@ -58,11 +58,11 @@ copy_may_change A r p o good after ok e there room = by r.command refl p e there
 
 -- the order that is changed is what the command makes
 pub changed_is_after : (A : Ledger) (c : Command) (p : ℕ × OrderChange) → order_change_of c ≡ Some p → option_map (changed_order p.1) (order_numbered A p.0) ≡ order_after A c
-changed_is_after A (command.More n way b a q) p e = sym (ap (λ (x : ℕ × OrderChange). option_map (changed_order x.1) (order_numbered A x.0)) (some_is _ p e))
-changed_is_after A (command.Use n b a q) p e = sym (ap (λ (x : ℕ × OrderChange). option_map (changed_order x.1) (order_numbered A x.0)) (some_is _ p e))
-changed_is_after A (command.Release n b a q) p e = sym (ap (λ (x : ℕ × OrderChange). option_map (changed_order x.1) (order_numbered A x.0)) (some_is _ p e))
-changed_is_after A (command.Commit n) p e = sym (ap (λ (x : ℕ × OrderChange). option_map (changed_order x.1) (order_numbered A x.0)) (some_is _ p e))
-changed_is_after A (command.Abort n) p e = sym (ap (λ (x : ℕ × OrderChange). option_map (changed_order x.1) (order_numbered A x.0)) (some_is _ p e))
+changed_is_after A (command.More n way b a q) p e = sym (ap (λ (x : ℕ × OrderChange). option_map (changed_order x.1) (order_numbered A x.0)) (same_Some _ p e))
+changed_is_after A (command.Use n b a q) p e = sym (ap (λ (x : ℕ × OrderChange). option_map (changed_order x.1) (order_numbered A x.0)) (same_Some _ p e))
+changed_is_after A (command.Release n b a q) p e = sym (ap (λ (x : ℕ × OrderChange). option_map (changed_order x.1) (order_numbered A x.0)) (same_Some _ p e))
+changed_is_after A (command.Commit n) p e = sym (ap (λ (x : ℕ × OrderChange). option_map (changed_order x.1) (order_numbered A x.0)) (same_Some _ p e))
+changed_is_after A (command.Abort n) p e = sym (ap (λ (x : ℕ × OrderChange). option_map (changed_order x.1) (order_numbered A x.0)) (same_Some _ p e))
 changed_is_after A (command.Field br ar lo hi start) p e = absurd (true≢false (sym (ap is_some e)))
 changed_is_after A (command.Deliver br ar q) p e = absurd (true≢false (sym (ap is_some e)))
 changed_is_after A (command.Writeoff br ar q) p e = absurd (true≢false (sym (ap is_some e)))

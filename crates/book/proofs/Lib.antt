@@ -28,7 +28,6 @@ pub mod Numbers
 pub mod SumsOnFields
 pub mod Found
 pub mod Placing
-pub mod Adopted
 pub mod Allowed
 pub mod Viewed
 pub mod Checked

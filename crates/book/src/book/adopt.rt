@@ -1,21 +1,24 @@
 //! Plans carried out.
 
-ghost use Rattle.std.specs.Prelude.{◌≡◌, ℕ, List, IsSomeAnd, IsTrue};
+ghost use Rattle.std.specs.Prelude.{◌≡◌, ◌<◌, ◌+◌, ◌==◌, true, ℕ, List, IsSomeAnd, IsTrue, Some, map};
+ghost use Rattle.std.specs.List.{AllByRecursion as Each};
+ghost use Rattle.std.specs.Vec.{vec_capacity, vec_len};
 ghost use Rattle.words.specs.declared.command.Command.TheVariants.{Commit};
 ghost use Rattle.book.specs.Future.{Honours, HonoursAlways};
 ghost use Rattle.book.specs.Good.{Good};
-ghost use Rattle.book.specs.Ledger.{is_transfer, order_numbered, name_of};
+ghost use Rattle.book.specs.Ledger.{Ledger, is_transfer, name_of, order_numbered, places};
 ghost use Rattle.book.specs.Outcomes.{article_total};
 ghost use Rattle.book.specs.declared.order.State.TheVariants as State;
-ghost use Rattle.book.specs.InPlace.{order_change_of};
-ghost use Rattle.book.specs.Next.{accept};
-ghost use Rattle.book.specs.Plans.{Fits, HasRoomFor};
-ghost use Rattle.book.specs.View.{field_of, order_of};
+ghost use Rattle.book.specs.declared.book.changes.OrderChange.{OrderChange};
+ghost use Rattle.book.specs.InPlace.{MayChangeOrder, order_change_of};
+ghost use Rattle.book.specs.Next.{accept, new_line, next};
+ghost use Rattle.book.specs.Plans.{Fits, HasRoomFor, opened_lines};
+ghost use Rattle.book.specs.View.{field_of, move_of, order_of};
 
 use super::Book;
 use super::changes::{LineChange, OrderChange, change_numbered_order, expire_orders};
 use super::insert::{insert_field, insert_kept, insert_order, push_move};
-use crate::entries::{FieldEntry, KeptEntry, OrderEntry};
+use crate::entries::{FieldEntry, KeptEntry, MoveEntry, OrderEntry};
 use crate::order::{Kind, Line, State};
 use crate::plan::Plan;
 use escrow::{Article, Branch, Level, Moment, OrderNo};
@@ -103,6 +106,62 @@ pub(super) fn field_entry(
     }
 }
 
+/// The fields and the moves once the command is carried out.
+fn adopt_stock(
+    fields: &mut Vec<FieldEntry>,
+    moves: &mut Vec<MoveEntry>,
+    place: u64,
+    command: &Command,
+)
+    requires room { (vec_len fields.old < vec_capacity fields.old) × (vec_len moves.old < vec_capacity moves.old) }
+    ensures fields { (A : Ledger) → map field_of fields.old.items ≡ A.fields → map field_of fields.new.items ≡ (next A command.now).fields }
+    ensures moves { (A : Ledger) → map move_of moves.old.items ≡ A.moves → place ≡ places A + 1 → map move_of moves.new.items ≡ (next A command.now).moves }
+{
+    match command {
+        Command::Field {
+            branch,
+            article,
+            lo,
+            hi,
+            start,
+        } => insert_field(fields, field_entry(*branch, *article, *lo, *hi, *start)),
+        Command::Deliver {
+            branch,
+            article,
+            qty,
+        } => push_move(moves, place, *branch, *article, qty.get() as i64),
+        Command::Writeoff {
+            branch,
+            article,
+            qty,
+        } => push_move(moves, place, *branch, *article, -(qty.get() as i64)),
+        _ => {}
+    }
+}
+
+/// The orders once the command is carried out; one that it opens gets these lines.
+fn adopt_orders(orders: &mut Vec<OrderEntry>, lines: &mut Vec<Line>, command: &Command)
+    requires room { vec_len orders.old < vec_capacity orders.old }
+    requires lines { lines.old.items ≡ map new_line (opened_lines command.now) }
+    requires change { (change : ℕ × OrderChange) → order_change_of command.now ≡ Some change → Each (λ o. (o.number == change.0) ≡ true → MayChangeOrder change.1 o) orders.old.items }
+    ensures { (A : Ledger) → map order_of orders.old.items ≡ A.orders → map order_of orders.new.items ≡ (next A command.now).orders }
+{
+    match command {
+        Command::Open { number, until, .. } => {
+            insert_order(orders, opened(*number, Kind::Plain, *until, lines));
+        }
+        Command::Transfer { number, until, .. } => {
+            insert_order(orders, opened(*number, Kind::Transfer, *until, lines));
+        }
+        Command::Expire { now } => expire_orders(orders, *now),
+        _ => {
+            if let Some(change) = order_change(command) {
+                change_numbered_order(orders, change);
+            }
+        }
+    }
+}
+
 impl Book {
     /// Carries the plan out. Takes no memory, and always succeeds. The ledger stays good, and honours its open
     /// orders; the commit of a transfer leaves the total of every article as it was.
@@ -117,54 +176,9 @@ impl Book {
         let (key, command, place, mut lines) = plan.into_parts();
         key.as_bytes();
         command.in_range();
-        match &command {
-            Command::Field {
-                branch,
-                article,
-                lo,
-                hi,
-                start,
-            } => insert_field(
-                &mut self.fields,
-                field_entry(*branch, *article, *lo, *hi, *start),
-            ),
-            Command::Deliver {
-                branch,
-                article,
-                qty,
-            } => push_move(&mut self.moves, place, *branch, *article, qty.get() as i64),
-            Command::Writeoff {
-                branch,
-                article,
-                qty,
-            } => push_move(
-                &mut self.moves,
-                place,
-                *branch,
-                *article,
-                -(qty.get() as i64),
-            ),
-            Command::Open { number, until, .. } => {
-                insert_order(
-                    &mut self.orders,
-                    opened(*number, Kind::Plain, *until, &mut lines),
-                );
-            }
-            Command::Transfer { number, until, .. } => {
-                insert_order(
-                    &mut self.orders,
-                    opened(*number, Kind::Transfer, *until, &mut lines),
-                );
-            }
-            Command::Expire { now } => {
-                self.clock = *now;
-                expire_orders(&mut self.orders, *now);
-            }
-            _ => match order_change(&command) {
-                Some(change) => change_numbered_order(&mut self.orders, change),
-                None => unreachable!(),
-            },
-        }
+        self.clock = self.clock_after(&command);
+        adopt_stock(&mut self.fields, &mut self.moves, place, &command);
+        adopt_orders(&mut self.orders, &mut lines, &command);
         insert_kept(
             &mut self.kept,
             KeptEntry {

@@ -174,7 +174,7 @@ fn push_kept(
 
 impl Book {
     /// The clock once the command is carried out.
-    fn clock_after(&self, command: &Command) -> Moment
+    pub(super) fn clock_after(&self, command: &Command) -> Moment
         ensures { result ≡ (next self.now.ledger command.now).clock }
     {
         match command {
