@@ -1,5 +1,6 @@
-"""Tests of the built program as a real process: replies on a pipe that stays open, the file as another SQLite reads it,
-and sessions that are killed. The one argument is the program."""
+"""Tests of the built program as a real process: what its words and its FILE may be, scripts a line a run, long ones, replies
+on a pipe that stays open, the file as another SQLite reads it, and sessions that are killed. The one argument is the
+program."""
 
 import os
 import random
@@ -18,6 +19,24 @@ except ImportError:
 ROUNDS = 50
 LINES = 1000
 SECONDS = 30
+
+FILES = os.path.join(os.path.dirname(os.path.abspath(__file__)), "files")
+NOT_A_DESK = (3, b"", b"stockdesk: not a desk\n")
+STORE = (1, b"", b"stockdesk: store\n")
+
+# words that ask for nothing that the program does
+NO_TASK = [
+    [],
+    ["Run"],
+    ["init"],
+    ["run", "usage.db", "more"],
+    ["init", "usage.db", "more"],
+    ["--help"],
+    ["--version"],
+]
+
+# files with bytes that are no desk, and what a run on them ends with
+NO_DESK = [(b"this is no database, but some text", STORE), (b"S", STORE), (b"", NOT_A_DESK)]
 
 TRANSFER = """T1 field N1 A-1 0 100 40
 T2 field N2 A-1 0 50 5
@@ -64,11 +83,32 @@ def expect(fact, text):
         raise AssertionError(text)
 
 
+def ended(program, words, text=""):
+    """The status of a run, its output and what it tells of a fault."""
+    run = subprocess.run([program, *words], input=text.encode(), capture_output=True, timeout=SECONDS)
+    return run.returncode, run.stdout, run.stderr
+
+
 def done(program, words, text=""):
-    """The output of a run that ends with status 0."""
-    ended = subprocess.run([program, *words], input=text.encode(), capture_output=True, timeout=SECONDS)
-    expect(ended.returncode == 0, f"{words}: status {ended.returncode}, {ended.stderr!r}")
-    return ended.stdout.decode().splitlines()
+    """The lines of a run that ends with status 0."""
+    status, out, errors = ended(program, words, text)
+    expect(status == 0, f"{words}: status {status}, {errors!r}")
+    return out.decode().splitlines()
+
+
+def expect_end(program, words, want, text="K1 expire 1\n"):
+    found = ended(program, words, text)
+    expect(found == want, f"{words}: {found} and not {want}")
+
+
+def lines_of(name):
+    with open(os.path.join(FILES, name), encoding="ascii") as file:
+        return file.read().splitlines()
+
+
+def bytes_of(path):
+    with open(path, "rb") as file:
+        return file.read()
 
 
 def new_desk(program, folder):
@@ -96,6 +136,64 @@ class Session:
         self.process.wait()
         self.process.stdout.close()
         self.clock.cancel()
+
+
+def test_other_words_ask_for_nothing(program, folder):
+    os.chdir(folder)
+    for words in NO_TASK:
+        status, out, errors = ended(program, words)
+        expect((status, out) == (2, b"") and errors, f"{words}: {status}, {out!r}, {errors!r}")
+    expect(os.listdir(folder) == [], "a file was made")
+
+
+def test_no_other_file_is_touched(program, folder):
+    expect_end(program, ["init", folder], NOT_A_DESK)
+    expect_end(program, ["run", folder], STORE)
+    path = os.path.join(folder, "other.db")
+    expect_end(program, ["run", path], NOT_A_DESK)
+    expect(not os.path.exists(path), "a run made a file")
+    for text, end in NO_DESK:
+        with open(path, "wb") as file:
+            file.write(text)
+        expect_end(program, ["run", path], end)
+        if text:
+            expect_end(program, ["init", path], NOT_A_DESK)
+        expect(bytes_of(path) == text, f"{text} was changed")
+
+
+def test_an_empty_file_becomes_a_desk_once(program, folder):
+    path = os.path.join(folder, "empty.db")
+    open(path, "wb").close()
+    expect_end(program, ["init", path], (0, b"", b""))
+    desk = bytes_of(path)
+    expect_end(program, ["init", path], NOT_A_DESK)
+    expect(bytes_of(path) == desk, "the desk was changed")
+
+
+def test_a_desk_outlives_each_run(program, folder):
+    path = new_desk(program, folder)
+    for line, reply in zip(lines_of("long.script"), lines_of("long.replies"), strict=True):
+        found = done(program, ["run", path], line + "\n")
+        expect(found == [reply], f"{line}: {found}")
+
+
+def test_long_input_is_answered(program, folder):
+    script, replies = [], []
+    for number in range(50):
+        script.append(f"F{number} field N1 A{number} 0 1000 500")
+    for number in range(1950):
+        verb = "deliver" if number % 3 else f"open {number + 1} 120 take"
+        script.append(f"K{number} {verb} N1 A{number % 50} 1")
+    replies = [f"{line.split()[0]} done {place}" for place, line in enumerate(script, 1)]
+    script.append("? field N1 A0")
+    # of the 39 commands on this field every third is an order
+    replies.append("? field N1 A0 lo 0 hi 1000 value 526 inf 513 sup 526")
+    # a line too long is bad once, ended or not
+    for length in [4_096, 4_097, 10_000]:
+        script.append("A" * length)
+        replies.append("- refused 20 BadCommand 0")
+    found = done(program, ["run"], "\n".join(script))
+    expect(found == replies, "another reply")
 
 
 def test_replies_come_line_by_line(program, folder):
@@ -128,6 +226,21 @@ def test_another_sqlite_reads_the_file(program, folder):
             expect(found == rows, f"{table} has other rows: {found}")
     finally:
         database.close()
+
+
+def test_another_database_is_no_desk(program, folder):
+    if sqlite3 is None:
+        say("  not tried: no other SQLite is here")
+        return
+    path = os.path.join(folder, "other.db")
+    database = sqlite3.connect(path)
+    database.execute("CREATE TABLE note (id INTEGER)")
+    database.commit()
+    database.close()
+    found = bytes_of(path)
+    expect_end(program, ["init", path], NOT_A_DESK)
+    expect_end(program, ["run", path], NOT_A_DESK)
+    expect(bytes_of(path) == found, "it was changed")
 
 
 def killed(program, path, first, seconds):
@@ -175,8 +288,14 @@ def main():
     [program] = sys.argv[1:]
     program = os.path.abspath(program)
     for test in [
+        test_other_words_ask_for_nothing,
+        test_no_other_file_is_touched,
+        test_an_empty_file_becomes_a_desk_once,
+        test_a_desk_outlives_each_run,
+        test_long_input_is_answered,
         test_replies_come_line_by_line,
         test_another_sqlite_reads_the_file,
+        test_another_database_is_no_desk,
         test_nothing_acknowledged_is_lost,
     ]:
         say(f"process {test.__name__}")

@@ -8,15 +8,14 @@ use crate::desk::Desk;
 use crate::fault::{CallFault, OpenFault, ScriptFault};
 use crate::run::Run;
 use crate::scripts::script;
-use book::{Change, FieldView, Kind, Line, OrderView, State, Tables};
-use escrow::Way;
+use book::{Change, Tables};
 use keep::{Keep, KeepFault, SqlKeep};
 use sqlite::{Connection, MemStore};
 use std::alloc::Global;
 use std::io::{Read, Write};
 use std::process::Abort;
 use std::test::Fail;
-use words::{Item, Reply, Request, read_item, write_reply};
+use words::{Item, Reply, Request, read_item};
 
 /// A line, and what is answered to it.
 pub(crate) type Row = (&'static str, &'static str);
@@ -267,120 +266,35 @@ pub(crate) fn request<R: AllocGlobal>(rt: &R, line: &str) -> Result<Request, Fai
     }
 }
 
-fn show_reply<R: AllocGlobal>(rt: &R, out: &mut String, reply: &Reply) -> Result<(), Fail> {
-    let mut text = Vec::new(rt.alloc());
-    write_reply(reply, &mut text)?;
-    out.push_str(str::from_utf8(&text)?)?;
-    Ok(())
-}
-
-fn show_field(out: &mut String, view: FieldView) -> Result<(), Fail> {
-    let branch = str::from_utf8(view.branch.as_bytes())?;
-    let article = str::from_utf8(view.article.as_bytes())?;
-    let (lo, hi, value) = (view.lo.get(), view.hi.get(), view.value.get());
-    let (inf, sup) = (view.inf.get(), view.sup.get());
-    write!(out, "? field {branch} {article} lo {lo} hi {hi}")?;
-    write!(out, " value {value} inf {inf} sup {sup}")?;
-    Ok(())
-}
-
-fn show_line(out: &mut String, line: &Line) -> Result<(), Fail> {
-    let way = match line.way {
-        Way::Take => "take",
-        Way::Add => "add",
-    };
-    let branch = str::from_utf8(line.branch.as_bytes())?;
-    let article = str::from_utf8(line.article.as_bytes())?;
-    write!(
-        out,
-        " {way} {branch} {article} {} {}",
-        line.held.get(),
-        line.used.get()
-    )?;
-    Ok(())
-}
-
-fn show_order(out: &mut String, view: &OrderView<'_>) -> Result<(), Fail> {
-    let kind = match view.kind {
-        Kind::Plain => "plain",
-        Kind::Transfer => "transfer",
-    };
-    let state = match view.state {
-        State::Open => "open",
-        State::Committed => "committed",
-        State::Aborted => "aborted",
-    };
-    let (number, until) = (view.number.get(), view.until.get());
-    write!(out, "? order {number} {kind} {until} {state}")?;
-    for line in view.lines {
-        show_line(out, line)?;
+/// The lines of these rows.
+pub(crate) fn lines_of(alloc: Global, rows: &[Row]) -> Result<Vec<u8>, Fail> {
+    let mut text = Vec::new(alloc);
+    for (line, _) in rows {
+        text.extend_from_slice(line.as_bytes())?;
+        text.push(b'\n')?;
     }
-    Ok(())
+    Ok(text)
 }
 
-/// What the desk answers to a request, with its key; none where it is stopped.
-fn answer_request<R: AllocGlobal, K: Keep>(
-    rt: &R,
-    desk: &mut Desk<K>,
-    request: &Request,
-) -> Result<Option<String>, Fail> {
-    let reply = match call(rt.alloc(), desk, request) {
-        Ok(reply) => reply,
-        Err(CallFault::Stopped) => return Ok(None),
-        Err(fault) => Err(fault)?,
-    };
-    let mut out = String::new(rt.alloc());
-    let key = str::from_utf8(request.key.as_bytes())?;
-    write!(out, "{key} ")?;
-    show_reply(rt, &mut out, &reply)?;
-    Ok(Some(out))
-}
-
-/// What the desk answers to a line; none where it is stopped.
-fn answer<R: AllocGlobal, K: Keep>(
-    rt: &R,
-    desk: &mut Desk<K>,
-    line: &str,
-) -> Result<Option<String>, Fail> {
-    let mut out = String::new(rt.alloc());
-    match &read_item(rt.alloc(), line.as_bytes())? {
-        Item::Request(request) => return answer_request(rt, desk, request),
-        Item::AskField(branch, article) => match desk.field(*branch, *article) {
-            Some(view) => show_field(&mut out, view)?,
-            None => out.push_str("? none")?,
-        },
-        Item::AskOrder(number) => match desk.order(*number) {
-            Some(view) => show_order(&mut out, &view)?,
-            None => out.push_str("? none")?,
-        },
-        Item::Bad => Err("a bad line")?,
+/// What is answered to the lines of these rows.
+pub(crate) fn replies_of(alloc: Global, rows: &[Row]) -> Result<Vec<u8>, Fail> {
+    let mut text = Vec::new(alloc);
+    for (_, reply) in rows {
+        text.extend_from_slice(reply.as_bytes())?;
+        text.push(b'\n')?;
     }
-    Ok(Some(out))
+    Ok(text)
 }
 
-/// Plays the lines from that index on, until the desk is stopped: the index of the one that is not answered then. Each
-/// is answered by what stands beside it.
-pub(crate) fn play_from<R: Abort + AllocGlobal, K: Keep>(
-    rt: &R,
-    desk: &mut Desk<K>,
-    rows: &[Row],
-    first: usize,
-) -> Result<usize, Fail> {
-    for (index, (line, want)) in rows.iter().enumerate().skip(first) {
-        let Some(out) = answer(rt, desk, line)? else {
-            return Ok(index);
-        };
-        assert_eq!(rt; out.as_str(), *want);
-    }
-    Ok(rows.len())
-}
-
-/// Plays all lines.
+/// Plays the rows as a script: each line is answered by what stands beside it.
 pub(crate) fn play<R: Abort + AllocGlobal, K: Keep>(
     rt: &R,
     desk: &mut Desk<K>,
     rows: &[Row],
 ) -> Result<(), Fail> {
-    assert_eq!(rt; play_from(rt, desk, rows, 0)?, rows.len());
+    let text = lines_of(rt.alloc(), rows)?;
+    let mut out = Vec::new(rt.alloc());
+    assert_eq!(rt; answer_script(rt.alloc(), &text, &mut out, desk), Ok(()));
+    assert!(rt; out.as_slice() == replies_of(rt.alloc(), rows)?.as_slice());
     Ok(())
 }

@@ -1,9 +1,10 @@
 use crate::samples::{
-    Row, answer_script, answer_stream, call, commit, connection_of, keeper, load, long_script,
-    open, opened, play, play_from, release_and_abort, request, run, sql_keeper, transfer,
+    Row, answer_script, answer_stream, call, commit, connection_of, keeper, lines_of, load,
+    long_script, open, opened, play, release_and_abort, replies_of, request, run, sql_keeper,
+    transfer,
 };
 use crate::{CallFault, Desk, Ending, OpenFault, ScriptFault};
-use book::{Change, FieldRow, Tables};
+use book::{Change, FieldRow};
 use keep::{Keep, PlainKeep};
 use sqlite::{Connection, MemStore};
 use std::io;
@@ -18,33 +19,13 @@ fn plain_keeper<R: AllocGlobal>(rt: &R) -> PlainKeep {
 }
 
 #[test]
-fn sql_answers_the_long_script(rt: HostRuntime) -> Result<(), Fail> {
-    play(&rt, &mut opened(&rt, sql_keeper(&rt)?)?, long_script())
-}
-
-#[test]
-fn sql_answers_a_transfer(rt: HostRuntime) -> Result<(), Fail> {
-    play(&rt, &mut opened(&rt, sql_keeper(&rt)?)?, transfer())
-}
-
-#[test]
-fn sql_answers_release_and_abort(rt: HostRuntime) -> Result<(), Fail> {
-    play(
-        &rt,
-        &mut opened(&rt, sql_keeper(&rt)?)?,
-        release_and_abort(),
-    )
-}
-
-#[test]
-fn plain_answers_the_same(rt: HostRuntime) -> Result<(), Fail> {
-    play(&rt, &mut opened(&rt, plain_keeper(&rt))?, long_script())?;
-    play(&rt, &mut opened(&rt, plain_keeper(&rt))?, transfer())?;
-    play(
-        &rt,
-        &mut opened(&rt, plain_keeper(&rt))?,
-        release_and_abort(),
-    )
+fn each_script_is_answered(rt: HostRuntime) -> Result<(), Fail> {
+    for rows in [long_script(), transfer(), release_and_abort()] {
+        play(&rt, &mut opened(&rt, sql_keeper(&rt)?)?, rows)?;
+        play(&rt, &mut opened(&rt, plain_keeper(&rt))?, rows)?;
+    }
+    crate::laws::exactly_one_text();
+    Ok(())
 }
 
 /// Plays each line on a desk of its own, opened over a connection that the one before has left.
@@ -78,100 +59,47 @@ fn a_reopening_changes_no_answer(rt: HostRuntime) -> Result<(), Fail> {
     Ok(())
 }
 
-/// Whether the row is a request that is done.
-fn is_done(row: &Row) -> bool {
-    row.1.contains(" done ")
-}
-
-/// The index of the next request behind that one that is done.
-fn next_done(rows: &[Row], index: usize) -> usize {
-    for (place, row) in rows.iter().enumerate() {
-        if place > index && is_done(row) {
-            return place;
-        }
-    }
-    rows.len()
-}
-
-/// The last request before that index that is done.
-fn last_done(rows: &[Row], end: usize) -> Option<usize> {
-    let mut last = None;
-    for (index, row) in rows.iter().take(end).enumerate() {
-        if is_done(row) {
-            last = Some(index);
-        }
-    }
-    last
-}
-
-/// The desk stands after the request of that index: it answers all that is asked before the next that is done.
-fn expect_after<R: Abort + AllocGlobal, K: Keep>(
+/// A script on a desk on which a commit fails: the lines before that request are answered, and nothing else. Its index.
+fn expect_cut<R: Abort + AllocGlobal, K: Keep>(
     rt: &R,
     desk: &mut Desk<K>,
     rows: &[Row],
-    index: usize,
-) -> Result<(), Fail> {
-    let end = next_done(rows, index);
-    let asks = rows.get(..end).ok_or("rows")?;
-    assert_eq!(rt; play_from(rt, desk, asks, index.saturating_add(1))?, end);
+) -> Result<usize, Fail> {
+    let text = lines_of(rt.alloc(), rows)?;
+    let mut out: Vec<u8> = Vec::new(rt.alloc());
+    let ended = answer_script(rt.alloc(), &text, &mut out, desk);
+    assert_eq!(rt; ended, Err(ScriptFault::Stopped));
+    let cut = out.iter().filter(|byte| **byte == b'\n').count();
+    let before = rows.get(..cut).ok_or("rows")?;
+    assert!(rt; out.as_slice() == replies_of(rt.alloc(), before)?.as_slice());
+    Ok(cut)
+}
+
+/// A further script on a stopped desk is answered up to its first request.
+fn expect_no_more<R: Abort + AllocGlobal, K: Keep>(rt: &R, desk: &mut Desk<K>) -> Result<(), Fail> {
+    let mut out: Vec<u8> = Vec::new(rt.alloc());
+    let text = b"? order 99\nK1 field N1 A-1 0 100 40\n? order 99\n".as_slice();
+    let ended = answer_script(rt.alloc(), text, &mut out, desk);
+    assert_eq!(rt; ended, Err(ScriptFault::Stopped));
+    assert!(rt; out.as_slice() == b"? none\n".as_slice());
     Ok(())
 }
 
-/// The desk is stopped, and answers no request.
-fn expect_stopped<R: Abort + AllocGlobal, K: Keep>(
-    rt: &R,
-    desk: &mut Desk<K>,
-    line: &str,
-) -> Result<(), Fail> {
-    assert!(rt; desk.is_stopped());
-    let repeat = request(rt, line)?;
-    assert_eq!(rt; call(rt.alloc(), desk, &repeat), Err(CallFault::Stopped));
-    Ok(())
-}
-
-/// A session in which that commit fails, so that the desk answers no more: the index of the request that was cut, and
-/// the keeper.
-fn cut_session<R: Abort + AllocGlobal>(
-    rt: &R,
-    fail_at: u64,
-    lands: bool,
-    rows: &[Row],
-) -> Result<(usize, PlainKeep), Fail> {
+/// A script in which that commit fails: it goes on from the request that was cut, whether its changes landed or not.
+fn expect_resumed<R: Abort + AllocGlobal>(rt: &R, fail_at: u64, lands: bool) -> Result<(), Fail> {
+    let rows = long_script();
     let mut desk = opened(rt, PlainKeep::start(rt.alloc(), Some(fail_at), lands))?;
-    let cut = play_from(rt, &mut desk, rows, 0)?;
-    assert!(rt; cut < rows.len());
-    expect_stopped(rt, &mut desk, rows[0].0)?;
-    Ok((cut, desk.into_keep()))
-}
-
-/// A session in which that commit fails. What a reopening finds has the request that was cut exactly where its changes
-/// landed, and the session goes on with it.
-fn expect_resumed<R: Abort + AllocGlobal>(
-    rt: &R,
-    fail_at: u64,
-    lands: bool,
-    rows: &[Row],
-) -> Result<(), Fail> {
-    let (cut, keep) = cut_session(rt, fail_at, lands, rows)?;
-    let last = if lands {
-        Some(cut)
-    } else {
-        last_done(rows, cut)
-    };
-    let mut desk = opened(rt, keep.reopen(None, false))?;
-    match last {
-        Some(index) => expect_after(rt, &mut desk, rows, index)?,
-        None => assert_eq!(rt; desk.book().field_count(), 0),
-    }
-    assert_eq!(rt; play_from(rt, &mut desk, rows, cut)?, rows.len());
-    Ok(())
+    let cut = expect_cut(rt, &mut desk, rows)?;
+    expect_no_more(rt, &mut desk)?;
+    let mut again = opened(rt, desk.into_keep().reopen(None, false))?;
+    play(rt, &mut again, rows.get(cut..).ok_or("rows")?)
 }
 
 #[test]
-fn a_session_goes_on_after_any_failing_commit(rt: HostRuntime) -> Result<(), Fail> {
+fn a_script_goes_on_after_any_failing_commit(rt: HostRuntime) -> Result<(), Fail> {
     for fail_at in 1..8 {
-        expect_resumed(&rt, fail_at, false, long_script())?;
-        expect_resumed(&rt, fail_at, true, long_script())?;
+        expect_resumed(&rt, fail_at, false)?;
+        expect_resumed(&rt, fail_at, true)?;
     }
     Ok(())
 }
@@ -204,14 +132,27 @@ fn refused<R: Abort + AllocGlobal, K: Keep + Drop>(
     }
 }
 
+/// The request of this line is answered like this.
+fn expect_call<R: Abort + AllocGlobal, K: Keep>(
+    rt: &R,
+    desk: &mut Desk<K>,
+    line: &str,
+    want: Result<Reply, CallFault>,
+) -> Result<(), Fail> {
+    let request = request(rt, line)?;
+    assert_eq!(rt; call(rt.alloc(), desk, &request), want);
+    Ok(())
+}
+
 #[test]
 fn a_stopped_keeper_opens_no_desk(rt: HostRuntime) -> Result<(), Fail> {
     let mut desk = opened(&rt, PlainKeep::start(rt.alloc(), Some(2), true))?;
-    let rows = [
-        ("K1 field N1 A-1 0 100 40", "K1 done 1"),
-        ("K2 deliver N1 A-1 5", ""),
-    ];
-    assert_eq!(rt; play_from(&rt, &mut desk, &rows, 0)?, 1);
+    let (first, second) = ("K1 field N1 A-1 0 100 40", "K2 deliver N1 A-1 5");
+    expect_call(&rt, &mut desk, first, Ok(Reply::Done(1)))?;
+    assert!(rt; !desk.is_stopped());
+    expect_call(&rt, &mut desk, second, Err(CallFault::Stopped))?;
+    expect_call(&rt, &mut desk, first, Err(CallFault::Stopped))?;
+    assert!(rt; desk.is_stopped());
     expect_field(&rt, &desk, 40, 40)?;
     let keep = refused(&rt, desk.into_keep(), OpenFault::Store)?;
     assert!(rt; keep.is_stopped());
@@ -258,35 +199,6 @@ fn field_row<R: AllocGlobal>(rt: &R, inf: i64) -> Result<FieldRow, Fail> {
     })
 }
 
-/// The rows are those after the first request of the long script, but for the infimum of the field.
-fn expect_field_row<R: Abort>(rt: &R, row: &FieldRow, inf: i64) {
-    assert_eq!(rt; (row.branch.as_str(), row.article.as_str()), ("N1", "A-1"));
-    assert_eq!(rt; (row.lo, row.hi, row.start), (0, 100, 40));
-    assert_eq!(rt; (row.value, row.inf, row.sup), (40, inf, 40));
-}
-
-/// The tables are those after the first request of the long script, but for the infimum of the field.
-fn expect_rows<R: Abort + AllocGlobal>(rt: &R, tables: &Tables, inf: i64) -> Result<(), Fail> {
-    let [field] = tables.fields.as_slice() else {
-        return Err(Fail::from("one field"));
-    };
-    expect_field_row(rt, field, inf);
-    let [kept] = tables.kept.as_slice() else {
-        return Err(Fail::from("one kept key"));
-    };
-    assert_eq!(rt; (kept.reqkey.as_str(), kept.place), ("K1", 1));
-    assert_eq!(rt; kept.words.as_str(), "field N1 A-1 0 100 40");
-    let desk = &tables.desk;
-    assert_eq!(rt;
-        (desk.one, desk.version, desk.clock, desk.places),
-        (1, 1, 0, 1)
-    );
-    assert!(rt; tables.moves.as_slice().is_empty());
-    assert!(rt; tables.orders.as_slice().is_empty());
-    assert!(rt; tables.lines.as_slice().is_empty());
-    Ok(())
-}
-
 /// The keeper after the first request of the long script.
 fn after_first<R: Abort + AllocGlobal, K: Keep + Drop>(rt: &R, keep: K) -> Result<K, Fail> {
     let mut desk = opened(rt, keep)?;
@@ -301,13 +213,18 @@ fn put_infimum<R: AllocGlobal, K: Keep>(rt: &R, keep: &mut K, inf: i64) -> Resul
     Ok(())
 }
 
-/// What the keeper loads are the rows after the first request, but for the infimum of the field.
-fn expect_loaded<R: Abort + AllocGlobal, K: Keep>(
+/// What the keeper loads has one field, with this infimum.
+fn expect_infimum<R: Abort + AllocGlobal, K: Keep>(
     rt: &R,
     keep: &mut K,
     inf: i64,
 ) -> Result<(), Fail> {
-    expect_rows(rt, &load(rt.alloc(), keep)?, inf)
+    let tables = load(rt.alloc(), keep)?;
+    let [field] = tables.fields.as_slice() else {
+        return Err(Fail::from("one field"));
+    };
+    assert_eq!(rt; field.inf, inf);
+    Ok(())
 }
 
 /// A desk is damaged by one number of one row: it is not opened, and the rows stay as they are.
@@ -316,7 +233,7 @@ fn damaged<R: Abort + AllocGlobal, K: Keep + Drop>(rt: &R, keep: K) -> Result<K,
     put_infimum(rt, &mut keep, 41)?;
     let mut keep = refused(rt, keep, OpenFault::Damaged)?;
     assert!(rt; !keep.is_stopped());
-    expect_loaded(rt, &mut keep, 41)?;
+    expect_infimum(rt, &mut keep, 41)?;
     Ok(keep)
 }
 
@@ -324,11 +241,8 @@ fn damaged<R: Abort + AllocGlobal, K: Keep + Drop>(rt: &R, keep: K) -> Result<K,
 fn expect_damaged<R: Abort + AllocGlobal, K: Keep + Drop>(rt: &R, keep: K) -> Result<(), Fail> {
     let mut keep = damaged(rt, keep)?;
     put_infimum(rt, &mut keep, 40)?;
-    expect_loaded(rt, &mut keep, 40)?;
-    let rows = long_script();
-    let end = play_from(rt, &mut opened(rt, keep)?, rows, 1)?;
-    assert_eq!(rt; end, rows.len());
-    Ok(())
+    let rest = long_script().get(1..).ok_or("rows")?;
+    play(rt, &mut opened(rt, keep)?, rest)
 }
 
 #[test]
@@ -413,77 +327,6 @@ fn a_refusal_ends_no_run(rt: HostRuntime) -> Result<(), Fail> {
     let requests = requests(&rt, &lines)?;
     let mut desk = opened(&rt, sql_keeper(&rt)?)?;
     expect_run(&rt, &mut desk, &requests, Ending::All, &replies);
-    Ok(())
-}
-
-/// The script of these rows, and what is answered to it.
-fn texts<R: AllocGlobal>(rt: &R, rows: &[Row]) -> Result<(String, String), Fail> {
-    let mut script = String::new(rt.alloc());
-    let mut replies = String::new(rt.alloc());
-    for (line, reply) in rows {
-        writeln!(script, "{line}")?;
-        writeln!(replies, "{reply}")?;
-    }
-    Ok((script, replies))
-}
-
-#[test]
-fn a_script_is_answered(rt: HostRuntime) -> Result<(), Fail> {
-    for rows in [long_script(), transfer(), release_and_abort()] {
-        let (text, replies) = texts(&rt, rows)?;
-        let mut desk = opened(&rt, sql_keeper(&rt)?)?;
-        let mut out: Vec<u8> = Vec::new(rt.alloc());
-        assert_eq!(rt;
-            answer_script(rt.alloc(), text.as_bytes(), &mut out, &mut desk),
-            Ok(())
-        );
-        assert!(rt; out.as_slice() == replies.as_bytes());
-    }
-    crate::laws::exactly_one_text();
-    Ok(())
-}
-
-/// A further script on a stopped desk is answered up to its first request.
-fn expect_no_more<R: Abort + AllocGlobal, K: Keep>(rt: &R, desk: &mut Desk<K>) -> Result<(), Fail> {
-    assert!(rt; desk.is_stopped());
-    let mut out: Vec<u8> = Vec::new(rt.alloc());
-    let text = b"? order 99\nK1 field N1 A-1 0 100 40\n? order 99\n".as_slice();
-    let ended = answer_script(rt.alloc(), text, &mut out, desk);
-    assert_eq!(rt; ended, Err(ScriptFault::Stopped));
-    assert!(rt; out.as_slice() == b"? none\n".as_slice());
-    Ok(())
-}
-
-/// What is written of the long script where that commit fails.
-fn cut_script<R: Abort + AllocGlobal>(rt: &R, fail_at: u64, lands: bool) -> Result<Vec<u8>, Fail> {
-    let (text, _) = texts(rt, long_script())?;
-    let mut desk = opened(rt, PlainKeep::start(rt.alloc(), Some(fail_at), lands))?;
-    let mut out: Vec<u8> = Vec::new(rt.alloc());
-    let ended = answer_script(rt.alloc(), text.as_bytes(), &mut out, &mut desk);
-    assert_eq!(rt; ended, Err(ScriptFault::Stopped));
-    expect_no_more(rt, &mut desk)?;
-    Ok(out)
-}
-
-/// A script in which that commit fails: every line before that request is answered, and nothing else.
-fn expect_cut_script<R: Abort + AllocGlobal>(
-    rt: &R,
-    fail_at: u64,
-    lands: bool,
-) -> Result<(), Fail> {
-    let out = cut_script(rt, fail_at, lands)?;
-    let (cut, _) = cut_session(rt, fail_at, lands, long_script())?;
-    let (_, replies) = texts(rt, long_script().get(..cut).ok_or("rows")?)?;
-    assert!(rt; out.as_slice() == replies.as_bytes());
-    Ok(())
-}
-
-#[test]
-fn a_script_ends_where_a_commit_fails(rt: HostRuntime) -> Result<(), Fail> {
-    for fail_at in 1..8 {
-        expect_cut_script(&rt, fail_at, false)?;
-        expect_cut_script(&rt, fail_at, true)?;
-    }
     Ok(())
 }
 

@@ -1,12 +1,14 @@
 //! A desk in a file.
 
-ghost use Rattle.std.specs.Prelude.{◌≡◌, ◌⊎◌, ◌↔◌, IfErr, OnErr, OnOk};
+ghost use Rattle.std.specs.Prelude.{◌≡◌, ◌⊎◌, ◌↔◌, false, IfErr, OnErr, OnOk};
 ghost use Rattle.stockdesk.specs.Runs.{PlaysInPart, PlaysWhole};
 ghost use Rattle.stockdesk.specs.Sessions.{ReadsDesks};
 
 use crate::session::{Fault, session};
-use keep::{KeepFault, SqlKeep, open_path};
-use sqlite::{Connection, Error, ErrorCode, FileFrom, FileStore, Start};
+use keep::{Keep, KeepFault, SqlKeep, open_path};
+use sqlite::{Connection, Error, ErrorCode, FileStore, Start};
+use sqlite_disk::Disk;
+use std::alloc::Global;
 use std::fs;
 use std::io::{ErrorKind, Read, Write};
 
@@ -49,10 +51,24 @@ fn open_fault(error: Error) -> Fault
 }
 
 /// Copies the log into the file where that succeeds, and closes both.
-pub fn close<S: Start>(conn: Connection<FileStore<FileFrom<S>>>) {
+pub fn close<D: Disk + Drop>(conn: Connection<FileStore<D>>) {
     match conn.close_files() {
         Ok(files) => drop(files),
         Err((_, store)) => drop(store.close()),
+    }
+}
+
+/// Makes a new desk over the connection, and closes its files.
+fn make_over<D: Disk + Drop>(mut conn: Connection<FileStore<D>>) -> Result<(), Fault>
+    requires { conn.in_transaction ≡ false }
+    ensures { IfErr result (λ fault. (fault ≡ Fault.Memory) ⊎ (fault ≡ Fault.Store)) }
+{
+    let made = SqlKeep::create_over(&mut conn);
+    close(conn);
+    match made {
+        Ok(()) => Ok(()),
+        Err(KeepFault::Memory) => Err(Fault::Memory),
+        Err(_) => Err(Fault::Store),
     }
 }
 
@@ -60,16 +76,9 @@ pub fn close<S: Start>(conn: Connection<FileStore<FileFrom<S>>>) {
 fn make<S: Start>(rt: &HostRuntime, path: &str, start: S) -> Result<(), Fault>
     ensures { IfErr result (λ fault. (fault ≡ Fault.Memory) ⊎ (fault ≡ Fault.Store)) }
 {
-    let mut conn = match Connection::open_from(rt, path, false, start) {
-        Ok(conn) => conn,
-        Err((error, _)) => return Err(open_fault(error)),
-    };
-    let made = SqlKeep::create_over(&mut conn);
-    close(conn);
-    match made {
-        Ok(()) => Ok(()),
-        Err(KeepFault::Memory) => Err(Fault::Memory),
-        Err(_) => Err(Fault::Store),
+    match Connection::open_from(rt, path, false, start) {
+        Ok(conn) => make_over(conn),
+        Err((error, _)) => Err(open_fault(error)),
     }
 }
 
@@ -81,6 +90,36 @@ pub fn init<S: Start>(rt: &HostRuntime, path: &str, start: S) -> Result<(), Faul
         Found::Nothing => make(rt, path, start),
         Found::Directory | Found::OneByte | Found::File => Err(Fault::NotADesk),
     }
+}
+
+/// A session, of whose desk no more is said than that it is good. (What it says of its keeper is long over files.)
+fn play_on<K: Keep, R: Read, W: Write>(
+    alloc: Global,
+    keep: K,
+    reader: &mut R,
+    writer: &mut W,
+) -> (K, Result<(), Fault>)
+    ensures whole { OnOk result.1 (PlaysWhole (R.remaining reader.old) (R.remaining reader.new) (W.contents writer.old) (W.contents writer.new)) }
+    ensures beginning { OnErr result.1 (PlaysInPart (R.remaining reader.old) (R.remaining reader.new) (W.contents writer.old) (W.contents writer.new)) }
+    ensures desk { IfErr result.1 (λ fault. ReadsDesks fault (R.remaining reader.old) (R.remaining reader.new) (W.contents writer.old) (W.contents writer.new)) }
+{
+    session(alloc, keep, reader, writer)
+}
+
+/// Plays a script on the desk that the keeper holds, and closes its files.
+fn play_over<D: Disk + Drop, R: Read, W: Write>(
+    alloc: Global,
+    keep: SqlKeep<FileStore<D>>,
+    reader: &mut R,
+    writer: &mut W,
+) -> Result<(), Fault>
+    ensures whole { OnOk result (PlaysWhole (R.remaining reader.old) (R.remaining reader.new) (W.contents writer.old) (W.contents writer.new)) }
+    ensures beginning { OnErr result (PlaysInPart (R.remaining reader.old) (R.remaining reader.new) (W.contents writer.old) (W.contents writer.new)) }
+    ensures desk { IfErr result (λ fault. ReadsDesks fault (R.remaining reader.old) (R.remaining reader.new) (W.contents writer.old) (W.contents writer.new)) }
+{
+    let (keep, ended) = play_on(alloc, keep, reader, writer);
+    close(keep.into_connection());
+    ended
 }
 
 /// Plays a script on the desk in the file at the path, and closes the file.
@@ -95,13 +134,10 @@ fn play<S: Start, R: Read, W: Write>(
     ensures beginning { OnErr result (PlaysInPart (R.remaining reader.old) (R.remaining reader.new) (W.contents writer.old) (W.contents writer.new)) }
     ensures desk { IfErr result (λ fault. ReadsDesks fault (R.remaining reader.old) (R.remaining reader.new) (W.contents writer.old) (W.contents writer.new)) }
 {
-    let keep = match open_path(rt, path, start) {
-        Ok(keep) => keep,
-        Err(error) => return Err(open_fault(error)),
-    };
-    let (keep, ended) = session(rt.alloc(), keep, reader, writer);
-    close(keep.into_connection());
-    ended
+    match open_path(rt, path, start) {
+        Ok(keep) => play_over(rt.alloc(), keep, reader, writer),
+        Err(error) => Err(open_fault(error)),
+    }
 }
 
 /// Plays a script on the desk in the file at the path. A file that is not there or has no bytes is `NotADesk`, and none is

@@ -5,9 +5,8 @@ mod rows;
 
 use super::*;
 use crate::memory::run;
-use itoa::Buffer;
-use rows::{FIRST, ROWS};
-use std::fs;
+use rows::{BAD, FIRST, LONG, LONG_REPLIES, rows};
+use std::alloc::Global;
 use std::process::Abort;
 use std::test::Fail;
 
@@ -77,6 +76,17 @@ fn expect_bytes(bytes: &[u8], want: &str) -> Result<(), Fail> {
     }
 }
 
+/// The status that the program ends with: the call without its clauses, so that a test's proof need not carry them.
+fn ended<R: Read, W: Write>(
+    rt: &HostRuntime,
+    words: &[&str],
+    reader: &mut R,
+    writer: &mut W,
+    errors: &mut Vec<u8>,
+) -> u8 {
+    go(rt, words, reader, writer, errors)
+}
+
 /// The program ends with this status, after this output and these lines of faults.
 fn expect_done(
     rt: &HostRuntime,
@@ -86,7 +96,7 @@ fn expect_done(
 ) -> Result<(), Fail> {
     let mut out: Vec<u8> = Vec::new(rt.alloc());
     let mut errors: Vec<u8> = Vec::new(rt.alloc());
-    let status = go(rt, words, &mut input.as_bytes(), &mut out, &mut errors);
+    let status = ended(rt, words, &mut input.as_bytes(), &mut out, &mut errors);
     if status != want.0 {
         Err("another status")?;
     }
@@ -94,82 +104,43 @@ fn expect_done(
     expect_bytes(&errors, want.2)
 }
 
-fn expect(rt: &HostRuntime, script: &str, replies: &str) -> Result<(), Fail> {
-    expect_done(rt, &["stockdesk", "run"], script, (0, replies, ""))
-}
-
 #[test]
 fn scripts_are_answered(rt: HostRuntime) -> Result<(), Fail> {
-    for (script, replies) in ROWS {
-        expect(&rt, script, replies)?;
+    for (script, replies) in rows() {
+        expect_done(&rt, &["stockdesk", "run"], script, (0, replies, ""))?;
+    }
+    for line in BAD {
+        let bad = (0, "- refused 20 BadCommand 0\n", "");
+        expect_done(&rt, &["stockdesk", "run"], line, bad)?;
     }
     Ok(())
 }
 
-#[test]
-fn lines_have_one_spelling(rt: HostRuntime) -> Result<(), Fail> {
-    for script in [
-        "\n",
-        "K1  commit 7\n",
-        "K1 deliver N1 A-1 05\n",
-        "K1 deliver N1 A-1 0\n",
-        "K1 deliver N1 A-1 1000001\n",
-        "K1 deliver n1 A-1 5\n",
-        "K1 deliver N1 -A 5\n",
-        "K1 commit 7\r\n",
-        "K9 use 7 N1 A-1 5",
-        "K1 deliver N1 A-1 +5\n",
-        "K1 deliver N1 A-1 5 \n",
-        "K1 field N1 A-1 00 100 40\n",
-        "K1 field N1 A-1 0 1000000001 40\n",
-        "? field  N1 A-1\n",
-        "? order 07\n",
-        "K1 expire 4000000001\n",
-        "\0\n",
-    ] {
-        expect(&rt, script, "- refused 20 BadCommand 0\n")?;
-    }
-    expect(
-        &rt,
-        "K1 deliver N1 A-1 1000000\n",
-        "K1 refused 4 NoField 0\n",
-    )
+/// What a script of these pieces is answered by a new desk in memory, likewise.
+fn answer<R: Read, W: Write>(alloc: Global, reader: &mut R, writer: &mut W) -> Result<(), Fault> {
+    run(alloc, reader, writer)
 }
 
-/// The fields `N1 A0` and on, so many, each with the bounds 0 and 1,000 and 500 pieces.
-fn add_fields(script: &mut Vec<u8>, count: u64) -> Result<(), Fail> {
-    let mut buffer = Buffer::new();
-    for i in 0..count {
-        script.extend_from_slice(b"F")?;
-        script.extend_from_slice(buffer.format(i).as_bytes())?;
-        script.extend_from_slice(b" field N1 A")?;
-        script.extend_from_slice(buffer.format(i).as_bytes())?;
-        script.extend_from_slice(b" 0 1000 500\n")?;
+/// A script of 65 fields, and an `open` of a line on each of so many of these.
+fn long_open(alloc: Global, count: u64) -> Result<String, Fail> {
+    let mut script = String::new(alloc);
+    for number in 0..65u64 {
+        writeln!(script, "F{number} field N1 A{number} 0 1000 500")?;
     }
-    Ok(())
-}
-
-/// An `open` of a line on each of so many of these fields.
-fn add_open(script: &mut Vec<u8>, count: u64) -> Result<(), Fail> {
-    let mut buffer = Buffer::new();
-    script.extend_from_slice(b"K open 7 120")?;
-    for i in 0..count {
-        script.extend_from_slice(b" take N1 A")?;
-        script.extend_from_slice(buffer.format(i).as_bytes())?;
-        script.extend_from_slice(b" 1")?;
+    write!(script, "K open 7 120")?;
+    for number in 0..count {
+        write!(script, " take N1 A{number} 1")?;
     }
-    script.extend_from_slice(b"\n")?;
-    Ok(())
+    writeln!(script)?;
+    Ok(script)
 }
 
 #[test]
 fn an_open_has_64_lines_at_the_most(rt: HostRuntime) -> Result<(), Fail> {
     for (count, last) in [(64, "K done 66\n"), (65, "- refused 20 BadCommand 0\n")] {
-        let mut script: Vec<u8> = Vec::new(rt.alloc());
-        add_fields(&mut script, 65)?;
-        add_open(&mut script, count)?;
+        let script = long_open(rt.alloc(), count)?;
         let mut out: Vec<u8> = Vec::new(rt.alloc());
-        assert!(rt; run(rt.alloc(), &mut script.as_slice(), &mut out) == Ok(()));
+        assert!(rt; answer(rt.alloc(), &mut script.as_bytes(), &mut out) == Ok(()));
         assert!(rt; out.as_slice().ends_with(last.as_bytes()));
         assert!(rt; out.as_slice().starts_with(b"F0 done 1\nF1 done 2\n"));
     }
@@ -177,87 +148,17 @@ fn an_open_has_64_lines_at_the_most(rt: HostRuntime) -> Result<(), Fail> {
 }
 
 #[test]
-fn a_script_of_2000_commands_is_answered(rt: HostRuntime) -> Result<(), Fail> {
-    let mut buffer = Buffer::new();
-    let mut script: Vec<u8> = Vec::new(rt.alloc());
-    add_fields(&mut script, 50)?;
-    for i in 0..1950u64 {
-        script.extend_from_slice(b"K")?;
-        script.extend_from_slice(buffer.format(i).as_bytes())?;
-        if i % 3 == 0 {
-            script.extend_from_slice(b" open ")?;
-            script.extend_from_slice(buffer.format(i + 1).as_bytes())?;
-            script.extend_from_slice(b" 120 take N1 A")?;
-        } else {
-            script.extend_from_slice(b" deliver N1 A")?;
-        }
-        script.extend_from_slice(buffer.format(i % 50).as_bytes())?;
-        script.extend_from_slice(b" 1\n")?;
-    }
-    script.extend_from_slice(b"? field N1 A0\n")?;
-    let mut out: Vec<u8> = Vec::new(rt.alloc());
-    assert!(rt; run(rt.alloc(), &mut script.as_slice(), &mut out) == Ok(()));
-    // of the 39 commands on this field every third is an order
-    let last = "K1949 done 2000\n? field N1 A0 lo 0 hi 1000 value 526 inf 513 sup 526\n";
-    assert!(rt; out.as_slice().ends_with(last.as_bytes()));
-    Ok(())
-}
-
-/// Words that ask for nothing that the program does: no words, others, too many, and those that ask for help.
-#[test]
-fn other_words_are_usage(rt: HostRuntime) -> Result<(), Fail> {
-    for words in [
-        ["stockdesk"].as_slice(),
-        &["stockdesk", "Run"],
-        &["stockdesk", "init"],
-        &["stockdesk", "run", "usage.db", "more"],
-        &["stockdesk", "init", "usage.db", "more"],
-        &["stockdesk", "--help"],
-        &["stockdesk", "--version"],
-    ] {
-        let mut out: Vec<u8> = Vec::new(rt.alloc());
-        let mut errors: Vec<u8> = Vec::new(rt.alloc());
-        let status = go(&rt, words, &mut b"\n".as_slice(), &mut out, &mut errors);
-        assert_eq!(rt; status, 2);
-        assert!(rt; out.is_empty());
-        assert!(rt; !errors.is_empty());
-        assert!(rt; !fs::exists(&rt, "usage.db")?);
-    }
-    Ok(())
-}
-
-#[test]
 fn a_script_is_answered_alike_in_any_pieces(rt: HostRuntime) -> Result<(), Fail> {
     desk::exactly_one_text();
-    for (script, replies) in ROWS {
-        for size in 1..=40 {
-            let mut out: Vec<u8> = Vec::new(rt.alloc());
-            let mut reader = Drip {
-                bytes: script.as_bytes(),
-                size,
-                before_fault: usize::MAX,
-            };
-            assert!(rt; run(rt.alloc(), &mut reader, &mut out) == Ok(()));
-            assert!(rt; out.as_slice() == replies.as_bytes(), "{size}");
-        }
-    }
-    Ok(())
-}
-
-#[test]
-fn a_line_too_long_is_bad_once(rt: HostRuntime) -> Result<(), Fail> {
-    for length in [4_096, 4_097, 10_000] {
-        let mut script: Vec<u8> = Vec::new(rt.alloc());
-        for _ in 0..length {
-            script.push(b'A')?;
-        }
+    for size in 1..=40 {
         let mut out: Vec<u8> = Vec::new(rt.alloc());
-        assert!(rt; run(rt.alloc(), &mut script.as_slice(), &mut out) == Ok(()));
-        assert!(rt; out.as_slice() == b"- refused 20 BadCommand 0\n".as_slice());
-        script.extend_from_slice(b"\nK1 field N1 A-1 0 100 40\n")?;
-        let mut out: Vec<u8> = Vec::new(rt.alloc());
-        assert!(rt; run(rt.alloc(), &mut script.as_slice(), &mut out) == Ok(()));
-        assert!(rt; out.as_slice() == b"- refused 20 BadCommand 0\nK1 done 1\n".as_slice());
+        let mut reader = Drip {
+            bytes: LONG.as_bytes(),
+            size,
+            before_fault: usize::MAX,
+        };
+        assert!(rt; answer(rt.alloc(), &mut reader, &mut out) == Ok(()));
+        assert!(rt; out.as_slice() == LONG_REPLIES.as_bytes(), "{size}");
     }
     Ok(())
 }
@@ -273,7 +174,7 @@ fn a_failing_reader_is_a_fault(rt: HostRuntime) -> Result<(), Fail> {
             size: 1,
             before_fault,
         };
-        let status = go(
+        let status = ended(
             &rt,
             &["stockdesk", "run"],
             &mut reader,
@@ -306,7 +207,7 @@ fn a_failing_writer_is_a_fault(rt: HostRuntime) -> Result<(), Fail> {
                 takes_none,
             };
             let mut reader = script;
-            let status = go(
+            let status = ended(
                 &rt,
                 &["stockdesk", "run"],
                 &mut reader,
@@ -319,25 +220,5 @@ fn a_failing_writer_is_a_fault(rt: HostRuntime) -> Result<(), Fail> {
             assert!(rt; errors.as_slice() == b"stockdesk: io\n".as_slice());
         }
     }
-    Ok(())
-}
-
-#[test]
-fn a_reply_comes_before_the_next_read(rt: HostRuntime) -> Result<(), Fail> {
-    let script = b"K1 field N1 A-1 0 100 40\n? field N1 A-1\n".as_slice();
-    let mut reader = Drip {
-        bytes: script,
-        size: 1,
-        before_fault: usize::MAX,
-    };
-    let mut writer = Sink {
-        taken: Vec::new(rt.alloc()),
-        before_fault: 0,
-        takes_none: false,
-    };
-    let ended = run(rt.alloc(), &mut reader, &mut writer);
-    assert!(rt; ended == Err(Fault::Write));
-    // the first line was read, and nothing behind it
-    assert!(rt; reader.bytes == b"? field N1 A-1\n".as_slice());
     Ok(())
 }

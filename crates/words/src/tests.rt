@@ -6,6 +6,10 @@ use std::process::Abort;
 use std::test::Fail;
 
 /// A command of each kind.
+fn commands() -> &'static [&'static str] {
+    &COMMANDS
+}
+
 const COMMANDS: [&str; 12] = [
     "field N1 A-1 0 100 40",
     "deliver N1 A-1 1000000",
@@ -22,6 +26,10 @@ const COMMANDS: [&str; 12] = [
 ];
 
 /// Lines that are no request.
+fn bad_lines() -> &'static [&'static str] {
+    &BAD
+}
+
 const BAD: [&str; 26] = [
     "",
     " ",
@@ -55,6 +63,10 @@ const SCRIPT: &str =
     "K1 field N1 A-1 0 100 40\nK2 deliver N1 A-1 60\n? field N1 A-1\n\n? order 7\nK9 open 7 2000000000 take N1 A-1 60\nK5 writeoff N1 A-1 1\n";
 
 /// Every refusal with its number and its name.
+fn refusals() -> &'static [(Refusal, u64, &'static str)] {
+    &REFUSALS
+}
+
 const REFUSALS: [(Refusal, u64, &str); 19] = [
     (Refusal::KeyReused, 1, "KeyReused"),
     (Refusal::Full, 2, "Full"),
@@ -117,16 +129,22 @@ fn fed(alloc: Global, lines: &mut Lines, script: &[u8], size: usize) -> Result<V
     Ok(out)
 }
 
+/// The text is read as a command, which is written back behind what is there.
+fn expect_command<R: Abort + AllocGlobal>(rt: &R, text: &str) -> Result<(), Fail> {
+    let command = read_command(rt.alloc(), text.as_bytes())?;
+    command.in_range();
+    let mut out = Vec::from_slice(rt.alloc(), b"K1 ")?;
+    write_command(&command, &mut out)?;
+    assert!(rt; out.as_slice().starts_with(b"K1 "));
+    assert!(rt; out.as_slice().ends_with(text.as_bytes()), "{text}");
+    assert_eq!(rt; out.len(), text.len() + 3);
+    Ok(())
+}
+
 #[test]
 fn each_kind_is_read_and_written_back(rt: HostRuntime) -> Result<(), Fail> {
-    for text in COMMANDS {
-        let command = read_command(rt.alloc(), text.as_bytes())?;
-        command.in_range();
-        let mut out = Vec::from_slice(rt.alloc(), b"K1 ")?;
-        write_command(&command, &mut out)?;
-        let (front, back) = out.as_slice().split_at(3);
-        assert!(rt; front == b"K1 ".as_slice());
-        assert!(rt; back == text.as_bytes(), "{text}");
+    for text in commands() {
+        expect_command(&rt, text)?;
     }
     Ok(())
 }
@@ -155,101 +173,140 @@ fn the_parts_of_a_command_are_read(rt: HostRuntime) -> Result<(), Fail> {
     Ok(())
 }
 
+fn expect_bad<R: Abort + AllocGlobal>(rt: &R, line: &[u8]) -> Result<(), Fail> {
+    let item = read_item(rt.alloc(), line)?;
+    assert!(rt; matches!(item, Item::Bad));
+    Ok(())
+}
+
+/// Behind a key the text is a request, and with one space more it is none.
+fn expect_request<R: Abort + AllocGlobal>(rt: &R, text: &str) -> Result<(), Fail> {
+    let mut line = Vec::from_slice(rt.alloc(), b"K-1 ")?;
+    line.extend_from_slice(text.as_bytes())?;
+    let Item::Request(request) = read_item(rt.alloc(), &line)? else {
+        return Err(Fail::from("no request"));
+    };
+    request.in_range();
+    assert!(rt; request.key.as_bytes() == b"K-1".as_slice());
+    line.push(b' ')?;
+    expect_bad(rt, &line)
+}
+
 #[test]
 fn lines_have_one_spelling(rt: HostRuntime) -> Result<(), Fail> {
     exactly_one_item();
-    for text in BAD {
-        let item = read_item(rt.alloc(), text.as_bytes())?;
-        assert!(rt; matches!(item, Item::Bad), "{text}");
+    for line in bad_lines() {
+        expect_bad(&rt, line.as_bytes())?;
     }
-    for text in COMMANDS {
-        let mut line = Vec::from_slice(rt.alloc(), b"K-1 ")?;
-        line.extend_from_slice(text.as_bytes())?;
-        let Item::Request(request) = read_item(rt.alloc(), &line)? else {
-            return Err(Fail::from("no request"));
-        };
-        request.in_range();
-        assert!(rt; request.key.as_bytes() == b"K-1".as_slice());
-        line.push(b' ')?;
-        let longer = read_item(rt.alloc(), &line)?;
-        assert!(rt; matches!(longer, Item::Bad), "{text}");
+    for text in commands() {
+        expect_request(&rt, text)?;
     }
     Ok(())
+}
+
+/// An order of so many lines is read, whose lines are given back, or none where they are too many.
+fn expect_order<R: Abort + AllocGlobal>(rt: &R, text: &[u8], count: usize) -> Result<(), Fail> {
+    match read_command(rt.alloc(), text) {
+        Ok(Command::Open { lines, .. }) => {
+            assert!(rt; 1 <= count && count <= MAX_ORDER_LINES);
+            assert_eq!(rt; lines.as_slice().len(), count);
+            let lines = lines.into_vec();
+            assert_eq!(rt; lines.len(), count);
+            assert!(rt; OpenLines::new(lines).is_some());
+            Ok(())
+        }
+        Err(WordsFault::BadCommand) => {
+            assert!(rt; count == 0 || count == 65);
+            Ok(())
+        }
+        _ => Err(Fail::from("no open")),
+    }
 }
 
 #[test]
 fn an_order_has_1_to_64_lines(rt: HostRuntime) -> Result<(), Fail> {
     no_request_is_too_long();
-    let line = b" take ABCDEFG8 ABCDEFGHIJKLMNO6 1000000".as_slice();
     let mut text = Vec::from_slice(rt.alloc(), b"open 999999999 4000000000")?;
-    assert!(rt; matches!(read_command(rt.alloc(), &text), Err(WordsFault::BadCommand)));
-    let mut longest = 0;
-    for count in 1..=65 {
-        text.extend_from_slice(line)?;
-        match read_command(rt.alloc(), &text) {
-            Ok(Command::Open { lines, .. }) => {
-                assert!(rt; count <= MAX_ORDER_LINES);
-                assert_eq!(rt; lines.as_slice().len(), count);
-                let lines = lines.into_vec();
-                assert_eq!(rt; lines.len(), count);
-                assert!(rt; OpenLines::new(lines).is_some());
-                longest = text.len();
-            }
-            Err(WordsFault::BadCommand) => assert_eq!(rt; count, 65),
-            _ => return Err(Fail::from("no open")),
-        }
+    for count in 0..=65 {
+        expect_order(&rt, &text, count)?;
+        // with a key of 36 bytes and a space in front
+        assert!(rt; count != MAX_ORDER_LINES || text.len() == 2558 - 37);
+        text.extend_from_slice(b" take ABCDEFG8 ABCDEFGHIJKLMNO6 1000000")?;
     }
-    // with a key of 36 bytes and a space in front
-    assert_eq!(rt; longest, 2558 - 37);
     assert!(rt; OpenLines::new(Vec::new(rt.alloc())).is_none());
     Ok(())
 }
 
 #[test]
-fn words_are_numbers_and_ways(rt: HostRuntime) -> Result<(), Fail> {
-    for (text, number) in [
-        ("0", 0),
-        ("7", 7),
-        ("10", 10),
-        ("4000000000", 4_000_000_000),
+fn words_are_numbers_and_ways(rt: HostRuntime) {
+    for (text, number, way) in [
+        ("0", Some(0), None),
+        ("7", Some(7), None),
+        ("10", Some(10), None),
+        ("4000000000", Some(4_000_000_000), None),
+        ("take", None, Some(Way::Take)),
+        ("add", None, Some(Way::Add)),
+        ("", None, None),
+        ("00", None, None),
+        ("07", None, None),
+        ("+7", None, None),
+        ("-7", None, None),
+        ("7 ", None, None),
+        ("7a", None, None),
+        ("4000000001", None, None),
+        ("99999999999999999999", None, None),
+        ("Take", None, None),
+        ("takes", None, None),
+        ("ad", None, None),
     ] {
-        assert!(rt; read_number(text.as_bytes()) == Some(number), "{text}");
+        assert!(rt; read_number(text.as_bytes()) == number, "{text}");
+        assert!(rt; read_way(text.as_bytes()) == way, "{text}");
     }
-    for text in [
-        "",
-        "00",
-        "07",
-        "+7",
-        "-7",
-        "7 ",
-        "7a",
-        "4000000001",
-        "99999999999999999999",
-    ] {
-        assert!(rt; read_number(text.as_bytes()).is_none(), "{text}");
-    }
-    assert!(rt; read_way(b"take") == Some(Way::Take));
-    assert!(rt; read_way(b"add") == Some(Way::Add));
-    for text in ["", "Take", "takes", "ad"] {
-        assert!(rt; read_way(text.as_bytes()).is_none(), "{text}");
-    }
+}
+
+fn expect_refusal<R: Abort>(rt: &R, refusal: Refusal, code: u64, name: &str) {
+    assert_eq!(rt; refusal.code(), code);
+    assert!(rt; refusal.name() == name, "{name}");
+}
+
+fn expect_reply<R: Abort + AllocGlobal>(rt: &R, reply: &Reply, text: &[u8]) -> Result<(), Fail> {
+    let mut out = Vec::new(rt.alloc());
+    write_reply(reply, &mut out)?;
+    assert!(rt; out.as_slice() == text);
     Ok(())
 }
 
 #[test]
 fn replies_have_their_text(rt: HostRuntime) -> Result<(), Fail> {
-    for (refusal, code, name) in REFUSALS {
-        assert_eq!(rt; refusal.code(), code);
-        assert!(rt; refusal.name() == name, "{name}");
+    for (refusal, code, name) in refusals() {
+        expect_refusal(&rt, *refusal, *code, name);
     }
-    let mut out = Vec::from_slice(rt.alloc(), b"K1 ")?;
-    write_reply(&Reply::Done(7), &mut out)?;
-    out.extend_from_slice(b"\nK2 ")?;
-    write_reply(&Reply::Refused(Refusal::TooLittle, 2), &mut out)?;
-    out.extend_from_slice(b"\n- ")?;
-    write_reply(&Reply::Refused(Refusal::BadCommand, 0), &mut out)?;
-    let text = b"K1 done 7\nK2 refused 13 TooLittle 2\n- refused 20 BadCommand 0".as_slice();
-    assert!(rt; out.as_slice() == text);
+    expect_reply(&rt, &Reply::Done(7), b"done 7")?;
+    expect_reply(
+        &rt,
+        &Reply::Refused(Refusal::TooLittle, 2),
+        b"refused 13 TooLittle 2",
+    )?;
+    expect_reply(
+        &rt,
+        &Reply::Refused(Refusal::BadCommand, 0),
+        b"refused 20 BadCommand 0",
+    )
+}
+
+/// A script in pieces of one length gives these lines, and at its end a bad one or none.
+fn expect_lines<R: Abort + AllocGlobal>(
+    rt: &R,
+    script: &[u8],
+    size: usize,
+    want: &[u8],
+    is_bad: bool,
+) -> Result<(), Fail> {
+    let mut lines = Lines::new(rt.alloc());
+    let text = fed(rt.alloc(), &mut lines, script, size)?;
+    assert!(rt; text.as_slice() == want, "{size}");
+    assert_eq!(rt; lines.finish().is_some(), is_bad);
+    assert!(rt; lines.finish().is_none());
     Ok(())
 }
 
@@ -257,10 +314,8 @@ fn replies_have_their_text(rt: HostRuntime) -> Result<(), Fail> {
 fn a_script_is_the_same_in_any_pieces(rt: HostRuntime) -> Result<(), Fail> {
     cuts_do_not_matter();
     for size in 1..=40 {
-        let mut lines = Lines::new(rt.alloc());
-        let text = fed(rt.alloc(), &mut lines, SCRIPT.as_bytes(), size)?;
-        assert!(rt; text.as_slice() == SCRIPT.as_bytes(), "{size}");
-        assert!(rt; lines.finish().is_none(), "{size}");
+        expect_lines(&rt, SCRIPT.as_bytes(), size, SCRIPT.as_bytes(), false)?;
+        expect_lines(&rt, b"K1 commit 7", size, b"", true)?;
     }
     Ok(())
 }
@@ -296,33 +351,18 @@ fn a_refused_piece_is_fed_again(rt: HostRuntime) -> Result<(), Fail> {
 }
 
 #[test]
-fn an_unended_line_is_bad(rt: HostRuntime) -> Result<(), Fail> {
-    let mut lines = Lines::new(rt.alloc());
-    let text = fed(rt.alloc(), &mut lines, b"K1 commit 7", 4)?;
-    assert!(rt; text.is_empty());
-    assert!(rt; matches!(lines.finish(), Some(Item::Bad)));
-    assert!(rt; lines.finish().is_none());
-    Ok(())
-}
-
-#[test]
 fn a_longer_line_is_let_go(rt: HostRuntime) -> Result<(), Fail> {
     for length in [MAX_LINE_LEN, MAX_LINE_LEN + 1, 3 * MAX_LINE_LEN] {
+        let mut script: Vec<u8> = Vec::new(rt.alloc());
+        for _ in 0..length {
+            script.push(b'A')?;
+        }
         for size in [1, 40, 512, 20_000] {
-            let mut script: Vec<u8> = Vec::new(rt.alloc());
-            for _ in 0..length {
-                script.push(b'A')?;
-            }
-            let mut lines = Lines::new(rt.alloc());
-            assert!(rt; fed(rt.alloc(), &mut lines, &script, size)?.is_empty());
-            assert!(rt; matches!(lines.finish(), Some(Item::Bad)));
-            script.extend_from_slice(b"\nK1 commit 7\n")?;
-            let text = fed(rt.alloc(), &mut lines, &script, size)?;
-            assert!(rt;
-                text.as_slice() == b"\nK1 commit 7\n".as_slice(),
-                "{length} {size}"
-            );
-            assert!(rt; lines.finish().is_none());
+            expect_lines(&rt, &script, size, b"", true)?;
+        }
+        script.extend_from_slice(b"\nK1 commit 7\n")?;
+        for size in [1, 40, 512, 20_000] {
+            expect_lines(&rt, &script, size, b"\nK1 commit 7\n", false)?;
         }
     }
     Ok(())
@@ -384,25 +424,32 @@ impl Write for Sink {
     }
 }
 
-#[test]
-fn a_read_is_a_piece_or_a_fault(rt: HostRuntime) -> Result<(), Fail> {
+/// A read into eight bytes takes these, or fails.
+fn expect_read<R: Abort, I: Read>(rt: &R, reader: &mut I, want: Option<&[u8]>) {
     let mut buffer = [0; 8];
+    match (read_piece(reader, &mut buffer), want) {
+        (Ok(size), Some(bytes)) => {
+            assert_eq!(rt; size, bytes.len());
+            assert!(rt; buffer.starts_with(bytes));
+        }
+        (Err(ReadFault), None) => {}
+        _ => assert!(rt; false, "another answer"),
+    }
+}
+
+#[test]
+fn a_read_is_a_piece_or_a_fault(rt: HostRuntime) {
     let mut whole = b"K1 commit 7\n".as_slice();
-    assert!(rt; read_piece(&mut whole, &mut buffer) == Ok(8));
-    assert!(rt; buffer.as_slice() == b"K1 commi".as_slice());
-    assert!(rt; read_piece(&mut whole, &mut buffer) == Ok(4));
-    assert!(rt; buffer.starts_with(b"t 7\n"));
-    assert!(rt; read_piece(&mut whole, &mut buffer) == Ok(0));
+    for piece in ["K1 commi", "t 7\n", ""] {
+        expect_read(&rt, &mut whole, Some(piece.as_bytes()));
+    }
     let mut drip = Drip {
         bytes: b"K1\n",
         before_fault: 2,
     };
-    assert!(rt; read_piece(&mut drip, &mut buffer) == Ok(1));
-    assert!(rt; read_piece(&mut drip, &mut buffer) == Ok(1));
-    assert!(rt; read_piece(&mut drip, &mut buffer) == Err(ReadFault));
-    assert!(rt; drip.bytes == b"\n".as_slice());
-    assert!(rt; read_piece(&mut drip, &mut buffer) == Ok(1));
-    Ok(())
+    for piece in [Some("K"), Some("1"), None, Some("\n"), Some("")] {
+        expect_read(&rt, &mut drip, piece.map(|text| text.as_bytes()));
+    }
 }
 
 #[test]

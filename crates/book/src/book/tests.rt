@@ -1,8 +1,8 @@
 use super::*;
 use crate::laws;
 use crate::order::{Kind, State};
-use crate::rows::Change;
-use escrow::{Article, Branch, Key, OrderNo, Way};
+use crate::rows::{Change, DeskRow, FieldRow, KeptRow, LineRow, MoveRow, OrderRow};
+use escrow::{Article, Branch, Key, OrderNo};
 use std::process::Abort;
 use std::test::Fail;
 use words::{Refusal, Request, read_command};
@@ -14,7 +14,12 @@ pub(super) fn request(alloc: Global, key: &str, command: &str) -> Result<Request
 }
 
 /// What is planned for the command under the key.
-fn planned(alloc: Global, book: &Book, key: &str, command: &str) -> Result<Planned, Fail> {
+pub(super) fn planned(
+    alloc: Global,
+    book: &Book,
+    key: &str,
+    command: &str,
+) -> Result<Planned, Fail> {
     let request = request(alloc, key, command)?;
     Ok(book.plan(alloc, &request)?)
 }
@@ -82,6 +87,11 @@ fn a_new_book_shows_nothing(rt: HostRuntime) -> Result<(), Fail> {
     Ok(())
 }
 
+/// Two fields, and an order on the second of them, which is used.
+fn used() -> &'static [(&'static str, &'static str)] {
+    &USED
+}
+
 const USED: [(&str, &str); 4] = [
     ("K1", "field N2 A-1 0 100 40"),
     ("K2", "field N1 A-1 0 50 5"),
@@ -89,56 +99,76 @@ const USED: [(&str, &str); 4] = [
     ("K4", "use 7 N2 A-1 20"),
 ];
 
+/// The order of that number: the call without its clauses, so that a test's proof need not carry them.
+pub(super) fn order(book: &Book, number: u64) -> Result<OrderView<'_>, Fail> {
+    let number = OrderNo::new(number).ok_or("a number")?;
+    Ok(book.order(number).ok_or("no order")?)
+}
+
+/// How much each of the lines holds and how much of it is used.
+pub(super) fn expect_lines<R: Abort>(rt: &R, order: &OrderView<'_>, want: &[(u64, u64)]) {
+    assert_eq!(rt; order.lines.len(), want.len());
+    for (line, (held, used)) in order.lines.iter().zip(want) {
+        assert_eq!(rt; line.held.get(), *held);
+        assert_eq!(rt; line.used.get(), *used);
+    }
+}
+
+/// The settled value, the infimum and the supremum of a field, likewise.
+pub(super) fn numbers(book: &Book, branch: &str) -> Result<(u64, u64, u64), Fail> {
+    let branch = Branch::read(branch.as_bytes())?;
+    let field = book
+        .field(branch, Article::read(b"A-1")?)
+        .ok_or("no field")?;
+    Ok((field.value.get(), field.inf.get(), field.sup.get()))
+}
+
+/// The branch of the field at that index, likewise, which is shown under its name too.
+fn branch_at<R: Abort>(rt: &R, book: &Book, index: usize) -> Result<Branch, Fail> {
+    let view = book.field_at(index).ok_or("no field")?;
+    assert_eq!(rt; book.field(view.branch, view.article), Some(view));
+    Ok(view.branch)
+}
+
 #[test]
 fn an_order_is_shown(rt: HostRuntime) -> Result<(), Fail> {
-    let book = book_after(rt.alloc(), &USED)?;
-    let number = OrderNo::new(7).ok_or("a number")?;
-    let Some(order) = book.order(number) else {
-        return Err(Fail::from("no order"));
-    };
+    let book = book_after(rt.alloc(), used())?;
+    let order = order(&book, 7)?;
     assert_eq!(rt; order.kind, Kind::Plain);
     assert_eq!(rt; order.state, State::Open);
     assert_eq!(rt; order.until.get(), 120);
-    let [line] = order.lines else {
-        return Err(Fail::from("a line"));
-    };
-    assert_eq!(rt; line.way, Way::Take);
-    assert_eq!(rt; (line.held.get(), line.used.get()), (35, 20));
+    expect_lines(&rt, &order, &[(35, 20)]);
     Ok(())
 }
 
 #[test]
 fn fields_are_shown_in_order(rt: HostRuntime) -> Result<(), Fail> {
-    let book = book_after(rt.alloc(), &USED)?;
+    let book = book_after(rt.alloc(), used())?;
     assert_eq!(rt; book.field_count(), 2);
-    let first = book.field_at(0).ok_or("a field")?;
-    assert!(rt; first.branch.as_bytes() == b"N1".as_slice());
-    let last = book.field_at(1).ok_or("a field")?;
-    assert_eq!(rt; book.field(last.branch, last.article), Some(last));
+    assert!(rt; branch_at(&rt, &book, 0)? < branch_at(&rt, &book, 1)?);
     assert_eq!(rt; book.field_at(2), None);
     Ok(())
 }
 
-/// The settled value, the infimum and the supremum of the last field.
-fn numbers_of_last(book: &Book) -> Result<(u64, u64, u64), Fail> {
-    let last = book.field_at(1).ok_or("a field")?;
-    Ok((last.value.get(), last.inf.get(), last.sup.get()))
-}
-
 #[test]
 fn a_commit_settles_what_was_used(rt: HostRuntime) -> Result<(), Fail> {
-    let mut book = book_after(rt.alloc(), &USED)?;
-    assert_eq!(rt; numbers_of_last(&book)?, (40, 5, 40));
+    let mut book = book_after(rt.alloc(), used())?;
+    assert_eq!(rt; numbers(&book, "N2")?, (40, 5, 40));
     assert_eq!(rt; carry_out(rt.alloc(), &mut book, "K5", "commit 7")?, 5);
-    assert_eq!(rt; numbers_of_last(&book)?, (20, 20, 20));
+    assert_eq!(rt; numbers(&book, "N2")?, (20, 20, 20));
     Ok(())
+}
+
+/// A field and a delivery.
+fn delivered() -> &'static [(&'static str, &'static str)] {
+    &DELIVERED
 }
 
 const DELIVERED: [(&str, &str); 2] = [("K1", "field N1 A-1 0 100 40"), ("K2", "deliver N1 A-1 60")];
 
 #[test]
 fn a_key_is_kept(rt: HostRuntime) -> Result<(), Fail> {
-    let book = book_after(rt.alloc(), &DELIVERED)?;
+    let book = book_after(rt.alloc(), delivered())?;
     let again = planned(rt.alloc(), &book, "K2", "deliver N1 A-1 60")?;
     assert!(rt; matches!(again, Planned::Again(2)));
     let reused = planned(rt.alloc(), &book, "K2", "deliver N1 A-1 59")?;
@@ -148,40 +178,61 @@ fn a_key_is_kept(rt: HostRuntime) -> Result<(), Fail> {
 
 #[test]
 fn a_refusal_names_the_line_at_fault(rt: HostRuntime) -> Result<(), Fail> {
-    let book = book_after(rt.alloc(), &DELIVERED)?;
+    let book = book_after(rt.alloc(), delivered())?;
     let command = "open 7 120 take N1 A-1 1 add N1 B-1 1";
     let refused = planned(rt.alloc(), &book, "K3", command)?;
     assert!(rt; matches!(refused, Planned::Refused(Refusal::NoField, 2)));
     Ok(())
 }
 
+fn show_field(text: &mut String, row: &FieldRow) -> Result<(), Fail> {
+    write!(text, "field {} {}", row.branch, row.article)?;
+    write!(text, " {} {} {}", row.lo, row.hi, row.start)?;
+    write!(text, " {} {} {}", row.value, row.inf, row.sup)?;
+    Ok(())
+}
+
+fn show_line(text: &mut String, row: &LineRow) -> Result<(), Fail> {
+    write!(text, "line {} {}", row.number, row.nr)?;
+    write!(text, " {} {}", row.branch, row.article)?;
+    write!(text, " {} {} {}", row.way, row.held, row.used)?;
+    Ok(())
+}
+
+fn show_desk(text: &mut String, row: &DeskRow) -> Result<(), Fail> {
+    write!(text, "desk {} {}", row.one, row.version)?;
+    write!(text, " {} {}", row.clock, row.places)?;
+    Ok(())
+}
+
+fn show_move(text: &mut String, row: &MoveRow) -> Result<(), Fail> {
+    write!(text, "move {} {}", row.place, row.branch)?;
+    write!(text, " {} {}", row.article, row.qty)?;
+    Ok(())
+}
+
+fn show_order(text: &mut String, row: &OrderRow) -> Result<(), Fail> {
+    write!(text, "order {} {}", row.number, row.kind)?;
+    write!(text, " {} {}", row.until, row.state)?;
+    Ok(())
+}
+
+fn show_kept(text: &mut String, row: &KeptRow) -> Result<(), Fail> {
+    write!(text, "kept {} {} {}", row.reqkey, row.place, row.words)?;
+    Ok(())
+}
+
 /// The row of a change, in its columns' order.
 fn shown(alloc: Global, change: &Change) -> Result<String, Fail> {
-    let text = match change {
-        Change::Desk(r) => format!(in alloc;
-            "desk {} {} {} {}",
-            r.one, r.version, r.clock, r.places
-        )?,
-        Change::Field(r) => {
-            let name = format!(in alloc; "{} {}", r.branch, r.article)?;
-            let numbers = format!(in alloc; "{} {} {}", r.value, r.inf, r.sup)?;
-            format!(in alloc; "field {name} {} {} {} {numbers}", r.lo, r.hi, r.start)?
-        }
-        Change::Move(r) => {
-            format!(in alloc; "move {} {} {} {}", r.place, r.branch, r.article, r.qty)?
-        }
-        Change::Order(r) => {
-            format!(in alloc; "order {} {} {} {}", r.number, r.kind, r.until, r.state)?
-        }
-        Change::Line(r) => {
-            let name = format!(in alloc; "{} {}", r.branch, r.article)?;
-            format!(in alloc;
-                "line {} {} {name} {} {} {}",
-                r.number, r.nr, r.way, r.held, r.used
-            )?
-        }
-        Change::Kept(r) => format!(in alloc; "kept {} {} {}", r.reqkey, r.place, r.words)?,
-    };
+    let mut text = String::new(alloc);
+    match change {
+        Change::Desk(row) => show_desk(&mut text, row)?,
+        Change::Field(row) => show_field(&mut text, row)?,
+        Change::Move(row) => show_move(&mut text, row)?,
+        Change::Order(row) => show_order(&mut text, row)?,
+        Change::Line(row) => show_line(&mut text, row)?,
+        Change::Kept(row) => show_kept(&mut text, row)?,
+    }
     Ok(text)
 }
 
@@ -224,6 +275,10 @@ fn compare_all<R: Abort + AllocGlobal>(
 }
 
 /// Two fields of one article, at N1 and at S1.
+fn two_fields() -> &'static [(&'static str, &'static str)] {
+    &TWO_FIELDS
+}
+
 const TWO_FIELDS: [(&str, &str); 2] = [
     ("K1", "field N1 A-1 0 100 40"),
     ("K2", "field S1 A-1 0 50 10"),
@@ -263,7 +318,7 @@ const STOCK: [Step; 3] = [
 
 #[test]
 fn commands_about_stock_change_rows(rt: HostRuntime) -> Result<(), Fail> {
-    compare_all(&rt, &TWO_FIELDS, &STOCK)
+    compare_all(&rt, two_fields(), &STOCK)
 }
 
 const OPENED: [Step; 3] = [
@@ -303,7 +358,12 @@ const OPENED: [Step; 3] = [
 
 #[test]
 fn an_order_opened_and_used_changes_rows(rt: HostRuntime) -> Result<(), Fail> {
-    compare_all(&rt, &TWO_FIELDS, &OPENED)
+    compare_all(&rt, two_fields(), &OPENED)
+}
+
+/// An order on two fields, both of its lines used.
+fn order_used() -> &'static [(&'static str, &'static str)] {
+    &ORDER_USED
 }
 
 const ORDER_USED: [(&str, &str); 5] = [
@@ -340,7 +400,7 @@ const COMMITTED: [Step; 2] = [
 
 #[test]
 fn an_order_released_and_committed_changes_rows(rt: HostRuntime) -> Result<(), Fail> {
-    compare_all(&rt, &ORDER_USED, &COMMITTED)
+    compare_all(&rt, order_used(), &COMMITTED)
 }
 
 const TRANSFER: [Step; 4] = [
@@ -394,7 +454,12 @@ const TRANSFER: [Step; 4] = [
 
 #[test]
 fn a_transfer_changes_rows(rt: HostRuntime) -> Result<(), Fail> {
-    compare_all(&rt, &TWO_FIELDS, &TRANSFER)
+    compare_all(&rt, two_fields(), &TRANSFER)
+}
+
+/// Three orders on two fields.
+fn three_orders() -> &'static [(&'static str, &'static str)] {
+    &THREE_ORDERS
 }
 
 const THREE_ORDERS: [(&str, &str); 6] = [
@@ -434,5 +499,5 @@ const EXPIRED: [Step; 3] = [
 
 #[test]
 fn an_expiry_changes_rows(rt: HostRuntime) -> Result<(), Fail> {
-    compare_all(&rt, &THREE_ORDERS, &EXPIRED)
+    compare_all(&rt, three_orders(), &EXPIRED)
 }

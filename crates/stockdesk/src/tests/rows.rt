@@ -4,8 +4,7 @@
 pub const FIRST: &str = "K1 done 1\n? field N1 A-1 lo 0 hi 100 value 40 inf 40 sup 40\n";
 
 /// Orders on one field: held, used, committed, repeated and expired.
-pub const LONG: (&str, &str) = (
-    "K1 field N1 A-1 0 100 40
+pub const LONG: &str = "K1 field N1 A-1 0 100 40
 ? field N1 A-1
 K2 open 7 120 take N1 A-1 35
 ? field N1 A-1
@@ -29,8 +28,10 @@ K10 open 9 120 take N1 A-1 1
 K11 open 9 500 take N1 A-1 5 take N1 B-9 1
 ? field N1 A-1
 ? order 9
-",
-    "K1 done 1
+";
+
+/// What these are answered.
+pub const LONG_REPLIES: &str = "K1 done 1
 ? field N1 A-1 lo 0 hi 100 value 40 inf 40 sup 40
 K2 done 2
 ? field N1 A-1 lo 0 hi 100 value 40 inf 5 sup 40
@@ -54,11 +55,10 @@ K10 refused 9 Past 0
 K11 refused 4 NoField 2
 ? field N1 A-1 lo 0 hi 100 value 80 inf 80 sup 80
 ? none
-",
-);
+";
 
 /// A transfer within its bounds, and one that ends with the clock.
-pub const TRANSFER: (&str, &str) = (
+const TRANSFER: (&str, &str) = (
     "T1 field N1 A-1 0 100 40
 T2 field N2 A-1 0 50 5
 T3 transfer 20 900 A-1 N1 N2 10
@@ -116,7 +116,7 @@ T13 done 10
 );
 
 /// More held, released, and given back.
-pub const RELEASE: (&str, &str) = (
+const RELEASE: (&str, &str) = (
     "P1 field N1 A-1 0 100 40
 P2 field N1 B-2 0 10 0
 P3 open 5 300 take N1 A-1 10
@@ -160,7 +160,7 @@ P13 refused 8 Ended 0
 );
 
 /// Deliveries and write-offs up to the bounds, and a second field.
-pub const MOVES: (&str, &str) = (
+const MOVES: (&str, &str) = (
     "K1 field N1 A-1 0 100 40
 K2 deliver N1 A-1 60
 ? field N1 A-1
@@ -188,7 +188,7 @@ K8 refused 3 FieldThere 0
 );
 
 /// A field of one value holds nothing, either way.
-pub const TIGHT: (&str, &str) = (
+const TIGHT: (&str, &str) = (
     "Z1 field N1 D-1 5 5 5
 Z2 open 40 500 take N1 D-1 1
 Z3 open 40 500 add N1 D-1 1
@@ -204,7 +204,7 @@ Z1 done 1
 );
 
 /// What a desk without fields and orders answers.
-pub const NOTHING_THERE: (&str, &str) = (
+const NOTHING_THERE: (&str, &str) = (
     "K1 open 7 120 take N1 A-1 35
 K2 more 7 take N1 A-1 5
 K3 use 7 N1 A-1 5
@@ -232,7 +232,7 @@ K2 refused 1 KeyReused 0
 );
 
 /// Refusals that change nothing.
-pub const REFUSED: (&str, &str) = (
+const REFUSED: (&str, &str) = (
     "R1 field N1 A-1 0 100 40
 R2 field N2 A-1 0 10 5
 R3 open 7 120 take N1 A-1 10
@@ -270,16 +270,20 @@ R14 refused 8 Ended 0
 );
 
 /// A last line without its newline is bad, whatever stood before.
-pub const UNENDED: (&str, &str) = (
+const UNENDED: (&str, &str) = (
     "K1 field N1 A-1 0 100 40\nK2 open 7 120 take N1 A-1 35\nK9 use 7 N1 A-1 5",
     "K1 done 1\nK2 done 2\n- refused 20 BadCommand 0\n",
 );
 
-/// All of these.
-pub const ROWS: [(&str, &str); 10] = [
+/// All of these, each a script and its replies.
+pub fn rows() -> &'static [(&'static str, &'static str)] {
+    &ROWS
+}
+
+const ROWS: [(&str, &str); 11] = [
     ("", ""),
     ("K1 field N1 A-1 0 100 40\n? field N1 A-1\n", FIRST),
-    LONG,
+    (LONG, LONG_REPLIES),
     TRANSFER,
     RELEASE,
     MOVES,
@@ -287,4 +291,26 @@ pub const ROWS: [(&str, &str); 10] = [
     NOTHING_THERE,
     REFUSED,
     UNENDED,
+    ("K1 deliver N1 A-1 1000000\n", "K1 refused 4 NoField 0\n"),
+];
+
+/// Lines that are no request.
+pub const BAD: [&str; 17] = [
+    "\n",
+    "K1  commit 7\n",
+    "K1 deliver N1 A-1 05\n",
+    "K1 deliver N1 A-1 0\n",
+    "K1 deliver N1 A-1 1000001\n",
+    "K1 deliver n1 A-1 5\n",
+    "K1 deliver N1 -A 5\n",
+    "K1 commit 7\r\n",
+    "K9 use 7 N1 A-1 5",
+    "K1 deliver N1 A-1 +5\n",
+    "K1 deliver N1 A-1 5 \n",
+    "K1 field N1 A-1 00 100 40\n",
+    "K1 field N1 A-1 0 1000000001 40\n",
+    "? field  N1 A-1\n",
+    "? order 07\n",
+    "K1 expire 4000000001\n",
+    "\0\n",
 ];

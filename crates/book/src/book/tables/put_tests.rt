@@ -1,13 +1,12 @@
 //! Rows that are planned, put into tables by their keys, and read back. Those that are added come in the order
 //! of their keys, and all fields are of one article.
 
-use super::tests::Parts;
+use super::tests::{Parts, opened};
 use super::*;
 use crate::book::Planned;
-use crate::book::tests::request;
+use crate::book::tests::{expect_lines, numbers, order, planned, request};
 use crate::order::State;
 use crate::rows::{Change, FieldRow, KeptRow, LineRow, MoveRow, OrderRow};
-use escrow::{Article, Branch, OrderNo};
 use std::process::Abort;
 use std::test::Fail;
 
@@ -91,6 +90,13 @@ fn put<R: AllocGlobal>(rt: &R, parts: &mut Parts, change: &Change) -> Result<(),
     }
 }
 
+fn put_all<R: AllocGlobal>(rt: &R, parts: &mut Parts, changes: &[Change]) -> Result<(), Fail> {
+    for change in changes {
+        put(rt, parts, change)?;
+    }
+    Ok(())
+}
+
 /// Carries the command out, and puts the rows that it changes into the tables.
 fn carry_out<R: Abort + AllocGlobal>(
     rt: &R,
@@ -103,9 +109,7 @@ fn carry_out<R: Abort + AllocGlobal>(
     let Planned::Accept(plan) = book.plan(rt.alloc(), &request)? else {
         return Err(Fail::from("refused"));
     };
-    for change in plan.changes() {
-        put(rt, parts, change)?;
-    }
+    put_all(rt, parts, plan.changes())?;
     book.make_room(&plan)?;
     book.adopt(plan);
     Ok(())
@@ -118,14 +122,12 @@ fn book_of_rows<R: Abort + AllocGlobal>(rt: &R, script: &[(&str, &str)]) -> Resu
     for (key, command) in script {
         carry_out(rt, &mut book, &mut parts, key, command)?;
     }
-    Ok(Book::of_tables(rt.alloc(), parts.into_tables())?)
+    Ok(opened(rt, parts)?)
 }
 
-/// The settled value, the infimum and the supremum of the field of the one article at the branch.
-fn numbers_at(book: &Book, branch: &[u8]) -> Result<(u64, u64, u64), Fail> {
-    let field = book.field(Branch::read(branch)?, Article::read(b"A-1")?);
-    let field = field.ok_or("a field")?;
-    Ok((field.value.get(), field.inf.get(), field.sup.get()))
+/// Open orders, one of them a transfer that is used.
+fn open_orders() -> &'static [(&'static str, &'static str)] {
+    &OPEN_ORDERS
 }
 
 const OPEN_ORDERS: [(&str, &str); 7] = [
@@ -139,37 +141,21 @@ const OPEN_ORDERS: [(&str, &str); 7] = [
 ];
 
 #[test]
-fn fields_are_read_back(rt: HostRuntime) -> Result<(), Fail> {
-    let again = book_of_rows(&rt, &OPEN_ORDERS)?;
+fn open_orders_are_read_back(rt: HostRuntime) -> Result<(), Fail> {
+    let again = book_of_rows(&rt, open_orders())?;
     // 40 + 10, of which 20 + 15 and 10 may be taken
-    assert_eq!(rt; numbers_at(&again, b"N1")?, (50, 5, 50));
+    assert_eq!(rt; numbers(&again, "N1")?, (50, 5, 50));
     // 5, to which 10 may be added
-    assert_eq!(rt; numbers_at(&again, b"N2")?, (5, 5, 15));
+    assert_eq!(rt; numbers(&again, "N2")?, (5, 5, 15));
+    expect_lines(&rt, &order(&again, 20)?, &[(10, 4), (10, 4)]);
+    let kept = planned(rt.alloc(), &again, "K7", "use 20 N2 A-1 4")?;
+    assert!(rt; matches!(kept, Planned::Again(7)));
     Ok(())
 }
 
-#[test]
-fn an_open_order_is_read_back(rt: HostRuntime) -> Result<(), Fail> {
-    let again = book_of_rows(&rt, &OPEN_ORDERS)?;
-    let number = OrderNo::new(20).ok_or("a number")?;
-    let Some(order) = again.order(number) else {
-        return Err(Fail::from("no order"));
-    };
-    let [take, add] = order.lines else {
-        return Err(Fail::from("not two lines"));
-    };
-    assert_eq!(rt; (take.held.get(), take.used.get()), (10, 4));
-    assert_eq!(rt; (add.held.get(), add.used.get()), (10, 4));
-    Ok(())
-}
-
-#[test]
-fn a_kept_key_is_read_back(rt: HostRuntime) -> Result<(), Fail> {
-    let again = book_of_rows(&rt, &OPEN_ORDERS)?;
-    let request = request(rt.alloc(), "K7", "use 20 N2 A-1 4")?;
-    let planned = again.plan(rt.alloc(), &request)?;
-    assert!(rt; matches!(planned, Planned::Again(7)));
-    Ok(())
+/// Orders that have ended, each in a way of its own.
+fn ended_orders() -> &'static [(&'static str, &'static str)] {
+    &ENDED_ORDERS
 }
 
 const ENDED_ORDERS: [(&str, &str); 10] = [
@@ -187,19 +173,11 @@ const ENDED_ORDERS: [(&str, &str); 10] = [
 
 #[test]
 fn ended_orders_are_read_back(rt: HostRuntime) -> Result<(), Fail> {
-    let again = book_of_rows(&rt, &ENDED_ORDERS)?;
+    let again = book_of_rows(&rt, ended_orders())?;
     // 40 - 2 - 4, and nothing is held
-    assert_eq!(rt; numbers_at(&again, b"N1")?, (34, 34, 34));
-    for (number, state) in [
-        (7, State::Committed),
-        (8, State::Aborted),
-        (9, State::Aborted),
-    ] {
-        let number = OrderNo::new(number).ok_or("a number")?;
-        let Some(order) = again.order(number) else {
-            return Err(Fail::from("no order"));
-        };
-        assert!(rt; order.state == state);
-    }
+    assert_eq!(rt; numbers(&again, "N1")?, (34, 34, 34));
+    assert!(rt; order(&again, 7)?.state == State::Committed);
+    assert!(rt; order(&again, 8)?.state == State::Aborted);
+    assert!(rt; order(&again, 9)?.state == State::Aborted);
     Ok(())
 }

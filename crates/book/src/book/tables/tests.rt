@@ -1,10 +1,10 @@
 use super::*;
 use crate::book::Planned;
-use crate::book::tests::{carry_out, request};
+use crate::book::tests::{carry_out, expect_lines, numbers, order, request};
 use crate::limits::limits_are_those_of_the_rules;
 use crate::order::State;
 use crate::rows::{FieldRow, KeptRow, LineRow, MoveRow, OrderRow, Rows};
-use escrow::{Article, Branch, OrderNo};
+use std::process::Abort;
 use std::test::Fail;
 use words::Refusal;
 
@@ -130,6 +130,11 @@ impl Parts {
     }
 }
 
+/// The keys of the places from 1 on, and what was done under them.
+fn kept() -> &'static [(&'static str, &'static str)] {
+    &KEPT
+}
+
 const KEPT: [(&str, &str); 8] = [
     ("K1", "field N1 A-1 0 100 40"),
     ("K2", "field N2 A-1 0 50 5"),
@@ -141,6 +146,22 @@ const KEPT: [(&str, &str); 8] = [
     ("K8", "writeoff N2 A-1 2"),
 ];
 
+/// Adds an open order, and a transfer that is committed.
+fn push_orders<R: AllocGlobal>(rt: &R, parts: &mut Parts) -> Result<(), Fail> {
+    push_order(parts, 7, 0, 120, 0)?;
+    push_order(parts, 20, 1, 900, 1)?;
+    parts.push_line(rt, (7, 1), 0, "N1", (35, 0))?;
+    parts.push_line(rt, (20, 1), 0, "N1", (10, 4))?;
+    parts.push_line(rt, (20, 2), 1, "N2", (10, 4))
+}
+
+fn push_all_kept<R: AllocGlobal>(rt: &R, parts: &mut Parts) -> Result<(), Fail> {
+    for (place, (key, words)) in kept().iter().enumerate() {
+        parts.push_kept(rt, key, place as i64 + 1, words)?;
+    }
+    Ok(())
+}
+
 /// Two fields of one article with a delivery and a write-off, an open order, and a transfer that is committed.
 fn sample<R: AllocGlobal>(rt: &R) -> Result<Parts, Fail> {
     let mut parts = Parts::new(rt, 8);
@@ -150,14 +171,8 @@ fn sample<R: AllocGlobal>(rt: &R) -> Result<Parts, Fail> {
     parts.push_field(rt, "N2", (0, 50), 5, (7, 7, 7))?;
     parts.push_move(rt, 3, "N1", 10)?;
     parts.push_move(rt, 8, "N2", -2)?;
-    push_order(&mut parts, 7, 0, 120, 0)?;
-    push_order(&mut parts, 20, 1, 900, 1)?;
-    parts.push_line(rt, (7, 1), 0, "N1", (35, 0))?;
-    parts.push_line(rt, (20, 1), 0, "N1", (10, 4))?;
-    parts.push_line(rt, (20, 2), 1, "N2", (10, 4))?;
-    for (place, (key, words)) in KEPT.iter().enumerate() {
-        parts.push_kept(rt, key, place as i64 + 1, words)?;
-    }
+    push_orders(rt, &mut parts)?;
+    push_all_kept(rt, &mut parts)?;
     Ok(parts)
 }
 
@@ -187,9 +202,14 @@ fn without_the_delivery(parts: &mut Parts) {
     }
 }
 
+/// The book of these rows: the call without its clauses, so that a test's proof need not carry them.
+pub(super) fn opened<R: AllocGlobal>(rt: &R, parts: Parts) -> Result<Book, TablesFault> {
+    Book::of_tables(rt.alloc(), parts.into_tables())
+}
+
 /// They are the rows of no good ledger.
 fn expect_damaged<R: AllocGlobal>(rt: &R, parts: Parts) -> Result<(), Fail> {
-    match Book::of_tables(rt.alloc(), parts.into_tables()) {
+    match opened(rt, parts) {
         Err(TablesFault::Damaged) => Ok(()),
         Err(TablesFault::Memory) => Err(Fail::from("out of memory")),
         Ok(_) => Err(Fail::from("not damaged")),
@@ -198,47 +218,28 @@ fn expect_damaged<R: AllocGlobal>(rt: &R, parts: Parts) -> Result<(), Fail> {
 
 #[test]
 fn rows_of_a_good_ledger_open(rt: HostRuntime) -> Result<(), Fail> {
-    let book = Book::of_tables(rt.alloc(), sample(&rt)?.into_tables())?;
-    let field = book.field(Branch::read(b"N1")?, Article::read(b"A-1")?);
-    let field = field.ok_or("a field")?;
-    assert_eq!(rt;
-        (field.value.get(), field.inf.get(), field.sup.get()),
-        (46, 11, 46)
-    );
-    Ok(())
-}
-
-#[test]
-fn an_open_order_of_a_good_ledger_is_shown(rt: HostRuntime) -> Result<(), Fail> {
-    let book = Book::of_tables(rt.alloc(), sample(&rt)?.into_tables())?;
-    let number = OrderNo::new(7).ok_or("a number")?;
-    let Some(order) = book.order(number) else {
-        return Err(Fail::from("no order"));
-    };
+    let book = opened(&rt, sample(&rt)?)?;
+    assert_eq!(rt; numbers(&book, "N1")?, (46, 11, 46));
+    let order = order(&book, 7)?;
     assert!(rt; matches!(order.state, State::Open));
-    let [line] = order.lines else {
-        return Err(Fail::from("not one line"));
-    };
-    assert_eq!(rt; line.held.get(), 35);
+    expect_lines(&rt, &order, &[(35, 0)]);
     Ok(())
 }
 
 #[test]
 fn rows_of_a_new_desk_open(rt: HostRuntime) -> Result<(), Fail> {
-    let book = Book::of_tables(rt.alloc(), Parts::new(&rt, 0).into_tables())?;
+    let book = opened(&rt, Parts::new(&rt, 0))?;
     assert_eq!(rt; book.field_count(), 0);
     Ok(())
 }
 
 #[test]
 fn rows_give_back_their_vector(rt: HostRuntime) -> Result<(), Fail> {
-    let tables = sample(&rt)?.into_tables();
-    assert_eq!(rt; tables.orders.as_slice().len(), 2);
-    let orders = tables.orders.into_vec();
-    let [one, other] = orders.as_slice() else {
-        return Err(Fail::from("not two rows"));
-    };
-    assert_eq!(rt; (one.number, other.number), (7, 20));
+    let rows = Rows::new(sample(&rt)?.orders);
+    assert_eq!(rt; rows.as_slice().len(), 2);
+    let orders = rows.into_vec();
+    assert_eq!(rt; orders.first().map(|row| row.number), Some(7));
+    assert_eq!(rt; orders.last().map(|row| row.number), Some(20));
     Ok(())
 }
 
@@ -410,7 +411,7 @@ fn refusal_of(alloc: Global, book: &Book, command: &str) -> Result<Option<(Refus
 
 #[test]
 fn a_full_desk_refuses(rt: HostRuntime) -> Result<(), Fail> {
-    let book = Book::of_tables(rt.alloc(), full_desk(&rt)?.into_tables())?;
+    let book = opened(&rt, full_desk(&rt)?)?;
     for command in ["deliver N1 A-1 1", "expire 120"] {
         let refused = refusal_of(rt.alloc(), &book, command)?;
         assert!(rt; refused == Some((Refusal::Full, 0)), "{command}");
@@ -420,11 +421,10 @@ fn a_full_desk_refuses(rt: HostRuntime) -> Result<(), Fail> {
 
 #[test]
 fn a_full_desk_still_ends_its_order(rt: HostRuntime) -> Result<(), Fail> {
-    let mut book = Book::of_tables(rt.alloc(), full_desk(&rt)?.into_tables())?;
+    let mut book = opened(&rt, full_desk(&rt)?)?;
     let place = carry_out(rt.alloc(), &mut book, "NEW", "commit 7")?;
     assert_eq!(rt; place, 200_000);
-    let field = book.field_at(0).ok_or("a field")?;
-    assert_eq!(rt; field.inf.get(), 40);
+    assert_eq!(rt; numbers(&book, "N1")?, (40, 40, 40));
     Ok(())
 }
 
@@ -441,7 +441,7 @@ fn many_fields<R: AllocGlobal>(rt: &R, count: u64) -> Result<Parts, Fail> {
 #[test]
 fn a_field_over_the_limit_is_damaged(rt: HostRuntime) -> Result<(), Fail> {
     limits_are_those_of_the_rules();
-    let book = Book::of_tables(rt.alloc(), many_fields(&rt, 10_000)?.into_tables())?;
+    let book = opened(&rt, many_fields(&rt, 10_000)?)?;
     assert_eq!(rt; book.field_count(), 10_000);
     expect_damaged(&rt, many_fields(&rt, 10_001)?)
 }
@@ -459,8 +459,7 @@ fn many_orders<R: AllocGlobal>(rt: &R, last: i64) -> Result<Parts, Fail> {
 
 #[test]
 fn an_order_over_the_limit_is_damaged(rt: HostRuntime) -> Result<(), Fail> {
-    let book = Book::of_tables(rt.alloc(), many_orders(&rt, 100_000)?.into_tables())?;
-    let last = OrderNo::new(100_000).ok_or("a number")?;
-    assert!(rt; book.order(last).is_some());
+    let book = opened(&rt, many_orders(&rt, 100_000)?)?;
+    assert_eq!(rt; order(&book, 100_000)?.lines.len(), 1);
     expect_damaged(&rt, many_orders(&rt, 100_001)?)
 }

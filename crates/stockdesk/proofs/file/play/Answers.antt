@@ -1,16 +1,5 @@
-use Rattle.std.proofs.lemmas.Result.{on_ok_weaker}
-use Rattle.desk.proofs.Cuts.{of_error}
-use Rattle.stockdesk.proofs.Played.{on_error, plays_nothing, plays_part, plays_whole, reads_desks}
+use Rattle.stockdesk.proofs.Played.{plays_nothing}
 use Rattle.stockdesk.proofs.file.play.Goals as goal
 
 pub returns-in-Err-clause-beginning : goal.returns-in-Err-clause-beginning
 returns-in-Err-clause-beginning g c = plays_nothing _ _
-
-pub returns-clause-whole : goal.returns-clause-whole
-returns-clause-whole g c = on_ok_weaker c.session-keep.result.1 (λ s. plays_whole _ _ _ _ _ _ _ s) c.session-keep.ensures.whole
-
-pub returns-clause-beginning : goal.returns-clause-beginning
-returns-clause-beginning g c = on_error c.session-keep.result.1 _ _ (λ fault s. plays_part fault _ _ _ _ _ _ _ _ s) c.session-keep.ensures.cut
-
-pub returns-clause-desk : goal.returns-clause-desk
-returns-clause-desk g c = of_error c.session-keep.result.1 _ _ (λ fault is s. reads_desks fault _ _ _ _ _ _ _ _ s) c.session-keep.ensures.cut
