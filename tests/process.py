@@ -74,6 +74,10 @@ ROWS = {
 }
 
 
+# how many columns of each table are its key
+KEYS = {"desk": 1, "field": 2, "move": 1, "orders": 1, "line": 2, "kept": 1}
+
+
 def say(text):
     print(text, file=sys.stderr, flush=True)
 
@@ -83,9 +87,9 @@ def expect(fact, text):
         raise AssertionError(text)
 
 
-def ended(program, words, text=""):
+def ended(program, words, text="", folder=None):
     """The status of a run, its output and what it tells of a fault."""
-    run = subprocess.run([program, *words], input=text.encode(), capture_output=True, timeout=SECONDS)
+    run = subprocess.run([program, *words], input=text.encode(), cwd=folder, capture_output=True, timeout=SECONDS)
     return run.returncode, run.stdout, run.stderr
 
 
@@ -139,9 +143,8 @@ class Session:
 
 
 def test_other_words_ask_for_nothing(program, folder):
-    os.chdir(folder)
     for words in NO_TASK:
-        status, out, errors = ended(program, words)
+        status, out, errors = ended(program, words, folder=folder)
         expect((status, out) == (2, b"") and errors, f"{words}: {status}, {out!r}, {errors!r}")
     expect(os.listdir(folder) == [], "a file was made")
 
@@ -172,7 +175,9 @@ def test_an_empty_file_becomes_a_desk_once(program, folder):
 
 def test_a_desk_outlives_each_run(program, folder):
     path = new_desk(program, folder)
-    for line, reply in zip(lines_of("long.script"), lines_of("long.replies"), strict=True):
+    script = lines_of("long.script") + lines_of("long.rest.script")
+    replies = lines_of("long.replies") + lines_of("long.rest.replies")
+    for line, reply in zip(script, replies, strict=True):
         found = done(program, ["run", path], line + "\n")
         expect(found == [reply], f"{line}: {found}")
 
@@ -243,6 +248,30 @@ def test_another_database_is_no_desk(program, folder):
     expect(bytes_of(path) == found, "it was changed")
 
 
+def rows_of(path):
+    """The rows of all tables in the order of their keys, each as a line that begins with its table."""
+    database = sqlite3.connect(path)
+    rows = []
+    for table, (columns, _) in ROWS.items():
+        order = ", ".join(columns[: KEYS[table]])
+        for row in database.execute(f"SELECT {', '.join(columns)} FROM {table} ORDER BY {order}"):
+            rows.append("|".join([table, *map(str, row)]))
+    database.close()
+    return rows
+
+
+def test_older_files_are_read(program, folder):
+    """Files that an earlier program wrote, with the script that made them: the rest is played on copies of them."""
+    for name in ["long", "transfer", "many"]:
+        path = os.path.join(folder, f"{name}.db")
+        shutil.copyfile(os.path.join(FILES, f"{name}.db"), path)
+        rest = "\n".join(lines_of(f"{name}.rest.script")) + "\n"
+        found = done(program, ["run", path], rest)
+        expect(found == lines_of(f"{name}.rest.replies"), f"{name}: another reply")
+        if sqlite3 is not None:
+            expect(rows_of(path) == lines_of(f"{name}.rows"), f"{name}: other rows")
+
+
 def killed(program, path, first, seconds):
     """Delivers one piece after another, from that place on, until it is killed after so many seconds: how many replies came."""
     session = Session(program, path)
@@ -296,6 +325,7 @@ def main():
         test_replies_come_line_by_line,
         test_another_sqlite_reads_the_file,
         test_another_database_is_no_desk,
+        test_older_files_are_read,
         test_nothing_acknowledged_is_lost,
     ]:
         say(f"process {test.__name__}")

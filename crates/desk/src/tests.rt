@@ -18,11 +18,20 @@ fn plain_keeper<R: AllocGlobal>(rt: &R) -> PlainKeep {
     PlainKeep::start(rt.alloc(), None, false)
 }
 
+/// Plays the rows on the desk that the keeper holds.
+fn play_on<R: Abort + AllocGlobal, K: Keep + Drop>(
+    rt: &R,
+    keep: K,
+    rows: &[Row],
+) -> Result<(), Fail> {
+    play(rt, &mut opened(rt, keep)?, rows)
+}
+
 #[test]
 fn each_script_is_answered(rt: HostRuntime) -> Result<(), Fail> {
     for rows in [long_script(), transfer(), release_and_abort()] {
-        play(&rt, &mut opened(&rt, sql_keeper(&rt)?)?, rows)?;
-        play(&rt, &mut opened(&rt, plain_keeper(&rt))?, rows)?;
+        play_on(&rt, sql_keeper(&rt)?, rows)?;
+        play_on(&rt, plain_keeper(&rt), rows)?;
     }
     crate::laws::exactly_one_text();
     Ok(())
@@ -59,20 +68,19 @@ fn a_reopening_changes_no_answer(rt: HostRuntime) -> Result<(), Fail> {
     Ok(())
 }
 
-/// A script on a desk on which a commit fails: the lines before that request are answered, and nothing else. Its index.
+/// A script on a desk on which the commit of the request behind these rows fails: they are answered, and nothing else.
 fn expect_cut<R: Abort + AllocGlobal, K: Keep>(
     rt: &R,
     desk: &mut Desk<K>,
     rows: &[Row],
-) -> Result<usize, Fail> {
+    before: &[Row],
+) -> Result<(), Fail> {
     let text = lines_of(rt.alloc(), rows)?;
     let mut out: Vec<u8> = Vec::new(rt.alloc());
     let ended = answer_script(rt.alloc(), &text, &mut out, desk);
     assert_eq!(rt; ended, Err(ScriptFault::Stopped));
-    let cut = out.iter().filter(|byte| **byte == b'\n').count();
-    let before = rows.get(..cut).ok_or("rows")?;
     assert!(rt; out.as_slice() == replies_of(rt.alloc(), before)?.as_slice());
-    Ok(cut)
+    Ok(())
 }
 
 /// A further script on a stopped desk is answered up to its first request.
@@ -85,21 +93,36 @@ fn expect_no_more<R: Abort + AllocGlobal, K: Keep>(rt: &R, desk: &mut Desk<K>) -
     Ok(())
 }
 
-/// A script in which that commit fails: it goes on from the request that was cut, whether its changes landed or not.
-fn expect_resumed<R: Abort + AllocGlobal>(rt: &R, fail_at: u64, lands: bool) -> Result<(), Fail> {
+/// A session that is cut at the request of that index: the keeper.
+fn cut_session<R: Abort + AllocGlobal, K: Keep + Drop>(
+    rt: &R,
+    keep: K,
+    cut: usize,
+) -> Result<K, Fail> {
     let rows = long_script();
-    let mut desk = opened(rt, PlainKeep::start(rt.alloc(), Some(fail_at), lands))?;
-    let cut = expect_cut(rt, &mut desk, rows)?;
+    let mut desk = opened(rt, keep)?;
+    expect_cut(rt, &mut desk, rows, rows.get(..cut).ok_or("rows")?)?;
     expect_no_more(rt, &mut desk)?;
-    let mut again = opened(rt, desk.into_keep().reopen(None, false))?;
-    play(rt, &mut again, rows.get(cut..).ok_or("rows")?)
+    Ok(desk.into_keep())
+}
+
+/// A session in which that commit fails goes on from the request that was cut, whether its changes landed or not.
+fn expect_resumed<R: Abort + AllocGlobal>(
+    rt: &R,
+    fail_at: u64,
+    lands: bool,
+    cut: usize,
+) -> Result<(), Fail> {
+    let keep = PlainKeep::start(rt.alloc(), Some(fail_at), lands);
+    let again = cut_session(rt, keep, cut)?.reopen(None, false);
+    play_on(rt, again, long_script().get(cut..).ok_or("rows")?)
 }
 
 #[test]
 fn a_script_goes_on_after_any_failing_commit(rt: HostRuntime) -> Result<(), Fail> {
-    for fail_at in 1..8 {
-        expect_resumed(&rt, fail_at, false)?;
-        expect_resumed(&rt, fail_at, true)?;
+    for (fail_at, cut) in [(1, 0), (2, 2), (3, 6), (4, 8), (5, 12), (6, 14), (7, 20)] {
+        expect_resumed(&rt, fail_at, false, cut)?;
+        expect_resumed(&rt, fail_at, true, cut)?;
     }
     Ok(())
 }
@@ -144,17 +167,21 @@ fn expect_call<R: Abort + AllocGlobal, K: Keep>(
     Ok(())
 }
 
+/// A session whose second commit fails: then nothing is answered, and no desk is opened.
+fn stopped_session<R: Abort + AllocGlobal, K: Keep + Drop>(rt: &R, keep: K) -> Result<K, Fail> {
+    let mut desk = opened(rt, keep)?;
+    let (first, second) = ("K1 field N1 A-1 0 100 40", "K2 deliver N1 A-1 5");
+    expect_call(rt, &mut desk, first, Ok(Reply::Done(1)))?;
+    expect_call(rt, &mut desk, second, Err(CallFault::Stopped))?;
+    expect_call(rt, &mut desk, first, Err(CallFault::Stopped))?;
+    assert!(rt; desk.is_stopped());
+    expect_field(rt, &desk, 40, 40)?;
+    refused(rt, desk.into_keep(), OpenFault::Store)
+}
+
 #[test]
 fn a_stopped_keeper_opens_no_desk(rt: HostRuntime) -> Result<(), Fail> {
-    let mut desk = opened(&rt, PlainKeep::start(rt.alloc(), Some(2), true))?;
-    let (first, second) = ("K1 field N1 A-1 0 100 40", "K2 deliver N1 A-1 5");
-    expect_call(&rt, &mut desk, first, Ok(Reply::Done(1)))?;
-    assert!(rt; !desk.is_stopped());
-    expect_call(&rt, &mut desk, second, Err(CallFault::Stopped))?;
-    expect_call(&rt, &mut desk, first, Err(CallFault::Stopped))?;
-    assert!(rt; desk.is_stopped());
-    expect_field(&rt, &desk, 40, 40)?;
-    let keep = refused(&rt, desk.into_keep(), OpenFault::Store)?;
+    let keep = stopped_session(&rt, PlainKeep::start(rt.alloc(), Some(2), true))?;
     assert!(rt; keep.is_stopped());
     Ok(())
 }

@@ -99,7 +99,8 @@ pub(crate) fn expect_text<R: Abort + AllocGlobal, K: Keep>(
     want: &str,
 ) -> Result<(), Fail> {
     let tables = load(keep, rt.alloc())?;
-    assert_eq!(rt; shown(rt.alloc(), &tables)?.as_str(), want);
+    let rows = shown(rt.alloc(), &tables)?;
+    assert!(rt; rows.as_str() == want, "{want}");
     Ok(())
 }
 
@@ -204,26 +205,36 @@ fn new_keys<R: AllocGlobal>(rt: &R) -> Result<(KeptRow, KeptRow), Fail> {
     Ok((first, kept(rt, "K10", "abort 7")?))
 }
 
-/// Commits new rows of all tables but `desk`, out of their order.
+/// Commits new rows of all tables but `desk`, out of their order, in two commits.
 fn commit_new_rows<R: Abort + AllocGlobal, K: Keep>(rt: &R, keep: &mut K) -> Result<(), Fail> {
-    let fields = new_fields(rt)?;
-    let lines = new_lines(rt)?;
-    let moves = new_moves(rt)?;
-    let keys = new_keys(rt)?;
+    let (first_line, second_line, third_line) = new_lines(rt)?;
+    let (first_move, second_move) = new_moves(rt)?;
+    commit(
+        keep,
+        &[
+            Change::Line(first_line),
+            Change::Order(order(20, 0)),
+            Change::Move(first_move),
+            Change::Line(second_line),
+            Change::Order(order(7, 0)),
+            Change::Line(third_line),
+            Change::Move(second_move),
+        ],
+    )?;
+    commit_new_names(rt, keep)
+}
+
+/// Commits new rows of the tables whose keys are texts.
+fn commit_new_names<R: Abort + AllocGlobal, K: Keep>(rt: &R, keep: &mut K) -> Result<(), Fail> {
+    let (first, second, third, fourth) = new_fields(rt)?;
+    let (first_key, second_key) = new_keys(rt)?;
     let changes = [
-        Change::Kept(keys.0),
-        Change::Line(lines.0),
-        Change::Order(order(20, 0)),
-        Change::Move(moves.0),
-        Change::Field(fields.0),
-        Change::Line(lines.1),
-        Change::Order(order(7, 0)),
-        Change::Field(fields.1),
-        Change::Line(lines.2),
-        Change::Kept(keys.1),
-        Change::Field(fields.2),
-        Change::Move(moves.1),
-        Change::Field(fields.3),
+        Change::Kept(first_key),
+        Change::Field(first),
+        Change::Field(second),
+        Change::Kept(second_key),
+        Change::Field(third),
+        Change::Field(fourth),
     ];
     Ok(commit(keep, &changes)?)
 }

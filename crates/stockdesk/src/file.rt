@@ -51,7 +51,7 @@ fn open_fault(error: Error) -> Fault
 }
 
 /// Copies the log into the file where that succeeds, and closes both.
-pub fn close<D: Disk + Drop>(conn: Connection<FileStore<D>>) {
+fn close<D: Disk + Drop>(conn: Connection<FileStore<D>>) {
     match conn.close_files() {
         Ok(files) => drop(files),
         Err((_, store)) => drop(store.close()),

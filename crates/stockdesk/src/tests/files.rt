@@ -2,9 +2,6 @@
 
 use super::expect_done;
 use super::rows::{FIRST, LONG, LONG_REPLIES};
-use crate::file::close;
-use keep::open_path;
-use sqlite::{Alter, Connection, Unknown};
 use std::fs;
 use std::test::Fail;
 
@@ -98,13 +95,23 @@ fn bytes_of(rt: &HostRuntime, file: &str) -> Result<Vec<u8>, Fail> {
     }
 }
 
+/// Carries the command out on the file.
+fn expect_step(rt: &HostRuntime, file: &str, step: &Step) -> Result<(), Fail> {
+    let (command, input, status, out, errors) = step;
+    let want = (*status, *out, *errors);
+    if *command == "init" {
+        expect_done(rt, &["stockdesk", "init", file], input, want)
+    } else {
+        expect_done(rt, &["stockdesk", "run", file], input, want)
+    }
+}
+
 /// Carries the commands out. One that ends with a fault leaves the file as it was.
 fn expect_steps(rt: &HostRuntime, file: &str, steps: &[Step]) -> Result<(), Fail> {
-    for (command, input, status, out, errors) in steps {
+    for step in steps {
         let before = bytes_of(rt, file)?;
-        let want = (*status, *out, *errors);
-        expect_done(rt, &["stockdesk", *command, file], input, want)?;
-        if *status != 0 && bytes_of(rt, file)?.as_slice() != before.as_slice() {
+        expect_step(rt, file, step)?;
+        if step.2 != 0 && bytes_of(rt, file)?.as_slice() != before.as_slice() {
             Err("other bytes in the file")?;
         }
     }
@@ -128,19 +135,17 @@ fn commands_go_on_in_a_file(rt: HostRuntime) -> Result<(), Fail> {
     Ok(())
 }
 
-/// The connection, over which the statement is carried out.
-fn executed<S: Alter + Drop>(
-    mut conn: Connection<S>,
-    statement: &str,
-) -> Result<Connection<S>, Fail> {
-    conn.execute(statement, &[])?;
-    Ok(conn)
-}
-
-/// Carries the statement out on the database in the file, and closes it.
-fn execute(rt: &HostRuntime, file: &str, statement: &str) -> Result<(), Fail> {
-    let conn = open_path(rt, file, Unknown)?.into_connection();
-    close(executed(conn, statement)?);
+/// Makes the stored infimum of the one field, 40 as its other numbers but `hi`, one too high.
+fn damage(rt: &HostRuntime, file: &str) -> Result<(), Fail> {
+    let mut bytes = fs::read(rt, file)?;
+    let row = b"N1A-1d((((".as_slice();
+    let place = bytes
+        .windows(row.len())
+        .position(|part| part == row)
+        .ok_or("no row")?;
+    let infimum = bytes.get_mut(place.saturating_add(8)).ok_or("no infimum")?;
+    *infimum = b')';
+    fs::write(rt, file, &bytes)?;
     Ok(())
 }
 
@@ -149,7 +154,7 @@ fn a_damaged_file_is_left_alone(rt: HostRuntime) -> Result<(), Fail> {
     folder(&rt, "damaged_test")?;
     let file = "damaged_test/a.db";
     expect_steps(&rt, file, whole())?;
-    execute(&rt, file, "UPDATE field SET inf = inf + 1")?;
+    damage(&rt, file)?;
     expect_steps(&rt, file, damaged())?;
     fs::remove_dir_all(&rt, "damaged_test")?;
     Ok(())
