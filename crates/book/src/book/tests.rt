@@ -100,9 +100,11 @@ const USED: [(&str, &str); 4] = [
 ];
 
 /// The order of that number: the call without its clauses, so that a test's proof need not carry them.
-pub(super) fn order(book: &Book, number: u64) -> Result<OrderView<'_>, Fail> {
-    let number = OrderNo::new(number).ok_or("a number")?;
-    Ok(book.order(number).ok_or("no order")?)
+pub(super) fn order(book: &Book, number: u64) -> Option<OrderView<'_>> {
+    match OrderNo::new(number) {
+        Some(number) => book.order(number),
+        None => None,
+    }
 }
 
 /// How much each of the lines holds and how much of it is used.
@@ -123,17 +125,18 @@ pub(super) fn numbers(book: &Book, branch: &str) -> Result<(u64, u64, u64), Fail
     Ok((field.value.get(), field.inf.get(), field.sup.get()))
 }
 
-/// The branch of the field at that index, likewise, which is shown under its name too.
-fn branch_at<R: Abort>(rt: &R, book: &Book, index: usize) -> Result<Branch, Fail> {
+/// The branch of the field at that index, likewise.
+fn branch_at(book: &Book, index: usize) -> Result<Branch, Fail> {
     let view = book.field_at(index).ok_or("no field")?;
-    assert_eq!(rt; book.field(view.branch, view.article), Some(view));
     Ok(view.branch)
 }
 
 #[test]
 fn an_order_is_shown(rt: HostRuntime) -> Result<(), Fail> {
     let book = book_after(rt.alloc(), used())?;
-    let order = order(&book, 7)?;
+    let Some(order) = order(&book, 7) else {
+        return Err(Fail::from("no order"));
+    };
     assert_eq!(rt; order.kind, Kind::Plain);
     assert_eq!(rt; order.state, State::Open);
     assert_eq!(rt; order.until.get(), 120);
@@ -145,8 +148,10 @@ fn an_order_is_shown(rt: HostRuntime) -> Result<(), Fail> {
 fn fields_are_shown_in_order(rt: HostRuntime) -> Result<(), Fail> {
     let book = book_after(rt.alloc(), used())?;
     assert_eq!(rt; book.field_count(), 2);
-    assert!(rt; branch_at(&rt, &book, 0)? < branch_at(&rt, &book, 1)?);
+    assert!(rt; branch_at(&book, 0)? < branch_at(&book, 1)?);
     assert_eq!(rt; book.field_at(2), None);
+    let last = book.field_at(1).ok_or("no field")?;
+    assert_eq!(rt; book.field(last.branch, last.article), Some(last));
     Ok(())
 }
 
