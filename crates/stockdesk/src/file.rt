@@ -92,7 +92,7 @@ pub fn init<S: Start>(rt: &HostRuntime, path: &str, start: S) -> Result<(), Faul
     }
 }
 
-/// A session, of whose desk no more is said than that it is good. (What it says of its keeper is long over files.)
+/// A session, of which what is read and written is told on, and nothing of its keeper: over files that is dear to prove.
 fn play_on<K: Keep, R: Read, W: Write>(
     alloc: Global,
     keep: K,
