@@ -34,6 +34,10 @@ pub mod Checked
 pub mod LineChecks
 pub mod Told
 pub mod InOrder
+pub mod IndexRoom
+pub mod Indexes
+pub mod KeyPlaces
+pub mod Keyed
 pub mod Puts
 pub mod Changed
 pub mod Among

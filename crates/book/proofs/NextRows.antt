@@ -375,18 +375,18 @@ pub good_next : (b : Inside) (v : BookView) (r : Request) → view_of b ≡ v �
 good_next b v r e g key range ok = good_accept v.ledger r (good_now b v e g) key range (no_key _ ok.0) ok.1
 
 -- the place of the command is there
-pub place_fits : (b : Inside) (v : BookView) (r : Request) (n : ℕ) → view_of b ≡ v → n ≡ length b.kept.items → Good (accept v.ledger r) → n + 1 ≤ MAX_PLACES
+pub place_fits : (b : Inside) (v : BookView) (r : Request) (n : ℕ) → view_of b ≡ v → n ≡ length b.kept.entries → Good (accept v.ledger r) → n + 1 ≤ MAX_PLACES
 place_fits b v r n e is g =
     let fit = g.places_fit in
     let more = length-insert (λ a b. is_lt (slice_cmp nat_cmp a.key b.key)) (record { key = r.key; place = places v.ledger + 1; command = r.command }) v.ledger.kept in
     let here = ap (λ (v : BookView). places v.ledger) e in
-    let same = length-of-map kept_of b.kept.items in
+    let same = length-of-map kept_of b.kept.entries in
     omega arith
 
-pub place_is : (b : Inside) (v : BookView) (n : ℕ) → view_of b ≡ v → n ≡ length b.kept.items → n + 1 ≡ places v.ledger + 1
+pub place_is : (b : Inside) (v : BookView) (n : ℕ) → view_of b ≡ v → n ≡ length b.kept.entries → n + 1 ≡ places v.ledger + 1
 place_is b v n e is =
     let here = ap (λ (v : BookView). places v.ledger) e in
-    let same = length-of-map kept_of b.kept.items in
+    let same = length-of-map kept_of b.kept.entries in
     omega arith
 
 -- the rows as they are made one after the other

@@ -62,9 +62,9 @@ pub heads_told : (A : Ledger) (rows : List OrderRow) → Good A → map order_ce
 heads_told A rows g e = each_row order_row order_cells (IsGoodOrder A) (λ row. (h : Head) × IsHeadTold h row)
     (λ o row good is. (head_of o, record { number = good.number; until = good.until; cells = is })) A.orders rows g.orders e
 
-pub kept_told : (A : Ledger) (rows : List KeptRow) → Good A → map kept_cells rows ≡ map kept_row A.kept → Each (λ row. (e : KeptEntry) × IsKeptTold e row) rows
-kept_told A rows g e = each_row kept_row kept_cells IsGoodKept (λ row. (e : KeptEntry) × IsKeptTold e row)
-    (λ k row good is. (record { key = k.key; place = k.place; command = k.command }, record { key = good.key; command = good.command; cells = is })) A.kept rows g.kept e
+pub kept_told : (A : Ledger) (rows : List KeptRow) → Good A → map kept_cells rows ≡ map kept_row A.kept → Each (λ row. (e : List ℕ × KeptEntry) × IsKeptTold e row) rows
+kept_told A rows g e = each_row kept_row kept_cells IsGoodKept (λ row. (e : List ℕ × KeptEntry) × IsKeptTold e row)
+    (λ k row good is. ((k.key, record { place = k.place; command = k.command }), record { key = good.key; command = good.command; cells = is })) A.kept rows g.kept e
 
 -- a line in range that the cells tell
 record Line_told (cells : LineCells) : Type 0 where

@@ -7,7 +7,9 @@ pub mod Good
 pub mod Future
 pub mod View
 pub mod Examples
+pub mod InOrder
 pub mod InPlace
+pub mod Lends
 pub mod Walk
 pub mod Plans
 pub mod Views

@@ -68,9 +68,9 @@ pub record IsLineTold (l : Line) (row : LineRow) : Type 0 where
   pub used : IsLevel l.used
   pub cells : TellsLine l (line_cells row)
 
-pub record IsKeptTold (e : KeptEntry) (row : KeptRow) : Type 0 where
-  pub key : IsKey e.key
-  pub command : IsInRange e.command
+pub record IsKeptTold (e : List ℕ × KeptEntry) (row : KeptRow) : Type 0 where
+  pub key : IsKey e.0
+  pub command : IsInRange e.1.command
   pub cells : kept_cells row ≡ kept_row (kept_of e)
 
 -- ---- orders from rows

@@ -35,8 +35,8 @@ move_of e = record { place = e.place; field = name_of e.branch e.article; amount
 abbrev pub order_of : OrderEntry → Order
 order_of e = record { number = e.number; kind = e.kind; until = e.until; state = e.state; lines = e.lines.items }
 
-abbrev pub kept_of : KeptEntry → Kept
-kept_of e = record { key = e.key; place = e.place; command = e.command }
+abbrev pub kept_of : List ℕ × KeptEntry → Kept
+kept_of e = record { key = e.0; place = e.1.place; command = e.1.command }
 
 abbrev pub ledger_of : Inside → Ledger
 ledger_of b = record {
@@ -44,7 +44,7 @@ ledger_of b = record {
   fields = map field_of b.fields.items;
   moves = map move_of b.moves.items;
   orders = map order_of b.orders.items;
-  kept = map kept_of b.kept.items;
+  kept = map kept_of b.kept.entries;
 }
 
 abbrev pub order_room : OrderEntry → OrderRoom
@@ -55,7 +55,7 @@ room_of b = record {
   fields = vec_capacity b.fields - vec_len b.fields;
   moves = vec_capacity b.moves - vec_len b.moves;
   orders = vec_capacity b.orders - vec_len b.orders;
-  kept = vec_capacity b.kept - vec_len b.kept;
+  kept = b.kept.room;
   lines = map order_room b.orders.items;
 }
 

@@ -4,7 +4,8 @@ ghost use Rattle.std.specs.Prelude.{◌≡◌};
 ghost use Rattle.book.specs.Ledger.{new_ledger};
 
 use crate::entries::{FieldEntry, KeptEntry, MoveEntry, OrderEntry};
-use escrow::Moment;
+use crate::in_order::InOrder;
+use escrow::{Key, Moment};
 use std::alloc::Global;
 use std::marker::Model;
 
@@ -39,7 +40,7 @@ pub struct Book {
     fields: Vec<FieldEntry>,
     moves: Vec<MoveEntry>,
     orders: Vec<OrderEntry>,
-    kept: Vec<KeptEntry>,
+    kept: InOrder<Key, KeptEntry>,
 }
 
 impl Model for Book {
@@ -63,7 +64,7 @@ impl Book {
             fields: Vec::new(alloc),
             moves: Vec::new(alloc),
             orders: Vec::new(alloc),
-            kept: Vec::new(alloc),
+            kept: InOrder::new(alloc),
         }
     }
 }

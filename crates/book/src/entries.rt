@@ -1,7 +1,7 @@
 //! The entries of a ledger, as they lie in memory.
 
 use crate::order::{Kind, Line, State};
-use escrow::{Article, Branch, Key, Level, Moment, OrderNo};
+use escrow::{Article, Branch, Level, Moment, OrderNo};
 use words::Command;
 
 /// A field: its bounds, and the level at which it started.
@@ -33,10 +33,9 @@ pub struct OrderEntry {
     pub lines: Vec<Line>,
 }
 
-/// An accepted key, with its place and its command.
+/// What is kept under an accepted key: its place and its command.
 #[derive(Debug, Drop)]
 pub struct KeptEntry {
-    pub key: Key,
     pub place: u64,
     pub command: Command,
 }

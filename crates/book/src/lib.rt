@@ -4,6 +4,7 @@
 mod book;
 mod entries;
 mod examples;
+mod in_order;
 mod laws;
 mod limits;
 mod order;

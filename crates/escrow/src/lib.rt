@@ -2,6 +2,7 @@
 #![tactic(auto)]
 
 mod code;
+mod field_name;
 mod fixed_text;
 mod limits;
 mod number;
@@ -11,6 +12,7 @@ pub use code::BadCode;
 pub use code::article::Article;
 pub use code::branch::Branch;
 pub use code::key::Key;
+pub use field_name::FieldName;
 pub use limits::{
     MAX_ARTICLE_LEN, MAX_BRANCH_LEN, MAX_KEY_LEN, MAX_LEVEL, MAX_MOMENT, MAX_ORDER_NO, MAX_QTY,
 };

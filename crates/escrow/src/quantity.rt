@@ -30,8 +30,8 @@ pub enum Bound {
     TooMuch,
 }
 
-/// A quantity of stock, in pieces: its bounds, its settled value, and the amounts that open orders hold
-/// to take and to add.
+/// A quantity of stock, in pieces: its bounds, its settled value, and the least and the greatest value that
+/// open orders can leave. Contracts see the amounts that these hold to take and to add in place of the last two.
 ///
 /// Each order that is open may still take or add any part of what it holds. So a request is tested
 /// against the worst outcome of all of them (O'Neil's escrow method), and whatever is held can be used
@@ -41,22 +41,26 @@ pub struct Quantity {
     lo: u64,
     hi: u64,
     value: u64,
-    held_to_take: u64,
-    held_to_add: u64,
+    inf: u64,
+    sup: u64,
 }
 
 impl Model for Quantity {
-    ghost use Rattle.std.specs.Prelude.{◌+◌, ◌≤◌};
+    ghost use Rattle.std.specs.Prelude.{◌≡◌, ◌+◌, ◌-◌, ◌≤◌, ℕ};
+    ghost use Rattle.std.proofs.Common.{ap};
+    ghost use Rattle.escrow.specs.Inverse.{numbers_back};
     ghost use Rattle.escrow.specs.Ranges.{IsLevel};
     ghost use Rattle.escrow.specs.Stock.{Stock};
 
     ghost Value = { Stock };
 
-    ghost view = { λ q. record { lo = q.lo; hi = q.hi; value = q.value; held_to_take = q.held_to_take; held_to_add = q.held_to_add } };
+    ghost view = { λ q. record { lo = q.lo; hi = q.hi; value = q.value; held_to_take = q.value - q.inf; held_to_add = q.sup - q.value } };
 
-    ghost invariant = { λ q. (q.lo + q.held_to_take ≤ q.value) × (q.value + q.held_to_add ≤ q.hi) × IsLevel q.hi };
+    ghost invariant = { λ q. (q.lo ≤ q.inf) × (q.inf ≤ q.value) × (q.value ≤ q.sup) × (q.sup ≤ q.hi) × IsLevel q.hi };
 
-    ghost inverse = { λ s. record { lo = s.lo; hi = s.hi; value = s.value; held_to_take = s.held_to_take; held_to_add = s.held_to_add } };
+    ghost inverse = { λ s. record { lo = s.lo; hi = s.hi; value = s.value; inf = s.value - s.held_to_take; sup = s.value + s.held_to_add } };
+
+    ghost inverse_ok = { λ q h. ap (λ (p : ℕ × ℕ). record { lo = q.lo; hi = q.hi; value = q.value; inf = p.0; sup = p.1 }) (numbers_back q.inf q.value q.sup h.1 h.2) };
 }
 
 impl Quantity {
@@ -72,8 +76,8 @@ impl Quantity {
             lo: lo.get(),
             hi: hi.get(),
             value: value.get(),
-            held_to_take: 0,
-            held_to_add: 0,
+            inf: value.get(),
+            sup: value.get(),
         })
     }
 
@@ -96,8 +100,8 @@ impl Quantity {
             lo: lo.get(),
             hi: hi.get(),
             value: value.get(),
-            held_to_take: value.get() - inf.get(),
-            held_to_add: sup.get() - value.get(),
+            inf: inf.get(),
+            sup: sup.get(),
         })
     }
 
@@ -112,18 +116,18 @@ impl Quantity {
         let amount = qty.get();
         match way {
             Way::Take => {
-                let least = self.value - self.held_to_take;
+                let least = self.inf;
                 if least < self.lo + amount {
                     return Err(Bound::TooLittle);
                 }
-                self.held_to_take += amount;
+                self.inf -= amount;
             }
             Way::Add => {
-                let greatest = self.value + self.held_to_add;
+                let greatest = self.sup;
                 if greatest + amount > self.hi {
                     return Err(Bound::TooMuch);
                 }
-                self.held_to_add += amount;
+                self.sup += amount;
             }
         }
         Ok(())
@@ -136,8 +140,8 @@ impl Quantity {
         ensures { self.new ≡ giving_back self.old way amount }
     {
         match way {
-            Way::Take => self.held_to_take -= amount,
-            Way::Add => self.held_to_add -= amount,
+            Way::Take => self.inf += amount,
+            Way::Add => self.sup -= amount,
         }
     }
 
@@ -150,12 +154,14 @@ impl Quantity {
     {
         match way {
             Way::Take => {
-                self.held_to_take -= held;
+                self.inf += held - used;
                 self.value -= used;
+                self.sup -= used;
             }
             Way::Add => {
-                self.held_to_add -= held;
+                self.inf += used;
                 self.value += used;
+                self.sup -= held - used;
             }
         }
     }
@@ -170,20 +176,22 @@ impl Quantity {
         ensures bound { IfErr result (λ bound. bound ≡ bound_of way) }
     {
         let amount = qty.get();
-        let inf = self.value - self.held_to_take;
-        let sup = self.value + self.held_to_add;
         match way {
             Way::Take => {
-                if inf < self.lo + amount {
+                if self.inf < self.lo + amount {
                     return Err(Bound::TooLittle);
                 }
+                self.inf -= amount;
                 self.value -= amount;
+                self.sup -= amount;
             }
             Way::Add => {
-                if sup + amount > self.hi {
+                if self.sup + amount > self.hi {
                     return Err(Bound::TooMuch);
                 }
+                self.inf += amount;
                 self.value += amount;
+                self.sup += amount;
             }
         }
         Ok(())
@@ -215,13 +223,13 @@ impl Quantity {
     pub fn inf(&self) -> Level
         ensures { IsInfimum self.now (pos result) }
     {
-        Level::of(self.value - self.held_to_take)
+        Level::of(self.inf)
     }
 
     /// The supremum (O'Neil's sup): the greatest value that they can leave.
     pub fn sup(&self) -> Level
         ensures { IsSupremum self.now (pos result) }
     {
-        Level::of(self.value + self.held_to_add)
+        Level::of(self.sup)
     }
 }

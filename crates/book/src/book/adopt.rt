@@ -179,13 +179,6 @@ impl Book {
         self.clock = self.clock_after(&command);
         adopt_stock(&mut self.fields, &mut self.moves, place, &command);
         adopt_orders(&mut self.orders, &mut lines, &command);
-        insert_kept(
-            &mut self.kept,
-            KeptEntry {
-                key,
-                place,
-                command,
-            },
-        );
+        insert_kept(&mut self.kept, key, KeptEntry { place, command });
     }
 }

@@ -1,7 +1,6 @@
 //! Entries by their names.
 
 ghost use Rattle.std.specs.Prelude.{◌≡◌, ◌==◌, MatchOption, find};
-ghost use Rattle.std.specs.Str.{bytes_eq};
 ghost use Rattle.book.specs.Ledger.{field_named, kept_under, on, order_numbered, same_name, name_of};
 ghost use Rattle.book.specs.View.{field_of, kept_of, order_of};
 
@@ -27,9 +26,9 @@ impl Book {
 
     /// What is kept under that key.
     pub(super) fn kept_entry(&self, key: Key) -> Option<&KeptEntry>
-        ensures { let found = kept_under self.now.ledger key in MatchOption result (found ≡ None) (λ entry. found ≡ Some (kept_of entry.now)) }
+        ensures { let found = kept_under self.now.ledger key in MatchOption result (found ≡ None) (λ entry. found ≡ Some (kept_of (key, entry.now))) }
     {
-        kept_in(&self.kept, key)
+        self.kept.get(&key)
     }
 }
 
@@ -71,24 +70,6 @@ pub(super) fn is_numbered(entry: &OrderEntry, number: OrderNo) -> bool
     ensures { result ≡ (entry.now.number == number) }
 {
     entry.number == number
-}
-
-/// The first that is kept under that key.
-pub(super) fn kept_in(kept: &[KeptEntry], key: Key) -> Option<&KeptEntry>
-    ensures { let found = find (λ entry. bytes_eq entry.key key) kept.now in MatchOption result (found ≡ None) (λ entry. found ≡ Some entry.now) }
-{
-    for entry in kept {
-        if is_under(entry, key) {
-            return Some(entry);
-        }
-    }
-    None
-}
-
-fn is_under(entry: &KeptEntry, key: Key) -> bool
-    ensures { result ≡ bytes_eq entry.now.key key }
-{
-    entry.key == key
 }
 
 /// The first line on that field.

@@ -1,15 +1,17 @@
 //! Entries put among others in the order of their keys. Where there is room no memory is taken.
 
-ghost use Rattle.std.specs.Prelude.{◌≡◌, ◌<◌, ◌≤◌, ◌∷◌, ◌++◌, [], length, map, nat_lt};
+ghost use Rattle.std.specs.Prelude.{◌≡◌, ◌<◌, ◌≤◌, ◌∷◌, ◌++◌, [], None, find, length, map, nat_lt};
 ghost use Rattle.std.specs.Cmp.Lexicographic.{slice_cmp};
 ghost use Rattle.std.specs.List.{insert};
 ghost use Rattle.std.specs.Ordering.{is_lt, nat_cmp};
+ghost use Rattle.std.specs.Str.{bytes_eq};
 ghost use Rattle.std.specs.Vec.{vec_capacity, vec_len};
 ghost use Rattle.book.specs.Ledger.{insert_in_order, name_cmp, name_of};
 ghost use Rattle.book.specs.View.{field_of, kept_of, move_of, order_of};
 
 use crate::entries::{FieldEntry, KeptEntry, MoveEntry, OrderEntry};
-use escrow::{Article, Branch};
+use crate::in_order::InOrder;
+use escrow::{Article, Branch, Key};
 use std::cmp::Ordering;
 
 /// Whether the one field stands before the other: by branch, then by article.
@@ -71,29 +73,18 @@ pub(super) fn insert_order(orders: &mut Vec<OrderEntry>, entry: OrderEntry)
     }
 }
 
-pub(super) fn is_key_before(one: &KeptEntry, other: &KeptEntry) -> bool
-    ensures { result ≡ is_lt (slice_cmp nat_cmp one.now.key other.now.key) }
+pub(super) fn is_key_before(one: &(Key, KeptEntry), other: &(Key, KeptEntry)) -> bool
+    ensures { result ≡ is_lt (slice_cmp nat_cmp one.now.0 other.now.0) }
 {
-    one.key < other.key
+    one.0 < other.0
 }
 
-fn kept_place(kept: &[KeptEntry], entry: &KeptEntry) -> usize
-    ensures within { result ≤ length kept.now }
-    ensures there { map kept_of (insert kept.now result entry.now) ≡ insert_in_order (λ a b. is_lt (slice_cmp nat_cmp a.key b.key)) (kept_of entry.now) (map kept_of kept.now) }
+pub(super) fn insert_kept(kept: &mut InOrder<Key, KeptEntry>, key: Key, entry: KeptEntry)
+    requires room { 1 ≤ kept.old.room }
+    requires absent { find (λ k. bytes_eq k.key key) (map kept_of kept.old.entries) ≡ None }
+    ensures { map kept_of kept.new.entries ≡ insert_in_order (λ a b. is_lt (slice_cmp nat_cmp a.key b.key)) (kept_of (key, entry)) (map kept_of kept.old.entries) }
 {
-    let place = kept.iter().position(|other| is_key_before(entry, other));
-    place.unwrap_or(kept.len())
-}
-
-pub(super) fn insert_kept(kept: &mut Vec<KeptEntry>, entry: KeptEntry)
-    requires { vec_len kept.old < vec_capacity kept.old }
-    ensures { map kept_of kept.new.items ≡ insert_in_order (λ a b. is_lt (slice_cmp nat_cmp a.key b.key)) (kept_of entry) (map kept_of kept.old.items) }
-{
-    let place = kept_place(kept, &entry);
-    match kept.insert(place, entry) {
-        Ok(()) => {}
-        Err(_) => unreachable!(),
-    }
+    kept.insert(key, entry);
 }
 
 pub(super) fn push_move(

@@ -30,10 +30,11 @@ use self::told::{moment, natural, read_all};
 use crate::book::Book;
 use crate::book::walk::count_open;
 use crate::entries::{FieldEntry, KeptEntry, MoveEntry, OrderEntry};
+use crate::in_order::InOrder;
 use crate::limits::{MAX_FIELDS, MAX_ORDERS, MAX_PLACES};
 use crate::order::Line;
 use crate::rows::{DeskRow, FieldRow, Tables};
-use escrow::Moment;
+use escrow::{Key, Moment};
 use std::alloc::Global;
 use thiserror::Error;
 use words::Memory;
@@ -56,7 +57,7 @@ struct Entries {
     fields: Vec<FieldEntry>,
     moves: Vec<MoveEntry>,
     orders: Vec<OrderEntry>,
-    kept: Vec<KeptEntry>,
+    kept: Vec<(Key, KeptEntry)>,
 }
 
 /// The clock, where the row has it and these places.
@@ -161,12 +162,15 @@ impl Book {
             Ok(false) => return Err(TablesFault::Damaged),
             Err(Memory) => return Err(TablesFault::Memory),
         }
+        let Ok(kept) = InOrder::from_sorted(alloc, entries.kept) else {
+            return Err(TablesFault::Memory);
+        };
         Ok(Book {
             clock: entries.clock,
             fields: entries.fields,
             moves: entries.moves,
             orders: entries.orders,
-            kept: entries.kept,
+            kept,
         })
     }
 }

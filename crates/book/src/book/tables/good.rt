@@ -15,7 +15,7 @@ use crate::book::find::line_in;
 use crate::book::insert::{is_field_before, is_key_before, is_order_before};
 use crate::entries::{FieldEntry, KeptEntry, MoveEntry, OrderEntry};
 use crate::order::{Kind, Line};
-use escrow::{Qty, Way};
+use escrow::{Key, Qty, Way};
 use words::MAX_ORDER_LINES;
 
 /// Whether the fields stand in the order of their names, each once.
@@ -46,7 +46,7 @@ pub(super) fn are_orders_in_order(orders: &[OrderEntry]) -> bool
 }
 
 /// Whether the kept keys stand in their order, each once.
-pub(super) fn are_keys_in_order(kept: &[KeptEntry]) -> bool
+pub(super) fn are_keys_in_order(kept: &[(Key, KeptEntry)]) -> bool
     ensures { IsTrue result ↔ IsStrictlySortedBy (slice_cmp nat_cmp) (map (λ k. k.key) (map kept_of kept.now)) }
 {
     kept.is_sorted_by(|one, other| is_key_before(one, other))

@@ -183,10 +183,10 @@ fn line(row: &LineRow) -> Option<Line>
     })
 }
 
-impl Told<KeptRow> for KeptEntry {
+impl Told<KeptRow> for (Key, KeptEntry) {
     ghost is_told = { IsKeptTold };
 
-    fn read(alloc: Global, row: &KeptRow) -> Result<KeptEntry, TablesFault> {
+    fn read(alloc: Global, row: &KeptRow) -> Result<(Key, KeptEntry), TablesFault> {
         let Ok(key) = Key::read(row.reqkey.as_bytes()) else {
             return Err(TablesFault::Damaged);
         };
@@ -194,11 +194,7 @@ impl Told<KeptRow> for KeptEntry {
             return Err(TablesFault::Damaged);
         };
         match read_command(alloc, row.words.as_bytes()) {
-            Ok(command) => Ok(KeptEntry {
-                key,
-                place,
-                command,
-            }),
+            Ok(command) => Ok((key, KeptEntry { place, command })),
             Err(WordsFault::BadCommand) => Err(TablesFault::Damaged),
             Err(WordsFault::Memory) => Err(TablesFault::Memory),
         }

@@ -19,7 +19,7 @@ order_after-requires-clause-good c = good_next c.self.inside c.args.self.now c.a
 
 pub desk_row-desk-requires : goal.desk_row-desk-requires
 desk_row-desk-requires c =
-    let fits = place_fits c.self.inside c.args.self.now c.args.request.now c.len.result c.self.view_is (c.len.ensures ∙ c.self.inside.kept.ok.0) (good_next c.self.inside c.args.self.now c.args.request.now c.self.view_is c.self.invariant c.in_range.ensures.key c.in_range.ensures.command c.requires) in
+    let fits = place_fits c.self.inside c.args.self.now c.args.request.now c.len.result c.self.view_is c.len.ensures.len (good_next c.self.inside c.args.self.now c.args.request.now c.self.view_is c.self.invariant c.in_range.ensures.key c.in_range.ensures.command c.requires) in
     omega arith
 
 pub push_fields-requires-clause-good : goal.push_fields-requires-clause-good
@@ -30,7 +30,7 @@ push_new_field-requires-clause-good c = good_next c.self.inside c.args.self.now 
 
 pub push_move-requires : goal.push_move-requires
 push_move-requires c =
-    let fits = place_fits c.self.inside c.args.self.now c.args.request.now c.len.result c.self.view_is (c.len.ensures ∙ c.self.inside.kept.ok.0) (good_next c.self.inside c.args.self.now c.args.request.now c.self.view_is c.self.invariant c.in_range.ensures.key c.in_range.ensures.command c.requires) in
+    let fits = place_fits c.self.inside c.args.self.now c.args.request.now c.len.result c.self.view_is c.len.ensures.len (good_next c.self.inside c.args.self.now c.args.request.now c.self.view_is c.self.invariant c.in_range.ensures.key c.in_range.ensures.command c.requires) in
     omega arith
 
 pub push_own_lines-requires : goal.push_own_lines-requires
@@ -40,7 +40,7 @@ push_own_lines-requires c =
 
 pub push_kept-requires : goal.push_kept-requires
 push_kept-requires c =
-    let fits = place_fits c.self.inside c.args.self.now c.args.request.now c.len.result c.self.view_is (c.len.ensures ∙ c.self.inside.kept.ok.0) (good_next c.self.inside c.args.self.now c.args.request.now c.self.view_is c.self.invariant c.in_range.ensures.key c.in_range.ensures.command c.requires) in
+    let fits = place_fits c.self.inside c.args.self.now c.args.request.now c.len.result c.self.view_is c.len.ensures.len (good_next c.self.inside c.args.self.now c.args.request.now c.self.view_is c.self.invariant c.in_range.ensures.key c.in_range.ensures.command c.requires) in
     omega arith
 
 pub returns : goal.returns
@@ -49,5 +49,5 @@ returns c =
     let r : Request = c.args.request.now in
     let first = ap rows_among (c.in_ok-push.ensures ∙ ap (λ (xs : List Change). xs ++ Desk c.desk_row-desk.result ∷ []) c.new-changes.ensures.items) in
     changes_to A r _ (good_now c.self.inside c.args.self.now c.self.view_is c.self.invariant) c.in_range.ensures.key c.in_range.ensures.command c.requires
-    (rows_in_turn A r (c.len.result + 1) c.clock_after.result (option_map order_of c.in_ok-made.made) (desk_cells c.desk_row-desk.result) _ _ _ _ _ _ _ (place_is c.self.inside c.args.self.now c.len.result c.self.view_is (c.len.ensures ∙ c.self.inside.kept.ok.0)) c.clock_after.ensures c.in_ok-made.ensures
+    (rows_in_turn A r (c.len.result + 1) c.clock_after.result (option_map order_of c.in_ok-made.made) (desk_cells c.desk_row-desk.result) _ _ _ _ _ _ _ (place_is c.self.inside c.args.self.now c.len.result c.self.view_is c.len.ensures.len) c.clock_after.ensures c.in_ok-made.ensures
     c.desk_row-desk.ensures first c.in_ok-push_fields.ensures c.in_ok-push_new_field.ensures c.in_ok-push_move.ensures c.in_ok-push_orders.ensures c.in_ok-push_own_lines.ensures c.in_ok-push_kept.ensures)

@@ -1,7 +1,15 @@
-use Rattle.std.specs.Str.{bytes_eq}
+use Rattle.std.proofs.Common.{◌≡◌, Bor, List, ℕ, Option, Some, None, MatchOption, find, map, refl}
+use Rattle.std.specs.Option.{option_copied, option_map}
+use Rattle.book.specs.Ledger.{Kept}
 use Rattle.book.specs.View.{kept_of}
-use Rattle.book.proofs.Found.{match-map}
+use Rattle.book.specs.declared.entries.KeptEntry.{KeptEntry}
+use Rattle.book.proofs.Keyed.{kept_found}
 use Rattle.book.proofs.book.Book.kept_entry.Goals as goal
 
+told : (key : List ℕ) (result : Option (Bor KeptEntry)) (there : Option KeptEntry) (found : Option Kept) → option_copied result ≡ there → found ≡ option_map (λ v. kept_of (key, v)) there
+    → MatchOption result (found ≡ None) (λ entry. found ≡ Some (kept_of (key, entry.now)))
+told key None there found is e = rw (← is) at e
+told key (Some r) there found is e = rw (← is) at e
+
 pub returns : goal.returns
-returns c = rw (← c.self.view_is) (match-map (λ k. bytes_eq k.key c.args.key) kept_of c.self.inside.kept.items (λ entry. entry.now) c.kept_in.result (rw c.deref.ensures.value at c.kept_in.ensures))
+returns c = rw (← c.self.view_is) (told c.args.key c.get.result _ _ c.get.ensures (kept_found c.args.key c.self.inside.kept.entries))

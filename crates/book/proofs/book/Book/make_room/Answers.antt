@@ -44,8 +44,7 @@ returns-in-More-clause-kept c plan had =
     let moves_len = c.reserve-2.ensures.len in
     let orders = c.reserve-3.ensures.capacity in
     let orders_len = c.reserve-3.ensures.len in
-    let keys = c.reserve-4.ensures.capacity in
-    let keys_len = c.reserve-4.ensures.len in
+    let keys = c.reserve-4.ensures.kept in
     record {
       fields = omega arith;
       moves = omega arith;

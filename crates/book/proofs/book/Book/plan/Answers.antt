@@ -13,9 +13,8 @@ pub returns : goal.returns
 returns c =
     let same : ◌≡◌ {A = Request} c.new-plan.result.request c.args.request.now = λ i. record { key = c.new-plan.ensures.key i; command = (c.new-plan.ensures.command ∙ c.in_ok-command.ensures) i } in
     let place = c.new-plan.ensures.place in
-    let count = c.len.ensures in
-    let kept = c.self.inside.kept.ok.0 in
-    let seen = length-of-map kept_of c.self.inside.kept.items in
+    let count = c.len.ensures.len in
+    let seen = length-of-map kept_of c.self.inside.kept.entries in
     let is = ap (λ (v : BookView). places v.ledger) c.self.view_is in record {
       planned = (
         same,

@@ -88,7 +88,7 @@ good_fields [] (r ∷ rows) told = absurd told
 good_fields (e ∷ es) [] told = absurd told
 good_fields (e ∷ es) (r ∷ rows) told = (told.0.0, good_fields es rows told.1)
 
-good_kept : (es : List KeptEntry) (rows : List KeptRow) → AllZip IsKeptTold es rows → Each IsGoodKept (map kept_of es)
+good_kept : (es : List (List ℕ × KeptEntry)) (rows : List KeptRow) → AllZip IsKeptTold es rows → Each IsGoodKept (map kept_of es)
 good_kept [] [] told = tt
 good_kept [] (r ∷ rows) told = absurd told
 good_kept (e ∷ es) [] told = absurd told

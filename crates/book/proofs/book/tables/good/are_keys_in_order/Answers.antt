@@ -1,4 +1,4 @@
-use Rattle.std.proofs.Common.{◌≡◌, Bool, of_calls, refl, rules}
+use Rattle.std.proofs.Common.{◌≡◌, ℕ, Bool, List, of_calls, refl, rules}
 use Rattle.std.proofs.lemmas.Fn.{always_returns_same}
 use Rattle.std.specs.Ordering.{is_lt, nat_cmp}
 use Rattle.std.specs.Cmp.Lexicographic.{slice_cmp}
@@ -9,8 +9,8 @@ use Rattle.book.specs.declared.entries.KeptEntry.{KeptEntry}
 use Rattle.book.proofs.InRow.{in_order}
 use Rattle.book.proofs.book.tables.good.are_keys_in_order.Goals as goal
 
-abbrev before : KeptEntry → KeptEntry → Bool
-before one other = is_lt (slice_cmp nat_cmp one.key other.key)
+abbrev before : List ℕ × KeptEntry → List ℕ × KeptEntry → Bool
+before one other = is_lt (slice_cmp nat_cmp one.0 other.0)
 
 pub returns : goal.returns
 returns c =

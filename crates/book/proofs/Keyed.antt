@@ -1,0 +1,59 @@
+-- Entries under keys, as they stand in a ledger.
+use Rattle.std.proofs.Common.{◌≡◌, ◌∙◌, Bool, true, false, ℕ, List, [], ◌∷◌, Option, Some, None, ap, cond, find, if◌then◌else◌, is_some, map, refl, sym, true≢false}
+use lib.Pointwise.{bytes_decides}
+use Rattle.std.proofs.lemmas.Cmp.{nat_list_eq_equiv}
+use Rattle.std.proofs.lemmas.Map.Text.{is_eq-slice_cmp}
+use Rattle.std.specs.BTreeMap.{insert_entry, is_at}
+use Rattle.std.specs.Cmp.Lexicographic.{slice_cmp}
+use Rattle.std.specs.Map.{lookup}
+use Rattle.std.specs.Option.{option_map}
+use Rattle.std.specs.Ordering.{is_eq, is_lt, match_ordering, nat_cmp}
+use Rattle.std.specs.Str.{bytes_eq}
+use Rattle.std.specs.declared.cmp.Ordering.{Ordering}
+use Rattle.std.specs.declared.cmp.Ordering.TheVariants.{Equal, Greater, Less}
+use Rattle.book.specs.Ledger.{Kept, insert_in_order}
+use Rattle.book.specs.View.{kept_of}
+use Rattle.book.specs.declared.entries.KeptEntry.{KeptEntry}
+
+module _ {K V X : Type 0} (cmp : K → K → Ordering) (ties : (a b : K) → cmp a b ≡ Equal → a ≡ b) (view : K × V → X) where
+  -- what stands under a key
+  found : (key : K) (test : X → Bool) → ((e : K × V) → test (view e) ≡ is_eq (cmp key e.0)) → (l : List (K × V)) → find test (map view l) ≡ option_map (λ v. view (key, v)) (lookup (is_at (cmp key)) l)
+  found key test same [] = refl
+  found key test same (e ∷ l) = rw (same e) (by (cmp key e.0) refl (found key test same l))
+    where
+      by : (o : Ordering) → cmp key e.0 ≡ o → find test (map view l) ≡ option_map (λ v. view (key, v)) (lookup (is_at (cmp key)) l)
+          → (if is_eq o then Some (view e) else find test (map view l)) ≡ option_map (λ v. view (key, v)) (cond (is_eq o) (Some e.1) (lookup (is_at (cmp key)) l))
+      by Less o more = more
+      by Equal o more = ap (λ k. Some (view (k, e.1))) (sym (ties key e.0 o))
+      by Greater o more = more
+
+  -- an entry under a key that none stands under is put before the first that it precedes
+  inserted : (key : K) (v : V) (before : X → X → Bool) → ((e : K × V) → before (view (key, v)) (view e) ≡ is_lt (cmp key e.0)) → (l : List (K × V)) → lookup (is_at (cmp key)) l ≡ None
+      → map view (insert_entry cmp l key v) ≡ insert_in_order before (view (key, v)) (map view l)
+  inserted key v before first [] none = refl
+  inserted key v before first (e ∷ l) none = rw (first e) (by (cmp key e.0) none (inserted key v before first l))
+    where
+      by : (o : Ordering) → cond (is_eq o) (Some e.1) (lookup (is_at (cmp key)) l) ≡ None → (lookup (is_at (cmp key)) l ≡ None → map view (insert_entry cmp l key v) ≡ insert_in_order before (view (key, v)) (map view l))
+          → map view (match_ordering o ((key, v) ∷ e ∷ l) ((e.0, v) ∷ l) (e ∷ insert_entry cmp l key v)) ≡ (if is_lt o then view (key, v) ∷ view e ∷ map view l else view e ∷ insert_in_order before (view (key, v)) (map view l))
+      by Less none more = refl
+      by Equal none more = absurd (true≢false (ap is_some none))
+      by Greater none more = ap (λ xs. view e ∷ xs) (more none)
+
+nothing_there : {X Y : Type 0} (f : X → Y) (o : Option X) → option_map f o ≡ None → o ≡ None
+nothing_there f None h = refl
+nothing_there f (Some x) h = absurd (true≢false (ap is_some h))
+
+-- ---- kept keys
+
+same_text : (a b : List ℕ) → slice_cmp nat_cmp a b ≡ Equal → a ≡ b
+same_text a b h = (bytes_decides a b).0 (sym (is_eq-slice_cmp a b) ∙ ap is_eq h)
+
+pub kept_found : (key : List ℕ) (l : List (List ℕ × KeptEntry)) → find (λ k. bytes_eq k.key key) (map kept_of l) ≡ option_map (λ v. kept_of (key, v)) (lookup (is_at (slice_cmp nat_cmp key)) l)
+kept_found key l = found (slice_cmp nat_cmp) same_text kept_of key (λ k. bytes_eq k.key key) (λ e. nat_list_eq_equiv.symm e.0 key ∙ sym (is_eq-slice_cmp key e.0)) l
+
+pub kept_absent : (key : List ℕ) (l : List (List ℕ × KeptEntry)) → find (λ k. bytes_eq k.key key) (map kept_of l) ≡ None → lookup (is_at (slice_cmp nat_cmp key)) l ≡ None
+kept_absent key l none = nothing_there (λ v. kept_of (key, v)) (lookup (is_at (slice_cmp nat_cmp key)) l) (sym (kept_found key l) ∙ none)
+
+pub kept_inserted : (key : List ℕ) (v : KeptEntry) (l : List (List ℕ × KeptEntry)) → find (λ k. bytes_eq k.key key) (map kept_of l) ≡ None
+    → map kept_of (insert_entry (slice_cmp nat_cmp) l key v) ≡ insert_in_order (λ a b. is_lt (slice_cmp nat_cmp a.key b.key)) (kept_of (key, v)) (map kept_of l)
+kept_inserted key v l none = inserted (slice_cmp nat_cmp) same_text kept_of key v (λ a b. is_lt (slice_cmp nat_cmp a.key b.key)) (λ e. refl) l (kept_absent key l none)

@@ -1,0 +1,11 @@
+use Rattle.std.proofs.Common.{◌∙◌, sym, ap, length}
+use Rattle.book.proofs.Indexes.{length_in_order}
+use Rattle.book.proofs.in_order.InOrder.len.Goals as goal
+
+pub returns : goal.returns
+returns g c =
+    let inside = c.self.inside in
+    record {
+      len = c.len.ensures ∙ inside.entries.ok.0 ∙ sym (length_in_order inside.entries.items inside.order.items c.self.invariant.each_once) ∙ ap (λ v. length v.entries) c.self.view_is;
+      rising = rw (← c.self.view_is) c.self.invariant.rising;
+    }

@@ -1,0 +1,8 @@
+use Rattle.std.proofs.Common.{[]}
+use Rattle.std.specs.List.Sorted.{IsStrictlySortedBy}
+use Rattle.std.proofs.lemmas.List.Sorted.{IsPermutation-refl}
+use Rattle.book.proofs.in_order.InOrder.new.Goals as goal
+
+pub invariant_of-result : goal.invariant_of-result
+unfolding IsStrictlySortedBy
+invariant_of-result g c = rw (c.new.ensures.items, c.new-2.ensures.items) (record { each_once = IsPermutation-refl []; rising = tt })
