@@ -1,5 +1,5 @@
 -- Entries under keys, as they stand in a ledger.
-use Rattle.std.proofs.Common.{◌≡◌, ◌∙◌, Bool, true, false, ℕ, List, [], ◌∷◌, Option, Some, None, ap, cond, find, if◌then◌else◌, is_some, map, refl, sym, true≢false}
+use Rattle.std.proofs.Common.{◌≡◌, ◌∙◌, ◌&&◌, Bool, true, false, ℕ, List, [], ◌∷◌, Option, Some, None, ap, cond, find, if◌then◌else◌, is_some, map, refl, sym, true≢false}
 use lib.Pointwise.{bytes_decides}
 use Rattle.std.proofs.lemmas.Cmp.{nat_list_eq_equiv}
 use Rattle.std.proofs.lemmas.Map.Text.{is_eq-slice_cmp}
@@ -7,13 +7,16 @@ use Rattle.std.specs.BTreeMap.{insert_entry, is_at}
 use Rattle.std.specs.Cmp.Lexicographic.{slice_cmp}
 use Rattle.std.specs.Map.{lookup}
 use Rattle.std.specs.Option.{option_map}
-use Rattle.std.specs.Ordering.{is_eq, is_lt, match_ordering, nat_cmp}
+use Rattle.std.specs.Ordering.{is_eq, is_lt, match_ordering, nat_cmp, ordering_then}
 use Rattle.std.specs.Str.{bytes_eq}
 use Rattle.std.specs.declared.cmp.Ordering.{Ordering}
 use Rattle.std.specs.declared.cmp.Ordering.TheVariants.{Equal, Greater, Less}
-use Rattle.book.specs.Ledger.{Kept, insert_in_order}
-use Rattle.book.specs.View.{kept_of}
+use Rattle.book.specs.Ledger.{Kept, Name, insert_in_order, name_cmp, same_name}
+use Rattle.book.specs.View.{field_of, kept_of}
+use Rattle.book.specs.declared.entries.FieldEntry.{FieldEntry}
 use Rattle.book.specs.declared.entries.KeptEntry.{KeptEntry}
+use Rattle.book.proofs.Closing.{name_is}
+use Rattle.book.proofs.Staying.{equal_name}
 
 module _ {K V X : Type 0} (cmp : K → K → Ordering) (ties : (a b : K) → cmp a b ≡ Equal → a ≡ b) (view : K × V → X) where
   -- what stands under a key
@@ -42,6 +45,29 @@ module _ {K V X : Type 0} (cmp : K → K → Ordering) (ties : (a b : K) → cmp
 nothing_there : {X Y : Type 0} (f : X → Y) (o : Option X) → option_map f o ≡ None → o ≡ None
 nothing_there f None h = refl
 nothing_there f (Some x) h = absurd (true≢false (ap is_some h))
+
+-- ---- fields
+
+same_both : (a b : Ordering) → is_eq (ordering_then a b) ≡ (is_eq a && is_eq b)
+same_both Less b = refl
+same_both Equal b = refl
+same_both Greater b = refl
+
+same_field : (f g : Name) → same_name f g ≡ is_eq (name_cmp f g)
+same_field f g = rw (← is_eq-slice_cmp f.branch g.branch, ← is_eq-slice_cmp f.article g.article) (sym (same_both (slice_cmp nat_cmp f.branch g.branch) (slice_cmp nat_cmp f.article g.article)))
+
+equal_field : (f g : Name) → name_cmp f g ≡ Equal → f ≡ g
+equal_field f g h = name_is f g (equal_name f g h)
+
+pub field_found : (name : Name) (l : List (Name × FieldEntry)) → find (λ f. same_name name f.name) (map field_of l) ≡ option_map (λ v. field_of (name, v)) (lookup (is_at (name_cmp name)) l)
+field_found name l = found name_cmp equal_field field_of name (λ f. same_name name f.name) (λ e. same_field name e.0) l
+
+pub field_absent : (name : Name) (l : List (Name × FieldEntry)) → find (λ f. same_name name f.name) (map field_of l) ≡ None → lookup (is_at (name_cmp name)) l ≡ None
+field_absent name l none = nothing_there (λ v. field_of (name, v)) (lookup (is_at (name_cmp name)) l) (sym (field_found name l) ∙ none)
+
+pub field_inserted : (name : Name) (v : FieldEntry) (l : List (Name × FieldEntry)) → find (λ f. same_name name f.name) (map field_of l) ≡ None
+    → map field_of (insert_entry name_cmp l name v) ≡ insert_in_order (λ f g. is_lt (name_cmp f.name g.name)) (field_of (name, v)) (map field_of l)
+field_inserted name v l none = inserted name_cmp equal_field field_of name v (λ f g. is_lt (name_cmp f.name g.name)) (λ e. refl) l (field_absent name l none)
 
 -- ---- kept keys
 

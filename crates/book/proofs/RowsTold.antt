@@ -47,9 +47,9 @@ named_codes n (f ∷ fs) good there = step (same_name n f.name) refl (λ k. name
     step true e more h = let is = name_is n f.name e in (subst (λ (m : Name). IsBranch m.branch) (sym is) good.0.branch, subst (λ (m : Name). IsArticle m.article) (sym is) good.0.article)
     step false e more h = more h
 
-pub fields_told : (A : Ledger) (rows : List FieldRow) → Good A → AllZip (IsFieldRow A) A.fields (map field_cells rows) → Each (λ row. (e : FieldEntry) × IsFieldTold e row) rows
-fields_told A rows g z = each_zip (IsFieldRow A) field_cells IsGoodField (λ row. (e : FieldEntry) × IsFieldTold e row)
-    (λ f row good is. (record { branch = f.name.branch; article = f.name.article; lo = f.lo; hi = f.hi; start = f.start }, (good, record { branch = is.branch; article = is.article; lo = is.lo; hi = is.hi; start = is.start })))
+pub fields_told : (A : Ledger) (rows : List FieldRow) → Good A → AllZip (IsFieldRow A) A.fields (map field_cells rows) → Each (λ row. (e : Name × FieldEntry) × IsFieldTold e row) rows
+fields_told A rows g z = each_zip (IsFieldRow A) field_cells IsGoodField (λ row. (e : Name × FieldEntry) × IsFieldTold e row)
+    (λ f row good is. ((f.name, record { lo = f.lo; hi = f.hi; start = f.start }), (good, record { branch = is.branch; article = is.article; lo = is.lo; hi = is.hi; start = is.start })))
     A.fields rows g.fields z
 
 pub moves_told : (A : Ledger) (rows : List MoveRow) → Good A → map move_cells rows ≡ map move_row A.moves → Each (λ row. (e : MoveEntry) × IsMoveTold e row) rows

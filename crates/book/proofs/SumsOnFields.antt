@@ -44,7 +44,7 @@ each-small-set k m i d part ns lt s t =
 -- ---- what is added on each field
 
 -- nothing added leaves the sums
-pub added-nothing : (part : Name → Numbers) → ((f : Name) → part f ≡ nothing) → (fs : List FieldEntry) (ns : List Numbers) → added part fs ns ≡ ns
+pub added-nothing : (part : Name → Numbers) → ((f : Name) → part f ≡ nothing) → (fs : List (Name × FieldEntry)) (ns : List Numbers) → added part fs ns ≡ ns
 added-nothing part h [] ns = refl
 added-nothing part h (f ∷ fs) [] = refl
 added-nothing part h (f ∷ fs) (n ∷ ns) =
@@ -53,7 +53,7 @@ added-nothing part h (f ∷ fs) (n ∷ ns) =
     λ i. first i ∷ more i
 
 -- the same added gives the same
-pub added-same : (g h : Name → Numbers) → ((f : Name) → g f ≡ h f) → (fs : List FieldEntry) (ns : List Numbers) → added g fs ns ≡ added h fs ns
+pub added-same : (g h : Name → Numbers) → ((f : Name) → g f ≡ h f) → (fs : List (Name × FieldEntry)) (ns : List Numbers) → added g fs ns ≡ added h fs ns
 added-same g h same [] ns = refl
 added-same g h same (f ∷ fs) [] = refl
 added-same g h same (f ∷ fs) (n ∷ ns) =
@@ -62,7 +62,7 @@ added-same g h same (f ∷ fs) (n ∷ ns) =
     λ i. first i ∷ more i
 
 -- first one, then the other
-pub added-twice : (g h k : Name → Numbers) → ((f : Name) → plus (g f) (h f) ≡ k f) → (fs : List FieldEntry) (ns : List Numbers) → added h fs (added g fs ns) ≡ added k fs ns
+pub added-twice : (g h k : Name → Numbers) → ((f : Name) → plus (g f) (h f) ≡ k f) → (fs : List (Name × FieldEntry)) (ns : List Numbers) → added h fs (added g fs ns) ≡ added k fs ns
 added-twice g h k both [] ns = refl
 added-twice g h k both (f ∷ fs) [] = refl
 added-twice g h k both (f ∷ fs) (n ∷ ns) =
@@ -72,7 +72,7 @@ added-twice g h k both (f ∷ fs) (n ∷ ns) =
     λ i. first i ∷ more i
 
 -- added to nothing, the parts alone are left
-added-to_nothing : (h : Name → Numbers) (fs : List FieldEntry) → added h fs (map (λ f. nothing) fs) ≡ map (λ f. h (entry_name f)) fs
+added-to_nothing : (h : Name → Numbers) (fs : List (Name × FieldEntry)) → added h fs (map (λ f. nothing) fs) ≡ map (λ f. h (entry_name f)) fs
 added-to_nothing h [] = refl
 added-to_nothing h (f ∷ fs) =
     let first = nothing-plus (h (entry_name f)) in
@@ -99,7 +99,7 @@ not_greater : (o : Ordering) → o ≡ Greater → o ≡ Equal → ⊥
 not_greater o a b = true≢false (ap is_gt (sym a ∙ b))
 
 -- no field stands before the one before it
-ascending : (fs : List FieldEntry) → AreFieldsInOrder fs → (k : ℕ) (d : FieldEntry) → k + 1 < length fs → is_lt (name_cmp (entry_name (get_or fs (k + 1) d)) (entry_name (get_or fs k d))) ≡ false
+ascending : (fs : List (Name × FieldEntry)) → AreFieldsInOrder fs → (k : ℕ) (d : Name × FieldEntry) → k + 1 < length fs → is_lt (name_cmp (entry_name (get_or fs (k + 1) d)) (entry_name (get_or fs k d))) ≡ false
 unfolding IsStrictlySortedBy
 ascending [] s k d lt = absurd (omega arith)
 ascending (f ∷ []) s k d lt = absurd (omega arith)
@@ -109,30 +109,30 @@ ascending (f ∷ g ∷ fs) s (suc k) d lt =
     subst (λ j. is_lt (name_cmp (entry_name (get_or (f ∷ g ∷ fs) j d)) (entry_name (get_or (g ∷ fs) k d))) ≡ false) more (ascending (g ∷ fs) s.1 k d (omega arith))
 
 -- so their comparisons with a name rise, as a binary search asks
-rising : (name : Name) (fs : List FieldEntry) → AreFieldsInOrder fs → IsNonDecreasingBy (λ e. ordering_index (name_cmp (entry_name e) name)) fs
+rising : (name : Name) (fs : List (Name × FieldEntry)) → AreFieldsInOrder fs → IsNonDecreasingBy (λ e. ordering_index (name_cmp (entry_name e) name)) fs
 rising name fs s = searchable_from_sorted name_cmp_total entry_name fs name (λ k d a lt. ascending fs s k d lt)
 
 -- where no field compares as equal, none has the name
-none_there : (name : Name) (fs : List FieldEntry) → ((j : ℕ) (d : FieldEntry) → j < length fs → name_cmp (entry_name (get_or fs j d)) name ≡ Equal → ⊥) → IsNone (field_among fs name)
+none_there : (name : Name) (fs : List (Name × FieldEntry)) → ((j : ℕ) (d : Name × FieldEntry) → j < length fs → name_cmp (entry_name (get_or fs j d)) name ≡ Equal → ⊥) → IsNone (field_among fs name)
 none_there name [] h = refl
 none_there name (f ∷ fs) h =
     let here = (other_name (entry_name f) name (h 0 f (omega arith))).1 in
     rw here (none_there name fs (λ j d lt. h (suc j) d (omega arith)))
 
 -- what a search for the name answers
-pub searched : (name : Name) (fs : List FieldEntry) → AreFieldsInOrder fs → (r : Result ℕ ℕ) → IsSearchInRange r (length fs) → IsBinarySearchResult (λ e. name_cmp (entry_name e) name) fs r
+pub searched : (name : Name) (fs : List (Name × FieldEntry)) → AreFieldsInOrder fs → (r : Result ℕ ℕ) → IsSearchInRange r (length fs) → IsBinarySearchResult (λ e. name_cmp (entry_name e) name) fs r
     → MatchResult r (IsFieldAt fs name) (λ i. IsNone (field_among fs name))
 searched name fs s (Ok i) range found = record { within = range; named = λ d. name_is _ name (equal_name _ name (found d)) }
 searched name fs s (Err i) range parted =
     let parts = parted (rising name fs s) in
     none_there name fs (λ j d lt. by j d lt (parts.0 j d (omega arith)) (parts.1 j d))
   where
-    by : (j : ℕ) (d : FieldEntry) → j < length fs → (j < i → name_cmp (entry_name (get_or fs j d)) name ≡ Less) → (i ≤ j → j < length fs → name_cmp (entry_name (get_or fs j d)) name ≡ Greater)
+    by : (j : ℕ) (d : Name × FieldEntry) → j < length fs → (j < i → name_cmp (entry_name (get_or fs j d)) name ≡ Less) → (i ≤ j → j < length fs → name_cmp (entry_name (get_or fs j d)) name ≡ Greater)
         → name_cmp (entry_name (get_or fs j d)) name ≡ Equal → ⊥
     by j d lt below above e = let past : j < i → ⊥ = λ b. not_less _ (below b) e in not_greater _ (above (omega arith) lt) e
 
 -- a field at a place is among them
-pub there_at : (name : Name) (fs : List FieldEntry) (i : ℕ) → IsFieldAt fs name i → IsField fs name
+pub there_at : (name : Name) (fs : List (Name × FieldEntry)) (i : ℕ) → IsFieldAt fs name i → IsField fs name
 there_at name [] i at = absurd (omega arith)
 there_at name (f ∷ fs) zero at = rw (same_as (at.named f)) refl
   where
@@ -147,7 +147,7 @@ there_at name (f ∷ fs) (suc i) at = by (same_name name (entry_name f)) (there_
 -- ---- a sum that is added to
 
 -- where no field has the name, nothing is added
-added-elsewhere : (name : Name) (part : Numbers) (fs : List FieldEntry) (ns : List Numbers) → Each (λ f. same_name (entry_name f) name ≡ false) fs → added (only_on name part) fs ns ≡ ns
+added-elsewhere : (name : Name) (part : Numbers) (fs : List (Name × FieldEntry)) (ns : List Numbers) → Each (λ f. same_name (entry_name f) name ≡ false) fs → added (only_on name part) fs ns ≡ ns
 added-elsewhere name part [] ns h = refl
 added-elsewhere name part (f ∷ fs) [] h = refl
 added-elsewhere name part (f ∷ fs) (n ∷ ns) h =
@@ -156,10 +156,10 @@ added-elsewhere name part (f ∷ fs) (n ∷ ns) h =
     λ i. first i ∷ more i
 
 -- the same, where a look-up finds none
-pub added-none : (name : Name) (part : Numbers) (fs : List FieldEntry) (ns : List Numbers) → IsNone (field_among fs name) → added (only_on name part) fs ns ≡ ns
+pub added-none : (name : Name) (part : Numbers) (fs : List (Name × FieldEntry)) (ns : List Numbers) → IsNone (field_among fs name) → added (only_on name part) fs ns ≡ ns
 added-none name part fs ns none = added-elsewhere name part fs ns (all fs none)
   where
-    all : (fs : List FieldEntry) → IsNone (field_among fs name) → Each (λ f. same_name (entry_name f) name ≡ false) fs
+    all : (fs : List (Name × FieldEntry)) → IsNone (field_among fs name) → Each (λ f. same_name (entry_name f) name ≡ false) fs
     all [] h = tt
     all (f ∷ fs) h = by (same_name name (entry_name f)) refl h (λ k. all fs k)
       where
@@ -172,7 +172,7 @@ added-none name part fs ns none = added-elsewhere name part fs ns (all fs none)
             turn t = subst (λ g. same_name g (entry_name f) ≡ true) (name_is _ _ t) (same_self (entry_name f))
 
 -- no other field has the name, so nothing is added elsewhere
-pub added-at : (name : Name) (part : Numbers) (fs : List FieldEntry) (ns : List Numbers) (i : ℕ) → AreFieldsInOrder fs → length ns ≡ length fs → IsFieldAt fs name i
+pub added-at : (name : Name) (part : Numbers) (fs : List (Name × FieldEntry)) (ns : List Numbers) (i : ℕ) → AreFieldsInOrder fs → length ns ≡ length fs → IsFieldAt fs name i
     → set ns i (plus (get_or ns i nothing) part) ≡ added (only_on name part) fs ns
 unfolding IsStrictlySortedBy
 added-at name part [] ns i s long at = absurd (omega arith)
@@ -185,7 +185,7 @@ added-at name part (f ∷ fs) (n ∷ ns) zero s long at = λ i. first i ∷ sym 
     first : plus n part ≡ plus n (only_on name part (entry_name f))
     first = ap (λ b. plus n (if b then part else nothing)) (sym here)
 
-    after : (g : FieldEntry) → name_cmp (entry_name f) (entry_name g) ≡ Less → same_name (entry_name g) name ≡ false
+    after : (g : Name × FieldEntry) → name_cmp (entry_name f) (entry_name g) ≡ Less → same_name (entry_name g) name ≡ false
     after g less = subst (λ k. same_name (entry_name g) k ≡ false) (at.named f) (other_name (entry_name f) (entry_name g) (not_less _ less)).1
 
     more : added (only_on name part) fs ns ≡ ns
@@ -261,11 +261,11 @@ pub each-more : {X : Type 0} (P : X → Type 0) (xs : List X) (i : ℕ) (x : X) 
 each-more P xs i x h e so_far here = subst (Each P) (sym (take-step xs i x h e)) (each-of-push P (take i xs) x so_far here)
 
 -- the moves' sums, and then the orders', from nothing
-pub added-all : (ms : List MoveEntry) (os : List OrderEntry) (fs : List FieldEntry) → added (numbers_on [] os) fs (added (numbers_on ms []) fs (map (λ f. nothing) fs)) ≡ map (λ f. numbers_on ms os (entry_name f)) fs
+pub added-all : (ms : List MoveEntry) (os : List OrderEntry) (fs : List (Name × FieldEntry)) → added (numbers_on [] os) fs (added (numbers_on ms []) fs (map (λ f. nothing) fs)) ≡ map (λ f. numbers_on ms os (entry_name f)) fs
 added-all ms os fs = added-twice (numbers_on ms []) (numbers_on [] os) (numbers_on ms os) (λ f. same-numbers _ _ (omega (arith, ints)) (omega (arith, ints)) (omega (arith, ints))) fs (map (λ f. nothing) fs) ∙ added-to_nothing (numbers_on ms os) fs
 
 -- nothing is small
-pub small-nothing : (fs : List FieldEntry) (ns : List Numbers) → ns ≡ map (λ f. nothing) fs → Each (IsSmall 0) ns
+pub small-nothing : (fs : List (Name × FieldEntry)) (ns : List Numbers) → ns ≡ map (λ f. nothing) fs → Each (IsSmall 0) ns
 small-nothing fs ns e = subst (Each (IsSmall 0)) (sym e) (each-map (IsSmall 0) (λ f. nothing) fs (each (λ f. small) fs))
   where
     small : IsSmall 0 nothing

@@ -6,7 +6,7 @@ use Rattle.std.specs.List.{Contains}
 use Rattle.escrow.specs.declared.limits.TheConstants.{MAX_LEVEL}
 use Rattle.book.specs.declared.book.Book.TheInside.{Inside}
 use Rattle.book.specs.declared.entries.FieldEntry.{FieldEntry}
-use Rattle.book.specs.Ledger.{Field, Ledger}
+use Rattle.book.specs.Ledger.{Field, Ledger, Name}
 use Rattle.book.specs.Outcomes.{settled}
 use Rattle.book.specs.Held.{held_to_add, held_to_take}
 use Rattle.book.specs.Good.{Good}
@@ -27,11 +27,8 @@ pub Contains-of_slice_get : {X : Type 0} (xs : List X) (i : ℕ) (x : X) → sli
 Contains-of_slice_get xs i x e = (i, slice_get_within xs i x e, get_or_from_slice_get xs i x x e)
 
 -- the field at an index is shown from the entry there
-pub slice_get-fields : (b : Inside) (A : BookView) (xs : List FieldEntry) (i : ℕ) (x : FieldEntry) → view_of b ≡ A → xs ≡ b.fields.items → i < length xs → x ≡ get_or xs i x
-    → slice_get A.ledger.fields i ≡ Some (field_of x)
-slice_get-fields b A xs i x same items h e =
-    let read : slice_get b.fields.items i ≡ Some x = rw (← items) (slice_get_read xs (length xs) i x refl h e) in
-    rw (← same) (slice_get-map field_of b.fields.items i ∙ ap (option_map field_of) read)
+pub slice_get-fields : (b : Inside) (A : BookView) (i : ℕ) (x : Name × FieldEntry) → view_of b ≡ A → Some x ≡ slice_get b.fields.entries i → slice_get A.ledger.fields i ≡ Some (field_of x)
+slice_get-fields b A i x same read = rw (← same) (slice_get-map field_of b.fields.entries i ∙ ap (option_map field_of) (sym read))
 
 -- from 0 to the greatest level, and in their order
 pub record AreLevels (A : Ledger) (f : Field) : Type 0 where

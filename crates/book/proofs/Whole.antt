@@ -109,14 +109,14 @@ room_if e f row h =
     let high = h.high in
     (omega (arith, ints), omega (arith, ints))
 
-pub rooms_if : (e : Entries) (fs : List FieldEntry) (rows : List FieldRow) → HaveNumbers (numbers_of e) fs rows → Each (HasRoom (told_ledger e)) (map field_of fs)
+pub rooms_if : (e : Entries) (fs : List (Name × FieldEntry)) (rows : List FieldRow) → HaveNumbers (numbers_of e) fs rows → Each (HasRoom (told_ledger e)) (map field_of fs)
 rooms_if e [] [] h = tt
 rooms_if e [] (r ∷ rows) h = absurd h
 rooms_if e (f ∷ fs) [] h = absurd h
 rooms_if e (f ∷ fs) (r ∷ rows) h = (room_if e (field_of f) (field_cells r) h.0, rooms_if e fs rows h.1)
 
 -- the rows that have the numbers, and tell the rest, are the rows of the fields
-pub rows_if : (e : Entries) → Each Sound (told_ledger e).orders → (fs : List FieldEntry) (rows : List FieldRow) → HaveNumbers (numbers_of e) fs rows → AllZip TellsField (map field_of fs) (map field_cells rows)
+pub rows_if : (e : Entries) → Each Sound (told_ledger e).orders → (fs : List (Name × FieldEntry)) (rows : List FieldRow) → HaveNumbers (numbers_of e) fs rows → AllZip TellsField (map field_of fs) (map field_cells rows)
     → AllZip (IsFieldRow (told_ledger e)) (map field_of fs) (map field_cells rows)
 rows_if e sound [] [] h t = tt
 rows_if e sound [] (r ∷ rows) h t = absurd h
@@ -144,7 +144,7 @@ rows_if e sound (f ∷ fs) (r ∷ rows) h t =
     )
 
 -- the rows of a good ledger's fields have the numbers
-pub numbers_from_rows : (e : Entries) → Good (told_ledger e) → (fs : List FieldEntry) (rows : List FieldRow) → Each (HasRoom (told_ledger e)) (map field_of fs)
+pub numbers_from_rows : (e : Entries) → Good (told_ledger e) → (fs : List (Name × FieldEntry)) (rows : List FieldRow) → Each (HasRoom (told_ledger e)) (map field_of fs)
     → AllZip (IsFieldRow (told_ledger e)) (map field_of fs) (map field_cells rows) → HaveNumbers (numbers_of e) fs rows
 numbers_from_rows e g [] [] room z = tt
 numbers_from_rows e g [] (r ∷ rows) room z = absurd z

@@ -5,6 +5,7 @@ use Rattle.std.specs.Str.{bytes_eq}
 use Rattle.std.specs.declared.cmp.Ordering.{Ordering}
 use Rattle.std.specs.Ordering.{nat_cmp, ordering_then}
 use Rattle.std.specs.Cmp.Lexicographic.{slice_cmp}
+use Rattle.escrow.specs.declared.field_name.FieldName.{FieldName}
 use Rattle.words.specs.declared.command.Command.{Command}
 use Rattle.book.specs.declared.order.Kind.{Kind}
 use Rattle.book.specs.declared.order.Kind.TheVariants.{Plain, Transfer}
@@ -13,9 +14,8 @@ use Rattle.book.specs.declared.order.State.TheVariants.{Open, Committed, Aborted
 use Rattle.book.specs.declared.order.Line.{Line}
 
 -- which field: the stock of one article at one branch
-pub record Name : Type 0 where
-  pub branch : List ℕ
-  pub article : List ℕ
+abbrev pub Name : Type 0
+Name = FieldName
 
 -- a field: its bounds, and the level at which it started
 pub record Field : Type 0 where

@@ -25,40 +25,40 @@ numbers_on ms os f = record {
 -- ---- the fields that entries are on
 
 -- the name of the entry's field
-abbrev pub entry_name : FieldEntry → Name
+abbrev pub entry_name : Name × FieldEntry → Name
 entry_name e = (field_of e).name
 
 -- the fields stand in the order of their names
-abbrev pub AreFieldsInOrder : List FieldEntry → Type 0
+abbrev pub AreFieldsInOrder : List (Name × FieldEntry) → Type 0
 AreFieldsInOrder fs = IsStrictlySortedBy name_cmp (map (λ f. f.name) (map field_of fs))
 
 -- the field of that name
-abbrev pub field_among : List FieldEntry → Name → Option Field
+abbrev pub field_among : List (Name × FieldEntry) → Name → Option Field
 field_among fs name = find (λ e. same_name name e.name) (map field_of fs)
 
 -- there is a field of that name
-abbrev pub IsField : List FieldEntry → Name → Type 0
+abbrev pub IsField : List (Name × FieldEntry) → Name → Type 0
 IsField fs name = IsSome (field_among fs name)
 
 -- the field at that place has the name
-pub record IsFieldAt (fs : List FieldEntry) (name : Name) (place : ℕ) : Type 0 where
+pub record IsFieldAt (fs : List (Name × FieldEntry)) (name : Name) (place : ℕ) : Type 0 where
   pub within : place < length fs
   pub named : HoldsAt (λ e. entry_name e ≡ name) fs place
 
 -- each move is on a field
-abbrev pub AreMovesOnFields : List FieldEntry → List MoveEntry → Type 0
+abbrev pub AreMovesOnFields : List (Name × FieldEntry) → List MoveEntry → Type 0
 AreMovesOnFields fs ms = Each (λ m. IsField fs (move_of m).field) ms
 
 -- each line is on a field
-abbrev pub AreLinesOnFields : List FieldEntry → List Line → Type 0
+abbrev pub AreLinesOnFields : List (Name × FieldEntry) → List Line → Type 0
 AreLinesOnFields fs ls = Each (λ l. IsField fs (line_name l)) ls
 
 -- each line of each order is on a field, whether the order is open or has ended
-abbrev pub AreOrdersOnFields : List FieldEntry → List OrderEntry → Type 0
+abbrev pub AreOrdersOnFields : List (Name × FieldEntry) → List OrderEntry → Type 0
 AreOrdersOnFields fs os = Each (λ o. AreLinesOnFields fs o.lines.items) os
 
 -- each move, and each line of each order, is on a field
-abbrev pub AreOnFields : List FieldEntry → List MoveEntry → List OrderEntry → Type 0
+abbrev pub AreOnFields : List (Name × FieldEntry) → List MoveEntry → List OrderEntry → Type 0
 AreOnFields fs ms os = AreMovesOnFields fs ms × AreOrdersOnFields fs os
 
 -- ---- numbers added to numbers
@@ -68,7 +68,7 @@ abbrev pub only_on : Name → Numbers → Name → Numbers
 only_on name part f = if same_name f name then part else nothing
 
 -- to the number of each field, in their order, its part is added
-abbrev pub added : (Name → Numbers) → List FieldEntry → List Numbers → List Numbers
+abbrev pub added : (Name → Numbers) → List (Name × FieldEntry) → List Numbers → List Numbers
 added part [] ns = ns
 added part (f ∷ fs) [] = []
 added part (f ∷ fs) (n ∷ ns) = plus n (part (entry_name f)) ∷ added part fs ns

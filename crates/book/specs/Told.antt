@@ -48,7 +48,7 @@ head_row h = record { number = pos h.number; kind = kind_code h.kind; until = po
 
 -- ---- entries in range
 
-abbrev pub IsFieldTold : FieldEntry → FieldRow → Type 0
+abbrev pub IsFieldTold : Name × FieldEntry → FieldRow → Type 0
 IsFieldTold e row = IsGoodField (field_of e) × TellsField (field_of e) (field_cells row)
 
 pub record IsMoveTold (e : MoveEntry) (row : MoveRow) : Type 0 where
@@ -169,5 +169,5 @@ pub record HasNumbers (n : Numbers) (f : Field) (row : FieldCells) : Type 0 wher
   pub high : row.sup ≤ℤ pos f.hi
 
 -- each row has what these numbers give its field
-abbrev pub HaveNumbers : (Name → Numbers) → List FieldEntry → List FieldRow → Type 0
+abbrev pub HaveNumbers : (Name → Numbers) → List (Name × FieldEntry) → List FieldRow → Type 0
 HaveNumbers numbers fields rows = AllZip (λ f row. HasNumbers (numbers (field_of f).name) (field_of f) (field_cells row)) fields rows

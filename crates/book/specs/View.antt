@@ -1,7 +1,7 @@
 -- How contracts see a book: as its ledger, and the room that has been made.
 use Rattle.std.specs.Prelude.{ℕ, ◌-◌, List, map}
 use Rattle.std.specs.Vec.{vec_capacity, vec_len}
-use Rattle.book.specs.Ledger.{Field, Kept, Ledger, Move, Order, name_of}
+use Rattle.book.specs.Ledger.{Field, Kept, Ledger, Move, Name, Order, name_of}
 use Rattle.book.specs.declared.book.Book.TheInside.{Inside}
 use Rattle.book.specs.declared.entries.FieldEntry.{FieldEntry}
 use Rattle.book.specs.declared.entries.KeptEntry.{KeptEntry}
@@ -26,8 +26,8 @@ pub record BookView : Type 0 where
   pub ledger : Ledger
   pub room : Room
 
-abbrev pub field_of : FieldEntry → Field
-field_of e = record { name = name_of e.branch e.article; lo = e.lo; hi = e.hi; start = e.start }
+abbrev pub field_of : Name × FieldEntry → Field
+field_of e = record { name = e.0; lo = e.1.lo; hi = e.1.hi; start = e.1.start }
 
 abbrev pub move_of : MoveEntry → Move
 move_of e = record { place = e.place; field = name_of e.branch e.article; amount = e.amount }
@@ -41,7 +41,7 @@ kept_of e = record { key = e.0; place = e.1.place; command = e.1.command }
 abbrev pub ledger_of : Inside → Ledger
 ledger_of b = record {
   clock = b.clock;
-  fields = map field_of b.fields.items;
+  fields = map field_of b.fields.entries;
   moves = map move_of b.moves.items;
   orders = map order_of b.orders.items;
   kept = map kept_of b.kept.entries;
@@ -52,7 +52,7 @@ order_room e = record { number = e.number; lines = vec_capacity e.lines - vec_le
 
 abbrev pub room_of : Inside → Room
 room_of b = record {
-  fields = vec_capacity b.fields - vec_len b.fields;
+  fields = b.fields.room;
   moves = vec_capacity b.moves - vec_len b.moves;
   orders = vec_capacity b.orders - vec_len b.orders;
   kept = b.kept.room;

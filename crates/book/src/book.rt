@@ -5,7 +5,7 @@ ghost use Rattle.book.specs.Ledger.{new_ledger};
 
 use crate::entries::{FieldEntry, KeptEntry, MoveEntry, OrderEntry};
 use crate::in_order::InOrder;
-use escrow::{Key, Moment};
+use escrow::{FieldName, Key, Moment};
 use std::alloc::Global;
 use std::marker::Model;
 
@@ -37,7 +37,7 @@ pub use views::{FieldView, OrderView};
 #[derive(Debug, Drop)]
 pub struct Book {
     clock: Moment,
-    fields: Vec<FieldEntry>,
+    fields: InOrder<FieldName, FieldEntry>,
     moves: Vec<MoveEntry>,
     orders: Vec<OrderEntry>,
     kept: InOrder<Key, KeptEntry>,
@@ -61,7 +61,7 @@ impl Book {
     {
         Book {
             clock: Moment::first(),
-            fields: Vec::new(alloc),
+            fields: InOrder::new(alloc),
             moves: Vec::new(alloc),
             orders: Vec::new(alloc),
             kept: InOrder::new(alloc),

@@ -5,10 +5,8 @@ use escrow::{Article, Branch, Level, Moment, OrderNo};
 use words::Command;
 
 /// A field: its bounds, and the level at which it started.
-#[derive(Debug, Drop)]
+#[derive(Clone, Copy, Debug)]
 pub struct FieldEntry {
-    pub branch: Branch,
-    pub article: Article,
     pub lo: Level,
     pub hi: Level,
     pub start: Level,

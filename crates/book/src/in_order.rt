@@ -13,6 +13,9 @@ use std::alloc::{AllocError, Global};
 use std::cmp::Ordering;
 use std::marker::Model;
 
+#[cfg(test)]
+mod tests;
+
 /// How many entries there can be: an index has 32 bits.
 const MAX_LEN: usize = 1 << 32;
 
@@ -114,7 +117,8 @@ impl<K: Ord, V> InOrder<K, V> {
         &mut entry.1
     }
 
-    fn entry_at(&self, place: usize) -> &(K, V)
+    /// The entry at a place that is known to be within the order.
+    pub fn entry_at(&self, place: usize) -> &(K, V)
         requires { place < length self.now.entries }
         ensures { slice_get self.now.entries place ≡ Some result.now }
     {

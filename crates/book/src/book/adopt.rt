@@ -1,12 +1,12 @@
 //! Plans carried out.
 
-ghost use Rattle.std.specs.Prelude.{◌≡◌, ◌<◌, ◌+◌, ◌==◌, true, ℕ, List, IsSomeAnd, IsTrue, Some, map};
+ghost use Rattle.std.specs.Prelude.{◌≡◌, ◌<◌, ◌≤◌, ◌+◌, ◌==◌, None, true, ℕ, List, IsSomeAnd, IsTrue, Some, find, map};
 ghost use Rattle.std.specs.List.{AllByRecursion as Each};
 ghost use Rattle.std.specs.Vec.{vec_capacity, vec_len};
-ghost use Rattle.words.specs.declared.command.Command.TheVariants.{Commit};
+ghost use Rattle.words.specs.declared.command.Command.TheVariants.{Commit, Field};
 ghost use Rattle.book.specs.Future.{Honours, HonoursAlways};
 ghost use Rattle.book.specs.Good.{Good};
-ghost use Rattle.book.specs.Ledger.{Ledger, is_transfer, name_of, order_numbered, places};
+ghost use Rattle.book.specs.Ledger.{Ledger, is_transfer, name_of, order_numbered, places, same_name};
 ghost use Rattle.book.specs.Outcomes.{article_total};
 ghost use Rattle.book.specs.declared.order.State.TheVariants as State;
 ghost use Rattle.book.specs.declared.book.changes.OrderChange.{OrderChange};
@@ -19,9 +19,10 @@ use super::Book;
 use super::changes::{LineChange, OrderChange, change_numbered_order, expire_orders};
 use super::insert::{insert_field, insert_kept, insert_order, push_move};
 use crate::entries::{FieldEntry, KeptEntry, MoveEntry, OrderEntry};
+use crate::in_order::InOrder;
 use crate::order::{Kind, Line, State};
 use crate::plan::Plan;
-use escrow::{Article, Branch, Level, Moment, OrderNo};
+use escrow::{FieldName, Moment, OrderNo};
 use std::mem;
 use words::{Command, OpenLine};
 
@@ -88,33 +89,16 @@ pub(super) fn order_change(command: &Command) -> Option<(OrderNo, OrderChange)>
     }
 }
 
-pub(super) fn field_entry(
-    branch: Branch,
-    article: Article,
-    lo: Level,
-    hi: Level,
-    start: Level,
-) -> FieldEntry
-    ensures { field_of result ≡ record { name = name_of branch article; lo = lo; hi = hi; start = start } }
-{
-    FieldEntry {
-        branch,
-        article,
-        lo,
-        hi,
-        start,
-    }
-}
-
 /// The fields and the moves once the command is carried out.
 fn adopt_stock(
-    fields: &mut Vec<FieldEntry>,
+    fields: &mut InOrder<FieldName, FieldEntry>,
     moves: &mut Vec<MoveEntry>,
     place: u64,
     command: &Command,
 )
-    requires room { (vec_len fields.old < vec_capacity fields.old) × (vec_len moves.old < vec_capacity moves.old) }
-    ensures fields { (A : Ledger) → map field_of fields.old.items ≡ A.fields → map field_of fields.new.items ≡ (next A command.now).fields }
+    requires room { (1 ≤ fields.old.room) × (vec_len moves.old < vec_capacity moves.old) }
+    requires absent { (b a : List ℕ) (lo hi start : ℕ) → command.now ≡ Field b a lo hi start → find (λ e. same_name (name_of b a) e.name) (map field_of fields.old.entries) ≡ None }
+    ensures fields { (A : Ledger) → map field_of fields.old.entries ≡ A.fields → map field_of fields.new.entries ≡ (next A command.now).fields }
     ensures moves { (A : Ledger) → map move_of moves.old.items ≡ A.moves → place ≡ places A + 1 → map move_of moves.new.items ≡ (next A command.now).moves }
 {
     match command {
@@ -124,7 +108,18 @@ fn adopt_stock(
             lo,
             hi,
             start,
-        } => insert_field(fields, field_entry(*branch, *article, *lo, *hi, *start)),
+        } => {
+            let name = FieldName {
+                branch: *branch,
+                article: *article,
+            };
+            let entry = FieldEntry {
+                lo: *lo,
+                hi: *hi,
+                start: *start,
+            };
+            insert_field(fields, name, entry);
+        }
         Command::Deliver {
             branch,
             article,

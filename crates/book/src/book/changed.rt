@@ -13,7 +13,6 @@ ghost use Rattle.book.specs.Tables.{field_cells, rows_among};
 ghost use Rattle.book.specs.View.{field_of, order_of};
 
 use super::Book;
-use super::adopt::field_entry;
 use super::changes::expires;
 use super::choose::{changes_line, changes_state, is_transfer};
 use super::row::{
@@ -23,7 +22,7 @@ use crate::entries::{FieldEntry, OrderEntry};
 use crate::limits::MAX_PLACES;
 use crate::order::{Line, State};
 use crate::rows::{Change, FieldRow};
-use escrow::Moment;
+use escrow::{FieldName, Moment};
 use std::alloc::Global;
 use words::{Command, Memory, Request};
 
@@ -189,21 +188,22 @@ impl Book {
         alloc: Global,
         request: &Request,
         made: &Option<OrderEntry>,
-        entry: &FieldEntry,
+        entry: &(FieldName, FieldEntry),
     ) -> Result<FieldRow, Memory>
         requires accepted { IsAccepted self.now.ledger request.now }
         requires good { Good (accept self.now.ledger request.now) }
         requires made { option_map order_of made.now ≡ order_after self.now.ledger request.now.command }
         ensures { IfOk result (λ row. field_cells row ≡ field_row (accept self.now.ledger request.now) (field_of entry.now)) }
     {
-        let numbers = self.numbers_after(request, made, entry.branch, entry.article);
-        let value = entry.start.get() as i64 + numbers.moved;
+        let (name, field) = entry;
+        let numbers = self.numbers_after(request, made, name.branch, name.article);
+        let value = field.start.get() as i64 + numbers.moved;
         Ok(FieldRow {
-            branch: branch_text(alloc, entry.branch)?,
-            article: article_text(alloc, entry.article)?,
-            lo: entry.lo.get() as i64,
-            hi: entry.hi.get() as i64,
-            start: entry.start.get() as i64,
+            branch: branch_text(alloc, name.branch)?,
+            article: article_text(alloc, name.article)?,
+            lo: field.lo.get() as i64,
+            hi: field.hi.get() as i64,
+            start: field.start.get() as i64,
             value,
             inf: value - numbers.takes,
             sup: value + numbers.adds,
@@ -218,7 +218,7 @@ impl Book {
         request: &Request,
         made: &Option<OrderEntry>,
         expired: &[&OrderEntry],
-        entry: &FieldEntry,
+        entry: &(FieldName, FieldEntry),
     ) -> Result<(), Memory>
         requires accepted { IsAccepted self.now.ledger request.now }
         requires before { Good self.now.ledger }
@@ -228,7 +228,7 @@ impl Book {
         ensures { OnOk result (rows_among changes.new.items ≡ with_fields (changed_fields self.now.ledger request.now (field_of entry.now ∷ [])) (rows_among changes.old.items)) }
     {
         let command = &request.command;
-        if self.changes_field(command, made, expired, entry.branch, entry.article) {
+        if self.changes_field(command, made, expired, entry.0.branch, entry.0.article) {
             let row = self.field_row(alloc, request, made, entry)?;
             push(changes, Change::Field(row))?;
         }
@@ -250,7 +250,8 @@ impl Book {
         requires expired { map (λ entry. order_of entry.now) expired.now ≡ expired_orders self.now.ledger request.now.command }
         ensures { OnOk result (rows_among changes.new.items ≡ with_fields (changed_fields self.now.ledger request.now self.now.ledger.fields) (rows_among changes.old.items)) }
     {
-        for entry in &self.fields {
+        for place in 0..self.fields.len() {
+            let entry = self.fields.entry_at(place);
             self.push_field(alloc, changes, request, made, expired, entry)?;
         }
         Ok(())
@@ -277,8 +278,16 @@ impl Book {
             start,
         } = &request.command
         {
-            let entry = field_entry(*branch, *article, *lo, *hi, *start);
-            let row = self.field_row(alloc, request, made, &entry)?;
+            let name = FieldName {
+                branch: *branch,
+                article: *article,
+            };
+            let field = FieldEntry {
+                lo: *lo,
+                hi: *hi,
+                start: *start,
+            };
+            let row = self.field_row(alloc, request, made, &(name, field))?;
             push(changes, Change::Field(row))?;
         }
         Ok(())

@@ -14,7 +14,7 @@ use super::find::line_in;
 use crate::entries::OrderEntry;
 use crate::limits::{MAX_FIELDS, MAX_ORDERS};
 use crate::order::{Kind, State};
-use escrow::{Article, Branch, Level, Moment, OrderNo, Qty, Way};
+use escrow::{Article, Branch, FieldName, Level, Moment, OrderNo, Qty, Way};
 use words::{Command, MAX_ORDER_LINES, OpenLine, OpenLines, Refusal};
 
 impl Book {
@@ -227,7 +227,7 @@ impl Book {
         if fault.is_some() {
             return fault;
         }
-        self.check_bound(field, way, qty, 0)
+        self.check_bound(FieldName { branch, article }, field, way, qty, 0)
     }
 
     fn check_expire(&self, now: Moment) -> Option<(Refusal, u64)>

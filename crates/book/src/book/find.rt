@@ -1,20 +1,20 @@
 //! Entries by their names.
 
 ghost use Rattle.std.specs.Prelude.{◌≡◌, ◌==◌, MatchOption, find};
-ghost use Rattle.book.specs.Ledger.{field_named, kept_under, on, order_numbered, same_name, name_of};
+ghost use Rattle.book.specs.Ledger.{field_named, kept_under, name_of, on, order_numbered};
 ghost use Rattle.book.specs.View.{field_of, kept_of, order_of};
 
 use super::Book;
 use crate::entries::{FieldEntry, KeptEntry, OrderEntry};
 use crate::order::Line;
-use escrow::{Article, Branch, Key, OrderNo};
+use escrow::{Article, Branch, FieldName, Key, OrderNo};
 
 impl Book {
     /// The field of that name.
     pub(super) fn field_entry(&self, branch: Branch, article: Article) -> Option<&FieldEntry>
-        ensures { let found = field_named self.now.ledger (name_of branch article) in MatchOption result (found ≡ None) (λ entry. found ≡ Some (field_of entry.now)) }
+        ensures { let found = field_named self.now.ledger (name_of branch article) in MatchOption result (found ≡ None) (λ entry. found ≡ Some (field_of (name_of branch article, entry.now))) }
     {
-        field_in(&self.fields, branch, article)
+        self.fields.get(&FieldName { branch, article })
     }
 
     /// The order of that number.
@@ -30,28 +30,6 @@ impl Book {
     {
         self.kept.get(&key)
     }
-}
-
-/// The first field of that name.
-pub(super) fn field_in(
-    fields: &[FieldEntry],
-    branch: Branch,
-    article: Article,
-) -> Option<&FieldEntry>
-    ensures { let found = find (λ entry. same_name (name_of branch article) (field_of entry).name) fields.now in MatchOption result (found ≡ None) (λ entry. found ≡ Some entry.now) }
-{
-    for entry in fields {
-        if is_named(entry, branch, article) {
-            return Some(entry);
-        }
-    }
-    None
-}
-
-fn is_named(entry: &FieldEntry, branch: Branch, article: Article) -> bool
-    ensures { result ≡ same_name (name_of branch article) (field_of entry.now).name }
-{
-    branch == entry.branch && article == entry.article
 }
 
 /// The first order of that number.

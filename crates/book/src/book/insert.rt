@@ -6,44 +6,33 @@ ghost use Rattle.std.specs.List.{insert};
 ghost use Rattle.std.specs.Ordering.{is_lt, nat_cmp};
 ghost use Rattle.std.specs.Str.{bytes_eq};
 ghost use Rattle.std.specs.Vec.{vec_capacity, vec_len};
-ghost use Rattle.book.specs.Ledger.{insert_in_order, name_cmp, name_of};
+ghost use Rattle.book.specs.Ledger.{insert_in_order, name_cmp, name_of, same_name};
 ghost use Rattle.book.specs.View.{field_of, kept_of, move_of, order_of};
 
 use crate::entries::{FieldEntry, KeptEntry, MoveEntry, OrderEntry};
 use crate::in_order::InOrder;
-use escrow::{Article, Branch, Key};
-use std::cmp::Ordering;
+use escrow::{Article, Branch, FieldName, Key};
 
 /// Whether the one field stands before the other: by branch, then by article.
-pub(super) fn is_field_before(one: &FieldEntry, other: &FieldEntry) -> bool
+pub(super) fn is_field_before(
+    one: &(FieldName, FieldEntry),
+    other: &(FieldName, FieldEntry),
+) -> bool
     ensures { result ≡ is_lt (name_cmp (field_of one.now).name (field_of other.now).name) }
 {
-    match one.branch.cmp(&other.branch) {
-        Ordering::Less => true,
-        Ordering::Equal => one.article < other.article,
-        Ordering::Greater => false,
-    }
+    one.0 < other.0
 }
 
-fn field_place(fields: &[FieldEntry], entry: &FieldEntry) -> usize
-    ensures within { result ≤ length fields.now }
-    ensures there { map field_of (insert fields.now result entry.now) ≡ insert_in_order (λ f g. is_lt (name_cmp f.name g.name)) (field_of entry.now) (map field_of fields.now) }
+pub(super) fn insert_field(
+    fields: &mut InOrder<FieldName, FieldEntry>,
+    name: FieldName,
+    entry: FieldEntry,
+)
+    requires room { 1 ≤ fields.old.room }
+    requires absent { find (λ e. same_name name e.name) (map field_of fields.old.entries) ≡ None }
+    ensures { map field_of fields.new.entries ≡ insert_in_order (λ f g. is_lt (name_cmp f.name g.name)) (field_of (name, entry)) (map field_of fields.old.entries) }
 {
-    let place = fields
-        .iter()
-        .position(|other| is_field_before(entry, other));
-    place.unwrap_or(fields.len())
-}
-
-pub(super) fn insert_field(fields: &mut Vec<FieldEntry>, entry: FieldEntry)
-    requires { vec_len fields.old < vec_capacity fields.old }
-    ensures { map field_of fields.new.items ≡ insert_in_order (λ f g. is_lt (name_cmp f.name g.name)) (field_of entry) (map field_of fields.old.items) }
-{
-    let place = field_place(fields, &entry);
-    match fields.insert(place, entry) {
-        Ok(()) => {}
-        Err(_) => unreachable!(),
-    }
+    fields.insert(name, entry);
 }
 
 pub(super) fn is_order_before(one: &OrderEntry, other: &OrderEntry) -> bool

@@ -15,7 +15,7 @@ ghost use Rattle.book.specs.Sums.{added, entry_name, field_among, lines_numbers,
 use super::walk::{NOTHING, Numbers};
 use crate::entries::{FieldEntry, MoveEntry, OrderEntry};
 use crate::order::{Line, State};
-use escrow::{Article, Branch, Way};
+use escrow::{Article, Branch, FieldName, Way};
 use std::alloc::Global;
 use std::cmp::Ordering;
 use words::Memory;
@@ -23,7 +23,7 @@ use words::Memory;
 /// What the moves and the orders add up to on each of the fields; `None` exactly where one of them is on no field.
 pub(super) fn sums_of(
     alloc: Global,
-    fields: &[FieldEntry],
+    fields: &[(FieldName, FieldEntry)],
     moves: &[MoveEntry],
     orders: &[OrderEntry],
 ) -> Result<Option<Vec<Numbers>>, Memory>
@@ -47,7 +47,7 @@ pub(super) fn sums_of(
 /// Adds the moves and the orders to the sums of their fields, which are nothing so far. Whether all of them are on
 /// fields.
 fn add_all(
-    fields: &[FieldEntry],
+    fields: &[(FieldName, FieldEntry)],
     sums: &mut [Numbers],
     moves: &[MoveEntry],
     orders: &[OrderEntry],
@@ -66,7 +66,7 @@ fn add_all(
 }
 
 /// Nothing on each of the fields.
-fn no_sums(alloc: Global, fields: &[FieldEntry]) -> Result<Vec<Numbers>, Memory>
+fn no_sums(alloc: Global, fields: &[(FieldName, FieldEntry)]) -> Result<Vec<Numbers>, Memory>
     ensures { IfOk result (λ sums. sums.items ≡ map (λ f. nothing) fields.now) }
 {
     let mut sums = Vec::new(alloc);
@@ -77,17 +77,21 @@ fn no_sums(alloc: Global, fields: &[FieldEntry]) -> Result<Vec<Numbers>, Memory>
 }
 
 /// How the entry's field stands to the one of that name: by branch, then by article.
-fn compare(entry: &FieldEntry, branch: Branch, article: Article) -> Ordering
+fn compare(entry: &(FieldName, FieldEntry), branch: Branch, article: Article) -> Ordering
     ensures { result ≡ name_cmp (entry_name entry.now) (name_of branch article) }
 {
-    match entry.branch.cmp(&branch) {
-        Ordering::Equal => entry.article.cmp(&article),
+    match entry.0.branch.cmp(&branch) {
+        Ordering::Equal => entry.0.article.cmp(&article),
         other => other,
     }
 }
 
 /// The place of the field of that name, by a binary search.
-fn field_index(fields: &[FieldEntry], branch: Branch, article: Article) -> Option<usize>
+fn field_index(
+    fields: &[(FieldName, FieldEntry)],
+    branch: Branch,
+    article: Article,
+) -> Option<usize>
     requires { AreFieldsInOrder fields.now }
     ensures { let name = name_of branch article in MatchOption result (IsNone (field_among fields.now name)) (IsFieldAt fields.now name) }
 {
@@ -110,7 +114,7 @@ fn add_at(sums: &mut [Numbers], place: usize, part: &Numbers)
 
 /// Adds to the sum of the field of that name. Whether there is such a field; if not, nothing changes.
 fn add_on(
-    fields: &[FieldEntry],
+    fields: &[(FieldName, FieldEntry)],
     sums: &mut [Numbers],
     branch: Branch,
     article: Article,
@@ -134,7 +138,7 @@ fn add_on(
 }
 
 /// Adds the moves, each to the sum of its field. Whether all of them are on fields.
-fn add_moves(fields: &[FieldEntry], sums: &mut [Numbers], moves: &[MoveEntry]) -> bool
+fn add_moves(fields: &[(FieldName, FieldEntry)], sums: &mut [Numbers], moves: &[MoveEntry]) -> bool
     requires sorted { AreFieldsInOrder fields.now }
     requires long { length sums.old ≡ length fields.now }
     requires room { Each (IsSmall 0) sums.old }
@@ -153,7 +157,7 @@ fn add_moves(fields: &[FieldEntry], sums: &mut [Numbers], moves: &[MoveEntry]) -
 }
 
 /// Adds the move to the sum of its field. Whether there is one.
-fn add_move(fields: &[FieldEntry], sums: &mut [Numbers], entry: &MoveEntry) -> bool
+fn add_move(fields: &[(FieldName, FieldEntry)], sums: &mut [Numbers], entry: &MoveEntry) -> bool
     requires sorted { AreFieldsInOrder fields.now }
     requires long { length sums.old ≡ length fields.now }
     requires room { Each (IsSmall most_of_all) sums.old }
@@ -171,7 +175,11 @@ fn add_move(fields: &[FieldEntry], sums: &mut [Numbers], entry: &MoveEntry) -> b
 }
 
 /// Adds the orders, each line to the sum of its field. Whether all lines are on fields.
-fn add_orders(fields: &[FieldEntry], sums: &mut [Numbers], orders: &[OrderEntry]) -> bool
+fn add_orders(
+    fields: &[(FieldName, FieldEntry)],
+    sums: &mut [Numbers],
+    orders: &[OrderEntry],
+) -> bool
     requires sorted { AreFieldsInOrder fields.now }
     requires long { length sums.old ≡ length fields.now }
     requires room { Each (IsSmall most_of_moves) sums.old }
@@ -190,7 +198,12 @@ fn add_orders(fields: &[FieldEntry], sums: &mut [Numbers], orders: &[OrderEntry]
 }
 
 /// Adds the lines of an order in that state, each to the sum of its field. Whether all of them are on fields.
-fn add_lines(fields: &[FieldEntry], sums: &mut [Numbers], lines: &[Line], state: &State) -> bool
+fn add_lines(
+    fields: &[(FieldName, FieldEntry)],
+    sums: &mut [Numbers],
+    lines: &[Line],
+    state: &State,
+) -> bool
     requires sorted { AreFieldsInOrder fields.now }
     requires long { length sums.old ≡ length fields.now }
     requires room { Each (IsSmall most_of_all) sums.old }
@@ -208,7 +221,12 @@ fn add_lines(fields: &[FieldEntry], sums: &mut [Numbers], lines: &[Line], state:
 }
 
 /// Adds the line to the sum of its field. Whether there is one.
-fn add_line(fields: &[FieldEntry], sums: &mut [Numbers], line: &Line, state: &State) -> bool
+fn add_line(
+    fields: &[(FieldName, FieldEntry)],
+    sums: &mut [Numbers],
+    line: &Line,
+    state: &State,
+) -> bool
     requires sorted { AreFieldsInOrder fields.now }
     requires long { length sums.old ≡ length fields.now }
     requires room { Each (IsSmall (most_of_all + most_of_all)) sums.old }

@@ -34,7 +34,7 @@ use crate::in_order::InOrder;
 use crate::limits::{MAX_FIELDS, MAX_ORDERS, MAX_PLACES};
 use crate::order::Line;
 use crate::rows::{DeskRow, FieldRow, Tables};
-use escrow::{Key, Moment};
+use escrow::{FieldName, Key, Moment};
 use std::alloc::Global;
 use thiserror::Error;
 use words::Memory;
@@ -54,7 +54,7 @@ pub enum TablesFault {
 #[derive(Drop)]
 struct Entries {
     clock: Moment,
-    fields: Vec<FieldEntry>,
+    fields: Vec<(FieldName, FieldEntry)>,
     moves: Vec<MoveEntry>,
     orders: Vec<OrderEntry>,
     kept: Vec<(Key, KeptEntry)>,
@@ -162,12 +162,15 @@ impl Book {
             Ok(false) => return Err(TablesFault::Damaged),
             Err(Memory) => return Err(TablesFault::Memory),
         }
+        let Ok(fields) = InOrder::from_sorted(alloc, entries.fields) else {
+            return Err(TablesFault::Memory);
+        };
         let Ok(kept) = InOrder::from_sorted(alloc, entries.kept) else {
             return Err(TablesFault::Memory);
         };
         Ok(Book {
             clock: entries.clock,
-            fields: entries.fields,
+            fields,
             moves: entries.moves,
             orders: entries.orders,
             kept,

@@ -10,7 +10,7 @@ ghost use Rattle.book.specs.Views.{ShowsField, ShowsOrder};
 use super::Book;
 use crate::entries::FieldEntry;
 use crate::order::{Kind, Line, State};
-use escrow::{Article, Branch, Level, Moment, OrderNo};
+use escrow::{Article, Branch, FieldName, Level, Moment, OrderNo};
 
 /// A field as it stands: its bounds, its settled value, and the least and the greatest value that the open
 /// orders can leave.
@@ -41,7 +41,7 @@ impl Book {
         ensures { let found = field_named self.now.ledger (name_of branch article) in MatchOption result (found ≡ None) (λ view. IsSomeAnd found (λ f. ShowsField self.now.ledger f view)) }
     {
         let entry = self.field_entry(branch, article)?;
-        Some(self.show(entry))
+        Some(self.show(FieldName { branch, article }, entry))
     }
 
     /// How many fields there are.
@@ -57,8 +57,8 @@ impl Book {
         ensures found { let found = slice_get self.now.ledger.fields index in MatchOption result (found ≡ None) (λ view. IsSomeAnd found (λ f. ShowsField self.now.ledger f view)) }
         ensures order { IsStrictlySortedBy name_cmp (map (λ f. f.name) self.now.ledger.fields) }
     {
-        let entry = self.fields.get(index)?;
-        Some(self.show(entry))
+        let entry = self.fields.nth(index)?;
+        Some(self.show(entry.0, &entry.1))
     }
 
     /// The order of that number, or `None` exactly where there is none.
@@ -76,15 +76,15 @@ impl Book {
     }
 
     /// What is shown of one of its fields.
-    fn show(&self, entry: &FieldEntry) -> FieldView
-        requires { Contains self.now.ledger.fields (field_of entry.now) }
-        ensures { ShowsField self.now.ledger (field_of entry.now) result }
+    fn show(&self, name: FieldName, entry: &FieldEntry) -> FieldView
+        requires { Contains self.now.ledger.fields (field_of (name, entry.now)) }
+        ensures { ShowsField self.now.ledger (field_of (name, entry.now)) result }
     {
-        let numbers = self.numbers_of(entry.branch, entry.article);
+        let numbers = self.numbers_of(name.branch, name.article);
         let value = entry.start.get() as i64 + numbers.moved;
         FieldView {
-            branch: entry.branch,
-            article: entry.article,
+            branch: name.branch,
+            article: name.article,
             lo: entry.lo,
             hi: entry.hi,
             value: level(value),

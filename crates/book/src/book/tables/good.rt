@@ -15,11 +15,11 @@ use crate::book::find::line_in;
 use crate::book::insert::{is_field_before, is_key_before, is_order_before};
 use crate::entries::{FieldEntry, KeptEntry, MoveEntry, OrderEntry};
 use crate::order::{Kind, Line};
-use escrow::{Key, Qty, Way};
+use escrow::{FieldName, Key, Qty, Way};
 use words::MAX_ORDER_LINES;
 
 /// Whether the fields stand in the order of their names, each once.
-pub(super) fn are_fields_in_order(fields: &[FieldEntry]) -> bool
+pub(super) fn are_fields_in_order(fields: &[(FieldName, FieldEntry)]) -> bool
     ensures { IsTrue result ↔ IsStrictlySortedBy name_cmp (map (λ f. f.name) (map field_of fields.now)) }
 {
     fields.is_sorted_by(|one, other| is_field_before(one, other))

@@ -17,6 +17,7 @@ use crate::book::sums::sums_of;
 use crate::book::walk::Numbers;
 use crate::entries::{FieldEntry, MoveEntry, OrderEntry};
 use crate::rows::FieldRow;
+use escrow::FieldName;
 use std::alloc::Global;
 use words::Memory;
 
@@ -56,16 +57,20 @@ fn is_safe(entry: &FieldEntry, stock: &Stock) -> bool
     entry.lo.get() as i64 <= stock.inf && stock.sup <= entry.hi.get() as i64
 }
 
-fn has_numbers(entry: &FieldEntry, numbers: &Numbers, row: &FieldRow) -> bool
+fn has_numbers(entry: &(FieldName, FieldEntry), numbers: &Numbers, row: &FieldRow) -> bool
     requires { IsSmall most_of_all numbers.now }
     ensures { IsTrue result ↔ HasNumbers numbers.now (field_of entry.now) (field_cells row.now) }
 {
-    let stock = stock_of(entry, numbers);
-    shows(row, &stock) && is_safe(entry, &stock)
+    let stock = stock_of(&entry.1, numbers);
+    shows(row, &stock) && is_safe(&entry.1, &stock)
 }
 
 /// Whether each row has what the sum gives its field, within the field's bounds.
-pub(super) fn have_numbers(fields: &[FieldEntry], sums: &[Numbers], rows: &[FieldRow]) -> bool
+pub(super) fn have_numbers(
+    fields: &[(FieldName, FieldEntry)],
+    sums: &[Numbers],
+    rows: &[FieldRow],
+) -> bool
     requires sums { length sums.now ≡ length fields.now }
     requires rows { length rows.now ≡ length fields.now }
     requires small { Each (IsSmall most_of_all) sums.now }
@@ -83,7 +88,7 @@ pub(super) fn have_numbers(fields: &[FieldEntry], sums: &[Numbers], rows: &[Fiel
 /// Whether all moves and lines are on fields, and each row has what they add up to on its field.
 pub(super) fn fit_rows(
     alloc: Global,
-    fields: &[FieldEntry],
+    fields: &[(FieldName, FieldEntry)],
     moves: &[MoveEntry],
     orders: &[OrderEntry],
     rows: &[FieldRow],

@@ -3,6 +3,7 @@
 ghost use Rattle.std.specs.Prelude.{◌≡◌, pos, ℕ, IfErr, IfOk, MatchOption};
 ghost use Rattle.std.specs.List.{AllByRecursion as Each, AllZip};
 ghost use Rattle.escrow.specs.Ranges.{IsLevel, IsMoment};
+ghost use Rattle.book.specs.Ledger.{Name};
 ghost use Rattle.book.specs.Rows.{kind_code, state_code, way_code};
 ghost use Rattle.book.specs.Told.{IsFieldTold, IsHeadTold, IsKeptTold, IsLineTold, IsMoveTold};
 ghost use Rattle.book.specs.declared.book.tables.TablesFault.TheVariants as TablesFault;
@@ -19,7 +20,7 @@ use super::group::Head;
 use crate::entries::{FieldEntry, KeptEntry, MoveEntry};
 use crate::order::{Kind, Line, State};
 use crate::rows::{FieldRow, KeptRow, LineRow, MoveRow, OrderRow};
-use escrow::{Article, Branch, Key, Level, Moment, OrderNo, Way};
+use escrow::{Article, Branch, FieldName, Key, Level, Moment, OrderNo, Way};
 use std::alloc::Global;
 use words::{WordsFault, read_command};
 
@@ -102,24 +103,27 @@ fn way(code: i64) -> Option<Way>
     }
 }
 
-impl Told<FieldRow> for FieldEntry {
+impl Told<FieldRow> for (FieldName, FieldEntry) {
     ghost is_told = { IsFieldTold };
 
-    fn read(_alloc: Global, row: &FieldRow) -> Result<FieldEntry, TablesFault> {
+    fn read(_alloc: Global, row: &FieldRow) -> Result<(FieldName, FieldEntry), TablesFault> {
         field(row).ok_or(TablesFault::Damaged)
     }
 }
 
-fn field(row: &FieldRow) -> Option<FieldEntry>
-    ensures { MatchOption result ((e : FieldEntry) → IsFieldTold e row.now → ⊥) (λ e. IsFieldTold e row.now) }
+fn field(row: &FieldRow) -> Option<(FieldName, FieldEntry)>
+    ensures { MatchOption result ((e : Name × FieldEntry) → IsFieldTold e row.now → ⊥) (λ e. IsFieldTold e row.now) }
 {
-    Some(FieldEntry {
+    let name = FieldName {
         branch: Branch::read(row.branch.as_bytes()).ok()?,
         article: Article::read(row.article.as_bytes()).ok()?,
+    };
+    let entry = FieldEntry {
         lo: level(row.lo)?,
         hi: level(row.hi)?,
         start: level(row.start)?,
-    })
+    };
+    Some((name, entry))
 }
 
 impl Told<MoveRow> for MoveEntry {

@@ -1,10 +1,11 @@
-use Rattle.std.proofs.Common.{◌≡◌, ◌+◌, map, rules, subst, sym}
+use Rattle.std.proofs.Common.{◌≡◌, ◌∙◌, ◌+◌, None, map, rules, subst, sym}
 use Rattle.escrow.specs.Codes.{IsKey}
 use Rattle.words.specs.Spelling.{IsInRange}
 use Rattle.words.specs.declared.command.Command.{Command}
+use Rattle.words.specs.declared.command.Command.TheVariants.{Field}
 use Rattle.words.specs.declared.command.Request.{Request}
 use Rattle.words.specs.declared.reply.Reply.TheVariants.{Done}
-use Rattle.book.specs.Answers.{IsAccepted}
+use Rattle.book.specs.Answers.{FirstFailure, IsAccepted, checks}
 use Rattle.book.specs.Good.{Good}
 use Rattle.book.specs.Ledger.{Ledger, places}
 use Rattle.book.specs.Next.{accept}
@@ -13,8 +14,9 @@ use Rattle.book.specs.Plans.{LinesFit}
 use Rattle.book.specs.View.{BookView, ledger_of, order_room}
 use Rattle.book.specs.declared.book.Book.TheInside.{Inside}
 use Rattle.book.proofs.Allowed.{may_change}
-use Rattle.book.proofs.Closing.{honours_always}
+use Rattle.book.proofs.Closing.{all_pass, honours_always}
 use Rattle.book.proofs.Goodness.{good_accept}
+use Rattle.book.proofs.Growing.{none_if_not_some}
 use Rattle.book.proofs.Transfers.{total_answer}
 use Rattle.book.proofs.Once.{accepted_answered, honours_if_good, no_key}
 use Rattle.book.proofs.book.Book.adopt.Goals as goal
@@ -31,6 +33,14 @@ adopt_orders-requires-clause-change c change is =
     (subst (λ (v : BookView). LinesFit c.args.plan.request.command v.room.lines) (sym c.self.view_is) c.requires.room.lines) in
     let after = good_accept (ledger_of b) (record { key = key; command = command }) c.self.invariant c.as_bytes.ensures.form c.in_range.ensures (no_key _ accepted.0) accepted.1 in
     may_change b key command change c.self.invariant after accepted.1 room is
+
+pub adopt_stock-requires-clause-absent : goal.adopt_stock-requires-clause-absent
+adopt_stock-requires-clause-absent c b a lo hi start is =
+    let L : Ledger = ledger_of c.self.inside in
+    let same = sym c.into_parts-key.ensures.command ∙ is in
+    let accepted = subst (λ (v : BookView). IsAccepted v.ledger c.args.plan.request) (sym c.self.view_is) c.requires.fits.accepted in
+    let passed = all_pass (checks L (Field b a lo hi start)) (subst (λ (k : Command). FirstFailure (checks L k) None) same accepted.1) in
+    none_if_not_some _ passed.1.1.0
 
 pub returns-clause-next : goal.returns-clause-next
 returns-clause-next c = search rules

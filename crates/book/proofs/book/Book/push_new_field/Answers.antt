@@ -10,5 +10,5 @@ use Rattle.book.proofs.book.Book.push_new_field.Goals as goal
 pub returns-in_ok-push : goal.returns-in_ok-push
 returns-in_ok-push c =
     let B : Ledger = accept c.args.self.now.ledger c.args.request.now in
-    let row = c.in_ok-row.ensures ∙ ap (λ (f : Field). field_row B f) c.field_entry-entry.ensures in
+    let row = c.in_ok-row.ensures in
     subst (λ (k : Command). rows_among c.push.new.changes.items ≡ with_fields (new_field_rows B k) (rows_among c.args.changes.now.items)) (sym c.in-Field.is) (field_pushed _ _ _ _ c.in_ok-push.ensures row)

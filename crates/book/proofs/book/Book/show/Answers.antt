@@ -11,32 +11,32 @@ use Rattle.book.proofs.book.Book.show.Goals as goal
 
 pub level-requires-clause-low : goal.level-requires-clause-low
 level-requires-clause-low c =
-    let levels = levels_of c.args.self.now.ledger (field_of c.args.entry.now) c.numbers_of-numbers.ensures.good c.requires in
-    let moved = c.numbers_of-numbers.ensures.moved (field_of c.args.entry.now) refl in
+    let levels = levels_of c.args.self.now.ledger (field_of (c.args.name, c.args.entry.now)) c.numbers_of-numbers.ensures.good c.requires in
+    let moved = c.numbers_of-numbers.ensures.moved (field_of (c.args.name, c.args.entry.now)) refl in
     omega (arith, ints)
 
 pub level-requires-clause-high : goal.level-requires-clause-high
 level-requires-clause-high c =
-    let levels = levels_of c.args.self.now.ledger (field_of c.args.entry.now) c.numbers_of-numbers.ensures.good c.requires in
-    let moved = c.numbers_of-numbers.ensures.moved (field_of c.args.entry.now) refl in
+    let levels = levels_of c.args.self.now.ledger (field_of (c.args.name, c.args.entry.now)) c.numbers_of-numbers.ensures.good c.requires in
+    let moved = c.numbers_of-numbers.ensures.moved (field_of (c.args.name, c.args.entry.now)) refl in
     omega (arith, ints)
 
 pub level-requires-2-clause-low : goal.level-requires-2-clause-low
 level-requires-2-clause-low c =
-    let levels = levels_of c.args.self.now.ledger (field_of c.args.entry.now) c.numbers_of-numbers.ensures.good c.requires in
-    let moved = c.numbers_of-numbers.ensures.moved (field_of c.args.entry.now) refl in
+    let levels = levels_of c.args.self.now.ledger (field_of (c.args.name, c.args.entry.now)) c.numbers_of-numbers.ensures.good c.requires in
+    let moved = c.numbers_of-numbers.ensures.moved (field_of (c.args.name, c.args.entry.now)) refl in
     omega (arith, ints)
 
 pub level-requires-3-clause-high : goal.level-requires-3-clause-high
 level-requires-3-clause-high c =
-    let levels = levels_of c.args.self.now.ledger (field_of c.args.entry.now) c.numbers_of-numbers.ensures.good c.requires in
-    let moved = c.numbers_of-numbers.ensures.moved (field_of c.args.entry.now) refl in
+    let levels = levels_of c.args.self.now.ledger (field_of (c.args.name, c.args.entry.now)) c.numbers_of-numbers.ensures.good c.requires in
+    let moved = c.numbers_of-numbers.ensures.moved (field_of (c.args.name, c.args.entry.now)) refl in
     omega (arith, ints)
 
 pub returns : goal.returns
 returns c =
     let A : Ledger = c.args.self.now.ledger in
-    let f : Field = field_of c.args.entry.now in
+    let f : Field = field_of (c.args.name, c.args.entry.now) in
     let orders = sounds_from_good A c.numbers_of-numbers.ensures.good in
     let levels = levels_of A f c.numbers_of-numbers.ensures.good c.requires in
     let moved = c.numbers_of-numbers.ensures.moved f refl in

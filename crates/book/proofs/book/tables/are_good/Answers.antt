@@ -5,7 +5,7 @@ use Rattle.escrow.specs.Ranges.{IsQty}
 use Rattle.book.specs.declared.entries.FieldEntry.{FieldEntry}
 use Rattle.book.specs.declared.entries.MoveEntry.{MoveEntry}
 use Rattle.book.specs.declared.entries.OrderEntry.{OrderEntry}
-use Rattle.book.specs.Ledger.{Ledger, places}
+use Rattle.book.specs.Ledger.{Ledger, Name, places}
 use Rattle.book.specs.Sums.{AreOnFields, numbers_on}
 use Rattle.book.specs.Tables.{field_cells}
 use Rattle.book.specs.Told.{HaveNumbers, IsMoveByItself, IsOrderByItself, IsWhole, TellsField, told_ledger}
@@ -24,7 +24,7 @@ fit_rows-requires-clause-rows c =
     let told = zip-length TellsField (map field_of c.args.entries.now.fields.items) (map field_cells c.args.rows.now) c.requires.told in
     let fields = length-of-map field_of c.args.entries.now.fields.items in
     let rows = length-of-map field_cells c.args.rows.now in
-    let same = ap (λ (fs : List FieldEntry). length fs) c.deref.ensures.value in
+    let same = ap (λ (fs : List (Name × FieldEntry)). length fs) c.deref.ensures.value in
     omega arith
 
 pub fit_rows-requires-clause-few_moves : goal.fit_rows-requires-clause-few_moves
@@ -52,7 +52,7 @@ of_entries : (c : goal.After-fit_rows) → IfOk c.fit_rows.result (λ fit. IsTru
     × HaveNumbers (numbers_on c.args.entries.now.moves.items c.args.entries.now.orders.items) c.args.entries.now.fields.items c.args.rows.now))
 of_entries c =
     let rows = c.args.rows.now in
-    subst (λ (fs : List FieldEntry). IfOk c.fit_rows.result (λ fit. IsTrue fit ↔ (AreOnFields fs c.args.entries.now.moves.items c.args.entries.now.orders.items
+    subst (λ (fs : List (Name × FieldEntry)). IfOk c.fit_rows.result (λ fit. IsTrue fit ↔ (AreOnFields fs c.args.entries.now.moves.items c.args.entries.now.orders.items
     × HaveNumbers (numbers_on c.args.entries.now.moves.items c.args.entries.now.orders.items) fs rows))) c.deref.ensures.value
     (subst (λ (ms : List MoveEntry). IfOk c.fit_rows.result (λ fit. IsTrue fit ↔ (AreOnFields c.deref.result.now ms c.args.entries.now.orders.items
     × HaveNumbers (numbers_on ms c.args.entries.now.orders.items) c.deref.result.now rows))) c.deref-2.ensures.value

@@ -5,7 +5,7 @@ use Rattle.book.specs.declared.entries.KeptEntry.{KeptEntry}
 use Rattle.book.specs.declared.rows.FieldRow.{FieldRow}
 use Rattle.book.specs.declared.rows.KeptRow.{KeptRow}
 use Rattle.book.specs.Good.{IsGoodField, IsGoodKept}
-use Rattle.book.specs.Ledger.{places}
+use Rattle.book.specs.Ledger.{Name, places}
 use Rattle.book.specs.Rows.{DeskCells, IsFieldRow, KeptCells, kept_row, move_row}
 use Rattle.book.specs.Tables.{field_cells, kept_cells, line_cells, move_cells, order_cells}
 use Rattle.book.specs.Told.{IsFieldTold, IsKeptTold, IsLineTold, IsMoveTold, TellsField}
@@ -82,7 +82,7 @@ returns-clause-told c = record {
   kept = ap (map kept_cells) (sym c.as_slice-6.ensures) ∙ rows_of IsKeptTold kept_of kept_row kept_cells (λ e row told. told.cells) c.in_ok-kept.kept.items c.as_slice-6.result.now c.in_ok-kept.ensures.told;
 }
 
-good_fields : (es : List FieldEntry) (rows : List FieldRow) → AllZip IsFieldTold es rows → Each IsGoodField (map field_of es)
+good_fields : (es : List (Name × FieldEntry)) (rows : List FieldRow) → AllZip IsFieldTold es rows → Each IsGoodField (map field_of es)
 good_fields [] [] told = tt
 good_fields [] (r ∷ rows) told = absurd told
 good_fields (e ∷ es) [] told = absurd told

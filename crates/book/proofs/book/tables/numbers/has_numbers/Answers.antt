@@ -5,8 +5,8 @@ pub returns-then-shows : goal.returns-then-shows
 returns-then-shows c =
     let same = c.if-shows.ensures.0 refl in
     let made = c.stock_of-stock.ensures in
-    let lo = c.args.entry.now.lo in
-    let hi = c.args.entry.now.hi in (
+    let lo = c.args.entry.now.1.lo in
+    let hi = c.args.entry.now.1.hi in (
       λ yes. let within = c.is_safe.ensures.0 yes in
           record {
             value = same.0 ∙ made.value;

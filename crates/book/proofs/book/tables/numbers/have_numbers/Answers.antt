@@ -16,12 +16,12 @@ use Rattle.book.proofs.book.tables.numbers.have_numbers.Goals as goal
 abbrev none : Numbers
 none = record { moved = pos 0; takes = pos 0; adds = pos 0 }
 
-numbers_at : (sums : List Numbers) (fields : List FieldEntry) (i : ℕ) (f : FieldEntry) (d : Numbers) (numbers : Name → Numbers) → sums ≡ map (λ f. numbers (entry_name f)) fields → i < length fields
+numbers_at : (sums : List Numbers) (fields : List (Name × FieldEntry)) (i : ℕ) (f : Name × FieldEntry) (d : Numbers) (numbers : Name → Numbers) → sums ≡ map (λ f. numbers (entry_name f)) fields → i < length fields
     → get_or sums i d ≡ numbers (entry_name (get_or fields i f))
 numbers_at sums fields i f d numbers same lt = ap (λ ns. get_or ns i d) same ∙ get-of-map (λ f. numbers (entry_name f)) fields i f d lt
 
 -- what is said of the numbers, the field and the row at hand, said of those in their lists
-module _ (sums : List Numbers) (fields : List FieldEntry) (rows : List FieldRow) (i : ℕ) (f : FieldEntry) (row : FieldRow) (numbers : Name → Numbers)
+module _ (sums : List Numbers) (fields : List (Name × FieldEntry)) (rows : List FieldRow) (i : ℕ) (f : Name × FieldEntry) (row : FieldRow) (numbers : Name → Numbers)
     (same : sums ≡ map (λ f. numbers (entry_name f)) fields) (within : i < length fields) (field_is : f ≡ get_or fields i f) (row_is : row ≡ get_or rows i row) where
   pub in_lists : HasNumbers (get_or sums i none) (field_of f) (field_cells row) → HasNumbers (numbers (entry_name (get_or fields i f))) (field_of (get_or fields i f)) (field_cells (get_or rows i row))
   in_lists has = subst (λ n. HasNumbers n (field_of (get_or fields i f)) (field_cells (get_or rows i row))) (numbers_at sums fields i f none numbers same within)

@@ -1,0 +1,21 @@
+use Rattle.std.proofs.Common.{◌≡◌, ◌∙◌, ◌+◌, [], ◌∷◌, ◌++◌, List, ap, map, slice_get, subst, sym, take}
+use Rattle.std.proofs.lemmas.Grind.{flat_map-append}
+use Rattle.std.proofs.lemmas.Option.{get_or_from_slice_get, slice_get_within}
+use Rattle.book.specs.After.{changed_fields}
+use Rattle.book.specs.Ledger.{Field, Ledger}
+use Rattle.book.specs.View.{field_of}
+use Rattle.book.proofs.Among.{field_joined}
+use Rattle.book.proofs.Viewed.{slice_get-fields}
+use Rattle.book.proofs.Walked.{take-step}
+use Rattle.book.proofs.book.Book.push_fields.Goals as goal
+
+pub loop-place-preserved : goal.loop-place-preserved
+loop-place-preserved c =
+    let A : Ledger = c.args.self.now.ledger in
+    let r = c.args.request.now in
+    let i = c.loop-place.place in
+    let x : Field = field_of c.entry_at-entry.result.now in
+    let read = slice_get-fields c.self.inside c.args.self.now i c.entry_at-entry.result.now c.self.view_is (sym c.entry_at-entry.ensures) in
+    let longer = take-step A.fields i x (slice_get_within A.fields i x read) (sym (get_or_from_slice_get A.fields i x x read)) in
+    field_joined _ _ _ (changed_fields A r (take i A.fields)) (changed_fields A r (x ∷ [])) (changed_fields A r (take (i + 1) A.fields)) c.loop-place.invariant c.in_ok-push_field.ensures
+    (ap (λ (fs : List Field). changed_fields A r fs) longer ∙ flat_map-append _ (take i A.fields) (x ∷ []))
