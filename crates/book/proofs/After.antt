@@ -1,5 +1,5 @@
 -- What the entries add up to on a field of the next ledger.
-use Rattle.std.proofs.Common.{◌≡◌, ℤ, pos, ◌+ℤ◌, ◌-ℤ◌, Option, ap, arith, if◌then◌else◌, refl, string_bytes, subst, String, Global}
+use Rattle.std.proofs.Common.{◌≡◌, ℕ, ℤ, pos, ◌+ℤ◌, ◌-ℤ◌, Option, ap, arith, if◌then◌else◌, refl, string_bytes, subst, String, Global}
 use Rattle.std.proofs.lemmas.Int.{ints}
 use Rattle.std.specs.Option.{option_map}
 use Rattle.words.specs.declared.command.Command.{Command}
@@ -37,32 +37,32 @@ moved-next A (command.Commit n) f = nothing_more (total (on_field f) A.moves)
 moved-next A (command.Abort n) f = nothing_more (total (on_field f) A.moves)
 moved-next A (command.Expire now) f = nothing_more (total (on_field f) A.moves)
 
-pub settled-after : (b : Inside) (r : Request) (f : Field) (n : Name) (made : Option OrderEntry) → Good (ledger_of b) → IsAccepted (ledger_of b) r → option_map order_of made ≡ order_after (ledger_of b) r.command → f.name ≡ n
-    → settled (accept (ledger_of b) r) f ≡ pos f.start +ℤ ((total (moved_by_move n) b.moves.items +ℤ moved_by_command n r.command) +ℤ (total (part_left (moved_by_order n) r.command) b.orders.items +ℤ some_part (moved_part n) (option_map order_of made)))
-settled-after b r f n made good ok is named = subst (λ n. settled (accept (ledger_of b) r) f ≡ pos f.start +ℤ ((total (moved_by_move n) b.moves.items +ℤ moved_by_command n r.command) +ℤ (total (part_left (moved_by_order n) r.command) b.orders.items +ℤ some_part (moved_part n) (option_map order_of made)))) named
+pub settled-after : (b : Inside) (r : Request) (f : Field) (n : Name) (made : Option (ℕ × OrderEntry)) → Good (ledger_of b) → IsAccepted (ledger_of b) r → option_map order_of made ≡ order_after (ledger_of b) r.command → f.name ≡ n
+    → settled (accept (ledger_of b) r) f ≡ pos f.start +ℤ ((total (moved_by_move n) b.moves.items +ℤ moved_by_command n r.command) +ℤ (total (part_left (moved_by_order n) r.command) b.orders.entries +ℤ some_part (moved_part n) (option_map order_of made)))
+settled-after b r f n made good ok is named = subst (λ n. settled (accept (ledger_of b) r) f ≡ pos f.start +ℤ ((total (moved_by_move n) b.moves.items +ℤ moved_by_command n r.command) +ℤ (total (part_left (moved_by_order n) r.command) b.orders.entries +ℤ some_part (moved_part n) (option_map order_of made)))) named
     (let A : Ledger = ledger_of b in
     let x : total (on_field f.name) A.moves ≡ total (moved_by_move f.name) b.moves.items = total-map _ move_of b.moves.items in
     let y = moved-next A r.command f.name in
     let z = total-next (moved_part f.name) (λ o. refl) A r.command good ok.1 in
-    let w : total (left_out (moved_part f.name) r.command) A.orders ≡ total (part_left (moved_by_order f.name) r.command) b.orders.items = total-map _ order_of b.orders.items in
+    let w : total (left_out (moved_part f.name) r.command) A.orders ≡ total (part_left (moved_by_order f.name) r.command) b.orders.entries = total-map _ order_of b.orders.entries in
     let v = ap (some_part (moved_part f.name)) is in
     omega (arith, ints))
 
-pub held_to_take-after : (b : Inside) (r : Request) (n : Name) (made : Option OrderEntry) → Good (ledger_of b) → IsAccepted (ledger_of b) r → option_map order_of made ≡ order_after (ledger_of b) r.command
-    → held_to_take (accept (ledger_of b) r) n ≡ total (part_left (taken_by_order n) r.command) b.orders.items +ℤ some_part (taken_part n) (option_map order_of made)
+pub held_to_take-after : (b : Inside) (r : Request) (n : Name) (made : Option (ℕ × OrderEntry)) → Good (ledger_of b) → IsAccepted (ledger_of b) r → option_map order_of made ≡ order_after (ledger_of b) r.command
+    → held_to_take (accept (ledger_of b) r) n ≡ total (part_left (taken_by_order n) r.command) b.orders.entries +ℤ some_part (taken_part n) (option_map order_of made)
 held_to_take-after b r n made good ok is =
     let A : Ledger = ledger_of b in
     let z = total-next (taken_part n) (λ o. refl) A r.command good ok.1 in
-    let w : total (left_out (taken_part n) r.command) A.orders ≡ total (part_left (taken_by_order n) r.command) b.orders.items = total-map _ order_of b.orders.items in
+    let w : total (left_out (taken_part n) r.command) A.orders ≡ total (part_left (taken_by_order n) r.command) b.orders.entries = total-map _ order_of b.orders.entries in
     let v = ap (some_part (taken_part n)) is in
     omega (arith, ints)
 
-pub held_to_add-after : (b : Inside) (r : Request) (n : Name) (made : Option OrderEntry) → Good (ledger_of b) → IsAccepted (ledger_of b) r → option_map order_of made ≡ order_after (ledger_of b) r.command
-    → held_to_add (accept (ledger_of b) r) n ≡ total (part_left (added_by_order n) r.command) b.orders.items +ℤ some_part (added_part n) (option_map order_of made)
+pub held_to_add-after : (b : Inside) (r : Request) (n : Name) (made : Option (ℕ × OrderEntry)) → Good (ledger_of b) → IsAccepted (ledger_of b) r → option_map order_of made ≡ order_after (ledger_of b) r.command
+    → held_to_add (accept (ledger_of b) r) n ≡ total (part_left (added_by_order n) r.command) b.orders.entries +ℤ some_part (added_part n) (option_map order_of made)
 held_to_add-after b r n made good ok is =
     let A : Ledger = ledger_of b in
     let z = total-next (added_part n) (λ o. refl) A r.command good ok.1 in
-    let w : total (left_out (added_part n) r.command) A.orders ≡ total (part_left (added_by_order n) r.command) b.orders.items = total-map _ order_of b.orders.items in
+    let w : total (left_out (added_part n) r.command) A.orders ≡ total (part_left (added_by_order n) r.command) b.orders.entries = total-map _ order_of b.orders.entries in
     let v = ap (some_part (added_part n)) is in
     omega (arith, ints)
 

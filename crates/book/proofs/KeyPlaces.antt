@@ -1,12 +1,12 @@
 -- Keys among entries in their order.
-use Rattle.std.proofs.Common.{◌≡◌, ℕ, zero, suc, ◌<◌, ◌≤◌, List, [], ◌∷◌, ◌++◌, length, length-append, length-set, get_or, set, Some, None, IfOk, IfErr, Result, Ok, Err, slice_get, refl, sym, ap, subst, ◌∙◌, inl, inr, arith}
+use Rattle.std.proofs.Common.{◌≡◌, ℕ, zero, suc, ◌<◌, ◌≤◌, List, [], ◌∷◌, ◌++◌, length, length-append, length-set, get_or, set, Some, None, IfOk, IfErr, cond, Result, Ok, Err, slice_get, refl, sym, ap, subst, ◌∙◌, inl, inr, arith}
 use Rattle.std.specs.Cmp.{IsTotalOrder}
 use Rattle.std.specs.List.{AllByRecursion as Each, insert}
 use Rattle.std.specs.List.Sorted.{IsBinarySearchResult, IsNonDecreasingBy, IsSearchInRange, IsStrictlySortedBy}
 use Rattle.std.specs.Map.{keys_of, lookup, set_value}
 use Rattle.std.specs.BTreeMap.{insert_entry, is_at}
 use Rattle.std.specs.Option.{option_map, option_map_or}
-use Rattle.std.specs.Ordering.{is_eq, ordering_index, ordering_reverse}
+use Rattle.std.specs.Ordering.{is_eq, match_ordering, ordering_index, ordering_reverse}
 use Rattle.std.specs.declared.cmp.Ordering.{Ordering}
 use Rattle.std.specs.declared.cmp.Ordering.TheVariants.{Less, Equal, Greater}
 use Rattle.std.proofs.lemmas.Bool.{cases_lt}
@@ -15,7 +15,7 @@ use Rattle.std.proofs.lemmas.List.Edits.{insert_end}
 use Rattle.std.proofs.lemmas.List.Sorted.{IsNonDecreasingBy-from_default}
 use Rattle.std.proofs.lemmas.Map.Entries.{lookup_at_gap, lookup_from_place, length-keys_of}
 use Rattle.std.proofs.lemmas.Map.Keys.{IsDistinct-from_sorted, Less-from_sorted}
-use Rattle.std.proofs.lemmas.Option.{get_or_from_slice_get, slice_get-map, slice_get_within, slice_get_read, same_Some}
+use Rattle.std.proofs.lemmas.Option.{get_or_from_slice_get, none-some, slice_get-map, slice_get_within, slice_get_read, same_Some}
 use Rattle.book.specs.InOrder.{IsAt, IsGap, IsKeyOrder, at_indexes, compare_at, set_value_at}
 use Rattle.book.proofs.Indexes.{Names, names_more, index_at, at_indexes-set, in_range, at_indexes-insert, get-at_indexes, length-at_indexes, some_at}
 
@@ -127,6 +127,22 @@ module _ {K : Type 0} {cmp : K → K → Ordering} (total : IsTotalOrder cmp) (k
         let less = rise_along (e ∷ l) rising 0 (suc place) e at.entry (omega arith) refl at.there in
         let greater = before e.0 (alike_right total key at.entry.0 e.0 at.equal ∙ less) in
         rw greater (ap (λ r. e ∷ r) (set_value-at w l place rising.1 (at_tail e l place at)))
+
+    none_below : (l : List (K × V)) → Each (λ y. cmp key y ≡ Less) (keys_of l) → lookup (is_at (cmp key)) l ≡ None
+    none_below [] all = refl
+    none_below (e ∷ l) all = rw (all.0) (none_below l all.1)
+
+    -- where one stands under the key, an entry put in by its key takes its place
+    pub set_value-insert : (w : V) (l : List (K × V)) (v : V) → IsStrictlySortedBy cmp (keys_of l) → lookup (is_at (cmp key)) l ≡ Some v → set_value (is_at (cmp key)) l w ≡ insert_entry cmp l key w
+    unfolding IsStrictlySortedBy
+    set_value-insert w [] v rising there = absurd (none-some v there)
+    set_value-insert w (e ∷ l) v rising there = by (cmp key e.0) refl there (set_value-insert w l v rising.1)
+      where
+        by : (o : Ordering) → cmp key e.0 ≡ o → cond (is_eq o) (Some e.1) (lookup (is_at (cmp key)) l) ≡ Some v → (lookup (is_at (cmp key)) l ≡ Some v → set_value (is_at (cmp key)) l w ≡ insert_entry cmp l key w)
+            → cond (is_eq o) ((e.0, w) ∷ l) (e ∷ set_value (is_at (cmp key)) l w) ≡ match_ordering o ((key, w) ∷ e ∷ l) ((e.0, w) ∷ l) (e ∷ insert_entry cmp l key w)
+        by Less is there more = absurd (none-some v (sym (none_below l (each_below e.0 is (keys_of l) rising.0)) ∙ there))
+        by Equal is there more = refl
+        by Greater is there more = ap (λ r. e ∷ r) (more there)
 
     -- ---- a search for the key by halving
 

@@ -1,7 +1,7 @@
 -- Entries under keys, as they stand in a ledger.
-use Rattle.std.proofs.Common.{◌≡◌, ◌∙◌, ◌&&◌, Bool, true, false, ℕ, List, [], ◌∷◌, Option, Some, None, ap, cond, find, if◌then◌else◌, is_some, map, refl, sym, true≢false}
+use Rattle.std.proofs.Common.{◌≡◌, ◌∙◌, ◌&&◌, ◌==◌, Bool, true, false, ℕ, List, [], ◌∷◌, Option, Some, None, ap, cond, find, if◌then◌else◌, is_some, map, refl, subst, sym, true≢false}
 use lib.Pointwise.{bytes_decides}
-use Rattle.std.proofs.lemmas.Cmp.{nat_list_eq_equiv}
+use Rattle.std.proofs.lemmas.Cmp.{nat_cmp_total, nat_list_eq_equiv, tied_itself}
 use Rattle.std.proofs.lemmas.Map.Text.{is_eq-slice_cmp}
 use Rattle.std.specs.BTreeMap.{insert_entry, is_at}
 use Rattle.std.specs.Cmp.Lexicographic.{slice_cmp}
@@ -11,12 +11,14 @@ use Rattle.std.specs.Ordering.{is_eq, is_lt, match_ordering, nat_cmp, ordering_t
 use Rattle.std.specs.Str.{bytes_eq}
 use Rattle.std.specs.declared.cmp.Ordering.{Ordering}
 use Rattle.std.specs.declared.cmp.Ordering.TheVariants.{Equal, Greater, Less}
-use Rattle.book.specs.Ledger.{Kept, Name, insert_in_order, name_cmp, same_name}
-use Rattle.book.specs.View.{field_of, kept_of}
+use Rattle.book.specs.Ledger.{Name, insert_in_order, name_cmp, same_name}
+use Rattle.book.specs.View.{field_of, kept_of, order_of}
 use Rattle.book.specs.declared.entries.FieldEntry.{FieldEntry}
 use Rattle.book.specs.declared.entries.KeptEntry.{KeptEntry}
+use Rattle.book.specs.declared.entries.OrderEntry.{OrderEntry}
+use Rattle.book.proofs.Chosen.{number_is}
 use Rattle.book.proofs.Closing.{name_is}
-use Rattle.book.proofs.Staying.{equal_name}
+use Rattle.book.proofs.Staying.{equal_name, equal_number, other_number}
 
 module _ {K V X : Type 0} (cmp : K → K → Ordering) (ties : (a b : K) → cmp a b ≡ Equal → a ≡ b) (view : K × V → X) where
   -- what stands under a key
@@ -68,6 +70,23 @@ field_absent name l none = nothing_there (λ v. field_of (name, v)) (lookup (is_
 pub field_inserted : (name : Name) (v : FieldEntry) (l : List (Name × FieldEntry)) → find (λ f. same_name name f.name) (map field_of l) ≡ None
     → map field_of (insert_entry name_cmp l name v) ≡ insert_in_order (λ f g. is_lt (name_cmp f.name g.name)) (field_of (name, v)) (map field_of l)
 field_inserted name v l none = inserted name_cmp equal_field field_of name v (λ f g. is_lt (name_cmp f.name g.name)) (λ e. refl) l (field_absent name l none)
+
+-- ---- orders
+
+same_number : (m n : ℕ) → (m == n) ≡ is_eq (nat_cmp n m)
+same_number m n = by (m == n) refl
+  where
+    apart : (o : Ordering) → (o ≡ Equal → ⊥) → false ≡ is_eq o
+    apart Less h = refl
+    apart Equal h = absurd (h refl)
+    apart Greater h = refl
+
+    by : (b : Bool) → (m == n) ≡ b → b ≡ is_eq (nat_cmp n m)
+    by true e = let same : nat_cmp n m ≡ Equal = subst (λ k. nat_cmp n k ≡ Equal) (sym (number_is m n e)) (tied_itself nat_cmp_total n) in rw same refl
+    by false e = apart (nat_cmp n m) (other_number n m e)
+
+pub order_found : (n : ℕ) (l : List (ℕ × OrderEntry)) → find (λ o. o.number == n) (map order_of l) ≡ option_map (λ v. order_of (n, v)) (lookup (is_at (nat_cmp n)) l)
+order_found n l = found nat_cmp equal_number order_of n (λ o. o.number == n) (λ e. same_number e.0 n) l
 
 -- ---- kept keys
 

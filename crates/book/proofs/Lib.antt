@@ -27,7 +27,7 @@ pub mod Whole
 pub mod Numbers
 pub mod SumsOnFields
 pub mod Found
-pub mod Placing
+pub mod Putting
 pub mod Allowed
 pub mod Viewed
 pub mod Checked
@@ -47,4 +47,5 @@ pub mod Chosen
 pub mod Made
 pub mod After
 pub mod Copied
+pub mod Counted
 pub mod NextRows

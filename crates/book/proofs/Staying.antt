@@ -45,7 +45,7 @@ both_true false b e h = e
 pub equal_name : (f g : Name) → name_cmp f g ≡ Equal → same_name f g ≡ true
 equal_name f g e = let p = both_equal _ _ e in both_true _ _ (equal_text f.branch g.branch p.0) (equal_text f.article g.article p.1)
 
-equal_number : (a b : ℕ) → nat_cmp a b ≡ Equal → a ≡ b
+pub equal_number : (a b : ℕ) → nat_cmp a b ≡ Equal → a ≡ b
 equal_number a b e = subst (λ r. MatchOrdering r (a < b) (a ≡ b) (b < a)) e (ranks a b)
 
 pub other_number : (n m : ℕ) → (m == n) ≡ false → nat_cmp n m ≡ Equal → ⊥

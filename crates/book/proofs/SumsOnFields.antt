@@ -249,7 +249,7 @@ lines-none Committed f = refl
 lines-none Aborted f = refl
 
 -- one order more
-pub order-step : (os : List OrderEntry) (i : ℕ) (o : OrderEntry) → i < length os → o ≡ get_or os i o → (f : Name) → plus (numbers_on [] (take i os) f) (lines_numbers o.state o.lines.items f) ≡ numbers_on [] (take (i + 1) os) f
+pub order-step : (os : List (ℕ × OrderEntry)) (i : ℕ) (o : ℕ × OrderEntry) → i < length os → o ≡ get_or os i o → (f : Name) → plus (numbers_on [] (take i os) f) (lines_numbers o.1.state o.1.lines.items f) ≡ numbers_on [] (take (i + 1) os) f
 order-step os i o h e f =
     let moved = total-step (moved_by_order f) os i o h e in
     let takes = total-step (taken_by_order f) os i o h e in
@@ -261,7 +261,7 @@ pub each-more : {X : Type 0} (P : X → Type 0) (xs : List X) (i : ℕ) (x : X) 
 each-more P xs i x h e so_far here = subst (Each P) (sym (take-step xs i x h e)) (each-of-push P (take i xs) x so_far here)
 
 -- the moves' sums, and then the orders', from nothing
-pub added-all : (ms : List MoveEntry) (os : List OrderEntry) (fs : List (Name × FieldEntry)) → added (numbers_on [] os) fs (added (numbers_on ms []) fs (map (λ f. nothing) fs)) ≡ map (λ f. numbers_on ms os (entry_name f)) fs
+pub added-all : (ms : List MoveEntry) (os : List (ℕ × OrderEntry)) (fs : List (Name × FieldEntry)) → added (numbers_on [] os) fs (added (numbers_on ms []) fs (map (λ f. nothing) fs)) ≡ map (λ f. numbers_on ms os (entry_name f)) fs
 added-all ms os fs = added-twice (numbers_on ms []) (numbers_on [] os) (numbers_on ms os) (λ f. same-numbers _ _ (omega (arith, ints)) (omega (arith, ints)) (omega (arith, ints))) fs (map (λ f. nothing) fs) ∙ added-to_nothing (numbers_on ms os) fs
 
 -- nothing is small

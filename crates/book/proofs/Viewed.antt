@@ -1,7 +1,7 @@
 -- The numbers that a book shows of its fields.
-use Rattle.std.proofs.Common.{◌≡◌, ℕ, suc, ◌<◌, pos, ◌+ℤ◌, ◌-ℤ◌, ◌≤ℤ◌, List, [], ◌∷◌, find, get_or, length, option_map, slice_get, Bool, true, false, Some, is_some, refl, sym, ap, ◌∙◌, arith, if◌then◌else◌, true≢false}
+use Rattle.std.proofs.Common.{◌≡◌, ℕ, suc, pos, ◌+ℤ◌, ◌-ℤ◌, ◌≤ℤ◌, List, [], ◌∷◌, find, option_map, slice_get, Bool, true, false, Some, is_some, sym, ap, ◌∙◌, arith, if◌then◌else◌, true≢false}
 use Rattle.std.proofs.lemmas.Int.{ints}
-use Rattle.std.proofs.lemmas.Option.{get_or_from_slice_get, slice_get-map, slice_get_read, slice_get_within}
+use Rattle.std.proofs.lemmas.Option.{get_or_from_slice_get, slice_get-map, slice_get_within}
 use Rattle.std.specs.List.{Contains}
 use Rattle.escrow.specs.declared.limits.TheConstants.{MAX_LEVEL}
 use Rattle.book.specs.declared.book.Book.TheInside.{Inside}

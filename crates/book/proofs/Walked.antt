@@ -1,8 +1,11 @@
 -- A walk over a list, one element at a time.
-use Rattle.std.proofs.Common.{◌≡◌, ℕ, ◌+◌, ◌<◌, ◌≤◌, ℤ, pos, ◌+ℤ◌, nat_abs, List, [], ◌∷◌, ◌++◌, map, take, drop, length, get_or, sym, ap, ◌∙◌, subst, arith, if◌then◌else◌, nat_cmp, Less}
+use Rattle.std.proofs.Common.{◌≡◌, ℕ, ◌+◌, ◌<◌, ◌≤◌, ℤ, pos, ◌+ℤ◌, nat_abs, List, [], ◌∷◌, ◌++◌, Bool, Some, append-nil, false, filter, map, slice_get, take, true, drop, length, get_or, refl, sym, ap, ◌∙◌, subst, arith, if◌then◌else◌, nat_cmp, Less}
 use Rattle.std.proofs.lemmas.Int.{ints}
 use Rattle.std.proofs.lemmas.List.{take-append-drop, take_all}
 use Rattle.std.proofs.lemmas.Grind.{take_at_read}
+use Rattle.std.proofs.lemmas.List.{map-append}
+use Rattle.std.proofs.lemmas.List.Elements.{filter-append}
+use Rattle.std.proofs.lemmas.Option.{get_or_from_slice_get, slice_get_within}
 use Rattle.std.specs.List.{AllByRecursion as Each}
 use Rattle.std.specs.List.Sorted.{IsStrictlySortedBy}
 use Rattle.escrow.specs.Ranges.{IsQty}
@@ -76,17 +79,36 @@ few_moves b g =
 pub small_moves : (A : Ledger) (ms : List MoveEntry) → Each (IsGoodMove A) (map move_of ms) → Each (λ m. IsQty (nat_abs m.amount)) ms
 small_moves A ms k = each-imp (λ m x. x.size) ms (each-unmap (IsGoodMove A) move_of ms k)
 
-pub short_orders : (A : Ledger) (os : List OrderEntry) → Each (IsGoodOrder A) (map order_of os) → Each (λ o. length o.lines.items ≤ MAX_ORDER_LINES) os
+pub short_orders : (A : Ledger) (os : List (ℕ × OrderEntry)) → Each (IsGoodOrder A) (map order_of os) → Each (λ o. length o.1.lines.items ≤ MAX_ORDER_LINES) os
 short_orders A os k = each-imp (λ o x. x.few) os (each-unmap (IsGoodOrder A) order_of os k)
 
-pub settled-walk : (b : Inside) (f : Field) (n : Name) → f.name ≡ n → settled (ledger_of b) f ≡ pos f.start +ℤ (total (moved_by_move n) b.moves.items +ℤ total (moved_by_order n) b.orders.items)
-settled-walk b f n e = subst (λ n. settled (ledger_of b) f ≡ pos f.start +ℤ (total (moved_by_move n) b.moves.items +ℤ total (moved_by_order n) b.orders.items)) e
+pub settled-walk : (b : Inside) (f : Field) (n : Name) → f.name ≡ n → settled (ledger_of b) f ≡ pos f.start +ℤ (total (moved_by_move n) b.moves.items +ℤ total (moved_by_order n) b.orders.entries)
+settled-walk b f n e = subst (λ n. settled (ledger_of b) f ≡ pos f.start +ℤ (total (moved_by_move n) b.moves.items +ℤ total (moved_by_order n) b.orders.entries)) e
     (let x : total (λ m. if same_name f.name m.field then m.amount else pos 0) (map move_of b.moves.items) ≡ total (moved_by_move f.name) b.moves.items = total-map _ move_of b.moves.items in
-    let y : total (λ o. if is_committed o then moved f.name (λ l. l.used) o else pos 0) (map order_of b.orders.items) ≡ total (moved_by_order f.name) b.orders.items = total-map _ order_of b.orders.items in
+    let y : total (λ o. if is_committed o then moved f.name (λ l. l.used) o else pos 0) (map order_of b.orders.entries) ≡ total (moved_by_order f.name) b.orders.entries = total-map _ order_of b.orders.entries in
     omega (arith, ints))
 
-pub held_to_take-walk : (b : Inside) (n : Name) → held_to_take (ledger_of b) n ≡ total (taken_by_order n) b.orders.items
-held_to_take-walk b n = total-map _ order_of b.orders.items
+pub held_to_take-walk : (b : Inside) (n : Name) → held_to_take (ledger_of b) n ≡ total (taken_by_order n) b.orders.entries
+held_to_take-walk b n = total-map _ order_of b.orders.entries
 
-pub held_to_add-walk : (b : Inside) (n : Name) → held_to_add (ledger_of b) n ≡ total (added_by_order n) b.orders.items
-held_to_add-walk b n = total-map _ order_of b.orders.items
+pub held_to_add-walk : (b : Inside) (n : Name) → held_to_add (ledger_of b) n ≡ total (added_by_order n) b.orders.entries
+held_to_add-walk b n = total-map _ order_of b.orders.entries
+
+-- those that pass, with an element more
+passed-step : {X Y : Type 0} (view : X → Y) (p : Y → Bool) (xs : List X) (i : ℕ) (x : X) → slice_get xs i ≡ Some x → filter p (map view (take (i + 1) xs)) ≡ filter p (map view (take i xs)) ++ filter p (view x ∷ [])
+passed-step view p xs i x read =
+    ap (λ ys. filter p (map view ys)) (take-step xs i x (slice_get_within xs i x read) (sym (get_or_from_slice_get xs i x x read)))
+    ∙ ap (filter p) (map-append view (take i xs) (x ∷ []))
+    ∙ filter-append p (map view (take i xs)) (view x ∷ [])
+
+one-passed : {Y : Type 0} (p : Y → Bool) (y : Y) → p y ≡ true → filter p (y ∷ []) ≡ y ∷ []
+one-passed p y h = rw h refl
+
+none-passed : {Y : Type 0} (p : Y → Bool) (y : Y) → p y ≡ false → filter p (y ∷ []) ≡ []
+none-passed p y h = rw h refl
+
+pub passed-yes : {X Y : Type 0} (view : X → Y) (p : Y → Bool) (xs : List X) (i : ℕ) (x : X) → slice_get xs i ≡ Some x → p (view x) ≡ true → filter p (map view (take (i + 1) xs)) ≡ filter p (map view (take i xs)) ++ view x ∷ []
+passed-yes view p xs i x read h = passed-step view p xs i x read ∙ ap (λ ys. filter p (map view (take i xs)) ++ ys) (one-passed p (view x) h)
+
+pub passed-no : {X Y : Type 0} (view : X → Y) (p : Y → Bool) (xs : List X) (i : ℕ) (x : X) → slice_get xs i ≡ Some x → p (view x) ≡ false → filter p (map view (take (i + 1) xs)) ≡ filter p (map view (take i xs))
+passed-no view p xs i x read h = passed-step view p xs i x read ∙ ap (λ ys. filter p (map view (take i xs)) ++ ys) (none-passed p (view x) h) ∙ append-nil (filter p (map view (take i xs)))

@@ -41,7 +41,7 @@ whole_from_good A g = record {
 pub on_fields_from_good : (e : Entries) → Good (told_ledger e) → AreOnFields e.fields.items e.moves.items e.orders.items
 on_fields_from_good e g = let A : Ledger = told_ledger e in (
   each-imp (λ m x. x.field) e.moves.items (each-unmap (IsGoodMove A) move_of e.moves.items g.moves),
-  each-imp (λ o x. each-imp (λ l y. y.field) o.lines.items x.lines) e.orders.items (each-unmap (IsGoodOrder A) order_of e.orders.items g.orders),
+  each-imp (λ o x. each-imp (λ l y. y.field) o.1.lines.items x.lines) e.orders.items (each-unmap (IsGoodOrder A) order_of e.orders.items g.orders),
 )
 
 -- ---- what is whole, in form and on fields

@@ -47,7 +47,7 @@ is_touched (Deliver b a q) o = false
 is_touched (Writeoff b a q) o = false
 
 -- what an order adds to a sum, where it stays as it was
-abbrev pub part_left : (OrderEntry → ℤ) → Command → OrderEntry → ℤ
+abbrev pub part_left : (ℕ × OrderEntry → ℤ) → Command → ℕ × OrderEntry → ℤ
 part_left part c o = if is_touched c (order_of o) then pos 0 else part o
 
 -- what the command itself moves on the field

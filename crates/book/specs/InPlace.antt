@@ -1,5 +1,5 @@
 -- How lines and orders change in place, and when they may.
-use Rattle.std.specs.Prelude.{ℕ, ◌+◌, ◌<◌, ◌≤◌, ◌≡◌, ◌==◌, ◌||◌, true, List, [], ◌∷◌, ◌++◌, MatchOption, None, Option, Some, find, if◌then◌else◌, is_some, map}
+use Rattle.std.specs.Prelude.{ℕ, ◌+◌, ◌<◌, ◌≤◌, ◌≡◌, ◌&&◌, ◌||◌, nat_le, true, List, [], ◌∷◌, ◌++◌, MatchOption, None, Option, Some, find, if◌then◌else◌, is_some, map}
 use Rattle.std.specs.List.{AllByRecursion as Each}
 use Rattle.std.specs.Vec.{vec_capacity, vec_len}
 use Rattle.escrow.specs.Ranges.{IsLevel}
@@ -13,8 +13,7 @@ use Rattle.book.specs.declared.book.changes.OrderChange.TheVariants.{ChangeLines
 use Rattle.book.specs.declared.entries.OrderEntry.{OrderEntry}
 use Rattle.book.specs.declared.order.Line.{Line}
 use Rattle.book.specs.declared.order.State.TheVariants.{Aborted, Committed}
-use Rattle.book.specs.Ledger.{Order, line_name, on, transfer_kind, name_of}
-use Rattle.book.specs.View.{order_room}
+use Rattle.book.specs.Ledger.{Order, line_name, name_of, on, open_state, transfer_kind}
 use Rattle.book.specs.Next.{add_hold, change_lines, lower_held, new_line, raise_held, raise_used, set_state}
 
 abbrev pub changed_line : LineChange → Line → Line
@@ -54,6 +53,6 @@ order_change_of (command.Commit n) = Some (n, End Committed)
 order_change_of (command.Abort n) = Some (n, End Aborted)
 order_change_of c = None
 
--- an order under that number, if there is one, takes a line more without memory
-abbrev pub LineMayCome : ℕ → List OrderEntry → Type 0
-LineMayCome n orders = Each (λ o. (o.number == n) ≡ true → 1 ≤ (order_room o).lines) orders
+-- an order once its moment has come, and else as it was
+abbrev pub expired_entry : ℕ → OrderEntry → OrderEntry
+expired_entry now e = if open_state e.state && nat_le e.until now then record e { state = Aborted } else e

@@ -1,21 +1,24 @@
 -- Plans of accepted requests, and what carrying one out needs.
-use Rattle.std.specs.Prelude.{ℕ, ◌+◌, ◌≤◌, ◌≡◌, ◌==◌, true, List, [], ◌∷◌}
-use Rattle.std.specs.List.{AllByRecursion as Each}
+use Rattle.std.specs.Prelude.{ℕ, ◌+◌, ◌≤◌, ◌≡◌, List, [], ◌∷◌, Option}
 use Rattle.words.specs.declared.command.Command.{Command}
 use Rattle.words.specs.declared.command.Command.TheVariants as command
 use Rattle.words.specs.declared.command.Request.{Request}
 use Rattle.words.specs.declared.open_line.OpenLine.{OpenLine}
+use Rattle.book.specs.After.{order_after}
 use Rattle.book.specs.Answers.{IsAccepted}
 use Rattle.book.specs.Changes.{changed_rows, put_content}
-use Rattle.book.specs.Ledger.{Ledger, places}
+use Rattle.book.specs.Ledger.{Ledger, Order, places}
 use Rattle.book.specs.Next.{accept, transfer_lines}
 use Rattle.book.specs.Rows.{Content, IsRowsOf, desk_row}
-use Rattle.book.specs.View.{BookView, OrderRoom}
+use Rattle.book.specs.View.{BookView}
 
--- a plan as it is seen: the request that it carries out, the place that its command gets, and the rows that change
+-- a plan as it is seen: the request that it carries out, the place that its command gets, the order that it makes, and
+-- the rows that change
 pub record PlanView : Type 0 where
   pub request : Request
   pub place : ℕ
+  -- the order that the command opens or changes, as it is then
+  pub made : Option Order
   pub changes : Content
 
 -- The rows are those that the request changes.
@@ -27,10 +30,12 @@ pub record ChangesTo (A : Ledger) (r : Request) (rows : Content) : Type 0 where
   -- the desk row is the next ledger's
   pub desk : rows.desk ≡ desk_row (accept A r) ∷ []
 
--- The plan fits the ledger: its request is accepted there, at that place, and its rows are those that change.
+-- The plan fits the ledger: its request is accepted there, at that place, makes that order, and its rows are those that
+-- change.
 pub record Fits (A : Ledger) (plan : PlanView) : Type 0 where
   pub accepted : IsAccepted A plan.request
   pub place : plan.place ≡ places A + 1
+  pub made : plan.made ≡ order_after A plan.request.command
   pub changes : ChangesTo A plan.request plan.changes
 
 -- the lines of the order that a command opens
@@ -39,22 +44,12 @@ opened_lines (command.Open n until lines) = lines
 opened_lines (command.Transfer n until a from to q) = transfer_lines a from to q
 opened_lines c = []
 
--- room for a line more of the order under that number, if there is one
-abbrev pub LineFits : ℕ → List OrderRoom → Type 0
-LineFits n rooms = Each (λ o. (o.number == n) ≡ true → 1 ≤ o.lines) rooms
-
--- room for a line more of the order that may get one
-abbrev pub LinesFit : Command → List OrderRoom → Type 0
-LinesFit (command.More n way b a q) rooms = LineFits n rooms
-LinesFit c rooms = Unit {0}
-
--- The book has room for the plan: for an entry more of each kind, and for a line.
+-- The book has room for the plan: for an entry more of each kind.
 pub record HasRoomFor (book : BookView) (plan : PlanView) : Type 0 where
   pub fields : 1 ≤ book.room.fields
   pub moves : 1 ≤ book.room.moves
   pub orders : 1 ≤ book.room.orders
   pub kept : 1 ≤ book.room.kept
-  pub lines : LinesFit plan.request.command book.room.lines
 
 -- The room that there was for any plan is still there.
 abbrev pub KeepsRoom : BookView → BookView → Type 0

@@ -15,7 +15,7 @@ use Rattle.book.specs.View.{field_of, move_of}
 use Rattle.book.specs.Walk.{added_by_line, added_by_order, moved_by_line, moved_by_move, moved_by_order, nothing, plus, taken_by_line, taken_by_order}
 
 -- what the moves and the orders add up to on the field
-abbrev pub numbers_on : List MoveEntry → List OrderEntry → Name → Numbers
+abbrev pub numbers_on : List MoveEntry → List (ℕ × OrderEntry) → Name → Numbers
 numbers_on ms os f = record {
   moved = total (moved_by_move f) ms +ℤ total (moved_by_order f) os;
   takes = total (taken_by_order f) os;
@@ -54,11 +54,11 @@ abbrev pub AreLinesOnFields : List (Name × FieldEntry) → List Line → Type 0
 AreLinesOnFields fs ls = Each (λ l. IsField fs (line_name l)) ls
 
 -- each line of each order is on a field, whether the order is open or has ended
-abbrev pub AreOrdersOnFields : List (Name × FieldEntry) → List OrderEntry → Type 0
-AreOrdersOnFields fs os = Each (λ o. AreLinesOnFields fs o.lines.items) os
+abbrev pub AreOrdersOnFields : List (Name × FieldEntry) → List (ℕ × OrderEntry) → Type 0
+AreOrdersOnFields fs os = Each (λ o. AreLinesOnFields fs o.1.lines.items) os
 
 -- each move, and each line of each order, is on a field
-abbrev pub AreOnFields : List (Name × FieldEntry) → List MoveEntry → List OrderEntry → Type 0
+abbrev pub AreOnFields : List (Name × FieldEntry) → List MoveEntry → List (ℕ × OrderEntry) → Type 0
 AreOnFields fs ms os = AreMovesOnFields fs ms × AreOrdersOnFields fs os
 
 -- ---- numbers added to numbers

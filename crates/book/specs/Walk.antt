@@ -29,16 +29,16 @@ abbrev pub added_by_line : Name → Line → ℤ
 added_by_line f l = if on f l then pos (if_add l.way l.held) else pos 0
 
 -- what an order has moved, if it is committed
-abbrev pub moved_by_order : Name → OrderEntry → ℤ
-moved_by_order f o = if committed_state o.state then total (moved_by_line f) o.lines.items else pos 0
+abbrev pub moved_by_order : Name → ℕ × OrderEntry → ℤ
+moved_by_order f o = if committed_state o.1.state then total (moved_by_line f) o.1.lines.items else pos 0
 
 -- what an order holds to take, if it is open
-abbrev pub taken_by_order : Name → OrderEntry → ℤ
-taken_by_order f o = if open_state o.state then total (taken_by_line f) o.lines.items else pos 0
+abbrev pub taken_by_order : Name → ℕ × OrderEntry → ℤ
+taken_by_order f o = if open_state o.1.state then total (taken_by_line f) o.1.lines.items else pos 0
 
 -- what it holds to add, if it is open
-abbrev pub added_by_order : Name → OrderEntry → ℤ
-added_by_order f o = if open_state o.state then total (added_by_line f) o.lines.items else pos 0
+abbrev pub added_by_order : Name → ℕ × OrderEntry → ℤ
+added_by_order f o = if open_state o.1.state then total (added_by_line f) o.1.lines.items else pos 0
 
 -- ---- numbers together
 

@@ -5,7 +5,7 @@ ghost use Rattle.book.specs.Ledger.{new_ledger};
 
 use crate::entries::{FieldEntry, KeptEntry, MoveEntry, OrderEntry};
 use crate::in_order::InOrder;
-use escrow::{FieldName, Key, Moment};
+use escrow::{FieldName, Key, Moment, OrderNo};
 use std::alloc::Global;
 use std::marker::Model;
 
@@ -39,7 +39,7 @@ pub struct Book {
     clock: Moment,
     fields: InOrder<FieldName, FieldEntry>,
     moves: Vec<MoveEntry>,
-    orders: Vec<OrderEntry>,
+    orders: InOrder<OrderNo, OrderEntry>,
     kept: InOrder<Key, KeptEntry>,
 }
 
@@ -63,7 +63,7 @@ impl Book {
             clock: Moment::first(),
             fields: InOrder::new(alloc),
             moves: Vec::new(alloc),
-            orders: Vec::new(alloc),
+            orders: InOrder::new(alloc),
             kept: InOrder::new(alloc),
         }
     }

@@ -24,12 +24,14 @@ pub struct MoveEntry {
 /// An order, open or ended.
 #[derive(Debug, Drop)]
 pub struct OrderEntry {
-    pub number: OrderNo,
     pub kind: Kind,
     pub until: Moment,
     pub state: State,
     pub lines: Vec<Line>,
 }
+
+/// An order under its number.
+pub type Order = (OrderNo, OrderEntry);
 
 /// What is kept under an accepted key: its place and its command.
 #[derive(Debug, Drop)]

@@ -99,6 +99,7 @@ impl<K: Ord, V> InOrder<K, V> {
     pub fn get_mut(&mut self, key: &K) -> Option<&mut V>
         ensures* writes { sem 𝓛 (LendsUnder K.row V.row K.Ord self.entry (is_at (K.cmp key.now)) result) }
         ensures value { option_copied_mut result ≡ lookup (is_at (K.cmp key.now)) self.old.entries }
+        ensures rising { IsStrictlySortedBy K.cmp (keys_of self.old.entries) }
     {
         match self.place(key) {
             Ok(place) => Some(self.nth_mut(place)),
@@ -171,6 +172,21 @@ impl<K: Ord, V> InOrder<K, V> {
         let Ok(()) = self.entries.insert(len, (key, value)) else {
             unreachable!()
         };
+    }
+
+    /// Puts an entry in: in place of the one under its key, or else at its place. Takes no memory.
+    pub fn put(&mut self, key: K, value: V)
+    where
+        K: Drop,
+        V: Drop,
+        requires { 1 ≤ self.old.room }
+        ensures entries { self.new.entries ≡ insert_entry K.cmp self.old.entries key value }
+        ensures room { self.old.room ≤ self.new.room + 1 }
+    {
+        match self.get_mut(&key) {
+            Some(there) => *there = value,
+            None => self.insert(key, value),
+        }
     }
 
     /// Entries that stand in the order of their keys.

@@ -1,39 +1,36 @@
 //! Plans of accepted requests.
 
-ghost use Rattle.std.specs.Prelude.{◌≡◌, IfOk, map};
-ghost use Rattle.book.specs.Next.{new_line};
-ghost use Rattle.book.specs.Plans.{PlanView, opened_lines};
+ghost use Rattle.std.specs.Prelude.{◌≡◌, option_map};
+ghost use Rattle.book.specs.Plans.{PlanView};
 ghost use Rattle.book.specs.Tables.{rows_among};
-ghost use Rattle.words.specs.declared.command.Command.{Command};
+ghost use Rattle.book.specs.View.{order_of};
 
-use crate::order::Line;
+use crate::entries::Order;
 use crate::rows::Change;
 use escrow::Key;
 use std::marker::Model;
 use words::Command;
 
-/// An accepted request with its place, the rows that it changes, and the lines of the order that it opens.
+/// An accepted request with its place, the order that it opens or changes, and the rows that it changes.
 /// `Book::plan` gives one that fits the book's ledger.
 #[derive(Debug, Drop)]
 pub struct Plan {
     key: Key,
     command: Command,
     place: u64,
-    lines: Vec<Line>,
+    made: Option<Order>,
     changes: Vec<Change>,
 }
 
 impl Model for Plan {
-    ghost use Rattle.std.specs.Prelude.{◌≡◌, map};
-    ghost use Rattle.book.specs.Next.{new_line};
-    ghost use Rattle.book.specs.Plans.{PlanView, opened_lines};
+    ghost use Rattle.std.specs.Prelude.{option_map};
+    ghost use Rattle.book.specs.Plans.{PlanView};
     ghost use Rattle.book.specs.Tables.{rows_among};
+    ghost use Rattle.book.specs.View.{order_of};
 
     ghost Value = { PlanView };
 
-    ghost view = { λ p. record { request = record { key = p.key; command = p.command }; place = p.place; changes = rows_among p.changes.items } };
-
-    ghost invariant = { λ p. p.lines.items ≡ map new_line (opened_lines p.command) };
+    ghost view = { λ p. record { request = record { key = p.key; command = p.command }; place = p.place; made = option_map order_of p.made; changes = rows_among p.changes.items } };
 }
 
 impl Plan {
@@ -41,20 +38,20 @@ impl Plan {
         key: Key,
         command: Command,
         place: u64,
-        lines: Vec<Line>,
+        made: Option<Order>,
         changes: Vec<Change>,
     ) -> Plan
-        requires { lines.items ≡ map new_line (opened_lines command) }
         ensures key { result.request.key ≡ key }
         ensures command { result.request.command ≡ command }
         ensures place { result.place ≡ place }
+        ensures made { result.made ≡ option_map order_of made }
         ensures changes { result.changes ≡ rows_among changes.items }
     {
         Plan {
             key,
             command,
             place,
-            lines,
+            made,
             changes,
         }
     }
@@ -74,20 +71,13 @@ impl Plan {
         &self.changes
     }
 
-    /// The command.
-    pub(crate) fn command(&self) -> &Command
-        ensures { result.now ≡ self.now.request.command }
-    {
-        &self.command
-    }
-
-    /// The key, the command, the place and the lines of the order that the command opens.
-    pub(crate) fn into_parts(self) -> (Key, Command, u64, Vec<Line>)
+    /// The key, the command, the place and the order that the command opens or changes.
+    pub(crate) fn into_parts(self) -> (Key, Command, u64, Option<Order>)
         ensures key { result.0 ≡ self.request.key }
         ensures command { result.1 ≡ self.request.command }
         ensures place { result.2 ≡ self.place }
-        ensures lines { result.3.items ≡ map new_line (opened_lines self.request.command) }
+        ensures made { option_map order_of result.3 ≡ self.made }
     {
-        (self.key, self.command, self.place, self.lines)
+        (self.key, self.command, self.place, self.made)
     }
 }

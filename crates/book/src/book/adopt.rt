@@ -1,48 +1,43 @@
 //! Plans carried out.
 
-ghost use Rattle.std.specs.Prelude.{◌≡◌, ◌<◌, ◌≤◌, ◌+◌, ◌==◌, None, true, ℕ, List, IsSomeAnd, IsTrue, Some, find, map};
-ghost use Rattle.std.specs.List.{AllByRecursion as Each};
+ghost use Rattle.std.specs.Prelude.{◌≡◌, ◌<◌, ◌≤◌, ◌+◌, None, ℕ, List, IsSomeAnd, IsTrue, find, map, option_map};
+ghost use Rattle.std.specs.BTreeMap.{insert_entry};
+ghost use Rattle.std.specs.Ordering.{nat_cmp};
 ghost use Rattle.std.specs.Vec.{vec_capacity, vec_len};
 ghost use Rattle.words.specs.declared.command.Command.TheVariants.{Commit, Field};
+ghost use Rattle.book.specs.After.{order_after};
+ghost use Rattle.book.specs.Answers.{FirstFailure, checks};
 ghost use Rattle.book.specs.Future.{Honours, HonoursAlways};
 ghost use Rattle.book.specs.Good.{Good};
 ghost use Rattle.book.specs.Ledger.{Ledger, is_transfer, name_of, order_numbered, places, same_name};
 ghost use Rattle.book.specs.Outcomes.{article_total};
 ghost use Rattle.book.specs.declared.order.State.TheVariants as State;
-ghost use Rattle.book.specs.declared.book.changes.OrderChange.{OrderChange};
-ghost use Rattle.book.specs.InPlace.{MayChangeOrder, order_change_of};
-ghost use Rattle.book.specs.Next.{accept, new_line, next};
-ghost use Rattle.book.specs.Plans.{Fits, HasRoomFor, opened_lines};
+ghost use Rattle.book.specs.InPlace.{order_change_of};
+ghost use Rattle.book.specs.Next.{accept, next};
+ghost use Rattle.book.specs.Plans.{Fits, HasRoomFor};
 ghost use Rattle.book.specs.View.{field_of, move_of, order_of};
 
 use super::Book;
-use super::changes::{LineChange, OrderChange, change_numbered_order, expire_orders};
-use super::insert::{insert_field, insert_kept, insert_order, push_move};
-use crate::entries::{FieldEntry, KeptEntry, MoveEntry, OrderEntry};
+use super::changes::{LineChange, OrderChange, expire_orders};
+use super::insert::{insert_field, insert_kept, push_move};
+use crate::entries::{FieldEntry, KeptEntry, MoveEntry, Order, OrderEntry};
 use crate::in_order::InOrder;
 use crate::order::{Kind, Line, State};
 use crate::plan::Plan;
 use escrow::{FieldName, Moment, OrderNo};
-use std::mem;
 use words::{Command, OpenLine};
 
-/// An open order, which gets these lines.
-pub(super) fn opened(
-    number: OrderNo,
-    kind: Kind,
-    until: Moment,
-    lines: &mut Vec<Line>,
-) -> OrderEntry
-    ensures { order_of result ≡ record { number = number; kind = kind; until = until; state = State.Open; lines = lines.old.items } }
+/// An open order of these lines.
+pub(super) fn opened(number: OrderNo, kind: Kind, until: Moment, lines: Vec<Line>) -> Order
+    ensures { order_of result ≡ record { number = number; kind = kind; until = until; state = State.Open; lines = lines.items } }
 {
-    let empty = Vec::new(*lines.allocator());
-    OrderEntry {
-        number,
+    let entry = OrderEntry {
         kind,
         until,
         state: State::Open,
-        lines: mem::replace(lines, empty),
-    }
+        lines,
+    };
+    (number, entry)
 }
 
 /// The order that the command changes, and how; none for a command that changes no one order.
@@ -134,24 +129,25 @@ fn adopt_stock(
     }
 }
 
-/// The orders once the command is carried out; one that it opens gets these lines.
-fn adopt_orders(orders: &mut Vec<OrderEntry>, lines: &mut Vec<Line>, command: &Command)
-    requires room { vec_len orders.old < vec_capacity orders.old }
-    requires lines { lines.old.items ≡ map new_line (opened_lines command.now) }
-    requires change { (change : ℕ × OrderChange) → order_change_of command.now ≡ Some change → Each (λ o. (o.number == change.0) ≡ true → MayChangeOrder change.1 o) orders.old.items }
-    ensures { (A : Ledger) → map order_of orders.old.items ≡ A.orders → map order_of orders.new.items ≡ (next A command.now).orders }
+/// Puts the order in by its number.
+fn put_order(orders: &mut InOrder<OrderNo, OrderEntry>, order: Order)
+    requires { 1 ≤ orders.old.room }
+    ensures { orders.new.entries ≡ insert_entry nat_cmp orders.old.entries order.0 order.1 }
+{
+    let (number, entry) = order;
+    orders.put(number, entry);
+}
+
+/// The orders once the command is carried out, with the order that it makes.
+fn adopt_orders(orders: &mut InOrder<OrderNo, OrderEntry>, made: Option<Order>, command: &Command)
+    requires room { 1 ≤ orders.old.room }
+    ensures { (A : Ledger) → Good A → FirstFailure (checks A command.now) None → map order_of orders.old.entries ≡ A.orders → option_map order_of made ≡ order_after A command.now → map order_of orders.new.entries ≡ (next A command.now).orders }
 {
     match command {
-        Command::Open { number, until, .. } => {
-            insert_order(orders, opened(*number, Kind::Plain, *until, lines));
-        }
-        Command::Transfer { number, until, .. } => {
-            insert_order(orders, opened(*number, Kind::Transfer, *until, lines));
-        }
         Command::Expire { now } => expire_orders(orders, *now),
         _ => {
-            if let Some(change) = order_change(command) {
-                change_numbered_order(orders, change);
+            if let Some(order) = made {
+                put_order(orders, order);
             }
         }
     }
@@ -168,12 +164,12 @@ impl Book {
         ensures honours { Honours self.new.ledger × HonoursAlways self.new.ledger }
         ensures even { (n : ℕ) (article : List ℕ) → plan.request.command ≡ Commit n → IsSomeAnd (order_numbered self.old.ledger n) (λ o. IsTrue (is_transfer o)) → article_total self.new.ledger article ≡ article_total self.old.ledger article }
     {
-        let (key, command, place, mut lines) = plan.into_parts();
+        let (key, command, place, made) = plan.into_parts();
         key.as_bytes();
         command.in_range();
         self.clock = self.clock_after(&command);
         adopt_stock(&mut self.fields, &mut self.moves, place, &command);
-        adopt_orders(&mut self.orders, &mut lines, &command);
+        adopt_orders(&mut self.orders, made, &command);
         insert_kept(&mut self.kept, key, KeptEntry { place, command });
     }
 }

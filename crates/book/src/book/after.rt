@@ -1,7 +1,7 @@
 //! What an accepted command leaves: the order that it opens or changes, and what the entries then add up to on
 //! a field.
 
-ghost use Rattle.std.specs.Prelude.{◌≡◌, ◌+◌, ◌≤◌, ◌<◌, pos, ◌+ℤ◌, nat_abs, length, option_map, IfOk, Some};
+ghost use Rattle.std.specs.Prelude.{◌≡◌, ℕ, ◌+◌, ◌≤◌, ◌<◌, pos, ◌+ℤ◌, nat_abs, length, option_map, IfOk, Some};
 ghost use Rattle.std.specs.List.{AllByRecursion as Each};
 ghost use Rattle.std.specs.Vec.{vec_capacity, vec_len};
 ghost use Rattle.escrow.specs.Ranges.{IsQty};
@@ -24,7 +24,8 @@ use super::changes::{OrderChange, change_order, expires};
 use super::find::is_numbered;
 use super::plan::lines_of;
 use super::walk::{NOTHING, Numbers, moves_on, order_on};
-use crate::entries::{MoveEntry, OrderEntry};
+use crate::entries::{MoveEntry, Order, OrderEntry};
+use crate::in_order::InOrder;
 use crate::limits::MAX_PLACES;
 use crate::order::Kind;
 use escrow::{Article, Branch, OrderNo};
@@ -33,13 +34,12 @@ use words::{Command, Memory, Request};
 
 /// A copy of the order, with room for a line more.
 fn copy_of_order(alloc: Global, entry: &OrderEntry) -> Result<OrderEntry, Memory>
-    ensures same { IfOk result (λ copy. order_of copy ≡ order_of entry.now) }
+    ensures same { IfOk result (λ copy. (n : ℕ) → order_of (n, copy) ≡ order_of (n, entry.now)) }
     ensures room { IfOk result (λ copy. vec_len copy.lines < vec_capacity copy.lines) }
 {
     let mut lines = Vec::from_slice(alloc, &entry.lines).map_err(|_| Memory)?;
     lines.reserve(1).map_err(|_| Memory)?;
     Ok(OrderEntry {
-        number: entry.number,
         kind: entry.kind,
         until: entry.until,
         state: entry.state,
@@ -48,48 +48,54 @@ fn copy_of_order(alloc: Global, entry: &OrderEntry) -> Result<OrderEntry, Memory
 }
 
 /// Whether the command changes the order, or opens one under its number.
-fn is_touched(entry: &OrderEntry, command: &Command) -> bool
-    ensures { result ≡ is_touched command.now (order_of entry.now) }
+fn is_touched(order: &Order, command: &Command) -> bool
+    ensures { result ≡ is_touched command.now (order_of order.now) }
 {
     match command {
         Command::Field { .. } | Command::Deliver { .. } | Command::Writeoff { .. } => false,
         Command::Open { number, .. } | Command::Transfer { number, .. } => {
-            is_numbered(entry, *number)
+            is_numbered(order, *number)
         }
         Command::More { number, .. }
         | Command::Use { number, .. }
-        | Command::Release { number, .. } => is_numbered(entry, *number),
-        Command::Commit { number } | Command::Abort { number } => is_numbered(entry, *number),
-        Command::Expire { now } => expires(entry, *now),
+        | Command::Release { number, .. } => is_numbered(order, *number),
+        Command::Commit { number } | Command::Abort { number } => is_numbered(order, *number),
+        Command::Expire { now } => expires(&order.1, *now),
     }
 }
 
 /// What the order adds up to on the field, where the command leaves it as it is.
-fn other_on(entry: &OrderEntry, command: &Command, branch: Branch, article: Article) -> Numbers
-    requires { length entry.now.lines.items ≤ MAX_ORDER_LINES }
-    ensures moved { result.moved ≡ part_left (moved_by_order (name_of branch article)) command.now entry.now }
-    ensures takes { result.takes ≡ part_left (taken_by_order (name_of branch article)) command.now entry.now }
-    ensures adds { result.adds ≡ part_left (added_by_order (name_of branch article)) command.now entry.now }
+fn other_on(order: &Order, command: &Command, branch: Branch, article: Article) -> Numbers
+    requires { length order.now.1.lines.items ≤ MAX_ORDER_LINES }
+    ensures moved { result.moved ≡ part_left (moved_by_order (name_of branch article)) command.now order.now }
+    ensures takes { result.takes ≡ part_left (taken_by_order (name_of branch article)) command.now order.now }
+    ensures adds { result.adds ≡ part_left (added_by_order (name_of branch article)) command.now order.now }
     ensures small { IsSmall most_of_lines result }
 {
-    if is_touched(entry, command) {
+    if is_touched(order, command) {
         return NOTHING;
     }
-    order_on(entry, branch, article)
+    order_on(order, branch, article)
 }
 
 /// What the orders add up to on the field that the command leaves as they are.
-fn others_on(orders: &[OrderEntry], command: &Command, branch: Branch, article: Article) -> Numbers
-    requires few { length orders.now ≤ MAX_ORDERS }
-    requires short { Each (λ entry. length entry.lines.items ≤ MAX_ORDER_LINES) orders.now }
-    ensures moved { result.moved ≡ total (part_left (moved_by_order (name_of branch article)) command.now) orders.now }
-    ensures takes { result.takes ≡ total (part_left (taken_by_order (name_of branch article)) command.now) orders.now }
-    ensures adds { result.adds ≡ total (part_left (added_by_order (name_of branch article)) command.now) orders.now }
+fn others_on(
+    orders: &InOrder<OrderNo, OrderEntry>,
+    command: &Command,
+    branch: Branch,
+    article: Article,
+) -> Numbers
+    requires few { length orders.now.entries ≤ MAX_ORDERS }
+    requires short { Each (λ order. length order.1.lines.items ≤ MAX_ORDER_LINES) orders.now.entries }
+    ensures moved { result.moved ≡ total (part_left (moved_by_order (name_of branch article)) command.now) orders.now.entries }
+    ensures takes { result.takes ≡ total (part_left (taken_by_order (name_of branch article)) command.now) orders.now.entries }
+    ensures adds { result.adds ≡ total (part_left (added_by_order (name_of branch article)) command.now) orders.now.entries }
     ensures small { IsSmall most_of_orders result }
 {
     let mut sum = NOTHING;
-    for entry in orders {
-        sum = sum.plus(other_on(entry, command, branch, article));
+    for place in 0..orders.len() {
+        let order = orders.entry_at(place);
+        sum = sum.plus(other_on(order, command, branch, article));
     }
     sum
 }
@@ -137,7 +143,7 @@ fn moves_after(moves: &[MoveEntry], command: &Command, branch: Branch, article: 
 }
 
 /// What the order, if there is one, adds up to on the field.
-fn made_on(made: &Option<OrderEntry>, branch: Branch, article: Article) -> Numbers
+fn made_on(made: &Option<Order>, branch: Branch, article: Article) -> Numbers
     requires { IsShort (option_map order_of made.now) }
     ensures moved { result.moved ≡ some_part (moved_part (name_of branch article)) (option_map order_of made.now) }
     ensures takes { result.takes ≡ some_part (taken_part (name_of branch article)) (option_map order_of made.now) }
@@ -145,7 +151,7 @@ fn made_on(made: &Option<OrderEntry>, branch: Branch, article: Article) -> Numbe
     ensures small { IsSmall most_of_lines result }
 {
     match made {
-        Some(entry) => order_on(entry, branch, article),
+        Some(order) => order_on(order, branch, article),
         None => NOTHING,
     }
 }
@@ -156,8 +162,8 @@ impl Book {
         &self,
         alloc: Global,
         change: (OrderNo, OrderChange),
-    ) -> Result<Option<OrderEntry>, Memory>
-        requires { (entry : OrderEntry) → order_numbered self.now.ledger change.0 ≡ Some (order_of entry) → vec_len entry.lines < vec_capacity entry.lines → MayChangeOrder change.1 entry }
+    ) -> Result<Option<Order>, Memory>
+        requires { (entry : OrderEntry) → order_numbered self.now.ledger change.0 ≡ Some (order_of (change.0, entry)) → vec_len entry.lines < vec_capacity entry.lines → MayChangeOrder change.1 entry }
         ensures { IfOk result (λ made. option_map order_of made ≡ option_map (changed_order change.1) (order_numbered self.now.ledger change.0)) }
     {
         let Some(entry) = self.order_entry(change.0) else {
@@ -165,15 +171,11 @@ impl Book {
         };
         let mut copy = copy_of_order(alloc, entry)?;
         change_order(&mut copy, &change.1);
-        Ok(Some(copy))
+        Ok(Some((change.0, copy)))
     }
 
     /// The order that the accepted command opens or changes, as it is then; none where it is about no one order.
-    pub(super) fn order_after(
-        &self,
-        alloc: Global,
-        request: &Request,
-    ) -> Result<Option<OrderEntry>, Memory>
+    fn order_after(&self, alloc: Global, request: &Request) -> Result<Option<Order>, Memory>
         requires accepted { IsAccepted self.now.ledger request.now }
         requires before { Good self.now.ledger }
         requires good { Good (accept self.now.ledger request.now) }
@@ -182,12 +184,12 @@ impl Book {
         let command = &request.command;
         match command {
             Command::Open { number, until, .. } => {
-                let mut lines = lines_of(alloc, command)?;
-                Ok(Some(opened(*number, Kind::Plain, *until, &mut lines)))
+                let lines = lines_of(alloc, command)?;
+                Ok(Some(opened(*number, Kind::Plain, *until, lines)))
             }
             Command::Transfer { number, until, .. } => {
-                let mut lines = lines_of(alloc, command)?;
-                Ok(Some(opened(*number, Kind::Transfer, *until, &mut lines)))
+                let lines = lines_of(alloc, command)?;
+                Ok(Some(opened(*number, Kind::Transfer, *until, lines)))
             }
             _ => match order_change(command) {
                 Some(change) => self.order_changed(alloc, change),
@@ -196,12 +198,27 @@ impl Book {
         }
     }
 
+    /// The same, for a request whose ranges are not yet known.
+    pub(super) fn order_made(
+        &self,
+        alloc: Global,
+        request: &Request,
+    ) -> Result<Option<Order>, Memory>
+        requires { IsAccepted self.now.ledger request.now }
+        ensures { IfOk result (λ made. option_map order_of made ≡ order_after self.now.ledger request.now.command) }
+    {
+        // so that the proof has the invariant
+        let _ = &self.orders;
+        request.in_range();
+        self.order_after(alloc, request)
+    }
+
     /// What the whole ledger adds up to on the field once the accepted command is carried out, with the order
     /// that it makes.
     pub(super) fn numbers_after(
         &self,
         request: &Request,
-        made: &Option<OrderEntry>,
+        made: &Option<Order>,
         branch: Branch,
         article: Article,
     ) -> Numbers

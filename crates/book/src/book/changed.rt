@@ -18,11 +18,12 @@ use super::choose::{changes_line, changes_state, is_transfer};
 use super::row::{
     article_text, branch_text, delivery_row, desk_row, kept_row, line_row, order_row, writeoff_row,
 };
-use crate::entries::{FieldEntry, OrderEntry};
+use crate::entries::{FieldEntry, Order, OrderEntry};
+use crate::in_order::InOrder;
 use crate::limits::MAX_PLACES;
 use crate::order::{Line, State};
 use crate::rows::{Change, FieldRow};
-use escrow::{FieldName, Moment};
+use escrow::{FieldName, Moment, OrderNo};
 use std::alloc::Global;
 use words::{Command, Memory, Request};
 
@@ -34,11 +35,11 @@ fn push(changes: &mut Vec<Change>, change: Change) -> Result<(), Memory>
 }
 
 /// Appends the row of the order, where it expires.
-fn push_expired(changes: &mut Vec<Change>, entry: &OrderEntry, now: Moment) -> Result<(), Memory>
-    ensures { OnOk result (rows_among changes.new.items ≡ with_orders (expired_rows now (order_of entry.now ∷ [])) (rows_among changes.old.items)) }
+fn push_expired(changes: &mut Vec<Change>, order: &Order, now: Moment) -> Result<(), Memory>
+    ensures { OnOk result (rows_among changes.new.items ≡ with_orders (expired_rows now (order_of order.now ∷ [])) (rows_among changes.old.items)) }
 {
-    if expires(entry, now) {
-        push(changes, Change::Order(order_row(entry, State::Aborted)))?;
+    if expires(&order.1, now) {
+        push(changes, Change::Order(order_row(order, State::Aborted)))?;
     }
     Ok(())
 }
@@ -46,13 +47,13 @@ fn push_expired(changes: &mut Vec<Change>, entry: &OrderEntry, now: Moment) -> R
 /// Appends the rows of the orders that expire.
 fn push_all_expired(
     changes: &mut Vec<Change>,
-    orders: &[OrderEntry],
+    orders: &InOrder<OrderNo, OrderEntry>,
     now: Moment,
 ) -> Result<(), Memory>
-    ensures { OnOk result (rows_among changes.new.items ≡ with_orders (expired_rows now (map order_of orders.now)) (rows_among changes.old.items)) }
+    ensures { OnOk result (rows_among changes.new.items ≡ with_orders (expired_rows now (map order_of orders.now.entries)) (rows_among changes.old.items)) }
 {
-    for entry in orders {
-        push_expired(changes, entry, now)?;
+    for place in 0..orders.len() {
+        push_expired(changes, orders.entry_at(place), now)?;
     }
     Ok(())
 }
@@ -61,15 +62,15 @@ fn push_all_expired(
 fn push_order(
     changes: &mut Vec<Change>,
     command: &Command,
-    made: &Option<OrderEntry>,
+    made: &Option<Order>,
 ) -> Result<(), Memory>
     ensures { OnOk result (rows_among changes.new.items ≡ with_orders (own_order_rows command.now (option_map order_of made.now)) (rows_among changes.old.items)) }
 {
-    let Some(entry) = made else {
+    let Some(order) = made else {
         return Ok(());
     };
     if changes_state(command) {
-        push(changes, Change::Order(order_row(entry, entry.state)))?;
+        push(changes, Change::Order(order_row(order, order.1.state)))?;
     }
     Ok(())
 }
@@ -79,15 +80,15 @@ fn push_line(
     alloc: Global,
     changes: &mut Vec<Change>,
     command: &Command,
-    entry: &OrderEntry,
+    order: &Order,
     nr: usize,
     line: &Line,
 ) -> Result<(), Memory>
     requires { nr ≤ MAX_ORDER_LINES }
-    ensures { OnOk result (rows_among changes.new.items ≡ with_lines (line_rows (changes_own_line (is_transfer (order_of entry.now)) command.now) entry.now.number nr (line.now ∷ [])) (rows_among changes.old.items)) }
+    ensures { OnOk result (rows_among changes.new.items ≡ with_lines (line_rows (changes_own_line (is_transfer (order_of order.now)) command.now) order.now.0 nr (line.now ∷ [])) (rows_among changes.old.items)) }
 {
-    if changes_line(command, is_transfer(entry), line) {
-        let row = line_row(alloc, entry.number, nr, line)?;
+    if changes_line(command, is_transfer(order), line) {
+        let row = line_row(alloc, order.0, nr, line)?;
         push(changes, Change::Line(row))?;
     }
     Ok(())
@@ -98,13 +99,13 @@ fn push_lines(
     alloc: Global,
     changes: &mut Vec<Change>,
     command: &Command,
-    entry: &OrderEntry,
+    order: &Order,
 ) -> Result<(), Memory>
-    requires { length entry.now.lines.items ≤ MAX_ORDER_LINES }
-    ensures { OnOk result (rows_among changes.new.items ≡ with_lines (own_line_rows command.now (Some (order_of entry.now))) (rows_among changes.old.items)) }
+    requires { length order.now.1.lines.items ≤ MAX_ORDER_LINES }
+    ensures { OnOk result (rows_among changes.new.items ≡ with_lines (own_line_rows command.now (Some (order_of order.now))) (rows_among changes.old.items)) }
 {
-    for (index, line) in entry.lines.iter().enumerate() {
-        push_line(alloc, changes, command, entry, index + 1, line)?;
+    for (index, line) in order.1.lines.iter().enumerate() {
+        push_line(alloc, changes, command, order, index + 1, line)?;
     }
     Ok(())
 }
@@ -115,13 +116,13 @@ fn push_own_lines(
     alloc: Global,
     changes: &mut Vec<Change>,
     command: &Command,
-    made: &Option<OrderEntry>,
+    made: &Option<Order>,
 ) -> Result<(), Memory>
     requires { IsShort (option_map order_of made.now) }
     ensures { OnOk result (rows_among changes.new.items ≡ with_lines (own_line_rows command.now (option_map order_of made.now)) (rows_among changes.old.items)) }
 {
     match made {
-        Some(entry) => push_lines(alloc, changes, command, entry),
+        Some(order) => push_lines(alloc, changes, command, order),
         None => Ok(()),
     }
 }
@@ -187,7 +188,7 @@ impl Book {
         &self,
         alloc: Global,
         request: &Request,
-        made: &Option<OrderEntry>,
+        made: &Option<Order>,
         entry: &(FieldName, FieldEntry),
     ) -> Result<FieldRow, Memory>
         requires accepted { IsAccepted self.now.ledger request.now }
@@ -216,8 +217,8 @@ impl Book {
         alloc: Global,
         changes: &mut Vec<Change>,
         request: &Request,
-        made: &Option<OrderEntry>,
-        expired: &[&OrderEntry],
+        made: &Option<Order>,
+        expired: &[&Order],
         entry: &(FieldName, FieldEntry),
     ) -> Result<(), Memory>
         requires accepted { IsAccepted self.now.ledger request.now }
@@ -241,8 +242,8 @@ impl Book {
         alloc: Global,
         changes: &mut Vec<Change>,
         request: &Request,
-        made: &Option<OrderEntry>,
-        expired: &[&OrderEntry],
+        made: &Option<Order>,
+        expired: &[&Order],
     ) -> Result<(), Memory>
         requires accepted { IsAccepted self.now.ledger request.now }
         requires good { Good (accept self.now.ledger request.now) }
@@ -263,7 +264,7 @@ impl Book {
         alloc: Global,
         changes: &mut Vec<Change>,
         request: &Request,
-        made: &Option<OrderEntry>,
+        made: &Option<Order>,
     ) -> Result<(), Memory>
         requires accepted { IsAccepted self.now.ledger request.now }
         requires good { Good (accept self.now.ledger request.now) }
@@ -298,7 +299,7 @@ impl Book {
         &self,
         changes: &mut Vec<Change>,
         command: &Command,
-        made: &Option<OrderEntry>,
+        made: &Option<Order>,
     ) -> Result<(), Memory>
         requires made { option_map order_of made.now ≡ order_after self.now.ledger command.now }
         ensures { OnOk result (rows_among changes.new.items ≡ with_orders (changed_orders self.now.ledger command.now) (rows_among changes.old.items)) }
@@ -309,23 +310,29 @@ impl Book {
         }
     }
 
-    /// The rows that the accepted request changes, those of each table in the order of its key.
-    pub(super) fn changes_of(&self, alloc: Global, request: &Request) -> Result<Vec<Change>, Memory>
-        requires { IsAccepted self.now.ledger request.now }
+    /// The rows that the accepted request changes, with the order that it makes, those of each table in the order of its
+    /// key.
+    pub(super) fn changes_of(
+        &self,
+        alloc: Global,
+        request: &Request,
+        made: &Option<Order>,
+    ) -> Result<Vec<Change>, Memory>
+        requires accepted { IsAccepted self.now.ledger request.now }
+        requires made { option_map order_of made.now ≡ order_after self.now.ledger request.now.command }
         ensures { IfOk result (λ changes. ChangesTo self.now.ledger request.now (rows_among changes.items)) }
     {
         request.in_range();
         let place = self.kept.len() as u64 + 1;
-        let made = self.order_after(alloc, request)?;
         let expired = self.expired(alloc, &request.command)?;
         let mut changes = Vec::new(alloc);
         let desk = desk_row(self.clock_after(&request.command), place);
         push(&mut changes, Change::Desk(desk))?;
-        self.push_fields(alloc, &mut changes, request, &made, &expired)?;
-        self.push_new_field(alloc, &mut changes, request, &made)?;
+        self.push_fields(alloc, &mut changes, request, made, &expired)?;
+        self.push_new_field(alloc, &mut changes, request, made)?;
         push_move(alloc, &mut changes, place, &request.command)?;
-        self.push_orders(&mut changes, &request.command, &made)?;
-        push_own_lines(alloc, &mut changes, &request.command, &made)?;
+        self.push_orders(&mut changes, &request.command, made)?;
+        push_own_lines(alloc, &mut changes, &request.command, made)?;
         push_kept(alloc, &mut changes, place, request)?;
         Ok(changes)
     }

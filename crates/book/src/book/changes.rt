@@ -1,18 +1,19 @@
 //! Changes of entries in place. None of them takes memory.
 
-ghost use Rattle.std.specs.Prelude.{◌≡◌, ◌<◌, ◌||◌, ◌==◌, true, MatchOption, find, if◌then◌else◌, map};
+ghost use Rattle.std.specs.Prelude.{◌≡◌, ℕ, ◌<◌, ◌&&◌, ◌||◌, nat_le, true, MatchOption, find, if◌then◌else◌, map};
 ghost use Rattle.std.specs.List.{AllByRecursion as Each};
 ghost use Rattle.std.specs.Vec.{vec_capacity, vec_len};
 ghost use Rattle.escrow.specs.Ranges.{IsLevel};
-ghost use Rattle.book.specs.InPlace.{MayChange, MayChangeOrder, changed_line, changed_order, held_lines};
-ghost use Rattle.book.specs.Ledger.{line_name, on, name_of};
+ghost use Rattle.book.specs.InPlace.{MayChange, MayChangeOrder, changed_line, changed_order, expired_entry, held_lines};
+ghost use Rattle.book.specs.Ledger.{line_name, name_of, on, open_state};
 ghost use Rattle.book.specs.declared.book.changes.LineChange.TheVariants as LineChange;
 ghost use Rattle.book.specs.declared.order.State.TheVariants as State;
 ghost use Rattle.book.specs.Next.{expires, new_line, set_state};
 ghost use Rattle.book.specs.View.{order_of};
 
-use super::find::{is_numbered, is_on, line_in};
+use super::find::{is_on, line_in};
 use crate::entries::OrderEntry;
+use crate::in_order::InOrder;
 use crate::order::{Kind, Line, State};
 use escrow::{Article, Branch, Level, Moment, OrderNo, Qty};
 use words::OpenLine;
@@ -131,7 +132,7 @@ pub(super) fn new_line(line: &OpenLine) -> Line
 
 pub(super) fn change_order(order: &mut OrderEntry, change: &OrderChange)
     requires { MayChangeOrder change.now order.old }
-    ensures { order_of order.new ≡ changed_order change.now (order_of order.old) }
+    ensures { (n : ℕ) → order_of (n, order.new) ≡ changed_order change.now (order_of (n, order.old)) }
 {
     match change {
         OrderChange::HoldMore(line) => hold_more(&mut order.lines, line),
@@ -143,43 +144,16 @@ pub(super) fn change_order(order: &mut OrderEntry, change: &OrderChange)
     }
 }
 
-fn change_numbered(order: &mut OrderEntry, is_chosen: bool, change: &OrderChange)
-    requires { is_chosen ≡ true → MayChangeOrder change.now order.old }
-    ensures { order_of order.new ≡ (if is_chosen then changed_order change.now (order_of order.old) else order_of order.old) }
-{
-    if is_chosen {
-        change_order(order, change);
-    }
-}
-
-/// The order of that number changes.
-pub(super) fn change_numbered_order(orders: &mut [OrderEntry], change: (OrderNo, OrderChange))
-    requires { Each (λ o. (o.number == change.0) ≡ true → MayChangeOrder change.1 o) orders.old }
-    ensures { map order_of orders.new ≡ map (λ o. if o.number == change.0 then changed_order change.1 o else o) (map order_of orders.old) }
-{
-    change_orders(orders, change.0, &change.1);
-}
-
-fn change_orders(orders: &mut [OrderEntry], number: OrderNo, change: &OrderChange)
-    requires { Each (λ o. (o.number == number) ≡ true → MayChangeOrder change.now o) orders.old }
-    ensures { map order_of orders.new ≡ map (λ o. if o.number == number then changed_order change.now o else o) (map order_of orders.old) }
-{
-    for order in orders.iter_mut() {
-        let is_chosen = is_numbered(order, number);
-        change_numbered(order, is_chosen, change);
-    }
-}
-
 /// Whether the expiry aborts the order.
 pub(super) fn expires(order: &OrderEntry, now: Moment) -> bool
-    ensures { result ≡ expires now (order_of order.now) }
+    ensures { result ≡ open_state order.now.state && nat_le order.now.until now }
 {
     matches!(order.state, State::Open) && order.until <= now
 }
 
 /// The order is aborted where its moment has come.
 fn expire_order(order: &mut OrderEntry, now: Moment)
-    ensures { order_of order.new ≡ (if expires now (order_of order.old) then set_state State.Aborted (order_of order.old) else order_of order.old) }
+    ensures { order.new ≡ expired_entry now order.old }
 {
     if expires(order, now) {
         order.state = State::Aborted;
@@ -187,10 +161,10 @@ fn expire_order(order: &mut OrderEntry, now: Moment)
 }
 
 /// Each open order whose moment has come is aborted.
-pub(super) fn expire_orders(orders: &mut [OrderEntry], now: Moment)
-    ensures { map order_of orders.new ≡ map (λ o. if expires now o then set_state State.Aborted o else o) (map order_of orders.old) }
+pub(super) fn expire_orders(orders: &mut InOrder<OrderNo, OrderEntry>, now: Moment)
+    ensures { map order_of orders.new.entries ≡ map (λ o. if expires now o then set_state State.Aborted o else o) (map order_of orders.old.entries) }
 {
-    for order in orders.iter_mut() {
-        expire_order(order, now);
+    for place in 0..orders.len() {
+        expire_order(orders.nth_mut(place), now);
     }
 }

@@ -1,7 +1,7 @@
 //! Which check of a command fails first.
 
 ghost use Rattle.std.specs.Bool.{OnTrue};
-ghost use Rattle.std.specs.Prelude.{◌≡◌, None, Some, IfOk, IsTrue, MatchResult};
+ghost use Rattle.std.specs.Prelude.{◌≡◌, ℕ, None, Some, IfOk, IsTrue, MatchResult};
 ghost use Rattle.words.specs.Kinds.{is_change, is_opening, is_stock};
 ghost use Rattle.words.specs.declared.command.Command.TheVariants.{Abort, Commit, Deliver, Expire, Field, More, Open, Release, Transfer, Use, Writeoff};
 ghost use Rattle.book.specs.Answers.{FirstFailure, checks, open_checks, order_checks, part_checks};
@@ -299,8 +299,8 @@ impl Book {
     /// The open order of that number, or why there is none.
     fn open_order(&self, number: OrderNo) -> Result<&OrderEntry, Refusal>
         ensures found { MatchResult result (λ order. FirstFailure (open_checks self.now.ledger number) None) (λ refusal. FirstFailure (open_checks self.now.ledger number) (Some (refusal, 0))) }
-        ensures order { IfOk result (λ order. order_numbered self.now.ledger number ≡ Some (order_of order.now)) }
-        ensures open { IfOk result (λ order. IsTrue (is_open (order_of order.now))) }
+        ensures order { IfOk result (λ order. order_numbered self.now.ledger number ≡ Some (order_of (number, order.now))) }
+        ensures open { IfOk result (λ order. IsTrue (is_open (order_of (number, order.now)))) }
     {
         match self.order_entry(number) {
             None => Err(Refusal::NoOrder),
@@ -314,14 +314,14 @@ impl Book {
     }
 }
 
-/// What keeps the order from holding more on the field.
+/// What keeps the order, whatever its number, from holding more on the field.
 fn check_hold(
     order: &OrderEntry,
     way: Way,
     branch: Branch,
     article: Article,
 ) -> Option<(Refusal, u64)>
-    ensures { FirstFailure (hold_checks (order_of order.now) way (name_of branch article)) result }
+    ensures { FirstFailure (hold_checks (order_of (0, order.now)) way (name_of branch article)) result }
 {
     match line_in(&order.lines, branch, article) {
         Some(line) => {

@@ -12,9 +12,10 @@ ghost use Rattle.book.specs.View.{order_of};
 use super::Book;
 use super::changes::expires;
 use super::find::is_on;
-use crate::entries::OrderEntry;
+use crate::entries::{Order, OrderEntry};
+use crate::in_order::InOrder;
 use crate::order::{Kind, Line};
-use escrow::{Article, Branch, Moment};
+use escrow::{Article, Branch, Moment, OrderNo};
 use std::alloc::Global;
 use words::{Command, Memory};
 
@@ -43,34 +44,41 @@ fn has_line(lines: &[Line], branch: Branch, article: Article) -> bool
 }
 
 /// Whether the order, if there is one, has a line on the field.
-fn makes_line(made: &Option<OrderEntry>, branch: Branch, article: Article) -> bool
+fn makes_line(made: &Option<Order>, branch: Branch, article: Article) -> bool
     ensures { result ≡ some_has_line (name_of branch article) (option_map order_of made.now) }
 {
     match made {
-        Some(entry) => has_line(&entry.lines, branch, article),
+        Some((_, entry)) => has_line(&entry.lines, branch, article),
         None => false,
     }
 }
 
 /// The orders that expire.
-fn expiring(alloc: Global, orders: &[OrderEntry], now: Moment) -> Result<Vec<&OrderEntry>, Memory>
-    ensures { IfOk result (λ found. map (λ entry. order_of entry.now) found.items ≡ filter (expires now) (map order_of orders.now)) }
+fn expiring(
+    alloc: Global,
+    orders: &InOrder<OrderNo, OrderEntry>,
+    now: Moment,
+) -> Result<Vec<&Order>, Memory>
+    ensures { IfOk result (λ found. map (λ order. order_of order.now) found.items ≡ filter (expires now) (map order_of orders.now.entries)) }
 {
     let mut found = Vec::new(alloc);
-    for entry in orders {
-        if expires(entry, now) {
-            found.push(entry).map_err(|_| Memory)?;
+    for place in 0..orders.len() {
+        let order = orders.entry_at(place);
+        if expires(&order.1, now) {
+            let Ok(()) = found.push(order) else {
+                return Err(Memory);
+            };
         }
     }
     Ok(found)
 }
 
 /// Whether one of the orders has a line on the field.
-fn some_has_line(orders: &[&OrderEntry], branch: Branch, article: Article) -> bool
+fn some_has_line(orders: &[&Order], branch: Branch, article: Article) -> bool
     ensures { result ≡ list_any (λ entry. has_line_on (name_of branch article) (order_of entry.now)) orders.now }
 {
     for entry in orders {
-        if has_line(&entry.lines, branch, article) {
+        if has_line(&entry.1.lines, branch, article) {
             return true;
         }
     }
@@ -78,21 +86,21 @@ fn some_has_line(orders: &[&OrderEntry], branch: Branch, article: Article) -> bo
 }
 
 /// Whether the order is a transfer.
-pub(super) fn is_transfer(entry: &OrderEntry) -> bool
-    ensures { result ≡ is_transfer (order_of entry.now) }
+pub(super) fn is_transfer(order: &Order) -> bool
+    ensures { result ≡ is_transfer (order_of order.now) }
 {
-    match entry.kind {
+    match order.1.kind {
         Kind::Plain => false,
         Kind::Transfer => true,
     }
 }
 
 /// Whether the order, if there is one, is a transfer.
-fn makes_transfer(made: &Option<OrderEntry>) -> bool
+fn makes_transfer(made: &Option<Order>) -> bool
     ensures { result ≡ some_is_transfer (option_map order_of made.now) }
 {
     match made {
-        Some(entry) => is_transfer(entry),
+        Some(order) => is_transfer(order),
         None => false,
     }
 }
@@ -133,11 +141,7 @@ fn names_field(command: &Command, branch: Branch, article: Article) -> bool
 
 impl Book {
     /// The orders that the command aborts as expired.
-    pub(super) fn expired(
-        &self,
-        alloc: Global,
-        command: &Command,
-    ) -> Result<Vec<&OrderEntry>, Memory>
+    pub(super) fn expired(&self, alloc: Global, command: &Command) -> Result<Vec<&Order>, Memory>
         ensures { IfOk result (λ found. map (λ entry. order_of entry.now) found.items ≡ expired_orders self.now.ledger command.now) }
     {
         match command {
@@ -150,8 +154,8 @@ impl Book {
     pub(super) fn changes_field(
         &self,
         command: &Command,
-        made: &Option<OrderEntry>,
-        expired: &[&OrderEntry],
+        made: &Option<Order>,
+        expired: &[&Order],
         branch: Branch,
         article: Article,
     ) -> bool

@@ -5,7 +5,7 @@ ghost use Rattle.book.specs.Ledger.{field_named, kept_under, name_of, on, order_
 ghost use Rattle.book.specs.View.{field_of, kept_of, order_of};
 
 use super::Book;
-use crate::entries::{FieldEntry, KeptEntry, OrderEntry};
+use crate::entries::{FieldEntry, KeptEntry, Order, OrderEntry};
 use crate::order::Line;
 use escrow::{Article, Branch, FieldName, Key, OrderNo};
 
@@ -19,9 +19,9 @@ impl Book {
 
     /// The order of that number.
     pub(super) fn order_entry(&self, number: OrderNo) -> Option<&OrderEntry>
-        ensures { let found = order_numbered self.now.ledger number in MatchOption result (found ≡ None) (λ entry. found ≡ Some (order_of entry.now)) }
+        ensures { let found = order_numbered self.now.ledger number in MatchOption result (found ≡ None) (λ entry. found ≡ Some (order_of (number, entry.now))) }
     {
-        order_in(&self.orders, number)
+        self.orders.get(&number)
     }
 
     /// What is kept under that key.
@@ -32,22 +32,10 @@ impl Book {
     }
 }
 
-/// The first order of that number.
-pub(super) fn order_in(orders: &[OrderEntry], number: OrderNo) -> Option<&OrderEntry>
-    ensures { let found = find (λ entry. entry.number == number) orders.now in MatchOption result (found ≡ None) (λ entry. found ≡ Some entry.now) }
+pub(super) fn is_numbered(order: &Order, number: OrderNo) -> bool
+    ensures { result ≡ (order.now.0 == number) }
 {
-    for entry in orders {
-        if is_numbered(entry, number) {
-            return Some(entry);
-        }
-    }
-    None
-}
-
-pub(super) fn is_numbered(entry: &OrderEntry, number: OrderNo) -> bool
-    ensures { result ≡ (entry.now.number == number) }
-{
-    entry.number == number
+    order.0 == number
 }
 
 /// The first line on that field.

@@ -9,7 +9,7 @@ ghost use Rattle.std.specs.Vec.{vec_capacity, vec_len};
 ghost use Rattle.book.specs.Ledger.{insert_in_order, name_cmp, name_of, same_name};
 ghost use Rattle.book.specs.View.{field_of, kept_of, move_of, order_of};
 
-use crate::entries::{FieldEntry, KeptEntry, MoveEntry, OrderEntry};
+use crate::entries::{FieldEntry, KeptEntry, MoveEntry, Order};
 use crate::in_order::InOrder;
 use escrow::{Article, Branch, FieldName, Key};
 
@@ -35,31 +35,10 @@ pub(super) fn insert_field(
     fields.insert(name, entry);
 }
 
-pub(super) fn is_order_before(one: &OrderEntry, other: &OrderEntry) -> bool
-    ensures { result ≡ nat_lt one.now.number other.now.number }
+pub(super) fn is_order_before(one: &Order, other: &Order) -> bool
+    ensures { result ≡ nat_lt one.now.0 other.now.0 }
 {
-    one.number < other.number
-}
-
-fn order_place(orders: &[OrderEntry], entry: &OrderEntry) -> usize
-    ensures within { result ≤ length orders.now }
-    ensures there { map order_of (insert orders.now result entry.now) ≡ insert_in_order (λ a b. nat_lt a.number b.number) (order_of entry.now) (map order_of orders.now) }
-{
-    let place = orders
-        .iter()
-        .position(|other| is_order_before(entry, other));
-    place.unwrap_or(orders.len())
-}
-
-pub(super) fn insert_order(orders: &mut Vec<OrderEntry>, entry: OrderEntry)
-    requires { vec_len orders.old < vec_capacity orders.old }
-    ensures { map order_of orders.new.items ≡ insert_in_order (λ a b. nat_lt a.number b.number) (order_of entry) (map order_of orders.old.items) }
-{
-    let place = order_place(orders, &entry);
-    match orders.insert(place, entry) {
-        Ok(()) => {}
-        Err(_) => unreachable!(),
-    }
+    one.0 < other.0
 }
 
 pub(super) fn is_key_before(one: &(Key, KeptEntry), other: &(Key, KeptEntry)) -> bool

@@ -112,10 +112,10 @@ impl Book {
             return Ok(Planned::Refused(failure.0, failure.1));
         }
         let command = copy_of(alloc, &request.command)?;
-        let lines = lines_of(alloc, &command)?;
         let place = self.kept.len() as u64 + 1;
-        let changes = self.changes_of(alloc, request)?;
-        let plan = Plan::new(request.key, command, place, lines, changes);
+        let made = self.order_made(alloc, request)?;
+        let changes = self.changes_of(alloc, request, &made)?;
+        let plan = Plan::new(request.key, command, place, made, changes);
         Ok(Planned::Accept(plan))
     }
 }

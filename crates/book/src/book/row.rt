@@ -10,7 +10,7 @@ ghost use Rattle.book.specs.Rows.{kept_row, kind_code, line_row, move_row, order
 ghost use Rattle.book.specs.Tables.{desk_cells, kept_cells, line_cells, move_cells, order_cells};
 ghost use Rattle.book.specs.View.{order_of};
 
-use crate::entries::OrderEntry;
+use crate::entries::Order;
 use crate::limits::MAX_PLACES;
 use crate::order::{Kind, Line, State};
 use crate::rows::{DeskRow, KeptRow, LineRow, MoveRow, OrderRow};
@@ -87,11 +87,12 @@ fn way_code(way: Way) -> i64
     }
 }
 
-pub(super) fn order_row(entry: &OrderEntry, state: State) -> OrderRow
-    ensures { order_cells result ≡ order_row (set_state state (order_of entry.now)) }
+pub(super) fn order_row(order: &Order, state: State) -> OrderRow
+    ensures { order_cells result ≡ order_row (set_state state (order_of order.now)) }
 {
+    let (number, entry) = order;
     OrderRow {
-        number: entry.number.get() as i64,
+        number: number.get() as i64,
         kind: kind_code(entry.kind),
         until: entry.until.get() as i64,
         state: state_code(state),

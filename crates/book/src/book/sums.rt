@@ -13,7 +13,7 @@ ghost use Rattle.book.specs.Walk.{most_of_all, most_of_line, most_of_lines, most
 ghost use Rattle.book.specs.Sums.{added, entry_name, field_among, lines_numbers, numbers_on, only_on, part_of_line, AreFieldsInOrder, AreLinesOnFields, AreMovesOnFields, AreOnFields, AreOrdersOnFields, IsField, IsFieldAt};
 
 use super::walk::{NOTHING, Numbers};
-use crate::entries::{FieldEntry, MoveEntry, OrderEntry};
+use crate::entries::{FieldEntry, MoveEntry, Order};
 use crate::order::{Line, State};
 use escrow::{Article, Branch, FieldName, Way};
 use std::alloc::Global;
@@ -25,13 +25,13 @@ pub(super) fn sums_of(
     alloc: Global,
     fields: &[(FieldName, FieldEntry)],
     moves: &[MoveEntry],
-    orders: &[OrderEntry],
+    orders: &[Order],
 ) -> Result<Option<Vec<Numbers>>, Memory>
     requires sorted { IsStrictlySortedBy name_cmp (map (λ f. f.name) (map field_of fields.now)) }
     requires few_moves { length moves.now ≤ MAX_PLACES }
     requires amounts { Each (λ entry. IsQty (nat_abs entry.amount)) moves.now }
     requires few_orders { length orders.now ≤ MAX_ORDERS }
-    requires short { Each (λ entry. length entry.lines.items ≤ MAX_ORDER_LINES) orders.now }
+    requires short { Each (λ order. length order.1.lines.items ≤ MAX_ORDER_LINES) orders.now }
     ensures there { IfOk result (λ sums. IsSome sums ↔ AreOnFields fields.now moves.now orders.now) }
     ensures sums { IfOk result (λ sums. IfSome sums (λ numbers. numbers.items ≡ map (λ f. numbers_on moves.now orders.now (field_of f).name) fields.now)) }
     ensures small { IfOk result (λ sums. IfSome sums (λ numbers. Each (IsSmall most_of_all) numbers.items)) }
@@ -50,14 +50,14 @@ fn add_all(
     fields: &[(FieldName, FieldEntry)],
     sums: &mut [Numbers],
     moves: &[MoveEntry],
-    orders: &[OrderEntry],
+    orders: &[Order],
 ) -> bool
     requires sorted { AreFieldsInOrder fields.now }
     requires nothing { sums.old ≡ map (λ f. nothing) fields.now }
     requires few_moves { length moves.now ≤ MAX_PLACES }
     requires amounts { Each (λ entry. IsQty (nat_abs entry.amount)) moves.now }
     requires few_orders { length orders.now ≤ MAX_ORDERS }
-    requires short { Each (λ entry. length entry.lines.items ≤ MAX_ORDER_LINES) orders.now }
+    requires short { Each (λ order. length order.1.lines.items ≤ MAX_ORDER_LINES) orders.now }
     ensures there { IsTrue result ↔ AreOnFields fields.now moves.now orders.now }
     ensures sums { IsTrue result → sums.new ≡ map (λ f. numbers_on moves.now orders.now (entry_name f)) fields.now }
     ensures small { IsTrue result → Each (IsSmall most_of_all) sums.new }
@@ -175,22 +175,18 @@ fn add_move(fields: &[(FieldName, FieldEntry)], sums: &mut [Numbers], entry: &Mo
 }
 
 /// Adds the orders, each line to the sum of its field. Whether all lines are on fields.
-fn add_orders(
-    fields: &[(FieldName, FieldEntry)],
-    sums: &mut [Numbers],
-    orders: &[OrderEntry],
-) -> bool
+fn add_orders(fields: &[(FieldName, FieldEntry)], sums: &mut [Numbers], orders: &[Order]) -> bool
     requires sorted { AreFieldsInOrder fields.now }
     requires long { length sums.old ≡ length fields.now }
     requires room { Each (IsSmall most_of_moves) sums.old }
     requires few { length orders.now ≤ MAX_ORDERS }
-    requires short { Each (λ entry. length entry.lines.items ≤ MAX_ORDER_LINES) orders.now }
+    requires short { Each (λ order. length order.1.lines.items ≤ MAX_ORDER_LINES) orders.now }
     ensures there { IsTrue result ↔ AreOrdersOnFields fields.now orders.now }
     ensures sums { IsTrue result → sums.new ≡ added (numbers_on [] orders.now) fields.now sums.old }
     ensures small { IsTrue result → Each (IsSmall most_of_all) sums.new }
 {
     for entry in orders {
-        if !add_lines(fields, sums, &entry.lines, &entry.state) {
+        if !add_lines(fields, sums, &entry.1.lines, &entry.1.state) {
             return false;
         }
     }

@@ -29,7 +29,7 @@ use self::places::are_places_good;
 use self::told::{moment, natural, read_all};
 use crate::book::Book;
 use crate::book::walk::count_open;
-use crate::entries::{FieldEntry, KeptEntry, MoveEntry, OrderEntry};
+use crate::entries::{FieldEntry, KeptEntry, MoveEntry, Order};
 use crate::in_order::InOrder;
 use crate::limits::{MAX_FIELDS, MAX_ORDERS, MAX_PLACES};
 use crate::order::Line;
@@ -56,7 +56,7 @@ struct Entries {
     clock: Moment,
     fields: Vec<(FieldName, FieldEntry)>,
     moves: Vec<MoveEntry>,
-    orders: Vec<OrderEntry>,
+    orders: Vec<Order>,
     kept: Vec<(Key, KeptEntry)>,
 }
 
@@ -165,6 +165,9 @@ impl Book {
         let Ok(fields) = InOrder::from_sorted(alloc, entries.fields) else {
             return Err(TablesFault::Memory);
         };
+        let Ok(orders) = InOrder::from_sorted(alloc, entries.orders) else {
+            return Err(TablesFault::Memory);
+        };
         let Ok(kept) = InOrder::from_sorted(alloc, entries.kept) else {
             return Err(TablesFault::Memory);
         };
@@ -172,7 +175,7 @@ impl Book {
             clock: entries.clock,
             fields,
             moves: entries.moves,
-            orders: entries.orders,
+            orders,
             kept,
         })
     }

@@ -67,7 +67,7 @@ impl Book {
     {
         let entry = self.order_entry(number)?;
         Some(OrderView {
-            number: entry.number,
+            number,
             kind: entry.kind,
             until: entry.until,
             state: entry.state,

@@ -13,10 +13,11 @@ ghost use Rattle.book.specs.Walk.{added_by_line, added_by_order, moved_by_line, 
 
 use super::Book;
 use super::find::is_on;
-use crate::entries::{MoveEntry, OrderEntry};
+use crate::entries::{MoveEntry, Order, OrderEntry};
+use crate::in_order::InOrder;
 use crate::limits::MAX_PLACES;
 use crate::order::{Line, State};
-use escrow::{Article, Branch, Way};
+use escrow::{Article, Branch, OrderNo, Way};
 
 /// What entries add up to on a field.
 #[derive(Clone, Copy, Debug)]
@@ -72,7 +73,7 @@ impl Book {
     pub(super) fn open_orders(&self) -> usize
         ensures { result ≡ open_orders self.now.ledger }
     {
-        count_open(&self.orders)
+        count_open(self.orders.arrived())
     }
 
     /// Whether so many more places do not fit.
@@ -112,28 +113,30 @@ fn move_on(entry: &MoveEntry, branch: Branch, article: Article) -> i64
 }
 
 /// What the orders add up to on the field.
-fn orders_on(orders: &[OrderEntry], branch: Branch, article: Article) -> Numbers
-    requires few { length orders.now ≤ MAX_ORDERS }
-    requires short { Each (λ entry. length entry.lines.items ≤ MAX_ORDER_LINES) orders.now }
-    ensures moved { result.moved ≡ total (moved_by_order (name_of branch article)) orders.now }
-    ensures takes { result.takes ≡ total (taken_by_order (name_of branch article)) orders.now }
-    ensures adds { result.adds ≡ total (added_by_order (name_of branch article)) orders.now }
+fn orders_on(orders: &InOrder<OrderNo, OrderEntry>, branch: Branch, article: Article) -> Numbers
+    requires few { length orders.now.entries ≤ MAX_ORDERS }
+    requires short { Each (λ order. length order.1.lines.items ≤ MAX_ORDER_LINES) orders.now.entries }
+    ensures moved { result.moved ≡ total (moved_by_order (name_of branch article)) orders.now.entries }
+    ensures takes { result.takes ≡ total (taken_by_order (name_of branch article)) orders.now.entries }
+    ensures adds { result.adds ≡ total (added_by_order (name_of branch article)) orders.now.entries }
     ensures small { IsSmall most_of_orders result }
 {
     let mut sum = NOTHING;
-    for entry in orders {
-        sum = sum.plus(order_on(entry, branch, article));
+    for place in 0..orders.len() {
+        let order = orders.entry_at(place);
+        sum = sum.plus(order_on(order, branch, article));
     }
     sum
 }
 
-pub(super) fn order_on(entry: &OrderEntry, branch: Branch, article: Article) -> Numbers
-    requires { length entry.now.lines.items ≤ MAX_ORDER_LINES }
-    ensures moved { result.moved ≡ moved_by_order (name_of branch article) entry.now }
-    ensures takes { result.takes ≡ taken_by_order (name_of branch article) entry.now }
-    ensures adds { result.adds ≡ added_by_order (name_of branch article) entry.now }
+pub(super) fn order_on(order: &Order, branch: Branch, article: Article) -> Numbers
+    requires { length order.now.1.lines.items ≤ MAX_ORDER_LINES }
+    ensures moved { result.moved ≡ moved_by_order (name_of branch article) order.now }
+    ensures takes { result.takes ≡ taken_by_order (name_of branch article) order.now }
+    ensures adds { result.adds ≡ added_by_order (name_of branch article) order.now }
     ensures small { IsSmall most_of_lines result }
 {
+    let (_, entry) = order;
     let lines = lines_on(&entry.lines, branch, article);
     match entry.state {
         State::Open => Numbers {
@@ -191,11 +194,11 @@ fn line_on(line: &Line, branch: Branch, article: Article) -> Numbers
 }
 
 /// How many of the orders are open.
-pub(super) fn count_open(orders: &[OrderEntry]) -> usize
-    ensures { result ≡ count_by (λ entry. open_state entry.state) orders.now }
+pub(super) fn count_open(orders: &[Order]) -> usize
+    ensures { result ≡ count_by (λ order. open_state order.1.state) orders.now }
 {
     orders
         .iter()
-        .filter(|entry| matches!(entry.state, State::Open))
+        .filter(|order| matches!(order.1.state, State::Open))
         .count()
 }

@@ -13,7 +13,7 @@ ghost use Rattle.book.specs.View.{field_of, kept_of, move_of, order_of};
 
 use crate::book::find::line_in;
 use crate::book::insert::{is_field_before, is_key_before, is_order_before};
-use crate::entries::{FieldEntry, KeptEntry, MoveEntry, OrderEntry};
+use crate::entries::{FieldEntry, KeptEntry, MoveEntry, Order};
 use crate::order::{Kind, Line};
 use escrow::{FieldName, Key, Qty, Way};
 use words::MAX_ORDER_LINES;
@@ -39,7 +39,7 @@ pub(super) fn are_moves_in_order(moves: &[MoveEntry]) -> bool
 }
 
 /// Whether the orders stand in the order of their numbers, one of each.
-pub(super) fn are_orders_in_order(orders: &[OrderEntry]) -> bool
+pub(super) fn are_orders_in_order(orders: &[Order]) -> bool
     ensures { IsTrue result ↔ IsStrictlySortedBy nat_cmp (map (λ o. o.number) (map order_of orders.now)) }
 {
     orders.is_sorted_by(|one, other| is_order_before(one, other))
@@ -112,26 +112,27 @@ fn are_transfer_pair(lines: &[Line]) -> bool
     }
 }
 
-fn is_order_good(order: &OrderEntry) -> bool
+fn is_order_good(order: &Order) -> bool
     ensures { IsTrue result ↔ IsOrderByItself (order_of order.now) }
 {
+    let (number, entry) = order;
     // so that the proof has their ranges
-    order.number.get();
-    order.until.get();
-    if order.lines.is_empty() || order.lines.len() > MAX_ORDER_LINES {
+    number.get();
+    entry.until.get();
+    if entry.lines.is_empty() || entry.lines.len() > MAX_ORDER_LINES {
         return false;
     }
-    if !are_lines_good(&order.lines) || !are_apart(&order.lines) {
+    if !are_lines_good(&entry.lines) || !are_apart(&entry.lines) {
         return false;
     }
-    match order.kind {
+    match entry.kind {
         Kind::Plain => true,
-        Kind::Transfer => are_transfer_pair(&order.lines),
+        Kind::Transfer => are_transfer_pair(&entry.lines),
     }
 }
 
 /// Whether each order is good, apart from whether its fields are there.
-pub(super) fn are_orders_good(orders: &[OrderEntry]) -> bool
+pub(super) fn are_orders_good(orders: &[Order]) -> bool
     ensures { IsTrue result ↔ Each IsOrderByItself (map order_of orders.now) }
 {
     for order in orders {

@@ -13,7 +13,7 @@ ghost use Rattle.book.specs.declared.book.tables.TablesFault.TheVariants as Tabl
 ghost use Rattle.book.specs.declared.order.Line.{Line};
 
 use super::TablesFault;
-use crate::entries::OrderEntry;
+use crate::entries::{Order, OrderEntry};
 use crate::order::{Kind, Line, State};
 use crate::rows::LineRow;
 use escrow::{Moment, OrderNo};
@@ -83,7 +83,7 @@ pub(super) fn group(
     heads: &[Head],
     rows: &[LineRow],
     lines: &[Line],
-) -> Result<Vec<OrderEntry>, TablesFault>
+) -> Result<Vec<Order>, TablesFault>
     requires { AllZip IsLineTold lines.now rows.now }
     ensures told { IfOk result (λ orders. TellOrders (map order_of orders.items) heads.now (map line_cells rows.now)) }
     ensures damaged { IfErr result (λ fault. fault ≡ TablesFault.Damaged → (orders : List Order) → IsStrictlySortedBy nat_cmp (map (λ o. o.number) orders) → TellOrders orders heads.now (map line_cells rows.now) → ⊥) }
@@ -112,14 +112,14 @@ fn behind<T>(items: &[T], start: usize) -> &[T]
     &items[start..]
 }
 
-fn with_lines(head: &Head, lines: Vec<Line>) -> OrderEntry
+fn with_lines(head: &Head, lines: Vec<Line>) -> Order
     ensures { order_of result ≡ record { number = head.now.number; kind = head.now.kind; until = head.now.until; state = head.now.state; lines = lines.items } }
 {
-    OrderEntry {
-        number: head.number,
+    let entry = OrderEntry {
         kind: head.kind,
         until: head.until,
         state: head.state,
         lines,
-    }
+    };
+    (head.number, entry)
 }

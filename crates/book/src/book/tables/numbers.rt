@@ -15,7 +15,7 @@ ghost use Rattle.book.specs.declared.book.walk.Numbers.{Numbers};
 
 use crate::book::sums::sums_of;
 use crate::book::walk::Numbers;
-use crate::entries::{FieldEntry, MoveEntry, OrderEntry};
+use crate::entries::{FieldEntry, MoveEntry, Order};
 use crate::rows::FieldRow;
 use escrow::FieldName;
 use std::alloc::Global;
@@ -90,7 +90,7 @@ pub(super) fn fit_rows(
     alloc: Global,
     fields: &[(FieldName, FieldEntry)],
     moves: &[MoveEntry],
-    orders: &[OrderEntry],
+    orders: &[Order],
     rows: &[FieldRow],
 ) -> Result<bool, Memory>
     requires rows { length rows.now ≡ length fields.now }
@@ -98,7 +98,7 @@ pub(super) fn fit_rows(
     requires few_moves { length moves.now ≤ MAX_PLACES }
     requires amounts { Each (λ entry. IsQty (nat_abs entry.amount)) moves.now }
     requires few_orders { length orders.now ≤ MAX_ORDERS }
-    requires short { Each (λ entry. length entry.lines.items ≤ MAX_ORDER_LINES) orders.now }
+    requires short { Each (λ order. length order.1.lines.items ≤ MAX_ORDER_LINES) orders.now }
     ensures { IfOk result (λ fit. IsTrue fit ↔ (AreOnFields fields.now moves.now orders.now × HaveNumbers (numbers_on moves.now orders.now) fields.now rows.now)) }
 {
     match sums_of(alloc, fields, moves, orders)? {

@@ -1,38 +1,21 @@
-use Rattle.std.proofs.Common.{◌≡◌, ◌∙◌, ◌+◌, None, map, rules, subst, sym}
+use Rattle.std.proofs.Common.{◌≡◌, ◌∙◌, ◌+◌, None, rules, subst, sym}
 use Rattle.escrow.specs.Codes.{IsKey}
 use Rattle.words.specs.Spelling.{IsInRange}
 use Rattle.words.specs.declared.command.Command.{Command}
 use Rattle.words.specs.declared.command.Command.TheVariants.{Field}
-use Rattle.words.specs.declared.command.Request.{Request}
 use Rattle.words.specs.declared.reply.Reply.TheVariants.{Done}
 use Rattle.book.specs.Answers.{FirstFailure, IsAccepted, checks}
 use Rattle.book.specs.Good.{Good}
-use Rattle.book.specs.Ledger.{Ledger, places}
+use Rattle.book.specs.Ledger.{Ledger, kept_under, places}
 use Rattle.book.specs.Next.{accept}
 use Rattle.book.specs.Outcomes.{article_total}
-use Rattle.book.specs.Plans.{LinesFit}
-use Rattle.book.specs.View.{BookView, ledger_of, order_room}
-use Rattle.book.specs.declared.book.Book.TheInside.{Inside}
-use Rattle.book.proofs.Allowed.{may_change}
+use Rattle.book.specs.View.{BookView, ledger_of}
 use Rattle.book.proofs.Closing.{all_pass, honours_always}
 use Rattle.book.proofs.Goodness.{good_accept}
 use Rattle.book.proofs.Growing.{none_if_not_some}
 use Rattle.book.proofs.Transfers.{total_answer}
 use Rattle.book.proofs.Once.{accepted_answered, honours_if_good, no_key}
 use Rattle.book.proofs.book.Book.adopt.Goals as goal
-
-pub adopt_orders-requires-clause-change : goal.adopt_orders-requires-clause-change
-adopt_orders-requires-clause-change c change is =
-    let b : Inside = c.self.inside in
-    let parts = c.into_parts-key.ensures in
-    let key = c.into_parts-key.result.0 in
-    let command = c.into_parts-key.result.1 in
-    let same : ◌≡◌ {A = Request} (record { key = key; command = command }) c.args.plan.request = λ i. record { key = parts.key i; command = parts.command i } in
-    let accepted = subst (λ (r : Request). IsAccepted (ledger_of b) r) (sym same) (subst (λ (v : BookView). IsAccepted v.ledger c.args.plan.request) (sym c.self.view_is) c.requires.fits.accepted) in
-    let room = subst (λ (k : Command). LinesFit k (map order_room b.orders.items)) (sym parts.command)
-    (subst (λ (v : BookView). LinesFit c.args.plan.request.command v.room.lines) (sym c.self.view_is) c.requires.room.lines) in
-    let after = good_accept (ledger_of b) (record { key = key; command = command }) c.self.invariant c.as_bytes.ensures.form c.in_range.ensures (no_key _ accepted.0) accepted.1 in
-    may_change b key command change c.self.invariant after accepted.1 room is
 
 pub adopt_stock-requires-clause-absent : goal.adopt_stock-requires-clause-absent
 adopt_stock-requires-clause-absent c b a lo hi start is =
@@ -41,6 +24,12 @@ adopt_stock-requires-clause-absent c b a lo hi start is =
     let accepted = subst (λ (v : BookView). IsAccepted v.ledger c.args.plan.request) (sym c.self.view_is) c.requires.fits.accepted in
     let passed = all_pass (checks L (Field b a lo hi start)) (subst (λ (k : Command). FirstFailure (checks L k) None) same accepted.1) in
     none_if_not_some _ passed.1.1.0
+
+pub insert_kept-requires-clause-absent : goal.insert_kept-requires-clause-absent
+insert_kept-requires-clause-absent c =
+    let L : Ledger = ledger_of c.self.inside in
+    let accepted = subst (λ (v : BookView). IsAccepted v.ledger c.args.plan.request) (sym c.self.view_is) c.requires.fits.accepted in
+    subst (λ key. kept_under L key ≡ None) (sym c.into_parts-key.ensures.key) (no_key _ accepted.0)
 
 pub returns-clause-next : goal.returns-clause-next
 returns-clause-next c = search rules

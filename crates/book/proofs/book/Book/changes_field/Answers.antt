@@ -1,4 +1,4 @@
-use Rattle.std.proofs.Common.{◌≡◌, ◌∙◌, Bor, Bool, true, false, ◌&&◌, Option, ap, sym}
+use Rattle.std.proofs.Common.{◌≡◌, ◌∙◌, ℕ, Bor, Bool, true, false, ◌&&◌, Option, ap, sym}
 use Rattle.std.specs.List.{list_any}
 use Rattle.book.specs.After.{changes_state, order_after, some_has_line, some_is_transfer}
 use Rattle.book.specs.Changes.{has_line_on}
@@ -33,7 +33,7 @@ pub returns-in-Expire : goal.returns-in-Expire
 returns-in-Expire c =
     let A : Ledger = c.args.self.now.ledger in
     let f : Name = name_of c.args.branch c.args.article in
-    c.some_has_line.ensures ∙ sym (any-map (has_line_on f) (λ (entry : Bor OrderEntry). order_of entry.now) c.args.expired.now) ∙ ap (list_any (has_line_on f)) c.requires.expired
+    c.some_has_line.ensures ∙ sym (any-map (has_line_on f) (λ (entry : Bor (ℕ × OrderEntry)). order_of entry.now) c.args.expired.now) ∙ ap (list_any (has_line_on f)) c.requires.expired
     ∙ expired_lined A c.args.command.now c.in-Expire.now f c.in-Expire.is
 
 pub returns-then-makes_transfer : goal.returns-then-makes_transfer

@@ -1,4 +1,4 @@
-use Rattle.std.proofs.Common.{◌≡◌, Bor, List, ℕ, Option, Some, None, MatchOption, find, map, refl}
+use Rattle.std.proofs.Common.{◌≡◌, Bor, List, ℕ, Option, Some, None, MatchOption}
 use Rattle.std.specs.Option.{option_copied, option_map}
 use Rattle.book.specs.Ledger.{Kept}
 use Rattle.book.specs.View.{kept_of}

@@ -2,14 +2,14 @@ use Rattle.std.proofs.Common.{◌≡◌, ◌∙◌, ◌+◌, ◌+ℤ◌, sym, ap
 use Rattle.std.proofs.lemmas.Int.{ints}
 use Rattle.std.specs.Option.{option_map}
 use Rattle.book.specs.declared.book.walk.Numbers.{Numbers}
-use Rattle.book.specs.After.{moved_by_command, part_left, order_after, IsShort}
+use Rattle.book.specs.After.{moved_by_command, order_after, IsShort}
 use Rattle.book.specs.Answers.{IsAccepted}
 use Rattle.book.specs.Held.{held_to_add, held_to_take}
 use Rattle.book.specs.Ledger.{Name, name_of}
 use Rattle.book.specs.Next.{accept}
 use Rattle.book.specs.Outcomes.{settled, total}
 use Rattle.book.specs.View.{BookView, ledger_of, order_of}
-use Rattle.book.specs.Walk.{added_by_order, most_of_lines, most_of_orders, moved_by_move, moved_by_order, plus, taken_by_order, IsSmall}
+use Rattle.book.specs.Walk.{most_of_lines, most_of_orders, moved_by_move, plus, IsSmall}
 use Rattle.book.proofs.After.{held_to_add-after, held_to_take-after, settled-after}
 use Rattle.book.proofs.Made.{made_short}
 use Rattle.book.proofs.Numbers.{small-step}
@@ -23,7 +23,7 @@ pub moves_after-moved-requires-clause-amounts : goal.moves_after-moved-requires-
 moves_after-moved-requires-clause-amounts c = rw c.deref.ensures.value (small_moves (ledger_of c.self.inside) c.self.inside.moves.items c.self.invariant.moves)
 
 pub others_on-others-requires-clause-short : goal.others_on-others-requires-clause-short
-others_on-others-requires-clause-short c = rw c.deref-2.ensures.value (short_orders (ledger_of c.self.inside) c.self.inside.orders.items c.self.invariant.orders)
+others_on-others-requires-clause-short c = (short_orders (ledger_of c.self.inside) c.self.inside.orders.entries c.self.invariant.orders)
 
 pub made_on-requires : goal.made_on-requires
 made_on-requires c = subst IsShort (sym c.requires.made) (made_short c.args.self.now.ledger c.args.request.now c.requires.good c.requires.accepted)
@@ -36,7 +36,7 @@ returns-clause-moved c f e =
     let walk = settled-after c.self.inside c.args.request.now f n c.args.made.now c.self.invariant ok made e in
     let same = ap (λ (v : BookView). settled (accept v.ledger c.args.request.now) f) (sym c.self.view_is) in
     let moves = c.moves_after-moved.ensures.sum ∙ ap (λ xs. total (moved_by_move n) xs +ℤ moved_by_command n c.args.request.now.command) c.deref.ensures.value in
-    let orders = c.others_on-others.ensures.moved ∙ ap (λ xs. total (part_left (moved_by_order n) c.args.request.now.command) xs) c.deref-2.ensures.value in
+    let orders = c.others_on-others.ensures.moved in
     let both = ap (λ n. n.moved) c.plus-ordered.ensures in
     omega (arith, ints)
 
@@ -47,7 +47,7 @@ returns-clause-takes c =
     let made = subst (λ (v : BookView). option_map order_of c.args.made.now ≡ order_after v.ledger c.args.request.now.command) (sym c.self.view_is) c.requires.made in
     let walk = held_to_take-after c.self.inside c.args.request.now n c.args.made.now c.self.invariant ok made in
     let same = ap (λ (v : BookView). held_to_take (accept v.ledger c.args.request.now) n) (sym c.self.view_is) in
-    let orders = c.others_on-others.ensures.takes ∙ ap (λ xs. total (part_left (taken_by_order n) c.args.request.now.command) xs) c.deref-2.ensures.value in
+    let orders = c.others_on-others.ensures.takes in
     let both = ap (λ n. n.takes) c.plus-ordered.ensures in
     omega (arith, ints)
 
@@ -58,7 +58,7 @@ returns-clause-adds c =
     let made = subst (λ (v : BookView). option_map order_of c.args.made.now ≡ order_after v.ledger c.args.request.now.command) (sym c.self.view_is) c.requires.made in
     let walk = held_to_add-after c.self.inside c.args.request.now n c.args.made.now c.self.invariant ok made in
     let same = ap (λ (v : BookView). held_to_add (accept v.ledger c.args.request.now) n) (sym c.self.view_is) in
-    let orders = c.others_on-others.ensures.adds ∙ ap (λ xs. total (part_left (added_by_order n) c.args.request.now.command) xs) c.deref-2.ensures.value in
+    let orders = c.others_on-others.ensures.adds in
     let both = ap (λ n. n.adds) c.plus-ordered.ensures in
     omega (arith, ints)
 

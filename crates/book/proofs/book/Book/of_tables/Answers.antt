@@ -6,11 +6,11 @@ use Rattle.std.specs.List.Sorted.{IsStrictlySortedBy}
 use Rattle.std.specs.Ordering.{nat_cmp}
 use Rattle.book.specs.declared.rows.FieldRow.{FieldRow}
 use Rattle.book.specs.Good.{Good}
-use Rattle.book.specs.Ledger.{Field, Kept, Ledger, name_cmp}
+use Rattle.book.specs.Ledger.{Field, Kept, Ledger, Order, name_cmp}
 use Rattle.book.specs.Rows.{IsFieldRow}
 use Rattle.book.specs.Tables.{content_of, field_cells}
 use Rattle.book.specs.Told.{told_ledger}
-use Rattle.book.specs.View.{field_of, kept_of}
+use Rattle.book.specs.View.{field_of, kept_of, order_of}
 use Rattle.book.proofs.Tested.{true_not_false}
 use Rattle.book.proofs.Told.{rows_tell, told_once}
 use Rattle.book.proofs.book.Book.of_tables.Goals as goal
@@ -31,4 +31,8 @@ from_sorted-requires-clause-rising c =
 
 pub from_sorted-requires-2-clause-rising : goal.from_sorted-requires-2-clause-rising
 from_sorted-requires-2-clause-rising c =
+    subst (IsStrictlySortedBy nat_cmp) (map-map (λ (o : Order). o.number) order_of c.in_ok-entries.entries.orders.items) (c.in-Ok-true.ensures.0 c.in-Ok-true.field-0-test).0.orders_in_order
+
+pub from_sorted-requires-3-clause-rising : goal.from_sorted-requires-3-clause-rising
+from_sorted-requires-3-clause-rising c =
     subst (IsStrictlySortedBy (slice_cmp nat_cmp)) (map-map (λ (k : Kept). k.key) kept_of c.in_ok-entries.entries.kept.items) (c.in-Ok-true.ensures.0 c.in-Ok-true.field-0-test).0.kept_in_order

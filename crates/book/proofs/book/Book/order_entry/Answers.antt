@@ -1,7 +1,15 @@
-use Rattle.std.proofs.Common.{◌==◌}
+use Rattle.std.proofs.Common.{◌≡◌, Bor, ℕ, Option, Some, None, MatchOption}
+use Rattle.std.specs.Option.{option_copied, option_map}
+use Rattle.book.specs.Ledger.{Order}
 use Rattle.book.specs.View.{order_of}
-use Rattle.book.proofs.Found.{match-map}
+use Rattle.book.specs.declared.entries.OrderEntry.{OrderEntry}
+use Rattle.book.proofs.Keyed.{order_found}
 use Rattle.book.proofs.book.Book.order_entry.Goals as goal
 
+told : (n : ℕ) (result : Option (Bor OrderEntry)) (there : Option OrderEntry) (found : Option Order) → option_copied result ≡ there → found ≡ option_map (λ v. order_of (n, v)) there
+    → MatchOption result (found ≡ None) (λ entry. found ≡ Some (order_of (n, entry.now)))
+told n None there found is e = rw (← is) at e
+told n (Some r) there found is e = rw (← is) at e
+
 pub returns : goal.returns
-returns c = rw (← c.self.view_is) (match-map (λ o. o.number == c.args.number) order_of c.self.inside.orders.items (λ entry. entry.now) c.order_in.result (rw c.deref.ensures.value at c.order_in.ensures))
+returns c = rw (← c.self.view_is) (told c.args.number c.get.result _ _ c.get.ensures (order_found c.args.number c.self.inside.orders.entries))

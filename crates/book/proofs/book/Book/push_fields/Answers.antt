@@ -1,4 +1,4 @@
-use Rattle.std.proofs.Common.{◌≡◌, ◌∙◌, ◌+◌, [], ◌∷◌, ◌++◌, List, ap, map, slice_get, subst, sym, take}
+use Rattle.std.proofs.Common.{◌∙◌, ◌+◌, [], ◌∷◌, List, ap, sym, take}
 use Rattle.std.proofs.lemmas.Grind.{flat_map-append}
 use Rattle.std.proofs.lemmas.Option.{get_or_from_slice_get, slice_get_within}
 use Rattle.book.specs.After.{changed_fields}

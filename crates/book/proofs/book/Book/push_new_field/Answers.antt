@@ -1,7 +1,7 @@
-use Rattle.std.proofs.Common.{◌≡◌, ◌∙◌, ap, subst, sym}
+use Rattle.std.proofs.Common.{◌≡◌, subst, sym}
 use Rattle.words.specs.declared.command.Command.{Command}
-use Rattle.book.specs.After.{field_row, new_field_rows, with_fields}
-use Rattle.book.specs.Ledger.{Field, Ledger}
+use Rattle.book.specs.After.{new_field_rows, with_fields}
+use Rattle.book.specs.Ledger.{Ledger}
 use Rattle.book.specs.Next.{accept}
 use Rattle.book.specs.Tables.{rows_among}
 use Rattle.book.proofs.Among.{field_pushed}

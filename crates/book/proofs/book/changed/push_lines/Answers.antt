@@ -10,8 +10,8 @@ use Rattle.book.proofs.book.changed.push_lines.Goals as goal
 
 pub loop-index-preserved : goal.loop-index-preserved
 loop-index-preserved c =
-    let chosen = changes_own_line (is_transfer (order_of c.args.entry.now)) c.args.command.now in
-    let n = c.args.entry.now.number in
+    let chosen = changes_own_line (is_transfer (order_of c.args.order.now)) c.args.command.now in
+    let n = c.args.order.now.0 in
     let i = c.loop-index.index in
     let step = subst (λ (ls : List Line). line_rows chosen n 1 (take (i + 1) ls) ≡ line_rows chosen n 1 (take i ls) ++ line_rows chosen n (i + 1) (c.line-item.result ∷ [])) c.deref-line-items.ensures.value
     (line_rows-step chosen n c.deref-line-items.result.now i c.line-item.result c.loop-index-test.true c.line-item.is) in

@@ -7,4 +7,4 @@ use Rattle.book.specs.View.{order_of}
 use Rattle.book.proofs.book.changed.push_lines.Given as goal
 
 abbrev pub invariant-loop-index : goal.invariant-loop-index
-invariant-loop-index l = rows_among l.changes.items ≡ with_lines (line_rows (changes_own_line (is_transfer (order_of l.entry)) l.command) l.entry.number 1 (take l.index l.entry.lines.items)) (rows_among l.initial.changes.items)
+invariant-loop-index l = rows_among l.changes.items ≡ with_lines (line_rows (changes_own_line (is_transfer (order_of l.order)) l.command) l.order.0 1 (take l.index l.order.1.lines.items)) (rows_among l.initial.changes.items)

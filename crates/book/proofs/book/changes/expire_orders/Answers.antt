@@ -1,13 +1,20 @@
-use Rattle.std.proofs.Common.{◌&&◌, if◌then◌else◌, nat_le}
-use Rattle.book.specs.Ledger.{Order, is_open}
-use Rattle.book.specs.Next.{set_state}
+use Rattle.std.proofs.Common.{◌∙◌, ap, add-one, arith, map}
+use Rattle.book.specs.InPlace.{expired_entry}
 use Rattle.book.specs.View.{order_of}
-use Rattle.book.specs.declared.order.State.TheVariants.{Aborted}
-use Rattle.book.proofs.Walking.{seen_step}
+use Rattle.book.proofs.Putting.{expired_view, upto-all, upto-more}
 use Rattle.book.proofs.book.changes.expire_orders.Goals as goal
 
-pub loop-order-preserved : goal.loop-order-preserved
-loop-order-preserved c =
-    let expired : Order → Order = λ o. if is_open o && nat_le o.until c.args.now then set_state Aborted o else o in
-    seen_step order_of expired c.args.orders.now c.loop-order.orders c.loop-order.order-index c.order-item.result c.expire_order.new.order
-    c.loop-order-test.true c.loop-order.invariant c.expire_order.ensures
+pub loop-place-preserved : goal.loop-place-preserved
+loop-place-preserved c =
+    let now = c.loop-place.invariant.entries in
+    record {
+      entries = rw (now, add-one, c.expire_order.ensures) (upto-more (expired_entry c.args.now) c.args.orders.now.entries c.loop-place.place c.nth_mut.result.now (rw now at c.nth_mut.ensures.value));
+      room = c.loop-place.invariant.room;
+    }
+
+pub returns : goal.returns
+returns c =
+    let es = c.args.orders.now.entries in
+    let last = c.loop-place-test.false in
+    let long = c.len-place-end.ensures.len in
+    ap (map order_of) (c.loop-place.invariant.entries ∙ upto-all (expired_entry c.args.now) es c.loop-place.place (omega arith)) ∙ expired_view c.args.now es

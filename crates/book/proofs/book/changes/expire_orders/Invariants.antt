@@ -1,11 +1,8 @@
 -- the orders so far are expired
-use Rattle.std.proofs.Common.{◌&&◌, if◌then◌else◌, nat_le}
-use Rattle.book.specs.Ledger.{is_open}
-use Rattle.book.specs.Next.{set_state}
-use Rattle.book.specs.View.{order_of}
-use Rattle.book.specs.declared.order.State.TheVariants.{Aborted}
-use Rattle.book.proofs.Walking.{seen}
+use Rattle.std.proofs.Common.{◌≡◌}
+use Rattle.book.specs.InPlace.{expired_entry}
+use Rattle.book.proofs.Putting.{upto}
 use Rattle.book.proofs.book.changes.expire_orders.Given as goal
 
-abbrev pub invariant-loop-order : goal.invariant-loop-order
-invariant-loop-order l = seen order_of (λ o. if is_open o && nat_le o.until l.now then set_state Aborted o else o) l.order-index l.initial.orders l.orders
+abbrev pub invariant-loop-place : goal.invariant-loop-place
+invariant-loop-place l = record { entries : l.orders.entries ≡ upto (expired_entry l.now) l.fn.orders.entries l.place; room : l.orders.room ≡ l.fn.orders.room }

@@ -5,5 +5,5 @@ use Rattle.book.specs.Next.{expires}
 use Rattle.book.specs.View.{order_of}
 use Rattle.book.proofs.book.choose.expiring.Given as goal
 
-abbrev pub invariant-loop-entry : goal.invariant-loop-entry
-invariant-loop-entry l = map (λ entry. order_of entry.now) l.found.items ≡ filter (expires l.now) (map order_of (take l.entry-index l.orders))
+abbrev pub invariant-loop-place : goal.invariant-loop-place
+invariant-loop-place l = map (λ order. order_of order.now) l.found.items ≡ filter (expires l.now) (map order_of (take l.place l.orders.entries))

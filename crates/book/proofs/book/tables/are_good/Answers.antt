@@ -1,4 +1,4 @@
-use Rattle.std.proofs.Common.{◌↔◌, ◌≤◌, IfOk, IsTrue, List, ap, arith, length, map, nat_abs, subst, sym}
+use Rattle.std.proofs.Common.{◌↔◌, ◌≤◌, ℕ, IfOk, IsTrue, List, ap, arith, length, map, nat_abs, subst, sym}
 use Rattle.std.proofs.lemmas.Result.{IfOk-weaker}
 use Rattle.std.specs.List.{AllByRecursion as Each}
 use Rattle.escrow.specs.Ranges.{IsQty}
@@ -44,7 +44,7 @@ fit_rows-requires-clause-amounts c =
 pub fit_rows-requires-clause-short : goal.fit_rows-requires-clause-short
 fit_rows-requires-clause-short c =
     let os = c.args.entries.now.orders.items in
-    subst (λ (os : List OrderEntry). Each (λ entry. length entry.lines.items ≤ 64) os) (sym c.deref-3.ensures.value)
+    subst (λ (os : List (ℕ × OrderEntry)). Each (λ entry. length entry.1.lines.items ≤ 64) os) (sym c.deref-3.ensures.value)
     (each-imp (λ o x. x.few) os (each-unmap IsOrderByItself order_of os (whole c).orders))
 
 -- what is said of the slices, said of the entries
@@ -56,7 +56,7 @@ of_entries c =
     × HaveNumbers (numbers_on c.args.entries.now.moves.items c.args.entries.now.orders.items) fs rows))) c.deref.ensures.value
     (subst (λ (ms : List MoveEntry). IfOk c.fit_rows.result (λ fit. IsTrue fit ↔ (AreOnFields c.deref.result.now ms c.args.entries.now.orders.items
     × HaveNumbers (numbers_on ms c.args.entries.now.orders.items) c.deref.result.now rows))) c.deref-2.ensures.value
-    (subst (λ (os : List OrderEntry). IfOk c.fit_rows.result (λ fit. IsTrue fit ↔ (AreOnFields c.deref.result.now c.deref-2.result.now os
+    (subst (λ (os : List (ℕ × OrderEntry)). IfOk c.fit_rows.result (λ fit. IsTrue fit ↔ (AreOnFields c.deref.result.now c.deref-2.result.now os
     × HaveNumbers (numbers_on c.deref-2.result.now os) c.deref.result.now rows))) c.deref-3.ensures.value c.fit_rows.ensures))
 
 pub returns : goal.returns

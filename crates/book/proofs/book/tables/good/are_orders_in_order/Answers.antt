@@ -1,4 +1,4 @@
-use Rattle.std.proofs.Common.{◌≡◌, Bool, nat_lt, of_calls, rules}
+use Rattle.std.proofs.Common.{◌≡◌, ℕ, Bool, nat_lt, of_calls, rules}
 use Rattle.std.proofs.lemmas.Fn.{always_returns_same}
 use Rattle.std.specs.Ordering.{nat_cmp}
 use Rattle.std.proofs.lemmas.Cmp.{nat_cmp_total}
@@ -8,10 +8,10 @@ use Rattle.book.specs.declared.entries.OrderEntry.{OrderEntry}
 use Rattle.book.proofs.InRow.{in_order, numbers_less}
 use Rattle.book.proofs.book.tables.good.are_orders_in_order.Goals as goal
 
-abbrev before : OrderEntry → OrderEntry → Bool
-before one other = nat_lt one.number other.number
+abbrev before : ℕ × OrderEntry → ℕ × OrderEntry → Bool
+before one other = nat_lt one.0 other.0
 
 pub returns : goal.returns
 returns c =
-    in_order nat_cmp nat_cmp_total (λ (o : Order). o.number) order_of before (λ x y. numbers_less x.number y.number) c.args.orders.now c.is_sorted_by.result
+    in_order nat_cmp nat_cmp_total (λ (o : Order). o.number) order_of before (λ x y. numbers_less x.0 y.0) c.args.orders.now c.is_sorted_by.result
     (c.is_sorted_by.ensures.cases before (always_returns_same _ (λ a r. r ≡ before a.0.now a.1.0.now) _ (λ a r f k. search (rules, of_calls))))

@@ -1,0 +1,193 @@
+"""What was found, as Markdown."""
+
+import os
+import platform
+import time
+from dataclasses import dataclass, field
+from statistics import median
+
+from desks import ASKS, KINDS
+
+FILE, C_FILE, MEMORY, C_MEMORY = "file", "C on a file", "memory", "C in memory"
+GROWTH = 1.3
+EXPIRY_GROWTH = 3
+DELIVERY = 1.2
+OPENING = 0.3
+RESIDENT = 4
+NAMES = {
+    "ask": "ask",
+    "all": "ask, each field once",
+    "deliver": "delivery",
+    "open": "order of four lines",
+    "use": "use",
+    "release": "release",
+    "commit": "commit of four lines",
+    "abort": "abort of four lines",
+    "expire": "expiry of one order",
+}
+
+
+@dataclass
+class Found:
+    """What was found, by size and player, and the seconds of runs that end at three points of the opening."""
+
+    sizes: list
+    limit: int
+    counts: dict = field(default_factory=dict)
+    bytes: dict = field(default_factory=dict)
+    played: dict = field(default_factory=dict)
+    runs: dict = field(default_factory=dict)
+    late: set = field(default_factory=set)
+
+    def of(self, size, player, name):
+        """The median of a number of the sessions, or None where there were none."""
+        played = self.played.get((size, player), [])
+        return median(getattr(each, name) for each in played) if played else None
+
+    def micros(self, size, player, kind):
+        played = self.played.get((size, player), [])
+        return median(each.micros[kind] for each in played) if played else None
+
+    def run_seconds(self, size):
+        """The seconds behind the store's opening, behind its selects, and behind the whole opening."""
+        return [median(seconds) for seconds in zip(*self.runs[size])]
+
+    def beyond(self, size):
+        """The seconds of an opening beyond the store's opening and selects, and their ratio to these."""
+        _, selects, whole = self.run_seconds(size)
+        return whole - selects, whole / selects - 1
+
+
+def over(one, other):
+    return None if one is None or not other else one / other
+
+
+def number(value):
+    if value is None:
+        return "-"
+    return f"{value:,.0f}" if value >= 1000 else f"{value:.3g}" if value >= 100 else f"{value:.1f}"
+
+
+def ratio(value):
+    return "-" if value is None else f"{value:.2f}"
+
+
+def seconds(value):
+    return "-" if value is None else f"{value:.3f}"
+
+
+def mebibytes(value):
+    return "-" if value is None else f"{value / 2**20:,.1f}"
+
+
+def table(heads, rows):
+    lines = [heads, ["---"] + ["---:"] * (len(heads) - 1), *rows]
+    return ["| " + " | ".join(line) + " |" for line in lines] + [""]
+
+
+def processor():
+    try:
+        with open("/proc/cpuinfo", encoding="utf-8") as file:
+            return next(line.split(":", 1)[1].strip() for line in file if line.startswith("model name"))
+    except (OSError, StopIteration):
+        return platform.processor() or platform.machine()
+
+
+def head(program, file_system, library, rounds, batch):
+    """What was measured, on what, and when."""
+    machine = f"{os.cpu_count()} processors, {processor()}, {platform.system()} {platform.release()}, files on {file_system}"
+    c = f"SQLite {library}" if library else "not there"
+    yield f"{time.strftime('%Y-%m-%d %H:%M')}; {machine}."
+    yield f"The program has {os.path.getsize(program):,} bytes. C: {c}."
+    yield f"Medians of {rounds} rounds, each on new copies of the desks; batches of {batch} commands, or {batch * ASKS} asks."
+    yield ""
+
+
+def desks(found):
+    heads = ["size", "places taken", "open orders", "fields", "orders", "lines", "moves", "file, MiB"]
+    rows = [
+        [f"{size:,}", *(f"{value:,}" for value in found.counts[size].values()), mebibytes(found.bytes[size])]
+        for size in found.sizes
+    ]
+    return table(heads, rows)
+
+
+def cells(found, size, kind, player, beside):
+    """The microseconds of the program and of C, and their ratio."""
+    own, other = found.micros(size, player, kind), found.micros(size, beside, kind)
+    return [number(own), number(other), ratio(over(own, other))]
+
+
+def commands(found, player, beside):
+    heads = ["microseconds"]
+    for size in found.sizes:
+        heads += [f"{size:,}", "C", "ratio"]
+    rows = []
+    for kind in ["all", *KINDS]:
+        rows.append([NAMES[kind], *(cell for size in found.sizes for cell in cells(found, size, kind, player, beside))])
+    return table(heads, rows)
+
+
+def openings(found):
+    heads = ["seconds", "first answer", "C", "ratio", "run: store", "and selects", "whole", "beyond", "ratio"]
+    rows = []
+    for size in found.sizes:
+        first, c = found.of(size, FILE, "opening"), found.of(size, C_FILE, "opening")
+        runs = [seconds(value) for value in found.run_seconds(size)]
+        beyond, share = found.beyond(size)
+        rows.append([f"{size:,}", seconds(first), seconds(c), ratio(over(first, c)), *runs, seconds(beyond), ratio(share)])
+    return table(heads, rows)
+
+
+def memories(found):
+    heads = ["size", "resident, MiB", "most, MiB", "of the file", "made in memory, s", "resident, MiB", "most, MiB"]
+    rows = []
+    for size in found.sizes:
+        resident = found.of(size, FILE, "resident")
+        own = [mebibytes(resident), mebibytes(found.of(size, FILE, "peak")), ratio(resident / found.bytes[size])]
+        made = f"not made in {found.limit} s" if size in found.late else seconds(found.of(size, MEMORY, "opening"))
+        more = [mebibytes(found.of(size, MEMORY, name)) for name in ("resident", "peak")]
+        rows.append([f"{size:,}", *own, made, *more])
+    return table(heads, rows)
+
+
+def growths(found):
+    """Each command at the greatest size against the least, where there are two."""
+    least, most = min(found.sizes), max(found.sizes)
+    for player, where in [(FILE, "on a file"), (MEMORY, "in memory")] if least < most else []:
+        for kind in KINDS:
+            value = over(found.micros(most, player, kind), found.micros(least, player, kind))
+            limit = EXPIRY_GROWTH if kind == "expire" else GROWTH
+            yield f"{NAMES[kind]} {where}, {most:,} against {least:,}", limit, value
+
+
+def targets(found):
+    """Each target with its limit, and what was found."""
+    size = max(found.sizes)
+    yield from growths(found)
+    beside = over(found.micros(size, FILE, "deliver"), found.micros(size, C_FILE, "deliver"))
+    yield f"delivery on a file against C, {size:,}", DELIVERY, beside
+    yield f"opening beyond the store's opening and selects, {size:,}", OPENING, found.beyond(size)[1]
+    yield f"resident memory against the file, {size:,}", RESIDENT, found.of(size, FILE, "resident") / found.bytes[size]
+
+
+def reached(limit, value):
+    return "not measured" if value is None else "yes" if value <= limit else "no"
+
+
+def reckoning(found):
+    rows = [[text, str(limit), ratio(value), reached(limit, value)] for text, limit, value in targets(found)]
+    return table(["target", "at most", "found", "reached"], rows)
+
+
+def text(found):
+    """The tables, each with its heading."""
+    parts = [
+        ("Desks", desks(found)),
+        ("On a file", commands(found, FILE, C_FILE)),
+        ("In memory", commands(found, MEMORY, C_MEMORY)),
+        ("Opening", openings(found)),
+        ("Memory", memories(found)),
+        ("Targets", reckoning(found)),
+    ]
+    return [line for name, lines in parts for line in [f"### {name}", "", *lines]]

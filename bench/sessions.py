@@ -1,0 +1,146 @@
+"""The program and C SQLite as child processes that play batches."""
+
+import os
+import select
+import subprocess
+import time
+from collections import defaultdict
+from dataclasses import dataclass, field
+
+PIECE = 65_536
+
+
+class Late(Exception):
+    """What was asked for was not answered within its seconds."""
+
+
+@dataclass
+class Played:
+    """What is found in a session: the microseconds of a command by its kind, the seconds of its opening, and bytes."""
+
+    micros: dict = field(default_factory=lambda: defaultdict(float))
+    opening: float = 0
+    resident: int = 0
+    peak: int = 0
+
+
+class Session:
+    """A child process whose lines of input are answered by lines."""
+
+    def __init__(self, words):
+        self.words = words
+        self.played = Played()
+        self.began = time.perf_counter()
+        self.process = subprocess.Popen(words, stdin=subprocess.PIPE, stdout=subprocess.PIPE, bufsize=0)
+        self.input = self.process.stdin.fileno()
+        self.output = self.process.stdout.fileno()
+        os.set_blocking(self.input, False)
+
+    def exchange(self, lines, answers, seconds=None):
+        """Writes the lines and reads so many answers meanwhile: these, and the seconds until the last one."""
+        data = memoryview("".join(line + "\n" for line in lines).encode())
+        read = bytearray()
+        began = time.perf_counter()
+        while answers:
+            rest = None if seconds is None else max(0, began + seconds - time.perf_counter())
+            readable, writable, _ = select.select([self.output], [self.input] if data else [], [], rest)
+            if not readable and not writable:
+                raise Late
+            if writable:
+                data = data[os.write(self.input, data[:PIECE]) :]
+            if readable:
+                piece = self.piece()
+                answers -= piece.count(b"\n")
+                read += piece
+        return read.decode().splitlines(), time.perf_counter() - began
+
+    def piece(self):
+        piece = os.read(self.output, PIECE)
+        if not piece:
+            raise SystemExit(f"bench: {self.words} ended with status {self.process.wait()}")
+        return piece
+
+    def open(self, lines, seconds=None):
+        """The answers to the first lines. Notes the seconds from the process's start until then, and its memory: the bytes
+        that are resident, and the most that ever were."""
+        found, _ = self.exchange(lines, len(lines), seconds)
+        self.played.opening = time.perf_counter() - self.began
+        with open(f"/proc/{self.process.pid}/status", encoding="utf-8") as file:
+            status = dict(line.split(":", 1) for line in file)
+        self.played.resident, self.played.peak = [1024 * int(status[name].split()[0]) for name in ("VmRSS", "VmHWM")]
+        return found
+
+    def __enter__(self):
+        return self
+
+    def __exit__(self, kind, _error, _trace):
+        """Lets the process come to its end, or ends it where something failed."""
+        if kind:
+            self.process.kill()
+        self.process.stdin.close()
+        status = self.process.wait()
+        self.process.stdout.close()
+        if status and not kind:
+            raise SystemExit(f"bench: {self.words} ended with status {status}")
+
+
+def expect_answers(found, wanted, what):
+    for answer, want in zip(found, wanted, strict=True):
+        if answer != want:
+            raise SystemExit(f"bench: {what}: {answer!r} and not {want!r}")
+
+
+class Program(Session):
+    """A run of the program. Each of its answers is expected."""
+
+    def ask_first(self, step):
+        """Opens a desk in a file, and asks for a field."""
+        expect_answers(self.open([step.line]), [step.answer], "the first ask")
+
+    def make(self, made, seconds):
+        """Makes a desk in memory by its script, within so many seconds."""
+        expect_answers(self.open(made.script, seconds), made.answers, "the making")
+
+    def play(self, kind, steps):
+        """Plays the steps: the seconds from the first byte written to the last one read."""
+        found, seconds = self.exchange([step.line for step in steps], len(steps))
+        expect_answers(found, [step.answer for step in steps], kind)
+        return seconds
+
+
+class Rows(Session):
+    """A run of the C program, which puts in what each command changes."""
+
+    def select_all(self):
+        self.open(["all"])
+
+    def play(self, _kind, steps):
+        """Puts the rows in, one transaction a command: the seconds as C has measured them."""
+        lines = [line for step in steps for line in lines_of_rows(step)]
+        [answer], _ = self.exchange([*lines, "go"], 1)
+        return float(answer.split()[1]) / 1e6
+
+
+def lines_of_rows(step):
+    lines = ["\t".join(map(str, row)) for row in step.rows]
+    return lines if step.rows[0][0] == "ask" else ["begin", *lines, "commit"]
+
+
+def play_together(players, batches, parts):
+    """Plays each batch on all players, in so many parts that are played on each in turn."""
+    for kind, batch in batches.items():
+        length = -(-len(batch) // parts)
+        for first in range(0, len(batch), length):
+            for player in players:
+                seconds = player.play(kind, batch[first : first + length])
+                player.played.micros[kind] += 1e6 * seconds / len(batch)
+
+
+def run_seconds(program, path, status, errors):
+    """The seconds of a run that reads nothing and ends so."""
+    began = time.perf_counter()
+    ended = subprocess.run([program, "run", path], stdin=subprocess.DEVNULL, capture_output=True)
+    seconds = time.perf_counter() - began
+    if (ended.returncode, ended.stderr.decode()) != (status, errors):
+        raise SystemExit(f"bench: {path}: status {ended.returncode}, {ended.stderr!r}")
+    return seconds
