@@ -8,11 +8,20 @@ from math import isqrt
 from model import ADD, PLAIN, TAKE, Desk
 
 KINDS = ["ask", "deliver", "open", "use", "release", "commit", "abort", "expire"]
+
+# how often each of the other commands comes while a desk is made
 OTHERS = {"deliver": 4, "writeoff": 3, "use": 4, "release": 2, "more": 2}
-FULL = 199_000
+
+# the sizes: places that are taken, and one set aside for each open order
 SMALLEST = 1_000
+FULL = 199_000
+FULL_FIELDS = 10_000
+FULL_ORDERS = 90_000
+
+# asks in a batch for one command; deliveries before the first batch, so many that the log was copied into the file once
 ASKS = 10
-WARMING = 20
+WARMING = 200
+
 HI = 1_000_000_000
 START = 500_000_000
 SOON = 1_000
@@ -24,7 +33,7 @@ LETTERS = string.ascii_letters + string.digits + "-"
 
 @dataclass
 class Counts:
-    """How many of each thing a desk of a size has. The size counts its places, taken and set aside."""
+    """How many of each thing there are in the making of a desk."""
 
     fields: int
     orders: int
@@ -33,7 +42,8 @@ class Counts:
 
     @staticmethod
     def of(size):
-        fields, orders = size * 10_000 // FULL, size * 90_000 // FULL
+        """Each order takes a place, and one more is taken by its end or set aside for it."""
+        fields, orders = size * FULL_FIELDS // FULL, size * FULL_ORDERS // FULL
         ends = orders - orders // 2
         return Counts(fields, orders, ends, size - fields - 2 * orders)
 
@@ -88,8 +98,8 @@ class Maker:
 
     def make(self, counts, batch):
         self.make_fields(counts.fields)
-        for place in range(batch):
-            self.script.append(self.open_order(SOON + place).line)
+        for number in range(batch):
+            self.script.append(self.open_order(SOON + number).line)
             self.soon.append(self.pool.pop())
         tasks = ["begin"] * (counts.orders - batch) + ["end"] * counts.ends + ["other"] * counts.others
         self.random.shuffle(tasks)
@@ -165,18 +175,18 @@ class Maker:
         act = self.desk.use if verb == "use" else self.desk.release
         return act(self.key(), order, line, self.random.randint(1, min(line.spare(), 40)))
 
-    def place(self, fits):
-        """The place in the pool of a random order that fits."""
-        while not fits(self.pool[place := self.random.randrange(len(self.pool))]):
+    def index(self, fits):
+        """Where in the pool a random order lies that fits."""
+        while not fits(self.pool[index := self.random.randrange(len(self.pool))]):
             pass
-        return place
+        return index
 
     def pick(self, fits):
-        return self.pool[self.place(fits)]
+        return self.pool[self.index(fits)]
 
     def take_out(self, fits):
-        place = self.place(fits)
-        self.pool[place], self.pool[-1] = self.pool[-1], self.pool[place]
+        index = self.index(fits)
+        self.pool[index], self.pool[-1] = self.pool[-1], self.pool[index]
         return self.pool.pop()
 
     def timed(self, kind):

@@ -2,11 +2,15 @@
 
 import os
 import shutil
-import sqlite3
 import subprocess
 from contextlib import closing
 
 from model import TABLES
+
+try:
+    import sqlite3
+except ImportError:
+    sqlite3 = None
 
 KEYS = {"desk": "one", "field": "branch, article", "move": "place", "orders": "number", "line": "number, nr", "kept": "reqkey"}
 
@@ -18,6 +22,11 @@ NO_GOOD_ROWS = [
     "UPDATE desk SET clock = 4000000001",
     "UPDATE field SET lo = -1 WHERE rowid = (SELECT rowid FROM field ORDER BY branch, article LIMIT 1)",
 ]
+
+
+def is_able():
+    """Whether Python has an SQLite that knows STRICT tables."""
+    return sqlite3 is not None and sqlite3.sqlite_version_info >= (3, 37)
 
 
 def init(program, path):

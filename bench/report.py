@@ -37,16 +37,24 @@ class Found:
     bytes: dict = field(default_factory=dict)
     played: dict = field(default_factory=dict)
     runs: dict = field(default_factory=dict)
-    late: set = field(default_factory=set)
 
     def of(self, size, player, name):
         """The median of a number of the sessions, or None where there were none."""
         played = self.played.get((size, player), [])
         return median(getattr(each, name) for each in played) if played else None
 
+    def parts(self, size, player, kind):
+        return [micros for each in self.played.get((size, player), []) for micros in each.micros[kind]]
+
     def micros(self, size, player, kind):
-        played = self.played.get((size, player), [])
-        return median(each.micros[kind] for each in played) if played else None
+        """The median of all parts of the batches, or None where there were none."""
+        parts = self.parts(size, player, kind)
+        return median(parts) if parts else None
+
+    def against(self, size, player, beside, kind):
+        """The median of the ratios to the other player's part that was played right after each, or None."""
+        pairs = list(zip(self.parts(size, player, kind), self.parts(size, beside, kind)))
+        return median(one / other for one, other in pairs) if pairs else None
 
     def run_seconds(self, size):
         """The seconds behind the store's opening, behind its selects, and behind the whole opening."""
@@ -65,7 +73,7 @@ def over(one, other):
 def number(value):
     if value is None:
         return "-"
-    return f"{value:,.0f}" if value >= 1000 else f"{value:.3g}" if value >= 100 else f"{value:.1f}"
+    return f"{value:,.0f}" if value >= 100 else f"{value:.1f}"
 
 
 def ratio(value):
@@ -95,11 +103,12 @@ def processor():
 
 def head(program, file_system, library, rounds, batch):
     """What was measured, on what, and when."""
-    machine = f"{os.cpu_count()} processors, {processor()}, {platform.system()} {platform.release()}, files on {file_system}"
-    c = f"SQLite {library}" if library else "not there"
-    yield f"{time.strftime('%Y-%m-%d %H:%M')}; {machine}."
-    yield f"The program has {os.path.getsize(program):,} bytes. C: {c}."
+    machine = f"{os.cpu_count()} processors, {processor()}, load {os.getloadavg()[0]:.1f}"
+    system = f"{platform.system()} {platform.release()}, files on {file_system}"
+    yield f"{time.strftime('%Y-%m-%d %H:%M')}; {machine}; {system}."
+    yield f"The program has {os.path.getsize(program):,} bytes. C: {f'SQLite {library}' if library else 'not there'}."
     yield f"Medians of {rounds} rounds, each on new copies of the desks; batches of {batch} commands, or {batch * ASKS} asks."
+    yield "A ratio to C is the median of the ratios of parts of batches that were played one right behind the other."
     yield ""
 
 
@@ -115,7 +124,7 @@ def desks(found):
 def cells(found, size, kind, player, beside):
     """The microseconds of the program and of C, and their ratio."""
     own, other = found.micros(size, player, kind), found.micros(size, beside, kind)
-    return [number(own), number(other), ratio(over(own, other))]
+    return [number(own), number(other), ratio(found.against(size, player, beside, kind))]
 
 
 def commands(found, player, beside):
@@ -129,13 +138,14 @@ def commands(found, player, beside):
 
 
 def openings(found):
-    heads = ["seconds", "first answer", "C", "ratio", "run: store", "and selects", "whole", "beyond", "ratio"]
+    heads = ["seconds", "first answer", "C", "ratio", "whole run", "store opened", "rows selected", "beyond", "ratio"]
     rows = []
     for size in found.sizes:
         first, c = found.of(size, FILE, "opening"), found.of(size, C_FILE, "opening")
-        runs = [seconds(value) for value in found.run_seconds(size)]
+        store, selects, whole = [seconds(value) for value in found.run_seconds(size)]
         beyond, share = found.beyond(size)
-        rows.append([f"{size:,}", seconds(first), seconds(c), ratio(over(first, c)), *runs, seconds(beyond), ratio(share)])
+        split = [whole, store, selects, seconds(beyond), ratio(share)]
+        rows.append([f"{size:,}", seconds(first), seconds(c), ratio(over(first, c)), *split])
     return table(heads, rows)
 
 
@@ -145,9 +155,10 @@ def memories(found):
     for size in found.sizes:
         resident = found.of(size, FILE, "resident")
         own = [mebibytes(resident), mebibytes(found.of(size, FILE, "peak")), ratio(resident / found.bytes[size])]
-        made = f"not made in {found.limit} s" if size in found.late else seconds(found.of(size, MEMORY, "opening"))
+        made = found.of(size, MEMORY, "opening")
+        making = f"not made in {found.limit} s" if made is None else seconds(made)
         more = [mebibytes(found.of(size, MEMORY, name)) for name in ("resident", "peak")]
-        rows.append([f"{size:,}", *own, made, *more])
+        rows.append([f"{size:,}", *own, making, *more])
     return table(heads, rows)
 
 
@@ -165,18 +176,23 @@ def targets(found):
     """Each target with its limit, and what was found."""
     size = max(found.sizes)
     yield from growths(found)
-    beside = over(found.micros(size, FILE, "deliver"), found.micros(size, C_FILE, "deliver"))
-    yield f"delivery on a file against C, {size:,}", DELIVERY, beside
+    yield f"delivery on a file against C, {size:,}", DELIVERY, found.against(size, FILE, C_FILE, "deliver")
+    asking = found.micros(size, FILE, "all") * found.counts[size]["fields"] / 1000
+    yield f"asking every field once on a file, {size:,}, milliseconds", None, asking
     yield f"opening beyond the store's opening and selects, {size:,}", OPENING, found.beyond(size)[1]
     yield f"resident memory against the file, {size:,}", RESIDENT, found.of(size, FILE, "resident") / found.bytes[size]
 
 
 def reached(limit, value):
-    return "not measured" if value is None else "yes" if value <= limit else "no"
+    if value is None:
+        return "not measured"
+    return "-" if limit is None else "yes" if value <= limit else "no"
 
 
 def reckoning(found):
-    rows = [[text, str(limit), ratio(value), reached(limit, value)] for text, limit, value in targets(found)]
+    rows = []
+    for target, limit, value in targets(found):
+        rows.append([target, str(limit or "-"), ratio(value) if limit else number(value), reached(limit, value)])
     return table(["target", "at most", "found", "reached"], rows)
 
 

@@ -75,7 +75,6 @@ struct steps {
 
 static sqlite3 *database;
 static sqlite3_stmt *statements[FORMS];
-static sqlite3_int64 seen; /* the sum of what was selected, so that nothing of it is left out */
 
 static void fail(const char *what)
 {
@@ -108,9 +107,9 @@ static void read_row(sqlite3_stmt *statement)
 {
     for (int column = 0; column < sqlite3_column_count(statement); column++) {
         if (sqlite3_column_type(statement, column) == SQLITE_TEXT)
-            seen += sqlite3_column_text(statement, column)[0] + sqlite3_column_bytes(statement, column);
+            (void)sqlite3_column_text(statement, column);
         else
-            seen += sqlite3_column_int64(statement, column);
+            (void)sqlite3_column_int64(statement, column);
     }
 }
 

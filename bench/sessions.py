@@ -16,9 +16,10 @@ class Late(Exception):
 
 @dataclass
 class Played:
-    """What is found in a session: the microseconds of a command by its kind, the seconds of its opening, and bytes."""
+    """What is found in a session: by kind the microseconds of a command in each part of a batch, the seconds of its opening,
+    and bytes."""
 
-    micros: dict = field(default_factory=lambda: defaultdict(float))
+    micros: dict = field(default_factory=lambda: defaultdict(list))
     opening: float = 0
     resident: int = 0
     peak: int = 0
@@ -46,12 +47,12 @@ class Session:
             readable, writable, _ = select.select([self.output], [self.input] if data else [], [], rest)
             if not readable and not writable:
                 raise Late
-            if writable:
-                data = data[os.write(self.input, data[:PIECE]) :]
             if readable:
                 piece = self.piece()
                 answers -= piece.count(b"\n")
                 read += piece
+            if writable:
+                data = data[os.write(self.input, data[:PIECE]) :]
         return read.decode().splitlines(), time.perf_counter() - began
 
     def piece(self):
@@ -132,8 +133,8 @@ def play_together(players, batches, parts):
         length = -(-len(batch) // parts)
         for first in range(0, len(batch), length):
             for player in players:
-                seconds = player.play(kind, batch[first : first + length])
-                player.played.micros[kind] += 1e6 * seconds / len(batch)
+                part = batch[first : first + length]
+                player.played.micros[kind].append(1e6 * player.play(kind, part) / len(part))
 
 
 def run_seconds(program, path, status, errors):
