@@ -38,10 +38,10 @@ class Found:
     played: dict = field(default_factory=dict)
     runs: dict = field(default_factory=dict)
 
-    def of(self, size, player, name):
-        """The median of a number of the sessions, or None where there were none."""
+    def of(self, size, player, name, choose=median):
+        """The median of a number of the sessions, or what else is chosen, or None where there were none."""
         played = self.played.get((size, player), [])
-        return median(getattr(each, name) for each in played) if played else None
+        return choose(getattr(each, name) for each in played) if played else None
 
     def parts(self, size, player, kind):
         return [micros for each in self.played.get((size, player), []) for micros in each.micros[kind]]
@@ -57,8 +57,9 @@ class Found:
         return median(one / other for one, other in pairs) if pairs else None
 
     def run_seconds(self, size):
-        """The seconds behind the store's opening, behind its selects, and behind the whole opening."""
-        return [median(seconds) for seconds in zip(*self.runs[size])]
+        """The least seconds behind the store's opening, behind its selects, and behind the whole opening. They are long, and
+        close to one another: the least is what other work on the machine adds least to."""
+        return [min(seconds) for seconds in zip(*self.runs[size])]
 
     def beyond(self, size):
         """The seconds of an opening beyond the store's opening and selects, and their ratio to these."""
@@ -138,10 +139,10 @@ def commands(found, player, beside):
 
 
 def openings(found):
-    heads = ["seconds", "first answer", "C", "ratio", "whole run", "store opened", "rows selected", "beyond", "ratio"]
+    heads = ["least seconds", "first answer", "C", "ratio", "whole run", "store opened", "rows selected", "beyond", "ratio"]
     rows = []
     for size in found.sizes:
-        first, c = found.of(size, FILE, "opening"), found.of(size, C_FILE, "opening")
+        first, c = [found.of(size, player, "opening", min) for player in (FILE, C_FILE)]
         store, selects, whole = [seconds(value) for value in found.run_seconds(size)]
         beyond, share = found.beyond(size)
         split = [whole, store, selects, seconds(beyond), ratio(share)]
