@@ -58,7 +58,7 @@ same_both Greater b = refl
 same_field : (f g : Name) → same_name f g ≡ is_eq (name_cmp f g)
 same_field f g = rw (← is_eq-slice_cmp f.branch g.branch, ← is_eq-slice_cmp f.article g.article) (sym (same_both (slice_cmp nat_cmp f.branch g.branch) (slice_cmp nat_cmp f.article g.article)))
 
-equal_field : (f g : Name) → name_cmp f g ≡ Equal → f ≡ g
+pub equal_field : (f g : Name) → name_cmp f g ≡ Equal → f ≡ g
 equal_field f g h = name_is f g (equal_name f g h)
 
 pub field_found : (name : Name) (l : List (Name × FieldEntry)) → find (λ f. same_name name f.name) (map field_of l) ≡ option_map (λ v. field_of (name, v)) (lookup (is_at (name_cmp name)) l)

@@ -49,3 +49,4 @@ pub mod After
 pub mod Copied
 pub mod Counted
 pub mod NextRows
+pub mod Running

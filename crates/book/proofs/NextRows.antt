@@ -17,7 +17,7 @@ use Rattle.words.specs.Spelling.{IsInRange}
 use Rattle.words.specs.declared.command.Command.{Command}
 use Rattle.words.specs.declared.command.Command.TheVariants as command
 use Rattle.words.specs.declared.command.Request.{Request}
-use Rattle.book.specs.After.{changed_fields, changed_orders, changes_state, expired_rows, field_row, line_rows, new_field_rows, order_after, order_number, own_line_rows, own_move_rows, own_order_rows, with_fields, with_kept, with_lines, with_moves, with_orders}
+use Rattle.book.specs.After.{changed_fields, changed_orders, changes_state, expired_rows, field_row, field_rows, line_rows, new_field_rows, order_after, order_number, own_line_rows, own_move_rows, own_order_rows, with_fields, with_kept, with_lines, with_moves, with_orders}
 use Rattle.book.specs.Answers.{FirstFailure, IsAccepted, checks}
 use Rattle.book.specs.Changes.{put_content, changed_rows, changes_field, changes_line, changes_move, changes_order, order_is}
 use Rattle.book.specs.Good.{Good}
@@ -336,7 +336,7 @@ lines_changed A key (command.Expire now) g k h = filter-false (flat_map order_li
 abbrev pub rows_made : Ledger → Request → Content
 rows_made A r = record {
   desk = desk_row (accept A r) ∷ [];
-  fields = changed_fields A r A.fields ++ new_field_rows (accept A r) r.command;
+  fields = field_rows A r;
   moves = own_move_rows (places A + 1) r.command;
   orders = changed_orders A r.command;
   lines = own_line_rows r.command (order_after A r.command);
@@ -390,19 +390,19 @@ place_is b v n e is =
     omega arith
 
 -- the rows as they are made one after the other
-pub rows_in_turn : (A : Ledger) (r : Request) (place clock : ℕ) (made : Option Order) (cells : DeskCells) (desk fields field moves orders lines kept : Content) → place ≡ places A + 1 → clock ≡ (next A r.command).clock → made ≡ order_after A r.command
-    → cells ≡ record { one = pos 1; version = pos 1; clock = pos clock; places = pos place } → desk ≡ record no_content { desk = cells ∷ [] } → fields ≡ with_fields (changed_fields A r A.fields) desk → field ≡ with_fields (new_field_rows (accept A r) r.command) fields
-    → moves ≡ with_moves (own_move_rows place r.command) field → orders ≡ with_orders (changed_orders A r.command) moves → lines ≡ with_lines (own_line_rows r.command made) orders
+pub rows_in_turn : (A : Ledger) (r : Request) (place clock : ℕ) (made : Option Order) (cells : DeskCells) (desk fields moves orders lines kept : Content) → place ≡ places A + 1 → clock ≡ (next A r.command).clock → made ≡ order_after A r.command
+    → cells ≡ record { one = pos 1; version = pos 1; clock = pos clock; places = pos place } → desk ≡ record no_content { desk = cells ∷ [] } → fields ≡ with_fields (field_rows A r) desk
+    → moves ≡ with_moves (own_move_rows place r.command) fields → orders ≡ with_orders (changed_orders A r.command) moves → lines ≡ with_lines (own_line_rows r.command made) orders
     → kept ≡ with_kept (kept_row (record { key = r.key; place = place; command = r.command }) ∷ []) lines → kept ≡ rows_made A r
-rows_in_turn A r place clock made cells desk fields field moves orders lines kept at time is a b d e f g h k =
+rows_in_turn A r place clock made cells desk fields moves orders lines kept at time is a b d f g h k =
     let more : places (accept A r) ≡ places A + 1 = length-insert (λ a b. is_lt (slice_cmp nat_cmp a.key b.key)) (record { key = r.key; place = places A + 1; command = r.command }) A.kept in
     let count = at ∙ sym more in
     let row : cells ≡ desk_row (accept A r) = a ∙ (λ i. record { one = pos 1; version = pos 1; clock = pos (time i); places = pos (count i) }) in
     k ∙ ap (with_kept (kept_row (record { key = r.key; place = place; command = r.command }) ∷ [])) (h ∙ ap (with_lines (own_line_rows r.command made)) (g ∙ ap (with_orders (changed_orders A r.command)) (f
-    ∙ ap (with_moves (own_move_rows place r.command)) (e ∙ ap (with_fields (new_field_rows (accept A r) r.command)) (d ∙ ap (with_fields (changed_fields A r A.fields)) b)))))
+    ∙ ap (with_moves (own_move_rows place r.command)) (d ∙ ap (with_fields (field_rows A r)) b))))
     ∙ (λ i. record {
       desk = row i ∷ [];
-      fields = changed_fields A r A.fields ++ new_field_rows (accept A r) r.command;
+      fields = field_rows A r;
       moves = own_move_rows (at i) r.command;
       orders = changed_orders A r.command;
       lines = own_line_rows r.command (is i);

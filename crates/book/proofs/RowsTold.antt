@@ -1,5 +1,6 @@
 -- Rows of a good ledger each tell something in range, and rows that each tell something tell a ledger.
-use Rattle.std.proofs.Common.{◌≡◌, ◌∙◌, ℕ, ◌+◌, List, [], ◌∷◌, ap, arith, flat_map, map, refl, subst, sym, find, IsSome, true, false, Bool, if◌then◌else◌, Some, true≢false}
+use Rattle.std.proofs.Common.{◌≡◌, ◌∙◌, ℕ, ◌+◌, ◌≤◌, ℤ, pos, negsuc, ◌+ℤ◌, ◌-ℤ◌, ◌≤ℤ◌, List, [], ◌∷◌, ap, arith, flat_map, map, nat_abs, refl, subst, sym, find, IsSome, true, false, Bool, if◌then◌else◌, Some, true≢false}
+use Rattle.std.proofs.lemmas.Int.{ints}
 use Rattle.std.specs.List.{AllByRecursion as Each, AllZip}
 use Rattle.escrow.specs.Codes.{IsArticle, IsBranch}
 use Rattle.escrow.specs.Ranges.{IsLevel}
@@ -17,9 +18,15 @@ use Rattle.book.specs.Good.{Good, IsGoodField, IsGoodKept, IsGoodLine, IsGoodMov
 use Rattle.book.specs.Ledger.{Field, Ledger, Name, Order, line_name, same_name}
 use Rattle.book.specs.Rows.{IsFieldRow, LineCells, OrderCells, kept_row, lines_from, move_row, order_lines, order_row}
 use Rattle.book.specs.Tables.{field_cells, kept_cells, line_cells, move_cells, order_cells}
-use Rattle.book.specs.Told.{IsFieldTold, IsHeadTold, IsKeptTold, IsLineTold, IsMoveTold, TellsLine, head_of, head_row}
-use Rattle.book.proofs.Closing.{name_is}
-use Rattle.book.proofs.Lists.{each-unmap}
+use Rattle.book.specs.Running.{entry_row}
+use Rattle.book.specs.Told.{IsBounded, IsFieldTold, IsHeadTold, IsKeptTold, IsLineTold, IsMoveTold, TellsField, TellsLine, head_of, head_row}
+use Rattle.book.specs.View.{field_of}
+use Rattle.book.specs.Held.{held_to_add, held_to_take}
+use Rattle.book.specs.Outcomes.{settled}
+use Rattle.book.proofs.Bounds.{inf_is, inf_unique, sup_is, sup_unique}
+use Rattle.book.proofs.Closing.{name_is, sounds_from_good}
+use Rattle.book.proofs.Lists.{each-two, each-unmap}
+use Rattle.book.proofs.Runs.{in_order}
 use Rattle.book.proofs.Sums.{each-imp}
 use Rattle.book.proofs.Told.{each-join, not_empty, same_first, same_kind, same_pos, same_rest, same_state}
 
@@ -47,10 +54,84 @@ named_codes n (f ∷ fs) good there = step (same_name n f.name) refl (λ k. name
     step true e more h = let is = name_is n f.name e in (subst (λ (m : Name). IsBranch m.branch) (sym is) good.0.branch, subst (λ (m : Name). IsArticle m.article) (sym is) good.0.article)
     step false e more h = more h
 
+-- the numbers of a field, in their order
+abbrev AreInOrder : Ledger → Field → Type 0
+AreInOrder A f = (pos f.lo ≤ℤ (settled A f -ℤ held_to_take A f.name)) × ((settled A f -ℤ held_to_take A f.name) ≤ℤ settled A f) × (settled A f ≤ℤ (settled A f +ℤ held_to_add A f.name)) × ((settled A f +ℤ held_to_add A f.name) ≤ℤ pos f.hi) × (f.hi ≤ 1000000000)
+
+natural : (z : ℤ) → pos 0 ≤ℤ z → pos (nat_abs z) ≡ z
+natural (pos n) h = refl
+natural (negsuc n) h = absurd (omega (arith, ints))
+
+field_told : (A : Ledger) (f : Field) (row : FieldRow) → Good A → IsGoodField f → AreInOrder A f → IsFieldRow A f (field_cells row) → (e : Name × FieldEntry) × IsFieldTold e row
+field_told A f row g good r is =
+    let sound = sounds_from_good A g in
+    let least = inf_unique A f row.inf (settled A f -ℤ held_to_take A f.name) is.inf (inf_is A sound f) in
+    let greatest = sup_unique A f row.sup (settled A f +ℤ held_to_add A f.name) is.sup (sup_is A sound f) in
+    let low = r.0 in
+    let inf = r.1 in
+    let sup = r.2 in
+    let high = r.3 in
+    let v = natural (settled A f) (omega (arith, ints)) in
+    let t = natural (held_to_take A f.name) (omega (arith, ints)) in
+    let a = natural (held_to_add A f.name) (omega (arith, ints)) in
+    let value_is = is.value in (
+      (f.name, record { start = f.start; quantity = record { lo = f.lo; hi = f.hi; value = nat_abs (settled A f); held_to_take = nat_abs (held_to_take A f.name); held_to_add = nat_abs (held_to_add A f.name) } }),
+      record {
+        branch = good.branch;
+        article = good.article;
+        start = good.start;
+        branch_is = is.branch;
+        article_is = is.article;
+        start_is = is.start;
+        quantity = record {
+          bounded = record { low = omega (arith, ints); high = omega (arith, ints) };
+          greatest = good.hi;
+          lo = is.lo;
+          hi = is.hi;
+          value = omega (arith, ints);
+          inf = omega (arith, ints);
+          sup = omega (arith, ints);
+        };
+      },
+    )
+
+-- what is told of a field, said of the ledger's field
+pub good_field : (e : Name × FieldEntry) (row : FieldRow) → IsFieldTold e row → IsGoodField (field_of e)
+good_field e row told =
+    let low = told.quantity.bounded.low in
+    let high = told.quantity.bounded.high in
+    let greatest = told.quantity.greatest in
+    record { branch = told.branch; article = told.article; lo = omega arith; hi = told.quantity.greatest; start = told.start }
+
+pub tells_field : (e : Name × FieldEntry) (row : FieldRow) → IsFieldTold e row → TellsField (field_of e) (field_cells row)
+tells_field e row told = record { branch = told.branch_is; article = told.article_is; lo = told.quantity.lo; hi = told.quantity.hi; start = told.start_is }
+
+pub told_bounded : (es : List (Name × FieldEntry)) (rows : List FieldRow) → AllZip IsFieldTold es rows → Each (λ e. IsBounded e.1.quantity) es
+told_bounded [] rows told = tt
+told_bounded (e ∷ es) [] told = absurd told
+told_bounded (e ∷ es) (r ∷ rows) told = (told.0.quantity.bounded, told_bounded es rows told.1)
+
+pub told_rows : (es : List (Name × FieldEntry)) (rows : List FieldRow) → AllZip IsFieldTold es rows → map entry_row es ≡ map field_cells rows
+told_rows [] [] told = refl
+told_rows [] (r ∷ rows) told = absurd told
+told_rows (e ∷ es) [] told = absurd told
+told_rows (e ∷ es) (r ∷ rows) told =
+    let first = told.0 in
+    let more = told_rows es rows told.1 in
+    λ i. record {
+      branch = sym first.branch_is i;
+      article = sym first.article_is i;
+      lo = sym first.quantity.lo i;
+      hi = sym first.quantity.hi i;
+      start = sym first.start_is i;
+      value = sym first.quantity.value i;
+      inf = sym first.quantity.inf i;
+      sup = sym first.quantity.sup i;
+    } ∷ more i
+
 pub fields_told : (A : Ledger) (rows : List FieldRow) → Good A → AllZip (IsFieldRow A) A.fields (map field_cells rows) → Each (λ row. (e : Name × FieldEntry) × IsFieldTold e row) rows
-fields_told A rows g z = each_zip (IsFieldRow A) field_cells IsGoodField (λ row. (e : Name × FieldEntry) × IsFieldTold e row)
-    (λ f row good is. ((f.name, record { lo = f.lo; hi = f.hi; start = f.start }), (good, record { branch = is.branch; article = is.article; lo = is.lo; hi = is.hi; start = is.start })))
-    A.fields rows g.fields z
+fields_told A rows g z = each_zip (IsFieldRow A) field_cells (λ f. IsGoodField f × AreInOrder A f) (λ row. (e : Name × FieldEntry) × IsFieldTold e row)
+    (λ f row good is. field_told A f row g good.0 good.1 is) A.fields rows (each-two IsGoodField (AreInOrder A) A.fields g.fields (in_order A g)) z
 
 pub moves_told : (A : Ledger) (rows : List MoveRow) → Good A → map move_cells rows ≡ map move_row A.moves → Each (λ row. (e : MoveEntry) × IsMoveTold e row) rows
 moves_told A rows g e = each_row move_row move_cells (IsGoodMove A) (λ row. (e : MoveEntry) × IsMoveTold e row)

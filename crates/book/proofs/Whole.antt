@@ -1,5 +1,5 @@
 -- What makes a told ledger good, and that rows tell one good ledger at the most.
-use Rattle.std.proofs.Common.{◌≡◌, ◌∙◌, ◌↔◌, ◌≤◌, ◌+ℤ◌, ◌-ℤ◌, pos, List, [], ◌∷◌, arith, length, map, subst, sym, if◌then◌else◌}
+use Rattle.std.proofs.Common.{◌≡◌, ◌∙◌, ◌↔◌, ◌≤◌, ◌+ℤ◌, ◌-ℤ◌, pos, List, [], ◌∷◌, ap, arith, length, map, subst, sym, if◌then◌else◌}
 use Rattle.std.proofs.lemmas.Int.{ints}
 use Rattle.std.specs.List.{AllByRecursion as Each, AllZip}
 use Rattle.book.specs.declared.limits.TheConstants.{MAX_PLACES}
@@ -15,7 +15,8 @@ use Rattle.book.specs.Rows.{FieldCells, IsFieldRow}
 use Rattle.book.specs.Sums.{AreMovesOnFields, AreOnFields, AreOrdersOnFields, IsField, entry_name, numbers_on}
 use Rattle.book.specs.Walk.{moved_by_move, moved_by_order}
 use Rattle.book.specs.Tables.{field_cells}
-use Rattle.book.specs.Told.{HasNumbers, HaveNumbers, IsInForm, IsMoveByItself, IsOrderByItself, IsWhole, TellsField, told_ledger}
+use Rattle.book.specs.Running.{IsUpToDate}
+use Rattle.book.specs.Told.{AreGood, HasNumbers, HaveNumbers, IsBounded, IsInForm, IsMoveByItself, IsOrderByItself, IsWhole, told_ledger}
 use Rattle.book.specs.View.{field_of, move_of, order_of}
 use Rattle.book.proofs.Bounds.{HasRoom, Sound, inf_is, inf_unique, room_from_safe, safe_from_room, sup_is, sup_unique}
 use Rattle.book.proofs.Closing.{one_on, sounds_from_good}
@@ -97,72 +98,47 @@ told_adds e n = total-map _ order_of e.orders.items
 abbrev numbers_of : Entries → Name → Numbers
 numbers_of e = numbers_on e.moves.items e.orders.items
 
--- a field whose row has these numbers is safe
-room_if : (e : Entries) (f : Field) (row : FieldCells) → HasNumbers (numbers_of e f.name) f row → HasRoom (told_ledger e) f
-room_if e f row h =
-    let value = told_settled e f in
-    let takes = told_takes e f.name in
-    let adds = told_adds e f.name in
-    let inf = h.inf in
-    let sup = h.sup in
-    let low = h.low in
-    let high = h.high in
+-- an entry with these numbers is safe
+room_if : (e : Entries) (f : Name × FieldEntry) → HasNumbers (numbers_of e f.0) f.1 → IsBounded f.1.quantity → HasRoom (told_ledger e) (field_of f)
+room_if e f h bounded =
+    let settled_is = told_settled e (field_of f) in
+    let takes_is = told_takes e f.0 in
+    let adds_is = told_adds e f.0 in
+    let value = h.value in
+    let takes = h.takes in
+    let adds = h.adds in
+    let low = bounded.low in
+    let high = bounded.high in
     (omega (arith, ints), omega (arith, ints))
 
-pub rooms_if : (e : Entries) (fs : List (Name × FieldEntry)) (rows : List FieldRow) → HaveNumbers (numbers_of e) fs rows → Each (HasRoom (told_ledger e)) (map field_of fs)
-rooms_if e [] [] h = tt
-rooms_if e [] (r ∷ rows) h = absurd h
-rooms_if e (f ∷ fs) [] h = absurd h
-rooms_if e (f ∷ fs) (r ∷ rows) h = (room_if e (field_of f) (field_cells r) h.0, rooms_if e fs rows h.1)
+pub rooms_if : (e : Entries) (fs : List (Name × FieldEntry)) → HaveNumbers (numbers_of e) fs → Each (λ f. IsBounded f.1.quantity) fs → Each (HasRoom (told_ledger e)) (map field_of fs)
+rooms_if e [] h bounded = tt
+rooms_if e (f ∷ fs) h bounded = (room_if e f h.0 bounded.0, rooms_if e fs h.1 bounded.1)
 
--- the rows that have the numbers, and tell the rest, are the rows of the fields
-pub rows_if : (e : Entries) → Each Sound (told_ledger e).orders → (fs : List (Name × FieldEntry)) (rows : List FieldRow) → HaveNumbers (numbers_of e) fs rows → AllZip TellsField (map field_of fs) (map field_cells rows)
-    → AllZip (IsFieldRow (told_ledger e)) (map field_of fs) (map field_cells rows)
-rows_if e sound [] [] h t = tt
-rows_if e sound [] (r ∷ rows) h t = absurd h
-rows_if e sound (f ∷ fs) [] h t = absurd h
-rows_if e sound (f ∷ fs) (r ∷ rows) h t =
+-- an entry has the numbers exactly where it is up to date
+up_to_date_if : (e : Entries) (f : Name × FieldEntry) → HasNumbers (numbers_of e f.0) f.1 → IsUpToDate (told_ledger e) f
+up_to_date_if e f h =
     let A : Ledger = told_ledger e in
-    let value = told_settled e (field_of f) in
-    let takes = told_takes e (entry_name f) in
-    let adds = told_adds e (entry_name f) in
-    let has_inf = h.0.inf in
-    let has_sup = h.0.sup in
-    let inf : settled A (field_of f) -ℤ held_to_take A (entry_name f) ≡ r.inf = omega (arith, ints) in
-    let sup : settled A (field_of f) +ℤ held_to_add A (entry_name f) ≡ r.sup = omega (arith, ints) in (
-      record {
-        branch = t.0.branch;
-        article = t.0.article;
-        lo = t.0.lo;
-        hi = t.0.hi;
-        start = t.0.start;
-        value = h.0.value ∙ sym value;
-        inf = subst (IsInfimum A (field_of f)) inf (inf_is A sound (field_of f));
-        sup = subst (IsSupremum A (field_of f)) sup (sup_is A sound (field_of f));
-      },
-      rows_if e sound fs rows h.1 t.1,
-    )
-
--- the rows of a good ledger's fields have the numbers
-pub numbers_from_rows : (e : Entries) → Good (told_ledger e) → (fs : List (Name × FieldEntry)) (rows : List FieldRow) → Each (HasRoom (told_ledger e)) (map field_of fs)
-    → AllZip (IsFieldRow (told_ledger e)) (map field_of fs) (map field_cells rows) → HaveNumbers (numbers_of e) fs rows
-numbers_from_rows e g [] [] room z = tt
-numbers_from_rows e g [] (r ∷ rows) room z = absurd z
-numbers_from_rows e g (f ∷ fs) [] room z = absurd z
-numbers_from_rows e g (f ∷ fs) (r ∷ rows) room z =
-    let A : Ledger = told_ledger e in
-    let sound = sounds_from_good A g in
     let settled_is = told_settled e (field_of f) in
-    let takes = told_takes e (entry_name f) in
-    let adds = told_adds e (entry_name f) in
-    let value_is = z.0.value in
-    let inf_same = inf_unique A (field_of f) r.inf (settled A (field_of f) -ℤ held_to_take A (entry_name f)) z.0.inf (inf_is A sound (field_of f)) in
-    let sup_same = sup_unique A (field_of f) r.sup (settled A (field_of f) +ℤ held_to_add A (entry_name f)) z.0.sup (sup_is A sound (field_of f)) in
-    let low_is = room.0.0 in
-    let high_is = room.0.1 in (
-      record { value = omega (arith, ints); inf = omega (arith, ints); sup = omega (arith, ints); low = omega (arith, ints); high = omega (arith, ints) },
-      numbers_from_rows e g fs rows room.1 z.1,
-    )
+    let takes_is = told_takes e f.0 in
+    let adds_is = told_adds e f.0 in
+    let value_is = h.value in
+    let takes = h.takes in
+    let adds = h.adds in
+    let value : pos f.1.quantity.value ≡ settled A (field_of f) = omega (arith, ints) in
+    let inf : pos f.1.quantity.value -ℤ pos f.1.quantity.held_to_take ≡ settled A (field_of f) -ℤ held_to_take A f.0 = omega (arith, ints) in
+    let sup : pos f.1.quantity.value +ℤ pos f.1.quantity.held_to_add ≡ settled A (field_of f) +ℤ held_to_add A f.0 = omega (arith, ints) in
+    λ i. record { branch = f.0.branch; article = f.0.article; lo = pos f.1.quantity.lo; hi = pos f.1.quantity.hi; start = pos f.1.start; value = value i; inf = inf i; sup = sup i }
+
+numbers_if : (e : Entries) (f : Name × FieldEntry) → IsUpToDate (told_ledger e) f → HasNumbers (numbers_of e f.0) f.1
+numbers_if e f up =
+    let settled_is = told_settled e (field_of f) in
+    let takes_is = told_takes e f.0 in
+    let adds_is = told_adds e f.0 in
+    let value = ap (λ (r : FieldCells). r.value) up in
+    let inf = ap (λ (r : FieldCells). r.inf) up in
+    let sup = ap (λ (r : FieldCells). r.sup) up in
+    record { value = omega (arith, ints); takes = omega (arith, ints); adds = omega (arith, ints) }
 
 -- orders that are each good by themselves are sound
 pub sounds_if_whole : (A : Ledger) → IsWhole A → Each Sound A.orders
@@ -176,15 +152,12 @@ few_moves_if_whole A w =
     let fit = w.limits.places in
     omega arith
 
-pub good_iff : (e : Entries) (rows : List FieldRow) → IsInForm (told_ledger e) → AllZip TellsField (told_ledger e).fields (map field_cells rows) → IsWhole (told_ledger e)
-    → (AreOnFields e.fields.items e.moves.items e.orders.items × HaveNumbers (numbers_of e) e.fields.items rows) ↔ (Good (told_ledger e) × AllZip (IsFieldRow (told_ledger e)) (told_ledger e).fields (map field_cells rows))
-good_iff e rows form told w = let A : Ledger = told_ledger e in (
+pub good_iff : (e : Entries) → IsInForm (told_ledger e) → Each (λ f. IsBounded f.1.quantity) e.fields.items → IsWhole (told_ledger e)
+    → (AreOnFields e.fields.items e.moves.items e.orders.items × HaveNumbers (numbers_of e) e.fields.items) ↔ AreGood e
+good_iff e form bounded w = (
   λ fit. (
-    good_if_whole e form w fit.0 (safe_from_room A (rooms_if e e.fields.items rows fit.1)),
-    rows_if e (sounds_if_whole A w) e.fields.items rows fit.1 told,
+    good_if_whole e form w fit.0 (safe_from_room (told_ledger e) (rooms_if e e.fields.items fit.1 bounded)),
+    each-imp (λ f h. up_to_date_if e f h) e.fields.items fit.1,
   ),
-  λ good. (
-    on_fields_from_good e good.0,
-    numbers_from_rows e good.0 e.fields.items rows (room_from_safe A (sounds_from_good A good.0) good.0.safe) good.1,
-  ),
+  λ good. (on_fields_from_good e good.0, each-imp (λ f up. numbers_if e f up) e.fields.items good.1),
 )

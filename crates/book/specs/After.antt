@@ -193,3 +193,7 @@ changed_fields A r fs = flat_map (λ f. if changes_field A r.command f.name then
 abbrev pub changed_orders : Ledger → Command → List OrderCells
 changed_orders A (Expire now) = expired_rows now A.orders
 changed_orders A c = own_order_rows c (order_after A c)
+
+-- the rows of all fields that the request makes or changes
+abbrev pub field_rows : Ledger → Request → List FieldCells
+field_rows A r = changed_fields A r A.fields ++ new_field_rows (accept A r) r.command

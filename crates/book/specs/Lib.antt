@@ -21,3 +21,4 @@ pub mod Tables
 pub mod Told
 pub mod Sums
 pub mod After
+pub mod Running

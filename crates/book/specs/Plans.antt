@@ -1,5 +1,5 @@
 -- Plans of accepted requests, and what carrying one out needs.
-use Rattle.std.specs.Prelude.{ℕ, ◌+◌, ◌≤◌, ◌≡◌, List, [], ◌∷◌, Option}
+use Rattle.std.specs.Prelude.{ℕ, ◌+◌, ◌≤◌, ◌≡◌, List, [], ◌∷◌, Option, length, map}
 use Rattle.words.specs.declared.command.Command.{Command}
 use Rattle.words.specs.declared.command.Command.TheVariants as command
 use Rattle.words.specs.declared.command.Request.{Request}
@@ -7,16 +7,20 @@ use Rattle.words.specs.declared.open_line.OpenLine.{OpenLine}
 use Rattle.book.specs.After.{order_after}
 use Rattle.book.specs.Answers.{IsAccepted}
 use Rattle.book.specs.Changes.{changed_rows, put_content}
-use Rattle.book.specs.Ledger.{Ledger, Order, places}
+use Rattle.book.specs.Ledger.{Ledger, Name, Order, places}
 use Rattle.book.specs.Next.{accept, transfer_lines}
 use Rattle.book.specs.Rows.{Content, IsRowsOf, desk_row}
+use Rattle.book.specs.Running.{entry_row}
 use Rattle.book.specs.View.{BookView}
+use Rattle.book.specs.declared.entries.FieldEntry.{FieldEntry}
 
--- a plan as it is seen: the request that it carries out, the place that its command gets, the order that it makes, and
--- the rows that change
+-- a plan as it is seen: the request that it carries out, the place that its command gets, the fields and the order that
+-- it makes or changes, and the rows that change
 pub record PlanView : Type 0 where
   pub request : Request
   pub place : ℕ
+  -- the entries of the fields that change, as they are then
+  pub fields : List (Name × FieldEntry)
   -- the order that the command opens or changes, as it is then
   pub made : Option Order
   pub changes : Content
@@ -31,12 +35,13 @@ pub record ChangesTo (A : Ledger) (r : Request) (rows : Content) : Type 0 where
   pub desk : rows.desk ≡ desk_row (accept A r) ∷ []
 
 -- The plan fits the ledger: its request is accepted there, at that place, makes that order, and its rows are those that
--- change.
+-- change; those of fields are the rows of its entries.
 pub record Fits (A : Ledger) (plan : PlanView) : Type 0 where
   pub accepted : IsAccepted A plan.request
   pub place : plan.place ≡ places A + 1
   pub made : plan.made ≡ order_after A plan.request.command
   pub changes : ChangesTo A plan.request plan.changes
+  pub fields : map entry_row plan.fields ≡ plan.changes.fields
 
 -- the lines of the order that a command opens
 abbrev pub opened_lines : Command → List OpenLine
@@ -44,9 +49,9 @@ opened_lines (command.Open n until lines) = lines
 opened_lines (command.Transfer n until a from to q) = transfer_lines a from to q
 opened_lines c = []
 
--- The book has room for the plan: for an entry more of each kind.
+-- The book has room for the plan: for the fields that change, and for an entry more of each other kind.
 pub record HasRoomFor (book : BookView) (plan : PlanView) : Type 0 where
-  pub fields : 1 ≤ book.room.fields
+  pub fields : length plan.fields ≤ book.room.fields
   pub moves : 1 ≤ book.room.moves
   pub orders : 1 ≤ book.room.orders
   pub kept : 1 ≤ book.room.kept

@@ -1,11 +1,12 @@
 -- What the rows of tables tell: each row an entry, and rows of orders and lines together the orders.
-use Rattle.std.specs.Prelude.{ℕ, ◌+◌, ◌+ℤ◌, ◌-ℤ◌, ◌≤ℤ◌, ◌≤◌, ◌≡◌, pos, nat_abs, nat_eq, List, [], ◌∷◌, length, map, flat_map, IsTrue}
+use Rattle.std.specs.Prelude.{ℕ, ◌+◌, ◌+ℤ◌, ◌-ℤ◌, ◌≤◌, ◌≡◌, pos, nat_abs, nat_eq, List, [], ◌∷◌, length, map, flat_map, string_bytes, IsTrue}
 use Rattle.std.specs.Ordering.{nat_cmp}
 use Rattle.std.specs.Cmp.Lexicographic.{slice_cmp}
 use Rattle.std.specs.List.Sorted.{IsStrictlySortedBy}
 use Rattle.std.specs.List.{AllByRecursion as Each, AllZip, IsDistinct}
 use Rattle.escrow.specs.Codes.{IsArticle, IsBranch, IsKey}
 use Rattle.escrow.specs.Ranges.{IsLevel, IsMoment, IsOrderNo, IsQty}
+use Rattle.escrow.specs.Stock.{Stock}
 use Rattle.words.specs.Spelling.{IsInRange}
 use Rattle.words.specs.declared.limits.TheConstants.{MAX_ORDER_LINES}
 use Rattle.book.specs.declared.limits.TheConstants.{MAX_FIELDS, MAX_ORDERS, MAX_PLACES}
@@ -21,10 +22,11 @@ use Rattle.book.specs.declared.rows.KeptRow.{KeptRow}
 use Rattle.book.specs.declared.rows.LineRow.{LineRow}
 use Rattle.book.specs.declared.rows.MoveRow.{MoveRow}
 use Rattle.book.specs.declared.rows.OrderRow.{OrderRow}
-use Rattle.book.specs.Good.{IsGoodField, IsGoodKept, IsTransferPair}
+use Rattle.book.specs.Good.{Good, IsGoodField, IsGoodKept, IsTransferPair}
 use Rattle.book.specs.Ledger.{Field, Ledger, Move, Name, Order, is_transfer, line_name, name_cmp, open_orders, places, same_name}
 use Rattle.book.specs.Rows.{Content, FieldCells, LineCells, OrderCells, desk_row, kind_code, kept_row, move_row, order_lines, order_row, state_code, way_code}
-use Rattle.book.specs.Tables.{field_cells, kept_cells, line_cells, move_cells, order_cells}
+use Rattle.book.specs.Running.{IsUpToDate}
+use Rattle.book.specs.Tables.{kept_cells, line_cells, move_cells, order_cells}
 use Rattle.book.specs.View.{field_of, kept_of, move_of, order_of}
 
 -- the row tells the field's name, its bounds and its start; of its three other numbers nothing is said
@@ -48,8 +50,29 @@ head_row h = record { number = pos h.number; kind = kind_code h.kind; until = po
 
 -- ---- entries in range
 
-abbrev pub IsFieldTold : Name × FieldEntry → FieldRow → Type 0
-IsFieldTold e row = IsGoodField (field_of e) × TellsField (field_of e) (field_cells row)
+-- what is held keeps the quantity within its bounds
+pub record IsBounded (q : Stock) : Type 0 where
+  pub low : q.lo + q.held_to_take ≤ q.value
+  pub high : q.value + q.held_to_add ≤ q.hi
+
+-- the row has the numbers of the quantity
+pub record IsQuantityTold (q : Stock) (row : FieldRow) : Type 0 where
+  pub bounded : IsBounded q
+  pub greatest : IsLevel q.hi
+  pub lo : row.lo ≡ pos q.lo
+  pub hi : row.hi ≡ pos q.hi
+  pub value : row.value ≡ pos q.value
+  pub inf : row.inf ≡ (pos q.value -ℤ pos q.held_to_take)
+  pub sup : row.sup ≡ (pos q.value +ℤ pos q.held_to_add)
+
+pub record IsFieldTold (e : Name × FieldEntry) (row : FieldRow) : Type 0 where
+  pub branch : IsBranch e.0.branch
+  pub article : IsArticle e.0.article
+  pub start : IsLevel e.1.start
+  pub branch_is : string_bytes row.branch ≡ e.0.branch
+  pub article_is : string_bytes row.article ≡ e.0.article
+  pub start_is : row.start ≡ pos e.1.start
+  pub quantity : IsQuantityTold e.1.quantity row
 
 pub record IsMoveTold (e : MoveEntry) (row : MoveRow) : Type 0 where
   pub branch : IsBranch e.branch
@@ -160,14 +183,16 @@ pub record IsWhole (A : Ledger) : Type 0 where
   pub places_in_range : Each (λ k. (1 ≤ k.place) × (k.place ≤ places A)) A.kept
   pub places_apart : IsDistinct nat_eq (map (λ k. k.place) A.kept)
 
--- The row has the value, the infimum and the supremum that these numbers give the field, and they are within its bounds.
-pub record HasNumbers (n : Numbers) (f : Field) (row : FieldCells) : Type 0 where
-  pub value : row.value ≡ (pos f.start +ℤ n.moved)
-  pub inf : row.inf ≡ ((pos f.start +ℤ n.moved) -ℤ n.takes)
-  pub sup : row.sup ≡ ((pos f.start +ℤ n.moved) +ℤ n.adds)
-  pub low : pos f.lo ≤ℤ row.inf
-  pub high : row.sup ≤ℤ pos f.hi
+-- the entry has the value that these numbers give it, and they are what it holds
+pub record HasNumbers (n : Numbers) (e : FieldEntry) : Type 0 where
+  pub value : pos e.quantity.value ≡ (pos e.start +ℤ n.moved)
+  pub takes : pos e.quantity.held_to_take ≡ n.takes
+  pub adds : pos e.quantity.held_to_add ≡ n.adds
 
--- each row has what these numbers give its field
-abbrev pub HaveNumbers : (Name → Numbers) → List (Name × FieldEntry) → List FieldRow → Type 0
-HaveNumbers numbers fields rows = AllZip (λ f row. HasNumbers (numbers (field_of f).name) (field_of f) (field_cells row)) fields rows
+-- each entry has what these numbers give it
+abbrev pub HaveNumbers : (Name → Numbers) → List (Name × FieldEntry) → Type 0
+HaveNumbers numbers fields = Each (λ e. HasNumbers (numbers e.0) e.1) fields
+
+-- what was told is a good ledger, and the entry of each field is up to date
+abbrev pub AreGood : Entries → Type 0
+AreGood e = Good (told_ledger e) × Each (IsUpToDate (told_ledger e)) e.fields.items

@@ -21,7 +21,7 @@ pub record BookView : Type 0 where
   pub room : Room
 
 abbrev pub field_of : Name × FieldEntry → Field
-field_of e = record { name = e.0; lo = e.1.lo; hi = e.1.hi; start = e.1.start }
+field_of e = record { name = e.0; lo = e.1.quantity.lo; hi = e.1.quantity.hi; start = e.1.start }
 
 abbrev pub move_of : MoveEntry → Move
 move_of e = record { place = e.place; field = name_of e.branch e.article; amount = e.amount }

@@ -15,6 +15,7 @@ mod changed;
 mod changes;
 mod checks;
 mod choose;
+mod fields;
 mod find;
 mod insert;
 mod line_checks;
@@ -32,7 +33,7 @@ pub use plan::Planned;
 pub use tables::TablesFault;
 pub use views::{FieldView, OrderView};
 
-/// A good ledger: all fields, moves, orders and kept keys of the desk. Contracts see it as its ledger and, beside
+/// A good ledger: all fields, with their stock as it stands, moves, orders and kept keys of the desk. Contracts see it as its ledger and, beside
 /// that, the room that has been made for entries to come.
 #[derive(Debug, Drop)]
 pub struct Book {
@@ -44,14 +45,14 @@ pub struct Book {
 }
 
 impl Model for Book {
-    ghost use Rattle.book.specs.Good.{Good};
-    ghost use Rattle.book.specs.View.{BookView, ledger_of, view_of};
+    ghost use Rattle.book.specs.Running.{Stands};
+    ghost use Rattle.book.specs.View.{BookView, view_of};
 
     ghost Value = { BookView };
 
     ghost view = { view_of };
 
-    ghost invariant = { λ b. Good (ledger_of b) };
+    ghost invariant = { Stands };
 }
 
 impl Book {

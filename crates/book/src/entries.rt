@@ -1,15 +1,14 @@
 //! The entries of a ledger, as they lie in memory.
 
 use crate::order::{Kind, Line, State};
-use escrow::{Article, Branch, Level, Moment, OrderNo};
+use escrow::{Article, Branch, Level, Moment, OrderNo, Quantity};
 use words::Command;
 
-/// A field: its bounds, and the level at which it started.
+/// A field: the level at which it started, and its stock as it stands, with its bounds.
 #[derive(Clone, Copy, Debug)]
 pub struct FieldEntry {
-    pub lo: Level,
-    pub hi: Level,
     pub start: Level,
+    pub quantity: Quantity,
 }
 
 /// A delivery (above 0) or a write-off (below 0), with the place of its command.

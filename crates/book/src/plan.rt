@@ -1,25 +1,36 @@
 //! Plans of accepted requests.
 
-ghost use Rattle.std.specs.Prelude.{◌≡◌, option_map};
+ghost use Rattle.std.specs.Prelude.{◌≡◌, length, option_map};
 ghost use Rattle.book.specs.Plans.{PlanView};
 ghost use Rattle.book.specs.Tables.{rows_among};
 ghost use Rattle.book.specs.View.{order_of};
 
-use crate::entries::Order;
+use crate::entries::{FieldEntry, Order};
 use crate::rows::Change;
-use escrow::Key;
+use escrow::{FieldName, Key};
 use std::marker::Model;
 use words::Command;
 
-/// An accepted request with its place, the order that it opens or changes, and the rows that it changes.
+/// An accepted request with its place, the fields and the order that it makes or changes, and the rows that change.
 /// `Book::plan` gives one that fits the book's ledger.
 #[derive(Debug, Drop)]
 pub struct Plan {
     key: Key,
     command: Command,
     place: u64,
+    fields: Vec<(FieldName, FieldEntry)>,
     made: Option<Order>,
     changes: Vec<Change>,
+}
+
+/// What a plan puts into the book.
+#[derive(Drop)]
+pub(crate) struct PlanParts {
+    pub key: Key,
+    pub command: Command,
+    pub place: u64,
+    pub fields: Vec<(FieldName, FieldEntry)>,
+    pub made: Option<Order>,
 }
 
 impl Model for Plan {
@@ -30,7 +41,7 @@ impl Model for Plan {
 
     ghost Value = { PlanView };
 
-    ghost view = { λ p. record { request = record { key = p.key; command = p.command }; place = p.place; made = option_map order_of p.made; changes = rows_among p.changes.items } };
+    ghost view = { λ p. record { request = record { key = p.key; command = p.command }; place = p.place; fields = p.fields.items; made = option_map order_of p.made; changes = rows_among p.changes.items } };
 }
 
 impl Plan {
@@ -38,12 +49,14 @@ impl Plan {
         key: Key,
         command: Command,
         place: u64,
+        fields: Vec<(FieldName, FieldEntry)>,
         made: Option<Order>,
         changes: Vec<Change>,
     ) -> Plan
         ensures key { result.request.key ≡ key }
         ensures command { result.request.command ≡ command }
         ensures place { result.place ≡ place }
+        ensures fields { result.fields ≡ fields.items }
         ensures made { result.made ≡ option_map order_of made }
         ensures changes { result.changes ≡ rows_among changes.items }
     {
@@ -51,6 +64,7 @@ impl Plan {
             key,
             command,
             place,
+            fields,
             made,
             changes,
         }
@@ -71,13 +85,27 @@ impl Plan {
         &self.changes
     }
 
-    /// The key, the command, the place and the order that the command opens or changes.
-    pub(crate) fn into_parts(self) -> (Key, Command, u64, Option<Order>)
-        ensures key { result.0 ≡ self.request.key }
-        ensures command { result.1 ≡ self.request.command }
-        ensures place { result.2 ≡ self.place }
-        ensures made { option_map order_of result.3 ≡ self.made }
+    /// How many fields it makes or changes.
+    pub(crate) fn field_count(&self) -> usize
+        ensures { result ≡ length self.now.fields }
     {
-        (self.key, self.command, self.place, self.made)
+        self.fields.len()
+    }
+
+    /// The key, the command, the place, and the fields and the order that it makes or changes.
+    pub(crate) fn into_parts(self) -> PlanParts
+        ensures key { result.key ≡ self.request.key }
+        ensures command { result.command ≡ self.request.command }
+        ensures place { result.place ≡ self.place }
+        ensures fields { result.fields.items ≡ self.fields }
+        ensures made { option_map order_of result.made ≡ self.made }
+    {
+        PlanParts {
+            key: self.key,
+            command: self.command,
+            place: self.place,
+            fields: self.fields,
+            made: self.made,
+        }
     }
 }

@@ -1,25 +1,26 @@
 //! Plans carried out.
 
-ghost use Rattle.std.specs.Prelude.{◌≡◌, ◌<◌, ◌≤◌, ◌+◌, None, ℕ, List, IsSomeAnd, IsTrue, find, map, option_map};
+ghost use Rattle.std.specs.Prelude.{◌≡◌, ◌<◌, ◌≤◌, ◌+◌, None, ℕ, List, IsSomeAnd, IsTrue, length, map, option_map};
 ghost use Rattle.std.specs.BTreeMap.{insert_entry};
 ghost use Rattle.std.specs.Ordering.{nat_cmp};
 ghost use Rattle.std.specs.Vec.{vec_capacity, vec_len};
-ghost use Rattle.words.specs.declared.command.Command.TheVariants.{Commit, Field};
+ghost use Rattle.words.specs.declared.command.Command.TheVariants.{Commit};
 ghost use Rattle.book.specs.After.{order_after};
 ghost use Rattle.book.specs.Answers.{FirstFailure, checks};
 ghost use Rattle.book.specs.Future.{Honours, HonoursAlways};
 ghost use Rattle.book.specs.Good.{Good};
-ghost use Rattle.book.specs.Ledger.{Ledger, is_transfer, name_of, order_numbered, places, same_name};
+ghost use Rattle.book.specs.Ledger.{Ledger, is_transfer, order_numbered, places};
 ghost use Rattle.book.specs.Outcomes.{article_total};
 ghost use Rattle.book.specs.declared.order.State.TheVariants as State;
 ghost use Rattle.book.specs.InPlace.{order_change_of};
 ghost use Rattle.book.specs.Next.{accept, next};
 ghost use Rattle.book.specs.Plans.{Fits, HasRoomFor};
-ghost use Rattle.book.specs.View.{field_of, move_of, order_of};
+ghost use Rattle.book.specs.Running.{with_entries};
+ghost use Rattle.book.specs.View.{move_of, order_of};
 
 use super::Book;
 use super::changes::{LineChange, OrderChange, expire_orders};
-use super::insert::{insert_field, insert_kept, push_move};
+use super::insert::{insert_kept, push_move};
 use crate::entries::{FieldEntry, KeptEntry, MoveEntry, Order, OrderEntry};
 use crate::in_order::InOrder;
 use crate::order::{Kind, Line, State};
@@ -84,37 +85,22 @@ pub(super) fn order_change(command: &Command) -> Option<(OrderNo, OrderChange)>
     }
 }
 
-/// The fields and the moves once the command is carried out.
-fn adopt_stock(
-    fields: &mut InOrder<FieldName, FieldEntry>,
-    moves: &mut Vec<MoveEntry>,
-    place: u64,
-    command: &Command,
-)
-    requires room { (1 ≤ fields.old.room) × (vec_len moves.old < vec_capacity moves.old) }
-    requires absent { (b a : List ℕ) (lo hi start : ℕ) → command.now ≡ Field b a lo hi start → find (λ e. same_name (name_of b a) e.name) (map field_of fields.old.entries) ≡ None }
-    ensures fields { (A : Ledger) → map field_of fields.old.entries ≡ A.fields → map field_of fields.new.entries ≡ (next A command.now).fields }
-    ensures moves { (A : Ledger) → map move_of moves.old.items ≡ A.moves → place ≡ places A + 1 → map move_of moves.new.items ≡ (next A command.now).moves }
+/// Puts the fields in, each by its name.
+fn adopt_fields(fields: &mut InOrder<FieldName, FieldEntry>, changed: &[(FieldName, FieldEntry)])
+    requires { length changed.now ≤ fields.old.room }
+    ensures { fields.new.entries ≡ with_entries changed.now fields.old.entries }
+{
+    for entry in changed {
+        fields.put(entry.0, entry.1);
+    }
+}
+
+/// The moves once the command is carried out.
+fn adopt_move(moves: &mut Vec<MoveEntry>, place: u64, command: &Command)
+    requires { vec_len moves.old < vec_capacity moves.old }
+    ensures { (A : Ledger) → map move_of moves.old.items ≡ A.moves → place ≡ places A + 1 → map move_of moves.new.items ≡ (next A command.now).moves }
 {
     match command {
-        Command::Field {
-            branch,
-            article,
-            lo,
-            hi,
-            start,
-        } => {
-            let name = FieldName {
-                branch: *branch,
-                article: *article,
-            };
-            let entry = FieldEntry {
-                lo: *lo,
-                hi: *hi,
-                start: *start,
-            };
-            insert_field(fields, name, entry);
-        }
         Command::Deliver {
             branch,
             article,
@@ -164,12 +150,14 @@ impl Book {
         ensures honours { Honours self.new.ledger × HonoursAlways self.new.ledger }
         ensures even { (n : ℕ) (article : List ℕ) → plan.request.command ≡ Commit n → IsSomeAnd (order_numbered self.old.ledger n) (λ o. IsTrue (is_transfer o)) → article_total self.new.ledger article ≡ article_total self.old.ledger article }
     {
-        let (key, command, place, made) = plan.into_parts();
+        let parts = plan.into_parts();
+        let (key, command, place) = (parts.key, parts.command, parts.place);
         key.as_bytes();
         command.in_range();
         self.clock = self.clock_after(&command);
-        adopt_stock(&mut self.fields, &mut self.moves, place, &command);
-        adopt_orders(&mut self.orders, made, &command);
+        adopt_fields(&mut self.fields, &parts.fields);
+        adopt_move(&mut self.moves, place, &command);
+        adopt_orders(&mut self.orders, parts.made, &command);
         insert_kept(&mut self.kept, key, KeptEntry { place, command });
     }
 }

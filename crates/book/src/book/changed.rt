@@ -2,27 +2,25 @@
 
 ghost use Rattle.std.specs.Prelude.{◌≡◌, ◌≤◌, ◌∷◌, ◌++◌, [], length, map, option_map, IfOk, OnOk, Some};
 ghost use Rattle.words.specs.declared.limits.TheConstants.{MAX_ORDER_LINES};
-ghost use Rattle.book.specs.After.{changed_fields, changed_orders, changes_own_line, expired_orders, expired_rows, field_row, line_rows, new_field_rows, order_after, own_line_rows, own_move_rows, own_order_rows, with_fields, with_kept, with_lines, with_moves, with_orders, IsShort};
+ghost use Rattle.book.specs.After.{changed_orders, changes_own_line, expired_rows, field_rows, line_rows, order_after, own_line_rows, own_move_rows, own_order_rows, with_fields, with_kept, with_lines, with_moves, with_orders, IsShort};
 ghost use Rattle.book.specs.Answers.{IsAccepted};
-ghost use Rattle.book.specs.Good.{Good};
 ghost use Rattle.book.specs.Ledger.{is_transfer};
-ghost use Rattle.book.specs.Next.{accept, next};
+ghost use Rattle.book.specs.Next.{next};
 ghost use Rattle.book.specs.Plans.{ChangesTo};
 ghost use Rattle.book.specs.Rows.{kept_row};
-ghost use Rattle.book.specs.Tables.{field_cells, rows_among};
-ghost use Rattle.book.specs.View.{field_of, order_of};
+ghost use Rattle.book.specs.Running.{entry_row};
+ghost use Rattle.book.specs.Tables.{rows_among};
+ghost use Rattle.book.specs.View.{order_of};
 
 use super::Book;
 use super::changes::expires;
 use super::choose::{changes_line, changes_state, is_transfer};
-use super::row::{
-    article_text, branch_text, delivery_row, desk_row, kept_row, line_row, order_row, writeoff_row,
-};
+use super::row::{delivery_row, desk_row, field_row, kept_row, line_row, order_row, writeoff_row};
 use crate::entries::{FieldEntry, Order, OrderEntry};
 use crate::in_order::InOrder;
 use crate::limits::MAX_PLACES;
 use crate::order::{Line, State};
-use crate::rows::{Change, FieldRow};
+use crate::rows::Change;
 use escrow::{FieldName, Moment, OrderNo};
 use std::alloc::Global;
 use words::{Command, Memory, Request};
@@ -32,6 +30,21 @@ fn push(changes: &mut Vec<Change>, change: Change) -> Result<(), Memory>
     ensures { OnOk result (changes.new.items ≡ changes.old.items ++ change ∷ []) }
 {
     changes.push(change).map_err(|_| Memory)
+}
+
+/// Appends the rows of the fields.
+fn push_fields(
+    alloc: Global,
+    changes: &mut Vec<Change>,
+    fields: &[(FieldName, FieldEntry)],
+) -> Result<(), Memory>
+    ensures { OnOk result (rows_among changes.new.items ≡ with_fields (map entry_row fields.now) (rows_among changes.old.items)) }
+{
+    for entry in fields {
+        let row = field_row(alloc, entry)?;
+        push(changes, Change::Field(row))?;
+    }
+    Ok(())
 }
 
 /// Appends the row of the order, where it expires.
@@ -183,117 +196,6 @@ impl Book {
         }
     }
 
-    /// The row of the field once the accepted request is carried out, with the order that it makes.
-    fn field_row(
-        &self,
-        alloc: Global,
-        request: &Request,
-        made: &Option<Order>,
-        entry: &(FieldName, FieldEntry),
-    ) -> Result<FieldRow, Memory>
-        requires accepted { IsAccepted self.now.ledger request.now }
-        requires good { Good (accept self.now.ledger request.now) }
-        requires made { option_map order_of made.now ≡ order_after self.now.ledger request.now.command }
-        ensures { IfOk result (λ row. field_cells row ≡ field_row (accept self.now.ledger request.now) (field_of entry.now)) }
-    {
-        let (name, field) = entry;
-        let numbers = self.numbers_after(request, made, name.branch, name.article);
-        let value = field.start.get() as i64 + numbers.moved;
-        Ok(FieldRow {
-            branch: branch_text(alloc, name.branch)?,
-            article: article_text(alloc, name.article)?,
-            lo: field.lo.get() as i64,
-            hi: field.hi.get() as i64,
-            start: field.start.get() as i64,
-            value,
-            inf: value - numbers.takes,
-            sup: value + numbers.adds,
-        })
-    }
-
-    /// Appends the row of the field, where it changes.
-    fn push_field(
-        &self,
-        alloc: Global,
-        changes: &mut Vec<Change>,
-        request: &Request,
-        made: &Option<Order>,
-        expired: &[&Order],
-        entry: &(FieldName, FieldEntry),
-    ) -> Result<(), Memory>
-        requires accepted { IsAccepted self.now.ledger request.now }
-        requires before { Good self.now.ledger }
-        requires good { Good (accept self.now.ledger request.now) }
-        requires made { option_map order_of made.now ≡ order_after self.now.ledger request.now.command }
-        requires expired { map (λ entry. order_of entry.now) expired.now ≡ expired_orders self.now.ledger request.now.command }
-        ensures { OnOk result (rows_among changes.new.items ≡ with_fields (changed_fields self.now.ledger request.now (field_of entry.now ∷ [])) (rows_among changes.old.items)) }
-    {
-        let command = &request.command;
-        if self.changes_field(command, made, expired, entry.0.branch, entry.0.article) {
-            let row = self.field_row(alloc, request, made, entry)?;
-            push(changes, Change::Field(row))?;
-        }
-        Ok(())
-    }
-
-    /// Appends the rows of the fields that change.
-    fn push_fields(
-        &self,
-        alloc: Global,
-        changes: &mut Vec<Change>,
-        request: &Request,
-        made: &Option<Order>,
-        expired: &[&Order],
-    ) -> Result<(), Memory>
-        requires accepted { IsAccepted self.now.ledger request.now }
-        requires good { Good (accept self.now.ledger request.now) }
-        requires made { option_map order_of made.now ≡ order_after self.now.ledger request.now.command }
-        requires expired { map (λ entry. order_of entry.now) expired.now ≡ expired_orders self.now.ledger request.now.command }
-        ensures { OnOk result (rows_among changes.new.items ≡ with_fields (changed_fields self.now.ledger request.now self.now.ledger.fields) (rows_among changes.old.items)) }
-    {
-        for place in 0..self.fields.len() {
-            let entry = self.fields.entry_at(place);
-            self.push_field(alloc, changes, request, made, expired, entry)?;
-        }
-        Ok(())
-    }
-
-    /// Appends the row of the field that the command adds, if it adds one.
-    fn push_new_field(
-        &self,
-        alloc: Global,
-        changes: &mut Vec<Change>,
-        request: &Request,
-        made: &Option<Order>,
-    ) -> Result<(), Memory>
-        requires accepted { IsAccepted self.now.ledger request.now }
-        requires good { Good (accept self.now.ledger request.now) }
-        requires made { option_map order_of made.now ≡ order_after self.now.ledger request.now.command }
-        ensures { OnOk result (rows_among changes.new.items ≡ with_fields (new_field_rows (accept self.now.ledger request.now) request.now.command) (rows_among changes.old.items)) }
-    {
-        if let Command::Field {
-            branch,
-            article,
-            lo,
-            hi,
-            start,
-        } = &request.command
-        {
-            let name = FieldName {
-                branch: *branch,
-                article: *article,
-            };
-            let field = FieldEntry {
-                lo: *lo,
-                hi: *hi,
-                start: *start,
-            };
-            let row = self.field_row(alloc, request, made, &(name, field))?;
-            push(changes, Change::Field(row))?;
-        }
-        Ok(())
-    }
-
     /// Appends the rows of the orders that are new or whose states change.
     fn push_orders(
         &self,
@@ -310,26 +212,27 @@ impl Book {
         }
     }
 
-    /// The rows that the accepted request changes, with the order that it makes, those of each table in the order of its
-    /// key.
+    /// The rows that the accepted request changes, with the fields and the order that it makes or changes, those of each
+    /// table in the order of its key.
     pub(super) fn changes_of(
         &self,
         alloc: Global,
         request: &Request,
+        fields: &[(FieldName, FieldEntry)],
         made: &Option<Order>,
     ) -> Result<Vec<Change>, Memory>
         requires accepted { IsAccepted self.now.ledger request.now }
+        requires fields { map entry_row fields.now ≡ field_rows self.now.ledger request.now }
         requires made { option_map order_of made.now ≡ order_after self.now.ledger request.now.command }
-        ensures { IfOk result (λ changes. ChangesTo self.now.ledger request.now (rows_among changes.items)) }
+        ensures changes { IfOk result (λ changes. ChangesTo self.now.ledger request.now (rows_among changes.items)) }
+        ensures fields { IfOk result (λ changes. map entry_row fields.now ≡ (rows_among changes.items).fields) }
     {
         request.in_range();
         let place = self.kept.len() as u64 + 1;
-        let expired = self.expired(alloc, &request.command)?;
         let mut changes = Vec::new(alloc);
         let desk = desk_row(self.clock_after(&request.command), place);
         push(&mut changes, Change::Desk(desk))?;
-        self.push_fields(alloc, &mut changes, request, made, &expired)?;
-        self.push_new_field(alloc, &mut changes, request, made)?;
+        push_fields(alloc, &mut changes, fields)?;
         push_move(alloc, &mut changes, place, &request.command)?;
         self.push_orders(&mut changes, &request.command, made)?;
         push_own_lines(alloc, &mut changes, &request.command, made)?;

@@ -11,6 +11,7 @@ ghost use Rattle.book.specs.View.{order_of};
 
 use super::Book;
 use super::find::line_in;
+use super::line_checks::check_bound;
 use crate::entries::OrderEntry;
 use crate::limits::{MAX_FIELDS, MAX_ORDERS};
 use crate::order::{Kind, State};
@@ -227,7 +228,7 @@ impl Book {
         if fault.is_some() {
             return fault;
         }
-        self.check_bound(FieldName { branch, article }, field, way, qty, 0)
+        check_bound(FieldName { branch, article }, field, way, qty, 0)
     }
 
     fn check_expire(&self, now: Moment) -> Option<(Refusal, u64)>

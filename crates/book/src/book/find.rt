@@ -1,7 +1,9 @@
 //! Entries by their names.
 
-ghost use Rattle.std.specs.Prelude.{◌≡◌, ◌==◌, MatchOption, find};
+ghost use Rattle.std.specs.Prelude.{◌≡◌, ◌==◌, IfSome, MatchOption, find};
 ghost use Rattle.book.specs.Ledger.{field_named, kept_under, name_of, on, order_numbered};
+ghost use Rattle.book.specs.Good.{Good};
+ghost use Rattle.book.specs.Running.{IsUpToDate};
 ghost use Rattle.book.specs.View.{field_of, kept_of, order_of};
 
 use super::Book;
@@ -12,7 +14,9 @@ use escrow::{Article, Branch, FieldName, Key, OrderNo};
 impl Book {
     /// The field of that name.
     pub(super) fn field_entry(&self, branch: Branch, article: Article) -> Option<&FieldEntry>
-        ensures { let found = field_named self.now.ledger (name_of branch article) in MatchOption result (found ≡ None) (λ entry. found ≡ Some (field_of (name_of branch article, entry.now))) }
+        ensures good { Good self.now.ledger }
+        ensures found { let found = field_named self.now.ledger (name_of branch article) in MatchOption result (found ≡ None) (λ entry. found ≡ Some (field_of (name_of branch article, entry.now))) }
+        ensures up_to_date { IfSome result (λ entry. IsUpToDate self.now.ledger (name_of branch article, entry.now)) }
     {
         self.fields.get(&FieldName { branch, article })
     }

@@ -6,7 +6,7 @@ ghost use Rattle.std.specs.List.{insert};
 ghost use Rattle.std.specs.Ordering.{is_lt, nat_cmp};
 ghost use Rattle.std.specs.Str.{bytes_eq};
 ghost use Rattle.std.specs.Vec.{vec_capacity, vec_len};
-ghost use Rattle.book.specs.Ledger.{insert_in_order, name_cmp, name_of, same_name};
+ghost use Rattle.book.specs.Ledger.{insert_in_order, name_cmp, name_of};
 ghost use Rattle.book.specs.View.{field_of, kept_of, move_of, order_of};
 
 use crate::entries::{FieldEntry, KeptEntry, MoveEntry, Order};
@@ -21,18 +21,6 @@ pub(super) fn is_field_before(
     ensures { result ≡ is_lt (name_cmp (field_of one.now).name (field_of other.now).name) }
 {
     one.0 < other.0
-}
-
-pub(super) fn insert_field(
-    fields: &mut InOrder<FieldName, FieldEntry>,
-    name: FieldName,
-    entry: FieldEntry,
-)
-    requires room { 1 ≤ fields.old.room }
-    requires absent { find (λ e. same_name name e.name) (map field_of fields.old.entries) ≡ None }
-    ensures { map field_of fields.new.entries ≡ insert_in_order (λ f g. is_lt (name_cmp f.name g.name)) (field_of (name, entry)) (map field_of fields.old.entries) }
-{
-    fields.insert(name, entry);
 }
 
 pub(super) fn is_order_before(one: &Order, other: &Order) -> bool

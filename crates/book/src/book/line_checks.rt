@@ -4,14 +4,15 @@ ghost use Rattle.std.specs.Prelude.{◌≡◌, ℕ, [], Some, find, is_some, map
 ghost use Rattle.book.specs.Answers.{FirstFailure, line_checks};
 ghost use Rattle.book.specs.Checking.{bound_checks, stock_checks};
 ghost use Rattle.book.specs.Good.{Good};
-ghost use Rattle.book.specs.Ledger.{field_named, name_of, on};
+ghost use Rattle.book.specs.Ledger.{Ledger, field_named, name_of, on};
 ghost use Rattle.book.specs.Next.{new_line, new_order};
+ghost use Rattle.book.specs.Running.{IsUpToDate};
 ghost use Rattle.book.specs.View.{field_of};
 ghost use Rattle.book.specs.declared.order.Kind.{Kind};
 
 use super::Book;
 use crate::entries::FieldEntry;
-use escrow::{Article, Branch, FieldName, Qty, Way};
+use escrow::{Article, Bound, Branch, FieldName, Qty, Way};
 use words::{OpenLine, Refusal};
 
 impl Book {
@@ -44,47 +45,28 @@ impl Book {
         ensures good { Good self.now.ledger }
         ensures found { FirstFailure (stock_checks way self.now.ledger (name_of branch article) qty line) result }
     {
-        // so that the proof has the invariant
-        let _ = &self.fields;
         match self.field_entry(branch, article) {
             None => Some((Refusal::NoField, line)),
-            Some(field) => self.check_bound(FieldName { branch, article }, field, way, qty, line),
+            Some(field) => check_bound(FieldName { branch, article }, field, way, qty, line),
         }
     }
+}
 
-    /// No outcome passes the field's bound with so much more the one way.
-    pub(super) fn check_bound(
-        &self,
-        name: FieldName,
-        field: &FieldEntry,
-        way: Way,
-        qty: Qty,
-        line: u64,
-    ) -> Option<(Refusal, u64)>
-        ensures good { Good self.now.ledger }
-        ensures found { field_named self.now.ledger name ≡ Some (field_of (name, field.now)) → FirstFailure (bound_checks way self.now.ledger name qty line) result }
-    {
-        // so that the proof has the invariant
-        let _ = &self.fields;
-        let numbers = self.numbers_of(name.branch, name.article);
-        let settled = field.start.get() as i64 + numbers.moved;
-        let amount = qty.get() as i64;
-        match way {
-            Way::Take => {
-                let lo = field.lo.get() as i64;
-                if settled - numbers.takes - amount < lo {
-                    return Some((Refusal::TooLittle, line));
-                }
-                None
-            }
-            Way::Add => {
-                let hi = field.hi.get() as i64;
-                if settled + numbers.adds + amount > hi {
-                    return Some((Refusal::TooMuch, line));
-                }
-                None
-            }
-        }
+/// No outcome passes the field's bound with so much more the one way.
+pub(super) fn check_bound(
+    name: FieldName,
+    field: &FieldEntry,
+    way: Way,
+    qty: Qty,
+    line: u64,
+) -> Option<(Refusal, u64)>
+    ensures { (A : Ledger) → Good A → IsUpToDate A (name, field.now) → field_named A name ≡ Some (field_of (name, field.now)) → FirstFailure (bound_checks way A name qty line) result }
+{
+    let mut quantity = field.quantity;
+    match quantity.ask(way, qty) {
+        Ok(()) => None,
+        Err(Bound::TooLittle) => Some((Refusal::TooLittle, line)),
+        Err(Bound::TooMuch) => Some((Refusal::TooMuch, line)),
     }
 }
 

@@ -114,8 +114,9 @@ impl Book {
         let command = copy_of(alloc, &request.command)?;
         let place = self.kept.len() as u64 + 1;
         let made = self.order_made(alloc, request)?;
-        let changes = self.changes_of(alloc, request, &made)?;
-        let plan = Plan::new(request.key, command, place, made, changes);
+        let fields = self.fields_after(alloc, request, &made)?;
+        let changes = self.changes_of(alloc, request, &fields, &made)?;
+        let plan = Plan::new(request.key, command, place, fields, made, changes);
         Ok(Planned::Accept(plan))
     }
 }

@@ -8,7 +8,7 @@ use crate::plan::Plan;
 use words::Memory;
 
 impl Book {
-    /// Makes room for the plan: for an entry more of each kind. Room made before stays, and the ledger is as it was,
+    /// Makes room for the plan: for the fields that it changes, and an entry more of each other kind. Room made before stays, and the ledger is as it was,
     /// also after a refusal. Memory is wanted only where there was no room for the plan.
     pub fn make_room(&mut self, plan: &Plan) -> Result<(), Memory>
         requires { Fits self.old.ledger plan.now }
@@ -17,7 +17,7 @@ impl Book {
         ensures kept { KeepsRoom self.old self.new }
         ensures memory { OnErr result (HasRoomFor self.old plan.now → ⊥) }
     {
-        let Ok(()) = self.fields.reserve(1) else {
+        let Ok(()) = self.fields.reserve(plan.field_count()) else {
             return Err(Memory);
         };
         let Ok(()) = self.moves.reserve(1) else {

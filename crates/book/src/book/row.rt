@@ -7,14 +7,15 @@ ghost use Rattle.words.specs.declared.limits.TheConstants.{MAX_ORDER_LINES};
 ghost use Rattle.book.specs.Ledger.{name_of};
 ghost use Rattle.book.specs.Next.{set_state};
 ghost use Rattle.book.specs.Rows.{kept_row, kind_code, line_row, move_row, order_row, state_code, way_code};
-ghost use Rattle.book.specs.Tables.{desk_cells, kept_cells, line_cells, move_cells, order_cells};
+ghost use Rattle.book.specs.Running.{entry_row};
+ghost use Rattle.book.specs.Tables.{desk_cells, field_cells, kept_cells, line_cells, move_cells, order_cells};
 ghost use Rattle.book.specs.View.{order_of};
 
-use crate::entries::Order;
+use crate::entries::{FieldEntry, Order};
 use crate::limits::MAX_PLACES;
 use crate::order::{Kind, Line, State};
-use crate::rows::{DeskRow, KeptRow, LineRow, MoveRow, OrderRow};
-use escrow::{Article, Branch, Key, Moment, OrderNo, Qty, Way};
+use crate::rows::{DeskRow, FieldRow, KeptRow, LineRow, MoveRow, OrderRow};
+use escrow::{Article, Branch, FieldName, Key, Moment, OrderNo, Qty, Way};
 use std::alloc::Global;
 use words::{Command, Memory, Request, write_command};
 
@@ -29,13 +30,13 @@ fn text_of(alloc: Global, bytes: &[u8]) -> Result<String, Memory>
     }
 }
 
-pub(super) fn branch_text(alloc: Global, branch: Branch) -> Result<String, Memory>
+fn branch_text(alloc: Global, branch: Branch) -> Result<String, Memory>
     ensures { IfOk result (λ text. string_bytes text ≡ branch) }
 {
     text_of(alloc, branch.as_bytes())
 }
 
-pub(super) fn article_text(alloc: Global, article: Article) -> Result<String, Memory>
+fn article_text(alloc: Global, article: Article) -> Result<String, Memory>
     ensures { IfOk result (λ text. string_bytes text ≡ article) }
 {
     text_of(alloc, article.as_bytes())
@@ -85,6 +86,24 @@ fn way_code(way: Way) -> i64
         Way::Take => 0,
         Way::Add => 1,
     }
+}
+
+/// The row of a field.
+pub(super) fn field_row(alloc: Global, field: &(FieldName, FieldEntry)) -> Result<FieldRow, Memory>
+    ensures { IfOk result (λ row. field_cells row ≡ entry_row field.now) }
+{
+    let (name, entry) = field;
+    let quantity = &entry.quantity;
+    Ok(FieldRow {
+        branch: branch_text(alloc, name.branch)?,
+        article: article_text(alloc, name.article)?,
+        lo: quantity.lo().get() as i64,
+        hi: quantity.hi().get() as i64,
+        start: entry.start.get() as i64,
+        value: quantity.value().get() as i64,
+        inf: quantity.inf().get() as i64,
+        sup: quantity.sup().get() as i64,
+    })
 }
 
 pub(super) fn order_row(order: &Order, state: State) -> OrderRow

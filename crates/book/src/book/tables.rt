@@ -1,12 +1,12 @@
 //! A ledger from the rows of its tables.
 
-ghost use Rattle.std.specs.Prelude.{◌≡◌, ◌↔◌, pos, ℕ, IfErr, IfOk, IsTrue, MatchOption, map};
-ghost use Rattle.std.specs.List.{AllZip};
+ghost use Rattle.std.specs.Prelude.{◌≡◌, ◌↔◌, pos, ℕ, IfErr, IfOk, IsTrue, MatchOption};
+ghost use Rattle.std.specs.List.{AllByRecursion as Each, AllZip};
 ghost use Rattle.book.specs.Good.{Good};
-ghost use Rattle.book.specs.Tables.{content_of, desk_cells, field_cells};
-ghost use Rattle.book.specs.Told.{AreInOrder, IsInForm, IsWhole, KeepsLimits, TellsField, TellsLedger, told_ledger};
+ghost use Rattle.book.specs.Tables.{content_of, desk_cells};
+ghost use Rattle.book.specs.Told.{AreGood, AreInOrder, IsBounded, IsFieldTold, IsInForm, IsWhole, KeepsLimits, TellsLedger, told_ledger};
 ghost use Rattle.escrow.specs.Ranges.{IsMoment};
-ghost use Rattle.book.specs.Rows.{IsDamaged, IsFieldRow, IsRowsOf};
+ghost use Rattle.book.specs.Rows.{IsDamaged, IsRowsOf};
 ghost use Rattle.book.specs.declared.book.tables.TablesFault.TheVariants as TablesFault;
 
 mod good;
@@ -24,7 +24,7 @@ use self::good::{
     are_orders_in_order,
 };
 use self::group::{Head, group};
-use self::numbers::fit_rows;
+use self::numbers::are_up_to_date;
 use self::places::are_places_good;
 use self::told::{moment, natural, read_all};
 use crate::book::Book;
@@ -33,7 +33,7 @@ use crate::entries::{FieldEntry, KeptEntry, MoveEntry, Order};
 use crate::in_order::InOrder;
 use crate::limits::{MAX_FIELDS, MAX_ORDERS, MAX_PLACES};
 use crate::order::Line;
-use crate::rows::{DeskRow, FieldRow, Tables};
+use crate::rows::{DeskRow, Tables};
 use escrow::{FieldName, Key, Moment};
 use std::alloc::Global;
 use thiserror::Error;
@@ -76,6 +76,7 @@ fn read_desk(row: &DeskRow, places: usize) -> Option<Moment>
 fn read_tables(alloc: Global, tables: &Tables) -> Result<Entries, TablesFault>
     ensures told { IfOk result (λ entries. TellsLedger (told_ledger entries) (content_of tables.now)) }
     ensures form { IfOk result (λ entries. IsInForm (told_ledger entries)) }
+    ensures fields { IfOk result (λ entries. AllZip IsFieldTold entries.fields.items tables.now.fields) }
     ensures damaged { IfErr result (λ fault. fault ≡ TablesFault.Damaged → IsDamaged (content_of tables.now)) }
 {
     let fields = read_all(alloc, tables.fields.as_slice())?;
@@ -129,22 +130,16 @@ fn are_whole(alloc: Global, entries: &Entries) -> Result<bool, Memory>
     are_places_good(alloc, &entries.kept)
 }
 
-/// Whether they are those of a good ledger, and the rows have the numbers of its fields.
-fn are_good(alloc: Global, entries: &Entries, rows: &[FieldRow]) -> Result<bool, Memory>
+/// Whether they are those of a good ledger, with the numbers of its fields.
+fn are_good(alloc: Global, entries: &Entries) -> Result<bool, Memory>
     requires form { IsInForm (told_ledger entries.now) }
-    requires told { AllZip TellsField (told_ledger entries.now).fields (map field_cells rows.now) }
-    ensures { IfOk result (λ good. let A = told_ledger entries.now in IsTrue good ↔ (Good A × AllZip (IsFieldRow A) A.fields (map field_cells rows.now))) }
+    requires bounded { Each (λ e. IsBounded e.1.quantity) entries.now.fields.items }
+    ensures { IfOk result (λ good. IsTrue good ↔ AreGood entries.now) }
 {
     if !are_whole(alloc, entries)? {
         return Ok(false);
     }
-    fit_rows(
-        alloc,
-        &entries.fields,
-        &entries.moves,
-        &entries.orders,
-        rows,
-    )
+    are_up_to_date(alloc, &entries.fields, &entries.moves, &entries.orders)
 }
 
 impl Book {
@@ -157,7 +152,7 @@ impl Book {
         ensures damaged { IfErr result (λ fault. fault ≡ TablesFault.Damaged → IsDamaged (content_of tables)) }
     {
         let entries = read_tables(alloc, &tables)?;
-        match are_good(alloc, &entries, tables.fields.as_slice()) {
+        match are_good(alloc, &entries) {
             Ok(true) => {}
             Ok(false) => return Err(TablesFault::Damaged),
             Err(Memory) => return Err(TablesFault::Memory),

@@ -1,9 +1,10 @@
 //! What a book shows of its fields and orders.
 
-ghost use Rattle.std.specs.Prelude.{◌≡◌, pos, ◌≤ℤ◌, length, map, slice_get, Contains, IsSomeAnd, MatchOption};
+ghost use Rattle.std.specs.Prelude.{◌≡◌, length, map, slice_get, IsSomeAnd, MatchOption};
 ghost use Rattle.std.specs.List.Sorted.{IsStrictlySortedBy};
-ghost use Rattle.escrow.specs.declared.limits.TheConstants.{MAX_LEVEL};
-ghost use Rattle.book.specs.Ledger.{field_named, name_cmp, order_numbered, name_of};
+ghost use Rattle.book.specs.Good.{Good};
+ghost use Rattle.book.specs.Ledger.{Ledger, field_named, name_cmp, order_numbered, name_of};
+ghost use Rattle.book.specs.Running.{IsUpToDate};
 ghost use Rattle.book.specs.View.{field_of};
 ghost use Rattle.book.specs.Views.{ShowsField, ShowsOrder};
 
@@ -41,7 +42,7 @@ impl Book {
         ensures { let found = field_named self.now.ledger (name_of branch article) in MatchOption result (found ≡ None) (λ view. IsSomeAnd found (λ f. ShowsField self.now.ledger f view)) }
     {
         let entry = self.field_entry(branch, article)?;
-        Some(self.show(FieldName { branch, article }, entry))
+        Some(show(FieldName { branch, article }, entry))
     }
 
     /// How many fields there are.
@@ -58,7 +59,7 @@ impl Book {
         ensures order { IsStrictlySortedBy name_cmp (map (λ f. f.name) self.now.ledger.fields) }
     {
         let entry = self.fields.nth(index)?;
-        Some(self.show(entry.0, &entry.1))
+        Some(show(entry.0, &entry.1))
     }
 
     /// The order of that number, or `None` exactly where there is none.
@@ -74,34 +75,20 @@ impl Book {
             lines: &entry.lines,
         })
     }
-
-    /// What is shown of one of its fields.
-    fn show(&self, name: FieldName, entry: &FieldEntry) -> FieldView
-        requires { Contains self.now.ledger.fields (field_of (name, entry.now)) }
-        ensures { ShowsField self.now.ledger (field_of (name, entry.now)) result }
-    {
-        let numbers = self.numbers_of(name.branch, name.article);
-        let value = entry.start.get() as i64 + numbers.moved;
-        FieldView {
-            branch: name.branch,
-            article: name.article,
-            lo: entry.lo,
-            hi: entry.hi,
-            value: level(value),
-            inf: level(value - numbers.takes),
-            sup: level(value + numbers.adds),
-        }
-    }
 }
 
-/// The level of an amount that is known to be one.
-fn level(amount: i64) -> Level
-    requires low { pos 0 ≤ℤ amount }
-    requires high { amount ≤ℤ pos MAX_LEVEL }
-    ensures { pos result ≡ amount }
+/// What is shown of a field.
+fn show(name: FieldName, entry: &FieldEntry) -> FieldView
+    ensures { (A : Ledger) → Good A → IsUpToDate A (name, entry.now) → ShowsField A (field_of (name, entry.now)) result }
 {
-    let Some(level) = Level::new(amount as u64) else {
-        unreachable!()
-    };
-    level
+    let quantity = &entry.quantity;
+    FieldView {
+        branch: name.branch,
+        article: name.article,
+        lo: quantity.lo(),
+        hi: quantity.hi(),
+        value: quantity.value(),
+        inf: quantity.inf(),
+        sup: quantity.sup(),
+    }
 }

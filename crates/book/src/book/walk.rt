@@ -52,23 +52,6 @@ impl Numbers {
 }
 
 impl Book {
-    /// What the whole ledger adds up to on the field.
-    pub(super) fn numbers_of(&self, branch: Branch, article: Article) -> Numbers
-        ensures moved { (f : Field) → f.name ≡ name_of branch article → settled self.now.ledger f ≡ (pos f.start +ℤ result.moved) }
-        ensures takes { result.takes ≡ held_to_take self.now.ledger (name_of branch article) }
-        ensures adds { result.adds ≡ held_to_add self.now.ledger (name_of branch article) }
-        ensures small { IsSmall (most_of_moves + most_of_orders) result }
-        ensures good { Good self.now.ledger }
-    {
-        let moved = moves_on(&self.moves, branch, article);
-        let ordered = orders_on(&self.orders, branch, article);
-        Numbers {
-            moved: moved + ordered.moved,
-            takes: ordered.takes,
-            adds: ordered.adds,
-        }
-    }
-
     /// How many orders are open.
     pub(super) fn open_orders(&self) -> usize
         ensures { result ≡ open_orders self.now.ledger }
@@ -110,23 +93,6 @@ fn move_on(entry: &MoveEntry, branch: Branch, article: Article) -> i64
     } else {
         0
     }
-}
-
-/// What the orders add up to on the field.
-fn orders_on(orders: &InOrder<OrderNo, OrderEntry>, branch: Branch, article: Article) -> Numbers
-    requires few { length orders.now.entries ≤ MAX_ORDERS }
-    requires short { Each (λ order. length order.1.lines.items ≤ MAX_ORDER_LINES) orders.now.entries }
-    ensures moved { result.moved ≡ total (moved_by_order (name_of branch article)) orders.now.entries }
-    ensures takes { result.takes ≡ total (taken_by_order (name_of branch article)) orders.now.entries }
-    ensures adds { result.adds ≡ total (added_by_order (name_of branch article)) orders.now.entries }
-    ensures small { IsSmall most_of_orders result }
-{
-    let mut sum = NOTHING;
-    for place in 0..orders.len() {
-        let order = orders.entry_at(place);
-        sum = sum.plus(order_on(order, branch, article));
-    }
-    sum
 }
 
 pub(super) fn order_on(order: &Order, branch: Branch, article: Article) -> Numbers

@@ -5,7 +5,8 @@ ghost use Rattle.std.specs.List.{AllByRecursion as Each, AllZip};
 ghost use Rattle.escrow.specs.Ranges.{IsLevel, IsMoment};
 ghost use Rattle.book.specs.Ledger.{Name};
 ghost use Rattle.book.specs.Rows.{kind_code, state_code, way_code};
-ghost use Rattle.book.specs.Told.{IsFieldTold, IsHeadTold, IsKeptTold, IsLineTold, IsMoveTold};
+ghost use Rattle.book.specs.Told.{IsFieldTold, IsHeadTold, IsKeptTold, IsLineTold, IsMoveTold, IsQuantityTold};
+ghost use Rattle.escrow.specs.Stock.{Stock};
 ghost use Rattle.book.specs.declared.book.tables.TablesFault.TheVariants as TablesFault;
 ghost use Rattle.book.specs.declared.book.tables.group.Head.{Head};
 ghost use Rattle.book.specs.declared.entries.FieldEntry.{FieldEntry};
@@ -20,7 +21,7 @@ use super::group::Head;
 use crate::entries::{FieldEntry, KeptEntry, MoveEntry};
 use crate::order::{Kind, Line, State};
 use crate::rows::{FieldRow, KeptRow, LineRow, MoveRow, OrderRow};
-use escrow::{Article, Branch, FieldName, Key, Level, Moment, OrderNo, Way};
+use escrow::{Article, Branch, FieldName, Key, Level, Moment, OrderNo, Quantity, Way};
 use std::alloc::Global;
 use words::{WordsFault, read_command};
 
@@ -119,11 +120,19 @@ fn field(row: &FieldRow) -> Option<(FieldName, FieldEntry)>
         article: Article::read(row.article.as_bytes()).ok()?,
     };
     let entry = FieldEntry {
-        lo: level(row.lo)?,
-        hi: level(row.hi)?,
         start: level(row.start)?,
+        quantity: quantity(row)?,
     };
     Some((name, entry))
+}
+
+/// The quantity of those numbers, where they lie in their order.
+fn quantity(row: &FieldRow) -> Option<Quantity>
+    ensures { MatchOption result ((q : Stock) → IsQuantityTold q row.now → ⊥) (λ q. IsQuantityTold q row.now) }
+{
+    let (lo, hi) = (level(row.lo)?, level(row.hi)?);
+    let (value, inf, sup) = (level(row.value)?, level(row.inf)?, level(row.sup)?);
+    Quantity::restore(lo, hi, value, inf, sup).ok()
 }
 
 impl Told<MoveRow> for MoveEntry {

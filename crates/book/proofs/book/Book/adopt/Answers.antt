@@ -1,56 +1,65 @@
-use Rattle.std.proofs.Common.{◌≡◌, ◌∙◌, ◌+◌, None, rules, subst, sym}
+use Rattle.std.proofs.Common.{◌≡◌, ◌∙◌, ◌+◌, ◌≤◌, None, ap, length, map, rules, subst, sym}
+use Rattle.std.specs.List.{AllByRecursion as Each}
 use Rattle.escrow.specs.Codes.{IsKey}
 use Rattle.words.specs.Spelling.{IsInRange}
-use Rattle.words.specs.declared.command.Command.{Command}
-use Rattle.words.specs.declared.command.Command.TheVariants.{Field}
 use Rattle.words.specs.declared.reply.Reply.TheVariants.{Done}
-use Rattle.book.specs.Answers.{FirstFailure, IsAccepted, checks}
+use Rattle.book.specs.Answers.{IsAccepted}
 use Rattle.book.specs.Good.{Good}
 use Rattle.book.specs.Ledger.{Ledger, kept_under, places}
 use Rattle.book.specs.Next.{accept}
 use Rattle.book.specs.Outcomes.{article_total}
-use Rattle.book.specs.View.{BookView, ledger_of}
-use Rattle.book.proofs.Closing.{all_pass, honours_always}
+use Rattle.book.specs.Plans.{Fits}
+use Rattle.book.specs.Running.{IsUpToDate, with_entries}
+use Rattle.book.specs.View.{BookView, field_of, ledger_of}
+use Rattle.book.proofs.Closing.{honours_always}
 use Rattle.book.proofs.Goodness.{good_accept}
-use Rattle.book.proofs.Growing.{none_if_not_some}
+use Rattle.book.proofs.Running.{adopted}
 use Rattle.book.proofs.Transfers.{total_answer}
 use Rattle.book.proofs.Once.{accepted_answered, honours_if_good, no_key}
 use Rattle.book.proofs.book.Book.adopt.Goals as goal
-
-pub adopt_stock-requires-clause-absent : goal.adopt_stock-requires-clause-absent
-adopt_stock-requires-clause-absent c b a lo hi start is =
-    let L : Ledger = ledger_of c.self.inside in
-    let same = sym c.into_parts-key.ensures.command ∙ is in
-    let accepted = subst (λ (v : BookView). IsAccepted v.ledger c.args.plan.request) (sym c.self.view_is) c.requires.fits.accepted in
-    let passed = all_pass (checks L (Field b a lo hi start)) (subst (λ (k : Command). FirstFailure (checks L k) None) same accepted.1) in
-    none_if_not_some _ passed.1.1.0
 
 pub insert_kept-requires-clause-absent : goal.insert_kept-requires-clause-absent
 insert_kept-requires-clause-absent c =
     let L : Ledger = ledger_of c.self.inside in
     let accepted = subst (λ (v : BookView). IsAccepted v.ledger c.args.plan.request) (sym c.self.view_is) c.requires.fits.accepted in
-    subst (λ key. kept_under L key ≡ None) (sym c.into_parts-key.ensures.key) (no_key _ accepted.0)
+    subst (λ key. kept_under L key ≡ None) (sym c.into_parts-parts.ensures.key) (no_key _ accepted.0)
+
+good : (c : goal.After-drop-parts) → Good c.args.self.now.ledger
+good c = subst (λ (v : BookView). Good v.ledger) c.self.view_is c.self.invariant.0
+
+good_after : (c : goal.After-drop-parts) → Good (accept c.args.self.now.ledger c.args.plan.request)
+good_after c =
+    let parts = c.into_parts-parts.ensures in
+    let accepted = c.requires.fits.accepted in
+    good_accept c.args.self.now.ledger c.args.plan.request (good c) (subst IsKey parts.key c.as_bytes.ensures.form) (subst IsInRange parts.command c.in_range.ensures) (no_key _ accepted.0) accepted.1
+
+-- the fields as they are then
+put : (c : goal.After-drop-parts) → (map field_of c.adopt_fields.new.fields.entries ≡ (accept c.args.self.now.ledger c.args.plan.request).fields) × Each (IsUpToDate (accept c.args.self.now.ledger c.args.plan.request)) c.adopt_fields.new.fields.entries
+put c =
+    let A : Ledger = c.args.self.now.ledger in
+    let plan = c.args.plan in
+    let old = c.self.inside.fields.entries in
+    let is = c.adopt_fields.ensures ∙ ap (λ es. with_entries es old) (c.deref.ensures.value ∙ c.into_parts-parts.ensures.fields) in
+    let done = adopted A plan old (good c) (good_after c) c.requires.fits (ap (λ (v : BookView). v.ledger.fields) c.self.view_is) (subst (λ (v : BookView). Each (IsUpToDate v.ledger) old) c.self.view_is c.self.invariant.1) in
+    (ap (map field_of) is ∙ done.0, subst (Each (IsUpToDate (accept A plan.request))) (sym is) done.1)
 
 pub returns-clause-next : goal.returns-clause-next
-returns-clause-next c = search rules
+returns-clause-next c = let fields = (put c).0 in search rules
 
 pub invariant_of-self : goal.invariant_of-self
 invariant_of-self c =
-    let parts = c.into_parts-key.ensures in
-    let accepted = c.requires.fits.accepted in
-    subst Good (sym (returns-clause-next c)) (good_accept c.args.self.now.ledger c.args.plan.request (subst (λ (v : BookView). Good v.ledger) c.self.view_is c.self.invariant)
-    (subst IsKey parts.key c.as_bytes.ensures.form) (subst IsInRange parts.command c.in_range.ensures) (no_key _ accepted.0) accepted.1)
+    let next = sym (returns-clause-next c) in
+    (subst Good next (good_after c), subst (λ (L : Ledger). Each (IsUpToDate L) c.adopt_fields.new.fields.entries) next (put c).1)
 
 pub returns-clause-good : goal.returns-clause-good
-returns-clause-good c = invariant_of-self c
+returns-clause-good c = (invariant_of-self c).0
 
 pub returns-clause-honours : goal.returns-clause-honours
-returns-clause-honours c = let good = invariant_of-self c in (honours_if_good _ good, honours_always _ good)
+returns-clause-honours c = let good = (invariant_of-self c).0 in (honours_if_good _ good, honours_always _ good)
 
 pub returns-clause-even : goal.returns-clause-even
 returns-clause-even c n article commits transfer =
     let A = c.args.self.now.ledger in
     let r = c.args.plan.request in
-    let good = subst (λ (v : BookView). Good v.ledger) c.self.view_is c.self.invariant in
     subst (λ (B : Ledger). article_total B article ≡ article_total A article) (sym (returns-clause-next c))
-    (total_answer A r n (Done (places A + 1)) (accept A r) article good commits (accepted_answered A r c.requires.fits.accepted) transfer)
+    (total_answer A r n (Done (places A + 1)) (accept A r) article (good c) commits (accepted_answered A r c.requires.fits.accepted) transfer)

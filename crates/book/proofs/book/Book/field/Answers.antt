@@ -1,7 +1,4 @@
-use Rattle.book.specs.Ledger.{same_name, name_of}
-use Rattle.book.specs.View.{field_of}
-use Rattle.book.proofs.Viewed.{Contains-of_find}
 use Rattle.book.proofs.book.Book.field.Goals as goal
 
-pub show-requires : goal.show-requires
-show-requires c = Contains-of_find (λ f. same_name (name_of c.args.branch c.args.article) f.name) c.args.self.now.ledger.fields (field_of (name_of c.args.branch c.args.article, c.in_ok-entry.entry.now)) c.in_ok-entry.ensures
+pub returns : goal.returns
+returns c = rw c.in_ok-entry.ensures.found (c.show.ensures c.args.self.now.ledger c.in_ok-entry.ensures.good c.in_ok-entry.ensures.up_to_date)

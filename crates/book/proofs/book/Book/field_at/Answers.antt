@@ -1,10 +1,17 @@
-use Rattle.book.specs.View.{field_of}
-use Rattle.book.proofs.Viewed.{Contains-of_slice_get, slice_get-fields}
+use Rattle.std.proofs.Common.{subst, sym}
+use Rattle.std.proofs.lemmas.Option.{get_or_from_slice_get, slice_get_within}
+use Rattle.book.specs.Good.{Good}
+use Rattle.book.specs.Running.{IsUpToDate}
+use Rattle.book.specs.View.{BookView, ledger_of}
+use Rattle.book.proofs.Viewed.{slice_get-fields}
+use Rattle.book.proofs.Walked.{each-at}
 use Rattle.book.proofs.book.Book.field_at.Goals as goal
 
-pub show-requires : goal.show-requires
-show-requires c =
-    Contains-of_slice_get c.args.self.now.ledger.fields c.args.index (field_of c.in_ok-entry.entry.now) (slice_get-fields c.self.inside c.args.self.now c.args.index c.in_ok-entry.entry.now c.self.view_is c.in_ok-entry.ensures)
-
 pub returns-clause-found : goal.returns-clause-found
-returns-clause-found c = rw (slice_get-fields c.self.inside c.args.self.now c.args.index c.in_ok-entry.entry.now c.self.view_is c.in_ok-entry.ensures) c.show.ensures
+returns-clause-found c =
+    let entries = c.self.inside.fields.entries in
+    let x = c.in_ok-entry.entry.now in
+    let read = sym c.in_ok-entry.ensures in
+    let up = each-at (IsUpToDate (ledger_of c.self.inside)) entries c.args.index x (slice_get_within entries c.args.index x read) (sym (get_or_from_slice_get entries c.args.index x x read)) c.self.invariant.1 in
+    rw (slice_get-fields c.self.inside c.args.self.now c.args.index x c.self.view_is c.in_ok-entry.ensures)
+    (c.show.ensures c.args.self.now.ledger (subst (λ (v : BookView). Good v.ledger) c.self.view_is c.self.invariant.0) (subst (λ (v : BookView). IsUpToDate v.ledger x) c.self.view_is up))

@@ -1,9 +1,15 @@
-use Rattle.std.proofs.Common.{◌≡◌, Bor, Option, Some, None, MatchOption}
+use Rattle.std.proofs.Common.{◌≡◌, Bor, List, Option, Some, None, IfSome, MatchOption, subst, sym}
+use Rattle.std.specs.BTreeMap.{is_at}
+use Rattle.std.specs.List.{AllByRecursion as Each}
+use Rattle.std.specs.Map.{lookup}
 use Rattle.std.specs.Option.{option_copied, option_map}
-use Rattle.book.specs.Ledger.{Field, Name, name_of}
-use Rattle.book.specs.View.{field_of}
+use Rattle.book.specs.Good.{Good}
+use Rattle.book.specs.Ledger.{Field, Ledger, Name, name_cmp, name_of}
+use Rattle.book.specs.Running.{IsUpToDate}
+use Rattle.book.specs.View.{BookView, field_of, ledger_of}
 use Rattle.book.specs.declared.entries.FieldEntry.{FieldEntry}
 use Rattle.book.proofs.Keyed.{field_found}
+use Rattle.book.proofs.Running.{up_to_date_at}
 use Rattle.book.proofs.book.Book.field_entry.Goals as goal
 
 told : (name : Name) (result : Option (Bor FieldEntry)) (there : Option FieldEntry) (found : Option Field) → option_copied result ≡ there → found ≡ option_map (λ v. field_of (name, v)) there
@@ -11,7 +17,19 @@ told : (name : Name) (result : Option (Bor FieldEntry)) (there : Option FieldEnt
 told name None there found is e = rw (← is) at e
 told name (Some r) there found is e = rw (← is) at e
 
-pub returns : goal.returns
-returns c =
+up : (A : Ledger) (name : Name) (l : List (Name × FieldEntry)) (result : Option (Bor FieldEntry)) → Each (IsUpToDate A) l → option_copied result ≡ lookup (is_at (name_cmp name)) l → IfSome result (λ entry. IsUpToDate A (name, entry.now))
+up A name l None all is = tt
+up A name l (Some r) all is = up_to_date_at A name l r.now all (sym is)
+
+pub returns-clause-good : goal.returns-clause-good
+returns-clause-good c = subst (λ (v : BookView). Good v.ledger) c.self.view_is c.self.invariant.0
+
+pub returns-clause-found : goal.returns-clause-found
+returns-clause-found c =
     let name : Name = name_of c.args.branch c.args.article in
     rw (← c.self.view_is) (told name c.get.result _ _ c.get.ensures (field_found name c.self.inside.fields.entries))
+
+pub returns-clause-up_to_date : goal.returns-clause-up_to_date
+returns-clause-up_to_date c =
+    let name : Name = name_of c.args.branch c.args.article in
+    rw (← c.self.view_is) (up (ledger_of c.self.inside) name c.self.inside.fields.entries c.get.result c.self.invariant.1 c.get.ensures)

@@ -17,13 +17,13 @@ use Rattle.book.proofs.Walked.{few_moves, short_orders, small_moves}
 use Rattle.book.proofs.book.Book.numbers_after.Goals as goal
 
 pub moves_after-moved-requires-clause-few : goal.moves_after-moved-requires-clause-few
-moves_after-moved-requires-clause-few c = rw c.deref.ensures.value (few_moves c.self.inside c.self.invariant)
+moves_after-moved-requires-clause-few c = rw c.deref.ensures.value (few_moves c.self.inside c.self.invariant.0)
 
 pub moves_after-moved-requires-clause-amounts : goal.moves_after-moved-requires-clause-amounts
-moves_after-moved-requires-clause-amounts c = rw c.deref.ensures.value (small_moves (ledger_of c.self.inside) c.self.inside.moves.items c.self.invariant.moves)
+moves_after-moved-requires-clause-amounts c = rw c.deref.ensures.value (small_moves (ledger_of c.self.inside) c.self.inside.moves.items c.self.invariant.0.moves)
 
 pub others_on-others-requires-clause-short : goal.others_on-others-requires-clause-short
-others_on-others-requires-clause-short c = (short_orders (ledger_of c.self.inside) c.self.inside.orders.entries c.self.invariant.orders)
+others_on-others-requires-clause-short c = (short_orders (ledger_of c.self.inside) c.self.inside.orders.entries c.self.invariant.0.orders)
 
 pub made_on-requires : goal.made_on-requires
 made_on-requires c = subst IsShort (sym c.requires.made) (made_short c.args.self.now.ledger c.args.request.now c.requires.good c.requires.accepted)
@@ -33,7 +33,7 @@ returns-clause-moved c f e =
     let n : Name = name_of c.args.branch c.args.article in
     let ok = subst (λ (v : BookView). IsAccepted v.ledger c.args.request.now) (sym c.self.view_is) c.requires.accepted in
     let made = subst (λ (v : BookView). option_map order_of c.args.made.now ≡ order_after v.ledger c.args.request.now.command) (sym c.self.view_is) c.requires.made in
-    let walk = settled-after c.self.inside c.args.request.now f n c.args.made.now c.self.invariant ok made e in
+    let walk = settled-after c.self.inside c.args.request.now f n c.args.made.now c.self.invariant.0 ok made e in
     let same = ap (λ (v : BookView). settled (accept v.ledger c.args.request.now) f) (sym c.self.view_is) in
     let moves = c.moves_after-moved.ensures.sum ∙ ap (λ xs. total (moved_by_move n) xs +ℤ moved_by_command n c.args.request.now.command) c.deref.ensures.value in
     let orders = c.others_on-others.ensures.moved in
@@ -45,7 +45,7 @@ returns-clause-takes c =
     let n : Name = name_of c.args.branch c.args.article in
     let ok = subst (λ (v : BookView). IsAccepted v.ledger c.args.request.now) (sym c.self.view_is) c.requires.accepted in
     let made = subst (λ (v : BookView). option_map order_of c.args.made.now ≡ order_after v.ledger c.args.request.now.command) (sym c.self.view_is) c.requires.made in
-    let walk = held_to_take-after c.self.inside c.args.request.now n c.args.made.now c.self.invariant ok made in
+    let walk = held_to_take-after c.self.inside c.args.request.now n c.args.made.now c.self.invariant.0 ok made in
     let same = ap (λ (v : BookView). held_to_take (accept v.ledger c.args.request.now) n) (sym c.self.view_is) in
     let orders = c.others_on-others.ensures.takes in
     let both = ap (λ n. n.takes) c.plus-ordered.ensures in
@@ -56,7 +56,7 @@ returns-clause-adds c =
     let n : Name = name_of c.args.branch c.args.article in
     let ok = subst (λ (v : BookView). IsAccepted v.ledger c.args.request.now) (sym c.self.view_is) c.requires.accepted in
     let made = subst (λ (v : BookView). option_map order_of c.args.made.now ≡ order_after v.ledger c.args.request.now.command) (sym c.self.view_is) c.requires.made in
-    let walk = held_to_add-after c.self.inside c.args.request.now n c.args.made.now c.self.invariant ok made in
+    let walk = held_to_add-after c.self.inside c.args.request.now n c.args.made.now c.self.invariant.0 ok made in
     let same = ap (λ (v : BookView). held_to_add (accept v.ledger c.args.request.now) n) (sym c.self.view_is) in
     let orders = c.others_on-others.ensures.adds in
     let both = ap (λ n. n.adds) c.plus-ordered.ensures in

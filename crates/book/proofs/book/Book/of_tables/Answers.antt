@@ -1,29 +1,34 @@
-use Rattle.std.proofs.Common.{List, map, subst, sym}
+use Rattle.std.proofs.Common.{◌≡◌, ◌∙◌, ap, map, subst, sym}
 use Rattle.std.proofs.lemmas.Simd.{map-map}
 use Rattle.std.specs.Cmp.Lexicographic.{slice_cmp}
-use Rattle.std.specs.List.{AllZip}
 use Rattle.std.specs.List.Sorted.{IsStrictlySortedBy}
 use Rattle.std.specs.Ordering.{nat_cmp}
-use Rattle.book.specs.declared.rows.FieldRow.{FieldRow}
 use Rattle.book.specs.Good.{Good}
 use Rattle.book.specs.Ledger.{Field, Kept, Ledger, Order, name_cmp}
-use Rattle.book.specs.Rows.{IsFieldRow}
-use Rattle.book.specs.Tables.{content_of, field_cells}
+use Rattle.book.specs.Rows.{Content, IsFieldRow, IsRowsOf}
+use Rattle.book.specs.Tables.{content_of}
 use Rattle.book.specs.Told.{told_ledger}
-use Rattle.book.specs.View.{field_of, kept_of, order_of}
+use Rattle.book.specs.View.{field_of, kept_of, ledger_of, move_of, order_of}
+use Rattle.std.specs.List.{AllZip}
 use Rattle.book.proofs.Tested.{true_not_false}
+use Rattle.book.proofs.InOrder.{one_content, rows_are, rows_of}
+use Rattle.book.proofs.RowsTold.{told_bounded, told_rows}
+use Rattle.book.proofs.Running.{entries_of_rows, rows_of_entries}
 use Rattle.book.proofs.Told.{rows_tell, told_once}
 use Rattle.book.proofs.book.Book.of_tables.Goals as goal
+
+pub are_good-requires-clause-bounded : goal.are_good-requires-clause-bounded
+are_good-requires-clause-bounded c = told_bounded c.in_ok-entries.entries.fields.items c.args.tables.fields c.in_ok-entries.ensures.fields
 
 pub returns-in-Ok-false-clause-damaged : goal.returns-in-Ok-false-clause-damaged
 returns-in-Ok-false-clause-damaged c _ A g rows =
     let B : Ledger = told_ledger c.in_ok-entries.entries in
-    let same = told_once A B (content_of c.args.tables) g c.in_ok-entries.ensures.form.kept (rows_tell A (content_of c.args.tables) rows) c.in_ok-entries.ensures.told in
-    let fields = subst (λ (L : Ledger). AllZip (IsFieldRow L) L.fields (map field_cells c.args.tables.fields)) same rows.fields in
-    true_not_false (c.in-Ok-false.ensures.1 (
-      subst Good same g,
-      subst (λ (rows : List FieldRow). AllZip (IsFieldRow B) B.fields (map field_cells rows)) (sym c.as_slice.ensures) fields,
-    )) c.in-Ok-false.field-0-test
+    let C = content_of c.args.tables in
+    let same = told_once A B C g c.in_ok-entries.ensures.form.kept (rows_tell A C rows) c.in_ok-entries.ensures.told in
+    let good = subst Good same g in
+    let fields = told_rows c.in_ok-entries.entries.fields.items c.args.tables.fields c.in_ok-entries.ensures.fields
+    ∙ ap (λ (D : Content). D.fields) (one_content B C (rows_of B) (subst (λ (L : Ledger). IsRowsOf L C) same rows) (rows_are B good)) in
+    true_not_false (c.in-Ok-false.ensures.1 (good, (entries_of_rows B c.in_ok-entries.entries.fields.items B.fields fields).1)) c.in-Ok-false.field-0-test
 
 pub from_sorted-requires-clause-rising : goal.from_sorted-requires-clause-rising
 from_sorted-requires-clause-rising c =
@@ -36,3 +41,28 @@ from_sorted-requires-2-clause-rising c =
 pub from_sorted-requires-3-clause-rising : goal.from_sorted-requires-3-clause-rising
 from_sorted-requires-3-clause-rising c =
     subst (IsStrictlySortedBy (slice_cmp nat_cmp)) (map-map (λ (k : Kept). k.key) kept_of c.in_ok-entries.entries.kept.items) (c.in-Ok-true.ensures.0 c.in-Ok-true.field-0-test).0.kept_in_order
+
+pub returns-clause-ok : goal.returns-clause-ok
+returns-clause-ok c =
+    let B : Ledger = told_ledger c.in_ok-entries.entries in
+    let good = c.in-Ok-true.ensures.0 c.in-Ok-true.field-0-test in
+    let told = c.in_ok-entries.ensures.told in
+    let rows = sym (told_rows c.in_ok-entries.entries.fields.items c.args.tables.fields c.in_ok-entries.ensures.fields) ∙ rows_of_entries B c.in_ok-entries.entries.fields.items good.1 in
+    let is : B ≡ ledger_of (record { clock = c.in_ok-entries.entries.clock; fields = c.in-Ok.fields; moves = c.in_ok-entries.entries.moves; orders = c.in-Ok-from_sorted.orders; kept = c.in-Ok-from_sorted-2.kept }) = λ i. record {
+      clock = c.in_ok-entries.entries.clock;
+      fields = map field_of (sym c.in-Ok.ensures i);
+      moves = map move_of c.in_ok-entries.entries.moves.items;
+      orders = map order_of (sym c.in-Ok-from_sorted.ensures i);
+      kept = map kept_of (sym c.in-Ok-from_sorted-2.ensures i);
+    } in
+    subst (λ (L : Ledger). Good L × IsRowsOf L (content_of c.args.tables)) is (
+      good.0,
+      record {
+        desk = told.desk;
+        fields = subst (AllZip (IsFieldRow B) B.fields) (sym rows) (rows_are B good.0).fields;
+        moves = told.moves;
+        orders = told.orders;
+        lines = told.lines;
+        kept = told.kept;
+      },
+    )

@@ -10,7 +10,7 @@ use Rattle.book.specs.Rows.{DeskCells, IsFieldRow, KeptCells, kept_row, move_row
 use Rattle.book.specs.Tables.{field_cells, kept_cells, line_cells, move_cells, order_cells}
 use Rattle.book.specs.Told.{IsFieldTold, IsKeptTold, IsLineTold, IsMoveTold, TellsField}
 use Rattle.book.specs.View.{field_of, kept_of, move_of, order_of}
-use Rattle.book.proofs.RowsTold.{fields_told, heads_same, heads_told, kept_told, lines_told, moves_told, orders_rows, rows_of}
+use Rattle.book.proofs.RowsTold.{fields_told, good_field, heads_same, heads_told, kept_told, lines_told, moves_told, orders_rows, rows_of, tells_field}
 use Rattle.book.proofs.Lists.{length-of-map}
 use Rattle.book.proofs.Told.{same_first}
 use Rattle.book.proofs.Tested.{passed_up}
@@ -74,7 +74,7 @@ returns-clause-told c = record {
       let places : c.len.result ≡ length (map kept_of c.in_ok-kept.kept.items) = omega arith in
       ap (λ (d : DeskCells). d ∷ []) (c.in-Some.ensures.1 ∙ ap (desk_at c.in-Some.clock) places);
   fields = subst (λ (fs : List FieldRow). AllZip TellsField (map field_of c.in_ok-fields.fields.items) (map field_cells fs)) c.as_slice.ensures
-      (zip-map IsFieldTold TellsField field_of field_cells (λ e row told. told.1) c.in_ok-fields.fields.items c.as_slice.result.now c.in_ok-fields.ensures.told);
+      (zip-map IsFieldTold TellsField field_of field_cells tells_field c.in_ok-fields.fields.items c.as_slice.result.now c.in_ok-fields.ensures.told);
   moves = ap (map move_cells) (sym c.as_slice-2.ensures) ∙ rows_of IsMoveTold move_of move_row move_cells (λ e row told. told.cells) c.in_ok-moves.moves.items c.as_slice-2.result.now c.in_ok-moves.ensures.told;
   orders = ap (map order_cells) (sym c.as_slice-3.ensures)
       ∙ orders_rows c.in_ok-heads.heads.items c.as_slice-3.result.now (map order_of c.in_ok-orders.orders.items) c.in_ok-heads.ensures.told (c.in_ok-orders.ensures.told.heads_are ∙ c.deref.ensures.value);
@@ -86,7 +86,7 @@ good_fields : (es : List (Name × FieldEntry)) (rows : List FieldRow) → AllZip
 good_fields [] [] told = tt
 good_fields [] (r ∷ rows) told = absurd told
 good_fields (e ∷ es) [] told = absurd told
-good_fields (e ∷ es) (r ∷ rows) told = (told.0.0, good_fields es rows told.1)
+good_fields (e ∷ es) (r ∷ rows) told = (good_field e r told.0, good_fields es rows told.1)
 
 good_kept : (es : List (List ℕ × KeptEntry)) (rows : List KeptRow) → AllZip IsKeptTold es rows → Each IsGoodKept (map kept_of es)
 good_kept [] [] told = tt
@@ -100,3 +100,6 @@ returns-clause-form c = record {
   fields = good_fields c.in_ok-fields.fields.items c.as_slice.result.now c.in_ok-fields.ensures.told;
   kept = good_kept c.in_ok-kept.kept.items c.as_slice-6.result.now c.in_ok-kept.ensures.told;
 }
+
+pub returns-clause-fields : goal.returns-clause-fields
+returns-clause-fields c = subst (AllZip IsFieldTold c.in_ok-fields.fields.items) c.as_slice.ensures c.in_ok-fields.ensures.told

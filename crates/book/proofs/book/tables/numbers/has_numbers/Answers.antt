@@ -1,19 +1,14 @@
-use Rattle.std.proofs.Common.{◌∙◌, ◌≤ℤ◌, pos, refl, subst, sym}
+use Rattle.std.proofs.Common.{◌∙◌, arith, pos, sym}
+use Rattle.std.proofs.lemmas.Int.{ints}
 use Rattle.book.proofs.book.tables.numbers.has_numbers.Goals as goal
 
-pub returns-then-shows : goal.returns-then-shows
-returns-then-shows c =
-    let same = c.if-shows.ensures.0 refl in
-    let made = c.stock_of-stock.ensures in
-    let lo = c.args.entry.now.1.lo in
-    let hi = c.args.entry.now.1.hi in (
-      λ yes. let within = c.is_safe.ensures.0 yes in
-          record {
-            value = same.0 ∙ made.value;
-            inf = same.1 ∙ made.inf;
-            sup = same.2 ∙ made.sup;
-            low = subst (λ z. pos lo ≤ℤ z) (sym same.1) within.0;
-            high = subst (λ z. z ≤ℤ pos hi) (sym same.2) within.1;
-          },
-      λ has. c.is_safe.ensures.1 (subst (λ z. pos lo ≤ℤ z) same.1 has.low, subst (λ z. z ≤ℤ pos hi) same.2 has.high),
+pub returns : goal.returns
+returns c =
+    let own = c.numbers_of.ensures in
+    let start = pos c.args.entry.now.start in (
+      λ yes. let same = c.are_same.ensures.0 yes in
+          let moved = same.0 in
+          let value = own.value in
+          record { value = omega (arith, ints); takes = own.takes ∙ same.1; adds = own.adds ∙ same.2 },
+      λ has. c.are_same.ensures.1 ((let value = own.value in let given = has.value in omega (arith, ints)), sym own.takes ∙ has.takes, sym own.adds ∙ has.adds),
     )

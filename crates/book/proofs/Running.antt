@@ -1,0 +1,266 @@
+-- Running numbers: what the entries of fields say of a ledger, and what becomes of them.
+use Rattle.std.proofs.Common.{◌≡◌, ◌∙◌, ℕ, suc, ◌+◌, ◌≤◌, ℤ, pos, ◌+ℤ◌, ◌-ℤ◌, ◌≤ℤ◌, ◌<ℤ◌, ◌++◌, List, [], ◌∷◌, Option, None, Some, IsSomeAnd, ap, arith, cond, find, if◌then◌else◌, is_some, map, refl, slice_get, string_bytes, subst, sym, true, false, Bool, true≢false, Global, String}
+use Rattle.std.proofs.lemmas.Int.{ints}
+use Rattle.std.proofs.lemmas.Option.{get_or_from_slice_get, same_Some, slice_get_within}
+use Rattle.std.specs.BTreeMap.{insert_entry, is_at}
+use Rattle.std.specs.List.{AllByRecursion as Each, Contains}
+use Rattle.std.specs.Map.{lookup}
+use Rattle.std.specs.Ordering.{is_eq, is_lt, match_ordering}
+use Rattle.std.specs.declared.cmp.Ordering.{Ordering}
+use Rattle.std.specs.declared.cmp.Ordering.TheVariants.{Equal, Greater, Less}
+use Rattle.escrow.specs.Choices.{IsInfimum as IsLeastOf, IsSafe as IsSafeStock, IsSupremum as IsGreatestOf}
+use Rattle.escrow.specs.Escrow.{holding}
+use Rattle.escrow.specs.Stock.{Stock}
+use Rattle.escrow.specs.declared.quantity.Way.{Way}
+use Rattle.escrow.specs.declared.quantity.Way.TheVariants.{Add, Take}
+use Rattle.words.specs.declared.command.Command.{Command}
+use Rattle.words.specs.declared.command.Command.TheVariants as command
+use Rattle.words.specs.declared.command.Request.{Request}
+use Rattle.book.specs.After.{field_row, new_field_rows}
+use Rattle.book.specs.Answers.{FirstFailure, checks}
+use Rattle.book.specs.Changes.{put_content, put_row, put_rows}
+use Rattle.book.specs.Good.{Good}
+use Rattle.book.specs.Held.{BreaksBound, held_to_add, held_to_take, if_add, if_take}
+use Rattle.book.specs.Ledger.{Field, Ledger, Name, Order, field_named, insert_in_order, is_committed, is_open, line_name, name_cmp, name_of, on, same_name}
+use Rattle.book.specs.Next.{accept, next}
+use Rattle.book.specs.Outcomes.{moved, settled, signed, total}
+use Rattle.book.specs.Plans.{Fits, PlanView}
+use Rattle.book.specs.Rows.{Content, FieldCells, field_cmp}
+use Rattle.book.specs.Running.{IsUpToDate, entry_row, with_entries}
+use Rattle.book.specs.Tables.{field_cells}
+use Rattle.book.specs.View.{field_of}
+use Rattle.book.specs.declared.entries.FieldEntry.{FieldEntry}
+use Rattle.book.specs.declared.order.Line.{Line}
+use Rattle.book.proofs.Closing.{all_pass, name_is}
+use Rattle.book.proofs.Growing.{none_if_not_some}
+use Rattle.book.proofs.InOrder.{rows_are, rows_of}
+use Rattle.book.proofs.Keyed.{equal_field}
+use Rattle.book.proofs.Runs.{in_order}
+use Rattle.book.proofs.Sums.{each-imp, total-zero}
+use Rattle.book.proofs.Told.{not_empty, same_first, same_pos, same_rest}
+use Rattle.book.proofs.Viewed.{Contains-of_find}
+use Rattle.book.proofs.Walked.{each-at}
+
+-- ---- one quantity
+
+pub least_is : (s : Stock) (z : ℤ) → IsLeastOf s z → z ≡ pos s.value -ℤ pos s.held_to_take
+least_is s z h =
+    let low = h.least s.held_to_take 0 (omega arith) (omega arith) in
+    let taken = h.reached.2 in
+    let is = h.reached.4 in
+    omega (arith, ints)
+
+pub greatest_is : (s : Stock) (z : ℤ) → IsGreatestOf s z → z ≡ pos s.value +ℤ pos s.held_to_add
+greatest_is s z h =
+    let high = h.greatest 0 s.held_to_add (omega arith) (omega arith) in
+    let added = h.reached.3 in
+    let is = h.reached.4 in
+    omega (arith, ints)
+
+-- ---- the check of a bound
+
+not_above : (a b : ℤ) → (a ≤ℤ b → ⊥) → b <ℤ a
+not_above a b h = grind (arith, ints)
+
+-- an amount that the quantity grants breaks no bound
+pub grants : (A : Ledger) (n : Name) (e : FieldEntry) (way : Way) (q : ℕ) → IsUpToDate A (n, e) → field_named A n ≡ Some (field_of (n, e)) → IsSafeStock (holding e.quantity way q) → BreaksBound way A n q → ⊥
+grants A n e Take q up there safe breaks =
+    let f : Field = field_of (n, e) in
+    let inf = ap (λ (r : FieldCells). r.inf) up in
+    let least = (safe (e.quantity.held_to_take + q) 0 (omega arith) (omega arith)).0 in
+    let below : ((settled A f -ℤ held_to_take A n) -ℤ pos q) <ℤ pos e.quantity.lo = subst (λ (o : Option Field). IsSomeAnd o (λ f. ((settled A f -ℤ held_to_take A f.name) -ℤ pos q) <ℤ pos f.lo)) there breaks in
+    omega (arith, ints)
+grants A n e Add q up there safe breaks =
+    let f : Field = field_of (n, e) in
+    let sup = ap (λ (r : FieldCells). r.sup) up in
+    let greatest = (safe 0 (e.quantity.held_to_add + q) (omega arith) (omega arith)).1 in
+    let above : pos e.quantity.hi <ℤ ((settled A f +ℤ held_to_add A n) +ℤ pos q) = subst (λ (o : Option Field). IsSomeAnd o (λ f. pos f.hi <ℤ ((settled A f +ℤ held_to_add A f.name) +ℤ pos q))) there breaks in
+    omega (arith, ints)
+
+-- and one that it refuses breaks one
+pub refuses : (A : Ledger) (n : Name) (e : FieldEntry) (way : Way) (q : ℕ) → Good A → IsUpToDate A (n, e) → field_named A n ≡ Some (field_of (n, e)) → (IsSafeStock (holding e.quantity way q) → ⊥) → BreaksBound way A n q
+refuses A n e Take q good up there unsafe =
+    let f : Field = field_of (n, e) in
+    let here = Contains-of_find (λ g. same_name n g.name) A.fields f there in
+    let r = each-at _ A.fields here.0 f here.1 (sym here.2) (in_order A good) in
+    let high = r.3 in
+    let inf = ap (λ (r : FieldCells). r.inf) up in
+    let sup = ap (λ (r : FieldCells). r.sup) up in
+    subst (λ (o : Option Field). IsSomeAnd o (λ f. ((settled A f -ℤ held_to_take A f.name) -ℤ pos q) <ℤ pos f.lo)) (sym there)
+    (not_above (pos e.quantity.lo) ((settled A f -ℤ held_to_take A n) -ℤ pos q) (λ low. unsafe (λ taken added t a. (omega (arith, ints), omega (arith, ints)))))
+refuses A n e Add q good up there unsafe =
+    let f : Field = field_of (n, e) in
+    let here = Contains-of_find (λ g. same_name n g.name) A.fields f there in
+    let r = each-at _ A.fields here.0 f here.1 (sym here.2) (in_order A good) in
+    let low = r.0 in
+    let inf = ap (λ (r : FieldCells). r.inf) up in
+    let sup = ap (λ (r : FieldCells). r.sup) up in
+    subst (λ (o : Option Field). IsSomeAnd o (λ f. pos f.hi <ℤ ((settled A f +ℤ held_to_add A f.name) +ℤ pos q))) (sym there)
+    (not_above ((settled A f +ℤ held_to_add A n) +ℤ pos q) (pos e.quantity.hi) (λ high. unsafe (λ taken added t a. (omega (arith, ints), omega (arith, ints)))))
+
+-- ---- entries under their names
+
+pub up_to_date_at : (A : Ledger) (name : Name) (l : List (Name × FieldEntry)) (v : FieldEntry) → Each (IsUpToDate A) l → lookup (is_at (name_cmp name)) l ≡ Some v → IsUpToDate A (name, v)
+up_to_date_at A name [] v all there = absurd (true≢false (sym (ap is_some there)))
+up_to_date_at A name (e ∷ l) v all there = by (name_cmp name e.0) refl there (λ is. up_to_date_at A name l v all.1 is)
+  where
+    by : (o : Ordering) → name_cmp name e.0 ≡ o → cond (is_eq o) (Some e.1) (lookup (is_at (name_cmp name)) l) ≡ Some v → (lookup (is_at (name_cmp name)) l ≡ Some v → IsUpToDate A (name, v)) → IsUpToDate A (name, v)
+    by Less o is more = more is
+    by Greater o is more = more is
+    by Equal o is more = subst (λ (v : FieldEntry). IsUpToDate A (name, v)) (same_Some e.1 v is) (subst (λ (k : Name). IsUpToDate A (k, e.1)) (sym (equal_field name e.0 o)) all.0)
+
+-- ---- rows of entries
+
+pub rows_of_entries : (A : Ledger) (es : List (Name × FieldEntry)) → Each (IsUpToDate A) es → map entry_row es ≡ map (field_row A) (map field_of es)
+rows_of_entries A [] all = refl
+rows_of_entries A (e ∷ es) all = let first = all.0 in let more = rows_of_entries A es all.1 in λ i. first i ∷ more i
+
+same_field : (e : Name × FieldEntry) (A : Ledger) (f : Field) → entry_row e ≡ field_row A f → field_of e ≡ f
+same_field e A f is =
+    let lo = same_pos e.1.quantity.lo f.lo (ap (λ (r : FieldCells). r.lo) is) in
+    let hi = same_pos e.1.quantity.hi f.hi (ap (λ (r : FieldCells). r.hi) is) in
+    let start = same_pos e.1.start f.start (ap (λ (r : FieldCells). r.start) is) in
+    λ i. record { name = record { branch = (is i).branch; article = (is i).article }; lo = lo i; hi = hi i; start = start i }
+
+pub entry_cells_are : (e : Name × FieldEntry) (branch article : String Global) (lo hi start value inf sup : ℤ) → string_bytes branch ≡ e.0.branch → string_bytes article ≡ e.0.article → lo ≡ pos e.1.quantity.lo → hi ≡ pos e.1.quantity.hi → start ≡ pos e.1.start
+    → value ≡ pos e.1.quantity.value → inf ≡ pos e.1.quantity.value -ℤ pos e.1.quantity.held_to_take → sup ≡ pos e.1.quantity.value +ℤ pos e.1.quantity.held_to_add
+    → field_cells (record { branch = branch; article = article; lo = lo; hi = hi; start = start; value = value; inf = inf; sup = sup }) ≡ entry_row e
+entry_cells_are e branch article lo hi start value inf sup b a l h s v i u = λ z. record { branch = b z; article = a z; lo = l z; hi = h z; start = s z; value = v z; inf = i z; sup = u z }
+
+-- entries whose rows are those of a ledger are its fields, up to date
+pub entries_of_rows : (A : Ledger) (es : List (Name × FieldEntry)) (fs : List Field) → map entry_row es ≡ map (field_row A) fs → (map field_of es ≡ fs) × Each (IsUpToDate A) es
+entries_of_rows A [] [] is = (refl, tt)
+entries_of_rows A [] (f ∷ fs) is = absurd (not_empty _ _ (sym is))
+entries_of_rows A (e ∷ es) [] is = absurd (not_empty _ _ is)
+entries_of_rows A (e ∷ es) (f ∷ fs) is =
+    let row = same_first (entry_row e) (field_row A f) (map entry_row es) (map (field_row A) fs) is in
+    let field = same_field e A f row in
+    let more = entries_of_rows A es fs (same_rest (entry_row e) (field_row A f) (map entry_row es) (map (field_row A) fs) is) in
+    ((λ i. field i ∷ more.0 i), (row ∙ ap (field_row A) (sym field), more.1))
+
+-- ---- entries put in
+
+-- put among entries, an entry's row is put among rows
+put_one : (n : Name) (v : FieldEntry) (l : List (Name × FieldEntry)) → map entry_row (insert_entry name_cmp l n v) ≡ put_row field_cmp (entry_row (n, v)) (map entry_row l)
+put_one n v [] = refl
+put_one n v (e ∷ l) = by (name_cmp n e.0) refl (put_one n v l)
+  where
+    by : (o : Ordering) → name_cmp n e.0 ≡ o → map entry_row (insert_entry name_cmp l n v) ≡ put_row field_cmp (entry_row (n, v)) (map entry_row l)
+        → map entry_row (match_ordering o ((n, v) ∷ e ∷ l) ((e.0, v) ∷ l) (e ∷ insert_entry name_cmp l n v))
+        ≡ (if is_lt o then entry_row (n, v) ∷ entry_row e ∷ map entry_row l else (if is_eq o then entry_row (n, v) ∷ map entry_row l else entry_row e ∷ put_row field_cmp (entry_row (n, v)) (map entry_row l)))
+    by Less is more = refl
+    by Equal is more = ap (λ (k : Name). entry_row (k, v) ∷ map entry_row l) (sym (equal_field n e.0 is))
+    by Greater is more = ap (λ (rows : List FieldCells). entry_row e ∷ rows) more
+
+put_all : (es old : List (Name × FieldEntry)) → map entry_row (with_entries es old) ≡ put_rows field_cmp (map entry_row es) (map entry_row old)
+put_all [] old = refl
+put_all (e ∷ es) old = put_all es (insert_entry name_cmp old e.0 e.1) ∙ ap (put_rows field_cmp (map entry_row es)) (put_one e.0 e.1 old)
+
+-- the fields of a plan put in, the fields are those of the next ledger, up to date
+pub adopted : (A : Ledger) (plan : PlanView) (old : List (Name × FieldEntry)) → Good A → Good (accept A plan.request) → Fits A plan → map field_of old ≡ A.fields → Each (IsUpToDate A) old
+    → (map field_of (with_entries plan.fields old) ≡ (accept A plan.request).fields) × Each (IsUpToDate (accept A plan.request)) (with_entries plan.fields old)
+adopted A plan old good next fits fields all =
+    let B : Ledger = accept A plan.request in
+    let before = rows_of_entries A old all ∙ ap (map (field_row A)) fields in
+    let put = fits.changes.suffice (rows_of A) (rows_of B) (rows_are A good) (rows_are B next) in
+    entries_of_rows B (with_entries plan.fields old) B.fields (put_all plan.fields old ∙ (λ i. put_rows field_cmp (fits.fields i) (before i)) ∙ ap (λ (c : Content). c.fields) put)
+
+-- ---- a new field
+
+off : (b : Bool) (z : ℤ) → b ≡ false → (if b then z else pos 0) ≡ pos 0
+off true z e = absurd (true≢false e)
+off false z e = refl
+
+part_zero : (b : Bool) (z : ℤ) → z ≡ pos 0 → (if b then z else pos 0) ≡ pos 0
+part_zero true z e = e
+part_zero false z e = refl
+
+-- what is on some field is not on one that is not there
+elsewhere : (A : Ledger) (n m : Name) → field_named A n ≡ None → is_some (field_named A m) ≡ true → same_name n m ≡ false
+elsewhere A n m none there = by (same_name n m) refl
+  where
+    by : (b : Bool) → same_name n m ≡ b → b ≡ false
+    by true e = absurd (true≢false (sym there ∙ ap (λ (k : Name). is_some (field_named A k)) (sym (name_is n m e)) ∙ ap is_some none))
+    by false e = refl
+
+lines_zero : (A : Ledger) (n : Name) (g : Line → ℤ) (o : Order) → field_named A n ≡ None → Each (λ l. is_some (field_named A (line_name l)) ≡ true) o.lines → total (λ l. if on n l then g l else pos 0) o.lines ≡ pos 0
+lines_zero A n g o none there = total-zero (λ l. if on n l then g l else pos 0) o.lines (each-imp (λ l x. off (on n l) (g l) (elsewhere A n (line_name l) none x)) o.lines there)
+
+orders_zero : (A : Ledger) (n : Name) (p : Order → Bool) (g : Line → ℤ) → Good A → field_named A n ≡ None → total (λ o. if p o then total (λ l. if on n l then g l else pos 0) o.lines else pos 0) A.orders ≡ pos 0
+orders_zero A n p g good none = total-zero (λ o. if p o then total (λ l. if on n l then g l else pos 0) o.lines else pos 0) A.orders
+    (each-imp (λ o x. part_zero (p o) (total (λ l. if on n l then g l else pos 0) o.lines) (lines_zero A n g o none (each-imp (λ l y. y.field) o.lines x.lines))) A.orders good.orders)
+
+-- its value is its start, and nothing is held on it
+pub new_field : (A : Ledger) (r : Request) (b a : List ℕ) (lo hi start : ℕ) → r.command ≡ command.Field b a lo hi start → Good A → FirstFailure (checks A r.command) None
+    → entry_row (name_of b a, record { start = start; quantity = record { lo = lo; hi = hi; value = start; held_to_take = 0; held_to_add = 0 } }) ∷ [] ≡ new_field_rows (accept A r) r.command
+new_field A r b a lo hi start is good passed = rw is (ap (λ (row : FieldCells). row ∷ []) row)
+  where
+    n : Name
+    n = name_of b a
+
+    none : field_named A n ≡ None
+    none = none_if_not_some _ (all_pass (checks A (command.Field b a lo hi start)) (subst (λ c. FirstFailure (checks A c) None) is passed)).1.1.0
+
+    moves : total (λ m. if same_name n m.field then m.amount else pos 0) A.moves ≡ pos 0
+    moves = total-zero (λ m. if same_name n m.field then m.amount else pos 0) A.moves (each-imp (λ m x. off (same_name n m.field) m.amount (elsewhere A n m.field none x.field)) A.moves good.moves)
+
+    used : total (λ o. if is_committed o then moved n (λ l. l.used) o else pos 0) A.orders ≡ pos 0
+    used = orders_zero A n is_committed (λ l. signed l.way l.used) good none
+
+    takes : held_to_take A n ≡ pos 0
+    takes = orders_zero A n is_open (λ l. pos (if_take l.way l.held)) good none
+
+    adds : held_to_add A n ≡ pos 0
+    adds = orders_zero A n is_open (λ l. pos (if_add l.way l.held)) good none
+
+    value : pos start ≡ (pos start +ℤ total (λ m. if same_name n m.field then m.amount else pos 0) A.moves) +ℤ total (λ o. if is_committed o then moved n (λ l. l.used) o else pos 0) A.orders
+    value = let m = moves in let u = used in omega (arith, ints)
+
+    row : entry_row (n, record { start = start; quantity = record { lo = lo; hi = hi; value = start; held_to_take = 0; held_to_add = 0 } })
+        ≡ field_row (accept A (record { key = r.key; command = command.Field b a lo hi start })) (record { name = n; lo = lo; hi = hi; start = start })
+    row =
+        let v = value in
+        let t = takes in
+        let h = adds in
+        let inf : pos start -ℤ pos 0 ≡ ((pos start +ℤ total (λ m. if same_name n m.field then m.amount else pos 0) A.moves) +ℤ total (λ o. if is_committed o then moved n (λ l. l.used) o else pos 0) A.orders) -ℤ held_to_take A n = omega (arith, ints) in
+        let sup : pos start +ℤ pos 0 ≡ ((pos start +ℤ total (λ m. if same_name n m.field then m.amount else pos 0) A.moves) +ℤ total (λ o. if is_committed o then moved n (λ l. l.used) o else pos 0) A.orders) +ℤ held_to_add A n = omega (arith, ints) in
+        λ i. record { branch = b; article = a; lo = pos lo; hi = pos hi; start = pos start; value = value i; inf = inf i; sup = sup i }
+
+-- its bounds are as they should be
+pub bounds_passed : (A : Ledger) (r : Request) (b a : List ℕ) (lo hi start : ℕ) → r.command ≡ command.Field b a lo hi start → FirstFailure (checks A r.command) None → ((lo ≤ start) × (start ≤ hi) → ⊥) → ⊥
+bounds_passed A r b a lo hi start is passed bad = (all_pass (checks A (command.Field b a lo hi start)) (subst (λ c. FirstFailure (checks A c) None) is passed)).1.1.1.0 bad
+
+-- ---- fields stay
+
+contains_each : {X : Type 0} (xs : List X) → Each (λ x. Contains xs x) xs
+contains_each [] = tt
+contains_each (x ∷ xs) = ((0, omega arith, refl), each-imp (λ y c. (suc c.0, omega arith, c.2)) xs (contains_each xs))
+
+each_inserted : {X : Type 0} (P : X → Type 0) (p : X → X → Bool) (x : X) (xs : List X) → Each P (insert_in_order p x xs) → Each P xs
+each_inserted P p x [] all = tt
+each_inserted P p x (y ∷ ys) all = by (p x y) all (λ k. each_inserted P p x ys k)
+  where
+    by : (b : Bool) → Each P (if b then x ∷ y ∷ ys else y ∷ insert_in_order p x ys) → (Each P (insert_in_order p x ys) → Each P ys) → Each P (y ∷ ys)
+    by true all more = all.1
+    by false all more = (all.0, more all.1)
+
+stay : (P : Field → Type 0) (A : Ledger) (c : Command) → Each P (next A c).fields → Each P A.fields
+stay P A (command.Field b a lo hi start) all = each_inserted P (λ f g. is_lt (name_cmp f.name g.name)) (record { name = name_of b a; lo = lo; hi = hi; start = start }) A.fields all
+stay P A (command.Deliver b a q) all = all
+stay P A (command.Writeoff b a q) all = all
+stay P A (command.Open n until lines) all = all
+stay P A (command.Transfer n until a from to q) all = all
+stay P A (command.More n way b a q) all = all
+stay P A (command.Use n b a q) all = all
+stay P A (command.Release n b a q) all = all
+stay P A (command.Commit n) all = all
+stay P A (command.Abort n) all = all
+stay P A (command.Expire now) all = all
+
+pub field_stays : (A : Ledger) (r : Request) (i : ℕ) (f : Field) → slice_get A.fields i ≡ Some f → Contains (accept A r).fields f
+field_stays A r i f read =
+    each-at (λ f. Contains (accept A r).fields f) A.fields i f (slice_get_within A.fields i f read) (sym (get_or_from_slice_get A.fields i f f read)) (stay (λ f. Contains (accept A r).fields f) A r.command (contains_each (accept A r).fields))
+
+pub bounds_at : (A : Ledger) (f : Field) → Good A → Contains A.fields f
+    → (pos f.lo ≤ℤ (settled A f -ℤ held_to_take A f.name)) × ((settled A f -ℤ held_to_take A f.name) ≤ℤ settled A f) × (settled A f ≤ℤ (settled A f +ℤ held_to_add A f.name)) × ((settled A f +ℤ held_to_add A f.name) ≤ℤ pos f.hi) × (f.hi ≤ 1000000000)
+bounds_at A f good there = each-at _ A.fields there.0 f there.1 (sym there.2) (in_order A good)
