@@ -257,7 +257,7 @@ kept_more : (A : Ledger) (k : Kept) → length (insert_in_order (λ a b. is_lt (
 kept_more A k = length-insert (λ a b. is_lt (slice_cmp nat_cmp a.key b.key)) k A.kept
 
 -- the quantities of the lines of an `open`
-quantities : (ls : List OpenLine) → AreOpenLines ls → Each (λ l. IsQty l.qty) ls
+pub quantities : (ls : List OpenLine) → AreOpenLines ls → Each (λ l. IsQty l.qty) ls
 quantities ls h = each-imp (λ (l : OpenLine) (x : IsOpenLine l). x.qty) ls (recursion_from_All IsOpenLine ls h.each)
 
 parts_accept : (A : Ledger) (key : List ℕ) (c : Command) → Good A → IsInRange c → FirstFailure (checks A c) None → Parts (accept A (record { key = key; command = c }))

@@ -55,7 +55,7 @@ same_both Less b = refl
 same_both Equal b = refl
 same_both Greater b = refl
 
-same_field : (f g : Name) → same_name f g ≡ is_eq (name_cmp f g)
+pub same_field : (f g : Name) → same_name f g ≡ is_eq (name_cmp f g)
 same_field f g = rw (← is_eq-slice_cmp f.branch g.branch, ← is_eq-slice_cmp f.article g.article) (sym (same_both (slice_cmp nat_cmp f.branch g.branch) (slice_cmp nat_cmp f.article g.article)))
 
 pub equal_field : (f g : Name) → name_cmp f g ≡ Equal → f ≡ g
@@ -66,10 +66,6 @@ field_found name l = found name_cmp equal_field field_of name (λ f. same_name n
 
 pub field_absent : (name : Name) (l : List (Name × FieldEntry)) → find (λ f. same_name name f.name) (map field_of l) ≡ None → lookup (is_at (name_cmp name)) l ≡ None
 field_absent name l none = nothing_there (λ v. field_of (name, v)) (lookup (is_at (name_cmp name)) l) (sym (field_found name l) ∙ none)
-
-pub field_inserted : (name : Name) (v : FieldEntry) (l : List (Name × FieldEntry)) → find (λ f. same_name name f.name) (map field_of l) ≡ None
-    → map field_of (insert_entry name_cmp l name v) ≡ insert_in_order (λ f g. is_lt (name_cmp f.name g.name)) (field_of (name, v)) (map field_of l)
-field_inserted name v l none = inserted name_cmp equal_field field_of name v (λ f g. is_lt (name_cmp f.name g.name)) (λ e. refl) l (field_absent name l none)
 
 -- ---- orders
 

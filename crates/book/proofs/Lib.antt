@@ -50,3 +50,7 @@ pub mod Copied
 pub mod Counted
 pub mod NextRows
 pub mod Running
+pub mod StockChanges
+pub mod ChangedFields
+pub mod GivingBack
+pub mod FieldRows

@@ -9,7 +9,7 @@ use Rattle.words.specs.declared.command.Command.TheVariants as command
 use Rattle.words.specs.Kinds.{is_opening}
 use Rattle.words.specs.declared.command.Request.{Request}
 use Rattle.words.specs.declared.open_line.OpenLine.{OpenLine}
-use Rattle.book.specs.After.{changes_state, expired_orders, is_touched, names_field, order_after, order_number, some_has_line, some_is_transfer, some_part, IsShort}
+use Rattle.book.specs.After.{changes_state, is_touched, names_field, order_after, order_number, some_has_line, some_is_transfer, some_part, IsShort}
 use Rattle.book.specs.Answers.{FirstFailure, IsAccepted, checks}
 use Rattle.book.specs.Changes.{changes_field, has_line_on, order_is}
 use Rattle.book.specs.Good.{Good, IsGoodOrder}
@@ -19,7 +19,7 @@ use Rattle.book.specs.Outcomes.{total}
 use Rattle.book.specs.declared.order.Line.{Line}
 use Rattle.book.specs.declared.order.State.TheVariants.{Aborted, Committed}
 use Rattle.book.proofs.Asked.{none_found, total-insert}
-use Rattle.book.proofs.Chosen.{any-eq, any-filter, any-map, find-new, none_after, none_any, some_is}
+use Rattle.book.proofs.Chosen.{any-eq, any-map, find-new, none_after, none_any, some_is}
 use Rattle.book.proofs.Closing.{all_pass, at_number}
 use Rattle.book.proofs.Growing.{none_if_not_some}
 use Rattle.book.proofs.Sums.{each, each-imp, total-eq, total-map}
@@ -83,15 +83,11 @@ lined A (command.Use n b a q) f g e = absurd (true≢false (sym e))
 lined A (command.Release n b a q) f g e = absurd (true≢false (sym e))
 lined A (command.Expire now) f g e = absurd (true≢false (sym e))
 
--- an expiry changes the fields of the orders that it aborts
-pub expired_lined : (A : Ledger) (c : Command) (now : ℕ) (f : Name) → c ≡ command.Expire now → list_any (has_line_on f) (expired_orders A c) ≡ changes_field A c f
-expired_lined A c now f is = subst (λ (c : Command). list_any (has_line_on f) (expired_orders A c) ≡ changes_field A c f) (sym is) (any-filter (expires now) (has_line_on f) A.orders)
-
 lowered_on : (b : Bool) (f : Name) (q : ℕ) (l : Line) → on f (if b then lower_held q l else l) ≡ on f l
 lowered_on true f q l = refl
 lowered_on false f q l = refl
 
-released_on : (f h : Name) (q : ℕ) (o : Order) → has_line_on f (change_lines h (lower_held q) o) ≡ has_line_on f o
+pub released_on : (f h : Name) (q : ℕ) (o : Order) → has_line_on f (change_lines h (lower_held q) o) ≡ has_line_on f o
 released_on f h q o = any-map (on f) (λ l. if is_transfer o || on h l then lower_held q l else l) o.lines
     ∙ any-eq (λ l. on f (if is_transfer o || on h l then lower_held q l else l)) (on f) o.lines (each (λ l. lowered_on (is_transfer o || on h l) f q l) o.lines)
 
@@ -171,7 +167,7 @@ made_there A (command.Deliver b a q) n h e = absurd (true≢false (sym (ap is_so
 made_there A (command.Writeoff b a q) n h e = absurd (true≢false (sym (ap is_some e)))
 made_there A (command.Expire now) n h e = absurd (true≢false (sym (ap is_some e)))
 
-no_number : (A : Ledger) (c : Command) → order_number c ≡ None → order_after A c ≡ None
+pub no_number : (A : Ledger) (c : Command) → order_number c ≡ None → order_after A c ≡ None
 no_number A (command.Open m until lines) e = absurd (true≢false (ap is_some e))
 no_number A (command.Transfer m until a from to q) e = absurd (true≢false (ap is_some e))
 no_number A (command.More m way b a q) e = absurd (true≢false (ap is_some e))
@@ -216,7 +212,7 @@ all_left g n os h = total-eq (λ o. if o.number == n then pos 0 else g o) g os (
 none_changed : (g : Order → ℤ) (change : Order → Order) (n : ℕ) (os : List Order) → Each (λ o. (o.number == n) ≡ false) os → total g (map (λ o. if o.number == n then change o else o) os) ≡ total g os
 none_changed g change n os h = total-map g (λ o. if o.number == n then change o else o) os ∙ total-eq (λ o. g (if o.number == n then change o else o)) g os (each-imp (λ o e. ap (λ b. g (if b then change o else o)) e) os h)
 
-total-changed : (g : Order → ℤ) (change : Order → Order) (n : ℕ) (os : List Order) → IsStrictlySortedBy nat_cmp (map (λ o. o.number) os)
+pub total-changed : (g : Order → ℤ) (change : Order → Order) (n : ℕ) (os : List Order) → IsStrictlySortedBy nat_cmp (map (λ o. o.number) os)
     → total g (map (λ o. if o.number == n then change o else o) os) ≡ total (λ o. if o.number == n then pos 0 else g o) os +ℤ some_part g (option_map change (find (λ o. o.number == n) os))
 unfolding IsStrictlySortedBy
 total-changed g change n [] sorted = refl

@@ -1,7 +1,7 @@
 -- Running numbers: what the entries of fields say of a ledger, and what becomes of them.
-use Rattle.std.proofs.Common.{◌≡◌, ◌∙◌, ℕ, suc, ◌+◌, ◌≤◌, ℤ, pos, ◌+ℤ◌, ◌-ℤ◌, ◌≤ℤ◌, ◌<ℤ◌, ◌++◌, List, [], ◌∷◌, Option, None, Some, IsSomeAnd, ap, arith, cond, find, if◌then◌else◌, is_some, map, refl, slice_get, string_bytes, subst, sym, true, false, Bool, true≢false, Global, String}
+use Rattle.std.proofs.Common.{◌≡◌, ◌∙◌, ℕ, suc, ◌+◌, ◌≤◌, ℤ, pos, ◌+ℤ◌, ◌-ℤ◌, ◌≤ℤ◌, ◌<ℤ◌, List, [], ◌∷◌, Option, None, Some, IsSomeAnd, ap, arith, cond, if◌then◌else◌, is_some, map, refl, string_bytes, subst, sym, true, false, Bool, true≢false, Global, String}
 use Rattle.std.proofs.lemmas.Int.{ints}
-use Rattle.std.proofs.lemmas.Option.{get_or_from_slice_get, same_Some, slice_get_within}
+use Rattle.std.proofs.lemmas.Option.{same_Some}
 use Rattle.std.specs.BTreeMap.{insert_entry, is_at}
 use Rattle.std.specs.List.{AllByRecursion as Each, Contains}
 use Rattle.std.specs.Map.{lookup}
@@ -18,7 +18,7 @@ use Rattle.words.specs.declared.command.Command.TheVariants as command
 use Rattle.words.specs.declared.command.Request.{Request}
 use Rattle.book.specs.After.{field_row, new_field_rows}
 use Rattle.book.specs.Answers.{FirstFailure, checks}
-use Rattle.book.specs.Changes.{put_content, put_row, put_rows}
+use Rattle.book.specs.Changes.{put_row, put_rows}
 use Rattle.book.specs.Good.{Good}
 use Rattle.book.specs.Held.{BreaksBound, held_to_add, held_to_take, if_add, if_take}
 use Rattle.book.specs.Ledger.{Field, Ledger, Name, Order, field_named, insert_in_order, is_committed, is_open, line_name, name_cmp, name_of, on, same_name}
@@ -167,7 +167,7 @@ adopted A plan old good next fits fields all =
 
 -- ---- a new field
 
-off : (b : Bool) (z : ℤ) → b ≡ false → (if b then z else pos 0) ≡ pos 0
+pub off : (b : Bool) (z : ℤ) → b ≡ false → (if b then z else pos 0) ≡ pos 0
 off true z e = absurd (true≢false e)
 off false z e = refl
 
@@ -226,13 +226,9 @@ new_field A r b a lo hi start is good passed = rw is (ap (λ (row : FieldCells).
         let sup : pos start +ℤ pos 0 ≡ ((pos start +ℤ total (λ m. if same_name n m.field then m.amount else pos 0) A.moves) +ℤ total (λ o. if is_committed o then moved n (λ l. l.used) o else pos 0) A.orders) +ℤ held_to_add A n = omega (arith, ints) in
         λ i. record { branch = b; article = a; lo = pos lo; hi = pos hi; start = pos start; value = value i; inf = inf i; sup = sup i }
 
--- its bounds are as they should be
-pub bounds_passed : (A : Ledger) (r : Request) (b a : List ℕ) (lo hi start : ℕ) → r.command ≡ command.Field b a lo hi start → FirstFailure (checks A r.command) None → ((lo ≤ start) × (start ≤ hi) → ⊥) → ⊥
-bounds_passed A r b a lo hi start is passed bad = (all_pass (checks A (command.Field b a lo hi start)) (subst (λ c. FirstFailure (checks A c) None) is passed)).1.1.1.0 bad
-
 -- ---- fields stay
 
-contains_each : {X : Type 0} (xs : List X) → Each (λ x. Contains xs x) xs
+pub contains_each : {X : Type 0} (xs : List X) → Each (λ x. Contains xs x) xs
 contains_each [] = tt
 contains_each (x ∷ xs) = ((0, omega arith, refl), each-imp (λ y c. (suc c.0, omega arith, c.2)) xs (contains_each xs))
 
@@ -244,7 +240,7 @@ each_inserted P p x (y ∷ ys) all = by (p x y) all (λ k. each_inserted P p x y
     by true all more = all.1
     by false all more = (all.0, more all.1)
 
-stay : (P : Field → Type 0) (A : Ledger) (c : Command) → Each P (next A c).fields → Each P A.fields
+pub stay : (P : Field → Type 0) (A : Ledger) (c : Command) → Each P (next A c).fields → Each P A.fields
 stay P A (command.Field b a lo hi start) all = each_inserted P (λ f g. is_lt (name_cmp f.name g.name)) (record { name = name_of b a; lo = lo; hi = hi; start = start }) A.fields all
 stay P A (command.Deliver b a q) all = all
 stay P A (command.Writeoff b a q) all = all
@@ -256,10 +252,6 @@ stay P A (command.Release n b a q) all = all
 stay P A (command.Commit n) all = all
 stay P A (command.Abort n) all = all
 stay P A (command.Expire now) all = all
-
-pub field_stays : (A : Ledger) (r : Request) (i : ℕ) (f : Field) → slice_get A.fields i ≡ Some f → Contains (accept A r).fields f
-field_stays A r i f read =
-    each-at (λ f. Contains (accept A r).fields f) A.fields i f (slice_get_within A.fields i f read) (sym (get_or_from_slice_get A.fields i f f read)) (stay (λ f. Contains (accept A r).fields f) A r.command (contains_each (accept A r).fields))
 
 pub bounds_at : (A : Ledger) (f : Field) → Good A → Contains A.fields f
     → (pos f.lo ≤ℤ (settled A f -ℤ held_to_take A f.name)) × ((settled A f -ℤ held_to_take A f.name) ≤ℤ settled A f) × (settled A f ≤ℤ (settled A f +ℤ held_to_add A f.name)) × ((settled A f +ℤ held_to_add A f.name) ≤ℤ pos f.hi) × (f.hi ≤ 1000000000)

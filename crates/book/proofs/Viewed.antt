@@ -1,7 +1,7 @@
 -- The numbers that a book shows of its fields.
 use Rattle.std.proofs.Common.{◌≡◌, ℕ, suc, pos, ◌+ℤ◌, ◌-ℤ◌, ◌≤ℤ◌, List, [], ◌∷◌, find, option_map, slice_get, Bool, true, false, Some, is_some, sym, ap, ◌∙◌, arith, if◌then◌else◌, true≢false}
 use Rattle.std.proofs.lemmas.Int.{ints}
-use Rattle.std.proofs.lemmas.Option.{get_or_from_slice_get, slice_get-map, slice_get_within}
+use Rattle.std.proofs.lemmas.Option.{slice_get-map}
 use Rattle.std.specs.List.{Contains}
 use Rattle.escrow.specs.declared.limits.TheConstants.{MAX_LEVEL}
 use Rattle.book.specs.declared.book.Book.TheInside.{Inside}
@@ -22,9 +22,6 @@ Contains-of_find p (y ∷ ys) x n = by (p y) n (λ k. Contains-of_find p ys x k)
     by : (b : Bool) → (if b then Some y else find p ys) ≡ Some x → (find p ys ≡ Some x → Contains ys x) → Contains (y ∷ ys) x
     by true n k = (0, omega arith, ap (from_some y) n)
     by false n k = let c = k n in (suc c.0, omega arith, c.2)
-
-pub Contains-of_slice_get : {X : Type 0} (xs : List X) (i : ℕ) (x : X) → slice_get xs i ≡ Some x → Contains xs x
-Contains-of_slice_get xs i x e = (i, slice_get_within xs i x e, get_or_from_slice_get xs i x x e)
 
 -- the field at an index is shown from the entry there
 pub slice_get-fields : (b : Inside) (A : BookView) (i : ℕ) (x : Name × FieldEntry) → view_of b ≡ A → Some x ≡ slice_get b.fields.entries i → slice_get A.ledger.fields i ≡ Some (field_of x)

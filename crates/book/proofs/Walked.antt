@@ -1,6 +1,5 @@
 -- A walk over a list, one element at a time.
-use Rattle.std.proofs.Common.{◌≡◌, ℕ, ◌+◌, ◌<◌, ◌≤◌, ℤ, pos, ◌+ℤ◌, nat_abs, List, [], ◌∷◌, ◌++◌, Bool, Some, append-nil, false, filter, map, slice_get, take, true, drop, length, get_or, refl, sym, ap, ◌∙◌, subst, arith, if◌then◌else◌, nat_cmp, Less}
-use Rattle.std.proofs.lemmas.Int.{ints}
+use Rattle.std.proofs.Common.{◌≡◌, ℕ, ◌+◌, ◌<◌, ◌≤◌, ℤ, ◌+ℤ◌, List, [], ◌∷◌, ◌++◌, Bool, Some, append-nil, false, filter, map, slice_get, take, true, drop, length, get_or, refl, sym, ap, ◌∙◌, subst, arith, nat_cmp, Less}
 use Rattle.std.proofs.lemmas.List.{take-append-drop, take_all}
 use Rattle.std.proofs.lemmas.Grind.{take_at_read}
 use Rattle.std.proofs.lemmas.List.{map-append}
@@ -8,25 +7,23 @@ use Rattle.std.proofs.lemmas.List.Elements.{filter-append}
 use Rattle.std.proofs.lemmas.Option.{get_or_from_slice_get, slice_get_within}
 use Rattle.std.specs.List.{AllByRecursion as Each}
 use Rattle.std.specs.List.Sorted.{IsStrictlySortedBy}
-use Rattle.escrow.specs.Ranges.{IsQty}
-use Rattle.words.specs.declared.limits.TheConstants.{MAX_ORDER_LINES}
 use Rattle.book.specs.declared.limits.TheConstants.{MAX_PLACES}
 use Rattle.book.specs.declared.book.Book.TheInside.{Inside}
-use Rattle.book.specs.declared.entries.MoveEntry.{MoveEntry}
-use Rattle.book.specs.declared.entries.OrderEntry.{OrderEntry}
-use Rattle.book.specs.Ledger.{Field, Ledger, Move, Name, is_committed, places, same_name}
-use Rattle.book.specs.Outcomes.{moved, settled, total}
-use Rattle.book.specs.Held.{held_to_add, held_to_take}
-use Rattle.book.specs.Good.{Good, IsGoodMove, IsGoodOrder}
-use Rattle.book.specs.View.{ledger_of, move_of, order_of}
-use Rattle.book.specs.Walk.{added_by_order, moved_by_move, moved_by_order, taken_by_order}
+use Rattle.book.specs.Ledger.{Ledger, Move, places}
+use Rattle.book.specs.Outcomes.{total}
+use Rattle.book.specs.Good.{Good}
+use Rattle.book.specs.View.{ledger_of, move_of}
 use Rattle.book.proofs.Asked.{total-push}
 use Rattle.book.proofs.Closing.{less_is}
 use Rattle.book.proofs.Lists.{each-of-push, each-unmap, length-of-map}
-use Rattle.book.proofs.Sums.{each-imp, total-map}
+use Rattle.book.proofs.Sums.{each-imp}
 
 pub take-step : {X : Type 0} (xs : List X) (i : ℕ) (x : X) → i < length xs → x ≡ get_or xs i x → take (i + 1) xs ≡ take i xs ++ x ∷ []
 take-step xs i x h e = (take_at_read xs i x h).1 ∙ ap (λ y. take i xs ++ y ∷ []) (sym e)
+
+-- the same, of an element that is read
+pub read-step : {X : Type 0} (xs : List X) (i : ℕ) (x : X) → slice_get xs i ≡ Some x → take (i + 1) xs ≡ take i xs ++ x ∷ []
+read-step xs i x read = take-step xs i x (slice_get_within xs i x read) (sym (get_or_from_slice_get xs i x x read))
 
 pub cut_at : {X : Type 0} (xs : List X) (i : ℕ) (x : X) → i < length xs → x ≡ get_or xs i x → xs ≡ (take i xs ++ x ∷ []) ++ drop (i + 1) xs
 cut_at xs i x h e = sym (take-append-drop (i + 1) xs) ∙ ap (λ t. t ++ drop (i + 1) xs) (take-step xs i x h e)
@@ -34,10 +31,6 @@ cut_at xs i x h e = sym (take-append-drop (i + 1) xs) ∙ ap (λ t. t ++ drop (i
 -- one element more of a sum
 pub total-step : {X : Type 0} (g : X → ℤ) (xs : List X) (i : ℕ) (x : X) → i < length xs → x ≡ get_or xs i x → total g (take (i + 1) xs) ≡ total g (take i xs) +ℤ g x
 total-step g xs i x h e = ap (total g) (take-step xs i x h e) ∙ total-push g (take i xs) x
-
--- the same, of a sum that has the element's part added
-pub sum-step : {X : Type 0} (g : X → ℤ) (xs : List X) (i : ℕ) (x : X) → i < length xs → x ≡ get_or xs i x → (before part after : ℤ) → after ≡ before +ℤ part → before ≡ total g (take i xs) → part ≡ g x → after ≡ total g (take (i + 1) xs)
-sum-step g xs i x h e before part after added so_far here = added ∙ ap (λ z. z +ℤ part) so_far ∙ ap (λ z. total g (take i xs) +ℤ z) here ∙ sym (total-step g xs i x h e)
 
 each-left : {X : Type 0} (P : X → Type 0) (xs ys : List X) → Each P (xs ++ ys) → Each P xs
 each-left P [] ys k = tt
@@ -75,24 +68,6 @@ few_moves b g =
     let fit = g.places_fit in
     let same = length-of-map move_of b.moves.items in
     omega arith
-
-pub small_moves : (A : Ledger) (ms : List MoveEntry) → Each (IsGoodMove A) (map move_of ms) → Each (λ m. IsQty (nat_abs m.amount)) ms
-small_moves A ms k = each-imp (λ m x. x.size) ms (each-unmap (IsGoodMove A) move_of ms k)
-
-pub short_orders : (A : Ledger) (os : List (ℕ × OrderEntry)) → Each (IsGoodOrder A) (map order_of os) → Each (λ o. length o.1.lines.items ≤ MAX_ORDER_LINES) os
-short_orders A os k = each-imp (λ o x. x.few) os (each-unmap (IsGoodOrder A) order_of os k)
-
-pub settled-walk : (b : Inside) (f : Field) (n : Name) → f.name ≡ n → settled (ledger_of b) f ≡ pos f.start +ℤ (total (moved_by_move n) b.moves.items +ℤ total (moved_by_order n) b.orders.entries)
-settled-walk b f n e = subst (λ n. settled (ledger_of b) f ≡ pos f.start +ℤ (total (moved_by_move n) b.moves.items +ℤ total (moved_by_order n) b.orders.entries)) e
-    (let x : total (λ m. if same_name f.name m.field then m.amount else pos 0) (map move_of b.moves.items) ≡ total (moved_by_move f.name) b.moves.items = total-map _ move_of b.moves.items in
-    let y : total (λ o. if is_committed o then moved f.name (λ l. l.used) o else pos 0) (map order_of b.orders.entries) ≡ total (moved_by_order f.name) b.orders.entries = total-map _ order_of b.orders.entries in
-    omega (arith, ints))
-
-pub held_to_take-walk : (b : Inside) (n : Name) → held_to_take (ledger_of b) n ≡ total (taken_by_order n) b.orders.entries
-held_to_take-walk b n = total-map _ order_of b.orders.entries
-
-pub held_to_add-walk : (b : Inside) (n : Name) → held_to_add (ledger_of b) n ≡ total (added_by_order n) b.orders.entries
-held_to_add-walk b n = total-map _ order_of b.orders.entries
 
 -- those that pass, with an element more
 passed-step : {X Y : Type 0} (view : X → Y) (p : Y → Bool) (xs : List X) (i : ℕ) (x : X) → slice_get xs i ≡ Some x → filter p (map view (take (i + 1) xs)) ≡ filter p (map view (take i xs)) ++ filter p (view x ∷ [])

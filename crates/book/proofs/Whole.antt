@@ -1,25 +1,23 @@
 -- What makes a told ledger good, and that rows tell one good ledger at the most.
-use Rattle.std.proofs.Common.{◌≡◌, ◌∙◌, ◌↔◌, ◌≤◌, ◌+ℤ◌, ◌-ℤ◌, pos, List, [], ◌∷◌, ap, arith, length, map, subst, sym, if◌then◌else◌}
+use Rattle.std.proofs.Common.{◌≡◌, ◌↔◌, ◌≤◌, ◌+ℤ◌, ◌-ℤ◌, pos, List, [], ◌∷◌, ap, arith, length, map, if◌then◌else◌}
 use Rattle.std.proofs.lemmas.Int.{ints}
-use Rattle.std.specs.List.{AllByRecursion as Each, AllZip}
+use Rattle.std.specs.List.{AllByRecursion as Each}
 use Rattle.book.specs.declared.limits.TheConstants.{MAX_PLACES}
 use Rattle.book.specs.declared.book.tables.Entries.{Entries}
 use Rattle.book.specs.declared.book.walk.Numbers.{Numbers}
 use Rattle.book.specs.declared.entries.FieldEntry.{FieldEntry}
-use Rattle.book.specs.declared.rows.FieldRow.{FieldRow}
 use Rattle.book.specs.Good.{Good, IsGoodLine, IsGoodMove, IsGoodOrder}
 use Rattle.book.specs.Held.{held_to_add, held_to_take}
 use Rattle.book.specs.Ledger.{Field, Ledger, Name, Order, is_committed, line_name, places, same_name}
-use Rattle.book.specs.Outcomes.{IsInfimum, IsSafe, IsSupremum, moved, settled, total}
-use Rattle.book.specs.Rows.{FieldCells, IsFieldRow}
-use Rattle.book.specs.Sums.{AreMovesOnFields, AreOnFields, AreOrdersOnFields, IsField, entry_name, numbers_on}
+use Rattle.book.specs.Outcomes.{IsSafe, moved, settled, total}
+use Rattle.book.specs.Rows.{FieldCells}
+use Rattle.book.specs.Sums.{AreMovesOnFields, AreOnFields, AreOrdersOnFields, IsField, numbers_on}
 use Rattle.book.specs.Walk.{moved_by_move, moved_by_order}
-use Rattle.book.specs.Tables.{field_cells}
 use Rattle.book.specs.Running.{IsUpToDate}
 use Rattle.book.specs.Told.{AreGood, HasNumbers, HaveNumbers, IsBounded, IsInForm, IsMoveByItself, IsOrderByItself, IsWhole, told_ledger}
 use Rattle.book.specs.View.{field_of, move_of, order_of}
-use Rattle.book.proofs.Bounds.{HasRoom, Sound, inf_is, inf_unique, room_from_safe, safe_from_room, sup_is, sup_unique}
-use Rattle.book.proofs.Closing.{one_on, sounds_from_good}
+use Rattle.book.proofs.Bounds.{HasRoom, Sound, safe_from_room}
+use Rattle.book.proofs.Closing.{one_on}
 use Rattle.book.proofs.Lists.{each-two, each-unmap}
 use Rattle.book.proofs.Walked.{few_sorted}
 use Rattle.book.proofs.Sums.{each-imp, each-map, total-map}

@@ -22,6 +22,7 @@ mod line_checks;
 mod plan;
 mod room;
 mod row;
+mod stock;
 mod sums;
 mod tables;
 #[cfg(test)]
@@ -38,6 +39,8 @@ pub use views::{FieldView, OrderView};
 #[derive(Debug, Drop)]
 pub struct Book {
     clock: Moment,
+    /// How many orders are open.
+    open_count: usize,
     fields: InOrder<FieldName, FieldEntry>,
     moves: Vec<MoveEntry>,
     orders: InOrder<OrderNo, OrderEntry>,
@@ -62,6 +65,7 @@ impl Book {
     {
         Book {
             clock: Moment::first(),
+            open_count: 0,
             fields: InOrder::new(alloc),
             moves: Vec::new(alloc),
             orders: InOrder::new(alloc),

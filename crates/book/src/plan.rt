@@ -6,6 +6,7 @@ ghost use Rattle.book.specs.Tables.{rows_among};
 ghost use Rattle.book.specs.View.{order_of};
 
 use crate::entries::{FieldEntry, Order};
+use crate::in_order::InOrder;
 use crate::rows::Change;
 use escrow::{FieldName, Key};
 use std::marker::Model;
@@ -18,7 +19,7 @@ pub struct Plan {
     key: Key,
     command: Command,
     place: u64,
-    fields: Vec<(FieldName, FieldEntry)>,
+    fields: InOrder<FieldName, FieldEntry>,
     made: Option<Order>,
     changes: Vec<Change>,
 }
@@ -29,7 +30,7 @@ pub(crate) struct PlanParts {
     pub key: Key,
     pub command: Command,
     pub place: u64,
-    pub fields: Vec<(FieldName, FieldEntry)>,
+    pub fields: InOrder<FieldName, FieldEntry>,
     pub made: Option<Order>,
 }
 
@@ -41,7 +42,7 @@ impl Model for Plan {
 
     ghost Value = { PlanView };
 
-    ghost view = { λ p. record { request = record { key = p.key; command = p.command }; place = p.place; fields = p.fields.items; made = option_map order_of p.made; changes = rows_among p.changes.items } };
+    ghost view = { λ p. record { request = record { key = p.key; command = p.command }; place = p.place; fields = p.fields.entries; made = option_map order_of p.made; changes = rows_among p.changes.items } };
 }
 
 impl Plan {
@@ -49,14 +50,14 @@ impl Plan {
         key: Key,
         command: Command,
         place: u64,
-        fields: Vec<(FieldName, FieldEntry)>,
+        fields: InOrder<FieldName, FieldEntry>,
         made: Option<Order>,
         changes: Vec<Change>,
     ) -> Plan
         ensures key { result.request.key ≡ key }
         ensures command { result.request.command ≡ command }
         ensures place { result.place ≡ place }
-        ensures fields { result.fields ≡ fields.items }
+        ensures fields { result.fields ≡ fields.entries }
         ensures made { result.made ≡ option_map order_of made }
         ensures changes { result.changes ≡ rows_among changes.items }
     {
@@ -97,7 +98,7 @@ impl Plan {
         ensures key { result.key ≡ self.request.key }
         ensures command { result.command ≡ self.request.command }
         ensures place { result.place ≡ self.place }
-        ensures fields { result.fields.items ≡ self.fields }
+        ensures fields { result.fields.entries ≡ self.fields }
         ensures made { option_map order_of result.made ≡ self.made }
     {
         PlanParts {

@@ -86,12 +86,16 @@ pub(super) fn order_change(command: &Command) -> Option<(OrderNo, OrderChange)>
 }
 
 /// Puts the fields in, each by its name.
-fn adopt_fields(fields: &mut InOrder<FieldName, FieldEntry>, changed: &[(FieldName, FieldEntry)])
-    requires { length changed.now ≤ fields.old.room }
-    ensures { fields.new.entries ≡ with_entries changed.now fields.old.entries }
+fn adopt_fields(
+    fields: &mut InOrder<FieldName, FieldEntry>,
+    changed: &InOrder<FieldName, FieldEntry>,
+)
+    requires { length changed.now.entries ≤ fields.old.room }
+    ensures { fields.new.entries ≡ with_entries changed.now.entries fields.old.entries }
 {
-    for entry in changed {
-        fields.put(entry.0, entry.1);
+    for place in 0..changed.len() {
+        let (name, entry) = changed.entry_at(place);
+        fields.put(*name, *entry);
     }
 }
 
@@ -154,7 +158,10 @@ impl Book {
         let (key, command, place) = (parts.key, parts.command, parts.place);
         key.as_bytes();
         command.in_range();
-        self.clock = self.clock_after(&command);
+        let clock = self.clock_after(&command);
+        let open_count = self.open_after(&command);
+        self.clock = clock;
+        self.open_count = open_count;
         adopt_fields(&mut self.fields, &parts.fields);
         adopt_move(&mut self.moves, place, &command);
         adopt_orders(&mut self.orders, parts.made, &command);

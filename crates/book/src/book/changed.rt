@@ -36,12 +36,12 @@ fn push(changes: &mut Vec<Change>, change: Change) -> Result<(), Memory>
 fn push_fields(
     alloc: Global,
     changes: &mut Vec<Change>,
-    fields: &[(FieldName, FieldEntry)],
+    fields: &InOrder<FieldName, FieldEntry>,
 ) -> Result<(), Memory>
-    ensures { OnOk result (rows_among changes.new.items ≡ with_fields (map entry_row fields.now) (rows_among changes.old.items)) }
+    ensures { OnOk result (rows_among changes.new.items ≡ with_fields (map entry_row fields.now.entries) (rows_among changes.old.items)) }
 {
-    for entry in fields {
-        let row = field_row(alloc, entry)?;
+    for place in 0..fields.len() {
+        let row = field_row(alloc, fields.entry_at(place))?;
         push(changes, Change::Field(row))?;
     }
     Ok(())
@@ -218,14 +218,14 @@ impl Book {
         &self,
         alloc: Global,
         request: &Request,
-        fields: &[(FieldName, FieldEntry)],
+        fields: &InOrder<FieldName, FieldEntry>,
         made: &Option<Order>,
     ) -> Result<Vec<Change>, Memory>
         requires accepted { IsAccepted self.now.ledger request.now }
-        requires fields { map entry_row fields.now ≡ field_rows self.now.ledger request.now }
+        requires fields { map entry_row fields.now.entries ≡ field_rows self.now.ledger request.now }
         requires made { option_map order_of made.now ≡ order_after self.now.ledger request.now.command }
         ensures changes { IfOk result (λ changes. ChangesTo self.now.ledger request.now (rows_among changes.items)) }
-        ensures fields { IfOk result (λ changes. map entry_row fields.now ≡ (rows_among changes.items).fields) }
+        ensures fields { IfOk result (λ changes. map entry_row fields.now.entries ≡ (rows_among changes.items).fields) }
     {
         request.in_range();
         let place = self.kept.len() as u64 + 1;

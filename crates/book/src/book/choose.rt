@@ -1,23 +1,19 @@
 //! Which rows an accepted command changes.
 
-ghost use Rattle.std.specs.Prelude.{◌≡◌, filter, map, option_map, IfOk};
+ghost use Rattle.std.specs.Prelude.{◌≡◌, option_map, IsSome};
 ghost use Rattle.std.specs.List.{list_any};
-ghost use Rattle.book.specs.After.{changes_own_line, changes_state, expired_orders, names_field, order_after, some_has_line, some_is_transfer};
-ghost use Rattle.book.specs.Changes.{changes_field, has_line_on};
+ghost use Rattle.book.specs.After.{changes_own_line, changes_state, names_field, order_after, some_has_line, some_is_transfer};
+ghost use Rattle.book.specs.Changes.{changes_field};
 ghost use Rattle.book.specs.Good.{Good};
 ghost use Rattle.book.specs.Ledger.{is_transfer, name_of, on, same_name};
-ghost use Rattle.book.specs.Next.{expires};
 ghost use Rattle.book.specs.View.{order_of};
 
 use super::Book;
-use super::changes::expires;
 use super::find::is_on;
-use crate::entries::{Order, OrderEntry};
-use crate::in_order::InOrder;
+use crate::entries::Order;
 use crate::order::{Kind, Line};
-use escrow::{Article, Branch, Moment, OrderNo};
-use std::alloc::Global;
-use words::{Command, Memory};
+use escrow::{Article, Branch};
+use words::Command;
 
 /// Whether the two name the same field.
 fn is_same_field(
@@ -51,38 +47,6 @@ fn makes_line(made: &Option<Order>, branch: Branch, article: Article) -> bool
         Some((_, entry)) => has_line(&entry.lines, branch, article),
         None => false,
     }
-}
-
-/// The orders that expire.
-fn expiring(
-    alloc: Global,
-    orders: &InOrder<OrderNo, OrderEntry>,
-    now: Moment,
-) -> Result<Vec<&Order>, Memory>
-    ensures { IfOk result (λ found. map (λ order. order_of order.now) found.items ≡ filter (expires now) (map order_of orders.now.entries)) }
-{
-    let mut found = Vec::new(alloc);
-    for place in 0..orders.len() {
-        let order = orders.entry_at(place);
-        if expires(&order.1, now) {
-            let Ok(()) = found.push(order) else {
-                return Err(Memory);
-            };
-        }
-    }
-    Ok(found)
-}
-
-/// Whether one of the orders has a line on the field.
-fn some_has_line(orders: &[&Order], branch: Branch, article: Article) -> bool
-    ensures { result ≡ list_any (λ entry. has_line_on (name_of branch article) (order_of entry.now)) orders.now }
-{
-    for entry in orders {
-        if has_line(&entry.1.lines, branch, article) {
-            return true;
-        }
-    }
-    false
 }
 
 /// Whether the order is a transfer.
@@ -140,28 +104,17 @@ fn names_field(command: &Command, branch: Branch, article: Article) -> bool
 }
 
 impl Book {
-    /// The orders that the command aborts as expired.
-    pub(super) fn expired(&self, alloc: Global, command: &Command) -> Result<Vec<&Order>, Memory>
-        ensures { IfOk result (λ found. map (λ entry. order_of entry.now) found.items ≡ expired_orders self.now.ledger command.now) }
-    {
-        match command {
-            Command::Expire { now } => expiring(alloc, &self.orders, *now),
-            _ => Ok(Vec::new(alloc)),
-        }
-    }
-
-    /// Whether the row of the field is new, or its numbers change, with the order that the command makes.
+    /// Whether the numbers of the field change, where the command opens or changes an order.
     pub(super) fn changes_field(
         &self,
         command: &Command,
         made: &Option<Order>,
-        expired: &[&Order],
         branch: Branch,
         article: Article,
     ) -> bool
         requires good { Good self.now.ledger }
         requires made { option_map order_of made.now ≡ order_after self.now.ledger command.now }
-        requires expired { map (λ entry. order_of entry.now) expired.now ≡ expired_orders self.now.ledger command.now }
+        requires one { IsSome made.now }
         ensures { result ≡ changes_field self.now.ledger command.now (name_of branch article) }
     {
         match command {
@@ -178,7 +131,7 @@ impl Book {
             }
             Command::Commit { .. } => makes_line(made, branch, article),
             Command::Abort { .. } => makes_line(made, branch, article),
-            Command::Expire { .. } => some_has_line(expired, branch, article),
+            Command::Expire { .. } => false,
         }
     }
 }

@@ -1,146 +1,249 @@
 //! The fields that an accepted command makes or changes, as they are then.
 
-ghost use Rattle.std.specs.Prelude.{◌≡◌, ◌≤ℤ◌, ◌∷◌, ◌++◌, [], map, option_map, pos, Contains, IfOk, OnOk};
-ghost use Rattle.escrow.specs.declared.limits.TheConstants.{MAX_LEVEL};
-ghost use Rattle.book.specs.After.{changed_fields, expired_orders, field_row, field_rows, new_field_rows, order_after};
+ghost use Rattle.std.specs.Prelude.{◌≡◌, ◌∷◌, ◌++◌, [], List, Some, IsSome, IfOk, OnOk, false, find, map, option_map, true};
+ghost use Rattle.std.specs.BTreeMap.{insert_entry};
+ghost use Rattle.std.specs.List.{AllByRecursion as Each};
+ghost use Rattle.std.specs.List.Sorted.{IsStrictlySortedBy};
+ghost use Rattle.std.specs.Map.{keys_of};
+ghost use Rattle.book.specs.After.{field_rows, order_after};
 ghost use Rattle.book.specs.Answers.{IsAccepted};
-ghost use Rattle.book.specs.Good.{Good};
-ghost use Rattle.book.specs.Next.{accept};
-ghost use Rattle.book.specs.Running.{entry_row};
-ghost use Rattle.book.specs.View.{field_of, order_of};
+ghost use Rattle.book.specs.Changes.{changes_field};
+ghost use Rattle.book.specs.Ledger.{field_named, line_name, name_cmp, on, order_numbered};
+ghost use Rattle.book.specs.Running.{Accepts, GivenBack, GivesBack, HasLines, MayGiveBack, MovesField, Puts, amount_held, entry_row, expired_lines, line_before};
+ghost use Rattle.book.specs.View.{order_of};
+ghost use Rattle.book.specs.declared.order.Line.{Line};
+ghost use Rattle.words.specs.declared.command.Request.{Request};
 
 use super::Book;
+use super::changes::expires;
+use super::stock::{change_stock, held_on, move_value};
 use crate::entries::{FieldEntry, Order};
-use escrow::{FieldName, Level, Quantity};
+use crate::in_order::InOrder;
+use crate::order::Line;
+use escrow::{FieldName, Moment, OrderNo, Qty, Quantity, Way};
 use std::alloc::Global;
 use words::{Command, Memory, Request};
 
-/// The level of an amount that is known to be one.
-fn level(amount: i64) -> Level
-    requires low { pos 0 ≤ℤ amount }
-    requires high { amount ≤ℤ pos MAX_LEVEL }
-    ensures { pos result ≡ amount }
+/// Fields by their names.
+pub(super) type Fields = InOrder<FieldName, FieldEntry>;
+
+/// Puts a field in, in place of the one of that name if there is one.
+fn put(fields: &mut Fields, name: FieldName, entry: FieldEntry) -> Result<(), Memory>
+    ensures put { OnOk result (fields.new.entries ≡ insert_entry name_cmp fields.old.entries name entry) }
+    ensures rising { OnOk result (IsStrictlySortedBy name_cmp (keys_of fields.old.entries)) }
 {
-    let Some(level) = Level::new(amount as u64) else {
-        unreachable!()
-    };
-    level
+    fields.reserve(1).map_err(|_| Memory)?;
+    fields.put(name, entry);
+    Ok(())
 }
 
-/// Appends an entry.
-fn push(
-    fields: &mut Vec<(FieldName, FieldEntry)>,
-    name: FieldName,
-    entry: FieldEntry,
-) -> Result<(), Memory>
-    ensures { OnOk result (fields.new.items ≡ fields.old.items ++ (name, entry) ∷ []) }
+/// The field of the line.
+fn name_of(line: &Line) -> FieldName
+    ensures { result ≡ line_name line.now }
 {
-    fields.push((name, entry)).map_err(|_| Memory)
+    FieldName {
+        branch: line.branch,
+        article: line.article,
+    }
 }
 
 impl Book {
-    /// The entry of one of its fields once the accepted request is carried out, with the order that it makes.
-    fn entry_after(
+    /// What the order of that number holds so far on the field of the line.
+    fn held_before(&self, number: OrderNo, line: &Line) -> u64
+        ensures { result ≡ amount_held (line_before (order_numbered self.now.ledger number) (line_name line.now)) }
+    {
+        match self.order_entry(number) {
+            Some(order) => held_on(&order.lines, line.branch, line.article),
+            None => 0,
+        }
+    }
+
+    /// Puts in the field of a line of the order that the request makes, as the line leaves it, where the request
+    /// changes it.
+    fn put_line(
         &self,
+        fields: &mut Fields,
         request: &Request,
         made: &Option<Order>,
-        entry: &(FieldName, FieldEntry),
-    ) -> FieldEntry
-        requires accepted { IsAccepted self.now.ledger request.now }
-        requires good { Good (accept self.now.ledger request.now) }
+        order: &Order,
+        line: &Line,
+    ) -> Result<(), Memory>
+        requires accepts { Accepts self.now.ledger request.now }
         requires made { option_map order_of made.now ≡ order_after self.now.ledger request.now.command }
-        requires there { Contains (accept self.now.ledger request.now).fields (field_of entry.now) }
-        ensures { entry_row (entry.now.0, result) ≡ field_row (accept self.now.ledger request.now) (field_of entry.now) }
+        requires order { made.now ≡ Some order.now }
+        requires line { find (on (line_name line.now)) order.now.1.lines.items ≡ Some line.now }
+        ensures changed { OnOk result (changes_field self.now.ledger request.now.command (line_name line.now) ≡ true → Puts self.now.ledger request.now (line_name line.now) fields.old.entries fields.new.entries) }
+        ensures same { OnOk result (changes_field self.now.ledger request.now.command (line_name line.now) ≡ false → fields.new.entries ≡ fields.old.entries) }
     {
-        let (name, field) = entry;
-        let numbers = self.numbers_after(request, made, name.branch, name.article);
-        let value = field.start.get() as i64 + numbers.moved;
-        let inf = level(value - numbers.takes);
-        let sup = level(value + numbers.adds);
-        let quantity = &field.quantity;
-        match Quantity::restore(quantity.lo(), quantity.hi(), level(value), inf, sup) {
-            Ok(quantity) => FieldEntry {
-                start: field.start,
-                quantity,
+        if !self.changes_field(&request.command, made, line.branch, line.article) {
+            return Ok(());
+        }
+        let held = self.held_before(order.0, line);
+        let Some(entry) = self.field_entry(line.branch, line.article) else {
+            unreachable!()
+        };
+        let mut entry = *entry;
+        change_stock(&mut entry.quantity, held, line, order.1.state);
+        put(fields, name_of(line), entry)
+    }
+
+    /// Puts in the fields of the lines of the order that the request makes, where it changes them.
+    fn put_lines(
+        &self,
+        fields: &mut Fields,
+        request: &Request,
+        made: &Option<Order>,
+        order: &Order,
+    ) -> Result<(), Memory>
+        requires accepts { Accepts self.now.ledger request.now }
+        requires made { option_map order_of made.now ≡ order_after self.now.ledger request.now.command }
+        requires order { made.now ≡ Some order.now }
+        requires none { fields.old.entries ≡ [] }
+        ensures { OnOk result (HasLines self.now.ledger request.now order.now.1.lines.items fields.new.entries) }
+    {
+        for line in order.1.lines.iter() {
+            self.put_line(fields, request, made, order, line)?;
+        }
+        Ok(())
+    }
+
+    /// Puts in the field of a delivery or a write-off.
+    fn put_moved(
+        &self,
+        fields: &mut Fields,
+        name: FieldName,
+        way: Way,
+        qty: Qty,
+    ) -> Result<(), Memory>
+        requires { (r : Request) × MovesField self.now.ledger r name way qty }
+        ensures { OnOk result ((r : Request) → MovesField self.now.ledger r name way qty → Puts self.now.ledger r name fields.old.entries fields.new.entries) }
+    {
+        let Some(entry) = self.field_entry(name.branch, name.article) else {
+            unreachable!()
+        };
+        let mut entry = *entry;
+        move_value(&mut entry.quantity, way, qty);
+        put(fields, name, entry)
+    }
+
+    /// The field of the line, as the lines so far leave it that give back what they hold.
+    fn field_so_far(&self, fields: &Fields, line: &Line) -> FieldEntry
+        requires { IsSome (field_named self.now.ledger (line_name line.now)) }
+        ensures { (ls : List Line) → GivesBack self.now.ledger ls fields.now.entries → GivenBack self.now.ledger ls (line_name line.now, result) }
+    {
+        if let Some(entry) = fields.get(&name_of(line)) {
+            return *entry;
+        }
+        match self.field_entry(line.branch, line.article) {
+            Some(entry) => *entry,
+            None => unreachable!(),
+        }
+    }
+
+    /// Gives back what the line of an order that expires holds, and puts its field in.
+    fn give_back_line(&self, fields: &mut Fields, line: &Line) -> Result<(), Memory>
+        requires there { IsSome (field_named self.now.ledger (line_name line.now)) }
+        requires held { (ls : List Line) × GivesBack self.now.ledger ls fields.old.entries × MayGiveBack self.now.ledger (ls ++ line.now ∷ []) }
+        ensures { OnOk result ((ls : List Line) → GivesBack self.now.ledger ls fields.old.entries → MayGiveBack self.now.ledger (ls ++ line.now ∷ []) → GivesBack self.now.ledger (ls ++ line.now ∷ []) fields.new.entries) }
+    {
+        let mut entry = self.field_so_far(fields, line);
+        entry.quantity.give_back(line.way, line.held.get());
+        put(fields, name_of(line), entry)
+    }
+
+    /// Gives back what these lines hold, and puts their fields in.
+    fn give_back_lines(&self, fields: &mut Fields, lines: &[Line]) -> Result<(), Memory>
+        requires there { Each (λ l. IsSome (field_named self.now.ledger (line_name l))) lines.now }
+        requires held { (ls : List Line) × GivesBack self.now.ledger ls fields.old.entries × MayGiveBack self.now.ledger (ls ++ lines.now) }
+        ensures { OnOk result ((ls : List Line) → GivesBack self.now.ledger ls fields.old.entries → MayGiveBack self.now.ledger (ls ++ lines.now) → GivesBack self.now.ledger (ls ++ lines.now) fields.new.entries) }
+    {
+        for line in lines {
+            self.give_back_line(fields, line)?;
+        }
+        Ok(())
+    }
+
+    /// Gives back what the order holds, where it expires.
+    fn give_back_order(&self, fields: &mut Fields, order: &Order, now: Moment) -> Result<(), Memory>
+        requires there { Each (λ l. IsSome (field_named self.now.ledger (line_name l))) order.now.1.lines.items }
+        requires held { (ls : List Line) × GivesBack self.now.ledger ls fields.old.entries × MayGiveBack self.now.ledger (ls ++ expired_lines now (order_of order.now ∷ [])) }
+        ensures { OnOk result ((ls : List Line) → GivesBack self.now.ledger ls fields.old.entries → MayGiveBack self.now.ledger (ls ++ expired_lines now (order_of order.now ∷ [])) → GivesBack self.now.ledger (ls ++ expired_lines now (order_of order.now ∷ [])) fields.new.entries) }
+    {
+        if expires(&order.1, now) {
+            return self.give_back_lines(fields, &order.1.lines);
+        }
+        Ok(())
+    }
+
+    /// Gives back what the orders hold that expire, and puts their fields in.
+    fn put_expired(&self, fields: &mut Fields, now: Moment) -> Result<(), Memory>
+        requires { fields.old.entries ≡ [] }
+        ensures { OnOk result (GivesBack self.now.ledger (expired_lines now self.now.ledger.orders) fields.new.entries) }
+    {
+        for place in 0..self.orders.len() {
+            self.give_back_order(fields, self.orders.entry_at(place), now)?;
+        }
+        Ok(())
+    }
+
+    /// Puts in the fields that the request makes or changes, with the order that it makes.
+    fn put_changed(
+        &self,
+        fields: &mut Fields,
+        request: &Request,
+        made: &Option<Order>,
+    ) -> Result<(), Memory>
+        requires accepts { Accepts self.now.ledger request.now }
+        requires made { option_map order_of made.now ≡ order_after self.now.ledger request.now.command }
+        requires none { fields.old.entries ≡ [] }
+        ensures { OnOk result (IsStrictlySortedBy name_cmp (keys_of fields.new.entries) → map entry_row fields.new.entries ≡ field_rows self.now.ledger request.now) }
+    {
+        match &request.command {
+            Command::Field {
+                branch,
+                article,
+                lo,
+                hi,
+                start,
+            } => {
+                let start = *start;
+                let Ok(quantity) = Quantity::start(*lo, *hi, start) else {
+                    unreachable!()
+                };
+                let name = FieldName {
+                    branch: *branch,
+                    article: *article,
+                };
+                put(fields, name, FieldEntry { start, quantity })
+            }
+            Command::Deliver {
+                branch,
+                article,
+                qty,
+            } => {
+                let name = FieldName {
+                    branch: *branch,
+                    article: *article,
+                };
+                self.put_moved(fields, name, Way::Add, *qty)
+            }
+            Command::Writeoff {
+                branch,
+                article,
+                qty,
+            } => {
+                let name = FieldName {
+                    branch: *branch,
+                    article: *article,
+                };
+                self.put_moved(fields, name, Way::Take, *qty)
+            }
+            Command::Expire { now } => self.put_expired(fields, *now),
+            _ => match made {
+                Some(order) => self.put_lines(fields, request, made, order),
+                None => Ok(()),
             },
-            Err(_) => unreachable!(),
         }
-    }
-
-    /// Appends the field, where it changes.
-    fn push_field(
-        &self,
-        fields: &mut Vec<(FieldName, FieldEntry)>,
-        request: &Request,
-        made: &Option<Order>,
-        expired: &[&Order],
-        entry: &(FieldName, FieldEntry),
-    ) -> Result<(), Memory>
-        requires accepted { IsAccepted self.now.ledger request.now }
-        requires before { Good self.now.ledger }
-        requires good { Good (accept self.now.ledger request.now) }
-        requires made { option_map order_of made.now ≡ order_after self.now.ledger request.now.command }
-        requires expired { map (λ entry. order_of entry.now) expired.now ≡ expired_orders self.now.ledger request.now.command }
-        requires there { Contains (accept self.now.ledger request.now).fields (field_of entry.now) }
-        ensures { OnOk result (map entry_row fields.new.items ≡ map entry_row fields.old.items ++ changed_fields self.now.ledger request.now (field_of entry.now ∷ [])) }
-    {
-        let (name, _) = entry;
-        if self.changes_field(&request.command, made, expired, name.branch, name.article) {
-            push(fields, *name, self.entry_after(request, made, entry))?;
-        }
-        Ok(())
-    }
-
-    /// Appends the fields that change.
-    fn push_fields(
-        &self,
-        fields: &mut Vec<(FieldName, FieldEntry)>,
-        request: &Request,
-        made: &Option<Order>,
-        expired: &[&Order],
-    ) -> Result<(), Memory>
-        requires accepted { IsAccepted self.now.ledger request.now }
-        requires good { Good (accept self.now.ledger request.now) }
-        requires made { option_map order_of made.now ≡ order_after self.now.ledger request.now.command }
-        requires expired { map (λ entry. order_of entry.now) expired.now ≡ expired_orders self.now.ledger request.now.command }
-        ensures { OnOk result (map entry_row fields.new.items ≡ map entry_row fields.old.items ++ changed_fields self.now.ledger request.now self.now.ledger.fields) }
-    {
-        for place in 0..self.fields.len() {
-            let entry = self.fields.entry_at(place);
-            self.push_field(fields, request, made, expired, entry)?;
-        }
-        Ok(())
-    }
-
-    /// Appends the field that the command adds, if it adds one.
-    fn push_new_field(
-        &self,
-        fields: &mut Vec<(FieldName, FieldEntry)>,
-        request: &Request,
-    ) -> Result<(), Memory>
-        requires good { Good self.now.ledger }
-        requires accepted { IsAccepted self.now.ledger request.now }
-        ensures { OnOk result (map entry_row fields.new.items ≡ map entry_row fields.old.items ++ new_field_rows (accept self.now.ledger request.now) request.now.command) }
-    {
-        if let Command::Field {
-            branch,
-            article,
-            lo,
-            hi,
-            start,
-        } = &request.command
-        {
-            let name = FieldName {
-                branch: *branch,
-                article: *article,
-            };
-            let start = *start;
-            let Ok(quantity) = Quantity::start(*lo, *hi, start) else {
-                unreachable!()
-            };
-            push(fields, name, FieldEntry { start, quantity })?;
-        }
-        Ok(())
     }
 
     /// The fields that the accepted request makes or changes, as they are then, with the order that it makes.
@@ -149,18 +252,18 @@ impl Book {
         alloc: Global,
         request: &Request,
         made: &Option<Order>,
-    ) -> Result<Vec<(FieldName, FieldEntry)>, Memory>
+    ) -> Result<Fields, Memory>
         requires accepted { IsAccepted self.now.ledger request.now }
         requires made { option_map order_of made.now ≡ order_after self.now.ledger request.now.command }
-        ensures { IfOk result (λ fields. map entry_row fields.items ≡ field_rows self.now.ledger request.now) }
+        ensures { IfOk result (λ fields. map entry_row fields.entries ≡ field_rows self.now.ledger request.now) }
     {
         // so that the proof has the invariant
         let _ = &self.fields;
         request.in_range();
-        let expired = self.expired(alloc, &request.command)?;
-        let mut fields = Vec::new(alloc);
-        self.push_fields(&mut fields, request, made, &expired)?;
-        self.push_new_field(&mut fields, request)?;
+        let mut fields = InOrder::new(alloc);
+        self.put_changed(&mut fields, request, made)?;
+        // so that the proof has their order
+        let _ = fields.len();
         Ok(fields)
     }
 }

@@ -157,6 +157,7 @@ impl Book {
             Ok(false) => return Err(TablesFault::Damaged),
             Err(Memory) => return Err(TablesFault::Memory),
         }
+        let open_count = count_open(&entries.orders);
         let Ok(fields) = InOrder::from_sorted(alloc, entries.fields) else {
             return Err(TablesFault::Memory);
         };
@@ -168,6 +169,7 @@ impl Book {
         };
         Ok(Book {
             clock: entries.clock,
+            open_count,
             fields,
             moves: entries.moves,
             orders,

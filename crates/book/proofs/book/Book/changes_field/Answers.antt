@@ -1,13 +1,15 @@
-use Rattle.std.proofs.Common.{◌≡◌, ◌∙◌, ℕ, Bor, Bool, true, false, ◌&&◌, Option, ap, sym}
-use Rattle.std.specs.List.{list_any}
+use Rattle.std.proofs.Common.{◌≡◌, ◌∙◌, ℕ, Bool, true, false, ◌&&◌, None, Option, Some, ap, is_some, refl, sym, true≢false}
+use Rattle.std.specs.Option.{option_map}
 use Rattle.book.specs.After.{changes_state, order_after, some_has_line, some_is_transfer}
-use Rattle.book.specs.Changes.{has_line_on}
 use Rattle.book.specs.Ledger.{Ledger, Name, Order, name_of}
 use Rattle.book.specs.View.{order_of}
 use Rattle.book.specs.declared.entries.OrderEntry.{OrderEntry}
-use Rattle.book.proofs.Chosen.{any-map}
-use Rattle.book.proofs.Made.{expired_lined, lined, released}
+use Rattle.book.proofs.Made.{lined, released}
 use Rattle.book.proofs.book.Book.changes_field.Goals as goal
+
+some_same : (f : ℕ × OrderEntry → Order) (x : Option (ℕ × OrderEntry)) → is_some (option_map f x) ≡ is_some x
+some_same f None = refl
+some_same f (Some x) = refl
 
 pub returns-in-Open : goal.returns-in-Open
 returns-in-Open c =
@@ -31,10 +33,8 @@ returns-in-Abort c =
 
 pub returns-in-Expire : goal.returns-in-Expire
 returns-in-Expire c =
-    let A : Ledger = c.args.self.now.ledger in
-    let f : Name = name_of c.args.branch c.args.article in
-    c.some_has_line.ensures ∙ sym (any-map (has_line_on f) (λ (entry : Bor (ℕ × OrderEntry)). order_of entry.now) c.args.expired.now) ∙ ap (list_any (has_line_on f)) c.requires.expired
-    ∙ expired_lined A c.args.command.now c.in-Expire.now f c.in-Expire.is
+    let none = c.requires.made ∙ ap (order_after c.args.self.now.ledger) c.in-Expire.is in
+    absurd (true≢false (sym (sym (ap is_some none) ∙ some_same order_of c.args.made.now ∙ c.requires.one)))
 
 pub returns-then-makes_transfer : goal.returns-then-makes_transfer
 returns-then-makes_transfer c =

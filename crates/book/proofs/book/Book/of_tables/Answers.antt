@@ -1,15 +1,18 @@
-use Rattle.std.proofs.Common.{◌≡◌, ◌∙◌, ap, map, subst, sym}
+use Rattle.std.proofs.Common.{◌≡◌, ◌∙◌, ℕ, ap, count_by, map, subst, sym}
 use Rattle.std.proofs.lemmas.Simd.{map-map}
 use Rattle.std.specs.Cmp.Lexicographic.{slice_cmp}
 use Rattle.std.specs.List.Sorted.{IsStrictlySortedBy}
 use Rattle.std.specs.Ordering.{nat_cmp}
 use Rattle.book.specs.Good.{Good}
-use Rattle.book.specs.Ledger.{Field, Kept, Ledger, Order, name_cmp}
+use Rattle.book.specs.Ledger.{Field, Kept, Ledger, Order, is_open, name_cmp, open_orders, open_state}
 use Rattle.book.specs.Rows.{Content, IsFieldRow, IsRowsOf}
 use Rattle.book.specs.Tables.{content_of}
 use Rattle.book.specs.Told.{told_ledger}
 use Rattle.book.specs.View.{field_of, kept_of, ledger_of, move_of, order_of}
-use Rattle.std.specs.List.{AllZip}
+use Rattle.std.specs.List.{AllByRecursion as Each, AllZip}
+use Rattle.book.specs.Running.{IsUpToDate}
+use Rattle.book.specs.declared.entries.OrderEntry.{OrderEntry}
+use Rattle.book.proofs.Counted.{viewed}
 use Rattle.book.proofs.Tested.{true_not_false}
 use Rattle.book.proofs.InOrder.{one_content, rows_are, rows_of}
 use Rattle.book.proofs.RowsTold.{told_bounded, told_rows}
@@ -48,7 +51,7 @@ returns-clause-ok c =
     let good = c.in-Ok-true.ensures.0 c.in-Ok-true.field-0-test in
     let told = c.in_ok-entries.ensures.told in
     let rows = sym (told_rows c.in_ok-entries.entries.fields.items c.args.tables.fields c.in_ok-entries.ensures.fields) ∙ rows_of_entries B c.in_ok-entries.entries.fields.items good.1 in
-    let is : B ≡ ledger_of (record { clock = c.in_ok-entries.entries.clock; fields = c.in-Ok.fields; moves = c.in_ok-entries.entries.moves; orders = c.in-Ok-from_sorted.orders; kept = c.in-Ok-from_sorted-2.kept }) = λ i. record {
+    let is : B ≡ ledger_of (record { clock = c.in_ok-entries.entries.clock; open_count = c.count_open-open_count.result; fields = c.in-Ok.fields; moves = c.in_ok-entries.entries.moves; orders = c.in-Ok-from_sorted.orders; kept = c.in-Ok-from_sorted-2.kept }) = λ i. record {
       clock = c.in_ok-entries.entries.clock;
       fields = map field_of (sym c.in-Ok.ensures i);
       moves = map move_of c.in_ok-entries.entries.moves.items;
@@ -66,3 +69,18 @@ returns-clause-ok c =
         kept = told.kept;
       },
     )
+
+pub invariant_of-result : goal.invariant_of-result
+invariant_of-result c =
+    let B : Ledger = told_ledger c.in_ok-entries.entries in
+    let good = c.in-Ok-true.ensures.0 c.in-Ok-true.field-0-test in
+    let is : B ≡ ledger_of (record { clock = c.in_ok-entries.entries.clock; open_count = c.count_open-open_count.result; fields = c.in-Ok.fields; moves = c.in_ok-entries.entries.moves; orders = c.in-Ok-from_sorted.orders; kept = c.in-Ok-from_sorted-2.kept }) = λ i. record {
+      clock = c.in_ok-entries.entries.clock;
+      fields = map field_of (sym c.in-Ok.ensures i);
+      moves = map move_of c.in_ok-entries.entries.moves.items;
+      orders = map order_of (sym c.in-Ok-from_sorted.ensures i);
+      kept = map kept_of (sym c.in-Ok-from_sorted-2.ensures i);
+    } in
+    let up = subst (Each (IsUpToDate B)) (sym c.in-Ok.ensures) good.1 in
+    let count = c.count_open-open_count.ensures ∙ ap (count_by (λ (o : ℕ × OrderEntry). open_state o.1.state)) c.deref.ensures.value ∙ sym (viewed order_of is_open c.in_ok-entries.entries.orders.items) in
+    (subst Good is good.0, subst (λ (L : Ledger). Each (IsUpToDate L) c.in-Ok.fields.entries) is up, count ∙ ap open_orders is)

@@ -24,7 +24,7 @@ returns c =
           accepted = subst (λ (r : Request). IsAccepted c.args.self.now.ledger r) (sym same) (ap is_some c.in_default.ensures, c.in_default-check.ensures);
           place = (omega arith);
           made = c.new-plan.ensures.made ∙ c.in_ok-made.ensures ∙ ap (λ (r : Request). order_after c.args.self.now.ledger r.command) (sym same);
-          fields = ap (map entry_row) (c.new-plan.ensures.fields ∙ sym c.deref.ensures.value) ∙ c.in_ok-changes.ensures.fields ∙ ap (λ (rows : Content). rows.fields) (sym c.new-plan.ensures.changes);
+          fields = ap (map entry_row) c.new-plan.ensures.fields ∙ c.in_ok-changes.ensures.fields ∙ ap (λ (rows : Content). rows.fields) (sym c.new-plan.ensures.changes);
           changes = subst (λ (rows : Content). ChangesTo c.args.self.now.ledger c.new-plan.result.request rows) (sym c.new-plan.ensures.changes)
               (subst (λ (r : Request). ChangesTo c.args.self.now.ledger r (rows_among c.in_ok-changes.changes.items)) (sym same) c.in_ok-changes.ensures.changes);
         },

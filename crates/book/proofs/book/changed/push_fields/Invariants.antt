@@ -5,5 +5,5 @@ use Rattle.book.specs.Running.{entry_row}
 use Rattle.book.specs.Tables.{rows_among}
 use Rattle.book.proofs.book.changed.push_fields.Given as goal
 
-abbrev pub invariant-loop-entry : goal.invariant-loop-entry
-invariant-loop-entry l = rows_among l.changes.items ≡ with_fields (map entry_row (take l.entry-index l.fields)) (rows_among l.initial.changes.items)
+abbrev pub invariant-loop-place : goal.invariant-loop-place
+invariant-loop-place l = rows_among l.changes.items ≡ with_fields (map entry_row (take l.place l.fields.entries)) (rows_among l.initial.changes.items)

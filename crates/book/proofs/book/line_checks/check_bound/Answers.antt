@@ -1,4 +1,4 @@
-use Rattle.std.proofs.Common.{◌≡◌, ◌∙◌, ℕ, ap, inl, inr, refl, sym, true≢false, Some}
+use Rattle.std.proofs.Common.{◌≡◌, ◌∙◌, ap, inl, inr, refl, sym, true≢false, Some}
 use Rattle.escrow.specs.Escrow.{bound_of}
 use Rattle.escrow.specs.declared.quantity.Bound.{Bound}
 use Rattle.escrow.specs.declared.quantity.Bound.TheVariants.{TooLittle, TooMuch}

@@ -1,4 +1,4 @@
-use Rattle.std.proofs.Common.{◌≡◌, ℤ, pos, ◌+ℤ◌, ◌-ℤ◌, arith}
+use Rattle.std.proofs.Common.{pos, arith}
 use Rattle.std.proofs.lemmas.Int.{ints}
 use Rattle.book.proofs.Running.{entry_cells_are, greatest_is, least_is}
 use Rattle.book.proofs.book.row.field_row.Goals as goal

@@ -1,4 +1,4 @@
-use Rattle.std.proofs.Common.{◌↔◌, ◌≤◌, ℕ, IfOk, IsTrue, List, ap, arith, length, map, nat_abs, subst, sym}
+use Rattle.std.proofs.Common.{◌↔◌, ◌≤◌, ℕ, IfOk, IsTrue, List, ap, arith, length, nat_abs, subst, sym}
 use Rattle.std.proofs.lemmas.Result.{IfOk-weaker}
 use Rattle.std.specs.List.{AllByRecursion as Each}
 use Rattle.escrow.specs.Ranges.{IsQty}

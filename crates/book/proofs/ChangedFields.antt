@@ -1,0 +1,272 @@
+-- The fields that a request makes or changes, put in one after the other by their names.
+use Rattle.std.proofs.Common.{◌≡◌, ◌∙◌, ℕ, ◌+◌, ◌<◌, ◌==◌, ◌++◌, Bool, Err, IsSome, OnOk, Ok, Result, true, false, List, [], ◌∷◌, Option, None, Some, ap, cond, find, flat_map, if◌then◌else◌, get_or, is_some, length, map, refl, subst, sym, take, true≢false}
+use Rattle.std.proofs.lemmas.Cmp.{tied_itself}
+use Rattle.std.specs.BTreeMap.{insert_entry, is_at}
+use Rattle.std.specs.List.{AllByRecursion as Each, Contains}
+use Rattle.std.specs.List.Sorted.{IsStrictlySortedBy}
+use Rattle.std.specs.Map.{keys_of, lookup}
+use Rattle.std.specs.Ordering.{is_eq, match_ordering, ordering_reverse}
+use Rattle.std.specs.declared.cmp.Ordering.{Ordering}
+use Rattle.std.specs.declared.cmp.Ordering.TheVariants.{Equal, Greater, Less}
+use Rattle.words.specs.declared.command.Command.{Command}
+use Rattle.words.specs.declared.command.Command.TheVariants as command
+use Rattle.words.specs.declared.command.Request.{Request}
+use Rattle.book.specs.After.{order_after, order_number}
+use Rattle.book.specs.Answers.{FirstFailure, checks}
+use Rattle.book.specs.Changes.{changes_field}
+use Rattle.book.specs.Good.{IsGoodLine, IsGoodOrder}
+use Rattle.book.specs.Ledger.{Field, Ledger, Name, Order, field_named, line_name, name_cmp, on, same_name}
+use Rattle.book.specs.Next.{accept, next}
+use Rattle.book.specs.Rows.{FieldCells}
+use Rattle.book.specs.Running.{Accepts, HasEntry, IsChangedField, IsOneOf, Puts, entry_row}
+use Rattle.book.specs.declared.entries.FieldEntry.{FieldEntry}
+use Rattle.book.specs.declared.order.Line.{Line}
+use Rattle.book.proofs.Asked.{same_self}
+use Rattle.book.proofs.Bounds.{OneOn}
+use Rattle.book.proofs.Chosen.{number_is, some_is}
+use Rattle.book.proofs.Closing.{name_is}
+use Rattle.book.proofs.Growing.{other_way}
+use Rattle.book.proofs.Keyed.{equal_field}
+use Rattle.book.proofs.Made.{each-found, made_there, no_number}
+use Rattle.book.proofs.Running.{contains_each, stay}
+use Rattle.book.proofs.Staying.{name_cmp_total}
+use Rattle.book.proofs.Sums.{each-both, each-imp}
+use Rattle.book.proofs.Viewed.{Contains-of_find}
+use Rattle.book.proofs.Walked.{each-at, each-next}
+
+-- ---- what is put in
+
+pub each_put : (P : Name × FieldEntry → Type 0) (C : List (Name × FieldEntry)) (n : Name) (v : FieldEntry) → P (n, v) → Each P C → Each P (insert_entry name_cmp C n v)
+each_put P [] n v p all = (p, tt)
+each_put P (e ∷ C) n v p all = by (name_cmp n e.0) refl (each_put P C n v p all.1)
+  where
+    by : (o : Ordering) → name_cmp n e.0 ≡ o → Each P (insert_entry name_cmp C n v) → Each P (match_ordering o ((n, v) ∷ e ∷ C) ((e.0, v) ∷ C) (e ∷ insert_entry name_cmp C n v))
+    by Less is more = (p, all)
+    by Equal is more = (subst (λ (k : Name). P (k, v)) (equal_field n e.0 is) p, all.1)
+    by Greater is more = (all.0, more)
+
+pub self_eq : (n : Name) → is_eq (name_cmp n n) ≡ true
+self_eq n = ap is_eq (tied_itself name_cmp_total n)
+
+-- what was there is there still, and what is put in is
+pub put_there : (C : List (Name × FieldEntry)) (n m : Name) (v : FieldEntry) → is_some (lookup (is_at (name_cmp m)) C) ≡ true → is_some (lookup (is_at (name_cmp m)) (insert_entry name_cmp C n v)) ≡ true
+put_there [] n m v there = absurd (true≢false (sym there))
+put_there (e ∷ C) n m v there = by (name_cmp n e.0) (is_eq (name_cmp m e.0)) there (λ h. put_there C n m v h) refl
+  where
+    later : (b : Bool) (x y : FieldEntry) (rest : Option FieldEntry) → is_some (cond b (Some x) rest) ≡ true → is_some (cond b (Some y) rest) ≡ true
+    later true x y rest h = refl
+    later false x y rest h = h
+
+    first : (b : Bool) (x : FieldEntry) (rest : Option FieldEntry) → is_some rest ≡ true → is_some (cond b (Some x) rest) ≡ true
+    first true x rest h = refl
+    first false x rest h = h
+
+    both : (b : Bool) (x : FieldEntry) (rest more : Option FieldEntry) → is_some (cond b (Some x) rest) ≡ true → (is_some rest ≡ true → is_some more ≡ true) → is_some (cond b (Some x) more) ≡ true
+    both true x rest more h k = refl
+    both false x rest more h k = k h
+
+    by : (o : Ordering) (b : Bool) → is_some (cond b (Some e.1) (lookup (is_at (name_cmp m)) C)) ≡ true
+        → (is_some (lookup (is_at (name_cmp m)) C) ≡ true → is_some (lookup (is_at (name_cmp m)) (insert_entry name_cmp C n v)) ≡ true) → is_eq (name_cmp m e.0) ≡ b
+        → is_some (lookup (is_at (name_cmp m)) (match_ordering o ((n, v) ∷ e ∷ C) ((e.0, v) ∷ C) (e ∷ insert_entry name_cmp C n v))) ≡ true
+    by Less b h more is = first (is_eq (name_cmp m n)) v _ (subst (λ b. is_some (cond b (Some e.1) (lookup (is_at (name_cmp m)) C)) ≡ true) (sym is) h)
+    by Equal b h more is = later (is_eq (name_cmp m e.0)) e.1 v (lookup (is_at (name_cmp m)) C) (subst (λ b. is_some (cond b (Some e.1) (lookup (is_at (name_cmp m)) C)) ≡ true) (sym is) h)
+    by Greater b h more is = both (is_eq (name_cmp m e.0)) e.1 (lookup (is_at (name_cmp m)) C) _ (subst (λ b. is_some (cond b (Some e.1) (lookup (is_at (name_cmp m)) C)) ≡ true) (sym is) h) more
+
+pub put_self : (C : List (Name × FieldEntry)) (n : Name) (v : FieldEntry) → is_some (lookup (is_at (name_cmp n)) (insert_entry name_cmp C n v)) ≡ true
+put_self [] n v = ap (λ b. is_some (cond b (Some v) None)) (self_eq n)
+put_self (e ∷ C) n v = by (name_cmp n e.0) refl (put_self C n v)
+  where
+    first : (b : Bool) (x : FieldEntry) (rest : Option FieldEntry) → is_some rest ≡ true → is_some (cond b (Some x) rest) ≡ true
+    first true x rest h = refl
+    first false x rest h = h
+
+    by : (o : Ordering) → name_cmp n e.0 ≡ o → is_some (lookup (is_at (name_cmp n)) (insert_entry name_cmp C n v)) ≡ true
+        → is_some (lookup (is_at (name_cmp n)) (match_ordering o ((n, v) ∷ e ∷ C) ((e.0, v) ∷ C) (e ∷ insert_entry name_cmp C n v))) ≡ true
+    by Less is more = ap (λ b. is_some (cond b (Some v) (lookup (is_at (name_cmp n)) (e ∷ C)))) (self_eq n)
+    by Equal is more = ap (λ o. is_some (cond (is_eq o) (Some v) (lookup (is_at (name_cmp n)) C))) is
+    by Greater is more = first (is_eq (name_cmp n e.0)) e.1 _ more
+
+pub less_other : (n m : Name) → name_cmp n m ≡ Less → same_name m n ≡ false
+less_other n m less = by (same_name m n) refl
+  where
+    by : (b : Bool) → same_name m n ≡ b → b ≡ false
+    by true e = absurd (true≢false (sym (ap is_eq (sym less ∙ ap (name_cmp n) (name_is m n e) ∙ tied_itself name_cmp_total n))))
+    by false e = refl
+
+pub greater_other : (n m : Name) → name_cmp n m ≡ Less → is_eq (name_cmp m n) ≡ false
+greater_other n m less = ap is_eq (name_cmp_total.antisymm m n ∙ ap ordering_reverse less)
+
+-- ---- all of them
+
+module _ (t : Name → Bool) (row : Field → FieldCells) where
+  abbrev IsOne : List Field → Name × FieldEntry → Type 0
+  IsOne fs e = IsOneOf t row fs e
+
+  passed_by : (f : Field) (fs : List Field) (e : Name × FieldEntry) → same_name e.0 f.name ≡ false → IsOne (f ∷ fs) e → IsOne fs e
+  passed_by f fs e other is = record { field = is.field; there = ap (λ b. if b then Some f else find (λ g. same_name e.0 g.name) fs) (sym other) ∙ is.there; passes = is.passes; has_row = is.has_row }
+
+  none_below : (n : Name) (C : List (Name × FieldEntry)) → Each (λ k. name_cmp n k ≡ Less) (keys_of C) → lookup (is_at (name_cmp n)) C ≡ None
+  none_below n [] all = refl
+  none_below n (e ∷ C) all = ap (λ o. cond (is_eq o) (Some e.1) (lookup (is_at (name_cmp n)) C)) all.0 ∙ none_below n C all.1
+
+  -- one found among those after it is after it
+  found_after : (f : Field) (n : Name) (fs : List Field) (g : Field) → Each (λ k. name_cmp f.name k ≡ Less) (map (λ f. f.name) fs) → find (λ g. same_name n g.name) fs ≡ Some g → name_cmp f.name n ≡ Less
+  found_after f n [] g all there = absurd (true≢false (sym (ap is_some there)))
+  found_after f n (h ∷ fs) g all there = by (same_name n h.name) refl there (λ k. found_after f n fs g all.1 k)
+    where
+      by : (b : Bool) → same_name n h.name ≡ b → (if b then Some h else find (λ g. same_name n g.name) fs) ≡ Some g → (find (λ g. same_name n g.name) fs ≡ Some g → name_cmp f.name n ≡ Less) → name_cmp f.name n ≡ Less
+      by true e k more = ap (name_cmp f.name) (name_is n h.name e) ∙ all.0
+      by false e k more = more k
+
+  after_all : (n m : Name) (ks : List Name) → name_cmp n m ≡ Less → Each (λ k. name_cmp m k ≡ Less) ks → Each (λ k. name_cmp n k ≡ Less) ks
+  after_all n m ks less all = each-imp (λ k more. name_cmp_total.trans n m k less more) ks all
+
+  lookup_rest : (n : Name) (x : Name × FieldEntry) (C : List (Name × FieldEntry)) → is_eq (name_cmp n x.0) ≡ false → is_some (lookup (is_at (name_cmp n)) (x ∷ C)) ≡ true → is_some (lookup (is_at (name_cmp n)) C) ≡ true
+  lookup_rest n x C other there = subst (λ b. is_some (cond b (Some x.1) (lookup (is_at (name_cmp n)) C)) ≡ true) other there
+
+  -- of the fields after the first
+  abbrev Rest : List Field → Type 0
+  Rest fs = (C : List (Name × FieldEntry)) → IsStrictlySortedBy name_cmp (keys_of C) → Each (IsOne fs) C → Each (λ f. t f.name ≡ true → is_some (lookup (is_at (name_cmp f.name)) C) ≡ true) fs
+      → map entry_row C ≡ flat_map (λ f. if t f.name then row f ∷ [] else []) fs
+
+  skipped : (f : Field) (fs : List Field) (C : List (Name × FieldEntry)) → t f.name ≡ false → Each (IsOne (f ∷ fs)) C → Each (IsOne fs) C
+  skipped f fs C not each = each-imp (λ e is. passed_by f fs e (here e is (same_name e.0 f.name) refl) is) C each
+    where
+      here : (e : Name × FieldEntry) → IsOne (f ∷ fs) e → (b : Bool) → same_name e.0 f.name ≡ b → b ≡ false
+      here e is true k = absurd (true≢false (sym is.passes ∙ ap t (name_is e.0 f.name k) ∙ not))
+      here e is false k = refl
+
+  later_ones : (f : Field) (fs : List Field) (x : Name × FieldEntry) (C : List (Name × FieldEntry)) → x.0 ≡ f.name → Each (λ k. name_cmp x.0 k ≡ Less) (keys_of C) → Each (IsOne (f ∷ fs)) C → Each (IsOne fs) C
+  later_ones f fs x [] same rising each = tt
+  later_ones f fs x (y ∷ C) same rising each = (passed_by f fs y (less_other f.name y.0 (ap (λ (n : Name). name_cmp n y.0) (sym same) ∙ rising.0)) each.0, later_ones f fs x C same rising.1 each.1)
+
+  later_there : (f : Field) (x : Name × FieldEntry) (C : List (Name × FieldEntry)) (fs : List Field) → x.0 ≡ f.name → Each (λ k. name_cmp f.name k ≡ Less) (map (λ f. f.name) fs) → Each (λ g. t g.name ≡ true → is_some (lookup (is_at (name_cmp g.name)) (x ∷ C)) ≡ true) fs
+      → Each (λ g. t g.name ≡ true → is_some (lookup (is_at (name_cmp g.name)) C) ≡ true) fs
+  later_there f x C [] same after all = tt
+  later_there f x C (g ∷ fs) same after all = ((λ passes. lookup_rest g.name x C (ap (λ (n : Name). is_eq (name_cmp g.name n)) same ∙ greater_other f.name g.name after.0) (all.0 passes)), later_there f x C fs same after.1 all.1)
+
+  -- Entries in order, each of a field that passes, and one of each: their rows are the rows of the fields that pass.
+  pub all_rows : (fs : List Field) (C : List (Name × FieldEntry)) → IsStrictlySortedBy name_cmp (map (λ f. f.name) fs) → IsStrictlySortedBy name_cmp (keys_of C) → Each (IsOne fs) C → Each (λ f. t f.name ≡ true → is_some (lookup (is_at (name_cmp f.name)) C) ≡ true) fs
+      → map entry_row C ≡ flat_map (λ f. if t f.name then row f ∷ [] else []) fs
+  unfolding IsStrictlySortedBy
+  all_rows [] [] sorted rising each all = refl
+  all_rows [] (e ∷ C) sorted rising each all = absurd (true≢false (sym (ap is_some each.0.there)))
+  all_rows (f ∷ fs) C sorted rising each all = by (t f.name) refl C rising each all (λ D r e a. all_rows fs D sorted.1 r e a)
+    where
+      first : (x : Name × FieldEntry) (C : List (Name × FieldEntry)) → t f.name ≡ true → IsStrictlySortedBy name_cmp (keys_of (x ∷ C)) → Each (IsOne (f ∷ fs)) (x ∷ C) → Each (λ g. t g.name ≡ true → is_some (lookup (is_at (name_cmp g.name)) (x ∷ C)) ≡ true) (f ∷ fs) → Rest fs
+          → (b : Bool) → same_name x.0 f.name ≡ b → map entry_row (x ∷ C) ≡ row f ∷ flat_map (λ f. if t f.name then row f ∷ [] else []) fs
+      first x C passes rising each all more true e =
+          let same = name_is x.0 f.name e in
+          let field = some_is f each.0.field (ap (λ b. if b then Some f else find (λ g. same_name x.0 g.name) fs) (sym e) ∙ each.0.there) in
+          let here = each.0.has_row ∙ ap row (sym field) in
+          let rest = more C rising.1 (later_ones f fs x C same rising.0 each.1) (later_there f x C fs same sorted.0 all.1) in
+          λ i. here i ∷ rest i
+      first x C passes rising each all more false e =
+          let found = ap (λ b. if b then Some f else find (λ g. same_name x.0 g.name) fs) (sym e) ∙ each.0.there in
+          let below = found_after f x.0 fs each.0.field sorted.0 found in
+          absurd (true≢false (sym (all.0 passes) ∙ ap is_some (none_below f.name (x ∷ C) (below, after_all f.name x.0 (keys_of C) below rising.0))))
+
+      by : (b : Bool) → t f.name ≡ b → (C : List (Name × FieldEntry)) → IsStrictlySortedBy name_cmp (keys_of C) → Each (IsOne (f ∷ fs)) C → Each (λ g. t g.name ≡ true → is_some (lookup (is_at (name_cmp g.name)) C) ≡ true) (f ∷ fs) → Rest fs
+          → map entry_row C ≡ (if b then row f ∷ [] else []) ++ flat_map (λ f. if t f.name then row f ∷ [] else []) fs
+      by false is C rising each all more = more C rising (skipped f fs C is each) all.1
+      by true is [] rising each all more = absurd (true≢false (sym (all.0 is)))
+      by true is (x ∷ C) rising each all more = first x C is rising each all more (same_name x.0 f.name) refl
+
+-- what holds where an error does not come
+pub on_ok : {T E : Type 0} {P Q : Type 0} (r : Result T E) → (P → Q) → OnOk r P → OnOk r Q
+on_ok (Ok x) f p = f p
+on_ok (Err e) f p = tt
+
+pub on_ok_both : {T E : Type 0} {P Q R : Type 0} (r : Result T E) → (P → Q → R) → OnOk r P → OnOk r Q → OnOk r R
+on_ok_both (Ok x) f p q = f p q
+on_ok_both (Err e) f p q = tt
+
+pub each_at_name : (P : Name × FieldEntry → Type 0) (name : Name) (l : List (Name × FieldEntry)) (v : FieldEntry) → Each P l → lookup (is_at (name_cmp name)) l ≡ Some v → P (name, v)
+each_at_name P name [] v all there = absurd (true≢false (sym (ap is_some there)))
+each_at_name P name (e ∷ l) v all there = by (name_cmp name e.0) refl there (λ is. each_at_name P name l v all.1 is)
+  where
+    by : (o : Ordering) → name_cmp name e.0 ≡ o → cond (is_eq o) (Some e.1) (lookup (is_at (name_cmp name)) l) ≡ Some v → (lookup (is_at (name_cmp name)) l ≡ Some v → P (name, v)) → P (name, v)
+    by Less o is more = more is
+    by Greater o is more = more is
+    by Equal o is more = subst (λ (v : FieldEntry). P (name, v)) (some_is e.1 v is) (subst (λ (k : Name). P (k, e.1)) (sym (equal_field name e.0 o)) all.0)
+
+-- ---- the lines of the order that the request makes
+
+-- each line is the one that is found on its field
+pub found_itself : (ls : List Line) → ((f : Name) → OneOn f ls) → Each (λ l. find (on (line_name l)) ls ≡ Some l) ls
+found_itself [] one = tt
+found_itself (l ∷ ls) one = (
+  ap (λ b. if b then Some l else find (on (line_name l)) ls) (same_self (line_name l)),
+  each-both (λ m other there. ap (λ b. if b then Some l else find (on (line_name m)) ls) other ∙ there) ls (others ls (λ m. m) (one (line_name l)).0) (found_itself ls (λ f. (one f).1)),
+)
+  where
+    others : (ms : List Line) → (Line → Line) → (on (line_name l) l ≡ true → Each (λ m. on (line_name l) m ≡ false) ms) → Each (λ m. on (line_name m) l ≡ false) ms
+    others ms g apart = each-imp (λ m e. other_way (line_name l) (line_name m) e) ms (apart (same_self (line_name l)))
+
+-- what the request makes under a number has that number
+pub number_of_made : (A : Ledger) (c : Command) (o : Order) → FirstFailure (checks A c) None → order_after A c ≡ Some o → order_number c ≡ Some o.number
+number_of_made A c o passed made = by (order_number c) refl
+  where
+    numbered : (n : ℕ) (os : List Order) → find (λ m. m.number == n) os ≡ Some o → (o.number == n) ≡ true
+    numbered n [] there = absurd (true≢false (sym (ap is_some there)))
+    numbered n (m ∷ ms) there = step (m.number == n) refl there (λ k. numbered n ms k)
+      where
+        step : (b : Bool) → (m.number == n) ≡ b → (if b then Some m else find (λ m. m.number == n) ms) ≡ Some o → (find (λ m. m.number == n) ms ≡ Some o → (o.number == n) ≡ true) → (o.number == n) ≡ true
+        step true e k more = subst (λ (p : Order). (p.number == n) ≡ true) (some_is m o k) e
+        step false e k more = more k
+
+    by : (x : Option ℕ) → order_number c ≡ x → x ≡ Some o.number
+    by None e = absurd (true≢false (sym (sym (ap is_some (no_number A c e)) ∙ ap is_some made)))
+    by (Some n) e = ap (λ k. Some k) (sym (number_is o.number n (numbered n (next A c).orders (made_there A c n passed e ∙ made))))
+
+pub fields_stay : (A : Ledger) (c : Command) (n : ℕ) → order_number c ≡ Some n → (next A c).fields ≡ A.fields
+fields_stay A (command.Open m until lines) n e = refl
+fields_stay A (command.Transfer m until a from to q) n e = refl
+fields_stay A (command.More m way b a q) n e = refl
+fields_stay A (command.Use m b a q) n e = refl
+fields_stay A (command.Release m b a q) n e = refl
+fields_stay A (command.Commit m) n e = refl
+fields_stay A (command.Abort m) n e = refl
+fields_stay A (command.Field b a lo hi start) n e = absurd (true≢false (sym (ap is_some e)))
+fields_stay A (command.Deliver b a q) n e = refl
+fields_stay A (command.Writeoff b a q) n e = refl
+fields_stay A (command.Expire now) n e = refl
+
+-- the order that is made is a good one of the next ledger
+pub made_good : (A : Ledger) (r : Request) (o : Order) → Accepts A r → order_after A r.command ≡ Some o → IsGoodOrder (accept A r) o
+made_good A r o a made = each-found (IsGoodOrder (accept A r)) (λ m. m.number == o.number) o (accept A r).orders a.after.orders (made_there A r.command o.number a.accepted.1 (number_of_made A r.command o a.accepted.1 made) ∙ made)
+
+-- the field of one of its lines is there
+pub line_there : (A : Ledger) (r : Request) (o : Order) (l : Line) → Accepts A r → order_after A r.command ≡ Some o → find (on (line_name l)) o.lines ≡ Some l → IsSome (field_named A (line_name l))
+line_there A r o l a made found =
+    let good = made_good A r o a made in
+    let line = each-found (IsGoodLine (accept A r)) (on (line_name l)) l o.lines good.lines found in
+    subst (λ (fs : List Field). IsSome (find (λ f. same_name (line_name l) f.name) fs)) (fields_stay A r.command o.number (number_of_made A r.command o a.accepted.1 made)) line.field
+
+-- one line more
+pub lines_step : (A : Ledger) (r : Request) (lines ls : List Line) (i : ℕ) (x : Line) (C D : List (Name × FieldEntry)) → lines ≡ ls → i < length ls → x ≡ get_or ls i x → Each (IsChangedField A r) C
+    → Each (λ y. changes_field A r.command (line_name y) ≡ true → HasEntry C (line_name y)) (take i lines) → (changes_field A r.command (line_name x) ≡ true → Puts A r (line_name x) C D) → (changes_field A r.command (line_name x) ≡ false → D ≡ C)
+    → Each (IsChangedField A r) D × Each (λ y. changes_field A r.command (line_name y) ≡ true → HasEntry D (line_name y)) (take (i + 1) lines)
+lines_step A r lines ls i x C D same within is each all changed left = subst (λ (ls : List Line). i < length ls → x ≡ get_or ls i x → Each (IsChangedField A r) D × Each (λ y. changes_field A r.command (line_name y) ≡ true → HasEntry D (line_name y)) (take (i + 1) lines)) same
+    (λ within is. by (changes_field A r.command (line_name x)) refl within is) within is
+  where
+    by : (b : Bool) → changes_field A r.command (line_name x) ≡ b → i < length lines → x ≡ get_or lines i x → Each (IsChangedField A r) D × Each (λ y. changes_field A r.command (line_name y) ≡ true → HasEntry D (line_name y)) (take (i + 1) lines)
+    by true e within is =
+        let put = changed e in
+        let new = put.put in (
+          subst (Each (IsChangedField A r)) (sym new) (each_put (IsChangedField A r) C (line_name x) put.entry put.changed each),
+          each-next (λ y. changes_field A r.command (line_name y) ≡ true → HasEntry D (line_name y)) lines i x within is
+              (each-imp (λ y has c. subst (λ (E : List (Name × FieldEntry)). HasEntry E (line_name y)) (sym new) (put_there C (line_name x) (line_name y) put.entry (has c))) (take i lines) all)
+              (λ c. subst (λ (E : List (Name × FieldEntry)). HasEntry E (line_name x)) (sym new) (put_self C (line_name x) put.entry)),
+        )
+    by false e within is =
+        let new = left e in (
+          subst (Each (IsChangedField A r)) (sym new) each,
+          each-next (λ y. changes_field A r.command (line_name y) ≡ true → HasEntry D (line_name y)) lines i x within is
+              (each-imp (λ y has c. subst (λ (E : List (Name × FieldEntry)). HasEntry E (line_name y)) (sym new) (has c)) (take i lines) all)
+              (λ c. absurd (true≢false (sym c ∙ e))),
+        )
+
+-- a field that is there is one of the next ledger
+pub found_stays : (A : Ledger) (r : Request) (n : Name) (f : Field) → field_named A n ≡ Some f → Contains (accept A r).fields f
+found_stays A r n f there = let c = Contains-of_find (λ g. same_name n g.name) A.fields f there in each-at (λ f. Contains (accept A r).fields f) A.fields c.0 f c.1 (sym c.2) (stay (λ f. Contains (accept A r).fields f) A r.command (contains_each (accept A r).fields))

@@ -1,0 +1,285 @@
+-- The rows of the fields that a request makes or changes, for each kind of command.
+use Rattle.std.proofs.Common.{◌≡◌, ◌∙◌, ℕ, ℤ, pos, ◌+ℤ◌, ◌-ℤ◌, ◌&&◌, ◌||◌, ◌++◌, Bool, true, false, List, [], ◌∷◌, IsNone, IsSome, IsSomeAnd, Option, None, Some, ap, append-nil, arith, cond, find, flat_map, if◌then◌else◌, is_some, map, refl, subst, sym, true≢false}
+use Rattle.std.proofs.lemmas.Int.{ints}
+use Rattle.std.proofs.lemmas.List.Folds.{list_any-append}
+use Rattle.std.specs.BTreeMap.{insert_entry, is_at}
+use Rattle.std.specs.List.{AllByRecursion as Each, list_any}
+use Rattle.std.specs.List.Sorted.{IsStrictlySortedBy}
+use Rattle.std.specs.Map.{keys_of, lookup}
+use Rattle.std.specs.Option.{option_map}
+use Rattle.std.specs.Ordering.{is_eq}
+use Rattle.escrow.specs.declared.quantity.Way.TheVariants.{Add, Take}
+use Rattle.words.specs.declared.command.Command.{Command}
+use Rattle.words.specs.declared.command.Command.TheVariants as command
+use Rattle.words.specs.declared.command.Request.{Request}
+use Rattle.words.specs.declared.open_line.OpenLine.{OpenLine}
+use Rattle.book.specs.After.{added_part, changed_fields, field_row, field_rows, moved_part, new_field_rows, order_after, some_has_line, taken_part}
+use Rattle.book.specs.Answers.{FirstFailure, checks}
+use Rattle.book.specs.Changes.{changes_field, has_line_on, order_is}
+use Rattle.book.specs.Good.{Good}
+use Rattle.book.specs.Held.{held_to_add, held_to_take, if_add, if_take}
+use Rattle.book.specs.Ledger.{Field, Ledger, Name, Order, committed_state, field_named, is_committed, is_open, is_transfer, line_name, line_on, name_cmp, name_of, on, order_numbered, same_name}
+use Rattle.book.specs.Next.{accept, add_hold, change_lines, expires, hold_more, lower_held, new_line, next, raise_held}
+use Rattle.book.specs.Outcomes.{settled, total}
+use Rattle.book.specs.Rows.{FieldCells}
+use Rattle.book.specs.Running.{Accepts, GivenBack, GivesBack, HasEntry, HasLines, IsChangedField, MovesField, Puts, entry_row, expired_lines, lines_add, lines_take}
+use Rattle.book.specs.View.{field_of}
+use Rattle.book.specs.declared.entries.FieldEntry.{FieldEntry}
+use Rattle.book.specs.declared.order.Line.{Line}
+use Rattle.book.proofs.Asked.{none_found, same_self}
+use Rattle.book.proofs.ChangedFields.{all_rows, put_self, self_eq}
+use Rattle.book.proofs.Chosen.{any-eq, any-map, some_is}
+use Rattle.book.proofs.Closing.{all_pass, name_is}
+use Rattle.book.proofs.GivingBack.{any-append, lines_if, total-flat}
+use Rattle.book.proofs.Growing.{none_if_not_some, other_way}
+use Rattle.book.proofs.Made.{any_one, left_out, lined, released_on, total-next}
+use Rattle.book.proofs.Running.{new_field}
+use Rattle.book.proofs.StockChanges.{delivered, entry_is, state_is, written_off}
+use Rattle.book.proofs.Sums.{each, each-both, each-imp, total-eq}
+
+-- ---- the rows, from the entries
+
+no_new : (A : Ledger) (r : Request) (rows : List FieldCells) → new_field_rows (accept A r) r.command ≡ [] → rows ≡ changed_fields A r A.fields → rows ≡ field_rows A r
+no_new A r rows none is = is ∙ sym (append-nil (changed_fields A r A.fields)) ∙ ap (λ (more : List FieldCells). changed_fields A r A.fields ++ more) (sym none)
+
+changed_rows : (A : Ledger) (r : Request) (D : List (Name × FieldEntry)) → Good A → IsStrictlySortedBy name_cmp (keys_of D) → Each (IsChangedField A r) D → ((f : Field) → changes_field A r.command f.name ≡ true → HasEntry D f.name) → new_field_rows (accept A r) r.command ≡ [] → map entry_row D ≡ field_rows A r
+changed_rows A r D good rising changed all none =
+    no_new A r (map entry_row D) none (all_rows (changes_field A r.command) (field_row (accept A r)) A.fields D good.fields_in_order rising changed (each all A.fields))
+
+-- ---- one field
+
+one_row : (A : Ledger) (r : Request) (n : Name) (old D : List (Name × FieldEntry)) → Good A → old ≡ [] → IsStrictlySortedBy name_cmp (keys_of D) → Puts A r n old D → ((f : Name) → changes_field A r.command f ≡ true → f ≡ n) → new_field_rows (accept A r) r.command ≡ [] → map entry_row D ≡ field_rows A r
+one_row A r n old D good empty rising puts only none =
+    let is = puts.put ∙ ap (λ (C : List (Name × FieldEntry)). insert_entry name_cmp C n puts.entry) empty in
+    changed_rows A r D good rising (subst (Each (IsChangedField A r)) (sym is) (puts.changed, tt))
+    (λ f changes. subst (λ (k : Name). HasEntry D k) (sym (only f.name changes)) (subst (λ (C : List (Name × FieldEntry)). HasEntry C n) (sym is) (put_self [] n puts.entry))) none
+
+some_there : {X : Type 0} (o : Option X) → (IsNone o → ⊥) → IsSome o
+some_there None h = absurd (h refl)
+some_there (Some x) h = refl
+
+abbrev any_field : Name → Field
+any_field n = record { name = n; lo = 0; hi = 0; start = 0 }
+
+named : (A : Ledger) (c d : Command) (n : Name) → c ≡ d → changes_field A d n ≡ true → changes_field A c n ≡ true
+named A c d n is e = ap (λ (c : Command). changes_field A c n) is ∙ e
+
+pub delivery_moves : (A : Ledger) (r : Request) (b a : List ℕ) (q : ℕ) → Accepts A r → r.command ≡ command.Deliver b a q → MovesField A r (name_of b a) Add q
+delivery_moves A r b a q accepts is =
+    let n : Name = name_of b a in
+    let changes = named A r.command (command.Deliver b a q) n is (same_self n) in
+    let passed = all_pass (checks A (command.Deliver b a q)) (subst (λ (c : Command). FirstFailure (checks A c) None) is accepts.accepted.1) in
+    let held = delivered A r (any_field n) b a q is changes in
+    record {
+      accepts = accepts;
+      there = some_there (field_named A n) passed.1.0;
+      changes = changes;
+      value = λ f e. (delivered A r f b a q is (ap (λ (k : Name). changes_field A r.command k) e ∙ changes)).0;
+      takes = held.1;
+      adds = held.2;
+    }
+
+pub write_off_moves : (A : Ledger) (r : Request) (b a : List ℕ) (q : ℕ) → Accepts A r → r.command ≡ command.Writeoff b a q → MovesField A r (name_of b a) Take q
+write_off_moves A r b a q accepts is =
+    let n : Name = name_of b a in
+    let changes = named A r.command (command.Writeoff b a q) n is (same_self n) in
+    let passed = all_pass (checks A (command.Writeoff b a q)) (subst (λ (c : Command). FirstFailure (checks A c) None) is accepts.accepted.1) in
+    let held = written_off A r (any_field n) b a q is changes in
+    record {
+      accepts = accepts;
+      there = some_there (field_named A n) passed.1.0;
+      changes = changes;
+      value = λ f e. (written_off A r f b a q is (ap (λ (k : Name). changes_field A r.command k) e ∙ changes)).0;
+      takes = held.1;
+      adds = held.2;
+    }
+
+pub delivery_rows : (A : Ledger) (r : Request) (b a : List ℕ) (q : ℕ) (old D : List (Name × FieldEntry)) → Accepts A r → r.command ≡ command.Deliver b a q → old ≡ [] → IsStrictlySortedBy name_cmp (keys_of D) → Puts A r (name_of b a) old D → map entry_row D ≡ field_rows A r
+delivery_rows A r b a q old D accepts is empty rising puts =
+    one_row A r (name_of b a) old D accepts.before empty rising puts (λ f changes. name_is f (name_of b a) (ap (λ (c : Command). changes_field A c f) (sym is) ∙ changes)) (ap (λ (c : Command). new_field_rows (accept A r) c) is)
+
+pub write_off_rows : (A : Ledger) (r : Request) (b a : List ℕ) (q : ℕ) (old D : List (Name × FieldEntry)) → Accepts A r → r.command ≡ command.Writeoff b a q → old ≡ [] → IsStrictlySortedBy name_cmp (keys_of D) → Puts A r (name_of b a) old D → map entry_row D ≡ field_rows A r
+write_off_rows A r b a q old D accepts is empty rising puts =
+    one_row A r (name_of b a) old D accepts.before empty rising puts (λ f changes. name_is f (name_of b a) (ap (λ (c : Command). changes_field A c f) (sym is) ∙ changes)) (ap (λ (c : Command). new_field_rows (accept A r) c) is)
+
+-- ---- a new field
+
+flat_none : (t : Field → Bool) (row : Field → FieldCells) (fs : List Field) → Each (λ f. t f ≡ false) fs → flat_map (λ f. if t f then row f ∷ [] else []) fs ≡ []
+flat_none t row [] all = refl
+flat_none t row (f ∷ fs) all = rw all.0 (flat_none t row fs all.1)
+
+pub new_rows : (A : Ledger) (r : Request) (b a : List ℕ) (lo hi start : ℕ) (old D : List (Name × FieldEntry)) (e : FieldEntry) → Accepts A r → r.command ≡ command.Field b a lo hi start → old ≡ [] → D ≡ insert_entry name_cmp old (name_of b a) e
+    → e ≡ record { start = start; quantity = record { lo = lo; hi = hi; value = start; held_to_take = 0; held_to_add = 0 } } → map entry_row D ≡ field_rows A r
+new_rows A r b a lo hi start old D e accepts is empty put entry =
+    let n : Name = name_of b a in
+    let passed = all_pass (checks A (command.Field b a lo hi start)) (subst (λ (c : Command). FirstFailure (checks A c) None) is accepts.accepted.1) in
+    let none = none_found (λ f. same_name n f.name) A.fields (none_if_not_some (field_named A n) passed.1.1.0) in
+    let before : changed_fields A r A.fields ≡ [] = flat_none (λ f. changes_field A r.command f.name) (field_row (accept A r)) A.fields (each-imp (λ f other. ap (λ (c : Command). changes_field A c f.name) is ∙ other_way n f.name other) A.fields none) in
+    ap (map entry_row) (put ∙ (λ i. insert_entry name_cmp (empty i) n (entry i))) ∙ new_field A r b a lo hi start is accepts.before accepts.accepted.1 ∙ ap (λ (rows : List FieldCells). rows ++ new_field_rows (accept A r) r.command) (sym before)
+
+-- ---- the lines of an order
+
+any_line : (P : Name → Type 0) (f : Name) (ls : List Line) → Each (λ l. P (line_name l)) ls → list_any (on f) ls ≡ true → P f
+any_line P f [] all e = absurd (true≢false (sym e))
+any_line P f (l ∷ ls) all e = by (on f l) refl e (λ k. any_line P f ls all.1 k)
+  where
+    by : (b : Bool) → on f l ≡ b → (b || list_any (on f) ls) ≡ true → (list_any (on f) ls ≡ true → P f) → P f
+    by true is e more = subst P (sym (name_is f (line_name l) is)) all.0
+    by false is e more = more e
+
+any_there : (f : Name) (ls : List Line) → is_some (find (on f) ls) ≡ list_any (on f) ls
+any_there f [] = refl
+any_there f (l ∷ ls) = by (on f l) (any_there f ls)
+  where
+    by : (b : Bool) → is_some (find (on f) ls) ≡ list_any (on f) ls → is_some (if b then Some l else find (on f) ls) ≡ (b || list_any (on f) ls)
+    by true e = refl
+    by false e = e
+
+raised_on : (b : Bool) (f : Name) (q : ℕ) (l : Line) → on f (if b then raise_held q l else l) ≡ on f l
+raised_on true f q l = refl
+raised_on false f q l = refl
+
+or_true : (a b : Bool) → b ≡ true → (a || b) ≡ true
+or_true true b e = refl
+or_true false b e = e
+
+held_on : (f : Name) (ol : OpenLine) (o : Order) → f ≡ line_name (new_line ol) → list_any (on f) (add_hold ol o).lines ≡ true
+held_on f ol o is = by (is_some (line_on o (line_name (new_line ol)))) refl
+  where
+    by : (b : Bool) → is_some (line_on o (line_name (new_line ol))) ≡ b → list_any (on f) (if b then hold_more (line_name (new_line ol)) ol.qty o else record o { lines = o.lines ++ new_line ol ∷ [] }).lines ≡ true
+    by true e = any-map (on f) (λ m. if on (line_name (new_line ol)) m then raise_held ol.qty m else m) o.lines
+        ∙ any-eq (λ m. on f (if on (line_name (new_line ol)) m then raise_held ol.qty m else m)) (on f) o.lines (each (λ m. raised_on (on (line_name (new_line ol)) m) f ol.qty m) o.lines)
+        ∙ ap (λ (k : Name). list_any (on k) o.lines) is ∙ sym (any_there (line_name (new_line ol)) o.lines) ∙ e
+    by false e = any-append (on f) o.lines (new_line ol) ∙ or_true (list_any (on f) o.lines) (on f (new_line ol)) (ap (λ (k : Name). same_name k (line_name (new_line ol))) is ∙ same_self (line_name (new_line ol)))
+
+second_true : (a b : Bool) → (a && b) ≡ true → b ≡ true
+second_true true b e = e
+second_true false b e = absurd (true≢false (sym e))
+
+-- a field that the request changes has a line of the order that it makes
+changed_has_line : (A : Ledger) (c : Command) (f : Name) (o : Order) → Good A → FirstFailure (checks A c) None → order_after A c ≡ Some o → changes_field A c f ≡ true → list_any (on f) o.lines ≡ true
+changed_has_line A (command.Open n until lines) f o good h made e = ap (some_has_line f) (sym made) ∙ lined A (command.Open n until lines) f good refl ∙ e
+changed_has_line A (command.Transfer n until a from to q) f o good h made e = ap (some_has_line f) (sym made) ∙ lined A (command.Transfer n until a from to q) f good refl ∙ e
+changed_has_line A (command.Commit n) f o good h made e = ap (some_has_line f) (sym made) ∙ lined A (command.Commit n) f good refl ∙ e
+changed_has_line A (command.Abort n) f o good h made e = ap (some_has_line f) (sym made) ∙ lined A (command.Abort n) f good refl ∙ e
+changed_has_line A (command.More n way b a q) f o good h made e = by (order_numbered A n) made
+  where
+    by : (x : Option Order) → option_map (add_hold (record { way = way; branch = b; article = a; qty = q })) x ≡ Some o → list_any (on f) o.lines ≡ true
+    by None k = absurd (true≢false (sym (ap is_some k)))
+    by (Some p) k = subst (λ (m : Order). list_any (on f) m.lines ≡ true) (some_is _ o k) (held_on f (record { way = way; branch = b; article = a; qty = q }) p (name_is f (name_of b a) e))
+changed_has_line A (command.Release n b a q) f o good h made e = by (order_numbered A n) refl made
+  where
+    g : Name
+    g = name_of b a
+
+    here : (p : Order) → order_numbered A n ≡ Some p → (t : Bool) → same_name f g ≡ t → (t || order_is A n (λ o. is_transfer o && has_line_on f o)) ≡ true → has_line_on f p ≡ true
+    here p there true is k =
+        let held = (all_pass (checks A (command.Release n b a q)) h).1.1.1.0 in
+        let line = some_there (line_on p g) (λ none. held (subst (λ (x : Option Order). IsSomeAnd x (λ o. IsNone (line_on o g))) (sym there) none)) in
+        ap (λ (k : Name). list_any (on k) p.lines) (name_is f g is) ∙ sym (any_there g p.lines) ∙ line
+    here p there false is k = second_true (is_transfer p) (has_line_on f p) (sym (any_one n (λ o. is_transfer o && has_line_on f o) p A.orders good.orders_in_order there) ∙ k)
+
+    by : (x : Option Order) → order_numbered A n ≡ x → option_map (change_lines g (lower_held q)) x ≡ Some o → list_any (on f) o.lines ≡ true
+    by None there k = absurd (true≢false (sym (ap is_some k)))
+    by (Some p) there k = subst (λ (m : Order). list_any (on f) m.lines ≡ true) (some_is _ o k) (released_on f g q p ∙ here p there (same_name f g) refl e)
+changed_has_line A (command.Use n b a q) f o good h made e = absurd (true≢false (sym e))
+changed_has_line A (command.Field b a lo hi start) f o good h made e = absurd (true≢false (sym (ap is_some made)))
+changed_has_line A (command.Deliver b a q) f o good h made e = absurd (true≢false (sym (ap is_some made)))
+changed_has_line A (command.Writeoff b a q) f o good h made e = absurd (true≢false (sym (ap is_some made)))
+changed_has_line A (command.Expire now) f o good h made e = absurd (true≢false (sym (ap is_some made)))
+
+no_field_made : (B A : Ledger) (c : Command) (o : Order) → order_after A c ≡ Some o → new_field_rows B c ≡ []
+no_field_made B A (command.Field b a lo hi start) o made = absurd (true≢false (sym (ap is_some made)))
+no_field_made B A (command.Deliver b a q) o made = refl
+no_field_made B A (command.Writeoff b a q) o made = refl
+no_field_made B A (command.Open n until lines) o made = refl
+no_field_made B A (command.Transfer n until a from to q) o made = refl
+no_field_made B A (command.More n way b a q) o made = refl
+no_field_made B A (command.Use n b a q) o made = refl
+no_field_made B A (command.Release n b a q) o made = refl
+no_field_made B A (command.Commit n) o made = refl
+no_field_made B A (command.Abort n) o made = refl
+no_field_made B A (command.Expire now) o made = refl
+
+pub lines_rows : (A : Ledger) (r : Request) (o : Order) (D : List (Name × FieldEntry)) → Accepts A r → order_after A r.command ≡ Some o → IsStrictlySortedBy name_cmp (keys_of D) → HasLines A r o.lines D → map entry_row D ≡ field_rows A r
+lines_rows A r o D accepts made rising has =
+    changed_rows A r D accepts.before rising has.each
+    (λ f changes. any_line (λ n. changes_field A r.command n ≡ true → HasEntry D n) f.name o.lines has.all (changed_has_line A r.command f.name o accepts.before accepts.accepted.1 made changes) changes) (no_field_made (accept A r) A r.command o made)
+
+-- ---- an expiry
+
+entry_itself : (D : List (Name × FieldEntry)) → Each (λ e. HasEntry D e.0) D
+entry_itself [] = tt
+entry_itself (e ∷ D) = (ap (λ b. is_some (cond b (Some e.1) (lookup (is_at (name_cmp e.0)) D))) (self e.0), each-imp (λ d has. later (is_eq (name_cmp d.0 e.0)) (lookup (is_at (name_cmp d.0)) D) has) D (entry_itself D))
+  where
+    self : (n : Name) → is_eq (name_cmp n n) ≡ true
+    self n = self_eq n
+
+    later : (b : Bool) (rest : Option FieldEntry) → is_some rest ≡ true → is_some (cond b (Some e.1) rest) ≡ true
+    later true rest h = refl
+    later false rest h = h
+
+any_if : (b : Bool) (f : Name) (ls : List Line) → list_any (on f) (if b then ls else []) ≡ (b && list_any (on f) ls)
+any_if true f ls = refl
+any_if false f ls = refl
+
+any_expired : (now : ℕ) (f : Name) (os : List Order) → list_any (on f) (expired_lines now os) ≡ list_any (λ o. expires now o && has_line_on f o) os
+any_expired now f [] = refl
+any_expired now f (o ∷ os) = list_any-append (on f) (if expires now o then o.lines else []) (expired_lines now os) ∙ (λ i. any_if (expires now o) f o.lines i || any_expired now f os i)
+
+pub parted : (p : Order → Bool) (g : Order → ℤ) (os : List Order) → total g os ≡ total (λ o. if p o then pos 0 else g o) os +ℤ total (λ o. if p o then g o else pos 0) os
+parted p g [] = refl
+parted p g (o ∷ os) = by (p o) (parted p g os)
+  where
+    by : (b : Bool) → total g os ≡ total (λ o. if p o then pos 0 else g o) os +ℤ total (λ o. if p o then g o else pos 0) os
+        → g o +ℤ total g os ≡ ((if b then pos 0 else g o) +ℤ total (λ o. if p o then pos 0 else g o) os) +ℤ ((if b then g o else pos 0) +ℤ total (λ o. if p o then g o else pos 0) os)
+    by true e = omega (arith, ints)
+    by false e = omega (arith, ints)
+
+open_part : (a b : Bool) (z : ℤ) → (if a && b then z else pos 0) ≡ (if a && b then (if a then z else pos 0) else pos 0)
+open_part true true z = refl
+open_part true false z = refl
+open_part false b z = refl
+
+-- what the orders that expire hold on a field
+expired_part : (now : ℕ) (g : Line → ℤ) (os : List Order) → total g (expired_lines now os) ≡ total (λ o. if expires now o then (if is_open o then total g o.lines else pos 0) else pos 0) os
+expired_part now g os = total-flat g (λ (o : Order). if expires now o then o.lines else []) os
+    ∙ total-eq (λ (o : Order). total g (if expires now o then o.lines else [])) (λ o. if expires now o then (if is_open o then total g o.lines else pos 0) else pos 0) os
+    (each (λ o. lines_if (expires now o) g o.lines ∙ open_part (is_open o) _ (total g o.lines)) os)
+
+not_committed : (a b c : Bool) (z : ℤ) → (a ≡ true → c ≡ false) → (if a && b then pos 0 else (if c then z else pos 0)) ≡ (if c then z else pos 0)
+not_committed true true c z h = sym (ap (λ t. if t then z else pos 0) (h refl))
+not_committed true false c z h = refl
+not_committed false b c z h = refl
+
+-- what the expiry leaves
+abbrev Left : Ledger → Ledger → ℕ → Field → Type 0
+Left A B now f = (settled B f ≡ settled A f) × (held_to_take B f.name ≡ held_to_take A f.name -ℤ lines_take f.name (expired_lines now A.orders)) × (held_to_add B f.name ≡ held_to_add A f.name -ℤ lines_add f.name (expired_lines now A.orders))
+
+expired_sums : (A : Ledger) (now : ℕ) (f : Field) → Good A → FirstFailure (checks A (command.Expire now)) None → Left A (next A (command.Expire now)) now f
+expired_sums A now f good h =
+    let used = total-next (moved_part f.name) (λ o. refl) A (command.Expire now) good h in
+    let used_same = total-eq (left_out (moved_part f.name) (command.Expire now)) (moved_part f.name) A.orders
+    (each (λ o. not_committed (is_open o) _ (is_committed o) _ (λ unended. ap committed_state (sym (state_is o.state unended)))) A.orders) in
+    let takes = total-next (taken_part f.name) (λ o. refl) A (command.Expire now) good h in
+    let takes_parted = parted (expires now) (taken_part f.name) A.orders in
+    let takes_given = expired_part now (λ l. if on f.name l then pos (if_take l.way l.held) else pos 0) A.orders in
+    let adds = total-next (added_part f.name) (λ o. refl) A (command.Expire now) good h in
+    let adds_parted = parted (expires now) (added_part f.name) A.orders in
+    let adds_given = expired_part now (λ l. if on f.name l then pos (if_add l.way l.held) else pos 0) A.orders in
+    (omega (arith, ints), omega (arith, ints), omega (arith, ints))
+
+given_row : (A B : Ledger) (now : ℕ) (e : Name × FieldEntry) → GivenBack A (expired_lines now A.orders) e → Left A B now (field_of e) → entry_row e ≡ field_row B (field_of e)
+given_row A B now e given left = entry_is B e.0 e.1 e.1.quantity refl refl (given.value ∙ sym left.0) (given.takes ∙ sym left.1) (given.adds ∙ sym left.2)
+
+pub expired_rows : (A : Ledger) (r : Request) (now : ℕ) (D : List (Name × FieldEntry)) → Accepts A r → r.command ≡ command.Expire now → IsStrictlySortedBy name_cmp (keys_of D) → GivesBack A (expired_lines now A.orders) D → map entry_row D ≡ field_rows A r
+expired_rows A r now D accepts is rising gives =
+    let passed = subst (λ (c : Command). FirstFailure (checks A c) None) is accepts.accepted.1 in
+    changed_rows A r D accepts.before rising
+    (each-both (λ e given has. record {
+      field = field_of e;
+      there = given.there;
+      passes = ap (λ (c : Command). changes_field A c e.0) is ∙ sym (any_expired now e.0 A.orders) ∙ sym (gives.all e.0) ∙ has;
+      has_row = given_row A (accept A r) now e given (subst (λ (c : Command). Left A (next A c) now (field_of e)) (sym is) (expired_sums A now (field_of e) accepts.before passed));
+    }) D gives.each (entry_itself D))
+    (λ f changes. gives.all f.name ∙ any_expired now f.name A.orders ∙ ap (λ (c : Command). changes_field A c f.name) (sym is) ∙ changes) (ap (λ (c : Command). new_field_rows (accept A r) c) is)

@@ -1,0 +1,261 @@
+-- What lines give back, as the orders end that hold it.
+use Rattle.std.proofs.Common.{◌≡◌, ◌∙◌, ℕ, ◌+◌, ◌<◌, ◌≤◌, ℤ, pos, ◌+ℤ◌, ◌≤ℤ◌, ◌&&◌, ◌||◌, ◌++◌, Bool, true, false, List, [], ◌∷◌, Option, None, Some, IsSome, ap, append_assoc, arith, cond, drop, flat_map, get_or, length, option_map, slice_get, if◌then◌else◌, is_some, refl, subst, sym, take, true≢false}
+use Rattle.std.proofs.lemmas.Int.{ints}
+use Rattle.std.proofs.lemmas.Grind.{flat_map-append}
+use Rattle.std.proofs.lemmas.Option.{get_or_from_slice_get, slice_get-map, slice_get_within}
+use Rattle.std.specs.BTreeMap.{insert_entry, is_at}
+use Rattle.std.specs.List.{AllByRecursion as Each, list_any}
+use Rattle.std.specs.List.Sorted.{IsStrictlySortedBy}
+use Rattle.std.specs.Map.{keys_of, lookup}
+use Rattle.std.specs.Ordering.{is_eq, match_ordering}
+use Rattle.std.specs.declared.cmp.Ordering.{Ordering}
+use Rattle.std.specs.declared.cmp.Ordering.TheVariants.{Equal, Greater, Less}
+use Rattle.escrow.specs.Escrow.{giving_back, held_of}
+use Rattle.escrow.specs.Stock.{Stock}
+use Rattle.escrow.specs.declared.quantity.Way.{Way}
+use Rattle.escrow.specs.declared.quantity.Way.TheVariants.{Add, Take}
+use Rattle.book.specs.Good.{Good, IsGoodOrder}
+use Rattle.book.specs.Held.{if_add, if_take}
+use Rattle.book.specs.Ledger.{Ledger, Name, Order, field_named, is_open, line_name, name_cmp, on, same_name}
+use Rattle.book.specs.Next.{expires}
+use Rattle.book.specs.Outcomes.{total}
+use Rattle.book.specs.Rows.{FieldCells}
+use Rattle.book.specs.Running.{GivenBack, GivesBack, IsUpToDate, MayGiveBack, expired_lines}
+use Rattle.book.specs.View.{BookView, field_of, order_of, view_of}
+use Rattle.book.specs.declared.book.Book.TheInside.{Inside}
+use Rattle.book.specs.declared.entries.OrderEntry.{OrderEntry}
+use Rattle.book.specs.declared.entries.FieldEntry.{FieldEntry}
+use Rattle.book.specs.declared.order.Line.{Line}
+use Rattle.book.proofs.Asked.{same_self, total-push}
+use Rattle.book.proofs.Bounds.{adds-not_negative, takes-not_negative}
+use Rattle.book.proofs.ChangedFields.{each_at_name, less_other}
+use Rattle.book.proofs.Growing.{other_way}
+use Rattle.book.proofs.Keyed.{equal_field, same_field}
+use Rattle.book.proofs.Running.{off}
+use Rattle.book.proofs.Staying.{name_cmp_total}
+use Rattle.book.proofs.Sums.{each, each-imp, total-le, total-zero}
+use Rattle.book.proofs.Walked.{cut_at, each-at, read-step}
+
+-- ---- sums over lines
+
+total-append : {X : Type 0} (g : X → ℤ) (xs ys : List X) → total g (xs ++ ys) ≡ total g xs +ℤ total g ys
+total-append g [] ys = omega (arith, ints)
+total-append g (x ∷ xs) ys = let more = total-append g xs ys in omega (arith, ints)
+
+pub total-flat : {X Y : Type 0} (g : Y → ℤ) (f : X → List Y) (xs : List X) → total g (flat_map f xs) ≡ total (λ x. total g (f x)) xs
+total-flat g f [] = refl
+total-flat g f (x ∷ xs) = let first = total-append g (f x) (flat_map f xs) in let more = total-flat g f xs in omega (arith, ints)
+
+pub any-append : {X : Type 0} (t : X → Bool) (xs : List X) (y : X) → list_any t (xs ++ y ∷ []) ≡ (list_any t xs || t y)
+any-append t [] y = or_false (t y)
+  where
+    or_false : (b : Bool) → (b || false) ≡ b
+    or_false true = refl
+    or_false false = refl
+any-append t (x ∷ xs) y = by (t x) (any-append t xs y)
+  where
+    by : (b : Bool) → list_any t (xs ++ y ∷ []) ≡ (list_any t xs || t y) → (b || list_any t (xs ++ y ∷ [])) ≡ ((b || list_any t xs) || t y)
+    by true more = refl
+    by false more = more
+
+none_on : (n : Name) (ls : List Line) → list_any (on n) ls ≡ false → Each (λ l. on n l ≡ false) ls
+none_on n [] e = tt
+none_on n (l ∷ ls) e = by (on n l) refl e (λ k. none_on n ls k)
+  where
+    by : (b : Bool) → on n l ≡ b → (b || list_any (on n) ls) ≡ false → (list_any (on n) ls ≡ false → Each (λ l. on n l ≡ false) ls) → Each (λ l. on n l ≡ false) (l ∷ ls)
+    by true is e more = absurd (true≢false e)
+    by false is e more = (is, more e)
+
+-- no line on the field holds anything there
+none_held : (n : Name) (g : Line → ℤ) (ls : List Line) → list_any (on n) ls ≡ false → total (λ l. if on n l then g l else pos 0) ls ≡ pos 0
+none_held n g ls e = total-zero (λ l. if on n l then g l else pos 0) ls (each-imp (λ l k. off (on n l) (g l) k) ls (none_on n ls e))
+
+-- ---- the entry so far
+
+pub from_entries : (A : Ledger) (ls : List Line) (C : List (Name × FieldEntry)) (n : Name) (v : FieldEntry) → GivesBack A ls C → lookup (is_at (name_cmp n)) C ≡ Some v → GivenBack A ls (n, v)
+from_entries A ls C n v gives there = each_at_name (GivenBack A ls) n C v gives.each there
+
+pub from_book : (A : Ledger) (ls : List Line) (C : List (Name × FieldEntry)) (n : Name) (v : FieldEntry) → GivesBack A ls C → lookup (is_at (name_cmp n)) C ≡ None → IsUpToDate A (n, v) → field_named A n ≡ Some (field_of (n, v)) → GivenBack A ls (n, v)
+from_book A ls C n v gives none up there =
+    let not = sym (gives.all n) ∙ ap is_some none in
+    let takes = none_held n (λ l. pos (if_take l.way l.held)) ls not in
+    let adds = none_held n (λ l. pos (if_add l.way l.held)) ls not in
+    let value = ap (λ (row : FieldCells). row.value) up in
+    let inf = ap (λ (row : FieldCells). row.inf) up in
+    let sup = ap (λ (row : FieldCells). row.sup) up in
+    record { there = there; value = value; takes = omega (arith, ints); adds = omega (arith, ints) }
+
+-- ---- one line gives back
+
+abbrev part : Bool → ℤ → ℤ
+part b z = if b then z else pos 0
+
+on_itself : (l : Line) (z : ℤ) → part (on (line_name l) l) z ≡ z
+on_itself l z = ap (λ b. part b z) (same_self (line_name l))
+
+pub held_there : (A : Ledger) (ls : List Line) (l : Line) (v : FieldEntry) → GivenBack A ls (line_name l, v) → MayGiveBack A (ls ++ l ∷ []) → l.held ≤ held_of v.quantity l.way
+held_there A ls l v given may = by l.way refl
+  where
+    by : (w : Way) → l.way ≡ w → l.held ≤ held_of v.quantity w
+    by Take is =
+        let most = (may (line_name l)).0 in
+        let sum = total-push (λ m. if on (line_name l) m then pos (if_take m.way m.held) else pos 0) ls l in
+        let own = on_itself l (pos (if_take l.way l.held)) ∙ ap (λ w. pos (if_take w l.held)) is in
+        let takes = given.takes in
+        omega (arith, ints)
+    by Add is =
+        let most = (may (line_name l)).1 in
+        let sum = total-push (λ m. if on (line_name l) m then pos (if_add m.way m.held) else pos 0) ls l in
+        let own = on_itself l (pos (if_add l.way l.held)) ∙ ap (λ w. pos (if_add w l.held)) is in
+        let adds = given.adds in
+        omega (arith, ints)
+
+given_itself : (A : Ledger) (ls : List Line) (l : Line) (v : FieldEntry) (w : Way) → l.way ≡ w → l.held ≤ held_of v.quantity w → GivenBack A ls (line_name l, v) → GivenBack A (ls ++ l ∷ []) (line_name l, record { start = v.start; quantity = giving_back v.quantity w l.held })
+given_itself A ls l v Take is held given =
+    let take_sum = total-push (λ m. if on (line_name l) m then pos (if_take m.way m.held) else pos 0) ls l in
+    let own_take = on_itself l (pos (if_take l.way l.held)) ∙ ap (λ w. pos (if_take w l.held)) is in
+    let add_sum = total-push (λ m. if on (line_name l) m then pos (if_add m.way m.held) else pos 0) ls l in
+    let own_add = on_itself l (pos (if_add l.way l.held)) ∙ ap (λ w. pos (if_add w l.held)) is in
+    let takes = given.takes in
+    let adds = given.adds in
+    record { there = given.there; value = given.value; takes = omega (arith, ints); adds = omega (arith, ints) }
+given_itself A ls l v Add is held given =
+    let take_sum = total-push (λ m. if on (line_name l) m then pos (if_take m.way m.held) else pos 0) ls l in
+    let own_take = on_itself l (pos (if_take l.way l.held)) ∙ ap (λ w. pos (if_take w l.held)) is in
+    let add_sum = total-push (λ m. if on (line_name l) m then pos (if_add m.way m.held) else pos 0) ls l in
+    let own_add = on_itself l (pos (if_add l.way l.held)) ∙ ap (λ w. pos (if_add w l.held)) is in
+    let takes = given.takes in
+    let adds = given.adds in
+    record { there = given.there; value = given.value; takes = omega (arith, ints); adds = omega (arith, ints) }
+
+given_other : (A : Ledger) (ls : List Line) (l : Line) (e : Name × FieldEntry) → same_name e.0 (line_name l) ≡ false → GivenBack A ls e → GivenBack A (ls ++ l ∷ []) e
+given_other A ls l e other given =
+    let take_sum = total-push (λ m. if on e.0 m then pos (if_take m.way m.held) else pos 0) ls l in
+    let own_take = off (on e.0 l) (pos (if_take l.way l.held)) other in
+    let add_sum = total-push (λ m. if on e.0 m then pos (if_add m.way m.held) else pos 0) ls l in
+    let own_add = off (on e.0 l) (pos (if_add l.way l.held)) other in
+    let takes = given.takes in
+    let adds = given.adds in
+    record { there = given.there; value = given.value; takes = omega (arith, ints); adds = omega (arith, ints) }
+
+-- one put among others in their order
+put_other : (P Q : Name × FieldEntry → Type 0) (n : Name) (v : FieldEntry) → Q (n, v) → ((e : Name × FieldEntry) → same_name e.0 n ≡ false → P e → Q e) → (C : List (Name × FieldEntry)) → IsStrictlySortedBy name_cmp (keys_of C) → Each P C → Each Q (insert_entry name_cmp C n v)
+unfolding IsStrictlySortedBy
+put_other P Q n v own other [] sorted all = (own, tt)
+put_other P Q n v own other (e ∷ C) sorted all = by (name_cmp n e.0) refl (put_other P Q n v own other C sorted.1 all.1)
+  where
+    later : (m : Name) (D : List (Name × FieldEntry)) → name_cmp n m ≡ Less → Each (λ k. name_cmp m k ≡ Less) (keys_of D) → Each P D → Each Q D
+    later m [] less after all = tt
+    later m (d ∷ D) less after all = (other d (less_other n d.0 (name_cmp_total.trans n m d.0 less after.0)) all.0, later m D less after.1 all.1)
+
+    same : (D : List (Name × FieldEntry)) → n ≡ e.0 → Each (λ k. name_cmp e.0 k ≡ Less) (keys_of D) → Each P D → Each Q D
+    same [] is after all = tt
+    same (d ∷ D) is after all = (other d (less_other n d.0 (ap (λ (k : Name). name_cmp k d.0) is ∙ after.0)) all.0, same D is after.1 all.1)
+
+    not_equal : (o : Ordering) → name_cmp n e.0 ≡ o → is_eq o ≡ false → same_name e.0 n ≡ false
+    not_equal o is not = other_way n e.0 (same_field n e.0 ∙ ap is_eq is ∙ not)
+
+    by : (o : Ordering) → name_cmp n e.0 ≡ o → Each Q (insert_entry name_cmp C n v) → Each Q (match_ordering o ((n, v) ∷ e ∷ C) ((e.0, v) ∷ C) (e ∷ insert_entry name_cmp C n v))
+    by Less is more = (own, (other e (less_other n e.0 is) all.0, later e.0 C is sorted.0 all.1))
+    by Equal is more = (subst (λ (k : Name). Q (k, v)) (equal_field n e.0 is) own, same C (equal_field n e.0 is) sorted.0 all.1)
+    by Greater is more = (other e (not_equal Greater is refl) all.0, more)
+
+-- what is there once one is put in
+put_has : (C : List (Name × FieldEntry)) (n m : Name) (v : FieldEntry) → is_some (lookup (is_at (name_cmp m)) (insert_entry name_cmp C n v)) ≡ (is_some (lookup (is_at (name_cmp m)) C) || is_eq (name_cmp m n))
+put_has [] n m v = by (is_eq (name_cmp m n))
+  where
+    by : (b : Bool) → is_some (cond b (Some v) None) ≡ (false || b)
+    by true = refl
+    by false = refl
+put_has (e ∷ C) n m v = by (name_cmp n e.0) refl (put_has C n m v)
+  where
+    first : (b : Bool) (rest : Option FieldEntry) → is_some (cond b (Some v) rest) ≡ (is_some rest || b)
+    first true None = refl
+    first true (Some x) = refl
+    first false None = refl
+    first false (Some x) = refl
+
+    replaced : (b : Bool) (rest : Option FieldEntry) → is_some (cond b (Some v) rest) ≡ (is_some (cond b (Some e.1) rest) || b)
+    replaced true rest = refl
+    replaced false None = refl
+    replaced false (Some x) = refl
+
+    later : (b : Bool) (rest more : Option FieldEntry) (c : Bool) → is_some more ≡ (is_some rest || c) → is_some (cond b (Some e.1) more) ≡ (is_some (cond b (Some e.1) rest) || c)
+    later true rest more c h = refl
+    later false rest more c h = h
+
+    by : (o : Ordering) → name_cmp n e.0 ≡ o → is_some (lookup (is_at (name_cmp m)) (insert_entry name_cmp C n v)) ≡ (is_some (lookup (is_at (name_cmp m)) C) || is_eq (name_cmp m n))
+        → is_some (lookup (is_at (name_cmp m)) (match_ordering o ((n, v) ∷ e ∷ C) ((e.0, v) ∷ C) (e ∷ insert_entry name_cmp C n v))) ≡ (is_some (lookup (is_at (name_cmp m)) (e ∷ C)) || is_eq (name_cmp m n))
+    by Less is more = first (is_eq (name_cmp m n)) (lookup (is_at (name_cmp m)) (e ∷ C))
+    by Equal is more = replaced (is_eq (name_cmp m e.0)) (lookup (is_at (name_cmp m)) C) ∙ ap (λ (k : Name). is_some (lookup (is_at (name_cmp m)) (e ∷ C)) || is_eq (name_cmp m k)) (sym (equal_field n e.0 is))
+    by Greater is more = later (is_eq (name_cmp m e.0)) (lookup (is_at (name_cmp m)) C) _ (is_eq (name_cmp m n)) more
+
+pub line_given : (A : Ledger) (ls : List Line) (l : Line) (v : FieldEntry) (new : Stock) (C D : List (Name × FieldEntry)) → IsStrictlySortedBy name_cmp (keys_of C) → GivesBack A ls C → MayGiveBack A (ls ++ l ∷ []) → GivenBack A ls (line_name l, v)
+    → new ≡ giving_back v.quantity l.way l.held → D ≡ insert_entry name_cmp C (line_name l) (record { start = v.start; quantity = new }) → GivesBack A (ls ++ l ∷ []) D
+line_given A ls l v new C D sorted gives may given is put =
+    let f : Name = line_name l in
+    let own = given_itself A ls l v l.way refl (held_there A ls l v given may) given in
+    subst (GivesBack A (ls ++ l ∷ [])) (sym (put ∙ ap (λ (q : Stock). insert_entry name_cmp C f (record { start = v.start; quantity = q })) is)) (record {
+      each = put_other (GivenBack A ls) (GivenBack A (ls ++ l ∷ [])) f (record { start = v.start; quantity = giving_back v.quantity l.way l.held }) own (λ e other given. given_other A ls l e other given) C sorted gives.each;
+      all = λ n. put_has C f n (record { start = v.start; quantity = giving_back v.quantity l.way l.held }) ∙ (λ i. gives.all n i || sym (same_field n f) i) ∙ sym (any-append (on n) ls l);
+    })
+
+-- ---- all lines of an order, and of all orders that expire
+
+pub may_prefix : (A : Ledger) (ls ms ns : List Line) → MayGiveBack A (ls ++ (ms ++ ns)) → MayGiveBack A (ls ++ ms)
+may_prefix A ls ms ns may n =
+    let takes = total-append (λ l. if on n l then pos (if_take l.way l.held) else pos 0) ls (ms ++ ns) in
+    let takes_in = total-append (λ l. if on n l then pos (if_take l.way l.held) else pos 0) ms ns in
+    let takes_own = total-append (λ l. if on n l then pos (if_take l.way l.held) else pos 0) ls ms in
+    let takes_rest = takes-not_negative n ns in
+    let adds = total-append (λ l. if on n l then pos (if_add l.way l.held) else pos 0) ls (ms ++ ns) in
+    let adds_in = total-append (λ l. if on n l then pos (if_add l.way l.held) else pos 0) ms ns in
+    let adds_own = total-append (λ l. if on n l then pos (if_add l.way l.held) else pos 0) ls ms in
+    let adds_rest = adds-not_negative n ns in
+    let most = may n in
+    let take_most = most.0 in
+    let add_most = most.1 in
+    (omega (arith, ints), omega (arith, ints))
+
+pub lines_if : (b : Bool) (g : Line → ℤ) (ls : List Line) → total g (if b then ls else []) ≡ (if b then total g ls else pos 0)
+lines_if true g ls = refl
+lines_if false g ls = refl
+
+expiring_least : (a b : Bool) (z : ℤ) → pos 0 ≤ℤ z → (if a && b then z else pos 0) ≤ℤ (if a then z else pos 0)
+expiring_least true true z h = omega (arith, ints)
+expiring_least true false z h = h
+expiring_least false b z h = omega (arith, ints)
+
+expired_most : (now : ℕ) (g : Line → ℤ) → ((ls : List Line) → pos 0 ≤ℤ total g ls) → (os : List Order) → total g (expired_lines now os) ≤ℤ total (λ o. if is_open o then total g o.lines else pos 0) os
+expired_most now g least os =
+    let flat = total-flat g (λ (o : Order). if expires now o then o.lines else []) os in
+    let le = total-le (λ (o : Order). total g (if expires now o then o.lines else [])) (λ o. if is_open o then total g o.lines else pos 0) os
+    (each (λ o. subst (λ z. z ≤ℤ (if is_open o then total g o.lines else pos 0)) (sym (lines_if (expires now o) g o.lines)) (expiring_least (is_open o) _ (total g o.lines) (least o.lines))) os) in
+    omega (arith, ints)
+
+pub may_all : (A : Ledger) (now : ℕ) → MayGiveBack A (expired_lines now A.orders)
+may_all A now n = (expired_most now (λ l. if on n l then pos (if_take l.way l.held) else pos 0) (takes-not_negative n) A.orders, expired_most now (λ l. if on n l then pos (if_add l.way l.held) else pos 0) (adds-not_negative n) A.orders)
+
+pub may_step : (A : Ledger) (ls lines : List Line) (i : ℕ) (x : Line) → i < length lines → x ≡ get_or lines i x → MayGiveBack A (ls ++ lines) → MayGiveBack A ((ls ++ take i lines) ++ x ∷ [])
+may_step A ls lines i x within is may =
+    subst (MayGiveBack A) (sym (append_assoc ls (take i lines) (x ∷ [])))
+    (may_prefix A ls (take i lines ++ x ∷ []) (drop (i + 1) lines) (subst (λ (ms : List Line). MayGiveBack A (ls ++ ms)) (cut_at lines i x within is) may))
+
+pub slice_get-orders : (b : Inside) (v : BookView) (i : ℕ) (x : ℕ × OrderEntry) → view_of b ≡ v → slice_get b.orders.entries i ≡ Some x → slice_get v.ledger.orders i ≡ Some (order_of x)
+slice_get-orders b v i x same read = rw (← same) (slice_get-map order_of b.orders.entries i ∙ ap (option_map order_of) read)
+
+pub lines_there : (A : Ledger) (i : ℕ) (o : Order) → Good A → slice_get A.orders i ≡ Some o → Each (λ l. IsSome (field_named A (line_name l))) o.lines
+lines_there A i o good read = each-imp (λ l x. x.field) o.lines (each-at (IsGoodOrder A) A.orders i o (slice_get_within A.orders i o read) (sym (get_or_from_slice_get A.orders i o o read)) good.orders).lines
+
+pub expired_step : (A : Ledger) (now i : ℕ) (o : Order) → slice_get A.orders i ≡ Some o → expired_lines now (take (i + 1) A.orders) ≡ expired_lines now (take i A.orders) ++ expired_lines now (o ∷ [])
+expired_step A now i o read = ap (λ (os : List Order). expired_lines now os) (read-step A.orders i o read) ∙ flat_map-append (λ (o : Order). if expires now o then o.lines else []) (take i A.orders) (o ∷ [])
+
+pub may_expired : (A : Ledger) (now i : ℕ) (o : Order) → slice_get A.orders i ≡ Some o → MayGiveBack A (expired_lines now (take i A.orders) ++ expired_lines now (o ∷ []))
+may_expired A now i o read =
+    let lines : Order → List Line = λ o. if expires now o then o.lines else [] in
+    let within = slice_get_within A.orders i o read in
+    let is = sym (get_or_from_slice_get A.orders i o o read) in
+    let all = cut_at A.orders i o within is in
+    let parts = ap (λ (os : List Order). expired_lines now os) (all ∙ append_assoc (take i A.orders) (o ∷ []) (drop (i + 1) A.orders)) ∙ flat_map-append lines (take i A.orders) ((o ∷ []) ++ drop (i + 1) A.orders)
+    ∙ ap (λ (ls : List Line). expired_lines now (take i A.orders) ++ ls) (flat_map-append lines (o ∷ []) (drop (i + 1) A.orders)) in
+    may_prefix A (expired_lines now (take i A.orders)) (expired_lines now (o ∷ [])) (expired_lines now (drop (i + 1) A.orders)) (subst (MayGiveBack A) parts (may_all A now))

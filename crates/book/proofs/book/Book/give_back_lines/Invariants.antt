@@ -1,0 +1,8 @@
+-- the lines so far have given back what they hold
+use Rattle.std.proofs.Common.{List, ◌++◌, take}
+use Rattle.book.specs.Running.{GivesBack, MayGiveBack}
+use Rattle.book.specs.declared.order.Line.{Line}
+use Rattle.book.proofs.book.Book.give_back_lines.Given as goal
+
+abbrev pub invariant-loop-line : goal.invariant-loop-line
+invariant-loop-line l = (ls : List Line) → GivesBack l.self.ledger ls l.initial.fields.entries → MayGiveBack l.self.ledger (ls ++ l.lines) → GivesBack l.self.ledger (ls ++ take l.line-index l.lines) l.fields.entries

@@ -1,0 +1,79 @@
+use Rattle.std.proofs.Common.{◌∙◌, None, ap, arith, count_by, subst, sym}
+use Rattle.words.specs.Kinds.{is_opening}
+use Rattle.words.specs.declared.command.Command.{Command}
+use Rattle.book.specs.Answers.{FirstFailure, checks}
+use Rattle.book.specs.Ledger.{Ledger, open_orders}
+use Rattle.book.specs.Next.{expires, next}
+use Rattle.book.specs.View.{BookView}
+use Rattle.book.proofs.Counted.{aborted_count, committed_count, count_seen, expired_count, expiring_in_order, opened_count, other_count}
+use Rattle.book.proofs.NextRows.{good_now}
+use Rattle.book.proofs.book.Book.open_after.Goals as goal
+
+pub returns-in-Open : goal.returns-in-Open
+returns-in-Open c =
+    let count = count_seen c.self.inside c.args.self.now c.self.view_is c.self.invariant.2 in
+    let more = opened_count c.args.self.now.ledger c.args.command.now (good_now c.self.inside c.args.self.now c.self.view_is c.self.invariant.0) c.requires (ap is_opening c.in-Open.is) in
+    omega arith
+
+pub returns-in-Transfer : goal.returns-in-Transfer
+returns-in-Transfer c =
+    let count = count_seen c.self.inside c.args.self.now c.self.view_is c.self.invariant.2 in
+    let more = opened_count c.args.self.now.ledger c.args.command.now (good_now c.self.inside c.args.self.now c.self.view_is c.self.invariant.0) c.requires (ap is_opening c.in-Transfer.is) in
+    omega arith
+
+pub returns-in_default : goal.returns-in_default
+returns-in_default c = count_seen c.self.inside c.args.self.now c.self.view_is c.self.invariant.2
+    ∙ sym (other_count c.args.self.now.ledger c.args.command.now (good_now c.self.inside c.args.self.now c.self.view_is c.self.invariant.0) c.requires c.in_default.not-Open c.in_default.not-Transfer c.in_default.not-Commit c.in_default.not-Abort c.in_default.not-Expire)
+
+pub overflow_sub-result : goal.overflow_sub-result
+overflow_sub-result c =
+    let A : Ledger = c.args.self.now.ledger in
+    let is = c.in-Commit.is in
+    let count = count_seen c.self.inside c.args.self.now c.self.view_is c.self.invariant.2 in
+    let fewer = committed_count A c.in-Commit.number (good_now c.self.inside c.args.self.now c.self.view_is c.self.invariant.0) (subst (λ (k : Command). FirstFailure (checks A k) None) is c.requires) in
+    omega arith
+
+pub returns-in-Commit : goal.returns-in-Commit
+returns-in-Commit c =
+    let A : Ledger = c.args.self.now.ledger in
+    let is = c.in-Commit.is in
+    let count = count_seen c.self.inside c.args.self.now c.self.view_is c.self.invariant.2 in
+    let fewer = committed_count A c.in-Commit.number (good_now c.self.inside c.args.self.now c.self.view_is c.self.invariant.0) (subst (λ (k : Command). FirstFailure (checks A k) None) is c.requires) in
+    let same = ap (λ (k : Command). open_orders (next A k)) is in
+    omega arith
+
+pub overflow_sub-result-in-Abort : goal.overflow_sub-result-in-Abort
+overflow_sub-result-in-Abort c =
+    let A : Ledger = c.args.self.now.ledger in
+    let is = c.in-Abort.is in
+    let count = count_seen c.self.inside c.args.self.now c.self.view_is c.self.invariant.2 in
+    let fewer = aborted_count A c.in-Abort.number (good_now c.self.inside c.args.self.now c.self.view_is c.self.invariant.0) (subst (λ (k : Command). FirstFailure (checks A k) None) is c.requires) in
+    omega arith
+
+pub returns-in-Abort : goal.returns-in-Abort
+returns-in-Abort c =
+    let A : Ledger = c.args.self.now.ledger in
+    let is = c.in-Abort.is in
+    let count = count_seen c.self.inside c.args.self.now c.self.view_is c.self.invariant.2 in
+    let fewer = aborted_count A c.in-Abort.number (good_now c.self.inside c.args.self.now c.self.view_is c.self.invariant.0) (subst (λ (k : Command). FirstFailure (checks A k) None) is c.requires) in
+    let same = ap (λ (k : Command). open_orders (next A k)) is in
+    omega arith
+
+pub overflow_sub-result-in-Expire : goal.overflow_sub-result-in-Expire
+overflow_sub-result-in-Expire c =
+    let A : Ledger = c.args.self.now.ledger in
+    let is = c.in-Expire.is in
+    let count = count_seen c.self.inside c.args.self.now c.self.view_is c.self.invariant.2 in
+    let fewer = expired_count A c.in-Expire.now (good_now c.self.inside c.args.self.now c.self.view_is c.self.invariant.0) (subst (λ (k : Command). FirstFailure (checks A k) None) is c.requires) in
+    let counted = c.count_expiring.ensures ∙ expiring_in_order c.in-Expire.now c.self.inside.orders.entries c.arrived.result.now c.arrived.ensures ∙ ap (λ (v : BookView). count_by (expires c.in-Expire.now) v.ledger.orders) c.self.view_is in
+    omega arith
+
+pub returns-in-Expire : goal.returns-in-Expire
+returns-in-Expire c =
+    let A : Ledger = c.args.self.now.ledger in
+    let is = c.in-Expire.is in
+    let count = count_seen c.self.inside c.args.self.now c.self.view_is c.self.invariant.2 in
+    let fewer = expired_count A c.in-Expire.now (good_now c.self.inside c.args.self.now c.self.view_is c.self.invariant.0) (subst (λ (k : Command). FirstFailure (checks A k) None) is c.requires) in
+    let counted = c.count_expiring.ensures ∙ expiring_in_order c.in-Expire.now c.self.inside.orders.entries c.arrived.result.now c.arrived.ensures ∙ ap (λ (v : BookView). count_by (expires c.in-Expire.now) v.ledger.orders) c.self.view_is in
+    let same = ap (λ (k : Command). open_orders (next A k)) is in
+    omega arith

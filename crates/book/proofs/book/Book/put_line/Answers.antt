@@ -1,0 +1,51 @@
+use Rattle.std.proofs.Common.{◌∙◌, ap, is_some, subst, sym, true≢false}
+use Rattle.std.specs.BTreeMap.{insert_entry}
+use Rattle.std.specs.Option.{option_map}
+use Rattle.book.specs.Ledger.{Ledger, Name, Order, line_name, name_cmp}
+use Rattle.book.specs.Running.{Becomes, MayBecome}
+use Rattle.book.specs.View.{field_of, order_of}
+use Rattle.book.proofs.ChangedFields.{found_stays, line_there, number_of_made, on_ok}
+use Rattle.book.proofs.StockChanges.{stock_changed, stock_may}
+use Rattle.book.proofs.book.Book.put_line.Goals as goal
+
+pub unreachable-requires : goal.unreachable-requires
+unreachable-requires c =
+    let made = sym c.requires.made ∙ ap (option_map order_of) c.requires.order in
+    let there = line_there c.args.self.now.ledger c.args.request.now (order_of c.args.order.now) c.args.line.now c.requires.accepts made c.requires.line in
+    true≢false (sym (sym (ap is_some c.in_default.ensures.found) ∙ there))
+
+pub change_stock-requires : goal.change_stock-requires
+change_stock-requires c =
+    let A : Ledger = c.args.self.now.ledger in
+    let r = c.args.request.now in
+    let o : Order = order_of c.args.order.now in
+    let made = sym c.requires.made ∙ ap (option_map order_of) c.requires.order in
+    let l = c.args.line.now in
+    let f : Name = line_name l in
+    let e = c.in-Some.entry.now in
+    let a = c.requires.accepts in
+    subst (λ h. MayBecome e.quantity h l o.state) (sym c.held_before-held.ensures)
+    (stock_may A r c.args.order.now.0 o f e l a.before a.after a.accepted a.range (number_of_made A r.command o a.accepted.1 made) made c.in-Some.ensures.up_to_date
+    (found_stays A r f (field_of (f, e)) c.in-Some.ensures.found) c.requires.line)
+
+pub returns-clause-changed : goal.returns-clause-changed
+returns-clause-changed c = on_ok c.put.result (λ put changes.
+    let A : Ledger = c.args.self.now.ledger in
+    let r = c.args.request.now in
+    let o : Order = order_of c.args.order.now in
+    let made = sym c.requires.made ∙ ap (option_map order_of) c.requires.order in
+    let l = c.args.line.now in
+    let f : Name = line_name l in
+    let e = c.in-Some.entry.now in
+    let a = c.requires.accepts in
+    let becomes = subst (λ h. Becomes e.quantity h l o.state c.change_stock.new.quantity) c.held_before-held.ensures c.change_stock.ensures in
+    record {
+      entry = record { start = e.start; quantity = c.change_stock.new.quantity };
+      changed = record {
+        field = field_of (f, e);
+        there = c.in-Some.ensures.found;
+        passes = changes;
+        has_row = stock_changed A r c.args.order.now.0 o f e l c.change_stock.new.quantity a.before a.after a.accepted a.range (number_of_made A r.command o a.accepted.1 made) made c.in-Some.ensures.up_to_date c.requires.line becomes;
+      };
+      put = put ∙ ap (λ n. insert_entry name_cmp c.args.fields.now.entries n (record { start = e.start; quantity = c.change_stock.new.quantity })) c.name_of.ensures;
+    }) c.put.ensures.put

@@ -1,0 +1,29 @@
+use Rattle.std.proofs.Common.{◌≡◌, ◌∙◌, List, Some, ap, find, subst, sym}
+use Rattle.std.specs.List.{AllByRecursion as Each}
+use Rattle.std.specs.Option.{option_map}
+use Rattle.book.specs.Ledger.{Ledger, line_name, on}
+use Rattle.book.specs.View.{order_of}
+use Rattle.book.specs.declared.order.Line.{Line}
+use Rattle.book.proofs.ChangedFields.{found_itself, lines_step, made_good}
+use Rattle.book.proofs.Closing.{one_on}
+use Rattle.book.proofs.Walked.{each-at}
+use Rattle.book.proofs.book.Book.put_lines.Goals as goal
+
+pub put_line-requires-clause-line : goal.put_line-requires-clause-line
+put_line-requires-clause-line c =
+    let A : Ledger = c.args.self.now.ledger in
+    let r = c.args.request.now in
+    let o = order_of c.args.order.now in
+    let made = sym c.requires.made ∙ ap (option_map order_of) c.requires.order in
+    let good = made_good A r o c.requires.accepts made in
+    let itself = subst (λ (ls : List Line). Each (λ l. find (on (line_name l)) o.lines ≡ Some l) ls) (sym c.deref-line-items.ensures.value) (found_itself o.lines (λ f. one_on f o.lines good.apart)) in
+    each-at (λ l. find (on (line_name l)) o.lines ≡ Some l) c.deref-line-items.result.now c.loop-line.line-index c.line-item.result c.loop-line-test.true c.line-item.is itself
+
+pub loop-line-init : goal.loop-line-init
+loop-line-init c = record { each = rw c.requires.none tt; all = tt }
+
+pub loop-line-preserved : goal.loop-line-preserved
+loop-line-preserved c =
+    let step = lines_step c.args.self.now.ledger c.args.request.now c.args.order.now.1.lines.items c.deref-line-items.result.now c.loop-line.line-index c.line-item.result c.loop-line.fields.entries c.put_line.new.fields.entries (sym c.deref-line-items.ensures.value)
+    c.loop-line-test.true c.line-item.is c.loop-line.invariant.each c.loop-line.invariant.all c.in_ok-put_line.ensures.changed c.in_ok-put_line.ensures.same in
+    record { each = step.0; all = step.1 }

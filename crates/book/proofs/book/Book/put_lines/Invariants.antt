@@ -1,0 +1,13 @@
+-- the fields so far that the request changes are there
+use Rattle.std.proofs.Common.{◌≡◌, true, take}
+use Rattle.std.specs.List.{AllByRecursion as Each}
+use Rattle.book.specs.Changes.{changes_field}
+use Rattle.book.specs.Ledger.{line_name}
+use Rattle.book.specs.Running.{HasEntry, IsChangedField}
+use Rattle.book.proofs.book.Book.put_lines.Given as goal
+
+abbrev pub invariant-loop-line : goal.invariant-loop-line
+invariant-loop-line l = record {
+  each : Each (IsChangedField l.self.ledger l.request) l.fields.entries;
+  all : Each (λ x. changes_field l.self.ledger l.request.command (line_name x) ≡ true → HasEntry l.fields.entries (line_name x)) (take l.line-index l.order.1.lines.items);
+}

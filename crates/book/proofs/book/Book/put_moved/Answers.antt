@@ -1,0 +1,35 @@
+use Rattle.std.proofs.Common.{◌∙◌, ap, is_some, refl, sym, true≢false}
+use Rattle.book.specs.Ledger.{Ledger}
+use Rattle.book.specs.Next.{accept}
+use Rattle.book.specs.View.{field_of}
+use Rattle.book.proofs.ChangedFields.{found_stays, on_ok}
+use Rattle.book.proofs.StockChanges.{value_may, value_moved}
+use Rattle.book.proofs.book.Book.put_moved.Goals as goal
+
+pub unreachable-requires : goal.unreachable-requires
+unreachable-requires c = true≢false (sym (sym (ap is_some c.in_default.ensures.found) ∙ c.requires.1.there))
+
+pub move_value-requires : goal.move_value-requires
+move_value-requires c =
+    let A : Ledger = c.args.self.now.ledger in
+    let f = c.args.name in
+    let e = c.in-Some.entry.now in
+    let r = c.requires.0 in
+    let is = c.requires.1 in
+    value_may A (accept A r) f e c.args.way c.args.qty is.accepts.after (found_stays A r f (field_of (f, e)) c.in-Some.ensures.found) c.in-Some.ensures.up_to_date (is.value (field_of (f, e)) refl) is.takes is.adds
+
+pub returns : goal.returns
+returns c = on_ok c.put.result (λ put r is.
+    let A : Ledger = c.args.self.now.ledger in
+    let f = c.args.name in
+    let e = c.in-Some.entry.now in
+    record {
+      entry = record { start = e.start; quantity = c.move_value.new.quantity };
+      changed = record {
+        field = field_of (f, e);
+        there = c.in-Some.ensures.found;
+        passes = is.changes;
+        has_row = value_moved A (accept A r) f e c.args.way c.args.qty c.move_value.new.quantity c.in-Some.ensures.up_to_date (is.value (field_of (f, e)) refl) is.takes is.adds c.move_value.ensures;
+      };
+      put = put;
+    }) c.put.ensures.put
