@@ -1,7 +1,6 @@
 -- What the upsert of the row of `desk` does.
 use Rattle.std.proofs.Common.{◌≡◌, ◌∙◌, ℕ, ℤ, Bool, true, false, ◌&&◌, ◌||◌, List, [], ◌∷◌, Some, Ok, Equal, refl, sym, ap, subst, is_eq, IsTrue}
-use Rattle.std.specs.Cmp.{IsTotalOrder}
-use Rattle.std.proofs.lemmas.Cmp.{on_total, int_cmp_total, int_ranked}
+use Rattle.std.proofs.lemmas.Cmp.{int_ranked}
 use Rattle.sqlite.specs.declared.types.Value.TheVariants.{Null, Int}
 use Rattle.sqlite.specs.Order.{Row, column, value_cmp}
 use Rattle.sqlite.specs.State.{State, mode_of, Executes}
@@ -27,15 +26,13 @@ use Rattle.book.specs.Changes.{put_row}
 use Rattle.keep.specs.Schema.{desk_schema, desk_table}
 use Rattle.keep.specs.Columns.{desk_stored, desk_columns}
 use Rattle.keep.specs.Content.{AreRows}
+use Rattle.keep.specs.KeyOrders.{desk_cmp_total}
 use Rattle.keep.proofs.Texts.{desk_upsert}
 use Rattle.keep.proofs.Meanings.{puts, numbered_terms, desk_upsert_is, desk_upsert_plain}
 use Rattle.keep.proofs.Values.{cast_int, cast_null, equal_int, is_equal}
 use Rattle.keep.proofs.Upserted.{Upserted}
 use Rattle.keep.proofs.Upsert.{upserts}
 use Rattle.keep.proofs.UpsertRows.{shown_key, rows_kept}
-
-pub desk_cmp_total : IsTotalOrder desk_cmp
-desk_cmp_total = on_total (λ (x : DeskCells). x.one) int_cmp_total
 
 abbrev AreDesk : List Row → List DeskCells → Type 0
 AreDesk = AreRows desk_cmp desk_stored desk_columns

@@ -1,7 +1,5 @@
 -- What the upsert of a row of `field` does.
 use Rattle.std.proofs.Common.{◌≡◌, ◌∙◌, ℕ, ℤ, Bool, true, false, ◌&&◌, ◌||◌, List, [], ◌∷◌, Some, Ok, refl, sym, ap, ap₂, subst, is_eq, IsTrue}
-use Rattle.std.specs.Cmp.{IsTotalOrder}
-use Rattle.std.proofs.lemmas.Cmp.{on_total, then_total, nat_list_cmp_total}
 use Rattle.sqlite.specs.declared.types.Value.TheVariants.{Null, Int, Text}
 use Rattle.sqlite.specs.Order.{Row, column, value_cmp}
 use Rattle.sqlite.specs.State.{State, mode_of, Executes}
@@ -27,15 +25,13 @@ use Rattle.book.specs.Changes.{put_row}
 use Rattle.keep.specs.Schema.{desk_schema, field_table}
 use Rattle.keep.specs.Columns.{field_stored, field_columns}
 use Rattle.keep.specs.Content.{AreRows}
+use Rattle.keep.specs.KeyOrders.{field_cmp_total}
 use Rattle.keep.proofs.Texts.{field_upsert}
 use Rattle.keep.proofs.Meanings.{puts, field_terms, field_upsert_is, field_upsert_plain}
 use Rattle.keep.proofs.Values.{cast_int, cast_null, equal_text, is_equal, same_text, both_equal, both_are}
 use Rattle.keep.proofs.Upserted.{Upserted}
 use Rattle.keep.proofs.Upsert.{upserts}
 use Rattle.keep.proofs.UpsertRows.{shown_key, rows_kept}
-
-pub field_cmp_total : IsTotalOrder field_cmp
-field_cmp_total = then_total (on_total (λ (x : FieldCells). x.branch) nat_list_cmp_total) (on_total (λ (x : FieldCells). x.article) nat_list_cmp_total)
 
 abbrev AreField : List Row → List FieldCells → Type 0
 AreField = AreRows field_cmp field_stored field_columns

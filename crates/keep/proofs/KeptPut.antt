@@ -1,7 +1,5 @@
 -- What the upsert of a row of `kept` does.
 use Rattle.std.proofs.Common.{◌≡◌, ◌∙◌, ℕ, ℤ, Bool, true, false, ◌&&◌, ◌||◌, List, [], ◌∷◌, Some, Ok, refl, sym, ap, subst, is_eq, IsTrue}
-use Rattle.std.specs.Cmp.{IsTotalOrder}
-use Rattle.std.proofs.lemmas.Cmp.{on_total, nat_list_cmp_total}
 use Rattle.sqlite.specs.declared.types.Value.TheVariants.{Null, Int, Text}
 use Rattle.sqlite.specs.Order.{Row, column, value_cmp}
 use Rattle.sqlite.specs.State.{State, mode_of, Executes}
@@ -27,15 +25,13 @@ use Rattle.book.specs.Changes.{put_row}
 use Rattle.keep.specs.Schema.{desk_schema, kept_table}
 use Rattle.keep.specs.Columns.{kept_stored, kept_columns}
 use Rattle.keep.specs.Content.{AreRows}
+use Rattle.keep.specs.KeyOrders.{kept_cmp_total}
 use Rattle.keep.proofs.Texts.{kept_upsert}
 use Rattle.keep.proofs.Meanings.{puts, kept_terms, kept_upsert_is, kept_upsert_plain}
 use Rattle.keep.proofs.Values.{cast_int, cast_null, equal_text, is_equal, same_text}
 use Rattle.keep.proofs.Upserted.{Upserted}
 use Rattle.keep.proofs.Upsert.{upserts}
 use Rattle.keep.proofs.UpsertRows.{shown_key, rows_kept}
-
-pub kept_cmp_total : IsTotalOrder kept_cmp
-kept_cmp_total = on_total (λ (x : KeptCells). x.reqkey) nat_list_cmp_total
 
 abbrev AreKept : List Row → List KeptCells → Type 0
 AreKept = AreRows kept_cmp kept_stored kept_columns

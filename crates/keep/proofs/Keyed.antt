@@ -1,15 +1,11 @@
 -- A row that is put in by its key, as a permutation, and the order that it keeps.
-use Rattle.std.proofs.Common.{◌≡◌, ap₂, inl, inr, Bool, true, not, cond, List, [], ◌∷◌, map, filter, refl, sym, ap, ◌∙◌, Ordering, Less, Equal, Greater, is_eq, IsPermutation, subst}
+use Rattle.std.proofs.Common.{◌≡◌, Bool, true, not, cond, List, [], ◌∷◌, map, filter, refl, sym, ap, ◌∙◌, Ordering, Less, Equal, Greater, is_eq, IsPermutation, subst}
 use Rattle.std.specs.List.{AllByRecursion}
 use Rattle.std.specs.Cmp.{IsTotalOrder}
 use Rattle.std.specs.Ordering.{ordering_reverse, match_ordering}
 use Rattle.std.proofs.lemmas.List.Sorted.{IsPermutation-refl, IsPermutation-cons, IsPermutation-trans, IsPermutation-middle, IsPermutation-map, IsPermutation-sym}
 use Rattle.sqlite.specs.Order.{Row}
-use Rattle.sqlite_keyed.proofs.ListLemmas.{all_weaker, filter_all, filter-map, filter_same, map_back, IsPermutation-filter, IsPermutation-same}
-use Rattle.sqlite_rules.specs.Lists.{Has}
-use Rattle.sqlite_rules.proofs.ListLemmas.{all_has, all_from}
-use Rattle.std.proofs.lemmas.List.Sorted.{All-permutation}
-use Rattle.std.proofs.lemmas.List.Elements.{recursion_from_All, All-from_recursion}
+use Rattle.sqlite_keyed.proofs.ListLemmas.{all_weaker, filter_all, filter-map, filter_same, IsPermutation-filter, IsPermutation-same}
 use Rattle.std.specs.List.Sorted.{IsStrictlySortedBy}
 use Rattle.book.specs.Changes.{put_row}
 use Rattle.keep.specs.Content.{AreRows}
@@ -89,35 +85,3 @@ module _ {X : Type 0} (cmp : X → X → Ordering) (total : IsTotalOrder cmp) wh
 
         second : cells x ∷ filter (λ c. not (same c)) (map cells xs) ≡ map cells (x ∷ others x xs)
         second = ap (λ l. cells x ∷ l) (filter-map (λ c. not (same c)) cells xs ∙ ap (map cells) (filter_same (λ y. not (same (cells y))) (λ y. not (is_eq (cmp y x))) (λ y. ap not (tells y)) xs))
-
-module _ {X : Type 0} (cmp : X → X → Ordering) (total : IsTotalOrder cmp) where
-  never_both : (a b : X) → cmp a b ≡ Less → cmp b a ≡ Less → ⊥
-  never_both a b p q = let e = sym p ∙ total.antisymm a b ∙ ap ordering_reverse q in absurd (cc)
-
-  -- two rising lists with the same elements are one
-  same_rising : (xs ys : List X) → IsStrictlySortedBy cmp xs → IsStrictlySortedBy cmp ys → ((r : X) → Has xs r → Has ys r) → ((r : X) → Has ys r → Has xs r) → xs ≡ ys
-  unfolding IsStrictlySortedBy
-  same_rising [] [] p q a b = refl
-  same_rising [] (y ∷ ys) p q a b = absurd (b y (inl refl))
-  same_rising (x ∷ xs) [] p q a b = absurd (a x (inl refl))
-  same_rising (x ∷ xs) (y ∷ ys) p q a b =
-      let first : x ≡ y = elim (a x (inl refl)) [
-        | inl e ↦ e
-        | inr later ↦ elim (b y (inl refl)) [ inl e ↦ sym e | inr also ↦ absurd (never_both x y (all_has _ xs y p.0 also) (all_has _ ys x q.0 later)) ]
-      ] in
-      let past = λ (z : X) (zs : List X) (up : AllByRecursion (λ r. cmp z r ≡ Less) zs) (r : X) (h : Has zs r) (e : r ≡ z).
-      let lower = rw e at (all_has _ zs r up h) in never_both z z lower lower in
-      ap₂ ◌∷◌ first (same_rising xs ys p.1 q.1
-      (λ r h. elim (a r (inr h)) [ inl e ↦ absurd (past x xs p.0 r h (e ∙ sym first)) | inr k ↦ k ])
-      (λ r h. elim (b r (inr h)) [ inl e ↦ absurd (past y ys q.0 r h (e ∙ first)) | inr k ↦ k ]))
-
-  has_permuted : (xs ys : List X) → IsPermutation xs ys → (r : X) → Has ys r → Has xs r
-  has_permuted xs ys same r h = all_has (Has xs) ys r (recursion_from_All (Has xs) ys (All-permutation (Has xs) xs ys same (All-from_recursion (Has xs) xs (all_from (Has xs) xs (λ e k. k))))) h
-
-  -- the rows of a tree are one list
-  pub one_content : (shows : Row → Row) (cells : X → Row) (read : Row → X) → ((x : X) → read (cells x) ≡ x) → (rows : List Row) (xs ys : List X)
-      → AreRows cmp shows cells rows xs → AreRows cmp shows cells rows ys → ys ≡ xs
-  one_content shows cells read back rows xs ys a b =
-      let between = IsPermutation-trans _ _ _ (IsPermutation-sym _ _ a.same) b.same in
-      let perm : IsPermutation xs ys = subst (λ l. IsPermutation l ys) (map_back cells read back xs) (subst (IsPermutation (map read (map cells xs))) (map_back cells read back ys) (IsPermutation-map read _ _ between)) in
-      same_rising ys xs b.sorted a.sorted (has_permuted xs ys perm) (has_permuted ys xs (IsPermutation-sym _ _ perm))

@@ -16,7 +16,6 @@ pub mod Selects
 pub mod Steps
 pub mod Loaded
 pub mod DeskLoaded
-pub mod Only
 pub mod Schemas
 pub mod Leaving
 pub mod Reopened

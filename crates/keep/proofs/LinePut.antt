@@ -1,7 +1,6 @@
 -- What the upsert of a row of `line` does.
 use Rattle.std.proofs.Common.{◌≡◌, ◌∙◌, ℕ, ℤ, Bool, true, false, ◌&&◌, ◌||◌, List, [], ◌∷◌, Some, Ok, Equal, refl, sym, ap, ap₂, subst, is_eq, IsTrue}
-use Rattle.std.specs.Cmp.{IsTotalOrder}
-use Rattle.std.proofs.lemmas.Cmp.{on_total, then_total, int_cmp_total, int_ranked}
+use Rattle.std.proofs.lemmas.Cmp.{int_ranked}
 use Rattle.sqlite.specs.declared.types.Value.TheVariants.{Null, Int, Text}
 use Rattle.sqlite.specs.Order.{Row, column, value_cmp}
 use Rattle.sqlite.specs.State.{State, mode_of, Executes}
@@ -27,15 +26,13 @@ use Rattle.book.specs.Changes.{put_row}
 use Rattle.keep.specs.Schema.{desk_schema, line_table}
 use Rattle.keep.specs.Columns.{line_stored, line_columns}
 use Rattle.keep.specs.Content.{AreRows}
+use Rattle.keep.specs.KeyOrders.{line_cmp_total}
 use Rattle.keep.proofs.Texts.{line_upsert}
 use Rattle.keep.proofs.Meanings.{puts, line_terms, line_upsert_is, line_upsert_plain}
 use Rattle.keep.proofs.Values.{cast_int, cast_null, equal_int, is_equal, both_equal, both_are}
 use Rattle.keep.proofs.Upserted.{Upserted}
 use Rattle.keep.proofs.Upsert.{upserts}
 use Rattle.keep.proofs.UpsertRows.{shown_key, rows_kept}
-
-pub line_cmp_total : IsTotalOrder line_cmp
-line_cmp_total = then_total (on_total (λ (x : LineCells). x.number) int_cmp_total) (on_total (λ (x : LineCells). x.nr) int_cmp_total)
 
 abbrev AreLine : List Row → List LineCells → Type 0
 AreLine = AreRows line_cmp line_stored line_columns

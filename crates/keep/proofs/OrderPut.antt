@@ -1,7 +1,6 @@
 -- What the upsert of a row of `orders` does.
 use Rattle.std.proofs.Common.{◌≡◌, ◌∙◌, ℕ, ℤ, Bool, true, false, ◌&&◌, ◌||◌, List, [], ◌∷◌, Some, Ok, Equal, refl, sym, ap, subst, is_eq, IsTrue}
-use Rattle.std.specs.Cmp.{IsTotalOrder}
-use Rattle.std.proofs.lemmas.Cmp.{on_total, int_cmp_total, int_ranked}
+use Rattle.std.proofs.lemmas.Cmp.{int_ranked}
 use Rattle.sqlite.specs.declared.types.Value.TheVariants.{Null, Int}
 use Rattle.sqlite.specs.Order.{Row, column, value_cmp}
 use Rattle.sqlite.specs.State.{State, mode_of, Executes}
@@ -27,15 +26,13 @@ use Rattle.book.specs.Changes.{put_row}
 use Rattle.keep.specs.Schema.{desk_schema, orders_table}
 use Rattle.keep.specs.Columns.{order_stored, order_columns}
 use Rattle.keep.specs.Content.{AreRows}
+use Rattle.keep.specs.KeyOrders.{order_cmp_total}
 use Rattle.keep.proofs.Texts.{order_upsert}
 use Rattle.keep.proofs.Meanings.{puts, numbered_terms, order_upsert_is, order_upsert_plain}
 use Rattle.keep.proofs.Values.{cast_int, cast_null, equal_int, is_equal}
 use Rattle.keep.proofs.Upserted.{Upserted}
 use Rattle.keep.proofs.Upsert.{upserts}
 use Rattle.keep.proofs.UpsertRows.{shown_key, rows_kept}
-
-pub order_cmp_total : IsTotalOrder order_cmp
-order_cmp_total = on_total (λ (x : OrderCells). x.number) int_cmp_total
 
 abbrev AreOrder : List Row → List OrderCells → Type 0
 AreOrder = AreRows order_cmp order_stored order_columns

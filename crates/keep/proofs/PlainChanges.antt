@@ -1,16 +1,15 @@
 -- Changes that are copied and put in one after the other.
 use Rattle.std.proofs.Common.{◌≡◌, ◌∙◌, List, [], ◌∷◌, All, ap, refl, subst, sym}
-use Rattle.std.proofs.lemmas.Cmp.{int_cmp_total, nat_list_cmp_total, on_total, then_total}
 use Rattle.std.proofs.lemmas.List.Elements.{All-cons, All-head, All-nil, All-tail}
-use Rattle.std.specs.Cmp.{IsTotalOrder}
 use Rattle.std.specs.List.{AllZip}
 use Rattle.std.specs.List.Sorted.{IsStrictlySortedBy}
 use Rattle.book.specs.declared.rows.Change.{Change}
 use Rattle.book.specs.declared.rows.Change.TheVariants as change
 use Rattle.book.specs.Changes.{put_content, put_row}
-use Rattle.book.specs.Rows.{Content, DeskCells, FieldCells, IsInKeyOrder, KeptCells, LineCells, MoveCells, OrderCells, desk_cmp, field_cmp, kept_cmp, line_cmp, move_cmp, order_cmp}
+use Rattle.book.specs.Rows.{Content, DeskCells, IsInKeyOrder, desk_cmp, field_cmp, kept_cmp, line_cmp, move_cmp, order_cmp}
 use Rattle.book.specs.Tables.{desk_cells, field_cells, kept_cells, line_cells, move_cells, order_cells, rows_among, with_change}
 use Rattle.keep.specs.Content.{IsTheRow, new_content}
+use Rattle.keep.specs.KeyOrders.{field_cmp_total, kept_cmp_total, line_cmp_total, move_cmp_total, order_cmp_total}
 use Rattle.keep.specs.Plain.{IsCopy, IsInOrder, row_of, shelf_content}
 use Rattle.keep.specs.declared.plain.shelf.Shelf.{Shelf}
 use Rattle.keep.proofs.PlainRows.{put_sorted}
@@ -53,32 +52,15 @@ one_later (change.Order r) cs h = h
 one_later (change.Line r) cs h = h
 one_later (change.Kept r) cs h = h
 
--- ---- the keys of each table are in a total order
-
-fields_total : IsTotalOrder field_cmp
-fields_total = then_total (on_total (λ (x : FieldCells). x.branch) nat_list_cmp_total) (on_total (λ (x : FieldCells). x.article) nat_list_cmp_total)
-
-moves_total : IsTotalOrder move_cmp
-moves_total = on_total (λ (x : MoveCells). x.place) int_cmp_total
-
-orders_total : IsTotalOrder order_cmp
-orders_total = on_total (λ (x : OrderCells). x.number) int_cmp_total
-
-lines_total : IsTotalOrder line_cmp
-lines_total = then_total (on_total (λ (x : LineCells). x.number) int_cmp_total) (on_total (λ (x : LineCells). x.nr) int_cmp_total)
-
-kept_total : IsTotalOrder kept_cmp
-kept_total = on_total (λ (x : KeptCells). x.reqkey) nat_list_cmp_total
-
 -- ---- the rows stay in the order of their keys
 
 rows_stay : (c : Change) (x : Content) → IsInKeyOrder x → IsInKeyOrder (put_content (row_of c) x)
 rows_stay (change.Desk r) x h = record { fields = h.fields; moves = h.moves; orders = h.orders; lines = h.lines; kept = h.kept }
-rows_stay (change.Field r) x h = record { fields = put_sorted field_cmp fields_total (field_cells r) x.fields h.fields; moves = h.moves; orders = h.orders; lines = h.lines; kept = h.kept }
-rows_stay (change.Move r) x h = record { fields = h.fields; moves = put_sorted move_cmp moves_total (move_cells r) x.moves h.moves; orders = h.orders; lines = h.lines; kept = h.kept }
-rows_stay (change.Order r) x h = record { fields = h.fields; moves = h.moves; orders = put_sorted order_cmp orders_total (order_cells r) x.orders h.orders; lines = h.lines; kept = h.kept }
-rows_stay (change.Line r) x h = record { fields = h.fields; moves = h.moves; orders = h.orders; lines = put_sorted line_cmp lines_total (line_cells r) x.lines h.lines; kept = h.kept }
-rows_stay (change.Kept r) x h = record { fields = h.fields; moves = h.moves; orders = h.orders; lines = h.lines; kept = put_sorted kept_cmp kept_total (kept_cells r) x.kept h.kept }
+rows_stay (change.Field r) x h = record { fields = put_sorted field_cmp field_cmp_total (field_cells r) x.fields h.fields; moves = h.moves; orders = h.orders; lines = h.lines; kept = h.kept }
+rows_stay (change.Move r) x h = record { fields = h.fields; moves = put_sorted move_cmp move_cmp_total (move_cells r) x.moves h.moves; orders = h.orders; lines = h.lines; kept = h.kept }
+rows_stay (change.Order r) x h = record { fields = h.fields; moves = h.moves; orders = put_sorted order_cmp order_cmp_total (order_cells r) x.orders h.orders; lines = h.lines; kept = h.kept }
+rows_stay (change.Line r) x h = record { fields = h.fields; moves = h.moves; orders = h.orders; lines = put_sorted line_cmp line_cmp_total (line_cells r) x.lines h.lines; kept = h.kept }
+rows_stay (change.Kept r) x h = record { fields = h.fields; moves = h.moves; orders = h.orders; lines = h.lines; kept = put_sorted kept_cmp kept_cmp_total (kept_cells r) x.kept h.kept }
 
 abbrev first_row : List DeskCells → DeskCells → DeskCells
 first_row [] d = d

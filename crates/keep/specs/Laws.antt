@@ -1,6 +1,6 @@
--- What is true of every keeper over a connection.
+-- What is true of every keeper.
 use Rattle.std.proofs.Common.{◌≡◌, inl, inr, [], List, refl, subst, sym}
-use Rattle.std.proofs.Math.Logic.{∥∥₁_elim}
+use Rattle.std.proofs.Math.Logic.{∥∥₁_elim, ∥∥₁_map}
 use Rattle.sqlite.specs.Order.{Row}
 use Rattle.sqlite.specs.Table.{Table}
 use Rattle.sqlite.specs.Schema.{Schema}
@@ -9,11 +9,30 @@ use Rattle.sqlite_trees.specs.Tree.{Trees}
 use Rattle.book.specs.Rows.{Content, desk_cmp, field_cmp, move_cmp, order_cmp, line_cmp, kept_cmp}
 use Rattle.keep.specs.Schema.{desk_table, field_table, move_table, orders_table, line_table, kept_table, desk_schema}
 use Rattle.keep.specs.Columns.{desk_stored, field_stored, move_stored, order_stored, line_stored, kept_stored, desk_columns, field_columns, move_columns, order_columns, line_columns, kept_columns}
-use Rattle.keep.specs.Content.{AreRows, HasTable, HasTables, Holds, IsAmong, LeavesOnly}
+use Rattle.keep.specs.Content.{AreRows, HasTable, HasTables, Holds, IsAmong, LeavesOnly, MayLeave}
+use Rattle.keep.specs.OneContent.{only_content}
 
 -- a stop leaves something, so it is not bounded by nothing
 pub leaves_something : (may_leave : Trees → Type 0) → ∥ ((trees : Trees) × may_leave trees) ∥₁ → LeavesOnly may_leave [] → ⊥
 leaves_something may_leave some none = ∥∥₁_elim some (λ p q. absurd p) (λ left. (none left.0 left.1).2)
+
+-- what it may leave is in every list of which it leaves nothing else, since trees have one content
+pub is_in_these : (may_leave : Trees → Type 0) (these : List Content) (x : Content) → LeavesOnly may_leave these → MayLeave may_leave x → IsAmong these x
+is_in_these may_leave these x only left =
+    let found = only left.0 left.1 in
+    subst (IsAmong these) (only_content left.0 x found.0 left.2 found.1) found.2
+
+-- where there is such a list, it may leave a content
+pub leaves_a_content : (may_leave : Trees → Type 0) (these : List Content) → ∥ ((trees : Trees) × may_leave trees) ∥₁ → LeavesOnly may_leave these → ∥ ((x : Content) × MayLeave may_leave x) ∥₁
+leaves_a_content may_leave these some only =
+    ∥∥₁_map some (λ left. let found = only left.0 left.1 in let r : ((x : Content) × MayLeave may_leave x) = (found.0, (left.0, left.1, found.1)) in r)
+
+-- of what is kept in vectors a stop leaves the content itself
+pub is_it : (content : Content) (these : List Content) (x : Content) → IsAmong these content → content ≡ x → IsAmong these x
+is_it content these x among is = subst (IsAmong these) is among
+
+pub holds_one : (content : Content) → ∥ ((x : Content) × (content ≡ x)) ∥₁
+holds_one content = ∣ (content, refl) ∣₁
 
 declared : (db : Database) (table : Table) (Are : List Row → Type 0) → db.schema ≡ desk_schema → IsAmong desk_schema.tables table → Are (db.trees table.tree) → HasTable db.schema db.trees table Are
 declared db table Are is among are = (table.tree, subst (λ (s : Schema). IsAmong s.tables table) (sym is) among, are)

@@ -7,4 +7,6 @@ pub mod Names
 pub mod Keeper
 pub mod Stages
 pub mod Plain
+pub mod KeyOrders
+pub mod OneContent
 pub mod Laws

@@ -30,7 +30,7 @@ pub trait Keep {
     ghost use Rattle.std.specs.Prelude.{◌≡◌, ◌≢◌, Bool, false, List, [], ◌∷◌, IsTrue, IfOk, OnOk, OnErr, Err, All};
     ghost use Rattle.book.specs.Rows.{Content, IsInKeyOrder};
     ghost use Rattle.book.specs.Tables.{content_of, rows_among};
-    ghost use Rattle.keep.specs.Content.{IsDesk, IsTheRow};
+    ghost use Rattle.keep.specs.Content.{IsAmong, IsDesk, IsTheRow};
     ghost use Rattle.keep.specs.Transactions.{with_changes};
 
     // The disk has returned what was written so far.
@@ -105,6 +105,12 @@ pub trait Keep {
 
     // A stop leaves something.
     ghost something: { (k : Self) → is_honest k → leaves k [] → ⊥ };
+
+    // What a stop may leave is in every list of which it leaves nothing else.
+    ghost among: { (k : Self) (these : List Content) (x : Content) → leaves k these → may_leave k x → IsAmong these x };
+
+    // Where there is such a list, a stop may leave a content.
+    ghost some_content: { (k : Self) (these : List Content) → is_honest k → leaves k these → ∥ ((x : Content) × may_leave k x) ∥₁ };
 }
 
 /// The fault that an error of the store is told as.

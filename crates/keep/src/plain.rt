@@ -66,6 +66,7 @@ impl PlainKeep {
 impl Keep for PlainKeep {
     ghost use Rattle.std.specs.Prelude.{◌≡◌, ⊤};
     ghost use Rattle.keep.specs.Content.{IsAmong};
+    ghost use Rattle.keep.specs.Laws.{holds_one, is_it};
 
     ghost is_honest = { λ _. ⊤ };
 
@@ -147,4 +148,8 @@ impl Keep for PlainKeep {
     ghost in_tables = { λ _ _ held. held };
 
     ghost something = { λ _ _ none. none };
+
+    ghost among = { λ k. is_it k.content };
+
+    ghost some_content = { λ k _ _ _. holds_one k.content };
 }

@@ -119,7 +119,7 @@ fn commit_to<S: Alter>(conn: &mut Connection<S>, changes: &[Change]) -> Result<(
 }
 
 impl<S: Alter> Keep for SqlKeep<S> {
-    ghost use Rattle.keep.specs.Laws.{holds_tables, leaves_something};
+    ghost use Rattle.keep.specs.Laws.{holds_tables, is_in_these, leaves_a_content, leaves_something};
 
     ghost is_honest = { λ k. HasCleanDisk (state S.Store k.connection) };
 
@@ -157,4 +157,8 @@ impl<S: Alter> Keep for SqlKeep<S> {
     ghost in_tables = { λ k. holds_tables _ };
 
     ghost something = { λ k clean. leaves_something _ (S.survives k.connection.store clean) };
+
+    ghost among = { λ k. is_in_these _ };
+
+    ghost some_content = { λ k these clean. leaves_a_content _ these (S.survives k.connection.store clean) };
 }

@@ -10,7 +10,7 @@ use Rattle.keep.specs.Columns.{desk_stored, field_stored, move_stored, order_sto
 use Rattle.keep.specs.Content.{AreRows, IsContent}
 use Rattle.keep.specs.Loading.{Finds}
 use Rattle.keep.proofs.Steps.{finds_then}
-use Rattle.keep.proofs.Only.{only_content}
+use Rattle.keep.specs.OneContent.{only_content}
 use Rattle.keep.proofs.load.load_all.Goals as goal
 
 module _ (g : _) (c : goal.After-new-5 g) where
