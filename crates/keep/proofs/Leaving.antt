@@ -1,12 +1,14 @@
 -- What a stop leaves of a store that is settled, and of one after a commit that may have failed.
-use Rattle.std.proofs.Common.{◌≡◌, ◌∙◌, inl, inr, List, [], ◌∷◌, Ok, Err, Result, ap, refl, subst, sym}
+use Rattle.std.proofs.Common.{◌≡◌, ◌∙◌, Bool, ap₂, inl, inr, is_err, true, List, [], ◌∷◌, Ok, Err, Result, ap, refl, subst, sym}
 use Rattle.std.specs.Prelude.{IsTrue, OnOk}
 use Rattle.sqlite.specs.Effect.{Database}
+use Rattle.sqlite.specs.Held.{Held}
 use Rattle.sqlite.specs.State.{State, HasCleanDisk, Survives}
 use Rattle.sqlite_trees.specs.Tree.{Trees}
 use Rattle.book.specs.declared.rows.Change.{Change}
 use Rattle.book.specs.Rows.{Content}
 use Rattle.keep.specs.Content.{Holds, IsContent, LeavesOnly}
+use Rattle.keep.specs.Keeper.{Keeper}
 use Rattle.keep.specs.Transactions.{Committed, AreChanged, with_changes}
 
 -- trees that are those of the database hold its content
@@ -37,3 +39,9 @@ pub settled_if : {U E : Type 0} (s : State) (r : Result U E) → (IsTrue s.is_op
     → OnOk r ((x : Content) → Holds s.now x → LeavesOnly s.may_leave (x ∷ []))
 settled_if s (Ok u) settled h = λ x held. leaves_now s x (settled h.0) h.1 held
 settled_if s (Err e) settled h = tt
+
+-- an error that leaves the connection as it was leaves a stopped keeper over it
+pub stopped_over : {S T E : Type 0} (r : Result T E) (fault : E) (connection was : Held S) (stopped : Bool) → stopped ≡ is_err r → r ≡ Err fault → connection ≡ was
+    → let now : Keeper S = record { connection = connection; stopped = stopped } in now ≡ record { connection = was; stopped = true }
+stopped_over {S} r fault connection was stopped told is same =
+    ap₂ (λ (c : Held S) (b : Bool). let k : Keeper S = record { connection = c; stopped = b } in k) same (told ∙ ap is_err is)

@@ -1,12 +1,13 @@
 //! The keeper over SQLite.
 
-ghost use Rattle.std.specs.Prelude.{◌≡◌, ◌≢◌, ◌⊎◌, false, [], ◌∷◌, IsTrue, IfOk, IfErr, OnOk, OnErr, Err};
+ghost use Rattle.std.specs.Prelude.{◌≡◌, ◌≢◌, ◌⊎◌, false, true, List, [], ◌∷◌, All, IsTrue, IfOk, IfErr, OnOk, OnErr, Err};
 ghost use Rattle.sqlite.specs.State.{HasCleanDisk, IsUnchanged, Survives};
 ghost use Rattle.sqlite.specs.Held.{state};
 ghost use Rattle.book.specs.Rows.{Content, IsInKeyOrder};
-ghost use Rattle.book.specs.Tables.{content_of};
-ghost use Rattle.keep.specs.Content.{HasTables, Holds, IsDesk, LeavesOnly, MayLeave};
-ghost use Rattle.keep.specs.Transactions.{Committed, AreChanged};
+ghost use Rattle.book.specs.Tables.{content_of, rows_among};
+ghost use Rattle.keep.specs.Content.{HasTables, Holds, IsDesk, IsTheRow, LeavesOnly, MayLeave};
+ghost use Rattle.keep.specs.Names.{HasNames};
+ghost use Rattle.keep.specs.Transactions.{Committed, AreChanged, with_changes};
 ghost use Rattle.keep.specs.Schema.{desk_schema};
 
 use crate::commit::commit_all;
@@ -86,6 +87,8 @@ fn load_from<S: Alter>(alloc: Global, conn: &mut Connection<S>) -> Result<Tables
     ensures one { HasCleanDisk (state S.Store conn.new) → IfOk result (λ tables. (x : Content) → Holds (state S.Store conn.old).now x → content_of tables ≡ x) }
     ensures settled { HasCleanDisk (state S.Store conn.new) → OnOk result (IsTrue (state S.Store conn.new).is_open × ((state S.Store conn.new).committed ≡ (state S.Store conn.new).now)) }
     ensures desk { HasCleanDisk (state S.Store conn.new) → result ≡ Err KeepFault.NotADesk → (x : Content) → HasTables (state S.Store conn.old).now x → ¬ IsDesk x }
+    ensures nameless { ¬ HasNames (state S.Store conn.old).now.schema → (result ≡ Err KeepFault.NotADesk) × (conn.new ≡ conn.old) }
+    ensures other { HasNames (state S.Store conn.old).now.schema → ¬ ((state S.Store conn.old).now.schema ≡ desk_schema) → (result ≡ Err KeepFault.Store) × (conn.new ≡ conn.old) }
     ensures survives { Survives (state S.Store conn.old) (state S.Store conn.new) (λ _. ⊥) }
 {
     if !has_names(conn.schema()) {
@@ -140,14 +143,51 @@ impl<S: Alter> Keep for SqlKeep<S> {
         self.stopped
     }
 
-    fn load(&mut self, alloc: Global) -> Result<Tables, KeepFault> {
+    /// As every keeper's. A store whose tables are not those of a desk as it is made is left as it is, and named: `NotADesk`
+    /// where one of the six names is no table's, and else `Store`.
+    fn load(&mut self, alloc: Global) -> Result<Tables, KeepFault>
+        ensures refused { IsTrue self.old.stopped → (result ≡ Err KeepFault.Stopped) × (self.new ≡ self.old) }
+        ensures going { self.old.stopped ≡ false → result ≢ Err KeepFault.Stopped }
+        ensures settings { self.new.connection.step_limit ≡ self.old.connection.step_limit }
+        ensures honest { HasCleanDisk (state S.Store self.new.connection) → HasCleanDisk (state S.Store self.old.connection) }
+        ensures ok { OnOk result (self.new.stopped ≡ false) }
+        ensures err { OnErr result (IsTrue self.new.stopped) }
+        ensures content { HasCleanDisk (state S.Store self.new.connection) → IfOk result (λ tables. Holds (state S.Store self.new.connection).now (content_of tables)) }
+        ensures one { HasCleanDisk (state S.Store self.new.connection) → IfOk result (λ tables. (x : Content) → Holds (state S.Store self.old.connection).now x → content_of tables ≡ x) }
+        ensures same { HasCleanDisk (state S.Store self.new.connection) → OnOk result ((x : Content)
+            → (Holds (state S.Store self.old.connection).now x → Holds (state S.Store self.new.connection).now x) × (Holds (state S.Store self.new.connection).now x → Holds (state S.Store self.old.connection).now x)) }
+        ensures order { IfOk result (λ tables. IsInKeyOrder (content_of tables)) }
+        ensures version { IfOk result (λ tables. IsDesk (content_of tables)) }
+        ensures desk { HasCleanDisk (state S.Store self.new.connection) → result ≡ Err KeepFault.NotADesk → (x : Content) → HasTables (state S.Store self.old.connection).now x → ¬ IsDesk x }
+        ensures alone { HasCleanDisk (state S.Store self.new.connection) → OnOk result ((x : Content) → Holds (state S.Store self.new.connection).now x → LeavesOnly (state S.Store self.new.connection).may_leave (x ∷ [])) }
+        ensures adds_nothing { HasCleanDisk (state S.Store self.new.connection) → (these : List Content) → LeavesOnly (state S.Store self.old.connection).may_leave these → LeavesOnly (state S.Store self.new.connection).may_leave these }
+        ensures no_more { HasCleanDisk (state S.Store self.new.connection) → (x : Content) → MayLeave (state S.Store self.new.connection).may_leave x → MayLeave (state S.Store self.old.connection).may_leave x }
+        ensures nameless { self.old.stopped ≡ false → ¬ HasNames (state S.Store self.old.connection).now.schema → (result ≡ Err KeepFault.NotADesk) × (self.new ≡ record self.old { stopped = true }) }
+        ensures other { self.old.stopped ≡ false → HasNames (state S.Store self.old.connection).now.schema → ¬ ((state S.Store self.old.connection).now.schema ≡ desk_schema)
+            → (result ≡ Err KeepFault.Store) × (self.new ≡ record self.old { stopped = true }) }
+    {
         self.expect_going()?;
         let loaded = load_from(alloc, &mut self.conn);
         self.stopped = loaded.is_err();
         loaded
     }
 
-    fn commit(&mut self, changes: &[Change]) -> Result<(), KeepFault> {
+    /// As every keeper's. A store whose tables are not those of a desk as it is made is left as it is: `Store`.
+    fn commit(&mut self, changes: &[Change]) -> Result<(), KeepFault>
+        requires { All IsTheRow (rows_among changes.now).desk }
+        ensures refused { IsTrue self.old.stopped → (result ≡ Err KeepFault.Stopped) × (self.new ≡ self.old) }
+        ensures going { self.old.stopped ≡ false → result ≢ Err KeepFault.Stopped }
+        ensures desk { result ≢ Err KeepFault.NotADesk }
+        ensures settings { self.new.connection.step_limit ≡ self.old.connection.step_limit }
+        ensures honest { HasCleanDisk (state S.Store self.new.connection) → HasCleanDisk (state S.Store self.old.connection) }
+        ensures ok { OnOk result (self.new.stopped ≡ false) }
+        ensures err { OnErr result (IsTrue self.new.stopped) }
+        ensures put { HasCleanDisk (state S.Store self.new.connection) → OnOk result ((x : Content) → Holds (state S.Store self.old.connection).now x → Holds (state S.Store self.new.connection).now (with_changes changes.now x)) }
+        ensures alone { HasCleanDisk (state S.Store self.new.connection) → OnOk result ((x : Content) → Holds (state S.Store self.new.connection).now x → LeavesOnly (state S.Store self.new.connection).may_leave (x ∷ [])) }
+        ensures either { HasCleanDisk (state S.Store self.new.connection) → self.old.stopped ≡ false → (x : Content) → Holds (state S.Store self.old.connection).now x → LeavesOnly (state S.Store self.old.connection).may_leave (x ∷ [])
+            → LeavesOnly (state S.Store self.new.connection).may_leave (x ∷ with_changes changes.now x ∷ []) }
+        ensures other { self.old.stopped ≡ false → ¬ ((state S.Store self.old.connection).now.schema ≡ desk_schema) → (result ≡ Err KeepFault.Store) × (self.new ≡ record self.old { stopped = true }) }
+    {
         self.expect_going()?;
         let done = commit_to(&mut self.conn, changes);
         self.stopped = done.is_err();

@@ -15,3 +15,13 @@ returns-in-Ok-Some-clause-one g c = rw c.in-Ok-Some.field-0-is at c.in-Ok-Some.e
 
 pub returns-in-Ok-None-clause-desk : goal.returns-in-Ok-None-clause-desk
 returns-in-Ok-None-clause-desk g c clean fault = c.in-Ok-None.ensures.none clean c.in-Ok-None.field-0-is
+
+-- past the test each of the six names is there
+pub returns-in-Ok-Some-clause-nameless : goal.returns-in-Ok-Some-clause-nameless
+returns-in-Ok-Some-clause-nameless g c none = absurd (none (rw c.schema.ensures.value at (c.has_names.ensures.0 c.if-not-has_names.false)))
+
+pub returns-in-Ok-None-clause-nameless : goal.returns-in-Ok-None-clause-nameless
+returns-in-Ok-None-clause-nameless g c none = absurd (none (rw c.schema.ensures.value at (c.has_names.ensures.0 c.if-not-has_names.false)))
+
+pub returns-in-Err-clause-nameless : goal.returns-in-Err-clause-nameless
+returns-in-Err-clause-nameless g c none = absurd (none (rw c.schema.ensures.value at (c.has_names.ensures.0 c.if-not-has_names.false)))
