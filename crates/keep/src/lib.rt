@@ -21,7 +21,7 @@ mod tables;
 mod tests;
 
 pub use keep::{Keep, KeepFault};
-pub use laws::keepers_in_memory_are_honest;
+pub use laws::{a_fuse_tells_no_lie, keepers_in_memory_are_honest};
 pub use plain::PlainKeep;
 pub use reopening::{open_path, reopen, reopen_and_load};
 pub use sql::SqlKeep;
