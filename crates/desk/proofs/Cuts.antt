@@ -1,5 +1,5 @@
 -- How far the answers to items have come at a fault.
-use Rattle.std.proofs.Common.{◌≡◌, ◌≢◌, ◌⊎◌, ◌∙◌, ◌+◌, ◌<◌, ℕ, Bool, Err, IfErr, Ok, Option, None, Some, Result, true, false, true≢false, List, [], ◌∷◌, ◌++◌, ap, append_assoc, drop, get_or, length, refl, subst, sym, take}
+use Rattle.std.proofs.Common.{◌≡◌, ◌≢◌, ◌∙◌, ◌+◌, ◌<◌, ℕ, Bool, Err, IfErr, Ok, Option, None, Some, Result, true, false, true≢false, List, [], ◌∷◌, ◌++◌, ap, append_assoc, drop, get_or, length, refl, subst, sym, take}
 use Rattle.std.proofs.Math.Logic.{inl, inr}
 use Rattle.std.specs.List.{AllByRecursion as Each}
 use Rattle.words.specs.declared.command.Request.{Request}
@@ -10,10 +10,9 @@ use Rattle.book.specs.Ledger.{Ledger}
 use Rattle.book.specs.Next.{accept}
 use Rattle.book.specs.Rows.{Content}
 use Rattle.desk.specs.Desk.{LeavesEither}
-use Rattle.desk.specs.Script.{AlmostWritten, IsCut, LacksRest, MayAnswer, StopsAt}
+use Rattle.desk.specs.Script.{AlmostWritten, IsCut, MayAnswer}
 use Rattle.desk.specs.Text.{Replies, RepliesAll, unended}
 use Rattle.desk.specs.declared.fault.ScriptFault.{ScriptFault}
-use Rattle.desk.specs.declared.fault.ScriptFault.TheVariants as ScriptFault
 use Rattle.desk.proofs.Texts.{around, replies_joined, taken_more}
 
 abbrev is_stopped : ScriptFault → Bool
@@ -53,19 +52,20 @@ may_unended W (Some (byte ∷ bytes)) = (tt, tt)
 pub cut_before : (fault : ScriptFault) (W H : Type 0) (leaves : List Content → Type 0) (old new : Ledger) (items : List Item) → fault ≢ ScriptFault.Stopped → new ≡ old
     → IsCut fault W H leaves old items [] new
 cut_before fault W H leaves old new items other same =
-    record { answered = []; left = items; split = refl; lines = inl (refl, same); may = tt; next = λ e. absurd (other e); stopped = λ e went honest. absurd (other e) }
+    record { answered = []; left = items; split = refl; lines = inl (refl, same); told = λ e. (refl, same); may = tt; next = λ e. absurd (other e); stopped = λ e went honest. absurd (other e) }
 
 -- the item is answered, and a beginning of its line is written
-pub cut_within : (fault : ScriptFault) (W H : Type 0) (leaves : List Content → Type 0) (old new : Ledger) (x : Item) (begun left : List ℕ) → fault ≢ ScriptFault.Stopped
-    → Replies old x (begun ++ left) new → MayAnswer W x → IsCut fault W H leaves old (x ∷ []) begun new
-cut_within fault W H leaves old new x begun left other h may = record {
+pub cut_within : (W H : Type 0) (leaves : List Content → Type 0) (old new : Ledger) (x : Item) (begun left : List ℕ)
+    → Replies old x (begun ++ left) new → MayAnswer W x → IsCut ScriptFault.Write W H leaves old (x ∷ []) begun new
+cut_within W H leaves old new x begun left h may = record {
   answered = x ∷ [];
   left = [];
   split = refl;
   lines = inr (record { before = []; last = x; mid = old; lines = []; begun = begun; left = left; split = refl; replies = (refl, refl); reply = h; written_are = refl });
+  told = λ other. absurd (other refl);
   may = (may, tt);
-  next = λ e. absurd (other e);
-  stopped = λ e went honest. absurd (other e);
+  next = λ e. absurd (write_stops_nothing e);
+  stopped = λ e went honest. absurd (write_stops_nothing e);
 }
 
 -- the desk is stopped by the request
@@ -76,6 +76,7 @@ cut_stopped W H leaves old new r same accepted either = record {
   left = item.Request r ∷ [];
   split = refl;
   lines = inl (refl, same);
+  told = λ e. (refl, same);
   may = tt;
   next = λ e. (r, [], refl);
   stopped = λ e went honest. record {
@@ -96,6 +97,7 @@ cut_behind fault V W H leaves old mid new before items more lines written on bac
   split = ap (λ (xs : List Item). before ++ xs) (ap (λ (xs : List Item). xs ++ more) cut.split ∙ append_assoc cut.answered cut.left more)
       ∙ sym (append_assoc before cut.answered (cut.left ++ more));
   lines = almost cut.lines;
+  told = λ other. replies_joined before cut.answered old mid new lines written done (cut.told other);
   may = may_both V W before cut.answered back may cut.may;
   next = λ e. let n = cut.next e in (n.0, n.1 ++ more, ap (λ (xs : List Item). xs ++ more) n.2);
   stopped = λ e went honest. let s = cut.stopped e (on went) honest in record {

@@ -1,5 +1,5 @@
 -- A run with a request more.
-use Rattle.std.proofs.Common.{◌≡◌, ◌++◌, ◌∷◌, [], List, refl, subst}
+use Rattle.std.proofs.Common.{◌++◌, ◌∷◌, [], List, refl, subst}
 use Rattle.words.specs.declared.command.Request.{Request}
 use Rattle.words.specs.declared.reply.Reply.{Reply}
 use Rattle.book.specs.Answers.{Answers, Runs}

@@ -1,9 +1,9 @@
 -- Where a script stands, and how it goes on or ends from there.
-use Rattle.std.proofs.Common.{◌≡◌, ◌≢◌, ◌∙◌, ◌≤◌, ℕ, List, [], ◌++◌, Option, Some, ap, append-nil, append_assoc, arith, length, refl, subst, sym}
+use Rattle.std.proofs.Common.{◌≢◌, ◌≤◌, ℕ, List, [], ◌++◌, Option, Some, append-nil, append_assoc, arith, length, refl, subst, sym}
 use Rattle.std.proofs.Math.Logic.{inl}
 use Rattle.std.specs.Io.KnownBytes.{Appends, Consumes, IsAtEnd, Keeps}
 use Rattle.std.specs.List.{AllByRecursion as Each}
-use Rattle.std.proofs.KnownBytes.{Appends-trans, Consumes-kept, Consumes-nil, Consumes-trans}
+use Rattle.std.proofs.KnownBytes.{Appends-trans, Consumes-kept, Consumes-trans}
 use Rattle.words.proofs.Cutting.{feeds_joined}
 use Rattle.words.specs.Stream.{Feeds}
 use Rattle.words.specs.declared.item.Item.{Item}
@@ -13,7 +13,6 @@ use Rattle.book.specs.Rows.{Content}
 use Rattle.desk.specs.Script.{EndsCut, EndsWhole, IsCut, MayAnswer, MayRead, longest_piece}
 use Rattle.desk.specs.Text.{RepliesAll, unended}
 use Rattle.desk.specs.declared.fault.ScriptFault.{ScriptFault}
-use Rattle.desk.specs.declared.fault.ScriptFault.TheVariants as ScriptFault
 use Rattle.desk.proofs.Cuts.{cut_behind, may_both, may_unended, read_stops_nothing}
 use Rattle.desk.proofs.SomeText.{text_from}
 use Rattle.desk.proofs.Texts.{replies_joined}
@@ -126,7 +125,7 @@ pub ends_unread : (U H : Type 0) (leaves : List Content → Type 0) (A : Ledger)
     → EndsCut ScriptFault.Read U H leaves A ledger R s W w
 ends_unread U H leaves A R r s W w rest ledger good stands keeps =
     let all : IsCut ScriptFault.Read U H leaves A (stands.ended ++ unended rest) stands.written ledger =
-    record { answered = stands.ended; left = unended rest; split = refl; lines = inl stands.replies; may = stands.may; next = λ e. absurd (read_stops_nothing e); stopped = λ e went honest. absurd (read_stops_nothing e) } in
+    record { answered = stands.ended; left = unended rest; split = refl; lines = inl stands.replies; told = λ e. stands.replies; may = stands.may; next = λ e. absurd (read_stops_nothing e); stopped = λ e went honest. absurd (read_stops_nothing e) } in
     let text = text_from ScriptFault.Read U H leaves A ledger stands.read stands.written _ good (record { ended = stands.ended; rest = rest; feeds = stands.feeds; all = refl }) all in
     record {
       read = stands.read;

@@ -1,5 +1,5 @@
 -- The lines of replies.
-use Rattle.std.specs.Prelude.{◌≡◌, ℕ, List, [], ◌∷◌, ◌++◌, Option, None, Some, MatchOption, codes, decimal}
+use Rattle.std.specs.Prelude.{◌≡◌, ℕ, List, [], ◌∷◌, ◌++◌, MatchOption, codes, decimal}
 use Rattle.words.specs.OpenLines.{way_word}
 use Rattle.words.specs.Replies.{reply_text}
 use Rattle.words.specs.Words.{after_space}

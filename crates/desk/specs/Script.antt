@@ -1,5 +1,5 @@
 -- How a script ends, where the reader and the writer tell their bytes.
-use Rattle.std.specs.Prelude.{◌≡◌, ◌⊎◌, ◌≤◌, ℕ, length, List, [], ◌∷◌, ◌++◌, Option, Some}
+use Rattle.std.specs.Prelude.{◌≡◌, ◌≢◌, ◌⊎◌, ◌≤◌, ℕ, length, List, [], ◌∷◌, ◌++◌, Option, Some}
 use Rattle.std.specs.Io.KnownBytes.{Appends, Consumes, IsAtEnd}
 use Rattle.std.specs.List.{AllByRecursion as Each}
 use Rattle.words.specs.Stream.{Feeds}
@@ -13,7 +13,6 @@ use Rattle.book.specs.Rows.{Content}
 use Rattle.desk.specs.Desk.{LeavesEither}
 use Rattle.desk.specs.Text.{AreItems, IsText, Replies, RepliesAll, unended}
 use Rattle.desk.specs.declared.fault.ScriptFault.{ScriptFault}
-use Rattle.desk.specs.declared.fault.ScriptFault.TheVariants as ScriptFault
 
 -- a request is answered only by a desk that went on
 abbrev pub MayAnswer : Type 0 → Item → Type 0
@@ -65,14 +64,15 @@ pub record StopsAt (leaves : List Content → Type 0) (ledger : Ledger) (items :
   pub accepted : IsAccepted ledger request
   pub either : LeavesEither leaves ledger (accept ledger request)
 
--- How far the answers to items have come at a fault. A desk that was stopped before has answered no request, and a stopped
--- desk ends them at a request alone. Where the fault stopped a desk that went on before, over an honest disk, it is known what
--- a stop leaves.
+-- How far the answers to items have come at a fault. But for a failing write all that is answered is told: the lines of it are
+-- written whole. A desk that was stopped before has answered no request, and a stopped desk ends them at a request alone. Where
+-- the fault stopped a desk that went on before, over an honest disk, it is known what a stop leaves.
 pub record IsCut (fault : ScriptFault) (went_on is_honest : Type 0) (leaves : List Content → Type 0) (old : Ledger) (items : List Item) (written : List ℕ) (new : Ledger) : Type 0 where
   pub answered : List Item
   pub left : List Item
   pub split : items ≡ answered ++ left
   pub lines : AlmostWritten old answered written new
+  pub told : fault ≢ ScriptFault.Write → RepliesAll old answered written new
   pub may : Each (MayAnswer went_on) answered
   pub next : fault ≡ ScriptFault.Stopped → IsRequestNext left
   pub stopped : fault ≡ ScriptFault.Stopped → went_on → is_honest → StopsAt leaves new left

@@ -8,6 +8,7 @@ ghost use Rattle.book.specs.Future.{Honours, HonoursAlways};
 ghost use Rattle.book.specs.Good.{Good};
 ghost use Rattle.book.specs.Ledger.{Ledger, field_named, kept_under, name_of, order_numbered};
 ghost use Rattle.book.specs.Next.{accept};
+ghost use Rattle.book.specs.Planned.{Plans};
 ghost use Rattle.book.specs.Plans.{Fits};
 ghost use Rattle.book.specs.Rows.{Content, IsDamaged, IsRowsOf};
 ghost use Rattle.book.specs.Views.{ShowsField, ShowsOrder};
@@ -20,7 +21,7 @@ use escrow::{Article, Branch, OrderNo};
 use keep::Keep;
 use std::alloc::Global;
 use std::marker::Model;
-use words::{Memory, Reply, Request};
+use words::{Reply, Request};
 
 /// The stock desk over a keeper. While it is not stopped and the disk is honest, its keeper holds the rows of its
 /// ledger, and a stop leaves these alone.
@@ -96,27 +97,45 @@ impl<K: Keep> Desk<K> {
         ensures either { result ≡ Err CallFault.Stopped → K.stopped self.old.keep ≡ false → K.is_honest self.new.keep → LeavesEither (K.leaves self.new.keep) self.old.ledger (accept self.old.ledger request.now) }
         ensures honest { K.is_honest self.new.keep → K.is_honest self.old.keep }
     {
-        if self.keep.is_stopped() {
-            return Err(CallFault::Stopped);
-        }
-        request.in_range();
-        match self.book.plan(alloc, request) {
+        self.in_order();
+        match self.plan(alloc, request) {
             Ok(Planned::Again(place)) => Ok(Reply::Done(place)),
             Ok(Planned::Refused(refusal, line)) => Ok(Reply::Refused(refusal, line)),
             Ok(Planned::Accept(plan)) => self.carry_out(plan),
-            Err(Memory) => Err(CallFault::Memory),
+            Err(fault) => Err(fault),
         }
     }
 
-    /// Keeps the rows that an accepted request changes, and then carries it out.
-    fn carry_out(&mut self, plan: Plan) -> Result<Reply, CallFault>
+    /// What is to be answered to a request, of which nothing is done yet.
+    pub(crate) fn plan(&self, alloc: Global, request: &Request) -> Result<Planned, CallFault>
+        ensures going { IfOk result (λ _. K.stopped self.now.keep ≡ false) }
+        ensures planned { IfOk result (λ planned. Plans self.now.ledger request.now planned) }
+        ensures key { IsKey request.now.key }
+        ensures command { IsInRange request.now.command }
+        ensures wanted { result ≡ Err CallFault.Memory → (K.stopped self.now.keep ≡ false) × (IsSome (kept_under self.now.ledger request.now.key) ⊎ IsAccepted self.now.ledger request.now) }
+        ensures stopped { result ≡ Err CallFault.Stopped → IsTrue (K.stopped self.now.keep) }
+        ensures refused { IsTrue (K.stopped self.now.keep) → result ≡ Err CallFault.Stopped }
+    {
+        request.in_range();
+        if self.keep.is_stopped() {
+            return Err(CallFault::Stopped);
+        }
+        self.book
+            .plan(alloc, request)
+            .map_err(|_| CallFault::Memory)
+    }
+
+    /// Keeps the rows that an accepted request changes, and then carries it out: it is done at the plan's place.
+    pub(crate) fn carry_out(&mut self, plan: Plan) -> Result<Reply, CallFault>
         requires going { K.stopped self.old.keep ≡ false }
         requires fits { Fits self.old.ledger plan }
         requires key { IsKey plan.request.key }
         requires command { IsInRange plan.request.command }
+        ensures done { IfOk result (λ reply. reply ≡ Reply.Done plan.place) }
         ensures answer { IfOk result (λ reply. Answers self.old.ledger plan.request reply self.new.ledger) }
         ensures going { IfOk result (λ reply. K.stopped self.new.keep ≡ false) }
         ensures kept { IfOk result (λ reply. K.is_honest self.new.keep → Keeps (K.holds self.new.keep) (K.leaves self.new.keep) self.new.ledger) }
+        ensures keeps { K.stopped self.new.keep ≡ false → K.is_honest self.new.keep → Keeps (K.holds self.new.keep) (K.leaves self.new.keep) self.new.ledger }
         ensures memory { result ≡ Err CallFault.Memory → self.new ≡ self.old }
         ensures stopped { result ≡ Err CallFault.Stopped → IsTrue (K.stopped self.new.keep) × (self.new.ledger ≡ self.old.ledger) }
         ensures either { result ≡ Err CallFault.Stopped → K.is_honest self.new.keep → LeavesEither (K.leaves self.new.keep) self.old.ledger (accept self.old.ledger plan.request) }

@@ -9,6 +9,7 @@ ghost use Rattle.words.specs.declared.item.Item.TheVariants as item;
 use crate::desk::Desk;
 use crate::fault::{CallFault, ScriptFault};
 use crate::lines::{field_text, order_text, push_text, text};
+use book::Planned;
 use escrow::{Article, Branch, Key, OrderNo};
 use keep::Keep;
 use std::alloc::Global;
@@ -54,7 +55,16 @@ fn line_of_order<K: Keep>(alloc: Global, desk: &Desk<K>, number: OrderNo) -> Res
     }
 }
 
-/// The line for a request, which is called. Memory may be refused after it is done.
+/// The same, as a script tells it.
+fn line_told(alloc: Global, key: Key, reply: &Reply) -> Result<Vec<u8>, ScriptFault>
+    ensures line { IfOk result (λ out. out.items ≡ request_line key reply.now) }
+    ensures memory { IfErr result (λ fault. fault ≡ ScriptFault.Memory) }
+{
+    line_of_reply(alloc, key, reply).map_err(|_| ScriptFault::Memory)
+}
+
+/// The line for a request, which is called. The line is made before the request is done, so that nothing is done and not
+/// told.
 fn line_of_request<K: Keep>(
     alloc: Global,
     desk: &mut Desk<K>,
@@ -64,22 +74,31 @@ fn line_of_request<K: Keep>(
     ensures went_on { IfOk result (λ _. K.stopped desk.old.keep ≡ false) }
     ensures cut { IfErr result (λ fault. IsCut fault (K.stopped desk.old.keep ≡ false) (K.is_honest desk.new.keep) (K.leaves desk.new.keep) desk.old.ledger (item.Request request.now ∷ []) [] desk.new.ledger) }
     ensures fault { IfErr result (λ fault. (fault ≡ ScriptFault.Memory) ⊎ (fault ≡ ScriptFault.Stopped)) }
+    ensures memory { result ≡ Err ScriptFault.Memory → desk.new ≡ desk.old }
     ensures going { result ≢ Err ScriptFault.Stopped → K.stopped desk.new.keep ≡ K.stopped desk.old.keep }
     ensures stopped { result ≡ Err ScriptFault.Stopped → IsTrue (K.stopped desk.new.keep) }
     ensures untouched { IsTrue (K.stopped desk.old.keep) → desk.new ≡ desk.old }
     ensures honest { K.is_honest desk.new.keep → K.is_honest desk.old.keep }
 {
-    match desk.call(alloc, request) {
-        Ok(reply) => match line_of_reply(alloc, request.key, &reply) {
-            Ok(line) => Ok(line),
-            Err(Memory) => Err(ScriptFault::Memory),
-        },
+    match desk.plan(alloc, request) {
+        Ok(Planned::Again(place)) => line_told(alloc, request.key, &Reply::Done(place)),
+        Ok(Planned::Refused(refusal, line)) => {
+            line_told(alloc, request.key, &Reply::Refused(refusal, line))
+        }
+        Ok(Planned::Accept(plan)) => {
+            let line = line_told(alloc, request.key, &Reply::Done(plan.place()))?;
+            match desk.carry_out(plan) {
+                Ok(_) => Ok(line),
+                Err(CallFault::Memory) => Err(ScriptFault::Memory),
+                Err(CallFault::Stopped) => Err(ScriptFault::Stopped),
+            }
+        }
         Err(CallFault::Memory) => Err(ScriptFault::Memory),
         Err(CallFault::Stopped) => Err(ScriptFault::Stopped),
     }
 }
 
-/// The line for an item. A request is called; memory may be refused after it is done.
+/// The line for an item. A request is called; where memory is refused it is not done.
 pub fn line_of<K: Keep>(
     alloc: Global,
     desk: &mut Desk<K>,
@@ -89,6 +108,7 @@ pub fn line_of<K: Keep>(
     ensures may { IfOk result (λ _. MayAnswer (K.stopped desk.old.keep ≡ false) item.now) }
     ensures cut { IfErr result (λ fault. IsCut fault (K.stopped desk.old.keep ≡ false) (K.is_honest desk.new.keep) (K.leaves desk.new.keep) desk.old.ledger (item.now ∷ []) [] desk.new.ledger) }
     ensures fault { IfErr result (λ fault. (fault ≡ ScriptFault.Memory) ⊎ (fault ≡ ScriptFault.Stopped)) }
+    ensures memory { result ≡ Err ScriptFault.Memory → desk.new ≡ desk.old }
     ensures going { result ≢ Err ScriptFault.Stopped → K.stopped desk.new.keep ≡ K.stopped desk.old.keep }
     ensures stopped { result ≡ Err ScriptFault.Stopped → IsTrue (K.stopped desk.new.keep) }
     ensures untouched { IsTrue (K.stopped desk.old.keep) → desk.new ≡ desk.old }
@@ -100,5 +120,8 @@ pub fn line_of<K: Keep>(
         Item::AskOrder(number) => line_of_order(alloc, desk, *number),
         Item::Bad => text(alloc, BAD_LINE),
     };
-    line.map_err(|_| ScriptFault::Memory)
+    match line {
+        Ok(line) => Ok(line),
+        Err(Memory) => Err(ScriptFault::Memory),
+    }
 }

@@ -24,5 +24,8 @@ returns-clause-kept g c honest =
     (g.K.Keep.holds c.self.inside.keep) (g.K.Keep.holds c.commit.new.self) (g.K.Keep.leaves c.self.inside.keep) (g.K.Keep.leaves c.commit.new.self)
     (c.self.invariant.keeps going (c.commit.ensures.honest honest)) (c.in-Ok-commit.ensures.put honest) (c.in-Ok-commit.ensures.alone honest)
 
+pub returns-clause-keeps : goal.returns-clause-keeps
+returns-clause-keeps g c going honest = returns-clause-kept g c honest
+
 pub invariant_of-self-2 : goal.invariant_of-self-2
 invariant_of-self-2 g c = record { good = c.adopt.ensures.good; keeps = λ going honest. returns-clause-kept g c honest }
