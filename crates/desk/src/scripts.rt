@@ -116,9 +116,9 @@ fn answer_rest<K: Keep, W: Write>(
 /// To each line its reply line, until the input ends. It is read by pieces of at most 512 bytes, and each line is answered
 /// and its reply written before the next is, so that someone who types sees each reply.
 ///
-/// After a fault what is written is a beginning of the text for what was read: of the reply lines to what the desk has done
-/// at most the last is missing or cut, and after a failing read none. `Stopped` is answered only where the desk is
-/// stopped. Of a desk that was not stopped before, a stop then leaves the rows before the request that it is cut at, or after
+/// After a fault what is written is a beginning of the text for what was read: the reply lines to what the desk has done,
+/// but for the last of them after a failing write. So want of memory leaves nothing done and not told. `Stopped` is
+/// answered only where the desk is stopped. Of a desk that was not stopped before, a stop then leaves the rows before the request that it is cut at, or after
 /// it, and in every other case the rows of the desk's ledger alone. A desk that was stopped before answers the lines up to the
 /// first request, and changes nothing.
 pub fn script<K: Keep, R: Read, W: Write>(

@@ -7,6 +7,7 @@ pub mod Names
 pub mod Keeper
 pub mod Stages
 pub mod Plain
+pub mod Starts
 pub mod KeyOrders
 pub mod OneContent
 pub mod Laws

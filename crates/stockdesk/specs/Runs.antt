@@ -36,10 +36,10 @@ pub record RunsSoFar (first : Ledger) (reader_old reader_new writer_old writer_n
 abbrev pub RunsWhole : (reader_old reader_new writer_old writer_new : Option (List ℕ)) → Type 0
 RunsWhole reader_old reader_new writer_old writer_new = (last : Ledger) × EndsWhole new_ledger last reader_old reader_new writer_old writer_new
 
--- all that was there was read, and what the desk of a good ledger answers was written
+-- all that was there was read, and what the desk of some good ledger answers was written
 abbrev pub PlaysWhole : (reader_old reader_new writer_old writer_new : Option (List ℕ)) → Type 0
 PlaysWhole reader_old reader_new writer_old writer_new = (first : Ledger) × (last : Ledger) × Good first × EndsWhole first last reader_old reader_new writer_old writer_new
 
--- some of it was read, and a beginning was written of what the desk of a good ledger answers
+-- some of it was read, and a beginning was written of what the desk of some good ledger answers
 abbrev pub PlaysInPart : (reader_old reader_new writer_old writer_new : Option (List ℕ)) → Type 0
 PlaysInPart reader_old reader_new writer_old writer_new = (first : Ledger) × Good first × BeginsText first reader_old reader_new writer_old writer_new

@@ -1,23 +1,54 @@
 -- What a session does with a desk that is held, and with what it reads and writes.
-use Rattle.std.specs.Prelude.{◌≡◌, ◌≢◌, ◌⊎◌, ◌↔◌, ℕ, List, Option, false}
+use Rattle.std.specs.Prelude.{◌≡◌, ◌≢◌, ◌⊎◌, ◌↔◌, ℕ, List, [], ◌∷◌, Option, IsTrue, false}
 use Rattle.std.specs.Io.KnownBytes.{Keeps}
 use Rattle.book.specs.Good.{Good}
 use Rattle.book.specs.Ledger.{Ledger}
 use Rattle.book.specs.Rows.{Content, IsDamaged, IsRowsOf}
-use Rattle.keep.specs.Content.{IsDesk}
+use Rattle.keep.specs.Content.{IsDesk, new_content}
+use Rattle.keep.specs.declared.keep.Keep.{Ghosts}
+use Rattle.desk.specs.Desk.{Keeps as KeepsRows}
 use Rattle.desk.specs.Script.{EndsCut, EndsWhole}
 use Rattle.desk.specs.declared.fault.ScriptFault.{ScriptFault}
 use Rattle.stockdesk.specs.declared.session.Fault.{Fault}
 
--- The desk whose rows were held was opened, all of the input was read, and its text written. If the disk is honest, the rows
--- of the ledger behind it are kept.
-pub record SessionWhole (is_honest : Type 0) (held : Content → Type 0) (Keeps : Ledger → Type 0) (reader_old reader_new writer_old writer_new : Option (List ℕ)) : Type 0 where
+-- ---- keepers, by what they are seen as
+
+-- The keeper has changed nothing of what it keeps: while it goes on its content is the same, and nothing is added to what a
+-- stop may leave.
+pub record IsLeft {K : Type 0} (g : Ghosts K) (old new : K) : Type 0 where
+  pub same : g.stopped new ≡ false → (x : Content) → (g.holds old x → g.holds new x) × (g.holds new x → g.holds old x)
+  pub adds_nothing : (these : List Content) → g.leaves old these → g.leaves new these
+  pub no_more : (x : Content) → g.may_leave new x → g.may_leave old x
+
+-- it goes on, and if the disk is honest it holds a new desk, which alone a stop leaves
+pub record IsNewDesk {K : Type 0} (g : Ghosts K) (keep : K) : Type 0 where
+  pub going : g.stopped keep ≡ false
+  pub held : g.is_honest keep → g.holds keep new_content
+  pub alone : g.is_honest keep → g.leaves keep (new_content ∷ [])
+
+-- it goes on, and if the disk is honest it holds what was there, which alone a stop leaves
+pub record OpensWith {K : Type 0} (g : Ghosts K) (was : Content → Type 0) (keep : K) : Type 0 where
+  pub going : g.stopped keep ≡ false
+  pub held : g.is_honest keep → (x : Content) → was x → g.holds keep x
+  pub alone : g.is_honest keep → (x : Content) → was x → g.leaves keep (x ∷ [])
+
+-- while it goes on it holds what was there, and a stop leaves that alone
+pub record KeepsOn {K : Type 0} (g : Ghosts K) (was : Content → Type 0) (keep : K) : Type 0 where
+  pub held : g.stopped keep ≡ false → (x : Content) → was x → g.holds keep x
+  pub alone : (x : Content) → was x → g.leaves keep (x ∷ [])
+
+-- ---- sessions
+
+-- The desk whose rows were held was opened, all of the input was read, and its text written. The keeper goes on; if the disk is
+-- honest, it keeps the rows of the ledger behind the text, and a stop leaves these alone.
+pub record SessionWhole {K : Type 0} (g : Ghosts K) (keep : K) (held : Content → Type 0) (reader_old reader_new writer_old writer_new : Option (List ℕ)) : Type 0 where
   pub first : Ledger
   pub last : Ledger
   pub good : Good first
-  pub rows : is_honest → (x : Content) → held x → IsRowsOf first x
+  pub rows : g.is_honest keep → (x : Content) → held x → IsRowsOf first x
   pub ends : EndsWhole first last reader_old reader_new writer_old writer_new
-  pub kept : is_honest → Keeps last
+  pub going : g.stopped keep ≡ false
+  pub kept : g.is_honest keep → KeepsRows (g.holds keep) (g.leaves keep) last
 
 -- a fault of the script is told as the program's
 pub record IsToldAs (cause : ScriptFault) (fault : Fault) : Type 0 where
@@ -30,32 +61,39 @@ pub record IsToldAs (cause : ScriptFault) (fault : Fault) : Type 0 where
 abbrev pub IsNoDesk : Fault → Type 0
 IsNoDesk fault = (fault ≡ Fault.NotADesk) ⊎ (fault ≡ Fault.Damaged)
 
--- where there is no desk, nothing is read or written
+-- where there is no desk, nothing is read from the input or written to the output
 abbrev pub ReadsDesks : Fault → (reader_old reader_new writer_old writer_new : Option (List ℕ)) → Type 0
 ReadsDesks fault reader_old reader_new writer_old writer_new = IsNoDesk fault → Keeps reader_old reader_new × Keeps writer_old writer_new
 
--- No desk was opened, and nothing was read or written. If the disk is honest, what is held is no desk or damaged where that
--- is told.
-pub record SessionRefused (fault : Fault) (is_honest : Type 0) (held tables : Content → Type 0) (reader_old reader_new writer_old writer_new : Option (List ℕ)) : Type 0 where
+-- No desk was opened, and nothing was read from the input or written to the output. If the disk is honest, what is held is no
+-- desk or damaged where that is told, and the keeper is left so.
+pub record SessionRefused {K : Type 0} (g : Ghosts K) (fault : Fault) (keep : K) (held tables : Content → Type 0) (IsLeftSo : Type 0) (reader_old reader_new writer_old writer_new : Option (List ℕ)) : Type 0 where
   pub reads : Keeps reader_old reader_new
   pub writes : Keeps writer_old writer_new
-  pub not_a_desk : fault ≡ Fault.NotADesk → is_honest → (x : Content) → tables x → ¬ IsDesk x
-  pub damaged : fault ≡ Fault.Damaged → is_honest → (x : Content) → held x → IsDamaged x
+  pub not_a_desk : fault ≡ Fault.NotADesk → g.is_honest keep → (x : Content) → tables x → ¬ IsDesk x
+  pub damaged : fault ≡ Fault.Damaged → g.is_honest keep → (x : Content) → held x → IsDamaged x
   pub opening : (fault ≢ Fault.Read) × (fault ≢ Fault.Write)
+  pub stopped : (fault ≡ Fault.Store) ⊎ (fault ≡ Fault.NotADesk) → IsTrue (g.stopped keep)
+  pub going : fault ≡ Fault.Damaged → g.stopped keep ≡ false
+  pub left : g.is_honest keep → IsLeftSo
 
--- the desk whose rows were held was opened, and the script cut
-pub record SessionCut (fault : Fault) (is_honest : Type 0) (held : Content → Type 0) (leaves : List Content → Type 0) (reader_old reader_new writer_old writer_new : Option (List ℕ)) : Type 0 where
+-- The desk whose rows were held was opened, and the script cut. A fault of the store has stopped the keeper; after any other
+-- it goes on, and if the disk is honest it keeps the rows of the ledger, which alone a stop leaves.
+pub record SessionCut {K : Type 0} (g : Ghosts K) (fault : Fault) (keep : K) (held : Content → Type 0) (reader_old reader_new writer_old writer_new : Option (List ℕ)) : Type 0 where
   pub first : Ledger
   pub last : Ledger
   pub cause : ScriptFault
   pub good : Good first
-  pub rows : is_honest → (x : Content) → held x → IsRowsOf first x
-  pub ends : EndsCut cause (false ≡ false) is_honest leaves first last reader_old reader_new writer_old writer_new
+  pub rows : g.is_honest keep → (x : Content) → held x → IsRowsOf first x
+  pub ends : EndsCut cause (false ≡ false) (g.is_honest keep) (g.leaves keep) first last reader_old reader_new writer_old writer_new
   pub told : IsToldAs cause fault
   pub desk : ¬ IsNoDesk fault
+  pub stopped : fault ≡ Fault.Store → IsTrue (g.stopped keep)
+  pub going : fault ≢ Fault.Store → g.stopped keep ≡ false
+  pub kept : fault ≢ Fault.Store → g.is_honest keep → KeepsRows (g.holds keep) (g.leaves keep) last
 
 -- no desk was opened, or one was, and the script cut
-abbrev pub SessionInPart : Fault → Type 0 → (held tables : Content → Type 0) → (List Content → Type 0) → (reader_old reader_new writer_old writer_new : Option (List ℕ)) → Type 0
-SessionInPart fault is_honest held tables leaves reader_old reader_new writer_old writer_new =
-    SessionRefused fault is_honest held tables reader_old reader_new writer_old writer_new
-    ⊎ SessionCut fault is_honest held leaves reader_old reader_new writer_old writer_new
+abbrev pub SessionInPart : {K : Type 0} → Ghosts K → Fault → K → (held tables : Content → Type 0) → (IsLeftSo : Type 0) → (reader_old reader_new writer_old writer_new : Option (List ℕ)) → Type 0
+SessionInPart g fault keep held tables IsLeftSo reader_old reader_new writer_old writer_new =
+    SessionRefused g fault keep held tables IsLeftSo reader_old reader_new writer_old writer_new
+    ⊎ SessionCut g fault keep held reader_old reader_new writer_old writer_new

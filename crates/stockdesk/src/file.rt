@@ -1,14 +1,16 @@
 //! A desk in a file.
 
-ghost use Rattle.std.specs.Prelude.{◌≡◌, ◌⊎◌, ◌↔◌, false, IfErr, OnErr, OnOk};
-ghost use Rattle.stockdesk.specs.Runs.{PlaysInPart, PlaysWhole};
-ghost use Rattle.stockdesk.specs.Sessions.{ReadsDesks};
+ghost use Rattle.std.specs.Prelude.{◌≡◌, ◌≢◌, ◌⊎◌, ◌↔◌, false, IfErr, IfOk, OnErr, OnOk};
+ghost use Rattle.std.specs.Io.KnownBytes.{Keeps};
+ghost use Rattle.sqlite.specs.WalFiles.{image_at};
+ghost use Rattle.keep.specs.Starts.{StartsWith};
+ghost use Rattle.stockdesk.specs.Sessions.{IsNewDesk, KeepsOn, OpensWith, SessionInPart, SessionWhole};
 
+use crate::new_desk::new_desk;
 use crate::session::{Fault, session};
-use keep::{Keep, KeepFault, SqlKeep, open_path};
-use sqlite::{Connection, Error, ErrorCode, FileStore, Start};
+use keep::{Keep, SqlKeep, open_path};
+use sqlite::{Connection, Error, ErrorCode, FileFrom, FileStore, Start};
 use sqlite_disk::Disk;
-use std::alloc::Global;
 use std::fs;
 use std::io::{ErrorKind, Read, Write};
 
@@ -51,30 +53,41 @@ fn open_fault(error: Error) -> Fault
 }
 
 /// Copies the log into the file where that succeeds, and closes both.
-fn close<D: Disk + Drop>(conn: Connection<FileStore<D>>) {
+fn close_connection<D: Disk + Drop>(conn: Connection<FileStore<D>>) {
     match conn.close_files() {
         Ok(files) => drop(files),
         Err((_, store)) => drop(store.close()),
     }
 }
 
-/// Makes a new desk over the connection, and closes its files.
-fn make_over<D: Disk + Drop>(mut conn: Connection<FileStore<D>>) -> Result<(), Fault>
+/// Closes the file of a keeper. What is committed is in it, or in the log beside it where copying that failed.
+pub fn close<D: Disk + Drop>(keep: SqlKeep<FileStore<D>>) {
+    close_connection(keep.into_connection());
+}
+
+/// Makes a new desk over the connection. Where that fails its files are closed.
+fn make_over<D: Disk + Drop>(conn: Connection<FileStore<D>>) -> Result<SqlKeep<FileStore<D>>, Fault>
     requires { conn.in_transaction ≡ false }
-    ensures { IfErr result (λ fault. (fault ≡ Fault.Memory) ⊎ (fault ≡ Fault.Store)) }
+    ensures made { IfOk result (IsNewDesk ⟦<SqlKeep<FileStore<D>> as Keep>⟧) }
+    ensures fault { IfErr result (λ fault. (fault ≡ Fault.Memory) ⊎ (fault ≡ Fault.Store)) }
 {
-    let made = SqlKeep::create_over(&mut conn);
-    close(conn);
-    match made {
-        Ok(()) => Ok(()),
-        Err(KeepFault::Memory) => Err(Fault::Memory),
-        Err(_) => Err(Fault::Store),
+    match new_desk(conn) {
+        Ok(keep) => Ok(keep),
+        Err((fault, conn)) => {
+            close_connection(conn);
+            Err(fault)
+        }
     }
 }
 
 /// Makes a new desk in the file at the path.
-fn make<S: Start>(rt: &HostRuntime, path: &str, start: S) -> Result<(), Fault>
-    ensures { IfErr result (λ fault. (fault ≡ Fault.Memory) ⊎ (fault ≡ Fault.Store)) }
+fn make<S: Start>(
+    rt: &HostRuntime,
+    path: &str,
+    start: S,
+) -> Result<SqlKeep<FileStore<FileFrom<S>>>, Fault>
+    ensures made { IfOk result (IsNewDesk ⟦<SqlKeep<FileStore<FileFrom<S>>> as Keep>⟧) }
+    ensures fault { IfErr result (λ fault. (fault ≡ Fault.Memory) ⊎ (fault ≡ Fault.Store)) }
 {
     match Connection::open_from(rt, path, false, start) {
         Ok(conn) => make_over(conn),
@@ -82,9 +95,15 @@ fn make<S: Start>(rt: &HostRuntime, path: &str, start: S) -> Result<(), Fault>
     }
 }
 
-/// Makes a new desk in a file that is not there or has no bytes, and leaves any other alone: `NotADesk`.
-pub fn init<S: Start>(rt: &HostRuntime, path: &str, start: S) -> Result<(), Fault>
-    ensures { IfErr result (λ fault. (fault ≡ Fault.NotADesk) ⊎ ((fault ≡ Fault.Memory) ⊎ (fault ≡ Fault.Store))) }
+/// Makes a new desk in a file that is not there or has no bytes, and gives its keeper. Any other file is left alone:
+/// `NotADesk`.
+pub fn init<S: Start>(
+    rt: &HostRuntime,
+    path: &str,
+    start: S,
+) -> Result<SqlKeep<FileStore<FileFrom<S>>>, Fault>
+    ensures made { IfOk result (IsNewDesk ⟦<SqlKeep<FileStore<FileFrom<S>>> as Keep>⟧) }
+    ensures fault { IfErr result (λ fault. (fault ≡ Fault.NotADesk) ⊎ ((fault ≡ Fault.Memory) ⊎ (fault ≡ Fault.Store))) }
 {
     match look(rt, path)? {
         Found::Nothing => make(rt, path, start),
@@ -92,70 +111,42 @@ pub fn init<S: Start>(rt: &HostRuntime, path: &str, start: S) -> Result<(), Faul
     }
 }
 
-/// A session, of which what is read and written is told on, and nothing of its keeper: over files that is dear to prove.
-fn play_on<K: Keep, R: Read, W: Write>(
-    alloc: Global,
-    keep: K,
-    reader: &mut R,
-    writer: &mut W,
-) -> (K, Result<(), Fault>)
-    ensures whole { OnOk result.1 (PlaysWhole (R.remaining reader.old) (R.remaining reader.new) (W.contents writer.old) (W.contents writer.new)) }
-    ensures beginning { OnErr result.1 (PlaysInPart (R.remaining reader.old) (R.remaining reader.new) (W.contents writer.old) (W.contents writer.new)) }
-    ensures desk { IfErr result.1 (λ fault. ReadsDesks fault (R.remaining reader.old) (R.remaining reader.new) (W.contents writer.old) (W.contents writer.new)) }
-{
-    session(alloc, keep, reader, writer)
-}
-
-/// Plays a script on the desk that the keeper holds, and closes its files.
-fn play_over<D: Disk + Drop, R: Read, W: Write>(
-    alloc: Global,
-    keep: SqlKeep<FileStore<D>>,
-    reader: &mut R,
-    writer: &mut W,
-) -> Result<(), Fault>
-    ensures whole { OnOk result (PlaysWhole (R.remaining reader.old) (R.remaining reader.new) (W.contents writer.old) (W.contents writer.new)) }
-    ensures beginning { OnErr result (PlaysInPart (R.remaining reader.old) (R.remaining reader.new) (W.contents writer.old) (W.contents writer.new)) }
-    ensures desk { IfErr result (λ fault. ReadsDesks fault (R.remaining reader.old) (R.remaining reader.new) (W.contents writer.old) (W.contents writer.new)) }
-{
-    let (keep, ended) = play_on(alloc, keep, reader, writer);
-    close(keep.into_connection());
-    ended
-}
-
-/// Plays a script on the desk in the file at the path, and closes the file.
-fn play<S: Start, R: Read, W: Write>(
+/// The keeper of what the file at the path holds, whose bytes are named by `start`. A file that is not there or has no bytes is
+/// `NotADesk`, and none is made.
+pub fn open<S: Start>(
     rt: &HostRuntime,
     path: &str,
     start: S,
-    reader: &mut R,
-    writer: &mut W,
-) -> Result<(), Fault>
-    ensures whole { OnOk result (PlaysWhole (R.remaining reader.old) (R.remaining reader.new) (W.contents writer.old) (W.contents writer.new)) }
-    ensures beginning { OnErr result (PlaysInPart (R.remaining reader.old) (R.remaining reader.new) (W.contents writer.old) (W.contents writer.new)) }
-    ensures desk { IfErr result (λ fault. ReadsDesks fault (R.remaining reader.old) (R.remaining reader.new) (W.contents writer.old) (W.contents writer.new)) }
+) -> Result<SqlKeep<FileStore<FileFrom<S>>>, Fault>
+    ensures opened { IfOk result (OpensWith ⟦<SqlKeep<FileStore<FileFrom<S>>> as Keep>⟧ (StartsWith (image_at S.Start))) }
+    ensures fault { IfErr result (λ fault. (fault ≡ Fault.NotADesk) ⊎ ((fault ≡ Fault.Memory) ⊎ (fault ≡ Fault.Store))) }
 {
-    match open_path(rt, path, start) {
-        Ok(keep) => play_over(rt.alloc(), keep, reader, writer),
-        Err(error) => Err(open_fault(error)),
+    match look(rt, path)? {
+        Found::Nothing => Err(Fault::NotADesk),
+        Found::Directory | Found::OneByte => Err(Fault::Store),
+        Found::File => match open_path(rt, path, start) {
+            Ok(keep) => Ok(keep),
+            Err(error) => Err(open_fault(error)),
+        },
     }
 }
 
-/// Plays a script on the desk in the file at the path. A file that is not there or has no bytes is `NotADesk`, and none is
-/// made.
+/// Plays a script on the desk in the file at the path, whose bytes are named by `start`. The keeper comes back as the session
+/// leaves it, and is still open. Where the file was not opened nothing is read from the one or written to the other: a file that
+/// is not there or has no bytes is `NotADesk`, and none is made.
 pub fn run<S: Start, R: Read, W: Write>(
     rt: &HostRuntime,
     path: &str,
     start: S,
     reader: &mut R,
     writer: &mut W,
-) -> Result<(), Fault>
-    ensures whole { OnOk result (PlaysWhole (R.remaining reader.old) (R.remaining reader.new) (W.contents writer.old) (W.contents writer.new)) }
-    ensures beginning { OnErr result (PlaysInPart (R.remaining reader.old) (R.remaining reader.new) (W.contents writer.old) (W.contents writer.new)) }
-    ensures desk { IfErr result (λ fault. ReadsDesks fault (R.remaining reader.old) (R.remaining reader.new) (W.contents writer.old) (W.contents writer.new)) }
+) -> Result<(SqlKeep<FileStore<FileFrom<S>>>, Result<(), Fault>), Fault>
+    ensures whole { IfOk result (λ r. OnOk r.1 (SessionWhole ⟦<SqlKeep<FileStore<FileFrom<S>>> as Keep>⟧ r.0 (StartsWith (image_at S.Start)) (R.remaining reader.old) (R.remaining reader.new) (W.contents writer.old) (W.contents writer.new))) }
+    ensures cut { IfOk result (λ r. IfErr r.1 (λ fault. SessionInPart ⟦<SqlKeep<FileStore<FileFrom<S>>> as Keep>⟧ fault r.0 (StartsWith (image_at S.Start)) (StartsWith (image_at S.Start)) (KeepsOn ⟦<SqlKeep<FileStore<FileFrom<S>>> as Keep>⟧ (StartsWith (image_at S.Start)) r.0)
+        (R.remaining reader.old) (R.remaining reader.new) (W.contents writer.old) (W.contents writer.new))) }
+    ensures unopened { OnErr result (Keeps (R.remaining reader.old) (R.remaining reader.new) × Keeps (W.contents writer.old) (W.contents writer.new)) }
+    ensures fault { IfErr result (λ fault. (fault ≡ Fault.NotADesk) ⊎ ((fault ≡ Fault.Memory) ⊎ (fault ≡ Fault.Store))) }
 {
-    match look(rt, path)? {
-        Found::Nothing => Err(Fault::NotADesk),
-        Found::Directory | Found::OneByte => Err(Fault::Store),
-        Found::File => play(rt, path, start, reader, writer),
-    }
+    let keep = open(rt, path, start)?;
+    Ok(session(rt.alloc(), keep, reader, writer))
 }

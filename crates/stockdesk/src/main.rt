@@ -11,6 +11,7 @@ ghost use Rattle.stockdesk.specs.Tasks.{IsPlainRun};
 
 mod file;
 mod memory;
+mod new_desk;
 mod session;
 mod tasks;
 #[cfg(test)]
@@ -25,6 +26,30 @@ use std::env::{self, Env};
 use std::io::{self, ErrorKind, Read, Write};
 use std::process::ExitCode;
 use words::write_whole;
+
+/// Makes a new desk in the file at the path, and closes it.
+fn init_file(rt: &HostRuntime, path: &str) -> Result<(), Fault>
+    ensures { IfErr result (λ fault. (fault ≡ Fault.NotADesk) ⊎ ((fault ≡ Fault.Memory) ⊎ (fault ≡ Fault.Store))) }
+{
+    file::close(file::init(rt, path, Unknown)?);
+    Ok(())
+}
+
+/// Plays a script on the desk in the file at the path, and closes it.
+fn run_file<R: Read, W: Write>(
+    rt: &HostRuntime,
+    path: &str,
+    reader: &mut R,
+    writer: &mut W,
+) -> Result<(), Fault>
+    ensures whole { OnOk result (PlaysWhole (R.remaining reader.old) (R.remaining reader.new) (W.contents writer.old) (W.contents writer.new)) }
+    ensures beginning { OnErr result (PlaysInPart (R.remaining reader.old) (R.remaining reader.new) (W.contents writer.old) (W.contents writer.new)) }
+    ensures desk { IfErr result (λ fault. ReadsDesks fault (R.remaining reader.old) (R.remaining reader.new) (W.contents writer.old) (W.contents writer.new)) }
+{
+    let (keep, ended) = file::run(rt, path, Unknown, reader, writer)?;
+    file::close(keep);
+    ended
+}
 
 /// Does what is asked for.
 pub fn perform<R: Read, W: Write>(
@@ -42,8 +67,8 @@ pub fn perform<R: Read, W: Write>(
     ensures desk { IfErr result (λ fault. ReadsDesks fault (R.remaining reader.old) (R.remaining reader.new) (W.contents writer.old) (W.contents writer.new)) }
 {
     match task {
-        Task::Init(path) => file::init(rt, path, Unknown),
-        Task::Run(Some(path)) => file::run(rt, path, Unknown, reader, writer),
+        Task::Init(path) => init_file(rt, path),
+        Task::Run(Some(path)) => run_file(rt, path, reader, writer),
         Task::Run(None) => memory::run(rt.alloc(), reader, writer),
     }
 }

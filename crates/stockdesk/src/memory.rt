@@ -2,28 +2,27 @@
 
 ghost use Rattle.std.specs.Prelude.{◌≡◌, ◌⊎◌, IfErr, IfOk, OnErr, OnOk};
 ghost use Rattle.book.specs.Ledger.{new_ledger};
-ghost use Rattle.keep.specs.Content.{new_content};
 ghost use Rattle.stockdesk.specs.Runs.{BeginsText, RunsSoFar, RunsWhole};
-ghost use Rattle.stockdesk.specs.Sessions.{IsNoDesk};
+ghost use Rattle.stockdesk.specs.Sessions.{IsNewDesk, IsNoDesk};
 
+use crate::new_desk::new_desk;
 use crate::session::{Fault, session};
-use keep::{Keep, KeepFault, SqlKeep};
+use keep::{Keep, SqlKeep};
 use sqlite::{Connection, MemStore};
 use std::alloc::Global;
 use std::io::{Read, Write};
 
 /// The keeper of a new desk, in a database in memory.
 fn new_keeper(alloc: Global) -> Result<SqlKeep<MemStore>, Fault>
-    ensures held { IfOk result (λ keep. ⟦<SqlKeep<MemStore> as Keep>⟧.holds keep new_content) }
+    ensures made { IfOk result (IsNewDesk ⟦<SqlKeep<MemStore> as Keep>⟧) }
     ensures fault { IfErr result (λ fault. (fault ≡ Fault.Memory) ⊎ (fault ≡ Fault.Store)) }
 {
-    let Ok(mut conn) = Connection::open_in_memory(alloc) else {
+    let Ok(conn) = Connection::open_in_memory(alloc) else {
         return Err(Fault::Memory);
     };
-    match SqlKeep::create_over(&mut conn) {
-        Ok(()) => Ok(SqlKeep::over(conn)),
-        Err(KeepFault::Memory) => Err(Fault::Memory),
-        Err(_) => Err(Fault::Store),
+    match new_desk(conn) {
+        Ok(keep) => Ok(keep),
+        Err((fault, _)) => Err(fault),
     }
 }
 

@@ -6,10 +6,10 @@ use Rattle.stockdesk.proofs.Played.{on_err, plays_nothing}
 use Rattle.stockdesk.proofs.perform.Goals as goal
 
 pub returns-in-Init-clause-beginning : goal.returns-in-Init-clause-beginning
-returns-in-Init-clause-beginning g c = on_err c.init.result (plays_nothing _ _)
+returns-in-Init-clause-beginning g c = on_err c.init_file.result (plays_nothing _ _)
 
 pub returns-in-Run-None-clause-whole : goal.returns-in-Run-None-clause-whole
-returns-in-Run-None-clause-whole g c = on_ok_weaker c.run-in-Run-None.result (λ (last, ends). inr (new_ledger, last, good_new, ends)) c.run-in-Run-None.ensures.whole
+returns-in-Run-None-clause-whole g c = on_ok_weaker c.run.result (λ (last, ends). inr (new_ledger, last, good_new, ends)) c.run.ensures.whole
 
 pub returns-in-Run-None-clause-beginning : goal.returns-in-Run-None-clause-beginning
-returns-in-Run-None-clause-beginning g c = on_err_weaker c.run-in-Run-None.result (λ begins. (new_ledger, good_new, begins)) c.run-in-Run-None.ensures.beginning
+returns-in-Run-None-clause-beginning g c = on_err_weaker c.run.result (λ begins. (new_ledger, good_new, begins)) c.run.ensures.beginning

@@ -1,11 +1,15 @@
-use Rattle.stockdesk.proofs.Played.{on_err, plays_nothing}
+use Rattle.std.proofs.lemmas.Result.{on_ok_weaker}
+use Rattle.desk.proofs.Cuts.{of_error}
+use Rattle.keep.specs.Laws.{holds_tables}
+use Rattle.stockdesk.proofs.Played.{starts_part, starts_whole}
 use Rattle.stockdesk.proofs.file.run.Goals as goal
 
-pub returns-in_err-look-clause-beginning : goal.returns-in_err-look-clause-beginning
-returns-in_err-look-clause-beginning g c = on_err c.from_residual.result (plays_nothing _ _)
+pub returns-clause-whole : goal.returns-clause-whole
+returns-clause-whole g c =
+    on_ok_weaker c.session.result.1 (λ s. starts_whole _ _ _ _ _ _ _ _ c.in_ok-keep.ensures.opened c.session.ensures.honest s) c.session.ensures.whole
 
-pub returns-in-Nothing-clause-beginning : goal.returns-in-Nothing-clause-beginning
-returns-in-Nothing-clause-beginning g c = plays_nothing _ _
-
-pub returns-in-Directory-clause-beginning : goal.returns-in-Directory-clause-beginning
-returns-in-Directory-clause-beginning g c = plays_nothing _ _
+pub returns-clause-cut : goal.returns-clause-cut
+returns-clause-cut g c =
+    of_error c.session.result.1 _ _
+    (λ fault is s. starts_part _ _ _ _ _ _ _ _ c.in_ok-keep.ensures.opened c.session.ensures.honest (λ x. holds_tables _ x) fault s)
+    c.session.ensures.cut

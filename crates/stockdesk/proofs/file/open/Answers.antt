@@ -1,0 +1,8 @@
+use Rattle.stockdesk.proofs.file.open.Goals as goal
+
+pub returns-in-Ok-clause-opened : goal.returns-in-Ok-clause-opened
+returns-in-Ok-clause-opened g c = record {
+  going = c.in-Ok.ensures.going;
+  held = λ clean x there. c.in-Ok.ensures.found clean there.0 x there.1 there.2;
+  alone = λ clean x there. c.in-Ok.ensures.alone clean x (c.in-Ok.ensures.found clean there.0 x there.1 there.2);
+}
