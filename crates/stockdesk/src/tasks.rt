@@ -1,8 +1,9 @@
 //! What the words behind the program's name ask for.
 
-ghost use Rattle.std.specs.Prelude.{◌≡◌, Some, None, codes, [], true, map, IfErr, IfOk, IfSome};
+ghost use Rattle.std.specs.Prelude.{◌≡◌, Some, None, codes, [], false, true, map, IfErr, IfOk, IfSome};
 ghost use Rattle.clap.specs.Words.{app_of, kind_of, subcommand_rows_of, takes};
-ghost use Rattle.stockdesk.specs.Tasks.{AsksFor, IsPlainRun, stockdesk};
+ghost use Rattle.clap.specs.declared.builder.command.Command.TheViews.{out-Command as fields_of};
+ghost use Rattle.stockdesk.specs.Tasks.{AsksFor, IsPlainRun, init, run, stockdesk};
 
 use clap::error::ErrorKind;
 use clap::{Arg, ArgAction, ArgMatches, Command, Error};
@@ -17,17 +18,41 @@ pub enum Task<'a> {
     Run(Option<&'a str>),
 }
 
+/// `init`, with its file.
+fn init_command<'a>(alloc: Global) -> Result<Command<'a>, AllocError>
+    ensures app { IfOk result (λ command. app_of command ≡ init) }
+    ensures local { IfOk result (λ command. (fields_of command).has_globals ≡ false) }
+{
+    let file = Arg::new(alloc, "FILE")
+        .help("A file that is not there or has no bytes; any other is left alone")
+        .required(true)
+        .action(ArgAction::Set);
+    Command::new(alloc, "init")
+        .about("Makes a new desk in a file")
+        .arg(file)
+}
+
+/// `run`, with its file or without.
+fn run_command<'a>(alloc: Global) -> Result<Command<'a>, AllocError>
+    ensures app { IfOk result (λ command. app_of command ≡ run) }
+    ensures local { IfOk result (λ command. (fields_of command).has_globals ≡ false) }
+{
+    let file = Arg::new(alloc, "FILE")
+        .help("The file of a desk; without it, a new desk in memory, which ends with the run")
+        .action(ArgAction::Set);
+    Command::new(alloc, "run")
+        .about("Answers the lines of standard input, each by a line on standard output")
+        .arg(file)
+}
+
 /// The words that the program takes.
 fn command<'a>(alloc: Global) -> Result<Command<'a>, AllocError>
     ensures { IfOk result (λ command. app_of command ≡ stockdesk) }
 {
-    let file = Arg::new(alloc, "FILE")
-        .required(true)
-        .action(ArgAction::Set);
-    let init = Command::new(alloc, "init").arg(file)?;
-    let file = Arg::new(alloc, "FILE").action(ArgAction::Set);
-    let run = Command::new(alloc, "run").arg(file)?;
+    let init = init_command(alloc)?;
+    let run = run_command(alloc)?;
     Command::new(alloc, "stockdesk")
+        .about("The stock desk of a chain of shops")
         .subcommand_required(true)
         .subcommand(init)?
         .subcommand(run)
