@@ -1,9 +1,10 @@
-"""Tests of the built program as a real process: what its words and its FILE may be, scripts a line a run, long ones, replies
-on a pipe that stays open, the file as another SQLite reads it, and sessions that are killed. The one argument is the
-program."""
+"""Tests of the built program as a real process: what its words and its FILE may be, what its help says, a store and memory
+that are refused, scripts a line a run, long ones, replies on a pipe that stays open, the file as another SQLite reads it, and
+sessions that are killed. The one argument is the program."""
 
 import os
 import random
+import resource
 import shutil
 import signal
 import subprocess
@@ -87,9 +88,18 @@ def expect(fact, text):
         raise AssertionError(text)
 
 
-def ended(program, words, text="", folder=None):
-    """The status of a run, its output and what it tells of a fault."""
-    run = subprocess.run([program, *words], input=text.encode(), cwd=folder, capture_output=True, timeout=SECONDS)
+def ended(program, words, text="", folder=None, limit=None):
+    """The status of a run, its output and what it tells of a fault; under a limit, as of the bytes that a file may have."""
+    run = subprocess.run(
+        [program, *words],
+        input=text.encode(),
+        cwd=folder,
+        capture_output=True,
+        timeout=SECONDS,
+        # what is over the limit is refused, and is no signal
+        restore_signals=limit is None,
+        preexec_fn=limit and (lambda: resource.setrlimit(limit[0], (limit[1], limit[1]))),
+    )
     return run.returncode, run.stdout, run.stderr
 
 
@@ -147,6 +157,45 @@ def test_other_words_ask_for_nothing(program, folder):
         status, out, errors = ended(program, words, folder=folder)
         expect((status, out) == (2, b"") and errors, f"{words}: {status}, {out!r}, {errors!r}")
     expect(os.listdir(folder) == [], "a file was made")
+
+
+def test_help_says_what_each_word_does(program, folder):
+    for words, names in [(["--help"], ["init", "run"]), (["init", "--help"], ["FILE"]), (["run", "--help"], ["FILE"])]:
+        _, _, errors = ended(program, words)
+        lines = [line.split() for line in errors.decode().splitlines()]
+        for name in names:
+            told = [line for line in lines if line and line[0].strip("<[]>") == name and len(line) > 3]
+            expect(told, f"{words}: nothing is said of {name}: {errors!r}")
+
+
+def test_a_store_that_fails_is_told(program, folder):
+    """Files that may not grow so far as a new desk takes: none is a desk, and the next command says so."""
+    for size, want in [(0, STORE), (4_096, STORE), (65_536, STORE), (1_048_576, (0, b"", b""))]:
+        path = os.path.join(folder, f"{size}.db")
+        end = ended(program, ["init", path], limit=(resource.RLIMIT_FSIZE, size))
+        expect(end == want, f"init in {size} bytes: {end}")
+        if want == STORE:
+            expect_end(program, ["run", path], NOT_A_DESK)
+
+
+def test_want_of_memory_is_told(program, folder):
+    """With less and less memory a script is answered in full, then in part, and what ended it is told; then nothing starts."""
+    script = "\n".join(lines_of("long.script")) + "\n"
+    replies = "\n".join(lines_of("long.replies")).encode() + b"\n"
+    whole, cut = 0, 0
+    for size in range(4_194_304, 0, -16_384):
+        status, out, errors = ended(program, ["run"], script, limit=(resource.RLIMIT_DATA, size))
+        if status == 0:
+            expect((out, errors) == (replies, b""), f"{size} bytes: {out!r}, {errors!r}")
+            whole += 1
+        elif status == 1:
+            # what was done is told, in whole lines
+            expect(errors == b"stockdesk: memory\n" and replies.startswith(out), f"{size} bytes: {out!r}, {errors!r}")
+            expect(not out or out.endswith(b"\n"), f"{size} bytes: {out!r}")
+            cut += 1
+        else:
+            break
+    expect(whole and cut, f"{whole} whole, {cut} told")
 
 
 def test_no_other_file_is_touched(program, folder):
@@ -260,6 +309,14 @@ def rows_of(path):
     return rows
 
 
+def test_an_empty_script_changes_nothing(program, folder):
+    """A run that reads nothing: no output, and the tables as `init` made them."""
+    path = new_desk(program, folder)
+    expect_end(program, ["run", path], (0, b"", b""), text="")
+    if sqlite3 is not None:
+        expect(rows_of(path) == ["desk|1|1|0|0"], "other rows")
+
+
 def test_older_files_are_read(program, folder):
     """Files that an earlier program wrote, with the script that made them: the rest is played on copies of them."""
     for name in ["long", "transfer", "many"]:
@@ -318,6 +375,9 @@ def main():
     program = os.path.abspath(program)
     for test in [
         test_other_words_ask_for_nothing,
+        test_help_says_what_each_word_does,
+        test_a_store_that_fails_is_told,
+        test_want_of_memory_is_told,
         test_no_other_file_is_touched,
         test_an_empty_file_becomes_a_desk_once,
         test_a_desk_outlives_each_run,
@@ -325,6 +385,7 @@ def main():
         test_replies_come_line_by_line,
         test_another_sqlite_reads_the_file,
         test_another_database_is_no_desk,
+        test_an_empty_script_changes_nothing,
         test_older_files_are_read,
         test_nothing_acknowledged_is_lost,
     ]:

@@ -116,6 +116,20 @@ fn scripts_are_answered(rt: HostRuntime) -> Result<(), Fail> {
     Ok(())
 }
 
+#[test]
+fn words_that_ask_for_nothing_are_told(rt: HostRuntime) -> Result<(), Fail> {
+    for word in ["walk", "init", "--help"] {
+        let mut out: Vec<u8> = Vec::new(rt.alloc());
+        let mut errors: Vec<u8> = Vec::new(rt.alloc());
+        let mut reader = b"K1 expire 1\n".as_slice();
+        let words = ["stockdesk", word];
+        let status = ended(&rt, &words, &mut reader, &mut out, &mut errors);
+        assert_eq!(rt; status, 2, "{word}");
+        assert!(rt; out.is_empty() && !errors.is_empty(), "{word}");
+    }
+    Ok(())
+}
+
 /// What a script of these pieces is answered by a new desk in memory, likewise.
 fn answer<R: Read, W: Write>(alloc: Global, reader: &mut R, writer: &mut W) -> Result<(), Fault> {
     run(alloc, reader, writer)

@@ -106,12 +106,18 @@ fn expect_step(rt: &HostRuntime, file: &str, step: &Step) -> Result<(), Fail> {
     }
 }
 
-/// Carries the commands out. One that ends with a fault leaves the file as it was.
+/// Whether the command changes nothing: it ends with a fault, or is a run that reads nothing.
+fn changes_nothing(step: &Step) -> bool {
+    let (command, input, status, _, _) = step;
+    *status != 0 || (*command == "run" && input.is_empty())
+}
+
+/// Carries the commands out. One that changes nothing leaves the file as it was.
 fn expect_steps(rt: &HostRuntime, file: &str, steps: &[Step]) -> Result<(), Fail> {
     for step in steps {
         let before = bytes_of(rt, file)?;
         expect_step(rt, file, step)?;
-        if step.2 != 0 && bytes_of(rt, file)?.as_slice() != before.as_slice() {
+        if changes_nothing(step) && bytes_of(rt, file)?.as_slice() != before.as_slice() {
             Err("other bytes in the file")?;
         }
     }
@@ -132,6 +138,24 @@ fn commands_go_on_in_a_file(rt: HostRuntime) -> Result<(), Fail> {
     expect_steps(&rt, "files_test/b.db", long_script())?;
     expect_steps(&rt, "files_test/c.db", spelling())?;
     fs::remove_dir_all(&rt, "files_test")?;
+    Ok(())
+}
+
+/// In a folder that is not there no file can be made.
+fn nowhere() -> &'static [Step] {
+    &NOWHERE
+}
+
+const NOWHERE: [Step; 2] = [
+    ("init", "", 1, "", "stockdesk: store\n"),
+    ("run", "K1 expire 1\n", 3, "", "stockdesk: not a desk\n"),
+];
+
+#[test]
+fn a_file_that_cannot_be_made_is_a_fault(rt: HostRuntime) -> Result<(), Fail> {
+    folder(&rt, "nowhere_test")?;
+    expect_steps(&rt, "nowhere_test/none/a.db", nowhere())?;
+    fs::remove_dir_all(&rt, "nowhere_test")?;
     Ok(())
 }
 
