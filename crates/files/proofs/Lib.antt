@@ -1,0 +1,11 @@
+pub mod Fields
+pub mod Zips
+pub mod Reading
+pub mod Admitted
+pub mod Grouping
+pub mod Taking
+pub mod Shown
+pub mod OneReading
+pub mod SaidOnce
+pub mod OneSheet
+pub mod Columns

@@ -1,0 +1,5 @@
+pub mod Files
+pub mod Deliveries
+pub mod Orders
+pub mod Sheets
+pub mod Rows

@@ -1,0 +1,89 @@
+//! Delivery files.
+
+ghost use Rattle.std.specs.Prelude.{IfErr, IfNone, IfOk, IfSome};
+ghost use Rattle.csv.specs.Records.{fields_of};
+ghost use Rattle.files.specs.Deliveries.{IsDelivery, SayDeliveries, delivery_header};
+ghost use Rattle.files.specs.Files.{IsFile, NamesFirst};
+ghost use Rattle.words.specs.declared.command.Request.{Request};
+
+use crate::fault::FileFault;
+use crate::intake::{Intake, read_file};
+use crate::record::four_fields;
+use crate::word::read_qty;
+use csv::ByteRecord;
+use escrow::{Article, Branch, Key};
+use std::alloc::Global;
+use std::io::Read;
+use words::{Command, Memory, Request};
+
+/// The delivery that a record says.
+fn delivery_of(row: &ByteRecord) -> Option<Request>
+    ensures some { IfSome result (IsDelivery (fields_of row.now)) }
+    ensures none { IfNone result ((request : Request) → IsDelivery (fields_of row.now) request → ⊥) }
+{
+    let (key, branch, article, qty) = four_fields(row)?;
+    let key = Key::read(key).ok()?;
+    let branch = Branch::read(branch).ok()?;
+    let article = Article::read(article).ok()?;
+    let qty = read_qty(qty)?;
+    let command = Command::Deliver {
+        branch,
+        article,
+        qty,
+    };
+    Some(Request { key, command })
+}
+
+/// The deliveries of a file so far.
+#[derive(Drop)]
+struct Deliveries {
+    requests: Vec<Request>,
+}
+
+impl Intake for Deliveries {
+    ghost use Rattle.files.specs.Deliveries.{SayDeliveries, delivery_header};
+
+    ghost header = { delivery_header };
+
+    ghost says = { SayDeliveries };
+
+    ghost took = { λ s rows. SayDeliveries rows s.requests.items };
+
+    fn is_header(row: &ByteRecord) -> bool {
+        match four_fields(row) {
+            Some((key, branch, article, qty)) => {
+                key == b"key".as_slice()
+                    && branch == b"branch".as_slice()
+                    && article == b"article".as_slice()
+                    && qty == b"qty".as_slice()
+            }
+            None => false,
+        }
+    }
+
+    fn take(&mut self, row: &ByteRecord) -> Result<bool, Memory> {
+        let Some(request) = delivery_of(row) else {
+            return Ok(false);
+        };
+        match self.requests.push(request) {
+            Ok(()) => Ok(true),
+            Err(_) => Err(Memory),
+        }
+    }
+}
+
+/// The deliveries of a file, each under its key. Its first record is exactly `key,branch,article,qty`, and each further one a
+/// delivery in the spelling of commands. `BadRecord` names the first record at fault: 0 is the header, also where there is none, and
+/// those behind it count from 1. Records are those of the crate `csv`: blank lines are none, and no field is trimmed.
+pub fn read_deliveries<R: Read + Drop>(alloc: Global, reader: R) -> Result<Vec<Request>, FileFault>
+    ensures ok { IfOk result (λ requests. IfSome (R.remaining reader) (λ bytes. IsFile delivery_header SayDeliveries bytes requests.items)) }
+    ensures bad { IfErr result (λ fault. IfSome (R.remaining reader) (λ bytes. NamesFirst delivery_header SayDeliveries bytes fault)) }
+{
+    let none = Deliveries {
+        requests: Vec::new(alloc),
+    };
+    match read_file(alloc, reader, none) {
+        Ok(taken) => Ok(taken.requests),
+        Err(fault) => Err(fault),
+    }
+}

@@ -1,0 +1,22 @@
+//! Files of requests in, and stock sheets out. A file is CSV (RFC 4180, as the crate `csv` reads it); a sheet is a text in
+//! columns.
+#![tactic(auto)]
+
+mod deliveries;
+mod fault;
+mod intake;
+mod laws;
+mod orders;
+mod record;
+#[cfg(test)]
+mod samples;
+mod sheet;
+#[cfg(test)]
+mod tests;
+mod word;
+
+pub use deliveries::read_deliveries;
+pub use fault::{FileFault, SheetFault};
+pub use laws::{a_delivery_file_says_one_thing, an_order_file_says_one_thing, exactly_one_sheet};
+pub use orders::read_orders;
+pub use sheet::{article_sheet, branch_sheet};
