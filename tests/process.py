@@ -1,7 +1,8 @@
 """Tests of the built program as a real process: what its words and its FILE may be, what its help says, a store and memory
-that are refused, scripts a line a run, long ones, replies on a pipe that stays open, the file as another SQLite reads it, and
-sessions that are killed. The one argument is the program."""
+that are refused, scripts a line a run, long ones, files of requests, replies on a pipe that stays open, the file as another
+SQLite reads it, and sessions that are killed. The one argument is the program."""
 
+import csv
 import os
 import random
 import resource
@@ -32,8 +33,23 @@ NO_TASK = [
     ["init"],
     ["run", "usage.db", "more"],
     ["init", "usage.db", "more"],
+    ["orders", "usage.db"],
+    ["deliveries", "usage.db", "file.csv", "more"],
+    ["sheet", "usage.db"],
+    ["article", "usage.db"],
     ["--help"],
     ["--version"],
+]
+
+# of what each help tells in a line
+HELP = [
+    (["--help"], ["init", "run", "orders", "deliveries", "sheet", "article"]),
+    (["init", "--help"], ["FILE"]),
+    (["run", "--help"], ["FILE"]),
+    (["orders", "--help"], ["FILE", "CSV"]),
+    (["deliveries", "--help"], ["FILE", "CSV"]),
+    (["sheet", "--help"], ["FILE", "BRANCH"]),
+    (["article", "--help"], ["FILE", "ARTICLE"]),
 ]
 
 # files with bytes that are no desk, and what a run on them ends with
@@ -160,7 +176,7 @@ def test_other_words_ask_for_nothing(program, folder):
 
 
 def test_help_says_what_each_word_does(program, folder):
-    for words, names in [(["--help"], ["init", "run"]), (["init", "--help"], ["FILE"]), (["run", "--help"], ["FILE"])]:
+    for words, names in HELP:
         _, _, errors = ended(program, words)
         lines = [line.split() for line in errors.decode().splitlines()]
         for name in names:
@@ -211,6 +227,46 @@ def test_no_other_file_is_touched(program, folder):
         if text:
             expect_end(program, ["init", path], NOT_A_DESK)
         expect(bytes_of(path) == text, f"{text} was changed")
+
+
+def write_records(path, records):
+    with open(path, "w", encoding="latin-1", newline="") as file:
+        csv.writer(file).writerows(records)
+
+
+def test_a_file_of_requests_is_judged_last(program, folder):
+    """First the words, then the desk, then the file of requests; what cannot be read changes nothing."""
+    path, records = os.path.join(folder, "desk.db"), os.path.join(folder, "records.csv")
+    for command in ["orders", "deliveries"]:
+        expect_end(program, [command, path, records], NOT_A_DESK)
+    expect_end(program, ["sheet", path, "n1"], (2, b"", b"stockdesk: usage\n"))
+    expect_end(program, ["sheet", path, "N1"], NOT_A_DESK)
+    new_desk(program, folder)
+    found = bytes_of(path)
+    for file in [records, folder]:
+        expect_end(program, ["orders", path, file], (4, b"", b"stockdesk: csv\n"))
+    write_records(records, [["key", "branch", "article", "qty"], ["D1", "N1", "A-1", "\xf6"]])
+    expect_end(program, ["deliveries", path, records], (4, b"", b"stockdesk: record 1\n"))
+    expect_end(program, ["orders", path, records], (4, b"", b"stockdesk: record 0\n"))
+    expect(bytes_of(path) == found, "the desk was changed")
+
+
+def test_a_long_file_of_orders_may_come_twice(program, folder):
+    """10,000 records, as 2,500 orders of four lines: carried out once, and answered alike again."""
+    path, records = new_desk(program, folder), os.path.join(folder, "orders.csv")
+    fields = [f"F{n} field N{n % 5} A{n // 5:02} 0 1000 500\n" for n in range(50)]
+    done(program, ["run", path], "".join(fields))
+    rows = [["key", "order", "until", "way", "branch", "article", "qty"]]
+    for n in range(10_000):
+        rows.append([f"G{n // 4}", n // 4 + 1, 500, "take", f"N{n % 5}", f"A{n % 50 // 5:02}", 1])
+    write_records(records, rows)
+    want = [f"G{n} done {n + 51}" for n in range(2_500)]
+    for _ in range(2):
+        expect(done(program, ["orders", path, records]) == want, "another reply")
+    # each field has 200 of the lines
+    sheet = [f"A{n:02}".ljust(16) + "".join(f"{level:11}" for level in [0, 1000, 500, 300, 500]) for n in range(10)]
+    sheet.append("total".ljust(16) + f"{5000:15}")
+    expect(done(program, ["sheet", path, "N3"]) == sheet, "another sheet")
 
 
 def test_an_empty_file_becomes_a_desk_once(program, folder):
@@ -380,6 +436,8 @@ def main():
         test_want_of_memory_is_told,
         test_no_other_file_is_touched,
         test_an_empty_file_becomes_a_desk_once,
+        test_a_file_of_requests_is_judged_last,
+        test_a_long_file_of_orders_may_come_twice,
         test_a_desk_outlives_each_run,
         test_long_input_is_answered,
         test_replies_come_line_by_line,

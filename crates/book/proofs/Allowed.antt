@@ -9,7 +9,7 @@ use Rattle.book.specs.InPlace.{MayChangeOrder}
 use Rattle.book.specs.Ledger.{Ledger, Name, line_name, on}
 use Rattle.book.specs.Next.{add_hold, new_line, raise_held}
 use Rattle.book.specs.View.{order_of}
-use Rattle.book.specs.declared.book.changes.OrderChange.TheVariants.{HoldMore}
+use Rattle.book.specs.declared.book.made.OrderChange.TheVariants.{HoldMore}
 use Rattle.book.specs.declared.entries.OrderEntry.{OrderEntry}
 use Rattle.book.specs.declared.order.Line.{Line}
 use Rattle.book.proofs.Lists.{each-unmap}

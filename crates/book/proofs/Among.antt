@@ -25,9 +25,6 @@ field_last (change.Kept x ∷ cs) r = ap (with_change (change.Kept x)) (field_la
 pub field_pushed : (old new : List Change) (r : FieldRow) (cells : FieldCells) → new ≡ old ++ change.Field r ∷ [] → field_cells r ≡ cells → rows_among new ≡ with_fields (cells ∷ []) (rows_among old)
 field_pushed old new r cells e is = ap rows_among e ∙ field_last old r ∙ ap (λ (x : FieldCells). with_fields (x ∷ []) (rows_among old)) is
 
-pub field_none : (old new : Content) → new ≡ old → new ≡ with_fields [] old
-field_none old new e = e ∙ ap (λ (xs : List FieldCells). record old { fields = xs }) (sym (append-nil old.fields))
-
 pub field_joined : (first mid last : Content) (xs ys zs : List FieldCells) → mid ≡ with_fields xs first → last ≡ with_fields ys mid → zs ≡ xs ++ ys → last ≡ with_fields zs first
 field_joined first mid last xs ys zs e f is = f ∙ ap (with_fields ys) e ∙ ap (λ (rows : List FieldCells). record first { fields = rows }) (append_assoc first.fields xs ys ∙ ap (λ (rows : List FieldCells). first.fields ++ rows) (sym is))
 
@@ -44,12 +41,6 @@ move_last (change.Kept x ∷ cs) r = ap (with_change (change.Kept x)) (move_last
 pub move_pushed : (old new : List Change) (r : MoveRow) (cells : MoveCells) → new ≡ old ++ change.Move r ∷ [] → move_cells r ≡ cells → rows_among new ≡ with_moves (cells ∷ []) (rows_among old)
 move_pushed old new r cells e is = ap rows_among e ∙ move_last old r ∙ ap (λ (x : MoveCells). with_moves (x ∷ []) (rows_among old)) is
 
-pub move_none : (old new : Content) → new ≡ old → new ≡ with_moves [] old
-move_none old new e = e ∙ ap (λ (xs : List MoveCells). record old { moves = xs }) (sym (append-nil old.moves))
-
-pub move_joined : (first mid last : Content) (xs ys zs : List MoveCells) → mid ≡ with_moves xs first → last ≡ with_moves ys mid → zs ≡ xs ++ ys → last ≡ with_moves zs first
-move_joined first mid last xs ys zs e f is = f ∙ ap (with_moves ys) e ∙ ap (λ (rows : List MoveCells). record first { moves = rows }) (append_assoc first.moves xs ys ∙ ap (λ (rows : List MoveCells). first.moves ++ rows) (sym is))
-
 order_last : (cs : List Change) (r : OrderRow) → rows_among (cs ++ change.Order r ∷ []) ≡ with_orders (order_cells r ∷ []) (rows_among cs)
 order_last [] r = refl
 order_last (change.Desk x ∷ cs) r = ap (with_change (change.Desk x)) (order_last cs r)
@@ -62,9 +53,6 @@ order_last (change.Kept x ∷ cs) r = ap (with_change (change.Kept x)) (order_la
 -- one row more in that table
 pub order_pushed : (old new : List Change) (r : OrderRow) (cells : OrderCells) → new ≡ old ++ change.Order r ∷ [] → order_cells r ≡ cells → rows_among new ≡ with_orders (cells ∷ []) (rows_among old)
 order_pushed old new r cells e is = ap rows_among e ∙ order_last old r ∙ ap (λ (x : OrderCells). with_orders (x ∷ []) (rows_among old)) is
-
-pub order_none : (old new : Content) → new ≡ old → new ≡ with_orders [] old
-order_none old new e = e ∙ ap (λ (xs : List OrderCells). record old { orders = xs }) (sym (append-nil old.orders))
 
 pub order_joined : (first mid last : Content) (xs ys zs : List OrderCells) → mid ≡ with_orders xs first → last ≡ with_orders ys mid → zs ≡ xs ++ ys → last ≡ with_orders zs first
 order_joined first mid last xs ys zs e f is = f ∙ ap (with_orders ys) e ∙ ap (λ (rows : List OrderCells). record first { orders = rows }) (append_assoc first.orders xs ys ∙ ap (λ (rows : List OrderCells). first.orders ++ rows) (sym is))
@@ -81,9 +69,6 @@ line_last (change.Kept x ∷ cs) r = ap (with_change (change.Kept x)) (line_last
 -- one row more in that table
 pub line_pushed : (old new : List Change) (r : LineRow) (cells : LineCells) → new ≡ old ++ change.Line r ∷ [] → line_cells r ≡ cells → rows_among new ≡ with_lines (cells ∷ []) (rows_among old)
 line_pushed old new r cells e is = ap rows_among e ∙ line_last old r ∙ ap (λ (x : LineCells). with_lines (x ∷ []) (rows_among old)) is
-
-pub line_none : (old new : Content) → new ≡ old → new ≡ with_lines [] old
-line_none old new e = e ∙ ap (λ (xs : List LineCells). record old { lines = xs }) (sym (append-nil old.lines))
 
 pub line_joined : (first mid last : Content) (xs ys zs : List LineCells) → mid ≡ with_lines xs first → last ≡ with_lines ys mid → zs ≡ xs ++ ys → last ≡ with_lines zs first
 line_joined first mid last xs ys zs e f is = f ∙ ap (with_lines ys) e ∙ ap (λ (rows : List LineCells). record first { lines = rows }) (append_assoc first.lines xs ys ∙ ap (λ (rows : List LineCells). first.lines ++ rows) (sym is))
@@ -103,6 +88,3 @@ kept_pushed old new r cells e is = ap rows_among e ∙ kept_last old r ∙ ap (�
 
 pub kept_none : (old new : Content) → new ≡ old → new ≡ with_kept [] old
 kept_none old new e = e ∙ ap (λ (xs : List KeptCells). record old { kept = xs }) (sym (append-nil old.kept))
-
-pub kept_joined : (first mid last : Content) (xs ys zs : List KeptCells) → mid ≡ with_kept xs first → last ≡ with_kept ys mid → zs ≡ xs ++ ys → last ≡ with_kept zs first
-kept_joined first mid last xs ys zs e f is = f ∙ ap (with_kept ys) e ∙ ap (λ (rows : List KeptCells). record first { kept = rows }) (append_assoc first.kept xs ys ∙ ap (λ (rows : List KeptCells). first.kept ++ rows) (sym is))

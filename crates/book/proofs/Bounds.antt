@@ -277,9 +277,6 @@ safe_from_room A h X o = each-imp (λ f r. within f r) A.fields h
     within : (f : Field) → HasRoom A f → IsWithin f (outcome_result A X f)
     within f r = let a = r.0 in let b = r.1 in let c = least A f X o in let d = greatest A f X o in omega (arith, ints)
 
-pub safe_iff_room : (A : Ledger) → Each Sound A.orders → IsSafe A ↔ Each (HasRoom A) A.fields
-safe_iff_room A s = (room_from_safe A s, safe_from_room A)
-
 -- the test for a take looks at one number, and so does the test for an add
 pub falls_below_iff : (B : Ledger) → Each Sound B.orders → (name : Name) → FallsBelow B name ↔ IsSomeAnd (field_named B name) (λ f. (settled B f -ℤ held_to_take B f.name) <ℤ pos f.lo)
 falls_below_iff B s name = (there (field_named B name), back (field_named B name))

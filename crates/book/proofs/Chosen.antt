@@ -1,5 +1,5 @@
 -- Which of the rows of a list pass a test.
-use Rattle.std.proofs.Common.{◌≡◌, ℕ, ◌<◌, Bool, true, false, ◌&&◌, ◌||◌, ◌==◌, List, [], ◌∷◌, ◌++◌, Some, ap, arith, find, flat_map, if◌then◌else◌, map, nat_cmp, Less, refl}
+use Rattle.std.proofs.Common.{◌≡◌, ℕ, ◌<◌, Bool, true, false, ◌||◌, ◌==◌, List, [], ◌∷◌, ◌++◌, Some, ap, arith, find, flat_map, if◌then◌else◌, map, nat_cmp, Less, refl}
 use Rattle.std.specs.List.{AllByRecursion as Each, filter, list_any}
 use Rattle.book.specs.Ledger.{Order, insert_in_order}
 use Rattle.book.proofs.Closing.{less_is}
@@ -73,11 +73,3 @@ find-new n p o (m ∷ ms) e h = step (p o m) (find-new n p o ms e h.1)
     step : (b : Bool) → find (λ m. m.number == n) (insert_in_order p o ms) ≡ Some o → find (λ m. m.number == n) (if b then o ∷ m ∷ ms else m ∷ insert_in_order p o ms) ≡ Some o
     step true more = rw e refl
     step false more = rw h.0 more
-
-pub any-filter : {X : Type 0} (s t : X → Bool) (xs : List X) → list_any t (filter s xs) ≡ list_any (λ x. s x && t x) xs
-any-filter s t [] = refl
-any-filter s t (x ∷ xs) = by (s x) (any-filter s t xs)
-  where
-    by : (b : Bool) → list_any t (filter s xs) ≡ list_any (λ x. s x && t x) xs → list_any t (if b then x ∷ filter s xs else filter s xs) ≡ ((b && t x) || list_any (λ x. s x && t x) xs)
-    by true e = ap (λ c. t x || c) e
-    by false e = e

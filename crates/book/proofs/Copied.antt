@@ -14,7 +14,7 @@ use Rattle.book.specs.InPlace.{MayChangeOrder, changed_order, order_change_of}
 use Rattle.book.specs.Ledger.{Ledger, Name, Order, order_numbered, name_of}
 use Rattle.book.specs.Next.{accept, add_hold}
 use Rattle.book.specs.View.{order_of}
-use Rattle.book.specs.declared.book.changes.OrderChange.{OrderChange}
+use Rattle.book.specs.declared.book.made.OrderChange.{OrderChange}
 use Rattle.book.specs.declared.entries.OrderEntry.{OrderEntry}
 use Rattle.book.proofs.Allowed.{hold_allowed}
 use Rattle.book.proofs.Closing.{Fine, Usable, all_pass, fit_from_good, left_on, usable_there}

@@ -1,9 +1,7 @@
 -- How many orders are open, and how many in the next ledger.
-use Rattle.std.proofs.Common.{◌≡◌, ◌∙◌, ℕ, ◌+◌, ℤ, pos, ◌+ℤ◌, ◌-ℤ◌, ◌&&◌, ◌++◌, List, [], ◌∷◌, Bool, true, false, IsNone, Option, None, Some, ap, arith, cond, count_by, if◌then◌else◌, is_some, map, refl, sym, true≢false}
+use Rattle.std.proofs.Common.{◌≡◌, ◌∙◌, ℕ, ◌+◌, ℤ, pos, ◌+ℤ◌, ◌-ℤ◌, ◌&&◌, ◌++◌, List, [], ◌∷◌, Bool, true, false, IsNone, Option, None, Some, ap, arith, count_by, if◌then◌else◌, is_some, map, refl, sym, true≢false}
 use Rattle.std.proofs.lemmas.Int.{ints}
-use Rattle.std.specs.List.Sorted.{IsPermutation}
 use Rattle.std.specs.Option.{option_map}
-use Rattle.std.proofs.lemmas.List.Sorted.{sum_by-IsPermutation}
 use Rattle.words.specs.Kinds.{is_change, is_opening}
 use Rattle.words.specs.declared.command.Command.{Command}
 use Rattle.words.specs.declared.command.Command.TheVariants as command
@@ -14,9 +12,8 @@ use Rattle.book.specs.Good.{Good}
 use Rattle.book.specs.Ledger.{Ledger, Name, Order, is_open, line_name, line_on, name_of, open_orders, open_state, order_numbered}
 use Rattle.book.specs.Next.{add_hold, change_lines, expires, hold_more, lower_held, new_line, next, raise_used, set_state}
 use Rattle.book.specs.Outcomes.{total}
-use Rattle.book.specs.View.{BookView, ledger_of, order_of, view_of}
+use Rattle.book.specs.View.{BookView, ledger_of, view_of}
 use Rattle.book.specs.declared.book.Book.TheInside.{Inside}
-use Rattle.book.specs.declared.entries.OrderEntry.{OrderEntry}
 use Rattle.book.specs.declared.order.State.{State}
 use Rattle.book.specs.declared.order.State.TheVariants.{Aborted, Committed}
 use Rattle.book.proofs.Closing.{all_pass}
@@ -28,9 +25,6 @@ use Rattle.book.proofs.StockChanges.{IsBefore, before, total_moved}
 pub viewed : {X Y : Type 0} (view : X → Y) (p : Y → Bool) (xs : List X) → count_by p (map view xs) ≡ count_by (λ x. p (view x)) xs
 viewed view p [] = refl
 viewed view p (x ∷ xs) = counted p (view x) (map view xs) ∙ ap (λ n. (if p (view x) then 1 else 0) + n) (viewed view p xs) ∙ sym (counted (λ x. p (view x)) x xs)
-
-pub expiring_in_order : (now : ℕ) (xs ys : List (ℕ × OrderEntry)) → IsPermutation xs ys → count_by (λ o. expires now (order_of o)) ys ≡ count_by (expires now) (map order_of xs)
-expiring_in_order now xs ys same = sum_by-IsPermutation (λ (o : ℕ × OrderEntry). cond (expires now (order_of o)) 1 0) xs ys same ∙ sym (viewed order_of (expires now) xs)
 
 -- ---- how many are open in the next ledger
 

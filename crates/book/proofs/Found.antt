@@ -1,5 +1,5 @@
 -- The first element that passes a test, found by a walk.
-use Rattle.std.proofs.Common.{◌≡◌, ℕ, ◌+◌, ◌<◌, ◌≤◌, List, [], ◌∷◌, ◌++◌, map, Option, MatchOption, take, drop, length, get_or, find, Bool, true, false, None, Some, is_some, refl, sym, ap, ◌∙◌, subst, if◌then◌else◌, true≢false}
+use Rattle.std.proofs.Common.{◌≡◌, ℕ, ◌+◌, ◌<◌, ◌≤◌, List, [], ◌∷◌, ◌++◌, map, Option, take, drop, length, get_or, find, Bool, true, false, None, Some, is_some, refl, sym, ap, ◌∙◌, if◌then◌else◌, true≢false}
 use Rattle.std.proofs.lemmas.List.{take_all}
 use Rattle.book.proofs.Walked.{cut_at, take-step}
 
@@ -59,19 +59,3 @@ find-map-some p h (x ∷ xs) y n = by (p (h x)) n (λ k. find-map-some p h xs y 
     by : (b : Bool) → (if b then Some x else find (λ x. p (h x)) xs) ≡ Some y → (find (λ x. p (h x)) xs ≡ Some y → find p (map h xs) ≡ Some (h y)) → (if b then Some (h x) else find p (map h xs)) ≡ Some (h y)
     by true n k = ap (λ o. Some (h (from_some x o))) n
     by false n k = k n
-
--- the same, said of a look-up's result
-pub match-map : {X Y R : Type 0} (p : Y → Bool) (h : X → Y) (xs : List X) (at : R → X) (found : Option R)
-    → MatchOption found (find (λ x. p (h x)) xs ≡ None) (λ r. find (λ x. p (h x)) xs ≡ Some (at r))
-    → MatchOption found (find p (map h xs) ≡ None) (λ r. find p (map h xs) ≡ Some (h (at r)))
-match-map p h xs at None e = find-map-none p h xs e
-match-map p h xs at (Some r) e = find-map-some p h xs (at r) e
-
--- what was found passes the test
-pub find-true : {X : Type 0} (p : X → Bool) (xs : List X) (y : X) → find p xs ≡ Some y → p y ≡ true
-find-true p [] y n = absurd (true≢false (sym (ap is_some n)))
-find-true p (x ∷ xs) y n = by (p x) refl n (λ k. find-true p xs y k)
-  where
-    by : (b : Bool) → p x ≡ b → (if b then Some x else find p xs) ≡ Some y → (find p xs ≡ Some y → p y ≡ true) → p y ≡ true
-    by true e n k = subst (λ z. p z ≡ true) (ap (from_some x) n) e
-    by false e n k = k n

@@ -1,8 +1,6 @@
 -- What lines give back, as the orders end that hold it.
-use Rattle.std.proofs.Common.{◌≡◌, ◌∙◌, ℕ, ◌+◌, ◌<◌, ◌≤◌, ℤ, pos, ◌+ℤ◌, ◌≤ℤ◌, ◌&&◌, ◌||◌, ◌++◌, Bool, true, false, List, [], ◌∷◌, Option, None, Some, IsSome, ap, append_assoc, arith, cond, drop, flat_map, get_or, length, option_map, slice_get, if◌then◌else◌, is_some, refl, subst, sym, take, true≢false}
+use Rattle.std.proofs.Common.{◌≡◌, ◌∙◌, ℕ, ◌+◌, ◌<◌, ◌≤◌, ◌==◌, ℤ, pos, ◌+ℤ◌, ◌≤ℤ◌, ◌&&◌, ◌||◌, ◌++◌, Bool, true, false, List, [], ◌∷◌, Option, None, Some, IsSome, ap, append_assoc, arith, cond, drop, flat_map, get_or, length, if◌then◌else◌, is_some, refl, subst, sym, take, true≢false}
 use Rattle.std.proofs.lemmas.Int.{ints}
-use Rattle.std.proofs.lemmas.Grind.{flat_map-append}
-use Rattle.std.proofs.lemmas.Option.{get_or_from_slice_get, slice_get-map, slice_get_within}
 use Rattle.std.specs.BTreeMap.{insert_entry, is_at}
 use Rattle.std.specs.List.{AllByRecursion as Each, list_any}
 use Rattle.std.specs.List.Sorted.{IsStrictlySortedBy}
@@ -16,14 +14,12 @@ use Rattle.escrow.specs.declared.quantity.Way.{Way}
 use Rattle.escrow.specs.declared.quantity.Way.TheVariants.{Add, Take}
 use Rattle.book.specs.Good.{Good, IsGoodOrder}
 use Rattle.book.specs.Held.{if_add, if_take}
-use Rattle.book.specs.Ledger.{Ledger, Name, Order, field_named, is_open, line_name, name_cmp, on, same_name}
+use Rattle.book.specs.Ledger.{Ledger, Name, Order, field_named, is_open, line_name, name_cmp, on, order_numbered, same_name}
 use Rattle.book.specs.Next.{expires}
 use Rattle.book.specs.Outcomes.{total}
 use Rattle.book.specs.Rows.{FieldCells}
 use Rattle.book.specs.Running.{GivenBack, GivesBack, IsUpToDate, MayGiveBack, expired_lines}
-use Rattle.book.specs.View.{BookView, field_of, order_of, view_of}
-use Rattle.book.specs.declared.book.Book.TheInside.{Inside}
-use Rattle.book.specs.declared.entries.OrderEntry.{OrderEntry}
+use Rattle.book.specs.View.{field_of}
 use Rattle.book.specs.declared.entries.FieldEntry.{FieldEntry}
 use Rattle.book.specs.declared.order.Line.{Line}
 use Rattle.book.proofs.Asked.{same_self, total-push}
@@ -31,10 +27,11 @@ use Rattle.book.proofs.Bounds.{adds-not_negative, takes-not_negative}
 use Rattle.book.proofs.ChangedFields.{each_at_name, less_other}
 use Rattle.book.proofs.Growing.{other_way}
 use Rattle.book.proofs.Keyed.{equal_field, same_field}
+use Rattle.book.proofs.Made.{each-found}
 use Rattle.book.proofs.Running.{off}
 use Rattle.book.proofs.Staying.{name_cmp_total}
 use Rattle.book.proofs.Sums.{each, each-imp, total-le, total-zero}
-use Rattle.book.proofs.Walked.{cut_at, each-at, read-step}
+use Rattle.book.proofs.Walked.{cut_at}
 
 -- ---- sums over lines
 
@@ -241,21 +238,6 @@ may_step A ls lines i x within is may =
     subst (MayGiveBack A) (sym (append_assoc ls (take i lines) (x ∷ [])))
     (may_prefix A ls (take i lines ++ x ∷ []) (drop (i + 1) lines) (subst (λ (ms : List Line). MayGiveBack A (ls ++ ms)) (cut_at lines i x within is) may))
 
-pub slice_get-orders : (b : Inside) (v : BookView) (i : ℕ) (x : ℕ × OrderEntry) → view_of b ≡ v → slice_get b.orders.entries i ≡ Some x → slice_get v.ledger.orders i ≡ Some (order_of x)
-slice_get-orders b v i x same read = rw (← same) (slice_get-map order_of b.orders.entries i ∙ ap (option_map order_of) read)
-
-pub lines_there : (A : Ledger) (i : ℕ) (o : Order) → Good A → slice_get A.orders i ≡ Some o → Each (λ l. IsSome (field_named A (line_name l))) o.lines
-lines_there A i o good read = each-imp (λ l x. x.field) o.lines (each-at (IsGoodOrder A) A.orders i o (slice_get_within A.orders i o read) (sym (get_or_from_slice_get A.orders i o o read)) good.orders).lines
-
-pub expired_step : (A : Ledger) (now i : ℕ) (o : Order) → slice_get A.orders i ≡ Some o → expired_lines now (take (i + 1) A.orders) ≡ expired_lines now (take i A.orders) ++ expired_lines now (o ∷ [])
-expired_step A now i o read = ap (λ (os : List Order). expired_lines now os) (read-step A.orders i o read) ∙ flat_map-append (λ (o : Order). if expires now o then o.lines else []) (take i A.orders) (o ∷ [])
-
-pub may_expired : (A : Ledger) (now i : ℕ) (o : Order) → slice_get A.orders i ≡ Some o → MayGiveBack A (expired_lines now (take i A.orders) ++ expired_lines now (o ∷ []))
-may_expired A now i o read =
-    let lines : Order → List Line = λ o. if expires now o then o.lines else [] in
-    let within = slice_get_within A.orders i o read in
-    let is = sym (get_or_from_slice_get A.orders i o o read) in
-    let all = cut_at A.orders i o within is in
-    let parts = ap (λ (os : List Order). expired_lines now os) (all ∙ append_assoc (take i A.orders) (o ∷ []) (drop (i + 1) A.orders)) ∙ flat_map-append lines (take i A.orders) ((o ∷ []) ++ drop (i + 1) A.orders)
-    ∙ ap (λ (ls : List Line). expired_lines now (take i A.orders) ++ ls) (flat_map-append lines (o ∷ []) (drop (i + 1) A.orders)) in
-    may_prefix A (expired_lines now (take i A.orders)) (expired_lines now (o ∷ [])) (expired_lines now (drop (i + 1) A.orders)) (subst (MayGiveBack A) parts (may_all A now))
+-- the fields of the lines of an order are there
+pub lines_there : (A : Ledger) (n : ℕ) (o : Order) → Good A → order_numbered A n ≡ Some o → Each (λ l. IsSome (field_named A (line_name l))) o.lines
+lines_there A n o good found = each-imp (λ l x. x.field) o.lines (each-found (IsGoodOrder A) (λ m. m.number == n) o A.orders good.orders found).lines

@@ -174,10 +174,6 @@ opening A n k u ls kept g more number until some few quantities pair pass new ma
       room = (let c = count-insert is_open precedes o A.orders in omega arith);
     }
 
--- more held
-MoreFits : Ledger → Name → Order → Type 0
-MoreFits A f o = IsNone (line_on o f) → length o.lines ≤ 63
-
 adding : (A : Ledger) (n : ℕ) (l : OpenLine) (kept : List Kept) → Good A → length kept ≡ places A + 1 → places A + open_orders A + 1 ≤ 200000 → IsSome (field_named A (line_name (new_line l))) → IsQty l.qty
     → Each (λ o. (o.number == n) ≡ true → MayHoldMore (line_name (new_line l)) l.way o) A.orders → Each (λ o. (o.number == n) ≡ true → IsNone (line_on o (line_name (new_line l))) → length o.lines ≤ 63) A.orders
     → Each Sound (change_order n (add_hold l) A).orders → Room (record (change_order n (add_hold l) A) { kept = kept })

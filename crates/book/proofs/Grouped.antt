@@ -22,9 +22,6 @@ drop-suc (x ∷ xs) (suc i) d lt = drop-suc xs i d (omega arith)
 pub drop-step : {X : Type 0} (xs : List X) (i : ℕ) (d : X) → i < length xs → drop i xs ≡ get_or xs i d ∷ drop (i + 1) xs
 drop-step xs i d lt = let e : suc i ≡ i + 1 = omega arith in drop-suc xs i d lt ∙ ap (λ k. get_or xs i d ∷ drop k xs) e
 
-pub begins_other : (n : ℕ) (rows : List LineRow) (i : ℕ) (row : LineRow) → i < length rows → row ≡ get_or rows i row → (row.number ≡ pos n → ⊥) → BeginsOther n (drop i rows)
-begins_other n rows i row lt is other = subst (BeginsOther n) (sym (drop-step rows i row lt)) (λ e. other (ap (λ (r : LineRow). r.number) is ∙ e))
-
 -- ---- numbers of rows
 
 pub numbered-push : (k : ℕ) (rows : List LineRow) (row : LineRow) → AreNumbered k rows → row.nr ≡ pos (k + length rows) → AreNumbered k (rows ++ row ∷ [])

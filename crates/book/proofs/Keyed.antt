@@ -64,12 +64,9 @@ equal_field f g h = name_is f g (equal_name f g h)
 pub field_found : (name : Name) (l : List (Name × FieldEntry)) → find (λ f. same_name name f.name) (map field_of l) ≡ option_map (λ v. field_of (name, v)) (lookup (is_at (name_cmp name)) l)
 field_found name l = found name_cmp equal_field field_of name (λ f. same_name name f.name) (λ e. same_field name e.0) l
 
-pub field_absent : (name : Name) (l : List (Name × FieldEntry)) → find (λ f. same_name name f.name) (map field_of l) ≡ None → lookup (is_at (name_cmp name)) l ≡ None
-field_absent name l none = nothing_there (λ v. field_of (name, v)) (lookup (is_at (name_cmp name)) l) (sym (field_found name l) ∙ none)
-
 -- ---- orders
 
-same_number : (m n : ℕ) → (m == n) ≡ is_eq (nat_cmp n m)
+pub same_number : (m n : ℕ) → (m == n) ≡ is_eq (nat_cmp n m)
 same_number m n = by (m == n) refl
   where
     apart : (o : Ordering) → (o ≡ Equal → ⊥) → false ≡ is_eq o

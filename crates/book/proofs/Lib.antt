@@ -54,3 +54,4 @@ pub mod StockChanges
 pub mod ChangedFields
 pub mod GivingBack
 pub mod FieldRows
+pub mod Expiring

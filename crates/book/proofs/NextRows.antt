@@ -140,7 +140,7 @@ order_one n (o ∷ os) sorted = by (o.number == n) refl (order_one n os sorted.1
     by true e more = rw (pos_same o.number n e) (ap (λ (rows : List OrderCells). order_row o ∷ rows) (filter-none (λ row. int_eq row.number (pos n)) order_row os (each-imp (λ m k. pos_other m.number n k) os (none_after n o os e sorted.0))))
     by false e more = rw (pos_other o.number n e) more
 
-find_self : (os : List Order) → IsStrictlySortedBy nat_cmp (map (λ o. o.number) os) → Each (λ o. find (λ m. m.number == o.number) os ≡ Some o) os
+pub find_self : (os : List Order) → IsStrictlySortedBy nat_cmp (map (λ o. o.number) os) → Each (λ o. find (λ m. m.number == o.number) os ≡ Some o) os
 unfolding IsStrictlySortedBy
 find_self [] sorted = tt
 find_self (o ∷ os) sorted = (ap (λ b. if b then Some o else find (λ m. m.number == o.number) os) (same_number o.number), later os sorted.0 (find_self os sorted.1))

@@ -1,7 +1,7 @@
 -- Numbers on a field: added to one another, and how great they can be.
-use Rattle.std.proofs.Common.{◌≡◌, ℕ, ◌+◌, ◌≤◌, arith, subst, sym}
+use Rattle.std.proofs.Common.{◌≡◌, ℕ, ◌+◌, ◌≤◌, arith}
 use Rattle.std.proofs.lemmas.Int.{ints}
-use Rattle.book.specs.declared.book.walk.Numbers.{Numbers}
+use Rattle.book.specs.declared.book.sums.Numbers.{Numbers}
 use Rattle.book.specs.Walk.{nothing, plus, IsSmall}
 
 -- numbers with equal parts are equal
@@ -24,7 +24,3 @@ small-up k m n h s = record { low = omega (arith, ints); high = omega (arith, in
 -- the bounds of two add up
 pub small-plus : (k m : ℕ) (a b : Numbers) → IsSmall k a → IsSmall m b → IsSmall (k + m) (plus a b)
 small-plus k m a b s t = record { low = omega (arith, ints); high = omega (arith, ints); take_low = omega (arith, ints); take_high = omega (arith, ints); add_low = omega (arith, ints); add_high = omega (arith, ints) }
-
--- the same, of a sum, where the bound of it is told in another way
-pub small-step : (k m n : ℕ) (a b sum : Numbers) → k + m ≡ n → sum ≡ plus a b → IsSmall k a → IsSmall m b → IsSmall n sum
-small-step k m n a b sum bound added s t = subst (IsSmall n) (sym added) (subst (λ j. IsSmall j (plus a b)) bound (small-plus k m a b s t))

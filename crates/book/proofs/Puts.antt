@@ -70,10 +70,6 @@ pub follows-same : {R : Type 0} (cmp : R → R → Ordering) → IsTotalOrder cm
 follows-same cmp o chosen [] = refl
 follows-same cmp o chosen (x ∷ xs) = inr (x, xs, refl, tied_itself o x, (λ _. refl), follows-same cmp o chosen xs)
 
-pub follows-new : {R : Type 0} (cmp : R → R → Ordering) (chosen : R → Bool) (ys : List R) → Each (λ y. chosen y ≡ true) ys → Follows cmp chosen [] ys
-follows-new cmp chosen [] h = refl
-follows-new cmp chosen (y ∷ ys) h = inl (h.0, follows-new cmp chosen ys h.1)
-
 pub follows-before : {R : Type 0} (cmp : R → R → Ordering) (chosen : R → Bool) (xs ns ys : List R) → Each (λ y. chosen y ≡ true) ns → Follows cmp chosen xs ys → Follows cmp chosen xs (ns ++ ys)
 follows-before cmp chosen xs [] ys h f = f
 follows-before cmp chosen xs (n ∷ ns) ys h f = inl (h.0, follows-before cmp chosen xs ns ys h.1 f)

@@ -1,12 +1,11 @@
 -- The order that a command makes, put in by its number.
-use Rattle.std.proofs.Common.{◌≡◌, ◌∙◌, ℕ, zero, suc, ◌==◌, ◌++◌, ◌&&◌, Bool, true, false, List, [], ◌∷◌, Option, None, Some, IsNone, ◌≤◌, ap, append-nil, find, length, if◌then◌else◌, is_some, map, nat_le, nat_lt, refl, slice_get, drop, take, subst, sym, true≢false}
+use Rattle.std.proofs.Common.{◌≡◌, ◌∙◌, ℕ, ◌==◌, ◌++◌, Bool, true, false, List, [], ◌∷◌, Option, None, Some, IsNone, ap, cond, find, if◌then◌else◌, is_some, map, nat_lt, refl, subst, sym, true≢false}
 use Rattle.std.proofs.lemmas.Cmp.{nat_cmp_total, tied_itself}
-use Rattle.std.proofs.lemmas.List.{drop_all, take_all}
 use Rattle.std.proofs.lemmas.Option.{none-some, same_Some}
-use Rattle.std.specs.BTreeMap.{insert_entry}
+use Rattle.std.specs.BTreeMap.{insert_entry, is_at}
 use Rattle.std.specs.List.{AllByRecursion as Each}
 use Rattle.std.specs.List.Sorted.{IsStrictlySortedBy}
-use Rattle.std.specs.Map.{values_of}
+use Rattle.std.specs.Map.{keys_of, lookup, set_value}
 use Rattle.std.specs.Option.{option_map}
 use Rattle.std.specs.Ordering.{is_eq, is_lt, match_ordering, nat_cmp, ordering_reverse}
 use Rattle.std.specs.declared.cmp.Ordering.{Ordering}
@@ -18,15 +17,14 @@ use Rattle.book.specs.After.{order_after}
 use Rattle.book.specs.Answers.{FirstFailure, checks}
 use Rattle.book.specs.Changes.{put_row}
 use Rattle.book.specs.Good.{Good}
-use Rattle.book.specs.InOrder.{set_value_at}
-use Rattle.book.specs.InPlace.{expired_entry}
-use Rattle.book.specs.Ledger.{Ledger, Name, Order, insert_in_order, line_on, name_of, open_state, order_numbered}
-use Rattle.book.specs.Next.{add_hold, change_lines, expires, hold_more, lower_held, new_line, next, raise_used, set_state}
+use Rattle.book.specs.InPlace.{abort_one}
+use Rattle.book.specs.Ledger.{Ledger, Name, Order, insert_in_order, line_on, name_of, order_numbered}
+use Rattle.book.specs.Next.{add_hold, change_lines, hold_more, lower_held, new_line, next, raise_used, set_state}
 use Rattle.book.specs.View.{order_of}
 use Rattle.book.specs.declared.entries.OrderEntry.{OrderEntry}
 use Rattle.book.specs.declared.order.State.TheVariants.{Aborted, Committed}
 use Rattle.book.proofs.Chosen.{none_after}
-use Rattle.book.proofs.Closing.{all_pass}
+use Rattle.book.proofs.Keyed.{same_number}
 use Rattle.book.proofs.Made.{none_opened}
 use Rattle.book.proofs.Staying.{equal_number, lt_is, other_number}
 
@@ -126,52 +124,39 @@ orders_put A c n v l good h is made = put_viewed n v l ∙ ap (put_row number_cm
 
 -- ---- a command that makes none
 
-abbrev pub MakesNone : Command → Type 0
-MakesNone (command.Expire now) = ⊥
-MakesNone c = Unit {0}
-
 there : (h : Order → Order) (x : Option Order) → (IsNone x → ⊥) → option_map h x ≡ None → ⊥
 there h None found none = found refl
 there h (Some o) found none = true≢false (ap is_some none)
 
-pub orders_stay : (A : Ledger) (c : Command) → MakesNone c → FirstFailure (checks A c) None → order_after A c ≡ None → (next A c).orders ≡ A.orders
-orders_stay A (command.Field b a lo hi start) m h none = refl
-orders_stay A (command.Deliver b a q) m h none = refl
-orders_stay A (command.Writeoff b a q) m h none = refl
-orders_stay A (command.Open n until lines) m h none = absurd (true≢false (ap is_some none))
-orders_stay A (command.Transfer n until a from to q) m h none = absurd (true≢false (ap is_some none))
-orders_stay A (command.More n way b a q) m h none = absurd (there _ (order_numbered A n) (all_pass (checks A (command.More n way b a q)) h).1.0 none)
-orders_stay A (command.Use n b a q) m h none = absurd (there _ (order_numbered A n) (all_pass (checks A (command.Use n b a q)) h).1.0 none)
-orders_stay A (command.Release n b a q) m h none = absurd (there _ (order_numbered A n) (all_pass (checks A (command.Release n b a q)) h).1.0 none)
-orders_stay A (command.Commit n) m h none = absurd (there _ (order_numbered A n) (all_pass (checks A (command.Commit n)) h).0 none)
-orders_stay A (command.Abort n) m h none = absurd (there _ (order_numbered A n) (all_pass (checks A (command.Abort n)) h).0 none)
-orders_stay A (command.Expire now) m h none = absurd m
+-- ---- an order aborted under its number
 
--- ---- an expiry
+pub numbers_of : (l : List (ℕ × OrderEntry)) → keys_of l ≡ map (λ o. o.number) (map order_of l)
+numbers_of [] = refl
+numbers_of (e ∷ l) = ap (λ ks. e.0 ∷ ks) (numbers_of l)
 
-pub expired_view : (now : ℕ) (l : List (ℕ × OrderEntry)) → map order_of (map (λ e. (e.0, expired_entry now e.1)) l) ≡ map (λ o. if expires now o then set_state Aborted o else o) (map order_of l)
-expired_view now [] = refl
-expired_view now (e ∷ l) = rw (expired_view now l) (ap (λ o. o ∷ map (λ o. if expires now o then set_state Aborted o else o) (map order_of l)) (by (open_state e.1.state && nat_le e.1.until now)))
+pub aborted_there : (n : ℕ) (v : OrderEntry) (l : List (ℕ × OrderEntry)) → IsStrictlySortedBy nat_cmp (keys_of l) → lookup (is_at (nat_cmp n)) l ≡ Some v
+    → map order_of (set_value (is_at (nat_cmp n)) l (record v { state = Aborted })) ≡ abort_one (map order_of l) n
+unfolding IsStrictlySortedBy
+aborted_there n v [] rising there = absurd (none-some v there)
+aborted_there n v (e ∷ l) rising there = rw (same_number e.0 n) (by (nat_cmp n e.0) refl there (aborted_there n v l rising.1))
   where
-    by : (b : Bool) → order_of (e.0, if b then record e.1 { state = Aborted } else e.1) ≡ (if b then set_state Aborted (order_of e) else order_of e)
-    by true = refl
-    by false = refl
+    alone : (e.0 == n) ≡ true → abort_one (map order_of l) n ≡ map order_of l
+    alone is = unchanged n (set_state Aborted) (map order_of l) (none_after n (order_of e) (map order_of l) is (subst (Each (λ k. nat_cmp e.0 k ≡ Less)) (numbers_of l) rising.0))
 
--- ---- each value written in turn
+    by : (o : Ordering) → nat_cmp n e.0 ≡ o → cond (is_eq o) (Some e.1) (lookup (is_at (nat_cmp n)) l) ≡ Some v
+        → (lookup (is_at (nat_cmp n)) l ≡ Some v → map order_of (set_value (is_at (nat_cmp n)) l (record v { state = Aborted })) ≡ abort_one (map order_of l) n)
+        → map order_of (cond (is_eq o) ((e.0, record v { state = Aborted }) ∷ l) (e ∷ set_value (is_at (nat_cmp n)) l (record v { state = Aborted })))
+        ≡ (if is_eq o then set_state Aborted (order_of e) else order_of e) ∷ abort_one (map order_of l) n
+    by Less is found more = ap (λ os. order_of e ∷ os) (more found)
+    by Equal is found more =
+        ap (λ (w : OrderEntry). set_state Aborted (order_of (e.0, w)) ∷ map order_of l) (sym (same_Some e.1 v found)) ∙ ap (λ os. set_state Aborted (order_of e) ∷ os) (sym (alone (same_number e.0 n ∙ ap is_eq is)))
+    by Greater is found more = ap (λ os. order_of e ∷ os) (more found)
 
-module _ {K V : Type 0} (f : V → V) where
-  abbrev pub each_value : List (K × V) → List (K × V)
-  each_value xs = map (λ e. (e.0, f e.1)) xs
-
-  -- so far as they are written
-  abbrev pub upto : List (K × V) → ℕ → List (K × V)
-  upto xs i = each_value (take i xs) ++ drop i xs
-
-  pub upto-more : (xs : List (K × V)) (i : ℕ) (v : V) → slice_get (values_of (upto xs i)) i ≡ Some v → set_value_at (upto xs i) i (f v) ≡ upto xs (suc i)
-  upto-more [] zero v h = absurd (none-some v h)
-  upto-more [] (suc i) v h = absurd (none-some v h)
-  upto-more (x ∷ xs) zero v h = ap (λ w. (x.0, f w) ∷ xs) (sym (same_Some _ _ h))
-  upto-more (x ∷ xs) (suc i) v h = ap (λ l. (x.0, f x.1) ∷ l) (upto-more xs i v h)
-
-  pub upto-all : (xs : List (K × V)) (i : ℕ) → length xs ≤ i → upto xs i ≡ each_value xs
-  upto-all xs i long = rw (take_all i xs long, drop_all i xs long) (append-nil (each_value xs))
+pub aborted_none : (n : ℕ) (l : List (ℕ × OrderEntry)) → lookup (is_at (nat_cmp n)) l ≡ None → map order_of l ≡ abort_one (map order_of l) n
+aborted_none n [] none = refl
+aborted_none n (e ∷ l) none = rw (same_number e.0 n) (by (is_eq (nat_cmp n e.0)) none (aborted_none n l))
+  where
+    by : (b : Bool) → cond b (Some e.1) (lookup (is_at (nat_cmp n)) l) ≡ None → (lookup (is_at (nat_cmp n)) l ≡ None → map order_of l ≡ abort_one (map order_of l) n)
+        → order_of e ∷ map order_of l ≡ (if b then set_state Aborted (order_of e) else order_of e) ∷ abort_one (map order_of l) n
+    by true none more = absurd (true≢false (ap is_some none))
+    by false none more = ap (λ os. order_of e ∷ os) (more none)

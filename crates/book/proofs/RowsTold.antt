@@ -1,6 +1,8 @@
 -- Rows of a good ledger each tell something in range, and rows that each tell something tell a ledger.
 use Rattle.std.proofs.Common.{◌≡◌, ◌∙◌, ℕ, ◌+◌, ◌≤◌, ℤ, pos, negsuc, ◌+ℤ◌, ◌-ℤ◌, ◌≤ℤ◌, List, [], ◌∷◌, ap, arith, flat_map, map, nat_abs, refl, subst, sym, find, IsSome, true, false, Bool, if◌then◌else◌, Some, true≢false}
 use Rattle.std.proofs.lemmas.Int.{ints}
+use Rattle.std.specs.Global.{Global}
+use denote.RawPtr.{null_ptr}
 use Rattle.std.specs.List.{AllByRecursion as Each, AllZip}
 use Rattle.escrow.specs.Codes.{IsArticle, IsBranch}
 use Rattle.escrow.specs.Ranges.{IsLevel}
@@ -143,9 +145,10 @@ pub heads_told : (A : Ledger) (rows : List OrderRow) → Good A → map order_ce
 heads_told A rows g e = each_row order_row order_cells (IsGoodOrder A) (λ row. (h : Head) × IsHeadTold h row)
     (λ o row good is. (head_of o, record { number = good.number; until = good.until; cells = is })) A.orders rows g.orders e
 
-pub kept_told : (A : Ledger) (rows : List KeptRow) → Good A → map kept_cells rows ≡ map kept_row A.kept → Each (λ row. (e : List ℕ × KeptEntry) × IsKeptTold e row) rows
-kept_told A rows g e = each_row kept_row kept_cells IsGoodKept (λ row. (e : List ℕ × KeptEntry) × IsKeptTold e row)
-    (λ k row good is. ((k.key, record { place = k.place; command = k.command }), record { key = good.key; command = good.command; cells = is })) A.kept rows g.kept e
+-- (an entry's command may lie anywhere)
+pub kept_told : (heap : Global) (A : Ledger) (rows : List KeptRow) → Good A → map kept_cells rows ≡ map kept_row A.kept → Each (λ row. (e : List ℕ × KeptEntry) × IsKeptTold e row) rows
+kept_told heap A rows g e = each_row kept_row kept_cells IsGoodKept (λ row. (e : List ℕ × KeptEntry) × IsKeptTold e row)
+    (λ k row good is. ((k.key, record { place = k.place; command = record { ptr = null_ptr; alloc = heap; value = k.command } }), record { key = good.key; command = good.command; cells = is })) A.kept rows g.kept e
 
 -- a line in range that the cells tell
 record Line_told (cells : LineCells) : Type 0 where

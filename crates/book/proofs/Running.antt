@@ -9,7 +9,7 @@ use Rattle.std.specs.Ordering.{is_eq, is_lt, match_ordering}
 use Rattle.std.specs.declared.cmp.Ordering.{Ordering}
 use Rattle.std.specs.declared.cmp.Ordering.TheVariants.{Equal, Greater, Less}
 use Rattle.escrow.specs.Choices.{IsInfimum as IsLeastOf, IsSafe as IsSafeStock, IsSupremum as IsGreatestOf}
-use Rattle.escrow.specs.Escrow.{holding}
+use Rattle.escrow.specs.Escrow.{IsSafeMoved, holding}
 use Rattle.escrow.specs.Stock.{Stock}
 use Rattle.escrow.specs.declared.quantity.Way.{Way}
 use Rattle.escrow.specs.declared.quantity.Way.TheVariants.{Add, Take}
@@ -61,6 +61,33 @@ greatest_is s z h =
 
 not_above : (a b : ℤ) → (a ≤ℤ b → ⊥) → b <ℤ a
 not_above a b h = grind (arith, ints)
+
+-- the quantity of a good ledger's field is safe
+pub stock_safe : (A : Ledger) (n : Name) (e : FieldEntry) → Good A → IsUpToDate A (n, e) → field_named A n ≡ Some (field_of (n, e)) → IsSafeStock e.quantity
+stock_safe A n e good up there taken added t a =
+    let f : Field = field_of (n, e) in
+    let here = Contains-of_find (λ g. same_name n g.name) A.fields f there in
+    let r = each-at _ A.fields here.0 f here.1 (sym here.2) (in_order A good) in
+    let low = r.0 in
+    let high = r.3 in
+    let inf = ap (λ (r : FieldCells). r.inf) up in
+    let sup = ap (λ (r : FieldCells). r.sup) up in
+    (omega (arith, ints), omega (arith, ints))
+
+-- its value may be moved so much exactly where so much more may be held
+pub held_if_moved : (s : Stock) (w : Way) (q : ℕ) → IsSafeStock s → IsSafeMoved s w q → IsSafeStock (holding s w q)
+held_if_moved s Take q safe moved taken added t a =
+    let low = (moved s.held_to_take 0 (omega arith) (omega arith)).0 in
+    let high = (safe 0 added (omega arith) a).1 in
+    (omega (arith, ints), omega (arith, ints))
+held_if_moved s Add q safe moved taken added t a =
+    let high = (moved 0 s.held_to_add (omega arith) (omega arith)).1 in
+    let low = (safe taken 0 t (omega arith)).0 in
+    (omega (arith, ints), omega (arith, ints))
+
+pub moved_if_held : (s : Stock) (w : Way) (q : ℕ) → IsSafeStock (holding s w q) → IsSafeMoved s w q
+moved_if_held s Take q safe taken added t a = let r = safe (taken + q) added (omega arith) a in (omega (arith, ints), omega (arith, ints))
+moved_if_held s Add q safe taken added t a = let r = safe taken (added + q) t (omega arith) in (omega (arith, ints), omega (arith, ints))
 
 -- an amount that the quantity grants breaks no bound
 pub grants : (A : Ledger) (n : Name) (e : FieldEntry) (way : Way) (q : ℕ) → IsUpToDate A (n, e) → field_named A n ≡ Some (field_of (n, e)) → IsSafeStock (holding e.quantity way q) → BreaksBound way A n q → ⊥

@@ -1,9 +1,7 @@
 -- A walk over a list, one element at a time.
-use Rattle.std.proofs.Common.{◌≡◌, ℕ, ◌+◌, ◌<◌, ◌≤◌, ℤ, ◌+ℤ◌, List, [], ◌∷◌, ◌++◌, Bool, Some, append-nil, false, filter, map, slice_get, take, true, drop, length, get_or, refl, sym, ap, ◌∙◌, subst, arith, nat_cmp, Less}
+use Rattle.std.proofs.Common.{◌≡◌, ℕ, ◌+◌, ◌<◌, ◌≤◌, ℤ, ◌+ℤ◌, List, [], ◌∷◌, ◌++◌, Some, map, slice_get, take, drop, length, get_or, sym, ap, ◌∙◌, subst, arith, nat_cmp, Less}
 use Rattle.std.proofs.lemmas.List.{take-append-drop, take_all}
 use Rattle.std.proofs.lemmas.Grind.{take_at_read}
-use Rattle.std.proofs.lemmas.List.{map-append}
-use Rattle.std.proofs.lemmas.List.Elements.{filter-append}
 use Rattle.std.proofs.lemmas.Option.{get_or_from_slice_get, slice_get_within}
 use Rattle.std.specs.List.{AllByRecursion as Each}
 use Rattle.std.specs.List.Sorted.{IsStrictlySortedBy}
@@ -68,22 +66,3 @@ few_moves b g =
     let fit = g.places_fit in
     let same = length-of-map move_of b.moves.items in
     omega arith
-
--- those that pass, with an element more
-passed-step : {X Y : Type 0} (view : X → Y) (p : Y → Bool) (xs : List X) (i : ℕ) (x : X) → slice_get xs i ≡ Some x → filter p (map view (take (i + 1) xs)) ≡ filter p (map view (take i xs)) ++ filter p (view x ∷ [])
-passed-step view p xs i x read =
-    ap (λ ys. filter p (map view ys)) (take-step xs i x (slice_get_within xs i x read) (sym (get_or_from_slice_get xs i x x read)))
-    ∙ ap (filter p) (map-append view (take i xs) (x ∷ []))
-    ∙ filter-append p (map view (take i xs)) (view x ∷ [])
-
-one-passed : {Y : Type 0} (p : Y → Bool) (y : Y) → p y ≡ true → filter p (y ∷ []) ≡ y ∷ []
-one-passed p y h = rw h refl
-
-none-passed : {Y : Type 0} (p : Y → Bool) (y : Y) → p y ≡ false → filter p (y ∷ []) ≡ []
-none-passed p y h = rw h refl
-
-pub passed-yes : {X Y : Type 0} (view : X → Y) (p : Y → Bool) (xs : List X) (i : ℕ) (x : X) → slice_get xs i ≡ Some x → p (view x) ≡ true → filter p (map view (take (i + 1) xs)) ≡ filter p (map view (take i xs)) ++ view x ∷ []
-passed-yes view p xs i x read h = passed-step view p xs i x read ∙ ap (λ ys. filter p (map view (take i xs)) ++ ys) (one-passed p (view x) h)
-
-pub passed-no : {X Y : Type 0} (view : X → Y) (p : Y → Bool) (xs : List X) (i : ℕ) (x : X) → slice_get xs i ≡ Some x → p (view x) ≡ false → filter p (map view (take (i + 1) xs)) ≡ filter p (map view (take i xs))
-passed-no view p xs i x read h = passed-step view p xs i x read ∙ ap (λ ys. filter p (map view (take i xs)) ++ ys) (none-passed p (view x) h) ∙ append-nil (filter p (map view (take i xs)))

@@ -4,7 +4,7 @@ use Rattle.std.proofs.lemmas.Int.{ints}
 use Rattle.std.specs.List.{AllByRecursion as Each}
 use Rattle.book.specs.declared.limits.TheConstants.{MAX_PLACES}
 use Rattle.book.specs.declared.book.tables.Entries.{Entries}
-use Rattle.book.specs.declared.book.walk.Numbers.{Numbers}
+use Rattle.book.specs.declared.book.sums.Numbers.{Numbers}
 use Rattle.book.specs.declared.entries.FieldEntry.{FieldEntry}
 use Rattle.book.specs.Good.{Good, IsGoodLine, IsGoodMove, IsGoodOrder}
 use Rattle.book.specs.Held.{held_to_add, held_to_take}
@@ -16,26 +16,12 @@ use Rattle.book.specs.Walk.{moved_by_move, moved_by_order}
 use Rattle.book.specs.Running.{IsUpToDate}
 use Rattle.book.specs.Told.{AreGood, HasNumbers, HaveNumbers, IsBounded, IsInForm, IsMoveByItself, IsOrderByItself, IsWhole, told_ledger}
 use Rattle.book.specs.View.{field_of, move_of, order_of}
-use Rattle.book.proofs.Bounds.{HasRoom, Sound, safe_from_room}
-use Rattle.book.proofs.Closing.{one_on}
+use Rattle.book.proofs.Bounds.{HasRoom, safe_from_room}
 use Rattle.book.proofs.Lists.{each-two, each-unmap}
 use Rattle.book.proofs.Walked.{few_sorted}
 use Rattle.book.proofs.Sums.{each-imp, each-map, total-map}
 
 -- ---- what is good is whole, and its entries are on fields
-
-pub whole_from_good : (A : Ledger) → Good A → IsWhole A
-whole_from_good A g = record {
-  in_order = record { fields = g.fields_in_order; moves = g.moves_in_order; orders = g.orders_in_order; kept = g.kept_in_order };
-  limits = record { fields = g.few_fields; orders = g.few_orders; places = g.places_fit };
-  moves = each-imp (λ m x. record { first = x.first; last = x.last; size = x.size }) A.moves g.moves;
-  orders = each-imp (λ o x. by_itself o x) A.orders g.orders;
-  places_in_range = g.places_in_range;
-  places_apart = g.places_apart;
-}
-  where
-    by_itself : (o : Order) → IsGoodOrder A o → IsOrderByItself o
-    by_itself o x = record { number = x.number; until = x.until; some = x.some; few = x.few; lines = each-imp (λ l y. (y.held, y.used)) o.lines x.lines; apart = x.apart; transfer = x.transfer }
 
 pub on_fields_from_good : (e : Entries) → Good (told_ledger e) → AreOnFields e.fields.items e.moves.items e.orders.items
 on_fields_from_good e g = let A : Ledger = told_ledger e in (
@@ -137,10 +123,6 @@ numbers_if e f up =
     let inf = ap (λ (r : FieldCells). r.inf) up in
     let sup = ap (λ (r : FieldCells). r.sup) up in
     record { value = omega (arith, ints); takes = omega (arith, ints); adds = omega (arith, ints) }
-
--- orders that are each good by themselves are sound
-pub sounds_if_whole : (A : Ledger) → IsWhole A → Each Sound A.orders
-sounds_if_whole A w = each-imp (λ o x. record { used = each-imp (λ l y. y.1) o.lines x.lines; one = λ f. one_on f o.lines x.apart }) A.orders w.orders
 
 -- ---- all together
 

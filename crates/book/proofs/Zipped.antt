@@ -8,14 +8,6 @@ zip-push P [] (b ∷ ys) x y h p = absurd h
 zip-push P (a ∷ xs) [] x y h p = absurd h
 zip-push P (a ∷ xs) (b ∷ ys) x y h p = (h.0, zip-push P xs ys x y h.1 p)
 
--- each element of the second list has its partner
-pub zip-at : {X Y : Type 0} (P : X → Y → Type 0) (xs : List X) (ys : List Y) (i : ℕ) (d : Y) → AllZip P xs ys → i < length ys → (x : X) × P x (get_or ys i d)
-zip-at P [] [] i d h lt = absurd (omega arith)
-zip-at P [] (y ∷ ys) i d h lt = absurd h
-zip-at P (x ∷ xs) [] i d h lt = absurd h
-zip-at P (x ∷ xs) (y ∷ ys) zero d h lt = (x, h.0)
-zip-at P (x ∷ xs) (y ∷ ys) (suc i) d h lt = zip-at P xs ys i d h.1 (omega arith)
-
 pub zip-length : {X Y : Type 0} (P : X → Y → Type 0) (xs : List X) (ys : List Y) → AllZip P xs ys → length xs ≡ length ys
 zip-length P [] [] h = omega arith
 zip-length P [] (y ∷ ys) h = absurd h
@@ -41,19 +33,6 @@ zip-drop P (suc i) [] [] h = tt
 zip-drop P (suc i) [] (y ∷ ys) h = absurd h
 zip-drop P (suc i) (x ∷ xs) [] h = absurd h
 zip-drop P (suc i) (x ∷ xs) (y ∷ ys) h = zip-drop P i xs ys h.1
-
--- both one further
-pub zip-next : {X Y : Type 0} (P : X → Y → Type 0) (xs : List X) (ys : List Y) (i : ℕ) (d : X) (e : Y) → i < length xs → i < length ys → AllZip P (take i xs) (take i ys) → P (get_or xs i d) (get_or ys i e) → AllZip P (take (suc i) xs) (take (suc i) ys)
-zip-next P [] ys i d e lt lt' h p = absurd (omega arith)
-zip-next P (x ∷ xs) [] i d e lt lt' h p = absurd (omega arith)
-zip-next P (x ∷ xs) (y ∷ ys) zero d e lt lt' h p = (p, tt)
-zip-next P (x ∷ xs) (y ∷ ys) (suc i) d e lt lt' h p = (h.0, zip-next P xs ys i d e (omega arith) (omega arith) h.1 p)
-
-pub zip-both : {X Y : Type 0} (P : X → Y → Type 0) (xs : List X) (ys : List Y) (i : ℕ) (d : X) (e : Y) → AllZip P xs ys → i < length xs → P (get_or xs i d) (get_or ys i e)
-zip-both P [] ys i d e h lt = absurd (omega arith)
-zip-both P (x ∷ xs) [] i d e h lt = absurd h
-zip-both P (x ∷ xs) (y ∷ ys) zero d e h lt = h.0
-zip-both P (x ∷ xs) (y ∷ ys) (suc i) d e h lt = zip-both P xs ys i d e h.1 (omega arith)
 
 pub get-of-map : {X Y : Type 0} (f : X → Y) (xs : List X) (i : ℕ) (d : X) (e : Y) → i < length xs → get_or (map f xs) i e ≡ f (get_or xs i d)
 get-of-map f [] i d e lt = absurd (omega arith)

@@ -1,10 +1,10 @@
 -- What an accepted command leaves of the orders, and the rows of a ledger as sums over its entries give them.
-use Rattle.std.specs.Prelude.{ℕ, ◌+◌, ◌≤◌, ℤ, pos, neg_ℤ, ◌+ℤ◌, ◌-ℤ◌, Bool, true, false, ◌||◌, ◌==◌, ◌++◌, List, [], ◌∷◌, filter, flat_map, Option, None, Some, option_map, MatchOption, length, if◌then◌else◌}
+use Rattle.std.specs.Prelude.{ℕ, ◌+◌, ◌≤◌, ℤ, pos, neg_ℤ, ◌+ℤ◌, ◌-ℤ◌, Bool, true, false, ◌||◌, ◌==◌, ◌++◌, List, [], ◌∷◌, filter, flat_map, map, Option, None, Some, option_map, MatchOption, length, if◌then◌else◌}
+use Rattle.std.specs.Option.{option_map_or}
 use Rattle.words.specs.declared.command.Command.{Command}
 use Rattle.words.specs.declared.command.Request.{Request}
 use Rattle.words.specs.declared.command.Command.TheVariants.{Abort, Commit, Deliver, Expire, Field, More, Open, Release, Transfer, Use, Writeoff}
 use Rattle.words.specs.declared.limits.TheConstants.{MAX_ORDER_LINES}
-use Rattle.book.specs.declared.entries.OrderEntry.{OrderEntry}
 use Rattle.book.specs.declared.order.Line.{Line}
 use Rattle.book.specs.Changes.{changes_field, has_line_on}
 use Rattle.book.specs.declared.order.Kind.TheVariants as kind
@@ -14,7 +14,6 @@ use Rattle.book.specs.Ledger.{Field as FieldOf, Ledger, Name, Order, is_committe
 use Rattle.book.specs.Next.{accept, add_hold, change_lines, expires, lower_held, new_order, raise_used, set_state, transfer_lines}
 use Rattle.book.specs.Outcomes.{moved, settled, total}
 use Rattle.book.specs.Rows.{Content, FieldCells, KeptCells, LineCells, MoveCells, OrderCells, line_row, move_row, order_row}
-use Rattle.book.specs.View.{order_of}
 
 -- ---- orders
 
@@ -45,10 +44,6 @@ is_touched (Expire now) o = expires now o
 is_touched (Field b a lo hi start) o = false
 is_touched (Deliver b a q) o = false
 is_touched (Writeoff b a q) o = false
-
--- what an order adds to a sum, where it stays as it was
-abbrev pub part_left : (ℕ × OrderEntry → ℤ) → Command → ℕ × OrderEntry → ℤ
-part_left part c o = if is_touched c (order_of o) then pos 0 else part o
 
 -- what the command itself moves on the field
 abbrev pub moved_by_command : Name → Command → ℤ
@@ -138,6 +133,14 @@ abbrev pub expired_orders : Ledger → Command → List Order
 expired_orders A (Expire now) = filter (expires now) A.orders
 expired_orders A c = []
 
+-- their numbers
+abbrev pub expired_numbers : Ledger → Command → List ℕ
+expired_numbers A c = map (λ o. o.number) (expired_orders A c)
+
+-- what the order under the number has, if there is one
+abbrev pub of_numbered : {X : Type 0} → Ledger → (Order → List X) → ℕ → List X
+of_numbered A parts n = option_map_or parts (order_numbered A n) []
+
 -- the row of a line of the order that the command makes is new, or its amounts change
 abbrev pub changes_own_line : Bool → Command → Line → Bool
 changes_own_line transfer (Open n until lines) l = true
@@ -152,9 +155,13 @@ abbrev pub line_rows : (Line → Bool) → ℕ → ℕ → List Line → List Li
 line_rows chosen number nr [] = []
 line_rows chosen number nr (l ∷ ls) = (if chosen l then line_row number nr l ∷ [] else []) ++ line_rows chosen number (nr + 1) ls
 
+-- the row of an order once it is aborted
+abbrev pub aborted_rows : Order → List OrderCells
+aborted_rows o = order_row (set_state state.Aborted o) ∷ []
+
 -- the rows of the orders that expire
 abbrev pub expired_rows : ℕ → List Order → List OrderCells
-expired_rows now os = flat_map (λ o. if expires now o then order_row (set_state state.Aborted o) ∷ [] else []) os
+expired_rows now os = flat_map (λ o. if expires now o then aborted_rows o else []) os
 
 -- the rows of the lines of the order that the command makes, if it makes one
 abbrev pub own_line_rows : Command → Option Order → List LineCells

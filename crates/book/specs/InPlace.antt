@@ -1,19 +1,19 @@
 -- How lines and orders change in place, and when they may.
-use Rattle.std.specs.Prelude.{ℕ, ◌+◌, ◌<◌, ◌≤◌, ◌≡◌, ◌&&◌, ◌||◌, nat_le, true, List, [], ◌∷◌, ◌++◌, MatchOption, None, Option, Some, find, if◌then◌else◌, is_some, map}
-use Rattle.std.specs.List.{AllByRecursion as Each}
+use Rattle.std.specs.Prelude.{ℕ, ◌+◌, ◌<◌, ◌≤◌, ◌≡◌, ◌||◌, ◌==◌, true, List, [], ◌∷◌, ◌++◌, MatchOption, None, Option, Some, find, if◌then◌else◌, is_some, map}
+use Rattle.std.specs.List.{AllByRecursion as Each, fold}
 use Rattle.std.specs.Vec.{vec_capacity, vec_len}
 use Rattle.escrow.specs.Ranges.{IsLevel}
 use Rattle.words.specs.declared.command.Command.{Command}
 use Rattle.words.specs.declared.command.Command.TheVariants as command
 use Rattle.words.specs.declared.open_line.OpenLine.{OpenLine}
-use Rattle.book.specs.declared.book.changes.LineChange.{LineChange}
-use Rattle.book.specs.declared.book.changes.LineChange.TheVariants.{Hold, Release, Use}
-use Rattle.book.specs.declared.book.changes.OrderChange.{OrderChange}
-use Rattle.book.specs.declared.book.changes.OrderChange.TheVariants.{ChangeLines, End, HoldMore}
+use Rattle.book.specs.declared.book.made.LineChange.{LineChange}
+use Rattle.book.specs.declared.book.made.LineChange.TheVariants.{Hold, Release, Use}
+use Rattle.book.specs.declared.book.made.OrderChange.{OrderChange}
+use Rattle.book.specs.declared.book.made.OrderChange.TheVariants.{ChangeLines, End, HoldMore}
 use Rattle.book.specs.declared.entries.OrderEntry.{OrderEntry}
 use Rattle.book.specs.declared.order.Line.{Line}
 use Rattle.book.specs.declared.order.State.TheVariants.{Aborted, Committed}
-use Rattle.book.specs.Ledger.{Order, line_name, name_of, on, open_state, transfer_kind}
+use Rattle.book.specs.Ledger.{Order, line_name, name_of, on, transfer_kind}
 use Rattle.book.specs.Next.{add_hold, change_lines, lower_held, new_line, raise_held, raise_used, set_state}
 
 abbrev pub changed_line : LineChange → Line → Line
@@ -53,6 +53,10 @@ order_change_of (command.Commit n) = Some (n, End Committed)
 order_change_of (command.Abort n) = Some (n, End Aborted)
 order_change_of c = None
 
--- an order once its moment has come, and else as it was
-abbrev pub expired_entry : ℕ → OrderEntry → OrderEntry
-expired_entry now e = if open_state e.state && nat_le e.until now then record e { state = Aborted } else e
+-- the order under the number aborted, and all others as they were
+abbrev pub abort_one : List Order → ℕ → List Order
+abort_one os n = map (λ o. if o.number == n then set_state Aborted o else o) os
+
+-- the orders under these numbers aborted, one after the other
+abbrev pub abort_all : List ℕ → List Order → List Order
+abort_all ns os = fold abort_one os ns

@@ -4,7 +4,7 @@ use Rattle.words.specs.declared.command.Command.{Command}
 use Rattle.words.specs.declared.command.Command.TheVariants as command
 use Rattle.words.specs.declared.command.Request.{Request}
 use Rattle.words.specs.declared.open_line.OpenLine.{OpenLine}
-use Rattle.book.specs.After.{order_after}
+use Rattle.book.specs.After.{expired_numbers, order_after}
 use Rattle.book.specs.Answers.{IsAccepted}
 use Rattle.book.specs.Changes.{changed_rows, put_content}
 use Rattle.book.specs.Ledger.{Ledger, Name, Order, places}
@@ -14,7 +14,7 @@ use Rattle.book.specs.Running.{entry_row}
 use Rattle.book.specs.View.{BookView}
 use Rattle.book.specs.declared.entries.FieldEntry.{FieldEntry}
 
--- a plan as it is seen: the request that it carries out, the place that its command gets, the fields and the order that
+-- a plan as it is seen: the request that it carries out, the place that its command gets, the fields and the orders that
 -- it makes or changes, and the rows that change
 pub record PlanView : Type 0 where
   pub request : Request
@@ -23,6 +23,8 @@ pub record PlanView : Type 0 where
   pub fields : List (Name × FieldEntry)
   -- the order that the command opens or changes, as it is then
   pub made : Option Order
+  -- the numbers of the orders that the command aborts as expired
+  pub expired : List ℕ
   pub changes : Content
 
 -- The rows are those that the request changes.
@@ -34,12 +36,13 @@ pub record ChangesTo (A : Ledger) (r : Request) (rows : Content) : Type 0 where
   -- the desk row is the next ledger's
   pub desk : rows.desk ≡ desk_row (accept A r) ∷ []
 
--- The plan fits the ledger: its request is accepted there, at that place, makes that order, and its rows are those that
--- change; those of fields are the rows of its entries.
+-- The plan fits the ledger: its request is accepted there, at that place, makes that order, ends those as expired, and its
+-- rows are those that change; those of fields are the rows of its entries.
 pub record Fits (A : Ledger) (plan : PlanView) : Type 0 where
   pub accepted : IsAccepted A plan.request
   pub place : plan.place ≡ places A + 1
   pub made : plan.made ≡ order_after A plan.request.command
+  pub expired : plan.expired ≡ expired_numbers A plan.request.command
   pub changes : ChangesTo A plan.request plan.changes
   pub fields : map entry_row plan.fields ≡ plan.changes.fields
 

@@ -12,7 +12,7 @@ use Rattle.words.specs.declared.limits.TheConstants.{MAX_ORDER_LINES}
 use Rattle.book.specs.declared.limits.TheConstants.{MAX_FIELDS, MAX_ORDERS, MAX_PLACES}
 use Rattle.book.specs.declared.book.tables.Entries.{Entries}
 use Rattle.book.specs.declared.book.tables.group.Head.{Head}
-use Rattle.book.specs.declared.book.walk.Numbers.{Numbers}
+use Rattle.book.specs.declared.book.sums.Numbers.{Numbers}
 use Rattle.book.specs.declared.entries.FieldEntry.{FieldEntry}
 use Rattle.book.specs.declared.entries.KeptEntry.{KeptEntry}
 use Rattle.book.specs.declared.entries.MoveEntry.{MoveEntry}
@@ -93,7 +93,7 @@ pub record IsLineTold (l : Line) (row : LineRow) : Type 0 where
 
 pub record IsKeptTold (e : List ℕ × KeptEntry) (row : KeptRow) : Type 0 where
   pub key : IsKey e.0
-  pub command : IsInRange e.1.command
+  pub command : IsInRange e.1.command.value
   pub cells : kept_cells row ≡ kept_row (kept_of e)
 
 -- ---- orders from rows

@@ -3,7 +3,7 @@ use Rattle.std.specs.Prelude.{ℕ, ◌+◌, ◌*◌, ℤ, pos, neg_ℤ, ◌+ℤ�
 use Rattle.escrow.specs.declared.limits.TheConstants.{MAX_LEVEL, MAX_QTY}
 use Rattle.words.specs.declared.limits.TheConstants.{MAX_ORDER_LINES}
 use Rattle.book.specs.declared.limits.TheConstants.{MAX_ORDERS, MAX_PLACES}
-use Rattle.book.specs.declared.book.walk.Numbers.{Numbers}
+use Rattle.book.specs.declared.book.sums.Numbers.{Numbers}
 use Rattle.book.specs.declared.entries.MoveEntry.{MoveEntry}
 use Rattle.book.specs.declared.entries.OrderEntry.{OrderEntry}
 use Rattle.book.specs.declared.order.Line.{Line}
@@ -69,11 +69,6 @@ most_of_orders = most_of_lines * MAX_ORDERS
 
 abbrev pub most_of_all : ℕ
 most_of_all = most_of_moves + most_of_orders
-
--- up or down, at most so much
-pub record IsBetween (most : ℕ) (z : ℤ) : Type 0 where
-  pub low : neg_ℤ (pos most) ≤ℤ z
-  pub high : z ≤ℤ pos most
 
 pub record IsSmall (most : ℕ) (n : Numbers) : Type 0 where
   pub low : neg_ℤ (pos most) ≤ℤ n.moved

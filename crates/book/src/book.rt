@@ -10,25 +10,20 @@ use std::alloc::Global;
 use std::marker::Model;
 
 mod adopt;
-mod after;
-mod changed;
-mod changes;
+mod changed_rows;
 mod checks;
 mod choose;
+mod expiry;
 mod fields;
 mod find;
-mod insert;
-mod line_checks;
+mod made;
 mod plan;
 mod room;
-mod row;
-mod stock;
 mod sums;
 mod tables;
 #[cfg(test)]
 mod tests;
 mod views;
-mod walk;
 
 pub use plan::Planned;
 pub use tables::TablesFault;

@@ -32,9 +32,10 @@ pub struct OrderEntry {
 /// An order under its number.
 pub type Order = (OrderNo, OrderEntry);
 
-/// What is kept under an accepted key: its place and its command.
+/// What is kept under an accepted key: its place and its command. The command lies by itself, so that the list of these
+/// is short.
 #[derive(Debug, Drop)]
 pub struct KeptEntry {
     pub place: u64,
-    pub command: Command,
+    pub command: Box<Command>,
 }

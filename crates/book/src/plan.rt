@@ -8,19 +8,20 @@ ghost use Rattle.book.specs.View.{order_of};
 use crate::entries::{FieldEntry, Order};
 use crate::in_order::InOrder;
 use crate::rows::Change;
-use escrow::{FieldName, Key};
+use escrow::{FieldName, Key, OrderNo};
 use std::marker::Model;
 use words::Command;
 
-/// An accepted request with its place, the fields and the order that it makes or changes, and the rows that change.
+/// An accepted request with its place, the fields and the orders that it makes or changes, and the rows that change.
 /// `Book::plan` gives one that fits the book's ledger.
 #[derive(Debug, Drop)]
 pub struct Plan {
     key: Key,
-    command: Command,
+    command: Box<Command>,
     place: u64,
     fields: InOrder<FieldName, FieldEntry>,
     made: Option<Order>,
+    expired: Vec<OrderNo>,
     changes: Vec<Change>,
 }
 
@@ -28,10 +29,11 @@ pub struct Plan {
 #[derive(Drop)]
 pub(crate) struct PlanParts {
     pub key: Key,
-    pub command: Command,
+    pub command: Box<Command>,
     pub place: u64,
     pub fields: InOrder<FieldName, FieldEntry>,
     pub made: Option<Order>,
+    pub expired: Vec<OrderNo>,
 }
 
 impl Model for Plan {
@@ -42,23 +44,25 @@ impl Model for Plan {
 
     ghost Value = { PlanView };
 
-    ghost view = { λ p. record { request = record { key = p.key; command = p.command }; place = p.place; fields = p.fields.entries; made = option_map order_of p.made; changes = rows_among p.changes.items } };
+    ghost view = { λ p. record { request = record { key = p.key; command = p.command.value }; place = p.place; fields = p.fields.entries; made = option_map order_of p.made; expired = p.expired.items; changes = rows_among p.changes.items } };
 }
 
 impl Plan {
     pub(crate) fn new(
         key: Key,
-        command: Command,
+        command: Box<Command>,
         place: u64,
         fields: InOrder<FieldName, FieldEntry>,
         made: Option<Order>,
+        expired: Vec<OrderNo>,
         changes: Vec<Change>,
     ) -> Plan
         ensures key { result.request.key ≡ key }
-        ensures command { result.request.command ≡ command }
+        ensures command { result.request.command ≡ command.value }
         ensures place { result.place ≡ place }
         ensures fields { result.fields ≡ fields.entries }
         ensures made { result.made ≡ option_map order_of made }
+        ensures expired { result.expired ≡ expired.items }
         ensures changes { result.changes ≡ rows_among changes.items }
     {
         Plan {
@@ -67,6 +71,7 @@ impl Plan {
             place,
             fields,
             made,
+            expired,
             changes,
         }
     }
@@ -93,13 +98,14 @@ impl Plan {
         self.fields.len()
     }
 
-    /// The key, the command, the place, and the fields and the order that it makes or changes.
+    /// The key, the command, the place, the fields and the order that it makes or changes, and the orders that expire.
     pub(crate) fn into_parts(self) -> PlanParts
         ensures key { result.key ≡ self.request.key }
-        ensures command { result.command ≡ self.request.command }
+        ensures command { result.command.value ≡ self.request.command }
         ensures place { result.place ≡ self.place }
         ensures fields { result.fields.entries ≡ self.fields }
         ensures made { option_map order_of result.made ≡ self.made }
+        ensures expired { result.expired.items ≡ self.expired }
     {
         PlanParts {
             key: self.key,
@@ -107,6 +113,7 @@ impl Plan {
             place: self.place,
             fields: self.fields,
             made: self.made,
+            expired: self.expired,
         }
     }
 }

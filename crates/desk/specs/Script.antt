@@ -77,6 +77,15 @@ pub record IsCut (fault : ScriptFault) (went_on is_honest : Type 0) (leaves : Li
   pub next : fault ≡ ScriptFault.Stopped → IsRequestNext left
   pub stopped : fault ≡ ScriptFault.Stopped → went_on → is_honest → StopsAt leaves new left
 
+-- the items are answered, and their lines written
+abbrev pub AnswersAll : Ledger → List Item → Ledger → (writer_old writer_new : Option (List ℕ)) → Type 0
+AnswersAll old items new writer_old writer_new = (lines : List ℕ) × RepliesAll old items lines new × Appends writer_old writer_new lines
+
+-- the answers to the items are cut, and what was written is the lines of the first of them
+abbrev pub AnswersCut : ScriptFault → (went_on is_honest : Type 0) → (List Content → Type 0) → Ledger → List Item → Ledger → (writer_old writer_new : Option (List ℕ)) → Type 0
+AnswersCut fault went_on is_honest leaves old items new writer_old writer_new =
+    (written : List ℕ) × Appends writer_old writer_new written × IsCut fault went_on is_honest leaves old items written new
+
 -- how many bytes a piece of the input has, at the most
 abbrev pub longest_piece : ℕ
 longest_piece = 512

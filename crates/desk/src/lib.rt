@@ -17,4 +17,4 @@ pub use desk::Desk;
 pub use fault::{CallFault, OpenFault, ScriptFault};
 pub use laws::exactly_one_text;
 pub use run::{Ending, Run};
-pub use scripts::script;
+pub use scripts::{answer_all, script};

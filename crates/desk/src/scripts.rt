@@ -5,7 +5,7 @@ ghost use Rattle.std.specs.Io.KnownBytes.{Appends};
 ghost use Rattle.std.specs.List.{AllByRecursion as Each};
 ghost use Rattle.words.specs.Stream.{Feeds};
 ghost use Rattle.desk.specs.Desk.{Keeps};
-ghost use Rattle.desk.specs.Script.{EndsCut, EndsWhole, IsCut, MayAnswer, MayRead};
+ghost use Rattle.desk.specs.Script.{AnswersAll, AnswersCut, EndsCut, EndsWhole, IsCut, MayAnswer, MayRead};
 ghost use Rattle.desk.specs.Text.{Replies, RepliesAll, unended};
 ghost use Rattle.words.specs.declared.item.Item.{Item};
 
@@ -44,17 +44,16 @@ fn answer<K: Keep, W: Write>(
     }
 }
 
-/// Answers items in their order, and writes the line of each before the next is answered.
-fn answer_all<K: Keep, W: Write>(
+/// The same, but for what is always so of a desk.
+fn answer_items<K: Keep, W: Write>(
     alloc: Global,
     writer: &mut W,
     desk: &mut Desk<K>,
     items: &[Item],
 ) -> Result<(), ScriptFault>
-    ensures whole { OnOk result ((lines : List ℕ) × RepliesAll desk.old.ledger items.now lines desk.new.ledger × Appends (W.contents writer.old) (W.contents writer.new) lines) }
+    ensures whole { OnOk result (AnswersAll desk.old.ledger items.now desk.new.ledger (W.contents writer.old) (W.contents writer.new)) }
     ensures may { OnOk result (Each (MayAnswer (K.stopped desk.old.keep ≡ false)) items.now) }
-    ensures cut { IfErr result (λ fault. (written : List ℕ) × Appends (W.contents writer.old) (W.contents writer.new) written
-        × IsCut fault (K.stopped desk.old.keep ≡ false) (K.is_honest desk.new.keep) (K.leaves desk.new.keep) desk.old.ledger items.now written desk.new.ledger) }
+    ensures cut { IfErr result (λ fault. AnswersCut fault (K.stopped desk.old.keep ≡ false) (K.is_honest desk.new.keep) (K.leaves desk.new.keep) desk.old.ledger items.now desk.new.ledger (W.contents writer.old) (W.contents writer.new)) }
     ensures read { result ≢ Err ScriptFault.Read }
     ensures going { result ≢ Err ScriptFault.Stopped → K.stopped desk.new.keep ≡ K.stopped desk.old.keep }
     ensures stopped { result ≡ Err ScriptFault.Stopped → IsTrue (K.stopped desk.new.keep) }
@@ -65,6 +64,35 @@ fn answer_all<K: Keep, W: Write>(
         answer(alloc, writer, desk, item)?;
     }
     Ok(())
+}
+
+/// Answers items in their order, and writes the line of each before the next is answered: requests that were read from elsewhere
+/// are answered as those of a script.
+///
+/// After a fault the first of the items are answered, and what is written is their lines, but for an end of the last one after a
+/// failing write. So want of memory leaves nothing done and not told. `Stopped` is answered only where the desk is stopped, and
+/// `Read` never. Of a desk that was not stopped before, a stop then leaves the rows before the request that it is cut at, or after
+/// it, and in every other case the rows of the desk's ledger alone. A desk that was stopped before answers the items up to the
+/// first request, and changes nothing.
+pub fn answer_all<K: Keep, W: Write>(
+    alloc: Global,
+    items: &[Item],
+    writer: &mut W,
+    desk: &mut Desk<K>,
+) -> Result<(), ScriptFault>
+    ensures whole { OnOk result (AnswersAll desk.old.ledger items.now desk.new.ledger (W.contents writer.old) (W.contents writer.new)) }
+    ensures may { OnOk result (Each (MayAnswer (K.stopped desk.old.keep ≡ false)) items.now) }
+    ensures cut { IfErr result (λ fault. AnswersCut fault (K.stopped desk.old.keep ≡ false) (K.is_honest desk.new.keep) (K.leaves desk.new.keep) desk.old.ledger items.now desk.new.ledger (W.contents writer.old) (W.contents writer.new)) }
+    ensures read { result ≢ Err ScriptFault.Read }
+    ensures going { result ≢ Err ScriptFault.Stopped → K.stopped desk.new.keep ≡ K.stopped desk.old.keep }
+    ensures stopped { result ≡ Err ScriptFault.Stopped → IsTrue (K.stopped desk.new.keep) }
+    ensures untouched { IsTrue (K.stopped desk.old.keep) → desk.new ≡ desk.old }
+    ensures keeps { K.stopped desk.new.keep ≡ false → K.is_honest desk.new.keep → Keeps (K.holds desk.new.keep) (K.leaves desk.new.keep) desk.new.ledger }
+    ensures honest { K.is_honest desk.new.keep → K.is_honest desk.old.keep }
+{
+    let ended = answer_items(alloc, writer, desk, items);
+    desk.in_order();
+    ended
 }
 
 /// Answers the lines that end in a piece.
@@ -86,7 +114,7 @@ fn answer_piece<K: Keep, W: Write>(
     ensures honest { K.is_honest desk.new.keep → K.is_honest desk.old.keep }
 {
     match lines.feed(alloc, piece) {
-        Ok(items) => answer_all(alloc, writer, desk, &items),
+        Ok(items) => answer_items(alloc, writer, desk, &items),
         Err(Memory) => Err(ScriptFault::Memory),
     }
 }

@@ -3,15 +3,16 @@ use crate::samples::{
     long_script, open, opened, play, release_and_abort, replies_of, request, run, sql_keeper,
     transfer,
 };
-use crate::{CallFault, Desk, Ending, OpenFault, ScriptFault};
+use crate::{CallFault, Desk, Ending, OpenFault, ScriptFault, answer_all};
 use book::{Change, FieldRow};
 use keep::{Keep, PlainKeep};
 use sqlite::{Connection, MemStore};
+use std::alloc::Global;
 use std::io;
 use std::io::{Read, Write};
 use std::process::Abort;
 use std::test::Fail;
-use words::{Refusal, Reply, Request};
+use words::{Item, Refusal, Reply, Request, read_item};
 
 /// A keeper of a new desk that never fails.
 fn plain_keeper<R: AllocGlobal>(rt: &R) -> PlainKeep {
@@ -125,6 +126,49 @@ fn a_script_goes_on_after_any_failing_commit(rt: HostRuntime) -> Result<(), Fail
         expect_resumed(&rt, fail_at, true, cut)?;
     }
     Ok(())
+}
+
+/// The items that the lines of these rows say.
+fn items_of<R: AllocGlobal>(rt: &R, rows: &[Row]) -> Result<Vec<Item>, Fail> {
+    let mut items = Vec::new(rt.alloc());
+    for (line, _) in rows {
+        items.push(read_item(rt.alloc(), line.as_bytes())?)?;
+    }
+    Ok(items)
+}
+
+/// What the answers to items end with: the call without its clauses.
+fn answer_items<K: Keep>(
+    alloc: Global,
+    items: &[Item],
+    out: &mut Vec<u8>,
+    desk: &mut Desk<K>,
+) -> Result<(), ScriptFault> {
+    answer_all(alloc, items, out, desk)
+}
+
+/// The items of the long script end so on a new desk on which that commit fails, and so many of them are answered.
+fn expect_items<R: Abort + AllocGlobal>(
+    rt: &R,
+    fail_at: Option<u64>,
+    ended: Result<(), ScriptFault>,
+    count: usize,
+) -> Result<(), Fail> {
+    let rows = long_script();
+    let items = items_of(rt, rows)?;
+    let mut desk = opened(rt, PlainKeep::start(rt.alloc(), fail_at, false))?;
+    let mut out: Vec<u8> = Vec::new(rt.alloc());
+    let done = answer_items(rt.alloc(), &items, &mut out, &mut desk);
+    let replies = replies_of(rt.alloc(), rows.get(..count).ok_or("rows")?)?;
+    assert_eq!(rt; done, ended);
+    assert!(rt; out.as_slice() == replies.as_slice());
+    Ok(())
+}
+
+#[test]
+fn items_are_answered_as_those_of_a_script(rt: HostRuntime) -> Result<(), Fail> {
+    expect_items(&rt, None, Ok(()), long_script().len())?;
+    expect_items(&rt, Some(3), Err(ScriptFault::Stopped), 6)
 }
 
 /// The desk's one field has this value and this infimum.

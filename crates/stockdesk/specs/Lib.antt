@@ -1,3 +1,6 @@
 pub mod Runs
 pub mod Sessions
+pub mod Requests
+pub mod Sheets
 pub mod Tasks
+pub mod Done

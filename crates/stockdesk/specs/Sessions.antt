@@ -37,18 +37,7 @@ pub record KeepsOn {K : Type 0} (g : Ghosts K) (was : Content → Type 0) (keep 
   pub held : g.stopped keep ≡ false → (x : Content) → was x → g.holds keep x
   pub alone : (x : Content) → was x → g.leaves keep (x ∷ [])
 
--- ---- sessions
-
--- The desk whose rows were held was opened, all of the input was read, and its text written. The keeper goes on; if the disk is
--- honest, it keeps the rows of the ledger behind the text, and a stop leaves these alone.
-pub record SessionWhole {K : Type 0} (g : Ghosts K) (keep : K) (held : Content → Type 0) (reader_old reader_new writer_old writer_new : Option (List ℕ)) : Type 0 where
-  pub first : Ledger
-  pub last : Ledger
-  pub good : Good first
-  pub rows : g.is_honest keep → (x : Content) → held x → IsRowsOf first x
-  pub ends : EndsWhole first last reader_old reader_new writer_old writer_new
-  pub going : g.stopped keep ≡ false
-  pub kept : g.is_honest keep → KeepsRows (g.holds keep) (g.leaves keep) last
+-- ---- faults
 
 -- a fault of the script is told as the program's
 pub record IsToldAs (cause : ScriptFault) (fault : Fault) : Type 0 where
@@ -61,39 +50,68 @@ pub record IsToldAs (cause : ScriptFault) (fault : Fault) : Type 0 where
 abbrev pub IsNoDesk : Fault → Type 0
 IsNoDesk fault = (fault ≡ Fault.NotADesk) ⊎ (fault ≡ Fault.Damaged)
 
--- where there is no desk, nothing is read from the input or written to the output
-abbrev pub ReadsDesks : Fault → (reader_old reader_new writer_old writer_new : Option (List ℕ)) → Type 0
-ReadsDesks fault reader_old reader_new writer_old writer_new = IsNoDesk fault → Keeps reader_old reader_new × Keeps writer_old writer_new
+-- a file of requests cannot be read, or has a record at fault
+abbrev pub IsBadFile : Fault → Type 0
+IsBadFile fault = (fault ≡ Fault.Csv) ⊎ ((number : ℕ) × (fault ≡ Fault.BadRecord number))
 
--- No desk was opened, and nothing was read from the input or written to the output. If the disk is honest, what is held is no
--- desk or damaged where that is told, and the keeper is left so.
-pub record SessionRefused {K : Type 0} (g : Ghosts K) (fault : Fault) (keep : K) (held tables : Content → Type 0) (IsLeftSo : Type 0) (reader_old reader_new writer_old writer_new : Option (List ℕ)) : Type 0 where
-  pub reads : Keeps reader_old reader_new
-  pub writes : Keeps writer_old writer_new
+-- nothing is begun where there is no desk, or no file of requests
+abbrev pub IsUnbegun : Fault → Type 0
+IsUnbegun fault = IsNoDesk fault ⊎ IsBadFile fault
+
+-- ---- sessions, whatever is done on the desk from its first ledger to its last
+
+-- The desk whose rows were held was opened, and all was done. The keeper goes on; if the disk is honest, it keeps the rows of the
+-- last ledger, and a stop leaves these alone.
+pub record SessionWhole {K : Type 0} (g : Ghosts K) (keep : K) (held : Content → Type 0) (AllDone : Ledger → Ledger → Type 0) : Type 0 where
+  pub first : Ledger
+  pub last : Ledger
+  pub good : Good first
+  pub rows : g.is_honest keep → (x : Content) → held x → IsRowsOf first x
+  pub ends : AllDone first last
+  pub going : g.stopped keep ≡ false
+  pub kept : g.is_honest keep → KeepsRows (g.holds keep) (g.leaves keep) last
+
+-- No desk was opened. If the disk is honest, what is held is no desk or damaged where that is told, and the keeper is left so.
+pub record SessionRefused {K : Type 0} (g : Ghosts K) (fault : Fault) (keep : K) (held tables : Content → Type 0) (IsLeftSo : Type 0) : Type 0 where
   pub not_a_desk : fault ≡ Fault.NotADesk → g.is_honest keep → (x : Content) → tables x → ¬ IsDesk x
   pub damaged : fault ≡ Fault.Damaged → g.is_honest keep → (x : Content) → held x → IsDamaged x
-  pub opening : (fault ≢ Fault.Read) × (fault ≢ Fault.Write)
+  pub opening : IsNoDesk fault ⊎ ((fault ≡ Fault.Memory) ⊎ (fault ≡ Fault.Store))
   pub stopped : (fault ≡ Fault.Store) ⊎ (fault ≡ Fault.NotADesk) → IsTrue (g.stopped keep)
   pub going : fault ≡ Fault.Damaged → g.stopped keep ≡ false
   pub left : g.is_honest keep → IsLeftSo
 
--- The desk whose rows were held was opened, and the script cut. A fault of the store has stopped the keeper; after any other
--- it goes on, and if the disk is honest it keeps the rows of the ledger, which alone a stop leaves.
-pub record SessionCut {K : Type 0} (g : Ghosts K) (fault : Fault) (keep : K) (held : Content → Type 0) (reader_old reader_new writer_old writer_new : Option (List ℕ)) : Type 0 where
+-- The desk whose rows were held was opened, and what was done cut. A fault of the store has stopped the keeper; after any other
+-- it goes on, and if the disk is honest it keeps the rows of the last ledger, which alone a stop leaves.
+pub record SessionCut {K : Type 0} (g : Ghosts K) (fault : Fault) (keep : K) (held : Content → Type 0) (PartDone : Ledger → Ledger → Type 0) : Type 0 where
   pub first : Ledger
   pub last : Ledger
-  pub cause : ScriptFault
   pub good : Good first
   pub rows : g.is_honest keep → (x : Content) → held x → IsRowsOf first x
-  pub ends : EndsCut cause (false ≡ false) (g.is_honest keep) (g.leaves keep) first last reader_old reader_new writer_old writer_new
-  pub told : IsToldAs cause fault
+  pub ends : PartDone first last
   pub desk : ¬ IsNoDesk fault
   pub stopped : fault ≡ Fault.Store → IsTrue (g.stopped keep)
   pub going : fault ≢ Fault.Store → g.stopped keep ≡ false
   pub kept : fault ≢ Fault.Store → g.is_honest keep → KeepsRows (g.holds keep) (g.leaves keep) last
 
--- no desk was opened, or one was, and the script cut
-abbrev pub SessionInPart : {K : Type 0} → Ghosts K → Fault → K → (held tables : Content → Type 0) → (IsLeftSo : Type 0) → (reader_old reader_new writer_old writer_new : Option (List ℕ)) → Type 0
-SessionInPart g fault keep held tables IsLeftSo reader_old reader_new writer_old writer_new =
-    SessionRefused g fault keep held tables IsLeftSo reader_old reader_new writer_old writer_new
-    ⊎ SessionCut g fault keep held reader_old reader_new writer_old writer_new
+-- no desk was opened, and so much is untouched; or one was, and what was done cut
+abbrev pub SessionInPart : {K : Type 0} → Ghosts K → Fault → K → (held tables : Content → Type 0) → (IsLeftSo Untouched : Type 0) → (Ledger → Ledger → Type 0) → Type 0
+SessionInPart g fault keep held tables IsLeftSo Untouched PartDone =
+    (SessionRefused g fault keep held tables IsLeftSo × Untouched) ⊎ SessionCut g fault keep held PartDone
+
+-- ---- scripts
+
+-- the script was cut, by a fault that is told so
+abbrev pub ScriptCut : Fault → (is_honest : Type 0) → (List Content → Type 0) → (reader_old reader_new writer_old writer_new : Option (List ℕ)) → Ledger → Ledger → Type 0
+ScriptCut fault is_honest leaves reader_old reader_new writer_old writer_new first last =
+    (cause : ScriptFault) × IsToldAs cause fault × EndsCut cause (false ≡ false) is_honest leaves first last reader_old reader_new writer_old writer_new
+
+-- all of the input was read, and its text written from the desk's ledger on
+abbrev pub ScriptWhole : {K : Type 0} → Ghosts K → K → (Content → Type 0) → (reader_old reader_new writer_old writer_new : Option (List ℕ)) → Type 0
+ScriptWhole g keep held reader_old reader_new writer_old writer_new =
+    SessionWhole g keep held (λ first last. EndsWhole first last reader_old reader_new writer_old writer_new)
+
+-- no desk was opened, and nothing read from the input or written to the output; or one was, and the script cut
+abbrev pub ScriptInPart : {K : Type 0} → Ghosts K → Fault → K → (held tables : Content → Type 0) → (IsLeftSo : Type 0) → (reader_old reader_new writer_old writer_new : Option (List ℕ)) → Type 0
+ScriptInPart g fault keep held tables IsLeftSo reader_old reader_new writer_old writer_new =
+    SessionInPart g fault keep held tables IsLeftSo (Keeps reader_old reader_new × Keeps writer_old writer_new)
+    (ScriptCut fault (g.is_honest keep) (g.leaves keep) reader_old reader_new writer_old writer_new)

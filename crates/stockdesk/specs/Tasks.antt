@@ -2,30 +2,70 @@
 use Rattle.std.specs.Prelude.{◌≡◌, ◌∷◌, [], List, Option, Some, true, codes, option_map}
 use Rattle.clap.specs.Words.{App, Row, Rule, Text, first_of, new_app, new_rule, with_rule, with_subcommand}
 use Rattle.clap.specs.declared.builder.action.ArgAction.TheVariants.{Set}
+use Rattle.stockdesk.specs.declared.sheet.Shown.TheVariants.{OfArticle, OfBranch}
 use Rattle.stockdesk.specs.declared.tasks.Task.{Task}
-use Rattle.stockdesk.specs.declared.tasks.Task.TheVariants.{Init, Run}
+use Rattle.stockdesk.specs.declared.tasks.Task.TheVariants.{Deliveries, Init, Orders, Run, Sheet}
 
-abbrev pub file : Rule
-file = record (new_rule (codes "FILE")) { action = Some Set }
+-- a word of that name
+abbrev pub word : Text → Rule
+word name = record (new_rule name) { action = Some Set }
+
+-- a word of that name that is always there
+abbrev pub needed : Text → Rule
+needed name = record (word name) { required = true }
 
 -- `init FILE`
 abbrev pub init : App
-init = with_rule (new_app (codes "init")) (record file { required = true })
+init = with_rule (new_app (codes "init")) (needed (codes "FILE"))
 
 -- `run [FILE]`
 abbrev pub run : App
-run = with_rule (new_app (codes "run")) file
+run = with_rule (new_app (codes "run")) (word (codes "FILE"))
 
--- one of the two
+-- a command with a file and one word more
+abbrev pub on_file : Text → Text → App
+on_file name second = with_rule (with_rule (new_app name) (needed (codes "FILE"))) (needed second)
+
+-- `orders FILE CSV`
+abbrev pub orders : App
+orders = on_file (codes "orders") (codes "CSV")
+
+-- `deliveries FILE CSV`
+abbrev pub deliveries : App
+deliveries = on_file (codes "deliveries") (codes "CSV")
+
+-- `sheet FILE BRANCH`
+abbrev pub sheet : App
+sheet = on_file (codes "sheet") (codes "BRANCH")
+
+-- `article FILE ARTICLE`
+abbrev pub article : App
+article = on_file (codes "article") (codes "ARTICLE")
+
+-- two commands more
+abbrev pub with_both : App → App → App → App
+with_both app first second = with_subcommand (with_subcommand app first.top) second.top
+
+-- the program's name, and one of the commands of scripts
+abbrev pub scripts : App
+scripts = let named = new_app (codes "stockdesk") in with_both (record named { top = record named.top { subcommand_required = true } }) init run
+
+-- one of the six
 abbrev pub stockdesk : App
-stockdesk =
-    let named = new_app (codes "stockdesk") in
-    with_subcommand (with_subcommand (record named { top = record named.top { subcommand_required = true } }) init.top) run.top
+stockdesk = with_both (with_both scripts orders deliveries) sheet article
 
--- the first word, with what was found behind it, asks for this task
-abbrev pub AsksFor : Option (Text × List Row) → Task → Type 0
-AsksFor found (Init path) = (rows : List Row) × (found ≡ Some (codes "init", rows)) × (first_of (codes "FILE") rows ≡ Some path.now)
-AsksFor found (Run path) = (rows : List Row) × (found ≡ Some (codes "run", rows)) × (first_of (codes "FILE") rows ≡ option_map (λ p. p.now) path)
+-- the first word behind the program's name, and what was found behind it, ask for this task
+abbrev pub AsksFor : Text → List Row → Task → Type 0
+AsksFor name rows (Init path) = (name ≡ codes "init") × (first_of (codes "FILE") rows ≡ Some path.now)
+AsksFor name rows (Run path) = (name ≡ codes "run") × (first_of (codes "FILE") rows ≡ option_map (λ p. p.now) path)
+AsksFor name rows (Orders path csv) = (name ≡ codes "orders") × (first_of (codes "FILE") rows ≡ Some path.now) × (first_of (codes "CSV") rows ≡ Some csv.now)
+AsksFor name rows (Deliveries path csv) = (name ≡ codes "deliveries") × (first_of (codes "FILE") rows ≡ Some path.now) × (first_of (codes "CSV") rows ≡ Some csv.now)
+AsksFor name rows (Sheet path (OfBranch branch)) = (name ≡ codes "sheet") × (first_of (codes "FILE") rows ≡ Some path.now) × (first_of (codes "BRANCH") rows ≡ Some branch)
+AsksFor name rows (Sheet path (OfArticle article)) = (name ≡ codes "article") × (first_of (codes "FILE") rows ≡ Some path.now) × (first_of (codes "ARTICLE") rows ≡ Some article)
+
+-- what was found of the words asks for this task
+abbrev pub Asks : Option (Text × List Row) → Task → Type 0
+Asks found task = (name : Text) × (rows : List Row) × (found ≡ Some (name, rows)) × AsksFor name rows task
 
 -- the words are the program's name and `run`
 abbrev pub IsPlainRun : List Text → Type 0

@@ -4,10 +4,14 @@ ghost use Rattle.std.specs.Prelude.{◌≡◌, ◌≢◌, ◌⊎◌, ◌↔◌, 
 ghost use Rattle.std.specs.Io.KnownBytes.{Keeps};
 ghost use Rattle.sqlite.specs.WalFiles.{image_at};
 ghost use Rattle.keep.specs.Starts.{StartsWith};
-ghost use Rattle.stockdesk.specs.Sessions.{IsNewDesk, KeepsOn, OpensWith, SessionInPart, SessionWhole};
+ghost use Rattle.stockdesk.specs.Requests.{FileInPart, FileWhole};
+ghost use Rattle.stockdesk.specs.Sessions.{IsNewDesk, KeepsOn, OpensWith, ScriptInPart, ScriptWhole};
+ghost use Rattle.stockdesk.specs.Sheets.{SheetInPart, SheetWhole};
 
 use crate::new_desk::new_desk;
+use crate::requests::{self, Kind};
 use crate::session::{Fault, session};
+use crate::sheet::{self, Shown};
 use keep::{Keep, SqlKeep, open_path};
 use sqlite::{Connection, Error, ErrorCode, FileFrom, FileStore, Start};
 use sqlite_disk::Disk;
@@ -141,12 +145,49 @@ pub fn run<S: Start, R: Read, W: Write>(
     reader: &mut R,
     writer: &mut W,
 ) -> Result<(SqlKeep<FileStore<FileFrom<S>>>, Result<(), Fault>), Fault>
-    ensures whole { IfOk result (λ r. OnOk r.1 (SessionWhole ⟦<SqlKeep<FileStore<FileFrom<S>>> as Keep>⟧ r.0 (StartsWith (image_at S.Start)) (R.remaining reader.old) (R.remaining reader.new) (W.contents writer.old) (W.contents writer.new))) }
-    ensures cut { IfOk result (λ r. IfErr r.1 (λ fault. SessionInPart ⟦<SqlKeep<FileStore<FileFrom<S>>> as Keep>⟧ fault r.0 (StartsWith (image_at S.Start)) (StartsWith (image_at S.Start)) (KeepsOn ⟦<SqlKeep<FileStore<FileFrom<S>>> as Keep>⟧ (StartsWith (image_at S.Start)) r.0)
+    ensures whole { IfOk result (λ r. OnOk r.1 (ScriptWhole ⟦<SqlKeep<FileStore<FileFrom<S>>> as Keep>⟧ r.0 (StartsWith (image_at S.Start)) (R.remaining reader.old) (R.remaining reader.new) (W.contents writer.old) (W.contents writer.new))) }
+    ensures cut { IfOk result (λ r. IfErr r.1 (λ fault. ScriptInPart ⟦<SqlKeep<FileStore<FileFrom<S>>> as Keep>⟧ fault r.0 (StartsWith (image_at S.Start)) (StartsWith (image_at S.Start)) (KeepsOn ⟦<SqlKeep<FileStore<FileFrom<S>>> as Keep>⟧ (StartsWith (image_at S.Start)) r.0)
         (R.remaining reader.old) (R.remaining reader.new) (W.contents writer.old) (W.contents writer.new))) }
     ensures unopened { OnErr result (Keeps (R.remaining reader.old) (R.remaining reader.new) × Keeps (W.contents writer.old) (W.contents writer.new)) }
     ensures fault { IfErr result (λ fault. (fault ≡ Fault.NotADesk) ⊎ ((fault ≡ Fault.Memory) ⊎ (fault ≡ Fault.Store))) }
 {
     let keep = open(rt, path, start)?;
     Ok(session(rt.alloc(), keep, reader, writer))
+}
+
+/// Answers a file of requests on the desk in the file at the path, likewise.
+pub fn answer<S: Start, W: Write>(
+    rt: &HostRuntime,
+    path: &str,
+    start: S,
+    kind: Kind,
+    csv: &str,
+    writer: &mut W,
+) -> Result<(SqlKeep<FileStore<FileFrom<S>>>, Result<(), Fault>), Fault>
+    ensures whole { IfOk result (λ r. OnOk r.1 (FileWhole ⟦<SqlKeep<FileStore<FileFrom<S>>> as Keep>⟧ r.0 (StartsWith (image_at S.Start)) (W.contents writer.old) (W.contents writer.new))) }
+    ensures cut { IfOk result (λ r. IfErr r.1 (λ fault. FileInPart ⟦<SqlKeep<FileStore<FileFrom<S>>> as Keep>⟧ fault r.0 (StartsWith (image_at S.Start)) (StartsWith (image_at S.Start)) (KeepsOn ⟦<SqlKeep<FileStore<FileFrom<S>>> as Keep>⟧ (StartsWith (image_at S.Start)) r.0)
+        (W.contents writer.old) (W.contents writer.new))) }
+    ensures unopened { OnErr result (Keeps (W.contents writer.old) (W.contents writer.new)) }
+    ensures fault { IfErr result (λ fault. (fault ≡ Fault.NotADesk) ⊎ ((fault ≡ Fault.Memory) ⊎ (fault ≡ Fault.Store))) }
+{
+    let keep = open(rt, path, start)?;
+    Ok(requests::answer(rt, keep, kind, csv, writer))
+}
+
+/// Writes a sheet of the desk in the file at the path, likewise.
+pub fn show<S: Start, W: Write>(
+    rt: &HostRuntime,
+    path: &str,
+    start: S,
+    shown: &Shown,
+    writer: &mut W,
+) -> Result<(SqlKeep<FileStore<FileFrom<S>>>, Result<(), Fault>), Fault>
+    ensures whole { IfOk result (λ r. OnOk r.1 (SheetWhole ⟦<SqlKeep<FileStore<FileFrom<S>>> as Keep>⟧ r.0 (StartsWith (image_at S.Start)) shown.now (W.contents writer.old) (W.contents writer.new))) }
+    ensures cut { IfOk result (λ r. IfErr r.1 (λ fault. SheetInPart ⟦<SqlKeep<FileStore<FileFrom<S>>> as Keep>⟧ fault r.0 (StartsWith (image_at S.Start)) (StartsWith (image_at S.Start)) (KeepsOn ⟦<SqlKeep<FileStore<FileFrom<S>>> as Keep>⟧ (StartsWith (image_at S.Start)) r.0)
+        shown.now (W.contents writer.old) (W.contents writer.new))) }
+    ensures unopened { OnErr result (Keeps (W.contents writer.old) (W.contents writer.new)) }
+    ensures fault { IfErr result (λ fault. (fault ≡ Fault.NotADesk) ⊎ ((fault ≡ Fault.Memory) ⊎ (fault ≡ Fault.Store))) }
+{
+    let keep = open(rt, path, start)?;
+    Ok(sheet::show(rt.alloc(), keep, shown, writer))
 }

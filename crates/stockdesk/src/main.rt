@@ -1,83 +1,42 @@
 //! The desk, over lines of text on standard input and output.
 #![tactic(auto)]
 
-ghost use Rattle.std.specs.Prelude.{◌≡◌, ◌≢◌, ◌≤◌, ◌⊎◌, ◌↔◌, None, map, IfErr, OnErr, OnOk};
+ghost use Rattle.std.specs.Prelude.{◌≡◌, ◌≢◌, ◌≤◌, ◌⊎◌, map};
 ghost use Rattle.std.specs.Io.KnownBytes.{Keeps};
 ghost use Rattle.book.specs.Ledger.{new_ledger};
 ghost use Rattle.clap.specs.Words.{kind_of};
-ghost use Rattle.stockdesk.specs.Runs.{BeginsText, PlaysInPart, PlaysWhole, RunsWhole};
-ghost use Rattle.stockdesk.specs.Sessions.{IsNoDesk, ReadsDesks};
+ghost use Rattle.stockdesk.specs.Done.{DoesAsked, DoesAskedInPart};
+ghost use Rattle.stockdesk.specs.Runs.{BeginsText, RunsWhole};
+ghost use Rattle.stockdesk.specs.Sessions.{IsBadFile, IsNoDesk, IsUnbegun};
 ghost use Rattle.stockdesk.specs.Tasks.{IsPlainRun};
 
 mod file;
 mod memory;
 mod new_desk;
+mod perform;
+mod requests;
 mod session;
+mod sheet;
 mod tasks;
 #[cfg(test)]
 mod tests;
 
+use crate::perform::perform;
 use crate::session::Fault;
-use crate::tasks::{Task, read_task};
+use crate::tasks::read_task;
 use clap::Error as WordsError;
 use clap::error::ErrorKind as WordsKind;
-use sqlite::Unknown;
 use std::env::{self, Env};
 use std::io::{self, ErrorKind, Read, Write};
 use std::process::ExitCode;
 use words::write_whole;
 
-/// Makes a new desk in the file at the path, and closes it.
-fn init_file(rt: &HostRuntime, path: &str) -> Result<(), Fault>
-    ensures { IfErr result (λ fault. (fault ≡ Fault.NotADesk) ⊎ ((fault ≡ Fault.Memory) ⊎ (fault ≡ Fault.Store))) }
-{
-    file::close(file::init(rt, path, Unknown)?);
-    Ok(())
-}
-
-/// Plays a script on the desk in the file at the path, and closes it.
-fn run_file<R: Read, W: Write>(
-    rt: &HostRuntime,
-    path: &str,
-    reader: &mut R,
-    writer: &mut W,
-) -> Result<(), Fault>
-    ensures whole { OnOk result (PlaysWhole (R.remaining reader.old) (R.remaining reader.new) (W.contents writer.old) (W.contents writer.new)) }
-    ensures beginning { OnErr result (PlaysInPart (R.remaining reader.old) (R.remaining reader.new) (W.contents writer.old) (W.contents writer.new)) }
-    ensures desk { IfErr result (λ fault. ReadsDesks fault (R.remaining reader.old) (R.remaining reader.new) (W.contents writer.old) (W.contents writer.new)) }
-{
-    let (keep, ended) = file::run(rt, path, Unknown, reader, writer)?;
-    file::close(keep);
-    ended
-}
-
-/// Does what is asked for.
-pub fn perform<R: Read, W: Write>(
-    rt: &HostRuntime,
-    task: Task<'_>,
-    reader: &mut R,
-    writer: &mut W,
-) -> Result<(), Fault>
-    ensures memory { task.entry ≡ Task.Run None → OnOk result (RunsWhole (R.remaining reader.old) (R.remaining reader.new) (W.contents writer.old) (W.contents writer.new)) }
-    ensures begun { task.entry ≡ Task.Run None → OnErr result (BeginsText new_ledger (R.remaining reader.old) (R.remaining reader.new) (W.contents writer.old) (W.contents writer.new)) }
-    ensures new { task.entry ≡ Task.Run None → IfErr result (λ fault. ¬ IsNoDesk fault) }
-    ensures whole { OnOk result ((Keeps (R.remaining reader.old) (R.remaining reader.new) × Keeps (W.contents writer.old) (W.contents writer.new))
-        ⊎ PlaysWhole (R.remaining reader.old) (R.remaining reader.new) (W.contents writer.old) (W.contents writer.new)) }
-    ensures beginning { OnErr result (PlaysInPart (R.remaining reader.old) (R.remaining reader.new) (W.contents writer.old) (W.contents writer.new)) }
-    ensures desk { IfErr result (λ fault. ReadsDesks fault (R.remaining reader.old) (R.remaining reader.new) (W.contents writer.old) (W.contents writer.new)) }
-{
-    match task {
-        Task::Init(path) => init_file(rt, path),
-        Task::Run(Some(path)) => run_file(rt, path, reader, writer),
-        Task::Run(None) => memory::run(rt.alloc(), reader, writer),
-    }
-}
-
 /// The status of a fault, which is told in a line of `errors`.
 fn tell_fault<E: Write>(errors: &mut E, fault: Fault) -> u8
     ensures desk { IsNoDesk fault → result ≡ 3 }
-    ensures other { (¬ IsNoDesk fault) → result ≡ 1 }
-    ensures only { (result ≡ 1) ⊎ ((result ≡ 3) × IsNoDesk fault) }
+    ensures file { IsBadFile fault → result ≡ 4 }
+    ensures other { (¬ IsUnbegun fault) → result ≡ 1 }
+    ensures only { (result ≡ 1) ⊎ (((result ≡ 3) × IsNoDesk fault) ⊎ ((result ≡ 4) × IsBadFile fault)) }
 {
     match fault {
         Fault::NotADesk => tell(errors, b"stockdesk: not a desk\n", 3),
@@ -85,6 +44,11 @@ fn tell_fault<E: Write>(errors: &mut E, fault: Fault) -> u8
         Fault::Memory => tell(errors, b"stockdesk: memory\n", 1),
         Fault::Store => tell(errors, b"stockdesk: store\n", 1),
         Fault::Read | Fault::Write => tell(errors, b"stockdesk: io\n", 1),
+        Fault::Csv => tell(errors, b"stockdesk: csv\n", 4),
+        Fault::BadRecord(number) => {
+            let _ = writeln!(errors, "stockdesk: record {number}");
+            4
+        }
     }
 }
 
@@ -97,8 +61,8 @@ fn tell<E: Write>(errors: &mut E, line: &[u8], status: u8) -> u8
 }
 
 /// Does what the words ask for, of which the first is the program's name, and gives the status to end with: 0 where it is
-/// done, 1 after a fault, 2 for words that ask for nothing, 3 where the file is no desk or damaged. All but 0 is told on
-/// `errors`.
+/// done, 1 after a fault, 2 for words that ask for nothing, 3 where the file is no desk or damaged, 4 where a file of requests
+/// cannot be read or has a record at fault. All but 0 is told on `errors`.
 pub fn go<'a, R, W, E>(
     rt: &HostRuntime,
     words: &'a [&'a str],
@@ -110,11 +74,10 @@ where
     R: Read,
     W: Write,
     E: Write,
-    ensures status { result ≤ 3 }
-    ensures done { result ≡ 0 → (Keeps (R.remaining reader.old) (R.remaining reader.new) × Keeps (W.contents writer.old) (W.contents writer.new))
-        ⊎ PlaysWhole (R.remaining reader.old) (R.remaining reader.new) (W.contents writer.old) (W.contents writer.new) }
-    ensures fault { result ≢ 0 → PlaysInPart (R.remaining reader.old) (R.remaining reader.new) (W.contents writer.old) (W.contents writer.new) }
-    ensures untouched { (result ≡ 2) ⊎ (result ≡ 3) → Keeps (R.remaining reader.old) (R.remaining reader.new) × Keeps (W.contents writer.old) (W.contents writer.new) }
+    ensures status { result ≤ 4 }
+    ensures done { result ≡ 0 → DoesAsked (map (λ s. s.now) words.entry.now) (R.remaining reader.old) (R.remaining reader.new) (W.contents writer.old) (W.contents writer.new) }
+    ensures fault { result ≢ 0 → DoesAskedInPart (map (λ s. s.now) words.entry.now) (R.remaining reader.old) (R.remaining reader.new) (W.contents writer.old) (W.contents writer.new) }
+    ensures untouched { (result ≡ 2) ⊎ ((result ≡ 3) ⊎ (result ≡ 4)) → Keeps (R.remaining reader.old) (R.remaining reader.new) × Keeps (W.contents writer.old) (W.contents writer.new) }
     // the one word `run`: status 0, and all that was there is answered, or status 1 and a beginning of that
     ensures plain { IsPlainRun (map (λ s. s.now) words.entry.now)
         → ((result ≡ 0) × RunsWhole (R.remaining reader.old) (R.remaining reader.new) (W.contents writer.old) (W.contents writer.new))
@@ -125,7 +88,7 @@ where
         Ok(None) => return tell(errors, b"stockdesk: usage\n", 2),
         Err(error) => return tell_words(errors, &error),
     };
-    match perform(rt, task, reader, writer) {
+    match perform(rt, &task, reader, writer) {
         Ok(()) => 0,
         Err(fault) => tell_fault(errors, fault),
     }

@@ -3,7 +3,7 @@
 ghost use Rattle.std.specs.Prelude.{◌≡◌, ◌⊎◌, IfErr, IfOk, OnErr, OnOk};
 ghost use Rattle.book.specs.Ledger.{new_ledger};
 ghost use Rattle.stockdesk.specs.Runs.{BeginsText, RunsSoFar, RunsWhole};
-ghost use Rattle.stockdesk.specs.Sessions.{IsNewDesk, IsNoDesk};
+ghost use Rattle.stockdesk.specs.Sessions.{IsNewDesk, IsUnbegun};
 
 use crate::new_desk::new_desk;
 use crate::session::{Fault, session};
@@ -32,7 +32,7 @@ fn new_keeper(alloc: Global) -> Result<SqlKeep<MemStore>, Fault>
 pub fn run<R: Read, W: Write>(alloc: Global, reader: &mut R, writer: &mut W) -> Result<(), Fault>
     ensures whole { OnOk result (RunsWhole (R.remaining reader.old) (R.remaining reader.new) (W.contents writer.old) (W.contents writer.new)) }
     ensures beginning { OnErr result (BeginsText new_ledger (R.remaining reader.old) (R.remaining reader.new) (W.contents writer.old) (W.contents writer.new)) }
-    ensures desk { IfErr result (λ fault. ¬ IsNoDesk fault) }
+    ensures desk { IfErr result (λ fault. ¬ IsUnbegun fault) }
     ensures prompt { IfErr result (λ fault. fault ≡ Fault.Read → RunsSoFar new_ledger (R.remaining reader.old) (R.remaining reader.new) (W.contents writer.old) (W.contents writer.new)) }
 {
     let keep = new_keeper(alloc)?;

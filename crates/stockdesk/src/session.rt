@@ -1,10 +1,11 @@
-//! A script on a desk that a keeper holds.
+//! A session: what is done on a desk that a keeper holds.
 
-ghost use Rattle.std.specs.Prelude.{◌≡◌, ◌≢◌, ◌↔◌, false, Err, IfErr, IsTrue, OnOk};
+ghost use Rattle.std.specs.Prelude.{◌≡◌, ◌≢◌, ◌↔◌, ◌⊎◌, false, Err, IfErr, IfOk, IsTrue, List, OnOk};
+ghost use Rattle.book.specs.Good.{Good};
+ghost use Rattle.book.specs.Rows.{Content, IsRowsOf};
 ghost use Rattle.desk.specs.Desk.{Keeps};
-ghost use Rattle.desk.specs.Script.{EndsCut, EndsWhole};
-ghost use Rattle.desk.specs.declared.fault.ScriptFault.{ScriptFault};
-ghost use Rattle.stockdesk.specs.Sessions.{IsLeft, IsNoDesk, IsToldAs, SessionInPart, SessionWhole};
+ghost use Rattle.desk.specs.Script.{EndsWhole};
+ghost use Rattle.stockdesk.specs.Sessions.{IsLeft, IsNoDesk, IsToldAs, IsUnbegun, ScriptCut, ScriptInPart, ScriptWhole, SessionRefused};
 
 use desk::{Desk, OpenFault, ScriptFault, script};
 use keep::Keep;
@@ -27,6 +28,11 @@ pub enum Fault {
     Read,
     #[error("writing failed")]
     Write,
+    /// The first record at fault in a file of requests: 0 is the header, and those behind it count from 1.
+    #[error("record {0}")]
+    BadRecord(u64),
+    #[error("the file of requests could not be read")]
+    Csv,
 }
 
 /// The fault that one of the opening is told as.
@@ -35,7 +41,7 @@ fn open_fault(fault: OpenFault) -> Fault
     ensures damaged { result ≡ Fault.Damaged ↔ fault ≡ OpenFault.Damaged }
     ensures memory { result ≡ Fault.Memory ↔ fault ≡ OpenFault.Memory }
     ensures store { result ≡ Fault.Store ↔ fault ≡ OpenFault.Store }
-    ensures opening { (result ≢ Fault.Read) × (result ≢ Fault.Write) }
+    ensures opening { IsNoDesk result ⊎ ((result ≡ Fault.Memory) ⊎ (result ≡ Fault.Store)) }
 {
     match fault {
         OpenFault::NotADesk => Fault::NotADesk,
@@ -46,15 +52,32 @@ fn open_fault(fault: OpenFault) -> Fault
 }
 
 /// The fault that one of the script is told as.
-fn script_fault(fault: ScriptFault) -> Fault
+pub fn script_fault(fault: ScriptFault) -> Fault
     ensures told { IsToldAs fault result }
-    ensures desk { ¬ IsNoDesk result }
+    ensures begun { ¬ IsUnbegun result }
 {
     match fault {
         ScriptFault::Memory => Fault::Memory,
         ScriptFault::Stopped => Fault::Store,
         ScriptFault::Read => Fault::Read,
         ScriptFault::Write => Fault::Write,
+    }
+}
+
+/// Opens the desk that a keeper holds. Where none is opened the keeper holds what it held, and nothing is added to what a stop
+/// may leave. A keeper that was stopped comes back as it was.
+pub fn open_desk<K: Keep>(alloc: Global, keep: K) -> Result<Desk<K>, (Fault, K)>
+    ensures good { IfOk result (λ desk. Good desk.ledger) }
+    ensures rows { IfOk result (λ desk. K.is_honest desk.keep → (x : Content) → K.holds keep x → IsRowsOf desk.ledger x) }
+    ensures going { IfOk result (λ desk. K.stopped desk.keep ≡ false) }
+    ensures back { IfOk result (λ desk. K.is_honest desk.keep → K.is_honest keep) }
+    ensures held { IfErr result (λ e. SessionRefused K.Keep e.0 e.1 (K.holds keep) (K.has_tables keep) (IsLeft K.Keep keep e.1)) }
+    ensures honest { IfErr result (λ e. K.is_honest e.1 → K.is_honest keep) }
+    ensures refused { IsTrue (K.stopped keep) → result ≡ Err (Fault.Store, keep) }
+{
+    match Desk::open(alloc, keep) {
+        Ok(desk) => Ok(desk),
+        Err((fault, keep)) => Err((open_fault(fault), keep)),
     }
 }
 
@@ -66,8 +89,9 @@ fn play<K: Keep, R: Read, W: Write>(
     writer: &mut W,
 ) -> Result<(), Fault>
     ensures whole { OnOk result (EndsWhole desk.old.ledger desk.new.ledger (R.remaining reader.old) (R.remaining reader.new) (W.contents writer.old) (W.contents writer.new)) }
-    ensures cut { IfErr result (λ fault. (cause : ScriptFault) × IsToldAs cause fault × (¬ IsNoDesk fault) × EndsCut cause (K.stopped desk.old.keep ≡ false) (K.is_honest desk.new.keep) (K.leaves desk.new.keep) desk.old.ledger desk.new.ledger
-        (R.remaining reader.old) (R.remaining reader.new) (W.contents writer.old) (W.contents writer.new)) }
+    ensures cut { K.stopped desk.old.keep ≡ false → IfErr result (λ fault. ScriptCut fault (K.is_honest desk.new.keep) (K.leaves desk.new.keep)
+        (R.remaining reader.old) (R.remaining reader.new) (W.contents writer.old) (W.contents writer.new) desk.old.ledger desk.new.ledger) }
+    ensures desk { IfErr result (λ fault. ¬ IsNoDesk fault) }
     ensures going { result ≢ Err Fault.Store → K.stopped desk.new.keep ≡ K.stopped desk.old.keep }
     ensures stopped { result ≡ Err Fault.Store → IsTrue (K.stopped desk.new.keep) }
     ensures keeps { K.stopped desk.new.keep ≡ false → K.is_honest desk.new.keep → Keeps (K.holds desk.new.keep) (K.leaves desk.new.keep) desk.new.ledger }
@@ -92,14 +116,14 @@ pub fn session<K: Keep, R: Read, W: Write>(
     reader: &mut R,
     writer: &mut W,
 ) -> (K, Result<(), Fault>)
-    ensures whole { OnOk result.1 (SessionWhole K.Keep result.0 (K.holds keep) (R.remaining reader.old) (R.remaining reader.new) (W.contents writer.old) (W.contents writer.new)) }
-    ensures cut { IfErr result.1 (λ fault. SessionInPart K.Keep fault result.0 (K.holds keep) (K.has_tables keep) (IsLeft K.Keep keep result.0) (R.remaining reader.old) (R.remaining reader.new) (W.contents writer.old) (W.contents writer.new)) }
+    ensures whole { OnOk result.1 (ScriptWhole K.Keep result.0 (K.holds keep) (R.remaining reader.old) (R.remaining reader.new) (W.contents writer.old) (W.contents writer.new)) }
+    ensures cut { IfErr result.1 (λ fault. ScriptInPart K.Keep fault result.0 (K.holds keep) (K.has_tables keep) (IsLeft K.Keep keep result.0) (R.remaining reader.old) (R.remaining reader.new) (W.contents writer.old) (W.contents writer.new)) }
     ensures refused { IsTrue (K.stopped keep) → result ≡ (keep, Err Fault.Store) }
     ensures honest { K.is_honest result.0 → K.is_honest keep }
 {
-    let mut desk = match Desk::open(alloc, keep) {
+    let mut desk = match open_desk(alloc, keep) {
         Ok(desk) => desk,
-        Err((fault, keep)) => return (keep, Err(open_fault(fault))),
+        Err((fault, keep)) => return (keep, Err(fault)),
     };
     let ended = play(alloc, &mut desk, reader, writer);
     (desk.into_keep(), ended)

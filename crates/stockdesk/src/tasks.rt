@@ -1,12 +1,14 @@
 //! What the words behind the program's name ask for.
 
 ghost use Rattle.std.specs.Prelude.{◌≡◌, Some, None, codes, [], false, true, map, IfErr, IfOk, IfSome};
-ghost use Rattle.clap.specs.Words.{app_of, kind_of, subcommand_rows_of, takes};
+ghost use Rattle.clap.specs.Words.{app_of, found_of, kind_of, rows_of, subcommand_of, subcommand_rows_of, takes};
 ghost use Rattle.clap.specs.declared.builder.command.Command.TheViews.{out-Command as fields_of};
-ghost use Rattle.stockdesk.specs.Tasks.{AsksFor, IsPlainRun, init, run, stockdesk};
+ghost use Rattle.stockdesk.specs.Tasks.{Asks, AsksFor, IsPlainRun, article, deliveries, init, on_file, orders, run, scripts, sheet, stockdesk, with_both};
 
+use crate::sheet::Shown;
 use clap::error::ErrorKind;
 use clap::{Arg, ArgAction, ArgMatches, Command, Error};
+use escrow::{Article, Branch};
 use std::alloc::{AllocError, Global};
 
 /// What is asked for.
@@ -16,6 +18,12 @@ pub enum Task<'a> {
     Init(&'a str),
     /// A script on the desk in this file, or on a new one in memory.
     Run(Option<&'a str>),
+    /// On the desk in the first file, the orders in the second.
+    Orders(&'a str, &'a str),
+    /// On the desk in the first file, the deliveries in the second.
+    Deliveries(&'a str, &'a str),
+    /// A sheet of the desk in this file.
+    Sheet(&'a str, Shown),
 }
 
 /// `init`, with its file.
@@ -45,9 +53,31 @@ fn run_command<'a>(alloc: Global) -> Result<Command<'a>, AllocError>
         .arg(file)
 }
 
-/// The words that the program takes.
-fn command<'a>(alloc: Global) -> Result<Command<'a>, AllocError>
-    ensures { IfOk result (λ command. app_of command ≡ stockdesk) }
+/// A command with the file of a desk and a word more.
+fn file_command<'a>(
+    alloc: Global,
+    name: &'a str,
+    about: &'a str,
+    second: &'a str,
+    help: &'a str,
+) -> Result<Command<'a>, AllocError>
+    ensures app { IfOk result (λ command. app_of command ≡ on_file name.entry.now second.entry.now) }
+    ensures local { IfOk result (λ command. (fields_of command).has_globals ≡ false) }
+{
+    let file = Arg::new(alloc, "FILE")
+        .help("The file of a desk")
+        .required(true)
+        .action(ArgAction::Set);
+    let more = Arg::new(alloc, second)
+        .help(help)
+        .required(true)
+        .action(ArgAction::Set);
+    Command::new(alloc, name).about(about).arg(file)?.arg(more)
+}
+
+/// The program, with the commands of scripts.
+fn with_scripts<'a>(alloc: Global) -> Result<Command<'a>, AllocError>
+    ensures { IfOk result (λ command. app_of command ≡ scripts) }
 {
     let init = init_command(alloc)?;
     let run = run_command(alloc)?;
@@ -58,21 +88,95 @@ fn command<'a>(alloc: Global) -> Result<Command<'a>, AllocError>
         .subcommand(run)
 }
 
+/// Adds the commands that read files of requests.
+fn with_files<'a>(alloc: Global, command: Command<'a>) -> Result<Command<'a>, AllocError>
+    ensures { IfOk result (λ both. app_of both ≡ with_both (app_of command.entry) orders deliveries) }
+{
+    let about =
+        "Answers the orders of a file, neighbouring lines of one key as one order, each by a line on standard output";
+    let help = "A CSV file: key,order,until,way,branch,article,qty";
+    let orders = file_command(alloc, "orders", about, "CSV", help)?;
+    let about = "Answers the deliveries of a file, each by a line on standard output";
+    let help = "A CSV file: key,branch,article,qty";
+    let deliveries = file_command(alloc, "deliveries", about, "CSV", help)?;
+    command.subcommand(orders)?.subcommand(deliveries)
+}
+
+/// Adds the commands that write sheets.
+fn with_sheets<'a>(alloc: Global, command: Command<'a>) -> Result<Command<'a>, AllocError>
+    ensures { IfOk result (λ both. app_of both ≡ with_both (app_of command.entry) sheet article) }
+{
+    let about = "Writes the stock of a branch as a sheet, a line an article";
+    let help = "The code of the branch";
+    let sheet = file_command(alloc, "sheet", about, "BRANCH", help)?;
+    let about = "Writes the stock of an article as a sheet, a line a branch";
+    let help = "The code of the article";
+    let article = file_command(alloc, "article", about, "ARTICLE", help)?;
+    command.subcommand(sheet)?.subcommand(article)
+}
+
+/// The words that the program takes.
+fn command<'a>(alloc: Global) -> Result<Command<'a>, AllocError>
+    ensures { IfOk result (λ command. app_of command ≡ stockdesk) }
+{
+    let command = with_scripts(alloc)?;
+    let command = with_files(alloc, command)?;
+    with_sheets(alloc, command)
+}
+
+/// The sheet of the branch that a word names.
+fn branch_named(word: &str) -> Option<Shown>
+    ensures { IfSome result (λ shown. shown ≡ Shown.OfBranch word.now) }
+{
+    let branch = Branch::read(word.as_bytes()).ok()?;
+    Some(Shown::OfBranch(branch))
+}
+
+/// The sheet of the article that a word names.
+fn article_named(word: &str) -> Option<Shown>
+    ensures { IfSome result (λ shown. shown ≡ Shown.OfArticle word.now) }
+{
+    let article = Article::read(word.as_bytes()).ok()?;
+    Some(Shown::OfArticle(article))
+}
+
+/// The task that a command asks for, by its name and the words behind it; none where one of these is no code.
+fn task_named<'a>(name: &str, found: &ArgMatches<'a>) -> Option<Task<'a>>
+    ensures asked { IfSome result (AsksFor name.now (rows_of (found_of found.now))) }
+    ensures run { name.now ≡ codes "run" → rows_of (found_of found.now) ≡ [] → result ≡ Some (Task.Run None) }
+{
+    match name {
+        "init" => Some(Task::Init(found.get_str("FILE")?)),
+        "run" => Some(Task::Run(found.get_str("FILE"))),
+        "orders" => Some(Task::Orders(found.get_str("FILE")?, found.get_str("CSV")?)),
+        "deliveries" => Some(Task::Deliveries(found.get_str("FILE")?, found.get_str("CSV")?)),
+        "sheet" => Some(Task::Sheet(
+            found.get_str("FILE")?,
+            branch_named(found.get_str("BRANCH")?)?,
+        )),
+        "article" => Some(Task::Sheet(
+            found.get_str("FILE")?,
+            article_named(found.get_str("ARTICLE")?)?,
+        )),
+        _ => None,
+    }
+}
+
 /// The task that the words have been read as.
 fn task_of<'a>(matches: &ArgMatches<'a>) -> Option<Task<'a>>
-    ensures asked { IfSome result (λ task. AsksFor (subcommand_rows_of matches.now) task) }
+    ensures asked { IfSome result (Asks (subcommand_rows_of matches.now)) }
     ensures run { subcommand_rows_of matches.now ≡ Some (codes "run", []) → result ≡ Some (Task.Run None) }
 {
     match matches.subcommand() {
-        Some(("init", found)) => Some(Task::Init(found.get_str("FILE")?)),
-        Some(("run", found)) => Some(Task::Run(found.get_str("FILE"))),
-        _ => None,
+        Some((name, found)) => task_named(name, found),
+        None => None,
     }
 }
 
 /// The task that the words ask for, of which the first is the program's name. Words that the program takes fail only for
 /// want of memory.
 pub fn read_task<'a>(alloc: Global, words: &'a [&'a str]) -> Result<Option<Task<'a>>, Error>
+    ensures asks { IfOk result (λ task. IfSome task (Asks (subcommand_of stockdesk (map (λ s. s.now) words.entry.now)))) }
     ensures asked { IsPlainRun (map (λ s. s.now) words.entry.now) → IfOk result (λ task. task ≡ Some (Task.Run None)) }
     ensures taken { takes stockdesk (map (λ s. s.now) words.entry.now) ≡ true → IfErr result (λ error. kind_of error ≡ ErrorKind.OutOfMemory) }
 {

@@ -1,7 +1,7 @@
 //! The program, by what it reads and writes.
 
-mod files;
 mod rows;
+mod steps;
 
 use super::*;
 use crate::memory::run;

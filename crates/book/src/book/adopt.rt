@@ -1,87 +1,52 @@
 //! Plans carried out.
 
-ghost use Rattle.std.specs.Prelude.{◌≡◌, ◌<◌, ◌≤◌, ◌+◌, None, ℕ, List, IsSomeAnd, IsTrue, length, map, option_map};
+ghost use Rattle.std.specs.Prelude.{◌≡◌, ◌<◌, ◌≤◌, ◌+◌, None, ℕ, List, IsSomeAnd, IsTrue, length, map, option_map, ◌∷◌, ◌++◌, [], find};
 ghost use Rattle.std.specs.BTreeMap.{insert_entry};
-ghost use Rattle.std.specs.Ordering.{nat_cmp};
+ghost use Rattle.std.specs.Ordering.{nat_cmp, is_lt};
 ghost use Rattle.std.specs.Vec.{vec_capacity, vec_len};
 ghost use Rattle.words.specs.declared.command.Command.TheVariants.{Commit};
-ghost use Rattle.book.specs.After.{order_after};
+ghost use Rattle.book.specs.After.{expired_numbers, order_after};
 ghost use Rattle.book.specs.Answers.{FirstFailure, checks};
 ghost use Rattle.book.specs.Future.{Honours, HonoursAlways};
 ghost use Rattle.book.specs.Good.{Good};
-ghost use Rattle.book.specs.Ledger.{Ledger, is_transfer, order_numbered, places};
+ghost use Rattle.book.specs.Ledger.{Ledger, is_transfer, order_numbered, places, insert_in_order, name_of, open_orders};
 ghost use Rattle.book.specs.Outcomes.{article_total};
-ghost use Rattle.book.specs.declared.order.State.TheVariants as State;
-ghost use Rattle.book.specs.InPlace.{order_change_of};
 ghost use Rattle.book.specs.Next.{accept, next};
 ghost use Rattle.book.specs.Plans.{Fits, HasRoomFor};
 ghost use Rattle.book.specs.Running.{with_entries};
-ghost use Rattle.book.specs.View.{move_of, order_of};
+ghost use Rattle.book.specs.View.{move_of, order_of, kept_of};
+ghost use Rattle.std.specs.Cmp.Lexicographic.{slice_cmp};
+ghost use Rattle.std.specs.Str.{bytes_eq};
 
 use super::Book;
-use super::changes::{LineChange, OrderChange, expire_orders};
-use super::insert::{insert_kept, push_move};
+use super::expiry::abort_all;
 use crate::entries::{FieldEntry, KeptEntry, MoveEntry, Order, OrderEntry};
 use crate::in_order::InOrder;
-use crate::order::{Kind, Line, State};
 use crate::plan::Plan;
-use escrow::{FieldName, Moment, OrderNo};
-use words::{Command, OpenLine};
+use escrow::{Article, Branch, FieldName, Key, OrderNo};
+use words::Command;
 
-/// An open order of these lines.
-pub(super) fn opened(number: OrderNo, kind: Kind, until: Moment, lines: Vec<Line>) -> Order
-    ensures { order_of result ≡ record { number = number; kind = kind; until = until; state = State.Open; lines = lines.items } }
+fn insert_kept(kept: &mut InOrder<Key, KeptEntry>, key: Key, entry: KeptEntry)
+    requires room { 1 ≤ kept.old.room }
+    requires absent { find (λ k. bytes_eq k.key key) (map kept_of kept.old.entries) ≡ None }
+    ensures { map kept_of kept.new.entries ≡ insert_in_order (λ a b. is_lt (slice_cmp nat_cmp a.key b.key)) (kept_of (key, entry)) (map kept_of kept.old.entries) }
 {
-    let entry = OrderEntry {
-        kind,
-        until,
-        state: State::Open,
-        lines,
-    };
-    (number, entry)
+    kept.insert(key, entry);
 }
 
-/// The order that the command changes, and how; none for a command that changes no one order.
-pub(super) fn order_change(command: &Command) -> Option<(OrderNo, OrderChange)>
-    ensures { result ≡ order_change_of command.now }
+fn push_move(moves: &mut Vec<MoveEntry>, place: u64, branch: Branch, article: Article, amount: i64)
+    requires { vec_len moves.old < vec_capacity moves.old }
+    ensures { map move_of moves.new.items ≡ map move_of moves.old.items ++ record { place = place; field = name_of branch article; amount = amount } ∷ [] }
 {
-    match command {
-        Command::More {
-            number,
-            way,
-            branch,
-            article,
-            qty,
-        } => {
-            let line = OpenLine {
-                way: *way,
-                branch: *branch,
-                article: *article,
-                qty: *qty,
-            };
-            Some((*number, OrderChange::HoldMore(line)))
-        }
-        Command::Use {
-            number,
-            branch,
-            article,
-            qty,
-        } => {
-            let change = LineChange::Use(*qty);
-            Some((*number, OrderChange::ChangeLines(*branch, *article, change)))
-        }
-        Command::Release {
-            number,
-            branch,
-            article,
-            qty,
-        } => {
-            let change = LineChange::Release(*qty);
-            Some((*number, OrderChange::ChangeLines(*branch, *article, change)))
-        }
-        Command::Commit { number } => Some((*number, OrderChange::End(State::Committed))),
-        Command::Abort { number } => Some((*number, OrderChange::End(State::Aborted))),
-        _ => None,
+    let entry = MoveEntry {
+        place,
+        branch,
+        article,
+        amount,
+    };
+    match moves.push(entry) {
+        Ok(()) => {}
+        Err(_) => unreachable!(),
     }
 }
 
@@ -128,13 +93,18 @@ fn put_order(orders: &mut InOrder<OrderNo, OrderEntry>, order: Order)
     orders.put(number, entry);
 }
 
-/// The orders once the command is carried out, with the order that it makes.
-fn adopt_orders(orders: &mut InOrder<OrderNo, OrderEntry>, made: Option<Order>, command: &Command)
+/// The orders once the command is carried out, with the order that it makes and those that expire.
+fn adopt_orders(
+    orders: &mut InOrder<OrderNo, OrderEntry>,
+    made: Option<Order>,
+    expired: &[OrderNo],
+    command: &Command,
+)
     requires room { 1 ≤ orders.old.room }
-    ensures { (A : Ledger) → Good A → FirstFailure (checks A command.now) None → map order_of orders.old.entries ≡ A.orders → option_map order_of made ≡ order_after A command.now → map order_of orders.new.entries ≡ (next A command.now).orders }
+    ensures { (A : Ledger) → Good A → FirstFailure (checks A command.now) None → map order_of orders.old.entries ≡ A.orders → option_map order_of made ≡ order_after A command.now → expired.now ≡ expired_numbers A command.now → map order_of orders.new.entries ≡ (next A command.now).orders }
 {
     match command {
-        Command::Expire { now } => expire_orders(orders, *now),
+        Command::Expire { .. } => abort_all(orders, expired),
         _ => {
             if let Some(order) = made {
                 put_order(orders, order);
@@ -144,6 +114,22 @@ fn adopt_orders(orders: &mut InOrder<OrderNo, OrderEntry>, made: Option<Order>, 
 }
 
 impl Book {
+    /// How many orders are open once the accepted command is carried out, which aborts so many as expired.
+    fn open_after(&self, command: &Command, expired: usize) -> usize
+        requires accepted { FirstFailure (checks self.now.ledger command.now) None }
+        requires expired { expired ≡ length (expired_numbers self.now.ledger command.now) }
+        ensures { result ≡ open_orders (next self.now.ledger command.now) }
+    {
+        match command {
+            Command::Open { .. } => self.open_count + 1,
+            Command::Transfer { .. } => self.open_count + 1,
+            Command::Commit { .. } => self.open_count - 1,
+            Command::Abort { .. } => self.open_count - 1,
+            Command::Expire { .. } => self.open_count - expired,
+            _ => self.open_count,
+        }
+    }
+
     /// Carries the plan out. Takes no memory, and always succeeds. The ledger stays good, and honours its open
     /// orders; the commit of a transfer leaves the total of every article as it was.
     pub fn adopt(&mut self, plan: Plan)
@@ -159,12 +145,12 @@ impl Book {
         key.as_bytes();
         command.in_range();
         let clock = self.clock_after(&command);
-        let open_count = self.open_after(&command);
+        let open_count = self.open_after(&command, parts.expired.len());
         self.clock = clock;
         self.open_count = open_count;
         adopt_fields(&mut self.fields, &parts.fields);
         adopt_move(&mut self.moves, place, &command);
-        adopt_orders(&mut self.orders, parts.made, &command);
+        adopt_orders(&mut self.orders, parts.made, &parts.expired, &command);
         insert_kept(&mut self.kept, key, KeptEntry { place, command });
     }
 }

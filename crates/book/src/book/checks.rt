@@ -1,24 +1,36 @@
 //! Which check of a command fails first.
 
 ghost use Rattle.std.specs.Bool.{OnTrue};
-ghost use Rattle.std.specs.Prelude.{◌≡◌, ℕ, None, Some, IfOk, IsTrue, MatchResult};
+ghost use Rattle.std.specs.Prelude.{◌≡◌, ℕ, None, Some, IfOk, IsTrue, MatchResult, [], find, is_some, map, ◌+◌, ◌≤◌, ◌<◌, ◌↔◌};
 ghost use Rattle.words.specs.Kinds.{is_change, is_opening, is_stock};
-ghost use Rattle.words.specs.declared.command.Command.TheVariants.{Abort, Commit, Deliver, Expire, Field, More, Open, Release, Transfer, Use, Writeoff};
-ghost use Rattle.book.specs.Answers.{FirstFailure, checks, open_checks, order_checks, part_checks};
-ghost use Rattle.book.specs.Checking.{hold_checks};
-ghost use Rattle.book.specs.Ledger.{is_open, order_numbered, name_of};
-ghost use Rattle.book.specs.View.{order_of};
+ghost use Rattle.words.specs.declared.command.Command.TheVariants.{Deliver, Expire, Field, More, Open, Transfer, Writeoff};
+ghost use Rattle.book.specs.Answers.{FirstFailure, checks, open_checks, order_checks, part_checks, line_checks};
+ghost use Rattle.book.specs.Checking.{hold_checks, bound_checks, refusal_of, stock_checks};
+ghost use Rattle.book.specs.Ledger.{is_open, order_numbered, name_of, Ledger, field_named, on, open_orders, places};
+ghost use Rattle.book.specs.View.{order_of, field_of};
+ghost use Rattle.escrow.specs.Escrow.{bound_of};
+ghost use Rattle.book.specs.Good.{Good};
+ghost use Rattle.book.specs.Next.{new_line, new_order};
+ghost use Rattle.book.specs.Running.{IsUpToDate};
+ghost use Rattle.book.specs.declared.order.Kind.{Kind};
 
 use super::Book;
 use super::find::line_in;
-use super::line_checks::check_bound;
-use crate::entries::OrderEntry;
-use crate::limits::{MAX_FIELDS, MAX_ORDERS};
+use crate::entries::{FieldEntry, OrderEntry};
+use crate::limits::{MAX_FIELDS, MAX_ORDERS, MAX_PLACES};
 use crate::order::{Kind, State};
-use escrow::{Article, Branch, FieldName, Level, Moment, OrderNo, Qty, Way};
+use escrow::{Article, Bound, Branch, FieldName, Level, Moment, OrderNo, Qty, Way};
 use words::{Command, MAX_ORDER_LINES, OpenLine, OpenLines, Refusal};
 
 impl Book {
+    /// Whether so many more places do not fit.
+    fn is_full(&self, more: usize) -> bool
+        requires { more ≤ 2 }
+        ensures { IsTrue result ↔ (MAX_PLACES < places self.now.ledger + open_orders self.now.ledger + more) }
+    {
+        self.kept.len() + self.open_count + more > MAX_PLACES
+    }
+
     /// The refusal and the line of the first check of the command that fails, or `None`. Takes no memory.
     pub(super) fn check(&self, command: &Command) -> Option<(Refusal, u64)>
         ensures { FirstFailure (checks self.now.ledger command.now) result }
@@ -142,7 +154,7 @@ impl Book {
         if self.is_full(1) {
             return Some((Refusal::Full, 0));
         }
-        self.check_stock(Way::Add, branch, article, qty, 0)
+        self.check_move(Way::Add, branch, article, qty)
     }
 
     fn check_writeoff(&self, branch: Branch, article: Article, qty: Qty) -> Option<(Refusal, u64)>
@@ -151,7 +163,7 @@ impl Book {
         if self.is_full(1) {
             return Some((Refusal::Full, 0));
         }
-        self.check_stock(Way::Take, branch, article, qty, 0)
+        self.check_move(Way::Take, branch, article, qty)
     }
 
     fn check_open(
@@ -338,4 +350,114 @@ fn check_hold(
             None
         }
     }
+}
+
+impl Book {
+    /// The first check that fails of the lines of a new order, whatever its number, its kind and its end.
+    fn check_lines(&self, lines: &[OpenLine]) -> Option<(Refusal, u64)>
+        ensures { (n : ℕ) (kind : Kind) (until : ℕ) → FirstFailure (line_checks self.now.ledger (new_order n kind until) [] lines.now) result }
+    {
+        for (i, line) in lines.iter().enumerate() {
+            let number = i as u64 + 1;
+            if has_line_on(&lines[..i], line.branch, line.article) {
+                return Some((Refusal::SameField, number));
+            }
+            let fault = self.check_stock(line.way, line.branch, line.article, line.qty, number);
+            if fault.is_some() {
+                return fault;
+            }
+        }
+        None
+    }
+
+    /// The field is there, and has so much more room the one way.
+    fn check_stock(
+        &self,
+        way: Way,
+        branch: Branch,
+        article: Article,
+        qty: Qty,
+        line: u64,
+    ) -> Option<(Refusal, u64)>
+        ensures good { Good self.now.ledger }
+        ensures found { FirstFailure (stock_checks way self.now.ledger (name_of branch article) qty line) result }
+    {
+        match self.field_entry(branch, article) {
+            None => Some((Refusal::NoField, line)),
+            Some(field) => check_bound(FieldName { branch, article }, field, way, qty, line),
+        }
+    }
+
+    /// The field is there, and its value may be moved so much the one way.
+    fn check_move(
+        &self,
+        way: Way,
+        branch: Branch,
+        article: Article,
+        qty: Qty,
+    ) -> Option<(Refusal, u64)>
+        ensures good { Good self.now.ledger }
+        ensures found { FirstFailure (stock_checks way self.now.ledger (name_of branch article) qty 0) result }
+    {
+        match self.field_entry(branch, article) {
+            None => Some((Refusal::NoField, 0)),
+            Some(field) => check_moved(FieldName { branch, article }, field, way, qty),
+        }
+    }
+}
+
+/// No outcome passes the field's bound with so much more held the one way.
+fn check_bound(
+    name: FieldName,
+    field: &FieldEntry,
+    way: Way,
+    qty: Qty,
+    line: u64,
+) -> Option<(Refusal, u64)>
+    ensures { (A : Ledger) → Good A → IsUpToDate A (name, field.now) → field_named A name ≡ Some (field_of (name, field.now)) → FirstFailure (bound_checks way A name qty line) result }
+{
+    let mut quantity = field.quantity;
+    match quantity.ask(way, qty) {
+        Ok(()) => None,
+        Err(bound) => Some((refusal_of(bound), line)),
+    }
+}
+
+/// No outcome passes the field's bound with its value moved so much the one way.
+fn check_moved(name: FieldName, field: &FieldEntry, way: Way, qty: Qty) -> Option<(Refusal, u64)>
+    ensures { (A : Ledger) → Good A → IsUpToDate A (name, field.now) → field_named A name ≡ Some (field_of (name, field.now)) → FirstFailure (bound_checks way A name qty 0) result }
+{
+    let mut moved = field.quantity;
+    match moved.at_once(way, qty) {
+        Ok(()) => None,
+        Err(bound) => Some((refusal_of(bound), 0)),
+    }
+}
+
+/// The refusal that tells of the bound.
+fn refusal_of(bound: Bound) -> Refusal
+    ensures { (way : Way) → bound ≡ bound_of way → result ≡ refusal_of way }
+{
+    match bound {
+        Bound::TooLittle => Refusal::TooLittle,
+        Bound::TooMuch => Refusal::TooMuch,
+    }
+}
+
+/// Whether one of the lines is on the field.
+fn has_line_on(lines: &[OpenLine], branch: Branch, article: Article) -> bool
+    ensures { result ≡ is_some (find (on (name_of branch article)) (map new_line lines.now)) }
+{
+    for line in lines {
+        if is_line_on(line, branch, article) {
+            return true;
+        }
+    }
+    false
+}
+
+fn is_line_on(line: &OpenLine, branch: Branch, article: Article) -> bool
+    ensures { result ≡ on (name_of branch article) (new_line line.now) }
+{
+    branch == line.branch && article == line.article
 }

@@ -1,28 +1,79 @@
 //! The fields that an accepted command makes or changes, as they are then.
 
-ghost use Rattle.std.specs.Prelude.{◌≡◌, ◌∷◌, ◌++◌, [], List, Some, IsSome, IfOk, OnOk, false, find, map, option_map, true};
+ghost use Rattle.std.specs.Prelude.{◌≡◌, ◌∷◌, ◌++◌, [], List, Some, IsSome, IfOk, OnOk, false, find, flat_map, map, option_map, true, ◌-◌, ◌<◌, ◌≤◌};
 ghost use Rattle.std.specs.BTreeMap.{insert_entry};
 ghost use Rattle.std.specs.List.{AllByRecursion as Each};
 ghost use Rattle.std.specs.List.Sorted.{IsStrictlySortedBy};
 ghost use Rattle.std.specs.Map.{keys_of};
-ghost use Rattle.book.specs.After.{field_rows, order_after};
+ghost use Rattle.book.specs.After.{expired_numbers, field_rows, of_numbered, order_after};
 ghost use Rattle.book.specs.Answers.{IsAccepted};
 ghost use Rattle.book.specs.Changes.{changes_field};
-ghost use Rattle.book.specs.Ledger.{field_named, line_name, name_cmp, on, order_numbered};
-ghost use Rattle.book.specs.Running.{Accepts, GivenBack, GivesBack, HasLines, MayGiveBack, MovesField, Puts, amount_held, entry_row, expired_lines, line_before};
+ghost use Rattle.book.specs.Ledger.{field_named, line_name, name_cmp, on, order_numbered, name_of};
+ghost use Rattle.book.specs.Running.{Accepts, GivenBack, GivesBack, HasLines, MayGiveBack, MovesField, Puts, amount_held, entry_row, line_before, Becomes, HoldsInstead, MayBecome};
 ghost use Rattle.book.specs.View.{order_of};
 ghost use Rattle.book.specs.declared.order.Line.{Line};
 ghost use Rattle.words.specs.declared.command.Request.{Request};
+ghost use Rattle.escrow.specs.Choices.{IsSafe};
+ghost use Rattle.escrow.specs.Escrow.{held_of, holding, IsSafeMoved, MovesValue};
+ghost use Rattle.escrow.specs.Ranges.{IsQty};
 
 use super::Book;
-use super::changes::expires;
-use super::stock::{change_stock, held_on, move_value};
+use super::find::line_in;
 use crate::entries::{FieldEntry, Order};
 use crate::in_order::InOrder;
-use crate::order::Line;
-use escrow::{FieldName, Moment, OrderNo, Qty, Quantity, Way};
+use crate::order::{Line, State};
+use escrow::{Article, Branch, FieldName, OrderNo, Qty, Quantity, Way};
 use std::alloc::Global;
 use words::{Command, Memory, Request};
+
+/// A delivery, or a write-off.
+fn move_value(quantity: &mut Quantity, way: Way, qty: Qty)
+    requires { IsSafeMoved quantity.old way qty }
+    ensures { MovesValue quantity.old way qty quantity.new }
+{
+    match quantity.at_once(way, qty) {
+        Ok(()) => {}
+        Err(_) => unreachable!(),
+    }
+}
+
+/// A line of which so much was held, in an open order, is as it is now, in an order of that state.
+fn change_stock(quantity: &mut Quantity, held: u64, line: &Line, state: State)
+    requires { MayBecome quantity.old held line.now state }
+    ensures { Becomes quantity.old held line.now state quantity.new }
+{
+    match state {
+        State::Open => change_hold(quantity, line.way, held, line.held.get()),
+        State::Committed => quantity.settle(line.way, held, line.used.get()),
+        State::Aborted => quantity.give_back(line.way, held),
+    }
+}
+
+/// So much is held the one way in place of what was held.
+fn change_hold(quantity: &mut Quantity, way: Way, before: u64, after: u64)
+    requires there { before ≤ held_of quantity.old way }
+    requires qty { before < after → IsQty (after - before) }
+    requires safe { before < after → IsSafe (holding quantity.old way (after - before)) }
+    ensures { HoldsInstead quantity.old way before after quantity.new }
+{
+    match Qty::new(after.saturating_sub(before)) {
+        Some(more) => match quantity.ask(way, more) {
+            Ok(()) => {}
+            Err(_) => unreachable!(),
+        },
+        None => quantity.give_back(way, before.saturating_sub(after)),
+    }
+}
+
+/// What is held on the field by the one of these lines that is on it.
+fn held_on(lines: &[Line], branch: Branch, article: Article) -> u64
+    ensures { result ≡ amount_held (find (on (name_of branch article)) lines.now) }
+{
+    match line_in(lines, branch, article) {
+        Some(line) => line.held.get(),
+        None => 0,
+    }
+}
 
 /// Fields by their names.
 pub(super) type Fields = InOrder<FieldName, FieldEntry>;
@@ -163,38 +214,42 @@ impl Book {
         Ok(())
     }
 
-    /// Gives back what the order holds, where it expires.
-    fn give_back_order(&self, fields: &mut Fields, order: &Order, now: Moment) -> Result<(), Memory>
-        requires there { Each (λ l. IsSome (field_named self.now.ledger (line_name l))) order.now.1.lines.items }
-        requires held { (ls : List Line) × GivesBack self.now.ledger ls fields.old.entries × MayGiveBack self.now.ledger (ls ++ expired_lines now (order_of order.now ∷ [])) }
-        ensures { OnOk result ((ls : List Line) → GivesBack self.now.ledger ls fields.old.entries → MayGiveBack self.now.ledger (ls ++ expired_lines now (order_of order.now ∷ [])) → GivesBack self.now.ledger (ls ++ expired_lines now (order_of order.now ∷ [])) fields.new.entries) }
+    /// Gives back what the order of that number holds, if there is one.
+    fn give_back_order(&self, fields: &mut Fields, number: OrderNo) -> Result<(), Memory>
+        requires { (ls : List Line) × GivesBack self.now.ledger ls fields.old.entries × MayGiveBack self.now.ledger (ls ++ of_numbered self.now.ledger (λ o. o.lines) number) }
+        ensures { OnOk result ((ls : List Line) → GivesBack self.now.ledger ls fields.old.entries → MayGiveBack self.now.ledger (ls ++ of_numbered self.now.ledger (λ o. o.lines) number) → GivesBack self.now.ledger (ls ++ of_numbered self.now.ledger (λ o. o.lines) number) fields.new.entries) }
     {
-        if expires(&order.1, now) {
-            return self.give_back_lines(fields, &order.1.lines);
+        // so that the proof has the invariant
+        let _ = &self.orders;
+        match self.order_entry(number) {
+            Some(order) => self.give_back_lines(fields, &order.lines),
+            None => Ok(()),
+        }
+    }
+
+    /// Gives back what the orders of these numbers hold, and puts their fields in.
+    fn put_expired(&self, fields: &mut Fields, numbers: &[OrderNo]) -> Result<(), Memory>
+        requires none { fields.old.entries ≡ [] }
+        requires held { MayGiveBack self.now.ledger (flat_map (of_numbered self.now.ledger (λ o. o.lines)) numbers.now) }
+        ensures { OnOk result (GivesBack self.now.ledger (flat_map (of_numbered self.now.ledger (λ o. o.lines)) numbers.now) fields.new.entries) }
+    {
+        for number in numbers {
+            self.give_back_order(fields, *number)?;
         }
         Ok(())
     }
 
-    /// Gives back what the orders hold that expire, and puts their fields in.
-    fn put_expired(&self, fields: &mut Fields, now: Moment) -> Result<(), Memory>
-        requires { fields.old.entries ≡ [] }
-        ensures { OnOk result (GivesBack self.now.ledger (expired_lines now self.now.ledger.orders) fields.new.entries) }
-    {
-        for place in 0..self.orders.len() {
-            self.give_back_order(fields, self.orders.entry_at(place), now)?;
-        }
-        Ok(())
-    }
-
-    /// Puts in the fields that the request makes or changes, with the order that it makes.
+    /// Puts in the fields that the request makes or changes, with the order that it makes and those that expire.
     fn put_changed(
         &self,
         fields: &mut Fields,
         request: &Request,
         made: &Option<Order>,
+        expired: &[OrderNo],
     ) -> Result<(), Memory>
         requires accepts { Accepts self.now.ledger request.now }
         requires made { option_map order_of made.now ≡ order_after self.now.ledger request.now.command }
+        requires expired { expired.now ≡ expired_numbers self.now.ledger request.now.command }
         requires none { fields.old.entries ≡ [] }
         ensures { OnOk result (IsStrictlySortedBy name_cmp (keys_of fields.new.entries) → map entry_row fields.new.entries ≡ field_rows self.now.ledger request.now) }
     {
@@ -238,7 +293,7 @@ impl Book {
                 };
                 self.put_moved(fields, name, Way::Take, *qty)
             }
-            Command::Expire { now } => self.put_expired(fields, *now),
+            Command::Expire { .. } => self.put_expired(fields, expired),
             _ => match made {
                 Some(order) => self.put_lines(fields, request, made, order),
                 None => Ok(()),
@@ -246,22 +301,25 @@ impl Book {
         }
     }
 
-    /// The fields that the accepted request makes or changes, as they are then, with the order that it makes.
+    /// The fields that the accepted request makes or changes, as they are then, with the order that it makes and those
+    /// that expire.
     pub(super) fn fields_after(
         &self,
         alloc: Global,
         request: &Request,
         made: &Option<Order>,
+        expired: &[OrderNo],
     ) -> Result<Fields, Memory>
         requires accepted { IsAccepted self.now.ledger request.now }
         requires made { option_map order_of made.now ≡ order_after self.now.ledger request.now.command }
+        requires expired { expired.now ≡ expired_numbers self.now.ledger request.now.command }
         ensures { IfOk result (λ fields. map entry_row fields.entries ≡ field_rows self.now.ledger request.now) }
     {
         // so that the proof has the invariant
         let _ = &self.fields;
         request.in_range();
         let mut fields = InOrder::new(alloc);
-        self.put_changed(&mut fields, request, made)?;
+        self.put_changed(&mut fields, request, made, expired)?;
         // so that the proof has their order
         let _ = fields.len();
         Ok(fields)

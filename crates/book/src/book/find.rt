@@ -1,13 +1,13 @@
 //! Entries by their names.
 
-ghost use Rattle.std.specs.Prelude.{◌≡◌, ◌==◌, IfSome, MatchOption, find};
+ghost use Rattle.std.specs.Prelude.{◌≡◌, IfSome, MatchOption, find};
 ghost use Rattle.book.specs.Ledger.{field_named, kept_under, name_of, on, order_numbered};
 ghost use Rattle.book.specs.Good.{Good};
 ghost use Rattle.book.specs.Running.{IsUpToDate};
 ghost use Rattle.book.specs.View.{field_of, kept_of, order_of};
 
 use super::Book;
-use crate::entries::{FieldEntry, KeptEntry, Order, OrderEntry};
+use crate::entries::{FieldEntry, KeptEntry, OrderEntry};
 use crate::order::Line;
 use escrow::{Article, Branch, FieldName, Key, OrderNo};
 
@@ -34,12 +34,6 @@ impl Book {
     {
         self.kept.get(&key)
     }
-}
-
-pub(super) fn is_numbered(order: &Order, number: OrderNo) -> bool
-    ensures { result ≡ (order.now.0 == number) }
-{
-    order.0 == number
 }
 
 /// The first line on that field.

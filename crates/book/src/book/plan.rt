@@ -8,7 +8,7 @@ ghost use Rattle.book.specs.Planned.{Plans};
 ghost use Rattle.book.specs.Plans.{opened_lines};
 
 use super::Book;
-use super::changes::new_line;
+use super::made::new_line;
 use crate::order::Line;
 use crate::plan::Plan;
 use escrow::Way;
@@ -51,6 +51,13 @@ fn copy_of(alloc: Global, command: &Command) -> Result<Command, Memory>
         Err(WordsFault::Memory) => Err(Memory),
         Err(WordsFault::BadCommand) => unreachable!(),
     }
+}
+
+/// The command on the heap.
+fn boxed(alloc: Global, command: Command) -> Result<Box<Command>, Memory>
+    ensures { IfOk result (λ boxed. boxed.value ≡ command) }
+{
+    Box::new(alloc, command).map_err(|_| Memory)
 }
 
 /// The lines of an order, which hold their amounts and have used nothing.
@@ -111,12 +118,14 @@ impl Book {
         if let Some(failure) = self.check(&request.command) {
             return Ok(Planned::Refused(failure.0, failure.1));
         }
-        let command = copy_of(alloc, &request.command)?;
+        let copy = copy_of(alloc, &request.command)?;
+        let command = boxed(alloc, copy)?;
         let place = self.kept.len() as u64 + 1;
         let made = self.order_made(alloc, request)?;
-        let fields = self.fields_after(alloc, request, &made)?;
-        let changes = self.changes_of(alloc, request, &fields, &made)?;
-        let plan = Plan::new(request.key, command, place, fields, made, changes);
+        let expired = self.expired(alloc, &request.command)?;
+        let fields = self.fields_after(alloc, request, &made, &expired)?;
+        let changes = self.changes_of(alloc, request, &fields, &made, &expired)?;
+        let plan = Plan::new(request.key, command, place, fields, made, expired, changes);
         Ok(Planned::Accept(plan))
     }
 }

@@ -1,24 +1,56 @@
 //! What all moves and orders add up to on each of the fields, in one walk over them.
 
-ghost use Rattle.std.specs.Prelude.{◌≡◌, ℕ, ◌+◌, ◌<◌, ◌≤◌, ◌↔◌, [], ◌∷◌, length, map, nat_abs, set, slice_index_or, IfOk, IfSome, IsNone, IsSome, IsTrue, MatchOption};
+ghost use Rattle.std.specs.Prelude.{◌≡◌, ◌+◌, ◌≤◌, ◌<◌, ◌↔◌, length, IsTrue, ℕ, [], ◌∷◌, map, nat_abs, set, slice_index_or, IfOk, IfSome, IsNone, IsSome, MatchOption};
+ghost use Rattle.book.specs.Ledger.{line_name, name_cmp, name_of};
+ghost use Rattle.book.specs.Walk.{most_of_all, plus, IsSmall, most_of_line, most_of_lines, most_of_move, most_of_moves, nothing};
 ghost use Rattle.std.specs.List.{AllByRecursion as Each};
 ghost use Rattle.std.specs.List.Sorted.{IsStrictlySortedBy};
 ghost use Rattle.escrow.specs.Ranges.{IsQty};
 ghost use Rattle.words.specs.declared.limits.TheConstants.{MAX_ORDER_LINES};
 ghost use Rattle.book.specs.declared.limits.TheConstants.{MAX_ORDERS, MAX_PLACES};
 ghost use Rattle.book.specs.declared.order.State.TheVariants as State;
-ghost use Rattle.book.specs.Ledger.{line_name, name_cmp, name_of};
 ghost use Rattle.book.specs.View.{field_of, move_of};
-ghost use Rattle.book.specs.Walk.{most_of_all, most_of_line, most_of_lines, most_of_move, most_of_moves, nothing, plus, IsSmall};
 ghost use Rattle.book.specs.Sums.{added, entry_name, field_among, lines_numbers, numbers_on, only_on, part_of_line, AreFieldsInOrder, AreLinesOnFields, AreMovesOnFields, AreOnFields, AreOrdersOnFields, IsField, IsFieldAt};
 
-use super::walk::{NOTHING, Numbers};
 use crate::entries::{FieldEntry, MoveEntry, Order};
+use crate::limits::MAX_PLACES;
 use crate::order::{Line, State};
 use escrow::{Article, Branch, FieldName, Way};
 use std::alloc::Global;
 use std::cmp::Ordering;
 use words::Memory;
+
+/// What entries add up to on a field.
+#[derive(Clone, Copy, Debug)]
+pub(super) struct Numbers {
+    /// What has moved its value.
+    pub moved: i64,
+    /// What is held to take.
+    pub takes: i64,
+    /// What is held to add.
+    pub adds: i64,
+}
+
+pub(super) const NOTHING: Numbers = Numbers {
+    moved: 0,
+    takes: 0,
+    adds: 0,
+};
+
+impl Numbers {
+    /// Both together.
+    fn plus(self, more: Numbers) -> Numbers
+        requires room { IsSmall (most_of_all + most_of_all) self }
+        requires more { IsSmall most_of_all more }
+        ensures { result ≡ plus self more }
+    {
+        Numbers {
+            moved: self.moved + more.moved,
+            takes: self.takes + more.takes,
+            adds: self.adds + more.adds,
+        }
+    }
+}
 
 /// What the moves and the orders add up to on each of the fields; `None` exactly where one of them is on no field.
 pub(super) fn sums_of(

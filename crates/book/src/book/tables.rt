@@ -1,8 +1,9 @@
 //! A ledger from the rows of its tables.
 
-ghost use Rattle.std.specs.Prelude.{◌≡◌, ◌↔◌, pos, ℕ, IfErr, IfOk, IsTrue, MatchOption};
+ghost use Rattle.std.specs.Prelude.{◌≡◌, ◌↔◌, pos, ℕ, count_by, IfErr, IfOk, IsTrue, MatchOption};
 ghost use Rattle.std.specs.List.{AllByRecursion as Each, AllZip};
 ghost use Rattle.book.specs.Good.{Good};
+ghost use Rattle.book.specs.Ledger.{open_state};
 ghost use Rattle.book.specs.Tables.{content_of, desk_cells};
 ghost use Rattle.book.specs.Told.{AreGood, AreInOrder, IsBounded, IsFieldTold, IsInForm, IsWhole, KeepsLimits, TellsLedger, told_ledger};
 ghost use Rattle.escrow.specs.Ranges.{IsMoment};
@@ -28,11 +29,10 @@ use self::numbers::are_up_to_date;
 use self::places::are_places_good;
 use self::told::{moment, natural, read_all};
 use crate::book::Book;
-use crate::book::walk::count_open;
 use crate::entries::{FieldEntry, KeptEntry, MoveEntry, Order};
 use crate::in_order::InOrder;
 use crate::limits::{MAX_FIELDS, MAX_ORDERS, MAX_PLACES};
-use crate::order::Line;
+use crate::order::{Line, State};
 use crate::rows::{DeskRow, Tables};
 use escrow::{FieldName, Key, Moment};
 use std::alloc::Global;
@@ -72,18 +72,21 @@ fn read_desk(row: &DeskRow, places: usize) -> Option<Moment>
     moment(row.clock)
 }
 
-/// What the rows tell, where they tell a ledger, good or not.
-fn read_tables(alloc: Global, tables: &Tables) -> Result<Entries, TablesFault>
-    ensures told { IfOk result (λ entries. TellsLedger (told_ledger entries) (content_of tables.now)) }
+/// What the rows tell, where they tell a ledger, good or not. The rows of each table are let go as soon as they are
+/// read.
+fn read_tables(alloc: Global, tables: Tables) -> Result<Entries, TablesFault>
+    ensures told { IfOk result (λ entries. TellsLedger (told_ledger entries) (content_of tables)) }
     ensures form { IfOk result (λ entries. IsInForm (told_ledger entries)) }
-    ensures fields { IfOk result (λ entries. AllZip IsFieldTold entries.fields.items tables.now.fields) }
-    ensures damaged { IfErr result (λ fault. fault ≡ TablesFault.Damaged → IsDamaged (content_of tables.now)) }
+    ensures fields { IfOk result (λ entries. AllZip IsFieldTold entries.fields.items tables.fields) }
+    ensures damaged { IfErr result (λ fault. fault ≡ TablesFault.Damaged → IsDamaged (content_of tables)) }
 {
     let fields = read_all(alloc, tables.fields.as_slice())?;
     let moves = read_all(alloc, tables.moves.as_slice())?;
     let heads: Vec<Head> = read_all(alloc, tables.orders.as_slice())?;
     let lines: Vec<Line> = read_all(alloc, tables.lines.as_slice())?;
     let orders = group(alloc, &heads, tables.lines.as_slice(), &lines)?;
+    drop(lines);
+    drop(tables.lines);
     let kept = read_all(alloc, tables.kept.as_slice())?;
     let Some(clock) = read_desk(&tables.desk, kept.len()) else {
         return Err(TablesFault::Damaged);
@@ -105,6 +108,16 @@ fn are_in_order(entries: &Entries) -> bool
         && are_moves_in_order(&entries.moves)
         && are_orders_in_order(&entries.orders)
         && are_keys_in_order(&entries.kept)
+}
+
+/// How many of the orders are open.
+fn count_open(orders: &[Order]) -> usize
+    ensures { result ≡ count_by (λ order. open_state order.1.state) orders.now }
+{
+    orders
+        .iter()
+        .filter(|order| matches!(order.1.state, State::Open))
+        .count()
 }
 
 /// Whether they keep the limits.
@@ -151,7 +164,7 @@ impl Book {
         ensures ok { IfOk result (λ book. Good book.ledger × IsRowsOf book.ledger (content_of tables)) }
         ensures damaged { IfErr result (λ fault. fault ≡ TablesFault.Damaged → IsDamaged (content_of tables)) }
     {
-        let entries = read_tables(alloc, &tables)?;
+        let entries = read_tables(alloc, tables)?;
         match are_good(alloc, &entries) {
             Ok(true) => {}
             Ok(false) => return Err(TablesFault::Damaged),

@@ -1,13 +1,17 @@
-use Rattle.std.proofs.Math.Logic.{inr}
+use Rattle.std.proofs.Math.Logic.{inl, inr}
+use Rattle.std.proofs.KnownBytes.{Keeps-refl}
 use Rattle.stockdesk.proofs.PlainRun.{plain_taken}
-use Rattle.stockdesk.proofs.Played.{plays_nothing, runs_nothing}
+use Rattle.stockdesk.proofs.Played.{runs_nothing, told_unbegun}
 use Rattle.stockdesk.proofs.go.Goals as goal
 
 pub returns-in-Ok-None-clause-fault : goal.returns-in-Ok-None-clause-fault
-returns-in-Ok-None-clause-fault g c is = plays_nothing _ _
+returns-in-Ok-None-clause-fault g c is = inl (Keeps-refl _, Keeps-refl _)
 
 pub returns-in-Err-clause-plain : goal.returns-in-Err-clause-plain
 returns-in-Err-clause-plain g c plain = inr (c.tell_words.ensures.memory (c.in-Err.ensures.taken (plain_taken _ plain)), runs_nothing _ _)
 
 pub returns-in-Err-clause-fault : goal.returns-in-Err-clause-fault
-returns-in-Err-clause-fault g c is = plays_nothing _ _
+returns-in-Err-clause-fault g c is = inl (Keeps-refl _, Keeps-refl _)
+
+pub returns-in-Err-perform-clause-untouched : goal.returns-in-Err-perform-clause-untouched
+returns-in-Err-perform-clause-untouched g c is = c.in-Err-perform.ensures.untouched (told_unbegun _ _ c.tell_fault.ensures.only is)

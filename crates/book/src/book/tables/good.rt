@@ -4,7 +4,7 @@ ghost use Rattle.std.specs.Prelude.{◌≡◌, ◌≤◌, ◌↔◌, IsTrue, map
 ghost use Rattle.std.specs.Cmp.Lexicographic.{slice_cmp};
 ghost use Rattle.std.specs.List.{AllByRecursion as Each, IsDistinct};
 ghost use Rattle.std.specs.List.Sorted.{IsStrictlySortedBy};
-ghost use Rattle.std.specs.Ordering.{nat_cmp};
+ghost use Rattle.std.specs.Ordering.{nat_cmp, is_lt};
 ghost use Rattle.escrow.specs.Ranges.{IsLevel};
 ghost use Rattle.book.specs.Good.{IsTransferPair};
 ghost use Rattle.book.specs.Ledger.{line_name, name_cmp, same_name};
@@ -12,11 +12,29 @@ ghost use Rattle.book.specs.Told.{IsMoveByItself, IsOrderByItself};
 ghost use Rattle.book.specs.View.{field_of, kept_of, move_of, order_of};
 
 use crate::book::find::line_in;
-use crate::book::insert::{is_field_before, is_key_before, is_order_before};
 use crate::entries::{FieldEntry, KeptEntry, MoveEntry, Order};
 use crate::order::{Kind, Line};
 use escrow::{FieldName, Key, Qty, Way};
 use words::MAX_ORDER_LINES;
+
+/// Whether the one field stands before the other: by branch, then by article.
+fn is_field_before(one: &(FieldName, FieldEntry), other: &(FieldName, FieldEntry)) -> bool
+    ensures { result ≡ is_lt (name_cmp (field_of one.now).name (field_of other.now).name) }
+{
+    one.0 < other.0
+}
+
+fn is_order_before(one: &Order, other: &Order) -> bool
+    ensures { result ≡ nat_lt one.now.0 other.now.0 }
+{
+    one.0 < other.0
+}
+
+fn is_key_before(one: &(Key, KeptEntry), other: &(Key, KeptEntry)) -> bool
+    ensures { result ≡ is_lt (slice_cmp nat_cmp one.now.0 other.now.0) }
+{
+    one.0 < other.0
+}
 
 /// Whether the fields stand in the order of their names, each once.
 pub(super) fn are_fields_in_order(fields: &[(FieldName, FieldEntry)]) -> bool

@@ -88,7 +88,9 @@ pub(super) fn group(
     ensures told { IfOk result (λ orders. TellOrders (map order_of orders.items) heads.now (map line_cells rows.now)) }
     ensures damaged { IfErr result (λ fault. fault ≡ TablesFault.Damaged → (orders : List Order) → IsStrictlySortedBy nat_cmp (map (λ o. o.number) orders) → TellOrders orders heads.now (map line_cells rows.now) → ⊥) }
 {
-    let mut orders = Vec::new(alloc);
+    let Ok(mut orders) = Vec::with_capacity(alloc, heads.len()) else {
+        return Err(TablesFault::Memory);
+    };
     let mut start = 0;
     for head in heads {
         let (rows_left, lines_left) = (behind(rows, start), behind(lines, start));

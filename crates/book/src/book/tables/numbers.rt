@@ -7,11 +7,10 @@ ghost use Rattle.words.specs.declared.limits.TheConstants.{MAX_ORDER_LINES};
 ghost use Rattle.book.specs.Ledger.{Name};
 ghost use Rattle.book.specs.Sums.{AreFieldsInOrder, AreOnFields, entry_name, numbers_on};
 ghost use Rattle.book.specs.Told.{HasNumbers, HaveNumbers};
-ghost use Rattle.book.specs.declared.book.walk.Numbers.{Numbers};
+ghost use Rattle.book.specs.declared.book.sums.Numbers.{Numbers};
 ghost use Rattle.book.specs.declared.limits.TheConstants.{MAX_ORDERS, MAX_PLACES};
 
-use crate::book::sums::sums_of;
-use crate::book::walk::Numbers;
+use crate::book::sums::{Numbers, sums_of};
 use crate::entries::{FieldEntry, MoveEntry, Order};
 use escrow::FieldName;
 use std::alloc::Global;

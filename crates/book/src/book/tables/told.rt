@@ -7,6 +7,7 @@ ghost use Rattle.book.specs.Ledger.{Name};
 ghost use Rattle.book.specs.Rows.{kind_code, state_code, way_code};
 ghost use Rattle.book.specs.Told.{IsFieldTold, IsHeadTold, IsKeptTold, IsLineTold, IsMoveTold, IsQuantityTold};
 ghost use Rattle.escrow.specs.Stock.{Stock};
+ghost use Rattle.book.specs.View.{kept_of};
 ghost use Rattle.book.specs.declared.book.tables.TablesFault.TheVariants as TablesFault;
 ghost use Rattle.book.specs.declared.book.tables.group.Head.{Head};
 ghost use Rattle.book.specs.declared.entries.FieldEntry.{FieldEntry};
@@ -23,7 +24,7 @@ use crate::order::{Kind, Line, State};
 use crate::rows::{FieldRow, KeptRow, LineRow, MoveRow, OrderRow};
 use escrow::{Article, Branch, FieldName, Key, Level, Moment, OrderNo, Quantity, Way};
 use std::alloc::Global;
-use words::{WordsFault, read_command};
+use words::{Command, WordsFault, read_command};
 
 /// What a row tells.
 pub(super) trait Told<R>: Sized {
@@ -44,7 +45,9 @@ pub(super) fn read_all<R, T: Told<R> + Drop>(
     ensures told { IfOk result (λ all. AllZip T.is_told all.items rows.now) }
     ensures damaged { IfErr result (λ fault. fault ≡ TablesFault.Damaged → Each (λ row. (told : T) × T.is_told told row) rows.now → ⊥) }
 {
-    let mut all = Vec::new(alloc);
+    let Ok(mut all) = Vec::with_capacity(alloc, rows.len()) else {
+        return Err(TablesFault::Memory);
+    };
     for row in rows {
         let told = T::read(alloc, row)?;
         let Ok(()) = all.push(told) else {
@@ -196,6 +199,22 @@ fn line(row: &LineRow) -> Option<Line>
     })
 }
 
+/// An entry of a kept key.
+fn kept(
+    alloc: Global,
+    key: Key,
+    place: u64,
+    command: Command,
+) -> Result<(Key, KeptEntry), TablesFault>
+    ensures ok { IfOk result (λ entry. kept_of entry ≡ record { key = key; place = place; command = command }) }
+    ensures err { IfErr result (λ fault. fault ≡ TablesFault.Memory) }
+{
+    match Box::new(alloc, command) {
+        Ok(command) => Ok((key, KeptEntry { place, command })),
+        Err(_) => Err(TablesFault::Memory),
+    }
+}
+
 impl Told<KeptRow> for (Key, KeptEntry) {
     ghost is_told = { IsKeptTold };
 
@@ -207,7 +226,7 @@ impl Told<KeptRow> for (Key, KeptEntry) {
             return Err(TablesFault::Damaged);
         };
         match read_command(alloc, row.words.as_bytes()) {
-            Ok(command) => Ok((key, KeptEntry { place, command })),
+            Ok(command) => kept(alloc, key, place, command),
             Err(WordsFault::BadCommand) => Err(TablesFault::Damaged),
             Err(WordsFault::Memory) => Err(TablesFault::Memory),
         }

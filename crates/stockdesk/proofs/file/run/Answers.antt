@@ -6,10 +6,10 @@ use Rattle.stockdesk.proofs.file.run.Goals as goal
 
 pub returns-clause-whole : goal.returns-clause-whole
 returns-clause-whole g c =
-    on_ok_weaker c.session.result.1 (λ s. starts_whole _ _ _ _ _ _ _ _ c.in_ok-keep.ensures.opened c.session.ensures.honest s) c.session.ensures.whole
+    on_ok_weaker c.session.result.1 (λ s. starts_whole _ _ _ _ c.in_ok-keep.ensures.opened c.session.ensures.honest _ s) c.session.ensures.whole
 
 pub returns-clause-cut : goal.returns-clause-cut
 returns-clause-cut g c =
     of_error c.session.result.1 _ _
-    (λ fault is s. starts_part _ _ _ _ _ _ _ _ c.in_ok-keep.ensures.opened c.session.ensures.honest (λ x. holds_tables _ x) fault s)
+    (λ fault is s. starts_part _ _ _ _ c.in_ok-keep.ensures.opened c.session.ensures.honest (λ x. holds_tables _ x) fault _ _ s)
     c.session.ensures.cut

@@ -1,17 +1,6 @@
-use Rattle.std.proofs.Math.Logic.{inl, inr}
+use Rattle.std.proofs.Math.Logic.{inl}
 use Rattle.std.proofs.KnownBytes.{Keeps-refl}
 use Rattle.stockdesk.proofs.session.session.Goals as goal
 
 pub returns-in-Err-clause-cut : goal.returns-in-Err-clause-cut
-returns-in-Err-clause-cut g c =
-    let told = c.open_fault.ensures in
-    inl (record {
-      reads = Keeps-refl _;
-      writes = Keeps-refl _;
-      not_a_desk = λ is. c.in-Err.ensures.not_a_desk (told.not_a_desk.0 is);
-      damaged = λ is. c.in-Err.ensures.damaged (told.damaged.0 is);
-      opening = told.opening;
-      stopped = λ is. c.in-Err.ensures.stopped (elim is [ inl e ↦ inl (told.store.0 e) | inr e ↦ inr (told.not_a_desk.0 e) ]);
-      going = λ is. c.in-Err.ensures.loaded (told.damaged.0 is);
-      left = λ honest. record { same = c.in-Err.ensures.same honest; adds_nothing = c.in-Err.ensures.adds_nothing honest; no_more = c.in-Err.ensures.no_more honest };
-    })
+returns-in-Err-clause-cut g c = inl (c.in-Err.ensures.held, (Keeps-refl _, Keeps-refl _))

@@ -24,17 +24,17 @@ insert_kept-requires-clause-absent c =
     let accepted = subst (λ (v : BookView). IsAccepted v.ledger c.args.plan.request) (sym c.self.view_is) c.requires.fits.accepted in
     subst (λ key. kept_under L key ≡ None) (sym c.into_parts-parts.ensures.key) (no_key _ accepted.0)
 
-good : (c : goal.After-drop-parts-2) → Good c.args.self.now.ledger
+good : (c : goal.After-drop-parts-3) → Good c.args.self.now.ledger
 good c = subst (λ (v : BookView). Good v.ledger) c.self.view_is c.self.invariant.0
 
-good_after : (c : goal.After-drop-parts-2) → Good (accept c.args.self.now.ledger c.args.plan.request)
+good_after : (c : goal.After-drop-parts-3) → Good (accept c.args.self.now.ledger c.args.plan.request)
 good_after c =
     let parts = c.into_parts-parts.ensures in
     let accepted = c.requires.fits.accepted in
-    good_accept c.args.self.now.ledger c.args.plan.request (good c) (subst IsKey parts.key c.as_bytes.ensures.form) (subst IsInRange parts.command c.in_range.ensures) (no_key _ accepted.0) accepted.1
+    good_accept c.args.self.now.ledger c.args.plan.request (good c) (subst IsKey parts.key c.as_bytes.ensures.form) (subst IsInRange (c.deref.ensures ∙ parts.command) c.in_range.ensures) (no_key _ accepted.0) accepted.1
 
 -- the fields as they are then
-put : (c : goal.After-drop-parts-2) → (map field_of c.adopt_fields.new.fields.entries ≡ (accept c.args.self.now.ledger c.args.plan.request).fields) × Each (IsUpToDate (accept c.args.self.now.ledger c.args.plan.request)) c.adopt_fields.new.fields.entries
+put : (c : goal.After-drop-parts-3) → (map field_of c.adopt_fields.new.fields.entries ≡ (accept c.args.self.now.ledger c.args.plan.request).fields) × Each (IsUpToDate (accept c.args.self.now.ledger c.args.plan.request)) c.adopt_fields.new.fields.entries
 put c =
     let A : Ledger = c.args.self.now.ledger in
     let plan = c.args.plan in
@@ -49,7 +49,7 @@ returns-clause-next c = let fields = (put c).0 in search rules
 pub invariant_of-self : goal.invariant_of-self
 invariant_of-self c =
     let next = sym (returns-clause-next c) in
-    (subst Good next (good_after c), subst (λ (L : Ledger). Each (IsUpToDate L) c.adopt_fields.new.fields.entries) next (put c).1, c.open_after-open_count.ensures ∙ ap (λ (k : Command). open_orders (next_of c.args.self.now.ledger k)) c.into_parts-parts.ensures.command ∙ ap open_orders next)
+    (subst Good next (good_after c), subst (λ (L : Ledger). Each (IsUpToDate L) c.adopt_fields.new.fields.entries) next (put c).1, c.open_after-open_count.ensures ∙ ap (λ (k : Command). open_orders (next_of c.args.self.now.ledger k)) (c.deref-3.ensures ∙ c.into_parts-parts.ensures.command) ∙ ap open_orders next)
 
 pub returns-clause-good : goal.returns-clause-good
 returns-clause-good c = (invariant_of-self c).0

@@ -22,6 +22,9 @@ push_move-requires c =
     let fits = place_fits c.self.inside c.args.self.now c.args.request.now c.len.result c.self.view_is c.len.ensures.len (good_next c.self.inside c.args.self.now c.args.request.now c.self.view_is c.self.invariant.0 c.in_range.ensures.key c.in_range.ensures.command c.requires.accepted) in
     omega arith
 
+pub push_orders-requires-clause-good : goal.push_orders-requires-clause-good
+push_orders-requires-clause-good c = good_now c.self.inside c.args.self.now c.self.view_is c.self.invariant.0
+
 pub push_own_lines-requires : goal.push_own_lines-requires
 push_own_lines-requires c =
     let good = good_next c.self.inside c.args.self.now c.args.request.now c.self.view_is c.self.invariant.0 c.in_range.ensures.key c.in_range.ensures.command c.requires.accepted in

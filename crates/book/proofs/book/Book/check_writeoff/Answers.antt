@@ -14,6 +14,6 @@ returns c =
     let f : Name = name_of c.args.branch c.args.article in
     inr (
       no c.is_full.ensures c.if-is_full.false,
-      has_stock A (next A (Writeoff f.branch f.article c.args.qty)) way.Take f c.args.qty 0 c.check_stock.result
-          (write_off_test A f c.args.qty (sounds_from_good A c.check_stock.ensures.good)) c.check_stock.ensures.found,
+      has_stock A (next A (Writeoff f.branch f.article c.args.qty)) way.Take f c.args.qty 0 c.check_move.result
+          (write_off_test A f c.args.qty (sounds_from_good A c.check_move.ensures.good)) c.check_move.ensures.found,
     )

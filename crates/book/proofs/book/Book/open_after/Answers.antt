@@ -1,36 +1,37 @@
-use Rattle.std.proofs.Common.{◌∙◌, None, ap, arith, count_by, subst, sym}
+use Rattle.std.proofs.Common.{◌∙◌, None, ap, arith, length, subst, sym}
 use Rattle.words.specs.Kinds.{is_opening}
 use Rattle.words.specs.declared.command.Command.{Command}
+use Rattle.book.specs.After.{expired_numbers}
 use Rattle.book.specs.Answers.{FirstFailure, checks}
 use Rattle.book.specs.Ledger.{Ledger, open_orders}
 use Rattle.book.specs.Next.{expires, next}
-use Rattle.book.specs.View.{BookView}
-use Rattle.book.proofs.Counted.{aborted_count, committed_count, count_seen, expired_count, expiring_in_order, opened_count, other_count}
+use Rattle.book.proofs.Counted.{aborted_count, committed_count, count_seen, expired_count, opened_count, other_count}
+use Rattle.book.proofs.Expiring.{length_numbers}
 use Rattle.book.proofs.NextRows.{good_now}
 use Rattle.book.proofs.book.Book.open_after.Goals as goal
 
 pub returns-in-Open : goal.returns-in-Open
 returns-in-Open c =
     let count = count_seen c.self.inside c.args.self.now c.self.view_is c.self.invariant.2 in
-    let more = opened_count c.args.self.now.ledger c.args.command.now (good_now c.self.inside c.args.self.now c.self.view_is c.self.invariant.0) c.requires (ap is_opening c.in-Open.is) in
+    let more = opened_count c.args.self.now.ledger c.args.command.now (good_now c.self.inside c.args.self.now c.self.view_is c.self.invariant.0) c.requires.accepted (ap is_opening c.in-Open.is) in
     omega arith
 
 pub returns-in-Transfer : goal.returns-in-Transfer
 returns-in-Transfer c =
     let count = count_seen c.self.inside c.args.self.now c.self.view_is c.self.invariant.2 in
-    let more = opened_count c.args.self.now.ledger c.args.command.now (good_now c.self.inside c.args.self.now c.self.view_is c.self.invariant.0) c.requires (ap is_opening c.in-Transfer.is) in
+    let more = opened_count c.args.self.now.ledger c.args.command.now (good_now c.self.inside c.args.self.now c.self.view_is c.self.invariant.0) c.requires.accepted (ap is_opening c.in-Transfer.is) in
     omega arith
 
 pub returns-in_default : goal.returns-in_default
 returns-in_default c = count_seen c.self.inside c.args.self.now c.self.view_is c.self.invariant.2
-    ∙ sym (other_count c.args.self.now.ledger c.args.command.now (good_now c.self.inside c.args.self.now c.self.view_is c.self.invariant.0) c.requires c.in_default.not-Open c.in_default.not-Transfer c.in_default.not-Commit c.in_default.not-Abort c.in_default.not-Expire)
+    ∙ sym (other_count c.args.self.now.ledger c.args.command.now (good_now c.self.inside c.args.self.now c.self.view_is c.self.invariant.0) c.requires.accepted c.in_default.not-Open c.in_default.not-Transfer c.in_default.not-Commit c.in_default.not-Abort c.in_default.not-Expire)
 
 pub overflow_sub-result : goal.overflow_sub-result
 overflow_sub-result c =
     let A : Ledger = c.args.self.now.ledger in
     let is = c.in-Commit.is in
     let count = count_seen c.self.inside c.args.self.now c.self.view_is c.self.invariant.2 in
-    let fewer = committed_count A c.in-Commit.number (good_now c.self.inside c.args.self.now c.self.view_is c.self.invariant.0) (subst (λ (k : Command). FirstFailure (checks A k) None) is c.requires) in
+    let fewer = committed_count A c.in-Commit.number (good_now c.self.inside c.args.self.now c.self.view_is c.self.invariant.0) (subst (λ (k : Command). FirstFailure (checks A k) None) is c.requires.accepted) in
     omega arith
 
 pub returns-in-Commit : goal.returns-in-Commit
@@ -38,7 +39,7 @@ returns-in-Commit c =
     let A : Ledger = c.args.self.now.ledger in
     let is = c.in-Commit.is in
     let count = count_seen c.self.inside c.args.self.now c.self.view_is c.self.invariant.2 in
-    let fewer = committed_count A c.in-Commit.number (good_now c.self.inside c.args.self.now c.self.view_is c.self.invariant.0) (subst (λ (k : Command). FirstFailure (checks A k) None) is c.requires) in
+    let fewer = committed_count A c.in-Commit.number (good_now c.self.inside c.args.self.now c.self.view_is c.self.invariant.0) (subst (λ (k : Command). FirstFailure (checks A k) None) is c.requires.accepted) in
     let same = ap (λ (k : Command). open_orders (next A k)) is in
     omega arith
 
@@ -47,7 +48,7 @@ overflow_sub-result-in-Abort c =
     let A : Ledger = c.args.self.now.ledger in
     let is = c.in-Abort.is in
     let count = count_seen c.self.inside c.args.self.now c.self.view_is c.self.invariant.2 in
-    let fewer = aborted_count A c.in-Abort.number (good_now c.self.inside c.args.self.now c.self.view_is c.self.invariant.0) (subst (λ (k : Command). FirstFailure (checks A k) None) is c.requires) in
+    let fewer = aborted_count A c.in-Abort.number (good_now c.self.inside c.args.self.now c.self.view_is c.self.invariant.0) (subst (λ (k : Command). FirstFailure (checks A k) None) is c.requires.accepted) in
     omega arith
 
 pub returns-in-Abort : goal.returns-in-Abort
@@ -55,7 +56,7 @@ returns-in-Abort c =
     let A : Ledger = c.args.self.now.ledger in
     let is = c.in-Abort.is in
     let count = count_seen c.self.inside c.args.self.now c.self.view_is c.self.invariant.2 in
-    let fewer = aborted_count A c.in-Abort.number (good_now c.self.inside c.args.self.now c.self.view_is c.self.invariant.0) (subst (λ (k : Command). FirstFailure (checks A k) None) is c.requires) in
+    let fewer = aborted_count A c.in-Abort.number (good_now c.self.inside c.args.self.now c.self.view_is c.self.invariant.0) (subst (λ (k : Command). FirstFailure (checks A k) None) is c.requires.accepted) in
     let same = ap (λ (k : Command). open_orders (next A k)) is in
     omega arith
 
@@ -64,8 +65,8 @@ overflow_sub-result-in-Expire c =
     let A : Ledger = c.args.self.now.ledger in
     let is = c.in-Expire.is in
     let count = count_seen c.self.inside c.args.self.now c.self.view_is c.self.invariant.2 in
-    let fewer = expired_count A c.in-Expire.now (good_now c.self.inside c.args.self.now c.self.view_is c.self.invariant.0) (subst (λ (k : Command). FirstFailure (checks A k) None) is c.requires) in
-    let counted = c.count_expiring.ensures ∙ expiring_in_order c.in-Expire.now c.self.inside.orders.entries c.arrived.result.now c.arrived.ensures ∙ ap (λ (v : BookView). count_by (expires c.in-Expire.now) v.ledger.orders) c.self.view_is in
+    let fewer = expired_count A c.in-Expire.now (good_now c.self.inside c.args.self.now c.self.view_is c.self.invariant.0) (subst (λ (k : Command). FirstFailure (checks A k) None) is c.requires.accepted) in
+    let counted = c.requires.expired ∙ ap (λ (k : Command). length (expired_numbers A k)) is ∙ length_numbers (expires c.in-Expire.now) A.orders in
     omega arith
 
 pub returns-in-Expire : goal.returns-in-Expire
@@ -73,7 +74,7 @@ returns-in-Expire c =
     let A : Ledger = c.args.self.now.ledger in
     let is = c.in-Expire.is in
     let count = count_seen c.self.inside c.args.self.now c.self.view_is c.self.invariant.2 in
-    let fewer = expired_count A c.in-Expire.now (good_now c.self.inside c.args.self.now c.self.view_is c.self.invariant.0) (subst (λ (k : Command). FirstFailure (checks A k) None) is c.requires) in
-    let counted = c.count_expiring.ensures ∙ expiring_in_order c.in-Expire.now c.self.inside.orders.entries c.arrived.result.now c.arrived.ensures ∙ ap (λ (v : BookView). count_by (expires c.in-Expire.now) v.ledger.orders) c.self.view_is in
+    let fewer = expired_count A c.in-Expire.now (good_now c.self.inside c.args.self.now c.self.view_is c.self.invariant.0) (subst (λ (k : Command). FirstFailure (checks A k) None) is c.requires.accepted) in
+    let counted = c.requires.expired ∙ ap (λ (k : Command). length (expired_numbers A k)) is ∙ length_numbers (expires c.in-Expire.now) A.orders in
     let same = ap (λ (k : Command). open_orders (next A k)) is in
     omega arith

@@ -1,9 +1,18 @@
-use Rattle.std.proofs.Common.{◌∙◌, ap, sym}
+use Rattle.std.proofs.Common.{◌≡◌, ◌∙◌, ℕ, List, ap, flat_map, subst, sym}
 use Rattle.std.specs.Option.{option_map}
+use Rattle.words.specs.declared.command.Command.{Command}
+use Rattle.words.specs.declared.command.Command.TheVariants as command
+use Rattle.book.specs.After.{expired_numbers, of_numbered}
+use Rattle.book.specs.Good.{Good}
 use Rattle.book.specs.Ledger.{Ledger}
+use Rattle.book.specs.Next.{expires}
+use Rattle.book.specs.Running.{GivesBack, MayGiveBack, expired_lines}
+use Rattle.book.specs.declared.order.Line.{Line}
 use Rattle.book.specs.View.{order_of}
 use Rattle.book.proofs.ChangedFields.{on_ok}
+use Rattle.book.proofs.Expiring.{numbered_flat}
 use Rattle.book.proofs.FieldRows.{delivery_moves, delivery_rows, expired_rows, lines_rows, new_rows, write_off_moves, write_off_rows}
+use Rattle.book.proofs.GivingBack.{may_all}
 use Rattle.book.proofs.book.Book.put_changed.Goals as goal
 
 pub put_moved-requires : goal.put_moved-requires
@@ -32,9 +41,22 @@ returns-in-Writeoff c = on_ok c.put_moved-in-Writeoff.result (λ puts rising.
     let d = c.in-Writeoff in
     write_off_rows A r d.branch d.article d.qty c.args.fields.now.entries c.put_moved-in-Writeoff.new.fields.entries c.requires.accepts d.is c.requires.none rising (puts r (write_off_moves A r d.branch d.article d.qty c.requires.accepts d.is))) c.put_moved-in-Writeoff.ensures
 
+-- what the orders give back that expire
+given : (A : Ledger) (c : Command) (now : ℕ) (ns : List ℕ) → Good A → c ≡ command.Expire now → ns ≡ expired_numbers A c → flat_map (of_numbered A (λ o. o.lines)) ns ≡ expired_lines now A.orders
+given A c now ns good is numbers = ap (flat_map (of_numbered A (λ o. o.lines))) (numbers ∙ ap (expired_numbers A) is) ∙ numbered_flat (expires now) A (λ o. o.lines) good
+
+pub put_expired-requires-clause-held : goal.put_expired-requires-clause-held
+put_expired-requires-clause-held c =
+    let A : Ledger = c.args.self.now.ledger in
+    let now = c.in-Expire.now in
+    subst (MayGiveBack A) (sym (given A c.args.request.now.command now c.args.expired.now c.requires.accepts.before c.in-Expire.is c.requires.expired)) (may_all A now)
+
 pub returns-in-Expire : goal.returns-in-Expire
 returns-in-Expire c = on_ok c.put_expired.result (λ gives rising.
-    expired_rows c.args.self.now.ledger c.args.request.now c.in-Expire.now c.put_expired.new.fields.entries c.requires.accepts c.in-Expire.is rising gives) c.put_expired.ensures
+    let A : Ledger = c.args.self.now.ledger in
+    let now = c.in-Expire.now in
+    let all = given A c.args.request.now.command now c.args.expired.now c.requires.accepts.before c.in-Expire.is c.requires.expired in
+    expired_rows A c.args.request.now now c.put_expired.new.fields.entries c.requires.accepts c.in-Expire.is rising (subst (λ (ls : List Line). GivesBack A ls c.put_expired.new.fields.entries) all gives)) c.put_expired.ensures
 
 pub returns-in-Some : goal.returns-in-Some
 returns-in-Some c = on_ok c.put_lines.result (λ has rising.

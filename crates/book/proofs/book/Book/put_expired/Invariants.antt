@@ -1,7 +1,8 @@
--- the orders so far that expire have given back what they hold
-use Rattle.std.proofs.Common.{take}
-use Rattle.book.specs.Running.{GivesBack, expired_lines}
+-- the orders so far have given back what they hold
+use Rattle.std.proofs.Common.{flat_map, take}
+use Rattle.book.specs.After.{of_numbered}
+use Rattle.book.specs.Running.{GivesBack}
 use Rattle.book.proofs.book.Book.put_expired.Given as goal
 
-abbrev pub invariant-loop-place : goal.invariant-loop-place
-invariant-loop-place l = GivesBack l.self.ledger (expired_lines l.now (take l.place l.self.ledger.orders)) l.fields.entries
+abbrev pub invariant-loop-number : goal.invariant-loop-number
+invariant-loop-number l = GivesBack l.self.ledger (flat_map (of_numbered l.self.ledger (λ o. o.lines)) (take l.number-index l.numbers)) l.fields.entries

@@ -1,5 +1,5 @@
 use Rattle.std.proofs.Common.{◌∙◌, ap}
-use Rattle.book.specs.declared.book.walk.Numbers.{Numbers}
+use Rattle.book.specs.declared.book.sums.Numbers.{Numbers}
 use Rattle.book.specs.Ledger.{line_name}
 use Rattle.book.specs.Walk.{most_of_line}
 use Rattle.book.specs.Sums.{added, only_on, part_of_line}

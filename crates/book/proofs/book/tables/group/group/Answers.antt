@@ -52,7 +52,7 @@ loop-head-preserved c =
     let end = subst (λ (rows : List LineRow). BeginsOther head.number (drop (length own) rows)) same c.in_ok-own.ensures.end in
     let further : drop (length own) rows ≡ drop (start + c.len-start.result) c.args.rows.now = drop-drop (length own) start c.args.rows.now ∙ ap (λ k. drop k c.args.rows.now) (omega arith) in
     let pushed : map order_of c.push.new.self.items ≡ map order_of c.loop-head.orders.items ++ order_of c.with_lines-order.result ∷ [] =
-    ap (map order_of) c.in-Ok.ensures.items ∙ map-append order_of c.loop-head.orders.items (c.with_lines-order.result ∷ []) in
+    ap (map order_of) c.in-Ok-push.ensures.items ∙ map-append order_of c.loop-head.orders.items (c.with_lines-order.result ∷ []) in
     record {
       within =
           let own_within = c.in_ok-own.ensures.within in

@@ -3,7 +3,7 @@ use Rattle.std.proofs.Common.{◌≡◌, map, take}
 use Rattle.book.specs.Ledger.{Name}
 use Rattle.book.specs.Sums.{entry_name}
 use Rattle.book.specs.Told.{HaveNumbers}
-use Rattle.book.specs.declared.book.walk.Numbers.{Numbers}
+use Rattle.book.specs.declared.book.sums.Numbers.{Numbers}
 use Rattle.book.proofs.book.tables.numbers.have_numbers.Given as goal
 
 abbrev pub invariant-loop-i : goal.invariant-loop-i

@@ -8,7 +8,7 @@ use Rattle.book.proofs.book.tables.told.read_all.Goals as goal
 
 pub loop-row-preserved : goal.loop-row-preserved
 loop-row-preserved g c =
-    subst (λ all. AllZip g.T.Told.is_told all (take (c.loop-row.row-index + 1) c.args.rows.now)) (sym (c.in-Ok.ensures.items))
+    subst (λ all. AllZip g.T.Told.is_told all (take (c.loop-row.row-index + 1) c.args.rows.now)) (sym (c.in-Ok-push.ensures.items))
     (subst (λ rows. AllZip g.T.Told.is_told (c.loop-row.all.items ++ c.in_ok-told.told ∷ []) rows) (sym (take-step c.args.rows.now c.loop-row.row-index c.row-item.result c.loop-row-test.true c.row-item.is))
     (zip-push g.T.Told.is_told c.loop-row.all.items (take c.loop-row.row-index c.args.rows.now) c.in_ok-told.told c.row-item.result c.loop-row.invariant c.in_ok-told.ensures.told))
 

@@ -1,0 +1,240 @@
+-- The orders that an expiry aborts, by their numbers.
+use Rattle.std.proofs.Common.{◌≡◌, ◌∙◌, ℕ, suc, ◌+◌, ◌<◌, ◌≤◌, ◌==◌, ◌&&◌, ◌||◌, ◌++◌, Bool, true, false, List, [], ◌∷◌, Some, ap, append-nil, append_assoc, arith, count_by, drop, flat_map, get_or, if◌then◌else◌, inl, inr, length, map, nat_cmp, Less, refl, subst, sym, take}
+use Rattle.std.proofs.lemmas.Bool.{cases_lt}
+use Rattle.std.proofs.lemmas.Grind.{flat_map-append}
+use Rattle.std.proofs.lemmas.List.Sorted.{IsPermutation-map, sum_by-IsPermutation}
+use Rattle.std.specs.List.{AllByRecursion as Each, filter, fold, list_any}
+use Rattle.std.specs.List.Sorted.{IsNonDecreasingBy, IsPermutation, IsStrictlySortedBy}
+use Rattle.std.specs.Option.{option_map_or}
+use Rattle.book.specs.After.{of_numbered}
+use Rattle.book.specs.Good.{Good}
+use Rattle.book.specs.InPlace.{abort_all, abort_one}
+use Rattle.book.specs.Ledger.{Ledger, Order, order_numbered}
+use Rattle.book.specs.Next.{expires, set_state}
+use Rattle.book.specs.Running.{MayGiveBack}
+use Rattle.book.specs.View.{order_of}
+use Rattle.book.specs.declared.entries.OrderEntry.{OrderEntry}
+use Rattle.book.specs.declared.order.Line.{Line}
+use Rattle.book.specs.declared.order.State.TheVariants.{Aborted}
+use Rattle.book.proofs.Chosen.{none_any}
+use Rattle.book.proofs.Closing.{less_is}
+use Rattle.book.proofs.GivingBack.{may_prefix}
+use Rattle.book.proofs.Lists.{counted, each-two, each-unmap}
+use Rattle.book.proofs.NextRows.{find_self}
+use Rattle.book.proofs.Sums.{each-imp, each-map}
+use Rattle.book.proofs.Walked.{cut_at, take-step}
+
+same : (n : ℕ) → (n == n) ≡ true
+same n = grind arith
+
+above : (m n : ℕ) → m < n → (n == m) ≡ false
+above m n h = grind arith
+
+below : (m n : ℕ) → m < n → (m == n) ≡ false
+below m n h = grind arith
+
+-- ---- numbers in their order
+
+-- none is below one before it
+abbrev Rising : List ℕ → Type 0
+Rising [] = Unit {0}
+Rising (x ∷ xs) = Each (λ y. x ≤ y) xs × Rising xs
+
+abbrev count : ℕ → List ℕ → ℕ
+count n xs = count_by (λ m. m == n) xs
+
+count_first : (n : ℕ) (xs : List ℕ) → count n (n ∷ xs) ≡ 1 + count n xs
+count_first n xs = counted (λ m. m == n) n xs ∙ ap (λ b. (if b then 1 else 0) + count n xs) (same n)
+
+count_none : (n : ℕ) (xs : List ℕ) → Each (λ m. n < m) xs → count n xs ≡ 0
+count_none n [] h = refl
+count_none n (m ∷ ms) h = counted (λ m. m == n) m ms ∙ (λ i. (if above n m h.0 i then 1 else 0) + count_none n ms h.1 i)
+
+-- below the first, and so below all
+all_above : (n m : ℕ) (ms : List ℕ) → n < m → Rising (m ∷ ms) → Each (λ k. n < k) (m ∷ ms)
+all_above n m ms h up = (h, each-imp (λ k le. omega arith) ms up.0)
+
+counts_left : (n : ℕ) (xs ys : List ℕ) → ((k : ℕ) → count k (n ∷ xs) ≡ count k (n ∷ ys)) → (k : ℕ) → count k xs ≡ count k ys
+counts_left n xs ys h k =
+    let a = counted (λ m. m == k) n xs in
+    let b = counted (λ m. m == k) n ys in
+    let c = h k in
+    omega arith
+
+first_alike : (x y : ℕ) (xs ys : List ℕ) → Rising (x ∷ xs) → Rising (y ∷ ys) → ((n : ℕ) → count n (x ∷ xs) ≡ count n (y ∷ ys)) → x ≡ y
+first_alike x y xs ys h k e = elim (cases_lt x y) [
+  | inl lt ↦
+      let here = count_first x xs in
+      let none = count_none x (y ∷ ys) (all_above x y ys lt k) in
+      let both = e x in
+      absurd (omega arith)
+  | inr ge ↦ elim (cases_lt y x) [
+    | inl lt ↦
+        let here = count_first y ys in
+        let none = count_none y (x ∷ xs) (all_above y x xs lt h) in
+        let both = e y in
+        absurd (omega arith)
+    | inr le ↦ omega arith
+  ]
+]
+
+-- numbers in their order are told by how often each is there
+alike : (xs ys : List ℕ) → Rising xs → Rising ys → ((n : ℕ) → count n xs ≡ count n ys) → xs ≡ ys
+alike [] [] h k e = refl
+alike [] (y ∷ ys) h k e = let here = count_first y ys in let both = e y in absurd (omega arith)
+alike (x ∷ xs) [] h k e = let here = count_first x xs in let both = e x in absurd (omega arith)
+alike (x ∷ xs) (y ∷ ys) h k e =
+    let is = first_alike x y xs ys h k e in
+    let more = alike xs ys h.1 k.1 (counts_left x xs ys (λ n. e n ∙ ap (λ z. count n (z ∷ ys)) (sym is))) in
+    λ i. is i ∷ more i
+
+each_above : (x : ℕ) (xs : List ℕ) → ((j : ℕ) → j < length xs → x ≤ get_or xs j 0) → Each (λ y. x ≤ y) xs
+each_above x [] h = tt
+each_above x (y ∷ ys) h = (h 0 (omega arith), each_above x ys (λ j lt. h (suc j) (omega arith)))
+
+from_sort : (xs : List ℕ) → IsNonDecreasingBy (λ x. x) xs → Rising xs
+from_sort [] h = tt
+from_sort (x ∷ xs) h = (each_above x xs (λ j lt. h 0 (suc j) 0 (omega arith) (omega arith)), from_sort xs (λ i j d le lt. h (suc i) (suc j) d (omega arith) (omega arith)))
+
+-- ---- those of the orders that pass a test
+
+module _ (p : Order → Bool) where
+  abbrev numbers : List Order → List ℕ
+  numbers os = map (λ o. o.number) (filter p os)
+
+  each_filter : (P : Order → Type 0) (os : List Order) → Each P os → Each P (filter p os)
+  each_filter P [] h = tt
+  each_filter P (o ∷ os) h = by (p o) (each_filter P os h.1)
+    where
+      by : (b : Bool) → Each P (filter p os) → Each P (if b then o ∷ filter p os else filter p os)
+      by true more = (h.0, more)
+      by false more = more
+
+  each_number : (P : ℕ → Type 0) (os : List Order) → Each P (map (λ o. o.number) os) → Each P (numbers os)
+  each_number P os h = each-map P (λ o. o.number) (filter p os) (each_filter (λ o. P o.number) os (each-unmap P (λ o. o.number) os h))
+
+  numbers_rise : (os : List Order) → IsStrictlySortedBy nat_cmp (map (λ o. o.number) os) → Rising (numbers os)
+  unfolding IsStrictlySortedBy
+  numbers_rise [] sorted = tt
+  numbers_rise (o ∷ os) sorted = by (p o) (numbers_rise os sorted.1)
+    where
+      le : (k : ℕ) → nat_cmp o.number k ≡ Less → o.number ≤ k
+      le k e = let lt = less_is o.number k e in omega arith
+
+      by : (b : Bool) → Rising (numbers os) → Rising (map (λ o. o.number) (if b then o ∷ filter p os else filter p os))
+      by true more = (each-imp le (numbers os) (each_number (λ k. nat_cmp o.number k ≡ Less) os sorted.0), more)
+      by false more = more
+
+  count_numbers : (n : ℕ) (os : List Order) → count n (numbers os) ≡ count_by (λ o. p o && (o.number == n)) os
+  count_numbers n [] = refl
+  count_numbers n (o ∷ os) = by (p o) (count_numbers n os) ∙ sym (counted (λ o. p o && (o.number == n)) o os)
+    where
+      rest : ℕ
+      rest = count_by (λ o. p o && (o.number == n)) os
+
+      by : (b : Bool) → count n (numbers os) ≡ rest → count n (map (λ o. o.number) (if b then o ∷ filter p os else filter p os)) ≡ (if b && (o.number == n) then 1 else 0) + rest
+      by true more = counted (λ m. m == n) o.number (numbers os) ∙ ap (λ k. (if o.number == n then 1 else 0) + k) more
+      by false more = omega (arith, more)
+
+  pub length_numbers : (os : List Order) → length (numbers os) ≡ count_by p os
+  length_numbers [] = refl
+  length_numbers (o ∷ os) = by (p o) (length_numbers os) ∙ sym (counted p o os)
+    where
+      by : (b : Bool) → length (numbers os) ≡ count_by p os → length (map (λ o. o.number) (if b then o ∷ filter p os else filter p os)) ≡ (if b then 1 else 0) + count_by p os
+      by true more = omega arith
+      by false more = omega arith
+
+  -- a number is among them exactly where its order passes
+  own_number : (os : List Order) → IsStrictlySortedBy nat_cmp (map (λ o. o.number) os) → Each (λ o. list_any (λ n. o.number == n) (numbers os) ≡ p o) os
+  unfolding IsStrictlySortedBy
+  own_number [] sorted = tt
+  own_number (o ∷ os) sorted = (
+    first (p o),
+    each-imp (λ m e. later m (p o) e.0 ∙ e.1) os (each-two (λ m. nat_cmp o.number m.number ≡ Less) _ os (each-unmap (λ k. nat_cmp o.number k ≡ Less) (λ m. m.number) os sorted.0) (own_number os sorted.1)),
+  )
+    where
+      none : list_any (λ n. o.number == n) (numbers os) ≡ false
+      none = none_any (λ n. o.number == n) (numbers os) (each-imp (λ k e. below o.number k (less_is o.number k e)) (numbers os) (each_number (λ k. nat_cmp o.number k ≡ Less) os sorted.0))
+
+      first : (b : Bool) → list_any (λ n. o.number == n) (map (λ o. o.number) (if b then o ∷ filter p os else filter p os)) ≡ b
+      first true = ap (λ b. b || list_any (λ n. o.number == n) (numbers os)) (same o.number)
+      first false = none
+
+      later : (m : Order) (b : Bool) → nat_cmp o.number m.number ≡ Less → list_any (λ n. m.number == n) (map (λ o. o.number) (if b then o ∷ filter p os else filter p os)) ≡ list_any (λ n. m.number == n) (numbers os)
+      later m true e = ap (λ b. b || list_any (λ n. m.number == n) (numbers os)) (above o.number m.number (less_is o.number m.number e))
+      later m false e = refl
+
+  -- what the orders have that pass, by their numbers
+  pub numbered_flat : {X : Type 0} (A : Ledger) (parts : Order → List X) → Good A → flat_map (of_numbered A parts) (numbers A.orders) ≡ flat_map (λ o. if p o then parts o else []) A.orders
+  numbered_flat {X = X} A parts good = go A.orders (find_self A.orders good.orders_in_order)
+    where
+      go : (os : List Order) → Each (λ o. order_numbered A o.number ≡ Some o) os → flat_map (of_numbered A parts) (numbers os) ≡ flat_map (λ o. if p o then parts o else []) os
+      go [] h = refl
+      go (o ∷ os) h = by (p o) (go os h.1)
+        where
+          rest : List X
+          rest = flat_map (λ o. if p o then parts o else []) os
+
+          by : (b : Bool) → flat_map (of_numbered A parts) (numbers os) ≡ rest → flat_map (of_numbered A parts) (map (λ o. o.number) (if b then o ∷ filter p os else filter p os)) ≡ (if b then parts o else []) ++ rest
+          by true more = λ i. option_map_or parts (h.0 i) [] ++ more i
+          by false more = more
+
+-- the numbers of those that expire, found in any order of the entries and then put in theirs
+pub numbers_sorted : (now : ℕ) (es lying : List (ℕ × OrderEntry)) (ns : List ℕ) → IsStrictlySortedBy nat_cmp (map (λ o. o.number) (map order_of es)) → IsPermutation es lying → IsPermutation (numbers (expires now) (map order_of lying)) ns → IsNonDecreasingBy (λ x. x) ns
+    → ns ≡ numbers (expires now) (map order_of es)
+numbers_sorted now es lying ns sorted moved put up =
+    let p : Order → Bool = expires now in
+    alike ns (numbers p (map order_of es)) (from_sort ns up) (numbers_rise p (map order_of es) sorted)
+    (λ n. sum_by-IsPermutation (λ m. if m == n then 1 else 0) (numbers p (map order_of lying)) ns put ∙ count_numbers p n (map order_of lying)
+    ∙ sum_by-IsPermutation (λ o. if p o && (o.number == n) then 1 else 0) (map order_of es) (map order_of lying) (IsPermutation-map order_of es lying moved) ∙ sym (count_numbers p n (map order_of es)))
+
+-- ---- aborted one after the other
+
+abbrev one_fate : Order → ℕ → Order
+one_fate o n = if o.number == n then set_state Aborted o else o
+
+fates : (ns : List ℕ) (o : Order) (os : List Order) → abort_all ns (o ∷ os) ≡ fold one_fate o ns ∷ abort_all ns os
+fates [] o os = refl
+fates (n ∷ ns) o os = fates ns (one_fate o n) (abort_one os n)
+
+no_fates : (ns : List ℕ) → abort_all ns [] ≡ []
+no_fates [] = refl
+no_fates (n ∷ ns) = no_fates ns
+
+fate : (ns : List ℕ) (o : Order) → fold one_fate o ns ≡ (if list_any (λ n. o.number == n) ns then set_state Aborted o else o)
+fate [] o = refl
+fate (n ∷ ns) o = by (o.number == n) (fate ns (set_state Aborted o)) (fate ns o)
+  where
+    any : Bool
+    any = list_any (λ n. o.number == n) ns
+
+    stays : (b : Bool) → (if b then set_state Aborted (set_state Aborted o) else set_state Aborted o) ≡ set_state Aborted o
+    stays true = refl
+    stays false = refl
+
+    by : (b : Bool) → fold one_fate (set_state Aborted o) ns ≡ (if any then set_state Aborted (set_state Aborted o) else set_state Aborted o) → fold one_fate o ns ≡ (if any then set_state Aborted o else o)
+        → fold one_fate (if b then set_state Aborted o else o) ns ≡ (if b || any then set_state Aborted o else o)
+    by true ended going = ended ∙ stays any
+    by false ended going = going
+
+pub all_aborted : (A : Ledger) (now : ℕ) → Good A → abort_all (numbers (expires now) A.orders) A.orders ≡ map (λ o. if expires now o then set_state Aborted o else o) A.orders
+all_aborted A now good = go A.orders (own_number (expires now) A.orders good.orders_in_order)
+  where
+    ns : List ℕ
+    ns = numbers (expires now) A.orders
+
+    go : (os : List Order) → Each (λ o. list_any (λ n. o.number == n) ns ≡ expires now o) os → abort_all ns os ≡ map (λ o. if expires now o then set_state Aborted o else o) os
+    go [] h = no_fates ns
+    go (o ∷ os) h = fates ns o os ∙ (λ i. (fate ns o ∙ ap (λ b. if b then set_state Aborted o else o) h.0) i ∷ go os h.1 i)
+
+-- ---- given back one after the other
+
+-- what the numbers so far have, and one more
+pub flat_next : {X : Type 0} (f : ℕ → List X) (ns : List ℕ) (i n : ℕ) → i < length ns → n ≡ get_or ns i n → flat_map f (take (i + 1) ns) ≡ flat_map f (take i ns) ++ f n
+flat_next f ns i n within is = ap (flat_map f) (take-step ns i n within is) ∙ flat_map-append f (take i ns) (n ∷ []) ∙ ap (λ xs. flat_map f (take i ns) ++ xs) (append-nil (f n))
+
+pub may_next : (A : Ledger) (f : ℕ → List Line) (ns : List ℕ) (i n : ℕ) → i < length ns → n ≡ get_or ns i n → MayGiveBack A (flat_map f ns) → MayGiveBack A (flat_map f (take i ns) ++ f n)
+may_next A f ns i n within is may =
+    let rest = flat_map f (drop (i + 1) ns) in
+    let parts = ap (flat_map f) (cut_at ns i n within is ∙ append_assoc (take i ns) (n ∷ []) (drop (i + 1) ns)) ∙ flat_map-append f (take i ns) (n ∷ drop (i + 1) ns) in
+    may_prefix A (flat_map f (take i ns)) (f n) rest (subst (MayGiveBack A) parts may)

@@ -1,0 +1,18 @@
+use Rattle.std.proofs.Common.{◌∙◌, ap, map, subst, sym, List, ℕ}
+use Rattle.std.proofs.lemmas.List.Sorted.{IsNonDecreasingBy-from_sort}
+use Rattle.std.specs.List.{filter}
+use Rattle.std.specs.List.Sorted.{IsPermutation}
+use Rattle.words.specs.declared.command.Command.{Command}
+use Rattle.book.specs.After.{expired_numbers}
+use Rattle.book.specs.Next.{expires}
+use Rattle.book.specs.View.{BookView}
+use Rattle.book.proofs.Expiring.{numbers_sorted}
+use Rattle.book.proofs.book.Book.expired.Goals as goal
+
+pub returns : goal.returns
+returns c =
+    let now = c.in-Expire.now in
+    let ns = c.sort_unstable.new.self.items in
+    let moved = subst (λ (xs : List ℕ). IsPermutation xs ns) (c.in_ok-numbers.ensures) c.sort_unstable.ensures.permutation in
+    let own = numbers_sorted now c.self.inside.orders.entries c.arrived.result.now ns c.self.invariant.0.orders_in_order c.arrived.ensures moved (IsNonDecreasingBy-from_sort (λ n. n) ns c.sort_unstable.ensures.sorted) in
+    own ∙ ap (λ (v : BookView). map (λ o. o.number) (filter (expires now) v.ledger.orders)) c.self.view_is ∙ ap (λ (k : Command). expired_numbers c.args.self.now.ledger k) (sym c.in-Expire.is)

@@ -1,9 +1,0 @@
--- the lines so far are changed
-use Rattle.std.proofs.Common.{◌≡◌, ◌||◌, if◌then◌else◌}
-use Rattle.book.specs.InPlace.{changed_line}
-use Rattle.book.specs.Ledger.{on, name_of}
-use Rattle.book.proofs.Walking.{walked}
-use Rattle.book.proofs.book.changes.change_lines.Given as goal
-
-abbrev pub invariant-loop-line : goal.invariant-loop-line
-invariant-loop-line l = l.lines ≡ walked (λ m. if l.is_transfer || on (name_of l.branch l.article) m then changed_line l.change m else m) l.line-index l.initial.lines

@@ -1,0 +1,7 @@
+use Rattle.std.proofs.Common.{◌≡◌, take, find, None}
+use Rattle.book.specs.Ledger.{on, name_of}
+use Rattle.book.specs.Next.{new_line}
+use Rattle.book.proofs.book.checks.has_line_on.Given as goal
+
+abbrev pub invariant-loop-line : goal.invariant-loop-line
+invariant-loop-line l = find (λ line. on (name_of l.branch l.article) (new_line line)) (take l.line-index l.lines) ≡ None

@@ -1,7 +1,0 @@
-use Rattle.std.proofs.Common.{sym, subst}
-use Rattle.std.specs.Str.{IsUtf8}
-use Rattle.book.proofs.Texts.{branch_utf8}
-use Rattle.book.proofs.book.row.branch_text.Goals as goal
-
-pub text_of-requires : goal.text_of-requires
-text_of-requires c = subst IsUtf8 (sym c.as_bytes.ensures.value) (branch_utf8 _ c.as_bytes.ensures.form)

@@ -1,0 +1,424 @@
+//! The rows that an accepted request changes.
+
+ghost use Rattle.std.specs.Prelude.{◌≡◌, ◌≤◌, pos, neg_ℤ, string_bytes, IfOk, ◌∷◌, ◌++◌, [], flat_map, length, map, option_map, OnOk, Some};
+ghost use Rattle.std.specs.Str.{IsUtf8};
+ghost use Rattle.words.specs.Spelling.{spelling};
+ghost use Rattle.words.specs.declared.limits.TheConstants.{MAX_ORDER_LINES};
+ghost use Rattle.book.specs.Ledger.{name_of, is_transfer};
+ghost use Rattle.book.specs.Next.{set_state, next};
+ghost use Rattle.book.specs.Rows.{kept_row, kind_code, line_row, move_row, order_row, state_code, way_code};
+ghost use Rattle.book.specs.Running.{entry_row};
+ghost use Rattle.book.specs.Tables.{desk_cells, field_cells, kept_cells, line_cells, move_cells, order_cells, rows_among};
+ghost use Rattle.book.specs.View.{order_of};
+ghost use Rattle.book.specs.After.{aborted_rows, changed_orders, changes_own_line, expired_numbers, field_rows, line_rows, of_numbered, order_after, own_line_rows, own_move_rows, own_order_rows, with_fields, with_kept, with_lines, with_moves, with_orders, IsShort};
+ghost use Rattle.book.specs.Answers.{IsAccepted};
+ghost use Rattle.book.specs.Good.{Good};
+ghost use Rattle.book.specs.Plans.{ChangesTo};
+
+use super::Book;
+use super::choose::{changes_line, changes_state, is_transfer};
+use crate::entries::{FieldEntry, Order, OrderEntry};
+use crate::in_order::InOrder;
+use crate::limits::MAX_PLACES;
+use crate::order::{Kind, Line, State};
+use crate::rows::{Change, DeskRow, FieldRow, KeptRow, LineRow, MoveRow, OrderRow};
+use escrow::{Article, Branch, FieldName, Key, Moment, OrderNo, Qty, Way};
+use std::alloc::Global;
+use words::{Command, Memory, Request, write_command};
+
+/// The text of these bytes.
+fn text_of(alloc: Global, bytes: &[u8]) -> Result<String, Memory>
+    requires { IsUtf8 bytes.now }
+    ensures { IfOk result (λ text. string_bytes text ≡ bytes.now) }
+{
+    match str::from_utf8(bytes) {
+        Ok(text) => String::from_str(alloc, text).map_err(|_| Memory),
+        Err(_) => unreachable!(),
+    }
+}
+
+fn branch_text(alloc: Global, branch: Branch) -> Result<String, Memory>
+    ensures { IfOk result (λ text. string_bytes text ≡ branch) }
+{
+    text_of(alloc, branch.as_bytes())
+}
+
+fn article_text(alloc: Global, article: Article) -> Result<String, Memory>
+    ensures { IfOk result (λ text. string_bytes text ≡ article) }
+{
+    text_of(alloc, article.as_bytes())
+}
+
+fn key_text(alloc: Global, key: Key) -> Result<String, Memory>
+    ensures { IfOk result (λ text. string_bytes text ≡ key) }
+{
+    text_of(alloc, key.as_bytes())
+}
+
+/// The spelling of the command.
+fn command_text(alloc: Global, command: &Command) -> Result<String, Memory>
+    ensures { IfOk result (λ text. string_bytes text ≡ spelling command.now) }
+{
+    command.in_range();
+    let mut text = Vec::new(alloc);
+    let Ok(()) = write_command(command, &mut text) else {
+        return Err(Memory);
+    };
+    text_of(alloc, &text)
+}
+
+fn kind_code(kind: Kind) -> i64
+    ensures { result ≡ kind_code kind }
+{
+    match kind {
+        Kind::Plain => 0,
+        Kind::Transfer => 1,
+    }
+}
+
+fn state_code(state: State) -> i64
+    ensures { result ≡ state_code state }
+{
+    match state {
+        State::Open => 0,
+        State::Committed => 1,
+        State::Aborted => 2,
+    }
+}
+
+fn way_code(way: Way) -> i64
+    ensures { result ≡ way_code way }
+{
+    match way {
+        Way::Take => 0,
+        Way::Add => 1,
+    }
+}
+
+/// The row of a field.
+fn field_row(alloc: Global, field: &(FieldName, FieldEntry)) -> Result<FieldRow, Memory>
+    ensures { IfOk result (λ row. field_cells row ≡ entry_row field.now) }
+{
+    let (name, entry) = field;
+    let quantity = &entry.quantity;
+    Ok(FieldRow {
+        branch: branch_text(alloc, name.branch)?,
+        article: article_text(alloc, name.article)?,
+        lo: quantity.lo().get() as i64,
+        hi: quantity.hi().get() as i64,
+        start: entry.start.get() as i64,
+        value: quantity.value().get() as i64,
+        inf: quantity.inf().get() as i64,
+        sup: quantity.sup().get() as i64,
+    })
+}
+
+/// The row of the order of that number, in that state.
+fn order_row(number: OrderNo, order: &OrderEntry, state: State) -> OrderRow
+    ensures { order_cells result ≡ order_row (set_state state (order_of (number, order.now))) }
+{
+    OrderRow {
+        number: number.get() as i64,
+        kind: kind_code(order.kind),
+        until: order.until.get() as i64,
+        state: state_code(state),
+    }
+}
+
+/// The row of a line of the order, which counts from 1.
+fn line_row(alloc: Global, number: OrderNo, nr: usize, line: &Line) -> Result<LineRow, Memory>
+    requires { nr ≤ MAX_ORDER_LINES }
+    ensures { IfOk result (λ row. line_cells row ≡ line_row number nr line.now) }
+{
+    Ok(LineRow {
+        number: number.get() as i64,
+        nr: nr as i64,
+        branch: branch_text(alloc, line.branch)?,
+        article: article_text(alloc, line.article)?,
+        way: way_code(line.way),
+        held: line.held.get() as i64,
+        used: line.used.get() as i64,
+    })
+}
+
+/// The row of a delivery.
+fn delivery_row(
+    alloc: Global,
+    place: u64,
+    branch: Branch,
+    article: Article,
+    qty: Qty,
+) -> Result<MoveRow, Memory>
+    requires { place ≤ MAX_PLACES }
+    ensures { IfOk result (λ row. move_cells row ≡ move_row (record { place = place; field = name_of branch article; amount = pos qty })) }
+{
+    Ok(MoveRow {
+        place: place as i64,
+        branch: branch_text(alloc, branch)?,
+        article: article_text(alloc, article)?,
+        qty: qty.get() as i64,
+    })
+}
+
+/// The row of a write-off, whose amount is below 0.
+fn writeoff_row(
+    alloc: Global,
+    place: u64,
+    branch: Branch,
+    article: Article,
+    qty: Qty,
+) -> Result<MoveRow, Memory>
+    requires { place ≤ MAX_PLACES }
+    ensures { IfOk result (λ row. move_cells row ≡ move_row (record { place = place; field = name_of branch article; amount = neg_ℤ (pos qty) })) }
+{
+    Ok(MoveRow {
+        place: place as i64,
+        branch: branch_text(alloc, branch)?,
+        article: article_text(alloc, article)?,
+        qty: -(qty.get() as i64),
+    })
+}
+
+/// The row of the request's key.
+fn kept_row(alloc: Global, place: u64, request: &Request) -> Result<KeptRow, Memory>
+    requires { place ≤ MAX_PLACES }
+    ensures { IfOk result (λ row. kept_cells row ≡ kept_row (record { key = request.now.key; place = place; command = request.now.command })) }
+{
+    Ok(KeptRow {
+        reqkey: key_text(alloc, request.key)?,
+        place: place as i64,
+        words: command_text(alloc, &request.command)?,
+    })
+}
+
+/// The row of a desk.
+fn desk_row(clock: Moment, places: u64) -> DeskRow
+    requires { places ≤ MAX_PLACES }
+    ensures { desk_cells result ≡ record { one = pos 1; version = pos 1; clock = pos clock; places = pos places } }
+{
+    DeskRow {
+        one: 1,
+        version: 1,
+        clock: clock.get() as i64,
+        places: places as i64,
+    }
+}
+
+/// Appends a change.
+fn push(changes: &mut Vec<Change>, change: Change) -> Result<(), Memory>
+    ensures { OnOk result (changes.new.items ≡ changes.old.items ++ change ∷ []) }
+{
+    changes.push(change).map_err(|_| Memory)
+}
+
+/// Appends the rows of the fields.
+fn push_fields(
+    alloc: Global,
+    changes: &mut Vec<Change>,
+    fields: &InOrder<FieldName, FieldEntry>,
+) -> Result<(), Memory>
+    ensures { OnOk result (rows_among changes.new.items ≡ with_fields (map entry_row fields.now.entries) (rows_among changes.old.items)) }
+{
+    for place in 0..fields.len() {
+        let row = field_row(alloc, fields.entry_at(place))?;
+        push(changes, Change::Field(row))?;
+    }
+    Ok(())
+}
+
+/// Appends the row of the order that the command makes, where it is new or its state changes.
+fn push_order(
+    changes: &mut Vec<Change>,
+    command: &Command,
+    made: &Option<Order>,
+) -> Result<(), Memory>
+    ensures { OnOk result (rows_among changes.new.items ≡ with_orders (own_order_rows command.now (option_map order_of made.now)) (rows_among changes.old.items)) }
+{
+    let Some(order) = made else {
+        return Ok(());
+    };
+    if changes_state(command) {
+        let row = order_row(order.0, &order.1, order.1.state);
+        push(changes, Change::Order(row))?;
+    }
+    Ok(())
+}
+
+/// Appends the row of the line, where it is new or its amounts change.
+fn push_line(
+    alloc: Global,
+    changes: &mut Vec<Change>,
+    command: &Command,
+    order: &Order,
+    nr: usize,
+    line: &Line,
+) -> Result<(), Memory>
+    requires { nr ≤ MAX_ORDER_LINES }
+    ensures { OnOk result (rows_among changes.new.items ≡ with_lines (line_rows (changes_own_line (is_transfer (order_of order.now)) command.now) order.now.0 nr (line.now ∷ [])) (rows_among changes.old.items)) }
+{
+    if changes_line(command, is_transfer(order), line) {
+        let row = line_row(alloc, order.0, nr, line)?;
+        push(changes, Change::Line(row))?;
+    }
+    Ok(())
+}
+
+/// Appends the rows of the order's lines that are new or whose amounts change.
+fn push_lines(
+    alloc: Global,
+    changes: &mut Vec<Change>,
+    command: &Command,
+    order: &Order,
+) -> Result<(), Memory>
+    requires { length order.now.1.lines.items ≤ MAX_ORDER_LINES }
+    ensures { OnOk result (rows_among changes.new.items ≡ with_lines (own_line_rows command.now (Some (order_of order.now))) (rows_among changes.old.items)) }
+{
+    for (index, line) in order.1.lines.iter().enumerate() {
+        push_line(alloc, changes, command, order, index + 1, line)?;
+    }
+    Ok(())
+}
+
+/// Appends the rows of the lines that are new or whose amounts change of the order that the command makes, if it
+/// makes one.
+fn push_own_lines(
+    alloc: Global,
+    changes: &mut Vec<Change>,
+    command: &Command,
+    made: &Option<Order>,
+) -> Result<(), Memory>
+    requires { IsShort (option_map order_of made.now) }
+    ensures { OnOk result (rows_among changes.new.items ≡ with_lines (own_line_rows command.now (option_map order_of made.now)) (rows_among changes.old.items)) }
+{
+    match made {
+        Some(order) => push_lines(alloc, changes, command, order),
+        None => Ok(()),
+    }
+}
+
+/// Appends the row of the move that the command makes, if it makes one.
+fn push_move(
+    alloc: Global,
+    changes: &mut Vec<Change>,
+    place: u64,
+    command: &Command,
+) -> Result<(), Memory>
+    requires { place ≤ MAX_PLACES }
+    ensures { OnOk result (rows_among changes.new.items ≡ with_moves (own_move_rows place command.now) (rows_among changes.old.items)) }
+{
+    match command {
+        Command::Deliver {
+            branch,
+            article,
+            qty,
+        } => {
+            let row = delivery_row(alloc, place, *branch, *article, *qty)?;
+            push(changes, Change::Move(row))
+        }
+        Command::Writeoff {
+            branch,
+            article,
+            qty,
+        } => {
+            let row = writeoff_row(alloc, place, *branch, *article, *qty)?;
+            push(changes, Change::Move(row))
+        }
+        _ => Ok(()),
+    }
+}
+
+/// Appends the row of the request's key.
+fn push_kept(
+    alloc: Global,
+    changes: &mut Vec<Change>,
+    place: u64,
+    request: &Request,
+) -> Result<(), Memory>
+    requires { place ≤ MAX_PLACES }
+    ensures { OnOk result (rows_among changes.new.items ≡ with_kept (kept_row (record { key = request.now.key; place = place; command = request.now.command }) ∷ []) (rows_among changes.old.items)) }
+{
+    let row = kept_row(alloc, place, request)?;
+    push(changes, Change::Kept(row))
+}
+
+impl Book {
+    /// The clock once the command is carried out.
+    pub(super) fn clock_after(&self, command: &Command) -> Moment
+        ensures { result ≡ (next self.now.ledger command.now).clock }
+    {
+        match command {
+            Command::Expire { now } => *now,
+            _ => self.clock,
+        }
+    }
+
+    /// Appends the row of the order of that number, aborted, if there is one.
+    fn push_aborted(&self, changes: &mut Vec<Change>, number: OrderNo) -> Result<(), Memory>
+        ensures { OnOk result (rows_among changes.new.items ≡ with_orders (of_numbered self.now.ledger aborted_rows number) (rows_among changes.old.items)) }
+    {
+        let Some(order) = self.order_entry(number) else {
+            return Ok(());
+        };
+        let row = order_row(number, order, State::Aborted);
+        push(changes, Change::Order(row))
+    }
+
+    /// Appends the rows of the orders of these numbers, aborted.
+    fn push_all_aborted(&self, changes: &mut Vec<Change>, numbers: &[OrderNo]) -> Result<(), Memory>
+        ensures { OnOk result (rows_among changes.new.items ≡ with_orders (flat_map (of_numbered self.now.ledger aborted_rows) numbers.now) (rows_among changes.old.items)) }
+    {
+        for number in numbers {
+            self.push_aborted(changes, *number)?;
+        }
+        Ok(())
+    }
+
+    /// Appends the rows of the orders that are new or whose states change.
+    fn push_orders(
+        &self,
+        changes: &mut Vec<Change>,
+        command: &Command,
+        made: &Option<Order>,
+        expired: &[OrderNo],
+    ) -> Result<(), Memory>
+        requires good { Good self.now.ledger }
+        requires made { option_map order_of made.now ≡ order_after self.now.ledger command.now }
+        requires expired { expired.now ≡ expired_numbers self.now.ledger command.now }
+        ensures { OnOk result (rows_among changes.new.items ≡ with_orders (changed_orders self.now.ledger command.now) (rows_among changes.old.items)) }
+    {
+        match command {
+            Command::Expire { .. } => self.push_all_aborted(changes, expired),
+            _ => push_order(changes, command, made),
+        }
+    }
+
+    /// The rows that the accepted request changes, with the fields and the order that it makes or changes and the orders
+    /// that expire, those of each table in the order of its key.
+    pub(super) fn changes_of(
+        &self,
+        alloc: Global,
+        request: &Request,
+        fields: &InOrder<FieldName, FieldEntry>,
+        made: &Option<Order>,
+        expired: &[OrderNo],
+    ) -> Result<Vec<Change>, Memory>
+        requires accepted { IsAccepted self.now.ledger request.now }
+        requires fields { map entry_row fields.now.entries ≡ field_rows self.now.ledger request.now }
+        requires made { option_map order_of made.now ≡ order_after self.now.ledger request.now.command }
+        requires expired { expired.now ≡ expired_numbers self.now.ledger request.now.command }
+        ensures changes { IfOk result (λ changes. ChangesTo self.now.ledger request.now (rows_among changes.items)) }
+        ensures fields { IfOk result (λ changes. map entry_row fields.now.entries ≡ (rows_among changes.items).fields) }
+    {
+        request.in_range();
+        let place = self.kept.len() as u64 + 1;
+        let mut changes = Vec::new(alloc);
+        let desk = desk_row(self.clock_after(&request.command), place);
+        push(&mut changes, Change::Desk(desk))?;
+        push_fields(alloc, &mut changes, fields)?;
+        push_move(alloc, &mut changes, place, &request.command)?;
+        self.push_orders(&mut changes, &request.command, made, expired)?;
+        push_own_lines(alloc, &mut changes, &request.command, made)?;
+        push_kept(alloc, &mut changes, place, request)?;
+        Ok(changes)
+    }
+}

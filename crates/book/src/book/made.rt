@@ -1,0 +1,280 @@
+//! The order that an accepted command opens or changes, as it is then.
+
+ghost use Rattle.std.specs.Prelude.{◌≡◌, ℕ, ◌<◌, ◌||◌, true, MatchOption, find, if◌then◌else◌, map, option_map, IfOk, Some};
+ghost use Rattle.std.specs.List.{AllByRecursion as Each};
+ghost use Rattle.std.specs.Vec.{vec_capacity, vec_len};
+ghost use Rattle.escrow.specs.Ranges.{IsLevel};
+ghost use Rattle.book.specs.InPlace.{MayChange, MayChangeOrder, changed_line, changed_order, held_lines, order_change_of};
+ghost use Rattle.book.specs.Ledger.{line_name, name_of, on, is_transfer, order_numbered};
+ghost use Rattle.book.specs.declared.book.made.LineChange.TheVariants as LineChange;
+ghost use Rattle.book.specs.Next.{new_line, accept};
+ghost use Rattle.book.specs.View.{order_of};
+ghost use Rattle.book.specs.After.{order_after};
+ghost use Rattle.book.specs.Answers.{IsAccepted};
+ghost use Rattle.book.specs.Good.{Good};
+ghost use Rattle.book.specs.declared.order.State.TheVariants as State;
+
+use super::Book;
+use super::find::{is_on, line_in};
+use super::plan::lines_of;
+use crate::entries::{Order, OrderEntry};
+use crate::order::{Kind, Line, State};
+use escrow::{Article, Branch, Level, Moment, OrderNo, Qty};
+use std::alloc::Global;
+use words::{Command, Memory, OpenLine, Request};
+
+/// A change of a line.
+#[derive(Clone, Copy)]
+pub enum LineChange {
+    /// It holds more.
+    Hold(Qty),
+    /// It uses more of what it holds.
+    Use(Qty),
+    /// It holds less.
+    Release(Qty),
+}
+
+/// A change of an order.
+#[derive(Clone, Copy)]
+pub enum OrderChange {
+    /// Its line on a field holds more; without such a line, it gets one more at the end.
+    HoldMore(OpenLine),
+    /// Its line on a field changes, on a transfer both lines.
+    ChangeLines(Branch, Article, LineChange),
+    /// It ends.
+    End(State),
+}
+
+/// A level that is known to be one.
+fn level(number: u64) -> Level
+    requires { IsLevel number }
+    ensures { result ≡ number }
+{
+    match Level::new(number) {
+        Some(level) => level,
+        None => unreachable!(),
+    }
+}
+
+fn change_line(line: &mut Line, change: &LineChange)
+    requires { MayChange change.now line.old }
+    ensures { line.new ≡ changed_line change.now line.old }
+{
+    let (held, used) = (line.held.get(), line.used.get());
+    match change {
+        LineChange::Hold(qty) => line.held = level(held + qty.get()),
+        LineChange::Use(qty) => line.used = level(used + qty.get()),
+        LineChange::Release(qty) => line.held = level(held - qty.get()),
+    }
+}
+
+/// Whether the line changes: it is on the field, or the order is a transfer, of which both lines change.
+fn is_chosen(line: &Line, is_transfer: bool, branch: Branch, article: Article) -> bool
+    ensures { result ≡ is_transfer || on (name_of branch article) line.now }
+{
+    is_transfer || is_on(line, branch, article)
+}
+
+/// The line changes where it is chosen.
+fn change_where(line: &mut Line, is_chosen: bool, change: &LineChange)
+    requires { is_chosen ≡ true → MayChange change.now line.old }
+    ensures { line.new ≡ (if is_chosen then changed_line change.now line.old else line.old) }
+{
+    if is_chosen {
+        change_line(line, change);
+    }
+}
+
+fn change_lines(
+    lines: &mut [Line],
+    is_transfer: bool,
+    branch: Branch,
+    article: Article,
+    change: &LineChange,
+)
+    requires { Each (λ l. (is_transfer || on (name_of branch article) l) ≡ true → MayChange change.now l) lines.old }
+    ensures { lines.new ≡ map (λ l. if is_transfer || on (name_of branch article) l then changed_line change.now l else l) lines.old }
+{
+    for line in lines.iter_mut() {
+        let is_chosen = is_chosen(line, is_transfer, branch, article);
+        change_where(line, is_chosen, change);
+    }
+}
+
+/// The line on the field holds more; without such a line there is one more at the end.
+fn hold_more(lines: &mut Vec<Line>, more: &OpenLine)
+    requires { let name = line_name (new_line more.now) in MatchOption (find (on name) lines.old.items) (vec_len lines.old < vec_capacity lines.old) (λ found. Each (λ m. on name m ≡ true → MayChange (LineChange.Hold more.now.qty) m) lines.old.items) }
+    ensures { lines.new.items ≡ held_lines more.now lines.old.items }
+{
+    if line_in(lines, more.branch, more.article).is_some() {
+        change_lines(
+            lines,
+            false,
+            more.branch,
+            more.article,
+            &LineChange::Hold(more.qty),
+        );
+        return;
+    }
+    match lines.push(new_line(more)) {
+        Ok(()) => {}
+        Err(_) => unreachable!(),
+    }
+}
+
+/// A line that holds its amount and has used nothing.
+pub(super) fn new_line(line: &OpenLine) -> Line
+    ensures { result ≡ new_line line.now }
+{
+    Line {
+        way: line.way,
+        branch: line.branch,
+        article: line.article,
+        held: level(line.qty.get()),
+        used: level(0),
+    }
+}
+
+fn change_order(order: &mut OrderEntry, change: &OrderChange)
+    requires { MayChangeOrder change.now order.old }
+    ensures { (n : ℕ) → order_of (n, order.new) ≡ changed_order change.now (order_of (n, order.old)) }
+{
+    match change {
+        OrderChange::HoldMore(line) => hold_more(&mut order.lines, line),
+        OrderChange::ChangeLines(branch, article, change) => {
+            let is_transfer = matches!(order.kind, Kind::Transfer);
+            change_lines(&mut order.lines, is_transfer, *branch, *article, change);
+        }
+        OrderChange::End(state) => order.state = *state,
+    }
+}
+
+/// An open order of these lines.
+pub(super) fn opened(number: OrderNo, kind: Kind, until: Moment, lines: Vec<Line>) -> Order
+    ensures { order_of result ≡ record { number = number; kind = kind; until = until; state = State.Open; lines = lines.items } }
+{
+    let entry = OrderEntry {
+        kind,
+        until,
+        state: State::Open,
+        lines,
+    };
+    (number, entry)
+}
+
+/// The order that the command changes, and how; none for a command that changes no one order.
+fn order_change(command: &Command) -> Option<(OrderNo, OrderChange)>
+    ensures { result ≡ order_change_of command.now }
+{
+    match command {
+        Command::More {
+            number,
+            way,
+            branch,
+            article,
+            qty,
+        } => {
+            let line = OpenLine {
+                way: *way,
+                branch: *branch,
+                article: *article,
+                qty: *qty,
+            };
+            Some((*number, OrderChange::HoldMore(line)))
+        }
+        Command::Use {
+            number,
+            branch,
+            article,
+            qty,
+        } => {
+            let change = LineChange::Use(*qty);
+            Some((*number, OrderChange::ChangeLines(*branch, *article, change)))
+        }
+        Command::Release {
+            number,
+            branch,
+            article,
+            qty,
+        } => {
+            let change = LineChange::Release(*qty);
+            Some((*number, OrderChange::ChangeLines(*branch, *article, change)))
+        }
+        Command::Commit { number } => Some((*number, OrderChange::End(State::Committed))),
+        Command::Abort { number } => Some((*number, OrderChange::End(State::Aborted))),
+        _ => None,
+    }
+}
+
+/// A copy of the order, with room for a line more.
+fn copy_of_order(alloc: Global, entry: &OrderEntry) -> Result<OrderEntry, Memory>
+    ensures same { IfOk result (λ copy. (n : ℕ) → order_of (n, copy) ≡ order_of (n, entry.now)) }
+    ensures room { IfOk result (λ copy. vec_len copy.lines < vec_capacity copy.lines) }
+{
+    let mut lines = Vec::from_slice(alloc, &entry.lines).map_err(|_| Memory)?;
+    lines.reserve(1).map_err(|_| Memory)?;
+    Ok(OrderEntry {
+        kind: entry.kind,
+        until: entry.until,
+        state: entry.state,
+        lines,
+    })
+}
+
+impl Book {
+    /// The order under that number, changed.
+    fn order_changed(
+        &self,
+        alloc: Global,
+        change: (OrderNo, OrderChange),
+    ) -> Result<Option<Order>, Memory>
+        requires { (entry : OrderEntry) → order_numbered self.now.ledger change.0 ≡ Some (order_of (change.0, entry)) → vec_len entry.lines < vec_capacity entry.lines → MayChangeOrder change.1 entry }
+        ensures { IfOk result (λ made. option_map order_of made ≡ option_map (changed_order change.1) (order_numbered self.now.ledger change.0)) }
+    {
+        let Some(entry) = self.order_entry(change.0) else {
+            return Ok(None);
+        };
+        let mut copy = copy_of_order(alloc, entry)?;
+        change_order(&mut copy, &change.1);
+        Ok(Some((change.0, copy)))
+    }
+
+    /// The order that the accepted command opens or changes, as it is then; none where it is about no one order.
+    fn order_after(&self, alloc: Global, request: &Request) -> Result<Option<Order>, Memory>
+        requires accepted { IsAccepted self.now.ledger request.now }
+        requires before { Good self.now.ledger }
+        requires good { Good (accept self.now.ledger request.now) }
+        ensures { IfOk result (λ made. option_map order_of made ≡ order_after self.now.ledger request.now.command) }
+    {
+        let command = &request.command;
+        match command {
+            Command::Open { number, until, .. } => {
+                let lines = lines_of(alloc, command)?;
+                Ok(Some(opened(*number, Kind::Plain, *until, lines)))
+            }
+            Command::Transfer { number, until, .. } => {
+                let lines = lines_of(alloc, command)?;
+                Ok(Some(opened(*number, Kind::Transfer, *until, lines)))
+            }
+            _ => match order_change(command) {
+                Some(change) => self.order_changed(alloc, change),
+                None => Ok(None),
+            },
+        }
+    }
+
+    /// The same, for a request whose ranges are not yet known.
+    pub(super) fn order_made(
+        &self,
+        alloc: Global,
+        request: &Request,
+    ) -> Result<Option<Order>, Memory>
+        requires { IsAccepted self.now.ledger request.now }
+        ensures { IfOk result (λ made. option_map order_of made ≡ order_after self.now.ledger request.now.command) }
+    {
+        // so that the proof has the invariant
+        let _ = &self.orders;
+        request.in_range();
+        self.order_after(alloc, request)
+    }
+}

@@ -1,0 +1,23 @@
+use Rattle.std.proofs.Common.{◌∙◌, subst, sym}
+use Rattle.std.proofs.Math.Logic.{inl, inr}
+use Rattle.std.proofs.KnownBytes.{Keeps-refl}
+use Rattle.desk.proofs.Cuts.{of_error}
+use Rattle.stockdesk.specs.Requests.{FileInPart}
+use Rattle.stockdesk.specs.Sessions.{IsLeft}
+use Rattle.stockdesk.proofs.Played.{cut_by}
+use Rattle.stockdesk.proofs.requests.answer.Goals as goal
+
+pub returns-in-Err-clause-cut : goal.returns-in-Err-clause-cut
+returns-in-Err-clause-cut g c = inl (c.in-Err.ensures.held, Keeps-refl _)
+
+pub returns-clause-cut : goal.returns-clause-cut
+returns-clause-cut g c =
+    let opened = c.in-Ok.ensures in
+    let ended = c.answer_file-ended.ensures in
+    of_error c.answer_file-ended.result _ _
+    (λ fault is cut. subst
+    (λ keep. FileInPart g.K.Keep fault keep (g.K.Keep.holds c.args.keep) (g.K.Keep.has_tables c.args.keep) (IsLeft g.K.Keep c.args.keep keep) (g.W.Write.contents c.args.writer.now) (g.W.Write.contents c.answer_file-ended.new.writer))
+    (sym c.into_keep.ensures)
+    (inr (cut_by g.K.Keep c.answer_file-ended.result fault c.answer_file-ended.new.desk.keep _ c.in-Ok.desk.ledger c.answer_file-ended.new.desk.ledger _ is
+    opened.good (λ honest. opened.rows (ended.honest honest)) cut ended.desk ended.stopped (λ other. ended.going other ∙ opened.going) ended.keeps)))
+    (ended.cut opened.going)

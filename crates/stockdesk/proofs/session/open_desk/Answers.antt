@@ -1,0 +1,14 @@
+use Rattle.std.proofs.Math.Logic.{inl, inr}
+use Rattle.stockdesk.proofs.session.open_desk.Goals as goal
+
+pub returns-in-Err-clause-held : goal.returns-in-Err-clause-held
+returns-in-Err-clause-held g c =
+    let told = c.open_fault.ensures in
+    record {
+      not_a_desk = λ is. c.in-Err.ensures.not_a_desk (told.not_a_desk.0 is);
+      damaged = λ is. c.in-Err.ensures.damaged (told.damaged.0 is);
+      opening = told.opening;
+      stopped = λ is. c.in-Err.ensures.stopped (elim is [ inl e ↦ inl (told.store.0 e) | inr e ↦ inr (told.not_a_desk.0 e) ]);
+      going = λ is. c.in-Err.ensures.loaded (told.damaged.0 is);
+      left = λ honest. record { same = c.in-Err.ensures.same honest; adds_nothing = c.in-Err.ensures.adds_nothing honest; no_more = c.in-Err.ensures.no_more honest };
+    }

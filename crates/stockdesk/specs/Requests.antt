@@ -1,0 +1,74 @@
+-- What a session does with a file of requests.
+use Rattle.std.specs.Prelude.{◌≡◌, ◌⊎◌, ◌↔◌, ℕ, List, Option, false, map}
+use Rattle.std.specs.Io.KnownBytes.{Keeps}
+use Rattle.book.specs.Ledger.{Ledger}
+use Rattle.book.specs.Rows.{Content}
+use Rattle.words.specs.declared.command.Request.{Request}
+use Rattle.words.specs.declared.item.Item.{Item}
+use Rattle.words.specs.declared.item.Item.TheVariants as item
+use Rattle.desk.specs.Script.{AnswersAll, AnswersCut}
+use Rattle.desk.specs.declared.fault.ScriptFault.{ScriptFault}
+use Rattle.files.specs.Deliveries.{SayDeliveries, delivery_header}
+use Rattle.files.specs.Files.{IsFile, NamesFirst}
+use Rattle.files.specs.Orders.{SayOrders, order_header}
+use Rattle.files.specs.declared.fault.FileFault.{FileFault}
+use Rattle.keep.specs.declared.keep.Keep.{Ghosts}
+use Rattle.stockdesk.specs.Sessions.{IsBadFile, IsToldAs, SessionInPart, SessionWhole}
+use Rattle.stockdesk.specs.declared.requests.Kind.{Kind}
+use Rattle.stockdesk.specs.declared.requests.Kind.TheVariants.{Deliveries, Orders}
+use Rattle.stockdesk.specs.declared.session.Fault.{Fault}
+
+-- ---- the file
+
+-- the bytes are a file of that kind, and say these requests
+abbrev pub IsFileOf : Kind → List ℕ → List Request → Type 0
+IsFileOf Orders bytes requests = IsFile order_header SayOrders bytes requests
+IsFileOf Deliveries bytes requests = IsFile delivery_header SayDeliveries bytes requests
+
+-- a fault that names a record names the first one at fault in a file of that kind
+abbrev pub NamesFirstOf : Kind → List ℕ → FileFault → Type 0
+NamesFirstOf Orders bytes fault = NamesFirst order_header SayOrders bytes fault
+NamesFirstOf Deliveries bytes fault = NamesFirst delivery_header SayDeliveries bytes fault
+
+-- a fault of the file is told as the program's
+pub record IsFileFault (cause : FileFault) (fault : Fault) : Type 0 where
+  pub record_at_fault : (number : ℕ) → fault ≡ Fault.BadRecord number ↔ cause ≡ FileFault.BadRecord number
+  pub memory : fault ≡ Fault.Memory ↔ cause ≡ FileFault.Memory
+  pub reading : fault ≡ Fault.Csv ↔ cause ≡ FileFault.Io
+
+-- ---- answers
+
+-- requests, as the items of a script
+abbrev pub items_of : List Request → List Item
+items_of requests = map (λ r. item.Request r) requests
+
+-- the requests are answered in the form of script replies
+abbrev pub RequestsAnswered : List Request → (writer_old writer_new : Option (List ℕ)) → Ledger → Ledger → Type 0
+RequestsAnswered requests writer_old writer_new first last = AnswersAll first (items_of requests) last writer_old writer_new
+
+-- the answers to the requests are cut, by a fault that is told so
+abbrev pub RequestsCut : List Request → Fault → (is_honest : Type 0) → (List Content → Type 0) → (writer_old writer_new : Option (List ℕ)) → Ledger → Ledger → Type 0
+RequestsCut requests fault is_honest leaves writer_old writer_new first last =
+    (cause : ScriptFault) × IsToldAs cause fault × AnswersCut cause (false ≡ false) is_honest leaves first (items_of requests) last writer_old writer_new
+
+-- nothing is done, and nothing written
+abbrev pub NothingDone : (writer_old writer_new : Option (List ℕ)) → Ledger → Ledger → Type 0
+NothingDone writer_old writer_new first last = (last ≡ first) × Keeps writer_old writer_new
+
+-- the file was not read, and nothing is done; or some requests were read, and the answers to them are cut
+abbrev pub FileCut : Fault → (is_honest : Type 0) → (List Content → Type 0) → (writer_old writer_new : Option (List ℕ)) → Ledger → Ledger → Type 0
+FileCut fault is_honest leaves writer_old writer_new first last =
+    (((fault ≡ Fault.Memory) ⊎ IsBadFile fault) × NothingDone writer_old writer_new first last)
+    ⊎ ((requests : List Request) × RequestsCut requests fault is_honest leaves writer_old writer_new first last)
+
+-- ---- sessions
+
+-- some requests are answered, from the desk's ledger on
+abbrev pub FileWhole : {K : Type 0} → Ghosts K → K → (Content → Type 0) → (writer_old writer_new : Option (List ℕ)) → Type 0
+FileWhole g keep held writer_old writer_new =
+    SessionWhole g keep held (λ first last. (requests : List Request) × RequestsAnswered requests writer_old writer_new first last)
+
+-- no desk was opened, and nothing written; or one was, and the answers were not begun, or cut
+abbrev pub FileInPart : {K : Type 0} → Ghosts K → Fault → K → (held tables : Content → Type 0) → (IsLeftSo : Type 0) → (writer_old writer_new : Option (List ℕ)) → Type 0
+FileInPart g fault keep held tables IsLeftSo writer_old writer_new =
+    SessionInPart g fault keep held tables IsLeftSo (Keeps writer_old writer_new) (FileCut fault (g.is_honest keep) (g.leaves keep) writer_old writer_new)

@@ -1,0 +1,170 @@
+//! A file of requests, answered by a desk that a keeper holds.
+
+ghost use Rattle.std.specs.Prelude.{◌≡◌, ◌≢◌, ◌⊎◌, false, Err, IfErr, IfOk, IfSome, IsTrue, List, OnOk};
+ghost use Rattle.desk.specs.Desk.{Keeps};
+ghost use Rattle.stockdesk.specs.Requests.{FileCut, FileInPart, FileWhole, IsFileFault, IsFileOf, NamesFirstOf, RequestsAnswered, RequestsCut, items_of};
+ghost use Rattle.stockdesk.specs.Sessions.{IsBadFile, IsLeft, IsNoDesk, IsUnbegun};
+ghost use Rattle.words.specs.declared.command.Request.{Request};
+ghost use Rattle.files.specs.declared.fault.FileFault.{FileFault};
+
+use crate::session::{Fault, open_desk, script_fault};
+use desk::{Desk, answer_all};
+use files::{FileFault, read_deliveries, read_orders};
+use keep::Keep;
+use std::alloc::Global;
+use std::fs::File;
+use std::io::{ErrorKind, Read, Write};
+use words::{Item, Request};
+
+/// What a file of requests holds.
+#[derive(Clone, Copy, Debug, PartialEq, Eq)]
+pub enum Kind {
+    Orders,
+    Deliveries,
+}
+
+/// The requests of a file.
+fn read<R: Read + Drop>(alloc: Global, kind: Kind, reader: R) -> Result<Vec<Request>, FileFault>
+    ensures ok { IfOk result (λ requests. IfSome (R.remaining reader) (λ bytes. IsFileOf kind bytes requests.items)) }
+    ensures bad { IfErr result (λ fault. IfSome (R.remaining reader) (λ bytes. NamesFirstOf kind bytes fault)) }
+{
+    match kind {
+        Kind::Orders => read_orders(alloc, reader),
+        Kind::Deliveries => read_deliveries(alloc, reader),
+    }
+}
+
+/// The fault that one of the file is told as.
+fn file_fault(fault: FileFault) -> Fault
+    ensures told { IsFileFault fault result }
+    ensures file { (result ≡ Fault.Memory) ⊎ IsBadFile result }
+{
+    match fault {
+        FileFault::BadRecord(number) => Fault::BadRecord(number),
+        FileFault::Memory => Fault::Memory,
+        FileFault::Io => Fault::Csv,
+    }
+}
+
+/// The fault that an error of opening the file is told as.
+fn open_fault(kind: ErrorKind) -> Fault
+    ensures { (result ≡ Fault.Memory) ⊎ IsBadFile result }
+{
+    match kind {
+        ErrorKind::OutOfMemory => Fault::Memory,
+        _ => Fault::Csv,
+    }
+}
+
+/// The requests of a file, as the items of a script.
+fn read_items<R: Read + Drop>(alloc: Global, kind: Kind, reader: R) -> Result<Vec<Item>, Fault>
+    ensures ok { IfOk result (λ items. (requests : List Request) × (items.items ≡ items_of requests) × IfSome (R.remaining reader) (λ bytes. IsFileOf kind bytes requests)) }
+    ensures bad { IfErr result (λ fault. ((cause : FileFault) × IsFileFault cause fault × IfSome (R.remaining reader) (λ bytes. NamesFirstOf kind bytes cause)) ⊎ (fault ≡ Fault.Memory)) }
+    ensures file { IfErr result (λ fault. (fault ≡ Fault.Memory) ⊎ IsBadFile fault) }
+{
+    let requests = match read(alloc, kind, reader) {
+        Ok(requests) => requests,
+        Err(fault) => return Err(file_fault(fault)),
+    };
+    let items = requests.into_iter().map(|request| Item::Request(request));
+    match items.collect(alloc) {
+        Ok(items) => Ok(items),
+        Err(_) => Err(Fault::Memory),
+    }
+}
+
+/// Answers items on a desk.
+fn answer_items<K: Keep, W: Write>(
+    alloc: Global,
+    desk: &mut Desk<K>,
+    items: &[Item],
+    writer: &mut W,
+) -> Result<(), Fault>
+    ensures whole { (requests : List Request) → items.now ≡ items_of requests → OnOk result (RequestsAnswered requests (W.contents writer.old) (W.contents writer.new) desk.old.ledger desk.new.ledger) }
+    ensures cut { K.stopped desk.old.keep ≡ false → (requests : List Request) → items.now ≡ items_of requests → IfErr result (λ fault.
+        RequestsCut requests fault (K.is_honest desk.new.keep) (K.leaves desk.new.keep) (W.contents writer.old) (W.contents writer.new) desk.old.ledger desk.new.ledger) }
+    ensures begun { IfErr result (λ fault. ¬ IsUnbegun fault) }
+    ensures going { result ≢ Err Fault.Store → K.stopped desk.new.keep ≡ K.stopped desk.old.keep }
+    ensures stopped { result ≡ Err Fault.Store → IsTrue (K.stopped desk.new.keep) }
+    ensures keeps { K.stopped desk.new.keep ≡ false → K.is_honest desk.new.keep → Keeps (K.holds desk.new.keep) (K.leaves desk.new.keep) desk.new.ledger }
+    ensures honest { K.is_honest desk.new.keep → K.is_honest desk.old.keep }
+{
+    match answer_all(alloc, items, writer, desk) {
+        Ok(()) => Ok(()),
+        Err(fault) => Err(script_fault(fault)),
+    }
+}
+
+/// Answers the requests of a file on a desk. The whole file is read before the first of them is called; each reply line is written
+/// before the next is.
+fn answer_from<K: Keep, R: Read + Drop, W: Write>(
+    alloc: Global,
+    desk: &mut Desk<K>,
+    kind: Kind,
+    reader: R,
+    writer: &mut W,
+) -> Result<(), Fault>
+    ensures whole { OnOk result ((requests : List Request) × IfSome (R.remaining reader) (λ bytes. IsFileOf kind bytes requests) × RequestsAnswered requests (W.contents writer.old) (W.contents writer.new) desk.old.ledger desk.new.ledger) }
+    ensures unread { IfErr result (λ fault. IsBadFile fault → IfSome (R.remaining reader) (λ bytes. (cause : FileFault) × IsFileFault cause fault × NamesFirstOf kind bytes cause)) }
+    ensures cut { K.stopped desk.old.keep ≡ false → IfErr result (λ fault. FileCut fault (K.is_honest desk.new.keep) (K.leaves desk.new.keep) (W.contents writer.old) (W.contents writer.new) desk.old.ledger desk.new.ledger) }
+    ensures desk { IfErr result (λ fault. ¬ IsNoDesk fault) }
+    ensures going { result ≢ Err Fault.Store → K.stopped desk.new.keep ≡ K.stopped desk.old.keep }
+    ensures stopped { result ≡ Err Fault.Store → IsTrue (K.stopped desk.new.keep) }
+    ensures keeps { K.stopped desk.new.keep ≡ false → K.is_honest desk.new.keep → Keeps (K.holds desk.new.keep) (K.leaves desk.new.keep) desk.new.ledger }
+    ensures honest { K.is_honest desk.new.keep → K.is_honest desk.old.keep }
+{
+    desk.is_stopped();
+    let items = match read_items(alloc, kind, reader) {
+        Ok(items) => items,
+        Err(fault) => return Err(fault),
+    };
+    answer_items(alloc, desk, &items, writer)
+}
+
+/// Answers the requests of the file at the path on a desk.
+fn answer_file<K: Keep, W: Write>(
+    rt: &HostRuntime,
+    desk: &mut Desk<K>,
+    kind: Kind,
+    path: &str,
+    writer: &mut W,
+) -> Result<(), Fault>
+    ensures whole { OnOk result ((requests : List Request) × RequestsAnswered requests (W.contents writer.old) (W.contents writer.new) desk.old.ledger desk.new.ledger) }
+    ensures cut { K.stopped desk.old.keep ≡ false → IfErr result (λ fault. FileCut fault (K.is_honest desk.new.keep) (K.leaves desk.new.keep) (W.contents writer.old) (W.contents writer.new) desk.old.ledger desk.new.ledger) }
+    ensures desk { IfErr result (λ fault. ¬ IsNoDesk fault) }
+    ensures going { result ≢ Err Fault.Store → K.stopped desk.new.keep ≡ K.stopped desk.old.keep }
+    ensures stopped { result ≡ Err Fault.Store → IsTrue (K.stopped desk.new.keep) }
+    ensures keeps { K.stopped desk.new.keep ≡ false → K.is_honest desk.new.keep → Keeps (K.holds desk.new.keep) (K.leaves desk.new.keep) desk.new.ledger }
+    ensures honest { K.is_honest desk.new.keep → K.is_honest desk.old.keep }
+{
+    desk.is_stopped();
+    match File::open(rt, path) {
+        Ok(reader) => answer_from(rt.alloc(), desk, kind, reader, writer),
+        Err(error) => Err(open_fault(error.kind())),
+    }
+}
+
+/// Opens the desk that a keeper holds, reads the file of requests at the path, and then answers its requests in their order, each
+/// reply line written before the next request is called. The keeper comes back as the session leaves it.
+///
+/// A file that cannot be read is `Csv`, a record at fault `BadRecord`; then nothing is done, and nothing written. After any other
+/// fault the first of the requests are answered, and a stop leaves the rows of the ledger behind them, or, where the store failed,
+/// those or the rows after one request more. Where no desk was opened the file is not looked at, and the keeper holds what it held.
+pub fn answer<K: Keep, W: Write>(
+    rt: &HostRuntime,
+    keep: K,
+    kind: Kind,
+    path: &str,
+    writer: &mut W,
+) -> (K, Result<(), Fault>)
+    ensures whole { OnOk result.1 (FileWhole K.Keep result.0 (K.holds keep) (W.contents writer.old) (W.contents writer.new)) }
+    ensures cut { IfErr result.1 (λ fault. FileInPart K.Keep fault result.0 (K.holds keep) (K.has_tables keep) (IsLeft K.Keep keep result.0) (W.contents writer.old) (W.contents writer.new)) }
+    ensures honest { K.is_honest result.0 → K.is_honest keep }
+{
+    let mut desk = match open_desk(rt.alloc(), keep) {
+        Ok(desk) => desk,
+        Err((fault, keep)) => return (keep, Err(fault)),
+    };
+    let ended = answer_file(rt, &mut desk, kind, path, writer);
+    (desk.into_keep(), ended)
+}
