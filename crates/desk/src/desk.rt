@@ -106,8 +106,9 @@ impl<K: Keep> Desk<K> {
         }
     }
 
-    /// What is to be answered to a request, of which nothing is done yet.
-    pub(crate) fn plan(&self, alloc: Global, request: &Request) -> Result<Planned, CallFault>
+    /// What is to be answered to a request, of which nothing is done yet: so what tells of it can be made before it is carried
+    /// out. `Memory` and `Stopped` as by `call`; nothing has changed by either.
+    pub fn plan(&self, alloc: Global, request: &Request) -> Result<Planned, CallFault>
         ensures going { IfOk result (λ _. K.stopped self.now.keep ≡ false) }
         ensures planned { IfOk result (λ planned. Plans self.now.ledger request.now planned) }
         ensures key { IsKey request.now.key }
@@ -125,8 +126,10 @@ impl<K: Keep> Desk<K> {
             .map_err(|_| CallFault::Memory)
     }
 
-    /// Keeps the rows that an accepted request changes, and then carries it out: it is done at the plan's place.
-    pub(crate) fn carry_out(&mut self, plan: Plan) -> Result<Reply, CallFault>
+    /// Carries out the plan of an accepted request, after its rows are kept: it is done at the plan's place. The plan was made at
+    /// the desk's ledger, which is as it was after `Memory` and `Stopped`. After `Stopped` a stop leaves the ledger's rows or
+    /// those after the request.
+    pub fn carry_out(&mut self, plan: Plan) -> Result<Reply, CallFault>
         requires going { K.stopped self.old.keep ≡ false }
         requires fits { Fits self.old.ledger plan }
         requires key { IsKey plan.request.key }

@@ -20,7 +20,7 @@ natural : (z : ℤ) → pos 0 ≤ℤ z → (n : ℕ) × (pos n ≡ z)
 natural (pos n) h = (n, refl)
 natural (negsuc n) h = absurd (omega (arith, ints, h))
 
-view_of : (A : Ledger) (f : Field) → Good A → Contains A.fields f → (view : FieldView) × ShowsField A f view
+pub view_of : (A : Ledger) (f : Field) → Good A → Contains A.fields f → (view : FieldView) × ShowsField A f view
 view_of A f g there =
     let levels = levels_of A f g there in
     let least = levels.least in let low = levels.inf in let high = levels.sup in
@@ -61,7 +61,7 @@ view_same v w b a l h u i s = made_same v w b a l h u i s
 natural_one : (m n : ℕ) → pos m ≡ pos n → m ≡ n
 natural_one m n e = cc
 
-view_one : (A : Ledger) (f : Field) (v w : FieldView) → ShowsField A f v → ShowsField A f w → v ≡ w
+pub view_one : (A : Ledger) (f : Field) (v w : FieldView) → ShowsField A f v → ShowsField A f w → v ≡ w
 view_one A f v w h k =
     let name = h.name ∙ sym k.name in
     let branch : v.branch ≡ w.branch = ap (λ (n : Name). n.branch) name in

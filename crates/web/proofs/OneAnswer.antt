@@ -1,0 +1,76 @@
+-- A part has one answer under its mark.
+use Rattle.std.proofs.Common.{◌≡◌, ◌∙◌, Bool, true, false, ℕ, pos, List, [], ◌∷◌, ◌++◌, Option, Some, None, MatchOption, MatchBool, ap, flat_map, sum_by, refl, subst, sym}
+use Rattle.std.specs.Str.{bytes_eq}
+use Rattle.book.proofs.Once.{answered_once}
+use Rattle.book.specs.Ledger.{Field, Ledger, Name, Order, field_named, name_of, order_numbered}
+use Rattle.book.specs.Views.{ShowsField}
+use Rattle.book.specs.declared.book.views.FieldView.{FieldView}
+use Rattle.web.specs.Answers.{Answer, answers_bytes, json_answer, none_answer, reply_answer, text_answer}
+use Rattle.web.specs.declared.ask.Ask.{Ask}
+use Rattle.web.specs.declared.ask.Ask.TheVariants as ask
+use Rattle.web.specs.Messages.{Part, unreadable, whole}
+use Rattle.web.specs.Objects.{field_object, order_object}
+use Rattle.web.specs.Replies.{Replies, TellsField, reply_of_stopped}
+use Rattle.web.specs.Web.{AnswersAll, AnswersPart, Mark, RepliesAt, Stand, Web, memory, plain, stopped}
+use Rattle.files.proofs.OneSheet.{one_sheet, view_one}
+use Rattle.web.proofs.OneAsk.{asks_one}
+use Rattle.web.proofs.OneStream.{parts_one}
+
+field_one : (A : Ledger) (found : Option Field) (x y : Answer) → MatchOption found (x ≡ none_answer) (λ f. TellsField A f x) → MatchOption found (y ≡ none_answer) (λ f. TellsField A f y) → x ≡ y
+field_one A None x y h k = h ∙ sym k
+field_one A (Some f) x y (v, shows, e) (w, also, g) = e ∙ ap (λ (view : FieldView). json_answer 200 (field_object view)) (view_one A f v w shows also) ∙ sym g
+
+order_one : (found : Option Order) (x y : Answer) → MatchOption found (x ≡ none_answer) (λ o. x ≡ json_answer 200 (order_object o)) → MatchOption found (y ≡ none_answer) (λ o. y ≡ json_answer 200 (order_object o)) → x ≡ y
+order_one None x y h k = h ∙ sym k
+order_one (Some o) x y h k = h ∙ sym k
+
+reply_one : (A : Ledger) (ask : Ask) (x y : Answer) (B C : Ledger) → Replies A ask x B → Replies A ask y C → (x ≡ y) × (B ≡ C)
+reply_one A (ask.Call r) x y B C h k = let same = answered_once A r h.0 k.0 B C h.1 k.1 in (h.2 ∙ ap reply_answer same.0 ∙ sym k.2, same.1)
+reply_one A ask.BadCall x y B C h k = (h.0 ∙ sym k.0, h.1 ∙ sym k.1)
+reply_one A (ask.Field b a) x y B C h k = (field_one A (field_named A (name_of b a)) x y h.0 k.0, h.1 ∙ sym k.1)
+reply_one A (ask.Order n) x y B C h k = (order_one (order_numbered A n) x y h.0 k.0, h.1 ∙ sym k.1)
+reply_one A (ask.Sheet b) x y B C (told, same) (also, again) = (told.2 ∙ ap text_answer (one_sheet (λ f. bytes_eq f.branch b) (λ v. v.article) A told.0 also.0 told.1 also.1) ∙ sym also.2, same ∙ sym again)
+reply_one A ask.Nothing x y B C h k = (h.0 ∙ sym k.0, h.1 ∙ sym k.1)
+
+-- two stands of one ledger, stopped or not alike, are the same
+stand_one : (B C : Stand) → B.ledger ≡ C.ledger → B.is_stopped ≡ C.is_stopped → B ≡ C
+stand_one B C e f = λ i. record { ledger = e i; is_stopped = f i }
+
+-- the plain answer, where the test says whether the desk is stopped
+abbrev RepliesIf : Stand → Ask → Bool → Answer → Stand → Type 0
+RepliesIf old ask b answer new = MatchBool b ((answer ≡ reply_of_stopped ask) × (new ≡ old)) (Replies old.ledger ask answer new.ledger × (new.is_stopped ≡ false))
+
+plain_one : (old : Stand) (ask : Ask) (x y : Answer) (B C : Stand) → RepliesAt old ask x B → RepliesAt old ask y C → (x ≡ y) × (B ≡ C)
+plain_one old ask x y B C h k = by old.is_stopped h k
+  where
+    by : (b : Bool) → RepliesIf old ask b x B → RepliesIf old ask b y C → (x ≡ y) × (B ≡ C)
+    by true h k = (h.0 ∙ sym k.0, h.1 ∙ sym k.1)
+    by false h k = let same = reply_one old.ledger ask x y B.ledger C.ledger h.0 k.0 in (same.0, stand_one B C same.1 (h.1 ∙ sym k.1))
+
+part_one : (old : Stand) (part : Part) (mark : Mark) (x y : Answer) (B C : Stand) → AnswersPart old part mark x B → AnswersPart old part mark y C → (x ≡ y) × (B ≡ C)
+part_one old (whole m) plain x y B C (a, asks, replies) (b, also, others) =
+    plain_one old a x y B C replies (subst (λ (ask : Ask). RepliesAt old ask y C) (asks_one m b a also asks) others)
+part_one old (whole m) memory x y B C h k = (h.0 ∙ sym k.0, h.1 ∙ sym k.1)
+part_one old (whole m) stopped x y B C h k = (h.0 ∙ sym k.0, stand_one B C (h.1.same ∙ sym k.1.same) (h.1.after ∙ sym k.1.after))
+part_one old unreadable plain x y B C h k = (h.0 ∙ sym k.0, h.1 ∙ sym k.1)
+part_one old unreadable memory x y B C h k = absurd h
+part_one old unreadable stopped x y B C h k = absurd h
+
+pub answers_one : (parts : List Part) (marks : List Mark) (old : Stand) (xs ys : List Answer) (B C : Stand) → AnswersAll old parts marks xs B → AnswersAll old parts marks ys C → (xs ≡ ys) × (B ≡ C)
+answers_one [] [] old [] [] B C h k = (refl, h ∙ sym k)
+answers_one (part ∷ parts) (mark ∷ marks) old (x ∷ xs) (y ∷ ys) B C (mid, first, more) (also, second, others) =
+    let same = part_one old part mark x y mid also first second in
+    let rest = answers_one parts marks mid xs ys B C more (subst (λ (stand : Stand). AnswersAll stand parts marks ys C) (sym same.1) others) in
+    (cc (same.0, rest.0), rest.1)
+answers_one [] [] old [] (y ∷ ys) B C h k = absurd k
+answers_one [] [] old (x ∷ xs) ys B C h k = absurd h
+answers_one [] (mark ∷ marks) old xs ys B C h k = absurd h
+answers_one (part ∷ parts) [] old xs ys B C h k = absurd h
+answers_one (part ∷ parts) (mark ∷ marks) old [] ys B C h k = absurd h
+answers_one (part ∷ parts) (mark ∷ marks) old (x ∷ xs) [] B C h k = absurd k
+
+pub web_one : (old : Stand) (stream : List ℕ) (marks : List Mark) (out other : List ℕ) (B C : Stand) → Web old stream marks out B → Web old stream marks other C → (out ≡ other) × (B ≡ C)
+web_one old stream marks out other B C h k =
+    let parts = parts_one k.parts h.parts stream k.are_parts h.are_parts in
+    let same = answers_one h.parts marks old h.answers k.answers B C h.replies (subst (λ (ps : List Part). AnswersAll old ps marks k.answers C) parts k.replies) in
+    (h.out_is ∙ ap answers_bytes same.0 ∙ sym k.out_is, same.1)

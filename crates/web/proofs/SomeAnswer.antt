@@ -1,0 +1,93 @@
+-- At a good ledger there are plain answers to each stream.
+use Rattle.std.proofs.Common.{◌≡◌, Bool, true, false, ℕ, ℤ, pos, negsuc, ◌≤ℤ◌, ◌+ℤ◌, ◌-ℤ◌, List, [], ◌∷◌, Option, Some, None, MatchOption, arith, cond, filter, refl, subst, sym}
+use Rattle.std.specs.List.{AllByRecursion as Each}
+use Rattle.std.specs.Str.{bytes_eq}
+use Rattle.book.proofs.Goodness.{good_answer}
+use Rattle.book.proofs.Total.{answered_if_good}
+use Rattle.book.proofs.Viewed.{Contains-of_find}
+use Rattle.book.specs.Good.{Good}
+use Rattle.book.specs.Ledger.{Field, Ledger, Order, field_named, name_of, order_numbered, same_name}
+use Rattle.book.specs.Views.{ShowsField}
+use Rattle.book.specs.declared.book.views.FieldView.{FieldView}
+use Rattle.web.specs.Answers.{Answer, answers_bytes, json_answer, message_answer, none_answer, reply_answer, text_answer}
+use Rattle.web.specs.Asks.{AsksFor}
+use Rattle.web.specs.declared.ask.Ask.{Ask}
+use Rattle.web.specs.declared.ask.Ask.TheVariants as ask
+use Rattle.web.specs.Messages.{Message, Part, unreadable, whole}
+use Rattle.web.specs.Objects.{field_object, order_object}
+use Rattle.web.specs.Replies.{Replies, TellsField, reply_of_stopped}
+use Rattle.web.specs.Web.{AnswersAll, AnswersPart, Mark, Stand, Web, plain}
+use Rattle.files.proofs.OneSheet.{some_sheet, view_of}
+use Rattle.web.proofs.SomeAsk.{some_ask}
+use Rattle.web.proofs.SomeParts.{some_parts}
+
+-- ---- answers
+
+field_told : (A : Ledger) (b a : List ℕ) (g : Good A) (found : Option Field) → field_named A (name_of b a) ≡ found → (answer : Answer) × MatchOption found (answer ≡ none_answer) (λ f. TellsField A f answer)
+field_told A b a g None e = (none_answer, refl)
+field_told A b a g (Some f) e =
+    let shown = view_of A f g (Contains-of_find (λ k. same_name (name_of b a) k.name) A.fields f e) in
+    (json_answer 200 (field_object shown.0), (shown.0, shown.1, refl))
+
+order_told : (found : Option Order) → (answer : Answer) × MatchOption found (answer ≡ none_answer) (λ o. answer ≡ json_answer 200 (order_object o))
+order_told None = (none_answer, refl)
+order_told (Some o) = (json_answer 200 (order_object o), refl)
+
+some_reply : (A : Ledger) (ask : Ask) → Good A → (answer : Answer) × (B : Ledger) × Replies A ask answer B
+some_reply A (ask.Call r) g = let answer = answered_if_good A r g in (reply_answer answer.0, answer.1, (answer.0, answer.2, refl))
+some_reply A ask.BadCall g = (_, A, (refl, refl))
+some_reply A (ask.Field b a) g = let told = field_told A b a g (field_named A (name_of b a)) refl in (told.0, A, (told.1, refl))
+some_reply A (ask.Order n) g = let told = order_told (order_numbered A n) in (told.0, A, (told.1, refl))
+some_reply A (ask.Sheet b) g = let text = some_sheet (λ f. bytes_eq f.branch b) (λ v. v.article) A g in (text_answer text.0, A, ((text.0, text.1, refl), refl))
+some_reply A ask.Nothing g = (_, A, (refl, refl))
+
+-- a good ledger stays good
+good_reply : (A : Ledger) (m : Message) (ask : Ask) (answer : Answer) (B : Ledger) → Good A → AsksFor m ask → Replies A ask answer B → Good B
+good_reply A m (ask.Call r) answer B g asks h = good_answer A r h.0 B g asks.1.key asks.1.command h.1
+good_reply A m ask.BadCall answer B g asks h = subst Good (sym h.1) g
+good_reply A m (ask.Field b a) answer B g asks h = subst Good (sym h.1) g
+good_reply A m (ask.Order n) answer B g asks h = subst Good (sym h.1) g
+good_reply A m (ask.Sheet b) answer B g asks (told, same) = subst Good (sym same) g
+good_reply A m ask.Nothing answer B g asks h = subst Good (sym h.1) g
+
+-- a plain answer to a part, after which the ledger is good
+abbrev Answered : Stand → Part → Type 0
+Answered old part = (answer : Answer) × (new : Stand) × AnswersPart old part plain answer new × Good new.ledger
+
+some_plain : (A : Ledger) (b : Bool) (m : Message) → Good A → Answered (record { ledger = A; is_stopped = b }) (whole m)
+some_plain A true m g = let ask = some_ask m in (reply_of_stopped ask.0, _, (ask.0, ask.1, (refl, refl)), g)
+some_plain A false m g =
+    let ask = some_ask m in
+    let reply = some_reply A ask.0 g in
+    (reply.0, record { ledger = reply.1; is_stopped = false }, (ask.0, ask.1, (reply.2, refl)), good_reply A m ask.0 reply.0 reply.1 g ask.1 reply.2)
+
+pub some_answer : (old : Stand) (part : Part) → Good old.ledger → Answered old part
+some_answer old (whole m) g = some_plain old.ledger old.is_stopped m g
+some_answer old unreadable g = (message_answer, old, (refl, refl), g)
+
+-- plain answers to parts
+pub record PlainAnswers (old : Stand) (parts : List Part) : Type 0 where
+  pub marks : List Mark
+  pub answers : List Answer
+  pub new : Stand
+  pub replies : AnswersAll old parts marks answers new
+  pub plains : Each (λ mark. mark ≡ plain) marks
+
+pub some_answers : (parts : List Part) (old : Stand) → Good old.ledger → PlainAnswers old parts
+some_answers [] old g = record { marks = []; answers = []; new = old; replies = refl; plains = tt }
+some_answers (part ∷ parts) old g =
+    let first = some_answer old part g in
+    let more = some_answers parts first.1 first.3 in
+    record {
+      marks = plain ∷ more.marks;
+      answers = first.0 ∷ more.answers;
+      new = more.new;
+      replies = (first.1, first.2, more.replies);
+      plains = (refl, more.plains);
+    }
+
+pub some_web : (old : Stand) (stream : List ℕ) → Good old.ledger → (marks : List Mark) × (out : List ℕ) × (new : Stand) × Each (λ mark. mark ≡ plain) marks × Web old stream marks out new
+some_web old stream g =
+    let parts = some_parts stream in
+    let all = some_answers parts.0 old g in
+    (all.marks, answers_bytes all.answers, all.new, all.plains, record { parts = parts.0; answers = all.answers; are_parts = parts.1; replies = all.replies; out_is = refl })

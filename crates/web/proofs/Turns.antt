@@ -1,0 +1,273 @@
+-- One turn more of serving a connection, and how it ends.
+use Rattle.std.proofs.Common.{Err, IfErr, IfOk, Ok, OnErr, Result, drop, take, ◌≡◌, ◌≢◌, ◌∙◌, ◌+◌, ◌-◌, ◌^◌, ◌≤◌, Bool, true, ℕ, List, [], ◌∷◌, ◌++◌, Option, append-nil, ap, arith, inl, inr, length, min, refl, subst, sym}
+use Rattle.std.specs.Io.KnownBytes.{Appends, Consumes, IsAtEnd}
+use Rattle.std.specs.List.{AllByRecursion as Each}
+use Rattle.std.proofs.KnownBytes.{Appends-nil, Appends-trans, Consumes-nil, Consumes-trans}
+use Rattle.std.proofs.lemmas.List.{length-append, take-append-drop}
+use Rattle.book.specs.Good.{Good}
+use Rattle.book.specs.Rows.{Content}
+use Rattle.web.specs.Answers.{Answer, answer_bytes, answers_bytes, message_answer}
+use Rattle.web.specs.Intake.{HasNoMessage, Holds, NoneComes}
+use Rattle.web.specs.Messages.{AreParts, BeginsWith, FirstParts, IsUnreadable, Message, Part, unreadable, whole}
+use Rattle.desk.specs.Desk.{DeskView}
+use Rattle.web.specs.Serving.{EndsCut, EndsWhole, IsCut, IsWhole, Serves, Settles, count_of, stand}
+use Rattle.web.specs.Turns.{AnswersOne, EndsShort, HasServed, Passes, wholes}
+use Rattle.web.specs.Web.{AnswersAll, Stand, plain}
+use Rattle.web.specs.declared.served.Ending.TheVariants.{BadMessage, Input}
+use Rattle.web.specs.declared.served.WebFault.{WebFault}
+use Rattle.web.specs.declared.served.WebFault.TheVariants.{Memory, Read, Write}
+use Rattle.web.proofs.SomeParts.{some_parts}
+use Rattle.web.proofs.Steps.{StaysStopped, answers_on, bytes_on, cut_goes_on, first_behind, first_on, parts_behind, passes_more, passes_on, serves_more}
+use Rattle.web.proofs.Told.{stopped_told}
+
+-- ---- the parts of messages alone
+
+wholes_more : (ms : List Message) (m : Message) → wholes (ms ++ m ∷ []) ≡ wholes ms ++ whole m ∷ []
+wholes_more [] m = refl
+wholes_more (n ∷ ms) m = ap (λ (ps : List Part). whole n ∷ ps) (wholes_more ms m)
+
+are_whole : (ms : List Message) → Each IsWhole (wholes ms)
+are_whole [] = tt
+are_whole (m ∷ ms) = (tt, are_whole ms)
+
+settles_wholes : (ms : List Message) (read held : List ℕ) (reader : Option (List ℕ)) → Passes read ms held → Settles read reader (wholes ms)
+settles_wholes ms read held reader h = λ more end.
+    subst (λ (ps : List Part). FirstParts (read ++ more) ps) (append-nil (wholes ms)) (first_behind ms (read ++ more) (held ++ more) [] (passes_on ms read held more h) tt)
+
+all_cut : (held : List ℕ) (parts : List Part) → AreParts held parts → HasNoMessage held → Each IsCut parts
+all_cut held [] h none = tt
+all_cut held (whole m ∷ parts) (rest, begins, more) none = absurd (none m rest begins)
+all_cut held (unreadable ∷ parts) h none = subst (λ (ps : List Part). Each IsCut (unreadable ∷ ps)) (sym h.1) (tt, tt)
+
+module _ {H : Type 0} {L : List Content → Type 0} {old : Stand} {r w : Option (List ℕ)} where
+  -- nothing is served yet
+  pub none_served : HasServed H L old old r r w w [] 0
+  none_served = record {
+    read = [];
+    messages = [];
+    reads = Consumes-nil r;
+    passes = refl;
+    serves = record { marks = []; answers = []; replies = refl; told = λ e. tt; stops = λ going stopped honest. absurd (let e = sym going ∙ stopped in cc e) };
+    writes = Appends-nil w;
+    counts = refl;
+  }
+
+  -- the input ends
+  pub served_whole : {new : Stand} {q v : Option (List ℕ)} {count : ℕ} → HasServed H L old new r q w v [] count → IsAtEnd q
+      → EndsWhole (record { answered = count; ending = Input }) H L old new r q w v
+  served_whole {q} h end = record {
+    read = h.read;
+    parts = wholes h.messages;
+    reads = h.reads;
+    are_parts = subst (AreParts h.read) (append-nil (wholes h.messages)) (parts_behind h.messages h.read [] [] h.passes refl);
+    settled = settles_wholes h.messages h.read [] q h.passes;
+    serves = h.serves;
+    writes = h.writes;
+    counts = h.counts;
+    ends = (end, are_whole h.messages);
+  }
+
+  -- a read or the growth of what is held fails
+  pub served_short : {new : Stand} {q p v : Option (List ℕ)} {held : List ℕ} {count : ℕ} (fault : WebFault) → HasServed H L old new r q w v held count
+      → (piece : List ℕ) × Consumes q p piece × (fault ≡ Read → HasNoMessage (held ++ piece)) → EndsShort fault H L old new r p w v
+  served_short {new} {q} {p} {v} {held} fault h (piece, more, none) =
+      let left = some_parts (held ++ piece) in
+      let passes = passes_on h.messages h.read held piece h.passes in
+      record {
+        read = h.read ++ piece;
+        answered = wholes h.messages;
+        left = left.0;
+        written = answers_bytes h.serves.answers;
+        reads = Consumes-trans r q p h.read piece h.reads more;
+        are_parts = parts_behind h.messages (h.read ++ piece) (held ++ piece) left.0 passes left.1;
+        settled = settles_wholes h.messages (h.read ++ piece) (held ++ piece) p passes;
+        serves = h.serves;
+        writes = h.writes;
+        almost = inl refl;
+        prompt = λ e. (refl, all_cut (held ++ piece) left.0 left.1 (none e));
+      }
+
+-- which bytes were read at a fault of the intake
+pub read_at : (fault : WebFault) (q p : Option (List ℕ)) (held new : List ℕ) → (fault ≢ Memory → Holds q p held new) → (fault ≡ Read → HasNoMessage new) → (piece : List ℕ) × Consumes q p piece
+    → (piece : List ℕ) × Consumes q p piece × (fault ≡ Read → HasNoMessage (held ++ piece))
+read_at Read q p held new holds none any =
+    let (piece, more, e) = holds (λ f. cc f) in (piece, more, λ f. subst HasNoMessage e (none refl))
+read_at Write q p held new holds none any = (any.0, any.1, λ f. absurd (cc f))
+read_at Memory q p held new holds none any = (any.0, any.1, λ f. absurd (cc f))
+
+-- what goes on from a fault, at a good ledger
+pub ends_cut : (fault : WebFault) (H : Type 0) (L : List Content → Type 0) (old new : Stand) (r p w v : Option (List ℕ)) → Good new.ledger → EndsShort fault H L old new r p w v → EndsCut fault H L old new r p w v
+ends_cut fault H L old new r p w v good h =
+    let on = cut_goes_on old new h.read h.written h.answered h.left h.serves.marks h.serves.answers good h.are_parts h.serves.replies h.almost in
+    record {
+      read = h.read;
+      answered = h.answered;
+      left = h.left;
+      written = h.written;
+      reads = h.reads;
+      are_parts = h.are_parts;
+      settled = h.settled;
+      serves = h.serves;
+      writes = h.writes;
+      almost = h.almost;
+      prompt = h.prompt;
+      marks = on.marks;
+      unwritten = on.unwritten;
+      last = on.last;
+      web = on.web;
+    }
+
+-- ---- one answer more
+
+more_counted : (count : ℕ) (xs : List Answer) (x : Answer) → count ≡ count_of xs → min (count + 1) (2 ^ 64 - 1) ≡ count_of (xs ++ x ∷ [])
+more_counted count xs x e = let size = length-append xs (x ∷ []) in omega (arith, e, size)
+
+-- one message more is answered
+serves_whole : (H G : Type 0) (L M : List Content → Type 0) (old mid new : Stand) (ms : List Message) (m : Message) (answer : Answer) (h : Serves H L old (wholes ms) mid) → AnswersOne G M mid m answer new
+    → (mid.is_stopped ≡ true → StaysStopped H G L M mid new) → (s : Serves G M old (wholes (ms ++ m ∷ [])) new) × (s.answers ≡ h.answers ++ answer ∷ [])
+serves_whole H G L M old mid new ms m answer h one stays =
+    subst (λ (ps : List Part). (s : Serves G M old ps new) × (s.answers ≡ h.answers ++ answer ∷ [])) (sym (wholes_more ms m)) (serves_more H G L M old mid new (wholes ms) m answer h one stays)
+
+-- what is unreadable is answered
+serves_unreadable : (H : Type 0) (L : List Content → Type 0) (old mid : Stand) (parts : List Part) (h : Serves H L old parts mid)
+    → (s : Serves H L old (parts ++ unreadable ∷ []) mid) × (s.answers ≡ h.answers ++ message_answer ∷ [])
+serves_unreadable H L old mid parts h = (
+  record {
+    marks = h.marks ++ plain ∷ [];
+    answers = h.answers ++ message_answer ∷ [];
+    replies = replies;
+    told = λ going. stopped_told (parts ++ unreadable ∷ []) (h.marks ++ plain ∷ []) (h.answers ++ message_answer ∷ []) old mid replies going;
+    stops = λ before after honest.
+        let was = h.stops before after honest in
+        record { request = was.request; first = first_on parts (unreadable ∷ []) h.marks (plain ∷ []) was.request was.first; either = was.either };
+  },
+  refl,
+)
+  where
+    replies : AnswersAll old (parts ++ unreadable ∷ []) (h.marks ++ plain ∷ []) (h.answers ++ message_answer ∷ []) mid
+    replies = answers_on parts (unreadable ∷ []) h.marks (plain ∷ []) h.answers (message_answer ∷ []) old mid mid h.replies (mid, (refl, refl), refl)
+
+last_bytes : (xs all : List Answer) (x : Answer) → all ≡ xs ++ x ∷ [] → answers_bytes all ≡ answers_bytes xs ++ answer_bytes x
+last_bytes xs all x e = ap answers_bytes e ∙ bytes_on xs (x ∷ []) ∙ ap (λ (t : List ℕ). answers_bytes xs ++ t) (append-nil (answer_bytes x))
+
+module _ {H G : Type 0} {L M : List Content → Type 0} {old mid new : Stand} {r q p w v u : Option (List ℕ)} {held : List ℕ} {count : ℕ} where
+  -- a message is answered, and its answer written whole
+  pub message_served : (h : HasServed H L old mid r q w v held count) (all left : List ℕ) (m : Message) (answer : Answer) → Holds q p held all → BeginsWith all m left → AnswersOne G M mid m answer new
+      → (mid.is_stopped ≡ true → StaysStopped H G L M mid new) → Appends v u (answer_bytes answer) → HasServed G M old new r p w u left (min (count + 1) (2 ^ 64 - 1))
+  message_served h all left m answer (piece, more, e) begins one stays writes =
+      let s = serves_whole H G L M old mid new h.messages m answer h.serves one stays in
+      record {
+        read = h.read ++ piece;
+        messages = h.messages ++ m ∷ [];
+        reads = Consumes-trans r q p h.read piece h.reads more;
+        passes = passes_more h.messages (h.read ++ piece) all left m (subst (Passes (h.read ++ piece) h.messages) (sym e) (passes_on h.messages h.read held piece h.passes)) begins;
+        serves = s.0;
+        writes = subst (Appends w u) (sym (last_bytes h.serves.answers s.0.answers answer s.1)) (Appends-trans w v u (answers_bytes h.serves.answers) (answer_bytes answer) h.writes writes);
+        counts = more_counted count h.serves.answers answer h.counts ∙ ap count_of (sym s.1);
+      }
+
+  -- a message is answered, and writing the answer fails
+  pub message_cut : (h : HasServed H L old mid r q w v held count) (all left : List ℕ) (m : Message) (answer : Answer) (begun rest : List ℕ) → Holds q p held all → BeginsWith all m left → AnswersOne G M mid m answer new
+      → (mid.is_stopped ≡ true → StaysStopped H G L M mid new) → answer_bytes answer ≡ begun ++ rest → Appends v u begun → EndsShort Write G M old new r p w u
+  message_cut h all left m answer begun rest (piece, more, e) begins one stays cut writes =
+      let s = serves_whole H G L M old mid new h.messages m answer h.serves one stays in
+      let passes = passes_more h.messages (h.read ++ piece) all left m (subst (Passes (h.read ++ piece) h.messages) (sym e) (passes_on h.messages h.read held piece h.passes)) begins in
+      let others = some_parts left in
+      record {
+        read = h.read ++ piece;
+        answered = wholes (h.messages ++ m ∷ []);
+        left = others.0;
+        written = answers_bytes h.serves.answers ++ begun;
+        reads = Consumes-trans r q p h.read piece h.reads more;
+        are_parts = parts_behind (h.messages ++ m ∷ []) (h.read ++ piece) left others.0 passes others.1;
+        settled = settles_wholes (h.messages ++ m ∷ []) (h.read ++ piece) left p passes;
+        serves = s.0;
+        writes = Appends-trans w v u (answers_bytes h.serves.answers) begun h.writes writes;
+        almost = inr (record { before = h.serves.answers; last = answer; begun = begun; left = rest; split = s.1; cut = cut; written_are = refl });
+        prompt = λ f. absurd (cc f);
+      }
+
+unread_here : (p : Option (List ℕ)) (all : List ℕ) → NoneComes all p → IsUnreadable all
+unread_here p all none = subst IsUnreadable (append-nil all) (none [] (λ e. refl))
+
+settles_unread : (p : Option (List ℕ)) (ms : List Message) (read all : List ℕ) → Passes read ms all → NoneComes all p → Settles read p (wholes ms ++ unreadable ∷ [])
+settles_unread p ms read all h none = λ more end. first_behind ms (read ++ more) (all ++ more) (unreadable ∷ []) (passes_on ms read all more h) (none more end, refl)
+
+module _ {H : Type 0} {L : List Content → Type 0} {old new : Stand} {r q p w v u : Option (List ℕ)} {held : List ℕ} {count : ℕ} where
+  -- what came is no message
+  pub unreadable_served : (h : HasServed H L old new r q w v held count) (all : List ℕ) → Holds q p held all → NoneComes all p → Appends v u (answer_bytes message_answer)
+      → EndsWhole (record { answered = min (count + 1) (2 ^ 64 - 1); ending = BadMessage }) H L old new r p w u
+  unreadable_served h all (piece, more, e) none writes =
+      let s = serves_unreadable H L old new (wholes h.messages) h.serves in
+      let passes = subst (Passes (h.read ++ piece) h.messages) (sym e) (passes_on h.messages h.read held piece h.passes) in
+      record {
+        read = h.read ++ piece;
+        parts = wholes h.messages ++ unreadable ∷ [];
+        reads = Consumes-trans r q p h.read piece h.reads more;
+        are_parts = parts_behind h.messages (h.read ++ piece) all (unreadable ∷ []) passes (unread_here p all none, refl);
+        settled = settles_unread p h.messages (h.read ++ piece) all passes none;
+        serves = s.0;
+        writes = subst (Appends w u) (sym (last_bytes h.serves.answers s.0.answers message_answer s.1)) (Appends-trans w v u (answers_bytes h.serves.answers) (answer_bytes message_answer) h.writes writes);
+        counts = more_counted count h.serves.answers message_answer h.counts ∙ ap count_of (sym s.1);
+        ends = (wholes h.messages, refl);
+      }
+
+  -- and writing that fails
+  pub unreadable_cut : (h : HasServed H L old new r q w v held count) (all begun rest : List ℕ) → Holds q p held all → NoneComes all p → answer_bytes message_answer ≡ begun ++ rest → Appends v u begun → EndsShort Write H L old new r p w u
+  unreadable_cut h all begun rest (piece, more, e) none cut writes =
+      let s = serves_unreadable H L old new (wholes h.messages) h.serves in
+      let passes = subst (Passes (h.read ++ piece) h.messages) (sym e) (passes_on h.messages h.read held piece h.passes) in
+      record {
+        read = h.read ++ piece;
+        answered = wholes h.messages ++ unreadable ∷ [];
+        left = [];
+        written = answers_bytes h.serves.answers ++ begun;
+        reads = Consumes-trans r q p h.read piece h.reads more;
+        are_parts = subst (AreParts (h.read ++ piece)) (sym (append-nil (wholes h.messages ++ unreadable ∷ []))) (parts_behind h.messages (h.read ++ piece) all (unreadable ∷ []) passes (unread_here p all none, refl));
+        settled = settles_unread p h.messages (h.read ++ piece) all passes none;
+        serves = s.0;
+        writes = Appends-trans w v u (answers_bytes h.serves.answers) begun h.writes writes;
+        almost = inr (record { before = h.serves.answers; last = message_answer; begun = begun; left = rest; split = s.1; cut = cut; written_are = refl });
+        prompt = λ f. absurd (cc f);
+      }
+
+pub on_err : {A E : Type 0} (r : Result A E) (P Q : Type 0) → OnErr r P → (P → Q) → OnErr r Q
+on_err (Ok a) P Q h f = tt
+on_err (Err e) P Q h f = f h
+
+pub if_ok : {A E : Type 0} (r : Result A E) (P Q : A → Type 0) → IfOk r P → ((a : A) → P a → Q a) → IfOk r Q
+if_ok (Ok a) P Q h f = f a h
+if_ok (Err e) P Q h f = tt
+
+pub if_err : {A E : Type 0} (r : Result A E) (P Q : E → Type 0) → ((e : E) → P e → Q e) → IfErr r P → IfErr r Q
+if_err (Ok a) P Q f h = tt
+if_err (Err e) P Q f h = f e h
+
+pub begun_of : {A E : Type 0} (result : Result A E) (old new : Option (List ℕ)) (text : List ℕ) → OnErr result ((count : ℕ) × (count ≤ length text) × Appends old new (take count text))
+    → OnErr result ((begun : List ℕ) × (left : List ℕ) × (text ≡ begun ++ left) × Appends old new begun)
+begun_of (Ok a) old new text h = tt
+begun_of (Err e) old new text (count, fits, writes) = (take count text, drop count text, sym (take-append-drop count text), writes)
+
+-- a desk that is the same stays as it is
+pub stays_of : {K : Type 0} (H : K → Type 0) (L : K → List Content → Type 0) (is_stopped : K → Bool) (old new : DeskView K) → (H new.keep → H old.keep) → new ≡ old
+    → StaysStopped (H old.keep) (H new.keep) (L old.keep) (L new.keep) (stand old.ledger (is_stopped old.keep)) (stand new.ledger (is_stopped new.keep))
+stays_of {K} H L is_stopped old new honest same = record {
+  ledger = ap (λ (d : DeskView K). d.ledger) same;
+  honest = honest;
+  leaves = λ these h. subst (λ (d : DeskView K). L d.keep these) (sym same) h;
+}
+
+-- the input ends
+pub end_served : {H : Type 0} {L : List Content → Type 0} {old new : Stand} {r q p w v : Option (List ℕ)} {held : List ℕ} {count : ℕ} → HasServed H L old new r q w v held count → (all : List ℕ) → Holds q p held all → all ≡ [] → IsAtEnd p
+    → EndsWhole (record { answered = count; ending = Input }) H L old new r p w v
+end_served {H} {L} {old} {new} {r} {q} {p} {w} {v} {held} {count} h all (piece, more, e) none end =
+    let on : HasServed H L old new r p w v all count = record {
+      read = h.read ++ piece;
+      messages = h.messages;
+      reads = Consumes-trans r q p h.read piece h.reads more;
+      passes = subst (Passes (h.read ++ piece) h.messages) (sym e) (passes_on h.messages h.read held piece h.passes);
+      serves = h.serves;
+      writes = h.writes;
+      counts = h.counts;
+    } in
+    served_whole (subst (λ (t : List ℕ). HasServed H L old new r p w v t count) none on) end

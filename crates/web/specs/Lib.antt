@@ -1,0 +1,15 @@
+pub mod Messages
+pub mod Routes
+pub mod Targets
+pub mod Objects
+pub mod Bodies
+pub mod Asks
+pub mod Answers
+pub mod Fixed
+pub mod Replies
+pub mod Web
+pub mod Intake
+pub mod Reads
+pub mod Serving
+pub mod Turns
+pub mod Examples

@@ -1,0 +1,66 @@
+-- The JSON objects of bodies, their members in the order of their names.
+use Rattle.std.specs.Prelude.{ℕ, List, [], ◌∷◌, codes, map}
+use Rattle.serde_json.specs.Data.{Data, Members, array, member, no_members, number, object, string, unsigned}
+use Rattle.serde_json.specs.View.{items_of}
+use Rattle.words.specs.OpenLines.{way_word}
+use Rattle.words.specs.Replies.{refusal_code, refusal_name}
+use Rattle.words.specs.declared.reply.Refusal.{Refusal}
+use Rattle.book.specs.Ledger.{Order}
+use Rattle.book.specs.declared.book.views.FieldView.{FieldView}
+use Rattle.book.specs.declared.book.views.OrderView.{OrderView}
+use Rattle.book.specs.declared.order.Line.{Line}
+use Rattle.desk.specs.Replies.{kind_word, state_word}
+
+-- a name and its value
+abbrev pub Member : Type 0
+Member = List ℕ × Data
+
+abbrev pub members : List Member → Members
+members [] = no_members
+members (m ∷ ms) = member m.0 m.1 (members ms)
+
+abbrev pub object_of : List Member → Data
+object_of ms = object (members ms)
+
+abbrev pub natural : ℕ → Data
+natural n = number (unsigned n)
+
+-- {"command":"COMMAND","key":"KEY"}
+abbrev pub command_object : List ℕ → List ℕ → Data
+command_object key command = object_of ((codes "command", string command) ∷ (codes "key", string key) ∷ [])
+
+-- {"error":"NAME"}
+abbrev pub error_object : List ℕ → Data
+error_object name = object_of ((codes "error", string name) ∷ [])
+
+-- {"place":N}
+abbrev pub place_object : ℕ → Data
+place_object place = object_of ((codes "place", natural place) ∷ [])
+
+-- {"code":C,"line":L,"refused":"NAME"}
+abbrev pub refused_object : Refusal → ℕ → Data
+refused_object refusal line =
+    object_of ((codes "code", natural (refusal_code refusal)) ∷ (codes "line", natural line) ∷ (codes "refused", string (refusal_name refusal)) ∷ [])
+
+-- {"article":"A","branch":"B","hi":HI,"inf":I,"lo":LO,"sup":S,"value":V}
+abbrev pub field_object : FieldView → Data
+field_object v = object_of ((codes "article", string v.article) ∷ (codes "branch", string v.branch) ∷ (codes "hi", natural v.hi)
+    ∷ (codes "inf", natural v.inf) ∷ (codes "lo", natural v.lo) ∷ (codes "sup", natural v.sup) ∷ (codes "value", natural v.value) ∷ [])
+
+-- {"article":"A","branch":"B","held":H,"used":U,"way":"WAY"}
+abbrev pub line_object : Line → Data
+line_object l = object_of ((codes "article", string l.article) ∷ (codes "branch", string l.branch) ∷ (codes "held", natural l.held)
+    ∷ (codes "used", natural l.used) ∷ (codes "way", string (way_word l.way)) ∷ [])
+
+-- [LINE,..]
+abbrev pub line_objects : List Line → Data
+line_objects lines = array (items_of (map line_object lines))
+
+-- {"kind":"KIND","lines":[LINE,..],"number":N,"state":"STATE","until":UNTIL}
+abbrev pub order_object : Order → Data
+order_object o = object_of ((codes "kind", string (kind_word o.kind)) ∷ (codes "lines", line_objects o.lines) ∷ (codes "number", natural o.number)
+    ∷ (codes "state", string (state_word o.state)) ∷ (codes "until", natural o.until) ∷ [])
+
+-- the order that the view shows
+abbrev pub order_shown : OrderView → Order
+order_shown v = record { number = v.number; kind = v.kind; until = v.until; state = v.state; lines = v.lines.now }

@@ -1,0 +1,51 @@
+-- The four routes, as `matchit` reads and keeps them, the parts of a target, and the place that it leads to.
+use Rattle.std.specs.Prelude.{◌≡◌, ℕ, List, [], Option, Some, codes, decimal, option_and_then, option_map, Result, Ok, Err}
+use Rattle.escrow.specs.Codes.{IsArticle, IsBranch}
+use Rattle.escrow.specs.Ranges.{IsOrderNo}
+use Rattle.matchit.specs.Order.{placed}
+use Rattle.matchit.specs.Params.{named, walk}
+use Rattle.matchit.specs.Route.{Scan, parse_route}
+use Rattle.matchit.specs.Router.{RouteOf, route_from}
+use Rattle.matchit.specs.Rows.{RowsOf}
+use Rattle.matchit.specs.Seek.{first}
+use Rattle.matchit.specs.declared.error.InsertError.{InsertError}
+use Rattle.web.specs.declared.place.Place.{Place}
+use Rattle.web.specs.declared.place.Place.TheVariants as place
+use Rattle.web.specs.declared.route.Resource.{Resource}
+use Rattle.web.specs.declared.route.Resource.TheVariants.{Commands, Field, Order, Sheet}
+
+-- the rows with one more route, where its text is one
+abbrev pub with_route : Result Scan InsertError → Resource → RowsOf (RouteOf Resource) → RowsOf (RouteOf Resource)
+with_route (Ok scan) value rows = placed (scan.pattern, route_from scan value) rows
+with_route (Err error) value rows = rows
+
+-- the rows of a router into which the four routes were put
+abbrev pub routes : RowsOf (RouteOf Resource)
+routes =
+    with_route (parse_route (codes "/v1/sheets/{branch}")) Sheet
+    (with_route (parse_route (codes "/v1/orders/{number}")) Order
+    (with_route (parse_route (codes "/v1/fields/{branch}/{article}")) Field
+    (with_route (parse_route (codes "/v1/commands")) Commands [])))
+
+-- what the target's route leads to, if it has one
+abbrev pub resource_of : List ℕ → Option Resource
+resource_of target = option_map (λ route. route.value) (first routes target)
+
+-- each name in a route with the part of the target that it took
+abbrev pub parts_on : List ℕ → RouteOf Resource → List (List ℕ × List ℕ)
+parts_on target route = walk route.pattern route.text target route.names 0 0
+
+-- the part of the target that this name in its route took
+abbrev pub part_of : List ℕ → List ℕ → Option (List ℕ)
+part_of name target = option_and_then (λ route. named name (parts_on target route)) (first routes target)
+
+-- the target leads to the place: its route is the place's, and its parts are the place's codes or number
+abbrev pub LeadsTo : List ℕ → Place → Type 0
+LeadsTo target place.Commands = resource_of target ≡ Some Commands
+LeadsTo target (place.Field branch article) =
+    (resource_of target ≡ Some Field) × (part_of (codes "branch") target ≡ Some branch) × (part_of (codes "article") target ≡ Some article)
+    × IsBranch branch × IsArticle article
+LeadsTo target (place.Order number) =
+    (resource_of target ≡ Some Order) × (part_of (codes "number") target ≡ Some (decimal number)) × IsOrderNo number
+LeadsTo target (place.Sheet branch) =
+    (resource_of target ≡ Some Sheet) × (part_of (codes "branch") target ≡ Some branch) × IsBranch branch

@@ -1,0 +1,175 @@
+//! A connection, served.
+
+ghost use Rattle.std.specs.Prelude.{◌≡◌, ◌++◌, ◌+◌, ◌-◌, ◌^◌, ◌≤◌, drop, false, length, List, ℕ, IfErr, IfOk, OnErr, OnOk, IsTrue, min};
+ghost use Rattle.std.specs.Io.KnownBytes.{Appends};
+ghost use Rattle.desk.specs.Desk.{Keeps};
+ghost use Rattle.web.specs.Answers.{Answer, answer_bytes, message_answer};
+ghost use Rattle.web.specs.Fixed.{ready_bytes};
+ghost use Rattle.web.specs.Intake.{IsMessageAt, IsMessageWithin};
+ghost use Rattle.web.specs.Messages.{Message};
+ghost use Rattle.web.specs.Serving.{EndsCut, EndsWhole, stand};
+ghost use Rattle.web.specs.Routes.{routes};
+ghost use Rattle.web.specs.Turns.{AnswersOne, EndsShort};
+
+use crate::ask::ask_of;
+use crate::calls::answer_ask;
+use crate::fixed::{Fixed, Ready};
+use crate::intake::{Found, Next, next_message};
+use crate::route::{Resource, router};
+use crate::served::{Ending, Served, WebFault};
+use desk::Desk;
+use keep::Keep;
+use matchit::Router;
+use std::alloc::Global;
+use std::io::{Read, Write};
+use words::{WriteFault, write_whole};
+
+/// What is to be written for a message. Where memory is refused for it, nothing is done.
+fn ready_for<K: Keep>(
+    alloc: Global,
+    router: &Router<Resource>,
+    desk: &mut Desk<K>,
+    held: &[u8],
+    found: &Found,
+) -> Ready
+    requires made { router.now ≡ routes }
+    requires within { IsMessageWithin held.now found.now }
+    ensures answers { (m : Message) → IsMessageAt held.now found.now m → (answer : Answer)
+        × AnswersOne (K.is_honest desk.new.keep) (K.leaves desk.new.keep) (stand desk.old.ledger (K.stopped desk.old.keep)) m answer (stand desk.new.ledger (K.stopped desk.new.keep))
+        × (ready_bytes result ≡ answer_bytes answer) }
+    ensures untouched { IsTrue (K.stopped desk.old.keep) → desk.new ≡ desk.old }
+    ensures honest { K.is_honest desk.new.keep → K.is_honest desk.old.keep }
+{
+    match ask_of(alloc, router, held, found) {
+        Ok(ask) => answer_ask(alloc, desk, &ask),
+        Err(_) => Ready::Fixed(Fixed::Memory),
+    }
+}
+
+/// Answers a message.
+fn answer_message<K: Keep, W: Write>(
+    alloc: Global,
+    router: &Router<Resource>,
+    writer: &mut W,
+    desk: &mut Desk<K>,
+    held: &[u8],
+    found: &Found,
+) -> Result<(), WriteFault>
+    requires made { router.now ≡ routes }
+    requires within { IsMessageWithin held.now found.now }
+    ensures whole { OnOk result ((m : Message) → IsMessageAt held.now found.now m → (answer : Answer)
+        × AnswersOne (K.is_honest desk.new.keep) (K.leaves desk.new.keep) (stand desk.old.ledger (K.stopped desk.old.keep)) m answer (stand desk.new.ledger (K.stopped desk.new.keep))
+        × Appends (W.contents writer.old) (W.contents writer.new) (answer_bytes answer)) }
+    ensures cut { OnErr result ((m : Message) → IsMessageAt held.now found.now m → (answer : Answer) × (begun : List ℕ) × (left : List ℕ)
+        × AnswersOne (K.is_honest desk.new.keep) (K.leaves desk.new.keep) (stand desk.old.ledger (K.stopped desk.old.keep)) m answer (stand desk.new.ledger (K.stopped desk.new.keep))
+        × (answer_bytes answer ≡ begun ++ left) × Appends (W.contents writer.old) (W.contents writer.new) begun) }
+    ensures untouched { IsTrue (K.stopped desk.old.keep) → desk.new ≡ desk.old }
+    ensures honest { K.is_honest desk.new.keep → K.is_honest desk.old.keep }
+{
+    let ready = ready_for(alloc, router, desk, held, found);
+    write_whole(writer, ready.as_bytes())
+}
+
+/// Writes the answer to what is no message.
+fn answer_unreadable<W: Write>(writer: &mut W) -> Result<(), WriteFault>
+    ensures whole { OnOk result (Appends (W.contents writer.old) (W.contents writer.new) (answer_bytes message_answer)) }
+    ensures cut { OnErr result ((begun : List ℕ) × (left : List ℕ) × (answer_bytes message_answer ≡ begun ++ left) × Appends (W.contents writer.old) (W.contents writer.new) begun) }
+{
+    write_whole(writer, Fixed::NoMessage.bytes())
+}
+
+/// Lets go of the first bytes.
+fn let_go(held: &mut Vec<u8>, count: usize)
+    requires { count ≤ length held.old.items }
+    ensures { held.new.items ≡ drop count held.old.items }
+{
+    held.drain(..count);
+}
+
+/// One more, or the greatest count.
+fn one_more(count: u64) -> u64
+    ensures { result ≡ min (count + 1) (2 ^ 64 - 1) }
+{
+    count.saturating_add(1)
+}
+
+/// Answers the messages of a connection in their order, each before the next is looked at, until the input ends or what
+/// comes is no message.
+///
+/// What is written is the answers to all that was read, and `Served` has their count. After a fault it is a beginning of
+/// such: of the answers to what the desk has done at most the last is missing or cut. `stopped` is answered only where the
+/// desk is stopped. Of a desk that was not stopped before, a stop then leaves the rows of its ledger or those after the
+/// command that was first answered `stopped`, and in every other case those of its ledger alone. A desk that was stopped
+/// before changes nothing, and answers as one that is stopped.
+pub fn serve<K: Keep, R: Read, W: Write>(
+    alloc: Global,
+    reader: &mut R,
+    writer: &mut W,
+    desk: &mut Desk<K>,
+) -> Result<Served, WebFault>
+    ensures whole { IfOk result (λ served. EndsWhole served (K.is_honest desk.new.keep) (K.leaves desk.new.keep)
+        (stand desk.old.ledger (K.stopped desk.old.keep)) (stand desk.new.ledger (K.stopped desk.new.keep))
+        (R.remaining reader.old) (R.remaining reader.new) (W.contents writer.old) (W.contents writer.new)) }
+    ensures cut { IfErr result (λ fault. EndsCut fault (K.is_honest desk.new.keep) (K.leaves desk.new.keep)
+        (stand desk.old.ledger (K.stopped desk.old.keep)) (stand desk.new.ledger (K.stopped desk.new.keep))
+        (R.remaining reader.old) (R.remaining reader.new) (W.contents writer.old) (W.contents writer.new)) }
+    ensures untouched { IsTrue (K.stopped desk.old.keep) → desk.new ≡ desk.old }
+    ensures keeps { K.stopped desk.new.keep ≡ false → K.is_honest desk.new.keep → Keeps (K.holds desk.new.keep) (K.leaves desk.new.keep) desk.new.ledger }
+    ensures honest { K.is_honest desk.new.keep → K.is_honest desk.old.keep }
+{
+    let ended = serve_all(alloc, reader, writer, desk);
+    desk.book();
+    desk.is_stopped();
+    ended
+}
+
+/// The same, but for what goes on from a fault and what is always so of a desk.
+fn serve_all<K: Keep, R: Read, W: Write>(
+    alloc: Global,
+    reader: &mut R,
+    writer: &mut W,
+    desk: &mut Desk<K>,
+) -> Result<Served, WebFault>
+    ensures whole { IfOk result (λ served. EndsWhole served (K.is_honest desk.new.keep) (K.leaves desk.new.keep)
+        (stand desk.old.ledger (K.stopped desk.old.keep)) (stand desk.new.ledger (K.stopped desk.new.keep))
+        (R.remaining reader.old) (R.remaining reader.new) (W.contents writer.old) (W.contents writer.new)) }
+    ensures cut { IfErr result (λ fault. EndsShort fault (K.is_honest desk.new.keep) (K.leaves desk.new.keep)
+        (stand desk.old.ledger (K.stopped desk.old.keep)) (stand desk.new.ledger (K.stopped desk.new.keep))
+        (R.remaining reader.old) (R.remaining reader.new) (W.contents writer.old) (W.contents writer.new)) }
+    ensures untouched { IsTrue (K.stopped desk.old.keep) → desk.new ≡ desk.old }
+    ensures honest { K.is_honest desk.new.keep → K.is_honest desk.old.keep }
+{
+    let Ok(router) = router(alloc) else {
+        return Err(WebFault::Memory);
+    };
+    let mut held = Vec::new(alloc);
+    let mut answered: u64 = 0;
+    for _turn in 0..u64::MAX {
+        match next_message(reader, &mut held) {
+            Ok(Next::Message(found)) => {
+                let Ok(()) = answer_message(alloc, &router, writer, desk, held.as_slice(), &found) else {
+                    return Err(WebFault::Write);
+                };
+                let_go(&mut held, found.end);
+                answered = one_more(answered);
+            }
+            Ok(Next::Unreadable) => {
+                let Ok(()) = answer_unreadable(writer) else {
+                    return Err(WebFault::Write);
+                };
+                return Ok(Served {
+                    answered: one_more(answered),
+                    ending: Ending::BadMessage,
+                });
+            }
+            Ok(Next::End) => {
+                return Ok(Served {
+                    answered,
+                    ending: Ending::Input,
+                });
+            }
+            Err(fault) => return Err(fault),
+        }
+    }
+    Err(WebFault::Memory)
+}

@@ -1,0 +1,31 @@
+//! HTTP over any reader and writer, answered by a desk. What a head is, `httparse` defines; which route a target has, `matchit`; what
+//! a body says, `serde_json`.
+#![tactic(auto)]
+
+mod answer;
+mod ask;
+mod body;
+mod calls;
+mod connection;
+mod examples;
+mod fixed;
+mod head;
+mod intake;
+mod laws;
+mod objects;
+mod place;
+mod route;
+mod served;
+mod size;
+mod targets;
+mod views;
+mod word;
+
+pub use ask::Ask;
+pub use connection::serve;
+pub use examples::worked_answers_hold;
+pub use laws::{exactly_one_answer, exactly_one_list_of_parts, marks_are_told, stopped_is_told};
+pub use place::Place;
+pub use route::Resource;
+pub use served::{Ending, Served, WebFault};
+pub use targets::targets_are_plain;

@@ -1,0 +1,61 @@
+//! Words that stand in objects.
+
+ghost use Rattle.std.specs.Prelude.{◌≡◌};
+ghost use Rattle.std.specs.Str.{IsAscii};
+ghost use Rattle.words.specs.OpenLines.{way_word};
+ghost use Rattle.desk.specs.Replies.{kind_word, state_word};
+
+use book::{Kind, State};
+use escrow::{Article, Branch, Way};
+use std::str;
+
+/// The text that ASCII bytes are.
+fn ascii_text(bytes: &[u8]) -> &str
+    requires { IsAscii bytes.now }
+    ensures { result.now ≡ bytes.now }
+{
+    match str::from_utf8(bytes) {
+        Ok(text) => text,
+        Err(_) => unreachable!(),
+    }
+}
+
+pub fn branch_text(branch: &Branch) -> &str
+    ensures { result.now ≡ branch.now }
+{
+    ascii_text(branch.as_bytes())
+}
+
+pub fn article_text(article: &Article) -> &str
+    ensures { result.now ≡ article.now }
+{
+    ascii_text(article.as_bytes())
+}
+
+pub fn kind_text(kind: Kind) -> &'static str
+    ensures { result.now ≡ kind_word kind }
+{
+    match kind {
+        Kind::Plain => "plain",
+        Kind::Transfer => "transfer",
+    }
+}
+
+pub fn state_text(state: State) -> &'static str
+    ensures { result.now ≡ state_word state }
+{
+    match state {
+        State::Open => "open",
+        State::Committed => "committed",
+        State::Aborted => "aborted",
+    }
+}
+
+pub fn way_text(way: Way) -> &'static str
+    ensures { result.now ≡ way_word way }
+{
+    match way {
+        Way::Take => "take",
+        Way::Add => "add",
+    }
+}
