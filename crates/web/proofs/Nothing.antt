@@ -1,5 +1,5 @@
 -- Where a message says nothing.
-use Rattle.std.proofs.Common.{◌≡◌, ◌∙◌, List, ℕ, codes, subst, sym}
+use Rattle.std.proofs.Common.{◌≡◌, ◌∙◌, codes, subst, sym}
 use Rattle.web.specs.Asks.{AsksFor, Says}
 use Rattle.web.specs.Messages.{Message}
 use Rattle.web.specs.Reads.{IsPosted, view_of}

@@ -1,9 +1,8 @@
 -- A part has one answer under its mark.
-use Rattle.std.proofs.Common.{◌≡◌, ◌∙◌, Bool, true, false, ℕ, pos, List, [], ◌∷◌, ◌++◌, Option, Some, None, MatchOption, MatchBool, ap, flat_map, sum_by, refl, subst, sym}
+use Rattle.std.proofs.Common.{◌≡◌, ◌∙◌, Bool, true, false, ℕ, List, [], ◌∷◌, Option, Some, None, MatchOption, MatchBool, ap, refl, subst, sym}
 use Rattle.std.specs.Str.{bytes_eq}
 use Rattle.book.proofs.Once.{answered_once}
-use Rattle.book.specs.Ledger.{Field, Ledger, Name, Order, field_named, name_of, order_numbered}
-use Rattle.book.specs.Views.{ShowsField}
+use Rattle.book.specs.Ledger.{Field, Ledger, Order, field_named, name_of, order_numbered}
 use Rattle.book.specs.declared.book.views.FieldView.{FieldView}
 use Rattle.web.specs.Answers.{Answer, answers_bytes, json_answer, none_answer, reply_answer, text_answer}
 use Rattle.web.specs.declared.ask.Ask.{Ask}

@@ -1,12 +1,11 @@
 -- A message asks for one thing.
-use Rattle.std.proofs.Common.{◌≡◌, ◌∙◌, ℕ, List, ap, refl, sym}
+use Rattle.std.proofs.Common.{◌≡◌, ◌∙◌, ap, refl, sym}
 use Rattle.web.proofs.OnePlace.{one_place}
 use Rattle.web.proofs.Bodies.{one_body}
 use Rattle.web.specs.Asks.{AsksFor, Says}
 use Rattle.web.specs.declared.ask.Ask.{Ask}
 use Rattle.web.specs.declared.ask.Ask.TheVariants as ask
 use Rattle.web.specs.Messages.{Message}
-use Rattle.web.specs.declared.place.Place.{Place}
 use Rattle.web.specs.declared.place.Place.TheVariants as place
 
 says_one : (m : Message) (a b : Ask) → Says m a → Says m b → a ≡ b

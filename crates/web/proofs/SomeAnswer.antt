@@ -1,5 +1,5 @@
 -- At a good ledger there are plain answers to each stream.
-use Rattle.std.proofs.Common.{◌≡◌, Bool, true, false, ℕ, ℤ, pos, negsuc, ◌≤ℤ◌, ◌+ℤ◌, ◌-ℤ◌, List, [], ◌∷◌, Option, Some, None, MatchOption, arith, cond, filter, refl, subst, sym}
+use Rattle.std.proofs.Common.{◌≡◌, Bool, true, false, ℕ, List, [], ◌∷◌, Option, Some, None, MatchOption, refl, subst, sym}
 use Rattle.std.specs.List.{AllByRecursion as Each}
 use Rattle.std.specs.Str.{bytes_eq}
 use Rattle.book.proofs.Goodness.{good_answer}
@@ -7,8 +7,6 @@ use Rattle.book.proofs.Total.{answered_if_good}
 use Rattle.book.proofs.Viewed.{Contains-of_find}
 use Rattle.book.specs.Good.{Good}
 use Rattle.book.specs.Ledger.{Field, Ledger, Order, field_named, name_of, order_numbered, same_name}
-use Rattle.book.specs.Views.{ShowsField}
-use Rattle.book.specs.declared.book.views.FieldView.{FieldView}
 use Rattle.web.specs.Answers.{Answer, answers_bytes, json_answer, message_answer, none_answer, reply_answer, text_answer}
 use Rattle.web.specs.Asks.{AsksFor}
 use Rattle.web.specs.declared.ask.Ask.{Ask}

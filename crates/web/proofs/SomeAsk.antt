@@ -1,5 +1,5 @@
 -- Each message asks for something.
-use Rattle.std.proofs.Common.{◌≡◌, ℕ, List, codes, inl, inr}
+use Rattle.std.proofs.Common.{◌≡◌, codes, inl, inr}
 use Rattle.words.proofs.Decided.{Decided, decided_word}
 use Rattle.web.specs.Asks.{AsksFor}
 use Rattle.web.specs.declared.ask.Ask.{Ask}

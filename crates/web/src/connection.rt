@@ -147,7 +147,8 @@ fn serve_all<K: Keep, R: Read, W: Write>(
     for _turn in 0..u64::MAX {
         match next_message(reader, &mut held) {
             Ok(Next::Message(found)) => {
-                let Ok(()) = answer_message(alloc, &router, writer, desk, held.as_slice(), &found) else {
+                let Ok(()) = answer_message(alloc, &router, writer, desk, held.as_slice(), &found)
+                else {
                     return Err(WebFault::Write);
                 };
                 let_go(&mut held, found.end);

@@ -1,5 +1,3 @@
-use Rattle.std.proofs.Common.{List, ℕ, subst}
-use Rattle.std.specs.Io.KnownBytes.{Appends}
 use Rattle.web.specs.Answers.{answer_bytes, message_answer}
 use Rattle.web.proofs.Turns.{begun_of}
 use Rattle.web.proofs.connection.answer_unreadable.Goals as goal

@@ -1,6 +1,5 @@
-use Rattle.std.proofs.Common.{◌∙◌, [], refl, sym}
-use Rattle.web.specs.Answers.{answer_bytes, json_answer, none_answer, text_answer}
-use Rattle.web.specs.Objects.{field_object}
+use Rattle.std.proofs.Common.{◌∙◌, refl, sym}
+use Rattle.web.specs.Answers.{answer_bytes, none_answer}
 use Rattle.web.specs.declared.ask.Ask.TheVariants as ask
 use Rattle.web.proofs.Shown.{going_given, no_order, some_order, stopped_given}
 use Rattle.web.proofs.views.show_order.Goals as goal

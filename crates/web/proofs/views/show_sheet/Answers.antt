@@ -1,6 +1,4 @@
-use Rattle.std.proofs.Common.{◌∙◌, [], refl, sym}
-use Rattle.web.specs.Answers.{answer_bytes, json_answer, none_answer, text_answer}
-use Rattle.web.specs.Objects.{field_object}
+use Rattle.std.proofs.Common.{◌∙◌, refl, sym}
 use Rattle.web.specs.declared.ask.Ask.TheVariants as ask
 use Rattle.web.proofs.Shown.{some_sheet_given, stopped_given}
 use Rattle.web.proofs.views.show_sheet.Goals as goal
