@@ -237,12 +237,24 @@ fn bytes_of(rt: &HostRuntime, file: &str) -> Result<Vec<u8>, Fail> {
 const CSV: &str = "requests.csv";
 
 /// A command of its name and a file, and what it reads.
-fn expect_input<'a>(rt: &HostRuntime, command: &'a str, file: &'a str, input: &str, want: (u8, &str, &str)) -> Result<(), Fail> {
+fn expect_input<'a>(
+    rt: &HostRuntime,
+    command: &'a str,
+    file: &'a str,
+    input: &str,
+    want: (u8, &str, &str),
+) -> Result<(), Fail> {
     expect_done(rt, &["stockdesk", command, file], input, want)
 }
 
 /// A command of its name, a file and one word more.
-fn expect_word<'a>(rt: &HostRuntime, command: &'a str, file: &'a str, word: &'a str, want: (u8, &str, &str)) -> Result<(), Fail> {
+fn expect_word<'a>(
+    rt: &HostRuntime,
+    command: &'a str,
+    file: &'a str,
+    word: &'a str,
+    want: (u8, &str, &str),
+) -> Result<(), Fail> {
     expect_done(rt, &["stockdesk", command, file, word], "", want)
 }
 
