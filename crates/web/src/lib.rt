@@ -18,6 +18,8 @@ mod route;
 mod served;
 mod size;
 mod targets;
+#[cfg(test)]
+mod tests;
 mod views;
 mod word;
 
