@@ -221,7 +221,7 @@ const SHEETS: [Step; 8] = [
     ),
     ("article", "B-9", 0, "total                         0\n", ""),
     ("sheet", "n1", 2, "", "stockdesk: usage\n"),
-    ("article", "-A", 2, "", "stockdesk: usage\n"),
+    ("article", "a-1", 2, "", "stockdesk: usage\n"),
 ];
 
 /// The bytes of the file, none where it is not there.
