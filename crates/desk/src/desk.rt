@@ -126,9 +126,9 @@ impl<K: Keep> Desk<K> {
             .map_err(|_| CallFault::Memory)
     }
 
-    /// Carries out the plan of an accepted request, after its rows are kept: it is done at the plan's place. The plan was made at
-    /// the desk's ledger, which is as it was after `Memory` and `Stopped`. After `Stopped` a stop leaves the ledger's rows or
-    /// those after the request.
+    /// Carries out the plan of an accepted request, after its rows are kept: it is done at the plan's place. The plan is one that
+    /// `plan` made at the desk's ledger, and the desk is not stopped. After `Memory` and `Stopped` the ledger is as it was; after
+    /// `Stopped` a stop leaves its rows or those after the request.
     pub fn carry_out(&mut self, plan: Plan) -> Result<Reply, CallFault>
         requires going { K.stopped self.old.keep ≡ false }
         requires fits { Fits self.old.ledger plan }

@@ -17,6 +17,9 @@ mod word;
 
 pub use deliveries::read_deliveries;
 pub use fault::{FileFault, SheetFault};
-pub use laws::{a_delivery_file_says_one_thing, an_order_file_says_one_thing, exactly_one_sheet};
+pub use laws::{
+    a_delivery_file_says_one_thing, an_order_file_says_one_thing, exactly_one_sheet,
+    sheets_keep_their_columns,
+};
 pub use orders::read_orders;
 pub use sheet::{article_sheet, branch_sheet};

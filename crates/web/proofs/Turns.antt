@@ -10,8 +10,8 @@ use Rattle.web.specs.Answers.{Answer, answer_bytes, answers_bytes, message_answe
 use Rattle.web.specs.Intake.{HasNoMessage, Holds, NoneComes}
 use Rattle.web.specs.Messages.{AreParts, BeginsWith, FirstParts, IsUnreadable, Message, Part, unreadable, whole}
 use Rattle.desk.specs.Desk.{DeskView}
-use Rattle.web.specs.Serving.{EndsCut, EndsWhole, IsCut, IsWhole, Serves, Settles, count_of, stand}
-use Rattle.web.specs.Turns.{AnswersOne, EndsShort, HasServed, Passes, wholes}
+use Rattle.web.specs.Serving.{EndsCut, EndsShort, EndsWhole, IsCut, IsWhole, Serves, Settles, count_of, stand}
+use Rattle.web.specs.Turns.{AnswersOne, HasServed, Passes, wholes}
 use Rattle.web.specs.Web.{AnswersAll, Stand, plain}
 use Rattle.web.specs.declared.served.Ending.TheVariants.{BadMessage, Input}
 use Rattle.web.specs.declared.served.WebFault.{WebFault}
@@ -99,23 +99,7 @@ read_at Memory q p held new holds none any = (any.0, any.1, λ f. absurd (cc f))
 pub ends_cut : (fault : WebFault) (H : Type 0) (L : List Content → Type 0) (old new : Stand) (r p w v : Option (List ℕ)) → Good new.ledger → EndsShort fault H L old new r p w v → EndsCut fault H L old new r p w v
 ends_cut fault H L old new r p w v good h =
     let on = cut_goes_on old new h.read h.written h.answered h.left h.serves.marks h.serves.answers good h.are_parts h.serves.replies h.almost in
-    record {
-      read = h.read;
-      answered = h.answered;
-      left = h.left;
-      written = h.written;
-      reads = h.reads;
-      are_parts = h.are_parts;
-      settled = h.settled;
-      serves = h.serves;
-      writes = h.writes;
-      almost = h.almost;
-      prompt = h.prompt;
-      marks = on.marks;
-      unwritten = on.unwritten;
-      last = on.last;
-      web = on.web;
-    }
+    record { so_far = h; marks = on.marks; unwritten = on.unwritten; last = on.last; web = on.web }
 
 -- ---- one answer more
 

@@ -1,7 +1,6 @@
 -- How far the serving of a connection has come (private: how one is served).
-use Rattle.std.specs.Prelude.{◌≡◌, ◌⊎◌, ◌++◌, false, true, ℕ, List, [], ◌∷◌, Option}
+use Rattle.std.specs.Prelude.{◌≡◌, ◌⊎◌, false, true, ℕ, List, [], ◌∷◌, Option}
 use Rattle.std.specs.Io.KnownBytes.{Appends, Consumes}
-use Rattle.std.specs.List.{AllByRecursion as Each}
 use Rattle.words.specs.declared.command.Request.{Request}
 use Rattle.words.specs.declared.reply.Reply.{Reply}
 use Rattle.book.specs.Answers.{IsAccepted}
@@ -12,13 +11,11 @@ use Rattle.web.specs.Answers.{Answer, answer_bytes, answers_bytes, memory_answer
 use Rattle.web.specs.Asks.{AsksFor}
 use Rattle.web.specs.Fixed.{ready_bytes}
 use Rattle.web.specs.declared.fixed.Ready.{Ready}
-use Rattle.web.specs.Messages.{AreParts, BeginsWith, Message, Part, whole}
-use Rattle.web.specs.Serving.{AlmostWritten, IsCut, Serves, Settles, count_of}
+use Rattle.web.specs.Messages.{BeginsWith, Message, Part, whole}
+use Rattle.web.specs.Serving.{Serves, count_of}
 use Rattle.web.specs.Web.{AnswersPart, Mark, RepliesAt, Stand, memory, plain, stopped}
 use Rattle.web.specs.declared.ask.Ask.{Ask}
 use Rattle.web.specs.declared.ask.Ask.TheVariants as ask
-use Rattle.web.specs.declared.served.WebFault.{WebFault}
-use Rattle.web.specs.declared.served.WebFault.TheVariants.{Read}
 
 -- messages, and what stands behind them
 abbrev pub Passes : List ℕ → List Message → List ℕ → Type 0
@@ -73,18 +70,3 @@ pub record HasServed (is_honest : Type 0) (leaves : List Content → Type 0) (ol
   pub serves : Serves is_honest leaves old (wholes messages) new
   pub writes : Appends writer_old writer_new (answers_bytes serves.answers)
   pub counts : count ≡ count_of serves.answers
-
--- how far it came at a fault, without what goes on from there
-pub record EndsShort (fault : WebFault) (is_honest : Type 0) (leaves : List Content → Type 0) (old new : Stand)
-    (reader_old reader_new writer_old writer_new : Option (List ℕ)) : Type 0 where
-  pub read : List ℕ
-  pub answered : List Part
-  pub left : List Part
-  pub written : List ℕ
-  pub reads : Consumes reader_old reader_new read
-  pub are_parts : AreParts read (answered ++ left)
-  pub settled : Settles read reader_new answered
-  pub serves : Serves is_honest leaves old answered new
-  pub writes : Appends writer_old writer_new written
-  pub almost : AlmostWritten serves.answers written
-  pub prompt : fault ≡ Read → (written ≡ answers_bytes serves.answers) × Each IsCut left

@@ -7,9 +7,9 @@ ghost use Rattle.web.specs.Answers.{Answer, answer_bytes, message_answer};
 ghost use Rattle.web.specs.Fixed.{ready_bytes};
 ghost use Rattle.web.specs.Intake.{IsMessageAt, IsMessageWithin};
 ghost use Rattle.web.specs.Messages.{Message};
-ghost use Rattle.web.specs.Serving.{EndsCut, EndsWhole, stand};
+ghost use Rattle.web.specs.Serving.{EndsCut, EndsShort, EndsWhole, stand};
 ghost use Rattle.web.specs.Routes.{routes};
-ghost use Rattle.web.specs.Turns.{AnswersOne, EndsShort};
+ghost use Rattle.web.specs.Turns.{AnswersOne};
 
 use crate::ask::ask_of;
 use crate::calls::answer_ask;
