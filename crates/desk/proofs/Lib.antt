@@ -6,3 +6,5 @@ pub mod SomeText
 pub mod OneText
 pub mod Cuts
 pub mod Standing
+pub mod Repeated
+pub mod Resumed

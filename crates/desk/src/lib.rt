@@ -15,6 +15,6 @@ mod tests;
 
 pub use desk::Desk;
 pub use fault::{CallFault, OpenFault, ScriptFault};
-pub use laws::exactly_one_text;
+pub use laws::{exactly_one_text, resuming_is_invisible};
 pub use run::{Ending, Run};
 pub use scripts::{answer_all, script};
