@@ -1,6 +1,6 @@
 """Tests of the built program as a real process: what its words and its FILE may be, what its help says, a store and memory
 that are refused, scripts a line a run, long ones, files of requests, replies on a pipe that stays open, the file as another
-SQLite reads it, and sessions that are killed. The one argument is the program."""
+SQLite reads it, connections, and sessions that are killed. The one argument is the program."""
 
 import csv
 import os
@@ -13,16 +13,29 @@ import sys
 import tempfile
 import threading
 
-try:
-    import sqlite3
-except ImportError:
-    sqlite3 = None
+# no folder of compiled modules beside the sources
+sys.dont_write_bytecode = True
+
+import service
+from programs import (
+    COLUMNS,
+    FILES,
+    SECONDS,
+    bytes_of,
+    done,
+    ended,
+    expect,
+    expect_end,
+    lines_of,
+    new_desk,
+    rows_of,
+    say,
+    sqlite3,
+)
 
 ROUNDS = 50
 LINES = 1000
-SECONDS = 30
 
-FILES = os.path.join(os.path.dirname(os.path.abspath(__file__)), "files")
 NOT_A_DESK = (3, b"", b"stockdesk: not a desk\n")
 STORE = (1, b"", b"stockdesk: store\n")
 
@@ -37,19 +50,27 @@ NO_TASK = [
     ["deliveries", "usage.db", "file.csv", "more"],
     ["sheet", "usage.db"],
     ["article", "usage.db"],
+    ["serve", "usage.db"],
+    ["serve", "usage.db", "--port", "0"],
+    ["serve", "usage.db", "--connections", "1"],
+    ["serve", "usage.db", "--port", "--connections", "1"],
+    ["serve", "usage.db", "--port", "-1", "--connections", "1"],
+    ["serve", "usage.db", "--port", "0", "--port", "0", "--connections", "1"],
+    ["serve", "usage.db", "0", "--port", "0", "--connections", "1"],
     ["--help"],
     ["--version"],
 ]
 
 # of what each help tells in a line
 HELP = [
-    (["--help"], ["init", "run", "orders", "deliveries", "sheet", "article"]),
+    (["--help"], ["init", "run", "orders", "deliveries", "sheet", "article", "serve"]),
     (["init", "--help"], ["FILE"]),
     (["run", "--help"], ["FILE"]),
     (["orders", "--help"], ["FILE", "CSV"]),
     (["deliveries", "--help"], ["FILE", "CSV"]),
     (["sheet", "--help"], ["FILE", "BRANCH"]),
     (["article", "--help"], ["FILE", "ARTICLE"]),
+    (["serve", "--help"], ["FILE", "--port", "--connections"]),
 ]
 
 # files with bytes that are no desk, and what a run on them ends with
@@ -66,85 +87,20 @@ D1 deliver N1 A-1 3
 
 # what the rules say that each table holds after that script
 ROWS = {
-    "desk": (["one", "version", "clock", "places"], [(1, 1, 0, 6)]),
-    "field": (
-        ["branch", "article", "lo", "hi", "start", "value", "inf", "sup"],
-        [("N1", "A-1", 0, 100, 40, 39, 39, 39), ("N2", "A-1", 0, 50, 5, 9, 9, 9)],
-    ),
-    "move": (["place", "branch", "article", "qty"], [(6, "N1", "A-1", 3)]),
-    "orders": (["number", "kind", "until", "state"], [(20, 1, 900, 1)]),
-    "line": (
-        ["number", "nr", "branch", "article", "way", "held", "used"],
-        [(20, 1, "N1", "A-1", 0, 10, 4), (20, 2, "N2", "A-1", 1, 10, 4)],
-    ),
-    "kept": (
-        ["reqkey", "place", "words"],
-        [
-            ("D1", 6, "deliver N1 A-1 3"),
-            ("T1", 1, "field N1 A-1 0 100 40"),
-            ("T2", 2, "field N2 A-1 0 50 5"),
-            ("T3", 3, "transfer 20 900 A-1 N1 N2 10"),
-            ("T4", 4, "use 20 N2 A-1 4"),
-            ("T6", 5, "commit 20"),
-        ],
-    ),
+    "desk": [(1, 1, 0, 6)],
+    "field": [("N1", "A-1", 0, 100, 40, 39, 39, 39), ("N2", "A-1", 0, 50, 5, 9, 9, 9)],
+    "move": [(6, "N1", "A-1", 3)],
+    "orders": [(20, 1, 900, 1)],
+    "line": [(20, 1, "N1", "A-1", 0, 10, 4), (20, 2, "N2", "A-1", 1, 10, 4)],
+    "kept": [
+        ("D1", 6, "deliver N1 A-1 3"),
+        ("T1", 1, "field N1 A-1 0 100 40"),
+        ("T2", 2, "field N2 A-1 0 50 5"),
+        ("T3", 3, "transfer 20 900 A-1 N1 N2 10"),
+        ("T4", 4, "use 20 N2 A-1 4"),
+        ("T6", 5, "commit 20"),
+    ],
 }
-
-
-# how many columns of each table are its key
-KEYS = {"desk": 1, "field": 2, "move": 1, "orders": 1, "line": 2, "kept": 1}
-
-
-def say(text):
-    print(text, file=sys.stderr, flush=True)
-
-
-def expect(fact, text):
-    if not fact:
-        raise AssertionError(text)
-
-
-def ended(program, words, text="", folder=None, limit=None):
-    """The status of a run, its output and what it tells of a fault; under a limit, as of the bytes that a file may have."""
-    run = subprocess.run(
-        [program, *words],
-        input=text.encode(),
-        cwd=folder,
-        capture_output=True,
-        timeout=SECONDS,
-        # what is over the limit is refused, and is no signal
-        restore_signals=limit is None,
-        preexec_fn=limit and (lambda: resource.setrlimit(limit[0], (limit[1], limit[1]))),
-    )
-    return run.returncode, run.stdout, run.stderr
-
-
-def done(program, words, text=""):
-    """The lines of a run that ends with status 0."""
-    status, out, errors = ended(program, words, text)
-    expect(status == 0, f"{words}: status {status}, {errors!r}")
-    return out.decode().splitlines()
-
-
-def expect_end(program, words, want, text="K1 expire 1\n"):
-    found = ended(program, words, text)
-    expect(found == want, f"{words}: {found} and not {want}")
-
-
-def lines_of(name):
-    with open(os.path.join(FILES, name), encoding="ascii") as file:
-        return file.read().splitlines()
-
-
-def bytes_of(path):
-    with open(path, "rb") as file:
-        return file.read()
-
-
-def new_desk(program, folder):
-    path = os.path.join(folder, "desk.db")
-    done(program, ["init", path])
-    return path
 
 
 class Session:
@@ -328,7 +284,8 @@ def test_another_sqlite_reads_the_file(program, folder):
         expect(database.execute("PRAGMA integrity_check").fetchall() == [("ok",)], "the file is not whole")
         names = {name for (name,) in database.execute("SELECT name FROM sqlite_schema WHERE type = 'table'")}
         expect(names == set(ROWS), f"other tables: {names}")
-        for table, (columns, rows) in ROWS.items():
+        for table, rows in ROWS.items():
+            columns = COLUMNS[table]
             found = [row[1] for row in database.execute(f"PRAGMA table_info({table})")]
             expect(found == columns, f"{table} has other columns: {found}")
             order = ", ".join(str(n) for n in range(1, len(columns) + 1))
@@ -351,18 +308,6 @@ def test_another_database_is_no_desk(program, folder):
     expect_end(program, ["init", path], NOT_A_DESK)
     expect_end(program, ["run", path], NOT_A_DESK)
     expect(bytes_of(path) == found, "it was changed")
-
-
-def rows_of(path):
-    """The rows of all tables in the order of their keys, each as a line that begins with its table."""
-    database = sqlite3.connect(path)
-    rows = []
-    for table, (columns, _) in ROWS.items():
-        order = ", ".join(columns[: KEYS[table]])
-        for row in database.execute(f"SELECT {', '.join(columns)} FROM {table} ORDER BY {order}"):
-            rows.append("|".join([table, *map(str, row)]))
-    database.close()
-    return rows
 
 
 def test_an_empty_script_changes_nothing(program, folder):
@@ -446,6 +391,7 @@ def main():
         test_an_empty_script_changes_nothing,
         test_older_files_are_read,
         test_nothing_acknowledged_is_lost,
+        *service.TESTS,
     ]:
         say(f"process {test.__name__}")
         folder = tempfile.mkdtemp()

@@ -80,6 +80,7 @@ is_unbegun Fault.Memory = false
 is_unbegun Fault.Store = false
 is_unbegun Fault.Read = false
 is_unbegun Fault.Write = false
+is_unbegun Fault.Socket = false
 is_unbegun (Fault.BadRecord number) = true
 is_unbegun Fault.Csv = true
 

@@ -7,13 +7,14 @@ use Rattle.clap.specs.Words.{Text, subcommand_of}
 use Rattle.desk.specs.Text.{RepliesAll}
 use Rattle.words.specs.declared.command.Request.{Request}
 use Rattle.words.specs.declared.item.Item.{Item}
+use Rattle.stockdesk.specs.Connections.{PortBegun, PortTold}
 use Rattle.stockdesk.specs.Requests.{RequestsAnswered, items_of}
 use Rattle.stockdesk.specs.Runs.{BeginsText, PlaysInPart, PlaysWhole, RunsWhole}
 use Rattle.stockdesk.specs.Sheets.{SheetBegun, SheetWritten}
 use Rattle.stockdesk.specs.Tasks.{Asks, stockdesk}
 use Rattle.stockdesk.specs.declared.sheet.Shown.{Shown}
 use Rattle.stockdesk.specs.declared.tasks.Task.{Task}
-use Rattle.stockdesk.specs.declared.tasks.Task.TheVariants.{Deliveries, Init, Orders, Run, Sheet}
+use Rattle.stockdesk.specs.declared.tasks.Task.TheVariants.{Deliveries, Init, Orders, Run, Serve, Sheet}
 
 -- ---- replies to requests
 
@@ -55,6 +56,7 @@ Does (Run (Some path)) reader_old reader_new writer_old writer_new = PlaysWhole 
 Does (Orders path csv) reader_old reader_new writer_old writer_new = Keeps reader_old reader_new × PrintsReplies writer_old writer_new
 Does (Deliveries path csv) reader_old reader_new writer_old writer_new = Keeps reader_old reader_new × PrintsReplies writer_old writer_new
 Does (Sheet path shown) reader_old reader_new writer_old writer_new = Keeps reader_old reader_new × PrintsSheet shown writer_old writer_new
+Does (Serve path service) reader_old reader_new writer_old writer_new = Keeps reader_old reader_new × PortTold writer_old writer_new
 
 -- the task is done in part: what was written is a beginning
 abbrev pub DoesInPart : Task → (reader_old reader_new writer_old writer_new : Option (List ℕ)) → Type 0
@@ -64,6 +66,7 @@ DoesInPart (Run (Some path)) reader_old reader_new writer_old writer_new = Plays
 DoesInPart (Orders path csv) reader_old reader_new writer_old writer_new = Keeps reader_old reader_new × PrintsRepliesInPart writer_old writer_new
 DoesInPart (Deliveries path csv) reader_old reader_new writer_old writer_new = Keeps reader_old reader_new × PrintsRepliesInPart writer_old writer_new
 DoesInPart (Sheet path shown) reader_old reader_new writer_old writer_new = Keeps reader_old reader_new × PrintsSheetInPart shown writer_old writer_new
+DoesInPart (Serve path service) reader_old reader_new writer_old writer_new = Keeps reader_old reader_new × PortBegun writer_old writer_new
 
 -- the words ask for a task, and it is done
 abbrev pub DoesAsked : List Text → (reader_old reader_new writer_old writer_new : Option (List ℕ)) → Type 0

@@ -1,5 +1,6 @@
 pub mod Runs
 pub mod Sessions
+pub mod Connections
 pub mod Requests
 pub mod Sheets
 pub mod Tasks

@@ -1,10 +1,11 @@
 -- The words that the program takes, and the task that they ask for, as `clap` sees them.
-use Rattle.std.specs.Prelude.{◌≡◌, ◌∷◌, [], List, Option, Some, true, codes, option_map}
+use Rattle.std.specs.Prelude.{◌≡◌, ◌<◌, ◌≤◌, ◌∷◌, ◌^◌, [], List, Option, Some, true, codes, decimal, option_map}
 use Rattle.clap.specs.Words.{App, Row, Rule, Text, first_of, new_app, new_rule, with_rule, with_subcommand}
 use Rattle.clap.specs.declared.builder.action.ArgAction.TheVariants.{Set}
+use Rattle.stockdesk.specs.declared.loopback.Service.{Service}
 use Rattle.stockdesk.specs.declared.sheet.Shown.TheVariants.{OfArticle, OfBranch}
 use Rattle.stockdesk.specs.declared.tasks.Task.{Task}
-use Rattle.stockdesk.specs.declared.tasks.Task.TheVariants.{Deliveries, Init, Orders, Run, Sheet}
+use Rattle.stockdesk.specs.declared.tasks.Task.TheVariants.{Deliveries, Init, Orders, Run, Serve, Sheet}
 
 -- a word of that name
 abbrev pub word : Text → Rule
@@ -13,6 +14,10 @@ word name = record (new_rule name) { action = Some Set }
 -- a word of that name that is always there
 abbrev pub needed : Text → Rule
 needed name = record (word name) { required = true }
+
+-- an option of that name, with a word, that is always there
+abbrev pub option : Text → Rule
+option name = record (needed name) { long = Some name; value_names = 1 }
 
 -- `init FILE`
 abbrev pub init : App
@@ -42,6 +47,10 @@ sheet = on_file (codes "sheet") (codes "BRANCH")
 abbrev pub article : App
 article = on_file (codes "article") (codes "ARTICLE")
 
+-- `serve FILE --port N --connections N`
+abbrev pub serve : App
+serve = with_rule (with_rule (with_rule (new_app (codes "serve")) (needed (codes "FILE"))) (option (codes "port"))) (option (codes "connections"))
+
 -- two commands more
 abbrev pub with_both : App → App → App → App
 with_both app first second = with_subcommand (with_subcommand app first.top) second.top
@@ -50,9 +59,17 @@ with_both app first second = with_subcommand (with_subcommand app first.top) sec
 abbrev pub scripts : App
 scripts = let named = new_app (codes "stockdesk") in with_both (record named { top = record named.top { subcommand_required = true } }) init run
 
--- one of the six
+-- one of the seven
 abbrev pub stockdesk : App
-stockdesk = with_both (with_both scripts orders deliveries) sheet article
+stockdesk = with_subcommand (with_both (with_both scripts orders deliveries) sheet article) serve.top
+
+-- the words are the numbers of that service, which are in their ranges
+pub record IsService (port connections : Text) (service : Service) : Type 0 where
+  pub port_is : port ≡ decimal service.port
+  pub connections_are : connections ≡ decimal service.connections
+  pub is_port : service.port < 2 ^ 16
+  pub some : 1 ≤ service.connections
+  pub not_many : service.connections ≤ 1000000
 
 -- the first word behind the program's name, and what was found behind it, ask for this task
 abbrev pub AsksFor : Text → List Row → Task → Type 0
@@ -62,6 +79,8 @@ AsksFor name rows (Orders path csv) = (name ≡ codes "orders") × (first_of (co
 AsksFor name rows (Deliveries path csv) = (name ≡ codes "deliveries") × (first_of (codes "FILE") rows ≡ Some path.now) × (first_of (codes "CSV") rows ≡ Some csv.now)
 AsksFor name rows (Sheet path (OfBranch branch)) = (name ≡ codes "sheet") × (first_of (codes "FILE") rows ≡ Some path.now) × (first_of (codes "BRANCH") rows ≡ Some branch)
 AsksFor name rows (Sheet path (OfArticle article)) = (name ≡ codes "article") × (first_of (codes "FILE") rows ≡ Some path.now) × (first_of (codes "ARTICLE") rows ≡ Some article)
+AsksFor name rows (Serve path service) = (name ≡ codes "serve") × (first_of (codes "FILE") rows ≡ Some path.now)
+    × ((port : Text) × (connections : Text) × (first_of (codes "port") rows ≡ Some port) × (first_of (codes "connections") rows ≡ Some connections) × IsService port connections service)
 
 -- what was found of the words asks for this task
 abbrev pub Asks : Option (Text × List Row) → Task → Type 0

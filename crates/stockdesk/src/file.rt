@@ -4,10 +4,12 @@ ghost use Rattle.std.specs.Prelude.{◌≡◌, ◌≢◌, ◌⊎◌, ◌↔◌, 
 ghost use Rattle.std.specs.Io.KnownBytes.{Keeps};
 ghost use Rattle.sqlite.specs.WalFiles.{image_at};
 ghost use Rattle.keep.specs.Starts.{StartsWith};
+ghost use Rattle.stockdesk.specs.Connections.{ServiceInPart, ServiceWhole};
 ghost use Rattle.stockdesk.specs.Requests.{FileInPart, FileWhole};
 ghost use Rattle.stockdesk.specs.Sessions.{IsNewDesk, KeepsOn, OpensWith, ScriptInPart, ScriptWhole};
 ghost use Rattle.stockdesk.specs.Sheets.{SheetInPart, SheetWhole};
 
+use crate::loopback::{self, Service};
 use crate::new_desk::new_desk;
 use crate::requests::{self, Kind};
 use crate::session::{Fault, session};
@@ -190,4 +192,22 @@ pub fn show<S: Start, W: Write>(
 {
     let keep = open(rt, path, start)?;
     Ok(sheet::show(rt.alloc(), keep, shown, writer))
+}
+
+/// Serves the desk in the file at the path, likewise.
+pub fn serve<S: Start, W: Write>(
+    rt: &HostRuntime,
+    path: &str,
+    start: S,
+    service: &Service,
+    writer: &mut W,
+) -> Result<(SqlKeep<FileStore<FileFrom<S>>>, Result<(), Fault>), Fault>
+    ensures whole { IfOk result (λ r. OnOk r.1 (ServiceWhole ⟦<SqlKeep<FileStore<FileFrom<S>>> as Keep>⟧ service.now.connections r.0 (StartsWith (image_at S.Start)) (W.contents writer.old) (W.contents writer.new))) }
+    ensures cut { IfOk result (λ r. IfErr r.1 (λ fault. ServiceInPart ⟦<SqlKeep<FileStore<FileFrom<S>>> as Keep>⟧ service.now.connections fault r.0 (StartsWith (image_at S.Start)) (StartsWith (image_at S.Start)) (KeepsOn ⟦<SqlKeep<FileStore<FileFrom<S>>> as Keep>⟧ (StartsWith (image_at S.Start)) r.0)
+        (W.contents writer.old) (W.contents writer.new))) }
+    ensures unopened { OnErr result (Keeps (W.contents writer.old) (W.contents writer.new)) }
+    ensures fault { IfErr result (λ fault. (fault ≡ Fault.NotADesk) ⊎ ((fault ≡ Fault.Memory) ⊎ (fault ≡ Fault.Store))) }
+{
+    let keep = open(rt, path, start)?;
+    Ok(loopback::serve(rt, keep, service, writer))
 }

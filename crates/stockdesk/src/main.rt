@@ -1,4 +1,4 @@
-//! The desk, over lines of text on standard input and output.
+//! The desk, over lines of text on standard input and output, and over HTTP on this machine.
 #![tactic(auto)]
 
 ghost use Rattle.std.specs.Prelude.{◌≡◌, ◌≢◌, ◌≤◌, ◌⊎◌, map};
@@ -11,6 +11,7 @@ ghost use Rattle.stockdesk.specs.Sessions.{IsBadFile, IsNoDesk, IsUnbegun};
 ghost use Rattle.stockdesk.specs.Tasks.{IsPlainRun};
 
 mod file;
+mod loopback;
 mod memory;
 mod new_desk;
 mod perform;
@@ -43,7 +44,7 @@ fn tell_fault<E: Write>(errors: &mut E, fault: Fault) -> u8
         Fault::Damaged => tell(errors, b"stockdesk: damaged\n", 3),
         Fault::Memory => tell(errors, b"stockdesk: memory\n", 1),
         Fault::Store => tell(errors, b"stockdesk: store\n", 1),
-        Fault::Read | Fault::Write => tell(errors, b"stockdesk: io\n", 1),
+        Fault::Read | Fault::Write | Fault::Socket => tell(errors, b"stockdesk: io\n", 1),
         Fault::Csv => tell(errors, b"stockdesk: csv\n", 4),
         Fault::BadRecord(number) => {
             let _ = writeln!(errors, "stockdesk: record {number}");

@@ -2,10 +2,12 @@
 
 ghost use Rattle.std.specs.Prelude.{◌≡◌, ◌⊎◌, None, IfErr, OnErr, OnOk};
 ghost use Rattle.std.specs.Io.KnownBytes.{Keeps};
+ghost use Rattle.stockdesk.specs.Connections.{PortBegun, PortTold};
 ghost use Rattle.stockdesk.specs.Done.{Does, DoesInPart, PrintsReplies, PrintsRepliesInPart, PrintsSheet, PrintsSheetInPart};
 ghost use Rattle.stockdesk.specs.Runs.{PlaysInPart, PlaysWhole};
 ghost use Rattle.stockdesk.specs.Sessions.{IsUnbegun};
 
+use crate::loopback::Service;
 use crate::requests::Kind;
 use crate::session::Fault;
 use crate::sheet::Shown;
@@ -71,6 +73,22 @@ fn show_file<W: Write>(
     ended
 }
 
+/// Serves the desk in the file at the path, and closes it.
+fn serve_file<W: Write>(
+    rt: &HostRuntime,
+    path: &str,
+    service: &Service,
+    writer: &mut W,
+) -> Result<(), Fault>
+    ensures whole { OnOk result (PortTold (W.contents writer.old) (W.contents writer.new)) }
+    ensures beginning { OnErr result (PortBegun (W.contents writer.old) (W.contents writer.new)) }
+    ensures untouched { IfErr result (λ fault. IsUnbegun fault → Keeps (W.contents writer.old) (W.contents writer.new)) }
+{
+    let (keep, ended) = file::serve(rt, path, Unknown, service, writer)?;
+    file::close(keep);
+    ended
+}
+
 /// Does what is asked for.
 pub fn perform<R: Read, W: Write>(
     rt: &HostRuntime,
@@ -90,5 +108,6 @@ pub fn perform<R: Read, W: Write>(
         Task::Orders(path, csv) => answer_file(rt, *path, Kind::Orders, *csv, writer),
         Task::Deliveries(path, csv) => answer_file(rt, *path, Kind::Deliveries, *csv, writer),
         Task::Sheet(path, shown) => show_file(rt, *path, shown, writer),
+        Task::Serve(path, service) => serve_file(rt, *path, service, writer),
     }
 }

@@ -28,6 +28,8 @@ pub enum Fault {
     Read,
     #[error("writing failed")]
     Write,
+    #[error("a socket failed")]
+    Socket,
     /// The first record at fault in a file of requests: 0 is the header, and those behind it count from 1.
     #[error("record {0}")]
     BadRecord(u64),

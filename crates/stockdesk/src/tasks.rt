@@ -1,15 +1,20 @@
 //! What the words behind the program's name ask for.
 
-ghost use Rattle.std.specs.Prelude.{◌≡◌, Some, None, codes, [], false, true, map, IfErr, IfOk, IfSome};
-ghost use Rattle.clap.specs.Words.{app_of, found_of, kind_of, rows_of, subcommand_of, subcommand_rows_of, takes};
+ghost use Rattle.std.specs.Prelude.{◌≡◌, ◌≤◌, Some, None, codes, [], false, true, decimal, map, IfErr, IfOk, IfSome};
+ghost use Rattle.clap.specs.Words.{app_of, found_of, kind_of, rows_of, rule_of, subcommand_of, subcommand_rows_of, takes, with_subcommand};
 ghost use Rattle.clap.specs.declared.builder.command.Command.TheViews.{out-Command as fields_of};
-ghost use Rattle.stockdesk.specs.Tasks.{Asks, AsksFor, IsPlainRun, article, deliveries, init, on_file, orders, run, scripts, sheet, stockdesk, with_both};
+ghost use Rattle.stockdesk.specs.Tasks.{Asks, AsksFor, IsPlainRun, IsService, article, deliveries, init, on_file, option, orders, run, scripts, serve, sheet, stockdesk, with_both};
 
+use crate::loopback::Service;
 use crate::sheet::Shown;
 use clap::error::ErrorKind;
 use clap::{Arg, ArgAction, ArgMatches, Command, Error};
 use escrow::{Article, Branch};
 use std::alloc::{AllocError, Global};
+use words::read_number;
+
+/// The most connections that are served.
+const MAX_CONNECTIONS: u32 = 1_000_000;
 
 /// What is asked for.
 #[derive(Clone, Copy, Debug, PartialEq, Eq)]
@@ -24,6 +29,8 @@ pub enum Task<'a> {
     Deliveries(&'a str, &'a str),
     /// A sheet of the desk in this file.
     Sheet(&'a str, Shown),
+    /// The desk in this file, served.
+    Serve(&'a str, Service),
 }
 
 /// `init`, with its file.
@@ -115,13 +122,55 @@ fn with_sheets<'a>(alloc: Global, command: Command<'a>) -> Result<Command<'a>, A
     command.subcommand(sheet)?.subcommand(article)
 }
 
+/// An option that is always there, with a number.
+fn number_option<'a>(alloc: Global, name: &'a str, help: &'a str) -> Arg<'a>
+    ensures rule { rule_of result ≡ option name.entry.now }
+    ensures local { result.global ≡ false }
+{
+    Arg::new(alloc, name)
+        .long(name)
+        .value_name("N")
+        .help(help)
+        .required(true)
+        .action(ArgAction::Set)
+}
+
+/// `serve`, with its file and its two options.
+fn serve_command<'a>(alloc: Global) -> Result<Command<'a>, AllocError>
+    ensures app { IfOk result (λ command. app_of command ≡ serve) }
+    ensures local { IfOk result (λ command. (fields_of command).has_globals ≡ false) }
+{
+    let file = Arg::new(alloc, "FILE")
+        .help("The file of a desk")
+        .required(true)
+        .action(ArgAction::Set);
+    let help = "The port on 127.0.0.1, 0 to 65535; 0 is any that is free";
+    let port = number_option(alloc, "port", help);
+    let help = "How many connections are served before it ends, 1 to 1000000";
+    let connections = number_option(alloc, "connections", help);
+    Command::new(alloc, "serve")
+        .about("Answers HTTP on 127.0.0.1, one connection after the other")
+        .arg(file)?
+        .arg(port)?
+        .arg(connections)
+}
+
+/// Adds the command that serves connections.
+fn with_service<'a>(alloc: Global, command: Command<'a>) -> Result<Command<'a>, AllocError>
+    ensures { IfOk result (λ more. app_of more ≡ with_subcommand (app_of command.entry) serve.top) }
+{
+    let serve = serve_command(alloc)?;
+    command.subcommand(serve)
+}
+
 /// The words that the program takes.
 fn command<'a>(alloc: Global) -> Result<Command<'a>, AllocError>
     ensures { IfOk result (λ command. app_of command ≡ stockdesk) }
 {
     let command = with_scripts(alloc)?;
     let command = with_files(alloc, command)?;
-    with_sheets(alloc, command)
+    let command = with_sheets(alloc, command)?;
+    with_service(alloc, command)
 }
 
 /// The sheet of the branch that a word names.
@@ -140,7 +189,37 @@ fn article_named(word: &str) -> Option<Shown>
     Some(Shown::OfArticle(article))
 }
 
-/// The task that a command asks for, by its name and the words behind it; none where one of these is no code.
+/// The port that a word is.
+fn port_named(word: &str) -> Option<u16>
+    ensures { IfSome result (λ port. word.now ≡ decimal port) }
+{
+    let number = read_number(word.as_bytes())?;
+    u16::try_from(number).ok()
+}
+
+/// How many connections a word says.
+fn connections_named(word: &str) -> Option<u32>
+    ensures { IfSome result (λ count. (word.now ≡ decimal count) × (1 ≤ count) × (count ≤ 1000000)) }
+{
+    let number = read_number(word.as_bytes())?;
+    let count = u32::try_from(number).ok()?;
+    if 1 <= count && count <= MAX_CONNECTIONS {
+        Some(count)
+    } else {
+        None
+    }
+}
+
+/// The service that two words ask for.
+fn service_named(port: &str, connections: &str) -> Option<Service>
+    ensures { IfSome result (IsService port.now connections.now) }
+{
+    let port = port_named(port)?;
+    let connections = connections_named(connections)?;
+    Some(Service { port, connections })
+}
+
+/// The task that a command asks for, by its name and the words behind it; none where one of these is no code or number.
 fn task_named<'a>(name: &str, found: &ArgMatches<'a>) -> Option<Task<'a>>
     ensures asked { IfSome result (AsksFor name.now (rows_of (found_of found.now))) }
     ensures run { name.now ≡ codes "run" → rows_of (found_of found.now) ≡ [] → result ≡ Some (Task.Run None) }
@@ -157,6 +236,10 @@ fn task_named<'a>(name: &str, found: &ArgMatches<'a>) -> Option<Task<'a>>
         "article" => Some(Task::Sheet(
             found.get_str("FILE")?,
             article_named(found.get_str("ARTICLE")?)?,
+        )),
+        "serve" => Some(Task::Serve(
+            found.get_str("FILE")?,
+            service_named(found.get_str("port")?, found.get_str("connections")?)?,
         )),
         _ => None,
     }

@@ -1,5 +1,6 @@
 //! The program, by what it reads and writes.
 
+mod connections;
 mod rows;
 mod steps;
 

@@ -1,4 +1,4 @@
-use Rattle.std.proofs.Common.{◌≡◌, ◌∙◌, ap, codes, option_map, Option, Some, subst, sym}
+use Rattle.std.proofs.Common.{◌∙◌, ap, codes, option_map, subst, sym}
 use Rattle.clap.specs.Words.{found_of, rows_of}
 use Rattle.clap.proofs.WalkLemmas.{first_value-rows}
 use Rattle.stockdesk.specs.Tasks.{AsksFor}
@@ -42,3 +42,16 @@ returns-in_ok-article_named-in-article-clause-asked c =
       sym (first_value-rows (found_of c.args.found.now) (codes "FILE")) ∙ sym c.get_str-in-article.ensures ∙ ap (option_map (λ s. s.now)) c.in_ok-get_str-in-article.was,
       sym (first_value-rows (found_of c.args.found.now) (codes "ARTICLE")) ∙ sym c.get_str-in-article-2.ensures ∙ ap (option_map (λ s. s.now)) c.in_ok-get_str-in-article-2.was,
     )
+
+pub returns-in_ok-service_named-in-serve-clause-asked : goal.returns-in_ok-service_named-in-serve-clause-asked
+returns-in_ok-service_named-in-serve-clause-asked c = (
+  c.in-serve.is,
+  sym (first_value-rows (found_of c.args.found.now) (codes "FILE")) ∙ sym c.get_str-in-serve.ensures ∙ ap (option_map (λ s. s.now)) c.in_ok-get_str-in-serve.was,
+  (
+    c.in_ok-get_str-in-serve-2.field-0.now,
+    c.in_ok-get_str-in-serve-3.field-0.now,
+    sym (first_value-rows (found_of c.args.found.now) (codes "port")) ∙ sym c.get_str-in-serve-2.ensures ∙ ap (option_map (λ s. s.now)) c.in_ok-get_str-in-serve-2.was,
+    sym (first_value-rows (found_of c.args.found.now) (codes "connections")) ∙ sym c.get_str-in-serve-3.ensures ∙ ap (option_map (λ s. s.now)) c.in_ok-get_str-in-serve-3.was,
+    c.in_ok-service_named-in-serve.ensures,
+  ),
+)

@@ -1,0 +1,15 @@
+use Rattle.std.proofs.lemmas.Result.{on_ok_weaker}
+use Rattle.desk.proofs.Cuts.{of_error}
+use Rattle.keep.specs.Laws.{holds_tables}
+use Rattle.stockdesk.proofs.Played.{starts_part, starts_whole}
+use Rattle.stockdesk.proofs.file.serve.Goals as goal
+
+pub returns-clause-whole : goal.returns-clause-whole
+returns-clause-whole g c =
+    on_ok_weaker c.serve.result.1 (λ s. starts_whole _ _ _ _ c.in_ok-keep.ensures.opened c.serve.ensures.honest _ s) c.serve.ensures.whole
+
+pub returns-clause-cut : goal.returns-clause-cut
+returns-clause-cut g c =
+    of_error c.serve.result.1 _ _
+    (λ fault is s. starts_part _ _ _ _ c.in_ok-keep.ensures.opened c.serve.ensures.honest (λ x. holds_tables _ x) fault _ _ s)
+    c.serve.ensures.cut

@@ -1,0 +1,18 @@
+use Rattle.std.proofs.lemmas.Result.{on_ok_weaker}
+use Rattle.desk.proofs.Cuts.{of_error}
+use Rattle.stockdesk.proofs.Connected.{port_unwritten, service_untouched, tells_port, tells_port_in_part}
+use Rattle.stockdesk.proofs.Played.{on_err, on_error}
+use Rattle.stockdesk.specs.declared.session.Fault.{Fault}
+use Rattle.stockdesk.proofs.perform.serve_file.Goals as goal
+
+pub returns-in_err-keep-clause-beginning : goal.returns-in_err-keep-clause-beginning
+returns-in_err-keep-clause-beginning g c = on_err c.from_residual.result (port_unwritten _ _ c.in_err-keep.ensures.unopened)
+
+pub returns-clause-whole : goal.returns-clause-whole
+returns-clause-whole g c = on_ok_weaker c.in_ok-keep.ended (λ s. tells_port _ _ _ _ _ Fault.Csv _ (λ x. Unit {0}) (Unit {0}) s) c.in_ok-keep.ensures.whole
+
+pub returns-clause-beginning : goal.returns-clause-beginning
+returns-clause-beginning g c = on_error c.in_ok-keep.ended _ _ (λ fault s. tells_port_in_part _ _ _ _ _ fault _ _ _ s) c.in_ok-keep.ensures.cut
+
+pub returns-clause-untouched : goal.returns-clause-untouched
+returns-clause-untouched g c = of_error c.in_ok-keep.ended _ _ (λ fault is s. service_untouched _ _ _ _ _ fault _ _ _ s) c.in_ok-keep.ensures.cut

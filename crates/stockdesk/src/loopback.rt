@@ -1,0 +1,181 @@
+//! A desk that a keeper holds, served to connections on this machine.
+
+ghost use Rattle.std.specs.Prelude.{◌≡◌, ◌≢◌, ◌≤◌, ◌⊎◌, false, Err, IfErr, IfOk, IsTrue, List, length, OnErr, OnOk};
+ghost use Rattle.std.specs.Io.KnownBytes.{Keeps};
+ghost use Rattle.desk.specs.Desk.{Keeps as KeepsRows};
+ghost use Rattle.web.specs.Serving.{stand};
+ghost use Rattle.stockdesk.specs.Connections.{AreServed, IsServed, PortBegun, PortTold, ServesAll, ServesSome, ServiceCut, ServiceInPart, ServiceWhole, Streams, listening_line};
+ghost use Rattle.stockdesk.specs.Sessions.{IsLeft, IsNoDesk};
+
+use crate::session::{Fault, open_desk};
+use desk::Desk;
+use itoa::Buffer;
+use keep::Keep;
+use std::alloc::{AllocError, Global};
+use std::io::{self, Read, Write};
+use std::net::{Ipv4Addr, SocketAddr, TcpListener, TcpStream};
+use words::write_whole;
+
+/// Where a desk is served, port 0 being any that is free, and to how many connections.
+#[derive(Clone, Copy, Debug, PartialEq, Eq)]
+pub struct Service {
+    pub port: u16,
+    pub connections: u32,
+}
+
+/// What connections come to.
+pub trait Listen {
+    type Reader: Read + Drop;
+
+    type Writer: Write + Drop;
+
+    /// Waits for the next connection.
+    fn next_connection(&mut self) -> io::Result<(Self::Reader, Self::Writer)>;
+}
+
+impl Listen for TcpListener {
+    type Reader = TcpStream;
+
+    type Writer = TcpStream;
+
+    fn next_connection(&mut self) -> io::Result<(TcpStream, TcpStream)> {
+        let (stream, _) = self.accept()?;
+        // an answer that waits for others to join it is only later
+        let _ = stream.set_nodelay(true);
+        Ok((stream.try_clone()?, stream))
+    }
+}
+
+/// Serves a connection. A fault ends it alone.
+fn serve_one<K: Keep, R: Read, W: Write>(
+    alloc: Global,
+    desk: &mut Desk<K>,
+    reader: &mut R,
+    writer: &mut W,
+)
+    ensures served { IsServed (K.is_honest desk.new.keep) (K.leaves desk.new.keep) (stand desk.old.ledger (K.stopped desk.old.keep))
+        (record { reader_old = R.remaining reader.old; reader_new = R.remaining reader.new; writer_old = W.contents writer.old; writer_new = W.contents writer.new })
+        (stand desk.new.ledger (K.stopped desk.new.keep)) }
+    ensures honest { K.is_honest desk.new.keep → K.is_honest desk.old.keep }
+{
+    let _ = web::serve(alloc, reader, writer, desk);
+}
+
+/// Serves so many connections on a desk that is not stopped, one after the other. Those before a fault are served: `Socket` where no
+/// connection could be had, and `Store` where the last of them stopped the desk.
+pub fn serve_all<K: Keep, L: Listen>(
+    alloc: Global,
+    desk: &mut Desk<K>,
+    listener: &mut L,
+    connections: u32,
+) -> Result<(), Fault>
+    requires going { K.stopped desk.old.keep ≡ false }
+    ensures whole { OnOk result (ServesAll connections (K.is_honest desk.new.keep) (K.leaves desk.new.keep) desk.old.ledger desk.new.ledger) }
+    ensures cut { OnErr result (ServesSome connections (K.stopped desk.new.keep) (K.is_honest desk.new.keep) (K.leaves desk.new.keep) desk.old.ledger desk.new.ledger) }
+    ensures fault { IfErr result (λ fault. (fault ≡ Fault.Socket) ⊎ (fault ≡ Fault.Store)) }
+    ensures going { result ≢ Err Fault.Store → K.stopped desk.new.keep ≡ false }
+    ensures stopped { result ≡ Err Fault.Store → IsTrue (K.stopped desk.new.keep) }
+    ensures honest { K.is_honest desk.new.keep → K.is_honest desk.old.keep }
+{
+    for _turn in 0..connections {
+        let Ok((mut reader, mut writer)) = listener.next_connection() else {
+            return Err(Fault::Socket);
+        };
+        serve_one(alloc, desk, &mut reader, &mut writer);
+        if desk.is_stopped() {
+            return Err(Fault::Store);
+        }
+    }
+    Ok(())
+}
+
+/// The line that tells the port.
+fn port_line(alloc: Global, port: u16) -> Result<Vec<u8>, AllocError>
+    ensures { IfOk result (λ line. line.items ≡ listening_line port) }
+{
+    let mut buffer = Buffer::new();
+    let mut line = Vec::from_slice(alloc, b"listening ")?;
+    line.extend_from_slice(buffer.format(port).as_bytes())?;
+    line.extend_from_slice(b"\n")?;
+    Ok(line)
+}
+
+/// Tells the port.
+fn tell_port<W: Write>(alloc: Global, port: u16, writer: &mut W) -> Result<(), Fault>
+    ensures whole { OnOk result (PortTold (W.contents writer.old) (W.contents writer.new)) }
+    ensures beginning { OnErr result (PortBegun (W.contents writer.old) (W.contents writer.new)) }
+    ensures fault { IfErr result (λ fault. (fault ≡ Fault.Memory) ⊎ (fault ≡ Fault.Write)) }
+{
+    let Ok(line) = port_line(alloc, port) else {
+        return Err(Fault::Memory);
+    };
+    match write_whole(writer, &line) {
+        Ok(()) => Ok(()),
+        Err(_) => Err(Fault::Write),
+    }
+}
+
+/// Listens on this machine alone, and tells the port that it got.
+fn listen_at<W: Write>(rt: &HostRuntime, port: u16, writer: &mut W) -> Result<TcpListener, Fault>
+    ensures whole { OnOk result (PortTold (W.contents writer.old) (W.contents writer.new)) }
+    ensures beginning { OnErr result (PortBegun (W.contents writer.old) (W.contents writer.new)) }
+    ensures fault { IfErr result (λ fault. (fault ≡ Fault.Socket) ⊎ ((fault ≡ Fault.Memory) ⊎ (fault ≡ Fault.Write))) }
+{
+    let Ok(listener) = TcpListener::bind(rt, SocketAddr::from((Ipv4Addr::LOCALHOST, port))) else {
+        return Err(Fault::Socket);
+    };
+    let Ok(address) = listener.local_addr() else {
+        return Err(Fault::Socket);
+    };
+    tell_port(rt.alloc(), address.port(), writer)?;
+    Ok(listener)
+}
+
+/// Serves a desk.
+fn serve_desk<K: Keep, W: Write>(
+    rt: &HostRuntime,
+    desk: &mut Desk<K>,
+    service: &Service,
+    writer: &mut W,
+) -> Result<(), Fault>
+    requires going { K.stopped desk.old.keep ≡ false }
+    ensures whole { OnOk result (PortTold (W.contents writer.old) (W.contents writer.new) × ServesAll service.now.connections (K.is_honest desk.new.keep) (K.leaves desk.new.keep) desk.old.ledger desk.new.ledger) }
+    ensures cut { IfErr result (λ fault. ServiceCut fault service.now.connections (K.stopped desk.new.keep) (K.is_honest desk.new.keep) (K.leaves desk.new.keep) (W.contents writer.old) (W.contents writer.new) desk.old.ledger desk.new.ledger) }
+    ensures desk { IfErr result (λ fault. ¬ IsNoDesk fault) }
+    ensures going { result ≢ Err Fault.Store → K.stopped desk.new.keep ≡ false }
+    ensures stopped { result ≡ Err Fault.Store → IsTrue (K.stopped desk.new.keep) }
+    ensures keeps { K.stopped desk.new.keep ≡ false → K.is_honest desk.new.keep → KeepsRows (K.holds desk.new.keep) (K.leaves desk.new.keep) desk.new.ledger }
+    ensures honest { K.is_honest desk.new.keep → K.is_honest desk.old.keep }
+{
+    let ended = match listen_at(rt, service.port, writer) {
+        Ok(mut listener) => serve_all(rt.alloc(), desk, &mut listener, service.connections),
+        Err(fault) => Err(fault),
+    };
+    desk.is_stopped();
+    ended
+}
+
+/// Opens the desk that a keeper holds, listens, tells the port, and serves connections one after the other. The keeper comes back as
+/// the session leaves it.
+///
+/// With Ok so many connections were served, and a stop leaves the rows of the ledger behind them. After `Store` the last connection
+/// stopped the desk, and a stop leaves the rows of its ledger or those after the command that was first answered `stopped`; after any
+/// other fault those of its ledger alone. A fault of a connection ends that one alone. Where no desk was opened nothing is written,
+/// the keeper holds what it held, and nothing is added to what a stop may leave.
+pub fn serve<K: Keep, W: Write>(
+    rt: &HostRuntime,
+    keep: K,
+    service: &Service,
+    writer: &mut W,
+) -> (K, Result<(), Fault>)
+    ensures whole { OnOk result.1 (ServiceWhole K.Keep service.now.connections result.0 (K.holds keep) (W.contents writer.old) (W.contents writer.new)) }
+    ensures cut { IfErr result.1 (λ fault. ServiceInPart K.Keep service.now.connections fault result.0 (K.holds keep) (K.has_tables keep) (IsLeft K.Keep keep result.0) (W.contents writer.old) (W.contents writer.new)) }
+    ensures honest { K.is_honest result.0 → K.is_honest keep }
+{
+    let mut desk = match open_desk(rt.alloc(), keep) {
+        Ok(desk) => desk,
+        Err((fault, keep)) => return (keep, Err(fault)),
+    };
+    let ended = serve_desk(rt, &mut desk, service, writer);
+    (desk.into_keep(), ended)
+}
