@@ -88,15 +88,7 @@ number_is a b e = grind arith
 moves_follow : (A : Ledger) (key : List ℕ) (c : Command) → Follows move_cmp (λ row. changes_move A c row.place) (map move_row A.moves) (map move_row (accept A (record { key = key; command = c })).moves)
 moves_follow A key (command.Deliver b a q) = follows-push move_cmp move_cmp_total (λ row. int_eq row.place (pos (places A + 1))) move_row _ A.moves (int_same (pos (places A + 1)))
 moves_follow A key (command.Writeoff b a q) = follows-push move_cmp move_cmp_total (λ row. int_eq row.place (pos (places A + 1))) move_row _ A.moves (int_same (pos (places A + 1)))
-moves_follow A key (command.Field b a lo hi start) = follows-same move_cmp move_cmp_total _ (map move_row A.moves)
-moves_follow A key (command.Open n until lines) = follows-same move_cmp move_cmp_total _ (map move_row A.moves)
-moves_follow A key (command.Transfer n until a from to q) = follows-same move_cmp move_cmp_total _ (map move_row A.moves)
-moves_follow A key (command.More n way b a q) = follows-same move_cmp move_cmp_total _ (map move_row A.moves)
-moves_follow A key (command.Use n b a q) = follows-same move_cmp move_cmp_total _ (map move_row A.moves)
-moves_follow A key (command.Release n b a q) = follows-same move_cmp move_cmp_total _ (map move_row A.moves)
-moves_follow A key (command.Commit n) = follows-same move_cmp move_cmp_total _ (map move_row A.moves)
-moves_follow A key (command.Abort n) = follows-same move_cmp move_cmp_total _ (map move_row A.moves)
-moves_follow A key (command.Expire now) = follows-same move_cmp move_cmp_total _ (map move_row A.moves)
+moves_follow A key c = follows-same move_cmp move_cmp_total _ (map move_row A.moves)
 
 -- orders
 
@@ -129,9 +121,6 @@ numbered : (n : ℕ) (o : Order) → (o.number == n) ≡ true → int_eq (pos o.
 numbered n o e = subst (λ m. int_eq (pos o.number) (pos m) ≡ true) (number_is o.number n e) (int_same (pos o.number))
 
 orders_follow : (A : Ledger) (key : List ℕ) (c : Command) → Follows order_cmp (λ row. changes_order A c row.number) (map order_row A.orders) (map order_row (accept A (record { key = key; command = c })).orders)
-orders_follow A key (command.Field b a lo hi start) = follows-same order_cmp order_cmp_total _ (map order_row A.orders)
-orders_follow A key (command.Deliver b a q) = follows-same order_cmp order_cmp_total _ (map order_row A.orders)
-orders_follow A key (command.Writeoff b a q) = follows-same order_cmp order_cmp_total _ (map order_row A.orders)
 orders_follow A key (command.Open n until lines) = follows-insert order_cmp order_cmp_total (λ row. int_eq row.number (pos n)) order_row (λ a b. nat_lt a.number b.number) _ A.orders (int_same (pos n))
 orders_follow A key (command.Transfer n until a from to q) = follows-insert order_cmp order_cmp_total (λ row. int_eq row.number (pos n)) order_row (λ a b. nat_lt a.number b.number) _ A.orders (int_same (pos n))
 orders_follow A key (command.More n way b a q) = follows-map order_cmp (λ row. false) order_row _ A.orders (each (λ o. as_was order_cmp order_cmp_total (λ row. false) (order_row o) _ (same_order_row (o.number == n) o (add_hold (record { way = way; branch = b; article = a; qty = q }) o) (hold_row _ o))) A.orders)
@@ -142,6 +131,7 @@ orders_follow A key (command.Abort n) = follows-map order_cmp (λ row. int_eq ro
 orders_follow A key (command.Expire now) = follows-map order_cmp (λ row. changes_order A (command.Expire now) row.number) order_row _ A.orders
     (each-imp (λ o k. order_if (λ row. changes_order A (command.Expire now) row.number) (expires now o) o (set_state Aborted o) (λ e. order_chosen (λ row. changes_order A (command.Expire now) row.number) Aborted o (k e))) A.orders
     (any_has (λ o. expires now o ≡ true) (λ o p. expires now p && int_eq (pos o.number) (pos p.number)) (λ o e. and_true _ _ e (int_same (pos o.number))) A.orders))
+orders_follow A key c = follows-same order_cmp order_cmp_total _ (map order_row A.orders)
 
 -- lines
 
@@ -198,9 +188,6 @@ changed_lines A n f change same = follows-flat _ _ A.orders (each-imp (λ o k. s
 
 lines_follow : (A : Ledger) (key : List ℕ) (c : Command) → ((n : ℕ) (l : OpenLine) → c ≡ command.More n l.way l.branch l.article l.qty → Each (λ o. (o.number == n) ≡ true → is_transfer o ≡ false) A.orders)
     → Follows line_cmp (λ row. changes_line A c row.number (name_of row.branch row.article)) (flat_map order_lines A.orders) (flat_map order_lines (accept A (record { key = key; command = c })).orders)
-lines_follow A key (command.Field b a lo hi start) m = follows-same line_cmp line_cmp_total _ (flat_map order_lines A.orders)
-lines_follow A key (command.Deliver b a q) m = follows-same line_cmp line_cmp_total _ (flat_map order_lines A.orders)
-lines_follow A key (command.Writeoff b a q) m = follows-same line_cmp line_cmp_total _ (flat_map order_lines A.orders)
 lines_follow A key (command.Open n until lines) m = follows-flat_insert (λ row. int_eq row.number (pos n)) (λ a b. nat_lt a.number b.number) (new_order n Plain until lines) A.orders (new_lines_chosen n 1 (map new_line lines))
 lines_follow A key (command.Transfer n until a from to q) m = follows-flat_insert (λ row. int_eq row.number (pos n)) (λ a b. nat_lt a.number b.number) (new_order n Transfer until (transfer_lines a from to q)) A.orders (new_lines_chosen n 1 (map new_line (transfer_lines a from to q)))
 lines_follow A key (command.More n way b a q) m = follows-flat _ _ A.orders (each-imp (λ o plain. same_lines_if _ (o.number == n) o (add_hold l o) (λ e. held_more o e (plain e) (is_some (line_on o f)))) A.orders (m n l refl))
@@ -223,6 +210,7 @@ lines_follow A key (command.Release n b a q) m = changed_lines A n (name_of b a)
 lines_follow A key (command.Commit n) m = follows-flat _ _ A.orders (each (λ o. same_lines_if _ (o.number == n) o (set_state Committed o) (λ _. follows-same line_cmp line_cmp_total _ (order_lines o))) A.orders)
 lines_follow A key (command.Abort n) m = follows-flat _ _ A.orders (each (λ o. same_lines_if _ (o.number == n) o (set_state Aborted o) (λ _. follows-same line_cmp line_cmp_total _ (order_lines o))) A.orders)
 lines_follow A key (command.Expire now) m = follows-flat _ _ A.orders (each (λ o. same_lines_if _ (expires now o) o (set_state Aborted o) (λ _. follows-same line_cmp line_cmp_total _ (order_lines o))) A.orders)
+lines_follow A key c m = follows-same line_cmp line_cmp_total _ (flat_map order_lines A.orders)
 
 -- fields
 
@@ -266,9 +254,8 @@ parts_state f s o e = let k = any_none (on f) o.lines e in (
 )
 
 not_committed : (s : State) → open_state s ≡ true → committed_state s ≡ false
-not_committed Open e = refl
 not_committed Committed e = absurd (true≢false (sym e))
-not_committed Aborted e = refl
+not_committed c e = refl
 
 parts_lines : (f : Name) (o : Order) (ls : List Line) → is_open o ≡ true → total (takes f) ls ≡ total (takes f) o.lines → total (adds f) ls ≡ total (adds f) o.lines → SameParts f o (record o { lines = ls })
 parts_lines f o ls e t a = (rw (not_committed o.state e) refl, ap (λ z. if is_open o then z else pos 0) t, ap (λ z. if is_open o then z else pos 0) a)
@@ -430,16 +417,7 @@ fields_insert A B chosen p n (f ∷ fs) (x ∷ xs) ys g k s e h j = step (p n f)
 fields_follow : (A : Ledger) (key : List ℕ) (c : Command) (xs ys : List FieldCells) → Good A → Good (accept A (record { key = key; command = c })) → FirstFailure (checks A c) None → AllZip (IsFieldRow A) A.fields xs → AllZip (IsFieldRow (accept A (record { key = key; command = c }))) (accept A (record { key = key; command = c })).fields ys
     → Follows field_cmp (RowChosen (changes_field A c)) xs ys
 fields_follow A key (command.Field b a lo hi start) xs ys g k h x y = fields_insert A _ (changes_field A (command.Field b a lo hi start)) (λ f g. is_lt (name_cmp f.name g.name)) _ A.fields xs ys g k (same_field A key (command.Field b a lo hi start) g h) (same_self (name_of b a)) x y
-fields_follow A key (command.Deliver b a q) xs ys g k h x y = fields_zip A _ (changes_field A (command.Deliver b a q)) A.fields xs ys g k (same_field A key (command.Deliver b a q) g h) x y
-fields_follow A key (command.Writeoff b a q) xs ys g k h x y = fields_zip A _ (changes_field A (command.Writeoff b a q)) A.fields xs ys g k (same_field A key (command.Writeoff b a q) g h) x y
-fields_follow A key (command.Open n until lines) xs ys g k h x y = fields_zip A _ (changes_field A (command.Open n until lines)) A.fields xs ys g k (same_field A key (command.Open n until lines) g h) x y
-fields_follow A key (command.Transfer n until a from to q) xs ys g k h x y = fields_zip A _ (changes_field A (command.Transfer n until a from to q)) A.fields xs ys g k (same_field A key (command.Transfer n until a from to q) g h) x y
-fields_follow A key (command.More n way b a q) xs ys g k h x y = fields_zip A _ (changes_field A (command.More n way b a q)) A.fields xs ys g k (same_field A key (command.More n way b a q) g h) x y
-fields_follow A key (command.Use n b a q) xs ys g k h x y = fields_zip A _ (changes_field A (command.Use n b a q)) A.fields xs ys g k (same_field A key (command.Use n b a q) g h) x y
-fields_follow A key (command.Release n b a q) xs ys g k h x y = fields_zip A _ (changes_field A (command.Release n b a q)) A.fields xs ys g k (same_field A key (command.Release n b a q) g h) x y
-fields_follow A key (command.Commit n) xs ys g k h x y = fields_zip A _ (changes_field A (command.Commit n)) A.fields xs ys g k (same_field A key (command.Commit n) g h) x y
-fields_follow A key (command.Abort n) xs ys g k h x y = fields_zip A _ (changes_field A (command.Abort n)) A.fields xs ys g k (same_field A key (command.Abort n) g h) x y
-fields_follow A key (command.Expire now) xs ys g k h x y = fields_zip A _ (changes_field A (command.Expire now)) A.fields xs ys g k (same_field A key (command.Expire now) g h) x y
+fields_follow A key c xs ys g k h x y = fields_zip A _ (changes_field A c) A.fields xs ys g k (same_field A key c g h) x y
 
 -- the rows of a good ledger stand in the order of their keys
 

@@ -186,9 +186,8 @@ each_at_name P name [] v all there = absurd (true≢false (sym (ap is_some there
 each_at_name P name (e ∷ l) v all there = by (name_cmp name e.0) refl there (λ is. each_at_name P name l v all.1 is)
   where
     by : (o : Ordering) → name_cmp name e.0 ≡ o → cond (is_eq o) (Some e.1) (lookup (is_at (name_cmp name)) l) ≡ Some v → (lookup (is_at (name_cmp name)) l ≡ Some v → P (name, v)) → P (name, v)
-    by Less o is more = more is
-    by Greater o is more = more is
     by Equal o is more = subst (λ (v : FieldEntry). P (name, v)) (some_is e.1 v is) (subst (λ (k : Name). P (k, e.1)) (sym (equal_field name e.0 o)) all.0)
+    by c o is more = more is
 
 -- ---- the lines of the order that the request makes
 
@@ -220,17 +219,8 @@ number_of_made A c o passed made = by (order_number c) refl
     by (Some n) e = ap (λ k. Some k) (sym (number_is o.number n (numbered n (next A c).orders (made_there A c n passed e ∙ made))))
 
 pub fields_stay : (A : Ledger) (c : Command) (n : ℕ) → order_number c ≡ Some n → (next A c).fields ≡ A.fields
-fields_stay A (command.Open m until lines) n e = refl
-fields_stay A (command.Transfer m until a from to q) n e = refl
-fields_stay A (command.More m way b a q) n e = refl
-fields_stay A (command.Use m b a q) n e = refl
-fields_stay A (command.Release m b a q) n e = refl
-fields_stay A (command.Commit m) n e = refl
-fields_stay A (command.Abort m) n e = refl
 fields_stay A (command.Field b a lo hi start) n e = absurd (true≢false (sym (ap is_some e)))
-fields_stay A (command.Deliver b a q) n e = refl
-fields_stay A (command.Writeoff b a q) n e = refl
-fields_stay A (command.Expire now) n e = refl
+fields_stay A c n e = refl
 
 -- the order that is made is a good one of the next ledger
 pub made_good : (A : Ledger) (r : Request) (o : Order) → Accepts A r → order_after A r.command ≡ Some o → IsGoodOrder (accept A r) o

@@ -135,13 +135,11 @@ used_in_held (l ∷ ls) h = ((omega arith, h.0), used_in_held ls h.1)
 
 commit_low : (s : State) (u t : ℤ) → open_state s ≡ true → neg_ℤ t ≤ℤ u → ((if committed_state s then u else pos 0) -ℤ (if open_state s then t else pos 0)) ≤ℤ (u -ℤ pos 0)
 commit_low Open u t e h = omega (arith, ints)
-commit_low Committed u t e h = absurd (true≢false (sym e))
-commit_low Aborted u t e h = absurd (true≢false (sym e))
+commit_low c u t e h = absurd (true≢false (sym e))
 
 commit_high : (s : State) (u t : ℤ) → open_state s ≡ true → u ≤ℤ t → (u +ℤ pos 0) ≤ℤ ((if committed_state s then u else pos 0) +ℤ (if open_state s then t else pos 0))
 commit_high Open u t e h = omega (arith, ints)
-commit_high Committed u t e h = absurd (true≢false (sym e))
-commit_high Aborted u t e h = absurd (true≢false (sym e))
+commit_high c u t e h = absurd (true≢false (sym e))
 
 better-commit : (o : Order) → Fine o → is_open o ≡ true → Better o (set_state Committed o)
 better-commit o fine e = record {
@@ -153,13 +151,11 @@ better-commit o fine e = record {
 
 abort_low : (s : State) (u t : ℤ) → open_state s ≡ true → pos 0 ≤ℤ t → ((if committed_state s then u else pos 0) -ℤ (if open_state s then t else pos 0)) ≤ℤ (pos 0 -ℤ pos 0)
 abort_low Open u t e h = omega (arith, ints)
-abort_low Committed u t e h = absurd (true≢false (sym e))
-abort_low Aborted u t e h = absurd (true≢false (sym e))
+abort_low c u t e h = absurd (true≢false (sym e))
 
 abort_high : (s : State) (u t : ℤ) → open_state s ≡ true → pos 0 ≤ℤ t → (pos 0 +ℤ pos 0) ≤ℤ ((if committed_state s then u else pos 0) +ℤ (if open_state s then t else pos 0))
 abort_high Open u t e h = omega (arith, ints)
-abort_high Committed u t e h = absurd (true≢false (sym e))
-abort_high Aborted u t e h = absurd (true≢false (sym e))
+abort_high c u t e h = absurd (true≢false (sym e))
 
 better-abort : (o : Order) → Fine o → is_open o ≡ true → Better o (set_state Aborted o)
 better-abort o fine e = record {
@@ -214,13 +210,11 @@ adds-map f h (l ∷ ls) s = let a : adds f (h l) ≤ℤ adds f l = adds-step f l
 
 held_low : (s : State) (u v t n : ℤ) → open_state s ≡ true → n ≤ℤ t → ((if committed_state s then u else pos 0) -ℤ (if open_state s then t else pos 0)) ≤ℤ ((if committed_state s then v else pos 0) -ℤ (if open_state s then n else pos 0))
 held_low Open u v t n e h = omega (arith, ints)
-held_low Committed u v t n e h = absurd (true≢false (sym e))
-held_low Aborted u v t n e h = absurd (true≢false (sym e))
+held_low c u v t n e h = absurd (true≢false (sym e))
 
 held_high : (s : State) (u v t n : ℤ) → open_state s ≡ true → n ≤ℤ t → ((if committed_state s then v else pos 0) +ℤ (if open_state s then n else pos 0)) ≤ℤ ((if committed_state s then u else pos 0) +ℤ (if open_state s then t else pos 0))
 held_high Open u v t n e h = omega (arith, ints)
-held_high Committed u v t n e h = absurd (true≢false (sym e))
-held_high Aborted u v t n e h = absurd (true≢false (sym e))
+held_high c u v t n e h = absurd (true≢false (sym e))
 
 used-map : (h : Line → Line) (ls : List Line) → Each (λ l. LineStep l (h l)) ls → Each (λ l. l.used ≤ l.held) (map h ls)
 used-map h [] s = tt
@@ -388,17 +382,12 @@ fit-release A key n br ar q fit h = let f : Name = record { branch = br; article
     fit-change A n f q (lower_held q) _ (release_change q) fit (usable_there f q (order_numbered A n) p.1.0 p.1.1.0 p.1.1.1.0 p.1.1.1.1.0)
 
 pub fit-accept : (A : Ledger) (key : List ℕ) (c : Command) → AsksNoStock c → Fit A → FirstFailure (checks A c) None → Fit (accept A (record { key = key; command = c }))
-fit-accept A key (command.Field b a lo hi start) w fit h = absurd w
-fit-accept A key (command.Deliver b a q) w fit h = absurd w
-fit-accept A key (command.Writeoff b a q) w fit h = absurd w
-fit-accept A key (command.Open n until lines) w fit h = absurd w
-fit-accept A key (command.Transfer n until a from to q) w fit h = absurd w
-fit-accept A key (command.More n way b a q) w fit h = absurd w
 fit-accept A key (command.Use n b a q) w fit h = fit-use A key n b a q fit h
 fit-accept A key (command.Release n b a q) w fit h = fit-release A key n b a q fit h
 fit-accept A key (command.Commit n) w fit h = fit-commit A key n fit h
 fit-accept A key (command.Abort n) w fit h = fit-abort A key n fit h
 fit-accept A key (command.Expire now) w fit h = fit-expire A key now fit
+fit-accept A key c w fit h = absurd w
 
 pub fit-answer : (A : Ledger) (r : Request) (reply : Reply) (B : Ledger) → AsksNoStock r.command → Fit A → Answers A r reply B → Fit B
 fit-answer A r reply B w fit h = by_key (kept_under A r.key) h

@@ -49,12 +49,7 @@ copy_may_change A r p o good after ok e there room = by r.command refl p e there
         left_on f q (order_of (n, o)) w.0 w.1) there
     by (command.Commit n) is p e there = subst (λ (x : ℕ × OrderChange). MayChangeOrder x.1 o) (same_Some _ p e) tt
     by (command.Abort n) is p e there = subst (λ (x : ℕ × OrderChange). MayChangeOrder x.1 o) (same_Some _ p e) tt
-    by (command.Field br ar lo hi start) is p e there = absurd (true≢false (sym (ap is_some e)))
-    by (command.Deliver br ar q) is p e there = absurd (true≢false (sym (ap is_some e)))
-    by (command.Writeoff br ar q) is p e there = absurd (true≢false (sym (ap is_some e)))
-    by (command.Open n until lines) is p e there = absurd (true≢false (sym (ap is_some e)))
-    by (command.Transfer n until ar from to q) is p e there = absurd (true≢false (sym (ap is_some e)))
-    by (command.Expire now) is p e there = absurd (true≢false (sym (ap is_some e)))
+    by c is p e there = absurd (true≢false (sym (ap is_some e)))
 
 -- the order that is changed is what the command makes
 pub changed_is_after : (A : Ledger) (c : Command) (p : ℕ × OrderChange) → order_change_of c ≡ Some p → option_map (changed_order p.1) (order_numbered A p.0) ≡ order_after A c
@@ -63,9 +58,4 @@ changed_is_after A (command.Use n b a q) p e = sym (ap (λ (x : ℕ × OrderChan
 changed_is_after A (command.Release n b a q) p e = sym (ap (λ (x : ℕ × OrderChange). option_map (changed_order x.1) (order_numbered A x.0)) (same_Some _ p e))
 changed_is_after A (command.Commit n) p e = sym (ap (λ (x : ℕ × OrderChange). option_map (changed_order x.1) (order_numbered A x.0)) (same_Some _ p e))
 changed_is_after A (command.Abort n) p e = sym (ap (λ (x : ℕ × OrderChange). option_map (changed_order x.1) (order_numbered A x.0)) (same_Some _ p e))
-changed_is_after A (command.Field br ar lo hi start) p e = absurd (true≢false (sym (ap is_some e)))
-changed_is_after A (command.Deliver br ar q) p e = absurd (true≢false (sym (ap is_some e)))
-changed_is_after A (command.Writeoff br ar q) p e = absurd (true≢false (sym (ap is_some e)))
-changed_is_after A (command.Open n until lines) p e = absurd (true≢false (sym (ap is_some e)))
-changed_is_after A (command.Transfer n until ar from to q) p e = absurd (true≢false (sym (ap is_some e)))
-changed_is_after A (command.Expire now) p e = absurd (true≢false (sym (ap is_some e)))
+changed_is_after A c p e = absurd (true≢false (sym (ap is_some e)))

@@ -79,15 +79,7 @@ opened_count A (command.Transfer n until a from to q) good h is =
     let sum = counted_on A (command.Transfer n until a from to q) n good h refl in
     let none = ap (λ (x : Option Order). if is_some x then pos 1 else pos 0) (none_opened A (command.Transfer n until a from to q) n h refl refl) in
     omega (arith, ints)
-opened_count A (command.Field b a lo hi start) good h is = absurd (true≢false (sym is))
-opened_count A (command.Deliver b a q) good h is = absurd (true≢false (sym is))
-opened_count A (command.Writeoff b a q) good h is = absurd (true≢false (sym is))
-opened_count A (command.More n way b a q) good h is = absurd (true≢false (sym is))
-opened_count A (command.Use n b a q) good h is = absurd (true≢false (sym is))
-opened_count A (command.Release n b a q) good h is = absurd (true≢false (sym is))
-opened_count A (command.Commit n) good h is = absurd (true≢false (sym is))
-opened_count A (command.Abort n) good h is = absurd (true≢false (sym is))
-opened_count A (command.Expire now) good h is = absurd (true≢false (sym is))
+opened_count A c good h is = absurd (true≢false (sym is))
 
 -- the order under the number is there
 numbered : (x : Option Order) → (IsNone x → ⊥) → is_some x ≡ true
@@ -129,14 +121,7 @@ changed_count A (command.Release n b a q) good h is =
     let one_there = ap (λ t. if t then pos 1 else pos 0) there in
     let after = kept_open (order_numbered A n) nowhere (change_lines (name_of b a) (lower_held q)) (λ o. refl) (before A (command.Release n b a q) n nowhere good h refl) there in
     omega (arith, ints)
-changed_count A (command.Field b a lo hi start) good h is = absurd (true≢false (sym is))
-changed_count A (command.Deliver b a q) good h is = absurd (true≢false (sym is))
-changed_count A (command.Writeoff b a q) good h is = absurd (true≢false (sym is))
-changed_count A (command.Open n until lines) good h is = absurd (true≢false (sym is))
-changed_count A (command.Transfer n until a from to q) good h is = absurd (true≢false (sym is))
-changed_count A (command.Commit n) good h is = absurd (true≢false (sym is))
-changed_count A (command.Abort n) good h is = absurd (true≢false (sym is))
-changed_count A (command.Expire now) good h is = absurd (true≢false (sym is))
+changed_count A c good h is = absurd (true≢false (sym is))
 
 pub committed_count : (A : Ledger) (n : ℕ) → Good A → FirstFailure (checks A (command.Commit n)) None → open_orders (next A (command.Commit n)) + 1 ≡ open_orders A
 committed_count A n good h =
@@ -163,9 +148,6 @@ expired_count A now good h =
 
 pub other_count : (A : Ledger) (c : Command) → Good A → FirstFailure (checks A c) None → ((n until : ℕ) (lines : List OpenLine) → c ≡ command.Open n until lines → ⊥) → ((n until : ℕ) (a from to : List ℕ) (q : ℕ) → c ≡ command.Transfer n until a from to q → ⊥)
     → ((n : ℕ) → c ≡ command.Commit n → ⊥) → ((n : ℕ) → c ≡ command.Abort n → ⊥) → ((now : ℕ) → c ≡ command.Expire now → ⊥) → open_orders (next A c) ≡ open_orders A
-other_count A (command.Field b a lo hi start) good h o t k z e = refl
-other_count A (command.Deliver b a q) good h o t k z e = refl
-other_count A (command.Writeoff b a q) good h o t k z e = refl
 other_count A (command.Open n until lines) good h o t k z e = absurd (o n until lines refl)
 other_count A (command.Transfer n until a from to q) good h o t k z e = absurd (t n until a from to q refl)
 other_count A (command.More n way b a q) good h o t k z e = changed_count A (command.More n way b a q) good h refl
@@ -174,6 +156,7 @@ other_count A (command.Release n b a q) good h o t k z e = changed_count A (comm
 other_count A (command.Commit n) good h o t k z e = absurd (k n refl)
 other_count A (command.Abort n) good h o t k z e = absurd (z n refl)
 other_count A (command.Expire now) good h o t k z e = absurd (e now refl)
+other_count A c good h o t k z e = refl
 
 -- ---- as the book knows it
 

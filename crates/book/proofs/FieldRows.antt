@@ -158,10 +158,6 @@ second_true false b e = absurd (true≢false (sym e))
 
 -- a field that the request changes has a line of the order that it makes
 changed_has_line : (A : Ledger) (c : Command) (f : Name) (o : Order) → Good A → FirstFailure (checks A c) None → order_after A c ≡ Some o → changes_field A c f ≡ true → list_any (on f) o.lines ≡ true
-changed_has_line A (command.Open n until lines) f o good h made e = ap (some_has_line f) (sym made) ∙ lined A (command.Open n until lines) f good refl ∙ e
-changed_has_line A (command.Transfer n until a from to q) f o good h made e = ap (some_has_line f) (sym made) ∙ lined A (command.Transfer n until a from to q) f good refl ∙ e
-changed_has_line A (command.Commit n) f o good h made e = ap (some_has_line f) (sym made) ∙ lined A (command.Commit n) f good refl ∙ e
-changed_has_line A (command.Abort n) f o good h made e = ap (some_has_line f) (sym made) ∙ lined A (command.Abort n) f good refl ∙ e
 changed_has_line A (command.More n way b a q) f o good h made e = by (order_numbered A n) made
   where
     by : (x : Option Order) → option_map (add_hold (record { way = way; branch = b; article = a; qty = q })) x ≡ Some o → list_any (on f) o.lines ≡ true
@@ -187,19 +183,11 @@ changed_has_line A (command.Field b a lo hi start) f o good h made e = absurd (t
 changed_has_line A (command.Deliver b a q) f o good h made e = absurd (true≢false (sym (ap is_some made)))
 changed_has_line A (command.Writeoff b a q) f o good h made e = absurd (true≢false (sym (ap is_some made)))
 changed_has_line A (command.Expire now) f o good h made e = absurd (true≢false (sym (ap is_some made)))
+changed_has_line A c f o good h made e = ap (some_has_line f) (sym made) ∙ lined A c f good refl ∙ e
 
 no_field_made : (B A : Ledger) (c : Command) (o : Order) → order_after A c ≡ Some o → new_field_rows B c ≡ []
 no_field_made B A (command.Field b a lo hi start) o made = absurd (true≢false (sym (ap is_some made)))
-no_field_made B A (command.Deliver b a q) o made = refl
-no_field_made B A (command.Writeoff b a q) o made = refl
-no_field_made B A (command.Open n until lines) o made = refl
-no_field_made B A (command.Transfer n until a from to q) o made = refl
-no_field_made B A (command.More n way b a q) o made = refl
-no_field_made B A (command.Use n b a q) o made = refl
-no_field_made B A (command.Release n b a q) o made = refl
-no_field_made B A (command.Commit n) o made = refl
-no_field_made B A (command.Abort n) o made = refl
-no_field_made B A (command.Expire now) o made = refl
+no_field_made B A c o made = refl
 
 pub lines_rows : (A : Ledger) (r : Request) (o : Order) (D : List (Name × FieldEntry)) → Accepts A r → order_after A r.command ≡ Some o → IsStrictlySortedBy name_cmp (keys_of D) → HasLines A r o.lines D → map entry_row D ≡ field_rows A r
 lines_rows A r o D accepts made rising has =

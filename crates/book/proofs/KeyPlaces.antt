@@ -21,8 +21,7 @@ use Rattle.book.proofs.Indexes.{Names, names_more, index_at, at_indexes-set, in_
 
 at_most_2 : (o : Ordering) → ordering_index o ≤ 2
 at_most_2 Less = omega arith
-at_most_2 Equal = omega arith
-at_most_2 Greater = omega arith
+at_most_2 c = omega arith
 
 module _ {K V : Type 0} where
   pub keys-set_value_at : (l : List (K × V)) (place : ℕ) (w : V) → keys_of (set_value_at l place w) ≡ keys_of l

@@ -28,9 +28,8 @@ module _ {K V X : Type 0} (cmp : K → K → Ordering) (ties : (a b : K) → cmp
     where
       by : (o : Ordering) → cmp key e.0 ≡ o → find test (map view l) ≡ option_map (λ v. view (key, v)) (lookup (is_at (cmp key)) l)
           → (if is_eq o then Some (view e) else find test (map view l)) ≡ option_map (λ v. view (key, v)) (cond (is_eq o) (Some e.1) (lookup (is_at (cmp key)) l))
-      by Less o more = more
       by Equal o more = ap (λ k. Some (view (k, e.1))) (sym (ties key e.0 o))
-      by Greater o more = more
+      by c o more = more
 
   -- an entry under a key that none stands under is put before the first that it precedes
   inserted : (key : K) (v : V) (before : X → X → Bool) → ((e : K × V) → before (view (key, v)) (view e) ≡ is_lt (cmp key e.0)) → (l : List (K × V)) → lookup (is_at (cmp key)) l ≡ None
@@ -52,8 +51,7 @@ nothing_there f (Some x) h = absurd (true≢false (ap is_some h))
 
 same_both : (a b : Ordering) → is_eq (ordering_then a b) ≡ (is_eq a && is_eq b)
 same_both Less b = refl
-same_both Equal b = refl
-same_both Greater b = refl
+same_both c b = refl
 
 pub same_field : (f g : Name) → same_name f g ≡ is_eq (name_cmp f g)
 same_field f g = rw (← is_eq-slice_cmp f.branch g.branch, ← is_eq-slice_cmp f.article g.article) (sym (same_both (slice_cmp nat_cmp f.branch g.branch) (slice_cmp nat_cmp f.article g.article)))
@@ -70,9 +68,8 @@ pub same_number : (m n : ℕ) → (m == n) ≡ is_eq (nat_cmp n m)
 same_number m n = by (m == n) refl
   where
     apart : (o : Ordering) → (o ≡ Equal → ⊥) → false ≡ is_eq o
-    apart Less h = refl
     apart Equal h = absurd (h refl)
-    apart Greater h = refl
+    apart c h = refl
 
     by : (b : Bool) → (m == n) ≡ b → b ≡ is_eq (nat_cmp n m)
     by true e = let same : nat_cmp n m ≡ Equal = subst (λ k. nat_cmp n k ≡ Equal) (sym (number_is m n e)) (tied_itself nat_cmp_total n) in rw same refl

@@ -75,13 +75,7 @@ lined A (command.Open n until lines) f g e = opened_lines_on f lines
 lined A (command.Transfer n until a from to q) f g e = or_false (same_name f (name_of from a)) (same_name f (name_of to a))
 lined A (command.Commit n) f g e = ended_on A n f (set_state Committed) g (λ o. refl)
 lined A (command.Abort n) f g e = ended_on A n f (set_state Aborted) g (λ o. refl)
-lined A (command.Field b a lo hi start) f g e = absurd (true≢false (sym e))
-lined A (command.Deliver b a q) f g e = absurd (true≢false (sym e))
-lined A (command.Writeoff b a q) f g e = absurd (true≢false (sym e))
-lined A (command.More n way b a q) f g e = absurd (true≢false (sym e))
-lined A (command.Use n b a q) f g e = absurd (true≢false (sym e))
-lined A (command.Release n b a q) f g e = absurd (true≢false (sym e))
-lined A (command.Expire now) f g e = absurd (true≢false (sym e))
+lined A c f g e = absurd (true≢false (sym e))
 
 lowered_on : (b : Bool) (f : Name) (q : ℕ) (l : Line) → on f (if b then lower_held q l else l) ≡ on f l
 lowered_on true f q l = refl
@@ -133,15 +127,7 @@ held_number l o = by (is_some (line_on o (line_name (new_line l))))
 pub none_opened : (A : Ledger) (c : Command) (n : ℕ) → FirstFailure (checks A c) None → order_number c ≡ Some n → is_opening c ≡ true → order_numbered A n ≡ None
 none_opened A (command.Open m until lines) n h e is = subst (λ k. order_numbered A k ≡ None) (some_is m n e) (none_if_not_some (order_numbered A m) (let k = all_pass (checks A (command.Open m until lines)) h in k.1.1.0))
 none_opened A (command.Transfer m until a from to q) n h e is = subst (λ k. order_numbered A k ≡ None) (some_is m n e) (none_if_not_some (order_numbered A m) (let k = all_pass (checks A (command.Transfer m until a from to q)) h in k.1.1.0))
-none_opened A (command.Field b a lo hi start) n h e is = absurd (true≢false (sym is))
-none_opened A (command.Deliver b a q) n h e is = absurd (true≢false (sym is))
-none_opened A (command.Writeoff b a q) n h e is = absurd (true≢false (sym is))
-none_opened A (command.More m way b a q) n h e is = absurd (true≢false (sym is))
-none_opened A (command.Use m b a q) n h e is = absurd (true≢false (sym is))
-none_opened A (command.Release m b a q) n h e is = absurd (true≢false (sym is))
-none_opened A (command.Commit m) n h e is = absurd (true≢false (sym is))
-none_opened A (command.Abort m) n h e is = absurd (true≢false (sym is))
-none_opened A (command.Expire now) n h e is = absurd (true≢false (sym is))
+none_opened A c n h e is = absurd (true≢false (sym is))
 
 opened_there : (n : ℕ) (o : Order) (A : Ledger) → (o.number == n) ≡ true → order_numbered A n ≡ None → find (λ m. m.number == n) (insert_in_order (λ a b. nat_lt a.number b.number) o A.orders) ≡ Some o
 opened_there n o A e none = find-new n (λ a b. nat_lt a.number b.number) o A.orders e (none_found (λ m. m.number == n) A.orders none)
@@ -162,23 +148,14 @@ made_there A (command.Use m b a q) n h e = changed_there A m n (change_lines (na
 made_there A (command.Release m b a q) n h e = changed_there A m n (change_lines (name_of b a) (lower_held q)) (λ o. refl) e
 made_there A (command.Commit m) n h e = changed_there A m n (set_state Committed) (λ o. refl) e
 made_there A (command.Abort m) n h e = changed_there A m n (set_state Aborted) (λ o. refl) e
-made_there A (command.Field b a lo hi start) n h e = absurd (true≢false (sym (ap is_some e)))
-made_there A (command.Deliver b a q) n h e = absurd (true≢false (sym (ap is_some e)))
-made_there A (command.Writeoff b a q) n h e = absurd (true≢false (sym (ap is_some e)))
-made_there A (command.Expire now) n h e = absurd (true≢false (sym (ap is_some e)))
+made_there A c n h e = absurd (true≢false (sym (ap is_some e)))
 
 pub no_number : (A : Ledger) (c : Command) → order_number c ≡ None → order_after A c ≡ None
-no_number A (command.Open m until lines) e = absurd (true≢false (ap is_some e))
-no_number A (command.Transfer m until a from to q) e = absurd (true≢false (ap is_some e))
-no_number A (command.More m way b a q) e = absurd (true≢false (ap is_some e))
-no_number A (command.Use m b a q) e = absurd (true≢false (ap is_some e))
-no_number A (command.Release m b a q) e = absurd (true≢false (ap is_some e))
-no_number A (command.Commit m) e = absurd (true≢false (ap is_some e))
-no_number A (command.Abort m) e = absurd (true≢false (ap is_some e))
 no_number A (command.Field b a lo hi start) e = refl
 no_number A (command.Deliver b a q) e = refl
 no_number A (command.Writeoff b a q) e = refl
 no_number A (command.Expire now) e = refl
+no_number A c e = absurd (true≢false (ap is_some e))
 
 pub each-found : {X : Type 0} (P : X → Type 0) (t : X → Bool) (x : X) (xs : List X) → Each P xs → find t xs ≡ Some x → P x
 each-found P t x [] h e = absurd (true≢false (sym (ap is_some e)))
@@ -245,9 +222,6 @@ total-opened g n o A none =
 -- a sum over the orders of the next ledger, to which an aborted order adds nothing
 pub total-next : (g : Order → ℤ) → ((o : Order) → g (set_state Aborted o) ≡ pos 0) → (A : Ledger) (c : Command) → Good A → FirstFailure (checks A c) None
     → total g (next A c).orders ≡ total (left_out g c) A.orders +ℤ some_part g (order_after A c)
-total-next g ends A (command.Field b a lo hi start) good h = nothing_more (total g A.orders)
-total-next g ends A (command.Deliver b a q) good h = nothing_more (total g A.orders)
-total-next g ends A (command.Writeoff b a q) good h = nothing_more (total g A.orders)
 total-next g ends A (command.Open n until lines) good h = total-opened g n _ A (none_opened A (command.Open n until lines) n h refl refl)
 total-next g ends A (command.Transfer n until a from to q) good h = total-opened g n _ A (none_opened A (command.Transfer n until a from to q) n h refl refl)
 total-next g ends A (command.More n way b a q) good h = total-changed g (add_hold (record { way = way; branch = b; article = a; qty = q })) n A.orders good.orders_in_order
@@ -259,3 +233,4 @@ total-next g ends A (command.Expire now) good h =
     let x = total-map g (λ o. if expires now o then set_state Aborted o else o) A.orders in
     let y = total-eq (λ o. g (if expires now o then set_state Aborted o else o)) (left_out g (command.Expire now)) A.orders (each (λ o. expired_part g ends (expires now o) o) A.orders) in
     omega (arith, ints)
+total-next g ends A c good h = nothing_more (total g A.orders)

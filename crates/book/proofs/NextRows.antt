@@ -77,15 +77,7 @@ filter-false (x ∷ xs) = filter-false xs
 moves_changed : (A : Ledger) (key : List ℕ) (c : Command) → Good A → filter (λ row. changes_move A c row.place) (map move_row (accept A (record { key = key; command = c })).moves) ≡ own_move_rows (places A + 1) c
 moves_changed A key (command.Deliver b a q) g = filter-push (λ row. int_eq row.place (pos (places A + 1))) move_row _ A.moves (pos_same (places A + 1) (places A + 1) (same_number (places A + 1))) (each-imp (λ m x. pos_above m.place (places A) x.last) A.moves g.moves)
 moves_changed A key (command.Writeoff b a q) g = filter-push (λ row. int_eq row.place (pos (places A + 1))) move_row _ A.moves (pos_same (places A + 1) (places A + 1) (same_number (places A + 1))) (each-imp (λ m x. pos_above m.place (places A) x.last) A.moves g.moves)
-moves_changed A key (command.Field b a lo hi start) g = filter-false (map move_row A.moves)
-moves_changed A key (command.Open n until lines) g = filter-false (map move_row A.moves)
-moves_changed A key (command.Transfer n until a from to q) g = filter-false (map move_row A.moves)
-moves_changed A key (command.More n way b a q) g = filter-false (map move_row A.moves)
-moves_changed A key (command.Use n b a q) g = filter-false (map move_row A.moves)
-moves_changed A key (command.Release n b a q) g = filter-false (map move_row A.moves)
-moves_changed A key (command.Commit n) g = filter-false (map move_row A.moves)
-moves_changed A key (command.Abort n) g = filter-false (map move_row A.moves)
-moves_changed A key (command.Expire now) g = filter-false (map move_row A.moves)
+moves_changed A key c g = filter-false (map move_row A.moves)
 
 -- ---- kept keys
 
@@ -227,12 +219,10 @@ orders_changed A key (command.Transfer n until a from to q) g k h = own_order A 
 orders_changed A key (command.Commit n) g k h = own_order A key (command.Commit n) n k h refl refl
 orders_changed A key (command.Abort n) g k h = own_order A key (command.Abort n) n k h refl refl
 orders_changed A key (command.Expire now) g k h = orders_expired A now g
-orders_changed A key (command.Field b a lo hi start) g k h = filter-false (map order_row A.orders)
-orders_changed A key (command.Deliver b a q) g k h = filter-false (map order_row A.orders)
-orders_changed A key (command.Writeoff b a q) g k h = filter-false (map order_row A.orders)
 orders_changed A key (command.More n way b a q) g k h = filter-false (map order_row (next A (command.More n way b a q)).orders) ∙ sym (no_state (command.More n way b a q) (order_after A (command.More n way b a q)) refl)
 orders_changed A key (command.Use n b a q) g k h = filter-false (map order_row (next A (command.Use n b a q)).orders) ∙ sym (no_state (command.Use n b a q) (order_after A (command.Use n b a q)) refl)
 orders_changed A key (command.Release n b a q) g k h = filter-false (map order_row (next A (command.Release n b a q)).orders) ∙ sym (no_state (command.Release n b a q) (order_after A (command.Release n b a q)) refl)
+orders_changed A key c g k h = filter-false (map order_row A.orders)
 
 -- ---- lines
 
@@ -325,10 +315,8 @@ lines_changed A key (command.Use n b a q) g k h = own_lines A key (command.Use n
 lines_changed A key (command.Release n b a q) g k h = own_lines A key (command.Release n b a q) n (λ f. order_is A n is_transfer || same_name f (name_of b a)) k h refl ∙ part_lines A (command.Release n b a q) n b a (change_lines (name_of b a) (lower_held q)) g (λ o. refl) (λ o. refl)
 lines_changed A key (command.Commit n) g k h = filter-false (flat_map order_lines (next A (command.Commit n)).orders) ∙ sym (commit_lines n (order_after A (command.Commit n)))
 lines_changed A key (command.Abort n) g k h = filter-false (flat_map order_lines (next A (command.Abort n)).orders) ∙ sym (abort_lines n (order_after A (command.Abort n)))
-lines_changed A key (command.Field b a lo hi start) g k h = filter-false (flat_map order_lines A.orders)
-lines_changed A key (command.Deliver b a q) g k h = filter-false (flat_map order_lines A.orders)
-lines_changed A key (command.Writeoff b a q) g k h = filter-false (flat_map order_lines A.orders)
 lines_changed A key (command.Expire now) g k h = filter-false (flat_map order_lines (next A (command.Expire now)).orders)
+lines_changed A key c g k h = filter-false (flat_map order_lines A.orders)
 
 -- ---- all tables
 

@@ -85,12 +85,6 @@ dec_some P None d = inr (λ h. absurd h)
 dec_some P (Some x) d = d x
 
 decided : (A : Ledger) (c : Command) → AsksNoStock c → Decided (checks A c)
-decided A (command.Field b a lo hi start) w = absurd w
-decided A (command.Deliver b a q) w = absurd w
-decided A (command.Writeoff b a q) w = absurd w
-decided A (command.Open n until lines) w = absurd w
-decided A (command.Transfer n until a from to q) w = absurd w
-decided A (command.More n way b a q) w = absurd w
 decided A (command.Use n b a q) w = let f : Name = record { branch = b; article = a } in (
   dec_lt _ _,
   (
@@ -114,6 +108,7 @@ decided A (command.Release n b a q) w = let f : Name = record { branch = b; arti
 decided A (command.Commit n) w = (dec_bool (is_some (order_numbered A n)), (dec_some _ (order_numbered A n) (λ o. dec_bool (is_open o)), tt))
 decided A (command.Abort n) w = (dec_bool (is_some (order_numbered A n)), (dec_some _ (order_numbered A n) (λ o. dec_bool (is_open o)), tt))
 decided A (command.Expire now) w = (dec_lt _ _, (dec_lt _ _, tt))
+decided A c w = absurd w
 
 answered : (A : Ledger) (r : Request) → AsksNoStock r.command → (reply : Reply) × (B : Ledger) × Answers A r reply B
 answered A r w = by_key (kept_under A r.key)

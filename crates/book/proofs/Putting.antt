@@ -114,10 +114,7 @@ module _ (A : Ledger) (good : Good A) (o : Order) where
   made_put (command.Release n b a q) h made = changed n (change_lines (name_of b a) (lower_held q)) (λ o. refl) (order_numbered A n) refl made
   made_put (command.Commit n) h made = changed n (set_state Committed) (λ o. refl) (order_numbered A n) refl made
   made_put (command.Abort n) h made = changed n (set_state Aborted) (λ o. refl) (order_numbered A n) refl made
-  made_put (command.Field b a lo hi start) h made = absurd (true≢false (sym (ap is_some made)))
-  made_put (command.Deliver b a q) h made = absurd (true≢false (sym (ap is_some made)))
-  made_put (command.Writeoff b a q) h made = absurd (true≢false (sym (ap is_some made)))
-  made_put (command.Expire now) h made = absurd (true≢false (sym (ap is_some made)))
+  made_put c h made = absurd (true≢false (sym (ap is_some made)))
 
 pub orders_put : (A : Ledger) (c : Command) (n : ℕ) (v : OrderEntry) (l : List (ℕ × OrderEntry)) → Good A → FirstFailure (checks A c) None → map order_of l ≡ A.orders → order_after A c ≡ Some (order_of (n, v)) → map order_of (insert_entry nat_cmp l n v) ≡ (next A c).orders
 orders_put A c n v l good h is made = put_viewed n v l ∙ ap (put_row number_cmp (order_of (n, v))) is ∙ made_put A good (order_of (n, v)) c h made
@@ -147,10 +144,9 @@ aborted_there n v (e ∷ l) rising there = rw (same_number e.0 n) (by (nat_cmp n
         → (lookup (is_at (nat_cmp n)) l ≡ Some v → map order_of (set_value (is_at (nat_cmp n)) l (record v { state = Aborted })) ≡ abort_one (map order_of l) n)
         → map order_of (cond (is_eq o) ((e.0, record v { state = Aborted }) ∷ l) (e ∷ set_value (is_at (nat_cmp n)) l (record v { state = Aborted })))
         ≡ (if is_eq o then set_state Aborted (order_of e) else order_of e) ∷ abort_one (map order_of l) n
-    by Less is found more = ap (λ os. order_of e ∷ os) (more found)
     by Equal is found more =
         ap (λ (w : OrderEntry). set_state Aborted (order_of (e.0, w)) ∷ map order_of l) (sym (same_Some e.1 v found)) ∙ ap (λ os. set_state Aborted (order_of e) ∷ os) (sym (alone (same_number e.0 n ∙ ap is_eq is)))
-    by Greater is found more = ap (λ os. order_of e ∷ os) (more found)
+    by c is found more = ap (λ os. order_of e ∷ os) (more found)
 
 pub aborted_none : (n : ℕ) (l : List (ℕ × OrderEntry)) → lookup (is_at (nat_cmp n)) l ≡ None → map order_of l ≡ abort_one (map order_of l) n
 aborted_none n [] none = refl

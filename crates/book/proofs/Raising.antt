@@ -126,9 +126,8 @@ total-map-same : (g : Order → ℤ) (h : Order → Order) (os : List Order) →
 total-map-same g h os e = total-map g h os ∙ total-eq (λ o. g (h o)) g os e
 
 not_committed : (s : State) → open_state s ≡ true → committed_state s ≡ false
-not_committed Open e = refl
 not_committed Committed e = absurd (true≢false (sym e))
-not_committed Aborted e = refl
+not_committed c e = refl
 
 -- what is said of each order of that number, and of the order as it becomes
 abbrev pub Rising : ℕ → OpenLine → Order → Type 0

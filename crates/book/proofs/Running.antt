@@ -132,9 +132,8 @@ up_to_date_at A name [] v all there = absurd (true≢false (sym (ap is_some ther
 up_to_date_at A name (e ∷ l) v all there = by (name_cmp name e.0) refl there (λ is. up_to_date_at A name l v all.1 is)
   where
     by : (o : Ordering) → name_cmp name e.0 ≡ o → cond (is_eq o) (Some e.1) (lookup (is_at (name_cmp name)) l) ≡ Some v → (lookup (is_at (name_cmp name)) l ≡ Some v → IsUpToDate A (name, v)) → IsUpToDate A (name, v)
-    by Less o is more = more is
-    by Greater o is more = more is
     by Equal o is more = subst (λ (v : FieldEntry). IsUpToDate A (name, v)) (same_Some e.1 v is) (subst (λ (k : Name). IsUpToDate A (k, e.1)) (sym (equal_field name e.0 o)) all.0)
+    by c o is more = more is
 
 -- ---- rows of entries
 
@@ -269,16 +268,7 @@ each_inserted P p x (y ∷ ys) all = by (p x y) all (λ k. each_inserted P p x y
 
 pub stay : (P : Field → Type 0) (A : Ledger) (c : Command) → Each P (next A c).fields → Each P A.fields
 stay P A (command.Field b a lo hi start) all = each_inserted P (λ f g. is_lt (name_cmp f.name g.name)) (record { name = name_of b a; lo = lo; hi = hi; start = start }) A.fields all
-stay P A (command.Deliver b a q) all = all
-stay P A (command.Writeoff b a q) all = all
-stay P A (command.Open n until lines) all = all
-stay P A (command.Transfer n until a from to q) all = all
-stay P A (command.More n way b a q) all = all
-stay P A (command.Use n b a q) all = all
-stay P A (command.Release n b a q) all = all
-stay P A (command.Commit n) all = all
-stay P A (command.Abort n) all = all
-stay P A (command.Expire now) all = all
+stay P A c all = all
 
 pub bounds_at : (A : Ledger) (f : Field) → Good A → Contains A.fields f
     → (pos f.lo ≤ℤ (settled A f -ℤ held_to_take A f.name)) × ((settled A f -ℤ held_to_take A f.name) ≤ℤ settled A f) × (settled A f ≤ℤ (settled A f +ℤ held_to_add A f.name)) × ((settled A f +ℤ held_to_add A f.name) ≤ℤ pos f.hi) × (f.hi ≤ 1000000000)

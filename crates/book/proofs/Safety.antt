@@ -99,11 +99,7 @@ room-accept A key (command.More n way b a q) g h = let p = all_pass (checks A (c
     room-more A n l (sounds_from_good A g) g.orders_in_order g.fields_in_order (fit_from_good A g).room
     (takes_more (record { branch = b; article = a }) way (order_numbered A n) p.1.0 p.1.1.0 p.1.1.1.0 p.1.1.1.1.1.0)
     (line_passes way (next A (command.More n way b a q)) (record { branch = b; article = a }) 0 p.1.1.1.1.1.1.1.0)
-room-accept A key (command.Use n b a q) g h = (fit-accept A key (command.Use n b a q) tt (fit_from_good A g) h).room
-room-accept A key (command.Release n b a q) g h = (fit-accept A key (command.Release n b a q) tt (fit_from_good A g) h).room
-room-accept A key (command.Commit n) g h = (fit-accept A key (command.Commit n) tt (fit_from_good A g) h).room
-room-accept A key (command.Abort n) g h = (fit-accept A key (command.Abort n) tt (fit_from_good A g) h).room
-room-accept A key (command.Expire now) g h = (fit-accept A key (command.Expire now) tt (fit_from_good A g) h).room
+room-accept A key c g h = (fit-accept A key c tt (fit_from_good A g) h).room
 
 -- whatever is accepted, the ledger stays safe
 pub safe_after : (A : Ledger) (r : Request) → Good A → FirstFailure (checks A r.command) None → IsSafe (accept A r)

@@ -91,10 +91,7 @@ touched (command.Use m b a q) n e o = ap (λ k. o.number == k) (some_is m n e)
 touched (command.Release m b a q) n e o = ap (λ k. o.number == k) (some_is m n e)
 touched (command.Commit m) n e o = ap (λ k. o.number == k) (some_is m n e)
 touched (command.Abort m) n e o = ap (λ k. o.number == k) (some_is m n e)
-touched (command.Field b a lo hi start) n e o = absurd (true≢false (sym (ap is_some e)))
-touched (command.Deliver b a q) n e o = absurd (true≢false (sym (ap is_some e)))
-touched (command.Writeoff b a q) n e o = absurd (true≢false (sym (ap is_some e)))
-touched (command.Expire now) n e o = absurd (true≢false (sym (ap is_some e)))
+touched c n e o = absurd (true≢false (sym (ap is_some e)))
 
 -- a sum over the orders of the next ledger
 pub total_moved : (g : Order → ℤ) → ((o : Order) → g (set_state Aborted o) ≡ pos 0) → (A : Ledger) (c : Command) (n : ℕ) → Good A → FirstFailure (checks A c) None → order_number c ≡ Some n
@@ -147,10 +144,7 @@ before A (command.Use m b a q) n f good h e = subst (λ k. IsBefore f (order_num
 before A (command.Release m b a q) n f good h e = subst (λ k. IsBefore f (order_numbered A k)) (some_is m n e) (before_of A m f good (all_pass (checks A (command.Release m b a q)) h).1.1.0)
 before A (command.Commit m) n f good h e = subst (λ k. IsBefore f (order_numbered A k)) (some_is m n e) (before_of A m f good (all_pass (checks A (command.Commit m)) h).1.0)
 before A (command.Abort m) n f good h e = subst (λ k. IsBefore f (order_numbered A k)) (some_is m n e) (before_of A m f good (all_pass (checks A (command.Abort m)) h).1.0)
-before A (command.Field b a lo hi start) n f good h e = absurd (true≢false (sym (ap is_some e)))
-before A (command.Deliver b a q) n f good h e = absurd (true≢false (sym (ap is_some e)))
-before A (command.Writeoff b a q) n f good h e = absurd (true≢false (sym (ap is_some e)))
-before A (command.Expire now) n f good h e = absurd (true≢false (sym (ap is_some e)))
+before A c n f good h e = absurd (true≢false (sym (ap is_some e)))
 
 -- ---- the line before and after
 
@@ -220,8 +214,7 @@ pushed_goes f ol (k ∷ ls) l range there = by (on f k) there (λ h. pushed_goes
 
 pub state_is : (s : State) → open_state s ≡ true → Open ≡ s
 state_is Open e = refl
-state_is Committed e = absurd (true≢false (sym e))
-state_is Aborted e = absurd (true≢false (sym e))
+state_is c e = absurd (true≢false (sym e))
 
 held_goes : (f : Name) (ol : OpenLine) (o : Order) (l : Line) → IsQty ol.qty → is_open o ≡ true → find (on f) (add_hold ol o).lines ≡ Some l → LineGoes (line_on o f) l (add_hold ol o).state
 held_goes f ol o l range unended there = by (is_some (line_on o (line_name (new_line ol)))) there
@@ -271,10 +264,7 @@ line_goes A (command.Commit m) n f o l good range h e is made there =
 line_goes A (command.Abort m) n f o l good range h e is made there =
     changed_goes A n f (set_state Aborted) o l good is (λ p g unended k. subst (λ (x : Option Line). LineGoes x l Aborted) (sym k) (no_more l l Aborted refl (omega arith) (λ e. absurd (true≢false (sym (ap committed_state e))))))
     (subst (λ k. option_map (set_state Aborted) (order_numbered A k) ≡ Some o) (some_is m n e) made) there
-line_goes A (command.Field b a lo hi start) n f o l good range h e is made there = absurd (true≢false (sym (ap is_some e)))
-line_goes A (command.Deliver b a q) n f o l good range h e is made there = absurd (true≢false (sym (ap is_some e)))
-line_goes A (command.Writeoff b a q) n f o l good range h e is made there = absurd (true≢false (sym (ap is_some e)))
-line_goes A (command.Expire now) n f o l good range h e is made there = absurd (true≢false (sym (ap is_some e)))
+line_goes A c n f o l good range h e is made there = absurd (true≢false (sym (ap is_some e)))
 
 -- ---- what the order adds before and after
 
@@ -313,17 +303,9 @@ moved_before f None is = refl
 moved_before f (Some o) is = ap (λ s. if committed_state s then total (λ l. if on f l then signed l.way l.used else pos 0) o.lines else pos 0) (sym (state_is o.state is.0))
 
 not_moved : (f : Name) (A : Ledger) (c : Command) (n : ℕ) → order_number c ≡ Some n → total (λ m. if same_name f m.field then m.amount else pos 0) (next A c).moves ≡ total (λ m. if same_name f m.field then m.amount else pos 0) A.moves
-not_moved f A (command.Open m until lines) n e = refl
-not_moved f A (command.Transfer m until a from to q) n e = refl
-not_moved f A (command.More m way b a q) n e = refl
-not_moved f A (command.Use m b a q) n e = refl
-not_moved f A (command.Release m b a q) n e = refl
-not_moved f A (command.Commit m) n e = refl
-not_moved f A (command.Abort m) n e = refl
-not_moved f A (command.Field b a lo hi start) n e = refl
 not_moved f A (command.Deliver b a q) n e = absurd (true≢false (sym (ap is_some e)))
 not_moved f A (command.Writeoff b a q) n e = absurd (true≢false (sym (ap is_some e)))
-not_moved f A (command.Expire now) n e = refl
+not_moved f A c n e = refl
 
 -- the numbers of the next ledger on the field
 record Changes (A B : Ledger) (fld : Field) (held : ℕ) (l : Line) (s : State) : Type 0 where

@@ -245,8 +245,7 @@ line-step s ls i l h e f = by s
 -- no lines come to nothing
 pub lines-none : (s : State) (f : Name) → lines_numbers s [] f ≡ nothing
 lines-none Open f = refl
-lines-none Committed f = refl
-lines-none Aborted f = refl
+lines-none c f = refl
 
 -- one order more
 pub order-step : (os : List (ℕ × OrderEntry)) (i : ℕ) (o : ℕ × OrderEntry) → i < length os → o ≡ get_or os i o → (f : Name) → plus (numbers_on [] (take i os) f) (lines_numbers o.1.state o.1.lines.items f) ≡ numbers_on [] (take (i + 1) os) f

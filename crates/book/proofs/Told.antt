@@ -92,12 +92,11 @@ pub same_state : (s t : State) → state_code s ≡ state_code t → s ≡ t
 same_state Open Open e = refl
 same_state Committed Committed e = refl
 same_state Aborted Aborted e = refl
-same_state Open Committed e = absurd (omega (arith, ints))
 same_state Open Aborted e = absurd (omega (arith, ints))
 same_state Committed Open e = absurd (omega (arith, ints))
 same_state Committed Aborted e = absurd (omega (arith, ints))
 same_state Aborted Open e = absurd (omega (arith, ints))
-same_state Aborted Committed e = absurd (omega (arith, ints))
+same_state c Committed e = absurd (omega (arith, ints))
 
 pub same_way : (v w : Way) → way_code v ≡ way_code w → v ≡ w
 same_way Take Take e = refl

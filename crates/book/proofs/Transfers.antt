@@ -103,9 +103,8 @@ committed_part : Name → Order → ℤ
 committed_part f o = if is_committed o then moved f (λ l. l.used) o else pos 0
 
 was_open : (s : State) → open_state s ≡ true → committed_state s ≡ false
-was_open Open e = refl
 was_open Committed e = absurd (true≢false (sym e))
-was_open Aborted e = refl
+was_open c e = refl
 
 pub not_same : (o m : Order) (n : ℕ) → (o.number == n) ≡ true → o.number < m.number → (m.number == n) ≡ false
 not_same o m n e h = grind arith
