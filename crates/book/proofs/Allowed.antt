@@ -17,16 +17,4 @@ use Rattle.book.proofs.Sums.{each-imp}
 
 -- an amount more, on the line that is there or on one at the end
 pub hold_allowed : (B : Ledger) (n : ℕ) (l : OpenLine) (o : OrderEntry) → 1 ≤ vec_capacity o.lines - vec_len o.lines → IsGoodOrder B (add_hold l (order_of (n, o))) → MayChangeOrder (HoldMore l) o
-hold_allowed B n l o room good = by (find (on f) o.lines.items) refl
-  where
-    f : Name
-    f = line_name (new_line l)
-
-    raised : (m : Line) → IsGoodLine B (if on f m then raise_held l.qty m else m) → on f m ≡ true → IsLevel (m.held + l.qty)
-    raised m g is = (subst (λ b. IsGoodLine B (if b then raise_held l.qty m else m)) is g).held
-
-    by : (x : Option Line) → find (on f) o.lines.items ≡ x → MayChangeOrder (HoldMore l) o
-    by None e = rw e (omega arith)
-    by (Some x) e =
-        let there : (add_hold l (order_of (n, o))).lines ≡ map (λ m. if on f m then raise_held l.qty m else m) o.lines.items = rw e refl in
-        rw e (each-imp raised o.lines.items (each-unmap (IsGoodLine B) (λ m. if on f m then raise_held l.qty m else m) o.lines.items (subst (Each (IsGoodLine B)) there good.lines)))
+hold_allowed B n l o room good = grind (arith, each-imp, each-unmap)

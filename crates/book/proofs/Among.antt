@@ -85,6 +85,3 @@ kept_last (change.Kept x ∷ cs) r = ap (with_change (change.Kept x)) (kept_last
 -- one row more in that table
 pub kept_pushed : (old new : List Change) (r : KeptRow) (cells : KeptCells) → new ≡ old ++ change.Kept r ∷ [] → kept_cells r ≡ cells → rows_among new ≡ with_kept (cells ∷ []) (rows_among old)
 kept_pushed old new r cells e is = ap rows_among e ∙ kept_last old r ∙ ap (λ (x : KeptCells). with_kept (x ∷ []) (rows_among old)) is
-
-pub kept_none : (old new : Content) → new ≡ old → new ≡ with_kept [] old
-kept_none old new e = e ∙ ap (λ (xs : List KeptCells). record old { kept = xs }) (sym (append-nil old.kept))

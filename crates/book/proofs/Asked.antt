@@ -1,4 +1,5 @@
 -- The model's tests of a request, over all outcomes, as the comparisons that a program makes.
+use Rattle.std.proofs.lemmas.Grind.{common_steps}
 use Rattle.std.proofs.Common.{◌≡◌, ℕ, ◌+◌, ◌≤◌, ℤ, pos, ◌+ℤ◌, ◌-ℤ◌, neg_ℤ, ◌<ℤ◌, List, [], ◌∷◌, ◌++◌, map, find, Bool, true, false, is_some, IsSomeAnd, Some, None, refl, sym, ap, ◌∙◌, subst, arith, if◌then◌else◌, true≢false, ◌↔◌, nat_lt}
 use Rattle.std.proofs.lemmas.Int.{ints}
 use Rattle.std.specs.List.{AllByRecursion as Each}
@@ -16,11 +17,7 @@ use Rattle.book.proofs.Closing.{name_is}
 
 pub total-insert : {X : Type 0} (g : X → ℤ) (p : X → X → Bool) (x : X) (xs : List X) → total g (insert_in_order p x xs) ≡ g x +ℤ total g xs
 total-insert g p x [] = refl
-total-insert g p x (y ∷ ys) = step (p x y) (total-insert g p x ys)
-  where
-    step : (b : Bool) → total g (insert_in_order p x ys) ≡ g x +ℤ total g ys → total g (if b then x ∷ y ∷ ys else y ∷ insert_in_order p x ys) ≡ g x +ℤ (g y +ℤ total g ys)
-    step true e = refl
-    step false e = omega (arith, ints)
+total-insert g p x (y ∷ ys) = let more = total-insert g p x ys in grind (arith, ints, common_steps)
 
 pub total-push : {X : Type 0} (g : X → ℤ) (xs : List X) (x : X) → total g (xs ++ x ∷ []) ≡ total g xs +ℤ g x
 total-push g [] x = omega (arith, ints)
@@ -28,11 +25,7 @@ total-push g (y ∷ ys) x = let e : total g (ys ++ x ∷ []) ≡ total g ys +ℤ
 
 pub each-insert : {X : Type 0} (P : X → Type 0) (p : X → X → Bool) (x : X) (xs : List X) → P x → Each P xs → Each P (insert_in_order p x xs)
 each-insert P p x [] h k = (h, tt)
-each-insert P p x (y ∷ ys) h k = step (p x y) (each-insert P p x ys h k.1)
-  where
-    step : (b : Bool) → Each P (insert_in_order p x ys) → Each P (if b then x ∷ y ∷ ys else y ∷ insert_in_order p x ys)
-    step true e = (h, k)
-    step false e = (k.0, e)
+each-insert P p x (y ∷ ys) h k = let more = each-insert P p x ys h k.1 in grind arith
 
 pub each-push : {X : Type 0} (P : X → Type 0) (xs : List X) (x : X) → Each P xs → P x → Each P (xs ++ x ∷ [])
 each-push P [] x h k = (k, tt)
@@ -160,10 +153,7 @@ add_line_test A n k u ls l sound one none way = (λ h. named A.fields name _ _ (
 
 -- The test of a delivery and of a write-off is one comparison too.
 pub moved-settled : (A : Ledger) (name : Name) (z : ℤ) (f : Field) → f.name ≡ name → settled (with_move name z A) f ≡ settled A f +ℤ z
-moved-settled A name z f e =
-    let a = total-push (λ m. if same_name f.name m.field then m.amount else pos 0) A.moves (record { place = places A + 1; field = name; amount = z }) in
-    let b : (if same_name f.name name then z else pos 0) ≡ z = rw e (rw (same_self name) refl) in
-    omega (arith, ints)
+moved-settled A name z f e = grind (arith, common_steps, (same_self name), total-push, f.name, A.moves)
 
 pub write_off_test : (A : Ledger) (name : Name) (q : ℕ) → Each Sound A.orders
     → FallsBelow (with_move name (neg_ℤ (pos q)) A) name ↔ IsSomeAnd (field_named A name) (λ f. ((settled A f -ℤ held_to_take A f.name) -ℤ pos q) <ℤ pos f.lo)

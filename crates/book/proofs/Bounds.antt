@@ -43,48 +43,23 @@ has w f ls = list_any (λ l. on f l && w l.way) ls
 
 -- one line, at any amount up to what is held
 
-line_low : (b : Bool) (w : Way) (a h : ℕ) → a ≤ h → neg_ℤ (if b then pos (if_take w h) else pos 0) ≤ℤ (if b then signed w a else pos 0)
-line_low true Take a h p = omega (arith, ints)
-line_low true Add a h p = omega (arith, ints)
-line_low false w a h p = omega (arith, ints)
-
-line_high : (b : Bool) (w : Way) (a h : ℕ) → a ≤ h → (if b then signed w a else pos 0) ≤ℤ (if b then pos (if_add w h) else pos 0)
-line_high true Take a h p = omega (arith, ints)
-line_high true Add a h p = omega (arith, ints)
-line_high false w a h p = omega (arith, ints)
-
-not_negative : (b : Bool) (n : ℕ) → pos 0 ≤ℤ (if b then pos n else pos 0)
-not_negative true n = omega (arith, ints)
-not_negative false n = omega (arith, ints)
-
 pub takes-not_negative : (f : Name) (ls : List Line) → pos 0 ≤ℤ total (takes f) ls
 takes-not_negative f [] = omega (arith, ints)
-takes-not_negative f (l ∷ ls) = let a : pos 0 ≤ℤ takes f l = not_negative (on f l) (if_take l.way l.held) in
-    let b : pos 0 ≤ℤ total (takes f) ls = takes-not_negative f ls in omega (arith, ints)
+takes-not_negative f (l ∷ ls) = let more = takes-not_negative f ls in grind arith
 
 pub adds-not_negative : (f : Name) (ls : List Line) → pos 0 ≤ℤ total (adds f) ls
 adds-not_negative f [] = omega (arith, ints)
-adds-not_negative f (l ∷ ls) = let a : pos 0 ≤ℤ adds f l = not_negative (on f l) (if_add l.way l.held) in
-    let b : pos 0 ≤ℤ total (adds f) ls = adds-not_negative f ls in omega (arith, ints)
-
-Chosen : Outcome → Order → Line → Type 0
-Chosen X o l = (l.used ≤ X.amount o l) × (X.amount o l ≤ l.held)
+adds-not_negative f (l ∷ ls) = let more = adds-not_negative f ls in grind arith
 
 pub moved-low : (f : Name) (amount : Line → ℕ) (ls : List Line) → Each (λ l. (l.used ≤ amount l) × (amount l ≤ l.held)) ls
     → neg_ℤ (total (takes f) ls) ≤ℤ total (λ l. if on f l then signed l.way (amount l) else pos 0) ls
 moved-low f amount [] h = omega (arith, ints)
-moved-low f amount (l ∷ ls) h =
-    let a : neg_ℤ (takes f l) ≤ℤ (if on f l then signed l.way (amount l) else pos 0) = line_low (on f l) l.way (amount l) l.held h.0.1 in
-    let b : neg_ℤ (total (takes f) ls) ≤ℤ total (λ l. if on f l then signed l.way (amount l) else pos 0) ls = moved-low f amount ls h.1 in
-    omega (arith, ints)
+moved-low f amount (l ∷ ls) h = let more = moved-low f amount ls h.1 in grind (arith, ints)
 
 pub moved-high : (f : Name) (amount : Line → ℕ) (ls : List Line) → Each (λ l. (l.used ≤ amount l) × (amount l ≤ l.held)) ls
     → total (λ l. if on f l then signed l.way (amount l) else pos 0) ls ≤ℤ total (adds f) ls
 moved-high f amount [] h = omega (arith, ints)
-moved-high f amount (l ∷ ls) h =
-    let a : (if on f l then signed l.way (amount l) else pos 0) ≤ℤ adds f l = line_high (on f l) l.way (amount l) l.held h.0.1 in
-    let b : total (λ l. if on f l then signed l.way (amount l) else pos 0) ls ≤ℤ total (adds f) ls = moved-high f amount ls h.1 in
-    omega (arith, ints)
+moved-high f amount (l ∷ ls) h = let more = moved-high f amount ls h.1 in grind (arith, ints)
 
 -- one order: it is open or not, and commits or not
 
@@ -248,15 +223,11 @@ sup_is A h f = record { reached = (best f.name, best-outcome f.name A h, best-re
 
 -- an infimum is unique
 pub inf_unique : (A : Ledger) (f : Field) (a b : ℤ) → IsInfimum A f a → IsInfimum A f b → a ≡ b
-inf_unique A f a b h k =
-    let x = h.least k.reached.0 k.reached.1 in let x' = k.reached.2 in
-    let y = k.least h.reached.0 h.reached.1 in let y' = h.reached.2 in omega (arith, ints)
+inf_unique A f a b h k = grind arith
 
 -- and so is a supremum
 pub sup_unique : (A : Ledger) (f : Field) (a b : ℤ) → IsSupremum A f a → IsSupremum A f b → a ≡ b
-sup_unique A f a b h k =
-    let x = h.greatest k.reached.0 k.reached.1 in let x' = k.reached.2 in
-    let y = k.greatest h.reached.0 h.reached.1 in let y' = h.reached.2 in omega (arith, ints)
+sup_unique A f a b h k = grind arith
 
 -- the code's two comparisons are the model's safety
 all_at : (A : Ledger) (P : Field → Type 0) (fs : List Field)

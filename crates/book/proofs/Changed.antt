@@ -111,11 +111,7 @@ same_order_row true o new e = e
 same_order_row false o new e = refl
 
 hold_row : (l : OpenLine) (o : Order) → order_row (add_hold l o) ≡ order_row o
-hold_row l o = by (is_some (line_on o (line_name (new_line l))))
-  where
-    by : (b : Bool) → order_row (if b then hold_more (line_name (new_line l)) l.qty o else record o { lines = o.lines ++ new_line l ∷ [] }) ≡ order_row o
-    by true = refl
-    by false = refl
+hold_row l o = grind arith
 
 numbered : (n : ℕ) (o : Order) → (o.number == n) ≡ true → int_eq (pos o.number) (pos n) ≡ true
 numbered n o e = subst (λ m. int_eq (pos o.number) (pos m) ≡ true) (number_is o.number n e) (int_same (pos o.number))
@@ -141,11 +137,7 @@ follows-flat chosen h (o ∷ os) f = follows-join line_cmp chosen (order_lines o
 
 follows-flat_insert : (chosen : LineCells → Bool) (p : Order → Order → Bool) (o : Order) (os : List Order) → Each (λ r. chosen r ≡ true) (order_lines o) → Follows line_cmp chosen (flat_map order_lines os) (flat_map order_lines (insert_in_order p o os))
 follows-flat_insert chosen p o [] h = follows-before line_cmp chosen [] (order_lines o) [] h refl
-follows-flat_insert chosen p o (m ∷ ms) h = step (p o m) (follows-flat_insert chosen p o ms h)
-  where
-    step : (b : Bool) → Follows line_cmp chosen (flat_map order_lines ms) (flat_map order_lines (insert_in_order p o ms)) → Follows line_cmp chosen (flat_map order_lines (m ∷ ms)) (flat_map order_lines (if b then o ∷ m ∷ ms else m ∷ insert_in_order p o ms))
-    step true f = follows-before line_cmp chosen (flat_map order_lines (m ∷ ms)) (order_lines o) (flat_map order_lines (m ∷ ms)) h (follows-same line_cmp line_cmp_total chosen (flat_map order_lines (m ∷ ms)))
-    step false f = follows-join line_cmp chosen (order_lines m) (order_lines m) (flat_map order_lines ms) (flat_map order_lines (insert_in_order p o ms)) (follows-same line_cmp line_cmp_total chosen (order_lines m)) f
+follows-flat_insert chosen p o (m ∷ ms) h = let more = follows-flat_insert chosen p o ms h in grind (arith, (follows-same line_cmp line_cmp_total chosen (flat_map order_lines (m ∷ ms))), (follows-same line_cmp line_cmp_total chosen (order_lines m)), Follows, follows-before, follows-join, line_cmp_total)
 
 new_lines_chosen : (n nr : ℕ) (ls : List Line) → Each (λ r. int_eq r.number (pos n) ≡ true) (lines_from n nr ls)
 new_lines_chosen n nr [] = tt
@@ -279,9 +271,7 @@ adds_off : (f : Name) (l : Line) → on f l ≡ false → adds f l ≡ pos 0
 adds_off f l e = rw e refl
 
 parts_off : (f g : Name) (change : Line → Line) (o : Order) → ((l : Line) → line_name (change l) ≡ line_name l) → is_open o ≡ true → Each (λ l. (is_transfer o || on g l) ≡ true → on f l ≡ false) o.lines → SameParts f o (change_lines g change o)
-parts_off f g change o same open_is h = parts_lines f o (map (λ l. if is_transfer o || on g l then change l else l) o.lines) open_is
-    (map_part (takes f) (λ l. if is_transfer o || on g l then change l else l) o.lines (each-imp (λ l k. off f change (takes f) same (takes_off f) (is_transfer o || on g l) l k) o.lines h))
-    (map_part (adds f) (λ l. if is_transfer o || on g l then change l else l) o.lines (each-imp (λ l k. off f change (adds f) same (adds_off f) (is_transfer o || on g l) l k) o.lines h))
+parts_off f g change o same open_is h = grind (arith, (map_part (takes f) (λ l. if is_transfer o || on g l then change l else l) o.lines (each-imp (λ l k. off f change (takes f) same (takes_off f) (is_transfer o || on g l) l k) o.lines h)), (map_part (adds f) (λ l. if is_transfer o || on g l then change l else l) o.lines (each-imp (λ l k. off f change (adds f) same (adds_off f) (is_transfer o || on g l) l k) o.lines h)), adds, adds_off, each-imp, off, parts_lines, takes, takes_off)
 
 apart : (f g : Name) (l : Line) → same_name f g ≡ false → on g l ≡ true → on f l ≡ false
 apart f g l e h = subst (λ n. same_name f n ≡ false) (name_is g (line_name l) h) e
@@ -308,26 +298,15 @@ no_new : (f : Name) (ls : List OpenLine) → list_any (λ l. same_name f (name_o
 no_new f ls e = each-map (λ m. on f m ≡ false) new_line ls (any_none (λ l. same_name f (name_of l.branch l.article)) ls e)
 
 other_order : (A : Ledger) (n : ℕ) (k : _) (u : ℕ) (ls : List OpenLine) (f : Field) → list_any (λ l. same_name f.name (name_of l.branch l.article)) ls ≡ false → SameNumbers A (with_order (new_order n k u ls) A) f
-other_order A n k u ls f e =
-    let z = none-total f.name (λ l. pos (if_take l.way l.held)) (map new_line ls) (no_new f.name ls e) in let y = none-total f.name (λ l. pos (if_add l.way l.held)) (map new_line ls) (no_new f.name ls e) in
-    let a = held_take-order A n k u ls f.name in let b = held_add-order A n k u ls f.name in
-    (settled-order A n k u ls f, (omega (arith, ints)), (omega (arith, ints)))
+other_order A n k u ls f e = grind (arith, (none-total f.name (λ l. pos (if_take l.way l.held)) (map new_line ls) (no_new f.name ls e)), (none-total f.name (λ l. pos (if_add l.way l.held)) (map new_line ls) (no_new f.name ls e)), (held_take-order A n k u ls f.name), (held_add-order A n k u ls f.name), no_new, settled-order)
 
 other_move : (A : Ledger) (g : Name) (z : ℤ) (f : Field) (ms : List Move) → ms ≡ A.moves ++ record { place = places A + 1; field = g; amount = z } ∷ [] → same_name f.name g ≡ false
     → total (λ m. if same_name f.name m.field then m.amount else pos 0) ms ≡ total (λ m. if same_name f.name m.field then m.amount else pos 0) A.moves
-other_move A g z f ms e h =
-    let a = total-push (λ m. if same_name f.name m.field then m.amount else pos 0) A.moves (record { place = places A + 1; field = g; amount = z }) in
-    let b : (if same_name f.name g then z else pos 0) ≡ pos 0 = rw h refl in
-    let c = ap (total (λ m. if same_name f.name m.field then m.amount else pos 0)) e in omega (arith, ints)
+other_move A g z f ms e h = grind (arith, total-push)
 
 hold_parts : (f g : Name) (l : OpenLine) (o : Order) → line_name (new_line l) ≡ g → same_name f g ≡ false → is_open o ≡ true → is_transfer o ≡ false → (b : Bool) → SameParts f o (if b then hold_more g l.qty o else record o { lines = o.lines ++ new_line l ∷ [] })
-hold_parts f g l o i e open_is plain true = parts_lines f o (map (λ m. if on g m then raise_held l.qty m else m) o.lines) open_is
-    (map_part (takes f) (λ m. if on g m then raise_held l.qty m else m) o.lines (each (λ m. off f (raise_held l.qty) (takes f) (λ n. refl) (takes_off f) (on g m) m (λ k. apart f g m e k)) o.lines))
-    (map_part (adds f) (λ m. if on g m then raise_held l.qty m else m) o.lines (each (λ m. off f (raise_held l.qty) (adds f) (λ n. refl) (adds_off f) (on g m) m (λ k. apart f g m e k)) o.lines))
-hold_parts f g l o i e open_is plain false =
-    let z = takes_off f (new_line l) (subst (λ n. same_name f n ≡ false) (sym i) e) in let y = adds_off f (new_line l) (subst (λ n. same_name f n ≡ false) (sym i) e) in
-    let a = total-push (takes f) o.lines (new_line l) in let b = total-push (adds f) o.lines (new_line l) in
-    parts_lines f o (o.lines ++ new_line l ∷ []) open_is (omega (arith, ints)) (omega (arith, ints))
+hold_parts f g l o i e open_is plain true = grind (arith, (map_part (takes f) (λ m. if on g m then raise_held l.qty m else m) o.lines (each (λ m. off f (raise_held l.qty) (takes f) (λ n. refl) (takes_off f) (on g m) m (λ k. apart f g m e k)) o.lines)), (map_part (adds f) (λ m. if on g m then raise_held l.qty m else m) o.lines (each (λ m. off f (raise_held l.qty) (adds f) (λ n. refl) (adds_off f) (on g m) m (λ k. apart f g m e k)) o.lines)), adds, adds_off, apart, each, off, parts_lines, takes, takes_off)
+hold_parts f g l o i e open_is plain false = grind (arith, (takes_off f (new_line l) (subst (λ n. same_name f n ≡ false) (sym i) e)), (adds_off f (new_line l) (subst (λ n. same_name f n ≡ false) (sym i) e)), (total-push (takes f) o.lines (new_line l)), (total-push (adds f) o.lines (new_line l)), adds, parts_lines, takes)
 
 two_off : (x y : Bool) → (x || y) ≡ false → (x || (y || false)) ≡ false
 two_off true y e = e
@@ -365,9 +344,7 @@ same_field A key (command.Expire now) g h f e =
     (each-imp (λ o y. parts_if f.name (expires now o) o (set_state Aborted o) (λ t. parts_state f.name Aborted o (second_false _ _ t y))) A.orders (any_none (λ o. expires now o && has_line_on f.name o) A.orders e))
 
 sup_unique : (A : Ledger) (f : Field) (a b : ℤ) → IsSupremum A f a → IsSupremum A f b → a ≡ b
-sup_unique A f a b h k =
-    let x = h.greatest k.reached.0 k.reached.1 in let x' = k.reached.2 in
-    let y = k.greatest h.reached.0 h.reached.1 in let y' = h.reached.2 in omega (arith, ints)
+sup_unique A f a b h k = grind arith
 
 pub same_field_row : (A B : Ledger) (f : Field) (x y : FieldCells) → Good A → Good B → SameNumbers A B f → IsFieldRow A f x → IsFieldRow B f y → x ≡ y
 same_field_row A B f x y g k s h j =
@@ -427,13 +404,7 @@ two_tables : {R : Type 0} (cmp : R → R → Ordering) → IsTotalOrder cmp → 
 two_tables cmp o chosen xs ys us vs e d s f = (λ i. put_rows cmp (filter chosen (d i)) (e i)) ∙ put_all cmp o chosen xs ys s f ∙ sym d
 
 desk_put : (a b : DeskCells) (us vs : List DeskCells) → a.one ≡ pos 1 → b.one ≡ pos 1 → us ≡ a ∷ [] → vs ≡ b ∷ [] → put_rows desk_cmp vs us ≡ vs
-desk_put a b us vs p q e d = (λ i. put_rows desk_cmp (d i) (e i)) ∙ here ∙ sym d
-  where
-    tied : desk_cmp b a ≡ Equal
-    tied = rw (p, q) (tied_itself int_cmp_total (pos 1))
-
-    here : put_rows desk_cmp (b ∷ []) (a ∷ []) ≡ b ∷ []
-    here = rw tied refl
+desk_put a b us vs p q e d = cc
 
 pub changes_suffice : (A : Ledger) (r : Request) (C D : Content) → Good A → IsKey r.key → IsInRange r.command → kept_under A r.key ≡ None → FirstFailure (checks A r.command) None
     → IsRowsOf A C → IsRowsOf (accept A r) D → put_content (changed_rows A r D) C ≡ D

@@ -1,5 +1,5 @@
 -- The fields that a request makes or changes, put in one after the other by their names.
-use Rattle.std.proofs.Common.{◌≡◌, ◌∙◌, ℕ, ◌+◌, ◌<◌, ◌==◌, ◌++◌, Bool, Err, IsSome, OnOk, Ok, Result, true, false, List, [], ◌∷◌, Option, None, Some, ap, cond, find, flat_map, if◌then◌else◌, get_or, is_some, length, map, refl, subst, sym, take, true≢false}
+use Rattle.std.proofs.Common.{arith, ◌≡◌, ◌∙◌, ℕ, ◌+◌, ◌<◌, ◌==◌, ◌++◌, Bool, Err, IsSome, OnOk, Ok, Result, true, false, List, [], ◌∷◌, Option, None, Some, ap, cond, find, flat_map, if◌then◌else◌, get_or, is_some, length, map, refl, subst, sym, take, true≢false}
 use Rattle.std.proofs.lemmas.Cmp.{tied_itself}
 use Rattle.std.specs.BTreeMap.{insert_entry, is_at}
 use Rattle.std.specs.List.{AllByRecursion as Each, Contains}
@@ -74,17 +74,7 @@ put_there (e ∷ C) n m v there = by (name_cmp n e.0) (is_eq (name_cmp m e.0)) t
 
 pub put_self : (C : List (Name × FieldEntry)) (n : Name) (v : FieldEntry) → is_some (lookup (is_at (name_cmp n)) (insert_entry name_cmp C n v)) ≡ true
 put_self [] n v = ap (λ b. is_some (cond b (Some v) None)) (self_eq n)
-put_self (e ∷ C) n v = by (name_cmp n e.0) refl (put_self C n v)
-  where
-    first : (b : Bool) (x : FieldEntry) (rest : Option FieldEntry) → is_some rest ≡ true → is_some (cond b (Some x) rest) ≡ true
-    first true x rest h = refl
-    first false x rest h = h
-
-    by : (o : Ordering) → name_cmp n e.0 ≡ o → is_some (lookup (is_at (name_cmp n)) (insert_entry name_cmp C n v)) ≡ true
-        → is_some (lookup (is_at (name_cmp n)) (match_ordering o ((n, v) ∷ e ∷ C) ((e.0, v) ∷ C) (e ∷ insert_entry name_cmp C n v))) ≡ true
-    by Less is more = ap (λ b. is_some (cond b (Some v) (lookup (is_at (name_cmp n)) (e ∷ C)))) (self_eq n)
-    by Equal is more = ap (λ o. is_some (cond (is_eq o) (Some v) (lookup (is_at (name_cmp n)) C))) is
-    by Greater is more = first (is_eq (name_cmp n e.0)) e.1 _ more
+put_self (e ∷ C) n v = let more = put_self C n v in grind (arith, (self_eq n))
 
 pub less_other : (n m : Name) → name_cmp n m ≡ Less → same_name m n ≡ false
 less_other n m less = by (same_name m n) refl
@@ -228,10 +218,7 @@ made_good A r o a made = each-found (IsGoodOrder (accept A r)) (λ m. m.number =
 
 -- the field of one of its lines is there
 pub line_there : (A : Ledger) (r : Request) (o : Order) (l : Line) → Accepts A r → order_after A r.command ≡ Some o → find (on (line_name l)) o.lines ≡ Some l → IsSome (field_named A (line_name l))
-line_there A r o l a made found =
-    let good = made_good A r o a made in
-    let line = each-found (IsGoodLine (accept A r)) (on (line_name l)) l o.lines good.lines found in
-    subst (λ (fs : List Field). IsSome (find (λ f. same_name (line_name l) f.name) fs)) (fields_stay A r.command o.number (number_of_made A r.command o a.accepted.1 made)) line.field
+line_there A r o l a made found = grind (arith, (fields_stay A r.command o.number (number_of_made A r.command o a.accepted.1 made)), (made_good A r o a made), each-found, number_of_made)
 
 -- one line more
 pub lines_step : (A : Ledger) (r : Request) (lines ls : List Line) (i : ℕ) (x : Line) (C D : List (Name × FieldEntry)) → lines ≡ ls → i < length ls → x ≡ get_or ls i x → Each (IsChangedField A r) C

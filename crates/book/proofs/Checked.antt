@@ -1,5 +1,5 @@
 -- What the comparisons of a program say of the checks of a command.
-use Rattle.std.proofs.Common.{◌≡◌, ◌≢◌, ◌∙◌, ◌↔◌, ◌≤◌, ℕ, List, [], ◌∷◌, ◌++◌, Bool, false, Option, None, Some, IsFalse, IsNone, IsSomeAnd, IsTrue, MatchOption, inl, inr, is_some, length, refl, sym, true≢false}
+use Rattle.std.proofs.Common.{arith, ◌≡◌, ◌≢◌, ◌∙◌, ◌↔◌, ◌≤◌, ℕ, List, [], ◌∷◌, ◌++◌, Bool, false, Option, None, Some, IsFalse, IsNone, IsSomeAnd, IsTrue, MatchOption, inl, inr, is_some, length, refl, sym, true≢false}
 use denote.Enum.Bare.{sameb}
 use Rattle.escrow.specs.declared.quantity.Way.{Way}
 use Rattle.escrow.specs.declared.quantity.Way.TheVariants.{Add, Take}
@@ -54,12 +54,6 @@ no iff e h = true≢false (sym (iff.1 h) ∙ e)
 
 -- ---- an amount more on an order
 
-same_way : (v w : Way) → (v ≢ w → ⊥) → v ≡ w
-same_way Take Take h = refl
-same_way Add Add h = refl
-same_way Take Add h = absurd (h (λ e. cc))
-same_way Add Take h = absurd (h (λ e. cc))
-
 -- a kind that is not the kind of transfers
 pub no_transfer_kind : (k : Kind) → sameb the_type k Transfer ≡ false → IsFalse (transfer_kind k)
 no_transfer_kind Plain e = refl
@@ -69,11 +63,7 @@ no_transfer_kind Transfer e = absurd (true≢false e)
 pub may_hold : (o : Order) (w : Way) (f : Name) (fault : Option (Refusal × ℕ)) → IsTrue (is_open o) → IsFalse (is_transfer o) → FirstFailure (hold_checks o w f) fault → is_some fault ≡ false → MayHoldMore f w o
 may_hold o w f (Some x) opened plain held none = absurd (true≢false none)
 may_hold o w f None opened plain (inl h) none = let e = h.1 in cc
-may_hold o w f None opened plain (inr h) none = (opened, plain, by (line_on o f) h.0)
-  where
-    by : (x : Option Line) → (IsSomeAnd x (λ l. l.way ≢ w) → ⊥) → MatchOption x (Unit {0}) (λ m. m.way ≡ w)
-    by None h = tt
-    by (Some l) h = same_way l.way w h
+may_hold o w f None opened plain (inr h) none = grind arith
 
 -- the checks that its line makes, and the one of the bound
 abbrev of_line : Ledger → ℕ → Way → Name → List Check

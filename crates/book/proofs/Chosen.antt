@@ -13,11 +13,7 @@ filter-none t row (x ∷ xs) h = rw h.0 (filter-none t row xs h.1)
 
 pub filter-insert : {X R : Type 0} (t : R → Bool) (row : X → R) (p : X → X → Bool) (x : X) (xs : List X) → t (row x) ≡ true → Each (λ y. t (row y) ≡ false) xs → filter t (map row (insert_in_order p x xs)) ≡ row x ∷ []
 filter-insert t row p x [] e h = rw e refl
-filter-insert t row p x (y ∷ ys) e h = step (p x y) (filter-insert t row p x ys e h.1)
-  where
-    step : (b : Bool) → filter t (map row (insert_in_order p x ys)) ≡ row x ∷ [] → filter t (map row (if b then x ∷ y ∷ ys else y ∷ insert_in_order p x ys)) ≡ row x ∷ []
-    step true more = rw (e, h.0) (ap (λ zs. row x ∷ zs) (filter-none t row ys h.1))
-    step false more = rw h.0 more
+filter-insert t row p x (y ∷ ys) e h = let more = filter-insert t row p x ys e h.1 in grind (arith, (filter-none t row ys h.1))
 
 pub filter-push : {X R : Type 0} (t : R → Bool) (row : X → R) (x : X) (xs : List X) → t (row x) ≡ true → Each (λ y. t (row y) ≡ false) xs → filter t (map row (xs ++ x ∷ [])) ≡ row x ∷ []
 filter-push t row x [] e h = rw e refl
@@ -27,14 +23,7 @@ filter-push t row x (y ∷ ys) e h = rw h.0 (filter-push t row x ys e h.1)
 pub filter-each : {X R : Type 0} (t : R → Bool) (row made : X → R) (s : X → Bool) (xs : List X) → Each (λ x. t (row x) ≡ s x) xs → Each (λ x. s x ≡ true → made x ≡ row x) xs
     → flat_map (λ x. if s x then made x ∷ [] else []) xs ≡ filter t (map row xs)
 filter-each t row made s [] h k = refl
-filter-each {R = R} t row made s (x ∷ xs) h k = step (s x) h.0 k.0 (filter-each t row made s xs h.1 k.1)
-  where
-    rest : List R
-    rest = flat_map (λ x. if s x then made x ∷ [] else []) xs
-
-    step : (b : Bool) → t (row x) ≡ b → (b ≡ true → made x ≡ row x) → rest ≡ filter t (map row xs) → (if b then made x ∷ [] else []) ++ rest ≡ filter t (map row (x ∷ xs))
-    step true e same more = rw e (λ i. same refl i ∷ more i)
-    step false e same more = rw e more
+filter-each {R = R} t row made s (x ∷ xs) h k = let more = filter-each t row made s xs h.1 k.1 in grind arith
 
 -- tests over lists
 
@@ -68,8 +57,4 @@ some_is x y e = ap (from_some x) e
 -- what is found of an insertion, where it was not there
 pub find-new : (n : ℕ) (p : Order → Order → Bool) (o : Order) (os : List Order) → (o.number == n) ≡ true → Each (λ m. (m.number == n) ≡ false) os → find (λ m. m.number == n) (insert_in_order p o os) ≡ Some o
 find-new n p o [] e h = rw e refl
-find-new n p o (m ∷ ms) e h = step (p o m) (find-new n p o ms e h.1)
-  where
-    step : (b : Bool) → find (λ m. m.number == n) (insert_in_order p o ms) ≡ Some o → find (λ m. m.number == n) (if b then o ∷ m ∷ ms else m ∷ insert_in_order p o ms) ≡ Some o
-    step true more = rw e refl
-    step false more = rw h.0 more
+find-new n p o (m ∷ ms) e h = let more = find-new n p o ms e h.1 in grind arith

@@ -1,4 +1,5 @@
 -- From a good ledger every future keeps the bounds and the commits.
+use Rattle.std.proofs.lemmas.Grind.{common_steps}
 use Rattle.std.proofs.Common.{◌≡◌, ℕ, ◌+◌, ◌-◌, ◌<◌, ◌≤◌, ℤ, pos, ◌+ℤ◌, ◌-ℤ◌, neg_ℤ, ◌≤ℤ◌, List, [], ◌∷◌, map, Bool, true, false, ◌&&◌, ◌||◌, IsTrue, IsFalse, IsNone, is_some, IsSomeAnd, Option, Some, None, find, refl, sym, ap, ◌∙◌, subst, arith, if◌then◌else◌, true≢false, inl, inr, ◌==◌, nat_le, nat_cmp, Less, MatchOption}
 use Rattle.std.proofs.lemmas.Int.{ints}
 use Rattle.std.specs.Cmp.{ranks}
@@ -142,12 +143,7 @@ commit_high Open u t e h = omega (arith, ints)
 commit_high c u t e h = absurd (true≢false (sym e))
 
 better-commit : (o : Order) → Fine o → is_open o ≡ true → Better o (set_state Committed o)
-better-commit o fine e = record {
-  number = refl;
-  fine = record { sound = record { used = fine.sound.used; one = fine.sound.one }; pair = fine.pair };
-  low_is = λ f. commit_low o.state (moved f (λ l. l.used) o) (total (takes f) o.lines) e (moved-low f (λ l. l.used) o.lines (used_in_held o.lines fine.sound.used));
-  high_is = λ f. commit_high o.state (moved f (λ l. l.used) o) (total (adds f) o.lines) e (moved-high f (λ l. l.used) o.lines (used_in_held o.lines fine.sound.used));
-}
+better-commit o fine e = grind (arith, (used_in_held o.lines fine.sound.used), adds, commit_high, commit_low, moved-high, moved-low, takes)
 
 abort_low : (s : State) (u t : ℤ) → open_state s ≡ true → pos 0 ≤ℤ t → ((if committed_state s then u else pos 0) -ℤ (if open_state s then t else pos 0)) ≤ℤ (pos 0 -ℤ pos 0)
 abort_low Open u t e h = omega (arith, ints)
@@ -158,12 +154,7 @@ abort_high Open u t e h = omega (arith, ints)
 abort_high c u t e h = absurd (true≢false (sym e))
 
 better-abort : (o : Order) → Fine o → is_open o ≡ true → Better o (set_state Aborted o)
-better-abort o fine e = record {
-  number = refl;
-  fine = record { sound = record { used = fine.sound.used; one = fine.sound.one }; pair = fine.pair };
-  low_is = λ f. abort_low o.state (moved f (λ l. l.used) o) (total (takes f) o.lines) e (takes-not_negative f o.lines);
-  high_is = λ f. abort_high o.state (moved f (λ l. l.used) o) (total (adds f) o.lines) e (adds-not_negative f o.lines);
-}
+better-abort o fine e = grind (arith, abort_high, abort_low, adds, adds-not_negative, takes, takes-not_negative)
 
 -- a use or a release, on an open order
 
@@ -182,23 +173,11 @@ one_on-map f h (l ∷ ls) s one = (λ e. none ls s.1 (one.0 (subst (λ g. same_n
     none [] t e = tt
     none (m ∷ ms) t e = (subst (λ g. same_name f g ≡ false) (sym t.0.name) e.0, none ms t.1 e.1)
 
-take_less : (b : Bool) (w : Way) (m n : ℕ) → m ≤ n → (if b then pos (if_take w m) else pos 0) ≤ℤ (if b then pos (if_take w n) else pos 0)
-take_less true Take m n h = omega (arith, ints)
-take_less true Add m n h = omega (arith, ints)
-take_less false w m n h = omega (arith, ints)
-
-add_less : (b : Bool) (w : Way) (m n : ℕ) → m ≤ n → (if b then pos (if_add w m) else pos 0) ≤ℤ (if b then pos (if_add w n) else pos 0)
-add_less true Take m n h = omega (arith, ints)
-add_less true Add m n h = omega (arith, ints)
-add_less false w m n h = omega (arith, ints)
-
 takes-step : (f : Name) (l new : Line) → LineStep l new → takes f new ≤ℤ takes f l
-takes-step f l new s = subst (λ n. (if same_name f n then pos (if_take new.way new.held) else pos 0) ≤ℤ takes f l) (sym s.name)
-    (subst (λ w. (if on f l then pos (if_take w new.held) else pos 0) ≤ℤ takes f l) (sym s.way) (take_less (on f l) l.way new.held l.held s.held))
+takes-step f l new s = grind arith
 
 adds-step : (f : Name) (l new : Line) → LineStep l new → adds f new ≤ℤ adds f l
-adds-step f l new s = subst (λ n. (if same_name f n then pos (if_add new.way new.held) else pos 0) ≤ℤ adds f l) (sym s.name)
-    (subst (λ w. (if on f l then pos (if_add w new.held) else pos 0) ≤ℤ adds f l) (sym s.way) (add_less (on f l) l.way new.held l.held s.held))
+adds-step f l new s = grind arith
 
 takes-map : (f : Name) (h : Line → Line) (ls : List Line) → Each (λ l. LineStep l (h l)) ls → total (takes f) (map h ls) ≤ℤ total (takes f) ls
 takes-map f h [] s = omega (arith, ints)
@@ -274,11 +253,7 @@ all_pass (c ∷ cs) (inr h) = (h.0, all_pass cs h.1)
 
 pub open_there : (o : Option Order) → (IsNone o → ⊥) → (IsSomeAnd o (λ o. IsFalse (is_open o)) → ⊥) → IsSomeAnd o (λ o. is_open o ≡ true)
 open_there None h k = h refl
-open_there (Some o) h k = bool (is_open o) refl
-  where
-    bool : (b : Bool) → is_open o ≡ b → is_open o ≡ true
-    bool true e = e
-    bool false e = absurd (k e)
+open_there (Some o) h k = grind arith
 
 -- The order is open, and its line on f has q left.
 abbrev pub Usable : Name → ℕ → Order → Type 0
@@ -286,10 +261,7 @@ Usable f q o = (is_open o ≡ true) × IsSomeAnd (line_on o f) (λ l. l.used + q
 
 line_there : (q : ℕ) (l : Option Line) → (IsNone l → ⊥) → (IsSomeAnd l (λ l. l.held < l.used + q) → ⊥) → IsSomeAnd l (λ l. l.used + q ≤ l.held)
 line_there q None h k = h refl
-line_there q (Some l) h k = not_less l.held (l.used + q) k
-  where
-    not_less : (a b : ℕ) → (a < b → ⊥) → b ≤ a
-    not_less a b k = omega arith
+line_there q (Some l) h k = grind arith
 
 pub usable_there : (f : Name) (q : ℕ) (o : Option Order) → (IsNone o → ⊥) → (IsSomeAnd o (λ o. IsFalse (is_open o)) → ⊥) → (IsSomeAnd o (λ o. IsNone (line_on o f)) → ⊥)
     → (IsSomeAnd o (λ o. IsSomeAnd (line_on o f) (λ l. l.held < l.used + q)) → ⊥) → IsSomeAnd o (Usable f q)
@@ -301,12 +273,7 @@ pair_left : (f : Name) (q : ℕ) (ls : List Line) → IsTransferPair ls → IsSo
 pair_left f q [] p h = tt
 pair_left f q (l ∷ []) p h = absurd p
 pair_left f q (l ∷ m ∷ k ∷ ls) p h = absurd p
-pair_left f q (l ∷ m ∷ []) p h = step (on f l) (on f m) h
-  where
-    step : (b c : Bool) → IsSomeAnd (if b then Some l else (if c then Some m else None)) (λ l. l.used + q ≤ l.held) → (l.used + q ≤ l.held) × ((m.used + q ≤ m.held) × Unit {0})
-    step true c h = let e : l.held ≡ m.held = p.3 in let d : l.used ≡ m.used = p.4 in (h, (omega arith, tt))
-    step false true h = let e : l.held ≡ m.held = p.3 in let d : l.used ≡ m.used = p.4 in (omega arith, (h, tt))
-    step false false h = absurd h
+pair_left f q (l ∷ m ∷ []) p h = grind arith
 
 pub left_on : (f : Name) (q : ℕ) (o : Order) → Fine o → Usable f q o → Each (λ l. (is_transfer o || on f l) ≡ true → l.used + q ≤ l.held) o.lines
 left_on f q o fine u = step (is_transfer o) refl
@@ -418,26 +385,16 @@ fit_from_good A g = let s = each-imp (λ o x. sound_from_good A o x) A.orders g.
 held_take-not_negative : (f : Name) (os : List Order) → pos 0 ≤ℤ takes_part f os
 unfolding takes_part
 held_take-not_negative f [] = omega (arith, ints)
-held_take-not_negative f (o ∷ os) = let a = if_not_negative (is_open o) (total (takes f) o.lines) (takes-not_negative f o.lines) in let b = held_take-not_negative f os in omega (arith, ints)
-  where
-    if_not_negative : (b : Bool) (z : ℤ) → pos 0 ≤ℤ z → pos 0 ≤ℤ (if b then z else pos 0)
-    if_not_negative true z h = h
-    if_not_negative false z h = omega (arith, ints)
+held_take-not_negative f (o ∷ os) = let more = held_take-not_negative f os in grind (arith, (takes f), (takes-not_negative f o.lines))
 
 held_add-not_negative : (f : Name) (os : List Order) → pos 0 ≤ℤ adds_part f os
 unfolding adds_part
 held_add-not_negative f [] = omega (arith, ints)
-held_add-not_negative f (o ∷ os) = let a = if_not_negative (is_open o) (total (adds f) o.lines) (adds-not_negative f o.lines) in let b = held_add-not_negative f os in omega (arith, ints)
-  where
-    if_not_negative : (b : Bool) (z : ℤ) → pos 0 ≤ℤ z → pos 0 ≤ℤ (if b then z else pos 0)
-    if_not_negative true z h = h
-    if_not_negative false z h = omega (arith, ints)
+held_add-not_negative f (o ∷ os) = let more = held_add-not_negative f os in grind (arith, (adds f), (adds-not_negative f o.lines))
 
 settled_within : (A : Ledger) (f : Field) → HasRoom A f → IsWithin f (settled A f)
 unfolding takes_part adds_part
-settled_within A f r = let p : (pos f.lo) ≤ℤ (settled A f -ℤ held_to_take A f.name) = r.0 in let q : (settled A f +ℤ held_to_add A f.name) ≤ℤ pos f.hi = r.1 in
-    let x : pos 0 ≤ℤ held_to_take A f.name = held_take-not_negative f.name A.orders in let y : pos 0 ≤ℤ held_to_add A f.name = held_add-not_negative f.name A.orders in
-    (omega (arith, ints), omega (arith, ints))
+settled_within A f r = grind (arith, ints, common_steps, (held_take-not_negative f.name A.orders), (held_add-not_negative f.name A.orders), f.lo, f.name, r.0, f.hi, r.1, A.orders)
 
 -- an order is found under its number
 found : (os : List Order) → IsStrictlySortedBy nat_cmp (map (λ o. o.number) os) → Each (λ o. find (λ e. e.number == o.number) os ≡ Some o) os

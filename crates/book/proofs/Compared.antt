@@ -54,8 +54,7 @@ add_sum Add m n = refl
 part_none : (p : Way → ℕ → ℕ) (name : Name) (q : ℕ) (ls : List Line) → Each (λ m. on name m ≡ false) ls
     → total (part p name) (map (λ m. if on name m then raise_held q m else m) ls) ≡ total (part p name) ls
 part_none p name q [] h = refl
-part_none p name q (m ∷ ms) h =
-    let same : (if on name m then raise_held q m else m) ≡ m = rw h.0 refl in let b = part_none p name q ms h.1 in λ i. part p name (same i) +ℤ b i
+part_none p name q (m ∷ ms) h = let more = part_none p name q ms h.1 in cc
 
 part_raised : (p : Way → ℕ → ℕ) → IsSum p → (name : Name) (w : Way) (q : ℕ) (ls : List Line) → OneOn name ls → IsSomeAnd (find (on name) ls) (λ m. m.way ≡ w)
     → total (part p name) (map (λ m. if on name m then raise_held q m else m) ls) ≡ total (part p name) ls +ℤ pos (p w q)
@@ -112,20 +111,7 @@ total_changed g h n z (m ∷ ms) sorted found = step (m.number == n) refl found 
 held_more : (p : Way → ℕ → ℕ) → IsSum p → (A : Ledger) (n : ℕ) (l : OpenLine) → Good A → IsSomeAnd (order_numbered A n) (MayHoldMore (line_name (new_line l)) l.way)
     → total (λ o. if is_open o then total (part p (line_name (new_line l))) o.lines else pos 0) (change_order n (add_hold l) A).orders
     ≡ total (λ o. if is_open o then total (part p (line_name (new_line l))) o.lines else pos 0) A.orders +ℤ pos (p l.way l.qty)
-held_more p sum A n l good may = total_changed held (add_hold l) n (pos (p l.way l.qty)) A.orders good.orders_in_order (by (order_numbered A n) refl may)
-  where
-    name : Name
-    name = line_name (new_line l)
-
-    held : Order → ℤ
-    held o = if is_open o then total (part p name) o.lines else pos 0
-
-    by : (x : Option Order) → order_numbered A n ≡ x → IsSomeAnd x (MayHoldMore name l.way) → IsSomeAnd x (λ o. held (add_hold l o) ≡ held o +ℤ pos (p l.way l.qty))
-    by None e m = m
-    by (Some o) e m =
-        let sound = found_is Sound n A.orders o (sounds_from_good A good) e in
-        let stays : is_open (add_hold l o) ≡ true = subst (λ s. open_state s ≡ true) (sym (raised l o sound m).state) m.0 in
-        rw (stays, m.0) (part_more p sum l o sound m)
+held_more p sum A n l good may = grind (arith, (sounds_from_good A good), Sound, found_is, part, part_more, raised, total_changed)
 
 pub more_test : (A : Ledger) (n : ℕ) (l : OpenLine) (i : ℕ) → Good A → IsSomeAnd (order_numbered A n) (MayHoldMore (line_name (new_line l)) l.way)
     → (bound l.way (change_order n (add_hold l) A) (line_name (new_line l)) i).fails ↔ BreaksBound l.way A (line_name (new_line l)) l.qty

@@ -33,24 +33,11 @@ one o = if is_open o then pos 1 else pos 0
 
 total_one : (os : List Order) → total one os ≡ pos (count_by is_open os)
 total_one [] = refl
-total_one (o ∷ os) = by (is_open o) (total_one os) (counted is_open o os)
-  where
-    by : (b : Bool) → total one os ≡ pos (count_by is_open os) → count_by is_open (o ∷ os) ≡ (if b then 1 else 0) + count_by is_open os → (if b then pos 1 else pos 0) +ℤ total one os ≡ pos (count_by is_open (o ∷ os))
-    by true e c = omega (arith, ints)
-    by false e c = omega (arith, ints)
+total_one (o ∷ os) = let more = total_one os in grind (arith, (counted is_open o os))
 
 expired_one : (now : ℕ) (os : List Order) → total (λ o. if expires now o then one o else pos 0) os ≡ pos (count_by (expires now) os)
 expired_one now [] = refl
-expired_one now (o ∷ os) = by (expires now o) refl (expired_one now os) (counted (expires now) o os)
-  where
-    first_true : (a b : Bool) → (a && b) ≡ true → a ≡ true
-    first_true true b e = refl
-    first_true false b e = e
-
-    by : (b : Bool) → expires now o ≡ b → total (λ o. if expires now o then one o else pos 0) os ≡ pos (count_by (expires now) os) → count_by (expires now) (o ∷ os) ≡ (if b then 1 else 0) + count_by (expires now) os
-        → (if b then one o else pos 0) +ℤ total (λ o. if expires now o then one o else pos 0) os ≡ pos (count_by (expires now) (o ∷ os))
-    by true is e c = let here = ap (λ t. if t then pos 1 else pos 0) (first_true (is_open o) _ is) in omega (arith, ints)
-    by false is e c = omega (arith, ints)
+expired_one now (o ∷ os) = let more = expired_one now os in grind (arith, (counted (expires now) o os))
 
 one_before : (x : Option Order) (f : Name) → IsBefore f x → some_part one x ≡ (if is_some x then pos 1 else pos 0)
 one_before None f is = refl
@@ -71,14 +58,8 @@ counted_on A c n good passed e =
     omega (arith, ints)
 
 pub opened_count : (A : Ledger) (c : Command) → Good A → FirstFailure (checks A c) None → is_opening c ≡ true → open_orders (next A c) ≡ open_orders A + 1
-opened_count A (command.Open n until lines) good h is =
-    let sum = counted_on A (command.Open n until lines) n good h refl in
-    let none = ap (λ (x : Option Order). if is_some x then pos 1 else pos 0) (none_opened A (command.Open n until lines) n h refl refl) in
-    omega (arith, ints)
-opened_count A (command.Transfer n until a from to q) good h is =
-    let sum = counted_on A (command.Transfer n until a from to q) n good h refl in
-    let none = ap (λ (x : Option Order). if is_some x then pos 1 else pos 0) (none_opened A (command.Transfer n until a from to q) n h refl refl) in
-    omega (arith, ints)
+opened_count A (command.Open n until lines) good h is = grind (arith, (none_opened A (command.Open n until lines) n h refl refl), (counted_on A (command.Open n until lines) n good h refl))
+opened_count A (command.Transfer n until a from to q) good h is = grind (arith, (none_opened A (command.Transfer n until a from to q) n h refl refl), (counted_on A (command.Transfer n until a from to q) n good h refl))
 opened_count A c good h is = absurd (true≢false (sym is))
 
 -- the order under the number is there
@@ -96,31 +77,12 @@ ended_part None s e = refl
 ended_part (Some o) s e = ap (λ t. if t then pos 1 else pos 0) e
 
 held_state : (l : OpenLine) (o : Order) → (add_hold l o).state ≡ o.state
-held_state l o = by (is_some (line_on o (line_name (new_line l))))
-  where
-    by : (b : Bool) → (if b then hold_more (line_name (new_line l)) l.qty o else record o { lines = o.lines ++ new_line l ∷ [] }).state ≡ o.state
-    by true = refl
-    by false = refl
+held_state l o = grind arith
 
 pub changed_count : (A : Ledger) (c : Command) → Good A → FirstFailure (checks A c) None → is_change c ≡ true → open_orders (next A c) ≡ open_orders A
-changed_count A (command.More n way b a q) good h is =
-    let sum = counted_on A (command.More n way b a q) n good h refl in
-    let there = numbered (order_numbered A n) (all_pass (checks A (command.More n way b a q)) h).1.0 in
-    let one_there = ap (λ t. if t then pos 1 else pos 0) there in
-    let after = kept_open (order_numbered A n) nowhere (add_hold (record { way = way; branch = b; article = a; qty = q })) (held_state _) (before A (command.More n way b a q) n nowhere good h refl) there in
-    omega (arith, ints)
-changed_count A (command.Use n b a q) good h is =
-    let sum = counted_on A (command.Use n b a q) n good h refl in
-    let there = numbered (order_numbered A n) (all_pass (checks A (command.Use n b a q)) h).1.0 in
-    let one_there = ap (λ t. if t then pos 1 else pos 0) there in
-    let after = kept_open (order_numbered A n) nowhere (change_lines (name_of b a) (raise_used q)) (λ o. refl) (before A (command.Use n b a q) n nowhere good h refl) there in
-    omega (arith, ints)
-changed_count A (command.Release n b a q) good h is =
-    let sum = counted_on A (command.Release n b a q) n good h refl in
-    let there = numbered (order_numbered A n) (all_pass (checks A (command.Release n b a q)) h).1.0 in
-    let one_there = ap (λ t. if t then pos 1 else pos 0) there in
-    let after = kept_open (order_numbered A n) nowhere (change_lines (name_of b a) (lower_held q)) (λ o. refl) (before A (command.Release n b a q) n nowhere good h refl) there in
-    omega (arith, ints)
+changed_count A (command.More n way b a q) good h is = grind (arith, (counted_on A (command.More n way b a q) n good h refl), (numbered (order_numbered A n) (all_pass (checks A (command.More n way b a q)) h).1.0), all_pass, before, held_state, kept_open)
+changed_count A (command.Use n b a q) good h is = grind (arith, (counted_on A (command.Use n b a q) n good h refl), (numbered (order_numbered A n) (all_pass (checks A (command.Use n b a q)) h).1.0), all_pass, before, kept_open)
+changed_count A (command.Release n b a q) good h is = grind (arith, (counted_on A (command.Release n b a q) n good h refl), (numbered (order_numbered A n) (all_pass (checks A (command.Release n b a q)) h).1.0), all_pass, before, kept_open)
 changed_count A c good h is = absurd (true≢false (sym is))
 
 pub committed_count : (A : Ledger) (n : ℕ) → Good A → FirstFailure (checks A (command.Commit n)) None → open_orders (next A (command.Commit n)) + 1 ≡ open_orders A

@@ -43,8 +43,7 @@ no_new : (A : Ledger) (r : Request) (rows : List FieldCells) → new_field_rows 
 no_new A r rows none is = is ∙ sym (append-nil (changed_fields A r A.fields)) ∙ ap (λ (more : List FieldCells). changed_fields A r A.fields ++ more) (sym none)
 
 changed_rows : (A : Ledger) (r : Request) (D : List (Name × FieldEntry)) → Good A → IsStrictlySortedBy name_cmp (keys_of D) → Each (IsChangedField A r) D → ((f : Field) → changes_field A r.command f.name ≡ true → HasEntry D f.name) → new_field_rows (accept A r) r.command ≡ [] → map entry_row D ≡ field_rows A r
-changed_rows A r D good rising changed all none =
-    no_new A r (map entry_row D) none (all_rows (changes_field A r.command) (field_row (accept A r)) A.fields D good.fields_in_order rising changed (each all A.fields))
+changed_rows A r D good rising changed all none = grind (arith, (all_rows (changes_field A r.command) (field_row (accept A r)) A.fields D good.fields_in_order rising changed (each all A.fields)), each, no_new)
 
 -- ---- one field
 
@@ -129,11 +128,7 @@ any_line P f (l ∷ ls) all e = by (on f l) refl e (λ k. any_line P f ls all.1 
 
 any_there : (f : Name) (ls : List Line) → is_some (find (on f) ls) ≡ list_any (on f) ls
 any_there f [] = refl
-any_there f (l ∷ ls) = by (on f l) (any_there f ls)
-  where
-    by : (b : Bool) → is_some (find (on f) ls) ≡ list_any (on f) ls → is_some (if b then Some l else find (on f) ls) ≡ (b || list_any (on f) ls)
-    by true e = refl
-    by false e = e
+any_there f (l ∷ ls) = let more = any_there f ls in grind arith
 
 raised_on : (b : Bool) (f : Name) (q : ℕ) (l : Line) → on f (if b then raise_held q l else l) ≡ on f l
 raised_on true f q l = refl
@@ -144,13 +139,7 @@ or_true true b e = refl
 or_true false b e = e
 
 held_on : (f : Name) (ol : OpenLine) (o : Order) → f ≡ line_name (new_line ol) → list_any (on f) (add_hold ol o).lines ≡ true
-held_on f ol o is = by (is_some (line_on o (line_name (new_line ol)))) refl
-  where
-    by : (b : Bool) → is_some (line_on o (line_name (new_line ol))) ≡ b → list_any (on f) (if b then hold_more (line_name (new_line ol)) ol.qty o else record o { lines = o.lines ++ new_line ol ∷ [] }).lines ≡ true
-    by true e = any-map (on f) (λ m. if on (line_name (new_line ol)) m then raise_held ol.qty m else m) o.lines
-        ∙ any-eq (λ m. on f (if on (line_name (new_line ol)) m then raise_held ol.qty m else m)) (on f) o.lines (each (λ m. raised_on (on (line_name (new_line ol)) m) f ol.qty m) o.lines)
-        ∙ ap (λ (k : Name). list_any (on k) o.lines) is ∙ sym (any_there (line_name (new_line ol)) o.lines) ∙ e
-    by false e = any-append (on f) o.lines (new_line ol) ∙ or_true (list_any (on f) o.lines) (on f (new_line ol)) (ap (λ (k : Name). same_name k (line_name (new_line ol))) is ∙ same_self (line_name (new_line ol)))
+held_on f ol o is = grind (arith, (each (λ m. raised_on (on (line_name (new_line ol)) m) f ol.qty m) o.lines), (any_there (line_name (new_line ol)) o.lines), any-append, any-eq, any-map, or_true, raised_on, same_self)
 
 second_true : (a b : Bool) → (a && b) ≡ true → b ≡ true
 second_true true b e = e
@@ -198,14 +187,7 @@ lines_rows A r o D accepts made rising has =
 
 entry_itself : (D : List (Name × FieldEntry)) → Each (λ e. HasEntry D e.0) D
 entry_itself [] = tt
-entry_itself (e ∷ D) = (ap (λ b. is_some (cond b (Some e.1) (lookup (is_at (name_cmp e.0)) D))) (self e.0), each-imp (λ d has. later (is_eq (name_cmp d.0 e.0)) (lookup (is_at (name_cmp d.0)) D) has) D (entry_itself D))
-  where
-    self : (n : Name) → is_eq (name_cmp n n) ≡ true
-    self n = self_eq n
-
-    later : (b : Bool) (rest : Option FieldEntry) → is_some rest ≡ true → is_some (cond b (Some e.1) rest) ≡ true
-    later true rest h = refl
-    later false rest h = h
+entry_itself (e ∷ D) = let more = entry_itself D in grind (arith, each-imp, self_eq)
 
 any_if : (b : Bool) (f : Name) (ls : List Line) → list_any (on f) (if b then ls else []) ≡ (b && list_any (on f) ls)
 any_if true f ls = refl
@@ -231,9 +213,7 @@ open_part false b z = refl
 
 -- what the orders that expire hold on a field
 expired_part : (now : ℕ) (g : Line → ℤ) (os : List Order) → total g (expired_lines now os) ≡ total (λ o. if expires now o then (if is_open o then total g o.lines else pos 0) else pos 0) os
-expired_part now g os = total-flat g (λ (o : Order). if expires now o then o.lines else []) os
-    ∙ total-eq (λ (o : Order). total g (if expires now o then o.lines else [])) (λ o. if expires now o then (if is_open o then total g o.lines else pos 0) else pos 0) os
-    (each (λ o. lines_if (expires now o) g o.lines ∙ open_part (is_open o) _ (total g o.lines)) os)
+expired_part now g os = grind (arith, each, lines_if, open_part, total-eq, total-flat)
 
 not_committed : (a b c : Bool) (z : ℤ) → (a ≡ true → c ≡ false) → (if a && b then pos 0 else (if c then z else pos 0)) ≡ (if c then z else pos 0)
 not_committed true true c z h = sym (ap (λ t. if t then z else pos 0) (h refl))

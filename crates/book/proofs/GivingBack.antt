@@ -1,4 +1,5 @@
 -- What lines give back, as the orders end that hold it.
+use Rattle.std.proofs.lemmas.Grind.{common_steps}
 use Rattle.std.proofs.Common.{◌≡◌, ◌∙◌, ℕ, ◌+◌, ◌<◌, ◌≤◌, ◌==◌, ℤ, pos, ◌+ℤ◌, ◌≤ℤ◌, ◌&&◌, ◌||◌, ◌++◌, Bool, true, false, List, [], ◌∷◌, Option, None, Some, IsSome, ap, append_assoc, arith, cond, drop, flat_map, get_or, length, if◌then◌else◌, is_some, refl, subst, sym, take, true≢false}
 use Rattle.std.proofs.lemmas.Int.{ints}
 use Rattle.std.specs.BTreeMap.{insert_entry, is_at}
@@ -44,16 +45,8 @@ total-flat g f [] = refl
 total-flat g f (x ∷ xs) = let first = total-append g (f x) (flat_map f xs) in let more = total-flat g f xs in omega (arith, ints)
 
 pub any-append : {X : Type 0} (t : X → Bool) (xs : List X) (y : X) → list_any t (xs ++ y ∷ []) ≡ (list_any t xs || t y)
-any-append t [] y = or_false (t y)
-  where
-    or_false : (b : Bool) → (b || false) ≡ b
-    or_false true = refl
-    or_false false = refl
-any-append t (x ∷ xs) y = by (t x) (any-append t xs y)
-  where
-    by : (b : Bool) → list_any t (xs ++ y ∷ []) ≡ (list_any t xs || t y) → (b || list_any t (xs ++ y ∷ [])) ≡ ((b || list_any t xs) || t y)
-    by true more = refl
-    by false more = more
+any-append t [] y = grind arith
+any-append t (x ∷ xs) y = let more = any-append t xs y in grind arith
 
 none_on : (n : Name) (ls : List Line) → list_any (on n) ls ≡ false → Each (λ l. on n l ≡ false) ls
 none_on n [] e = tt
@@ -91,21 +84,7 @@ on_itself : (l : Line) (z : ℤ) → part (on (line_name l) l) z ≡ z
 on_itself l z = ap (λ b. part b z) (same_self (line_name l))
 
 pub held_there : (A : Ledger) (ls : List Line) (l : Line) (v : FieldEntry) → GivenBack A ls (line_name l, v) → MayGiveBack A (ls ++ l ∷ []) → l.held ≤ held_of v.quantity l.way
-held_there A ls l v given may = by l.way refl
-  where
-    by : (w : Way) → l.way ≡ w → l.held ≤ held_of v.quantity w
-    by Take is =
-        let most = (may (line_name l)).0 in
-        let sum = total-push (λ m. if on (line_name l) m then pos (if_take m.way m.held) else pos 0) ls l in
-        let own = on_itself l (pos (if_take l.way l.held)) ∙ ap (λ w. pos (if_take w l.held)) is in
-        let takes = given.takes in
-        omega (arith, ints)
-    by Add is =
-        let most = (may (line_name l)).1 in
-        let sum = total-push (λ m. if on (line_name l) m then pos (if_add m.way m.held) else pos 0) ls l in
-        let own = on_itself l (pos (if_add l.way l.held)) ∙ ap (λ w. pos (if_add w l.held)) is in
-        let adds = given.adds in
-        omega (arith, ints)
+held_there A ls l v given may = grind (arith, ints, (total-push (λ m. if on (line_name l) m then pos (if_take m.way m.held) else pos 0) ls l), (total-push (λ m. if on (line_name l) m then pos (if_add m.way m.held) else pos 0) ls l), on_itself)
 
 given_itself : (A : Ledger) (ls : List Line) (l : Line) (v : FieldEntry) (w : Way) → l.way ≡ w → l.held ≤ held_of v.quantity w → GivenBack A ls (line_name l, v) → GivenBack A (ls ++ l ∷ []) (line_name l, record { start = v.start; quantity = giving_back v.quantity w l.held })
 given_itself A ls l v Take is held given =
@@ -159,11 +138,7 @@ put_other P Q n v own other (e ∷ C) sorted all = by (name_cmp n e.0) refl (put
 
 -- what is there once one is put in
 put_has : (C : List (Name × FieldEntry)) (n m : Name) (v : FieldEntry) → is_some (lookup (is_at (name_cmp m)) (insert_entry name_cmp C n v)) ≡ (is_some (lookup (is_at (name_cmp m)) C) || is_eq (name_cmp m n))
-put_has [] n m v = by (is_eq (name_cmp m n))
-  where
-    by : (b : Bool) → is_some (cond b (Some v) None) ≡ (false || b)
-    by true = refl
-    by false = refl
+put_has [] n m v = grind arith
 put_has (e ∷ C) n m v = by (name_cmp n e.0) refl (put_has C n m v)
   where
     first : (b : Bool) (rest : Option FieldEntry) → is_some (cond b (Some v) rest) ≡ (is_some rest || b)
@@ -200,19 +175,7 @@ line_given A ls l v new C D sorted gives may given is put =
 -- ---- all lines of an order, and of all orders that expire
 
 pub may_prefix : (A : Ledger) (ls ms ns : List Line) → MayGiveBack A (ls ++ (ms ++ ns)) → MayGiveBack A (ls ++ ms)
-may_prefix A ls ms ns may n =
-    let takes = total-append (λ l. if on n l then pos (if_take l.way l.held) else pos 0) ls (ms ++ ns) in
-    let takes_in = total-append (λ l. if on n l then pos (if_take l.way l.held) else pos 0) ms ns in
-    let takes_own = total-append (λ l. if on n l then pos (if_take l.way l.held) else pos 0) ls ms in
-    let takes_rest = takes-not_negative n ns in
-    let adds = total-append (λ l. if on n l then pos (if_add l.way l.held) else pos 0) ls (ms ++ ns) in
-    let adds_in = total-append (λ l. if on n l then pos (if_add l.way l.held) else pos 0) ms ns in
-    let adds_own = total-append (λ l. if on n l then pos (if_add l.way l.held) else pos 0) ls ms in
-    let adds_rest = adds-not_negative n ns in
-    let most = may n in
-    let take_most = most.0 in
-    let add_most = most.1 in
-    (omega (arith, ints), omega (arith, ints))
+may_prefix A ls ms ns may n = grind (arith, ints, (total-append (λ l. if on n l then pos (if_take l.way l.held) else pos 0) ls (ms ++ ns)), (total-append (λ l. if on n l then pos (if_take l.way l.held) else pos 0) ms ns), (total-append (λ l. if on n l then pos (if_take l.way l.held) else pos 0) ls ms), (takes-not_negative n ns), (total-append (λ l. if on n l then pos (if_add l.way l.held) else pos 0) ls (ms ++ ns)), (total-append (λ l. if on n l then pos (if_add l.way l.held) else pos 0) ms ns), (total-append (λ l. if on n l then pos (if_add l.way l.held) else pos 0) ls ms), (adds-not_negative n ns))
 
 pub lines_if : (b : Bool) (g : Line → ℤ) (ls : List Line) → total g (if b then ls else []) ≡ (if b then total g ls else pos 0)
 lines_if true g ls = refl
@@ -224,19 +187,13 @@ expiring_least true false z h = h
 expiring_least false b z h = omega (arith, ints)
 
 expired_most : (now : ℕ) (g : Line → ℤ) → ((ls : List Line) → pos 0 ≤ℤ total g ls) → (os : List Order) → total g (expired_lines now os) ≤ℤ total (λ o. if is_open o then total g o.lines else pos 0) os
-expired_most now g least os =
-    let flat = total-flat g (λ (o : Order). if expires now o then o.lines else []) os in
-    let le = total-le (λ (o : Order). total g (if expires now o then o.lines else [])) (λ o. if is_open o then total g o.lines else pos 0) os
-    (each (λ o. subst (λ z. z ≤ℤ (if is_open o then total g o.lines else pos 0)) (sym (lines_if (expires now o) g o.lines)) (expiring_least (is_open o) _ (total g o.lines) (least o.lines))) os) in
-    omega (arith, ints)
+expired_most now g least os = grind (arith, (total-flat g (λ (o : Order). if expires now o then o.lines else []) os), each, expiring_least, lines_if, total-le)
 
 pub may_all : (A : Ledger) (now : ℕ) → MayGiveBack A (expired_lines now A.orders)
 may_all A now n = (expired_most now (λ l. if on n l then pos (if_take l.way l.held) else pos 0) (takes-not_negative n) A.orders, expired_most now (λ l. if on n l then pos (if_add l.way l.held) else pos 0) (adds-not_negative n) A.orders)
 
 pub may_step : (A : Ledger) (ls lines : List Line) (i : ℕ) (x : Line) → i < length lines → x ≡ get_or lines i x → MayGiveBack A (ls ++ lines) → MayGiveBack A ((ls ++ take i lines) ++ x ∷ [])
-may_step A ls lines i x within is may =
-    subst (MayGiveBack A) (sym (append_assoc ls (take i lines) (x ∷ [])))
-    (may_prefix A ls (take i lines ++ x ∷ []) (drop (i + 1) lines) (subst (λ (ms : List Line). MayGiveBack A (ls ++ ms)) (cut_at lines i x within is) may))
+may_step A ls lines i x within is may = grind (arith, common_steps, (may_prefix A ls (take i lines ++ x ∷ []) (drop (i + 1) lines) (subst (λ (ms : List Line). MayGiveBack A (ls ++ ms)) (cut_at lines i x within is) may)), cut_at)
 
 -- the fields of the lines of an order are there
 pub lines_there : (A : Ledger) (n : ℕ) (o : Order) → Good A → order_numbered A n ≡ Some o → Each (λ l. IsSome (field_named A (line_name l))) o.lines

@@ -96,24 +96,7 @@ held_levels B good room = each-imp (λ o p e. of_order o e p.0 p.1) B.orders
 -- a delivery and a write-off
 moving : (A : Ledger) (f : Name) (z : ℤ) (kept : List Kept) → Good A → length kept ≡ places A + 1 → IsSome (field_named A f) → IsQty (nat_abs z) → places A + open_orders A + 1 ≤ 200000
     → Parts (record (with_move f z A) { kept = kept })
-moving A f z kept g more there size room =
-    let m : Move = record { place = places A + 1; field = f; amount = z } in
-    let B : Ledger = record (with_move f z A) { kept = kept } in
-    record {
-      clock = g.clock;
-      fields = g.fields;
-      fields_in_order = g.fields_in_order;
-      few_fields = g.few_fields;
-      moves = each-of-push (IsGoodMove B) A.moves m (each-imp (move_kept A B (λ f x. x) (omega arith)) A.moves g.moves) (record { first = omega arith; last = omega arith; field = there; size = size });
-      moves_in_order = sorted-push nat_cmp (λ m. m.place) A.moves m (each-imp (λ n x. cmp_less n.place m.place (before n x)) A.moves g.moves) g.moves_in_order;
-      orders = each-imp (order_kept A B (λ f x. x)) A.orders g.orders;
-      orders_in_order = g.orders_in_order;
-      few_orders = g.few_orders;
-      room = omega arith;
-    }
-  where
-    before : (n : Move) → IsGoodMove A n → n.place < places A + 1
-    before n x = let a = x.last in omega arith
+moving A f z kept g more there size room = grind (arith, cmp_less, each-imp, each-of-push, move_kept, order_kept, sorted-push)
 
 size-neg : (q : ℕ) → nat_abs (neg_ℤ (pos q)) ≡ q
 size-neg zero = refl
@@ -239,10 +222,7 @@ adding A n l kept g more full there qty takes_it fits sound room =
 
 few_more : (f : Name) (o : Option Order) → (IsNone o → ⊥) → (IsSomeAnd o (λ o. IsNone (line_on o f) × (64 ≤ length o.lines)) → ⊥) → IsSomeAnd o (λ o. IsNone (line_on o f) → length o.lines ≤ 63)
 few_more f None there h = there refl
-few_more f (Some o) there h = λ none. by (λ k. h (none, k))
-  where
-    by : (64 ≤ length o.lines → ⊥) → length o.lines ≤ 63
-    by k = omega arith
+few_more f (Some o) there h = grind arith
 
 one_lines : (A : Ledger) (n : ℕ) (k : Kind) (u : ℕ) (before ls : List OpenLine) → ((g : Name) → OneOn g (map new_line before)) → AllPass (line_checks A (new_order n k u) before ls) → (g : Name) → OneOn g (map new_line (before ++ ls))
 one_lines A n k u before [] one p = subst (λ ls. (g : Name) → OneOn g (map new_line ls)) (sym (append-nil before)) one

@@ -1,6 +1,6 @@
 -- Rows of lines in a row, order after order.
 use Rattle.std.proofs.Common.{◌≡◌, ◌∙◌, ℕ, ◌+◌, append-nil, append_assoc, length-drop, zero, suc, ◌<◌, ◌≤◌, pos, List, [], ◌∷◌, ◌++◌, ap, arith, drop, get_or, length, map, flat_map, refl, subst, sym, nat_cmp}
-use Rattle.std.proofs.lemmas.Grind.{flat_map-append}
+use Rattle.std.proofs.lemmas.Grind.{common_steps, flat_map-append}
 use Rattle.std.proofs.Math.ListN.{drop_of_length-le}
 use Rattle.std.specs.List.{AllByRecursion as Each, AllZip}
 use Rattle.std.specs.List.Sorted.{IsStrictlySortedBy}
@@ -40,10 +40,7 @@ pub own_rows : (n k : ℕ) (ls : List Line) (rows : List LineRow) → AllZip IsL
 own_rows n k [] [] told own numbered = refl
 own_rows n k [] (r ∷ rows) told own numbered = absurd told
 own_rows n k (l ∷ ls) [] told own numbered = absurd told
-own_rows n k (l ∷ ls) (r ∷ rows) told own numbered =
-    let cells = told.0.cells in
-    let more = own_rows n (k + 1) ls rows told.1 own.1 numbered.1 in
-    λ i. record { number = sym own.0 i; nr = sym numbered.0 i; branch = sym cells.branch i; article = sym cells.article i; way = sym cells.way i; held = sym cells.held i; used = sym cells.used i } ∷ more i
+own_rows n k (l ∷ ls) (r ∷ rows) told own numbered = let more = own_rows n (k + 1) ls rows told.1 own.1 numbered.1 in cc
 
 abbrev pub BeginsOtherCells : ℕ → List LineCells → Type 0
 BeginsOtherCells n [] = Unit {0}
@@ -69,10 +66,7 @@ split_rows n k [] [] (r ∷ run) tail others all end e = absurd (not_empty _ _ (
 split_rows n k [] (x ∷ rest) (r ∷ run) tail others all end e = absurd (others.0 (ap (λ (r : LineCells). r.number) (same_first _ _ _ _ e) ∙ all.0))
 split_rows n k (l ∷ own) rest [] [] others all end e = absurd (not_empty _ _ e)
 split_rows n k (l ∷ own) rest [] (t ∷ tail) others all end e = absurd (end (sym (ap (λ (r : LineCells). r.number) (same_first _ _ _ _ e))))
-split_rows n k (l ∷ own) rest (r ∷ run) tail others all end e =
-    let first = same_first (line_row n k l) r (lines_from n (k + 1) own ++ rest) (run ++ tail) e in
-    let more = split_rows n (k + 1) own rest run tail others all.1 end (same_rest (line_row n k l) r (lines_from n (k + 1) own ++ rest) (run ++ tail) e) in
-    ((λ i. first i ∷ more.0 i), more.1)
+split_rows n k (l ∷ own) rest (r ∷ run) tail others all end e = let more = split_rows n (k + 1) own rest run tail others all.1 end (same_rest (line_row n k l) r (lines_from n (k + 1) own ++ rest) (run ++ tail) e) in grind arith
 
 -- rows of an order's lines count on
 pub numbered-from : (n k : ℕ) (own : List Line) (rows : List LineRow) → lines_from n k own ≡ map line_cells rows → AreNumbered k rows
@@ -124,15 +118,10 @@ tail-first h heads lines t = by t.orders t.sorted t.tell
 
 pub left_step : (h : Head) (heads : List Head) (own : List Line) (rows : List LineRow) → lines_from h.number 1 own ++ map line_cells (drop (length own) rows) ≡ map line_cells rows
     → BeginsOther h.number (drop (length own) rows) → Tail (h ∷ heads) (map line_cells rows) → Tail heads (map line_cells (drop (length own) rows))
-left_step h heads own rows told end t =
-    let f = tail-first h heads (map line_cells rows) t in
-    let parts = split_rows h.number 1 f.own f.rest (lines_from h.number 1 own) (map line_cells (drop (length own) rows)) f.others (own-number h.number 1 own) (begins-cells h.number (drop (length own) rows) end) (f.lines_are ∙ sym told) in
-    subst (Tail heads) parts.1 f.more
+left_step h heads own rows told end t = grind (arith, (own-number h.number 1 own), (begins-cells h.number (drop (length own) rows) end), (tail-first h heads (map line_cells rows) t), split_rows)
 
 pub lines_step : (os : List Order) (o : Order) (tail mid whole : List LineCells) → flat_map order_lines os ++ mid ≡ whole → order_lines o ++ tail ≡ mid → flat_map order_lines (os ++ o ∷ []) ++ tail ≡ whole
-lines_step os o tail mid whole e d =
-    ap (λ (xs : List LineCells). xs ++ tail) (flat_map-append order_lines os (o ∷ []) ∙ ap (λ (xs : List LineCells). flat_map order_lines os ++ xs) (append-nil (order_lines o)))
-    ∙ append_assoc (flat_map order_lines os) (order_lines o) tail ∙ ap (λ (xs : List LineCells). flat_map order_lines os ++ xs) d ∙ e
+lines_step os o tail mid whole e d = grind (arith, common_steps, (flat_map-append order_lines os (o ∷ []) ∙ ap (λ (xs : List LineCells). flat_map order_lines os ++ xs) (append-nil (order_lines o))))
 
 -- at the end of the heads, rows that are left belong to no order
 pub none_left : (heads : List Head) (i : ℕ) (rows : List LineRow) (start : ℕ) → length heads ≤ i → start ≤ length rows → (start ≡ length rows → ⊥) → Tail (drop i heads) (map line_cells (drop start rows)) → ⊥

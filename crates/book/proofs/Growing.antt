@@ -22,10 +22,7 @@ use Rattle.book.proofs.Asked.{total-push, each-insert, map-push, same_self, fres
 -- no name is before itself
 cmp_self : (xs : List ℕ) → slice_cmp nat_cmp xs xs ≡ Equal
 cmp_self [] = refl
-cmp_self (x ∷ xs) = let e : nat_cmp x x ≡ Equal = same x in rw e (cmp_self xs)
-  where
-    same : (x : ℕ) → nat_cmp x x ≡ Equal
-    same x = grind arith
+cmp_self (x ∷ xs) = let more = cmp_self xs in grind arith
 
 not_before_itself : (f : Name) → name_cmp f f ≡ Less → ⊥
 not_before_itself f e = let d : name_cmp f f ≡ Equal = rw (cmp_self f.branch) (cmp_self f.article) in true≢false (ap is_lt (sym e ∙ d))
@@ -62,10 +59,7 @@ Room A = Each (HasRoom A) A.fields
 
 -- another field is not moved
 moved-other : (A : Ledger) (name : Name) (z : ℤ) (f : Field) → same_name name f.name ≡ false → settled (with_move name z A) f ≡ settled A f
-moved-other A name z f e =
-    let a = total-push (λ m. if same_name f.name m.field then m.amount else pos 0) A.moves (record { place = places A + 1; field = name; amount = z }) in
-    let b : (if same_name f.name name then z else pos 0) ≡ pos 0 = rw (other_way name f.name e) refl in
-    omega (arith, ints)
+moved-other A name z f e = grind (arith, (other_way name f.name e), total-push)
 
 pub not_less : (a b : ℤ) → (a <ℤ b → ⊥) → b ≤ℤ a
 not_less a b h = by_lt_z a b (λ k. absurd (h k)) (λ k. k)

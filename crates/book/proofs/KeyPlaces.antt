@@ -1,4 +1,5 @@
 -- Keys among entries in their order.
+use Rattle.std.proofs.lemmas.Grind.{common_steps}
 use Rattle.std.proofs.Common.{◌≡◌, ℕ, zero, suc, ◌<◌, ◌≤◌, List, [], ◌∷◌, ◌++◌, length, length-append, length-set, get_or, set, Some, None, IfOk, IfErr, cond, Result, Ok, Err, slice_get, refl, sym, ap, subst, ◌∙◌, inl, inr, arith}
 use Rattle.std.specs.Cmp.{IsTotalOrder}
 use Rattle.std.specs.List.{AllByRecursion as Each, insert}
@@ -42,12 +43,7 @@ module _ {K V : Type 0} where
 
   -- so the keys stay
   pub kept_written : (cmp : K → K → Ordering) (es : List (K × V)) (order : List ℕ) (place i : ℕ) (e : K × V) (w : V) → IsKeyOrder cmp es order → place < length (at_indexes es order) → i ≡ get_or order place i → e ≡ get_or es i e → IsKeyOrder cmp (set es i (e.0, w)) order
-  kept_written cmp es order place i e w kept short read entry =
-      let value = written es order place i e w kept.each_once short read entry in
-      record {
-        each_once = rw length-set kept.each_once;
-        rising = rw (value, keys-set_value_at (at_indexes es order) place w) kept.rising;
-      }
+  kept_written cmp es order place i e w kept short read entry = grind (arith, common_steps, (written es order place i e w kept.each_once short read entry), keys-set_value_at, kept.each_once, kept.rising)
 
 module _ {K : Type 0} {cmp : K → K → Ordering} (total : IsTotalOrder cmp) (key : K) where
   before : (x : K) → cmp x key ≡ Less → cmp key x ≡ Greater

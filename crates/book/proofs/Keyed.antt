@@ -1,5 +1,5 @@
 -- Entries under keys, as they stand in a ledger.
-use Rattle.std.proofs.Common.{◌≡◌, ◌∙◌, ◌&&◌, ◌==◌, Bool, true, false, ℕ, List, [], ◌∷◌, Option, Some, None, ap, cond, find, if◌then◌else◌, is_some, map, refl, subst, sym, true≢false}
+use Rattle.std.proofs.Common.{arith, ◌≡◌, ◌∙◌, ◌&&◌, ◌==◌, Bool, true, false, ℕ, List, [], ◌∷◌, Option, Some, None, ap, cond, find, if◌then◌else◌, is_some, map, refl, subst, sym, true≢false}
 use lib.Pointwise.{bytes_decides}
 use Rattle.std.proofs.lemmas.Cmp.{nat_cmp_total, nat_list_eq_equiv, tied_itself}
 use Rattle.std.proofs.lemmas.Map.Text.{is_eq-slice_cmp}
@@ -24,24 +24,13 @@ module _ {K V X : Type 0} (cmp : K → K → Ordering) (ties : (a b : K) → cmp
   -- what stands under a key
   found : (key : K) (test : X → Bool) → ((e : K × V) → test (view e) ≡ is_eq (cmp key e.0)) → (l : List (K × V)) → find test (map view l) ≡ option_map (λ v. view (key, v)) (lookup (is_at (cmp key)) l)
   found key test same [] = refl
-  found key test same (e ∷ l) = rw (same e) (by (cmp key e.0) refl (found key test same l))
-    where
-      by : (o : Ordering) → cmp key e.0 ≡ o → find test (map view l) ≡ option_map (λ v. view (key, v)) (lookup (is_at (cmp key)) l)
-          → (if is_eq o then Some (view e) else find test (map view l)) ≡ option_map (λ v. view (key, v)) (cond (is_eq o) (Some e.1) (lookup (is_at (cmp key)) l))
-      by Equal o more = ap (λ k. Some (view (k, e.1))) (sym (ties key e.0 o))
-      by c o more = more
+  found key test same (e ∷ l) = let more = found key test same l in grind arith
 
   -- an entry under a key that none stands under is put before the first that it precedes
   inserted : (key : K) (v : V) (before : X → X → Bool) → ((e : K × V) → before (view (key, v)) (view e) ≡ is_lt (cmp key e.0)) → (l : List (K × V)) → lookup (is_at (cmp key)) l ≡ None
       → map view (insert_entry cmp l key v) ≡ insert_in_order before (view (key, v)) (map view l)
   inserted key v before first [] none = refl
-  inserted key v before first (e ∷ l) none = rw (first e) (by (cmp key e.0) none (inserted key v before first l))
-    where
-      by : (o : Ordering) → cond (is_eq o) (Some e.1) (lookup (is_at (cmp key)) l) ≡ None → (lookup (is_at (cmp key)) l ≡ None → map view (insert_entry cmp l key v) ≡ insert_in_order before (view (key, v)) (map view l))
-          → map view (match_ordering o ((key, v) ∷ e ∷ l) ((e.0, v) ∷ l) (e ∷ insert_entry cmp l key v)) ≡ (if is_lt o then view (key, v) ∷ view e ∷ map view l else view e ∷ insert_in_order before (view (key, v)) (map view l))
-      by Less none more = refl
-      by Equal none more = absurd (true≢false (ap is_some none))
-      by Greater none more = ap (λ xs. view e ∷ xs) (more none)
+  inserted key v before first (e ∷ l) none = let more = inserted key v before first l in grind arith
 
 nothing_there : {X Y : Type 0} (f : X → Y) (o : Option X) → option_map f o ≡ None → o ≡ None
 nothing_there f None h = refl
@@ -65,15 +54,7 @@ field_found name l = found name_cmp equal_field field_of name (λ f. same_name n
 -- ---- orders
 
 pub same_number : (m n : ℕ) → (m == n) ≡ is_eq (nat_cmp n m)
-same_number m n = by (m == n) refl
-  where
-    apart : (o : Ordering) → (o ≡ Equal → ⊥) → false ≡ is_eq o
-    apart Equal h = absurd (h refl)
-    apart c h = refl
-
-    by : (b : Bool) → (m == n) ≡ b → b ≡ is_eq (nat_cmp n m)
-    by true e = let same : nat_cmp n m ≡ Equal = subst (λ k. nat_cmp n k ≡ Equal) (sym (number_is m n e)) (tied_itself nat_cmp_total n) in rw same refl
-    by false e = apart (nat_cmp n m) (other_number n m e)
+same_number m n = grind arith
 
 pub order_found : (n : ℕ) (l : List (ℕ × OrderEntry)) → find (λ o. o.number == n) (map order_of l) ≡ option_map (λ v. order_of (n, v)) (lookup (is_at (nat_cmp n)) l)
 order_found n l = found nat_cmp equal_number order_of n (λ o. o.number == n) (λ e. same_number e.0 n) l

@@ -81,5 +81,4 @@ module _ (A : Ledger) (lines : List OpenLine) (i : ℕ) (l : OpenLine) (h : i < 
   -- they pass, and those after them decide
   pub line_passes : (fault : Option (Refusal × ℕ)) → FirstFailure (stock_checks l.way A (line_field l) l.qty (i + 1)) fault → is_some fault ≡ false → RestDecides A lines i → RestDecides A lines (i + 1)
   line_passes (Some x) k some rest n kind until found after = absurd (true≢false some)
-  line_passes None k some rest n kind until found after = rest n kind until found (here n kind until found (go_on (own n kind until) _ None found (has_own n kind until None k) refl
-      (subst (λ before. FirstFailure (line_checks A (new_order n kind until) before (drop (i + 1) lines)) found) (take-step lines i l h e) after)))
+  line_passes None k some rest n kind until found after = grind (arith, (own n kind until), (has_own n kind until None k), go_on, here, take-step)

@@ -1,4 +1,5 @@
 -- The order that a command opens or changes.
+use Rattle.std.proofs.lemmas.Grind.{common_steps}
 use Rattle.std.proofs.Common.{◌≡◌, ◌∙◌, ℕ, ℤ, pos, ◌+ℤ◌, Bool, true, false, ◌&&◌, ◌||◌, ◌==◌, List, [], ◌∷◌, ◌++◌, IsSomeAnd, Option, None, Some, ap, arith, find, if◌then◌else◌, is_some, map, nat_cmp, nat_lt, refl, subst, sym, true≢false}
 use Rattle.std.proofs.lemmas.Int.{ints}
 use Rattle.std.specs.List.{AllByRecursion as Each, list_any}
@@ -43,11 +44,7 @@ any_found n test o (m ∷ ms) e t = step (m.number == n) e (λ k. any_found n te
     step false k more = more k
 
 pub any_one : (n : ℕ) (test : Order → Bool) (o : Order) (os : List Order) → IsStrictlySortedBy nat_cmp (map (λ o. o.number) os) → find (λ m. m.number == n) os ≡ Some o → list_any (λ m. m.number == n && test m) os ≡ test o
-any_one n test o os sorted e = step (test o) refl
-  where
-    step : (b : Bool) → test o ≡ b → list_any (λ m. m.number == n && test m) os ≡ b
-    step true t = any_found n test o os e t
-    step false t = none_any (λ m. m.number == n && test m) os (each-imp (λ m same. and_false (m.number == n) (test m) (λ k. ap test (same k) ∙ t)) os (only_one n o os sorted e))
+any_one n test o os sorted e = grind (arith, (only_one n o os sorted e), and_false, any_found, each-imp, none_any)
 
 pub any_none_there : (n : ℕ) (test : Order → Bool) (os : List Order) → find (λ m. m.number == n) os ≡ None → list_any (λ m. m.number == n && test m) os ≡ false
 any_none_there n test os e = none_any (λ m. m.number == n && test m) os (each-imp (λ m k. and_false (m.number == n) (test m) (λ t. absurd (true≢false (sym t ∙ k)))) os (none_found (λ m. m.number == n) os e))
@@ -63,11 +60,7 @@ or_false false true = refl
 or_false false false = refl
 
 ended_on : (A : Ledger) (n : ℕ) (f : Name) (change : Order → Order) → Good A → ((o : Order) → has_line_on f (change o) ≡ has_line_on f o) → some_has_line f (option_map change (order_numbered A n)) ≡ order_is A n (has_line_on f)
-ended_on A n f change g same = by (order_numbered A n) refl
-  where
-    by : (x : Option Order) → order_numbered A n ≡ x → some_has_line f (option_map change x) ≡ order_is A n (has_line_on f)
-    by None e = sym (any_none_there n (has_line_on f) A.orders e)
-    by (Some o) e = same o ∙ sym (any_one n (has_line_on f) o A.orders g.orders_in_order e)
+ended_on A n f change g same = grind (arith, any_none_there, any_one)
 
 -- a command that opens an order or ends one changes the fields of its lines
 pub lined : (A : Ledger) (c : Command) (f : Name) → Good A → changes_state c ≡ true → some_has_line f (order_after A c) ≡ changes_field A c f
@@ -82,46 +75,22 @@ lowered_on true f q l = refl
 lowered_on false f q l = refl
 
 pub released_on : (f h : Name) (q : ℕ) (o : Order) → has_line_on f (change_lines h (lower_held q) o) ≡ has_line_on f o
-released_on f h q o = any-map (on f) (λ l. if is_transfer o || on h l then lower_held q l else l) o.lines
-    ∙ any-eq (λ l. on f (if is_transfer o || on h l then lower_held q l else l)) (on f) o.lines (each (λ l. lowered_on (is_transfer o || on h l) f q l) o.lines)
+released_on f h q o = grind (arith, (each (λ l. lowered_on (is_transfer o || on h l) f q l) o.lines), any-eq, any-map, lowered_on)
 
 -- a release changes the field that it names, on a transfer both
 pub released : (A : Ledger) (c : Command) (n : ℕ) (b a : List ℕ) (q : ℕ) (f : Name) → Good A → c ≡ command.Release n b a q → names_field f c ≡ false
     → (some_is_transfer (order_after A c) && some_has_line f (order_after A c)) ≡ changes_field A c f
-released A c n b a q f g is = subst (λ c. names_field f c ≡ false → (some_is_transfer (order_after A c) && some_has_line f (order_after A c)) ≡ changes_field A c f) (sym is) here
-  where
-    after : Option Order → Bool
-    after x = some_is_transfer (option_map (change_lines (name_of b a) (lower_held q)) x) && some_has_line f (option_map (change_lines (name_of b a) (lower_held q)) x)
-
-    by : (x : Option Order) → order_numbered A n ≡ x → after x ≡ order_is A n (λ o. is_transfer o && has_line_on f o)
-    by None e = sym (any_none_there n (λ o. is_transfer o && has_line_on f o) A.orders e)
-    by (Some o) e = ap (λ t. is_transfer o && t) (released_on f (name_of b a) q o) ∙ sym (any_one n (λ o. is_transfer o && has_line_on f o) o A.orders g.orders_in_order e)
-
-    here : same_name f (name_of b a) ≡ false → after (order_numbered A n) ≡ (same_name f (name_of b a) || order_is A n (λ o. is_transfer o && has_line_on f o))
-    here e = rw e (by (order_numbered A n) refl)
+released A c n b a q f g is = grind (arith, any_none_there, any_one, released_on)
 
 -- ---- the order under that number in the next ledger
-
-numbered_if : (b : Bool) (n : ℕ) (o new : Order) → new.number ≡ o.number → (o.number == n) ≡ b → ((if b then new else o).number == n) ≡ b
-numbered_if true n o new e t = ap (λ m. m == n) e ∙ t
-numbered_if false n o new e t = t
 
 find-changed : (n : ℕ) (change : Order → Order) → ((o : Order) → (change o).number ≡ o.number) → (os : List Order)
     → find (λ m. m.number == n) (map (λ o. if o.number == n then change o else o) os) ≡ option_map change (find (λ m. m.number == n) os)
 find-changed n change keeps [] = refl
-find-changed n change keeps (o ∷ os) = by (o.number == n) refl (find-changed n change keeps os)
-  where
-    by : (b : Bool) → (o.number == n) ≡ b → find (λ m. m.number == n) (map (λ o. if o.number == n then change o else o) os) ≡ option_map change (find (λ m. m.number == n) os)
-        → find (λ m. m.number == n) ((if b then change o else o) ∷ map (λ o. if o.number == n then change o else o) os) ≡ option_map change (if b then Some o else find (λ m. m.number == n) os)
-    by true e more = rw (numbered_if true n o (change o) (keeps o) e) refl
-    by false e more = rw e more
+find-changed n change keeps (o ∷ os) = let more = find-changed n change keeps os in grind arith
 
 held_number : (l : OpenLine) (o : Order) → (add_hold l o).number ≡ o.number
-held_number l o = by (is_some (line_on o (line_name (new_line l))))
-  where
-    by : (b : Bool) → (if b then hold_more (line_name (new_line l)) l.qty o else record o { lines = o.lines ++ new_line l ∷ [] }).number ≡ o.number
-    by true = refl
-    by false = refl
+held_number l o = grind arith
 
 -- a command that opens an order finds none under its number
 pub none_opened : (A : Ledger) (c : Command) (n : ℕ) → FirstFailure (checks A c) None → order_number c ≡ Some n → is_opening c ≡ true → order_numbered A n ≡ None
@@ -193,18 +162,7 @@ pub total-changed : (g : Order → ℤ) (change : Order → Order) (n : ℕ) (os
     → total g (map (λ o. if o.number == n then change o else o) os) ≡ total (λ o. if o.number == n then pos 0 else g o) os +ℤ some_part g (option_map change (find (λ o. o.number == n) os))
 unfolding IsStrictlySortedBy
 total-changed g change n [] sorted = refl
-total-changed g change n (o ∷ os) sorted = by (o.number == n) refl (total-changed g change n os sorted.1)
-  where
-    by : (b : Bool) → (o.number == n) ≡ b
-        → total g (map (λ o. if o.number == n then change o else o) os) ≡ total (λ o. if o.number == n then pos 0 else g o) os +ℤ some_part g (option_map change (find (λ o. o.number == n) os))
-        → (g (if b then change o else o) +ℤ total g (map (λ o. if o.number == n then change o else o) os))
-        ≡ ((if b then pos 0 else g o) +ℤ total (λ o. if o.number == n then pos 0 else g o) os) +ℤ some_part g (option_map change (if b then Some o else find (λ o. o.number == n) os))
-    by true e more =
-        let none = none_after n o os e sorted.0 in
-        let x = none_changed g change n os none in
-        let y = all_left g n os none in
-        omega (arith, ints)
-    by false e more = omega (arith, ints)
+total-changed g change n (o ∷ os) sorted = let more = total-changed g change n os sorted.1 in grind (arith, common_steps, all_left, none_after, none_changed, o.number, sorted.1, sorted.0)
 
 expired_part : (g : Order → ℤ) → ((o : Order) → g (set_state Aborted o) ≡ pos 0) → (b : Bool) (o : Order) → g (if b then set_state Aborted o else o) ≡ (if b then pos 0 else g o)
 expired_part g ends true o = ends o
@@ -214,10 +172,7 @@ pub nothing_more : (z : ℤ) → z ≡ z +ℤ pos 0
 nothing_more z = omega (arith, ints)
 
 total-opened : (g : Order → ℤ) (n : ℕ) (o : Order) (A : Ledger) → order_numbered A n ≡ None → total g (insert_in_order (λ a b. nat_lt a.number b.number) o A.orders) ≡ total (λ o. if o.number == n then pos 0 else g o) A.orders +ℤ g o
-total-opened g n o A none =
-    let x = total-insert g (λ a b. nat_lt a.number b.number) o A.orders in
-    let y = all_left g n A.orders (none_found (λ m. m.number == n) A.orders none) in
-    omega (arith, ints)
+total-opened g n o A none = grind (arith, (none_found (λ m. m.number == n) A.orders none), (total-insert g (λ a b. nat_lt a.number b.number) o A.orders), all_left)
 
 -- a sum over the orders of the next ledger, to which an aborted order adds nothing
 pub total-next : (g : Order → ℤ) → ((o : Order) → g (set_state Aborted o) ≡ pos 0) → (A : Ledger) (c : Command) → Good A → FirstFailure (checks A c) None
@@ -229,8 +184,5 @@ total-next g ends A (command.Use n b a q) good h = total-changed g (change_lines
 total-next g ends A (command.Release n b a q) good h = total-changed g (change_lines (name_of b a) (lower_held q)) n A.orders good.orders_in_order
 total-next g ends A (command.Commit n) good h = total-changed g (set_state Committed) n A.orders good.orders_in_order
 total-next g ends A (command.Abort n) good h = total-changed g (set_state Aborted) n A.orders good.orders_in_order
-total-next g ends A (command.Expire now) good h =
-    let x = total-map g (λ o. if expires now o then set_state Aborted o else o) A.orders in
-    let y = total-eq (λ o. g (if expires now o then set_state Aborted o else o)) (left_out g (command.Expire now)) A.orders (each (λ o. expired_part g ends (expires now o) o) A.orders) in
-    omega (arith, ints)
+total-next g ends A (command.Expire now) good h = grind (arith, (each (λ o. expired_part g ends (expires now o) o) A.orders), (total-map g (λ o. if expires now o then set_state Aborted o else o) A.orders), expired_part, total-eq)
 total-next g ends A c good h = nothing_more (total g A.orders)

@@ -47,23 +47,10 @@ pos_same : (m n : ℕ) → (m == n) ≡ true → int_eq (pos m) (pos n) ≡ true
 pos_same m n e = (Decides-int_eq (pos m) (pos n)).1 (ap pos (number_is m n e))
 
 pos_other : (m n : ℕ) → (m == n) ≡ false → int_eq (pos m) (pos n) ≡ false
-pos_other m n e = by (int_eq (pos m) (pos n)) refl
-  where
-    same_pos : pos m ≡ pos n → m ≡ n
-    same_pos k = omega (arith, ints)
-
-    apart : m ≡ n → (m == n) ≡ false → ⊥
-    apart k e = grind arith
-
-    by : (b : Bool) → int_eq (pos m) (pos n) ≡ b → b ≡ false
-    by true t = absurd (apart (same_pos ((Decides-int_eq (pos m) (pos n)).0 t)) e)
-    by false t = refl
+pos_other m n e = grind arith
 
 pos_above : (m n : ℕ) → m ≤ n → int_eq (pos m) (pos (n + 1)) ≡ false
-pos_above m n h = pos_other m (n + 1) (less_other m n h)
-  where
-    less_other : (m n : ℕ) → m ≤ n → (m == n + 1) ≡ false
-    less_other m n h = grind arith
+pos_above m n h = grind arith
 
 same_number : (n : ℕ) → (n == n) ≡ true
 same_number n = grind arith
@@ -236,17 +223,12 @@ lines_none chosen m k (l ∷ ls) h = rw (h k l) (lines_none chosen m (k + 1) ls 
 
 lines_chosen : (chosen : LineCells → Bool) (t : Line → Bool) (m k : ℕ) (ls : List Line) → ((k : ℕ) (l : Line) → chosen (line_row m k l) ≡ t l) → filter chosen (lines_from m k ls) ≡ line_rows t m k ls
 lines_chosen chosen t m k [] h = refl
-lines_chosen chosen t m k (l ∷ ls) h = by (t l) (h k l) (lines_chosen chosen t m (k + 1) ls h)
-  where
-    by : (b : Bool) → chosen (line_row m k l) ≡ b → filter chosen (lines_from m (k + 1) ls) ≡ line_rows t m (k + 1) ls → filter chosen (lines_from m k (l ∷ ls)) ≡ (if b then line_row m k l ∷ [] else []) ++ line_rows t m (k + 1) ls
-    by true e more = rw e (ap (λ (rows : List LineCells). line_row m k l ∷ rows) more)
-    by false e more = rw e more
+lines_chosen chosen t m k (l ∷ ls) h = let more = lines_chosen chosen t m (k + 1) ls h in grind arith
 
 -- of the lines of others none
 all_none : (chosen : LineCells → Bool) (n : ℕ) (os : List Order) → ((m k : ℕ) (l : Line) → (m == n) ≡ false → chosen (line_row m k l) ≡ false) → Each (λ o. (o.number == n) ≡ false) os → filter chosen (flat_map order_lines os) ≡ []
 all_none chosen n [] h none = refl
-all_none chosen n (o ∷ os) h none = filter-append chosen (order_lines o) (flat_map order_lines os)
-    ∙ ap (λ (rows : List LineCells). rows ++ filter chosen (flat_map order_lines os)) (lines_none chosen o.number 1 o.lines (λ k l. h o.number k l none.0)) ∙ all_none chosen n os h none.1
+all_none chosen n (o ∷ os) h none = let more = all_none chosen n os h none.1 in grind (arith, (lines_none chosen o.number 1 o.lines (λ k l. h o.number k l none.0)), filter-append)
 
 lines_one : (chosen : LineCells → Bool) (t : Line → Bool) (n : ℕ) (os : List Order) → IsStrictlySortedBy nat_cmp (map (λ o. o.number) os)
     → ((m k : ℕ) (l : Line) → (m == n) ≡ false → chosen (line_row m k l) ≡ false) → ((m k : ℕ) (l : Line) → (m == n) ≡ true → chosen (line_row m k l) ≡ t l)
@@ -272,8 +254,7 @@ and_first a b e = ap (λ x. x && b) e
 -- those of the order that the command makes whose fields pass
 own_lines : (A : Ledger) (key : List ℕ) (c : Command) (n : ℕ) (u : Name → Bool) → Good (accept A (record { key = key; command = c })) → FirstFailure (checks A c) None → order_number c ≡ Some n
     → filter (λ (row : LineCells). int_eq row.number (pos n) && u (name_of row.branch row.article)) (flat_map order_lines (accept A (record { key = key; command = c })).orders) ≡ lines_there (λ l. u (line_name l)) (order_after A c)
-own_lines A key c n u k h is = lines_one (λ (row : LineCells). int_eq row.number (pos n) && u (name_of row.branch row.article)) (λ l. u (line_name l)) n (next A c).orders k.orders_in_order
-    (λ m i l e. and_first (int_eq (pos m) (pos n)) (u (line_name l)) (pos_other m n e)) (λ m i l e. and_second (int_eq (pos m) (pos n)) (u (line_name l)) (pos_same m n e)) ∙ ap (lines_there (λ l. u (line_name l))) (made_there A c n h is)
+own_lines A key c n u k h is = grind (arith, (made_there A c n h is), and_first, and_second, lines_one, pos_other, pos_same)
 
 -- all of them
 all_lines : (A : Ledger) (key : List ℕ) (c : Command) (n : ℕ) → Good (accept A (record { key = key; command = c })) → FirstFailure (checks A c) None → order_number c ≡ Some n
@@ -332,13 +313,7 @@ rows_made A r = record {
 }
 
 made_changed : (A : Ledger) (r : Request) → Good A → Good (accept A r) → IsAccepted A r → changed_rows A r (rows_of (accept A r)) ≡ rows_made A r
-made_changed A r g k ok =
-    let fields = fields_changed A r.key r.command ok.1 in
-    let moves = moves_changed A r.key r.command g in
-    let orders = orders_changed A r.key r.command g k ok.1 in
-    let lines = lines_changed A r.key r.command g k ok.1 in
-    let kept = kept_changed A r ok (λ key. (bytes_decides key key).1 refl) in
-    λ i. record { desk = desk_row (accept A r) ∷ []; fields = fields i; moves = moves i; orders = orders i; lines = lines i; kept = kept i }
+made_changed A r g k ok = cc ((fields_changed A r.key r.command ok.1), (moves_changed A r.key r.command g), (orders_changed A r.key r.command g k ok.1), (lines_changed A r.key r.command g k ok.1), (kept_changed A r ok (λ key. (bytes_decides key key).1 refl)))
 
 -- they are those that change
 pub changes_to : (A : Ledger) (r : Request) (rows : Content) → Good A → IsKey r.key → IsInRange r.command → IsAccepted A r → rows ≡ rows_made A r → ChangesTo A r rows
@@ -372,10 +347,7 @@ place_fits b v r n e is g =
     omega arith
 
 pub place_is : (b : Inside) (v : BookView) (n : ℕ) → view_of b ≡ v → n ≡ length b.kept.entries → n + 1 ≡ places v.ledger + 1
-place_is b v n e is =
-    let here = ap (λ (v : BookView). places v.ledger) e in
-    let same = length-of-map kept_of b.kept.entries in
-    omega arith
+place_is b v n e is = cc ((length-of-map kept_of b.kept.entries))
 
 -- the rows as they are made one after the other
 pub rows_in_turn : (A : Ledger) (r : Request) (place clock : ℕ) (made : Option Order) (cells : DeskCells) (desk fields moves orders lines kept : Content) → place ≡ places A + 1 → clock ≡ (next A r.command).clock → made ≡ order_after A r.command

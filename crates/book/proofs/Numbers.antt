@@ -11,9 +11,6 @@ same-numbers n m a b c = λ i. record { moved = a i; takes = b i; adds = c i }
 pub plus-nothing : (n : Numbers) → plus n nothing ≡ n
 plus-nothing n = same-numbers _ _ (omega (arith, ints)) (omega (arith, ints)) (omega (arith, ints))
 
-pub nothing-plus : (n : Numbers) → plus nothing n ≡ n
-nothing-plus n = same-numbers _ _ (omega (arith, ints)) (omega (arith, ints)) (omega (arith, ints))
-
 pub plus-assoc : (a b c : Numbers) → plus (plus a b) c ≡ plus a (plus b c)
 plus-assoc a b c = same-numbers _ _ (omega (arith, ints)) (omega (arith, ints)) (omega (arith, ints))
 

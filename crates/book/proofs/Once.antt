@@ -1,5 +1,5 @@
 -- Each request has one answer, and each request of a future has an answer.
-use Rattle.std.proofs.Common.{◌≡◌, ℕ, ◌+◌, ◌<◌, List, [], ◌∷◌, Bool, true, false, is_some, IsNone, IsSomeAnd, Option, Some, None, refl, sym, ◌∙◌, subst, if◌then◌else◌, true≢false, ◌⊎◌, inl, inr, MatchOption}
+use Rattle.std.proofs.Common.{arith, ◌≡◌, ℕ, ◌+◌, ◌<◌, List, [], ◌∷◌, Bool, true, false, is_some, IsNone, IsSomeAnd, Option, Some, None, refl, sym, ◌∙◌, subst, if◌then◌else◌, true≢false, ◌⊎◌, inl, inr, MatchOption}
 use native.Mathlib.Decide.{dec_lt as decide_lt}
 use Rattle.words.specs.declared.command.Command.{Command}
 use Rattle.words.specs.declared.command.Command.TheVariants as command
@@ -85,26 +85,8 @@ dec_some P None d = inr (λ h. absurd h)
 dec_some P (Some x) d = d x
 
 decided : (A : Ledger) (c : Command) → AsksNoStock c → Decided (checks A c)
-decided A (command.Use n b a q) w = let f : Name = record { branch = b; article = a } in (
-  dec_lt _ _,
-  (
-    dec_bool (is_some (order_numbered A n)),
-    (
-      dec_some _ (order_numbered A n) (λ o. dec_bool (is_open o)),
-      (dec_some _ (order_numbered A n) (λ o. dec_bool (is_some (line_on o f))), (dec_some _ (order_numbered A n) (λ o. dec_some _ (line_on o f) (λ l. dec_lt _ _)), tt)),
-    ),
-  ),
-)
-decided A (command.Release n b a q) w = let f : Name = record { branch = b; article = a } in (
-  dec_lt _ _,
-  (
-    dec_bool (is_some (order_numbered A n)),
-    (
-      dec_some _ (order_numbered A n) (λ o. dec_bool (is_open o)),
-      (dec_some _ (order_numbered A n) (λ o. dec_bool (is_some (line_on o f))), (dec_some _ (order_numbered A n) (λ o. dec_some _ (line_on o f) (λ l. dec_lt _ _)), tt)),
-    ),
-  ),
-)
+decided A (command.Use n b a q) w = grind arith
+decided A (command.Release n b a q) w = grind arith
 decided A (command.Commit n) w = (dec_bool (is_some (order_numbered A n)), (dec_some _ (order_numbered A n) (λ o. dec_bool (is_open o)), tt))
 decided A (command.Abort n) w = (dec_bool (is_some (order_numbered A n)), (dec_some _ (order_numbered A n) (λ o. dec_bool (is_open o)), tt))
 decided A (command.Expire now) w = (dec_lt _ _, (dec_lt _ _, tt))

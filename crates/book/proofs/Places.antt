@@ -1,4 +1,5 @@
 -- Which numbers are among the places so far.
+use Rattle.std.proofs.lemmas.Grind.{common_steps}
 use Rattle.std.proofs.Common.{◌≡◌, ◌∙◌, ℕ, zero, suc, ◌+◌, ◌<◌, List, [], ◌∷◌, ◌++◌, Bool, ◌||◌, true, false, ap, arith, get_or, length, map, nat_eq, refl, set, subst, sym, take, true≢false}
 use Rattle.std.proofs.lemmas.List.{get_or-set_same, get_or-set_other}
 use Rattle.std.proofs.lemmas.List.Folds.{list_any-append}
@@ -27,19 +28,12 @@ none_of p (x ∷ xs) e = step (p x) refl (λ k. none_of p xs k) e
 push_apart : {X : Type 0} (key : X → ℕ) (xs : List X) (x : X) → IsDistinct nat_eq (map key xs) → Each (λ y. nat_eq (key y) (key x) ≡ false) xs → IsDistinct nat_eq (map key (xs ++ x ∷ []))
 unfolding IsDistinct
 push_apart key [] x apart off = (tt, tt)
-push_apart key (y ∷ ys) x apart off = (all ys apart.0 off.0, push_apart key ys x apart.1 off.1)
-  where
-    all : (zs : List _) → Each (λ k. nat_eq (key y) k ≡ false) (map key zs) → nat_eq (key y) (key x) ≡ false → Each (λ k. nat_eq (key y) k ≡ false) (map key (zs ++ x ∷ []))
-    all [] h e = (e, tt)
-    all (z ∷ zs) h e = (h.0, all zs h.1 e)
+push_apart key (y ∷ ys) x apart off = let more = push_apart key ys x apart.1 off.1 in grind (arith, common_steps, apart.0, off.0, apart.1, off.1)
 
 -- one more, whose place is not among them
 pub apart_next : {X : Type 0} (key : X → ℕ) (xs : List X) (i : ℕ) (x : X) → i < length xs → x ≡ get_or xs i x → IsDistinct nat_eq (map key (take i xs)) → list_any (λ y. nat_eq (key y) (key x)) (take i xs) ≡ false
     → IsDistinct nat_eq (map key (take (i + 1) xs))
 apart_next key xs i x lt is apart off = subst (λ ys. IsDistinct nat_eq (map key ys)) (sym (take-step xs i x lt is)) (push_apart key (take i xs) x apart (none_of (λ y. nat_eq (key y) (key x)) (take i xs) off))
-
-same_number : (n : ℕ) → nat_eq n n ≡ true
-same_number n = grind arith
 
 other_number : (m n : ℕ) → nat_eq m n ≡ false → n ≡ m → ⊥
 other_number m n e f = grind (arith, e, f)
@@ -55,9 +49,4 @@ or_false false = refl
 -- its mark is set
 pub marks_next : {X : Type 0} (key : X → ℕ) (xs : List X) (i : ℕ) (x : X) (marks : List Bool) (p : ℕ) → i < length xs → x ≡ get_or xs i x → key x < length marks
     → get_or marks p true ≡ list_any (λ y. nat_eq (key y) p) (take i xs) → get_or (set marks (key x) true) p true ≡ list_any (λ y. nat_eq (key y) p) (take (i + 1) xs)
-marks_next key xs i x marks p lt is within h = by (nat_eq (key x) p) refl
-    ∙ sym (ap (list_any (λ y. nat_eq (key y) p)) (take-step xs i x lt is) ∙ list_any-append (λ y. nat_eq (key y) p) (take i xs) (x ∷ []) ∙ ap (λ b. list_any (λ y. nat_eq (key y) p) (take i xs) || b) (or_false (nat_eq (key x) p)))
-  where
-    by : (b : Bool) → nat_eq (key x) p ≡ b → get_or (set marks (key x) true) p true ≡ (list_any (λ y. nat_eq (key y) p) (take i xs) || nat_eq (key x) p)
-    by true e = let same : p ≡ key x = grind (arith, e) in rw (e, or_true (list_any (λ y. nat_eq (key y) p) (take i xs))) (ap (λ q. get_or (set marks (key x) true) q true) same ∙ get_or-set_same marks (key x) true true within)
-    by false e = rw (e, or_false (list_any (λ y. nat_eq (key y) p) (take i xs))) (get_or-set_other marks (key x) p true true (other_number (key x) p e) ∙ h)
+marks_next key xs i x marks p lt is within h = grind (arith, (take-step xs i x lt is), (or_false (nat_eq (key x) p)), get_or-set_other, get_or-set_same, list_any-append, or_true, other_number)

@@ -99,11 +99,7 @@ field_told A f row g good r is =
 
 -- what is told of a field, said of the ledger's field
 pub good_field : (e : Name × FieldEntry) (row : FieldRow) → IsFieldTold e row → IsGoodField (field_of e)
-good_field e row told =
-    let low = told.quantity.bounded.low in
-    let high = told.quantity.bounded.high in
-    let greatest = told.quantity.greatest in
-    record { branch = told.branch; article = told.article; lo = omega arith; hi = told.quantity.greatest; start = told.start }
+good_field e row told = grind arith
 
 pub tells_field : (e : Name × FieldEntry) (row : FieldRow) → IsFieldTold e row → TellsField (field_of e) (field_cells row)
 tells_field e row told = record { branch = told.branch_is; article = told.article_is; lo = told.quantity.lo; hi = told.quantity.hi; start = told.start_is }
@@ -117,19 +113,7 @@ pub told_rows : (es : List (Name × FieldEntry)) (rows : List FieldRow) → AllZ
 told_rows [] [] told = refl
 told_rows [] (r ∷ rows) told = absurd told
 told_rows (e ∷ es) [] told = absurd told
-told_rows (e ∷ es) (r ∷ rows) told =
-    let first = told.0 in
-    let more = told_rows es rows told.1 in
-    λ i. record {
-      branch = sym first.branch_is i;
-      article = sym first.article_is i;
-      lo = sym first.quantity.lo i;
-      hi = sym first.quantity.hi i;
-      start = sym first.start_is i;
-      value = sym first.quantity.value i;
-      inf = sym first.quantity.inf i;
-      sup = sym first.quantity.sup i;
-    } ∷ more i
+told_rows (e ∷ es) (r ∷ rows) told = let more = told_rows es rows told.1 in cc
 
 pub fields_told : (A : Ledger) (rows : List FieldRow) → Good A → AllZip (IsFieldRow A) A.fields (map field_cells rows) → Each (λ row. (e : Name × FieldEntry) × IsFieldTold e row) rows
 fields_told A rows g z = each_zip (IsFieldRow A) field_cells (λ f. IsGoodField f × AreInOrder A f) (λ row. (e : Name × FieldEntry) × IsFieldTold e row)
@@ -161,11 +145,7 @@ record Line_told (cells : LineCells) : Type 0 where
 
 lines_each : (A : Ledger) (n nr : ℕ) (ls : List Line) → Good A → Each (IsGoodLine A) ls → Each Line_told (lines_from n nr ls)
 lines_each A n nr [] g good = tt
-lines_each A n nr (l ∷ ls) g good =
-    let codes = named_codes (line_name l) A.fields g.fields good.0.field in
-    let used = good.0.used in
-    let held = good.0.held in
-    (record { line = l; branch = codes.0; article = codes.1; held = good.0.held; used = omega arith; tells = record { branch = refl; article = refl; way = refl; held = refl; used = refl } }, lines_each A n (nr + 1) ls g good.1)
+lines_each A n nr (l ∷ ls) g good = let more = lines_each A n (nr + 1) ls g good.1 in grind (arith, (named_codes (line_name l) A.fields g.fields good.0.field))
 
 orders_each : (A : Ledger) (os : List Order) → Good A → Each (IsGoodOrder A) os → Each Line_told (flat_map order_lines os)
 orders_each A [] g good = tt
@@ -183,14 +163,7 @@ heads_same [] [] (o ∷ os) z e = absurd (not_empty _ _ (sym e))
 heads_same [] (r ∷ rows) os z e = absurd z
 heads_same (h ∷ hs) [] os z e = absurd z
 heads_same (h ∷ hs) (r ∷ rows) [] z e = absurd (not_empty _ _ e)
-heads_same (h ∷ hs) (r ∷ rows) (o ∷ os) z e =
-    let is = sym (same_first (order_cells r) (order_row o) (map order_cells rows) (map order_row os) e) ∙ z.0.cells in
-    let n = same_pos o.number h.number (ap (λ (r : OrderCells). r.number) is) in
-    let k = same_kind o.kind h.kind (ap (λ (r : OrderCells). r.kind) is) in
-    let u = same_pos o.until h.until (ap (λ (r : OrderCells). r.until) is) in
-    let s = same_state o.state h.state (ap (λ (r : OrderCells). r.state) is) in
-    let more = heads_same hs rows os z.1 (same_rest (order_cells r) (order_row o) (map order_cells rows) (map order_row os) e) in
-    λ i. record { number = n i; kind = k i; until = u i; state = s i } ∷ more i
+heads_same (h ∷ hs) (r ∷ rows) (o ∷ os) z e = let more = heads_same hs rows os z.1 (same_rest (order_cells r) (order_row o) (map order_cells rows) (map order_row os) e) in grind arith
 
 -- ---- rows, all together
 

@@ -1,4 +1,5 @@
 -- Running numbers: what the entries of fields say of a ledger, and what becomes of them.
+use Rattle.std.proofs.lemmas.Grind.{common_steps}
 use Rattle.std.proofs.Common.{◌≡◌, ◌∙◌, ℕ, suc, ◌+◌, ◌≤◌, ℤ, pos, ◌+ℤ◌, ◌-ℤ◌, ◌≤ℤ◌, ◌<ℤ◌, List, [], ◌∷◌, Option, None, Some, IsSomeAnd, ap, arith, cond, if◌then◌else◌, is_some, map, refl, string_bytes, subst, sym, true, false, Bool, true≢false, Global, String}
 use Rattle.std.proofs.lemmas.Int.{ints}
 use Rattle.std.proofs.lemmas.Option.{same_Some}
@@ -51,11 +52,7 @@ least_is s z h =
     omega (arith, ints)
 
 pub greatest_is : (s : Stock) (z : ℤ) → IsGreatestOf s z → z ≡ pos s.value +ℤ pos s.held_to_add
-greatest_is s z h =
-    let high = h.greatest 0 s.held_to_add (omega arith) (omega arith) in
-    let added = h.reached.3 in
-    let is = h.reached.4 in
-    omega (arith, ints)
+greatest_is s z h = grind (arith, common_steps, h.greatest, s.held_to_add, h.reached.3, h.reached.4)
 
 -- ---- the check of a bound
 
@@ -142,11 +139,7 @@ rows_of_entries A [] all = refl
 rows_of_entries A (e ∷ es) all = let first = all.0 in let more = rows_of_entries A es all.1 in λ i. first i ∷ more i
 
 same_field : (e : Name × FieldEntry) (A : Ledger) (f : Field) → entry_row e ≡ field_row A f → field_of e ≡ f
-same_field e A f is =
-    let lo = same_pos e.1.quantity.lo f.lo (ap (λ (r : FieldCells). r.lo) is) in
-    let hi = same_pos e.1.quantity.hi f.hi (ap (λ (r : FieldCells). r.hi) is) in
-    let start = same_pos e.1.start f.start (ap (λ (r : FieldCells). r.start) is) in
-    λ i. record { name = record { branch = (is i).branch; article = (is i).article }; lo = lo i; hi = hi i; start = start i }
+same_field e A f is = grind arith
 
 pub entry_cells_are : (e : Name × FieldEntry) (branch article : String Global) (lo hi start value inf sup : ℤ) → string_bytes branch ≡ e.0.branch → string_bytes article ≡ e.0.article → lo ≡ pos e.1.quantity.lo → hi ≡ pos e.1.quantity.hi → start ≡ pos e.1.start
     → value ≡ pos e.1.quantity.value → inf ≡ pos e.1.quantity.value -ℤ pos e.1.quantity.held_to_take → sup ≡ pos e.1.quantity.value +ℤ pos e.1.quantity.held_to_add
@@ -158,11 +151,7 @@ pub entries_of_rows : (A : Ledger) (es : List (Name × FieldEntry)) (fs : List F
 entries_of_rows A [] [] is = (refl, tt)
 entries_of_rows A [] (f ∷ fs) is = absurd (not_empty _ _ (sym is))
 entries_of_rows A (e ∷ es) [] is = absurd (not_empty _ _ is)
-entries_of_rows A (e ∷ es) (f ∷ fs) is =
-    let row = same_first (entry_row e) (field_row A f) (map entry_row es) (map (field_row A) fs) is in
-    let field = same_field e A f row in
-    let more = entries_of_rows A es fs (same_rest (entry_row e) (field_row A f) (map entry_row es) (map (field_row A) fs) is) in
-    ((λ i. field i ∷ more.0 i), (row ∙ ap (field_row A) (sym field), more.1))
+entries_of_rows A (e ∷ es) (f ∷ fs) is = let more = entries_of_rows A es fs (same_rest (entry_row e) (field_row A f) (map entry_row es) (map (field_row A) fs) is) in grind (arith, (same_rest (entry_row e) (field_row A f) (map entry_row es) (map (field_row A) fs) is), (same_first (entry_row e) (field_row A f) (map entry_row es) (map (field_row A) fs) is), same_field)
 
 -- ---- entries put in
 
@@ -213,8 +202,7 @@ lines_zero : (A : Ledger) (n : Name) (g : Line → ℤ) (o : Order) → field_na
 lines_zero A n g o none there = total-zero (λ l. if on n l then g l else pos 0) o.lines (each-imp (λ l x. off (on n l) (g l) (elsewhere A n (line_name l) none x)) o.lines there)
 
 orders_zero : (A : Ledger) (n : Name) (p : Order → Bool) (g : Line → ℤ) → Good A → field_named A n ≡ None → total (λ o. if p o then total (λ l. if on n l then g l else pos 0) o.lines else pos 0) A.orders ≡ pos 0
-orders_zero A n p g good none = total-zero (λ o. if p o then total (λ l. if on n l then g l else pos 0) o.lines else pos 0) A.orders
-    (each-imp (λ o x. part_zero (p o) (total (λ l. if on n l then g l else pos 0) o.lines) (lines_zero A n g o none (each-imp (λ l y. y.field) o.lines x.lines))) A.orders good.orders)
+orders_zero A n p g good none = grind (arith, (each-imp (λ o x. part_zero (p o) (total (λ l. if on n l then g l else pos 0) o.lines) (lines_zero A n g o none (each-imp (λ l y. y.field) o.lines x.lines))) A.orders good.orders), lines_zero, part_zero, total-zero)
 
 -- its value is its start, and nothing is held on it
 pub new_field : (A : Ledger) (r : Request) (b a : List ℕ) (lo hi start : ℕ) → r.command ≡ command.Field b a lo hi start → Good A → FirstFailure (checks A r.command) None

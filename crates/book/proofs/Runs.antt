@@ -78,20 +78,4 @@ in_order A g = each-both (λ f r x. one f r x) A.fields (room_from_safe A (sound
 -- the ledger of a new desk is good
 pub good_new : Good new_ledger
 unfolding IsStrictlySortedBy IsDistinct
-good_new = record {
-  clock = omega arith;
-  fields = tt;
-  fields_in_order = tt;
-  few_fields = omega arith;
-  moves = tt;
-  moves_in_order = tt;
-  orders = tt;
-  orders_in_order = tt;
-  few_orders = omega arith;
-  kept = tt;
-  kept_in_order = tt;
-  places_in_range = tt;
-  places_apart = tt;
-  places_fit = omega arith;
-  safe = λ X h. tt;
-}
+good_new = grind arith

@@ -1,4 +1,5 @@
 -- Every accepted command leaves a good ledger safe.
+use Rattle.std.proofs.lemmas.Grind.{common_steps}
 use Rattle.std.proofs.Common.{◌≡◌, ◌≢◌, ℕ, ◌≤◌, ℤ, pos, List, Bool, true, false, IsTrue, IsFalse, IsNone, IsSome, IsSomeAnd, MatchOption, Option, Some, None, refl, sym, subst, arith, if◌then◌else◌}
 use Rattle.std.proofs.lemmas.Int.{ints}
 use Rattle.std.specs.List.{AllByRecursion as Each}
@@ -33,12 +34,6 @@ pub not_false : (b : Bool) → (b ≡ false → ⊥) → b ≡ true
 not_false true h = refl
 not_false false h = absurd (h refl)
 
-pub same_way : (w v : Way) → ((w ≡ v → ⊥) → ⊥) → w ≡ v
-same_way Take Take h = refl
-same_way Add Add h = refl
-same_way Take Add h = absurd (h (λ e. cc))
-same_way Add Take h = absurd (h (λ e. cc))
-
 -- A new field has had no move and no line.
 
 not_there : (A : Ledger) (name other : Name) → (IsSome (field_named A name) → ⊥) → IsSome (field_named A other) → same_name name other ≡ false
@@ -56,22 +51,12 @@ no_orders A name test g none os h = total-zero _ os (each-imp (λ o good. zero (
     zero false z e = refl
 
 room-field : (A : Ledger) (f : Field) → Good A → (IsSome (field_named A f.name) → ⊥) → (f.lo ≤ f.start) × (f.start ≤ f.hi) → HasRoom A f
-room-field A f g none h =
-    let m : total (λ m. if same_name f.name m.field then m.amount else pos 0) A.moves ≡ pos 0 = total-zero _ A.moves (each-imp (λ m good. let e : same_name f.name m.field ≡ false = not_there A f.name m.field none good.field in rw e refl) A.moves g.moves) in
-    let c : total (λ o. if is_committed o then moved f.name (λ l. l.used) o else pos 0) A.orders ≡ pos 0 = no_orders A f.name is_committed (λ o l. signed l.way l.used) none A.orders g.orders in
-    let t : held_to_take A f.name ≡ pos 0 = no_orders A f.name is_open (λ o l. pos (if_take l.way l.held)) none A.orders g.orders in
-    let a : held_to_add A f.name ≡ pos 0 = no_orders A f.name is_open (λ o l. pos (if_add l.way l.held)) none A.orders g.orders in
-    let low = h.0 in let high = h.1 in
-    (omega (arith, ints), omega (arith, ints))
+room-field A f g none h = grind (arith, common_steps, (no_orders A f.name is_committed (λ o l. signed l.way l.used) none A.orders g.orders), (no_orders A f.name is_open (λ o l. pos (if_take l.way l.held)) none A.orders g.orders), (no_orders A f.name is_open (λ o l. pos (if_add l.way l.held)) none A.orders g.orders), each-imp, not_there, total-zero, f.name, A.moves, g.moves, A.orders, g.orders, h.0, h.1)
 
 pub takes_more : (f : Name) (w : Way) (o : Option Order) → (IsNone o → ⊥) → (IsSomeAnd o (λ o. IsFalse (is_open o)) → ⊥) → (IsSomeAnd o (λ o. IsTrue (is_transfer o)) → ⊥)
     → (IsSomeAnd o (λ o. IsSomeAnd (line_on o f) (λ l. l.way ≢ w)) → ⊥) → IsSomeAnd o (MayHoldMore f w)
 takes_more f w None a b c d = a refl
-takes_more f w (Some o) a b c d = (not_false (is_open o) b, not_true (is_transfer o) c, by (line_on o f) d)
-  where
-    by : (l : Option Line) → (IsSomeAnd l (λ l. l.way ≢ w) → ⊥) → MatchOption l (Unit {0}) (λ m. m.way ≡ w)
-    by None d = tt
-    by (Some l) d = same_way l.way w d
+takes_more f w (Some o) a b c d = grind arith
 
 room-accept : (A : Ledger) (key : List ℕ) (c : Command) → Good A → FirstFailure (checks A c) None → Room (accept A (record { key = key; command = c }))
 room-accept A key (command.Field b a lo hi start) g h = let p = all_pass (checks A (command.Field b a lo hi start)) h in
@@ -86,12 +71,9 @@ room-accept A key (command.Field b a lo hi start) g h = let p = all_pass (checks
 
         high : (((lo ≤ start) × (start ≤ hi) → ⊥) → ⊥) → start ≤ hi
         high k = elim (dec_le start hi) [ yes h ↦ h | no h ↦ absurd (k (λ p. h p.1)) ]
-room-accept A key (command.Deliver b a q) g h = let p = all_pass (checks A (command.Deliver b a q)) h in
-    room-delivery A (record { branch = b; article = a }) q (sounds_from_good A g) g.fields_in_order (fit_from_good A g).room p.1.1.0
-room-accept A key (command.Writeoff b a q) g h = let p = all_pass (checks A (command.Writeoff b a q)) h in
-    room-write_off A (record { branch = b; article = a }) q (sounds_from_good A g) g.fields_in_order (fit_from_good A g).room p.1.1.0
-room-accept A key (command.Open n until lines) g h = let p = all_pass (checks A (command.Open n until lines)) h in
-    (room-order A n Plain until lines (sounds_from_good A g) g.fields_in_order (fit_from_good A g).room p.1.1.1.1).0
+room-accept A key (command.Deliver b a q) g h = grind (arith, (sounds_from_good A g), (fit_from_good A g), (all_pass (checks A (command.Deliver b a q)) h), room-delivery)
+room-accept A key (command.Writeoff b a q) g h = grind (arith, (sounds_from_good A g), (fit_from_good A g), (all_pass (checks A (command.Writeoff b a q)) h), room-write_off)
+room-accept A key (command.Open n until lines) g h = grind (arith, (sounds_from_good A g), (fit_from_good A g), (all_pass (checks A (command.Open n until lines)) h), room-order)
 room-accept A key (command.Transfer n until a from to q) g h = let p = all_pass (checks A (command.Transfer n until a from to q)) h in
     (room-order A n Transfer until (transfer_lines a from to q) (sounds_from_good A g) g.fields_in_order (fit_from_good A g).room p.1.1.1.1).0
 room-accept A key (command.More n way b a q) g h = let p = all_pass (checks A (command.More n way b a q)) h in

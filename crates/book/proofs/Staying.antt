@@ -49,21 +49,13 @@ pub equal_number : (a b : ℕ) → nat_cmp a b ≡ Equal → a ≡ b
 equal_number a b e = subst (λ r. MatchOrdering r (a < b) (a ≡ b) (b < a)) e (ranks a b)
 
 pub other_number : (n m : ℕ) → (m == n) ≡ false → nat_cmp n m ≡ Equal → ⊥
-other_number n m e h = let d = equal_number n m h in bad d
-  where
-    bad : n ≡ m → ⊥
-    bad d = grind arith
+other_number n m e h = grind arith
 
 pub other_key : (k key : List ℕ) → bytes_eq k key ≡ false → slice_cmp nat_cmp key k ≡ Equal → ⊥
 other_key k key e h = let d : key ≡ k = (bytes_decides key k).0 (equal_text key k h) in true≢false (sym ((bytes_decides k key).1 (sym d)) ∙ e)
 
 pub lt_is : (a b : ℕ) → nat_lt a b ≡ is_lt (nat_cmp a b)
-lt_is a b = by (nat_lt a b) (a == b)
-  where
-    by : (c d : Bool) → c ≡ is_lt (if c then Less else (if d then Equal else Greater))
-    by true d = refl
-    by false true = refl
-    by false false = refl
+lt_is a b = grind arith
 
 -- what stays
 
@@ -125,18 +117,7 @@ changed h clock kept A = record { clock = clock; fields = A.fields; moves = A.mo
 
 pub changing : (A : Ledger) (h : Order → Order) (clock : ℕ) (kept : List Kept) → Good A → IsMoment clock → length kept ≡ places A + 1 → ((o : Order) → (h o).number ≡ o.number)
     → Each (λ o. IsGoodOrder (changed h clock kept A) (h o)) A.orders → places A + count_by is_open (map h A.orders) + 1 ≤ 200000 → Parts (changed h clock kept A)
-changing A h clock kept g moment more number orders room = record {
-  clock = moment;
-  fields = g.fields;
-  fields_in_order = g.fields_in_order;
-  few_fields = g.few_fields;
-  moves = each-imp (move_kept A (changed h clock kept A) (λ f x. x) (omega arith)) A.moves g.moves;
-  moves_in_order = g.moves_in_order;
-  orders = each-map (IsGoodOrder (changed h clock kept A)) h A.orders orders;
-  orders_in_order = subst (IsStrictlySortedBy nat_cmp) (sym (same_numbers h number A.orders)) g.orders_in_order;
-  few_orders = (let e = length-of-map h A.orders in let f = g.few_orders in omega arith);
-  room = omega arith;
-}
+changing A h clock kept g moment more number orders room = grind (arith, (same_numbers h number A.orders), (length-of-map h A.orders), each-imp, each-map, move_kept)
 
 -- a commit and an abort
 pub stating : (A : Ledger) (n : ℕ) (s : State) (kept : List Kept) → open_state s ≡ false → Good A → length kept ≡ places A + 1 → (IsNone (order_numbered A n) → ⊥) → (IsSomeAnd (order_numbered A n) (λ o. IsFalse (is_open o)) → ⊥)

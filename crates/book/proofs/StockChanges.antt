@@ -1,4 +1,5 @@
 -- What becomes of a field's stock, as an accepted command changes an order's line on it.
+use Rattle.std.proofs.lemmas.Grind.{common_steps}
 use Rattle.std.proofs.Common.{◌≡◌, ◌∙◌, ℕ, ◌-◌, ◌<◌, ◌≤◌, ℤ, pos, neg_ℤ, ◌+ℤ◌, ◌-ℤ◌, ◌≤ℤ◌, ◌==◌, ◌||◌, ◌++◌, Bool, true, false, List, [], ◌∷◌, IsFalse, IsSomeAnd, MatchOption, Option, None, Some, ap, arith, find, if◌then◌else◌, is_some, map, nat_cmp, refl, subst, sym, true≢false}
 use Rattle.std.proofs.lemmas.Int.{ints}
 use Rattle.std.specs.List.{AllByRecursion as Each, Contains}
@@ -50,30 +51,17 @@ of_line g (Some l) = g l
 
 pub total_found : (f : Name) (g : Line → ℤ) (ls : List Line) → OneOn f ls → total (λ l. if on f l then g l else pos 0) ls ≡ of_line g (find (on f) ls)
 total_found f g [] one = refl
-total_found f g (l ∷ ls) one = by (on f l) refl (total_found f g ls one.1)
-  where
-    by : (b : Bool) → on f l ≡ b → total (λ l. if on f l then g l else pos 0) ls ≡ of_line g (find (on f) ls)
-        → (if b then g l else pos 0) +ℤ total (λ l. if on f l then g l else pos 0) ls ≡ of_line g (if b then Some l else find (on f) ls)
-    by true e more = let rest = total-zero (λ l. if on f l then g l else pos 0) ls (each-imp (λ m k. off (on f m) (g m) k) ls (one.0 e)) in omega (arith, ints)
-    by false e more = omega (arith, ints)
+total_found f g (l ∷ ls) one = let more = total_found f g ls one.1 in grind (arith, each-imp, off, total-zero)
 
 find_map : (f : Name) (g : Line → Line) → ((k : Line) → on f (g k) ≡ on f k) → (ls : List Line) → find (on f) (map g ls) ≡ option_map g (find (on f) ls)
 find_map f g keeps [] = refl
-find_map f g keeps (l ∷ ls) = rw (keeps l) (by (on f l) (find_map f g keeps ls))
-  where
-    by : (b : Bool) → find (on f) (map g ls) ≡ option_map g (find (on f) ls) → (if b then Some (g l) else find (on f) (map g ls)) ≡ option_map g (if b then Some l else find (on f) ls)
-    by true more = refl
-    by false more = more
+find_map f g keeps (l ∷ ls) = let more = find_map f g keeps ls in grind arith
 
 -- ---- sums over orders, as one of them changes
 
 same_orders : (n : ℕ) (os : List Order) → map (λ o. if o.number == n then o else o) os ≡ os
 same_orders n [] = refl
-same_orders n (o ∷ os) = let first = same (o.number == n) in let more = same_orders n os in λ i. first i ∷ more i
-  where
-    same : (b : Bool) → (if b then o else o) ≡ o
-    same true = refl
-    same false = refl
+same_orders n (o ∷ os) = let more = same_orders n os in grind arith
 
 same_option : (x : Option Order) → option_map (λ o. o) x ≡ x
 same_option None = refl
@@ -120,18 +108,10 @@ abbrev pub IsBefore : Name → Option Order → Type 0
 IsBefore f x = MatchOption x (Unit {0}) (λ o. (is_open o ≡ true) × OneOn f o.lines)
 
 opened : (o : Order) → (IsSomeAnd (Some o) (λ o. IsFalse (is_open o)) → ⊥) → is_open o ≡ true
-opened o ended = by (is_open o) ended
-  where
-    by : (b : Bool) → (b ≡ false → ⊥) → b ≡ true
-    by true h = refl
-    by false h = absurd (h refl)
+opened o ended = grind arith
 
 before_of : (A : Ledger) (n : ℕ) (f : Name) → Good A → (IsSomeAnd (order_numbered A n) (λ o. IsFalse (is_open o)) → ⊥) → IsBefore f (order_numbered A n)
-before_of A n f good ended = by (order_numbered A n) refl ended
-  where
-    by : (x : Option Order) → order_numbered A n ≡ x → (IsSomeAnd x (λ o. IsFalse (is_open o)) → ⊥) → IsBefore f x
-    by None e h = tt
-    by (Some o) e h = (opened o h, one_on f o.lines (each-found (IsGoodOrder A) (λ o. o.number == n) o A.orders good.orders e).apart)
+before_of A n f good ended = grind (arith, each-found, one_on, opened)
 
 before_none : (f : Name) (x : Option Order) → x ≡ None → IsBefore f x
 before_none f x e = subst (IsBefore f) (sym e) tt
@@ -159,19 +139,11 @@ open_not_committed e = true≢false (ap open_state e)
 
 -- a line of a new order
 new_goes : (f : Name) (ls : List OpenLine) (l : Line) (x : Option Line) → x ≡ None → Each (λ l. IsQty l.qty) ls → find (on f) (map new_line ls) ≡ Some l → LineGoes x l Open
-new_goes f ls l x none range there =
-    let qty = each-found (λ l. IsQty l.held) (on f) l (map new_line ls) (each-map (λ l. IsQty l.held) new_line ls range) there in
-    let first = qty.0 in
-    let last = qty.1 in
-    subst (λ (x : Option Line). LineGoes x l Open) (sym none) (record { way = tt; used = λ e. absurd (open_not_committed e); qty = λ e more. (omega arith, omega arith) })
+new_goes f ls l x none range there = grind (arith, (each-found (λ l. IsQty l.held) (on f) l (map new_line ls) (each-map (λ l. IsQty l.held) new_line ls range) there), each-map, open_not_committed)
 
 -- a line that stays on its field, its way the same
 kept_goes : (f : Name) (g : Line → Line) (ls : List Line) (s : State) (l : Line) → ((k : Line) → on f (g k) ≡ on f k) → ((k : Line) → LineGoes (Some k) (g k) s) → find (on f) (map g ls) ≡ Some l → LineGoes (find (on f) ls) l s
-kept_goes f g ls s l keeps goes there = by (find (on f) ls) (sym (find_map f g keeps ls) ∙ there)
-  where
-    by : (x : Option Line) → option_map g x ≡ Some l → LineGoes x l s
-    by None e = absurd (true≢false (sym (ap is_some e)))
-    by (Some k) e = subst (λ m. LineGoes (Some k) m s) (some_is (g k) l e) (goes k)
+kept_goes f g ls s l keeps goes there = grind (arith, (find_map f g keeps ls), some_is)
 
 less_not : (m n : ℕ) → m ≤ n → n < m → ⊥
 less_not m n h k = absurd (omega arith)
@@ -189,10 +161,7 @@ used_more true q k = no_more k (raise_used q k) Open refl (omega arith) (λ e. a
 used_more false q k = no_more k k Open refl (omega arith) (λ e. absurd (open_not_committed e))
 
 raised : (b : Bool) (q : ℕ) (k : Line) → IsQty q → LineGoes (Some k) (if b then raise_held q k else k) Open
-raised true q k range =
-    let first = range.0 in
-    let last = range.1 in
-    record { way = refl; used = λ e. absurd (open_not_committed e); qty = λ e more. (omega arith, omega arith) }
+raised true q k range = grind arith
 raised false q k range = no_more k k Open refl (omega arith) (λ e. absurd (open_not_committed e))
 
 on_kept : (f : Name) (b : Bool) (g : Line → Line) (k : Line) → on f (g k) ≡ on f k → on f (if b then g k else k) ≡ on f k
@@ -201,11 +170,7 @@ on_kept f false g k e = refl
 
 -- one line more at the end
 pushed_goes : (f : Name) (ol : OpenLine) (ls : List Line) (l : Line) → IsQty ol.qty → find (on f) (ls ++ new_line ol ∷ []) ≡ Some l → LineGoes (find (on f) ls) l Open
-pushed_goes f ol [] l range there = by (on f (new_line ol)) there
-  where
-    by : (b : Bool) → (if b then Some (new_line ol) else None) ≡ Some l → LineGoes None l Open
-    by true e = subst (λ m. LineGoes None m Open) (some_is (new_line ol) l e) (let first = range.0 in let last = range.1 in record { way = tt; used = λ e. absurd (open_not_committed e); qty = λ e more. (omega arith, omega arith) })
-    by false e = absurd (true≢false (sym (ap is_some e)))
+pushed_goes f ol [] l range there = grind arith
 pushed_goes f ol (k ∷ ls) l range there = by (on f k) there (λ h. pushed_goes f ol ls l range h)
   where
     by : (b : Bool) → (if b then Some k else find (on f) (ls ++ new_line ol ∷ [])) ≡ Some l → (find (on f) (ls ++ new_line ol ∷ []) ≡ Some l → LineGoes (find (on f) ls) l Open) → LineGoes (if b then Some k else find (on f) ls) l Open
@@ -246,8 +211,7 @@ opened_goes f new o ls l x none lines state range e there =
 pub line_goes : (A : Ledger) (c : Command) (n : ℕ) (f : Name) (o : Order) (l : Line) → Good A → IsInRange c → FirstFailure (checks A c) None → order_number c ≡ Some n → IsBefore f (order_numbered A n) → order_after A c ≡ Some o → find (on f) o.lines ≡ Some l
     → LineGoes (line_before (order_numbered A n) f) l o.state
 line_goes A (command.Open m until lines) n f o l good range h e is made there = opened_goes f _ o lines l (order_numbered A n) (none_opened A (command.Open m until lines) n h e refl) refl refl (quantities lines range.2) made there
-line_goes A (command.Transfer m until a from to q) n f o l good range h e is made there =
-    opened_goes f _ o (transfer_lines a from to q) l (order_numbered A n) (none_opened A (command.Transfer m until a from to q) n h e refl) refl refl (range.5, (range.5, tt)) made there
+line_goes A (command.Transfer m until a from to q) n f o l good range h e is made there = grind arith
 line_goes A (command.More m way b a q) n f o l good range h e is made there =
     changed_goes A n f (add_hold (record { way = way; branch = b; article = a; qty = q })) o l good is (λ p g unended k. held_goes f (record { way = way; branch = b; article = a; qty = q }) p l range.3 unended k) (subst (λ k. option_map (add_hold (record { way = way; branch = b; article = a; qty = q })) (order_numbered A k) ≡ Some o) (some_is m n e) made) there
 line_goes A (command.Use m b a q) n f o l good range h e is made there =
@@ -258,12 +222,8 @@ line_goes A (command.Release m b a q) n f o l good range h e is made there =
     changed_goes A n f (change_lines (name_of b a) (lower_held q)) o l good is
     (λ p g unended k. subst (LineGoes (line_on p f) l) (state_is p.state unended) (kept_goes f (λ x. if is_transfer p || on (name_of b a) x then lower_held q x else x) p.lines Open l (λ x. on_kept f (is_transfer p || on (name_of b a) x) (lower_held q) x refl) (λ x. lowered (is_transfer p || on (name_of b a) x) q x) k))
     (subst (λ k. option_map (change_lines (name_of b a) (lower_held q)) (order_numbered A k) ≡ Some o) (some_is m n e) made) there
-line_goes A (command.Commit m) n f o l good range h e is made there =
-    changed_goes A n f (set_state Committed) o l good is (λ p g unended k. subst (λ (x : Option Line). LineGoes x l Committed) (sym k) (no_more l l Committed refl (omega arith) (λ e. (each-found _ (on f) l p.lines g.lines k).used)))
-    (subst (λ k. option_map (set_state Committed) (order_numbered A k) ≡ Some o) (some_is m n e) made) there
-line_goes A (command.Abort m) n f o l good range h e is made there =
-    changed_goes A n f (set_state Aborted) o l good is (λ p g unended k. subst (λ (x : Option Line). LineGoes x l Aborted) (sym k) (no_more l l Aborted refl (omega arith) (λ e. absurd (true≢false (sym (ap committed_state e))))))
-    (subst (λ k. option_map (set_state Aborted) (order_numbered A k) ≡ Some o) (some_is m n e) made) there
+line_goes A (command.Commit m) n f o l good range h e is made there = grind (arith, common_steps, (some_is m n e), changed_goes, each-found, no_more)
+line_goes A (command.Abort m) n f o l good range h e is made there = grind arith
 line_goes A c n f o l good range h e is made there = absurd (true≢false (sym (ap is_some e)))
 
 -- ---- what the order adds before and after
@@ -338,10 +298,7 @@ changes A r n o fld l good after ok range number made there =
 
 pub entry_is : (B : Ledger) (f : Name) (e : FieldEntry) (new : Stock) → new.lo ≡ e.quantity.lo → new.hi ≡ e.quantity.hi → pos new.value ≡ settled B (field_of (f, e)) → pos new.held_to_take ≡ held_to_take B f → pos new.held_to_add ≡ held_to_add B f
     → entry_row (f, record { start = e.start; quantity = new }) ≡ field_row B (field_of (f, e))
-entry_is B f e new lo hi value takes adds =
-    let inf : pos new.value -ℤ pos new.held_to_take ≡ settled B (field_of (f, e)) -ℤ held_to_take B f = omega (arith, ints) in
-    let sup : pos new.value +ℤ pos new.held_to_add ≡ settled B (field_of (f, e)) +ℤ held_to_add B f = omega (arith, ints) in
-    λ i. record { branch = f.branch; article = f.article; lo = pos (lo i); hi = pos (hi i); start = pos e.start; value = value i; inf = inf i; sup = sup i }
+entry_is B f e new lo hi value takes adds = cc
 
 -- with its line changed, the field is that of the next ledger
 pub stock_changed : (A : Ledger) (r : Request) (n : ℕ) (o : Order) (f : Name) (e : FieldEntry) (l : Line) (new : Stock) → Good A → Good (accept A r) → IsAccepted A r → IsInRange r.command → order_number r.command ≡ Some n → order_after A r.command ≡ Some o
@@ -364,16 +321,8 @@ least_if true z h = h
 least_if false z h = omega (arith, ints)
 
 held_there : (A : Ledger) (f : Name) (x : Option Order) (e : FieldEntry) (w : Way) → IsUpToDate A (f, e) → some_part (taken_part f) x ≤ℤ held_to_take A f → some_part (added_part f) x ≤ℤ held_to_add A f → IsBefore f x → HasWay w (line_before x f) → amount_held (line_before x f) ≤ held_of e.quantity w
-held_there A f x e Take up takes adds is way =
-    let value = ap (λ (row : FieldCells). row.value) up in
-    let inf = ap (λ (row : FieldCells). row.inf) up in
-    let was = takes_before f Take x is way in
-    omega (arith, ints)
-held_there A f x e Add up takes adds is way =
-    let value = ap (λ (row : FieldCells). row.value) up in
-    let sup = ap (λ (row : FieldCells). row.sup) up in
-    let was = adds_before f Add x is way in
-    omega (arith, ints)
+held_there A f x e Take up takes adds is way = grind (arith, ints, (takes_before f Take x is way))
+held_there A f x e Add up takes adds is way = grind (arith, (adds_before f Add x is way))
 
 -- what is held more is safe, since the next ledger is
 more_safe : (A B : Ledger) (f : Name) (e : FieldEntry) (held : ℕ) (l : Line) (w : Way) → l.way ≡ w → Good B → Contains B.fields (field_of (f, e)) → IsUpToDate A (f, e) → Changes A B (field_of (f, e)) held l Open → held < l.held → held ≤ held_of e.quantity w → IsSafe (holding e.quantity w (l.held - held))
@@ -423,14 +372,7 @@ stock_may A r n o f e l good after ok range number made up there found =
 -- its value moved, the field is that of the next ledger
 pub value_moved : (A B : Ledger) (f : Name) (e : FieldEntry) (w : Way) (q : ℕ) (new : Stock) → IsUpToDate A (f, e) → settled B (field_of (f, e)) ≡ moved w q (settled A (field_of (f, e))) → held_to_take B f ≡ held_to_take A f → held_to_add B f ≡ held_to_add A f
     → MovesValue e.quantity w q new → entry_row (f, record { start = e.start; quantity = new }) ≡ field_row B (field_of (f, e))
-value_moved A B f e w q new up value takes adds moves =
-    let was = ap (λ (row : FieldCells). row.value) up in
-    let inf = ap (λ (row : FieldCells). row.inf) up in
-    let sup = ap (λ (row : FieldCells). row.sup) up in
-    let held : pos e.quantity.held_to_take ≡ held_to_take B f = omega (arith, ints) in
-    let added : pos e.quantity.held_to_add ≡ held_to_add B f = omega (arith, ints) in
-    entry_is B f e new (ap (λ (s : Stock). s.lo) moves.others) (ap (λ (s : Stock). s.hi) moves.others) (moves.value ∙ ap (moved w q) was ∙ sym value)
-    (ap (λ (s : Stock). pos s.held_to_take) moves.others ∙ held) (ap (λ (s : Stock). pos s.held_to_add) moves.others ∙ added)
+value_moved A B f e w q new up value takes adds moves = grind (arith, common_steps, entry_is, e.quantity.held_to_take, e.quantity.held_to_add, moves.others, moves.value)
 
 -- it may be moved, since the next ledger is safe
 pub value_may : (A B : Ledger) (f : Name) (e : FieldEntry) (w : Way) (q : ℕ) → Good B → Contains B.fields (field_of (f, e)) → IsUpToDate A (f, e) → settled B (field_of (f, e)) ≡ moved w q (settled A (field_of (f, e))) → held_to_take B f ≡ held_to_take A f → held_to_add B f ≡ held_to_add A f
@@ -458,10 +400,8 @@ settled_moved A fld c z is orders = let moves = moved-next A c fld.name in omega
 
 pub delivered : (A : Ledger) (r : Request) (fld : Field) (b a : List ℕ) (q : ℕ) → r.command ≡ command.Deliver b a q → changes_field A r.command fld.name ≡ true
     → (settled (accept A r) fld ≡ moved Add q (settled A fld)) × (held_to_take (accept A r) fld.name ≡ held_to_take A fld.name) × (held_to_add (accept A r) fld.name ≡ held_to_add A fld.name)
-delivered A r fld b a q is = subst (λ (c : Command). changes_field A c fld.name ≡ true → (settled (next A c) fld ≡ moved Add q (settled A fld)) × (held_to_take (next A c) fld.name ≡ held_to_take A fld.name) × (held_to_add (next A c) fld.name ≡ held_to_add A fld.name)) (sym is)
-    (λ named. (settled_moved A fld (command.Deliver b a q) (pos q) (ap (λ t. if t then pos q else pos 0) named) refl, refl, refl))
+delivered A r fld b a q is = grind (arith, settled_moved)
 
 pub written_off : (A : Ledger) (r : Request) (fld : Field) (b a : List ℕ) (q : ℕ) → r.command ≡ command.Writeoff b a q → changes_field A r.command fld.name ≡ true
     → (settled (accept A r) fld ≡ moved Take q (settled A fld)) × (held_to_take (accept A r) fld.name ≡ held_to_take A fld.name) × (held_to_add (accept A r) fld.name ≡ held_to_add A fld.name)
-written_off A r fld b a q is = subst (λ (c : Command). changes_field A c fld.name ≡ true → (settled (next A c) fld ≡ moved Take q (settled A fld)) × (held_to_take (next A c) fld.name ≡ held_to_take A fld.name) × (held_to_add (next A c) fld.name ≡ held_to_add A fld.name)) (sym is)
-    (λ named. let s = settled_moved A fld (command.Writeoff b a q) (neg_ℤ (pos q)) (ap (λ t. if t then neg_ℤ (pos q) else pos 0) named) refl in (omega (arith, ints), refl, refl))
+written_off A r fld b a q is = grind (arith, settled_moved)

@@ -1,4 +1,5 @@
 -- Sums on each of the fields: where a field stands among those in order, and what an entry more adds.
+use Rattle.std.proofs.lemmas.Grind.{common_steps}
 use Rattle.std.proofs.Common.{◌≡◌, ◌∙◌, ℕ, zero, suc, ◌+◌, ◌<◌, ◌≤◌, pos, ◌+ℤ◌, Bool, true, false, true≢false, List, [], ◌∷◌, Some, is_some, IsSome, IsNone, if◌then◌else◌, ap, arith, get_or, length, map, refl, set, subst, sym, take, Less, Equal, Greater, Result, Ok, Err, MatchResult}
 use Rattle.std.proofs.lemmas.Int.{ints}
 use Rattle.std.proofs.lemmas.Cmp.{tied_itself}
@@ -24,7 +25,7 @@ use Rattle.book.proofs.Asked.{same_self}
 use Rattle.book.proofs.Closing.{name_is}
 use Rattle.book.proofs.Staying.{equal_name, name_cmp_total}
 use Rattle.book.proofs.Lists.{each-of-push, each-unmap}
-use Rattle.book.proofs.Numbers.{nothing-plus, plus-assoc, plus-nothing, same-numbers, small-plus, small-up}
+use Rattle.book.proofs.Numbers.{plus-assoc, plus-nothing, same-numbers, small-plus, small-up}
 use Rattle.book.proofs.Sums.{each, each-imp, each-map}
 use Rattle.book.proofs.Walked.{take-step, total-step}
 use Rattle.book.proofs.Walking.{each_get, each_set}
@@ -47,37 +48,24 @@ each-small-set k m i d part ns lt s t =
 pub added-nothing : (part : Name → Numbers) → ((f : Name) → part f ≡ nothing) → (fs : List (Name × FieldEntry)) (ns : List Numbers) → added part fs ns ≡ ns
 added-nothing part h [] ns = refl
 added-nothing part h (f ∷ fs) [] = refl
-added-nothing part h (f ∷ fs) (n ∷ ns) =
-    let first : plus n (part (entry_name f)) ≡ n = ap (plus n) (h (entry_name f)) ∙ plus-nothing n in
-    let more = added-nothing part h fs ns in
-    λ i. first i ∷ more i
+added-nothing part h (f ∷ fs) (n ∷ ns) = let more = added-nothing part h fs ns in grind arith
 
 -- the same added gives the same
 pub added-same : (g h : Name → Numbers) → ((f : Name) → g f ≡ h f) → (fs : List (Name × FieldEntry)) (ns : List Numbers) → added g fs ns ≡ added h fs ns
 added-same g h same [] ns = refl
 added-same g h same (f ∷ fs) [] = refl
-added-same g h same (f ∷ fs) (n ∷ ns) =
-    let first = ap (plus n) (same (entry_name f)) in
-    let more = added-same g h same fs ns in
-    λ i. first i ∷ more i
+added-same g h same (f ∷ fs) (n ∷ ns) = let more = added-same g h same fs ns in grind arith
 
 -- first one, then the other
 pub added-twice : (g h k : Name → Numbers) → ((f : Name) → plus (g f) (h f) ≡ k f) → (fs : List (Name × FieldEntry)) (ns : List Numbers) → added h fs (added g fs ns) ≡ added k fs ns
 added-twice g h k both [] ns = refl
 added-twice g h k both (f ∷ fs) [] = refl
-added-twice g h k both (f ∷ fs) (n ∷ ns) =
-    let name : Name = entry_name f in
-    let first = plus-assoc n (g name) (h name) ∙ ap (plus n) (both name) in
-    let more = added-twice g h k both fs ns in
-    λ i. first i ∷ more i
+added-twice g h k both (f ∷ fs) (n ∷ ns) = let more = added-twice g h k both fs ns in grind (arith, plus-assoc)
 
 -- added to nothing, the parts alone are left
 added-to_nothing : (h : Name → Numbers) (fs : List (Name × FieldEntry)) → added h fs (map (λ f. nothing) fs) ≡ map (λ f. h (entry_name f)) fs
 added-to_nothing h [] = refl
-added-to_nothing h (f ∷ fs) =
-    let first = nothing-plus (h (entry_name f)) in
-    let more = added-to_nothing h fs in
-    λ i. first i ∷ more i
+added-to_nothing h (f ∷ fs) = let more = added-to_nothing h fs in grind arith
 
 -- ---- names of fields in order
 
@@ -123,13 +111,7 @@ none_there name (f ∷ fs) h =
 pub searched : (name : Name) (fs : List (Name × FieldEntry)) → AreFieldsInOrder fs → (r : Result ℕ ℕ) → IsSearchInRange r (length fs) → IsBinarySearchResult (λ e. name_cmp (entry_name e) name) fs r
     → MatchResult r (IsFieldAt fs name) (λ i. IsNone (field_among fs name))
 searched name fs s (Ok i) range found = record { within = range; named = λ d. name_is _ name (equal_name _ name (found d)) }
-searched name fs s (Err i) range parted =
-    let parts = parted (rising name fs s) in
-    none_there name fs (λ j d lt. by j d lt (parts.0 j d (omega arith)) (parts.1 j d))
-  where
-    by : (j : ℕ) (d : Name × FieldEntry) → j < length fs → (j < i → name_cmp (entry_name (get_or fs j d)) name ≡ Less) → (i ≤ j → j < length fs → name_cmp (entry_name (get_or fs j d)) name ≡ Greater)
-        → name_cmp (entry_name (get_or fs j d)) name ≡ Equal → ⊥
-    by j d lt below above e = let past : j < i → ⊥ = λ b. not_less _ (below b) e in not_greater _ (above (omega arith) lt) e
+searched name fs s (Err i) range parted = grind (arith, (rising name fs s), none_there, not_greater, not_less)
 
 -- a field at a place is among them
 pub there_at : (name : Name) (fs : List (Name × FieldEntry)) (i : ℕ) → IsFieldAt fs name i → IsField fs name
@@ -150,10 +132,7 @@ there_at name (f ∷ fs) (suc i) at = by (same_name name (entry_name f)) (there_
 added-elsewhere : (name : Name) (part : Numbers) (fs : List (Name × FieldEntry)) (ns : List Numbers) → Each (λ f. same_name (entry_name f) name ≡ false) fs → added (only_on name part) fs ns ≡ ns
 added-elsewhere name part [] ns h = refl
 added-elsewhere name part (f ∷ fs) [] h = refl
-added-elsewhere name part (f ∷ fs) (n ∷ ns) h =
-    let first : plus n (only_on name part (entry_name f)) ≡ n = ap (λ b. plus n (if b then part else nothing)) h.0 ∙ plus-nothing n in
-    let more = added-elsewhere name part fs ns h.1 in
-    λ i. first i ∷ more i
+added-elsewhere name part (f ∷ fs) (n ∷ ns) h = let more = added-elsewhere name part fs ns h.1 in grind arith
 
 -- the same, where a look-up finds none
 pub added-none : (name : Name) (part : Numbers) (fs : List (Name × FieldEntry)) (ns : List Numbers) → IsNone (field_among fs name) → added (only_on name part) fs ns ≡ ns
@@ -205,42 +184,15 @@ added-at name part (f ∷ fs) (n ∷ ns) (suc i) s long at =
 
 -- a line adds its part to its field alone
 pub part-line : (s : State) (l : Line) (f : Name) → only_on (line_name l) (part_of_line s l) f ≡ lines_numbers s (l ∷ []) f
-part-line s l f = by (same_name f (line_name l)) s
-  where
-    numbers : Bool → State → Numbers
-    numbers b s = record {
-      moved = if committed_state s then (if b then signed l.way l.used else pos 0) +ℤ pos 0 else pos 0;
-      takes = if open_state s then (if b then pos (if_take l.way l.held) else pos 0) +ℤ pos 0 else pos 0;
-      adds = if open_state s then (if b then pos (if_add l.way l.held) else pos 0) +ℤ pos 0 else pos 0;
-    }
-
-    by : (b : Bool) (s : State) → (if b then part_of_line s l else nothing) ≡ numbers b s
-    by true Open = same-numbers _ _ refl (omega (arith, ints)) (omega (arith, ints))
-    by true Committed = same-numbers _ _ (omega (arith, ints)) refl refl
-    by true Aborted = refl
-    by false Open = same-numbers _ _ refl (omega (arith, ints)) (omega (arith, ints))
-    by false Committed = same-numbers _ _ (omega (arith, ints)) refl refl
-    by false Aborted = refl
+part-line s l f = grind arith
 
 -- one move more
 pub move-step : (ms : List MoveEntry) (i : ℕ) (m : MoveEntry) → i < length ms → m ≡ get_or ms i m → (f : Name) → plus (numbers_on (take i ms) [] f) (numbers_on (m ∷ []) [] f) ≡ numbers_on (take (i + 1) ms) [] f
-move-step ms i m h e f =
-    let step = total-step (moved_by_move f) ms i m h e in
-    same-numbers _ _ (omega (arith, ints)) (omega (arith, ints)) (omega (arith, ints))
+move-step ms i m h e f = grind (arith, (total-step (moved_by_move f) ms i m h e), same-numbers)
 
 -- one line more
 pub line-step : (s : State) (ls : List Line) (i : ℕ) (l : Line) → i < length ls → l ≡ get_or ls i l → (f : Name) → plus (lines_numbers s (take i ls) f) (lines_numbers s (l ∷ []) f) ≡ lines_numbers s (take (i + 1) ls) f
-line-step s ls i l h e f = by s
-  where
-    by : (s : State) → plus (lines_numbers s (take i ls) f) (lines_numbers s (l ∷ []) f) ≡ lines_numbers s (take (i + 1) ls) f
-    by Open =
-        let takes = total-step (taken_by_line f) ls i l h e in
-        let adds = total-step (added_by_line f) ls i l h e in
-        same-numbers _ _ (omega (arith, ints)) (omega (arith, ints)) (omega (arith, ints))
-    by Committed =
-        let moved = total-step (moved_by_line f) ls i l h e in
-        same-numbers _ _ (omega (arith, ints)) (omega (arith, ints)) (omega (arith, ints))
-    by Aborted = same-numbers _ _ (omega (arith, ints)) (omega (arith, ints)) (omega (arith, ints))
+line-step s ls i l h e f = grind (arith, common_steps, (total-step (taken_by_line f) ls i l h e), (total-step (added_by_line f) ls i l h e), (total-step (moved_by_line f) ls i l h e), same-numbers)
 
 -- no lines come to nothing
 pub lines-none : (s : State) (f : Name) → lines_numbers s [] f ≡ nothing
@@ -249,11 +201,7 @@ lines-none c f = refl
 
 -- one order more
 pub order-step : (os : List (ℕ × OrderEntry)) (i : ℕ) (o : ℕ × OrderEntry) → i < length os → o ≡ get_or os i o → (f : Name) → plus (numbers_on [] (take i os) f) (lines_numbers o.1.state o.1.lines.items f) ≡ numbers_on [] (take (i + 1) os) f
-order-step os i o h e f =
-    let moved = total-step (moved_by_order f) os i o h e in
-    let takes = total-step (taken_by_order f) os i o h e in
-    let adds = total-step (added_by_order f) os i o h e in
-    same-numbers _ _ (omega (arith, ints)) (omega (arith, ints)) (omega (arith, ints))
+order-step os i o h e f = grind (arith, (total-step (moved_by_order f) os i o h e), (total-step (taken_by_order f) os i o h e), (total-step (added_by_order f) os i o h e), same-numbers)
 
 -- one element more has the fact
 pub each-more : {X : Type 0} (P : X → Type 0) (xs : List X) (i : ℕ) (x : X) → i < length xs → x ≡ get_or xs i x → Each P (take i xs) → P x → Each P (take (i + 1) xs)
@@ -265,7 +213,4 @@ added-all ms os fs = added-twice (numbers_on ms []) (numbers_on [] os) (numbers_
 
 -- nothing is small
 pub small-nothing : (fs : List (Name × FieldEntry)) (ns : List Numbers) → ns ≡ map (λ f. nothing) fs → Each (IsSmall 0) ns
-small-nothing fs ns e = subst (Each (IsSmall 0)) (sym e) (each-map (IsSmall 0) (λ f. nothing) fs (each (λ f. small) fs))
-  where
-    small : IsSmall 0 nothing
-    small = record { low = omega (arith, ints); high = omega (arith, ints); take_low = omega (arith, ints); take_high = omega (arith, ints); add_low = omega (arith, ints); add_high = omega (arith, ints) }
+small-nothing fs ns e = grind (arith, each, each-map)

@@ -73,8 +73,7 @@ way_ascii Add = text_ascii (codes "add") (omega arith, (omega arith, (omega arit
 
 lines_ascii : (lines : List OpenLine) → Each IsOpenLine lines → Each IsAscii (line_words lines)
 lines_ascii [] h = tt
-lines_ascii (line ∷ lines) h =
-    (way_ascii line.way, (branch_ascii line.branch h.0.branch, (article_ascii line.article h.0.article, (number_ascii line.qty (let q = h.0.qty in omega arith), lines_ascii lines h.1))))
+lines_ascii (line ∷ lines) h = let more = lines_ascii lines h.1 in grind (arith, article_ascii, branch_ascii, number_ascii, way_ascii)
 
 words_ascii : (c : Command) → IsInRange c → Each IsAscii (command_words c)
 words_ascii (Field b a lo hi start) h = (text_ascii (codes "field") (omega arith, (omega arith, (omega arith, (omega arith, (omega arith, tt))))), (branch_ascii b h.0, (article_ascii a h.1, (number_ascii lo (let k = h.2 in omega arith), (number_ascii hi (let k = h.3 in omega arith), (number_ascii start (let k = h.4 in omega arith), tt))))))

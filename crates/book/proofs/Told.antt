@@ -55,10 +55,7 @@ map_tells P f one (x ∷ xs) (y ∷ ys) h k e = let a = one x y h.0 k.0 (same_fi
 -- fields
 
 same_field : (f g : Field) (row : FieldCells) → TellsField f row → TellsField g row → f ≡ g
-same_field f g row h k =
-    let b = sym h.branch ∙ k.branch in let a = sym h.article ∙ k.article in
-    let l = same_pos f.lo g.lo (sym h.lo ∙ k.lo) in let u = same_pos f.hi g.hi (sym h.hi ∙ k.hi) in let s = same_pos f.start g.start (sym h.start ∙ k.start) in
-    λ i. record { name = record { branch = b i; article = a i }; lo = l i; hi = u i; start = s i }
+same_field f g row h k = grind arith
 
 same_fields : (fs gs : List Field) (rows : List FieldCells) → AllZip TellsField fs rows → AllZip TellsField gs rows → fs ≡ gs
 same_fields [] [] rows h k = refl
@@ -77,8 +74,7 @@ fields_tell A (f ∷ fs) (r ∷ rows) h = (record { branch = h.0.branch; article
 -- moves
 
 same_move : (m n : Move) → move_row m ≡ move_row n → m ≡ n
-same_move m n e = let p = same_pos m.place n.place (ap (λ r. r.place) e) in
-    λ i. record { place = p i; field = record { branch = (e i).branch; article = (e i).article }; amount = (e i).qty }
+same_move m n e = grind arith
 
 -- codes
 
@@ -98,17 +94,10 @@ same_state Committed Aborted e = absurd (omega (arith, ints))
 same_state Aborted Open e = absurd (omega (arith, ints))
 same_state c Committed e = absurd (omega (arith, ints))
 
-pub same_way : (v w : Way) → way_code v ≡ way_code w → v ≡ w
-same_way Take Take e = refl
-same_way Add Add e = refl
-same_way Take Add e = absurd (omega (arith, ints))
-same_way Add Take e = absurd (omega (arith, ints))
-
 -- lines and orders
 
 same_line : (n nr : ℕ) (l m : Line) → line_row n nr l ≡ line_row n nr m → l ≡ m
-same_line n nr l m e = let w = same_way l.way m.way (ap (λ r. r.way) e) in let h = same_pos l.held m.held (ap (λ r. r.held) e) in let u = same_pos l.used m.used (ap (λ r. r.used) e) in
-    λ i. record { way = w i; branch = (e i).branch; article = (e i).article; held = h i; used = u i }
+same_line n nr l m e = grind arith
 
 no_other : (n nr : ℕ) (l : Line) (rest rows : List LineCells) → AreOthers n rows → line_row n nr l ∷ rest ≡ rows → ⊥
 no_other n nr l rest [] o e = not_empty _ _ e
@@ -156,8 +145,7 @@ same_orders (o ∷ os) (p ∷ ps) h k e d =
     λ i. record { number = n i; kind = ki i; until = u i; state = s i; lines = ls.0 i } ∷ more i
 
 same_kept : (k j : Kept) → IsGoodKept k → IsGoodKept j → kept_row k ≡ kept_row j → k ≡ j
-same_kept k j g h e = let p = same_pos k.place j.place (ap (λ r. r.place) e) in let c = spelling_one k.command j.command g.command h.command (ap (λ r. r.words) e) in
-    λ i. record { key = (e i).reqkey; place = p i; command = c i }
+same_kept k j g h e = grind (arith, (same_pos k.place j.place (ap (λ r. r.place) e)), (spelling_one k.command j.command g.command h.command (ap (λ r. r.words) e)))
 
 any : {X : Type 0} (xs : List X) → Each (λ x. Unit {0}) xs
 any [] = tt
@@ -167,10 +155,7 @@ same_numbers : (os ps : List Order) → map order_row os ≡ map order_row ps �
 same_numbers [] [] e = refl
 same_numbers [] (p ∷ ps) e = absurd (not_empty _ _ (sym e))
 same_numbers (o ∷ os) [] e = absurd (not_empty _ _ e)
-same_numbers (o ∷ os) (p ∷ ps) e =
-    let a = same_pos o.number p.number (ap (λ (r : OrderCells). r.number) (same_first (order_row o) (order_row p) (map order_row os) (map order_row ps) e)) in
-    let b = same_numbers os ps (same_rest (order_row o) (order_row p) (map order_row os) (map order_row ps) e) in
-    λ i. a i ∷ b i
+same_numbers (o ∷ os) (p ∷ ps) e = let more = same_numbers os ps (same_rest (order_row o) (order_row p) (map order_row os) (map order_row ps) e) in grind arith
 
 pub rows_tell : (A : Ledger) (C : Content) → IsRowsOf A C → TellsLedger A C
 rows_tell A C r = record { desk = r.desk; fields = fields_tell A A.fields C.fields r.fields; moves = r.moves; orders = r.orders; lines = r.lines; kept = r.kept }

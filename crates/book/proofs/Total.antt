@@ -136,10 +136,8 @@ found A (command.More n way b a q) g = let f : Name = record { branch = b; artic
   where
     more_sound : (l : OpenLine) → IsSomeAnd (order_numbered A n) (MayHoldMore (line_name (new_line l)) l.way) → Each Sound (change_order n (add_hold l) A).orders
     more_sound l t = sound-more A n l (sounds_from_good A g) (each-both (λ o s k e. ((k e).0, raised l o s (k e))) A.orders (sounds_from_good A g) (at_number (MayHoldMore (line_name (new_line l)) l.way) n A.orders g.orders_in_order t))
-found A (command.Use n b a q) g = let f : Name = record { branch = b; article = a } in
-    ((dec_less _ _), λ _. ((dec_is _ _), λ _. ((dec_some _ (order_numbered A n) (λ o. dec_is _ _)), λ _. ((dec_some _ (order_numbered A n) (λ o. dec_is _ _)), λ _. ((dec_some _ (order_numbered A n) (λ o. dec_some _ (line_on o f) (λ m. dec_less _ _))), λ _. tt)))))
-found A (command.Release n b a q) g = let f : Name = record { branch = b; article = a } in
-    ((dec_less _ _), λ _. ((dec_is _ _), λ _. ((dec_some _ (order_numbered A n) (λ o. dec_is _ _)), λ _. ((dec_some _ (order_numbered A n) (λ o. dec_is _ _)), λ _. ((dec_some _ (order_numbered A n) (λ o. dec_some _ (line_on o f) (λ m. dec_less _ _))), λ _. tt)))))
+found A (command.Use n b a q) g = grind arith
+found A (command.Release n b a q) g = grind arith
 found A (command.Commit n) g = ((dec_is _ _), λ _. ((dec_some _ (order_numbered A n) (λ o. dec_is _ _)), λ _. tt))
 found A (command.Abort n) g = ((dec_is _ _), λ _. ((dec_some _ (order_numbered A n) (λ o. dec_is _ _)), λ _. tt))
 found A (command.Expire now) g = ((dec_less _ _), λ _. ((dec_less _ _), λ _. tt))

@@ -36,11 +36,7 @@ one_part article name z f = if bytes_eq f.name.article article then (if same_nam
 
 at_none : (article : List ℕ) (name : Name) (z : ℤ) (fs : List Field) → Each (λ f. same_name f.name name ≡ false) fs → total (one_part article name z) fs ≡ pos 0
 unfolding one_part
-at_none article name z fs h = total-zero _ fs (each-imp (λ f e. by f (bytes_eq f.name.article article) e) fs h)
-  where
-    by : (f : Field) (b : Bool) → same_name f.name name ≡ false → (if b then (if same_name f.name name then z else pos 0) else pos 0) ≡ pos 0
-    by f true e = rw e refl
-    by f false e = refl
+at_none article name z fs h = grind (arith, each-imp, total-zero)
 
 back : (f g : Name) → same_name f g ≡ true → same_name g f ≡ true
 back f g e = subst (λ h. same_name g h ≡ true) (sym (name_is f g e)) (subst (λ h. same_name h g ≡ true) (name_is f g e) e)

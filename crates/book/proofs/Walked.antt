@@ -54,15 +54,4 @@ each-end P xs i past all = subst (Each P) (take_all i xs past) all
 pub few_sorted : (first last : ℕ) (ms : List Move) → first ≤ last → Each (λ m. first < m.place) ms → Each (λ m. m.place ≤ last) ms → IsStrictlySortedBy nat_cmp (map (λ m. m.place) ms) → length ms + first ≤ last
 unfolding IsStrictlySortedBy
 few_sorted first last [] h a b s = omega arith
-few_sorted first last (m ∷ ms) h a b s =
-    let r = few_sorted m.place last ms b.0 (each-imp (λ x e. less_is m.place x.place e) ms (each-unmap (λ k. nat_cmp m.place k ≡ Less) (λ x. x.place) ms s.0)) b.1 s.1 in
-    let z = a.0 in omega arith
-
--- no more moves than places
-pub few_moves : (b : Inside) → Good (ledger_of b) → length b.moves.items ≤ MAX_PLACES
-few_moves b g =
-    let A : Ledger = ledger_of b in
-    let r = few_sorted 0 (places A) A.moves (omega arith) (each-imp (λ m x. x.first) A.moves g.moves) (each-imp (λ m x. x.last) A.moves g.moves) g.moves_in_order in
-    let fit = g.places_fit in
-    let same = length-of-map move_of b.moves.items in
-    omega arith
+few_sorted first last (m ∷ ms) h a b s = let more = few_sorted m.place last ms b.0 (each-imp (λ x e. less_is m.place x.place e) ms (each-unmap (λ k. nat_cmp m.place k ≡ Less) (λ x. x.place) ms s.0)) b.1 s.1 in grind arith

@@ -31,14 +31,6 @@ walk_end f (x ∷ xs) (suc i) h = ap (λ ys. f x ∷ ys) (walk_end f xs i (omega
 
 -- ---- a walk whose elements are seen through a view
 
--- the elements so far are seen changed, and the rest is as it was
-abbrev pub seen : {X Y : Type 0} → (X → Y) → (Y → Y) → ℕ → List X → List X → Type 0
-seen view f i old new = (map view new ≡ walked f i (map view old)) × (drop i new ≡ drop i old)
-
-length-map : {X Y : Type 0} (view : X → Y) (xs : List X) → length (map view xs) ≡ length xs
-length-map view [] = refl
-length-map view (x ∷ xs) = let e = length-map view xs in omega arith
-
 -- ---- a walk that leaves what is seen
 
 -- an element is replaced by one of which the same holds
