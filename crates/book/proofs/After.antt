@@ -1,5 +1,5 @@
 -- What the entries add up to on a field of the next ledger.
-use Rattle.std.proofs.Common.{◌≡◌, ℤ, pos, ◌+ℤ◌, if◌then◌else◌}
+use Rattle.std.proofs.Common.{arith, ◌≡◌, ℤ, pos, ◌+ℤ◌, if◌then◌else◌}
 use Rattle.words.specs.declared.command.Command.{Command}
 use Rattle.words.specs.declared.command.Command.TheVariants as command
 use Rattle.book.specs.After.{moved_by_command}
@@ -13,6 +13,4 @@ abbrev on_field : Name → Move → ℤ
 on_field f m = if same_name f m.field then m.amount else pos 0
 
 pub moved-next : (A : Ledger) (c : Command) (f : Name) → total (on_field f) (next A c).moves ≡ total (on_field f) A.moves +ℤ moved_by_command f c
-moved-next A (command.Deliver b a q) f = total-push (on_field f) A.moves _
-moved-next A (command.Writeoff b a q) f = total-push (on_field f) A.moves _
-moved-next A c f = nothing_more (total (on_field f) A.moves)
+moved-next b c f = grind (arith, nothing_more, total-push)

@@ -41,8 +41,7 @@ none_found p [] e = tt
 none_found p (x ∷ xs) e = step (p x) refl e (λ k. none_found p xs k)
   where
     step : (b : Bool) → p x ≡ b → (if b then Some x else find p xs) ≡ None → (find p xs ≡ None → Each (λ x. p x ≡ false) xs) → Each (λ x. p x ≡ false) (x ∷ xs)
-    step true t e k = absurd (true≢false (ap is_some e))
-    step false t e k = (t, k e)
+    step b t e k = grind arith
 
 pub same_self : (f : Name) → same_name f f ≡ true
 same_self f = rw ((bytes_decides f.branch f.branch).1 refl, (bytes_decides f.article f.article).1 refl) refl

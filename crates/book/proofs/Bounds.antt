@@ -64,14 +64,10 @@ moved-high f amount (l ∷ ls) h = let more = moved-high f amount ls h.1 in grin
 -- one order: it is open or not, and commits or not
 
 order_low : (b c : Bool) (held m : ℤ) → pos 0 ≤ℤ held → (IsTrue (b && c) → neg_ℤ held ≤ℤ m) → neg_ℤ (if b then held else pos 0) ≤ℤ (if b && c then m else pos 0)
-order_low true true held m p q = q refl
-order_low true false held m p q = omega (arith, ints)
-order_low false c held m p q = omega (arith, ints)
+order_low b c held m p q = grind arith
 
 order_high : (b c : Bool) (held m : ℤ) → pos 0 ≤ℤ held → (IsTrue (b && c) → m ≤ℤ held) → (if b && c then m else pos 0) ≤ℤ (if b then held else pos 0)
-order_high true true held m p q = q refl
-order_high true false held m p q = omega (arith, ints)
-order_high false c held m p q = omega (arith, ints)
+order_high b c held m p q = grind arith
 
 -- every outcome is within what is held
 
@@ -114,9 +110,7 @@ none-has w f (l ∷ ls) h = rw h.0 (none-has w f ls h.1)
 take_step : (b : Bool) (w : Way) (h : ℕ) (r s : ℤ) (any : Bool) → (b ≡ true → (r ≡ pos 0) × (s ≡ pos 0) × (any ≡ false)) → (any ≡ true → r ≡ neg_ℤ s)
     → (b && is_take w || any) ≡ true → (if b then signed w h else pos 0) +ℤ r ≡ neg_ℤ ((if b then pos (if_take w h) else pos 0) +ℤ s)
 unfolding is_take
-take_step true Take h r s any p q e = let z = p refl in let z0 = z.0 in let z1 = z.1 in omega (arith, ints)
-take_step true Add h r s any p q e = absurd (true≢false (sym e ∙ (p refl).2))
-take_step false w h r s any p q e = let z = q e in omega (arith, ints)
+take_step b w h r s any p q e = grind arith
 
 take_in_full : (f : Name) (ls : List Line) → OneOn f ls → has is_take f ls ≡ true → total (λ l. if on f l then signed l.way l.held else pos 0) ls ≡ neg_ℤ (total (takes f) ls)
 unfolding has
@@ -127,9 +121,7 @@ take_in_full f (l ∷ ls) one e = take_step (on f l) l.way l.held (total (λ l. 
 
 no_take_step : (b : Bool) (w : Way) (h : ℕ) (s : ℤ) (any : Bool) → (any ≡ false → s ≡ pos 0) → (b && is_take w || any) ≡ false → (if b then pos (if_take w h) else pos 0) +ℤ s ≡ pos 0
 unfolding is_take
-no_take_step true Take h s any q e = absurd (true≢false e)
-no_take_step true Add h s any q e = let z = q e in omega (arith, ints)
-no_take_step false w h s any q e = let z = q e in omega (arith, ints)
+no_take_step b w h s any q e = grind arith
 
 no_take : (f : Name) (ls : List Line) → has is_take f ls ≡ false → total (takes f) ls ≡ pos 0
 unfolding has
@@ -149,9 +141,7 @@ unfolding worst
 worst-outcome f A h = each-imp (λ o s c. in_full o.lines s.used) A.orders h
 
 worst_order : (b c : Bool) (m held : ℤ) → (c ≡ true → m ≡ neg_ℤ held) → (c ≡ false → held ≡ pos 0) → (if b && c then m else pos 0) ≡ neg_ℤ (if b then held else pos 0)
-worst_order true true m held p q = p refl
-worst_order true false m held p q = let z = q refl in omega (arith, ints)
-worst_order false c m held p q = refl
+worst_order b c m held p q = grind arith
 
 worst-result : (f : Field) (A : Ledger) → Each Sound A.orders → outcome_result A (worst f.name) f ≡ settled A f -ℤ held_to_take A f.name
 unfolding worst
@@ -169,9 +159,7 @@ worst-result f A h = let e = go A.orders h in omega (arith, ints)
 add_step : (b : Bool) (w : Way) (h : ℕ) (r s : ℤ) (any : Bool) → (b ≡ true → (r ≡ pos 0) × (s ≡ pos 0) × (any ≡ false)) → (any ≡ true → r ≡ s)
     → (b && is_add w || any) ≡ true → (if b then signed w h else pos 0) +ℤ r ≡ (if b then pos (if_add w h) else pos 0) +ℤ s
 unfolding is_add
-add_step true Add h r s any p q e = let z = p refl in let z0 = z.0 in let z1 = z.1 in omega (arith, ints)
-add_step true Take h r s any p q e = absurd (true≢false (sym e ∙ (p refl).2))
-add_step false w h r s any p q e = let z = q e in omega (arith, ints)
+add_step b w h r s any p q e = grind arith
 
 add_in_full : (f : Name) (ls : List Line) → OneOn f ls → has is_add f ls ≡ true → total (λ l. if on f l then signed l.way l.held else pos 0) ls ≡ total (adds f) ls
 unfolding has
@@ -182,9 +170,7 @@ add_in_full f (l ∷ ls) one e = add_step (on f l) l.way l.held (total (λ l. if
 
 no_add_step : (b : Bool) (w : Way) (h : ℕ) (s : ℤ) (any : Bool) → (any ≡ false → s ≡ pos 0) → (b && is_add w || any) ≡ false → (if b then pos (if_add w h) else pos 0) +ℤ s ≡ pos 0
 unfolding is_add
-no_add_step true Add h s any q e = absurd (true≢false e)
-no_add_step true Take h s any q e = let z = q e in omega (arith, ints)
-no_add_step false w h s any q e = let z = q e in omega (arith, ints)
+no_add_step b w h s any q e = grind arith
 
 no_add : (f : Name) (ls : List Line) → has is_add f ls ≡ false → total (adds f) ls ≡ pos 0
 unfolding has
@@ -200,9 +186,7 @@ unfolding best
 best-outcome f A h = each-imp (λ o s c. in_full o.lines s.used) A.orders h
 
 best_order : (b c : Bool) (m held : ℤ) → (c ≡ true → m ≡ held) → (c ≡ false → held ≡ pos 0) → (if b && c then m else pos 0) ≡ (if b then held else pos 0)
-best_order true true m held p q = p refl
-best_order true false m held p q = let z = q refl in omega (arith, ints)
-best_order false c m held p q = refl
+best_order b c m held p q = grind arith
 
 best-result : (f : Field) (A : Ledger) → Each Sound A.orders → outcome_result A (best f.name) f ≡ settled A f +ℤ held_to_add A f.name
 unfolding best

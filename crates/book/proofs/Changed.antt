@@ -61,20 +61,17 @@ kept_cmp_total = on_total (λ r. r.reqkey) nat_list_cmp_total
 -- tests over lists
 
 or_false : (a b : Bool) → (a || b) ≡ false → (a ≡ false) × (b ≡ false)
-or_false true b e = absurd (true≢false e)
-or_false false b e = (refl, e)
+or_false x b e = grind arith
 
 and_true : (a b : Bool) → a ≡ true → b ≡ true → (a && b) ≡ true
-and_true true b e h = h
-and_true false b e h = absurd (true≢false (sym e))
+and_true x b e h = cc
 
 pub any_none : {X : Type 0} (t : X → Bool) (xs : List X) → list_any t xs ≡ false → Each (λ x. t x ≡ false) xs
 any_none t [] e = tt
 any_none t (x ∷ xs) e = let p = or_false (t x) (list_any t xs) e in (p.0, any_none t xs p.1)
 
 or_right : (a b : Bool) → b ≡ true → (a || b) ≡ true
-or_right true b e = refl
-or_right false b e = e
+or_right x b e = grind arith
 
 any_has : {X : Type 0} (P : X → Type 0) (t : X → X → Bool) → ((x : X) → P x → t x x ≡ true) → (xs : List X) → Each (λ x. P x → list_any (t x) xs ≡ true) xs
 any_has P t h [] = tt
@@ -86,9 +83,7 @@ number_is a b e = grind arith
 -- moves
 
 moves_follow : (A : Ledger) (key : List ℕ) (c : Command) → Follows move_cmp (λ row. changes_move A c row.place) (map move_row A.moves) (map move_row (accept A (record { key = key; command = c })).moves)
-moves_follow A key (command.Deliver b a q) = follows-push move_cmp move_cmp_total (λ row. int_eq row.place (pos (places A + 1))) move_row _ A.moves (int_same (pos (places A + 1)))
-moves_follow A key (command.Writeoff b a q) = follows-push move_cmp move_cmp_total (λ row. int_eq row.place (pos (places A + 1))) move_row _ A.moves (int_same (pos (places A + 1)))
-moves_follow A key c = follows-same move_cmp move_cmp_total _ (map move_row A.moves)
+moves_follow b key c = grind (arith, follows-push, follows-same, int_same, move_cmp_total)
 
 -- orders
 
@@ -103,12 +98,10 @@ order_chosen : (chosen : OrderCells → Bool) (s : State) (o : Order) → chosen
 order_chosen chosen s o e = (tied_itself int_cmp_total (pos o.number), λ d. absurd (true≢false (sym e ∙ d)))
 
 order_if : (chosen : OrderCells → Bool) (b : Bool) (o new : Order) → (b ≡ true → RowStep order_cmp chosen (order_row o) (order_row new)) → RowStep order_cmp chosen (order_row o) (order_row (if b then new else o))
-order_if chosen true o new h = h refl
-order_if chosen false o new h = as_was order_cmp order_cmp_total chosen (order_row o) (order_row o) refl
+order_if chosen b o new h = grind arith
 
 same_order_row : (b : Bool) (o new : Order) → order_row new ≡ order_row o → order_row (if b then new else o) ≡ order_row o
-same_order_row true o new e = e
-same_order_row false o new e = refl
+same_order_row b o new e = grind arith
 
 hold_row : (l : OpenLine) (o : Order) → order_row (add_hold l o) ≡ order_row o
 hold_row l o = grind arith
@@ -155,8 +148,7 @@ lines_push chosen n nr l [] h = inl (h nr, refl)
 lines_push chosen n nr l (m ∷ ms) h = inr (line_row n nr m, lines_from n (nr + 1) ms, refl, same_place n nr m m, (λ _. refl), lines_push chosen n (nr + 1) l ms h)
 
 same_lines_if : (chosen : LineCells → Bool) (b : Bool) (o new : Order) → (b ≡ true → Follows line_cmp chosen (order_lines o) (order_lines new)) → Follows line_cmp chosen (order_lines o) (order_lines (if b then new else o))
-same_lines_if chosen true o new h = h refl
-same_lines_if chosen false o new h = follows-same line_cmp line_cmp_total chosen (order_lines o)
+same_lines_if chosen b o new h = grind (arith, follows-same, line_cmp_total)
 
 -- a use and a release name each line that they change
 keeps_line : (f : Name) (change : Line → Line) (t : Bool) (l : Line) → line_name (change l) ≡ line_name l → (x y : Bool) → x ≡ true → (t ≡ true → y ≡ true)
@@ -229,14 +221,10 @@ same_numbers A h clock kept f e =
     )
 
 parts_if : (f : Name) (b : Bool) (o new : Order) → (b ≡ true → SameParts f o new) → SameParts f o (if b then new else o)
-parts_if f true o new h = h refl
-parts_if f false o new h = (refl, refl, refl)
+parts_if f b o new h = grind arith
 
 zero_if : (b c : Bool) (z : ℤ) → z ≡ pos 0 → (if b then z else pos 0) ≡ (if c then z else pos 0)
-zero_if true true z e = refl
-zero_if true false z e = e
-zero_if false true z e = sym e
-zero_if false false z e = refl
+zero_if b x z e = grind arith
 
 parts_state : (f : Name) (s : State) (o : Order) → has_line_on f o ≡ false → SameParts f o (set_state s o)
 parts_state f s o e = let k = any_none (on f) o.lines e in (
@@ -246,23 +234,20 @@ parts_state f s o e = let k = any_none (on f) o.lines e in (
 )
 
 not_committed : (s : State) → open_state s ≡ true → committed_state s ≡ false
-not_committed Committed e = absurd (true≢false (sym e))
-not_committed c e = refl
+not_committed c e = grind arith
 
 parts_lines : (f : Name) (o : Order) (ls : List Line) → is_open o ≡ true → total (takes f) ls ≡ total (takes f) o.lines → total (adds f) ls ≡ total (adds f) o.lines → SameParts f o (record o { lines = ls })
 parts_lines f o ls e t a = (rw (not_committed o.state e) refl, ap (λ z. if is_open o then z else pos 0) t, ap (λ z. if is_open o then z else pos 0) a)
 
 second_false : (a b : Bool) → a ≡ true → (a && b) ≡ false → b ≡ false
-second_false true b e h = h
-second_false false b e h = absurd (true≢false (sym e))
+second_false x b e h = cc
 
 map_part : (g : Line → ℤ) (c : Line → Line) (ls : List Line) → Each (λ l. g (c l) ≡ g l) ls → total g (map c ls) ≡ total g ls
 map_part g c ls e = total-map g c ls ∙ total-eq (λ l. g (c l)) g ls e
 
 -- a line that is not on f holds nothing on it, and still does not once its amounts are changed
 off : (f : Name) (change : Line → Line) (part : Line → ℤ) → ((l : Line) → line_name (change l) ≡ line_name l) → ((l : Line) → on f l ≡ false → part l ≡ pos 0) → (b : Bool) (l : Line) → (b ≡ true → on f l ≡ false) → part (if b then change l else l) ≡ part l
-off f change part same zero_off true l h = let e = h refl in zero_off (change l) (subst (λ n. same_name f n ≡ false) (sym (same l)) e) ∙ sym (zero_off l e)
-off f change part same zero_off false l h = refl
+off f change part same zero_off b l h = grind arith
 
 takes_off : (f : Name) (l : Line) → on f l ≡ false → takes f l ≡ pos 0
 takes_off f l e = rw e refl
@@ -281,15 +266,13 @@ off_each f g true ls e h = each-imp (λ l k _. k) ls (any_none (on f) ls h)
 off_each f g false ls e h = each (λ l k. apart f g l e k) ls
 
 use_if : (f g : Name) (q : ℕ) (part : Line → ℤ) → ((l : Line) → part (raise_used q l) ≡ part l) → (b : Bool) (l : Line) → part (if b then raise_used q l else l) ≡ part l
-use_if f g q part h true l = h l
-use_if f g q part h false l = refl
+use_if f g q part h b l = grind arith
 
 opened : (A : Ledger) (n : ℕ) → Good A → (IsNone (order_numbered A n) → ⊥) → (IsSomeAnd (order_numbered A n) (λ o. IsFalse (is_open o)) → ⊥) → Each (λ o. (o.number == n) ≡ true → is_open o ≡ true) A.orders
 opened A n g p q = at_number (λ o. is_open o ≡ true) n A.orders g.orders_in_order (open_there (order_numbered A n) p q)
 
 stays_none : (o : Option Order) → (IsNone o → ⊥) → (IsSomeAnd o (λ o. IsTrue (is_transfer o)) → ⊥) → IsSomeAnd o (λ o. is_transfer o ≡ false)
-stays_none None p q = absurd (p refl)
-stays_none (Some o) p q = not_true (is_transfer o) q
+stays_none b p q = grind arith
 
 plain_there : (A : Ledger) (n : ℕ) (w : Way) (b a : List ℕ) (q : ℕ) → Good A → FirstFailure (checks A (command.More n w b a q)) None → Each (λ o. (o.number == n) ≡ true → is_transfer o ≡ false) A.orders
 plain_there A n w b a q g h = let p = all_pass (checks A (command.More n w b a q)) h in at_number (λ o. is_transfer o ≡ false) n A.orders g.orders_in_order (stays_none (order_numbered A n) p.1.0 p.1.1.1.0)
@@ -309,9 +292,7 @@ hold_parts f g l o i e open_is plain true = grind (arith, (map_part (takes f) (�
 hold_parts f g l o i e open_is plain false = grind (arith, (takes_off f (new_line l) (subst (λ n. same_name f n ≡ false) (sym i) e)), (adds_off f (new_line l) (subst (λ n. same_name f n ≡ false) (sym i) e)), (total-push (takes f) o.lines (new_line l)), (total-push (adds f) o.lines (new_line l)), adds, parts_lines, takes)
 
 two_off : (x y : Bool) → (x || y) ≡ false → (x || (y || false)) ≡ false
-two_off true y e = e
-two_off false true e = e
-two_off false false e = refl
+two_off b y e = grind arith
 
 same_field : (A : Ledger) (key : List ℕ) (c : Command) → Good A → FirstFailure (checks A c) None → (f : Field) → changes_field A c f.name ≡ false → SameNumbers A (accept A (record { key = key; command = c })) f
 same_field A key (command.Field b a lo hi start) g h f e = (refl, refl, refl)

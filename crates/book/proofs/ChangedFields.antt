@@ -54,23 +54,18 @@ put_there [] n m v there = absurd (true≢false (sym there))
 put_there (e ∷ C) n m v there = by (name_cmp n e.0) (is_eq (name_cmp m e.0)) there (λ h. put_there C n m v h) refl
   where
     later : (b : Bool) (x y : FieldEntry) (rest : Option FieldEntry) → is_some (cond b (Some x) rest) ≡ true → is_some (cond b (Some y) rest) ≡ true
-    later true x y rest h = refl
-    later false x y rest h = h
+    later b x y rest h = grind arith
 
     first : (b : Bool) (x : FieldEntry) (rest : Option FieldEntry) → is_some rest ≡ true → is_some (cond b (Some x) rest) ≡ true
-    first true x rest h = refl
-    first false x rest h = h
+    first b x rest h = grind arith
 
     both : (b : Bool) (x : FieldEntry) (rest more : Option FieldEntry) → is_some (cond b (Some x) rest) ≡ true → (is_some rest ≡ true → is_some more ≡ true) → is_some (cond b (Some x) more) ≡ true
-    both true x rest more h k = refl
-    both false x rest more h k = k h
+    both b x rest more h k = grind arith
 
     by : (o : Ordering) (b : Bool) → is_some (cond b (Some e.1) (lookup (is_at (name_cmp m)) C)) ≡ true
         → (is_some (lookup (is_at (name_cmp m)) C) ≡ true → is_some (lookup (is_at (name_cmp m)) (insert_entry name_cmp C n v)) ≡ true) → is_eq (name_cmp m e.0) ≡ b
         → is_some (lookup (is_at (name_cmp m)) (match_ordering o ((n, v) ∷ e ∷ C) ((e.0, v) ∷ C) (e ∷ insert_entry name_cmp C n v))) ≡ true
-    by Less b h more is = first (is_eq (name_cmp m n)) v _ (subst (λ b. is_some (cond b (Some e.1) (lookup (is_at (name_cmp m)) C)) ≡ true) (sym is) h)
-    by Equal b h more is = later (is_eq (name_cmp m e.0)) e.1 v (lookup (is_at (name_cmp m)) C) (subst (λ b. is_some (cond b (Some e.1) (lookup (is_at (name_cmp m)) C)) ≡ true) (sym is) h)
-    by Greater b h more is = both (is_eq (name_cmp m e.0)) e.1 (lookup (is_at (name_cmp m)) C) _ (subst (λ b. is_some (cond b (Some e.1) (lookup (is_at (name_cmp m)) C)) ≡ true) (sym is) h) more
+    by x b h more is = grind arith
 
 pub put_self : (C : List (Name × FieldEntry)) (n : Name) (v : FieldEntry) → is_some (lookup (is_at (name_cmp n)) (insert_entry name_cmp C n v)) ≡ true
 put_self [] n v = ap (λ b. is_some (cond b (Some v) None)) (self_eq n)
@@ -164,12 +159,10 @@ module _ (t : Name → Bool) (row : Field → FieldCells) where
 
 -- what holds where an error does not come
 pub on_ok : {T E : Type 0} {P Q : Type 0} (r : Result T E) → (P → Q) → OnOk r P → OnOk r Q
-on_ok (Ok x) f p = f p
-on_ok (Err e) f p = tt
+on_ok b f p = grind arith
 
 pub on_ok_both : {T E : Type 0} {P Q R : Type 0} (r : Result T E) → (P → Q → R) → OnOk r P → OnOk r Q → OnOk r R
-on_ok_both (Ok x) f p q = f p q
-on_ok_both (Err e) f p q = tt
+on_ok_both b f p q = grind arith
 
 pub each_at_name : (P : Name × FieldEntry → Type 0) (name : Name) (l : List (Name × FieldEntry)) (v : FieldEntry) → Each P l → lookup (is_at (name_cmp name)) l ≡ Some v → P (name, v)
 each_at_name P name [] v all there = absurd (true≢false (sym (ap is_some there)))
@@ -201,16 +194,14 @@ number_of_made A c o passed made = by (order_number c) refl
     numbered n (m ∷ ms) there = step (m.number == n) refl there (λ k. numbered n ms k)
       where
         step : (b : Bool) → (m.number == n) ≡ b → (if b then Some m else find (λ m. m.number == n) ms) ≡ Some o → (find (λ m. m.number == n) ms ≡ Some o → (o.number == n) ≡ true) → (o.number == n) ≡ true
-        step true e k more = subst (λ (p : Order). (p.number == n) ≡ true) (some_is m o k) e
-        step false e k more = more k
+        step b e k more = grind arith
 
     by : (x : Option ℕ) → order_number c ≡ x → x ≡ Some o.number
     by None e = absurd (true≢false (sym (sym (ap is_some (no_number A c e)) ∙ ap is_some made)))
     by (Some n) e = ap (λ k. Some k) (sym (number_is o.number n (numbered n (next A c).orders (made_there A c n passed e ∙ made))))
 
 pub fields_stay : (A : Ledger) (c : Command) (n : ℕ) → order_number c ≡ Some n → (next A c).fields ≡ A.fields
-fields_stay A (command.Field b a lo hi start) n e = absurd (true≢false (sym (ap is_some e)))
-fields_stay A c n e = refl
+fields_stay b c n e = grind arith
 
 -- the order that is made is a good one of the next ledger
 pub made_good : (A : Ledger) (r : Request) (o : Order) → Accepts A r → order_after A r.command ≡ Some o → IsGoodOrder (accept A r) o

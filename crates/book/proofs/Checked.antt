@@ -56,14 +56,11 @@ no iff e h = true≢false (sym (iff.1 h) ∙ e)
 
 -- a kind that is not the kind of transfers
 pub no_transfer_kind : (k : Kind) → sameb the_type k Transfer ≡ false → IsFalse (transfer_kind k)
-no_transfer_kind Plain e = refl
-no_transfer_kind Transfer e = absurd (true≢false e)
+no_transfer_kind b e = grind arith
 
 -- an open order that is no transfer, where the checks of its lines find nothing
 pub may_hold : (o : Order) (w : Way) (f : Name) (fault : Option (Refusal × ℕ)) → IsTrue (is_open o) → IsFalse (is_transfer o) → FirstFailure (hold_checks o w f) fault → is_some fault ≡ false → MayHoldMore f w o
-may_hold o w f (Some x) opened plain held none = absurd (true≢false none)
-may_hold o w f None opened plain (inl h) none = let e = h.1 in cc
-may_hold o w f None opened plain (inr h) none = grind arith
+may_hold o w f b opened plain held none = grind arith
 
 -- the checks that its line makes, and the one of the bound
 abbrev of_line : Ledger → ℕ → Way → Name → List Check

@@ -52,7 +52,7 @@ pub none_after : (n : ℕ) (m : Order) (ms : List Order) → (m.number == n) ≡
 none_after n m ms e h = each-imp (λ k z. other m.number n k.number e (less_is m.number k.number z)) ms (each-unmap (λ y. nat_cmp m.number y ≡ Less) (λ o. o.number) ms h)
 
 pub some_is : {X : Type 0} (x y : X) → Some x ≡ Some y → x ≡ y
-some_is x y e = ap (from_some x) e
+some_is x y e = cc
 
 -- what is found of an insertion, where it was not there
 pub find-new : (n : ℕ) (p : Order → Order → Bool) (o : Order) (os : List Order) → (o.number == n) ≡ true → Each (λ m. (m.number == n) ≡ false) os → find (λ m. m.number == n) (insert_in_order p o os) ≡ Some o

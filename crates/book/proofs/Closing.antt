@@ -32,9 +32,7 @@ use Rattle.book.proofs.Bounds.{OneOn, Sound, takes, adds, takes-not_negative, ad
 -- a good order is sound
 
 pub same_parts : (a b : Bool) → (a && b) ≡ true → (a ≡ true) × (b ≡ true)
-same_parts true true e = (refl, refl)
-same_parts true false e = absurd (true≢false (sym e))
-same_parts false b e = absurd (true≢false (sym e))
+same_parts x b e = grind arith
 
 pub name_is : (f g : Name) → same_name f g ≡ true → f ≡ g
 name_is f g e = let p = same_parts _ _ e in
@@ -123,35 +121,27 @@ fit-changed A h clock kept fit b = record {
 
 -- one order
 
-same_low : (o : Order) → Fine o → Better o o
-same_low o fine = record { number = refl; fine = fine; low_is = λ f. omega (arith, ints); high_is = λ f. omega (arith, ints) }
-
 better_if : (b : Bool) (o new : Order) → Fine o → (b ≡ true → Better o new) → Better o (if b then new else o)
-better_if true o new fine h = h refl
-better_if false o new fine h = same_low o fine
+better_if b o new fine h = grind arith
 
 used_in_held : (ls : List Line) → Each (λ l. l.used ≤ l.held) ls → Each (λ l. (l.used ≤ l.used) × (l.used ≤ l.held)) ls
 used_in_held [] h = tt
 used_in_held (l ∷ ls) h = ((omega arith, h.0), used_in_held ls h.1)
 
 commit_low : (s : State) (u t : ℤ) → open_state s ≡ true → neg_ℤ t ≤ℤ u → ((if committed_state s then u else pos 0) -ℤ (if open_state s then t else pos 0)) ≤ℤ (u -ℤ pos 0)
-commit_low Open u t e h = omega (arith, ints)
-commit_low c u t e h = absurd (true≢false (sym e))
+commit_low c u t e h = grind arith
 
 commit_high : (s : State) (u t : ℤ) → open_state s ≡ true → u ≤ℤ t → (u +ℤ pos 0) ≤ℤ ((if committed_state s then u else pos 0) +ℤ (if open_state s then t else pos 0))
-commit_high Open u t e h = omega (arith, ints)
-commit_high c u t e h = absurd (true≢false (sym e))
+commit_high c u t e h = grind arith
 
 better-commit : (o : Order) → Fine o → is_open o ≡ true → Better o (set_state Committed o)
 better-commit o fine e = grind (arith, (used_in_held o.lines fine.sound.used), adds, commit_high, commit_low, moved-high, moved-low, takes)
 
 abort_low : (s : State) (u t : ℤ) → open_state s ≡ true → pos 0 ≤ℤ t → ((if committed_state s then u else pos 0) -ℤ (if open_state s then t else pos 0)) ≤ℤ (pos 0 -ℤ pos 0)
-abort_low Open u t e h = omega (arith, ints)
-abort_low c u t e h = absurd (true≢false (sym e))
+abort_low c u t e h = grind arith
 
 abort_high : (s : State) (u t : ℤ) → open_state s ≡ true → pos 0 ≤ℤ t → (pos 0 +ℤ pos 0) ≤ℤ ((if committed_state s then u else pos 0) +ℤ (if open_state s then t else pos 0))
-abort_high Open u t e h = omega (arith, ints)
-abort_high c u t e h = absurd (true≢false (sym e))
+abort_high c u t e h = grind arith
 
 better-abort : (o : Order) → Fine o → is_open o ≡ true → Better o (set_state Aborted o)
 better-abort o fine e = grind (arith, abort_high, abort_low, adds, adds-not_negative, takes, takes-not_negative)
@@ -188,12 +178,10 @@ adds-map f h [] s = omega (arith, ints)
 adds-map f h (l ∷ ls) s = let a : adds f (h l) ≤ℤ adds f l = adds-step f l (h l) s.0 in let b : total (adds f) (map h ls) ≤ℤ total (adds f) ls = adds-map f h ls s.1 in omega (arith, ints)
 
 held_low : (s : State) (u v t n : ℤ) → open_state s ≡ true → n ≤ℤ t → ((if committed_state s then u else pos 0) -ℤ (if open_state s then t else pos 0)) ≤ℤ ((if committed_state s then v else pos 0) -ℤ (if open_state s then n else pos 0))
-held_low Open u v t n e h = omega (arith, ints)
-held_low c u v t n e h = absurd (true≢false (sym e))
+held_low c u v t n e h = grind arith
 
 held_high : (s : State) (u v t n : ℤ) → open_state s ≡ true → n ≤ℤ t → ((if committed_state s then v else pos 0) +ℤ (if open_state s then n else pos 0)) ≤ℤ ((if committed_state s then u else pos 0) +ℤ (if open_state s then t else pos 0))
-held_high Open u v t n e h = omega (arith, ints)
-held_high c u v t n e h = absurd (true≢false (sym e))
+held_high c u v t n e h = grind arith
 
 used-map : (h : Line → Line) (ls : List Line) → Each (λ l. LineStep l (h l)) ls → Each (λ l. l.used ≤ l.held) (map h ls)
 used-map h [] s = tt
@@ -216,8 +204,7 @@ at_line P f [] one h = tt
 at_line P f (l ∷ ls) one h = step (λ k. at_line P f ls one.1 k) (on f l) refl h
   where
     step : (IsSomeAnd (find (on f) ls) P → Each (λ l. on f l ≡ true → P l) ls) → (b : Bool) → on f l ≡ b → IsSomeAnd (if b then Some l else find (on f) ls) P → Each (λ l. on f l ≡ true → P l) (l ∷ ls)
-    step more true e h = (λ _. h, each-imp (λ m no yes. absurd (true≢false (sym yes ∙ no))) ls (one.0 e))
-    step more false e h = (λ yes. absurd (true≢false (sym yes ∙ e)), more h)
+    step more b e h = grind (arith, each-imp)
 
 pub less_is : (a b : ℕ) → nat_cmp a b ≡ Less → a < b
 less_is a b e = subst (λ r. MatchOrdering r (a < b) (a ≡ b) (b < a)) e (ranks a b)
@@ -236,8 +223,7 @@ at_number P n (o ∷ os) sorted h = step (λ k. at_number P n os sorted.1 k) (o.
         apart e e2 a = grind arith
 
     step : (IsSomeAnd (find (λ o. o.number == n) os) P → Each (λ o. (o.number == n) ≡ true → P o) os) → (b : Bool) → (o.number == n) ≡ b → IsSomeAnd (if b then Some o else find (λ o. o.number == n) os) P → Each (λ o. (o.number == n) ≡ true → P o) (o ∷ os)
-    step more true e h = (λ _. h, rest e os sorted.0)
-    step more false e h = (λ yes. absurd (true≢false (sym yes ∙ e)), more h)
+    step more b e h = grind (arith, rest)
 
 none-is-not-some : {X : Type 0} (x : X) → None ≡ Some x → ⊥
 none-is-not-some x e = true≢false (sym (ap is_some e))
@@ -252,28 +238,19 @@ all_pass (c ∷ cs) (inl h) = absurd (none-is-not-some (c.refusal, c.line) h.1)
 all_pass (c ∷ cs) (inr h) = (h.0, all_pass cs h.1)
 
 pub open_there : (o : Option Order) → (IsNone o → ⊥) → (IsSomeAnd o (λ o. IsFalse (is_open o)) → ⊥) → IsSomeAnd o (λ o. is_open o ≡ true)
-open_there None h k = h refl
-open_there (Some o) h k = grind arith
+open_there b h k = grind arith
 
 -- The order is open, and its line on f has q left.
 abbrev pub Usable : Name → ℕ → Order → Type 0
 Usable f q o = (is_open o ≡ true) × IsSomeAnd (line_on o f) (λ l. l.used + q ≤ l.held)
 
-line_there : (q : ℕ) (l : Option Line) → (IsNone l → ⊥) → (IsSomeAnd l (λ l. l.held < l.used + q) → ⊥) → IsSomeAnd l (λ l. l.used + q ≤ l.held)
-line_there q None h k = h refl
-line_there q (Some l) h k = grind arith
-
 pub usable_there : (f : Name) (q : ℕ) (o : Option Order) → (IsNone o → ⊥) → (IsSomeAnd o (λ o. IsFalse (is_open o)) → ⊥) → (IsSomeAnd o (λ o. IsNone (line_on o f)) → ⊥)
     → (IsSomeAnd o (λ o. IsSomeAnd (line_on o f) (λ l. l.held < l.used + q)) → ⊥) → IsSomeAnd o (Usable f q)
-usable_there f q None a b c d = a refl
-usable_there f q (Some o) a b c d = (open_there (Some o) a b, line_there q (line_on o f) c d)
+usable_there f q x a b c d = grind arith
 
 -- on a transfer both lines have the same left, else the one line on the field
 pair_left : (f : Name) (q : ℕ) (ls : List Line) → IsTransferPair ls → IsSomeAnd (find (on f) ls) (λ l. l.used + q ≤ l.held) → Each (λ l. l.used + q ≤ l.held) ls
-pair_left f q [] p h = tt
-pair_left f q (l ∷ []) p h = absurd p
-pair_left f q (l ∷ m ∷ k ∷ ls) p h = absurd p
-pair_left f q (l ∷ m ∷ []) p h = grind arith
+pair_left f q b p h = grind arith
 
 pub left_on : (f : Name) (q : ℕ) (o : Order) → Fine o → Usable f q o → Each (λ l. (is_transfer o || on f l) ≡ true → l.used + q ≤ l.held) o.lines
 left_on f q o fine u = step (is_transfer o) refl
@@ -283,8 +260,7 @@ left_on f q o fine u = step (is_transfer o) refl
     step false e = at_line (λ l. l.used + q ≤ l.held) f o.lines (fine.sound.one f) u.1
 
 pub line_step : (b : Bool) (l new : Line) → l.used ≤ l.held → (b ≡ true → LineStep l new) → LineStep l (if b then new else l)
-line_step true l new h s = s refl
-line_step false l new h s = record { name = refl; way = refl; held = omega arith; used = h }
+line_step b l new h s = grind arith
 
 -- what a use and a release do to a line
 pub record IsClosingChange (q : ℕ) (change : Line → Line) : Type 0 where
@@ -307,10 +283,7 @@ pair-map f q change t ls c pair s e = subst (λ t. IsTransferPair (map (λ l. if
     (both ls (pair e) (subst (λ t. Each (λ l. LineStep l (if t || on f l then change l else l)) ls) e (s e)))
   where
     both : (ls : List Line) → IsTransferPair ls → Each (λ l. LineStep l (change l)) ls → IsTransferPair (map change ls)
-    both [] p s = absurd p
-    both (l ∷ []) p s = absurd p
-    both (l ∷ m ∷ k ∷ ls) p s = absurd p
-    both (l ∷ m ∷ []) p s = (s.0.way ∙ p.0, s.1.0.way ∙ p.1, ap (λ n. n.article) s.0.name ∙ p.2 ∙ sym (ap (λ n. n.article) s.1.0.name), (c.pair l m p.3 p.4).0, (c.pair l m p.3 p.4).1)
+    both b p s = grind arith
 
 better-change : (f : Name) (q : ℕ) (change : Line → Line) (o : Order) → IsClosingChange q change → Fine o → Usable f q o → Better o (change_lines f change o)
 better-change f q change o c fine u = let s = steps f q change (is_transfer o) o.lines c fine.sound.used (left_on f q o fine u) in
@@ -364,8 +337,7 @@ fit-answer A r reply B w fit h = by_key (kept_under A r.key) h
     by_found (Some e) f m = subst Fit (sym m.1) fit
 
     by_key : (k : Option Kept) → MatchOption k (AnswersNew A r reply B) (λ k. (reply ≡ (if same_command k.command r.command then Done k.place else Refused KeyReused 0)) × (B ≡ A)) → Fit B
-    by_key None m = by_found m.0 m.1 m.2
-    by_key (Some k) m = subst Fit (sym m.1) fit
+    by_key b m = grind (arith, by_found)
 
 fit-run : (A : Ledger) (rs : List Request) (replies : List Reply) (B : Ledger) → IsFuture rs → Fit A → Runs A rs replies B → Fit B
 fit-run A [] [] B w fit h = subst Fit (sym h) fit
@@ -412,9 +384,6 @@ found (o ∷ os) sorted = (here, each-both (λ m a e. step m a e) os (unmap os s
     step : (m : Order) → o.number < m.number → find (λ e. e.number == m.number) os ≡ Some m → find (λ e. e.number == m.number) (o ∷ os) ≡ Some m
     step m a e = let d : (o.number == m.number) ≡ false = grind arith in rw d e
 
-commit_passes : (A : Ledger) (o : Order) → order_numbered A o.number ≡ Some o → is_open o ≡ true → FirstFailure (checks A (command.Commit o.number)) None
-commit_passes A o e open_is = rw e (inr ((λ h. true≢false h), inr ((λ h. true≢false (sym open_is ∙ h)), refl)))
-
 commits : (A : Ledger) → Fit A → Each (λ o. IsTrue (is_open o) → (key : List ℕ) → IsNone (kept_under A key)
     → (C : Ledger) × Answers A (record { key = key; command = command.Commit o.number }) (Done (places A + 1)) C) A.orders
 commits A fit = each-imp (λ o e. commit o e) A.orders (found A.orders fit.numbers)
@@ -424,8 +393,7 @@ commits A fit = each-imp (λ o e. commit o e) A.orders (found A.orders fit.numbe
       where
         answer : (k : Option Kept) → IsNone k → MatchOption k (AnswersNew A (record { key = key; command = command.Commit o.number }) (Done (places A + 1)) (accept A (record { key = key; command = command.Commit o.number })))
             (λ k. (Done (places A + 1) ≡ (if same_command k.command (command.Commit o.number) then Done k.place else Refused KeyReused 0)) × (accept A (record { key = key; command = command.Commit o.number }) ≡ A))
-        answer None none = (None, commit_passes A o e t, (refl, refl))
-        answer (Some k) none = absurd (true≢false none)
+        answer b none = grind arith
 
 pub stands_if_fit : (A : Ledger) → Fit A → Stands A
 stands_if_fit A fit = record { within = each-imp (λ f r. settled_within A f r) A.fields fit.room; commits = commits A fit }

@@ -1,4 +1,5 @@
 -- Each test of a check by all outcomes is one comparison with the numbers of the ledger as it is.
+use Rattle.std.proofs.lemmas.Grind.{common_steps}
 use Rattle.std.proofs.Common.{◌≡◌, ◌∙◌, ℕ, ◌+◌, ℤ, pos, ◌+ℤ◌, ◌==◌, ◌↔◌, Bool, true, false, List, [], ◌∷◌, ◌++◌, Option, None, Some, IsNone, IsSomeAnd, MatchOption, ap, arith, find, if◌then◌else◌, map, nat_cmp, Less, refl, subst, sym, true≢false}
 use Rattle.std.proofs.lemmas.Int.{ints}
 use Rattle.std.specs.List.{AllByRecursion as Each, IsDistinct}
@@ -30,12 +31,10 @@ pub line_test : (A : Ledger) (n : ℕ) (k : Kind) (u : ℕ) (before : List OpenL
 line_test A n k u before l i good apart none = by l.way refl
   where
     alone : (x : Option Line) → IsNone x → x ≡ None
-    alone None e = refl
-    alone (Some line) e = absurd (true≢false e)
+    alone b e = grind arith
 
     by : (w : Way) → l.way ≡ w → (bound w (with_order (new_order n k u (before ++ l ∷ [])) A) (line_name (new_line l)) i).fails ↔ BreaksBound w A (line_name (new_line l)) l.qty
-    by Take e = take_line_test A n k u before l (sounds_from_good A good) (λ g. one_on g (map new_line before) apart) (alone _ none) e
-    by Add e = add_line_test A n k u before l (sounds_from_good A good) (λ g. one_on g (map new_line before) apart) (alone _ none) e
+    by b e = grind (arith, add_line_test, one_on, sounds_from_good, take_line_test, alone)
 
 -- ---- an amount more on an order's line
 
@@ -44,12 +43,10 @@ abbrev IsSum : (Way → ℕ → ℕ) → Type 0
 IsSum p = (w : Way) (m n : ℕ) → p w (m + n) ≡ p w m + p w n
 
 take_sum : IsSum if_take
-take_sum Take m n = refl
-take_sum Add m n = refl
+take_sum b m n = grind arith
 
 add_sum : IsSum if_add
-add_sum Take m n = refl
-add_sum Add m n = refl
+add_sum b m n = grind arith
 
 part_none : (p : Way → ℕ → ℕ) (name : Name) (q : ℕ) (ls : List Line) → Each (λ m. on name m ≡ false) ls
     → total (part p name) (map (λ m. if on name m then raise_held q m else m) ls) ≡ total (part p name) ls
@@ -62,20 +59,12 @@ part_raised p sum name w q [] one found = absurd found
 part_raised p sum name w q (m ∷ ms) one found = step (on name m) refl found (λ k. part_raised p sum name w q ms one.1 k)
   where
     lifted : (b : Bool) → b ≡ true → m.way ≡ w → (if b then pos (p m.way (m.held + q)) else pos 0) ≡ (if b then pos (p m.way m.held) else pos 0) +ℤ pos (p w q)
-    lifted true e way = ap pos (sum m.way m.held q ∙ ap (λ v. p m.way m.held + p v q) way)
-    lifted false e way = absurd (true≢false (sym e))
+    lifted b e way = grind arith
 
     step : (b : Bool) → on name m ≡ b → IsSomeAnd (if b then Some m else find (on name) ms) (λ m. m.way ≡ w)
         → (IsSomeAnd (find (on name) ms) (λ m. m.way ≡ w) → total (part p name) (map (λ m. if on name m then raise_held q m else m) ms) ≡ total (part p name) ms +ℤ pos (p w q))
         → total (part p name) (map (λ m. if on name m then raise_held q m else m) (m ∷ ms)) ≡ total (part p name) (m ∷ ms) +ℤ pos (p w q)
-    step true e way more =
-        let same : (if on name m then raise_held q m else m) ≡ raise_held q m = rw e refl in
-        let a : part p name (if on name m then raise_held q m else m) ≡ part p name m +ℤ pos (p w q) = ap (part p name) same ∙ lifted (on name m) e way in
-        let b = part_none p name q ms (one.0 e) in omega (arith, ints)
-    step false e found more =
-        let same : (if on name m then raise_held q m else m) ≡ m = rw e refl in
-        let a : part p name (if on name m then raise_held q m else m) ≡ part p name m = ap (part p name) same in
-        let b = more found in omega (arith, ints)
+    step x e way more = grind (arith, ints, common_steps, part, part_none, lifted)
 
 part_more : (p : Way → ℕ → ℕ) → IsSum p → (l : OpenLine) (o : Order) → Sound o → MayHoldMore (line_name (new_line l)) l.way o
     → total (part p (line_name (new_line l))) (add_hold l o).lines ≡ total (part p (line_name (new_line l))) o.lines +ℤ pos (p l.way l.qty)

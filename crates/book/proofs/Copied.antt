@@ -53,9 +53,4 @@ copy_may_change A r p o good after ok e there room = by r.command refl p e there
 
 -- the order that is changed is what the command makes
 pub changed_is_after : (A : Ledger) (c : Command) (p : ℕ × OrderChange) → order_change_of c ≡ Some p → option_map (changed_order p.1) (order_numbered A p.0) ≡ order_after A c
-changed_is_after A (command.More n way b a q) p e = sym (ap (λ (x : ℕ × OrderChange). option_map (changed_order x.1) (order_numbered A x.0)) (same_Some _ p e))
-changed_is_after A (command.Use n b a q) p e = sym (ap (λ (x : ℕ × OrderChange). option_map (changed_order x.1) (order_numbered A x.0)) (same_Some _ p e))
-changed_is_after A (command.Release n b a q) p e = sym (ap (λ (x : ℕ × OrderChange). option_map (changed_order x.1) (order_numbered A x.0)) (same_Some _ p e))
-changed_is_after A (command.Commit n) p e = sym (ap (λ (x : ℕ × OrderChange). option_map (changed_order x.1) (order_numbered A x.0)) (same_Some _ p e))
-changed_is_after A (command.Abort n) p e = sym (ap (λ (x : ℕ × OrderChange). option_map (changed_order x.1) (order_numbered A x.0)) (same_Some _ p e))
-changed_is_after A c p e = absurd (true≢false (sym (ap is_some e)))
+changed_is_after b c p e = grind arith

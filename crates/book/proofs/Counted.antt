@@ -40,8 +40,7 @@ expired_one now [] = refl
 expired_one now (o ∷ os) = let more = expired_one now os in grind (arith, (counted (expires now) o os))
 
 one_before : (x : Option Order) (f : Name) → IsBefore f x → some_part one x ≡ (if is_some x then pos 1 else pos 0)
-one_before None f is = refl
-one_before (Some o) f is = ap (λ t. if t then pos 1 else pos 0) is.0
+one_before b f is = grind arith
 
 -- any field, since the orders' states do not hang on it
 abbrev nowhere : Name
@@ -64,17 +63,14 @@ opened_count A c good h is = absurd (true≢false (sym is))
 
 -- the order under the number is there
 numbered : (x : Option Order) → (IsNone x → ⊥) → is_some x ≡ true
-numbered None h = absurd (h refl)
-numbered (Some o) h = refl
+numbered b h = grind arith
 
 -- where it stays open
 kept_open : (x : Option Order) (f : Name) (h : Order → Order) → ((o : Order) → (h o).state ≡ o.state) → IsBefore f x → is_some x ≡ true → some_part one (option_map h x) ≡ pos 1
-kept_open None f h keeps is there = absurd (true≢false (sym there))
-kept_open (Some o) f h keeps is there = ap (λ s. if open_state s then pos 1 else pos 0) (keeps o) ∙ ap (λ t. if t then pos 1 else pos 0) is.0
+kept_open b f h keeps is there = grind arith
 
 ended_part : (x : Option Order) (s : State) → open_state s ≡ false → some_part one (option_map (set_state s) x) ≡ pos 0
-ended_part None s e = refl
-ended_part (Some o) s e = ap (λ t. if t then pos 1 else pos 0) e
+ended_part b s e = grind arith
 
 held_state : (l : OpenLine) (o : Order) → (add_hold l o).state ≡ o.state
 held_state l o = grind arith
@@ -110,15 +106,7 @@ expired_count A now good h =
 
 pub other_count : (A : Ledger) (c : Command) → Good A → FirstFailure (checks A c) None → ((n until : ℕ) (lines : List OpenLine) → c ≡ command.Open n until lines → ⊥) → ((n until : ℕ) (a from to : List ℕ) (q : ℕ) → c ≡ command.Transfer n until a from to q → ⊥)
     → ((n : ℕ) → c ≡ command.Commit n → ⊥) → ((n : ℕ) → c ≡ command.Abort n → ⊥) → ((now : ℕ) → c ≡ command.Expire now → ⊥) → open_orders (next A c) ≡ open_orders A
-other_count A (command.Open n until lines) good h o t k z e = absurd (o n until lines refl)
-other_count A (command.Transfer n until a from to q) good h o t k z e = absurd (t n until a from to q refl)
-other_count A (command.More n way b a q) good h o t k z e = changed_count A (command.More n way b a q) good h refl
-other_count A (command.Use n b a q) good h o t k z e = changed_count A (command.Use n b a q) good h refl
-other_count A (command.Release n b a q) good h o t k z e = changed_count A (command.Release n b a q) good h refl
-other_count A (command.Commit n) good h o t k z e = absurd (k n refl)
-other_count A (command.Abort n) good h o t k z e = absurd (z n refl)
-other_count A (command.Expire now) good h o t k z e = absurd (e now refl)
-other_count A c good h o t k z e = refl
+other_count x c good h o t k z e = grind (arith, changed_count)
 
 -- ---- as the book knows it
 

@@ -135,12 +135,10 @@ module _ (p : Order → Bool) where
       none = none_any (λ n. o.number == n) (numbers os) (each-imp (λ k e. below o.number k (less_is o.number k e)) (numbers os) (each_number (λ k. nat_cmp o.number k ≡ Less) os sorted.0))
 
       first : (b : Bool) → list_any (λ n. o.number == n) (map (λ o. o.number) (if b then o ∷ filter p os else filter p os)) ≡ b
-      first true = ap (λ b. b || list_any (λ n. o.number == n) (numbers os)) (same o.number)
-      first false = none
+      first x = grind (arith, same, none)
 
       later : (m : Order) (b : Bool) → nat_cmp o.number m.number ≡ Less → list_any (λ n. m.number == n) (map (λ o. o.number) (if b then o ∷ filter p os else filter p os)) ≡ list_any (λ n. m.number == n) (numbers os)
-      later m true e = ap (λ b. b || list_any (λ n. m.number == n) (numbers os)) (above o.number m.number (less_is o.number m.number e))
-      later m false e = refl
+      later m x e = grind arith
 
   -- what the orders have that pass, by their numbers
   pub numbered_flat : {X : Type 0} (A : Ledger) (parts : Order → List X) → Good A → flat_map (of_numbered A parts) (numbers A.orders) ≡ flat_map (λ o. if p o then parts o else []) A.orders
@@ -154,8 +152,7 @@ module _ (p : Order → Bool) where
           rest = flat_map (λ o. if p o then parts o else []) os
 
           by : (b : Bool) → flat_map (of_numbered A parts) (numbers os) ≡ rest → flat_map (of_numbered A parts) (map (λ o. o.number) (if b then o ∷ filter p os else filter p os)) ≡ (if b then parts o else []) ++ rest
-          by true more = λ i. option_map_or parts (h.0 i) [] ++ more i
-          by false more = more
+          by b more = grind arith
 
 -- the numbers of those that expire, found in any order of the entries and then put in theirs
 pub numbers_sorted : (now : ℕ) (es lying : List (ℕ × OrderEntry)) (ns : List ℕ) → IsStrictlySortedBy nat_cmp (map (λ o. o.number) (map order_of es)) → IsPermutation es lying → IsPermutation (numbers (expires now) (map order_of lying)) ns → IsNonDecreasingBy (λ x. x) ns

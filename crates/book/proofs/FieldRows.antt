@@ -54,8 +54,7 @@ one_row A r n old D good empty rising puts only none =
     (λ f changes. subst (λ (k : Name). HasEntry D k) (sym (only f.name changes)) (subst (λ (C : List (Name × FieldEntry)). HasEntry C n) (sym is) (put_self [] n puts.entry))) none
 
 some_there : {X : Type 0} (o : Option X) → (IsNone o → ⊥) → IsSome o
-some_there None h = absurd (h refl)
-some_there (Some x) h = refl
+some_there b h = grind arith
 
 abbrev any_field : Name → Field
 any_field n = record { name = n; lo = 0; hi = 0; start = 0 }
@@ -123,27 +122,23 @@ any_line P f [] all e = absurd (true≢false (sym e))
 any_line P f (l ∷ ls) all e = by (on f l) refl e (λ k. any_line P f ls all.1 k)
   where
     by : (b : Bool) → on f l ≡ b → (b || list_any (on f) ls) ≡ true → (list_any (on f) ls ≡ true → P f) → P f
-    by true is e more = subst P (sym (name_is f (line_name l) is)) all.0
-    by false is e more = more e
+    by b is e more = grind (arith, name_is)
 
 any_there : (f : Name) (ls : List Line) → is_some (find (on f) ls) ≡ list_any (on f) ls
 any_there f [] = refl
 any_there f (l ∷ ls) = let more = any_there f ls in grind arith
 
 raised_on : (b : Bool) (f : Name) (q : ℕ) (l : Line) → on f (if b then raise_held q l else l) ≡ on f l
-raised_on true f q l = refl
-raised_on false f q l = refl
+raised_on b f q l = grind arith
 
 or_true : (a b : Bool) → b ≡ true → (a || b) ≡ true
-or_true true b e = refl
-or_true false b e = e
+or_true x b e = grind arith
 
 held_on : (f : Name) (ol : OpenLine) (o : Order) → f ≡ line_name (new_line ol) → list_any (on f) (add_hold ol o).lines ≡ true
 held_on f ol o is = grind (arith, (each (λ m. raised_on (on (line_name (new_line ol)) m) f ol.qty m) o.lines), (any_there (line_name (new_line ol)) o.lines), any-append, any-eq, any-map, or_true, raised_on, same_self)
 
 second_true : (a b : Bool) → (a && b) ≡ true → b ≡ true
-second_true true b e = e
-second_true false b e = absurd (true≢false (sym e))
+second_true x b e = grind arith
 
 -- a field that the request changes has a line of the order that it makes
 changed_has_line : (A : Ledger) (c : Command) (f : Name) (o : Order) → Good A → FirstFailure (checks A c) None → order_after A c ≡ Some o → changes_field A c f ≡ true → list_any (on f) o.lines ≡ true
@@ -165,8 +160,7 @@ changed_has_line A (command.Release n b a q) f o good h made e = by (order_numbe
     here p there false is k = second_true (is_transfer p) (has_line_on f p) (sym (any_one n (λ o. is_transfer o && has_line_on f o) p A.orders good.orders_in_order there) ∙ k)
 
     by : (x : Option Order) → order_numbered A n ≡ x → option_map (change_lines g (lower_held q)) x ≡ Some o → list_any (on f) o.lines ≡ true
-    by None there k = absurd (true≢false (sym (ap is_some k)))
-    by (Some p) there k = subst (λ (m : Order). list_any (on f) m.lines ≡ true) (some_is _ o k) (released_on f g q p ∙ here p there (same_name f g) refl e)
+    by b there k = grind (arith, released_on, some_is, g, here)
 changed_has_line A (command.Use n b a q) f o good h made e = absurd (true≢false (sym e))
 changed_has_line A (command.Field b a lo hi start) f o good h made e = absurd (true≢false (sym (ap is_some made)))
 changed_has_line A (command.Deliver b a q) f o good h made e = absurd (true≢false (sym (ap is_some made)))
@@ -175,8 +169,7 @@ changed_has_line A (command.Expire now) f o good h made e = absurd (true≢false
 changed_has_line A c f o good h made e = ap (some_has_line f) (sym made) ∙ lined A c f good refl ∙ e
 
 no_field_made : (B A : Ledger) (c : Command) (o : Order) → order_after A c ≡ Some o → new_field_rows B c ≡ []
-no_field_made B A (command.Field b a lo hi start) o made = absurd (true≢false (sym (ap is_some made)))
-no_field_made B A c o made = refl
+no_field_made b x c o made = grind arith
 
 pub lines_rows : (A : Ledger) (r : Request) (o : Order) (D : List (Name × FieldEntry)) → Accepts A r → order_after A r.command ≡ Some o → IsStrictlySortedBy name_cmp (keys_of D) → HasLines A r o.lines D → map entry_row D ≡ field_rows A r
 lines_rows A r o D accepts made rising has =
@@ -190,8 +183,7 @@ entry_itself [] = tt
 entry_itself (e ∷ D) = let more = entry_itself D in grind (arith, each-imp, self_eq)
 
 any_if : (b : Bool) (f : Name) (ls : List Line) → list_any (on f) (if b then ls else []) ≡ (b && list_any (on f) ls)
-any_if true f ls = refl
-any_if false f ls = refl
+any_if b f ls = grind arith
 
 any_expired : (now : ℕ) (f : Name) (os : List Order) → list_any (on f) (expired_lines now os) ≡ list_any (λ o. expires now o && has_line_on f o) os
 any_expired now f [] = refl
@@ -207,18 +199,14 @@ parted p g (o ∷ os) = by (p o) (parted p g os)
     by false e = omega (arith, ints)
 
 open_part : (a b : Bool) (z : ℤ) → (if a && b then z else pos 0) ≡ (if a && b then (if a then z else pos 0) else pos 0)
-open_part true true z = refl
-open_part true false z = refl
-open_part false b z = refl
+open_part x b z = grind arith
 
 -- what the orders that expire hold on a field
 expired_part : (now : ℕ) (g : Line → ℤ) (os : List Order) → total g (expired_lines now os) ≡ total (λ o. if expires now o then (if is_open o then total g o.lines else pos 0) else pos 0) os
 expired_part now g os = grind (arith, each, lines_if, open_part, total-eq, total-flat)
 
 not_committed : (a b c : Bool) (z : ℤ) → (a ≡ true → c ≡ false) → (if a && b then pos 0 else (if c then z else pos 0)) ≡ (if c then z else pos 0)
-not_committed true true c z h = sym (ap (λ t. if t then z else pos 0) (h refl))
-not_committed true false c z h = refl
-not_committed false b c z h = refl
+not_committed x b c z h = grind arith
 
 -- what the expiry leaves
 abbrev Left : Ledger → Ledger → ℕ → Field → Type 0

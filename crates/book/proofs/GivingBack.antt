@@ -53,8 +53,7 @@ none_on n [] e = tt
 none_on n (l ∷ ls) e = by (on n l) refl e (λ k. none_on n ls k)
   where
     by : (b : Bool) → on n l ≡ b → (b || list_any (on n) ls) ≡ false → (list_any (on n) ls ≡ false → Each (λ l. on n l ≡ false) ls) → Each (λ l. on n l ≡ false) (l ∷ ls)
-    by true is e more = absurd (true≢false e)
-    by false is e more = (is, more e)
+    by b is e more = grind arith
 
 -- no line on the field holds anything there
 none_held : (n : Name) (g : Line → ℤ) (ls : List Line) → list_any (on n) ls ≡ false → total (λ l. if on n l then g l else pos 0) ls ≡ pos 0
@@ -142,19 +141,13 @@ put_has [] n m v = grind arith
 put_has (e ∷ C) n m v = by (name_cmp n e.0) refl (put_has C n m v)
   where
     first : (b : Bool) (rest : Option FieldEntry) → is_some (cond b (Some v) rest) ≡ (is_some rest || b)
-    first true None = refl
-    first true (Some x) = refl
-    first false None = refl
-    first false (Some x) = refl
+    first b x = grind arith
 
     replaced : (b : Bool) (rest : Option FieldEntry) → is_some (cond b (Some v) rest) ≡ (is_some (cond b (Some e.1) rest) || b)
-    replaced true rest = refl
-    replaced false None = refl
-    replaced false (Some x) = refl
+    replaced b rest = grind arith
 
     later : (b : Bool) (rest more : Option FieldEntry) (c : Bool) → is_some more ≡ (is_some rest || c) → is_some (cond b (Some e.1) more) ≡ (is_some (cond b (Some e.1) rest) || c)
-    later true rest more c h = refl
-    later false rest more c h = h
+    later b rest more c h = grind arith
 
     by : (o : Ordering) → name_cmp n e.0 ≡ o → is_some (lookup (is_at (name_cmp m)) (insert_entry name_cmp C n v)) ≡ (is_some (lookup (is_at (name_cmp m)) C) || is_eq (name_cmp m n))
         → is_some (lookup (is_at (name_cmp m)) (match_ordering o ((n, v) ∷ e ∷ C) ((e.0, v) ∷ C) (e ∷ insert_entry name_cmp C n v))) ≡ (is_some (lookup (is_at (name_cmp m)) (e ∷ C)) || is_eq (name_cmp m n))
@@ -178,13 +171,10 @@ pub may_prefix : (A : Ledger) (ls ms ns : List Line) → MayGiveBack A (ls ++ (m
 may_prefix A ls ms ns may n = grind (arith, ints, (total-append (λ l. if on n l then pos (if_take l.way l.held) else pos 0) ls (ms ++ ns)), (total-append (λ l. if on n l then pos (if_take l.way l.held) else pos 0) ms ns), (total-append (λ l. if on n l then pos (if_take l.way l.held) else pos 0) ls ms), (takes-not_negative n ns), (total-append (λ l. if on n l then pos (if_add l.way l.held) else pos 0) ls (ms ++ ns)), (total-append (λ l. if on n l then pos (if_add l.way l.held) else pos 0) ms ns), (total-append (λ l. if on n l then pos (if_add l.way l.held) else pos 0) ls ms), (adds-not_negative n ns))
 
 pub lines_if : (b : Bool) (g : Line → ℤ) (ls : List Line) → total g (if b then ls else []) ≡ (if b then total g ls else pos 0)
-lines_if true g ls = refl
-lines_if false g ls = refl
+lines_if b g ls = grind arith
 
 expiring_least : (a b : Bool) (z : ℤ) → pos 0 ≤ℤ z → (if a && b then z else pos 0) ≤ℤ (if a then z else pos 0)
-expiring_least true true z h = omega (arith, ints)
-expiring_least true false z h = h
-expiring_least false b z h = omega (arith, ints)
+expiring_least x b z h = grind arith
 
 expired_most : (now : ℕ) (g : Line → ℤ) → ((ls : List Line) → pos 0 ≤ℤ total g ls) → (os : List Order) → total g (expired_lines now os) ≤ℤ total (λ o. if is_open o then total g o.lines else pos 0) os
 expired_most now g least os = grind (arith, (total-flat g (λ (o : Order). if expires now o then o.lines else []) os), each, expiring_least, lines_if, total-le)

@@ -44,8 +44,7 @@ use Rattle.book.proofs.Lists.{each-unmap, each-two, each-all, each-of-push, sort
 -- what is held on a field that is there is a level
 
 level : (w : Way) (h lo hi : ℕ) (s t a : ℤ) → pos (if_take w h) ≤ℤ t → pos (if_add w h) ≤ℤ a → pos lo ≤ℤ (s -ℤ t) → (s +ℤ a) ≤ℤ pos hi → hi ≤ 1000000000 → h ≤ 1000000000
-level Take h lo hi s t a p q r u v = omega (arith, ints)
-level Add h lo hi s t a p q r u v = omega (arith, ints)
+level b h lo hi s t a p q r u v = grind arith
 
 find_named : (P : Field → Type 0) (name : Name) (fs : List Field) → Each P fs → IsSome (find (λ e. same_name name e.name) fs) → (f : Field) × (f.name ≡ name) × P f
 find_named P name [] h e = absurd (true≢false (sym e))
@@ -56,16 +55,13 @@ find_named P name (f ∷ fs) h e = step (same_name name f.name) refl e (λ k. fi
     step false t e more = more e
 
 part_not_negative : (b : Bool) (n : ℕ) → pos 0 ≤ℤ (if b then pos n else pos 0)
-part_not_negative true n = omega (arith, ints)
-part_not_negative false n = omega (arith, ints)
+part_not_negative b n = grind arith
 
 open_not_negative : (b : Bool) (z : ℤ) → pos 0 ≤ℤ z → pos 0 ≤ℤ (if b then z else pos 0)
-open_not_negative true z h = h
-open_not_negative false z h = omega (arith, ints)
+open_not_negative b z h = grind arith
 
 when_open : (b : Bool) (z t : ℤ) → b ≡ true → (if b then z else pos 0) ≤ℤ t → z ≤ℤ t
-when_open true z t e h = h
-when_open false z t e h = absurd (true≢false (sym e))
+when_open b z t e h = grind arith
 
 pub held_levels : (B : Ledger) → Each IsGoodField B.fields → Room B → Each (λ o. is_open o ≡ true → Each (λ l. IsSome (field_named B (line_name l)) → IsLevel l.held) o.lines) B.orders
 held_levels B good room = each-imp (λ o p e. of_order o e p.0 p.1) B.orders
@@ -99,8 +95,7 @@ moving : (A : Ledger) (f : Name) (z : ℤ) (kept : List Kept) → Good A → len
 moving A f z kept g more there size room = grind (arith, cmp_less, each-imp, each-of-push, move_kept, order_kept, sorted-push)
 
 size-neg : (q : ℕ) → nat_abs (neg_ℤ (pos q)) ≡ q
-size-neg zero = refl
-size-neg (suc q) = refl
+size-neg b = grind arith
 
 -- a new field
 fielding : (A : Ledger) (f : Field) (kept : List Kept) → Good A → IsGoodField f → length kept ≡ places A + 1 → (IsSome (field_named A f.name) → ⊥) → (10000 ≤ length A.fields → ⊥) → places A + open_orders A + 1 ≤ 200000
@@ -173,18 +168,14 @@ adding A n l kept g more full there qty takes_it fits sound room =
     name = line_name (new_line l)
 
     number_as : (o : Order) (b : Bool) → (if b then hold_more name l.qty o else record o { lines = o.lines ++ new_line l ∷ [] }).number ≡ o.number
-    number_as o true = refl
-    number_as o false = refl
+    number_as o b = grind arith
 
     open_as : (o : Order) (b c : Bool) → is_open (if b then (if c then hold_more name l.qty o else record o { lines = o.lines ++ new_line l ∷ [] }) else o) ≡ true → is_open o ≡ true
-    open_as o true true e = e
-    open_as o true false e = e
-    open_as o false c e = e
+    open_as o b c e = grind arith
 
     raised_good : (B : Ledger) → StillThere A B → (t : Bool) (m : Line) → IsGoodLine A m → (if t then raise_held l.qty m else m).used ≤ (if t then raise_held l.qty m else m).held
         → (IsSome (field_named B (line_name (if t then raise_held l.qty m else m))) → IsLevel (if t then raise_held l.qty m else m).held) → IsGoodLine B (if t then raise_held l.qty m else m)
-    raised_good B still true m x u v = record { field = still (line_name m) x.field; held = v (still (line_name m) x.field); used = u }
-    raised_good B still false m x u v = line_kept A B still m x
+    raised_good b still y m x u v = grind arith
 
     held_more : (B : Ledger) (o : Order) → StillThere A B → IsGoodOrder A o → MayHoldMore name l.way o → (c : Bool) → ((c ≡ false) → length o.lines ≤ 63)
         → Sound (if c then hold_more name l.qty o else record o { lines = o.lines ++ new_line l ∷ [] })
@@ -221,8 +212,7 @@ adding A n l kept g more full there qty takes_it fits sound room =
     by B o false still x t fit s v = order_kept A B still o x
 
 few_more : (f : Name) (o : Option Order) → (IsNone o → ⊥) → (IsSomeAnd o (λ o. IsNone (line_on o f) × (64 ≤ length o.lines)) → ⊥) → IsSomeAnd o (λ o. IsNone (line_on o f) → length o.lines ≤ 63)
-few_more f None there h = there refl
-few_more f (Some o) there h = grind arith
+few_more f b there h = grind arith
 
 one_lines : (A : Ledger) (n : ℕ) (k : Kind) (u : ℕ) (before ls : List OpenLine) → ((g : Name) → OneOn g (map new_line before)) → AllPass (line_checks A (new_order n k u) before ls) → (g : Name) → OneOn g (map new_line (before ++ ls))
 one_lines A n k u before [] one p = subst (λ ls. (g : Name) → OneOn g (map new_line ls)) (sym (append-nil before)) one
@@ -303,9 +293,7 @@ pub good_answer : (A : Ledger) (r : Request) (reply : Reply) (B : Ledger) → Go
 good_answer A r reply B g key range h = by_key (kept_under A r.key) refl h
   where
     by_found : kept_under A r.key ≡ None → (found : Option (Refusal × ℕ)) → FirstFailure (checks A r.command) found → MatchOption found ((reply ≡ Done (places A + 1)) × (B ≡ accept A r)) (λ e. (reply ≡ Refused e.0 e.1) × (B ≡ A)) → Good B
-    by_found none None f m = subst Good (sym m.1) (good_accept A r g key range none f)
-    by_found none (Some e) f m = subst Good (sym m.1) g
+    by_found none b f m = grind (arith, good_accept)
 
     by_key : (k : Option Kept) → kept_under A r.key ≡ k → MatchOption k (AnswersNew A r reply B) (λ k. (reply ≡ (if same_command k.command r.command then Done k.place else Refused KeyReused 0)) × (B ≡ A)) → Good B
-    by_key None e m = by_found e m.0 m.1 m.2
-    by_key (Some k) e m = subst Good (sym m.1) g
+    by_key b e m = grind (arith, by_found)

@@ -47,8 +47,7 @@ BeginsOtherCells n [] = Unit {0}
 BeginsOtherCells n (r ∷ rows) = r.number ≡ pos n → ⊥
 
 pub begins-cells : (n : ℕ) (rows : List LineRow) → BeginsOther n rows → BeginsOtherCells n (map line_cells rows)
-begins-cells n [] h = tt
-begins-cells n (r ∷ rows) h = h
+begins-cells n b h = grind arith
 
 pub own-number : (n k : ℕ) (ls : List Line) → Each (λ r. r.number ≡ pos n) (lines_from n k ls)
 own-number n k [] = tt

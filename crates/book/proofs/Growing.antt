@@ -43,8 +43,7 @@ none_bad P name (f ∷ fs) sorted h = step (same_name name f.name) refl h (λ k.
 
     step : (b : Bool) → same_name name f.name ≡ b → (IsSomeAnd (if b then Some f else find (λ e. same_name name e.name) fs) P → ⊥) → ((IsSomeAnd (find (λ e. same_name name e.name) fs) P → ⊥) → Each (λ f. same_name name f.name ≡ true → P f → ⊥) fs)
         → Each (λ f. same_name name f.name ≡ true → P f → ⊥) (f ∷ fs)
-    step true e k more = ((λ _. k), rest e fs sorted.0)
-    step false e k more = ((λ d. absurd (true≢false (sym d ∙ e))), more k)
+    step b e k more = grind (arith, rest)
 
 -- the other way round
 pub other_way : (f g : Name) → same_name f g ≡ false → same_name g f ≡ false
@@ -90,12 +89,10 @@ adds-more : (f : Name) (ls : List OpenLine) (l : OpenLine) → total (adds f) (m
 adds-more f ls l = rw (map-push ls l) (total-push (adds f) (map new_line ls) (new_line l))
 
 no_add : (b : Bool) (w : Way) (q : ℕ) → w ≡ Take → (if b then pos (if_add w q) else pos 0) ≡ pos 0
-no_add true w q e = ap (λ w. pos (if_add w q)) e
-no_add false w q e = refl
+no_add b w q e = grind arith
 
 no_take : (b : Bool) (w : Way) (q : ℕ) → w ≡ Add → (if b then pos (if_take w q) else pos 0) ≡ pos 0
-no_take true w q e = ap (λ w. pos (if_take w q)) e
-no_take false w q e = refl
+no_take b w q e = grind arith
 
 -- what the check of a line says, by its way
 abbrev pub LinePasses : Ledger → Name → Way → Type 0
@@ -164,12 +161,10 @@ room-line A n k u ls l Add way sound sorted one room check = each-both (λ f r n
             let y : adds f.name (new_line l) ≡ pos 0 = rw (other_way name f.name e) refl in omega (arith, ints)
 
 pub none_if_not_some : {X : Type 0} (o : Option X) → (IsSome o → ⊥) → o ≡ None
-none_if_not_some None h = refl
-none_if_not_some (Some x) h = absurd (h refl)
+none_if_not_some b h = grind arith
 
 pub line_passes : (w : Way) (B : Ledger) (f : Name) (i : ℕ) → ((bound w B f i).fails → ⊥) → LinePasses B f w
-line_passes Take B f i h = h
-line_passes Add B f i h = h
+line_passes b x f i h = grind arith
 
 -- all lines of a new order, each checked beside those before it
 pub room-lines : (A : Ledger) (n : ℕ) (k : Kind) (u : ℕ) (before ls : List OpenLine) → Each Sound A.orders → InOrder A

@@ -12,8 +12,7 @@ use Rattle.book.proofs.Sums.{each-imp}
 use Rattle.book.proofs.Tested.{no, yes}
 
 less_if : (o : Ordering) → is_lt o ≡ true → o ≡ Less
-less_if Less e = refl
-less_if c e = absurd (true≢false (sym e))
+less_if c e = grind arith
 
 -- numbers compared as they are ordered
 pub numbers_less : (a b : ℕ) → nat_lt a b ≡ is_lt (nat_cmp a b)

@@ -21,8 +21,7 @@ use Rattle.book.specs.InOrder.{IsAt, IsGap, IsKeyOrder, at_indexes, compare_at, 
 use Rattle.book.proofs.Indexes.{Names, names_more, index_at, at_indexes-set, in_range, at_indexes-insert, get-at_indexes, length-at_indexes, some_at}
 
 at_most_2 : (o : Ordering) → ordering_index o ≤ 2
-at_most_2 Less = omega arith
-at_most_2 c = omega arith
+at_most_2 c = grind arith
 
 module _ {K V : Type 0} where
   pub keys-set_value_at : (l : List (K × V)) (place : ℕ) (w : V) → keys_of (set_value_at l place w) ≡ keys_of l
@@ -57,9 +56,7 @@ module _ {K : Type 0} {cmp : K → K → Ordering} (total : IsTotalOrder cmp) (k
 
   -- the answers of a search for the key rise with the keys
   rises : (x y : K) → cmp x y ≡ Less → (o : Ordering) → cmp y key ≡ o → ordering_index (cmp x key) ≤ ordering_index o
-  rises x y h Less e = rw (total.trans x y key h e) (omega arith)
-  rises x y h Equal e = let same : cmp x key ≡ Less = sym (alike_right total y key x e) ∙ h in rw same (omega arith)
-  rises x y h Greater e = at_most_2 (cmp x key)
+  rises x y h b e = grind arith
 
   each_below : (x : K) → cmp key x ≡ Less → (ks : List K) → Each (λ y. cmp x y ≡ Less) ks → Each (λ y. cmp key y ≡ Less) ks
   each_below x h [] all = tt

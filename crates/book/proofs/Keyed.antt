@@ -33,14 +33,12 @@ module _ {K V X : Type 0} (cmp : K → K → Ordering) (ties : (a b : K) → cmp
   inserted key v before first (e ∷ l) none = let more = inserted key v before first l in grind arith
 
 nothing_there : {X Y : Type 0} (f : X → Y) (o : Option X) → option_map f o ≡ None → o ≡ None
-nothing_there f None h = refl
-nothing_there f (Some x) h = absurd (true≢false (ap is_some h))
+nothing_there f b h = grind arith
 
 -- ---- fields
 
 same_both : (a b : Ordering) → is_eq (ordering_then a b) ≡ (is_eq a && is_eq b)
-same_both Less b = refl
-same_both c b = refl
+same_both c b = grind arith
 
 pub same_field : (f g : Name) → same_name f g ≡ is_eq (name_cmp f g)
 same_field f g = rw (← is_eq-slice_cmp f.branch g.branch, ← is_eq-slice_cmp f.article g.article) (sym (same_both (slice_cmp nat_cmp f.branch g.branch) (slice_cmp nat_cmp f.article g.article)))

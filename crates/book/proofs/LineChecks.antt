@@ -44,8 +44,7 @@ pub apart-step : (lines : List OpenLine) (i : ℕ) (l : OpenLine) → i < length
 apart-step lines i l h e apart alone = subst AreApart (sym (take-step lines i l h e)) (rw (map-push (take i lines) l) (apart_push (map new_line (take i lines)) (new_line l) apart (none_found _ _ (none _ alone))))
   where
     none : (o : Option Line) → is_some o ≡ false → o ≡ None
-    none None e = refl
-    none (Some m) e = absurd (true≢false e)
+    none b e = grind arith
 
 -- ---- the checks of a line, and of those after it
 
@@ -75,8 +74,7 @@ module _ (A : Ledger) (lines : List OpenLine) (i : ℕ) (l : OpenLine) (h : i < 
   -- the line's own checks decide
   pub line_fails : (fault : Option (Refusal × ℕ)) → FirstFailure (stock_checks l.way A (line_field l) l.qty (i + 1)) fault → is_some fault ≡ true → RestDecides A lines i
       → (n : ℕ) (kind : Kind) (until : ℕ) → FirstFailure (line_checks A (new_order n kind until) [] lines) fault
-  line_fails None k some rest n kind until = absurd (true≢false (sym some))
-  line_fails (Some x) k some rest n kind until = rest n kind until (Some x) (here n kind until (Some x) (cut_short (own n kind until) _ x (has_own n kind until (Some x) k)))
+  line_fails b k some rest n kind until = grind (arith, cut_short, has_own, here, own)
 
   -- they pass, and those after them decide
   pub line_passes : (fault : Option (Refusal × ℕ)) → FirstFailure (stock_checks l.way A (line_field l) l.qty (i + 1)) fault → is_some fault ≡ false → RestDecides A lines i → RestDecides A lines (i + 1)

@@ -32,16 +32,14 @@ pub only_one : (n : ℕ) (o : Order) (os : List Order) → IsStrictlySortedBy na
 only_one n o os sorted e = at_number (λ m. m ≡ o) n os sorted (subst (λ (x : Option Order). IsSomeAnd x (λ m. m ≡ o)) (sym e) refl)
 
 and_false : (a b : Bool) → (a ≡ true → b ≡ false) → (a && b) ≡ false
-and_false true b h = h refl
-and_false false b h = refl
+and_false x b h = grind arith
 
 any_found : (n : ℕ) (test : Order → Bool) (o : Order) (os : List Order) → find (λ m. m.number == n) os ≡ Some o → test o ≡ true → list_any (λ m. m.number == n && test m) os ≡ true
 any_found n test o [] e t = absurd (true≢false (sym (ap is_some e)))
 any_found n test o (m ∷ ms) e t = step (m.number == n) e (λ k. any_found n test o ms k t)
   where
     step : (b : Bool) → (if b then Some m else find (λ m. m.number == n) ms) ≡ Some o → (find (λ m. m.number == n) ms ≡ Some o → list_any (λ m. m.number == n && test m) ms ≡ true) → ((b && test m) || list_any (λ m. m.number == n && test m) ms) ≡ true
-    step true k more = rw (ap test (some_is m o k) ∙ t) refl
-    step false k more = more k
+    step b k more = grind arith
 
 pub any_one : (n : ℕ) (test : Order → Bool) (o : Order) (os : List Order) → IsStrictlySortedBy nat_cmp (map (λ o. o.number) os) → find (λ m. m.number == n) os ≡ Some o → list_any (λ m. m.number == n && test m) os ≡ test o
 any_one n test o os sorted e = grind (arith, (only_one n o os sorted e), and_false, any_found, each-imp, none_any)
@@ -55,24 +53,17 @@ opened_lines_on : (f : Name) (ls : List OpenLine) → list_any (on f) (map new_l
 opened_lines_on f ls = any-map (on f) new_line ls
 
 or_false : (a b : Bool) → (a || (b || false)) ≡ (a || b)
-or_false true b = refl
-or_false false true = refl
-or_false false false = refl
+or_false x b = grind arith
 
 ended_on : (A : Ledger) (n : ℕ) (f : Name) (change : Order → Order) → Good A → ((o : Order) → has_line_on f (change o) ≡ has_line_on f o) → some_has_line f (option_map change (order_numbered A n)) ≡ order_is A n (has_line_on f)
 ended_on A n f change g same = grind (arith, any_none_there, any_one)
 
 -- a command that opens an order or ends one changes the fields of its lines
 pub lined : (A : Ledger) (c : Command) (f : Name) → Good A → changes_state c ≡ true → some_has_line f (order_after A c) ≡ changes_field A c f
-lined A (command.Open n until lines) f g e = opened_lines_on f lines
-lined A (command.Transfer n until a from to q) f g e = or_false (same_name f (name_of from a)) (same_name f (name_of to a))
-lined A (command.Commit n) f g e = ended_on A n f (set_state Committed) g (λ o. refl)
-lined A (command.Abort n) f g e = ended_on A n f (set_state Aborted) g (λ o. refl)
-lined A c f g e = absurd (true≢false (sym e))
+lined b c f g e = grind (arith, ended_on, opened_lines_on, or_false)
 
 lowered_on : (b : Bool) (f : Name) (q : ℕ) (l : Line) → on f (if b then lower_held q l else l) ≡ on f l
-lowered_on true f q l = refl
-lowered_on false f q l = refl
+lowered_on b f q l = grind arith
 
 pub released_on : (f h : Name) (q : ℕ) (o : Order) → has_line_on f (change_lines h (lower_held q) o) ≡ has_line_on f o
 released_on f h q o = grind (arith, (each (λ l. lowered_on (is_transfer o || on h l) f q l) o.lines), any-eq, any-map, lowered_on)
@@ -94,9 +85,7 @@ held_number l o = grind arith
 
 -- a command that opens an order finds none under its number
 pub none_opened : (A : Ledger) (c : Command) (n : ℕ) → FirstFailure (checks A c) None → order_number c ≡ Some n → is_opening c ≡ true → order_numbered A n ≡ None
-none_opened A (command.Open m until lines) n h e is = subst (λ k. order_numbered A k ≡ None) (some_is m n e) (none_if_not_some (order_numbered A m) (let k = all_pass (checks A (command.Open m until lines)) h in k.1.1.0))
-none_opened A (command.Transfer m until a from to q) n h e is = subst (λ k. order_numbered A k ≡ None) (some_is m n e) (none_if_not_some (order_numbered A m) (let k = all_pass (checks A (command.Transfer m until a from to q)) h in k.1.1.0))
-none_opened A c n h e is = absurd (true≢false (sym is))
+none_opened b c n h e is = grind arith
 
 opened_there : (n : ℕ) (o : Order) (A : Ledger) → (o.number == n) ≡ true → order_numbered A n ≡ None → find (λ m. m.number == n) (insert_in_order (λ a b. nat_lt a.number b.number) o A.orders) ≡ Some o
 opened_there n o A e none = find-new n (λ a b. nat_lt a.number b.number) o A.orders e (none_found (λ m. m.number == n) A.orders none)
@@ -110,37 +99,24 @@ changed_there A n m change keeps e = subst (λ k. find (λ o. o.number == k) (ma
 
 -- the order that the command makes is the next ledger's under its number
 pub made_there : (A : Ledger) (c : Command) (n : ℕ) → FirstFailure (checks A c) None → order_number c ≡ Some n → find (λ o. o.number == n) (next A c).orders ≡ order_after A c
-made_there A (command.Open m until lines) n h e = let none = none_opened A (command.Open m until lines) n h e refl in opened_there n _ A (subst (λ k. (m == k) ≡ true) (some_is m n e) (same_number m)) none
-made_there A (command.Transfer m until a from to q) n h e = let none = none_opened A (command.Transfer m until a from to q) n h e refl in opened_there n _ A (subst (λ k. (m == k) ≡ true) (some_is m n e) (same_number m)) none
-made_there A (command.More m way b a q) n h e = changed_there A m n (add_hold (record { way = way; branch = b; article = a; qty = q })) (held_number _) e
-made_there A (command.Use m b a q) n h e = changed_there A m n (change_lines (name_of b a) (raise_used q)) (λ o. refl) e
-made_there A (command.Release m b a q) n h e = changed_there A m n (change_lines (name_of b a) (lower_held q)) (λ o. refl) e
-made_there A (command.Commit m) n h e = changed_there A m n (set_state Committed) (λ o. refl) e
-made_there A (command.Abort m) n h e = changed_there A m n (set_state Aborted) (λ o. refl) e
-made_there A c n h e = absurd (true≢false (sym (ap is_some e)))
+made_there x c n h e = grind (arith, changed_there, held_number, none_opened, opened_there, same_number, some_is)
 
 pub no_number : (A : Ledger) (c : Command) → order_number c ≡ None → order_after A c ≡ None
-no_number A (command.Field b a lo hi start) e = refl
-no_number A (command.Deliver b a q) e = refl
-no_number A (command.Writeoff b a q) e = refl
-no_number A (command.Expire now) e = refl
-no_number A c e = absurd (true≢false (ap is_some e))
+no_number b c e = grind arith
 
 pub each-found : {X : Type 0} (P : X → Type 0) (t : X → Bool) (x : X) (xs : List X) → Each P xs → find t xs ≡ Some x → P x
 each-found P t x [] h e = absurd (true≢false (sym (ap is_some e)))
 each-found P t x (y ∷ ys) h e = by (t y) e (λ k. each-found P t x ys h.1 k)
   where
     by : (b : Bool) → (if b then Some y else find t ys) ≡ Some x → (find t ys ≡ Some x → P x) → P x
-    by true k more = subst P (some_is y x k) h.0
-    by false k more = more k
+    by b k more = grind arith
 
 -- the order that the command makes has at most 64 lines
 pub made_short : (A : Ledger) (r : Request) → Good (accept A r) → IsAccepted A r → IsShort (order_after A r.command)
 made_short A r g ok = by (order_number r.command) refl
   where
     short : (x : Option Order) (n : ℕ) → find (λ o. o.number == n) (accept A r).orders ≡ x → IsShort x
-    short None n e = tt
-    short (Some o) n e = (each-found (IsGoodOrder (accept A r)) (λ o. o.number == n) o (accept A r).orders g.orders e).few
+    short b n e = grind (arith, each-found)
 
     by : (x : Option ℕ) → order_number r.command ≡ x → IsShort (order_after A r.command)
     by None e = subst IsShort (sym (no_number A r.command e)) tt
@@ -165,8 +141,7 @@ total-changed g change n [] sorted = refl
 total-changed g change n (o ∷ os) sorted = let more = total-changed g change n os sorted.1 in grind (arith, common_steps, all_left, none_after, none_changed, o.number, sorted.1, sorted.0)
 
 expired_part : (g : Order → ℤ) → ((o : Order) → g (set_state Aborted o) ≡ pos 0) → (b : Bool) (o : Order) → g (if b then set_state Aborted o else o) ≡ (if b then pos 0 else g o)
-expired_part g ends true o = ends o
-expired_part g ends false o = refl
+expired_part g ends b o = grind arith
 
 pub nothing_more : (z : ℤ) → z ≡ z +ℤ pos 0
 nothing_more z = omega (arith, ints)

@@ -132,29 +132,23 @@ find_self (o ∷ os) sorted = (ap (λ b. if b then Some o else find (λ m. m.num
     later (m ∷ ms) h k = (ap (λ b. if b then Some o else find (λ k. k.number == m.number) os) (less_other o.number m.number (less_is o.number m.number h.0)) ∙ k.0, later ms h.1 k.1)
 
 number_kept : (b : Bool) (o : Order) → (if b then set_state Aborted o else o).number ≡ o.number
-number_kept true o = refl
-number_kept false o = refl
+number_kept b o = grind arith
 
 and_false : (a b : Bool) → (b ≡ true → a ≡ false) → (a && b) ≡ false
-and_false true true h = absurd (true≢false (h refl))
-and_false true false h = refl
-and_false false b h = refl
+and_false x b h = grind arith
 
 and_true : (a b : Bool) → a ≡ true → b ≡ true → (a && b) ≡ true
-and_true true b e h = h
-and_true false b e h = absurd (true≢false (sym e))
+and_true x b e h = cc
 
 any_there : (t : Order → Bool) (n : ℕ) (o : Order) (os : List Order) → find (λ m. m.number == n) os ≡ Some o → t o ≡ true → list_any t os ≡ true
 any_there t n o [] e h = absurd (true≢false (sym (ap is_some e)))
 any_there t n o (m ∷ ms) e h = by (m.number == n) e (λ k. any_there t n o ms k h)
   where
     or_right : (a b : Bool) → b ≡ true → (a || b) ≡ true
-    or_right true b e = refl
-    or_right false b e = e
+    or_right x b e = grind arith
 
     by : (b : Bool) → (if b then Some m else find (λ m. m.number == n) ms) ≡ Some o → (find (λ m. m.number == n) ms ≡ Some o → list_any t ms ≡ true) → (t m || list_any t ms) ≡ true
-    by true k more = rw (ap t (some_is m o k) ∙ h) refl
-    by false k more = or_right (t m) (list_any t ms) (more k)
+    by b k more = grind arith
 
 -- some order that expires has the number exactly where the order does
 number_expires : (now : ℕ) (o : Order) (os : List Order) → IsStrictlySortedBy nat_cmp (map (λ o. o.number) os) → find (λ m. m.number == o.number) os ≡ Some o → list_any (λ p. expires now p && int_eq (pos o.number) (pos p.number)) os ≡ expires now o
@@ -188,12 +182,10 @@ orders_expired A now g =
     (each (λ o e. ap (λ b. order_row (if b then set_state Aborted o else o)) (sym e)) A.orders))
 
 no_state : (c : Command) (x : Option Order) → changes_state c ≡ false → own_order_rows c x ≡ []
-no_state c None e = refl
-no_state c (Some o) e = ap (λ b. if b then order_row o ∷ [] else []) e
+no_state c x e = grind arith
 
 with_state : (c : Command) (x : Option Order) → changes_state c ≡ true → row_there x ≡ own_order_rows c x
-with_state c None e = refl
-with_state c (Some o) e = ap (λ b. if b then order_row o ∷ [] else []) (sym e)
+with_state c x e = grind arith
 
 own_order : (A : Ledger) (key : List ℕ) (c : Command) (n : ℕ) → Good (accept A (record { key = key; command = c })) → FirstFailure (checks A c) None → order_number c ≡ Some n → changes_state c ≡ true
     → filter (λ row. int_eq row.number (pos n)) (map order_row (accept A (record { key = key; command = c })).orders) ≡ own_order_rows c (order_after A c)
@@ -262,8 +254,7 @@ all_lines : (A : Ledger) (key : List ℕ) (c : Command) (n : ℕ) → Good (acce
 all_lines A key c n k h is = lines_one (λ (row : LineCells). int_eq row.number (pos n)) (λ l. true) n (next A c).orders k.orders_in_order (λ m i l e. pos_other m n e) (λ m i l e. pos_same m n e) ∙ ap (lines_there (λ l. true)) (made_there A c n h is)
 
 more_lines : (n : ℕ) (way : Way) (b a : List ℕ) (q : ℕ) (x : Option Order) → lines_there (λ l. same_name (line_name l) (name_of b a)) x ≡ own_line_rows (command.More n way b a q) x
-more_lines n way b a q None = refl
-more_lines n way b a q (Some o) = refl
+more_lines n way b a q x = cc
 
 -- a use or a release, which changes both lines of a transfer
 part_lines : (A : Ledger) (c : Command) (n : ℕ) (b a : List ℕ) (change : Order → Order) → Good A → ((o : Order) → (change o).kind ≡ o.kind)

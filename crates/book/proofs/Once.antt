@@ -27,8 +27,7 @@ Left A r found reply B = MatchOption found ((reply ≡ Done (places A + 1)) × (
 
 left_once : (A : Ledger) (r : Request) (found : Option (Refusal × ℕ)) (p q : Reply) (B C : Ledger) → Left A r found p B → Left A r found q C → (p ≡ q) × (B ≡ C)
 unfolding Left
-left_once A r None p q B C h k = (h.0 ∙ sym k.0, h.1 ∙ sym k.1)
-left_once A r (Some e) p q B C h k = (h.0 ∙ sym k.0, h.1 ∙ sym k.1)
+left_once b r x p q y z h k = grind arith
 
 pub answered_once : (A : Ledger) (r : Request) (p q : Reply) (B C : Ledger) → Answers A r p B → Answers A r q C → (p ≡ q) × (B ≡ C)
 unfolding Left
@@ -36,12 +35,10 @@ answered_once A r p q B C h k = by_key (kept_under A r.key) h k
   where
     by_key : (o : Option Kept) → MatchOption o (AnswersNew A r p B) (λ k. (p ≡ (if same_command k.command r.command then Done k.place else Refused KeyReused 0)) × (B ≡ A))
         → MatchOption o (AnswersNew A r q C) (λ k. (q ≡ (if same_command k.command r.command then Done k.place else Refused KeyReused 0)) × (C ≡ A)) → (p ≡ q) × (B ≡ C)
-    by_key None h k = left_once A r h.0 p q B C h.2 (subst (λ f. Left A r f q C) (first_once (checks A r.command) k.0 h.0 k.1 h.1) k.2)
-    by_key (Some o) h k = (h.0 ∙ sym k.0, h.1 ∙ sym k.1)
+    by_key b h k = grind (arith, Left, first_once, left_once)
 
 pub no_key : (o : Option Kept) → IsNone o → o ≡ None
-no_key None e = refl
-no_key (Some k) e = absurd (true≢false e)
+no_key b e = grind arith
 
 -- an accepted request is done at the next place
 pub accepted_answered : (A : Ledger) (r : Request) → IsAccepted A r → Answers A r (Done (places A + 1)) (accept A r)
@@ -56,9 +53,7 @@ others_stay A r reply B not h = by_key (kept_under A r.key) (λ none passed. not
   where
     by_key : (o : Option Kept) → (IsNone o → FirstFailure (checks A r.command) None → ⊥)
         → MatchOption o (AnswersNew A r reply B) (λ k. (reply ≡ (if same_command k.command r.command then Done k.place else Refused KeyReused 0)) × (B ≡ A)) → B ≡ A
-    by_key None not (None, passed, left) = absurd (not refl passed)
-    by_key None not (Some e, failed, left) = left.1
-    by_key (Some k) not h = h.1
+    by_key b not h = grind arith
 
 -- each check fails or does not
 abbrev Decided : List Check → Type 0
@@ -73,24 +68,8 @@ first_is (c ∷ cs) d = by d.0 (first_is cs d.1)
     by (inl h) r = (Some (c.refusal, c.line), inl (h, refl))
     by (inr h) r = (r.0, inr (h, r.1))
 
-dec_bool : (b : Bool) → (b ≡ false) ⊎ ((b ≡ false) → ⊥)
-dec_bool true = inr true≢false
-dec_bool false = inl refl
-
-dec_lt : (m n : ℕ) → (m < n) ⊎ ((m < n) → ⊥)
-dec_lt m n = elim (decide_lt m n) [ yes h ↦ inl h | no h ↦ inr h ]
-
-dec_some : {X : Type 0} (P : X → Type 0) (o : Option X) → ((x : X) → P x ⊎ (P x → ⊥)) → IsSomeAnd o P ⊎ (IsSomeAnd o P → ⊥)
-dec_some P None d = inr (λ h. absurd h)
-dec_some P (Some x) d = d x
-
 decided : (A : Ledger) (c : Command) → AsksNoStock c → Decided (checks A c)
-decided A (command.Use n b a q) w = grind arith
-decided A (command.Release n b a q) w = grind arith
-decided A (command.Commit n) w = (dec_bool (is_some (order_numbered A n)), (dec_some _ (order_numbered A n) (λ o. dec_bool (is_open o)), tt))
-decided A (command.Abort n) w = (dec_bool (is_some (order_numbered A n)), (dec_some _ (order_numbered A n) (λ o. dec_bool (is_open o)), tt))
-decided A (command.Expire now) w = (dec_lt _ _, (dec_lt _ _, tt))
-decided A c w = absurd w
+decided b c w = grind arith
 
 answered : (A : Ledger) (r : Request) → AsksNoStock r.command → (reply : Reply) × (B : Ledger) × Answers A r reply B
 answered A r w = by_key (kept_under A r.key)

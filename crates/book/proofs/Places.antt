@@ -22,8 +22,7 @@ none_of p [] e = tt
 none_of p (x ∷ xs) e = step (p x) refl (λ k. none_of p xs k) e
   where
     step : (b : Bool) → p x ≡ b → (list_any p xs ≡ false → Each (λ x. p x ≡ false) xs) → (b || list_any p xs) ≡ false → Each (λ x. p x ≡ false) (x ∷ xs)
-    step true h more e = absurd (true≢false e)
-    step false h more e = (h, more e)
+    step b h more e = grind arith
 
 push_apart : {X : Type 0} (key : X → ℕ) (xs : List X) (x : X) → IsDistinct nat_eq (map key xs) → Each (λ y. nat_eq (key y) (key x) ≡ false) xs → IsDistinct nat_eq (map key (xs ++ x ∷ []))
 unfolding IsDistinct
@@ -39,12 +38,10 @@ other_number : (m n : ℕ) → nat_eq m n ≡ false → n ≡ m → ⊥
 other_number m n e f = grind (arith, e, f)
 
 or_true : (b : Bool) → (b || true) ≡ true
-or_true true = refl
-or_true false = refl
+or_true b = grind arith
 
 or_false : (b : Bool) → (b || false) ≡ b
-or_false true = refl
-or_false false = refl
+or_false b = grind arith
 
 -- its mark is set
 pub marks_next : {X : Type 0} (key : X → ℕ) (xs : List X) (i : ℕ) (x : X) (marks : List Bool) (p : ℕ) → i < length xs → x ≡ get_or xs i x → key x < length marks

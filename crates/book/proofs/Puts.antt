@@ -52,8 +52,7 @@ put_all cmp o chosen xs (y ∷ ys) sorted (inr f) = ap (λ t. put_rows cmp (filt
     replaced = rw f.3 refl
 
     step : (b : Bool) → chosen y ≡ b → put_rows cmp (filter chosen ys) f.1 ≡ ys → put_rows cmp (if b then y ∷ filter chosen ys else filter chosen ys) (f.0 ∷ f.1) ≡ y ∷ ys
-    step true e more = ap (λ t. put_rows cmp (filter chosen ys) t) replaced ∙ past cmp y (filter chosen ys) f.1 later ∙ ap (λ t. y ∷ t) more
-    step false e more = ap (λ x. put_rows cmp (filter chosen ys) (x ∷ f.1)) (f.4 e) ∙ past cmp y (filter chosen ys) f.1 later ∙ ap (λ t. y ∷ t) more
+    step b e more = grind (arith, past, later, replaced)
 
 pub follows-same : {R : Type 0} (cmp : R → R → Ordering) → IsTotalOrder cmp → (chosen : R → Bool) (xs : List R) → Follows cmp chosen xs xs
 follows-same cmp o chosen [] = refl

@@ -62,13 +62,11 @@ put_changed n h o [] rising there same = absurd (true≢false (sym (ap is_some t
 put_changed n h o (m ∷ ms) rising there same = let more = put_changed n h o ms rising.1 in grind (arith, (tied_itself nat_cmp_total m.number), found_later, nat_cmp_total, none_after, same_Some, unchanged)
 
 hold_number : (f : Name) (l : OpenLine) (o : Order) (b : Bool) → (if b then hold_more f l.qty o else record o { lines = o.lines ++ new_line l ∷ [] }).number ≡ o.number
-hold_number f l o true = refl
-hold_number f l o false = refl
+hold_number f l o b = grind arith
 
 module _ (A : Ledger) (good : Good A) (o : Order) where
   changed : (n : ℕ) (h : Order → Order) → ((o : Order) → (h o).number ≡ o.number) → (x : Option Order) → order_numbered A n ≡ x → option_map h x ≡ Some o → put_row number_cmp o A.orders ≡ map (λ m. if m.number == n then h m else m) A.orders
-  changed n h same None there made = absurd (true≢false (sym (ap is_some made)))
-  changed n h same (Some m) there made = subst (λ (x : Order). put_row number_cmp x A.orders ≡ map (λ m. if m.number == n then h m else m) A.orders) (same_Some (h m) o made) (put_changed n h m A.orders good.orders_in_order there (same m))
+  changed n h same b there made = grind (arith, put_changed, same_Some)
 
   -- the next ledger's orders are these, with the one that the command makes put in
   made_put : (c : Command) → FirstFailure (checks A c) None → order_after A c ≡ Some o → put_row number_cmp o A.orders ≡ (next A c).orders
@@ -87,8 +85,7 @@ orders_put A c n v l good h is made = put_viewed n v l ∙ ap (put_row number_cm
 -- ---- a command that makes none
 
 there : (h : Order → Order) (x : Option Order) → (IsNone x → ⊥) → option_map h x ≡ None → ⊥
-there h None found none = found refl
-there h (Some o) found none = true≢false (ap is_some none)
+there h b found none = grind arith
 
 -- ---- an order aborted under its number
 
@@ -109,9 +106,7 @@ aborted_there n v (e ∷ l) rising there = rw (same_number e.0 n) (by (nat_cmp n
         → (lookup (is_at (nat_cmp n)) l ≡ Some v → map order_of (set_value (is_at (nat_cmp n)) l (record v { state = Aborted })) ≡ abort_one (map order_of l) n)
         → map order_of (cond (is_eq o) ((e.0, record v { state = Aborted }) ∷ l) (e ∷ set_value (is_at (nat_cmp n)) l (record v { state = Aborted })))
         ≡ (if is_eq o then set_state Aborted (order_of e) else order_of e) ∷ abort_one (map order_of l) n
-    by Equal is found more =
-        ap (λ (w : OrderEntry). set_state Aborted (order_of (e.0, w)) ∷ map order_of l) (sym (same_Some e.1 v found)) ∙ ap (λ os. set_state Aborted (order_of e) ∷ os) (sym (alone (same_number e.0 n ∙ ap is_eq is)))
-    by c is found more = ap (λ os. order_of e ∷ os) (more found)
+    by c is found more = grind (arith, same_Some, same_number, alone)
 
 pub aborted_none : (n : ℕ) (l : List (ℕ × OrderEntry)) → lookup (is_at (nat_cmp n)) l ≡ None → map order_of l ≡ abort_one (map order_of l) n
 aborted_none n [] none = refl

@@ -84,8 +84,7 @@ raised_new l o sound none = record {
 }
   where
     at : (b : Bool) (p : Way → ℕ → ℕ) → p l.way l.qty ≡ 0 → (if b then pos (p l.way l.qty) else pos 0) ≡ pos 0
-    at true p e = ap pos e
-    at false p e = refl
+    at b p e = grind arith
 
 pub raised : (l : OpenLine) (o : Order) → Sound o → MayHoldMore (line_name (new_line l)) l.way o → Raised (line_name (new_line l)) l.way o (add_hold l o)
 unfolding raised_line
@@ -103,10 +102,6 @@ raised l o sound t = by (line_on o (line_name (new_line l))) refl t.2
 total-map-same : (g : Order → ℤ) (h : Order → Order) (os : List Order) → Each (λ o. g (h o) ≡ g o) os → total g (map h os) ≡ total g os
 total-map-same g h os e = total-map g h os ∙ total-eq (λ o. g (h o)) g os e
 
-not_committed : (s : State) → open_state s ≡ true → committed_state s ≡ false
-not_committed Committed e = absurd (true≢false (sym e))
-not_committed c e = refl
-
 -- what is said of each order of that number, and of the order as it becomes
 abbrev pub Rising : ℕ → OpenLine → Order → Type 0
 Rising n l o = (o.number == n) ≡ true → (is_open o ≡ true) × Raised (line_name (new_line l)) l.way o (add_hold l o)
@@ -116,11 +111,7 @@ same_settled A n l r f = let e = total-map-same (λ o. if is_committed o then mo
   where
     step : (o : Order) (b : Bool) → (b ≡ true → (is_open o ≡ true) × Raised (line_name (new_line l)) l.way o (add_hold l o))
         → (if is_committed (if b then add_hold l o else o) then moved f.name (λ l. l.used) (if b then add_hold l o else o) else pos 0) ≡ (if is_committed o then moved f.name (λ l. l.used) o else pos 0)
-    step o false t = refl
-    step o true t = let x = t refl in
-        let c : is_committed o ≡ false = not_committed o.state x.0 in
-        let d : is_committed (add_hold l o) ≡ false = subst (λ s. committed_state s ≡ false) (sym x.1.state) c in
-        rw (c, d) refl
+    step o b t = grind arith
 
 -- a part of what is held, where it stays on each order of that number
 same_part : (p : Way → ℕ → ℕ) (g : Name) (A : Ledger) (n : ℕ) (l : OpenLine) → Each (Rising n l) A.orders

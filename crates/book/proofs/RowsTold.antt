@@ -61,8 +61,7 @@ abbrev AreInOrder : Ledger → Field → Type 0
 AreInOrder A f = (pos f.lo ≤ℤ (settled A f -ℤ held_to_take A f.name)) × ((settled A f -ℤ held_to_take A f.name) ≤ℤ settled A f) × (settled A f ≤ℤ (settled A f +ℤ held_to_add A f.name)) × ((settled A f +ℤ held_to_add A f.name) ≤ℤ pos f.hi) × (f.hi ≤ 1000000000)
 
 natural : (z : ℤ) → pos 0 ≤ℤ z → pos (nat_abs z) ≡ z
-natural (pos n) h = refl
-natural (negsuc n) h = absurd (omega (arith, ints))
+natural b h = grind arith
 
 field_told : (A : Ledger) (f : Field) (row : FieldRow) → Good A → IsGoodField f → AreInOrder A f → IsFieldRow A f (field_cells row) → (e : Name × FieldEntry) × IsFieldTold e row
 field_told A f row g good r is =

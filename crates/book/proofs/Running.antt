@@ -183,12 +183,10 @@ adopted A plan old good next fits fields all =
 -- ---- a new field
 
 pub off : (b : Bool) (z : ℤ) → b ≡ false → (if b then z else pos 0) ≡ pos 0
-off true z e = absurd (true≢false e)
-off false z e = refl
+off b z e = cc
 
 part_zero : (b : Bool) (z : ℤ) → z ≡ pos 0 → (if b then z else pos 0) ≡ pos 0
-part_zero true z e = e
-part_zero false z e = refl
+part_zero b z e = grind arith
 
 -- what is on some field is not on one that is not there
 elsewhere : (A : Ledger) (n m : Name) → field_named A n ≡ None → is_some (field_named A m) ≡ true → same_name n m ≡ false
@@ -251,12 +249,10 @@ each_inserted P p x [] all = tt
 each_inserted P p x (y ∷ ys) all = by (p x y) all (λ k. each_inserted P p x ys k)
   where
     by : (b : Bool) → Each P (if b then x ∷ y ∷ ys else y ∷ insert_in_order p x ys) → (Each P (insert_in_order p x ys) → Each P ys) → Each P (y ∷ ys)
-    by true all more = all.1
-    by false all more = (all.0, more all.1)
+    by b all more = grind arith
 
 pub stay : (P : Field → Type 0) (A : Ledger) (c : Command) → Each P (next A c).fields → Each P A.fields
-stay P A (command.Field b a lo hi start) all = each_inserted P (λ f g. is_lt (name_cmp f.name g.name)) (record { name = name_of b a; lo = lo; hi = hi; start = start }) A.fields all
-stay P A c all = all
+stay x y c all = grind (arith, each_inserted)
 
 pub bounds_at : (A : Ledger) (f : Field) → Good A → Contains A.fields f
     → (pos f.lo ≤ℤ (settled A f -ℤ held_to_take A f.name)) × ((settled A f -ℤ held_to_take A f.name) ≤ℤ settled A f) × (settled A f ≤ℤ (settled A f +ℤ held_to_add A f.name)) × ((settled A f +ℤ held_to_add A f.name) ≤ℤ pos f.hi) × (f.hi ≤ 1000000000)

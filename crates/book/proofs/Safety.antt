@@ -27,12 +27,10 @@ use Rattle.book.proofs.Growing.{Room, room-delivery, room-write_off, room-order,
 use Rattle.book.proofs.Raising.{room-more}
 
 pub not_true : (b : Bool) → (b ≡ true → ⊥) → b ≡ false
-not_true true h = absurd (h refl)
-not_true false h = refl
+not_true b h = grind arith
 
 pub not_false : (b : Bool) → (b ≡ false → ⊥) → b ≡ true
-not_false true h = refl
-not_false false h = absurd (h refl)
+not_false b h = grind arith
 
 -- A new field has had no move and no line.
 
@@ -47,16 +45,14 @@ no_orders : (A : Ledger) (name : Name) (test : Order → Bool) (g : Order → Li
 no_orders A name test g none os h = total-zero _ os (each-imp (λ o good. zero (test o) (total (λ l. if on name l then g o l else pos 0) o.lines) (no_lines A name (g o) none o.lines good.lines)) os h)
   where
     zero : (b : Bool) (z : ℤ) → z ≡ pos 0 → (if b then z else pos 0) ≡ pos 0
-    zero true z e = e
-    zero false z e = refl
+    zero b z e = grind arith
 
 room-field : (A : Ledger) (f : Field) → Good A → (IsSome (field_named A f.name) → ⊥) → (f.lo ≤ f.start) × (f.start ≤ f.hi) → HasRoom A f
 room-field A f g none h = grind (arith, common_steps, (no_orders A f.name is_committed (λ o l. signed l.way l.used) none A.orders g.orders), (no_orders A f.name is_open (λ o l. pos (if_take l.way l.held)) none A.orders g.orders), (no_orders A f.name is_open (λ o l. pos (if_add l.way l.held)) none A.orders g.orders), each-imp, not_there, total-zero, f.name, A.moves, g.moves, A.orders, g.orders, h.0, h.1)
 
 pub takes_more : (f : Name) (w : Way) (o : Option Order) → (IsNone o → ⊥) → (IsSomeAnd o (λ o. IsFalse (is_open o)) → ⊥) → (IsSomeAnd o (λ o. IsTrue (is_transfer o)) → ⊥)
     → (IsSomeAnd o (λ o. IsSomeAnd (line_on o f) (λ l. l.way ≢ w)) → ⊥) → IsSomeAnd o (MayHoldMore f w)
-takes_more f w None a b c d = a refl
-takes_more f w (Some o) a b c d = grind arith
+takes_more f w x a b c d = grind arith
 
 room-accept : (A : Ledger) (key : List ℕ) (c : Command) → Good A → FirstFailure (checks A c) None → Room (accept A (record { key = key; command = c }))
 room-accept A key (command.Field b a lo hi start) g h = let p = all_pass (checks A (command.Field b a lo hi start)) h in

@@ -30,17 +30,13 @@ pub name_cmp_total : IsTotalOrder name_cmp
 name_cmp_total = then_total (on_total (λ f. f.branch) nat_list_cmp_total) (on_total (λ f. f.article) nat_list_cmp_total)
 
 both_equal : (a b : Ordering) → ordering_then a b ≡ Equal → (a ≡ Equal) × (b ≡ Equal)
-both_equal Less b e = absurd (true≢false (ap is_lt e))
-both_equal Equal b e = (refl, e)
-both_equal Greater b e = absurd (true≢false (sym (ap is_eq e)))
+both_equal x b e = grind arith
 
 equal_text : (xs ys : List ℕ) → slice_cmp nat_cmp xs ys ≡ Equal → bytes_eq xs ys ≡ true
 equal_text xs ys e = sym (is_eq-slice_cmp xs ys) ∙ ap is_eq e
 
 both_true : (a b : Bool) → a ≡ true → b ≡ true → (a && b) ≡ true
-both_true true true e h = refl
-both_true true false e h = h
-both_true false b e h = e
+both_true x b e h = cc
 
 pub equal_name : (f g : Name) → name_cmp f g ≡ Equal → same_name f g ≡ true
 equal_name f g e = let p = both_equal _ _ e in both_true _ _ (equal_text f.branch g.branch p.0) (equal_text f.article g.article p.1)
@@ -72,12 +68,10 @@ order_stated : (A B : Ledger) → StillThere A B → (s : State) (o : Order) →
 order_stated A B still s o x = record { number = x.number; until = x.until; some = x.some; few = x.few; lines = each-imp (line_kept A B still) o.lines x.lines; apart = x.apart; transfer = x.transfer }
 
 either : (P : Order → Type 0) (b : Bool) (o new : Order) → P o → (b ≡ true → P new) → P (if b then new else o)
-either P true o new x y = y refl
-either P false o new x y = x
+either b z o new x y = grind arith
 
 pub same_number : (b : Bool) (o new : Order) → new.number ≡ o.number → (if b then new else o).number ≡ o.number
-same_number true o new e = e
-same_number false o new e = refl
+same_number b o new e = grind arith
 
 same_numbers : (h : Order → Order) → ((o : Order) → (h o).number ≡ o.number) → (os : List Order) → map (λ o. o.number) (map h os) ≡ map (λ o. o.number) os
 same_numbers h e [] = refl
@@ -139,8 +133,7 @@ expiring A now kept g moment more room =
     (let c = count-map is_open h A.orders (each (λ o. closes o (is_open o && nat_le o.until now)) A.orders) in omega arith)
   where
     closes : (o : Order) (b : Bool) → is_open (if b then set_state Aborted o else o) ≡ true → is_open o ≡ true
-    closes o true e = absurd (true≢false (sym e))
-    closes o false e = e
+    closes o b e = grind arith
 
 -- a use and a release
 abbrev pub Lessens : (Line → Line) → Type 0
@@ -156,12 +149,10 @@ using A n f change kept less g more room fit =
     (let c = count-map is_open h A.orders (each (λ o. open_as o (o.number == n)) A.orders) in omega arith)
   where
     open_as : (o : Order) (b : Bool) → is_open (if b then change_lines f change o else o) ≡ true → is_open o ≡ true
-    open_as o true e = e
-    open_as o false e = e
+    open_as o b e = grind arith
 
     less_line : (B : Ledger) → StillThere A B → (t : Bool) (l : Line) → IsGoodLine A l → (if t then change l else l).used ≤ (if t then change l else l).held → IsGoodLine B (if t then change l else l)
-    less_line B still true l x u = record { field = subst (λ m. IsSome (field_named B m)) (sym (less l).0) (still (line_name l) x.field); held = (let a = (less l).1 in let b : l.held ≤ 1000000000 = x.held in omega arith); used = u }
-    less_line B still false l x u = line_kept A B still l x
+    less_line y still z l x u = grind arith
 
     used_order : (B : Ledger) (o : Order) (b : Bool) → StillThere A B → IsGoodOrder A o → Fine (if b then change_lines f change o else o) → IsGoodOrder B (if b then change_lines f change o else o)
     used_order B o false still x y = order_kept A B still o x

@@ -64,22 +64,14 @@ same_orders n [] = refl
 same_orders n (o ∷ os) = let more = same_orders n os in grind arith
 
 same_option : (x : Option Order) → option_map (λ o. o) x ≡ x
-same_option None = refl
-same_option (Some o) = refl
+same_option b = grind arith
 
 total_parts : (g : Order → ℤ) (n : ℕ) (os : List Order) → IsStrictlySortedBy nat_cmp (map (λ o. o.number) os) → total g os ≡ total (λ o. if o.number == n then pos 0 else g o) os +ℤ some_part g (find (λ o. o.number == n) os)
 total_parts g n os sorted = ap (total g) (sym (same_orders n os)) ∙ total-changed g (λ o. o) n os sorted ∙ ap (λ (x : Option Order). total (λ o. if o.number == n then pos 0 else g o) os +ℤ some_part g x) (same_option (find (λ o. o.number == n) os))
 
 -- the order that the command opens or changes is the one that it touches
 touched : (c : Command) (n : ℕ) → order_number c ≡ Some n → (o : Order) → is_touched c o ≡ (o.number == n)
-touched (command.Open m until lines) n e o = ap (λ k. o.number == k) (some_is m n e)
-touched (command.Transfer m until a from to q) n e o = ap (λ k. o.number == k) (some_is m n e)
-touched (command.More m way b a q) n e o = ap (λ k. o.number == k) (some_is m n e)
-touched (command.Use m b a q) n e o = ap (λ k. o.number == k) (some_is m n e)
-touched (command.Release m b a q) n e o = ap (λ k. o.number == k) (some_is m n e)
-touched (command.Commit m) n e o = ap (λ k. o.number == k) (some_is m n e)
-touched (command.Abort m) n e o = ap (λ k. o.number == k) (some_is m n e)
-touched c n e o = absurd (true≢false (sym (ap is_some e)))
+touched c n e o = grind arith
 
 -- a sum over the orders of the next ledger
 pub total_moved : (g : Order → ℤ) → ((o : Order) → g (set_state Aborted o) ≡ pos 0) → (A : Ledger) (c : Command) (n : ℕ) → Good A → FirstFailure (checks A c) None → order_number c ≡ Some n
@@ -98,8 +90,7 @@ total_most g least A n good =
     omega (arith, ints)
   where
     by : (b : Bool) (z : ℤ) → pos 0 ≤ℤ z → pos 0 ≤ℤ (if b then pos 0 else z)
-    by true z h = omega (arith, ints)
-    by false z h = h
+    by b z h = grind arith
 
 -- ---- the order before
 
@@ -117,14 +108,7 @@ before_none : (f : Name) (x : Option Order) → x ≡ None → IsBefore f x
 before_none f x e = subst (IsBefore f) (sym e) tt
 
 pub before : (A : Ledger) (c : Command) (n : ℕ) (f : Name) → Good A → FirstFailure (checks A c) None → order_number c ≡ Some n → IsBefore f (order_numbered A n)
-before A (command.Open m until lines) n f good h e = before_none f (order_numbered A n) (none_opened A (command.Open m until lines) n h e refl)
-before A (command.Transfer m until a from to q) n f good h e = before_none f (order_numbered A n) (none_opened A (command.Transfer m until a from to q) n h e refl)
-before A (command.More m way b a q) n f good h e = subst (λ k. IsBefore f (order_numbered A k)) (some_is m n e) (before_of A m f good (all_pass (checks A (command.More m way b a q)) h).1.1.0)
-before A (command.Use m b a q) n f good h e = subst (λ k. IsBefore f (order_numbered A k)) (some_is m n e) (before_of A m f good (all_pass (checks A (command.Use m b a q)) h).1.1.0)
-before A (command.Release m b a q) n f good h e = subst (λ k. IsBefore f (order_numbered A k)) (some_is m n e) (before_of A m f good (all_pass (checks A (command.Release m b a q)) h).1.1.0)
-before A (command.Commit m) n f good h e = subst (λ k. IsBefore f (order_numbered A k)) (some_is m n e) (before_of A m f good (all_pass (checks A (command.Commit m)) h).1.0)
-before A (command.Abort m) n f good h e = subst (λ k. IsBefore f (order_numbered A k)) (some_is m n e) (before_of A m f good (all_pass (checks A (command.Abort m)) h).1.0)
-before A c n f good h e = absurd (true≢false (sym (ap is_some e)))
+before x c n f good h e = grind (arith, all_pass, before_none, before_of, none_opened, some_is)
 
 -- ---- the line before and after
 
@@ -153,20 +137,16 @@ no_more : (k l : Line) (s : State) → k.way ≡ l.way → l.held ≤ k.held →
 no_more k l s way less used = record { way = way; used = used; qty = λ e more. absurd (less_not l.held k.held less more) }
 
 lowered : (b : Bool) (q : ℕ) (k : Line) → LineGoes (Some k) (if b then lower_held q k else k) Open
-lowered true q k = no_more k (lower_held q k) Open refl (omega arith) (λ e. absurd (open_not_committed e))
-lowered false q k = no_more k k Open refl (omega arith) (λ e. absurd (open_not_committed e))
+lowered b q k = grind arith
 
 used_more : (b : Bool) (q : ℕ) (k : Line) → LineGoes (Some k) (if b then raise_used q k else k) Open
-used_more true q k = no_more k (raise_used q k) Open refl (omega arith) (λ e. absurd (open_not_committed e))
-used_more false q k = no_more k k Open refl (omega arith) (λ e. absurd (open_not_committed e))
+used_more b q k = grind arith
 
 raised : (b : Bool) (q : ℕ) (k : Line) → IsQty q → LineGoes (Some k) (if b then raise_held q k else k) Open
-raised true q k range = grind arith
-raised false q k range = no_more k k Open refl (omega arith) (λ e. absurd (open_not_committed e))
+raised b q k range = grind arith
 
 on_kept : (f : Name) (b : Bool) (g : Line → Line) (k : Line) → on f (g k) ≡ on f k → on f (if b then g k else k) ≡ on f k
-on_kept f true g k e = e
-on_kept f false g k e = refl
+on_kept f b g k e = grind arith
 
 -- one line more at the end
 pushed_goes : (f : Name) (ol : OpenLine) (ls : List Line) (l : Line) → IsQty ol.qty → find (on f) (ls ++ new_line ol ∷ []) ≡ Some l → LineGoes (find (on f) ls) l Open
@@ -174,12 +154,10 @@ pushed_goes f ol [] l range there = grind arith
 pushed_goes f ol (k ∷ ls) l range there = by (on f k) there (λ h. pushed_goes f ol ls l range h)
   where
     by : (b : Bool) → (if b then Some k else find (on f) (ls ++ new_line ol ∷ [])) ≡ Some l → (find (on f) (ls ++ new_line ol ∷ []) ≡ Some l → LineGoes (find (on f) ls) l Open) → LineGoes (if b then Some k else find (on f) ls) l Open
-    by true e more = subst (λ m. LineGoes (Some k) m Open) (some_is k l e) (no_more k k Open refl (omega arith) (λ e. absurd (open_not_committed e)))
-    by false e more = more e
+    by b e more = grind arith
 
 pub state_is : (s : State) → open_state s ≡ true → Open ≡ s
-state_is Open e = refl
-state_is c e = absurd (true≢false (sym e))
+state_is c e = grind arith
 
 held_goes : (f : Name) (ol : OpenLine) (o : Order) (l : Line) → IsQty ol.qty → is_open o ≡ true → find (on f) (add_hold ol o).lines ≡ Some l → LineGoes (line_on o f) l (add_hold ol o).state
 held_goes f ol o l range unended there = by (is_some (line_on o (line_name (new_line ol)))) there
@@ -229,24 +207,20 @@ line_goes A c n f o l good range h e is made there = absurd (true≢false (sym (
 -- ---- what the order adds before and after
 
 none_held : (w : Way) → pos 0 ≡ pos (if_take w 0)
-none_held Take = refl
-none_held Add = refl
+none_held b = grind arith
 
 none_added : (w : Way) → pos 0 ≡ pos (if_add w 0)
-none_added Take = refl
-none_added Add = refl
+none_added b = grind arith
 
 -- the line before, if there is one, has the way
 abbrev HasWay : Way → Option Line → Type 0
 HasWay w x = MatchOption x (Unit {0}) (λ k. k.way ≡ w)
 
 takes_of : (w : Way) (x : Option Line) → HasWay w x → of_line (λ l. pos (if_take l.way l.held)) x ≡ pos (if_take w (amount_held x))
-takes_of w None way = none_held w
-takes_of w (Some k) way = ap (λ v. pos (if_take v k.held)) way
+takes_of w b way = grind arith
 
 adds_of : (w : Way) (x : Option Line) → HasWay w x → of_line (λ l. pos (if_add l.way l.held)) x ≡ pos (if_add w (amount_held x))
-adds_of w None way = none_added w
-adds_of w (Some k) way = ap (λ v. pos (if_add v k.held)) way
+adds_of w b way = grind arith
 
 takes_before : (f : Name) (w : Way) (x : Option Order) → IsBefore f x → HasWay w (line_before x f) → some_part (taken_part f) x ≡ pos (if_take w (amount_held (line_before x f)))
 takes_before f w None is way = none_held w
@@ -259,13 +233,10 @@ adds_before f w (Some o) is way =
     ap (λ b. if b then total (λ l. if on f l then pos (if_add l.way l.held) else pos 0) o.lines else pos 0) is.0 ∙ total_found f (λ l. pos (if_add l.way l.held)) o.lines is.1 ∙ adds_of w (line_on o f) way
 
 moved_before : (f : Name) (x : Option Order) → IsBefore f x → some_part (moved_part f) x ≡ pos 0
-moved_before f None is = refl
-moved_before f (Some o) is = ap (λ s. if committed_state s then total (λ l. if on f l then signed l.way l.used else pos 0) o.lines else pos 0) (sym (state_is o.state is.0))
+moved_before f b is = grind arith
 
 not_moved : (f : Name) (A : Ledger) (c : Command) (n : ℕ) → order_number c ≡ Some n → total (λ m. if same_name f m.field then m.amount else pos 0) (next A c).moves ≡ total (λ m. if same_name f m.field then m.amount else pos 0) A.moves
-not_moved f A (command.Deliver b a q) n e = absurd (true≢false (sym (ap is_some e)))
-not_moved f A (command.Writeoff b a q) n e = absurd (true≢false (sym (ap is_some e)))
-not_moved f A c n e = refl
+not_moved f b c n e = grind arith
 
 -- the numbers of the next ledger on the field
 record Changes (A B : Ledger) (fld : Field) (held : ℕ) (l : Line) (s : State) : Type 0 where
@@ -317,8 +288,7 @@ stock_changed A r n o f e l new good after ok range number made up there becomes
     entry_is (accept A r) f e new becomes.lo becomes.hi (omega (arith, ints)) (omega (arith, ints)) (omega (arith, ints))
 
 least_if : (b : Bool) (z : ℤ) → pos 0 ≤ℤ z → pos 0 ≤ℤ (if b then z else pos 0)
-least_if true z h = h
-least_if false z h = omega (arith, ints)
+least_if b z h = grind arith
 
 held_there : (A : Ledger) (f : Name) (x : Option Order) (e : FieldEntry) (w : Way) → IsUpToDate A (f, e) → some_part (taken_part f) x ≤ℤ held_to_take A f → some_part (added_part f) x ≤ℤ held_to_add A f → IsBefore f x → HasWay w (line_before x f) → amount_held (line_before x f) ≤ held_of e.quantity w
 held_there A f x e Take up takes adds is way = grind (arith, ints, (takes_before f Take x is way))

@@ -70,8 +70,7 @@ added-to_nothing h (f ∷ fs) = let more = added-to_nothing h fs in grind arith
 -- ---- names of fields in order
 
 is_false : (b : Bool) → (b ≡ true → ⊥) → b ≡ false
-is_false true h = absurd (h refl)
-is_false false h = refl
+is_false b h = grind arith
 
 -- names that do not compare as equal are different
 other_name : (f g : Name) → (name_cmp f g ≡ Equal → ⊥) → (same_name f g ≡ false) × (same_name g f ≡ false)
@@ -110,8 +109,7 @@ none_there name (f ∷ fs) h =
 -- what a search for the name answers
 pub searched : (name : Name) (fs : List (Name × FieldEntry)) → AreFieldsInOrder fs → (r : Result ℕ ℕ) → IsSearchInRange r (length fs) → IsBinarySearchResult (λ e. name_cmp (entry_name e) name) fs r
     → MatchResult r (IsFieldAt fs name) (λ i. IsNone (field_among fs name))
-searched name fs s (Ok i) range found = record { within = range; named = λ d. name_is _ name (equal_name _ name (found d)) }
-searched name fs s (Err i) range parted = grind (arith, (rising name fs s), none_there, not_greater, not_less)
+searched name fs s b range found = grind (arith, equal_name, name_is, none_there, not_greater, not_less, rising)
 
 -- a field at a place is among them
 pub there_at : (name : Name) (fs : List (Name × FieldEntry)) (i : ℕ) → IsFieldAt fs name i → IsField fs name
@@ -123,8 +121,7 @@ there_at name (f ∷ fs) zero at = rw (same_as (at.named f)) refl
 there_at name (f ∷ fs) (suc i) at = by (same_name name (entry_name f)) (there_at name fs i (record { within = omega arith; named = at.named }))
   where
     by : (b : Bool) → IsField fs name → IsSome (if b then Some (field_of f) else field_among fs name)
-    by true h = refl
-    by false h = h
+    by b h = grind arith
 
 -- ---- a sum that is added to
 
@@ -196,8 +193,7 @@ line-step s ls i l h e f = grind (arith, common_steps, (total-step (taken_by_lin
 
 -- no lines come to nothing
 pub lines-none : (s : State) (f : Name) → lines_numbers s [] f ≡ nothing
-lines-none Open f = refl
-lines-none c f = refl
+lines-none c f = grind arith
 
 -- one order more
 pub order-step : (os : List (ℕ × OrderEntry)) (i : ℕ) (o : ℕ × OrderEntry) → i < length os → o ≡ get_or os i o → (f : Name) → plus (numbers_on [] (take i os) f) (lines_numbers o.1.state o.1.lines.items f) ≡ numbers_on [] (take (i + 1) os) f

@@ -18,12 +18,10 @@ use Rattle.words.specs.declared.command.Command.TheVariants.{Abort, Commit, Deli
 use Rattle.words.specs.declared.open_line.OpenLine.{OpenLine}
 
 ascii_cons : (b : ℕ) (bs : List ℕ) → b < 128 → IsAscii bs → IsAscii (b ∷ bs)
-ascii_cons b bs h k zero = h
-ascii_cons b bs h k (suc i) = k i
+ascii_cons b bs h k x = grind arith
 
 both : (a b : Bool) → (a && b) ≡ true → (a ≡ true) × (b ≡ true)
-both true b h = (refl, h)
-both false b h = absurd (true≢false (sym h))
+both x b h = grind arith
 
 ascii_all : (p : ℕ → Bool) → ((b : ℕ) → p b ≡ true → b < 128) → (bs : List ℕ) → list_all p bs ≡ true → IsAscii bs
 ascii_all p small [] h = IsAscii-nil
@@ -68,8 +66,7 @@ spaced_ascii (w ∷ []) h = h.0
 spaced_ascii (w ∷ v ∷ ws) h = IsAscii-append w (32 ∷ spaced (v ∷ ws)) h.0 (ascii_cons 32 (spaced (v ∷ ws)) (omega arith) (spaced_ascii (v ∷ ws) h.1))
 
 way_ascii : (way : Way) → IsAscii (way_word way)
-way_ascii Take = text_ascii (codes "take") (omega arith, (omega arith, (omega arith, (omega arith, tt))))
-way_ascii Add = text_ascii (codes "add") (omega arith, (omega arith, (omega arith, tt)))
+way_ascii b = grind arith
 
 lines_ascii : (lines : List OpenLine) → Each IsOpenLine lines → Each IsAscii (line_words lines)
 lines_ascii [] h = tt

@@ -22,29 +22,14 @@ use Rattle.words.proofs.OneItem.{spelling_one}
 pub same_pos : (a b : ℕ) → pos a ≡ pos b → a ≡ b
 same_pos a b e = omega (arith, ints)
 
-head_or : {X : Type 0} → X → List X → X
-head_or d [] = d
-head_or d (x ∷ xs) = x
-
-rest_of : {X : Type 0} → List X → List X
-rest_of [] = []
-rest_of (x ∷ xs) = xs
-
-is_some_list : {X : Type 0} → List X → Bool
-is_some_list [] = false
-is_some_list (x ∷ xs) = true
-
 pub same_first : {X : Type 0} (x y : X) (xs ys : List X) → x ∷ xs ≡ y ∷ ys → x ≡ y
-unfolding head_or
-same_first x y xs ys e = ap (head_or x) e
+same_first x y xs ys e = cc
 
 pub same_rest : {X : Type 0} (x y : X) (xs ys : List X) → x ∷ xs ≡ y ∷ ys → xs ≡ ys
-unfolding rest_of
-same_rest x y xs ys e = ap rest_of e
+same_rest x y xs ys e = cc
 
 pub not_empty : {X : Type 0} (x : X) (xs : List X) → x ∷ xs ≡ [] → ⊥
-unfolding is_some_list
-not_empty x xs e = true≢false (ap is_some_list e)
+not_empty x xs e = cc
 
 pub map_tells : {X Y : Type 0} (P : X → Type 0) (f : X → Y) → ((a b : X) → P a → P b → f a ≡ f b → a ≡ b) → (xs ys : List X) → Each P xs → Each P ys → map f xs ≡ map f ys → xs ≡ ys
 map_tells P f one [] [] h k e = refl
@@ -79,20 +64,10 @@ same_move m n e = grind arith
 -- codes
 
 pub same_kind : (k j : Kind) → kind_code k ≡ kind_code j → k ≡ j
-same_kind Plain Plain e = refl
-same_kind Transfer Transfer e = refl
-same_kind Plain Transfer e = absurd (omega (arith, ints))
-same_kind Transfer Plain e = absurd (omega (arith, ints))
+same_kind b x e = grind arith
 
 pub same_state : (s t : State) → state_code s ≡ state_code t → s ≡ t
-same_state Open Open e = refl
-same_state Committed Committed e = refl
-same_state Aborted Aborted e = refl
-same_state Open Aborted e = absurd (omega (arith, ints))
-same_state Committed Open e = absurd (omega (arith, ints))
-same_state Committed Aborted e = absurd (omega (arith, ints))
-same_state Aborted Open e = absurd (omega (arith, ints))
-same_state c Committed e = absurd (omega (arith, ints))
+same_state c b e = grind arith
 
 -- lines and orders
 
@@ -100,8 +75,7 @@ same_line : (n nr : ℕ) (l m : Line) → line_row n nr l ≡ line_row n nr m �
 same_line n nr l m e = grind arith
 
 no_other : (n nr : ℕ) (l : Line) (rest rows : List LineCells) → AreOthers n rows → line_row n nr l ∷ rest ≡ rows → ⊥
-no_other n nr l rest [] o e = not_empty _ _ e
-no_other n nr l rest (r ∷ rows) o e = o.0 (sym (ap (λ r. r.number) (same_first _ _ _ _ e)))
+no_other n nr l rest b o e = grind arith
 
 same_lines : (n nr : ℕ) (ls ms : List Line) (rest others : List LineCells) → AreOthers n rest → AreOthers n others → lines_from n nr ls ++ rest ≡ lines_from n nr ms ++ others → (ls ≡ ms) × (rest ≡ others)
 same_lines n nr [] [] rest others p q e = (refl, e)

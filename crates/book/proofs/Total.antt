@@ -48,8 +48,7 @@ in_turn (c ∷ cs) d = by d.0 (λ h. in_turn cs (d.1 h))
     by (inr h) rest = let r = rest h in (r.0, inr (h, r.1))
 
 dec_iff : {P Q : Type 0} → P ↔ Q → Decided Q → Decided P
-dec_iff e (inl h) = inl (e.1 h)
-dec_iff e (inr h) = inr (λ k. h (e.0 k))
+dec_iff e b = grind arith
 
 dec_less : (m n : ℕ) → Decided (m < n)
 dec_less m n = elim (dec_lt m n) [ yes h ↦ inl h | no h ↦ inr h ]
@@ -61,33 +60,22 @@ dec_less_z : (a b : ℤ) → Decided (a <ℤ b)
 dec_less_z a b = by_lt_z a b (λ h. inl h) (λ h. inr (λ k. omega (arith, ints)))
 
 dec_is : (b c : Bool) → Decided (b ≡ c)
-dec_is true true = inl refl
-dec_is false false = inl refl
-dec_is true false = inr true≢false
-dec_is false true = inr (λ e. true≢false (sym e))
+dec_is b x = grind arith
 
 dec_some : {X : Type 0} (P : X → Type 0) (o : Option X) → ((x : X) → Decided (P x)) → Decided (IsSomeAnd o P)
-dec_some P None d = inr (λ h. absurd h)
-dec_some P (Some x) d = d x
+dec_some b y d = grind arith
 
 dec_way : (w v : Way) → Decided (w ≢ v)
-dec_way Take Take = inr (λ h. h refl)
-dec_way Add Add = inr (λ h. h refl)
-dec_way Take Add = inl (λ e. cc)
-dec_way Add Take = inl (λ e. cc)
+dec_way b x = grind arith
 
 dec_both : {P Q : Type 0} → Decided P → Decided Q → Decided (P × Q)
-dec_both (inl p) (inl q) = inl (p, q)
-dec_both (inl p) (inr q) = inr (λ h. q h.1)
-dec_both (inr p) d = inr (λ h. p h.0)
+dec_both b d = grind arith
 
 dec_not : {P : Type 0} → Decided P → Decided (P → ⊥)
-dec_not (inl p) = inr (λ h. h p)
-dec_not (inr p) = inl p
+dec_not b = grind arith
 
 dec_bound : (w : Way) (B : Ledger) (f : Name) (i : ℕ) → Each Sound B.orders → Decided (bound w B f i).fails
-dec_bound Take B f i s = dec_iff (falls_below_iff B s f) (dec_some _ (field_named B f) (λ e. dec_less_z _ _))
-dec_bound Add B f i s = dec_iff (rises_above_iff B s f) (dec_some _ (field_named B f) (λ e. dec_less_z _ _))
+dec_bound b x f i s = grind (arith, dec_iff, dec_less_z, dec_some, falls_below_iff, rises_above_iff)
 
 found_lines : (A : Ledger) (n : ℕ) (k : Kind) (u : ℕ) (before ls : List OpenLine) → Each Sound A.orders → ((g : Name) → OneOn g (map new_line before)) → InTurn (line_checks A (new_order n k u) before ls)
 found_lines A n k u before [] s one = tt
