@@ -279,11 +279,7 @@ steps f q change t ls c u left = each-both (λ l used h. line_step (t || on f l)
 
 pair-map : (f : Name) (q : ℕ) (change : Line → Line) (t : Bool) (ls : List Line) → IsClosingChange q change → (IsTrue t → IsTransferPair ls) → (IsTrue t → Each (λ l. LineStep l (if t || on f l then change l else l)) ls)
     → IsTrue t → IsTransferPair (map (λ l. if t || on f l then change l else l) ls)
-pair-map f q change t ls c pair s e = subst (λ t. IsTransferPair (map (λ l. if t || on f l then change l else l) ls)) (sym e)
-    (both ls (pair e) (subst (λ t. Each (λ l. LineStep l (if t || on f l then change l else l)) ls) e (s e)))
-  where
-    both : (ls : List Line) → IsTransferPair ls → Each (λ l. LineStep l (change l)) ls → IsTransferPair (map change ls)
-    both b p s = grind arith
+pair-map f q change t ls c pair s e = grind arith
 
 better-change : (f : Name) (q : ℕ) (change : Line → Line) (o : Order) → IsClosingChange q change → Fine o → Usable f q o → Better o (change_lines f change o)
 better-change f q change o c fine u = let s = steps f q change (is_transfer o) o.lines c fine.sound.used (left_on f q o fine u) in

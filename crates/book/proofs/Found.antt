@@ -23,13 +23,7 @@ find-left p x (u ∷ us) vs k = by (p u) k (λ z. find-left p x us vs z)
 
 -- none before, but this one
 pub find-here : {X : Type 0} (p : X → Bool) (xs : List X) (i : ℕ) (x : X) → i < length xs → x ≡ get_or xs i x → find p (take i xs) ≡ None → p x ≡ true → find p xs ≡ Some x
-find-here p xs i x h e n t = ap (find p) (cut_at xs i x h e) ∙ found (find-past p (take i xs) (x ∷ []) n)
-  where
-    here : find p (x ∷ []) ≡ Some x
-    here = ap (λ b. if b then Some x else None) t
-
-    found : find p (take i xs ++ x ∷ []) ≡ find p (x ∷ []) → find p ((take i xs ++ x ∷ []) ++ drop (i + 1) xs) ≡ Some x
-    found q = find-left p x (take i xs ++ x ∷ []) (drop (i + 1) xs) (q ∙ here)
+find-here p xs i x h e n t = grind (arith, (cut_at xs i x h e), (find-past p (take i xs) (x ∷ []) n), find-left)
 
 -- none in all that the walk went over
 pub find-all : {X : Type 0} (p : X → Bool) (xs : List X) (i : ℕ) → length xs ≤ i → find p (take i xs) ≡ None → find p xs ≡ None

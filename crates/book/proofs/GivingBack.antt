@@ -104,14 +104,7 @@ given_itself A ls l v Add is held given =
     record { there = given.there; value = given.value; takes = omega (arith, ints); adds = omega (arith, ints) }
 
 given_other : (A : Ledger) (ls : List Line) (l : Line) (e : Name × FieldEntry) → same_name e.0 (line_name l) ≡ false → GivenBack A ls e → GivenBack A (ls ++ l ∷ []) e
-given_other A ls l e other given =
-    let take_sum = total-push (λ m. if on e.0 m then pos (if_take m.way m.held) else pos 0) ls l in
-    let own_take = off (on e.0 l) (pos (if_take l.way l.held)) other in
-    let add_sum = total-push (λ m. if on e.0 m then pos (if_add m.way m.held) else pos 0) ls l in
-    let own_add = off (on e.0 l) (pos (if_add l.way l.held)) other in
-    let takes = given.takes in
-    let adds = given.adds in
-    record { there = given.there; value = given.value; takes = omega (arith, ints); adds = omega (arith, ints) }
+given_other A ls l e other given = grind (arith, (total-push (λ m. if on e.0 m then pos (if_take m.way m.held) else pos 0) ls l), (off (on e.0 l) (pos (if_take l.way l.held)) other), (total-push (λ m. if on e.0 m then pos (if_add m.way m.held) else pos 0) ls l), (off (on e.0 l) (pos (if_add l.way l.held)) other))
 
 -- one put among others in their order
 put_other : (P Q : Name × FieldEntry → Type 0) (n : Name) (v : FieldEntry) → Q (n, v) → ((e : Name × FieldEntry) → same_name e.0 n ≡ false → P e → Q e) → (C : List (Name × FieldEntry)) → IsStrictlySortedBy name_cmp (keys_of C) → Each P C → Each Q (insert_entry name_cmp C n v)

@@ -49,11 +49,7 @@ accepted_once A r reply B accepted h = answered_once A r reply (Done (places A +
 
 -- any other leaves the ledger
 pub others_stay : (A : Ledger) (r : Request) (reply : Reply) (B : Ledger) → (IsAccepted A r → ⊥) → Answers A r reply B → B ≡ A
-others_stay A r reply B not h = by_key (kept_under A r.key) (λ none passed. not (none, passed)) h
-  where
-    by_key : (o : Option Kept) → (IsNone o → FirstFailure (checks A r.command) None → ⊥)
-        → MatchOption o (AnswersNew A r reply B) (λ k. (reply ≡ (if same_command k.command r.command then Done k.place else Refused KeyReused 0)) × (B ≡ A)) → B ≡ A
-    by_key b not h = grind arith
+others_stay A r reply B not h = grind arith
 
 -- each check fails or does not
 abbrev Decided : List Check → Type 0

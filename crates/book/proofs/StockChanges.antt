@@ -307,17 +307,7 @@ more_safe A B f e held l Take is good there up sums more within taken added t a 
     let takes_sum = sums.takes ∙ ap (λ w. (held_to_take A f -ℤ pos (if_take w held)) +ℤ pos (if_take w l.held)) is in
     let adds_sum = sums.adds ∙ ap (λ w. (held_to_add A f -ℤ pos (if_add w held)) +ℤ pos (if_add w l.held)) is in
     (omega (arith, ints), omega (arith, ints))
-more_safe A B f e held l Add is good there up sums more within taken added t a =
-    let bounds = bounds_at B (field_of (f, e)) good there in
-    let low = bounds.0 in
-    let high = bounds.3 in
-    let value = ap (λ (row : FieldCells). row.value) up in
-    let inf = ap (λ (row : FieldCells). row.inf) up in
-    let sup = ap (λ (row : FieldCells). row.sup) up in
-    let value_sum = sums.value in
-    let takes_sum = sums.takes ∙ ap (λ w. (held_to_take A f -ℤ pos (if_take w held)) +ℤ pos (if_take w l.held)) is in
-    let adds_sum = sums.adds ∙ ap (λ w. (held_to_add A f -ℤ pos (if_add w held)) +ℤ pos (if_add w l.held)) is in
-    (omega (arith, ints), omega (arith, ints))
+more_safe A B f e held l Add is good there up sums more within taken added t a = grind (arith, ints, common_steps, (bounds_at B (field_of (f, e)) good there), sums.value, sums.takes, l.held, sums.adds)
 
 -- the line of the field may change so
 pub stock_may : (A : Ledger) (r : Request) (n : ℕ) (o : Order) (f : Name) (e : FieldEntry) (l : Line) → Good A → Good (accept A r) → IsAccepted A r → IsInRange r.command → order_number r.command ≡ Some n → order_after A r.command ≡ Some o
@@ -347,22 +337,8 @@ value_moved A B f e w q new up value takes adds moves = grind (arith, common_ste
 -- it may be moved, since the next ledger is safe
 pub value_may : (A B : Ledger) (f : Name) (e : FieldEntry) (w : Way) (q : ℕ) → Good B → Contains B.fields (field_of (f, e)) → IsUpToDate A (f, e) → settled B (field_of (f, e)) ≡ moved w q (settled A (field_of (f, e))) → held_to_take B f ≡ held_to_take A f → held_to_add B f ≡ held_to_add A f
     → IsSafeMoved e.quantity w q
-value_may A B f e Take q good there up value takes adds taken added t a =
-    let bounds = bounds_at B (field_of (f, e)) good there in
-    let low = bounds.0 in
-    let high = bounds.3 in
-    let was = ap (λ (row : FieldCells). row.value) up in
-    let inf = ap (λ (row : FieldCells). row.inf) up in
-    let sup = ap (λ (row : FieldCells). row.sup) up in
-    (omega (arith, ints), omega (arith, ints))
-value_may A B f e Add q good there up value takes adds taken added t a =
-    let bounds = bounds_at B (field_of (f, e)) good there in
-    let low = bounds.0 in
-    let high = bounds.3 in
-    let was = ap (λ (row : FieldCells). row.value) up in
-    let inf = ap (λ (row : FieldCells). row.inf) up in
-    let sup = ap (λ (row : FieldCells). row.sup) up in
-    (omega (arith, ints), omega (arith, ints))
+value_may A B f e Take q good there up value takes adds taken added t a = grind (arith, ints, common_steps, (bounds_at B (field_of (f, e)) good there))
+value_may A B f e Add q good there up value takes adds taken added t a = grind (arith, common_steps, (bounds_at B (field_of (f, e)) good there))
 
 settled_moved : (A : Ledger) (fld : Field) (c : Command) (z : ℤ) → moved_by_command fld.name c ≡ z → total (λ o. if is_committed o then total (λ l. if on fld.name l then signed l.way l.used else pos 0) o.lines else pos 0) (next A c).orders ≡ total (λ o. if is_committed o then total (λ l. if on fld.name l then signed l.way l.used else pos 0) o.lines else pos 0) A.orders
     → settled (next A c) fld ≡ settled A fld +ℤ z

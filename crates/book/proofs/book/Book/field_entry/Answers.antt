@@ -1,4 +1,4 @@
-use Rattle.std.proofs.Common.{◌≡◌, Bor, List, Option, Some, None, IfSome, MatchOption, subst, sym}
+use Rattle.std.proofs.Common.{arith, ◌≡◌, Bor, List, Option, Some, None, IfSome, MatchOption, subst, sym}
 use Rattle.std.specs.BTreeMap.{is_at}
 use Rattle.std.specs.List.{AllByRecursion as Each}
 use Rattle.std.specs.Map.{lookup}
@@ -21,13 +21,8 @@ up : (A : Ledger) (name : Name) (l : List (Name × FieldEntry)) (result : Option
 up A name l None all is = tt
 up A name l (Some r) all is = up_to_date_at A name l r.now all (sym is)
 
-pub returns-clause-good : goal.returns-clause-good
-returns-clause-good c = subst (λ (v : BookView). Good v.ledger) c.self.view_is c.self.invariant.0
-
 pub returns-clause-found : goal.returns-clause-found
-returns-clause-found c =
-    let name : Name = name_of c.args.branch c.args.article in
-    rw (← c.self.view_is) (told name c.get.result _ _ c.get.ensures (field_found name c.self.inside.fields.entries))
+returns-clause-found c = grind (arith, field_found, told)
 
 pub returns-clause-up_to_date : goal.returns-clause-up_to_date
 returns-clause-up_to_date c =

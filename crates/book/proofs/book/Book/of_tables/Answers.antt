@@ -1,4 +1,4 @@
-use Rattle.std.proofs.Common.{◌≡◌, ◌∙◌, ℕ, ap, count_by, map, subst, sym}
+use Rattle.std.proofs.Common.{arith, ◌≡◌, ◌∙◌, ℕ, ap, count_by, map, subst, sym}
 use Rattle.std.proofs.lemmas.Simd.{map-map}
 use Rattle.std.specs.Cmp.Lexicographic.{slice_cmp}
 use Rattle.std.specs.List.Sorted.{IsStrictlySortedBy}
@@ -34,16 +34,13 @@ returns-in-Ok-false-clause-damaged c _ A g rows =
     true_not_false (c.in-Ok-false.ensures.1 (good, (entries_of_rows B c.in_ok-entries.entries.fields.items B.fields fields).1)) c.in-Ok-false.field-0-test
 
 pub from_sorted-requires-clause-rising : goal.from_sorted-requires-clause-rising
-from_sorted-requires-clause-rising c =
-    subst (IsStrictlySortedBy name_cmp) (map-map (λ (f : Field). f.name) field_of c.in_ok-entries.entries.fields.items) (c.in-Ok-true.ensures.0 c.in-Ok-true.field-0-test).0.fields_in_order
+from_sorted-requires-clause-rising c = grind (arith, (map-map (λ (f : Field). f.name) field_of c.in_ok-entries.entries.fields.items))
 
 pub from_sorted-requires-2-clause-rising : goal.from_sorted-requires-2-clause-rising
-from_sorted-requires-2-clause-rising c =
-    subst (IsStrictlySortedBy nat_cmp) (map-map (λ (o : Order). o.number) order_of c.in_ok-entries.entries.orders.items) (c.in-Ok-true.ensures.0 c.in-Ok-true.field-0-test).0.orders_in_order
+from_sorted-requires-2-clause-rising c = grind (arith, (map-map (λ (o : Order). o.number) order_of c.in_ok-entries.entries.orders.items))
 
 pub from_sorted-requires-3-clause-rising : goal.from_sorted-requires-3-clause-rising
-from_sorted-requires-3-clause-rising c =
-    subst (IsStrictlySortedBy (slice_cmp nat_cmp)) (map-map (λ (k : Kept). k.key) kept_of c.in_ok-entries.entries.kept.items) (c.in-Ok-true.ensures.0 c.in-Ok-true.field-0-test).0.kept_in_order
+from_sorted-requires-3-clause-rising c = grind (arith, (map-map (λ (k : Kept). k.key) kept_of c.in_ok-entries.entries.kept.items))
 
 pub returns-clause-ok : goal.returns-clause-ok
 returns-clause-ok c =

@@ -6,9 +6,6 @@ use Rattle.book.specs.declared.order.Line.{Line}
 use Rattle.book.proofs.Expiring.{flat_next, may_next}
 use Rattle.book.proofs.book.Book.put_expired.Goals as goal
 
-pub loop-number-init : goal.loop-number-init
-loop-number-init c = rw c.requires.none (record { each = tt; all = λ n. refl })
-
 pub give_back_order-requires : goal.give_back_order-requires
 give_back_order-requires c =
     let A : Ledger = c.args.self.now.ledger in

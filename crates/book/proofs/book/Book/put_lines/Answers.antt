@@ -19,9 +19,6 @@ put_line-requires-clause-line c =
     let itself = subst (λ (ls : List Line). Each (λ l. find (on (line_name l)) o.lines ≡ Some l) ls) (sym c.deref-line-items.ensures.value) (found_itself o.lines (λ f. one_on f o.lines good.apart)) in
     each-at (λ l. find (on (line_name l)) o.lines ≡ Some l) c.deref-line-items.result.now c.loop-line.line-index c.line-item.result c.loop-line-test.true c.line-item.is itself
 
-pub loop-line-init : goal.loop-line-init
-loop-line-init c = record { each = rw c.requires.none tt; all = tt }
-
 pub loop-line-preserved : goal.loop-line-preserved
 loop-line-preserved c =
     let step = lines_step c.args.self.now.ledger c.args.request.now c.args.order.now.1.lines.items c.deref-line-items.result.now c.loop-line.line-index c.line-item.result c.loop-line.fields.entries c.put_line.new.fields.entries (sym c.deref-line-items.ensures.value)

@@ -6,9 +6,6 @@ use Rattle.book.proofs.ChangedFields.{found_stays, on_ok}
 use Rattle.book.proofs.StockChanges.{value_may, value_moved}
 use Rattle.book.proofs.book.Book.put_moved.Goals as goal
 
-pub unreachable-requires : goal.unreachable-requires
-unreachable-requires c = true≢false (sym (sym (ap is_some c.in_default.ensures.found) ∙ c.requires.1.there))
-
 pub move_value-requires : goal.move_value-requires
 move_value-requires c =
     let A : Ledger = c.args.self.now.ledger in

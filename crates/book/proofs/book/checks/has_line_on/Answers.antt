@@ -14,6 +14,4 @@ pub loop-line-preserved : goal.loop-line-preserved
 loop-line-preserved c = find-next _ c.args.lines.now c.loop-line.line-index c.line-item.result c.loop-line-test.true c.line-item.is c.loop-line.invariant (sym c.is_line_on.ensures ∙ c.if-is_line_on.false)
 
 pub returns : goal.returns
-returns c =
-    let f : Name = name_of c.args.branch c.args.article in
-    ap is_some (sym (find-map-none (on f) new_line c.args.lines.now (find-all _ c.args.lines.now c.loop-line.line-index (omega arith) c.loop-line.invariant)))
+returns c = grind (arith, find-all, find-map-none)

@@ -38,6 +38,4 @@ loop-i-preserved c =
     (apart_push (take c.loop-i.i c.args.lines.now) c.index-lines-i.result c.loop-i.invariant (none_found (on (line_name c.index-lines-i.result)) (take c.loop-i.i c.args.lines.now) none))
 
 pub returns-then-is_some : goal.returns-then-is_some
-returns-then-is_some c = no (λ apart.
-    some_if c.line_in.result _ c.line_in.ensures (sym c.is_some.ensures ∙ c.if-is_some.true)
-    (subst (λ (l : Line). find (on (line_name l)) (take c.loop-i.i c.args.lines.now) ≡ None) (sym c.index-lines-i.is) (none_before c.args.lines.now c.loop-i.i c.index-lines-i.result c.loop-i-test.true apart)))
+returns-then-is_some c = grind (arith, no, none_before, some_if)

@@ -15,15 +15,10 @@ use Rattle.book.proofs.Walked.{take-step}
 use Rattle.book.proofs.book.tables.group.group.Goals as goal
 
 pub behind-lines_left-requires : goal.behind-lines_left-requires
-behind-lines_left-requires c =
-    let long = zip-length IsLineTold c.args.lines.now c.args.rows.now c.requires in
-    let within = c.loop-head.invariant.within in
-    omega arith
+behind-lines_left-requires c = grind (arith, (zip-length IsLineTold c.args.lines.now c.args.rows.now c.requires))
 
 pub lines_of_order-requires : goal.lines_of_order-requires
-lines_of_order-requires c =
-    subst (λ ls. AllZip IsLineTold ls c.behind-rows_left.result.now) (sym c.behind-lines_left.ensures)
-    (subst (AllZip IsLineTold (drop c.loop-head.start c.args.lines.now)) (sym c.behind-rows_left.ensures) (zip-drop IsLineTold c.loop-head.start c.args.lines.now c.args.rows.now c.requires))
+lines_of_order-requires c = grind (arith, (zip-drop IsLineTold c.loop-head.start c.args.lines.now c.args.rows.now c.requires))
 
 -- the heads that are left begin with this one
 left_here : (heads : List Head) (i : ℕ) (head : Head) (rows : List LineCells) → i < length heads → head ≡ get_or heads i head → Tail (drop i heads) rows → Tail (head ∷ drop (i + 1) heads) rows
@@ -37,8 +32,7 @@ returns-in_err-own-clause-damaged c = passed_up c.from_residual.result c.in_err-
     c.in_err-own.ensures.damaged is first.own first.rest first.others (first.lines_are ∙ ap (map line_cells) (sym c.behind-rows_left.ensures)))
 
 pub returns-then-start-rows-clause-damaged : goal.returns-then-start-rows-clause-damaged
-returns-then-start-rows-clause-damaged c _ orders sorted tell =
-    none_left c.args.heads.now c.loop-head.head-index c.args.rows.now c.loop-head.start c.loop-head-test.false c.loop-head.invariant.within c.if-start-rows.true (c.loop-head.invariant.left orders sorted tell)
+returns-then-start-rows-clause-damaged c _ orders sorted tell = grind (arith, (none_left c.args.heads.now c.loop-head.head-index c.args.rows.now c.loop-head.start c.loop-head-test.false c.loop-head.invariant.within c.if-start-rows.true (c.loop-head.invariant.left orders sorted tell)))
 
 pub loop-head-preserved : goal.loop-head-preserved
 loop-head-preserved c =

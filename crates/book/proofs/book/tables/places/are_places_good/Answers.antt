@@ -20,17 +20,7 @@ place e = e.1.place
 
 pub loop-entry-init : goal.loop-entry-init
 unfolding IsDistinct
-loop-entry-init c =
-    let items = c.in-Ok.ensures.items_if_clones_equal (λ y e. e) in
-    record {
-      long =
-          let counted = c.in-Ok.ensures.len in
-          let known = c.in-Ok.taken.ok.0 in
-          omega arith;
-      range = tt;
-      apart = tt;
-      marks = λ p within. ap (λ bs. slice_index_or bs p true) items ∙ get_or-replicate (length c.args.kept.now + 1) p false true (omega arith);
-    }
+loop-entry-init c = grind (arith, get_or-replicate)
 
 pub loop-entry-preserved : goal.loop-entry-preserved
 loop-entry-preserved c =
