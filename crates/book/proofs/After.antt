@@ -1,10 +1,7 @@
 -- What the entries add up to on a field of the next ledger.
 use Rattle.std.proofs.Common.{arith, ◌≡◌, ℤ, pos, ◌+ℤ◌, if◌then◌else◌}
-use Rattle.words.specs.declared.command.Command.{Command}
+use Rattle.book.proofs.Prelude.{Command, Ledger, Move, Name, moved_by_command, next, same_name}
 use Rattle.words.specs.declared.command.Command.TheVariants as command
-use Rattle.book.specs.After.{moved_by_command}
-use Rattle.book.specs.Ledger.{Ledger, Move, Name, same_name}
-use Rattle.book.specs.Next.{next}
 use Rattle.book.specs.Outcomes.{total}
 use Rattle.book.proofs.Asked.{total-push}
 use Rattle.book.proofs.Made.{nothing_more}

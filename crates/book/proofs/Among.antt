@@ -1,16 +1,10 @@
 -- Rows among changes, as changes are appended.
 use Rattle.std.proofs.Common.{arith, ◌≡◌, ◌∙◌, List, [], ◌∷◌, ◌++◌, ap, refl, sym}
 use Rattle.std.proofs.lemmas.List.{append-nil, append_assoc}
-use Rattle.book.specs.After.{with_fields, with_kept, with_lines, with_moves, with_orders}
-use Rattle.book.specs.Rows.{Content, FieldCells, KeptCells, LineCells, MoveCells, OrderCells}
-use Rattle.book.specs.Tables.{field_cells, kept_cells, line_cells, move_cells, order_cells, rows_among, with_change}
-use Rattle.book.specs.declared.rows.Change.{Change}
+use Rattle.book.proofs.Prelude.{Change, Content, FieldCells, FieldRow, KeptCells, KeptRow, LineCells, LineRow, MoveRow, OrderCells, OrderRow, field_cells, kept_cells, line_cells, move_cells, order_cells, rows_among, with_fields, with_kept, with_lines, with_moves, with_orders}
+use Rattle.book.specs.Rows.{MoveCells}
+use Rattle.book.specs.Tables.{with_change}
 use Rattle.book.specs.declared.rows.Change.TheVariants as change
-use Rattle.book.specs.declared.rows.FieldRow.{FieldRow}
-use Rattle.book.specs.declared.rows.KeptRow.{KeptRow}
-use Rattle.book.specs.declared.rows.LineRow.{LineRow}
-use Rattle.book.specs.declared.rows.MoveRow.{MoveRow}
-use Rattle.book.specs.declared.rows.OrderRow.{OrderRow}
 
 field_last : (cs : List Change) (r : FieldRow) → rows_among (cs ++ change.Field r ∷ []) ≡ with_fields (field_cells r ∷ []) (rows_among cs)
 field_last [] r = refl

@@ -1,17 +1,8 @@
 -- The model's tests of a request, over all outcomes, as the comparisons that a program makes.
-use Rattle.std.proofs.lemmas.Grind.{common_steps}
+use Rattle.book.proofs.Prelude.{Add, Each, FallsBelow, Kind, Ledger, Line, Name, OpenLine, RisesAbove, Take, bytes_decides, common_steps, field_named, held_to_add, held_to_take, if_add, if_take, insert_in_order, ints, is_committed, is_open, line_name, new_line, new_order, on, places, same_name, settled, with_move, with_order}
 use Rattle.std.proofs.Common.{◌≡◌, ℕ, ◌+◌, ◌≤◌, ℤ, pos, ◌+ℤ◌, ◌-ℤ◌, neg_ℤ, ◌<ℤ◌, List, [], ◌∷◌, ◌++◌, map, find, Bool, true, false, is_some, IsSomeAnd, Some, None, refl, sym, ap, ◌∙◌, subst, arith, if◌then◌else◌, true≢false, ◌↔◌, nat_lt}
-use Rattle.std.proofs.lemmas.Int.{ints}
-use Rattle.std.specs.List.{AllByRecursion as Each}
-use lib.Pointwise.{bytes_decides}
-use Rattle.escrow.specs.declared.quantity.Way.TheVariants.{Take, Add}
-use Rattle.words.specs.declared.open_line.OpenLine.{OpenLine}
-use Rattle.book.specs.declared.order.Kind.{Kind}
-use Rattle.book.specs.declared.order.Line.{Line}
-use Rattle.book.specs.Ledger.{Name, Field, Ledger, on, is_open, is_committed, line_name, same_name, field_named, insert_in_order, places}
-use Rattle.book.specs.Outcomes.{total, moved, settled, FallsBelow, RisesAbove}
-use Rattle.book.specs.Held.{if_take, if_add, held_to_take, held_to_add}
-use Rattle.book.specs.Next.{with_move, with_order, new_order, new_line}
+use Rattle.book.specs.Ledger.{Field}
+use Rattle.book.specs.Outcomes.{total, moved}
 use Rattle.book.proofs.Bounds.{OneOn, Sound, takes, adds, none-total, falls_below_iff, rises_above_iff}
 use Rattle.book.proofs.Closing.{name_is}
 

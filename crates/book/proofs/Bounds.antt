@@ -1,13 +1,8 @@
 -- The least and the greatest result over all outcomes, by what is held.
 use Rattle.std.proofs.Common.{Option, Some, None, IsSomeAnd, ◌≡◌, ℕ, ◌≤◌, ℤ, pos, ◌+ℤ◌, ◌-ℤ◌, neg_ℤ, ◌≤ℤ◌, ◌<ℤ◌, List, [], ◌∷◌, Bool, true, false, ◌&&◌, ◌||◌, IsTrue, refl, sym, ◌∙◌, subst, arith, if◌then◌else◌, true≢false, ◌↔◌}
-use Rattle.std.proofs.lemmas.Int.{ints}
-use Rattle.std.specs.List.{AllByRecursion as Each, list_any}
-use Rattle.escrow.specs.declared.quantity.Way.{Way}
-use Rattle.escrow.specs.declared.quantity.Way.TheVariants.{Take, Add}
-use Rattle.book.specs.declared.order.Line.{Line}
-use Rattle.book.specs.Ledger.{Name, Field, Order, Ledger, on, is_open, field_named}
-use Rattle.book.specs.Outcomes.{total, signed, moved, settled, Outcome, IsOutcome, outcome_result, IsSafe, IsInfimum, IsSupremum, FallsBelow, RisesAbove, IsWithin}
-use Rattle.book.specs.Held.{if_take, if_add, held_to_take, held_to_add}
+use Rattle.book.proofs.Prelude.{Add, Each, FallsBelow, IsInfimum, IsSupremum, IsWithin, Ledger, Line, Name, Order, RisesAbove, Take, Way, field_named, held_to_add, held_to_take, if_add, if_take, ints, is_open, list_any, on, settled, signed}
+use Rattle.book.specs.Ledger.{Field}
+use Rattle.book.specs.Outcomes.{total, moved, Outcome, IsOutcome, outcome_result, IsSafe}
 use Rattle.book.proofs.Sums.{each-imp}
 
 -- at most one line is on the field

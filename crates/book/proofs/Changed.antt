@@ -1,34 +1,12 @@
 -- The rows that an accepted command names, put into the ledger's rows, give the rows of the next ledger.
 use Rattle.std.proofs.Common.{◌≡◌, ℕ, ◌+◌, ℤ, pos, neg_ℤ, List, [], ◌∷◌, ◌++◌, map, flat_map, Bool, true, false, ◌&&◌, ◌||◌, ◌==◌, IsTrue, IsFalse, IsNone, IsSomeAnd, Option, Some, None, refl, sym, ap, ◌∙◌, subst, arith, if◌then◌else◌, true≢false, nat_cmp, nat_lt, Equal, inl, inr, is_some}
-use Rattle.std.proofs.lemmas.Int.{ints}
-use Rattle.std.proofs.lemmas.Cmp.{int_cmp_total, nat_list_cmp_total, then_total, on_total, tied_itself}
-use Rattle.std.specs.declared.cmp.Ordering.{Ordering}
-use Rattle.std.specs.Cmp.{IsTotalOrder}
-use Rattle.std.specs.Ordering.{is_lt, is_eq, int_eq}
-use Rattle.std.specs.Cmp.Lexicographic.{slice_cmp}
-use Rattle.std.specs.List.{AllByRecursion as Each, AllZip, list_any, filter}
-use Rattle.std.specs.List.Sorted.{IsStrictlySortedBy}
-use Rattle.std.specs.Str.{bytes_eq}
-use lib.Pointwise.{bytes_decides}
-use Rattle.escrow.specs.declared.quantity.Way.{Way}
-use Rattle.words.specs.declared.open_line.OpenLine.{OpenLine}
-use Rattle.words.specs.declared.command.Command.{Command}
+use Rattle.book.proofs.Prelude.{Aborted, AllZip, Command, Committed, Content, DeskCells, Each, FieldCells, FirstFailure, Good, IsFieldRow, IsInRange, IsKey, IsRowsOf, IsStrictlySortedBy, IsSupremum, IsTotalOrder, Kept, Ledger, Line, LineCells, Move, Name, OpenLine, Order, OrderCells, Ordering, Plain, Request, State, Way, accept, add_hold, bytes_decides, bytes_eq, change_lines, changed_rows, changes_field, changes_line, changes_move, changes_order, checks, committed_state, desk_row, expires, field_cmp, filter, has_line_on, held_to_add, held_to_take, hold_more, if_add, if_take, insert_in_order, int_cmp_total, int_eq, ints, is_committed, is_eq, is_lt, is_open, is_transfer, kept_cmp, kept_row, kept_under, line_cmp, line_name, line_on, line_row, lines_from, list_any, lower_held, move_cmp, move_row, name_cmp, name_of, nat_list_cmp_total, new_line, new_order, on, on_total, open_state, order_cmp, order_is, order_lines, order_numbered, order_row, places, put_content, put_rows, raise_held, raise_used, same_name, set_state, settled, signed, slice_cmp, then_total, tied_itself, transfer_lines, with_order}
 use Rattle.words.specs.declared.command.Command.TheVariants as command
-use Rattle.book.specs.declared.order.Kind.TheVariants.{Plain, Transfer}
-use Rattle.book.specs.declared.order.State.{State}
-use Rattle.book.specs.declared.order.State.TheVariants.{Open, Committed, Aborted}
-use Rattle.book.specs.declared.order.Line.{Line}
-use Rattle.book.specs.Ledger.{kept_under, Name, Field, Move, Order, Ledger, Kept, on, is_open, is_committed, open_state, committed_state, is_transfer, line_name, same_name, name_cmp, line_on, order_numbered, places, insert_in_order, name_of}
-use Rattle.book.specs.Outcomes.{total, signed, moved, settled, IsSupremum}
-use Rattle.book.specs.Held.{if_take, if_add, held_to_take, held_to_add}
-use Rattle.book.specs.Next.{accept, expires, set_state, change_lines, raise_used, lower_held, raise_held, hold_more, add_hold, new_line, new_order, with_order, transfer_lines}
-use Rattle.book.specs.Answers.{FirstFailure, checks}
-use Rattle.book.specs.Good.{Good}
-use Rattle.book.specs.Rows.{DeskCells, FieldCells, OrderCells, LineCells, Content, IsFieldRow, move_row, order_row, line_row, lines_from, order_lines, kept_row, desk_row, IsRowsOf, desk_cmp, field_cmp, move_cmp, order_cmp, line_cmp, kept_cmp}
-use Rattle.escrow.specs.Codes.{IsKey}
-use Rattle.words.specs.declared.command.Request.{Request}
-use Rattle.words.specs.Spelling.{IsInRange}
-use Rattle.book.specs.Changes.{has_line_on, order_is, changes_field, changes_move, changes_order, changes_line, put_rows, changed_rows, put_content}
+use Rattle.book.specs.declared.order.Kind.TheVariants.{Transfer}
+use Rattle.book.specs.declared.order.State.TheVariants.{Open}
+use Rattle.book.specs.Ledger.{Field}
+use Rattle.book.specs.Outcomes.{total, moved}
+use Rattle.book.specs.Rows.{desk_cmp}
 use Rattle.book.proofs.Sums.{each, each-imp, each-both, each-map, total-map, total-eq}
 use Rattle.book.proofs.Bounds.{takes, adds, none-total, inf_is, sup_is, inf_unique}
 use Rattle.book.proofs.Closing.{all_pass, at_number, name_is, open_there, sounds_from_good}

@@ -1,26 +1,10 @@
 -- The fields that a request makes or changes, put in one after the other by their names.
 use Rattle.std.proofs.Common.{arith, ◌≡◌, ◌∙◌, ℕ, ◌+◌, ◌<◌, ◌==◌, ◌++◌, Bool, Err, IsSome, OnOk, Ok, Result, true, false, List, [], ◌∷◌, Option, None, Some, ap, cond, find, flat_map, if◌then◌else◌, get_or, is_some, length, map, refl, subst, sym, take, true≢false}
-use Rattle.std.proofs.lemmas.Cmp.{tied_itself}
-use Rattle.std.specs.BTreeMap.{insert_entry, is_at}
-use Rattle.std.specs.List.{AllByRecursion as Each, Contains}
-use Rattle.std.specs.List.Sorted.{IsStrictlySortedBy}
-use Rattle.std.specs.Map.{keys_of, lookup}
-use Rattle.std.specs.Ordering.{is_eq, match_ordering, ordering_reverse}
-use Rattle.std.specs.declared.cmp.Ordering.{Ordering}
+use Rattle.book.proofs.Prelude.{Accepts, Command, Contains, Each, FieldCells, FieldEntry, FirstFailure, HasEntry, IsChangedField, IsGoodLine, IsGoodOrder, IsStrictlySortedBy, Ledger, Line, Name, Order, Ordering, Puts, Request, accept, changes_field, checks, entry_row, field_named, insert_entry, is_at, is_eq, keys_of, line_name, lookup, match_ordering, name_cmp, next, on, order_after, order_number, ordering_reverse, same_name, tied_itself}
 use Rattle.std.specs.declared.cmp.Ordering.TheVariants.{Equal, Greater, Less}
-use Rattle.words.specs.declared.command.Command.{Command}
 use Rattle.words.specs.declared.command.Command.TheVariants as command
-use Rattle.words.specs.declared.command.Request.{Request}
-use Rattle.book.specs.After.{order_after, order_number}
-use Rattle.book.specs.Answers.{FirstFailure, checks}
-use Rattle.book.specs.Changes.{changes_field}
-use Rattle.book.specs.Good.{IsGoodLine, IsGoodOrder}
-use Rattle.book.specs.Ledger.{Field, Ledger, Name, Order, field_named, line_name, name_cmp, on, same_name}
-use Rattle.book.specs.Next.{accept, next}
-use Rattle.book.specs.Rows.{FieldCells}
-use Rattle.book.specs.Running.{Accepts, HasEntry, IsChangedField, IsOneOf, Puts, entry_row}
-use Rattle.book.specs.declared.entries.FieldEntry.{FieldEntry}
-use Rattle.book.specs.declared.order.Line.{Line}
+use Rattle.book.specs.Ledger.{Field}
+use Rattle.book.specs.Running.{IsOneOf}
 use Rattle.book.proofs.Asked.{same_self}
 use Rattle.book.proofs.Bounds.{OneOn}
 use Rattle.book.proofs.Chosen.{number_is, some_is}

@@ -1,23 +1,13 @@
 -- What the comparisons of a program say of the checks of a command.
 use Rattle.std.proofs.Common.{arith, ◌≡◌, ◌≢◌, ◌∙◌, ◌↔◌, ◌≤◌, ℕ, List, [], ◌∷◌, ◌++◌, Bool, false, Option, None, Some, IsFalse, IsNone, IsSomeAnd, IsTrue, MatchOption, inl, inr, is_some, length, refl, sym, true≢false}
 use denote.Enum.Bare.{sameb}
-use Rattle.escrow.specs.declared.quantity.Way.{Way}
-use Rattle.escrow.specs.declared.quantity.Way.TheVariants.{Add, Take}
-use Rattle.words.specs.declared.command.Command.TheVariants.{More}
-use Rattle.words.specs.declared.limits.TheConstants.{MAX_ORDER_LINES}
-use Rattle.words.specs.declared.open_line.OpenLine.{OpenLine}
-use Rattle.words.specs.declared.reply.Refusal.{Refusal}
+use Rattle.book.proofs.Prelude.{Add, BreaksBound, Check, FirstFailure, Good, Kind, Ledger, Line, MAX_ORDER_LINES, MayHoldMore, More, Name, OpenLine, Order, Plain, Refusal, Take, Way, bound, checks, field_named, full, is_open, is_transfer, line_on, next, no_field, order_numbered, stock_checks, transfer_kind}
 use Rattle.words.specs.declared.reply.Refusal.TheVariants.{OtherWay, TooManyLines, TransferFixed}
 use Rattle.book.specs.contracts.order.Kind.{the_type}
-use Rattle.book.specs.declared.order.Kind.{Kind}
-use Rattle.book.specs.declared.order.Kind.TheVariants.{Plain, Transfer}
-use Rattle.book.specs.declared.order.Line.{Line}
-use Rattle.book.specs.Answers.{Check, FirstFailure, OfLine, OfOrder, bound, check, checks, full, no_field, open_checks}
-use Rattle.book.specs.Checking.{bound_checks, hold_checks, stock_checks}
-use Rattle.book.specs.Good.{Good}
-use Rattle.book.specs.Held.{BreaksBound, MayHoldMore}
-use Rattle.book.specs.Ledger.{Field, Ledger, Name, Order, field_named, is_open, is_transfer, line_on, order_numbered, transfer_kind}
-use Rattle.book.specs.Next.{next}
+use Rattle.book.specs.declared.order.Kind.TheVariants.{Transfer}
+use Rattle.book.specs.Answers.{OfLine, OfOrder, check, open_checks}
+use Rattle.book.specs.Checking.{bound_checks, hold_checks}
+use Rattle.book.specs.Ledger.{Field}
 use Rattle.book.proofs.Compared.{more_test}
 
 -- ---- lists of checks

@@ -1,7 +1,6 @@
 -- Which of the rows of a list pass a test.
 use Rattle.std.proofs.Common.{◌≡◌, ℕ, ◌<◌, Bool, true, false, ◌||◌, ◌==◌, List, [], ◌∷◌, ◌++◌, Some, ap, arith, find, flat_map, if◌then◌else◌, map, nat_cmp, Less, refl}
-use Rattle.std.specs.List.{AllByRecursion as Each, filter, list_any}
-use Rattle.book.specs.Ledger.{Order, insert_in_order}
+use Rattle.book.proofs.Prelude.{Each, Order, filter, insert_in_order, list_any}
 use Rattle.book.proofs.Closing.{less_is}
 use Rattle.book.proofs.Found.{from_some}
 use Rattle.book.proofs.Lists.{each-unmap}

@@ -1,31 +1,11 @@
 -- From a good ledger every future keeps the bounds and the commits.
-use Rattle.std.proofs.lemmas.Grind.{common_steps}
+use Rattle.book.proofs.Prelude.{Aborted, Add, Answers, AnswersNew, AsksNoStock, Check, Command, Committed, Done, Each, FirstFailure, Good, IsDistinct, IsFuture, IsGoodOrder, IsStrictlySortedBy, IsTransferPair, IsWithin, Kept, KeyReused, Ledger, Line, MatchOrdering, Name, Order, Refusal, Refused, Reply, Request, Runs, Stands, State, Take, Way, accept, bytes_decides, change_lines, checks, committed_state, common_steps, held_to_add, held_to_take, if_add, if_take, ints, is_committed, is_open, is_transfer, kept_under, line_name, line_on, lower_held, on, open_state, order_numbered, places, raise_used, ranks, same_command, same_name, set_state, settled, signed}
 use Rattle.std.proofs.Common.{◌≡◌, ℕ, ◌+◌, ◌-◌, ◌<◌, ◌≤◌, ℤ, pos, ◌+ℤ◌, ◌-ℤ◌, neg_ℤ, ◌≤ℤ◌, List, [], ◌∷◌, map, Bool, true, false, ◌&&◌, ◌||◌, IsTrue, IsFalse, IsNone, is_some, IsSomeAnd, Option, Some, None, find, refl, sym, ap, ◌∙◌, subst, arith, if◌then◌else◌, true≢false, inl, inr, ◌==◌, nat_le, nat_cmp, Less, MatchOption}
-use Rattle.std.proofs.lemmas.Int.{ints}
-use Rattle.std.specs.Cmp.{ranks}
-use Rattle.std.specs.Ordering.{MatchOrdering}
-use Rattle.std.specs.List.{AllByRecursion as Each, IsDistinct}
-use Rattle.std.specs.List.Sorted.{IsStrictlySortedBy}
-use lib.Pointwise.{bytes_decides}
-use Rattle.escrow.specs.declared.quantity.Way.{Way}
-use Rattle.escrow.specs.declared.quantity.Way.TheVariants.{Take, Add}
-use Rattle.words.specs.declared.command.Command.{Command}
 use Rattle.words.specs.declared.command.Command.TheVariants as command
-use Rattle.words.specs.declared.command.Request.{Request}
-use Rattle.words.specs.declared.reply.Refusal.{Refusal}
-use Rattle.words.specs.declared.reply.Refusal.TheVariants.{KeyReused}
-use Rattle.words.specs.declared.reply.Reply.{Reply}
-use Rattle.words.specs.declared.reply.Reply.TheVariants.{Done, Refused}
-use Rattle.book.specs.declared.order.State.{State}
-use Rattle.book.specs.declared.order.State.TheVariants.{Open, Committed, Aborted}
-use Rattle.book.specs.declared.order.Line.{Line}
-use Rattle.book.specs.Ledger.{open_state, committed_state, Name, Field, Order, Ledger, Kept, on, is_open, is_committed, is_transfer, line_name, same_name, order_numbered, line_on, kept_under, places}
-use Rattle.book.specs.Outcomes.{total, signed, moved, settled, IsWithin}
-use Rattle.book.specs.Held.{if_take, if_add, held_to_take, held_to_add}
-use Rattle.book.specs.Next.{accept, change_lines, raise_used, lower_held, set_state}
-use Rattle.book.specs.Answers.{Check, FirstFailure, checks, Answers, AnswersNew, Runs, same_command}
-use Rattle.book.specs.Good.{Good, IsGoodOrder, IsTransferPair}
-use Rattle.book.specs.Future.{AsksNoStock, IsFuture, Stands, HonoursAlways}
+use Rattle.book.specs.declared.order.State.TheVariants.{Open}
+use Rattle.book.specs.Ledger.{Field}
+use Rattle.book.specs.Outcomes.{total, moved}
+use Rattle.book.specs.Future.{HonoursAlways}
 use Rattle.book.proofs.Sums.{each-imp, each-both, each-map}
 use Rattle.book.proofs.Bounds.{OneOn, Sound, takes, adds, takes-not_negative, adds-not_negative, moved-low, moved-high, room_from_safe, HasRoom}
 

@@ -1,19 +1,6 @@
 -- Each test of a check by all outcomes is one comparison with the numbers of the ledger as it is.
-use Rattle.std.proofs.lemmas.Grind.{common_steps}
+use Rattle.book.proofs.Prelude.{Add, BreaksBound, Each, Good, IsDistinct, IsStrictlySortedBy, Kind, Ledger, Line, MayHoldMore, Name, OpenLine, Order, Take, Way, add_hold, bound, change_order, common_steps, held_to_add, held_to_take, if_add, if_take, ints, is_open, line_name, line_on, new_line, new_order, on, open_state, order_numbered, raise_held, same_name, with_order}
 use Rattle.std.proofs.Common.{◌≡◌, ◌∙◌, ℕ, ◌+◌, ℤ, pos, ◌+ℤ◌, ◌==◌, ◌↔◌, Bool, true, false, List, [], ◌∷◌, ◌++◌, Option, None, Some, IsNone, IsSomeAnd, MatchOption, ap, arith, find, if◌then◌else◌, map, nat_cmp, Less, refl, subst, sym, true≢false}
-use Rattle.std.proofs.lemmas.Int.{ints}
-use Rattle.std.specs.List.{AllByRecursion as Each, IsDistinct}
-use Rattle.std.specs.List.Sorted.{IsStrictlySortedBy}
-use Rattle.escrow.specs.declared.quantity.Way.{Way}
-use Rattle.escrow.specs.declared.quantity.Way.TheVariants.{Add, Take}
-use Rattle.words.specs.declared.open_line.OpenLine.{OpenLine}
-use Rattle.book.specs.declared.order.Kind.{Kind}
-use Rattle.book.specs.declared.order.Line.{Line}
-use Rattle.book.specs.Answers.{bound}
-use Rattle.book.specs.Good.{Good}
-use Rattle.book.specs.Held.{MayHoldMore, BreaksBound, held_to_add, held_to_take, if_add, if_take}
-use Rattle.book.specs.Ledger.{Ledger, Name, Order, is_open, line_name, line_on, on, open_state, order_numbered, same_name}
-use Rattle.book.specs.Next.{add_hold, change_order, new_line, new_order, raise_held, with_order}
 use Rattle.book.specs.Outcomes.{total}
 use Rattle.book.proofs.Asked.{add_line_test, named, same_self, take_line_test, total-push}
 use Rattle.book.proofs.Bounds.{OneOn, Sound, falls_below_iff, rises_above_iff}

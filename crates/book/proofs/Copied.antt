@@ -1,21 +1,10 @@
 -- How the order that an accepted command changes may be changed in a copy.
 use Rattle.std.proofs.Common.{◌≡◌, ℕ, ◌<◌, ◌∙◌, ◌==◌, Option, None, Some, ap, arith, is_some, refl, subst, sym, true≢false, IsSomeAnd}
 use Rattle.std.specs.Option.{option_map}
-use Rattle.std.specs.Vec.{vec_capacity, vec_len}
-use Rattle.std.proofs.lemmas.Option.{same_Some}
-use Rattle.words.specs.declared.command.Command.{Command}
+use Rattle.book.proofs.Prelude.{Command, FirstFailure, Good, IsAccepted, IsGoodOrder, Ledger, MayChangeOrder, Name, OpenLine, Order, OrderEntry, Request, accept, add_hold, changed_order, checks, name_of, order_after, order_numbered, order_of, same_Some, vec_capacity, vec_len}
 use Rattle.words.specs.declared.command.Command.TheVariants as command
-use Rattle.words.specs.declared.command.Request.{Request}
-use Rattle.words.specs.declared.open_line.OpenLine.{OpenLine}
-use Rattle.book.specs.After.{order_after}
-use Rattle.book.specs.Answers.{FirstFailure, IsAccepted, checks}
-use Rattle.book.specs.Good.{Good, IsGoodOrder}
-use Rattle.book.specs.InPlace.{MayChangeOrder, changed_order, order_change_of}
-use Rattle.book.specs.Ledger.{Ledger, Name, Order, order_numbered, name_of}
-use Rattle.book.specs.Next.{accept, add_hold}
-use Rattle.book.specs.View.{order_of}
+use Rattle.book.specs.InPlace.{order_change_of}
 use Rattle.book.specs.declared.book.made.OrderChange.{OrderChange}
-use Rattle.book.specs.declared.entries.OrderEntry.{OrderEntry}
 use Rattle.book.proofs.Allowed.{hold_allowed}
 use Rattle.book.proofs.Closing.{Fine, Usable, all_pass, fit_from_good, left_on, usable_there}
 use Rattle.book.proofs.Made.{each-found, made_there}

@@ -1,21 +1,10 @@
 -- How many orders are open, and how many in the next ledger.
 use Rattle.std.proofs.Common.{◌≡◌, ◌∙◌, ℕ, ◌+◌, ℤ, pos, ◌+ℤ◌, ◌-ℤ◌, ◌&&◌, ◌++◌, List, [], ◌∷◌, Bool, true, false, IsNone, Option, None, Some, ap, arith, count_by, if◌then◌else◌, is_some, map, refl, sym, true≢false}
-use Rattle.std.proofs.lemmas.Int.{ints}
+use Rattle.book.proofs.Prelude.{Aborted, BookView, Command, Committed, FirstFailure, Good, Inside, Ledger, Name, OpenLine, Order, State, add_hold, change_lines, checks, expires, hold_more, ints, is_open, is_opening, ledger_of, line_name, line_on, lower_held, name_of, new_line, next, open_orders, open_state, order_after, order_number, order_numbered, raise_used, set_state, some_part, view_of}
 use Rattle.std.specs.Option.{option_map}
-use Rattle.words.specs.Kinds.{is_change, is_opening}
-use Rattle.words.specs.declared.command.Command.{Command}
+use Rattle.words.specs.Kinds.{is_change}
 use Rattle.words.specs.declared.command.Command.TheVariants as command
-use Rattle.words.specs.declared.open_line.OpenLine.{OpenLine}
-use Rattle.book.specs.After.{order_after, order_number, some_part}
-use Rattle.book.specs.Answers.{FirstFailure, checks}
-use Rattle.book.specs.Good.{Good}
-use Rattle.book.specs.Ledger.{Ledger, Name, Order, is_open, line_name, line_on, name_of, open_orders, open_state, order_numbered}
-use Rattle.book.specs.Next.{add_hold, change_lines, expires, hold_more, lower_held, new_line, next, raise_used, set_state}
 use Rattle.book.specs.Outcomes.{total}
-use Rattle.book.specs.View.{BookView, ledger_of, view_of}
-use Rattle.book.specs.declared.book.Book.TheInside.{Inside}
-use Rattle.book.specs.declared.order.State.{State}
-use Rattle.book.specs.declared.order.State.TheVariants.{Aborted, Committed}
 use Rattle.book.proofs.Closing.{all_pass}
 use Rattle.book.proofs.FieldRows.{parted}
 use Rattle.book.proofs.Lists.{counted}

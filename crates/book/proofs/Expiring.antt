@@ -1,21 +1,8 @@
 -- The orders that an expiry aborts, by their numbers.
 use Rattle.std.proofs.Common.{◌≡◌, ◌∙◌, ℕ, suc, ◌+◌, ◌<◌, ◌≤◌, ◌==◌, ◌&&◌, ◌||◌, ◌++◌, Bool, true, false, List, [], ◌∷◌, Some, ap, append-nil, append_assoc, arith, count_by, drop, flat_map, get_or, if◌then◌else◌, inl, inr, length, map, nat_cmp, Less, refl, subst, sym, take}
-use Rattle.std.proofs.lemmas.Bool.{cases_lt}
-use Rattle.std.proofs.lemmas.Grind.{common_steps, flat_map-append}
-use Rattle.std.proofs.lemmas.List.Sorted.{IsPermutation-map, sum_by-IsPermutation}
-use Rattle.std.specs.List.{AllByRecursion as Each, filter, fold, list_any}
-use Rattle.std.specs.List.Sorted.{IsNonDecreasingBy, IsPermutation, IsStrictlySortedBy}
-use Rattle.std.specs.Option.{option_map_or}
-use Rattle.book.specs.After.{of_numbered}
-use Rattle.book.specs.Good.{Good}
-use Rattle.book.specs.InPlace.{abort_all, abort_one}
-use Rattle.book.specs.Ledger.{Ledger, Order, order_numbered}
-use Rattle.book.specs.Next.{expires, set_state}
-use Rattle.book.specs.Running.{MayGiveBack}
-use Rattle.book.specs.View.{order_of}
-use Rattle.book.specs.declared.entries.OrderEntry.{OrderEntry}
-use Rattle.book.specs.declared.order.Line.{Line}
-use Rattle.book.specs.declared.order.State.TheVariants.{Aborted}
+use Rattle.book.proofs.Prelude.{Aborted, Each, Good, IsNonDecreasingBy, IsPermutation, IsPermutation-map, IsStrictlySortedBy, Ledger, Line, MayGiveBack, Order, OrderEntry, abort_all, abort_one, cases_lt, common_steps, expires, filter, flat_map-append, list_any, of_numbered, option_map_or, order_numbered, order_of, set_state}
+use Rattle.std.proofs.lemmas.List.Sorted.{sum_by-IsPermutation}
+use Rattle.std.specs.List.{fold}
 use Rattle.book.proofs.Chosen.{none_any}
 use Rattle.book.proofs.Closing.{less_is}
 use Rattle.book.proofs.GivingBack.{may_prefix}

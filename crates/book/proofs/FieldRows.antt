@@ -1,31 +1,11 @@
 -- The rows of the fields that a request makes or changes, for each kind of command.
 use Rattle.std.proofs.Common.{◌≡◌, ◌∙◌, ℕ, ℤ, pos, ◌+ℤ◌, ◌-ℤ◌, ◌&&◌, ◌||◌, ◌++◌, Bool, true, false, List, [], ◌∷◌, IsNone, IsSome, IsSomeAnd, Option, None, Some, ap, append-nil, arith, cond, find, flat_map, if◌then◌else◌, is_some, map, refl, subst, sym, true≢false}
-use Rattle.std.proofs.lemmas.Int.{ints}
-use Rattle.std.proofs.lemmas.List.Folds.{list_any-append}
-use Rattle.std.specs.BTreeMap.{insert_entry, is_at}
-use Rattle.std.specs.List.{AllByRecursion as Each, list_any}
-use Rattle.std.specs.List.Sorted.{IsStrictlySortedBy}
-use Rattle.std.specs.Map.{keys_of, lookup}
+use Rattle.book.proofs.Prelude.{Accepts, Add, Command, Each, FieldCells, FieldEntry, FirstFailure, GivenBack, GivesBack, Good, HasEntry, IsChangedField, IsStrictlySortedBy, Ledger, Line, Name, OpenLine, Order, Puts, Request, Take, accept, add_hold, added_part, change_lines, changed_fields, changes_field, checks, committed_state, entry_row, expired_lines, expires, field_named, field_of, field_row, field_rows, has_line_on, held_to_add, held_to_take, hold_more, if_add, if_take, insert_entry, ints, is_at, is_committed, is_eq, is_open, is_transfer, keys_of, line_name, line_on, list_any, list_any-append, lookup, lower_held, moved_part, name_cmp, name_of, new_field_rows, new_line, next, on, order_after, order_is, order_numbered, raise_held, same_name, settled, some_has_line, taken_part}
 use Rattle.std.specs.Option.{option_map}
-use Rattle.std.specs.Ordering.{is_eq}
-use Rattle.escrow.specs.declared.quantity.Way.TheVariants.{Add, Take}
-use Rattle.words.specs.declared.command.Command.{Command}
 use Rattle.words.specs.declared.command.Command.TheVariants as command
-use Rattle.words.specs.declared.command.Request.{Request}
-use Rattle.words.specs.declared.open_line.OpenLine.{OpenLine}
-use Rattle.book.specs.After.{added_part, changed_fields, field_row, field_rows, moved_part, new_field_rows, order_after, some_has_line, taken_part}
-use Rattle.book.specs.Answers.{FirstFailure, checks}
-use Rattle.book.specs.Changes.{changes_field, has_line_on, order_is}
-use Rattle.book.specs.Good.{Good}
-use Rattle.book.specs.Held.{held_to_add, held_to_take, if_add, if_take}
-use Rattle.book.specs.Ledger.{Field, Ledger, Name, Order, committed_state, field_named, is_committed, is_open, is_transfer, line_name, line_on, name_cmp, name_of, on, order_numbered, same_name}
-use Rattle.book.specs.Next.{accept, add_hold, change_lines, expires, hold_more, lower_held, new_line, next, raise_held}
-use Rattle.book.specs.Outcomes.{settled, total}
-use Rattle.book.specs.Rows.{FieldCells}
-use Rattle.book.specs.Running.{Accepts, GivenBack, GivesBack, HasEntry, HasLines, IsChangedField, MovesField, Puts, entry_row, expired_lines, lines_add, lines_take}
-use Rattle.book.specs.View.{field_of}
-use Rattle.book.specs.declared.entries.FieldEntry.{FieldEntry}
-use Rattle.book.specs.declared.order.Line.{Line}
+use Rattle.book.specs.Ledger.{Field}
+use Rattle.book.specs.Outcomes.{total}
+use Rattle.book.specs.Running.{HasLines, MovesField, lines_add, lines_take}
 use Rattle.book.proofs.Asked.{none_found, same_self}
 use Rattle.book.proofs.ChangedFields.{all_rows, put_self, self_eq}
 use Rattle.book.proofs.Chosen.{any-eq, any-map, some_is}

@@ -1,6 +1,6 @@
 -- The first element that passes a test, found by a walk.
 use Rattle.std.proofs.Common.{arith, ◌≡◌, ℕ, ◌+◌, ◌<◌, ◌≤◌, List, [], ◌∷◌, ◌++◌, map, Option, take, drop, length, get_or, find, Bool, true, false, None, Some, is_some, refl, sym, ap, ◌∙◌, if◌then◌else◌, true≢false}
-use Rattle.std.proofs.lemmas.List.{take_all}
+use Rattle.book.proofs.Prelude.{take_all}
 use Rattle.book.proofs.Walked.{cut_at, take-step}
 
 find-past : {X : Type 0} (p : X → Bool) (xs ys : List X) → find p xs ≡ None → find p (xs ++ ys) ≡ find p ys

@@ -1,28 +1,8 @@
 -- What lines give back, as the orders end that hold it.
-use Rattle.std.proofs.lemmas.Grind.{common_steps}
+use Rattle.book.proofs.Prelude.{Add, Each, FieldCells, FieldEntry, GivenBack, GivesBack, Good, IsGoodOrder, IsStrictlySortedBy, IsUpToDate, Ledger, Line, MayGiveBack, Name, Order, Ordering, Stock, Take, Way, common_steps, expired_lines, expires, field_named, field_of, giving_back, held_of, if_add, if_take, insert_entry, ints, is_at, is_eq, is_open, keys_of, line_name, list_any, lookup, match_ordering, name_cmp, on, order_numbered, same_name}
 use Rattle.std.proofs.Common.{◌≡◌, ◌∙◌, ℕ, ◌+◌, ◌<◌, ◌≤◌, ◌==◌, ℤ, pos, ◌+ℤ◌, ◌≤ℤ◌, ◌&&◌, ◌||◌, ◌++◌, Bool, true, false, List, [], ◌∷◌, Option, None, Some, IsSome, ap, append_assoc, arith, cond, drop, flat_map, get_or, length, if◌then◌else◌, is_some, refl, subst, sym, take, true≢false}
-use Rattle.std.proofs.lemmas.Int.{ints}
-use Rattle.std.specs.BTreeMap.{insert_entry, is_at}
-use Rattle.std.specs.List.{AllByRecursion as Each, list_any}
-use Rattle.std.specs.List.Sorted.{IsStrictlySortedBy}
-use Rattle.std.specs.Map.{keys_of, lookup}
-use Rattle.std.specs.Ordering.{is_eq, match_ordering}
-use Rattle.std.specs.declared.cmp.Ordering.{Ordering}
 use Rattle.std.specs.declared.cmp.Ordering.TheVariants.{Equal, Greater, Less}
-use Rattle.escrow.specs.Escrow.{giving_back, held_of}
-use Rattle.escrow.specs.Stock.{Stock}
-use Rattle.escrow.specs.declared.quantity.Way.{Way}
-use Rattle.escrow.specs.declared.quantity.Way.TheVariants.{Add, Take}
-use Rattle.book.specs.Good.{Good, IsGoodOrder}
-use Rattle.book.specs.Held.{if_add, if_take}
-use Rattle.book.specs.Ledger.{Ledger, Name, Order, field_named, is_open, line_name, name_cmp, on, order_numbered, same_name}
-use Rattle.book.specs.Next.{expires}
 use Rattle.book.specs.Outcomes.{total}
-use Rattle.book.specs.Rows.{FieldCells}
-use Rattle.book.specs.Running.{GivenBack, GivesBack, IsUpToDate, MayGiveBack, expired_lines}
-use Rattle.book.specs.View.{field_of}
-use Rattle.book.specs.declared.entries.FieldEntry.{FieldEntry}
-use Rattle.book.specs.declared.order.Line.{Line}
 use Rattle.book.proofs.Asked.{same_self, total-push}
 use Rattle.book.proofs.Bounds.{adds-not_negative, takes-not_negative}
 use Rattle.book.proofs.ChangedFields.{each_at_name, less_other}

@@ -1,16 +1,7 @@
 -- Rows of lines in a row, order after order.
 use Rattle.std.proofs.Common.{◌≡◌, ◌∙◌, ℕ, ◌+◌, append-nil, append_assoc, length-drop, zero, suc, ◌<◌, ◌≤◌, pos, List, [], ◌∷◌, ◌++◌, ap, arith, drop, get_or, length, map, flat_map, refl, subst, sym, nat_cmp}
-use Rattle.std.proofs.lemmas.Grind.{common_steps, flat_map-append}
+use Rattle.book.proofs.Prelude.{AllZip, AreNumbered, AreOthers, BeginsOther, Each, Head, IsLineTold, IsStrictlySortedBy, Line, LineCells, LineRow, Order, TellOrders, common_steps, flat_map-append, head_of, line_cells, line_row, lines_from, order_lines}
 use Rattle.std.proofs.Math.ListN.{drop_of_length-le}
-use Rattle.std.specs.List.{AllByRecursion as Each, AllZip}
-use Rattle.std.specs.List.Sorted.{IsStrictlySortedBy}
-use Rattle.book.specs.declared.book.tables.group.Head.{Head}
-use Rattle.book.specs.declared.order.Line.{Line}
-use Rattle.book.specs.declared.rows.LineRow.{LineRow}
-use Rattle.book.specs.Ledger.{Order}
-use Rattle.book.specs.Rows.{LineCells, line_row, lines_from, order_lines}
-use Rattle.book.specs.Tables.{line_cells}
-use Rattle.book.specs.Told.{AreNumbered, AreOthers, BeginsOther, IsLineTold, TellOrders, head_of}
 use Rattle.book.proofs.Lists.{length-of-map}
 use Rattle.book.proofs.Told.{after, not_empty, others_after, same_first, same_rest}
 

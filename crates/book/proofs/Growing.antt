@@ -1,19 +1,8 @@
 -- A delivery, a write-off, and a new order that pass their checks leave every field its room.
 use Rattle.std.proofs.Common.{◌≡◌, ℕ, ◌+◌, ℤ, pos, ◌+ℤ◌, ◌-ℤ◌, neg_ℤ, ◌≤ℤ◌, ◌<ℤ◌, List, [], ◌∷◌, ◌++◌, map, find, Bool, true, false, IsSome, IsSomeAnd, Option, Some, None, refl, sym, ap, ◌∙◌, subst, arith, if◌then◌else◌, true≢false, nat_cmp, nat_lt, Less, Equal, append_assoc, append-nil, length}
-use Rattle.std.proofs.lemmas.Int.{ints, by_lt_z}
-use Rattle.std.specs.List.{AllByRecursion as Each}
-use Rattle.std.specs.List.Sorted.{IsStrictlySortedBy}
-use Rattle.std.specs.Ordering.{is_lt}
-use Rattle.std.specs.Cmp.Lexicographic.{slice_cmp}
-use Rattle.escrow.specs.declared.quantity.Way.{Way}
-use Rattle.escrow.specs.declared.quantity.Way.TheVariants.{Take, Add}
-use Rattle.words.specs.declared.open_line.OpenLine.{OpenLine}
-use Rattle.book.specs.declared.order.Kind.{Kind}
-use Rattle.book.specs.Ledger.{Name, Field, Ledger, on, line_name, same_name, name_cmp, places}
-use Rattle.book.specs.Outcomes.{total, settled, FallsBelow, RisesAbove}
-use Rattle.book.specs.Held.{if_take, if_add, held_to_take, held_to_add}
-use Rattle.book.specs.Next.{with_move, with_order, new_order, new_line}
-use Rattle.book.specs.Answers.{line_checks, bound}
+use Rattle.book.proofs.Prelude.{Add, Each, FallsBelow, IsStrictlySortedBy, Kind, Ledger, Name, OpenLine, RisesAbove, Take, Way, bound, by_lt_z, held_to_add, held_to_take, if_add, if_take, ints, is_lt, line_checks, line_name, name_cmp, new_line, new_order, on, places, same_name, settled, slice_cmp, with_move, with_order}
+use Rattle.book.specs.Ledger.{Field}
+use Rattle.book.specs.Outcomes.{total}
 use Rattle.book.proofs.Sums.{each-imp, each-both}
 use Rattle.book.proofs.Bounds.{OneOn, Sound, takes, adds, falls_below_iff, rises_above_iff, HasRoom}
 use Rattle.book.proofs.Closing.{name_is, AllPass}

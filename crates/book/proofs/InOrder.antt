@@ -1,17 +1,9 @@
 -- A good ledger has one content, and its rows stand in the order of their keys.
 use Rattle.std.proofs.Common.{◌≡◌, ℕ, ◌+◌, ◌<◌, pos, List, [], ◌∷◌, ◌++◌, map, flat_map, refl, sym, ◌∙◌, subst, arith, nat_cmp, Less}
-use Rattle.std.proofs.lemmas.Int.{ints}
-use Rattle.std.proofs.lemmas.Cmp.{int_cmp_total, tied_itself}
-use Rattle.std.specs.declared.cmp.Ordering.{Ordering}
+use Rattle.book.proofs.Prelude.{AllZip, Content, Each, FieldCells, Good, IsFieldRow, IsRowsOf, IsStrictlySortedBy, Ledger, Line, Order, Ordering, desk_row, field_cmp, field_row, int_cmp_total, ints, kept_cmp, kept_row, line_cmp, line_row, lines_from, move_cmp, move_row, name_cmp, order_cmp, order_lines, order_row, slice_cmp, tied_itself}
 use Rattle.std.specs.Ordering.{int_cmp}
-use Rattle.std.specs.Cmp.Lexicographic.{slice_cmp}
-use Rattle.std.specs.List.{AllByRecursion as Each, AllZip}
-use Rattle.std.specs.List.Sorted.{IsStrictlySortedBy}
-use Rattle.book.specs.declared.order.Line.{Line}
-use Rattle.book.specs.Ledger.{Field, Order, Ledger, name_cmp}
-use Rattle.book.specs.Good.{Good}
-use Rattle.book.specs.After.{field_row}
-use Rattle.book.specs.Rows.{Content, FieldCells, IsFieldRow, IsInKeyOrder, IsRowsOf, desk_row, field_cmp, kept_cmp, kept_row, line_cmp, line_row, lines_from, move_cmp, move_row, order_cmp, order_lines, order_row}
+use Rattle.book.specs.Ledger.{Field}
+use Rattle.book.specs.Rows.{IsInKeyOrder}
 use Rattle.book.proofs.Sums.{each-imp, each-map}
 use Rattle.book.proofs.Bounds.{inf_is, inf_unique, sup_is, sup_unique}
 use Rattle.book.proofs.Closing.{less_is, sounds_from_good}

@@ -1,6 +1,6 @@
 -- How many entries more fit without memory.
 use Rattle.std.proofs.Common.{◌≡◌, ℕ, ◌+◌, ◌-◌, ◌<◌, ◌≤◌, ◌^◌, arith}
-use Rattle.book.specs.InOrder.{room_left}
+use Rattle.book.proofs.Prelude.{room_left}
 
 pub room_made : (n m more entries order : ℕ) → m ≡ n → more ≤ 2 ^ 32 - n → n + more ≤ entries → m + more ≤ order → more ≤ room_left n entries order
 room_made n m more entries order same short in_entries in_order = omega arith

@@ -1,23 +1,14 @@
 -- Keys among entries in their order.
-use Rattle.std.proofs.lemmas.Grind.{common_steps}
+use Rattle.book.proofs.Prelude.{Each, IsBinarySearchResult, IsGap, IsNonDecreasingBy, IsSearchInRange, IsStrictlySortedBy, IsTotalOrder, Ordering, at_indexes, cases_lt, common_steps, compare_at, get_or_from_slice_get, insert, insert_entry, is_at, is_eq, keys_of, lookup, match_ordering, none-some, option_map_or, ordering_index, ordering_reverse, same_Some, set_value, slice_get-map, slice_get_read, slice_get_within}
 use Rattle.std.proofs.Common.{◌≡◌, ℕ, zero, suc, ◌<◌, ◌≤◌, List, [], ◌∷◌, ◌++◌, length, length-append, length-set, get_or, set, Some, None, IfOk, IfErr, cond, Result, Ok, Err, slice_get, refl, sym, ap, subst, ◌∙◌, inl, inr, arith}
-use Rattle.std.specs.Cmp.{IsTotalOrder}
-use Rattle.std.specs.List.{AllByRecursion as Each, insert}
-use Rattle.std.specs.List.Sorted.{IsBinarySearchResult, IsNonDecreasingBy, IsSearchInRange, IsStrictlySortedBy}
-use Rattle.std.specs.Map.{keys_of, lookup, set_value}
-use Rattle.std.specs.BTreeMap.{insert_entry, is_at}
-use Rattle.std.specs.Option.{option_map, option_map_or}
-use Rattle.std.specs.Ordering.{is_eq, match_ordering, ordering_index, ordering_reverse}
-use Rattle.std.specs.declared.cmp.Ordering.{Ordering}
+use Rattle.std.specs.Option.{option_map}
 use Rattle.std.specs.declared.cmp.Ordering.TheVariants.{Less, Equal, Greater}
-use Rattle.std.proofs.lemmas.Bool.{cases_lt}
 use Rattle.std.proofs.lemmas.Cmp.{alike_right, eq_by_cmp_equiv, tied_back}
 use Rattle.std.proofs.lemmas.List.Edits.{insert_end}
 use Rattle.std.proofs.lemmas.List.Sorted.{IsNonDecreasingBy-from_default}
 use Rattle.std.proofs.lemmas.Map.Entries.{lookup_at_gap, lookup_from_place, length-keys_of}
 use Rattle.std.proofs.lemmas.Map.Keys.{IsDistinct-from_sorted, Less-from_sorted}
-use Rattle.std.proofs.lemmas.Option.{get_or_from_slice_get, none-some, slice_get-map, slice_get_within, slice_get_read, same_Some}
-use Rattle.book.specs.InOrder.{IsAt, IsGap, IsKeyOrder, at_indexes, compare_at, set_value_at}
+use Rattle.book.specs.InOrder.{IsAt, IsKeyOrder, set_value_at}
 use Rattle.book.proofs.Indexes.{Names, names_more, index_at, at_indexes-set, in_range, at_indexes-insert, get-at_indexes, length-at_indexes, some_at}
 
 at_most_2 : (o : Ordering) → ordering_index o ≤ 2

@@ -1,21 +1,10 @@
 -- Entries under keys, as they stand in a ledger.
 use Rattle.std.proofs.Common.{arith, ◌≡◌, ◌∙◌, ◌&&◌, ◌==◌, Bool, true, false, ℕ, List, [], ◌∷◌, Option, Some, None, ap, cond, find, if◌then◌else◌, is_some, map, refl, subst, sym, true≢false}
-use lib.Pointwise.{bytes_decides}
-use Rattle.std.proofs.lemmas.Cmp.{nat_cmp_total, nat_list_eq_equiv, tied_itself}
-use Rattle.std.proofs.lemmas.Map.Text.{is_eq-slice_cmp}
-use Rattle.std.specs.BTreeMap.{insert_entry, is_at}
-use Rattle.std.specs.Cmp.Lexicographic.{slice_cmp}
-use Rattle.std.specs.Map.{lookup}
+use Rattle.book.proofs.Prelude.{FieldEntry, KeptEntry, Name, OrderEntry, Ordering, bytes_decides, bytes_eq, field_of, insert_entry, insert_in_order, is_at, is_eq, is_eq-slice_cmp, is_lt, kept_of, lookup, match_ordering, name_cmp, nat_cmp_total, order_of, ordering_then, same_name, slice_cmp, tied_itself}
+use Rattle.std.proofs.lemmas.Cmp.{nat_list_eq_equiv}
 use Rattle.std.specs.Option.{option_map}
-use Rattle.std.specs.Ordering.{is_eq, is_lt, match_ordering, nat_cmp, ordering_then}
-use Rattle.std.specs.Str.{bytes_eq}
-use Rattle.std.specs.declared.cmp.Ordering.{Ordering}
+use Rattle.std.specs.Ordering.{nat_cmp}
 use Rattle.std.specs.declared.cmp.Ordering.TheVariants.{Equal, Greater, Less}
-use Rattle.book.specs.Ledger.{Name, insert_in_order, name_cmp, same_name}
-use Rattle.book.specs.View.{field_of, kept_of, order_of}
-use Rattle.book.specs.declared.entries.FieldEntry.{FieldEntry}
-use Rattle.book.specs.declared.entries.KeptEntry.{KeptEntry}
-use Rattle.book.specs.declared.entries.OrderEntry.{OrderEntry}
 use Rattle.book.proofs.Chosen.{number_is}
 use Rattle.book.proofs.Closing.{name_is}
 use Rattle.book.proofs.Staying.{equal_name, equal_number, other_number}

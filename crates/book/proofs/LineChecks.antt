@@ -1,16 +1,7 @@
 -- The checks of the lines of a new order, one line at a time.
 use Rattle.std.proofs.Common.{◌≡◌, ◌∙◌, ℕ, ◌+◌, ◌<◌, List, [], ◌∷◌, ◌++◌, Option, None, Some, true, false, find, length, take, drop, get_or, map, ap, arith, inr, is_some, length-take, refl, subst, sym, true≢false}
 use Rattle.std.proofs.lemmas.List.{drop_more}
-use Rattle.std.specs.List.{AllByRecursion as Each, IsDistinct}
-use Rattle.words.specs.declared.open_line.OpenLine.{OpenLine}
-use Rattle.words.specs.declared.reply.Refusal.{Refusal}
-use Rattle.book.specs.declared.order.Kind.{Kind}
-use Rattle.book.specs.declared.order.Line.{Line}
-use Rattle.book.specs.Answers.{Check, FirstFailure, bound, line_checks, no_field}
-use Rattle.book.specs.Checking.{stock_checks}
-use Rattle.book.specs.Good.{Good}
-use Rattle.book.specs.Ledger.{Ledger, Name, line_name, on, same_name}
-use Rattle.book.specs.Next.{new_line, new_order, with_order}
+use Rattle.book.proofs.Prelude.{Check, Each, FirstFailure, Good, IsDistinct, Kind, Ledger, Line, Name, OpenLine, Refusal, bound, line_checks, line_name, new_line, new_order, no_field, on, same_name, stock_checks, with_order}
 use Rattle.book.proofs.Asked.{map-push, none_found}
 use Rattle.book.proofs.Checked.{cut_short, go_on, has_stock}
 use Rattle.book.proofs.Compared.{line_test}

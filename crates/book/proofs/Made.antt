@@ -1,24 +1,10 @@
 -- The order that a command opens or changes.
-use Rattle.std.proofs.lemmas.Grind.{common_steps}
+use Rattle.book.proofs.Prelude.{Aborted, Command, Committed, Each, FirstFailure, Good, IsAccepted, IsGoodOrder, IsShort, IsStrictlySortedBy, Ledger, Line, Name, OpenLine, Order, Request, accept, add_hold, change_lines, changes_field, changes_state, checks, common_steps, expires, has_line_on, hold_more, insert_in_order, ints, is_opening, is_touched, is_transfer, line_name, line_on, list_any, lower_held, name_of, new_line, next, on, order_after, order_is, order_number, order_numbered, raise_used, same_name, set_state, some_has_line, some_is_transfer, some_part}
 use Rattle.std.proofs.Common.{◌≡◌, ◌∙◌, ℕ, ℤ, pos, ◌+ℤ◌, Bool, true, false, ◌&&◌, ◌||◌, ◌==◌, List, [], ◌∷◌, ◌++◌, IsSomeAnd, Option, None, Some, ap, arith, find, if◌then◌else◌, is_some, map, nat_cmp, nat_lt, refl, subst, sym, true≢false}
-use Rattle.std.proofs.lemmas.Int.{ints}
-use Rattle.std.specs.List.{AllByRecursion as Each, list_any}
-use Rattle.std.specs.List.Sorted.{IsStrictlySortedBy}
 use Rattle.std.specs.Option.{option_map}
-use Rattle.words.specs.declared.command.Command.{Command}
 use Rattle.words.specs.declared.command.Command.TheVariants as command
-use Rattle.words.specs.Kinds.{is_opening}
-use Rattle.words.specs.declared.command.Request.{Request}
-use Rattle.words.specs.declared.open_line.OpenLine.{OpenLine}
-use Rattle.book.specs.After.{changes_state, is_touched, names_field, order_after, order_number, some_has_line, some_is_transfer, some_part, IsShort}
-use Rattle.book.specs.Answers.{FirstFailure, IsAccepted, checks}
-use Rattle.book.specs.Changes.{changes_field, has_line_on, order_is}
-use Rattle.book.specs.Good.{Good, IsGoodOrder}
-use Rattle.book.specs.Ledger.{Ledger, Name, Order, insert_in_order, is_transfer, line_name, line_on, name_of, on, order_numbered, same_name}
-use Rattle.book.specs.Next.{accept, add_hold, change_lines, expires, hold_more, lower_held, new_line, next, raise_used, set_state}
+use Rattle.book.specs.After.{names_field}
 use Rattle.book.specs.Outcomes.{total}
-use Rattle.book.specs.declared.order.Line.{Line}
-use Rattle.book.specs.declared.order.State.TheVariants.{Aborted, Committed}
 use Rattle.book.proofs.Asked.{none_found, total-insert}
 use Rattle.book.proofs.Chosen.{any-eq, any-map, find-new, none_after, none_any, some_is}
 use Rattle.book.proofs.Closing.{all_pass, at_number}

@@ -1,36 +1,14 @@
 -- The rows of the next ledger that an accepted request changes, table by table.
 use Rattle.std.proofs.Common.{◌≡◌, ◌∙◌, ℕ, ◌+◌, ◌<◌, ◌≤◌, pos, Bool, true, false, ◌&&◌, ◌||◌, ◌==◌, List, [], ◌∷◌, ◌++◌, Option, None, Some, ap, arith, find, flat_map, if◌then◌else◌, is_some, map, length, nat_cmp, Less, refl, subst, sym, true≢false}
 use Rattle.std.proofs.lemmas.Bool.Decides.{Decides-int_eq}
-use Rattle.std.proofs.lemmas.Int.{ints}
+use Rattle.book.proofs.Prelude.{Aborted, BookView, ChangesTo, Command, Content, DeskCells, Each, FieldCells, FirstFailure, Good, Inside, IsAccepted, IsInRange, IsKey, IsRowsOf, IsStrictlySortedBy, Ledger, Line, LineCells, MAX_PLACES, Name, Order, OrderCells, Request, Way, accept, bytes_decides, bytes_eq, change_lines, changed_fields, changed_orders, changed_rows, changes_field, changes_line, changes_move, changes_order, changes_state, checks, desk_row, expires, field_named, field_row, field_rows, filter, int_eq, ints, is_lt, is_transfer, kept_of, kept_row, ledger_of, line_name, line_row, line_rows, lines_from, list_any, lower_held, move_row, name_cmp, name_of, new_field_rows, next, order_after, order_is, order_lines, order_number, order_numbered, order_row, places, put_content, raise_used, same_name, set_state, slice_cmp, transfer_kind, view_of, with_fields, with_kept, with_lines, with_moves, with_orders}
 use Rattle.std.proofs.lemmas.List.{append-nil}
 use Rattle.std.proofs.lemmas.List.Elements.{filter-append}
-use Rattle.std.specs.Cmp.Lexicographic.{slice_cmp}
-use Rattle.std.specs.List.{AllByRecursion as Each, filter, list_any}
-use Rattle.std.specs.List.Sorted.{IsStrictlySortedBy}
 use Rattle.std.specs.Option.{option_map}
-use Rattle.std.specs.Ordering.{int_eq, is_lt}
-use Rattle.std.specs.Str.{bytes_eq}
-use lib.Pointwise.{bytes_decides}
-use Rattle.escrow.specs.Codes.{IsKey}
-use Rattle.escrow.specs.declared.quantity.Way.{Way}
-use Rattle.words.specs.Spelling.{IsInRange}
-use Rattle.words.specs.declared.command.Command.{Command}
 use Rattle.words.specs.declared.command.Command.TheVariants as command
-use Rattle.words.specs.declared.command.Request.{Request}
-use Rattle.book.specs.After.{changed_fields, changed_orders, changes_state, expired_rows, field_row, field_rows, line_rows, new_field_rows, order_after, order_number, own_line_rows, own_move_rows, own_order_rows, with_fields, with_kept, with_lines, with_moves, with_orders}
-use Rattle.book.specs.Answers.{FirstFailure, IsAccepted, checks}
-use Rattle.book.specs.Changes.{put_content, changed_rows, changes_field, changes_line, changes_move, changes_order, order_is}
-use Rattle.book.specs.Good.{Good}
-use Rattle.book.specs.Ledger.{Field, Ledger, Name, Order, field_named, is_transfer, line_name, name_cmp, name_of, order_numbered, places, same_name, transfer_kind}
-use Rattle.book.specs.Plans.{ChangesTo}
-use Rattle.book.specs.Next.{accept, change_lines, expires, lower_held, next, raise_used, set_state}
-use Rattle.book.specs.Rows.{Content, DeskCells, IsRowsOf, FieldCells, LineCells, OrderCells, desk_row, kept_row, line_row, lines_from, move_row, order_lines, order_row}
+use Rattle.book.specs.After.{expired_rows, own_line_rows, own_move_rows, own_order_rows}
+use Rattle.book.specs.Ledger.{Field}
 use Rattle.book.specs.Tables.{no_content}
-use Rattle.book.specs.View.{BookView, kept_of, ledger_of, view_of}
-use Rattle.book.specs.declared.book.Book.TheInside.{Inside}
-use Rattle.book.specs.declared.limits.TheConstants.{MAX_PLACES}
-use Rattle.book.specs.declared.order.Line.{Line}
-use Rattle.book.specs.declared.order.State.TheVariants.{Aborted}
 use Rattle.book.proofs.Asked.{none_found, same_self}
 use Rattle.book.proofs.Changed.{changes_suffice}
 use Rattle.book.proofs.Chosen.{filter-each, filter-insert, filter-none, filter-push, none_after, none_any, number_is, some_is}

@@ -1,18 +1,9 @@
 -- Each request has one answer, and each request of a future has an answer.
 use Rattle.std.proofs.Common.{arith, ◌≡◌, ℕ, ◌+◌, ◌<◌, List, [], ◌∷◌, Bool, true, false, is_some, IsNone, IsSomeAnd, Option, Some, None, refl, sym, ◌∙◌, subst, if◌then◌else◌, true≢false, ◌⊎◌, inl, inr, MatchOption}
 use native.Mathlib.Decide.{dec_lt as decide_lt}
-use Rattle.words.specs.declared.command.Command.{Command}
+use Rattle.book.proofs.Prelude.{Answers, AnswersNew, AsksNoStock, Check, Command, Done, FirstFailure, Good, IsAccepted, IsFuture, Kept, KeyReused, Ledger, Name, Refusal, Refused, Reply, Request, Runs, Stands, accept, checks, is_open, kept_under, line_on, order_numbered, places, same_command}
 use Rattle.words.specs.declared.command.Command.TheVariants as command
-use Rattle.words.specs.declared.command.Request.{Request}
-use Rattle.words.specs.declared.reply.Refusal.{Refusal}
-use Rattle.words.specs.declared.reply.Refusal.TheVariants.{KeyReused}
-use Rattle.words.specs.declared.reply.Reply.{Reply}
-use Rattle.words.specs.declared.reply.Reply.TheVariants.{Done, Refused}
-use Rattle.book.specs.Ledger.{Name, Ledger, Kept, is_open, order_numbered, line_on, kept_under, places}
-use Rattle.book.specs.Next.{accept}
-use Rattle.book.specs.Answers.{Check, FirstFailure, checks, Answers, AnswersNew, IsAccepted, Runs, same_command}
-use Rattle.book.specs.Good.{Good}
-use Rattle.book.specs.Future.{AsksNoStock, IsFuture, Stands, Honours}
+use Rattle.book.specs.Future.{Honours}
 use Rattle.book.proofs.Closing.{Fit, fit_from_good, fit-answer, stands_if_fit}
 
 first_once : (cs : List Check) (a b : Option (Refusal × ℕ)) → FirstFailure cs a → FirstFailure cs b → a ≡ b

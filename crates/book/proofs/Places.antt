@@ -1,9 +1,7 @@
 -- Which numbers are among the places so far.
-use Rattle.std.proofs.lemmas.Grind.{common_steps}
+use Rattle.book.proofs.Prelude.{Each, IsDistinct, common_steps, list_any, list_any-append}
 use Rattle.std.proofs.Common.{◌≡◌, ◌∙◌, ℕ, zero, suc, ◌+◌, ◌<◌, List, [], ◌∷◌, ◌++◌, Bool, ◌||◌, true, false, ap, arith, get_or, length, map, nat_eq, refl, set, subst, sym, take, true≢false}
 use Rattle.std.proofs.lemmas.List.{get_or-set_same, get_or-set_other}
-use Rattle.std.proofs.lemmas.List.Folds.{list_any-append}
-use Rattle.std.specs.List.{AllByRecursion as Each, IsDistinct, list_any}
 use Rattle.book.proofs.Lists.{each-unmap}
 use Rattle.book.proofs.Walked.{take-step}
 use Rattle.book.proofs.Walking.{each_get}

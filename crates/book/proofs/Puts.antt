@@ -1,14 +1,7 @@
 -- Rows that are put in by their keys.
 use Rattle.std.proofs.Common.{arith, ◌≡◌, List, [], ◌∷◌, ◌++◌, map, Bool, true, false, refl, sym, ap, ◌∙◌, subst, if◌then◌else◌, Less, Equal, ◌⊎◌, inl, inr}
-use Rattle.std.proofs.lemmas.Cmp.{tied_itself}
-use Rattle.std.specs.declared.cmp.Ordering.{Ordering}
+use Rattle.book.proofs.Prelude.{Each, IsStrictlySortedBy, IsTotalOrder, Ordering, filter, insert_in_order, ordering_reverse, put_row, put_rows, tied_itself}
 use Rattle.std.specs.declared.cmp.Ordering.TheVariants.{Greater}
-use Rattle.std.specs.Ordering.{ordering_reverse}
-use Rattle.std.specs.Cmp.{IsTotalOrder}
-use Rattle.std.specs.List.{AllByRecursion as Each, filter}
-use Rattle.std.specs.List.Sorted.{IsStrictlySortedBy}
-use Rattle.book.specs.Ledger.{insert_in_order}
-use Rattle.book.specs.Changes.{put_row, put_rows}
 use Rattle.book.proofs.Sums.{each-imp, each-map}
 use Rattle.book.proofs.Lists.{each-unmap}
 

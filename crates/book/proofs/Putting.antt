@@ -1,28 +1,10 @@
 -- The order that a command makes, put in by its number.
 use Rattle.std.proofs.Common.{arith, ◌≡◌, ◌∙◌, ℕ, ◌==◌, ◌++◌, Bool, true, false, List, [], ◌∷◌, Option, None, Some, IsNone, ap, cond, find, if◌then◌else◌, is_some, map, nat_lt, refl, subst, sym, true≢false}
-use Rattle.std.proofs.lemmas.Cmp.{nat_cmp_total, tied_itself}
-use Rattle.std.proofs.lemmas.Option.{none-some, same_Some}
-use Rattle.std.specs.BTreeMap.{insert_entry, is_at}
-use Rattle.std.specs.List.{AllByRecursion as Each}
-use Rattle.std.specs.List.Sorted.{IsStrictlySortedBy}
-use Rattle.std.specs.Map.{keys_of, lookup, set_value}
+use Rattle.book.proofs.Prelude.{Aborted, Command, Committed, Each, FirstFailure, Good, IsStrictlySortedBy, Ledger, Name, OpenLine, Order, OrderEntry, Ordering, abort_one, add_hold, change_lines, checks, hold_more, insert_entry, insert_in_order, is_at, is_eq, is_lt, keys_of, line_on, lookup, lower_held, match_ordering, name_of, nat_cmp_total, new_line, next, none-some, order_after, order_numbered, order_of, ordering_reverse, put_row, raise_used, same_Some, set_state, set_value, tied_itself}
 use Rattle.std.specs.Option.{option_map}
-use Rattle.std.specs.Ordering.{is_eq, is_lt, match_ordering, nat_cmp, ordering_reverse}
-use Rattle.std.specs.declared.cmp.Ordering.{Ordering}
+use Rattle.std.specs.Ordering.{nat_cmp}
 use Rattle.std.specs.declared.cmp.Ordering.TheVariants.{Equal, Greater, Less}
-use Rattle.words.specs.declared.command.Command.{Command}
 use Rattle.words.specs.declared.command.Command.TheVariants as command
-use Rattle.words.specs.declared.open_line.OpenLine.{OpenLine}
-use Rattle.book.specs.After.{order_after}
-use Rattle.book.specs.Answers.{FirstFailure, checks}
-use Rattle.book.specs.Changes.{put_row}
-use Rattle.book.specs.Good.{Good}
-use Rattle.book.specs.InPlace.{abort_one}
-use Rattle.book.specs.Ledger.{Ledger, Name, Order, insert_in_order, line_on, name_of, order_numbered}
-use Rattle.book.specs.Next.{add_hold, change_lines, hold_more, lower_held, new_line, next, raise_used, set_state}
-use Rattle.book.specs.View.{order_of}
-use Rattle.book.specs.declared.entries.OrderEntry.{OrderEntry}
-use Rattle.book.specs.declared.order.State.TheVariants.{Aborted, Committed}
 use Rattle.book.proofs.Chosen.{none_after}
 use Rattle.book.proofs.Keyed.{same_number}
 use Rattle.book.proofs.Made.{none_opened}

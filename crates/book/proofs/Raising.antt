@@ -1,18 +1,9 @@
 -- More held on an order that is open leaves every field its room, if it passes its check.
 use Rattle.std.proofs.Common.{◌≡◌, ℕ, ◌+◌, ◌≤◌, ℤ, pos, ◌+ℤ◌, ◌-ℤ◌, ◌<ℤ◌, List, [], ◌∷◌, ◌++◌, map, Bool, true, false, IsSomeAnd, MatchOption, Option, Some, None, refl, sym, ap, ◌∙◌, subst, arith, if◌then◌else◌, true≢false, ◌==◌, nat_cmp}
-use Rattle.std.proofs.lemmas.Int.{ints}
-use Rattle.std.specs.List.{AllByRecursion as Each}
-use Rattle.std.specs.List.Sorted.{IsStrictlySortedBy}
-use Rattle.escrow.specs.declared.quantity.Way.{Way}
-use Rattle.escrow.specs.declared.quantity.Way.TheVariants.{Take, Add}
-use Rattle.words.specs.declared.open_line.OpenLine.{OpenLine}
-use Rattle.book.specs.declared.order.State.{State}
-use Rattle.book.specs.declared.order.State.TheVariants.{Open, Committed, Aborted}
-use Rattle.book.specs.declared.order.Line.{Line}
-use Rattle.book.specs.Ledger.{Name, Field, Order, Ledger, open_state, committed_state, on, is_open, is_committed, line_name, same_name, line_on, order_numbered}
-use Rattle.book.specs.Outcomes.{total, moved, settled}
-use Rattle.book.specs.Held.{MayHoldMore, held_to_add, held_to_take, if_add, if_take}
-use Rattle.book.specs.Next.{change_order, raise_held, add_hold, new_line}
+use Rattle.book.proofs.Prelude.{Aborted, Add, Committed, Each, IsStrictlySortedBy, Ledger, Line, MayHoldMore, Name, OpenLine, Order, State, Take, Way, add_hold, change_order, committed_state, held_to_add, held_to_take, if_add, if_take, ints, is_committed, is_open, line_name, line_on, new_line, on, open_state, order_numbered, raise_held, same_name, settled}
+use Rattle.book.specs.declared.order.State.TheVariants.{Open}
+use Rattle.book.specs.Ledger.{Field}
+use Rattle.book.specs.Outcomes.{total, moved}
 use Rattle.book.proofs.Sums.{each-imp, each-both, each-map, total-map, total-eq}
 use Rattle.book.proofs.Bounds.{OneOn, Sound, falls_below_iff, rises_above_iff, HasRoom}
 use Rattle.book.proofs.Closing.{name_is, at_line, at_number}

@@ -1,30 +1,10 @@
 -- Rows of a good ledger each tell something in range, and rows that each tell something tell a ledger.
 use Rattle.std.proofs.Common.{◌≡◌, ◌∙◌, ℕ, ◌+◌, ◌≤◌, ℤ, pos, negsuc, ◌+ℤ◌, ◌-ℤ◌, ◌≤ℤ◌, List, [], ◌∷◌, ap, arith, flat_map, map, nat_abs, refl, subst, sym, find, IsSome, true, false, Bool, if◌then◌else◌, Some, true≢false}
-use Rattle.std.proofs.lemmas.Int.{ints}
+use Rattle.book.proofs.Prelude.{AllZip, Each, FieldEntry, FieldRow, Good, Head, IsArticle, IsBounded, IsBranch, IsFieldRow, IsFieldTold, IsGoodField, IsGoodKept, IsGoodLine, IsGoodMove, IsGoodOrder, IsKeptTold, IsLevel, IsLineTold, IsMoveTold, KeptEntry, KeptRow, Ledger, Line, LineCells, LineRow, MoveEntry, MoveRow, Name, Order, OrderCells, OrderRow, TellsField, entry_row, field_cells, field_of, head_of, held_to_add, held_to_take, ints, kept_cells, kept_row, line_cells, line_name, lines_from, move_cells, move_row, order_cells, order_lines, order_row, same_name, settled}
 use Rattle.std.specs.Global.{Global}
 use denote.RawPtr.{null_ptr}
-use Rattle.std.specs.List.{AllByRecursion as Each, AllZip}
-use Rattle.escrow.specs.Codes.{IsArticle, IsBranch}
-use Rattle.escrow.specs.Ranges.{IsLevel}
-use Rattle.book.specs.declared.book.tables.group.Head.{Head}
-use Rattle.book.specs.declared.entries.FieldEntry.{FieldEntry}
-use Rattle.book.specs.declared.entries.KeptEntry.{KeptEntry}
-use Rattle.book.specs.declared.entries.MoveEntry.{MoveEntry}
-use Rattle.book.specs.declared.order.Line.{Line}
-use Rattle.book.specs.declared.rows.FieldRow.{FieldRow}
-use Rattle.book.specs.declared.rows.KeptRow.{KeptRow}
-use Rattle.book.specs.declared.rows.LineRow.{LineRow}
-use Rattle.book.specs.declared.rows.MoveRow.{MoveRow}
-use Rattle.book.specs.declared.rows.OrderRow.{OrderRow}
-use Rattle.book.specs.Good.{Good, IsGoodField, IsGoodKept, IsGoodLine, IsGoodMove, IsGoodOrder}
-use Rattle.book.specs.Ledger.{Field, Ledger, Name, Order, line_name, same_name}
-use Rattle.book.specs.Rows.{IsFieldRow, LineCells, OrderCells, kept_row, lines_from, move_row, order_lines, order_row}
-use Rattle.book.specs.Tables.{field_cells, kept_cells, line_cells, move_cells, order_cells}
-use Rattle.book.specs.Running.{entry_row}
-use Rattle.book.specs.Told.{IsBounded, IsFieldTold, IsHeadTold, IsKeptTold, IsLineTold, IsMoveTold, TellsField, TellsLine, head_of, head_row}
-use Rattle.book.specs.View.{field_of}
-use Rattle.book.specs.Held.{held_to_add, held_to_take}
-use Rattle.book.specs.Outcomes.{settled}
+use Rattle.book.specs.Ledger.{Field}
+use Rattle.book.specs.Told.{IsHeadTold, TellsLine, head_row}
 use Rattle.book.proofs.Bounds.{inf_is, inf_unique, sup_is, sup_unique}
 use Rattle.book.proofs.Closing.{name_is, sounds_from_good}
 use Rattle.book.proofs.Lists.{each-two, each-unmap}

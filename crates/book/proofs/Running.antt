@@ -1,37 +1,12 @@
 -- Running numbers: what the entries of fields say of a ledger, and what becomes of them.
-use Rattle.std.proofs.lemmas.Grind.{common_steps}
+use Rattle.book.proofs.Prelude.{Add, BreaksBound, Command, Contains, Content, Each, FieldCells, FieldEntry, FirstFailure, Good, IsSafeMoved, IsUpToDate, Ledger, Line, Name, Order, Ordering, Request, Stock, Take, Way, accept, checks, common_steps, entry_row, field_cells, field_cmp, field_named, field_of, field_row, held_to_add, held_to_take, holding, if_add, if_take, insert_entry, insert_in_order, ints, is_at, is_committed, is_eq, is_lt, is_open, line_name, lookup, match_ordering, name_cmp, name_of, new_field_rows, next, on, put_row, put_rows, same_Some, same_name, settled, signed, with_entries}
 use Rattle.std.proofs.Common.{◌≡◌, ◌∙◌, ℕ, suc, ◌+◌, ◌≤◌, ℤ, pos, ◌+ℤ◌, ◌-ℤ◌, ◌≤ℤ◌, ◌<ℤ◌, List, [], ◌∷◌, Option, None, Some, IsSomeAnd, ap, arith, cond, if◌then◌else◌, is_some, map, refl, string_bytes, subst, sym, true, false, Bool, true≢false, Global, String}
-use Rattle.std.proofs.lemmas.Int.{ints}
-use Rattle.std.proofs.lemmas.Option.{same_Some}
-use Rattle.std.specs.BTreeMap.{insert_entry, is_at}
-use Rattle.std.specs.List.{AllByRecursion as Each, Contains}
-use Rattle.std.specs.Map.{lookup}
-use Rattle.std.specs.Ordering.{is_eq, is_lt, match_ordering}
-use Rattle.std.specs.declared.cmp.Ordering.{Ordering}
 use Rattle.std.specs.declared.cmp.Ordering.TheVariants.{Equal, Greater, Less}
 use Rattle.escrow.specs.Choices.{IsInfimum as IsLeastOf, IsSafe as IsSafeStock, IsSupremum as IsGreatestOf}
-use Rattle.escrow.specs.Escrow.{IsSafeMoved, holding}
-use Rattle.escrow.specs.Stock.{Stock}
-use Rattle.escrow.specs.declared.quantity.Way.{Way}
-use Rattle.escrow.specs.declared.quantity.Way.TheVariants.{Add, Take}
-use Rattle.words.specs.declared.command.Command.{Command}
 use Rattle.words.specs.declared.command.Command.TheVariants as command
-use Rattle.words.specs.declared.command.Request.{Request}
-use Rattle.book.specs.After.{field_row, new_field_rows}
-use Rattle.book.specs.Answers.{FirstFailure, checks}
-use Rattle.book.specs.Changes.{put_row, put_rows}
-use Rattle.book.specs.Good.{Good}
-use Rattle.book.specs.Held.{BreaksBound, held_to_add, held_to_take, if_add, if_take}
-use Rattle.book.specs.Ledger.{Field, Ledger, Name, Order, field_named, insert_in_order, is_committed, is_open, line_name, name_cmp, name_of, on, same_name}
-use Rattle.book.specs.Next.{accept, next}
-use Rattle.book.specs.Outcomes.{moved, settled, signed, total}
+use Rattle.book.specs.Ledger.{Field}
+use Rattle.book.specs.Outcomes.{moved, total}
 use Rattle.book.specs.Plans.{Fits, PlanView}
-use Rattle.book.specs.Rows.{Content, FieldCells, field_cmp}
-use Rattle.book.specs.Running.{IsUpToDate, entry_row, with_entries}
-use Rattle.book.specs.Tables.{field_cells}
-use Rattle.book.specs.View.{field_of}
-use Rattle.book.specs.declared.entries.FieldEntry.{FieldEntry}
-use Rattle.book.specs.declared.order.Line.{Line}
 use Rattle.book.proofs.Closing.{all_pass, name_is}
 use Rattle.book.proofs.Growing.{none_if_not_some}
 use Rattle.book.proofs.InOrder.{rows_are, rows_of}

@@ -1,19 +1,9 @@
 -- Whole runs from a good ledger, and the numbers of a good ledger's fields.
 use Rattle.std.proofs.Common.{◌≡◌, ℕ, zero, suc, ◌≤◌, ℤ, pos, ◌+ℤ◌, ◌-ℤ◌, ◌≤ℤ◌, List, [], ◌∷◌, Bool, true, false, refl, sym, ap, ◌∙◌, subst, arith, if◌then◌else◌, ◌↔◌, take}
-use Rattle.std.proofs.lemmas.Int.{ints}
-use Rattle.std.specs.List.{AllByRecursion as Each, IsDistinct}
-use Rattle.std.specs.List.Sorted.{IsStrictlySortedBy}
-use lib.Pointwise.{bytes_decides}
-use Rattle.escrow.specs.Codes.{IsKey}
-use Rattle.words.specs.declared.command.Command.{Command}
-use Rattle.words.specs.declared.command.Request.{Request}
-use Rattle.words.specs.declared.reply.Reply.{Reply}
-use Rattle.words.specs.Spelling.{IsInRange, spelling}
-use Rattle.book.specs.Ledger.{Field, Ledger, is_open, new_ledger}
-use Rattle.book.specs.Outcomes.{total, settled}
-use Rattle.book.specs.Held.{held_to_take, held_to_add}
-use Rattle.book.specs.Answers.{Runs, After, same_command}
-use Rattle.book.specs.Good.{Good, IsGoodField}
+use Rattle.book.proofs.Prelude.{Command, Each, Good, IsDistinct, IsGoodField, IsInRange, IsKey, IsStrictlySortedBy, Ledger, Reply, Request, Runs, bytes_decides, held_to_add, held_to_take, ints, is_open, new_ledger, same_command, settled, spelling, spelling_one}
+use Rattle.book.specs.Ledger.{Field}
+use Rattle.book.specs.Outcomes.{total}
+use Rattle.book.specs.Answers.{After}
 use Rattle.book.proofs.Sums.{each-both}
 use Rattle.book.proofs.Bounds.{takes, adds, takes-not_negative, adds-not_negative, room_from_safe, HasRoom}
 use Rattle.book.proofs.Closing.{sounds_from_good}
@@ -21,7 +11,6 @@ use Rattle.book.proofs.Once.{answered_once}
 use Rattle.book.proofs.Total.{answered_if_good}
 use Rattle.book.proofs.Lists.{total-not_negative}
 use Rattle.book.proofs.Goodness.{good_answer}
-use Rattle.words.proofs.OneItem.{spelling_one}
 
 -- the same text is the same command
 pub same_is : (c d : Command) → IsInRange c → IsInRange d → (same_command c d ≡ true) ↔ (c ≡ d)

@@ -1,24 +1,10 @@
 -- Every accepted command leaves a good ledger safe.
-use Rattle.std.proofs.lemmas.Grind.{common_steps}
+use Rattle.book.proofs.Prelude.{Add, Command, Each, FirstFailure, Good, IsGoodLine, IsGoodOrder, Ledger, Line, MayHoldMore, Name, OpenLine, Order, Plain, Request, Take, Way, accept, checks, common_steps, dec_le, field_named, held_to_add, held_to_take, if_add, if_take, ints, is_committed, is_lt, is_open, is_transfer, line_name, line_on, name_cmp, next, on, order_numbered, same_name, signed, transfer_lines}
 use Rattle.std.proofs.Common.{◌≡◌, ◌≢◌, ℕ, ◌≤◌, ℤ, pos, List, Bool, true, false, IsTrue, IsFalse, IsNone, IsSome, IsSomeAnd, MatchOption, Option, Some, None, refl, sym, subst, arith, if◌then◌else◌}
-use Rattle.std.proofs.lemmas.Int.{ints}
-use Rattle.std.specs.List.{AllByRecursion as Each}
-use native.Mathlib.Decide.{dec_le}
-use Rattle.std.specs.Ordering.{is_lt}
-use Rattle.escrow.specs.declared.quantity.Way.{Way}
-use Rattle.escrow.specs.declared.quantity.Way.TheVariants.{Take, Add}
-use Rattle.words.specs.declared.open_line.OpenLine.{OpenLine}
-use Rattle.words.specs.declared.command.Command.{Command}
 use Rattle.words.specs.declared.command.Command.TheVariants as command
-use Rattle.words.specs.declared.command.Request.{Request}
-use Rattle.book.specs.declared.order.Kind.TheVariants.{Plain, Transfer}
-use Rattle.book.specs.declared.order.Line.{Line}
-use Rattle.book.specs.Ledger.{Name, Field, Order, Ledger, on, is_open, is_committed, is_transfer, line_name, same_name, name_cmp, line_on, order_numbered, field_named}
-use Rattle.book.specs.Outcomes.{total, moved, signed, IsSafe}
-use Rattle.book.specs.Held.{if_take, if_add, held_to_take, held_to_add, MayHoldMore}
-use Rattle.book.specs.Next.{next, accept, transfer_lines}
-use Rattle.book.specs.Answers.{FirstFailure, checks}
-use Rattle.book.specs.Good.{Good, IsGoodLine, IsGoodOrder}
+use Rattle.book.specs.declared.order.Kind.TheVariants.{Transfer}
+use Rattle.book.specs.Ledger.{Field}
+use Rattle.book.specs.Outcomes.{total, moved, IsSafe}
 use Rattle.book.proofs.Sums.{each-imp, total-zero}
 use Rattle.book.proofs.Bounds.{safe_from_room, HasRoom}
 use Rattle.book.proofs.Closing.{fit_from_good, fit-accept, all_pass, name_is, sounds_from_good}

@@ -1,23 +1,7 @@
 -- All that makes a ledger good but its kept keys and its safety, and where it stays though orders change.
 use Rattle.std.proofs.Common.{◌≡◌, ℕ, ◌+◌, ◌<◌, ◌≤◌, List, [], ◌∷◌, map, Bool, true, false, ◌&&◌, ◌||◌, ◌==◌, IsFalse, IsNone, IsSome, IsSomeAnd, refl, sym, ap, ◌∙◌, subst, arith, if◌then◌else◌, true≢false, nat_cmp, nat_lt, nat_le, Less, Equal, length, count_by}
-use Rattle.std.proofs.lemmas.Cmp.{nat_list_cmp_total, then_total, on_total}
-use Rattle.std.proofs.lemmas.Map.Text.{is_eq-slice_cmp}
-use Rattle.std.specs.declared.cmp.Ordering.{Ordering}
+use Rattle.book.proofs.Prelude.{Aborted, Each, Good, IsDistinct, IsGoodField, IsGoodLine, IsGoodMove, IsGoodOrder, IsMoment, IsStrictlySortedBy, IsTotalOrder, Kept, Ledger, Line, MatchOrdering, Move, Name, Order, Ordering, State, bytes_decides, bytes_eq, change_lines, field_named, is_eq, is_eq-slice_cmp, is_lt, is_open, is_transfer, line_name, name_cmp, nat_list_cmp_total, on, on_total, open_orders, open_state, order_numbered, ordering_then, places, ranks, same_name, set_state, slice_cmp, then_total}
 use Rattle.std.specs.declared.cmp.Ordering.TheVariants.{Greater}
-use Rattle.std.specs.Cmp.{IsTotalOrder, ranks}
-use Rattle.std.specs.Ordering.{is_lt, is_eq, ordering_then, MatchOrdering}
-use Rattle.std.specs.Cmp.Lexicographic.{slice_cmp}
-use Rattle.std.specs.List.{AllByRecursion as Each, IsDistinct}
-use Rattle.std.specs.List.Sorted.{IsStrictlySortedBy}
-use lib.Pointwise.{bytes_decides}
-use Rattle.std.specs.Str.{bytes_eq}
-use Rattle.escrow.specs.Ranges.{IsMoment}
-use Rattle.book.specs.declared.order.State.{State}
-use Rattle.book.specs.declared.order.State.TheVariants.{Aborted}
-use Rattle.book.specs.declared.order.Line.{Line}
-use Rattle.book.specs.Ledger.{Name, Move, Order, Ledger, Kept, on, is_open, is_transfer, open_state, line_name, same_name, name_cmp, order_numbered, field_named, places, open_orders}
-use Rattle.book.specs.Next.{set_state, change_lines}
-use Rattle.book.specs.Good.{Good, IsGoodField, IsGoodMove, IsGoodLine, IsGoodOrder}
 use Rattle.book.proofs.Sums.{each, each-imp, each-both, each-map}
 use Rattle.book.proofs.Bounds.{OneOn}
 use Rattle.book.proofs.Closing.{Fit, Fine, open_there}

@@ -1,37 +1,14 @@
 -- What becomes of a field's stock, as an accepted command changes an order's line on it.
-use Rattle.std.proofs.lemmas.Grind.{common_steps}
+use Rattle.book.proofs.Prelude.{Aborted, Add, Becomes, Command, Committed, Contains, Each, FieldCells, FieldEntry, FirstFailure, Good, IsAccepted, IsGoodOrder, IsInRange, IsQty, IsSafeMoved, IsStrictlySortedBy, IsUpToDate, Ledger, Line, MayBecome, Name, OpenLine, Order, Request, State, Stock, Take, Way, accept, add_hold, added_part, change_lines, changes_field, checks, committed_state, common_steps, entry_row, field_of, field_row, held_of, held_to_add, held_to_take, hold_more, holding, if_add, if_take, ints, is_committed, is_open, is_touched, is_transfer, line_name, line_on, lower_held, moved_by_command, moved_part, name_of, new_line, next, on, open_state, order_after, order_number, order_numbered, part_of_line, raise_held, raise_used, same_name, set_state, settled, signed, some_part, taken_part, transfer_lines}
 use Rattle.std.proofs.Common.{◌≡◌, ◌∙◌, ℕ, ◌-◌, ◌<◌, ◌≤◌, ℤ, pos, neg_ℤ, ◌+ℤ◌, ◌-ℤ◌, ◌≤ℤ◌, ◌==◌, ◌||◌, ◌++◌, Bool, true, false, List, [], ◌∷◌, IsFalse, IsSomeAnd, MatchOption, Option, None, Some, ap, arith, find, if◌then◌else◌, is_some, map, nat_cmp, refl, subst, sym, true≢false}
-use Rattle.std.proofs.lemmas.Int.{ints}
-use Rattle.std.specs.List.{AllByRecursion as Each, Contains}
-use Rattle.std.specs.List.Sorted.{IsStrictlySortedBy}
 use Rattle.std.specs.Option.{option_map}
 use Rattle.escrow.specs.Choices.{IsSafe}
-use Rattle.escrow.specs.Escrow.{held_of, holding, moved, IsSafeMoved, MovesValue}
-use Rattle.escrow.specs.Ranges.{IsQty}
-use Rattle.escrow.specs.Stock.{Stock}
-use Rattle.escrow.specs.declared.quantity.Way.{Way}
-use Rattle.escrow.specs.declared.quantity.Way.TheVariants.{Add, Take}
-use Rattle.words.specs.Spelling.{IsInRange}
-use Rattle.words.specs.declared.command.Command.{Command}
+use Rattle.escrow.specs.Escrow.{moved, MovesValue}
 use Rattle.words.specs.declared.command.Command.TheVariants as command
-use Rattle.words.specs.declared.command.Request.{Request}
-use Rattle.words.specs.declared.open_line.OpenLine.{OpenLine}
-use Rattle.book.specs.After.{added_part, field_row, is_touched, moved_by_command, moved_part, order_after, order_number, some_part, taken_part}
-use Rattle.book.specs.Answers.{FirstFailure, IsAccepted, checks}
-use Rattle.book.specs.Changes.{changes_field}
-use Rattle.book.specs.Good.{Good, IsGoodOrder}
-use Rattle.book.specs.Held.{held_to_add, held_to_take, if_add, if_take}
-use Rattle.book.specs.Ledger.{Field, Ledger, Name, Order, committed_state, is_committed, is_open, is_transfer, line_name, line_on, name_of, on, open_state, order_numbered, same_name}
-use Rattle.book.specs.Next.{accept, add_hold, change_lines, hold_more, lower_held, new_line, next, raise_held, raise_used, set_state, transfer_lines}
-use Rattle.book.specs.Outcomes.{settled, signed, total}
-use Rattle.book.specs.Rows.{FieldCells}
-use Rattle.book.specs.Running.{Becomes, IsUpToDate, MayBecome, amount_held, entry_row, line_before}
-use Rattle.book.specs.Sums.{part_of_line}
-use Rattle.book.specs.View.{field_of}
-use Rattle.book.specs.declared.entries.FieldEntry.{FieldEntry}
-use Rattle.book.specs.declared.order.Line.{Line}
-use Rattle.book.specs.declared.order.State.{State}
-use Rattle.book.specs.declared.order.State.TheVariants.{Aborted, Committed, Open}
+use Rattle.book.specs.Ledger.{Field}
+use Rattle.book.specs.Outcomes.{total}
+use Rattle.book.specs.Running.{amount_held, line_before}
+use Rattle.book.specs.declared.order.State.TheVariants.{Open}
 use Rattle.book.proofs.After.{moved-next}
 use Rattle.book.proofs.Bounds.{OneOn, adds-not_negative, takes-not_negative}
 use Rattle.book.proofs.Chosen.{some_is}

@@ -1,21 +1,16 @@
 -- Codes, keys and the spellings of commands are in ASCII.
 use Rattle.std.proofs.Common.{◌≡◌, ℕ, zero, suc, ◌<◌, ◌≤◌, Bool, true, false, ◌&&◌, List, [], ◌∷◌, codes, decimal, refl, sym, arith, true≢false}
-use Rattle.std.proofs.lemmas.Bool.Decides.{nat_tests}
+use Rattle.book.proofs.Prelude.{Add, Command, Deliver, Each, IsArticle, IsBranch, IsInRange, IsKey, IsOpenLine, IsUtf8, More, OpenLine, Take, Way, Writeoff, nat_tests, recursion_from_All, spelling}
 use Rattle.std.proofs.lemmas.Fmt.{IsAscii-decimal}
-use Rattle.std.proofs.lemmas.List.Elements.{recursion_from_All}
 use Rattle.std.proofs.lemmas.Str.{IsAscii-append, IsUtf8-from_ascii}
 use Rattle.std.proofs.lemmas.Str.Ascii.{IsAscii-nil}
-use Rattle.std.specs.List.{AllByRecursion as Each, list_all}
-use Rattle.std.specs.Str.{IsAscii, IsUtf8}
-use Rattle.escrow.specs.Codes.{IsArticle, IsBranch, IsKey, is_article_byte, is_branch_byte, is_key_byte}
-use Rattle.escrow.specs.declared.quantity.Way.{Way}
-use Rattle.escrow.specs.declared.quantity.Way.TheVariants.{Add, Take}
-use Rattle.words.specs.OpenLines.{IsOpenLine, line_words, way_word}
-use Rattle.words.specs.Spelling.{IsInRange, command_words, spelling}
+use Rattle.std.specs.List.{list_all}
+use Rattle.std.specs.Str.{IsAscii}
+use Rattle.escrow.specs.Codes.{is_article_byte, is_branch_byte, is_key_byte}
+use Rattle.words.specs.OpenLines.{line_words, way_word}
+use Rattle.words.specs.Spelling.{command_words}
 use Rattle.words.specs.Words.{spaced}
-use Rattle.words.specs.declared.command.Command.{Command}
-use Rattle.words.specs.declared.command.Command.TheVariants.{Abort, Commit, Deliver, Expire, Field, More, Open, Release, Transfer, Use, Writeoff}
-use Rattle.words.specs.declared.open_line.OpenLine.{OpenLine}
+use Rattle.words.specs.declared.command.Command.TheVariants.{Abort, Commit, Expire, Field, Open, Release, Transfer, Use}
 
 ascii_cons : (b : ℕ) (bs : List ℕ) → b < 128 → IsAscii bs → IsAscii (b ∷ bs)
 ascii_cons b bs h k x = grind arith

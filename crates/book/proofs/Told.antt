@@ -1,23 +1,14 @@
 -- Two good ledgers with equal rows are equal, and so is whatever the same rows tell.
 use Rattle.std.proofs.Common.{◌≡◌, ℕ, ◌+◌, ◌<◌, pos, List, [], ◌∷◌, ◌++◌, map, flat_map, Bool, true, false, refl, sym, ap, ◌∙◌, subst, arith, true≢false, nat_cmp, Less}
-use Rattle.std.proofs.lemmas.Int.{ints}
-use Rattle.std.specs.List.{AllByRecursion as Each, AllZip}
-use Rattle.std.specs.List.Sorted.{IsStrictlySortedBy}
-use Rattle.escrow.specs.declared.quantity.Way.{Way}
-use Rattle.escrow.specs.declared.quantity.Way.TheVariants.{Take, Add}
-use Rattle.book.specs.declared.order.Kind.{Kind}
-use Rattle.book.specs.declared.order.Kind.TheVariants.{Plain, Transfer}
-use Rattle.book.specs.declared.order.State.{State}
-use Rattle.book.specs.declared.order.State.TheVariants.{Open, Committed, Aborted}
-use Rattle.book.specs.declared.order.Line.{Line}
-use Rattle.book.specs.Ledger.{Field, Move, Order, Ledger, Kept}
-use Rattle.book.specs.Good.{Good, IsGoodKept}
-use Rattle.book.specs.Told.{AreOthers, TellsField, TellsLedger}
-use Rattle.book.specs.Rows.{FieldCells, LineCells, OrderCells, kind_code, state_code, way_code, IsFieldRow, move_row, order_row, line_row, lines_from, order_lines, kept_row, desk_row, Content, IsRowsOf}
+use Rattle.book.proofs.Prelude.{Aborted, Add, AllZip, AreOthers, Committed, Content, Each, FieldCells, Good, IsFieldRow, IsGoodKept, IsRowsOf, IsStrictlySortedBy, Kept, Kind, Ledger, Line, LineCells, Move, Order, OrderCells, Plain, State, Take, TellsField, Way, desk_row, ints, kept_row, line_row, lines_from, move_row, order_lines, order_row, spelling_one}
+use Rattle.book.specs.declared.order.Kind.TheVariants.{Transfer}
+use Rattle.book.specs.declared.order.State.TheVariants.{Open}
+use Rattle.book.specs.Ledger.{Field}
+use Rattle.book.specs.Told.{TellsLedger}
+use Rattle.book.specs.Rows.{kind_code, state_code, way_code}
 use Rattle.book.proofs.Sums.{each-imp}
 use Rattle.book.proofs.Closing.{less_is}
 use Rattle.book.proofs.Lists.{each-unmap}
-use Rattle.words.proofs.OneItem.{spelling_one}
 
 pub same_pos : (a b : ℕ) → pos a ≡ pos b → a ≡ b
 same_pos a b e = omega (arith, ints)

@@ -1,25 +1,9 @@
 -- At a good ledger every request has an answer.
 use Rattle.std.proofs.Common.{◌≡◌, ◌≢◌, ℕ, ◌+◌, ◌<◌, ◌≤◌, ℤ, ◌<ℤ◌, List, [], ◌∷◌, ◌++◌, map, find, Bool, true, false, IsSomeAnd, Option, Some, None, refl, sym, arith, if◌then◌else◌, true≢false, ◌⊎◌, inl, inr, ◌↔◌, MatchOption, nat_lt, length}
-use Rattle.std.proofs.lemmas.Int.{ints, by_lt_z}
-use native.Mathlib.Decide.{dec_le, dec_lt}
-use Rattle.std.specs.List.{AllByRecursion as Each}
-use Rattle.escrow.specs.declared.quantity.Way.{Way}
-use Rattle.escrow.specs.declared.quantity.Way.TheVariants.{Take, Add}
-use Rattle.words.specs.declared.open_line.OpenLine.{OpenLine}
-use Rattle.words.specs.declared.command.Command.{Command}
+use Rattle.book.proofs.Prelude.{Add, Answers, AnswersNew, Check, Command, Done, Each, FirstFailure, Good, Kept, KeyReused, Kind, Ledger, MayHoldMore, Name, OpenLine, Plain, Refusal, Refused, Reply, Request, Take, Way, accept, add_hold, bound, by_lt_z, change_order, checks, dec_le, field_named, ints, kept_under, line_checks, line_name, line_on, new_line, new_order, next, on, order_numbered, places, same_command, transfer_lines, with_order}
+use native.Mathlib.Decide.{dec_lt}
 use Rattle.words.specs.declared.command.Command.TheVariants as command
-use Rattle.words.specs.declared.command.Request.{Request}
-use Rattle.words.specs.declared.reply.Refusal.{Refusal}
-use Rattle.words.specs.declared.reply.Refusal.TheVariants.{KeyReused}
-use Rattle.words.specs.declared.reply.Reply.{Reply}
-use Rattle.words.specs.declared.reply.Reply.TheVariants.{Done, Refused}
-use Rattle.book.specs.declared.order.Kind.{Kind}
-use Rattle.book.specs.declared.order.Kind.TheVariants.{Plain, Transfer}
-use Rattle.book.specs.Held.{MayHoldMore}
-use Rattle.book.specs.Ledger.{Name, Ledger, Kept, on, line_name, line_on, order_numbered, field_named, kept_under, places}
-use Rattle.book.specs.Next.{next, accept, change_order, add_hold, new_line, new_order, with_order, transfer_lines}
-use Rattle.book.specs.Answers.{Check, FirstFailure, checks, bound, line_checks, Answers, AnswersNew, same_command}
-use Rattle.book.specs.Good.{Good}
+use Rattle.book.specs.declared.order.Kind.TheVariants.{Transfer}
 use Rattle.book.proofs.Sums.{each-both}
 use Rattle.book.proofs.Bounds.{OneOn, Sound, falls_below_iff, rises_above_iff}
 use Rattle.book.proofs.Closing.{sounds_from_good, at_number}

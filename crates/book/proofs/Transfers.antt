@@ -1,30 +1,12 @@
 -- The commit of a transfer leaves every article's total as it was.
-use Rattle.std.proofs.lemmas.Grind.{common_steps}
+use Rattle.book.proofs.Prelude.{Aborted, Add, Answers, AnswersNew, Committed, Done, Each, FirstFailure, Good, IsGoodLine, IsStrictlySortedBy, IsTransferPair, Kept, KeyReused, Ledger, Line, Name, Order, Refusal, Refused, Reply, Request, State, Take, Way, accept, article_total, bytes_eq, checks, committed_state, common_steps, ints, is_committed, is_lt, is_open, is_transfer, kept_under, line_name, name_cmp, on, open_state, order_numbered, places, same_command, same_name, set_state, settled, signed, tied_itself}
 use Rattle.std.proofs.Common.{◌≡◌, ℕ, ◌<◌, ℤ, pos, neg_ℤ, ◌+ℤ◌, List, [], ◌∷◌, map, find, Bool, true, false, ◌==◌, IsTrue, IsSome, IsSomeAnd, Option, Some, None, refl, sym, ap, ◌∙◌, subst, arith, if◌then◌else◌, true≢false, nat_cmp, Less, is_some, MatchOption, ◌+◌}
-use Rattle.std.proofs.lemmas.Int.{ints}
-use Rattle.std.specs.List.{AllByRecursion as Each}
-use Rattle.std.specs.List.Sorted.{IsStrictlySortedBy}
-use Rattle.std.specs.Str.{bytes_eq}
-use Rattle.escrow.specs.declared.quantity.Way.{Way}
-use Rattle.escrow.specs.declared.quantity.Way.TheVariants.{Take, Add}
 use Rattle.words.specs.declared.command.Command.TheVariants as command
-use Rattle.words.specs.declared.command.Request.{Request}
-use Rattle.words.specs.declared.reply.Refusal.{Refusal}
-use Rattle.words.specs.declared.reply.Refusal.TheVariants.{KeyReused}
-use Rattle.words.specs.declared.reply.Reply.{Reply}
-use Rattle.words.specs.declared.reply.Reply.TheVariants.{Done, Refused}
-use Rattle.book.specs.declared.order.State.{State}
-use Rattle.book.specs.declared.order.State.TheVariants.{Open, Committed, Aborted}
-use Rattle.book.specs.declared.order.Line.{Line}
-use Rattle.book.specs.Ledger.{Name, Field, Order, Ledger, Kept, kept_under, places, on, is_open, is_committed, open_state, committed_state, is_transfer, line_name, same_name, name_cmp, order_numbered}
-use Rattle.book.specs.Outcomes.{total, signed, moved, settled, article_total}
-use Rattle.book.specs.Next.{accept, set_state}
-use Rattle.book.specs.Answers.{FirstFailure, checks, Answers, AnswersNew, same_command}
-use Rattle.book.specs.Good.{Good, IsGoodLine, IsTransferPair}
+use Rattle.book.specs.declared.order.State.TheVariants.{Open}
+use Rattle.book.specs.Ledger.{Field}
+use Rattle.book.specs.Outcomes.{total, moved}
 use Rattle.book.proofs.Sums.{each, each-imp, total-eq, total-sum, total-zero}
 use Rattle.book.proofs.Closing.{all_pass, name_is, open_there, less_is}
-use Rattle.std.proofs.lemmas.Cmp.{tied_itself}
-use Rattle.std.specs.Ordering.{is_lt}
 use Rattle.book.proofs.Staying.{name_cmp_total}
 use Rattle.book.proofs.Lists.{each-unmap}
 

@@ -1,17 +1,8 @@
 -- The numbers that a book shows of its fields.
-use Rattle.std.proofs.lemmas.Grind.{common_steps}
+use Rattle.book.proofs.Prelude.{BookView, Contains, FieldEntry, Good, Inside, Ledger, Name, common_steps, field_of, held_to_add, held_to_take, ints, settled, slice_get-map, view_of}
 use Rattle.std.proofs.Common.{◌≡◌, ℕ, suc, pos, ◌+ℤ◌, ◌-ℤ◌, ◌≤ℤ◌, List, [], ◌∷◌, find, option_map, slice_get, Bool, true, false, Some, is_some, sym, ap, ◌∙◌, arith, if◌then◌else◌, true≢false}
-use Rattle.std.proofs.lemmas.Int.{ints}
-use Rattle.std.proofs.lemmas.Option.{slice_get-map}
-use Rattle.std.specs.List.{Contains}
 use Rattle.escrow.specs.declared.limits.TheConstants.{MAX_LEVEL}
-use Rattle.book.specs.declared.book.Book.TheInside.{Inside}
-use Rattle.book.specs.declared.entries.FieldEntry.{FieldEntry}
-use Rattle.book.specs.Ledger.{Field, Ledger, Name}
-use Rattle.book.specs.Outcomes.{settled}
-use Rattle.book.specs.Held.{held_to_add, held_to_take}
-use Rattle.book.specs.Good.{Good}
-use Rattle.book.specs.View.{BookView, field_of, view_of}
+use Rattle.book.specs.Ledger.{Field}
 use Rattle.book.proofs.Found.{from_some}
 use Rattle.book.proofs.Runs.{in_order}
 use Rattle.book.proofs.Walked.{each-at}

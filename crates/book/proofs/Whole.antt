@@ -1,22 +1,11 @@
 -- What makes a told ledger good, and that rows tell one good ledger at the most.
-use Rattle.std.proofs.lemmas.Grind.{common_steps}
+use Rattle.book.proofs.Prelude.{AreMovesOnFields, AreOnFields, AreOrdersOnFields, Each, FieldCells, FieldEntry, Good, HasNumbers, HaveNumbers, IsBounded, IsField, IsGoodLine, IsGoodMove, IsGoodOrder, IsMoveByItself, IsOrderByItself, IsUpToDate, IsWhole, Ledger, MAX_PLACES, Name, Order, common_steps, field_of, held_to_add, held_to_take, ints, is_committed, line_name, move_of, moved_by_move, moved_by_order, numbers_on, order_of, places, same_name, settled, told_ledger}
 use Rattle.std.proofs.Common.{◌≡◌, ◌↔◌, ◌≤◌, ◌+ℤ◌, ◌-ℤ◌, pos, List, [], ◌∷◌, ap, arith, length, map, if◌then◌else◌}
-use Rattle.std.proofs.lemmas.Int.{ints}
-use Rattle.std.specs.List.{AllByRecursion as Each}
-use Rattle.book.specs.declared.limits.TheConstants.{MAX_PLACES}
 use Rattle.book.specs.declared.book.tables.Entries.{Entries}
 use Rattle.book.specs.declared.book.sums.Numbers.{Numbers}
-use Rattle.book.specs.declared.entries.FieldEntry.{FieldEntry}
-use Rattle.book.specs.Good.{Good, IsGoodLine, IsGoodMove, IsGoodOrder}
-use Rattle.book.specs.Held.{held_to_add, held_to_take}
-use Rattle.book.specs.Ledger.{Field, Ledger, Name, Order, is_committed, line_name, places, same_name}
-use Rattle.book.specs.Outcomes.{IsSafe, moved, settled, total}
-use Rattle.book.specs.Rows.{FieldCells}
-use Rattle.book.specs.Sums.{AreMovesOnFields, AreOnFields, AreOrdersOnFields, IsField, numbers_on}
-use Rattle.book.specs.Walk.{moved_by_move, moved_by_order}
-use Rattle.book.specs.Running.{IsUpToDate}
-use Rattle.book.specs.Told.{AreGood, HasNumbers, HaveNumbers, IsBounded, IsInForm, IsMoveByItself, IsOrderByItself, IsWhole, told_ledger}
-use Rattle.book.specs.View.{field_of, move_of, order_of}
+use Rattle.book.specs.Ledger.{Field}
+use Rattle.book.specs.Outcomes.{IsSafe, moved, total}
+use Rattle.book.specs.Told.{AreGood, IsInForm}
 use Rattle.book.proofs.Bounds.{HasRoom, safe_from_room}
 use Rattle.book.proofs.Lists.{each-two, each-unmap}
 use Rattle.book.proofs.Walked.{few_sorted}

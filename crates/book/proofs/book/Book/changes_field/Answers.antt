@@ -1,9 +1,6 @@
 use Rattle.std.proofs.Common.{arith, ◌≡◌, ◌∙◌, ℕ, Bool, true, false, ◌&&◌, None, Option, Some, ap, is_some, refl, sym, true≢false}
 use Rattle.std.specs.Option.{option_map}
-use Rattle.book.specs.After.{changes_state, order_after, some_has_line, some_is_transfer}
-use Rattle.book.specs.Ledger.{Ledger, Name, Order, name_of}
-use Rattle.book.specs.View.{order_of}
-use Rattle.book.specs.declared.entries.OrderEntry.{OrderEntry}
+use Rattle.book.proofs.Prelude.{Ledger, Name, Order, OrderEntry, changes_state, name_of, order_after, order_of, some_has_line, some_is_transfer}
 use Rattle.book.proofs.Made.{lined, released}
 use Rattle.book.proofs.book.Book.changes_field.Goals as goal
 

@@ -1,12 +1,7 @@
 use Rattle.std.proofs.Common.{◌≡◌, ◌∙◌, ◌+◌, List, [], ◌∷◌, ◌++◌, ap, arith, subst, sym}
 use Rattle.std.specs.Option.{option_map}
-use Rattle.words.specs.declared.command.Request.{Request}
-use Rattle.book.specs.After.{IsShort, with_fields}
-use Rattle.book.specs.Ledger.{Ledger}
-use Rattle.book.specs.Rows.{Content, FieldCells}
-use Rattle.book.specs.Tables.{desk_cells, rows_among}
-use Rattle.book.specs.View.{order_of}
-use Rattle.book.specs.declared.rows.Change.{Change}
+use Rattle.book.proofs.Prelude.{Change, Content, FieldCells, IsShort, Ledger, Request, order_of, rows_among, with_fields}
+use Rattle.book.specs.Tables.{desk_cells}
 use Rattle.book.specs.declared.rows.Change.TheVariants.{Desk}
 use Rattle.book.proofs.Made.{made_short}
 use Rattle.book.proofs.NextRows.{changes_to, good_next, good_now, place_fits, place_is, rows_in_turn, rows_made}

@@ -1,5 +1,5 @@
 use Rattle.std.proofs.Common.{arith, ◌∙◌, sym}
-use Rattle.words.specs.declared.open_line.OpenLine.{OpenLine}
+use Rattle.book.proofs.Prelude.{OpenLine}
 use Rattle.book.proofs.LineChecks.{apart-step, line_fails, line_passes, none_apart}
 use Rattle.book.proofs.book.Book.check_lines.Goals as goal
 

@@ -1,6 +1,5 @@
 use Rattle.std.proofs.Common.{◌∙◌, sym}
-use Rattle.book.specs.View.{field_of, order_of}
-use Rattle.book.specs.Ledger.{name_of}
+use Rattle.book.proofs.Prelude.{field_of, name_of, order_of}
 use Rattle.book.proofs.Checked.{more_decides, no, no_transfer_kind}
 use Rattle.book.proofs.book.Book.check_more.Goals as goal
 

@@ -1,13 +1,7 @@
 use Rattle.std.proofs.Common.{arith, ◌≡◌, Bor, List, Option, Some, None, IfSome, MatchOption, subst, sym}
-use Rattle.std.specs.BTreeMap.{is_at}
-use Rattle.std.specs.List.{AllByRecursion as Each}
-use Rattle.std.specs.Map.{lookup}
-use Rattle.std.specs.Option.{option_copied, option_map}
-use Rattle.book.specs.Good.{Good}
-use Rattle.book.specs.Ledger.{Field, Ledger, Name, name_cmp, name_of}
-use Rattle.book.specs.Running.{IsUpToDate}
-use Rattle.book.specs.View.{BookView, field_of, ledger_of}
-use Rattle.book.specs.declared.entries.FieldEntry.{FieldEntry}
+use Rattle.book.proofs.Prelude.{BookView, Each, FieldEntry, Good, IsUpToDate, Ledger, Name, field_of, is_at, ledger_of, lookup, name_cmp, name_of, option_copied}
+use Rattle.std.specs.Option.{option_map}
+use Rattle.book.specs.Ledger.{Field}
 use Rattle.book.proofs.Keyed.{field_found}
 use Rattle.book.proofs.Running.{up_to_date_at}
 use Rattle.book.proofs.book.Book.field_entry.Goals as goal

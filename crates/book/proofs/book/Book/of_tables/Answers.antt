@@ -1,17 +1,8 @@
 use Rattle.std.proofs.Common.{arith, ◌≡◌, ◌∙◌, ℕ, ap, count_by, map, subst, sym}
-use Rattle.std.proofs.lemmas.Simd.{map-map}
-use Rattle.std.specs.Cmp.Lexicographic.{slice_cmp}
-use Rattle.std.specs.List.Sorted.{IsStrictlySortedBy}
+use Rattle.book.proofs.Prelude.{AllZip, Content, Each, Good, IsFieldRow, IsRowsOf, IsStrictlySortedBy, IsUpToDate, Kept, Ledger, Order, OrderEntry, field_of, is_open, kept_of, ledger_of, map-map, move_of, name_cmp, open_orders, open_state, order_of, slice_cmp, told_ledger}
 use Rattle.std.specs.Ordering.{nat_cmp}
-use Rattle.book.specs.Good.{Good}
-use Rattle.book.specs.Ledger.{Field, Kept, Ledger, Order, is_open, name_cmp, open_orders, open_state}
-use Rattle.book.specs.Rows.{Content, IsFieldRow, IsRowsOf}
+use Rattle.book.specs.Ledger.{Field}
 use Rattle.book.specs.Tables.{content_of}
-use Rattle.book.specs.Told.{told_ledger}
-use Rattle.book.specs.View.{field_of, kept_of, ledger_of, move_of, order_of}
-use Rattle.std.specs.List.{AllByRecursion as Each, AllZip}
-use Rattle.book.specs.Running.{IsUpToDate}
-use Rattle.book.specs.declared.entries.OrderEntry.{OrderEntry}
 use Rattle.book.proofs.Counted.{viewed}
 use Rattle.book.proofs.Tested.{true_not_false}
 use Rattle.book.proofs.InOrder.{one_content, rows_are, rows_of}

@@ -1,10 +1,5 @@
 use Rattle.std.proofs.Common.{◌∙◌, None, ap, arith, length, subst, sym}
-use Rattle.words.specs.Kinds.{is_opening}
-use Rattle.words.specs.declared.command.Command.{Command}
-use Rattle.book.specs.After.{expired_numbers}
-use Rattle.book.specs.Answers.{FirstFailure, checks}
-use Rattle.book.specs.Ledger.{Ledger, open_orders}
-use Rattle.book.specs.Next.{expires, next}
+use Rattle.book.proofs.Prelude.{Command, FirstFailure, Ledger, checks, expired_numbers, expires, is_opening, next, open_orders}
 use Rattle.book.proofs.Counted.{aborted_count, committed_count, count_seen, expired_count, opened_count, other_count}
 use Rattle.book.proofs.Expiring.{length_numbers}
 use Rattle.book.proofs.NextRows.{good_now}

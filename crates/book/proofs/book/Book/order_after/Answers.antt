@@ -1,11 +1,6 @@
 use Rattle.std.proofs.Common.{arith, ◌≡◌, ◌∙◌, ℕ, Option, sym}
-use Rattle.std.proofs.lemmas.Result.{IfOk-weaker}
+use Rattle.book.proofs.Prelude.{IfOk-weaker, OrderEntry, changed_order, order_after, order_numbered, order_of}
 use Rattle.std.specs.Option.{option_map}
-use Rattle.book.specs.After.{order_after}
-use Rattle.book.specs.InPlace.{changed_order}
-use Rattle.book.specs.Ledger.{order_numbered}
-use Rattle.book.specs.View.{order_of}
-use Rattle.book.specs.declared.entries.OrderEntry.{OrderEntry}
 use Rattle.book.proofs.Copied.{changed_is_after, copy_may_change}
 use Rattle.book.proofs.book.Book.order_after.Goals as goal
 

@@ -1,10 +1,5 @@
 use Rattle.std.proofs.Common.{arith, ◌∙◌, ap, flat_map, sym}
-use Rattle.std.proofs.lemmas.Result.{on_ok_weaker}
-use Rattle.words.specs.declared.command.Command.{Command}
-use Rattle.book.specs.After.{aborted_rows, changed_orders, expired_numbers, of_numbered, with_orders}
-use Rattle.book.specs.Ledger.{Ledger}
-use Rattle.book.specs.Next.{expires}
-use Rattle.book.specs.Tables.{rows_among}
+use Rattle.book.proofs.Prelude.{Command, Ledger, aborted_rows, changed_orders, expired_numbers, expires, of_numbered, on_ok_weaker, rows_among, with_orders}
 use Rattle.book.proofs.Expiring.{numbered_flat}
 use Rattle.book.proofs.book.Book.push_orders.Goals as goal
 

@@ -1,14 +1,7 @@
 use Rattle.std.proofs.Common.{arith, ◌≡◌, ◌∙◌, ℕ, List, ap, flat_map, subst, sym}
 use Rattle.std.specs.Option.{option_map}
-use Rattle.words.specs.declared.command.Command.{Command}
+use Rattle.book.proofs.Prelude.{Command, GivesBack, Good, Ledger, Line, MayGiveBack, expired_lines, expired_numbers, expires, of_numbered, order_of}
 use Rattle.words.specs.declared.command.Command.TheVariants as command
-use Rattle.book.specs.After.{expired_numbers, of_numbered}
-use Rattle.book.specs.Good.{Good}
-use Rattle.book.specs.Ledger.{Ledger}
-use Rattle.book.specs.Next.{expires}
-use Rattle.book.specs.Running.{GivesBack, MayGiveBack, expired_lines}
-use Rattle.book.specs.declared.order.Line.{Line}
-use Rattle.book.specs.View.{order_of}
 use Rattle.book.proofs.ChangedFields.{on_ok}
 use Rattle.book.proofs.Expiring.{numbered_flat}
 use Rattle.book.proofs.FieldRows.{delivery_moves, delivery_rows, expired_rows, lines_rows, new_rows, write_off_moves, write_off_rows}

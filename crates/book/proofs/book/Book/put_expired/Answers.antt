@@ -1,8 +1,5 @@
 use Rattle.std.proofs.Common.{List, flat_map, refl, subst, sym, take}
-use Rattle.book.specs.After.{of_numbered}
-use Rattle.book.specs.Ledger.{Ledger}
-use Rattle.book.specs.Running.{GivesBack}
-use Rattle.book.specs.declared.order.Line.{Line}
+use Rattle.book.proofs.Prelude.{GivesBack, Ledger, Line, of_numbered}
 use Rattle.book.proofs.Expiring.{flat_next, may_next}
 use Rattle.book.proofs.book.Book.put_expired.Goals as goal
 

@@ -1,9 +1,6 @@
 use Rattle.std.proofs.Common.{◌≡◌, ◌∙◌, List, Some, ap, find, subst, sym}
-use Rattle.std.specs.List.{AllByRecursion as Each}
+use Rattle.book.proofs.Prelude.{Each, Ledger, Line, line_name, on, order_of}
 use Rattle.std.specs.Option.{option_map}
-use Rattle.book.specs.Ledger.{Ledger, line_name, on}
-use Rattle.book.specs.View.{order_of}
-use Rattle.book.specs.declared.order.Line.{Line}
 use Rattle.book.proofs.ChangedFields.{found_itself, lines_step, made_good}
 use Rattle.book.proofs.Closing.{one_on}
 use Rattle.book.proofs.Walked.{each-at}

@@ -1,10 +1,6 @@
 use Rattle.std.proofs.Common.{arith, ◌∙◌, ap, map, sym}
 use Rattle.std.specs.Option.{option_map}
-use Rattle.words.specs.declared.command.Command.{Command}
-use Rattle.book.specs.After.{expired_numbers}
-use Rattle.book.specs.InPlace.{abort_all}
-use Rattle.book.specs.Next.{next}
-use Rattle.book.specs.View.{order_of}
+use Rattle.book.proofs.Prelude.{Command, abort_all, expired_numbers, next, order_of}
 use Rattle.book.proofs.Expiring.{all_aborted}
 use Rattle.book.proofs.Putting.{orders_put}
 use Rattle.book.proofs.book.adopt.adopt_orders.Goals as goal

@@ -1,6 +1,5 @@
 use Rattle.std.proofs.Common.{arith, sym, subst, ap, ◌∙◌, ◌++◌, List, ℕ}
-use Rattle.std.specs.Str.{IsUtf8}
-use Rattle.words.specs.Spelling.{spelling}
+use Rattle.book.proofs.Prelude.{IsUtf8, spelling}
 use Rattle.book.proofs.Texts.{spelling_utf8}
 use Rattle.book.proofs.book.changed_rows.command_text.Goals as goal
 

@@ -1,7 +1,5 @@
 use Rattle.std.proofs.Common.{arith, ◌≡◌, ◌∙◌, Bool, true, ap, sym}
-use Rattle.book.specs.After.{changes_own_line}
-use Rattle.book.specs.Ledger.{is_transfer}
-use Rattle.book.specs.View.{order_of}
+use Rattle.book.proofs.Prelude.{changes_own_line, is_transfer, order_of}
 use Rattle.book.proofs.Among.{line_pushed}
 use Rattle.book.proofs.book.changed_rows.push_line.Goals as goal
 

@@ -1,6 +1,5 @@
 use Rattle.std.proofs.Common.{◌∙◌, ap, arith, is_some, sym}
-use Rattle.book.specs.Ledger.{Name, on, name_of}
-use Rattle.book.specs.Next.{new_line}
+use Rattle.book.proofs.Prelude.{Name, name_of, new_line, on}
 use Rattle.book.proofs.Found.{find-all, find-here, find-map-none, find-map-some, find-next}
 use Rattle.book.proofs.book.checks.has_line_on.Goals as goal
 

@@ -1,7 +1,5 @@
 use Rattle.std.proofs.Common.{◌∙◌, ◌||◌, ap, arith, get_or, if◌then◌else◌}
-use Rattle.book.specs.InPlace.{changed_line}
-use Rattle.book.specs.Ledger.{on, name_of}
-use Rattle.book.specs.declared.order.Line.{Line}
+use Rattle.book.proofs.Prelude.{Line, changed_line, name_of, on}
 use Rattle.book.proofs.Walking.{walk_end, walk_step}
 use Rattle.book.proofs.book.made.change_lines.Goals as goal
 

@@ -1,5 +1,5 @@
 use Rattle.std.proofs.Common.{arith, ◌∙◌, [], ap, refl}
-use Rattle.book.specs.Sums.{added, numbers_on}
+use Rattle.book.proofs.Prelude.{added, numbers_on}
 use Rattle.book.proofs.SumsOnFields.{added-all, small-nothing}
 use Rattle.book.proofs.book.sums.add_all.Goals as goal
 

@@ -1,6 +1,5 @@
 use Rattle.std.proofs.Common.{arith, ◌+◌, ap, set, subst, sym}
-use Rattle.std.specs.List.{AllByRecursion as Each}
-use Rattle.book.specs.Walk.{nothing, IsSmall}
+use Rattle.book.proofs.Prelude.{Each, IsSmall, nothing}
 use Rattle.book.proofs.SumsOnFields.{each-small-set}
 use Rattle.book.proofs.book.sums.add_at.Goals as goal
 

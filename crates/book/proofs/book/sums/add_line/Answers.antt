@@ -1,8 +1,6 @@
 use Rattle.std.proofs.Common.{arith, ◌∙◌, ap}
 use Rattle.book.specs.declared.book.sums.Numbers.{Numbers}
-use Rattle.book.specs.Ledger.{line_name}
-use Rattle.book.specs.Walk.{most_of_line}
-use Rattle.book.specs.Sums.{added, only_on, part_of_line}
+use Rattle.book.proofs.Prelude.{added, line_name, most_of_line, only_on, part_of_line}
 use Rattle.book.proofs.SumsOnFields.{added-same, part-line}
 use Rattle.book.proofs.book.sums.add_line.Goals as goal
 

@@ -1,8 +1,5 @@
 use Rattle.std.proofs.Common.{◌≡◌, ◌∙◌, ℕ, ◌+◌, ◌*◌, ◌≤◌, [], ◌∷◌, ap, arith, refl, subst, sym, take}
-use Rattle.std.specs.List.{AllByRecursion as Each}
-use Rattle.book.specs.Ledger.{line_name}
-use Rattle.book.specs.Walk.{most_of_all, most_of_line, most_of_lines, IsSmall}
-use Rattle.book.specs.Sums.{added, lines_numbers, IsField}
+use Rattle.book.proofs.Prelude.{Each, IsField, IsSmall, added, line_name, lines_numbers, most_of_all, most_of_line, most_of_lines}
 use Rattle.book.proofs.SumsOnFields.{added-nothing, added-twice, each-more, each-small-up, line-step, lines-none}
 use Rattle.book.proofs.book.sums.add_lines.Goals as goal
 

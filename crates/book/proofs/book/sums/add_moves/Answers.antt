@@ -1,8 +1,5 @@
 use Rattle.std.proofs.Common.{◌≡◌, ◌∙◌, ℕ, ◌+◌, ◌*◌, ◌≤◌, [], ◌∷◌, ap, arith, refl, subst, sym, take}
-use Rattle.std.specs.List.{AllByRecursion as Each}
-use Rattle.book.specs.View.{move_of}
-use Rattle.book.specs.Walk.{most_of_all, most_of_move, most_of_moves, IsSmall}
-use Rattle.book.specs.Sums.{added, numbers_on, IsField}
+use Rattle.book.proofs.Prelude.{Each, IsField, IsSmall, added, most_of_all, most_of_move, most_of_moves, move_of, numbers_on}
 use Rattle.book.proofs.SumsOnFields.{added-nothing, added-twice, each-more, each-small-up, move-step}
 use Rattle.book.proofs.book.sums.add_moves.Goals as goal
 

@@ -1,5 +1,5 @@
 use Rattle.std.proofs.Common.{◌∙◌, ◌+◌, ◌≤◌, arith, refl, sym}
-use Rattle.book.specs.Ledger.{Name, name_of}
+use Rattle.book.proofs.Prelude.{Name, name_of}
 use Rattle.book.proofs.SumsOnFields.{added-at, added-none, there_at, each-small-up}
 use Rattle.book.proofs.book.sums.add_on.Goals as goal
 

@@ -1,8 +1,5 @@
 use Rattle.std.proofs.Common.{◌≡◌, ◌∙◌, ℕ, ◌+◌, ◌*◌, ◌≤◌, List, [], ap, arith, refl, subst, sym, take}
-use Rattle.std.specs.List.{AllByRecursion as Each}
-use Rattle.book.specs.declared.order.Line.{Line}
-use Rattle.book.specs.Walk.{most_of_all, most_of_lines, most_of_moves, IsSmall}
-use Rattle.book.specs.Sums.{added, lines_numbers, numbers_on, AreLinesOnFields}
+use Rattle.book.proofs.Prelude.{AreLinesOnFields, Each, IsSmall, Line, added, lines_numbers, most_of_all, most_of_lines, most_of_moves, numbers_on}
 use Rattle.book.proofs.SumsOnFields.{added-nothing, added-twice, each-more, each-small-up, order-step}
 use Rattle.book.proofs.book.sums.add_orders.Goals as goal
 

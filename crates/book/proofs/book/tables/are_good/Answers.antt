@@ -1,16 +1,5 @@
-use Rattle.std.proofs.lemmas.Grind.{common_steps}
-use Rattle.std.proofs.lemmas.Int.{ints}
+use Rattle.book.proofs.Prelude.{AreOnFields, Each, FieldEntry, HaveNumbers, IfOk-weaker, IsMoveByItself, IsOrderByItself, IsQty, IsWhole, Ledger, MoveEntry, Name, OrderEntry, common_steps, ints, move_of, numbers_on, order_of, places, told_ledger}
 use Rattle.std.proofs.Common.{◌↔◌, ◌≤◌, ℕ, IfOk, IsTrue, List, ap, arith, length, nat_abs, subst, sym}
-use Rattle.std.proofs.lemmas.Result.{IfOk-weaker}
-use Rattle.std.specs.List.{AllByRecursion as Each}
-use Rattle.escrow.specs.Ranges.{IsQty}
-use Rattle.book.specs.declared.entries.FieldEntry.{FieldEntry}
-use Rattle.book.specs.declared.entries.MoveEntry.{MoveEntry}
-use Rattle.book.specs.declared.entries.OrderEntry.{OrderEntry}
-use Rattle.book.specs.Ledger.{Ledger, Name, places}
-use Rattle.book.specs.Sums.{AreOnFields, numbers_on}
-use Rattle.book.specs.Told.{HaveNumbers, IsMoveByItself, IsOrderByItself, IsWhole, told_ledger}
-use Rattle.book.specs.View.{move_of, order_of}
 use Rattle.book.proofs.Lists.{each-unmap, length-of-map}
 use Rattle.book.proofs.Sums.{each-imp}
 use Rattle.book.proofs.Whole.{few_moves_if_whole, good_iff}

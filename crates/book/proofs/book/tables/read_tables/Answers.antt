@@ -1,15 +1,5 @@
 use Rattle.std.proofs.Common.{◌≡◌, ◌∙◌, ℕ, [], ◌∷◌, List, ap, arith, length, map, pos, subst, sym}
-use Rattle.std.specs.List.{AllByRecursion as Each, AllZip}
-use Rattle.book.specs.declared.entries.FieldEntry.{FieldEntry}
-use Rattle.book.specs.declared.entries.KeptEntry.{KeptEntry}
-use Rattle.book.specs.declared.rows.FieldRow.{FieldRow}
-use Rattle.book.specs.declared.rows.KeptRow.{KeptRow}
-use Rattle.book.specs.Good.{IsGoodField, IsGoodKept}
-use Rattle.book.specs.Ledger.{Name, places}
-use Rattle.book.specs.Rows.{DeskCells, IsFieldRow, KeptCells, kept_row, move_row}
-use Rattle.book.specs.Tables.{field_cells, kept_cells, line_cells, move_cells, order_cells}
-use Rattle.book.specs.Told.{IsFieldTold, IsKeptTold, IsLineTold, IsMoveTold, TellsField}
-use Rattle.book.specs.View.{field_of, kept_of, move_of, order_of}
+use Rattle.book.proofs.Prelude.{AllZip, DeskCells, Each, FieldEntry, FieldRow, IsFieldRow, IsFieldTold, IsGoodField, IsGoodKept, IsKeptTold, IsLineTold, IsMoveTold, KeptCells, KeptEntry, KeptRow, Name, TellsField, field_cells, field_of, kept_cells, kept_of, kept_row, line_cells, move_cells, move_of, move_row, order_cells, order_of, places}
 use Rattle.book.proofs.RowsTold.{fields_told, good_field, heads_same, heads_told, kept_told, lines_told, moves_told, orders_rows, rows_of, tells_field}
 use Rattle.book.proofs.Lists.{length-of-map}
 use Rattle.book.proofs.Told.{same_first}

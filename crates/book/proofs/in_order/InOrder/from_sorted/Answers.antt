@@ -1,7 +1,5 @@
 use Rattle.std.proofs.Common.{◌≡◌, ◌∙◌, ap, length, refl, add-one, zero-add, arith}
-use Rattle.std.specs.List.{range_with_len}
-use Rattle.std.proofs.lemmas.List.Sorted.{IsPermutation-refl}
-use Rattle.book.specs.InOrder.{at_indexes}
+use Rattle.book.proofs.Prelude.{IsPermutation-refl, at_indexes, range_with_len}
 use Rattle.book.proofs.Indexes.{at_indexes-all, range_more}
 use Rattle.book.proofs.in_order.InOrder.from_sorted.Goals as goal
 

@@ -1,8 +1,5 @@
 use Rattle.std.proofs.Common.{◌≤◌, ◌∙◌, sym, ap, subst, arith}
-use Rattle.std.specs.BTreeMap.{insert_entry}
-use Rattle.std.specs.Vec.{vec_capacity, vec_len}
-use Rattle.std.proofs.lemmas.Option.{none-some}
-use Rattle.book.specs.InOrder.{IsGap, room_left}
+use Rattle.book.proofs.Prelude.{IsGap, insert_entry, none-some, room_left, vec_capacity, vec_len}
 use Rattle.book.proofs.Indexes.{length_in_order, length_order}
 use Rattle.book.proofs.KeyPlaces.{lookup_at, kept, listed}
 use Rattle.book.proofs.IndexRoom.{has_room, room_used}

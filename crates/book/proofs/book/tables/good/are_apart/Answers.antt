@@ -1,7 +1,5 @@
 use Rattle.std.proofs.Common.{◌≡◌, ◌∙◌, zero, suc, ◌<◌, List, [], ◌∷◌, None, Some, ap, arith, find, get_or, length, map, refl, subst, sym, take, false, ℕ, is_some, Option, MatchOption, Bor, true, true≢false}
-use Rattle.std.specs.List.{IsDistinct}
-use Rattle.book.specs.declared.order.Line.{Line}
-use Rattle.book.specs.Ledger.{line_name, on, same_name}
+use Rattle.book.proofs.Prelude.{IsDistinct, Line, line_name, on, same_name}
 use Rattle.book.proofs.Asked.{none_found}
 use Rattle.book.proofs.Growing.{other_way}
 use Rattle.book.proofs.LineChecks.{apart_push}

@@ -1,9 +1,5 @@
-use Rattle.std.proofs.lemmas.Grind.{common_steps}
+use Rattle.book.proofs.Prelude.{AreNumbered, LineRow, common_steps, ints, length-take-le}
 use Rattle.std.proofs.Common.{ap, arith, sym, subst, take}
-use Rattle.std.proofs.lemmas.Int.{ints}
-use Rattle.std.proofs.lemmas.List.{length-take-le}
-use Rattle.book.specs.Told.{AreNumbered}
-use Rattle.book.specs.declared.rows.LineRow.{LineRow}
 use Rattle.book.proofs.Grouped.{numbered-at, numbered-push}
 use Rattle.book.proofs.Tested.{no}
 use Rattle.book.proofs.Walked.{take-step}

@@ -1,13 +1,5 @@
 use Rattle.std.proofs.Common.{◌≡◌, ◌∙◌, ◌+◌, ◌<◌, ◌++◌, [], ◌∷◌, List, ℕ, ap, arith, drop, drop-drop, flat_map, get_or, length, length-drop, map, sym, subst, take}
-use Rattle.std.proofs.lemmas.List.{map-append}
-use Rattle.std.specs.List.{AllZip}
-use Rattle.book.specs.declared.book.tables.group.Head.{Head}
-use Rattle.book.specs.declared.rows.LineRow.{LineRow}
-use Rattle.book.specs.Ledger.{Order}
-use Rattle.book.specs.Rows.{LineCells, lines_from, order_lines}
-use Rattle.book.specs.Tables.{line_cells}
-use Rattle.book.specs.Told.{BeginsOther, IsLineTold, head_of}
-use Rattle.book.specs.View.{order_of}
+use Rattle.book.proofs.Prelude.{AllZip, BeginsOther, Head, IsLineTold, LineCells, LineRow, Order, head_of, line_cells, lines_from, map-append, order_lines, order_of}
 use Rattle.book.proofs.Grouped.{Tail, drop-step, left_step, lines_step, none_left, tail-first}
 use Rattle.book.proofs.Zipped.{zip-drop, zip-length}
 use Rattle.book.proofs.Tested.{passed_up}

@@ -1,9 +1,5 @@
 use Rattle.std.proofs.Common.{◌≡◌, ◌∙◌, ◌++◌, List, ap, arith, drop, length, map, sym, subst, take, true≢false}
-use Rattle.std.proofs.lemmas.List.{length-take-le, map-append, take-append-drop}
-use Rattle.book.specs.declared.rows.LineRow.{LineRow}
-use Rattle.book.specs.Rows.{LineCells, lines_from}
-use Rattle.book.specs.Tables.{line_cells}
-use Rattle.book.specs.Told.{BeginsOther, IsLineTold}
+use Rattle.book.proofs.Prelude.{BeginsOther, IsLineTold, LineCells, LineRow, length-take-le, line_cells, lines_from, map-append, take-append-drop}
 use Rattle.book.proofs.Grouped.{begins-cells, number-cells, numbered-from, own_rows, split_rows}
 use Rattle.book.proofs.Zipped.{zip-length, zip-take}
 use Rattle.book.proofs.book.tables.group.lines_of_order.Goals as goal

@@ -1,9 +1,6 @@
 use Rattle.std.proofs.Common.{arith, ◌≡◌, ◌∙◌, ◌<◌, ℕ, List, ap, get_or, length, map, pos, refl, subst, sym}
-use Rattle.book.specs.declared.entries.FieldEntry.{FieldEntry}
+use Rattle.book.proofs.Prelude.{FieldEntry, HasNumbers, Name, entry_name}
 use Rattle.book.specs.declared.book.sums.Numbers.{Numbers}
-use Rattle.book.specs.Ledger.{Name}
-use Rattle.book.specs.Sums.{entry_name}
-use Rattle.book.specs.Told.{HasNumbers}
 use Rattle.book.proofs.Tested.{no, true_not_false}
 use Rattle.book.proofs.Walked.{each-at, each-next}
 use Rattle.book.proofs.Zipped.{get-of-map}

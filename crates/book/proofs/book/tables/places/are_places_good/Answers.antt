@@ -1,10 +1,6 @@
 use Rattle.std.proofs.Common.{◌≡◌, ◌∙◌, ◌+◌, ◌≤◌, ℕ, Bool, List, ap, arith, length, map, refl, nat_eq, slice_index_or, subst, sym, take, true, false}
-use Rattle.std.proofs.lemmas.Simd.{map-map}
-use Rattle.std.proofs.lemmas.List.{get_or-replicate, length-set, take_all}
-use Rattle.std.specs.List.{IsDistinct, list_any}
-use Rattle.book.specs.declared.entries.KeptEntry.{KeptEntry}
-use Rattle.book.specs.Ledger.{Kept}
-use Rattle.book.specs.View.{kept_of}
+use Rattle.book.proofs.Prelude.{IsDistinct, Kept, KeptEntry, kept_of, list_any, map-map, take_all}
+use Rattle.std.proofs.lemmas.List.{get_or-replicate, length-set}
 use Rattle.book.proofs.Lists.{each-unmap}
 use Rattle.book.proofs.Places.{apart_next, marks_next, not_before}
 use Rattle.book.proofs.Sums.{each-map}

@@ -1,6 +1,5 @@
 use Rattle.std.proofs.Common.{arith, ◌+◌, [], ◌∷◌, ◌++◌, take, sym, subst}
-use Rattle.std.proofs.lemmas.List.{take_all}
-use Rattle.std.specs.List.{AllZip}
+use Rattle.book.proofs.Prelude.{AllZip, take_all}
 use Rattle.book.proofs.Tested.{passed_up}
 use Rattle.book.proofs.Walked.{each-at, take-step}
 use Rattle.book.proofs.Zipped.{zip-push}
