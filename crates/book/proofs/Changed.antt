@@ -9,7 +9,7 @@ use Rattle.book.specs.Outcomes.{total, moved}
 use Rattle.book.specs.Rows.{desk_cmp}
 use Rattle.book.proofs.Sums.{each, each-imp, each-both, each-map, total-map, total-eq}
 use Rattle.book.proofs.Bounds.{takes, adds, none-total, inf_is, sup_is, inf_unique}
-use Rattle.book.proofs.Closing.{all_pass, at_number, name_is, open_there, sounds_from_good}
+use Rattle.book.proofs.Closing.{all_pass, at_number, name_is, sounds_from_good}
 use Rattle.book.proofs.Asked.{same_self, total-push, settled-order, held_take-order, held_add-order}
 use Rattle.book.proofs.Safety.{not_true}
 use Rattle.book.proofs.Goodness.{good_accept}
@@ -55,9 +55,6 @@ any_has : {X : Type 0} (P : X → Type 0) (t : X → X → Bool) → ((x : X) �
 any_has P t h [] = tt
 any_has P t h (x ∷ xs) = ((λ p. rw (h x p) refl), each-imp (λ y k p. or_right (t y x) (list_any (t y) xs) (k p)) xs (any_has P t h xs))
 
-number_is : (a b : ℕ) → (a == b) ≡ true → a ≡ b
-number_is a b e = grind arith
-
 -- moves
 
 moves_follow : (A : Ledger) (key : List ℕ) (c : Command) → Follows move_cmp (λ row. changes_move A c row.place) (map move_row A.moves) (map move_row (accept A (record { key = key; command = c })).moves)
@@ -81,16 +78,13 @@ order_if chosen b o new h = grind arith
 same_order_row : (b : Bool) (o new : Order) → order_row new ≡ order_row o → order_row (if b then new else o) ≡ order_row o
 same_order_row b o new e = grind arith
 
-hold_row : (l : OpenLine) (o : Order) → order_row (add_hold l o) ≡ order_row o
-hold_row l o = grind arith
-
 numbered : (n : ℕ) (o : Order) → (o.number == n) ≡ true → int_eq (pos o.number) (pos n) ≡ true
-numbered n o e = subst (λ m. int_eq (pos o.number) (pos m) ≡ true) (number_is o.number n e) (int_same (pos o.number))
+numbered n o e = subst (λ m. int_eq (pos o.number) (pos m) ≡ true) (grind arith) (int_same (pos o.number))
 
 orders_follow : (A : Ledger) (key : List ℕ) (c : Command) → Follows order_cmp (λ row. changes_order A c row.number) (map order_row A.orders) (map order_row (accept A (record { key = key; command = c })).orders)
 orders_follow A key (command.Open n until lines) = follows-insert order_cmp order_cmp_total (λ row. int_eq row.number (pos n)) order_row (λ a b. nat_lt a.number b.number) _ A.orders (int_same (pos n))
 orders_follow A key (command.Transfer n until a from to q) = follows-insert order_cmp order_cmp_total (λ row. int_eq row.number (pos n)) order_row (λ a b. nat_lt a.number b.number) _ A.orders (int_same (pos n))
-orders_follow A key (command.More n way b a q) = follows-map order_cmp (λ row. false) order_row _ A.orders (each (λ o. as_was order_cmp order_cmp_total (λ row. false) (order_row o) _ (same_order_row (o.number == n) o (add_hold (record { way = way; branch = b; article = a; qty = q }) o) (hold_row _ o))) A.orders)
+orders_follow A key (command.More n way b a q) = follows-map order_cmp (λ row. false) order_row _ A.orders (each (λ o. as_was order_cmp order_cmp_total (λ row. false) (order_row o) _ (same_order_row (o.number == n) o (add_hold (record { way = way; branch = b; article = a; qty = q }) o) (grind arith))) A.orders)
 orders_follow A key (command.Use n b a q) = follows-map order_cmp (λ row. false) order_row _ A.orders (each (λ o. as_was order_cmp order_cmp_total (λ row. false) (order_row o) _ (same_order_row (o.number == n) o (change_lines (name_of b a) (raise_used q) o) refl)) A.orders)
 orders_follow A key (command.Release n b a q) = follows-map order_cmp (λ row. false) order_row _ A.orders (each (λ o. as_was order_cmp order_cmp_total (λ row. false) (order_row o) _ (same_order_row (o.number == n) o (change_lines (name_of b a) (lower_held q) o) refl)) A.orders)
 orders_follow A key (command.Commit n) = follows-map order_cmp (λ row. int_eq row.number (pos n)) order_row _ A.orders (each (λ o. order_if (λ row. int_eq row.number (pos n)) (o.number == n) o (set_state Committed o) (λ e. order_chosen (λ row. int_eq row.number (pos n)) Committed o (numbered n o e))) A.orders)
@@ -217,9 +211,6 @@ not_committed c e = grind arith
 parts_lines : (f : Name) (o : Order) (ls : List Line) → is_open o ≡ true → total (takes f) ls ≡ total (takes f) o.lines → total (adds f) ls ≡ total (adds f) o.lines → SameParts f o (record o { lines = ls })
 parts_lines f o ls e t a = (rw (not_committed o.state e) refl, ap (λ z. if is_open o then z else pos 0) t, ap (λ z. if is_open o then z else pos 0) a)
 
-second_false : (a b : Bool) → a ≡ true → (a && b) ≡ false → b ≡ false
-second_false x b e h = cc
-
 map_part : (g : Line → ℤ) (c : Line → Line) (ls : List Line) → Each (λ l. g (c l) ≡ g l) ls → total g (map c ls) ≡ total g ls
 map_part g c ls e = total-map g c ls ∙ total-eq (λ l. g (c l)) g ls e
 
@@ -227,14 +218,8 @@ map_part g c ls e = total-map g c ls ∙ total-eq (λ l. g (c l)) g ls e
 off : (f : Name) (change : Line → Line) (part : Line → ℤ) → ((l : Line) → line_name (change l) ≡ line_name l) → ((l : Line) → on f l ≡ false → part l ≡ pos 0) → (b : Bool) (l : Line) → (b ≡ true → on f l ≡ false) → part (if b then change l else l) ≡ part l
 off f change part same zero_off b l h = grind arith
 
-takes_off : (f : Name) (l : Line) → on f l ≡ false → takes f l ≡ pos 0
-takes_off f l e = rw e refl
-
-adds_off : (f : Name) (l : Line) → on f l ≡ false → adds f l ≡ pos 0
-adds_off f l e = rw e refl
-
 parts_off : (f g : Name) (change : Line → Line) (o : Order) → ((l : Line) → line_name (change l) ≡ line_name l) → is_open o ≡ true → Each (λ l. (is_transfer o || on g l) ≡ true → on f l ≡ false) o.lines → SameParts f o (change_lines g change o)
-parts_off f g change o same open_is h = grind (arith, (map_part (takes f) (λ l. if is_transfer o || on g l then change l else l) o.lines (each-imp (λ l k. off f change (takes f) same (takes_off f) (is_transfer o || on g l) l k) o.lines h)), (map_part (adds f) (λ l. if is_transfer o || on g l then change l else l) o.lines (each-imp (λ l k. off f change (adds f) same (adds_off f) (is_transfer o || on g l) l k) o.lines h)), adds, adds_off, each-imp, off, parts_lines, takes, takes_off)
+parts_off f g change o same open_is h = grind (arith, (map_part (takes f) (λ l. if is_transfer o || on g l then change l else l) o.lines (each-imp (λ l k. off f change (takes f) same (grind arith) (is_transfer o || on g l) l k) o.lines h)), (map_part (adds f) (λ l. if is_transfer o || on g l then change l else l) o.lines (each-imp (λ l k. off f change (adds f) same (grind arith) (is_transfer o || on g l) l k) o.lines h)), adds, each-imp, off, parts_lines, takes)
 
 apart : (f g : Name) (l : Line) → same_name f g ≡ false → on g l ≡ true → on f l ≡ false
 apart f g l e h = subst (λ n. same_name f n ≡ false) (name_is g (line_name l) h) e
@@ -247,13 +232,10 @@ use_if : (f g : Name) (q : ℕ) (part : Line → ℤ) → ((l : Line) → part (
 use_if f g q part h b l = grind arith
 
 opened : (A : Ledger) (n : ℕ) → Good A → (IsNone (order_numbered A n) → ⊥) → (IsSomeAnd (order_numbered A n) (λ o. IsFalse (is_open o)) → ⊥) → Each (λ o. (o.number == n) ≡ true → is_open o ≡ true) A.orders
-opened A n g p q = at_number (λ o. is_open o ≡ true) n A.orders g.orders_in_order (open_there (order_numbered A n) p q)
-
-stays_none : (o : Option Order) → (IsNone o → ⊥) → (IsSomeAnd o (λ o. IsTrue (is_transfer o)) → ⊥) → IsSomeAnd o (λ o. is_transfer o ≡ false)
-stays_none b p q = grind arith
+opened A n g p q = at_number (λ o. is_open o ≡ true) n A.orders g.orders_in_order (grind arith)
 
 plain_there : (A : Ledger) (n : ℕ) (w : Way) (b a : List ℕ) (q : ℕ) → Good A → FirstFailure (checks A (command.More n w b a q)) None → Each (λ o. (o.number == n) ≡ true → is_transfer o ≡ false) A.orders
-plain_there A n w b a q g h = let p = all_pass (checks A (command.More n w b a q)) h in at_number (λ o. is_transfer o ≡ false) n A.orders g.orders_in_order (stays_none (order_numbered A n) p.1.0 p.1.1.1.0)
+plain_there A n w b a q g h = let p = all_pass (checks A (command.More n w b a q)) h in at_number (λ o. is_transfer o ≡ false) n A.orders g.orders_in_order (grind arith)
 
 no_new : (f : Name) (ls : List OpenLine) → list_any (λ l. same_name f (name_of l.branch l.article)) ls ≡ false → Each (λ m. on f m ≡ false) (map new_line ls)
 no_new f ls e = each-map (λ m. on f m ≡ false) new_line ls (any_none (λ l. same_name f (name_of l.branch l.article)) ls e)
@@ -266,18 +248,15 @@ other_move : (A : Ledger) (g : Name) (z : ℤ) (f : Field) (ms : List Move) → 
 other_move A g z f ms e h = grind (arith, total-push)
 
 hold_parts : (f g : Name) (l : OpenLine) (o : Order) → line_name (new_line l) ≡ g → same_name f g ≡ false → is_open o ≡ true → is_transfer o ≡ false → (b : Bool) → SameParts f o (if b then hold_more g l.qty o else record o { lines = o.lines ++ new_line l ∷ [] })
-hold_parts f g l o i e open_is plain true = grind (arith, (map_part (takes f) (λ m. if on g m then raise_held l.qty m else m) o.lines (each (λ m. off f (raise_held l.qty) (takes f) (λ n. refl) (takes_off f) (on g m) m (λ k. apart f g m e k)) o.lines)), (map_part (adds f) (λ m. if on g m then raise_held l.qty m else m) o.lines (each (λ m. off f (raise_held l.qty) (adds f) (λ n. refl) (adds_off f) (on g m) m (λ k. apart f g m e k)) o.lines)), adds, adds_off, apart, each, off, parts_lines, takes, takes_off)
-hold_parts f g l o i e open_is plain false = grind (arith, (takes_off f (new_line l) (subst (λ n. same_name f n ≡ false) (sym i) e)), (adds_off f (new_line l) (subst (λ n. same_name f n ≡ false) (sym i) e)), (total-push (takes f) o.lines (new_line l)), (total-push (adds f) o.lines (new_line l)), adds, parts_lines, takes)
-
-two_off : (x y : Bool) → (x || y) ≡ false → (x || (y || false)) ≡ false
-two_off b y e = grind arith
+hold_parts f g l o i e open_is plain true = grind (arith, (map_part (takes f) (λ m. if on g m then raise_held l.qty m else m) o.lines (each (λ m. off f (raise_held l.qty) (takes f) (λ n. refl) (grind arith) (on g m) m (λ k. apart f g m e k)) o.lines)), (map_part (adds f) (λ m. if on g m then raise_held l.qty m else m) o.lines (each (λ m. off f (raise_held l.qty) (adds f) (λ n. refl) (grind arith) (on g m) m (λ k. apart f g m e k)) o.lines)), adds, apart, each, off, parts_lines, takes)
+hold_parts f g l o i e open_is plain false = grind (arith, (total-push (takes f) o.lines (new_line l)), (total-push (adds f) o.lines (new_line l)), adds, parts_lines, takes)
 
 same_field : (A : Ledger) (key : List ℕ) (c : Command) → Good A → FirstFailure (checks A c) None → (f : Field) → changes_field A c f.name ≡ false → SameNumbers A (accept A (record { key = key; command = c })) f
 same_field A key (command.Field b a lo hi start) g h f e = (refl, refl, refl)
 same_field A key (command.Deliver b a q) g h f e = let m = other_move A (name_of b a) (pos q) f _ refl e in ((omega (arith, ints)), refl, refl)
 same_field A key (command.Writeoff b a q) g h f e = let m = other_move A (name_of b a) (neg_ℤ (pos q)) f _ refl e in ((omega (arith, ints)), refl, refl)
 same_field A key (command.Open n until lines) g h f e = other_order A n Plain until lines f e
-same_field A key (command.Transfer n until a from to q) g h f e = other_order A n Transfer until (transfer_lines a from to q) f (two_off (same_name f.name (name_of from a)) (same_name f.name (name_of to a)) e)
+same_field A key (command.Transfer n until a from to q) g h f e = other_order A n Transfer until (transfer_lines a from to q) f (grind arith)
 same_field A key (command.More n way b a q) g h f e = let p = all_pass (checks A (command.More n way b a q)) h in
     same_numbers A (λ o. if o.number == n then add_hold (record { way = way; branch = b; article = a; qty = q }) o else o) A.clock A.kept f
     (each-both (λ o x y. parts_if f.name (o.number == n) o (add_hold (record { way = way; branch = b; article = a; qty = q }) o) (λ t. hold_parts f.name (name_of b a) (record { way = way; branch = b; article = a; qty = q }) o refl e (x t) (y t) (is_some (line_on o (name_of b a)))))
@@ -290,17 +269,17 @@ same_field A key (command.Use n b a q) g h f e = let p = all_pass (checks A (com
     A.orders (opened A n g p.1.0 p.1.1.0))
 same_field A key (command.Release n b a q) g h f e = let p = all_pass (checks A (command.Release n b a q)) h in let k = or_false _ _ e in
     same_numbers A (λ o. if o.number == n then change_lines (name_of b a) (lower_held q) o else o) A.clock A.kept f
-    (each-both (λ o x y. parts_if f.name (o.number == n) o (change_lines (name_of b a) (lower_held q) o) (λ t. parts_off f.name (name_of b a) (lower_held q) o (λ m. refl) (x t) (off_each f.name (name_of b a) (is_transfer o) o.lines k.0 (second_false _ _ t y))))
+    (each-both (λ o x y. parts_if f.name (o.number == n) o (change_lines (name_of b a) (lower_held q) o) (λ t. parts_off f.name (name_of b a) (lower_held q) o (λ m. refl) (x t) (off_each f.name (name_of b a) (is_transfer o) o.lines k.0 (cc))))
     A.orders (opened A n g p.1.0 p.1.1.0) (any_none (λ o. o.number == n && (is_transfer o && has_line_on f.name o)) A.orders k.1))
 same_field A key (command.Commit n) g h f e =
     same_numbers A (λ o. if o.number == n then set_state Committed o else o) A.clock A.kept f
-    (each-imp (λ o y. parts_if f.name (o.number == n) o (set_state Committed o) (λ t. parts_state f.name Committed o (second_false _ _ t y))) A.orders (any_none (λ o. o.number == n && has_line_on f.name o) A.orders e))
+    (each-imp (λ o y. parts_if f.name (o.number == n) o (set_state Committed o) (λ t. parts_state f.name Committed o (cc))) A.orders (any_none (λ o. o.number == n && has_line_on f.name o) A.orders e))
 same_field A key (command.Abort n) g h f e =
     same_numbers A (λ o. if o.number == n then set_state Aborted o else o) A.clock A.kept f
-    (each-imp (λ o y. parts_if f.name (o.number == n) o (set_state Aborted o) (λ t. parts_state f.name Aborted o (second_false _ _ t y))) A.orders (any_none (λ o. o.number == n && has_line_on f.name o) A.orders e))
+    (each-imp (λ o y. parts_if f.name (o.number == n) o (set_state Aborted o) (λ t. parts_state f.name Aborted o (cc))) A.orders (any_none (λ o. o.number == n && has_line_on f.name o) A.orders e))
 same_field A key (command.Expire now) g h f e =
     same_numbers A (λ o. if expires now o then set_state Aborted o else o) now A.kept f
-    (each-imp (λ o y. parts_if f.name (expires now o) o (set_state Aborted o) (λ t. parts_state f.name Aborted o (second_false _ _ t y))) A.orders (any_none (λ o. expires now o && has_line_on f.name o) A.orders e))
+    (each-imp (λ o y. parts_if f.name (expires now o) o (set_state Aborted o) (λ t. parts_state f.name Aborted o (cc))) A.orders (any_none (λ o. expires now o && has_line_on f.name o) A.orders e))
 
 sup_unique : (A : Ledger) (f : Field) (a b : ℤ) → IsSupremum A f a → IsSupremum A f b → a ≡ b
 sup_unique A f a b h k = grind arith

@@ -184,16 +184,13 @@ number_of_made A c o passed made = by (order_number c) refl
     by None e = absurd (true≢false (sym (sym (ap is_some (no_number A c e)) ∙ ap is_some made)))
     by (Some n) e = ap (λ k. Some k) (sym (number_is o.number n (numbered n (next A c).orders (made_there A c n passed e ∙ made))))
 
-pub fields_stay : (A : Ledger) (c : Command) (n : ℕ) → order_number c ≡ Some n → (next A c).fields ≡ A.fields
-fields_stay b c n e = grind arith
-
 -- the order that is made is a good one of the next ledger
 pub made_good : (A : Ledger) (r : Request) (o : Order) → Accepts A r → order_after A r.command ≡ Some o → IsGoodOrder (accept A r) o
 made_good A r o a made = each-found (IsGoodOrder (accept A r)) (λ m. m.number == o.number) o (accept A r).orders a.after.orders (made_there A r.command o.number a.accepted.1 (number_of_made A r.command o a.accepted.1 made) ∙ made)
 
 -- the field of one of its lines is there
 pub line_there : (A : Ledger) (r : Request) (o : Order) (l : Line) → Accepts A r → order_after A r.command ≡ Some o → find (on (line_name l)) o.lines ≡ Some l → IsSome (field_named A (line_name l))
-line_there A r o l a made found = grind (arith, (fields_stay A r.command o.number (number_of_made A r.command o a.accepted.1 made)), (made_good A r o a made), each-found, number_of_made)
+line_there A r o l a made found = grind (arith, (made_good A r o a made), each-found, number_of_made)
 
 -- one line more
 pub lines_step : (A : Ledger) (r : Request) (lines ls : List Line) (i : ℕ) (x : Line) (C D : List (Name × FieldEntry)) → lines ≡ ls → i < length ls → x ≡ get_or ls i x → Each (IsChangedField A r) C

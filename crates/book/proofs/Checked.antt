@@ -44,14 +44,6 @@ no iff e h = true≢false (sym (iff.1 h) ∙ e)
 
 -- ---- an amount more on an order
 
--- a kind that is not the kind of transfers
-pub no_transfer_kind : (k : Kind) → sameb the_type k Transfer ≡ false → IsFalse (transfer_kind k)
-no_transfer_kind b e = grind arith
-
--- an open order that is no transfer, where the checks of its lines find nothing
-pub may_hold : (o : Order) (w : Way) (f : Name) (fault : Option (Refusal × ℕ)) → IsTrue (is_open o) → IsFalse (is_transfer o) → FirstFailure (hold_checks o w f) fault → is_some fault ≡ false → MayHoldMore f w o
-may_hold o w f b opened plain held none = grind arith
-
 -- the checks that its line makes, and the one of the bound
 abbrev of_line : Ledger → ℕ → Way → Name → List Check
 of_line A n w f = check (OfLine A n f (λ l. l.way ≢ w)) OtherWay ∷ check (OfOrder A n (λ o. IsNone (line_on o f) × (MAX_ORDER_LINES ≤ length o.lines))) TooManyLines ∷ []
@@ -83,4 +75,4 @@ more_decides A n w f q o e fault found good room ordered numbered opened plain t
     asked = record { way = w; branch = f.branch; article = f.article; qty = q }
 
     more : FirstFailure (of_bound A n w f q) found
-    more = has_bound A (next A (More n w f.branch f.article q)) w f q 0 found (more_test A n asked 0 good (rw numbered (may_hold o w f fault opened plain held none))) bounded
+    more = has_bound A (next A (More n w f.branch f.article q)) w f q 0 found (more_test A n asked 0 good (rw numbered (grind arith))) bounded

@@ -217,9 +217,6 @@ all_pass [] h = tt
 all_pass (c ∷ cs) (inl h) = absurd (none-is-not-some (c.refusal, c.line) h.1)
 all_pass (c ∷ cs) (inr h) = (h.0, all_pass cs h.1)
 
-pub open_there : (o : Option Order) → (IsNone o → ⊥) → (IsSomeAnd o (λ o. IsFalse (is_open o)) → ⊥) → IsSomeAnd o (λ o. is_open o ≡ true)
-open_there b h k = grind arith
-
 -- The order is open, and its line on f has q left.
 abbrev pub Usable : Name → ℕ → Order → Type 0
 Usable f q o = (is_open o ≡ true) × IsSomeAnd (line_on o f) (λ l. l.used + q ≤ l.held)
@@ -228,15 +225,11 @@ pub usable_there : (f : Name) (q : ℕ) (o : Option Order) → (IsNone o → ⊥
     → (IsSomeAnd o (λ o. IsSomeAnd (line_on o f) (λ l. l.held < l.used + q)) → ⊥) → IsSomeAnd o (Usable f q)
 usable_there f q x a b c d = grind arith
 
--- on a transfer both lines have the same left, else the one line on the field
-pair_left : (f : Name) (q : ℕ) (ls : List Line) → IsTransferPair ls → IsSomeAnd (find (on f) ls) (λ l. l.used + q ≤ l.held) → Each (λ l. l.used + q ≤ l.held) ls
-pair_left f q b p h = grind arith
-
 pub left_on : (f : Name) (q : ℕ) (o : Order) → Fine o → Usable f q o → Each (λ l. (is_transfer o || on f l) ≡ true → l.used + q ≤ l.held) o.lines
 left_on f q o fine u = step (is_transfer o) refl
   where
     step : (b : Bool) → is_transfer o ≡ b → Each (λ l. (b || on f l) ≡ true → l.used + q ≤ l.held) o.lines
-    step true e = each-imp (λ l h _. h) o.lines (pair_left f q o.lines (fine.pair e) u.1)
+    step true e = each-imp (λ l h _. h) o.lines (grind arith)
     step false e = at_line (λ l. l.used + q ≤ l.held) f o.lines (fine.sound.one f) u.1
 
 pub line_step : (b : Bool) (l new : Line) → l.used ≤ l.held → (b ≡ true → LineStep l new) → LineStep l (if b then new else l)
@@ -269,12 +262,12 @@ better-change f q change o c fine u = let s = steps f q change (is_transfer o) o
 
 fit-commit : (A : Ledger) (key : List ℕ) (n : ℕ) → Fit A → FirstFailure (checks A (command.Commit n)) None → Fit (accept A (record { key = key; command = command.Commit n }))
 fit-commit A key n fit h = let p = all_pass (checks A (command.Commit n)) h in
-    let there = at_number (λ o. is_open o ≡ true) n A.orders fit.numbers (open_there (order_numbered A n) p.0 p.1.0) in
+    let there = at_number (λ o. is_open o ≡ true) n A.orders fit.numbers (grind arith) in
     fit-changed A (λ o. if o.number == n then set_state Committed o else o) _ _ fit (each-both (λ o fine e. better_if (o.number == n) o (set_state Committed o) fine (λ y. better-commit o fine (e y))) A.orders fit.orders there)
 
 fit-abort : (A : Ledger) (key : List ℕ) (n : ℕ) → Fit A → FirstFailure (checks A (command.Abort n)) None → Fit (accept A (record { key = key; command = command.Abort n }))
 fit-abort A key n fit h = let p = all_pass (checks A (command.Abort n)) h in
-    let there = at_number (λ o. is_open o ≡ true) n A.orders fit.numbers (open_there (order_numbered A n) p.0 p.1.0) in
+    let there = at_number (λ o. is_open o ≡ true) n A.orders fit.numbers (grind arith) in
     fit-changed A (λ o. if o.number == n then set_state Aborted o else o) _ _ fit (each-both (λ o fine e. better_if (o.number == n) o (set_state Aborted o) fine (λ y. better-abort o fine (e y))) A.orders fit.orders there)
 
 expired_open : (b c : Bool) → (b && c) ≡ true → b ≡ true

@@ -8,14 +8,14 @@ use Rattle.book.specs.declared.order.Kind.TheVariants.{Transfer}
 use Rattle.book.specs.Ledger.{Field}
 use Rattle.book.specs.Outcomes.{total, IsSafe}
 use Rattle.book.proofs.Sums.{each, each-imp, each-both, each-map}
-use Rattle.book.proofs.Staying.{name_cmp_total, equal_name, other_number, other_key, lt_is, StillThere, line_kept, order_kept, same_number, move_kept, apart_lines, Parts, not_full, not_many, changed, changing, stating, expiring, using}
+use Rattle.book.proofs.Staying.{name_cmp_total, equal_name, other_number, other_key, lt_is, StillThere, line_kept, order_kept, same_number, move_kept, apart_lines, Parts, not_many, changed, changing, stating, expiring, using}
 use Rattle.book.proofs.Bounds.{OneOn, Sound, takes, adds, takes-not_negative, adds-not_negative, room_from_safe, HasRoom}
 use Rattle.book.proofs.Closing.{fit_from_good, fit-accept, all_pass, AllPass, name_is, sounds_from_good, at_number}
 use Rattle.book.proofs.Asked.{each-insert, none_found, same_self, fresh-push}
 use Rattle.book.proofs.Growing.{Room, none_if_not_some, room-order}
 use Rattle.book.proofs.Raising.{sound-more, raised}
 use Rattle.book.proofs.Safety.{safe_after, takes_more, not_false}
-use Rattle.book.proofs.Lists.{each-unmap, each-two, each-all, each-of-push, sorted-insert, sorted-push, cmp_less, distinct-insert, length-insert, length-of-map, length-of-push, count-insert, count-map, find-insert, total-has}
+use Rattle.book.proofs.Lists.{each-unmap, each-two, each-all, each-of-push, sorted-insert, sorted-push, distinct-insert, length-insert, length-of-map, length-of-push, count-insert, count-map, find-insert, total-has}
 
 -- what is held on a field that is there is a level
 
@@ -68,10 +68,7 @@ held_levels B good room = each-imp (λ o p e. of_order o e p.0 p.1) B.orders
 -- a delivery and a write-off
 moving : (A : Ledger) (f : Name) (z : ℤ) (kept : List Kept) → Good A → length kept ≡ places A + 1 → IsSome (field_named A f) → IsQty (nat_abs z) → places A + open_orders A + 1 ≤ 200000
     → Parts (record (with_move f z A) { kept = kept })
-moving A f z kept g more there size room = grind (arith, cmp_less, each-imp, each-of-push, move_kept, order_kept, sorted-push)
-
-size-neg : (q : ℕ) → nat_abs (neg_ℤ (pos q)) ≡ q
-size-neg b = grind arith
+moving A f z kept g more there size room = grind (arith, each-imp, each-of-push, move_kept, order_kept, sorted-push)
 
 -- a new field
 fielding : (A : Ledger) (f : Field) (kept : List Kept) → Good A → IsGoodField f → length kept ≡ places A + 1 → (IsSome (field_named A f.name) → ⊥) → (10000 ≤ length A.fields → ⊥) → places A + open_orders A + 1 ≤ 200000
@@ -187,9 +184,6 @@ adding A n l kept g more full there qty takes_it fits sound room =
     by B o true still x t fit s v = held_more B o still x (t refl) (is_some (line_on o name)) (fit refl) s v
     by B o false still x t fit s v = order_kept A B still o x
 
-few_more : (f : Name) (o : Option Order) → (IsNone o → ⊥) → (IsSomeAnd o (λ o. IsNone (line_on o f) × (64 ≤ length o.lines)) → ⊥) → IsSomeAnd o (λ o. IsNone (line_on o f) → length o.lines ≤ 63)
-few_more f b there h = grind arith
-
 one_lines : (A : Ledger) (n : ℕ) (k : Kind) (u : ℕ) (before ls : List OpenLine) → ((g : Name) → OneOn g (map new_line before)) → AllPass (line_checks A (new_order n k u) before ls) → (g : Name) → OneOn g (map new_line (before ++ ls))
 one_lines A n k u before [] one p = subst (λ ls. (g : Name) → OneOn g (map new_line ls)) (sym (append-nil before)) one
 one_lines A n k u before (l ∷ ls) one p = subst (λ ls. (g : Name) → OneOn g (map new_line ls)) (append_assoc before (l ∷ []) ls)
@@ -204,34 +198,34 @@ quantities ls h = each-imp (λ (l : OpenLine) (x : IsOpenLine l). x.qty) ls (rec
 
 parts_accept : (A : Ledger) (key : List ℕ) (c : Command) → Good A → IsInRange c → FirstFailure (checks A c) None → Parts (accept A (record { key = key; command = c }))
 parts_accept A key (command.Field b a lo hi start) g i h = let p = all_pass (checks A (command.Field b a lo hi start)) h in
-    fielding A (record { name = record { branch = b; article = a }; lo = lo; hi = hi; start = start }) _ g (record { branch = i.0; article = i.1; lo = i.2; hi = i.3; start = i.4 }) (kept_more A _) p.1.1.0 p.1.0 (not_full _ p.0)
+    fielding A (record { name = record { branch = b; article = a }; lo = lo; hi = hi; start = start }) _ g (record { branch = i.0; article = i.1; lo = i.2; hi = i.3; start = i.4 }) (kept_more A _) p.1.1.0 p.1.0 (omega arith)
 parts_accept A key (command.Deliver b a q) g i h = let p = all_pass (checks A (command.Deliver b a q)) h in
-    moving A (record { branch = b; article = a }) (pos q) _ g (kept_more A _) (not_false _ p.1.0) i.2 (not_full _ p.0)
+    moving A (record { branch = b; article = a }) (pos q) _ g (kept_more A _) (not_false _ p.1.0) i.2 (omega arith)
 parts_accept A key (command.Writeoff b a q) g i h = let p = all_pass (checks A (command.Writeoff b a q)) h in
-    moving A (record { branch = b; article = a }) (neg_ℤ (pos q)) _ g (kept_more A _) (not_false _ p.1.0) (subst IsQty (sym (size-neg q)) i.2) (not_full _ p.0)
+    moving A (record { branch = b; article = a }) (neg_ℤ (pos q)) _ g (kept_more A _) (not_false _ p.1.0) (subst IsQty (sym (grind arith)) i.2) (omega arith)
 parts_accept A key (command.Open n until lines) g i h = let p = all_pass (checks A (command.Open n until lines)) h in
     let r = room-order A n Plain until lines (sounds_from_good A g) g.fields_in_order (fit_from_good A g).room p.1.1.1.1 in
-    opening A n Plain until lines _ g (kept_more A _) i.0 i.1 i.2.some i.2.fits (quantities lines i.2) (λ e. absurd (true≢false (sym e))) p.1.1.1.1 p.1.1.0 p.1.0 (not_full _ p.0) r.1 (one_lines A n Plain until [] lines (λ _. tt) p.1.1.1.1)
+    opening A n Plain until lines _ g (kept_more A _) i.0 i.1 i.2.some i.2.fits (quantities lines i.2) (λ e. absurd (true≢false (sym e))) p.1.1.1.1 p.1.1.0 p.1.0 (omega arith) r.1 (one_lines A n Plain until [] lines (λ _. tt) p.1.1.1.1)
 parts_accept A key (command.Transfer n until a from to q) g i h = let p = all_pass (checks A (command.Transfer n until a from to q)) h in
     let ls : List OpenLine = transfer_lines a from to q in
     let r = room-order A n Transfer until ls (sounds_from_good A g) g.fields_in_order (fit_from_good A g).room p.1.1.1.1 in
-    opening A n Transfer until ls _ g (kept_more A _) i.0 i.1 (omega arith) (omega arith) (i.5, (i.5, tt)) (λ _. (refl, refl, refl, refl, refl)) p.1.1.1.1 p.1.1.0 p.1.0 (not_full _ p.0) r.1 (one_lines A n Transfer until [] ls (λ _. tt) p.1.1.1.1)
+    opening A n Transfer until ls _ g (kept_more A _) i.0 i.1 (omega arith) (omega arith) (i.5, (i.5, tt)) (λ _. (refl, refl, refl, refl, refl)) p.1.1.1.1 p.1.1.0 p.1.0 (omega arith) r.1 (one_lines A n Transfer until [] ls (λ _. tt) p.1.1.1.1)
 parts_accept A key (command.More n way b a q) g i h = let p = all_pass (checks A (command.More n way b a q)) h in
     let f : Name = record { branch = b; article = a } in
     let l : OpenLine = record { way = way; branch = b; article = a; qty = q } in
     let t = at_number (MayHoldMore f way) n A.orders g.orders_in_order (takes_more f way (order_numbered A n) p.1.0 p.1.1.0 p.1.1.1.0 p.1.1.1.1.1.0) in
-    let few = at_number (λ o. IsNone (line_on o f) → length o.lines ≤ 63) n A.orders g.orders_in_order (few_more f (order_numbered A n) p.1.0 p.1.1.1.1.1.1.0) in
+    let few = at_number (λ o. IsNone (line_on o f) → length o.lines ≤ 63) n A.orders g.orders_in_order (grind arith) in
     let sounds = sounds_from_good A g in
     let sound : Each Sound (change_order n (add_hold l) A).orders = sound-more A n l sounds (each-both (λ o s k e. ((k e).0, raised l o s (k e))) A.orders sounds t) in
-    adding A n l _ g (kept_more A _) (not_full _ p.0) (not_false _ p.1.1.1.1.0) i.3 t few sound
+    adding A n l _ g (kept_more A _) (omega arith) (not_false _ p.1.1.1.1.0) i.3 t few sound
     (room_from_safe (accept A (record { key = key; command = command.More n way b a q })) sound (safe_after A (record { key = key; command = command.More n way b a q }) g h))
 parts_accept A key (command.Use n b a q) g i h = let p = all_pass (checks A (command.Use n b a q)) h in
-    using A n (record { branch = b; article = a }) (raise_used q) _ (λ l. (refl, omega arith)) g (kept_more A _) (not_full _ p.0) (fit-accept A key (command.Use n b a q) tt (fit_from_good A g) h)
+    using A n (record { branch = b; article = a }) (raise_used q) _ (λ l. (refl, omega arith)) g (kept_more A _) (omega arith) (fit-accept A key (command.Use n b a q) tt (fit_from_good A g) h)
 parts_accept A key (command.Release n b a q) g i h = let p = all_pass (checks A (command.Release n b a q)) h in
-    using A n (record { branch = b; article = a }) (lower_held q) _ (λ l. (refl, omega arith)) g (kept_more A _) (not_full _ p.0) (fit-accept A key (command.Release n b a q) tt (fit_from_good A g) h)
+    using A n (record { branch = b; article = a }) (lower_held q) _ (λ l. (refl, omega arith)) g (kept_more A _) (omega arith) (fit-accept A key (command.Release n b a q) tt (fit_from_good A g) h)
 parts_accept A key (command.Commit n) g i h = let p = all_pass (checks A (command.Commit n)) h in stating A n Committed _ refl g (kept_more A _) p.0 p.1.0
 parts_accept A key (command.Abort n) g i h = let p = all_pass (checks A (command.Abort n)) h in stating A n Aborted _ refl g (kept_more A _) p.0 p.1.0
-parts_accept A key (command.Expire now) g i h = let p = all_pass (checks A (command.Expire now)) h in expiring A now _ g i (kept_more A _) (not_full _ p.0)
+parts_accept A key (command.Expire now) g i h = let p = all_pass (checks A (command.Expire now)) h in expiring A now _ g i (kept_more A _) (omega arith)
 
 keeping : (A : Ledger) (r : Request) → Good A → IsKey r.key → IsInRange r.command → kept_under A r.key ≡ None → Parts (accept A r) → IsSafe (accept A r) → Good (accept A r)
 keeping A r g key range none p safe =

@@ -3,7 +3,7 @@ use Rattle.std.proofs.Common.{◌≡◌, ◌∙◌, ℕ, ◌+◌, append-nil, ap
 use Rattle.book.proofs.Prelude.{AllZip, AreNumbered, AreOthers, BeginsOther, Each, Head, IsLineTold, IsStrictlySortedBy, Line, LineCells, LineRow, Order, TellOrders, common_steps, flat_map-append, head_of, line_cells, line_row, lines_from, order_lines}
 use Rattle.std.proofs.Math.ListN.{drop_of_length-le}
 use Rattle.book.proofs.Lists.{length-of-map}
-use Rattle.book.proofs.Told.{after, not_empty, others_after, same_first, same_rest}
+use Rattle.book.proofs.Told.{after, others_after, same_first, same_rest}
 
 drop-suc : {X : Type 0} (xs : List X) (i : ℕ) (d : X) → i < length xs → drop i xs ≡ get_or xs i d ∷ drop (suc i) xs
 drop-suc [] i d lt = absurd (omega arith)
@@ -52,17 +52,17 @@ number-cells n (r ∷ rows) h = (h.0, number-cells n rows h.1)
 pub split_rows : (n k : ℕ) (own : List Line) (rest run tail : List LineCells) → AreOthers n rest → Each (λ r. r.number ≡ pos n) run → BeginsOtherCells n tail → lines_from n k own ++ rest ≡ run ++ tail
     → (lines_from n k own ≡ run) × (rest ≡ tail)
 split_rows n k [] rest [] tail others all end e = (refl, e)
-split_rows n k [] [] (r ∷ run) tail others all end e = absurd (not_empty _ _ (sym e))
+split_rows n k [] [] (r ∷ run) tail others all end e = absurd (cc)
 split_rows n k [] (x ∷ rest) (r ∷ run) tail others all end e = absurd (others.0 (ap (λ (r : LineCells). r.number) (same_first _ _ _ _ e) ∙ all.0))
-split_rows n k (l ∷ own) rest [] [] others all end e = absurd (not_empty _ _ e)
+split_rows n k (l ∷ own) rest [] [] others all end e = absurd (cc)
 split_rows n k (l ∷ own) rest [] (t ∷ tail) others all end e = absurd (end (sym (ap (λ (r : LineCells). r.number) (same_first _ _ _ _ e))))
 split_rows n k (l ∷ own) rest (r ∷ run) tail others all end e = let more = split_rows n (k + 1) own rest run tail others all.1 end (same_rest (line_row n k l) r (lines_from n (k + 1) own ++ rest) (run ++ tail) e) in grind arith
 
 -- rows of an order's lines count on
 pub numbered-from : (n k : ℕ) (own : List Line) (rows : List LineRow) → lines_from n k own ≡ map line_cells rows → AreNumbered k rows
 numbered-from n k [] [] e = tt
-numbered-from n k [] (r ∷ rows) e = absurd (not_empty _ _ (sym e))
-numbered-from n k (l ∷ own) [] e = absurd (not_empty _ _ e)
+numbered-from n k [] (r ∷ rows) e = absurd (cc)
+numbered-from n k (l ∷ own) [] e = absurd (cc)
 numbered-from n k (l ∷ own) (r ∷ rows) e = (sym (ap (λ (r : LineCells). r.nr) (same_first _ _ _ _ e)), numbered-from n (k + 1) own rows (same_rest (line_row n k l) (line_cells r) (lines_from n (k + 1) own) (map line_cells rows) e))
 
 -- ---- the orders from here on
@@ -78,7 +78,7 @@ tail-end lines t = by t.orders t.tell
   where
     by : (os : List Order) → TellOrders os [] lines → lines ≡ []
     by [] tell = sym tell.lines_are
-    by (o ∷ os) tell = absurd (not_empty _ _ tell.heads_are)
+    by (o ∷ os) tell = absurd (cc)
 
 -- the first order: its own lines, and the rows of the others behind them
 pub record First (h : Head) (heads : List Head) (lines : List LineCells) : Type 0 where
@@ -93,7 +93,7 @@ unfolding IsStrictlySortedBy
 tail-first h heads lines t = by t.orders t.sorted t.tell
   where
     by : (os : List Order) → IsStrictlySortedBy nat_cmp (map (λ o. o.number) os) → TellOrders os (h ∷ heads) lines → First h heads lines
-    by [] sorted tell = absurd (not_empty _ _ (sym tell.heads_are))
+    by [] sorted tell = absurd (cc)
     by (o ∷ os) sorted tell =
         let is : o.number ≡ h.number = ap (λ (h : Head). h.number) (same_first (head_of o) h (map head_of os) heads tell.heads_are) in
         record {

@@ -10,6 +10,3 @@ no_room n m more entries order same within full = omega arith
 
 pub has_room : (n entries order : ℕ) → 1 ≤ room_left n entries order → (n < entries) × (n < order)
 has_room n entries order room = (omega arith, omega arith)
-
-pub room_used : (n entries order : ℕ) → 1 ≤ room_left n entries order → room_left (n + 1) entries order + 1 ≡ room_left n entries order
-room_used n entries order room = omega arith

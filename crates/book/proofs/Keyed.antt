@@ -26,11 +26,8 @@ nothing_there f b h = grind arith
 
 -- ---- fields
 
-same_both : (a b : Ordering) → is_eq (ordering_then a b) ≡ (is_eq a && is_eq b)
-same_both c b = grind arith
-
 pub same_field : (f g : Name) → same_name f g ≡ is_eq (name_cmp f g)
-same_field f g = rw (← is_eq-slice_cmp f.branch g.branch, ← is_eq-slice_cmp f.article g.article) (sym (same_both (slice_cmp nat_cmp f.branch g.branch) (slice_cmp nat_cmp f.article g.article)))
+same_field f g = rw (← is_eq-slice_cmp f.branch g.branch, ← is_eq-slice_cmp f.article g.article) (sym (grind arith))
 
 pub equal_field : (f g : Name) → name_cmp f g ≡ Equal → f ≡ g
 equal_field f g h = name_is f g (equal_name f g h)

@@ -38,15 +38,12 @@ any_none_there n test os e = none_any (λ m. m.number == n && test m) os (each-i
 opened_lines_on : (f : Name) (ls : List OpenLine) → list_any (on f) (map new_line ls) ≡ list_any (λ l. same_name f (name_of l.branch l.article)) ls
 opened_lines_on f ls = any-map (on f) new_line ls
 
-or_false : (a b : Bool) → (a || (b || false)) ≡ (a || b)
-or_false x b = grind arith
-
 ended_on : (A : Ledger) (n : ℕ) (f : Name) (change : Order → Order) → Good A → ((o : Order) → has_line_on f (change o) ≡ has_line_on f o) → some_has_line f (option_map change (order_numbered A n)) ≡ order_is A n (has_line_on f)
 ended_on A n f change g same = grind (arith, any_none_there, any_one)
 
 -- a command that opens an order or ends one changes the fields of its lines
 pub lined : (A : Ledger) (c : Command) (f : Name) → Good A → changes_state c ≡ true → some_has_line f (order_after A c) ≡ changes_field A c f
-lined b c f g e = grind (arith, ended_on, opened_lines_on, or_false)
+lined b c f g e = grind (arith, ended_on, opened_lines_on)
 
 lowered_on : (b : Bool) (f : Name) (q : ℕ) (l : Line) → on f (if b then lower_held q l else l) ≡ on f l
 lowered_on b f q l = grind arith
@@ -66,9 +63,6 @@ find-changed : (n : ℕ) (change : Order → Order) → ((o : Order) → (change
 find-changed n change keeps [] = refl
 find-changed n change keeps (o ∷ os) = let more = find-changed n change keeps os in grind arith
 
-held_number : (l : OpenLine) (o : Order) → (add_hold l o).number ≡ o.number
-held_number l o = grind arith
-
 -- a command that opens an order finds none under its number
 pub none_opened : (A : Ledger) (c : Command) (n : ℕ) → FirstFailure (checks A c) None → order_number c ≡ Some n → is_opening c ≡ true → order_numbered A n ≡ None
 none_opened b c n h e is = grind arith
@@ -76,16 +70,13 @@ none_opened b c n h e is = grind arith
 opened_there : (n : ℕ) (o : Order) (A : Ledger) → (o.number == n) ≡ true → order_numbered A n ≡ None → find (λ m. m.number == n) (insert_in_order (λ a b. nat_lt a.number b.number) o A.orders) ≡ Some o
 opened_there n o A e none = find-new n (λ a b. nat_lt a.number b.number) o A.orders e (none_found (λ m. m.number == n) A.orders none)
 
-same_number : (n : ℕ) → (n == n) ≡ true
-same_number n = grind arith
-
 changed_there : (A : Ledger) (n m : ℕ) (change : Order → Order) → ((o : Order) → (change o).number ≡ o.number) → Some n ≡ Some m
     → find (λ o. o.number == m) (map (λ o. if o.number == n then change o else o) A.orders) ≡ option_map change (order_numbered A n)
 changed_there A n m change keeps e = subst (λ k. find (λ o. o.number == k) (map (λ o. if o.number == n then change o else o) A.orders) ≡ option_map change (order_numbered A n)) (some_is n m e) (find-changed n change keeps A.orders)
 
 -- the order that the command makes is the next ledger's under its number
 pub made_there : (A : Ledger) (c : Command) (n : ℕ) → FirstFailure (checks A c) None → order_number c ≡ Some n → find (λ o. o.number == n) (next A c).orders ≡ order_after A c
-made_there x c n h e = grind (arith, changed_there, held_number, none_opened, opened_there, same_number, some_is)
+made_there x c n h e = grind (arith, changed_there, none_opened, opened_there, some_is)
 
 pub no_number : (A : Ledger) (c : Command) → order_number c ≡ None → order_after A c ≡ None
 no_number b c e = grind arith
@@ -129,9 +120,6 @@ total-changed g change n (o ∷ os) sorted = let more = total-changed g change n
 expired_part : (g : Order → ℤ) → ((o : Order) → g (set_state Aborted o) ≡ pos 0) → (b : Bool) (o : Order) → g (if b then set_state Aborted o else o) ≡ (if b then pos 0 else g o)
 expired_part g ends b o = grind arith
 
-pub nothing_more : (z : ℤ) → z ≡ z +ℤ pos 0
-nothing_more z = omega (arith, ints)
-
 total-opened : (g : Order → ℤ) (n : ℕ) (o : Order) (A : Ledger) → order_numbered A n ≡ None → total g (insert_in_order (λ a b. nat_lt a.number b.number) o A.orders) ≡ total (λ o. if o.number == n then pos 0 else g o) A.orders +ℤ g o
 total-opened g n o A none = grind (arith, (none_found (λ m. m.number == n) A.orders none), (total-insert g (λ a b. nat_lt a.number b.number) o A.orders), all_left)
 
@@ -146,4 +134,4 @@ total-next g ends A (command.Release n b a q) good h = total-changed g (change_l
 total-next g ends A (command.Commit n) good h = total-changed g (set_state Committed) n A.orders good.orders_in_order
 total-next g ends A (command.Abort n) good h = total-changed g (set_state Aborted) n A.orders good.orders_in_order
 total-next g ends A (command.Expire now) good h = grind (arith, (each (λ o. expired_part g ends (expires now o) o) A.orders), (total-map g (λ o. if expires now o then set_state Aborted o else o) A.orders), expired_part, total-eq)
-total-next g ends A c good h = nothing_more (total g A.orders)
+total-next g ends A c good h =  omega (arith, ints)

@@ -109,9 +109,6 @@ find_self (o ∷ os) sorted = (ap (λ b. if b then Some o else find (λ m. m.num
     later [] h k = tt
     later (m ∷ ms) h k = (ap (λ b. if b then Some o else find (λ k. k.number == m.number) os) (less_other o.number m.number (less_is o.number m.number h.0)) ∙ k.0, later ms h.1 k.1)
 
-number_kept : (b : Bool) (o : Order) → (if b then set_state Aborted o else o).number ≡ o.number
-number_kept b o = grind arith
-
 and_false : (a b : Bool) → (b ≡ true → a ≡ false) → (a && b) ≡ false
 and_false x b h = grind arith
 
@@ -156,18 +153,12 @@ orders_expired A now g =
     let t : OrderCells → Bool = λ row. changes_order A (command.Expire now) row.number in
     ap (filter t) (map-twice h A.orders)
     ∙ sym (filter-each t (λ o. order_row (h o)) (λ o. order_row (set_state Aborted o)) (expires now) A.orders
-    (each-imp (λ o e. ap (λ n. list_any (λ p. expires now p && int_eq (pos n) (pos p.number)) A.orders) (number_kept (expires now o) o) ∙ number_expires now o A.orders g.orders_in_order e) A.orders (find_self A.orders g.orders_in_order))
+    (each-imp (λ o e. ap (λ n. list_any (λ p. expires now p && int_eq (pos n) (pos p.number)) A.orders) (grind arith) ∙ number_expires now o A.orders g.orders_in_order e) A.orders (find_self A.orders g.orders_in_order))
     (each (λ o e. ap (λ b. order_row (if b then set_state Aborted o else o)) (sym e)) A.orders))
-
-no_state : (c : Command) (x : Option Order) → changes_state c ≡ false → own_order_rows c x ≡ []
-no_state c x e = grind arith
-
-with_state : (c : Command) (x : Option Order) → changes_state c ≡ true → row_there x ≡ own_order_rows c x
-with_state c x e = grind arith
 
 own_order : (A : Ledger) (key : List ℕ) (c : Command) (n : ℕ) → Good (accept A (record { key = key; command = c })) → FirstFailure (checks A c) None → order_number c ≡ Some n → changes_state c ≡ true
     → filter (λ row. int_eq row.number (pos n)) (map order_row (accept A (record { key = key; command = c })).orders) ≡ own_order_rows c (order_after A c)
-own_order A key c n k h is state = order_one n (next A c).orders k.orders_in_order ∙ ap row_there (made_there A c n h is) ∙ with_state c (order_after A c) state
+own_order A key c n k h is state = order_one n (next A c).orders k.orders_in_order ∙ ap row_there (made_there A c n h is) ∙ grind arith
 
 orders_changed : (A : Ledger) (key : List ℕ) (c : Command) → Good A → Good (accept A (record { key = key; command = c })) → FirstFailure (checks A c) None
     → filter (λ row. changes_order A c row.number) (map order_row (accept A (record { key = key; command = c })).orders) ≡ changed_orders A c
@@ -176,9 +167,9 @@ orders_changed A key (command.Transfer n until a from to q) g k h = own_order A 
 orders_changed A key (command.Commit n) g k h = own_order A key (command.Commit n) n k h refl refl
 orders_changed A key (command.Abort n) g k h = own_order A key (command.Abort n) n k h refl refl
 orders_changed A key (command.Expire now) g k h = orders_expired A now g
-orders_changed A key (command.More n way b a q) g k h = filter-false (map order_row (next A (command.More n way b a q)).orders) ∙ sym (no_state (command.More n way b a q) (order_after A (command.More n way b a q)) refl)
-orders_changed A key (command.Use n b a q) g k h = filter-false (map order_row (next A (command.Use n b a q)).orders) ∙ sym (no_state (command.Use n b a q) (order_after A (command.Use n b a q)) refl)
-orders_changed A key (command.Release n b a q) g k h = filter-false (map order_row (next A (command.Release n b a q)).orders) ∙ sym (no_state (command.Release n b a q) (order_after A (command.Release n b a q)) refl)
+orders_changed A key (command.More n way b a q) g k h = filter-false (map order_row (next A (command.More n way b a q)).orders) ∙ sym (grind arith)
+orders_changed A key (command.Use n b a q) g k h = filter-false (map order_row (next A (command.Use n b a q)).orders) ∙ sym (grind arith)
+orders_changed A key (command.Release n b a q) g k h = filter-false (map order_row (next A (command.Release n b a q)).orders) ∙ sym (grind arith)
 orders_changed A key c g k h = filter-false (map order_row A.orders)
 
 -- ---- lines

@@ -55,9 +55,6 @@ first_is (c ∷ cs) d = by d.0 (first_is cs d.1)
     by (inl h) r = (Some (c.refusal, c.line), inl (h, refl))
     by (inr h) r = (r.0, inr (h, r.1))
 
-decided : (A : Ledger) (c : Command) → AsksNoStock c → Decided (checks A c)
-decided b c w = grind arith
-
 answered : (A : Ledger) (r : Request) → AsksNoStock r.command → (reply : Reply) × (B : Ledger) × Answers A r reply B
 answered A r w = by_key (kept_under A r.key)
   where
@@ -66,7 +63,7 @@ answered A r w = by_key (kept_under A r.key)
     by_found (Some e) f = (Refused e.0 e.1, A, (Some e, f, (refl, refl)))
 
     by_key : (o : Option Kept) → (reply : Reply) × (B : Ledger) × MatchOption o (AnswersNew A r reply B) (λ k. (reply ≡ (if same_command k.command r.command then Done k.place else Refused KeyReused 0)) × (B ≡ A))
-    by_key None = let f = first_is (checks A r.command) (decided A r.command w) in by_found f.0 f.1
+    by_key None = let f = first_is (checks A r.command) (grind arith) in by_found f.0 f.1
     by_key (Some k) = (if same_command k.command r.command then Done k.place else Refused KeyReused 0, A, (refl, refl))
 
 honoured : (A : Ledger) (rs : List Request) → IsFuture rs → Fit A → (replies : List Reply) × (B : Ledger) × Runs A rs replies B × Stands B

@@ -35,13 +35,7 @@ apart_next key xs i x lt is apart off = subst (λ ys. IsDistinct nat_eq (map key
 other_number : (m n : ℕ) → nat_eq m n ≡ false → n ≡ m → ⊥
 other_number m n e f = grind (arith, e, f)
 
-or_true : (b : Bool) → (b || true) ≡ true
-or_true b = grind arith
-
-or_false : (b : Bool) → (b || false) ≡ b
-or_false b = grind arith
-
 -- its mark is set
 pub marks_next : {X : Type 0} (key : X → ℕ) (xs : List X) (i : ℕ) (x : X) (marks : List Bool) (p : ℕ) → i < length xs → x ≡ get_or xs i x → key x < length marks
     → get_or marks p true ≡ list_any (λ y. nat_eq (key y) p) (take i xs) → get_or (set marks (key x) true) p true ≡ list_any (λ y. nat_eq (key y) p) (take (i + 1) xs)
-marks_next key xs i x marks p lt is within h = grind (arith, (take-step xs i x lt is), (or_false (nat_eq (key x) p)), get_or-set_other, get_or-set_same, list_any-append, or_true, other_number)
+marks_next key xs i x marks p lt is within h = grind (arith, (take-step xs i x lt is), get_or-set_other, get_or-set_same, list_any-append, other_number)

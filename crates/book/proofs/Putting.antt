@@ -43,9 +43,6 @@ unfolding IsStrictlySortedBy
 put_changed n h o [] rising there same = absurd (true≢false (sym (ap is_some there)))
 put_changed n h o (m ∷ ms) rising there same = let more = put_changed n h o ms rising.1 in grind (arith, (tied_itself nat_cmp_total m.number), found_later, nat_cmp_total, none_after, same_Some, unchanged)
 
-hold_number : (f : Name) (l : OpenLine) (o : Order) (b : Bool) → (if b then hold_more f l.qty o else record o { lines = o.lines ++ new_line l ∷ [] }).number ≡ o.number
-hold_number f l o b = grind arith
-
 module _ (A : Ledger) (good : Good A) (o : Order) where
   changed : (n : ℕ) (h : Order → Order) → ((o : Order) → (h o).number ≡ o.number) → (x : Option Order) → order_numbered A n ≡ x → option_map h x ≡ Some o → put_row number_cmp o A.orders ≡ map (λ m. if m.number == n then h m else m) A.orders
   changed n h same b there made = grind (arith, put_changed, same_Some)
@@ -54,7 +51,7 @@ module _ (A : Ledger) (good : Good A) (o : Order) where
   made_put : (c : Command) → FirstFailure (checks A c) None → order_after A c ≡ Some o → put_row number_cmp o A.orders ≡ (next A c).orders
   made_put (command.Open n until lines) h made = subst (λ (x : Order). put_row number_cmp x A.orders ≡ (next A (command.Open n until lines)).orders) (same_Some _ o made) (put_new _ A.orders (none_opened A (command.Open n until lines) n h refl refl))
   made_put (command.Transfer n until a from to q) h made = subst (λ (x : Order). put_row number_cmp x A.orders ≡ (next A (command.Transfer n until a from to q)).orders) (same_Some _ o made) (put_new _ A.orders (none_opened A (command.Transfer n until a from to q) n h refl refl))
-  made_put (command.More n way b a q) h made = grind (arith, changed, hold_number)
+  made_put (command.More n way b a q) h made = grind (arith, changed)
   made_put (command.Use n b a q) h made = changed n (change_lines (name_of b a) (raise_used q)) (λ o. refl) (order_numbered A n) refl made
   made_put (command.Release n b a q) h made = changed n (change_lines (name_of b a) (lower_held q)) (λ o. refl) (order_numbered A n) refl made
   made_put (command.Commit n) h made = changed n (set_state Committed) (λ o. refl) (order_numbered A n) refl made

@@ -10,13 +10,13 @@ use Rattle.book.proofs.Closing.{name_is, sounds_from_good}
 use Rattle.book.proofs.Lists.{each-two, each-unmap}
 use Rattle.book.proofs.Runs.{in_order}
 use Rattle.book.proofs.Sums.{each-imp}
-use Rattle.book.proofs.Told.{each-join, not_empty, same_first, same_kind, same_pos, same_rest, same_state}
+use Rattle.book.proofs.Told.{each-join, same_first, same_kind, same_pos, same_rest, same_state}
 
 -- ---- rows, one by one
 
 each_row : {X Y V : Type 0} (f : X → V) (g : Y → V) (Q : X → Type 0) (P : Y → Type 0) → ((x : X) (y : Y) → Q x → g y ≡ f x → P y) → (xs : List X) (ys : List Y) → Each Q xs → map g ys ≡ map f xs → Each P ys
 each_row f g Q P to [] [] all e = tt
-each_row f g Q P to [] (y ∷ ys) all e = absurd (not_empty _ _ e)
+each_row f g Q P to [] (y ∷ ys) all e = absurd (cc)
 each_row f g Q P to (x ∷ xs) [] all e = tt
 each_row f g Q P to (x ∷ xs) (y ∷ ys) all e = (to x y all.0 (same_first _ _ _ _ e), each_row f g Q P to xs ys all.1 (same_rest (g y) (f x) (map g ys) (map f xs) e))
 
@@ -138,10 +138,10 @@ lines_told A rows g e =
 -- the heads that the rows tell are those of the orders
 pub heads_same : (hs : List Head) (rows : List OrderRow) (os : List Order) → AllZip IsHeadTold hs rows → map order_cells rows ≡ map order_row os → map head_of os ≡ hs
 heads_same [] [] [] z e = refl
-heads_same [] [] (o ∷ os) z e = absurd (not_empty _ _ (sym e))
+heads_same [] [] (o ∷ os) z e = absurd (cc)
 heads_same [] (r ∷ rows) os z e = absurd z
 heads_same (h ∷ hs) [] os z e = absurd z
-heads_same (h ∷ hs) (r ∷ rows) [] z e = absurd (not_empty _ _ e)
+heads_same (h ∷ hs) (r ∷ rows) [] z e = absurd (cc)
 heads_same (h ∷ hs) (r ∷ rows) (o ∷ os) z e = let more = heads_same hs rows os z.1 (same_rest (order_cells r) (order_row o) (map order_cells rows) (map order_row os) e) in grind arith
 
 -- ---- rows, all together

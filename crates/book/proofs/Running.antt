@@ -13,7 +13,7 @@ use Rattle.book.proofs.InOrder.{rows_are, rows_of}
 use Rattle.book.proofs.Keyed.{equal_field}
 use Rattle.book.proofs.Runs.{in_order}
 use Rattle.book.proofs.Sums.{each-imp, total-zero}
-use Rattle.book.proofs.Told.{not_empty, same_first, same_pos, same_rest}
+use Rattle.book.proofs.Told.{same_first, same_pos, same_rest}
 use Rattle.book.proofs.Viewed.{Contains-of_find}
 use Rattle.book.proofs.Walked.{each-at}
 
@@ -124,8 +124,8 @@ entry_cells_are e branch article lo hi start value inf sup b a l h s v i u = λ 
 -- entries whose rows are those of a ledger are its fields, up to date
 pub entries_of_rows : (A : Ledger) (es : List (Name × FieldEntry)) (fs : List Field) → map entry_row es ≡ map (field_row A) fs → (map field_of es ≡ fs) × Each (IsUpToDate A) es
 entries_of_rows A [] [] is = (refl, tt)
-entries_of_rows A [] (f ∷ fs) is = absurd (not_empty _ _ (sym is))
-entries_of_rows A (e ∷ es) [] is = absurd (not_empty _ _ is)
+entries_of_rows A [] (f ∷ fs) is = absurd (cc)
+entries_of_rows A (e ∷ es) [] is = absurd (cc)
 entries_of_rows A (e ∷ es) (f ∷ fs) is = let more = entries_of_rows A es fs (same_rest (entry_row e) (field_row A f) (map entry_row es) (map (field_row A) fs) is) in grind (arith, (same_rest (entry_row e) (field_row A f) (map entry_row es) (map (field_row A) fs) is), (same_first (entry_row e) (field_row A f) (map entry_row es) (map (field_row A) fs) is), same_field)
 
 -- ---- entries put in

@@ -4,7 +4,7 @@ use Rattle.book.proofs.Prelude.{Aborted, Each, Good, IsDistinct, IsGoodField, Is
 use Rattle.std.specs.declared.cmp.Ordering.TheVariants.{Greater}
 use Rattle.book.proofs.Sums.{each, each-imp, each-both, each-map}
 use Rattle.book.proofs.Bounds.{OneOn}
-use Rattle.book.proofs.Closing.{Fit, Fine, open_there}
+use Rattle.book.proofs.Closing.{Fit, Fine}
 use Rattle.book.proofs.Asked.{same_self}
 use Rattle.book.proofs.Lists.{each-unmap, length-of-map, count-map, count-fewer}
 
@@ -83,9 +83,6 @@ pub record Parts (B : Ledger) : Type 0 where
   pub few_orders : length B.orders ≤ 100000
   pub room : places B + open_orders B ≤ 200000
 
-pub not_full : (n : ℕ) → (200000 < n → ⊥) → n ≤ 200000
-not_full n h = omega arith
-
 pub not_many : (m n : ℕ) → (m ≤ n → ⊥) → n + 1 ≤ m
 not_many m n h = omega arith
 
@@ -105,7 +102,7 @@ stating A n s kept closed g more there open_is =
     let B : Ledger = changed h A.clock kept A in
     changing A h A.clock kept g g.clock more (λ o. same_number (o.number == n) o (set_state s o) refl)
     (each-imp (λ o x. either (IsGoodOrder B) (o.number == n) o (set_state s o) (order_kept A B (λ f y. y) o x) (λ _. order_stated A B (λ f y. y) s o x)) A.orders g.orders)
-    (let c = count-fewer is_open (λ o. o.number == n) (set_state s) A.orders (λ _. closed) (open_there (order_numbered A n) there open_is) in let r = g.places_fit in omega arith)
+    (let c = count-fewer is_open (λ o. o.number == n) (set_state s) A.orders (λ _. closed) (grind arith) in let r = g.places_fit in omega arith)
 
 pub expiring : (A : Ledger) (now : ℕ) (kept : List Kept) → Good A → IsMoment now → length kept ≡ places A + 1 → places A + open_orders A + 1 ≤ 200000
     → Parts (changed (λ o. if is_open o && nat_le o.until now then set_state Aborted o else o) now kept A)

@@ -165,10 +165,6 @@ added-at name part (f ∷ fs) (n ∷ ns) (suc i) s long at =
 
 -- ---- what entries add
 
--- a line adds its part to its field alone
-pub part-line : (s : State) (l : Line) (f : Name) → only_on (line_name l) (part_of_line s l) f ≡ lines_numbers s (l ∷ []) f
-part-line s l f = grind arith
-
 -- one move more
 pub move-step : (ms : List MoveEntry) (i : ℕ) (m : MoveEntry) → i < length ms → m ≡ get_or ms i m → (f : Name) → plus (numbers_on (take i ms) [] f) (numbers_on (m ∷ []) [] f) ≡ numbers_on (take (i + 1) ms) [] f
 move-step ms i m h e f = grind (arith, (total-step (moved_by_move f) ms i m h e), same-numbers)
@@ -176,10 +172,6 @@ move-step ms i m h e f = grind (arith, (total-step (moved_by_move f) ms i m h e)
 -- one line more
 pub line-step : (s : State) (ls : List Line) (i : ℕ) (l : Line) → i < length ls → l ≡ get_or ls i l → (f : Name) → plus (lines_numbers s (take i ls) f) (lines_numbers s (l ∷ []) f) ≡ lines_numbers s (take (i + 1) ls) f
 line-step s ls i l h e f = grind (arith, common_steps, (total-step (taken_by_line f) ls i l h e), (total-step (added_by_line f) ls i l h e), (total-step (moved_by_line f) ls i l h e), same-numbers)
-
--- no lines come to nothing
-pub lines-none : (s : State) (f : Name) → lines_numbers s [] f ≡ nothing
-lines-none c f = grind arith
 
 -- one order more
 pub order-step : (os : List (ℕ × OrderEntry)) (i : ℕ) (o : ℕ × OrderEntry) → i < length os → o ≡ get_or os i o → (f : Name) → plus (numbers_on [] (take i os) f) (lines_numbers o.1.state o.1.lines.items f) ≡ numbers_on [] (take (i + 1) os) f

@@ -19,13 +19,10 @@ same_first x y xs ys e = cc
 pub same_rest : {X : Type 0} (x y : X) (xs ys : List X) → x ∷ xs ≡ y ∷ ys → xs ≡ ys
 same_rest x y xs ys e = cc
 
-pub not_empty : {X : Type 0} (x : X) (xs : List X) → x ∷ xs ≡ [] → ⊥
-not_empty x xs e = cc
-
 pub map_tells : {X Y : Type 0} (P : X → Type 0) (f : X → Y) → ((a b : X) → P a → P b → f a ≡ f b → a ≡ b) → (xs ys : List X) → Each P xs → Each P ys → map f xs ≡ map f ys → xs ≡ ys
 map_tells P f one [] [] h k e = refl
-map_tells P f one [] (y ∷ ys) h k e = absurd (not_empty (f y) (map f ys) (sym e))
-map_tells P f one (x ∷ xs) [] h k e = absurd (not_empty (f x) (map f xs) e)
+map_tells P f one [] (y ∷ ys) h k e = absurd (cc)
+map_tells P f one (x ∷ xs) [] h k e = absurd (cc)
 map_tells P f one (x ∷ xs) (y ∷ ys) h k e = let a = one x y h.0 k.0 (same_first (f x) (f y) (map f xs) (map f ys) e) in let b = map_tells P f one xs ys h.1 k.1 (same_rest (f x) (f y) (map f xs) (map f ys) e) in λ i. a i ∷ b i
 
 -- fields
@@ -65,13 +62,10 @@ same_state c b e = grind arith
 same_line : (n nr : ℕ) (l m : Line) → line_row n nr l ≡ line_row n nr m → l ≡ m
 same_line n nr l m e = grind arith
 
-no_other : (n nr : ℕ) (l : Line) (rest rows : List LineCells) → AreOthers n rows → line_row n nr l ∷ rest ≡ rows → ⊥
-no_other n nr l rest b o e = grind arith
-
 same_lines : (n nr : ℕ) (ls ms : List Line) (rest others : List LineCells) → AreOthers n rest → AreOthers n others → lines_from n nr ls ++ rest ≡ lines_from n nr ms ++ others → (ls ≡ ms) × (rest ≡ others)
 same_lines n nr [] [] rest others p q e = (refl, e)
-same_lines n nr [] (m ∷ ms) rest others p q e = absurd (no_other n nr m (lines_from n (nr + 1) ms ++ others) rest p (sym e))
-same_lines n nr (l ∷ ls) [] rest others p q e = absurd (no_other n nr l (lines_from n (nr + 1) ls ++ rest) others q e)
+same_lines n nr [] (m ∷ ms) rest others p q e = absurd (grind arith)
+same_lines n nr (l ∷ ls) [] rest others p q e = absurd (grind arith)
 same_lines n nr (l ∷ ls) (m ∷ ms) rest others p q e =
     let a = same_line n nr l m (same_first _ _ _ _ e) in
     let b = same_lines n (nr + 1) ls ms rest others p q (same_rest _ _ _ _ e) in
@@ -95,8 +89,8 @@ after o os h = each-imp (λ m e. less_is o.number m.number e) os (each-unmap (λ
 same_orders : (os ps : List Order) → IsStrictlySortedBy nat_cmp (map (λ o. o.number) os) → IsStrictlySortedBy nat_cmp (map (λ o. o.number) ps) → map order_row os ≡ map order_row ps → flat_map order_lines os ≡ flat_map order_lines ps → os ≡ ps
 unfolding IsStrictlySortedBy
 same_orders [] [] h k e d = refl
-same_orders [] (p ∷ ps) h k e d = absurd (not_empty _ _ (sym e))
-same_orders (o ∷ os) [] h k e d = absurd (not_empty _ _ e)
+same_orders [] (p ∷ ps) h k e d = absurd (cc)
+same_orders (o ∷ os) [] h k e d = absurd (cc)
 same_orders (o ∷ os) (p ∷ ps) h k e d =
     let row = same_first (order_row o) (order_row p) (map order_row os) (map order_row ps) e in
     let n = same_pos o.number p.number (ap (λ r. r.number) row) in
@@ -118,8 +112,8 @@ any (x ∷ xs) = (tt, any xs)
 
 same_numbers : (os ps : List Order) → map order_row os ≡ map order_row ps → map (λ o. o.number) os ≡ map (λ o. o.number) ps
 same_numbers [] [] e = refl
-same_numbers [] (p ∷ ps) e = absurd (not_empty _ _ (sym e))
-same_numbers (o ∷ os) [] e = absurd (not_empty _ _ e)
+same_numbers [] (p ∷ ps) e = absurd (cc)
+same_numbers (o ∷ os) [] e = absurd (cc)
 same_numbers (o ∷ os) (p ∷ ps) e = let more = same_numbers os ps (same_rest (order_row o) (order_row p) (map order_row os) (map order_row ps) e) in grind arith
 
 pub rows_tell : (A : Ledger) (C : Content) → IsRowsOf A C → TellsLedger A C

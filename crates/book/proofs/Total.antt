@@ -31,9 +31,6 @@ in_turn (c ∷ cs) d = by d.0 (λ h. in_turn cs (d.1 h))
     by (inl h) rest = (Some (c.refusal, c.line), inl (h, refl))
     by (inr h) rest = let r = rest h in (r.0, inr (h, r.1))
 
-dec_iff : {P Q : Type 0} → P ↔ Q → Decided Q → Decided P
-dec_iff e b = grind arith
-
 dec_less : (m n : ℕ) → Decided (m < n)
 dec_less m n = elim (dec_lt m n) [ yes h ↦ inl h | no h ↦ inr h ]
 
@@ -43,30 +40,15 @@ dec_upto m n = elim (dec_le m n) [ yes h ↦ inl h | no h ↦ inr h ]
 dec_less_z : (a b : ℤ) → Decided (a <ℤ b)
 dec_less_z a b = by_lt_z a b (λ h. inl h) (λ h. inr (λ k. omega (arith, ints)))
 
-dec_is : (b c : Bool) → Decided (b ≡ c)
-dec_is b x = grind arith
-
-dec_some : {X : Type 0} (P : X → Type 0) (o : Option X) → ((x : X) → Decided (P x)) → Decided (IsSomeAnd o P)
-dec_some b y d = grind arith
-
-dec_way : (w v : Way) → Decided (w ≢ v)
-dec_way b x = grind arith
-
-dec_both : {P Q : Type 0} → Decided P → Decided Q → Decided (P × Q)
-dec_both b d = grind arith
-
-dec_not : {P : Type 0} → Decided P → Decided (P → ⊥)
-dec_not b = grind arith
-
 dec_bound : (w : Way) (B : Ledger) (f : Name) (i : ℕ) → Each Sound B.orders → Decided (bound w B f i).fails
-dec_bound b x f i s = grind (arith, dec_iff, dec_less_z, dec_some, falls_below_iff, rises_above_iff)
+dec_bound b x f i s = grind (arith, dec_less_z, falls_below_iff, rises_above_iff)
 
 found_lines : (A : Ledger) (n : ℕ) (k : Kind) (u : ℕ) (before ls : List OpenLine) → Each Sound A.orders → ((g : Name) → OneOn g (map new_line before)) → InTurn (line_checks A (new_order n k u) before ls)
 found_lines A n k u before [] s one = tt
 found_lines A n k u before (l ∷ ls) s one = (
-  (dec_is _ _),
+  (grind arith),
   λ same. (
-    (dec_is _ _),
+    (grind arith),
     λ there.
         let one' : (g : Name) → OneOn g (map new_line (before ++ l ∷ [])) = fresh-push before l one (none_if_not_some (find (on (line_name (new_line l))) (map new_line before)) same) in (
           (dec_bound l.way (with_order (new_order n k u (before ++ l ∷ [])) A) (line_name (new_line l)) (length before + 1)
@@ -77,25 +59,25 @@ found_lines A n k u before (l ∷ ls) s one = (
 )
 
 found : (A : Ledger) (c : Command) → Good A → InTurn (checks A c)
-found A (command.Field b a lo hi start) g = ((dec_less _ _), λ _. ((dec_upto _ _), λ _. ((dec_is _ _), λ _. ((dec_not (dec_both (dec_upto lo start) (dec_upto start hi))), λ _. tt))))
-found A (command.Deliver b a q) g = ((dec_less _ _), λ _. ((dec_is _ _), λ _. ((dec_bound Add (next A (command.Deliver b a q)) (record { branch = b; article = a }) 0 (sounds_from_good A g)), λ _. tt)))
-found A (command.Writeoff b a q) g = ((dec_less _ _), λ _. ((dec_is _ _), λ _. ((dec_bound Take (next A (command.Writeoff b a q)) (record { branch = b; article = a }) 0 (sounds_from_good A g)), λ _. tt)))
-found A (command.Open n until lines) g = ((dec_less _ _), λ _. ((dec_upto _ _), λ _. ((dec_is _ _), λ _. ((dec_upto _ _), λ _. found_lines A n Plain until [] lines (sounds_from_good A g) (λ _. tt)))))
-found A (command.Transfer n until a from to q) g = ((dec_less _ _), λ _. ((dec_upto _ _), λ _. ((dec_is _ _), λ _. ((dec_upto _ _), λ _. found_lines A n Transfer until [] (transfer_lines a from to q) (sounds_from_good A g) (λ _. tt)))))
+found A (command.Field b a lo hi start) g = ((dec_less _ _), λ _. ((dec_upto _ _), λ _. ((grind arith), λ _. ((grind arith), λ _. tt))))
+found A (command.Deliver b a q) g = ((dec_less _ _), λ _. ((grind arith), λ _. ((dec_bound Add (next A (command.Deliver b a q)) (record { branch = b; article = a }) 0 (sounds_from_good A g)), λ _. tt)))
+found A (command.Writeoff b a q) g = ((dec_less _ _), λ _. ((grind arith), λ _. ((dec_bound Take (next A (command.Writeoff b a q)) (record { branch = b; article = a }) 0 (sounds_from_good A g)), λ _. tt)))
+found A (command.Open n until lines) g = ((dec_less _ _), λ _. ((dec_upto _ _), λ _. ((grind arith), λ _. ((dec_upto _ _), λ _. found_lines A n Plain until [] lines (sounds_from_good A g) (λ _. tt)))))
+found A (command.Transfer n until a from to q) g = ((dec_less _ _), λ _. ((dec_upto _ _), λ _. ((grind arith), λ _. ((dec_upto _ _), λ _. found_lines A n Transfer until [] (transfer_lines a from to q) (sounds_from_good A g) (λ _. tt)))))
 found A (command.More n way b a q) g = let f : Name = record { branch = b; article = a } in let l : OpenLine = record { way = way; branch = b; article = a; qty = q } in (
   (dec_less _ _),
   λ _. (
-    (dec_is _ _),
+    (grind arith),
     λ p1. (
-      (dec_some _ (order_numbered A n) (λ o. dec_is _ _)),
+      (grind arith),
       λ p2. (
-        (dec_some _ (order_numbered A n) (λ o. dec_is _ _)),
+        (grind arith),
         λ p3. (
-          (dec_is _ _),
+          (grind arith),
           λ _. (
-            (dec_some _ (order_numbered A n) (λ o. dec_some _ (line_on o f) (λ m. dec_way m.way way))),
+            (grind arith),
             λ p5. (
-              (dec_some _ (order_numbered A n) (λ o. dec_both (dec_is _ _) (dec_upto _ _))),
+              (grind arith),
               λ _.
                   ((dec_bound way (next A (command.More n way b a q)) f 0 (more_sound l (takes_more f way (order_numbered A n) p1 p2 p3 p5))), λ _. tt),
             ),
@@ -110,8 +92,8 @@ found A (command.More n way b a q) g = let f : Name = record { branch = b; artic
     more_sound l t = sound-more A n l (sounds_from_good A g) (each-both (λ o s k e. ((k e).0, raised l o s (k e))) A.orders (sounds_from_good A g) (at_number (MayHoldMore (line_name (new_line l)) l.way) n A.orders g.orders_in_order t))
 found A (command.Use n b a q) g = grind arith
 found A (command.Release n b a q) g = grind arith
-found A (command.Commit n) g = ((dec_is _ _), λ _. ((dec_some _ (order_numbered A n) (λ o. dec_is _ _)), λ _. tt))
-found A (command.Abort n) g = ((dec_is _ _), λ _. ((dec_some _ (order_numbered A n) (λ o. dec_is _ _)), λ _. tt))
+found A (command.Commit n) g = ((grind arith), λ _. ((grind arith), λ _. tt))
+found A (command.Abort n) g = ((grind arith), λ _. ((grind arith), λ _. tt))
 found A (command.Expire now) g = ((dec_less _ _), λ _. ((dec_less _ _), λ _. tt))
 
 pub answered_if_good : (A : Ledger) (r : Request) → Good A → (reply : Reply) × (B : Ledger) × Answers A r reply B

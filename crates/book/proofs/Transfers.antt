@@ -6,7 +6,7 @@ use Rattle.book.specs.declared.order.State.TheVariants.{Open}
 use Rattle.book.specs.Ledger.{Field}
 use Rattle.book.specs.Outcomes.{total, moved}
 use Rattle.book.proofs.Sums.{each, each-imp, total-eq, total-sum, total-zero}
-use Rattle.book.proofs.Closing.{all_pass, name_is, open_there, less_is}
+use Rattle.book.proofs.Closing.{all_pass, name_is, less_is}
 use Rattle.book.proofs.Staying.{name_cmp_total}
 use Rattle.book.proofs.Lists.{each-unmap}
 
@@ -44,10 +44,6 @@ at_one article name z (f ∷ fs) sorted h = step (same_name name f.name) refl h 
         → total (one_part article name z) (f ∷ fs) ≡ (if bytes_eq name.article article then z else pos 0)
     step x t h more = grind (arith, at_none, each-imp, each-unmap, one_part, apart, here, others)
 
--- over the article's fields, the two lines of a transfer even out
-evens : (b : Bool) (v w : Way) (m n : ℕ) → v ≡ Take → w ≡ Add → m ≡ n → (if b then signed v m else pos 0) +ℤ (if b then signed w n else pos 0) ≡ pos 0
-evens x v w m n e d h = grind arith
-
 pair_evens : (A : Ledger) (article : List ℕ) (ls : List Line) → IsStrictlySortedBy name_cmp (map (λ f. f.name) A.fields) → IsTransferPair ls → Each (IsGoodLine A) ls
     → total (λ f. if bytes_eq f.name.article article then total (λ l. if on f.name l then signed l.way l.used else pos 0) ls else pos 0) A.fields ≡ pos 0
 unfolding one_part
@@ -62,7 +58,7 @@ pair_evens A article (l ∷ m ∷ []) sorted p g =
     (each (λ f. by (bytes_eq f.name.article article) (if on f.name l then signed l.way l.used else pos 0) (if on f.name m then signed m.way m.used else pos 0)) A.fields) in
     let d = total-sum (one_part article (line_name l) (signed l.way l.used)) (one_part article (line_name m) (signed m.way m.used)) A.fields in
     let e : (if bytes_eq l.article article then signed l.way l.used else pos 0) +ℤ (if bytes_eq m.article article then signed m.way m.used else pos 0) ≡ pos 0
-    = subst (λ t. (if bytes_eq l.article article then signed l.way l.used else pos 0) +ℤ (if bytes_eq t article then signed m.way m.used else pos 0) ≡ pos 0) p.2 (evens (bytes_eq l.article article) l.way m.way l.used m.used p.0 p.1 p.4) in
+    = subst (λ t. (if bytes_eq l.article article then signed l.way l.used else pos 0) +ℤ (if bytes_eq t article then signed m.way m.used else pos 0) ≡ pos 0) p.2 (grind arith) in
     c ∙ d ∙ (λ i. a i +ℤ b i) ∙ e
   where
     by : (b : Bool) (x y : ℤ) → (if b then (x +ℤ (y +ℤ pos 0)) else pos 0) ≡ (if b then x else pos 0) +ℤ (if b then y else pos 0)
@@ -129,7 +125,7 @@ total_stays A key n article g h t = by (order_numbered A n) refl t
     by None e t = absurd t
     by (Some o) e t =
         let p = all_pass (checks A (command.Commit n)) h in
-        let open_is : is_open o ≡ true = subst (λ x. IsSomeAnd x (λ o. is_open o ≡ true)) e (open_there (order_numbered A n) p.0 p.1.0) in
+        let open_is : is_open o ≡ true = subst (λ x. IsSomeAnd x (λ o. is_open o ≡ true)) e (grind arith) in
         let good = found_is (λ o. (IsTrue (is_transfer o) → IsTransferPair o.lines) × Each (IsGoodLine A) o.lines) n A.orders o (each-imp (λ o x. (x.transfer, x.lines)) A.orders g.orders) e in
         let a = total-eq (λ f. if bytes_eq f.name.article article then settled B f else pos 0) (λ f. (if bytes_eq f.name.article article then settled A f else pos 0) +ℤ (if bytes_eq f.name.article article then moved f.name (λ l. l.used) o else pos 0)) A.fields
         (each (λ f. each_field o e open_is f (bytes_eq f.name.article article)) A.fields) in
