@@ -1,26 +1,12 @@
 -- What the entries add up to on a field of the next ledger.
-use Rattle.std.proofs.Common.{◌≡◌, ℤ, pos, ◌+ℤ◌, if◌then◌else◌}
-use Rattle.words.specs.declared.command.Command.{Command}
+use Rattle.std.proofs.Common.{arith, ◌≡◌, ℤ, pos, ◌+ℤ◌, if◌then◌else◌}
+use Rattle.book.proofs.Prelude.{Command, Ledger, Move, Name, moved_by_command, next, same_name}
 use Rattle.words.specs.declared.command.Command.TheVariants as command
-use Rattle.book.specs.After.{moved_by_command}
-use Rattle.book.specs.Ledger.{Ledger, Move, Name, same_name}
-use Rattle.book.specs.Next.{next}
 use Rattle.book.specs.Outcomes.{total}
 use Rattle.book.proofs.Asked.{total-push}
-use Rattle.book.proofs.Made.{nothing_more}
 
 abbrev on_field : Name → Move → ℤ
 on_field f m = if same_name f m.field then m.amount else pos 0
 
 pub moved-next : (A : Ledger) (c : Command) (f : Name) → total (on_field f) (next A c).moves ≡ total (on_field f) A.moves +ℤ moved_by_command f c
-moved-next A (command.Deliver b a q) f = total-push (on_field f) A.moves _
-moved-next A (command.Writeoff b a q) f = total-push (on_field f) A.moves _
-moved-next A (command.Field b a lo hi start) f = nothing_more (total (on_field f) A.moves)
-moved-next A (command.Open n until lines) f = nothing_more (total (on_field f) A.moves)
-moved-next A (command.Transfer n until a from to q) f = nothing_more (total (on_field f) A.moves)
-moved-next A (command.More n way b a q) f = nothing_more (total (on_field f) A.moves)
-moved-next A (command.Use n b a q) f = nothing_more (total (on_field f) A.moves)
-moved-next A (command.Release n b a q) f = nothing_more (total (on_field f) A.moves)
-moved-next A (command.Commit n) f = nothing_more (total (on_field f) A.moves)
-moved-next A (command.Abort n) f = nothing_more (total (on_field f) A.moves)
-moved-next A (command.Expire now) f = nothing_more (total (on_field f) A.moves)
+moved-next b c f = grind (arith, total-push)

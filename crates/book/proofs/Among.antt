@@ -1,25 +1,14 @@
 -- Rows among changes, as changes are appended.
-use Rattle.std.proofs.Common.{◌≡◌, ◌∙◌, List, [], ◌∷◌, ◌++◌, ap, refl, sym}
+use Rattle.std.proofs.Common.{arith, ◌≡◌, ◌∙◌, List, [], ◌∷◌, ◌++◌, ap, refl, sym}
 use Rattle.std.proofs.lemmas.List.{append-nil, append_assoc}
-use Rattle.book.specs.After.{with_fields, with_kept, with_lines, with_moves, with_orders}
-use Rattle.book.specs.Rows.{Content, FieldCells, KeptCells, LineCells, MoveCells, OrderCells}
-use Rattle.book.specs.Tables.{field_cells, kept_cells, line_cells, move_cells, order_cells, rows_among, with_change}
-use Rattle.book.specs.declared.rows.Change.{Change}
+use Rattle.book.proofs.Prelude.{Change, Content, FieldCells, FieldRow, KeptCells, KeptRow, LineCells, LineRow, MoveRow, OrderCells, OrderRow, field_cells, kept_cells, line_cells, move_cells, order_cells, rows_among, with_fields, with_kept, with_lines, with_moves, with_orders}
+use Rattle.book.specs.Rows.{MoveCells}
+use Rattle.book.specs.Tables.{with_change}
 use Rattle.book.specs.declared.rows.Change.TheVariants as change
-use Rattle.book.specs.declared.rows.FieldRow.{FieldRow}
-use Rattle.book.specs.declared.rows.KeptRow.{KeptRow}
-use Rattle.book.specs.declared.rows.LineRow.{LineRow}
-use Rattle.book.specs.declared.rows.MoveRow.{MoveRow}
-use Rattle.book.specs.declared.rows.OrderRow.{OrderRow}
 
 field_last : (cs : List Change) (r : FieldRow) → rows_among (cs ++ change.Field r ∷ []) ≡ with_fields (field_cells r ∷ []) (rows_among cs)
 field_last [] r = refl
-field_last (change.Desk x ∷ cs) r = ap (with_change (change.Desk x)) (field_last cs r)
-field_last (change.Field x ∷ cs) r = ap (with_change (change.Field x)) (field_last cs r)
-field_last (change.Move x ∷ cs) r = ap (with_change (change.Move x)) (field_last cs r)
-field_last (change.Order x ∷ cs) r = ap (with_change (change.Order x)) (field_last cs r)
-field_last (change.Line x ∷ cs) r = ap (with_change (change.Line x)) (field_last cs r)
-field_last (change.Kept x ∷ cs) r = ap (with_change (change.Kept x)) (field_last cs r)
+field_last (c ∷ cs) r = let more = field_last cs r in grind arith
 
 -- one row more in that table
 pub field_pushed : (old new : List Change) (r : FieldRow) (cells : FieldCells) → new ≡ old ++ change.Field r ∷ [] → field_cells r ≡ cells → rows_among new ≡ with_fields (cells ∷ []) (rows_among old)
@@ -30,12 +19,7 @@ field_joined first mid last xs ys zs e f is = f ∙ ap (with_fields ys) e ∙ ap
 
 move_last : (cs : List Change) (r : MoveRow) → rows_among (cs ++ change.Move r ∷ []) ≡ with_moves (move_cells r ∷ []) (rows_among cs)
 move_last [] r = refl
-move_last (change.Desk x ∷ cs) r = ap (with_change (change.Desk x)) (move_last cs r)
-move_last (change.Field x ∷ cs) r = ap (with_change (change.Field x)) (move_last cs r)
-move_last (change.Move x ∷ cs) r = ap (with_change (change.Move x)) (move_last cs r)
-move_last (change.Order x ∷ cs) r = ap (with_change (change.Order x)) (move_last cs r)
-move_last (change.Line x ∷ cs) r = ap (with_change (change.Line x)) (move_last cs r)
-move_last (change.Kept x ∷ cs) r = ap (with_change (change.Kept x)) (move_last cs r)
+move_last (c ∷ cs) r = let more = move_last cs r in grind arith
 
 -- one row more in that table
 pub move_pushed : (old new : List Change) (r : MoveRow) (cells : MoveCells) → new ≡ old ++ change.Move r ∷ [] → move_cells r ≡ cells → rows_among new ≡ with_moves (cells ∷ []) (rows_among old)
@@ -43,28 +27,15 @@ move_pushed old new r cells e is = ap rows_among e ∙ move_last old r ∙ ap (�
 
 order_last : (cs : List Change) (r : OrderRow) → rows_among (cs ++ change.Order r ∷ []) ≡ with_orders (order_cells r ∷ []) (rows_among cs)
 order_last [] r = refl
-order_last (change.Desk x ∷ cs) r = ap (with_change (change.Desk x)) (order_last cs r)
-order_last (change.Field x ∷ cs) r = ap (with_change (change.Field x)) (order_last cs r)
-order_last (change.Move x ∷ cs) r = ap (with_change (change.Move x)) (order_last cs r)
-order_last (change.Order x ∷ cs) r = ap (with_change (change.Order x)) (order_last cs r)
-order_last (change.Line x ∷ cs) r = ap (with_change (change.Line x)) (order_last cs r)
-order_last (change.Kept x ∷ cs) r = ap (with_change (change.Kept x)) (order_last cs r)
+order_last (c ∷ cs) r = let more = order_last cs r in grind arith
 
 -- one row more in that table
 pub order_pushed : (old new : List Change) (r : OrderRow) (cells : OrderCells) → new ≡ old ++ change.Order r ∷ [] → order_cells r ≡ cells → rows_among new ≡ with_orders (cells ∷ []) (rows_among old)
 order_pushed old new r cells e is = ap rows_among e ∙ order_last old r ∙ ap (λ (x : OrderCells). with_orders (x ∷ []) (rows_among old)) is
 
-pub order_joined : (first mid last : Content) (xs ys zs : List OrderCells) → mid ≡ with_orders xs first → last ≡ with_orders ys mid → zs ≡ xs ++ ys → last ≡ with_orders zs first
-order_joined first mid last xs ys zs e f is = f ∙ ap (with_orders ys) e ∙ ap (λ (rows : List OrderCells). record first { orders = rows }) (append_assoc first.orders xs ys ∙ ap (λ (rows : List OrderCells). first.orders ++ rows) (sym is))
-
 line_last : (cs : List Change) (r : LineRow) → rows_among (cs ++ change.Line r ∷ []) ≡ with_lines (line_cells r ∷ []) (rows_among cs)
 line_last [] r = refl
-line_last (change.Desk x ∷ cs) r = ap (with_change (change.Desk x)) (line_last cs r)
-line_last (change.Field x ∷ cs) r = ap (with_change (change.Field x)) (line_last cs r)
-line_last (change.Move x ∷ cs) r = ap (with_change (change.Move x)) (line_last cs r)
-line_last (change.Order x ∷ cs) r = ap (with_change (change.Order x)) (line_last cs r)
-line_last (change.Line x ∷ cs) r = ap (with_change (change.Line x)) (line_last cs r)
-line_last (change.Kept x ∷ cs) r = ap (with_change (change.Kept x)) (line_last cs r)
+line_last (c ∷ cs) r = let more = line_last cs r in grind arith
 
 -- one row more in that table
 pub line_pushed : (old new : List Change) (r : LineRow) (cells : LineCells) → new ≡ old ++ change.Line r ∷ [] → line_cells r ≡ cells → rows_among new ≡ with_lines (cells ∷ []) (rows_among old)
@@ -75,16 +46,8 @@ line_joined first mid last xs ys zs e f is = f ∙ ap (with_lines ys) e ∙ ap (
 
 kept_last : (cs : List Change) (r : KeptRow) → rows_among (cs ++ change.Kept r ∷ []) ≡ with_kept (kept_cells r ∷ []) (rows_among cs)
 kept_last [] r = refl
-kept_last (change.Desk x ∷ cs) r = ap (with_change (change.Desk x)) (kept_last cs r)
-kept_last (change.Field x ∷ cs) r = ap (with_change (change.Field x)) (kept_last cs r)
-kept_last (change.Move x ∷ cs) r = ap (with_change (change.Move x)) (kept_last cs r)
-kept_last (change.Order x ∷ cs) r = ap (with_change (change.Order x)) (kept_last cs r)
-kept_last (change.Line x ∷ cs) r = ap (with_change (change.Line x)) (kept_last cs r)
-kept_last (change.Kept x ∷ cs) r = ap (with_change (change.Kept x)) (kept_last cs r)
+kept_last (c ∷ cs) r = let more = kept_last cs r in grind arith
 
 -- one row more in that table
 pub kept_pushed : (old new : List Change) (r : KeptRow) (cells : KeptCells) → new ≡ old ++ change.Kept r ∷ [] → kept_cells r ≡ cells → rows_among new ≡ with_kept (cells ∷ []) (rows_among old)
 kept_pushed old new r cells e is = ap rows_among e ∙ kept_last old r ∙ ap (λ (x : KeptCells). with_kept (x ∷ []) (rows_among old)) is
-
-pub kept_none : (old new : Content) → new ≡ old → new ≡ with_kept [] old
-kept_none old new e = e ∙ ap (λ (xs : List KeptCells). record old { kept = xs }) (sym (append-nil old.kept))

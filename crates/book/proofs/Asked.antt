@@ -1,26 +1,14 @@
 -- The model's tests of a request, over all outcomes, as the comparisons that a program makes.
+use Rattle.book.proofs.Prelude.{Add, Each, FallsBelow, Kind, Ledger, Line, Name, OpenLine, RisesAbove, Take, bytes_decides, common_steps, field_named, held_to_add, held_to_take, if_add, if_take, insert_in_order, ints, is_committed, is_open, line_name, new_line, new_order, on, places, same_name, settled, with_move, with_order}
 use Rattle.std.proofs.Common.{◌≡◌, ℕ, ◌+◌, ◌≤◌, ℤ, pos, ◌+ℤ◌, ◌-ℤ◌, neg_ℤ, ◌<ℤ◌, List, [], ◌∷◌, ◌++◌, map, find, Bool, true, false, is_some, IsSomeAnd, Some, None, refl, sym, ap, ◌∙◌, subst, arith, if◌then◌else◌, true≢false, ◌↔◌, nat_lt}
-use Rattle.std.proofs.lemmas.Int.{ints}
-use Rattle.std.specs.List.{AllByRecursion as Each}
-use lib.Pointwise.{bytes_decides}
-use Rattle.escrow.specs.declared.quantity.Way.TheVariants.{Take, Add}
-use Rattle.words.specs.declared.open_line.OpenLine.{OpenLine}
-use Rattle.book.specs.declared.order.Kind.{Kind}
-use Rattle.book.specs.declared.order.Line.{Line}
-use Rattle.book.specs.Ledger.{Name, Field, Ledger, on, is_open, is_committed, line_name, same_name, field_named, insert_in_order, places}
-use Rattle.book.specs.Outcomes.{total, moved, settled, FallsBelow, RisesAbove}
-use Rattle.book.specs.Held.{if_take, if_add, held_to_take, held_to_add}
-use Rattle.book.specs.Next.{with_move, with_order, new_order, new_line}
+use Rattle.book.specs.Ledger.{Field}
+use Rattle.book.specs.Outcomes.{total, moved}
 use Rattle.book.proofs.Bounds.{OneOn, Sound, takes, adds, none-total, falls_below_iff, rises_above_iff}
 use Rattle.book.proofs.Closing.{name_is}
 
 pub total-insert : {X : Type 0} (g : X → ℤ) (p : X → X → Bool) (x : X) (xs : List X) → total g (insert_in_order p x xs) ≡ g x +ℤ total g xs
 total-insert g p x [] = refl
-total-insert g p x (y ∷ ys) = step (p x y) (total-insert g p x ys)
-  where
-    step : (b : Bool) → total g (insert_in_order p x ys) ≡ g x +ℤ total g ys → total g (if b then x ∷ y ∷ ys else y ∷ insert_in_order p x ys) ≡ g x +ℤ (g y +ℤ total g ys)
-    step true e = refl
-    step false e = omega (arith, ints)
+total-insert g p x (y ∷ ys) = let more = total-insert g p x ys in grind (arith, ints, common_steps)
 
 pub total-push : {X : Type 0} (g : X → ℤ) (xs : List X) (x : X) → total g (xs ++ x ∷ []) ≡ total g xs +ℤ g x
 total-push g [] x = omega (arith, ints)
@@ -28,11 +16,7 @@ total-push g (y ∷ ys) x = let e : total g (ys ++ x ∷ []) ≡ total g ys +ℤ
 
 pub each-insert : {X : Type 0} (P : X → Type 0) (p : X → X → Bool) (x : X) (xs : List X) → P x → Each P xs → Each P (insert_in_order p x xs)
 each-insert P p x [] h k = (h, tt)
-each-insert P p x (y ∷ ys) h k = step (p x y) (each-insert P p x ys h k.1)
-  where
-    step : (b : Bool) → Each P (insert_in_order p x ys) → Each P (if b then x ∷ y ∷ ys else y ∷ insert_in_order p x ys)
-    step true e = (h, k)
-    step false e = (k.0, e)
+each-insert P p x (y ∷ ys) h k = let more = each-insert P p x ys h k.1 in grind arith
 
 pub each-push : {X : Type 0} (P : X → Type 0) (xs : List X) (x : X) → Each P xs → P x → Each P (xs ++ x ∷ [])
 each-push P [] x h k = (k, tt)
@@ -48,8 +32,7 @@ none_found p [] e = tt
 none_found p (x ∷ xs) e = step (p x) refl e (λ k. none_found p xs k)
   where
     step : (b : Bool) → p x ≡ b → (if b then Some x else find p xs) ≡ None → (find p xs ≡ None → Each (λ x. p x ≡ false) xs) → Each (λ x. p x ≡ false) (x ∷ xs)
-    step true t e k = absurd (true≢false (ap is_some e))
-    step false t e k = (t, k e)
+    step b t e k = grind arith
 
 pub same_self : (f : Name) → same_name f f ≡ true
 same_self f = rw ((bytes_decides f.branch f.branch).1 refl, (bytes_decides f.article f.article).1 refl) refl
@@ -160,10 +143,7 @@ add_line_test A n k u ls l sound one none way = (λ h. named A.fields name _ _ (
 
 -- The test of a delivery and of a write-off is one comparison too.
 pub moved-settled : (A : Ledger) (name : Name) (z : ℤ) (f : Field) → f.name ≡ name → settled (with_move name z A) f ≡ settled A f +ℤ z
-moved-settled A name z f e =
-    let a = total-push (λ m. if same_name f.name m.field then m.amount else pos 0) A.moves (record { place = places A + 1; field = name; amount = z }) in
-    let b : (if same_name f.name name then z else pos 0) ≡ z = rw e (rw (same_self name) refl) in
-    omega (arith, ints)
+moved-settled A name z f e = grind (arith, common_steps, (same_self name), total-push, f.name, A.moves)
 
 pub write_off_test : (A : Ledger) (name : Name) (q : ℕ) → Each Sound A.orders
     → FallsBelow (with_move name (neg_ℤ (pos q)) A) name ↔ IsSomeAnd (field_named A name) (λ f. ((settled A f -ℤ held_to_take A f.name) -ℤ pos q) <ℤ pos f.lo)

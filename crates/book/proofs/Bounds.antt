@@ -1,13 +1,8 @@
 -- The least and the greatest result over all outcomes, by what is held.
 use Rattle.std.proofs.Common.{Option, Some, None, IsSomeAnd, ◌≡◌, ℕ, ◌≤◌, ℤ, pos, ◌+ℤ◌, ◌-ℤ◌, neg_ℤ, ◌≤ℤ◌, ◌<ℤ◌, List, [], ◌∷◌, Bool, true, false, ◌&&◌, ◌||◌, IsTrue, refl, sym, ◌∙◌, subst, arith, if◌then◌else◌, true≢false, ◌↔◌}
-use Rattle.std.proofs.lemmas.Int.{ints}
-use Rattle.std.specs.List.{AllByRecursion as Each, list_any}
-use Rattle.escrow.specs.declared.quantity.Way.{Way}
-use Rattle.escrow.specs.declared.quantity.Way.TheVariants.{Take, Add}
-use Rattle.book.specs.declared.order.Line.{Line}
-use Rattle.book.specs.Ledger.{Name, Field, Order, Ledger, on, is_open, field_named}
-use Rattle.book.specs.Outcomes.{total, signed, moved, settled, Outcome, IsOutcome, outcome_result, IsSafe, IsInfimum, IsSupremum, FallsBelow, RisesAbove, IsWithin}
-use Rattle.book.specs.Held.{if_take, if_add, held_to_take, held_to_add}
+use Rattle.book.proofs.Prelude.{Add, Each, FallsBelow, IsInfimum, IsSupremum, IsWithin, Ledger, Line, Name, Order, RisesAbove, Take, Way, field_named, held_to_add, held_to_take, if_add, if_take, ints, is_open, list_any, on, settled, signed}
+use Rattle.book.specs.Ledger.{Field}
+use Rattle.book.specs.Outcomes.{total, moved, Outcome, IsOutcome, outcome_result, IsSafe}
 use Rattle.book.proofs.Sums.{each-imp}
 
 -- at most one line is on the field
@@ -43,60 +38,31 @@ has w f ls = list_any (λ l. on f l && w l.way) ls
 
 -- one line, at any amount up to what is held
 
-line_low : (b : Bool) (w : Way) (a h : ℕ) → a ≤ h → neg_ℤ (if b then pos (if_take w h) else pos 0) ≤ℤ (if b then signed w a else pos 0)
-line_low true Take a h p = omega (arith, ints)
-line_low true Add a h p = omega (arith, ints)
-line_low false w a h p = omega (arith, ints)
-
-line_high : (b : Bool) (w : Way) (a h : ℕ) → a ≤ h → (if b then signed w a else pos 0) ≤ℤ (if b then pos (if_add w h) else pos 0)
-line_high true Take a h p = omega (arith, ints)
-line_high true Add a h p = omega (arith, ints)
-line_high false w a h p = omega (arith, ints)
-
-not_negative : (b : Bool) (n : ℕ) → pos 0 ≤ℤ (if b then pos n else pos 0)
-not_negative true n = omega (arith, ints)
-not_negative false n = omega (arith, ints)
-
 pub takes-not_negative : (f : Name) (ls : List Line) → pos 0 ≤ℤ total (takes f) ls
 takes-not_negative f [] = omega (arith, ints)
-takes-not_negative f (l ∷ ls) = let a : pos 0 ≤ℤ takes f l = not_negative (on f l) (if_take l.way l.held) in
-    let b : pos 0 ≤ℤ total (takes f) ls = takes-not_negative f ls in omega (arith, ints)
+takes-not_negative f (l ∷ ls) = let more = takes-not_negative f ls in grind arith
 
 pub adds-not_negative : (f : Name) (ls : List Line) → pos 0 ≤ℤ total (adds f) ls
 adds-not_negative f [] = omega (arith, ints)
-adds-not_negative f (l ∷ ls) = let a : pos 0 ≤ℤ adds f l = not_negative (on f l) (if_add l.way l.held) in
-    let b : pos 0 ≤ℤ total (adds f) ls = adds-not_negative f ls in omega (arith, ints)
-
-Chosen : Outcome → Order → Line → Type 0
-Chosen X o l = (l.used ≤ X.amount o l) × (X.amount o l ≤ l.held)
+adds-not_negative f (l ∷ ls) = let more = adds-not_negative f ls in grind arith
 
 pub moved-low : (f : Name) (amount : Line → ℕ) (ls : List Line) → Each (λ l. (l.used ≤ amount l) × (amount l ≤ l.held)) ls
     → neg_ℤ (total (takes f) ls) ≤ℤ total (λ l. if on f l then signed l.way (amount l) else pos 0) ls
 moved-low f amount [] h = omega (arith, ints)
-moved-low f amount (l ∷ ls) h =
-    let a : neg_ℤ (takes f l) ≤ℤ (if on f l then signed l.way (amount l) else pos 0) = line_low (on f l) l.way (amount l) l.held h.0.1 in
-    let b : neg_ℤ (total (takes f) ls) ≤ℤ total (λ l. if on f l then signed l.way (amount l) else pos 0) ls = moved-low f amount ls h.1 in
-    omega (arith, ints)
+moved-low f amount (l ∷ ls) h = let more = moved-low f amount ls h.1 in grind (arith, ints)
 
 pub moved-high : (f : Name) (amount : Line → ℕ) (ls : List Line) → Each (λ l. (l.used ≤ amount l) × (amount l ≤ l.held)) ls
     → total (λ l. if on f l then signed l.way (amount l) else pos 0) ls ≤ℤ total (adds f) ls
 moved-high f amount [] h = omega (arith, ints)
-moved-high f amount (l ∷ ls) h =
-    let a : (if on f l then signed l.way (amount l) else pos 0) ≤ℤ adds f l = line_high (on f l) l.way (amount l) l.held h.0.1 in
-    let b : total (λ l. if on f l then signed l.way (amount l) else pos 0) ls ≤ℤ total (adds f) ls = moved-high f amount ls h.1 in
-    omega (arith, ints)
+moved-high f amount (l ∷ ls) h = let more = moved-high f amount ls h.1 in grind (arith, ints)
 
 -- one order: it is open or not, and commits or not
 
 order_low : (b c : Bool) (held m : ℤ) → pos 0 ≤ℤ held → (IsTrue (b && c) → neg_ℤ held ≤ℤ m) → neg_ℤ (if b then held else pos 0) ≤ℤ (if b && c then m else pos 0)
-order_low true true held m p q = q refl
-order_low true false held m p q = omega (arith, ints)
-order_low false c held m p q = omega (arith, ints)
+order_low b c held m p q = grind arith
 
 order_high : (b c : Bool) (held m : ℤ) → pos 0 ≤ℤ held → (IsTrue (b && c) → m ≤ℤ held) → (if b && c then m else pos 0) ≤ℤ (if b then held else pos 0)
-order_high true true held m p q = q refl
-order_high true false held m p q = omega (arith, ints)
-order_high false c held m p q = omega (arith, ints)
+order_high b c held m p q = grind arith
 
 -- every outcome is within what is held
 
@@ -139,9 +105,7 @@ none-has w f (l ∷ ls) h = rw h.0 (none-has w f ls h.1)
 take_step : (b : Bool) (w : Way) (h : ℕ) (r s : ℤ) (any : Bool) → (b ≡ true → (r ≡ pos 0) × (s ≡ pos 0) × (any ≡ false)) → (any ≡ true → r ≡ neg_ℤ s)
     → (b && is_take w || any) ≡ true → (if b then signed w h else pos 0) +ℤ r ≡ neg_ℤ ((if b then pos (if_take w h) else pos 0) +ℤ s)
 unfolding is_take
-take_step true Take h r s any p q e = let z = p refl in let z0 = z.0 in let z1 = z.1 in omega (arith, ints)
-take_step true Add h r s any p q e = absurd (true≢false (sym e ∙ (p refl).2))
-take_step false w h r s any p q e = let z = q e in omega (arith, ints)
+take_step b w h r s any p q e = grind arith
 
 take_in_full : (f : Name) (ls : List Line) → OneOn f ls → has is_take f ls ≡ true → total (λ l. if on f l then signed l.way l.held else pos 0) ls ≡ neg_ℤ (total (takes f) ls)
 unfolding has
@@ -152,9 +116,7 @@ take_in_full f (l ∷ ls) one e = take_step (on f l) l.way l.held (total (λ l. 
 
 no_take_step : (b : Bool) (w : Way) (h : ℕ) (s : ℤ) (any : Bool) → (any ≡ false → s ≡ pos 0) → (b && is_take w || any) ≡ false → (if b then pos (if_take w h) else pos 0) +ℤ s ≡ pos 0
 unfolding is_take
-no_take_step true Take h s any q e = absurd (true≢false e)
-no_take_step true Add h s any q e = let z = q e in omega (arith, ints)
-no_take_step false w h s any q e = let z = q e in omega (arith, ints)
+no_take_step b w h s any q e = grind arith
 
 no_take : (f : Name) (ls : List Line) → has is_take f ls ≡ false → total (takes f) ls ≡ pos 0
 unfolding has
@@ -174,9 +136,7 @@ unfolding worst
 worst-outcome f A h = each-imp (λ o s c. in_full o.lines s.used) A.orders h
 
 worst_order : (b c : Bool) (m held : ℤ) → (c ≡ true → m ≡ neg_ℤ held) → (c ≡ false → held ≡ pos 0) → (if b && c then m else pos 0) ≡ neg_ℤ (if b then held else pos 0)
-worst_order true true m held p q = p refl
-worst_order true false m held p q = let z = q refl in omega (arith, ints)
-worst_order false c m held p q = refl
+worst_order b c m held p q = grind arith
 
 worst-result : (f : Field) (A : Ledger) → Each Sound A.orders → outcome_result A (worst f.name) f ≡ settled A f -ℤ held_to_take A f.name
 unfolding worst
@@ -194,9 +154,7 @@ worst-result f A h = let e = go A.orders h in omega (arith, ints)
 add_step : (b : Bool) (w : Way) (h : ℕ) (r s : ℤ) (any : Bool) → (b ≡ true → (r ≡ pos 0) × (s ≡ pos 0) × (any ≡ false)) → (any ≡ true → r ≡ s)
     → (b && is_add w || any) ≡ true → (if b then signed w h else pos 0) +ℤ r ≡ (if b then pos (if_add w h) else pos 0) +ℤ s
 unfolding is_add
-add_step true Add h r s any p q e = let z = p refl in let z0 = z.0 in let z1 = z.1 in omega (arith, ints)
-add_step true Take h r s any p q e = absurd (true≢false (sym e ∙ (p refl).2))
-add_step false w h r s any p q e = let z = q e in omega (arith, ints)
+add_step b w h r s any p q e = grind arith
 
 add_in_full : (f : Name) (ls : List Line) → OneOn f ls → has is_add f ls ≡ true → total (λ l. if on f l then signed l.way l.held else pos 0) ls ≡ total (adds f) ls
 unfolding has
@@ -207,9 +165,7 @@ add_in_full f (l ∷ ls) one e = add_step (on f l) l.way l.held (total (λ l. if
 
 no_add_step : (b : Bool) (w : Way) (h : ℕ) (s : ℤ) (any : Bool) → (any ≡ false → s ≡ pos 0) → (b && is_add w || any) ≡ false → (if b then pos (if_add w h) else pos 0) +ℤ s ≡ pos 0
 unfolding is_add
-no_add_step true Add h s any q e = absurd (true≢false e)
-no_add_step true Take h s any q e = let z = q e in omega (arith, ints)
-no_add_step false w h s any q e = let z = q e in omega (arith, ints)
+no_add_step b w h s any q e = grind arith
 
 no_add : (f : Name) (ls : List Line) → has is_add f ls ≡ false → total (adds f) ls ≡ pos 0
 unfolding has
@@ -225,9 +181,7 @@ unfolding best
 best-outcome f A h = each-imp (λ o s c. in_full o.lines s.used) A.orders h
 
 best_order : (b c : Bool) (m held : ℤ) → (c ≡ true → m ≡ held) → (c ≡ false → held ≡ pos 0) → (if b && c then m else pos 0) ≡ (if b then held else pos 0)
-best_order true true m held p q = p refl
-best_order true false m held p q = let z = q refl in omega (arith, ints)
-best_order false c m held p q = refl
+best_order b c m held p q = grind arith
 
 best-result : (f : Field) (A : Ledger) → Each Sound A.orders → outcome_result A (best f.name) f ≡ settled A f +ℤ held_to_add A f.name
 unfolding best
@@ -248,15 +202,11 @@ sup_is A h f = record { reached = (best f.name, best-outcome f.name A h, best-re
 
 -- an infimum is unique
 pub inf_unique : (A : Ledger) (f : Field) (a b : ℤ) → IsInfimum A f a → IsInfimum A f b → a ≡ b
-inf_unique A f a b h k =
-    let x = h.least k.reached.0 k.reached.1 in let x' = k.reached.2 in
-    let y = k.least h.reached.0 h.reached.1 in let y' = h.reached.2 in omega (arith, ints)
+inf_unique A f a b h k = grind arith
 
 -- and so is a supremum
 pub sup_unique : (A : Ledger) (f : Field) (a b : ℤ) → IsSupremum A f a → IsSupremum A f b → a ≡ b
-sup_unique A f a b h k =
-    let x = h.greatest k.reached.0 k.reached.1 in let x' = k.reached.2 in
-    let y = k.greatest h.reached.0 h.reached.1 in let y' = h.reached.2 in omega (arith, ints)
+sup_unique A f a b h k = grind arith
 
 -- the code's two comparisons are the model's safety
 all_at : (A : Ledger) (P : Field → Type 0) (fs : List Field)

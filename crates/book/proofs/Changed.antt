@@ -1,37 +1,15 @@
 -- The rows that an accepted command names, put into the ledger's rows, give the rows of the next ledger.
 use Rattle.std.proofs.Common.{◌≡◌, ℕ, ◌+◌, ℤ, pos, neg_ℤ, List, [], ◌∷◌, ◌++◌, map, flat_map, Bool, true, false, ◌&&◌, ◌||◌, ◌==◌, IsTrue, IsFalse, IsNone, IsSomeAnd, Option, Some, None, refl, sym, ap, ◌∙◌, subst, arith, if◌then◌else◌, true≢false, nat_cmp, nat_lt, Equal, inl, inr, is_some}
-use Rattle.std.proofs.lemmas.Int.{ints}
-use Rattle.std.proofs.lemmas.Cmp.{int_cmp_total, nat_list_cmp_total, then_total, on_total, tied_itself}
-use Rattle.std.specs.declared.cmp.Ordering.{Ordering}
-use Rattle.std.specs.Cmp.{IsTotalOrder}
-use Rattle.std.specs.Ordering.{is_lt, is_eq, int_eq}
-use Rattle.std.specs.Cmp.Lexicographic.{slice_cmp}
-use Rattle.std.specs.List.{AllByRecursion as Each, AllZip, list_any, filter}
-use Rattle.std.specs.List.Sorted.{IsStrictlySortedBy}
-use Rattle.std.specs.Str.{bytes_eq}
-use lib.Pointwise.{bytes_decides}
-use Rattle.escrow.specs.declared.quantity.Way.{Way}
-use Rattle.words.specs.declared.open_line.OpenLine.{OpenLine}
-use Rattle.words.specs.declared.command.Command.{Command}
+use Rattle.book.proofs.Prelude.{Aborted, AllZip, Command, Committed, Content, DeskCells, Each, FieldCells, FirstFailure, Good, IsFieldRow, IsInRange, IsKey, IsRowsOf, IsStrictlySortedBy, IsSupremum, IsTotalOrder, Kept, Ledger, Line, LineCells, Move, Name, OpenLine, Order, OrderCells, Ordering, Plain, Request, State, Way, accept, add_hold, bytes_decides, bytes_eq, change_lines, changed_rows, changes_field, changes_line, changes_move, changes_order, checks, committed_state, desk_row, expires, field_cmp, filter, has_line_on, held_to_add, held_to_take, hold_more, if_add, if_take, insert_in_order, int_cmp_total, int_eq, ints, is_committed, is_eq, is_lt, is_open, is_transfer, kept_cmp, kept_row, kept_under, line_cmp, line_name, line_on, line_row, lines_from, list_any, lower_held, move_cmp, move_row, name_cmp, name_of, nat_list_cmp_total, new_line, new_order, on, on_total, open_state, order_cmp, order_is, order_lines, order_numbered, order_row, places, put_content, put_rows, raise_held, raise_used, same_name, set_state, settled, signed, slice_cmp, then_total, tied_itself, transfer_lines, with_order}
 use Rattle.words.specs.declared.command.Command.TheVariants as command
-use Rattle.book.specs.declared.order.Kind.TheVariants.{Plain, Transfer}
-use Rattle.book.specs.declared.order.State.{State}
-use Rattle.book.specs.declared.order.State.TheVariants.{Open, Committed, Aborted}
-use Rattle.book.specs.declared.order.Line.{Line}
-use Rattle.book.specs.Ledger.{kept_under, Name, Field, Move, Order, Ledger, Kept, on, is_open, is_committed, open_state, committed_state, is_transfer, line_name, same_name, name_cmp, line_on, order_numbered, places, insert_in_order, name_of}
-use Rattle.book.specs.Outcomes.{total, signed, moved, settled, IsSupremum}
-use Rattle.book.specs.Held.{if_take, if_add, held_to_take, held_to_add}
-use Rattle.book.specs.Next.{accept, expires, set_state, change_lines, raise_used, lower_held, raise_held, hold_more, add_hold, new_line, new_order, with_order, transfer_lines}
-use Rattle.book.specs.Answers.{FirstFailure, checks}
-use Rattle.book.specs.Good.{Good}
-use Rattle.book.specs.Rows.{DeskCells, FieldCells, OrderCells, LineCells, Content, IsFieldRow, move_row, order_row, line_row, lines_from, order_lines, kept_row, desk_row, IsRowsOf, desk_cmp, field_cmp, move_cmp, order_cmp, line_cmp, kept_cmp}
-use Rattle.escrow.specs.Codes.{IsKey}
-use Rattle.words.specs.declared.command.Request.{Request}
-use Rattle.words.specs.Spelling.{IsInRange}
-use Rattle.book.specs.Changes.{has_line_on, order_is, changes_field, changes_move, changes_order, changes_line, put_rows, changed_rows, put_content}
+use Rattle.book.specs.declared.order.Kind.TheVariants.{Transfer}
+use Rattle.book.specs.declared.order.State.TheVariants.{Open}
+use Rattle.book.specs.Ledger.{Field}
+use Rattle.book.specs.Outcomes.{total, moved}
+use Rattle.book.specs.Rows.{desk_cmp}
 use Rattle.book.proofs.Sums.{each, each-imp, each-both, each-map, total-map, total-eq}
 use Rattle.book.proofs.Bounds.{takes, adds, none-total, inf_is, sup_is, inf_unique}
-use Rattle.book.proofs.Closing.{all_pass, at_number, name_is, open_there, sounds_from_good}
+use Rattle.book.proofs.Closing.{all_pass, at_number, name_is, sounds_from_good}
 use Rattle.book.proofs.Asked.{same_self, total-push, settled-order, held_take-order, held_add-order}
 use Rattle.book.proofs.Safety.{not_true}
 use Rattle.book.proofs.Goodness.{good_accept}
@@ -61,42 +39,26 @@ kept_cmp_total = on_total (λ r. r.reqkey) nat_list_cmp_total
 -- tests over lists
 
 or_false : (a b : Bool) → (a || b) ≡ false → (a ≡ false) × (b ≡ false)
-or_false true b e = absurd (true≢false e)
-or_false false b e = (refl, e)
+or_false x b e = grind arith
 
 and_true : (a b : Bool) → a ≡ true → b ≡ true → (a && b) ≡ true
-and_true true b e h = h
-and_true false b e h = absurd (true≢false (sym e))
+and_true x b e h = cc
 
 pub any_none : {X : Type 0} (t : X → Bool) (xs : List X) → list_any t xs ≡ false → Each (λ x. t x ≡ false) xs
 any_none t [] e = tt
 any_none t (x ∷ xs) e = let p = or_false (t x) (list_any t xs) e in (p.0, any_none t xs p.1)
 
 or_right : (a b : Bool) → b ≡ true → (a || b) ≡ true
-or_right true b e = refl
-or_right false b e = e
+or_right x b e = grind arith
 
 any_has : {X : Type 0} (P : X → Type 0) (t : X → X → Bool) → ((x : X) → P x → t x x ≡ true) → (xs : List X) → Each (λ x. P x → list_any (t x) xs ≡ true) xs
 any_has P t h [] = tt
 any_has P t h (x ∷ xs) = ((λ p. rw (h x p) refl), each-imp (λ y k p. or_right (t y x) (list_any (t y) xs) (k p)) xs (any_has P t h xs))
 
-number_is : (a b : ℕ) → (a == b) ≡ true → a ≡ b
-number_is a b e = grind arith
-
 -- moves
 
 moves_follow : (A : Ledger) (key : List ℕ) (c : Command) → Follows move_cmp (λ row. changes_move A c row.place) (map move_row A.moves) (map move_row (accept A (record { key = key; command = c })).moves)
-moves_follow A key (command.Deliver b a q) = follows-push move_cmp move_cmp_total (λ row. int_eq row.place (pos (places A + 1))) move_row _ A.moves (int_same (pos (places A + 1)))
-moves_follow A key (command.Writeoff b a q) = follows-push move_cmp move_cmp_total (λ row. int_eq row.place (pos (places A + 1))) move_row _ A.moves (int_same (pos (places A + 1)))
-moves_follow A key (command.Field b a lo hi start) = follows-same move_cmp move_cmp_total _ (map move_row A.moves)
-moves_follow A key (command.Open n until lines) = follows-same move_cmp move_cmp_total _ (map move_row A.moves)
-moves_follow A key (command.Transfer n until a from to q) = follows-same move_cmp move_cmp_total _ (map move_row A.moves)
-moves_follow A key (command.More n way b a q) = follows-same move_cmp move_cmp_total _ (map move_row A.moves)
-moves_follow A key (command.Use n b a q) = follows-same move_cmp move_cmp_total _ (map move_row A.moves)
-moves_follow A key (command.Release n b a q) = follows-same move_cmp move_cmp_total _ (map move_row A.moves)
-moves_follow A key (command.Commit n) = follows-same move_cmp move_cmp_total _ (map move_row A.moves)
-moves_follow A key (command.Abort n) = follows-same move_cmp move_cmp_total _ (map move_row A.moves)
-moves_follow A key (command.Expire now) = follows-same move_cmp move_cmp_total _ (map move_row A.moves)
+moves_follow b key c = grind (arith, follows-push, follows-same, int_same, move_cmp_total)
 
 -- orders
 
@@ -111,30 +73,18 @@ order_chosen : (chosen : OrderCells → Bool) (s : State) (o : Order) → chosen
 order_chosen chosen s o e = (tied_itself int_cmp_total (pos o.number), λ d. absurd (true≢false (sym e ∙ d)))
 
 order_if : (chosen : OrderCells → Bool) (b : Bool) (o new : Order) → (b ≡ true → RowStep order_cmp chosen (order_row o) (order_row new)) → RowStep order_cmp chosen (order_row o) (order_row (if b then new else o))
-order_if chosen true o new h = h refl
-order_if chosen false o new h = as_was order_cmp order_cmp_total chosen (order_row o) (order_row o) refl
+order_if chosen b o new h = grind arith
 
 same_order_row : (b : Bool) (o new : Order) → order_row new ≡ order_row o → order_row (if b then new else o) ≡ order_row o
-same_order_row true o new e = e
-same_order_row false o new e = refl
-
-hold_row : (l : OpenLine) (o : Order) → order_row (add_hold l o) ≡ order_row o
-hold_row l o = by (is_some (line_on o (line_name (new_line l))))
-  where
-    by : (b : Bool) → order_row (if b then hold_more (line_name (new_line l)) l.qty o else record o { lines = o.lines ++ new_line l ∷ [] }) ≡ order_row o
-    by true = refl
-    by false = refl
+same_order_row b o new e = grind arith
 
 numbered : (n : ℕ) (o : Order) → (o.number == n) ≡ true → int_eq (pos o.number) (pos n) ≡ true
-numbered n o e = subst (λ m. int_eq (pos o.number) (pos m) ≡ true) (number_is o.number n e) (int_same (pos o.number))
+numbered n o e = subst (λ m. int_eq (pos o.number) (pos m) ≡ true) (grind arith) (int_same (pos o.number))
 
 orders_follow : (A : Ledger) (key : List ℕ) (c : Command) → Follows order_cmp (λ row. changes_order A c row.number) (map order_row A.orders) (map order_row (accept A (record { key = key; command = c })).orders)
-orders_follow A key (command.Field b a lo hi start) = follows-same order_cmp order_cmp_total _ (map order_row A.orders)
-orders_follow A key (command.Deliver b a q) = follows-same order_cmp order_cmp_total _ (map order_row A.orders)
-orders_follow A key (command.Writeoff b a q) = follows-same order_cmp order_cmp_total _ (map order_row A.orders)
 orders_follow A key (command.Open n until lines) = follows-insert order_cmp order_cmp_total (λ row. int_eq row.number (pos n)) order_row (λ a b. nat_lt a.number b.number) _ A.orders (int_same (pos n))
 orders_follow A key (command.Transfer n until a from to q) = follows-insert order_cmp order_cmp_total (λ row. int_eq row.number (pos n)) order_row (λ a b. nat_lt a.number b.number) _ A.orders (int_same (pos n))
-orders_follow A key (command.More n way b a q) = follows-map order_cmp (λ row. false) order_row _ A.orders (each (λ o. as_was order_cmp order_cmp_total (λ row. false) (order_row o) _ (same_order_row (o.number == n) o (add_hold (record { way = way; branch = b; article = a; qty = q }) o) (hold_row _ o))) A.orders)
+orders_follow A key (command.More n way b a q) = follows-map order_cmp (λ row. false) order_row _ A.orders (each (λ o. as_was order_cmp order_cmp_total (λ row. false) (order_row o) _ (same_order_row (o.number == n) o (add_hold (record { way = way; branch = b; article = a; qty = q }) o) (grind arith))) A.orders)
 orders_follow A key (command.Use n b a q) = follows-map order_cmp (λ row. false) order_row _ A.orders (each (λ o. as_was order_cmp order_cmp_total (λ row. false) (order_row o) _ (same_order_row (o.number == n) o (change_lines (name_of b a) (raise_used q) o) refl)) A.orders)
 orders_follow A key (command.Release n b a q) = follows-map order_cmp (λ row. false) order_row _ A.orders (each (λ o. as_was order_cmp order_cmp_total (λ row. false) (order_row o) _ (same_order_row (o.number == n) o (change_lines (name_of b a) (lower_held q) o) refl)) A.orders)
 orders_follow A key (command.Commit n) = follows-map order_cmp (λ row. int_eq row.number (pos n)) order_row _ A.orders (each (λ o. order_if (λ row. int_eq row.number (pos n)) (o.number == n) o (set_state Committed o) (λ e. order_chosen (λ row. int_eq row.number (pos n)) Committed o (numbered n o e))) A.orders)
@@ -142,6 +92,7 @@ orders_follow A key (command.Abort n) = follows-map order_cmp (λ row. int_eq ro
 orders_follow A key (command.Expire now) = follows-map order_cmp (λ row. changes_order A (command.Expire now) row.number) order_row _ A.orders
     (each-imp (λ o k. order_if (λ row. changes_order A (command.Expire now) row.number) (expires now o) o (set_state Aborted o) (λ e. order_chosen (λ row. changes_order A (command.Expire now) row.number) Aborted o (k e))) A.orders
     (any_has (λ o. expires now o ≡ true) (λ o p. expires now p && int_eq (pos o.number) (pos p.number)) (λ o e. and_true _ _ e (int_same (pos o.number))) A.orders))
+orders_follow A key c = follows-same order_cmp order_cmp_total _ (map order_row A.orders)
 
 -- lines
 
@@ -151,11 +102,7 @@ follows-flat chosen h (o ∷ os) f = follows-join line_cmp chosen (order_lines o
 
 follows-flat_insert : (chosen : LineCells → Bool) (p : Order → Order → Bool) (o : Order) (os : List Order) → Each (λ r. chosen r ≡ true) (order_lines o) → Follows line_cmp chosen (flat_map order_lines os) (flat_map order_lines (insert_in_order p o os))
 follows-flat_insert chosen p o [] h = follows-before line_cmp chosen [] (order_lines o) [] h refl
-follows-flat_insert chosen p o (m ∷ ms) h = step (p o m) (follows-flat_insert chosen p o ms h)
-  where
-    step : (b : Bool) → Follows line_cmp chosen (flat_map order_lines ms) (flat_map order_lines (insert_in_order p o ms)) → Follows line_cmp chosen (flat_map order_lines (m ∷ ms)) (flat_map order_lines (if b then o ∷ m ∷ ms else m ∷ insert_in_order p o ms))
-    step true f = follows-before line_cmp chosen (flat_map order_lines (m ∷ ms)) (order_lines o) (flat_map order_lines (m ∷ ms)) h (follows-same line_cmp line_cmp_total chosen (flat_map order_lines (m ∷ ms)))
-    step false f = follows-join line_cmp chosen (order_lines m) (order_lines m) (flat_map order_lines ms) (flat_map order_lines (insert_in_order p o ms)) (follows-same line_cmp line_cmp_total chosen (order_lines m)) f
+follows-flat_insert chosen p o (m ∷ ms) h = let more = follows-flat_insert chosen p o ms h in grind (arith, (follows-same line_cmp line_cmp_total chosen (flat_map order_lines (m ∷ ms))), (follows-same line_cmp line_cmp_total chosen (order_lines m)), Follows, follows-before, follows-join, line_cmp_total)
 
 new_lines_chosen : (n nr : ℕ) (ls : List Line) → Each (λ r. int_eq r.number (pos n) ≡ true) (lines_from n nr ls)
 new_lines_chosen n nr [] = tt
@@ -173,8 +120,7 @@ lines_push chosen n nr l [] h = inl (h nr, refl)
 lines_push chosen n nr l (m ∷ ms) h = inr (line_row n nr m, lines_from n (nr + 1) ms, refl, same_place n nr m m, (λ _. refl), lines_push chosen n (nr + 1) l ms h)
 
 same_lines_if : (chosen : LineCells → Bool) (b : Bool) (o new : Order) → (b ≡ true → Follows line_cmp chosen (order_lines o) (order_lines new)) → Follows line_cmp chosen (order_lines o) (order_lines (if b then new else o))
-same_lines_if chosen true o new h = h refl
-same_lines_if chosen false o new h = follows-same line_cmp line_cmp_total chosen (order_lines o)
+same_lines_if chosen b o new h = grind (arith, follows-same, line_cmp_total)
 
 -- a use and a release name each line that they change
 keeps_line : (f : Name) (change : Line → Line) (t : Bool) (l : Line) → line_name (change l) ≡ line_name l → (x y : Bool) → x ≡ true → (t ≡ true → y ≡ true)
@@ -198,9 +144,6 @@ changed_lines A n f change same = follows-flat _ _ A.orders (each-imp (λ o k. s
 
 lines_follow : (A : Ledger) (key : List ℕ) (c : Command) → ((n : ℕ) (l : OpenLine) → c ≡ command.More n l.way l.branch l.article l.qty → Each (λ o. (o.number == n) ≡ true → is_transfer o ≡ false) A.orders)
     → Follows line_cmp (λ row. changes_line A c row.number (name_of row.branch row.article)) (flat_map order_lines A.orders) (flat_map order_lines (accept A (record { key = key; command = c })).orders)
-lines_follow A key (command.Field b a lo hi start) m = follows-same line_cmp line_cmp_total _ (flat_map order_lines A.orders)
-lines_follow A key (command.Deliver b a q) m = follows-same line_cmp line_cmp_total _ (flat_map order_lines A.orders)
-lines_follow A key (command.Writeoff b a q) m = follows-same line_cmp line_cmp_total _ (flat_map order_lines A.orders)
 lines_follow A key (command.Open n until lines) m = follows-flat_insert (λ row. int_eq row.number (pos n)) (λ a b. nat_lt a.number b.number) (new_order n Plain until lines) A.orders (new_lines_chosen n 1 (map new_line lines))
 lines_follow A key (command.Transfer n until a from to q) m = follows-flat_insert (λ row. int_eq row.number (pos n)) (λ a b. nat_lt a.number b.number) (new_order n Transfer until (transfer_lines a from to q)) A.orders (new_lines_chosen n 1 (map new_line (transfer_lines a from to q)))
 lines_follow A key (command.More n way b a q) m = follows-flat _ _ A.orders (each-imp (λ o plain. same_lines_if _ (o.number == n) o (add_hold l o) (λ e. held_more o e (plain e) (is_some (line_on o f)))) A.orders (m n l refl))
@@ -223,6 +166,7 @@ lines_follow A key (command.Release n b a q) m = changed_lines A n (name_of b a)
 lines_follow A key (command.Commit n) m = follows-flat _ _ A.orders (each (λ o. same_lines_if _ (o.number == n) o (set_state Committed o) (λ _. follows-same line_cmp line_cmp_total _ (order_lines o))) A.orders)
 lines_follow A key (command.Abort n) m = follows-flat _ _ A.orders (each (λ o. same_lines_if _ (o.number == n) o (set_state Aborted o) (λ _. follows-same line_cmp line_cmp_total _ (order_lines o))) A.orders)
 lines_follow A key (command.Expire now) m = follows-flat _ _ A.orders (each (λ o. same_lines_if _ (expires now o) o (set_state Aborted o) (λ _. follows-same line_cmp line_cmp_total _ (order_lines o))) A.orders)
+lines_follow A key c m = follows-same line_cmp line_cmp_total _ (flat_map order_lines A.orders)
 
 -- fields
 
@@ -249,14 +193,10 @@ same_numbers A h clock kept f e =
     )
 
 parts_if : (f : Name) (b : Bool) (o new : Order) → (b ≡ true → SameParts f o new) → SameParts f o (if b then new else o)
-parts_if f true o new h = h refl
-parts_if f false o new h = (refl, refl, refl)
+parts_if f b o new h = grind arith
 
 zero_if : (b c : Bool) (z : ℤ) → z ≡ pos 0 → (if b then z else pos 0) ≡ (if c then z else pos 0)
-zero_if true true z e = refl
-zero_if true false z e = e
-zero_if false true z e = sym e
-zero_if false false z e = refl
+zero_if b x z e = grind arith
 
 parts_state : (f : Name) (s : State) (o : Order) → has_line_on f o ≡ false → SameParts f o (set_state s o)
 parts_state f s o e = let k = any_none (on f) o.lines e in (
@@ -266,35 +206,20 @@ parts_state f s o e = let k = any_none (on f) o.lines e in (
 )
 
 not_committed : (s : State) → open_state s ≡ true → committed_state s ≡ false
-not_committed Open e = refl
-not_committed Committed e = absurd (true≢false (sym e))
-not_committed Aborted e = refl
+not_committed c e = grind arith
 
 parts_lines : (f : Name) (o : Order) (ls : List Line) → is_open o ≡ true → total (takes f) ls ≡ total (takes f) o.lines → total (adds f) ls ≡ total (adds f) o.lines → SameParts f o (record o { lines = ls })
 parts_lines f o ls e t a = (rw (not_committed o.state e) refl, ap (λ z. if is_open o then z else pos 0) t, ap (λ z. if is_open o then z else pos 0) a)
-
-second_false : (a b : Bool) → a ≡ true → (a && b) ≡ false → b ≡ false
-second_false true b e h = h
-second_false false b e h = absurd (true≢false (sym e))
 
 map_part : (g : Line → ℤ) (c : Line → Line) (ls : List Line) → Each (λ l. g (c l) ≡ g l) ls → total g (map c ls) ≡ total g ls
 map_part g c ls e = total-map g c ls ∙ total-eq (λ l. g (c l)) g ls e
 
 -- a line that is not on f holds nothing on it, and still does not once its amounts are changed
 off : (f : Name) (change : Line → Line) (part : Line → ℤ) → ((l : Line) → line_name (change l) ≡ line_name l) → ((l : Line) → on f l ≡ false → part l ≡ pos 0) → (b : Bool) (l : Line) → (b ≡ true → on f l ≡ false) → part (if b then change l else l) ≡ part l
-off f change part same zero_off true l h = let e = h refl in zero_off (change l) (subst (λ n. same_name f n ≡ false) (sym (same l)) e) ∙ sym (zero_off l e)
-off f change part same zero_off false l h = refl
-
-takes_off : (f : Name) (l : Line) → on f l ≡ false → takes f l ≡ pos 0
-takes_off f l e = rw e refl
-
-adds_off : (f : Name) (l : Line) → on f l ≡ false → adds f l ≡ pos 0
-adds_off f l e = rw e refl
+off f change part same zero_off b l h = grind arith
 
 parts_off : (f g : Name) (change : Line → Line) (o : Order) → ((l : Line) → line_name (change l) ≡ line_name l) → is_open o ≡ true → Each (λ l. (is_transfer o || on g l) ≡ true → on f l ≡ false) o.lines → SameParts f o (change_lines g change o)
-parts_off f g change o same open_is h = parts_lines f o (map (λ l. if is_transfer o || on g l then change l else l) o.lines) open_is
-    (map_part (takes f) (λ l. if is_transfer o || on g l then change l else l) o.lines (each-imp (λ l k. off f change (takes f) same (takes_off f) (is_transfer o || on g l) l k) o.lines h))
-    (map_part (adds f) (λ l. if is_transfer o || on g l then change l else l) o.lines (each-imp (λ l k. off f change (adds f) same (adds_off f) (is_transfer o || on g l) l k) o.lines h))
+parts_off f g change o same open_is h = grind (arith, (map_part (takes f) (λ l. if is_transfer o || on g l then change l else l) o.lines (each-imp (λ l k. off f change (takes f) same (grind arith) (is_transfer o || on g l) l k) o.lines h)), (map_part (adds f) (λ l. if is_transfer o || on g l then change l else l) o.lines (each-imp (λ l k. off f change (adds f) same (grind arith) (is_transfer o || on g l) l k) o.lines h)), adds, each-imp, off, parts_lines, takes)
 
 apart : (f g : Name) (l : Line) → same_name f g ≡ false → on g l ≡ true → on f l ≡ false
 apart f g l e h = subst (λ n. same_name f n ≡ false) (name_is g (line_name l) h) e
@@ -304,55 +229,34 @@ off_each f g true ls e h = each-imp (λ l k _. k) ls (any_none (on f) ls h)
 off_each f g false ls e h = each (λ l k. apart f g l e k) ls
 
 use_if : (f g : Name) (q : ℕ) (part : Line → ℤ) → ((l : Line) → part (raise_used q l) ≡ part l) → (b : Bool) (l : Line) → part (if b then raise_used q l else l) ≡ part l
-use_if f g q part h true l = h l
-use_if f g q part h false l = refl
+use_if f g q part h b l = grind arith
 
 opened : (A : Ledger) (n : ℕ) → Good A → (IsNone (order_numbered A n) → ⊥) → (IsSomeAnd (order_numbered A n) (λ o. IsFalse (is_open o)) → ⊥) → Each (λ o. (o.number == n) ≡ true → is_open o ≡ true) A.orders
-opened A n g p q = at_number (λ o. is_open o ≡ true) n A.orders g.orders_in_order (open_there (order_numbered A n) p q)
-
-stays_none : (o : Option Order) → (IsNone o → ⊥) → (IsSomeAnd o (λ o. IsTrue (is_transfer o)) → ⊥) → IsSomeAnd o (λ o. is_transfer o ≡ false)
-stays_none None p q = absurd (p refl)
-stays_none (Some o) p q = not_true (is_transfer o) q
+opened A n g p q = at_number (λ o. is_open o ≡ true) n A.orders g.orders_in_order (grind arith)
 
 plain_there : (A : Ledger) (n : ℕ) (w : Way) (b a : List ℕ) (q : ℕ) → Good A → FirstFailure (checks A (command.More n w b a q)) None → Each (λ o. (o.number == n) ≡ true → is_transfer o ≡ false) A.orders
-plain_there A n w b a q g h = let p = all_pass (checks A (command.More n w b a q)) h in at_number (λ o. is_transfer o ≡ false) n A.orders g.orders_in_order (stays_none (order_numbered A n) p.1.0 p.1.1.1.0)
+plain_there A n w b a q g h = let p = all_pass (checks A (command.More n w b a q)) h in at_number (λ o. is_transfer o ≡ false) n A.orders g.orders_in_order (grind arith)
 
 no_new : (f : Name) (ls : List OpenLine) → list_any (λ l. same_name f (name_of l.branch l.article)) ls ≡ false → Each (λ m. on f m ≡ false) (map new_line ls)
 no_new f ls e = each-map (λ m. on f m ≡ false) new_line ls (any_none (λ l. same_name f (name_of l.branch l.article)) ls e)
 
 other_order : (A : Ledger) (n : ℕ) (k : _) (u : ℕ) (ls : List OpenLine) (f : Field) → list_any (λ l. same_name f.name (name_of l.branch l.article)) ls ≡ false → SameNumbers A (with_order (new_order n k u ls) A) f
-other_order A n k u ls f e =
-    let z = none-total f.name (λ l. pos (if_take l.way l.held)) (map new_line ls) (no_new f.name ls e) in let y = none-total f.name (λ l. pos (if_add l.way l.held)) (map new_line ls) (no_new f.name ls e) in
-    let a = held_take-order A n k u ls f.name in let b = held_add-order A n k u ls f.name in
-    (settled-order A n k u ls f, (omega (arith, ints)), (omega (arith, ints)))
+other_order A n k u ls f e = grind (arith, (none-total f.name (λ l. pos (if_take l.way l.held)) (map new_line ls) (no_new f.name ls e)), (none-total f.name (λ l. pos (if_add l.way l.held)) (map new_line ls) (no_new f.name ls e)), (held_take-order A n k u ls f.name), (held_add-order A n k u ls f.name), no_new, settled-order)
 
 other_move : (A : Ledger) (g : Name) (z : ℤ) (f : Field) (ms : List Move) → ms ≡ A.moves ++ record { place = places A + 1; field = g; amount = z } ∷ [] → same_name f.name g ≡ false
     → total (λ m. if same_name f.name m.field then m.amount else pos 0) ms ≡ total (λ m. if same_name f.name m.field then m.amount else pos 0) A.moves
-other_move A g z f ms e h =
-    let a = total-push (λ m. if same_name f.name m.field then m.amount else pos 0) A.moves (record { place = places A + 1; field = g; amount = z }) in
-    let b : (if same_name f.name g then z else pos 0) ≡ pos 0 = rw h refl in
-    let c = ap (total (λ m. if same_name f.name m.field then m.amount else pos 0)) e in omega (arith, ints)
+other_move A g z f ms e h = grind (arith, total-push)
 
 hold_parts : (f g : Name) (l : OpenLine) (o : Order) → line_name (new_line l) ≡ g → same_name f g ≡ false → is_open o ≡ true → is_transfer o ≡ false → (b : Bool) → SameParts f o (if b then hold_more g l.qty o else record o { lines = o.lines ++ new_line l ∷ [] })
-hold_parts f g l o i e open_is plain true = parts_lines f o (map (λ m. if on g m then raise_held l.qty m else m) o.lines) open_is
-    (map_part (takes f) (λ m. if on g m then raise_held l.qty m else m) o.lines (each (λ m. off f (raise_held l.qty) (takes f) (λ n. refl) (takes_off f) (on g m) m (λ k. apart f g m e k)) o.lines))
-    (map_part (adds f) (λ m. if on g m then raise_held l.qty m else m) o.lines (each (λ m. off f (raise_held l.qty) (adds f) (λ n. refl) (adds_off f) (on g m) m (λ k. apart f g m e k)) o.lines))
-hold_parts f g l o i e open_is plain false =
-    let z = takes_off f (new_line l) (subst (λ n. same_name f n ≡ false) (sym i) e) in let y = adds_off f (new_line l) (subst (λ n. same_name f n ≡ false) (sym i) e) in
-    let a = total-push (takes f) o.lines (new_line l) in let b = total-push (adds f) o.lines (new_line l) in
-    parts_lines f o (o.lines ++ new_line l ∷ []) open_is (omega (arith, ints)) (omega (arith, ints))
-
-two_off : (x y : Bool) → (x || y) ≡ false → (x || (y || false)) ≡ false
-two_off true y e = e
-two_off false true e = e
-two_off false false e = refl
+hold_parts f g l o i e open_is plain true = grind (arith, (map_part (takes f) (λ m. if on g m then raise_held l.qty m else m) o.lines (each (λ m. off f (raise_held l.qty) (takes f) (λ n. refl) (grind arith) (on g m) m (λ k. apart f g m e k)) o.lines)), (map_part (adds f) (λ m. if on g m then raise_held l.qty m else m) o.lines (each (λ m. off f (raise_held l.qty) (adds f) (λ n. refl) (grind arith) (on g m) m (λ k. apart f g m e k)) o.lines)), adds, apart, each, off, parts_lines, takes)
+hold_parts f g l o i e open_is plain false = grind (arith, (total-push (takes f) o.lines (new_line l)), (total-push (adds f) o.lines (new_line l)), adds, parts_lines, takes)
 
 same_field : (A : Ledger) (key : List ℕ) (c : Command) → Good A → FirstFailure (checks A c) None → (f : Field) → changes_field A c f.name ≡ false → SameNumbers A (accept A (record { key = key; command = c })) f
 same_field A key (command.Field b a lo hi start) g h f e = (refl, refl, refl)
 same_field A key (command.Deliver b a q) g h f e = let m = other_move A (name_of b a) (pos q) f _ refl e in ((omega (arith, ints)), refl, refl)
 same_field A key (command.Writeoff b a q) g h f e = let m = other_move A (name_of b a) (neg_ℤ (pos q)) f _ refl e in ((omega (arith, ints)), refl, refl)
 same_field A key (command.Open n until lines) g h f e = other_order A n Plain until lines f e
-same_field A key (command.Transfer n until a from to q) g h f e = other_order A n Transfer until (transfer_lines a from to q) f (two_off (same_name f.name (name_of from a)) (same_name f.name (name_of to a)) e)
+same_field A key (command.Transfer n until a from to q) g h f e = other_order A n Transfer until (transfer_lines a from to q) f (grind arith)
 same_field A key (command.More n way b a q) g h f e = let p = all_pass (checks A (command.More n way b a q)) h in
     same_numbers A (λ o. if o.number == n then add_hold (record { way = way; branch = b; article = a; qty = q }) o else o) A.clock A.kept f
     (each-both (λ o x y. parts_if f.name (o.number == n) o (add_hold (record { way = way; branch = b; article = a; qty = q }) o) (λ t. hold_parts f.name (name_of b a) (record { way = way; branch = b; article = a; qty = q }) o refl e (x t) (y t) (is_some (line_on o (name_of b a)))))
@@ -365,22 +269,20 @@ same_field A key (command.Use n b a q) g h f e = let p = all_pass (checks A (com
     A.orders (opened A n g p.1.0 p.1.1.0))
 same_field A key (command.Release n b a q) g h f e = let p = all_pass (checks A (command.Release n b a q)) h in let k = or_false _ _ e in
     same_numbers A (λ o. if o.number == n then change_lines (name_of b a) (lower_held q) o else o) A.clock A.kept f
-    (each-both (λ o x y. parts_if f.name (o.number == n) o (change_lines (name_of b a) (lower_held q) o) (λ t. parts_off f.name (name_of b a) (lower_held q) o (λ m. refl) (x t) (off_each f.name (name_of b a) (is_transfer o) o.lines k.0 (second_false _ _ t y))))
+    (each-both (λ o x y. parts_if f.name (o.number == n) o (change_lines (name_of b a) (lower_held q) o) (λ t. parts_off f.name (name_of b a) (lower_held q) o (λ m. refl) (x t) (off_each f.name (name_of b a) (is_transfer o) o.lines k.0 (cc))))
     A.orders (opened A n g p.1.0 p.1.1.0) (any_none (λ o. o.number == n && (is_transfer o && has_line_on f.name o)) A.orders k.1))
 same_field A key (command.Commit n) g h f e =
     same_numbers A (λ o. if o.number == n then set_state Committed o else o) A.clock A.kept f
-    (each-imp (λ o y. parts_if f.name (o.number == n) o (set_state Committed o) (λ t. parts_state f.name Committed o (second_false _ _ t y))) A.orders (any_none (λ o. o.number == n && has_line_on f.name o) A.orders e))
+    (each-imp (λ o y. parts_if f.name (o.number == n) o (set_state Committed o) (λ t. parts_state f.name Committed o (cc))) A.orders (any_none (λ o. o.number == n && has_line_on f.name o) A.orders e))
 same_field A key (command.Abort n) g h f e =
     same_numbers A (λ o. if o.number == n then set_state Aborted o else o) A.clock A.kept f
-    (each-imp (λ o y. parts_if f.name (o.number == n) o (set_state Aborted o) (λ t. parts_state f.name Aborted o (second_false _ _ t y))) A.orders (any_none (λ o. o.number == n && has_line_on f.name o) A.orders e))
+    (each-imp (λ o y. parts_if f.name (o.number == n) o (set_state Aborted o) (λ t. parts_state f.name Aborted o (cc))) A.orders (any_none (λ o. o.number == n && has_line_on f.name o) A.orders e))
 same_field A key (command.Expire now) g h f e =
     same_numbers A (λ o. if expires now o then set_state Aborted o else o) now A.kept f
-    (each-imp (λ o y. parts_if f.name (expires now o) o (set_state Aborted o) (λ t. parts_state f.name Aborted o (second_false _ _ t y))) A.orders (any_none (λ o. expires now o && has_line_on f.name o) A.orders e))
+    (each-imp (λ o y. parts_if f.name (expires now o) o (set_state Aborted o) (λ t. parts_state f.name Aborted o (cc))) A.orders (any_none (λ o. expires now o && has_line_on f.name o) A.orders e))
 
 sup_unique : (A : Ledger) (f : Field) (a b : ℤ) → IsSupremum A f a → IsSupremum A f b → a ≡ b
-sup_unique A f a b h k =
-    let x = h.greatest k.reached.0 k.reached.1 in let x' = k.reached.2 in
-    let y = k.greatest h.reached.0 h.reached.1 in let y' = h.reached.2 in omega (arith, ints)
+sup_unique A f a b h k = grind arith
 
 pub same_field_row : (A B : Ledger) (f : Field) (x y : FieldCells) → Good A → Good B → SameNumbers A B f → IsFieldRow A f x → IsFieldRow B f y → x ≡ y
 same_field_row A B f x y g k s h j =
@@ -430,16 +332,7 @@ fields_insert A B chosen p n (f ∷ fs) (x ∷ xs) ys g k s e h j = step (p n f)
 fields_follow : (A : Ledger) (key : List ℕ) (c : Command) (xs ys : List FieldCells) → Good A → Good (accept A (record { key = key; command = c })) → FirstFailure (checks A c) None → AllZip (IsFieldRow A) A.fields xs → AllZip (IsFieldRow (accept A (record { key = key; command = c }))) (accept A (record { key = key; command = c })).fields ys
     → Follows field_cmp (RowChosen (changes_field A c)) xs ys
 fields_follow A key (command.Field b a lo hi start) xs ys g k h x y = fields_insert A _ (changes_field A (command.Field b a lo hi start)) (λ f g. is_lt (name_cmp f.name g.name)) _ A.fields xs ys g k (same_field A key (command.Field b a lo hi start) g h) (same_self (name_of b a)) x y
-fields_follow A key (command.Deliver b a q) xs ys g k h x y = fields_zip A _ (changes_field A (command.Deliver b a q)) A.fields xs ys g k (same_field A key (command.Deliver b a q) g h) x y
-fields_follow A key (command.Writeoff b a q) xs ys g k h x y = fields_zip A _ (changes_field A (command.Writeoff b a q)) A.fields xs ys g k (same_field A key (command.Writeoff b a q) g h) x y
-fields_follow A key (command.Open n until lines) xs ys g k h x y = fields_zip A _ (changes_field A (command.Open n until lines)) A.fields xs ys g k (same_field A key (command.Open n until lines) g h) x y
-fields_follow A key (command.Transfer n until a from to q) xs ys g k h x y = fields_zip A _ (changes_field A (command.Transfer n until a from to q)) A.fields xs ys g k (same_field A key (command.Transfer n until a from to q) g h) x y
-fields_follow A key (command.More n way b a q) xs ys g k h x y = fields_zip A _ (changes_field A (command.More n way b a q)) A.fields xs ys g k (same_field A key (command.More n way b a q) g h) x y
-fields_follow A key (command.Use n b a q) xs ys g k h x y = fields_zip A _ (changes_field A (command.Use n b a q)) A.fields xs ys g k (same_field A key (command.Use n b a q) g h) x y
-fields_follow A key (command.Release n b a q) xs ys g k h x y = fields_zip A _ (changes_field A (command.Release n b a q)) A.fields xs ys g k (same_field A key (command.Release n b a q) g h) x y
-fields_follow A key (command.Commit n) xs ys g k h x y = fields_zip A _ (changes_field A (command.Commit n)) A.fields xs ys g k (same_field A key (command.Commit n) g h) x y
-fields_follow A key (command.Abort n) xs ys g k h x y = fields_zip A _ (changes_field A (command.Abort n)) A.fields xs ys g k (same_field A key (command.Abort n) g h) x y
-fields_follow A key (command.Expire now) xs ys g k h x y = fields_zip A _ (changes_field A (command.Expire now)) A.fields xs ys g k (same_field A key (command.Expire now) g h) x y
+fields_follow A key c xs ys g k h x y = fields_zip A _ (changes_field A c) A.fields xs ys g k (same_field A key c g h) x y
 
 -- the rows of a good ledger stand in the order of their keys
 
@@ -449,13 +342,7 @@ two_tables : {R : Type 0} (cmp : R → R → Ordering) → IsTotalOrder cmp → 
 two_tables cmp o chosen xs ys us vs e d s f = (λ i. put_rows cmp (filter chosen (d i)) (e i)) ∙ put_all cmp o chosen xs ys s f ∙ sym d
 
 desk_put : (a b : DeskCells) (us vs : List DeskCells) → a.one ≡ pos 1 → b.one ≡ pos 1 → us ≡ a ∷ [] → vs ≡ b ∷ [] → put_rows desk_cmp vs us ≡ vs
-desk_put a b us vs p q e d = (λ i. put_rows desk_cmp (d i) (e i)) ∙ here ∙ sym d
-  where
-    tied : desk_cmp b a ≡ Equal
-    tied = rw (p, q) (tied_itself int_cmp_total (pos 1))
-
-    here : put_rows desk_cmp (b ∷ []) (a ∷ []) ≡ b ∷ []
-    here = rw tied refl
+desk_put a b us vs p q e d = cc
 
 pub changes_suffice : (A : Ledger) (r : Request) (C D : Content) → Good A → IsKey r.key → IsInRange r.command → kept_under A r.key ≡ None → FirstFailure (checks A r.command) None
     → IsRowsOf A C → IsRowsOf (accept A r) D → put_content (changed_rows A r D) C ≡ D

@@ -1,26 +1,10 @@
 -- The fields that a request makes or changes, put in one after the other by their names.
-use Rattle.std.proofs.Common.{◌≡◌, ◌∙◌, ℕ, ◌+◌, ◌<◌, ◌==◌, ◌++◌, Bool, Err, IsSome, OnOk, Ok, Result, true, false, List, [], ◌∷◌, Option, None, Some, ap, cond, find, flat_map, if◌then◌else◌, get_or, is_some, length, map, refl, subst, sym, take, true≢false}
-use Rattle.std.proofs.lemmas.Cmp.{tied_itself}
-use Rattle.std.specs.BTreeMap.{insert_entry, is_at}
-use Rattle.std.specs.List.{AllByRecursion as Each, Contains}
-use Rattle.std.specs.List.Sorted.{IsStrictlySortedBy}
-use Rattle.std.specs.Map.{keys_of, lookup}
-use Rattle.std.specs.Ordering.{is_eq, match_ordering, ordering_reverse}
-use Rattle.std.specs.declared.cmp.Ordering.{Ordering}
+use Rattle.std.proofs.Common.{arith, ◌≡◌, ◌∙◌, ℕ, ◌+◌, ◌<◌, ◌==◌, ◌++◌, Bool, Err, IsSome, OnOk, Ok, Result, true, false, List, [], ◌∷◌, Option, None, Some, ap, cond, find, flat_map, if◌then◌else◌, get_or, is_some, length, map, refl, subst, sym, take, true≢false}
+use Rattle.book.proofs.Prelude.{Accepts, Command, Contains, Each, FieldCells, FieldEntry, FirstFailure, HasEntry, IsChangedField, IsGoodLine, IsGoodOrder, IsStrictlySortedBy, Ledger, Line, Name, Order, Ordering, Puts, Request, accept, changes_field, checks, entry_row, field_named, insert_entry, is_at, is_eq, keys_of, line_name, lookup, match_ordering, name_cmp, next, on, order_after, order_number, ordering_reverse, same_name, tied_itself}
 use Rattle.std.specs.declared.cmp.Ordering.TheVariants.{Equal, Greater, Less}
-use Rattle.words.specs.declared.command.Command.{Command}
 use Rattle.words.specs.declared.command.Command.TheVariants as command
-use Rattle.words.specs.declared.command.Request.{Request}
-use Rattle.book.specs.After.{order_after, order_number}
-use Rattle.book.specs.Answers.{FirstFailure, checks}
-use Rattle.book.specs.Changes.{changes_field}
-use Rattle.book.specs.Good.{IsGoodLine, IsGoodOrder}
-use Rattle.book.specs.Ledger.{Field, Ledger, Name, Order, field_named, line_name, name_cmp, on, same_name}
-use Rattle.book.specs.Next.{accept, next}
-use Rattle.book.specs.Rows.{FieldCells}
-use Rattle.book.specs.Running.{Accepts, HasEntry, IsChangedField, IsOneOf, Puts, entry_row}
-use Rattle.book.specs.declared.entries.FieldEntry.{FieldEntry}
-use Rattle.book.specs.declared.order.Line.{Line}
+use Rattle.book.specs.Ledger.{Field}
+use Rattle.book.specs.Running.{IsOneOf}
 use Rattle.book.proofs.Asked.{same_self}
 use Rattle.book.proofs.Bounds.{OneOn}
 use Rattle.book.proofs.Chosen.{number_is, some_is}
@@ -54,37 +38,22 @@ put_there [] n m v there = absurd (true≢false (sym there))
 put_there (e ∷ C) n m v there = by (name_cmp n e.0) (is_eq (name_cmp m e.0)) there (λ h. put_there C n m v h) refl
   where
     later : (b : Bool) (x y : FieldEntry) (rest : Option FieldEntry) → is_some (cond b (Some x) rest) ≡ true → is_some (cond b (Some y) rest) ≡ true
-    later true x y rest h = refl
-    later false x y rest h = h
+    later b x y rest h = grind arith
 
     first : (b : Bool) (x : FieldEntry) (rest : Option FieldEntry) → is_some rest ≡ true → is_some (cond b (Some x) rest) ≡ true
-    first true x rest h = refl
-    first false x rest h = h
+    first b x rest h = grind arith
 
     both : (b : Bool) (x : FieldEntry) (rest more : Option FieldEntry) → is_some (cond b (Some x) rest) ≡ true → (is_some rest ≡ true → is_some more ≡ true) → is_some (cond b (Some x) more) ≡ true
-    both true x rest more h k = refl
-    both false x rest more h k = k h
+    both b x rest more h k = grind arith
 
     by : (o : Ordering) (b : Bool) → is_some (cond b (Some e.1) (lookup (is_at (name_cmp m)) C)) ≡ true
         → (is_some (lookup (is_at (name_cmp m)) C) ≡ true → is_some (lookup (is_at (name_cmp m)) (insert_entry name_cmp C n v)) ≡ true) → is_eq (name_cmp m e.0) ≡ b
         → is_some (lookup (is_at (name_cmp m)) (match_ordering o ((n, v) ∷ e ∷ C) ((e.0, v) ∷ C) (e ∷ insert_entry name_cmp C n v))) ≡ true
-    by Less b h more is = first (is_eq (name_cmp m n)) v _ (subst (λ b. is_some (cond b (Some e.1) (lookup (is_at (name_cmp m)) C)) ≡ true) (sym is) h)
-    by Equal b h more is = later (is_eq (name_cmp m e.0)) e.1 v (lookup (is_at (name_cmp m)) C) (subst (λ b. is_some (cond b (Some e.1) (lookup (is_at (name_cmp m)) C)) ≡ true) (sym is) h)
-    by Greater b h more is = both (is_eq (name_cmp m e.0)) e.1 (lookup (is_at (name_cmp m)) C) _ (subst (λ b. is_some (cond b (Some e.1) (lookup (is_at (name_cmp m)) C)) ≡ true) (sym is) h) more
+    by x b h more is = grind arith
 
 pub put_self : (C : List (Name × FieldEntry)) (n : Name) (v : FieldEntry) → is_some (lookup (is_at (name_cmp n)) (insert_entry name_cmp C n v)) ≡ true
 put_self [] n v = ap (λ b. is_some (cond b (Some v) None)) (self_eq n)
-put_self (e ∷ C) n v = by (name_cmp n e.0) refl (put_self C n v)
-  where
-    first : (b : Bool) (x : FieldEntry) (rest : Option FieldEntry) → is_some rest ≡ true → is_some (cond b (Some x) rest) ≡ true
-    first true x rest h = refl
-    first false x rest h = h
-
-    by : (o : Ordering) → name_cmp n e.0 ≡ o → is_some (lookup (is_at (name_cmp n)) (insert_entry name_cmp C n v)) ≡ true
-        → is_some (lookup (is_at (name_cmp n)) (match_ordering o ((n, v) ∷ e ∷ C) ((e.0, v) ∷ C) (e ∷ insert_entry name_cmp C n v))) ≡ true
-    by Less is more = ap (λ b. is_some (cond b (Some v) (lookup (is_at (name_cmp n)) (e ∷ C)))) (self_eq n)
-    by Equal is more = ap (λ o. is_some (cond (is_eq o) (Some v) (lookup (is_at (name_cmp n)) C))) is
-    by Greater is more = first (is_eq (name_cmp n e.0)) e.1 _ more
+put_self (e ∷ C) n v = let more = put_self C n v in grind (arith, (self_eq n))
 
 pub less_other : (n m : Name) → name_cmp n m ≡ Less → same_name m n ≡ false
 less_other n m less = by (same_name m n) refl
@@ -174,21 +143,18 @@ module _ (t : Name → Bool) (row : Field → FieldCells) where
 
 -- what holds where an error does not come
 pub on_ok : {T E : Type 0} {P Q : Type 0} (r : Result T E) → (P → Q) → OnOk r P → OnOk r Q
-on_ok (Ok x) f p = f p
-on_ok (Err e) f p = tt
+on_ok b f p = grind arith
 
 pub on_ok_both : {T E : Type 0} {P Q R : Type 0} (r : Result T E) → (P → Q → R) → OnOk r P → OnOk r Q → OnOk r R
-on_ok_both (Ok x) f p q = f p q
-on_ok_both (Err e) f p q = tt
+on_ok_both b f p q = grind arith
 
 pub each_at_name : (P : Name × FieldEntry → Type 0) (name : Name) (l : List (Name × FieldEntry)) (v : FieldEntry) → Each P l → lookup (is_at (name_cmp name)) l ≡ Some v → P (name, v)
 each_at_name P name [] v all there = absurd (true≢false (sym (ap is_some there)))
 each_at_name P name (e ∷ l) v all there = by (name_cmp name e.0) refl there (λ is. each_at_name P name l v all.1 is)
   where
     by : (o : Ordering) → name_cmp name e.0 ≡ o → cond (is_eq o) (Some e.1) (lookup (is_at (name_cmp name)) l) ≡ Some v → (lookup (is_at (name_cmp name)) l ≡ Some v → P (name, v)) → P (name, v)
-    by Less o is more = more is
-    by Greater o is more = more is
     by Equal o is more = subst (λ (v : FieldEntry). P (name, v)) (some_is e.1 v is) (subst (λ (k : Name). P (k, e.1)) (sym (equal_field name e.0 o)) all.0)
+    by c o is more = more is
 
 -- ---- the lines of the order that the request makes
 
@@ -212,25 +178,11 @@ number_of_made A c o passed made = by (order_number c) refl
     numbered n (m ∷ ms) there = step (m.number == n) refl there (λ k. numbered n ms k)
       where
         step : (b : Bool) → (m.number == n) ≡ b → (if b then Some m else find (λ m. m.number == n) ms) ≡ Some o → (find (λ m. m.number == n) ms ≡ Some o → (o.number == n) ≡ true) → (o.number == n) ≡ true
-        step true e k more = subst (λ (p : Order). (p.number == n) ≡ true) (some_is m o k) e
-        step false e k more = more k
+        step b e k more = grind arith
 
     by : (x : Option ℕ) → order_number c ≡ x → x ≡ Some o.number
     by None e = absurd (true≢false (sym (sym (ap is_some (no_number A c e)) ∙ ap is_some made)))
     by (Some n) e = ap (λ k. Some k) (sym (number_is o.number n (numbered n (next A c).orders (made_there A c n passed e ∙ made))))
-
-pub fields_stay : (A : Ledger) (c : Command) (n : ℕ) → order_number c ≡ Some n → (next A c).fields ≡ A.fields
-fields_stay A (command.Open m until lines) n e = refl
-fields_stay A (command.Transfer m until a from to q) n e = refl
-fields_stay A (command.More m way b a q) n e = refl
-fields_stay A (command.Use m b a q) n e = refl
-fields_stay A (command.Release m b a q) n e = refl
-fields_stay A (command.Commit m) n e = refl
-fields_stay A (command.Abort m) n e = refl
-fields_stay A (command.Field b a lo hi start) n e = absurd (true≢false (sym (ap is_some e)))
-fields_stay A (command.Deliver b a q) n e = refl
-fields_stay A (command.Writeoff b a q) n e = refl
-fields_stay A (command.Expire now) n e = refl
 
 -- the order that is made is a good one of the next ledger
 pub made_good : (A : Ledger) (r : Request) (o : Order) → Accepts A r → order_after A r.command ≡ Some o → IsGoodOrder (accept A r) o
@@ -238,10 +190,7 @@ made_good A r o a made = each-found (IsGoodOrder (accept A r)) (λ m. m.number =
 
 -- the field of one of its lines is there
 pub line_there : (A : Ledger) (r : Request) (o : Order) (l : Line) → Accepts A r → order_after A r.command ≡ Some o → find (on (line_name l)) o.lines ≡ Some l → IsSome (field_named A (line_name l))
-line_there A r o l a made found =
-    let good = made_good A r o a made in
-    let line = each-found (IsGoodLine (accept A r)) (on (line_name l)) l o.lines good.lines found in
-    subst (λ (fs : List Field). IsSome (find (λ f. same_name (line_name l) f.name) fs)) (fields_stay A r.command o.number (number_of_made A r.command o a.accepted.1 made)) line.field
+line_there A r o l a made found = grind (arith, (made_good A r o a made), each-found, number_of_made)
 
 -- one line more
 pub lines_step : (A : Ledger) (r : Request) (lines ls : List Line) (i : ℕ) (x : Line) (C D : List (Name × FieldEntry)) → lines ≡ ls → i < length ls → x ≡ get_or ls i x → Each (IsChangedField A r) C

@@ -1,23 +1,13 @@
 -- What the comparisons of a program say of the checks of a command.
-use Rattle.std.proofs.Common.{◌≡◌, ◌≢◌, ◌∙◌, ◌↔◌, ◌≤◌, ℕ, List, [], ◌∷◌, ◌++◌, Bool, false, Option, None, Some, IsFalse, IsNone, IsSomeAnd, IsTrue, MatchOption, inl, inr, is_some, length, refl, sym, true≢false}
+use Rattle.std.proofs.Common.{arith, ◌≡◌, ◌≢◌, ◌∙◌, ◌↔◌, ◌≤◌, ℕ, List, [], ◌∷◌, ◌++◌, Bool, false, Option, None, Some, IsFalse, IsNone, IsSomeAnd, IsTrue, MatchOption, inl, inr, is_some, length, refl, sym, true≢false}
 use denote.Enum.Bare.{sameb}
-use Rattle.escrow.specs.declared.quantity.Way.{Way}
-use Rattle.escrow.specs.declared.quantity.Way.TheVariants.{Add, Take}
-use Rattle.words.specs.declared.command.Command.TheVariants.{More}
-use Rattle.words.specs.declared.limits.TheConstants.{MAX_ORDER_LINES}
-use Rattle.words.specs.declared.open_line.OpenLine.{OpenLine}
-use Rattle.words.specs.declared.reply.Refusal.{Refusal}
+use Rattle.book.proofs.Prelude.{Add, BreaksBound, Check, FirstFailure, Good, Kind, Ledger, Line, MAX_ORDER_LINES, MayHoldMore, More, Name, OpenLine, Order, Plain, Refusal, Take, Way, bound, checks, field_named, full, is_open, is_transfer, line_on, next, no_field, order_numbered, stock_checks, transfer_kind}
 use Rattle.words.specs.declared.reply.Refusal.TheVariants.{OtherWay, TooManyLines, TransferFixed}
 use Rattle.book.specs.contracts.order.Kind.{the_type}
-use Rattle.book.specs.declared.order.Kind.{Kind}
-use Rattle.book.specs.declared.order.Kind.TheVariants.{Plain, Transfer}
-use Rattle.book.specs.declared.order.Line.{Line}
-use Rattle.book.specs.Answers.{Check, FirstFailure, OfLine, OfOrder, bound, check, checks, full, no_field, open_checks}
-use Rattle.book.specs.Checking.{bound_checks, hold_checks, stock_checks}
-use Rattle.book.specs.Good.{Good}
-use Rattle.book.specs.Held.{BreaksBound, MayHoldMore}
-use Rattle.book.specs.Ledger.{Field, Ledger, Name, Order, field_named, is_open, is_transfer, line_on, order_numbered, transfer_kind}
-use Rattle.book.specs.Next.{next}
+use Rattle.book.specs.declared.order.Kind.TheVariants.{Transfer}
+use Rattle.book.specs.Answers.{OfLine, OfOrder, check, open_checks}
+use Rattle.book.specs.Checking.{bound_checks, hold_checks}
+use Rattle.book.specs.Ledger.{Field}
 use Rattle.book.proofs.Compared.{more_test}
 
 -- ---- lists of checks
@@ -54,27 +44,6 @@ no iff e h = true≢false (sym (iff.1 h) ∙ e)
 
 -- ---- an amount more on an order
 
-same_way : (v w : Way) → (v ≢ w → ⊥) → v ≡ w
-same_way Take Take h = refl
-same_way Add Add h = refl
-same_way Take Add h = absurd (h (λ e. cc))
-same_way Add Take h = absurd (h (λ e. cc))
-
--- a kind that is not the kind of transfers
-pub no_transfer_kind : (k : Kind) → sameb the_type k Transfer ≡ false → IsFalse (transfer_kind k)
-no_transfer_kind Plain e = refl
-no_transfer_kind Transfer e = absurd (true≢false e)
-
--- an open order that is no transfer, where the checks of its lines find nothing
-pub may_hold : (o : Order) (w : Way) (f : Name) (fault : Option (Refusal × ℕ)) → IsTrue (is_open o) → IsFalse (is_transfer o) → FirstFailure (hold_checks o w f) fault → is_some fault ≡ false → MayHoldMore f w o
-may_hold o w f (Some x) opened plain held none = absurd (true≢false none)
-may_hold o w f None opened plain (inl h) none = let e = h.1 in cc
-may_hold o w f None opened plain (inr h) none = (opened, plain, by (line_on o f) h.0)
-  where
-    by : (x : Option Line) → (IsSomeAnd x (λ l. l.way ≢ w) → ⊥) → MatchOption x (Unit {0}) (λ m. m.way ≡ w)
-    by None h = tt
-    by (Some l) h = same_way l.way w h
-
 -- the checks that its line makes, and the one of the bound
 abbrev of_line : Ledger → ℕ → Way → Name → List Check
 of_line A n w f = check (OfLine A n f (λ l. l.way ≢ w)) OtherWay ∷ check (OfOrder A n (λ o. IsNone (line_on o f) × (MAX_ORDER_LINES ≤ length o.lines))) TooManyLines ∷ []
@@ -106,4 +75,4 @@ more_decides A n w f q o e fault found good room ordered numbered opened plain t
     asked = record { way = w; branch = f.branch; article = f.article; qty = q }
 
     more : FirstFailure (of_bound A n w f q) found
-    more = has_bound A (next A (More n w f.branch f.article q)) w f q 0 found (more_test A n asked 0 good (rw numbered (may_hold o w f fault opened plain held none))) bounded
+    more = has_bound A (next A (More n w f.branch f.article q)) w f q 0 found (more_test A n asked 0 good (rw numbered (grind arith))) bounded

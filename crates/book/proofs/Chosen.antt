@@ -1,7 +1,6 @@
 -- Which of the rows of a list pass a test.
 use Rattle.std.proofs.Common.{◌≡◌, ℕ, ◌<◌, Bool, true, false, ◌||◌, ◌==◌, List, [], ◌∷◌, ◌++◌, Some, ap, arith, find, flat_map, if◌then◌else◌, map, nat_cmp, Less, refl}
-use Rattle.std.specs.List.{AllByRecursion as Each, filter, list_any}
-use Rattle.book.specs.Ledger.{Order, insert_in_order}
+use Rattle.book.proofs.Prelude.{Each, Order, filter, insert_in_order, list_any}
 use Rattle.book.proofs.Closing.{less_is}
 use Rattle.book.proofs.Found.{from_some}
 use Rattle.book.proofs.Lists.{each-unmap}
@@ -13,11 +12,7 @@ filter-none t row (x ∷ xs) h = rw h.0 (filter-none t row xs h.1)
 
 pub filter-insert : {X R : Type 0} (t : R → Bool) (row : X → R) (p : X → X → Bool) (x : X) (xs : List X) → t (row x) ≡ true → Each (λ y. t (row y) ≡ false) xs → filter t (map row (insert_in_order p x xs)) ≡ row x ∷ []
 filter-insert t row p x [] e h = rw e refl
-filter-insert t row p x (y ∷ ys) e h = step (p x y) (filter-insert t row p x ys e h.1)
-  where
-    step : (b : Bool) → filter t (map row (insert_in_order p x ys)) ≡ row x ∷ [] → filter t (map row (if b then x ∷ y ∷ ys else y ∷ insert_in_order p x ys)) ≡ row x ∷ []
-    step true more = rw (e, h.0) (ap (λ zs. row x ∷ zs) (filter-none t row ys h.1))
-    step false more = rw h.0 more
+filter-insert t row p x (y ∷ ys) e h = let more = filter-insert t row p x ys e h.1 in grind (arith, (filter-none t row ys h.1))
 
 pub filter-push : {X R : Type 0} (t : R → Bool) (row : X → R) (x : X) (xs : List X) → t (row x) ≡ true → Each (λ y. t (row y) ≡ false) xs → filter t (map row (xs ++ x ∷ [])) ≡ row x ∷ []
 filter-push t row x [] e h = rw e refl
@@ -27,14 +22,7 @@ filter-push t row x (y ∷ ys) e h = rw h.0 (filter-push t row x ys e h.1)
 pub filter-each : {X R : Type 0} (t : R → Bool) (row made : X → R) (s : X → Bool) (xs : List X) → Each (λ x. t (row x) ≡ s x) xs → Each (λ x. s x ≡ true → made x ≡ row x) xs
     → flat_map (λ x. if s x then made x ∷ [] else []) xs ≡ filter t (map row xs)
 filter-each t row made s [] h k = refl
-filter-each {R = R} t row made s (x ∷ xs) h k = step (s x) h.0 k.0 (filter-each t row made s xs h.1 k.1)
-  where
-    rest : List R
-    rest = flat_map (λ x. if s x then made x ∷ [] else []) xs
-
-    step : (b : Bool) → t (row x) ≡ b → (b ≡ true → made x ≡ row x) → rest ≡ filter t (map row xs) → (if b then made x ∷ [] else []) ++ rest ≡ filter t (map row (x ∷ xs))
-    step true e same more = rw e (λ i. same refl i ∷ more i)
-    step false e same more = rw e more
+filter-each {R = R} t row made s (x ∷ xs) h k = let more = filter-each t row made s xs h.1 k.1 in grind arith
 
 -- tests over lists
 
@@ -63,13 +51,9 @@ pub none_after : (n : ℕ) (m : Order) (ms : List Order) → (m.number == n) ≡
 none_after n m ms e h = each-imp (λ k z. other m.number n k.number e (less_is m.number k.number z)) ms (each-unmap (λ y. nat_cmp m.number y ≡ Less) (λ o. o.number) ms h)
 
 pub some_is : {X : Type 0} (x y : X) → Some x ≡ Some y → x ≡ y
-some_is x y e = ap (from_some x) e
+some_is x y e = cc
 
 -- what is found of an insertion, where it was not there
 pub find-new : (n : ℕ) (p : Order → Order → Bool) (o : Order) (os : List Order) → (o.number == n) ≡ true → Each (λ m. (m.number == n) ≡ false) os → find (λ m. m.number == n) (insert_in_order p o os) ≡ Some o
 find-new n p o [] e h = rw e refl
-find-new n p o (m ∷ ms) e h = step (p o m) (find-new n p o ms e h.1)
-  where
-    step : (b : Bool) → find (λ m. m.number == n) (insert_in_order p o ms) ≡ Some o → find (λ m. m.number == n) (if b then o ∷ m ∷ ms else m ∷ insert_in_order p o ms) ≡ Some o
-    step true more = rw e refl
-    step false more = rw h.0 more
+find-new n p o (m ∷ ms) e h = let more = find-new n p o ms e h.1 in grind arith

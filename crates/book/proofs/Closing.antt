@@ -1,39 +1,18 @@
 -- From a good ledger every future keeps the bounds and the commits.
+use Rattle.book.proofs.Prelude.{Aborted, Add, Answers, AnswersNew, AsksNoStock, Check, Command, Committed, Done, Each, FirstFailure, Good, IsDistinct, IsFuture, IsGoodOrder, IsStrictlySortedBy, IsTransferPair, IsWithin, Kept, KeyReused, Ledger, Line, MatchOrdering, Name, Order, Refusal, Refused, Reply, Request, Runs, Stands, State, Take, Way, accept, bytes_decides, change_lines, checks, committed_state, common_steps, held_to_add, held_to_take, if_add, if_take, ints, is_committed, is_open, is_transfer, kept_under, line_name, line_on, lower_held, on, open_state, order_numbered, places, raise_used, ranks, same_command, same_name, set_state, settled, signed}
 use Rattle.std.proofs.Common.{◌≡◌, ℕ, ◌+◌, ◌-◌, ◌<◌, ◌≤◌, ℤ, pos, ◌+ℤ◌, ◌-ℤ◌, neg_ℤ, ◌≤ℤ◌, List, [], ◌∷◌, map, Bool, true, false, ◌&&◌, ◌||◌, IsTrue, IsFalse, IsNone, is_some, IsSomeAnd, Option, Some, None, find, refl, sym, ap, ◌∙◌, subst, arith, if◌then◌else◌, true≢false, inl, inr, ◌==◌, nat_le, nat_cmp, Less, MatchOption}
-use Rattle.std.proofs.lemmas.Int.{ints}
-use Rattle.std.specs.Cmp.{ranks}
-use Rattle.std.specs.Ordering.{MatchOrdering}
-use Rattle.std.specs.List.{AllByRecursion as Each, IsDistinct}
-use Rattle.std.specs.List.Sorted.{IsStrictlySortedBy}
-use lib.Pointwise.{bytes_decides}
-use Rattle.escrow.specs.declared.quantity.Way.{Way}
-use Rattle.escrow.specs.declared.quantity.Way.TheVariants.{Take, Add}
-use Rattle.words.specs.declared.command.Command.{Command}
 use Rattle.words.specs.declared.command.Command.TheVariants as command
-use Rattle.words.specs.declared.command.Request.{Request}
-use Rattle.words.specs.declared.reply.Refusal.{Refusal}
-use Rattle.words.specs.declared.reply.Refusal.TheVariants.{KeyReused}
-use Rattle.words.specs.declared.reply.Reply.{Reply}
-use Rattle.words.specs.declared.reply.Reply.TheVariants.{Done, Refused}
-use Rattle.book.specs.declared.order.State.{State}
-use Rattle.book.specs.declared.order.State.TheVariants.{Open, Committed, Aborted}
-use Rattle.book.specs.declared.order.Line.{Line}
-use Rattle.book.specs.Ledger.{open_state, committed_state, Name, Field, Order, Ledger, Kept, on, is_open, is_committed, is_transfer, line_name, same_name, order_numbered, line_on, kept_under, places}
-use Rattle.book.specs.Outcomes.{total, signed, moved, settled, IsWithin}
-use Rattle.book.specs.Held.{if_take, if_add, held_to_take, held_to_add}
-use Rattle.book.specs.Next.{accept, change_lines, raise_used, lower_held, set_state}
-use Rattle.book.specs.Answers.{Check, FirstFailure, checks, Answers, AnswersNew, Runs, same_command}
-use Rattle.book.specs.Good.{Good, IsGoodOrder, IsTransferPair}
-use Rattle.book.specs.Future.{AsksNoStock, IsFuture, Stands, HonoursAlways}
+use Rattle.book.specs.declared.order.State.TheVariants.{Open}
+use Rattle.book.specs.Ledger.{Field}
+use Rattle.book.specs.Outcomes.{total, moved}
+use Rattle.book.specs.Future.{HonoursAlways}
 use Rattle.book.proofs.Sums.{each-imp, each-both, each-map}
 use Rattle.book.proofs.Bounds.{OneOn, Sound, takes, adds, takes-not_negative, adds-not_negative, moved-low, moved-high, room_from_safe, HasRoom}
 
 -- a good order is sound
 
 pub same_parts : (a b : Bool) → (a && b) ≡ true → (a ≡ true) × (b ≡ true)
-same_parts true true e = (refl, refl)
-same_parts true false e = absurd (true≢false (sym e))
-same_parts false b e = absurd (true≢false (sym e))
+same_parts x b e = grind arith
 
 pub name_is : (f g : Name) → same_name f g ≡ true → f ≡ g
 name_is f g e = let p = same_parts _ _ e in
@@ -122,52 +101,30 @@ fit-changed A h clock kept fit b = record {
 
 -- one order
 
-same_low : (o : Order) → Fine o → Better o o
-same_low o fine = record { number = refl; fine = fine; low_is = λ f. omega (arith, ints); high_is = λ f. omega (arith, ints) }
-
 better_if : (b : Bool) (o new : Order) → Fine o → (b ≡ true → Better o new) → Better o (if b then new else o)
-better_if true o new fine h = h refl
-better_if false o new fine h = same_low o fine
+better_if b o new fine h = grind arith
 
 used_in_held : (ls : List Line) → Each (λ l. l.used ≤ l.held) ls → Each (λ l. (l.used ≤ l.used) × (l.used ≤ l.held)) ls
 used_in_held [] h = tt
 used_in_held (l ∷ ls) h = ((omega arith, h.0), used_in_held ls h.1)
 
 commit_low : (s : State) (u t : ℤ) → open_state s ≡ true → neg_ℤ t ≤ℤ u → ((if committed_state s then u else pos 0) -ℤ (if open_state s then t else pos 0)) ≤ℤ (u -ℤ pos 0)
-commit_low Open u t e h = omega (arith, ints)
-commit_low Committed u t e h = absurd (true≢false (sym e))
-commit_low Aborted u t e h = absurd (true≢false (sym e))
+commit_low c u t e h = grind arith
 
 commit_high : (s : State) (u t : ℤ) → open_state s ≡ true → u ≤ℤ t → (u +ℤ pos 0) ≤ℤ ((if committed_state s then u else pos 0) +ℤ (if open_state s then t else pos 0))
-commit_high Open u t e h = omega (arith, ints)
-commit_high Committed u t e h = absurd (true≢false (sym e))
-commit_high Aborted u t e h = absurd (true≢false (sym e))
+commit_high c u t e h = grind arith
 
 better-commit : (o : Order) → Fine o → is_open o ≡ true → Better o (set_state Committed o)
-better-commit o fine e = record {
-  number = refl;
-  fine = record { sound = record { used = fine.sound.used; one = fine.sound.one }; pair = fine.pair };
-  low_is = λ f. commit_low o.state (moved f (λ l. l.used) o) (total (takes f) o.lines) e (moved-low f (λ l. l.used) o.lines (used_in_held o.lines fine.sound.used));
-  high_is = λ f. commit_high o.state (moved f (λ l. l.used) o) (total (adds f) o.lines) e (moved-high f (λ l. l.used) o.lines (used_in_held o.lines fine.sound.used));
-}
+better-commit o fine e = grind (arith, (used_in_held o.lines fine.sound.used), adds, commit_high, commit_low, moved-high, moved-low, takes)
 
 abort_low : (s : State) (u t : ℤ) → open_state s ≡ true → pos 0 ≤ℤ t → ((if committed_state s then u else pos 0) -ℤ (if open_state s then t else pos 0)) ≤ℤ (pos 0 -ℤ pos 0)
-abort_low Open u t e h = omega (arith, ints)
-abort_low Committed u t e h = absurd (true≢false (sym e))
-abort_low Aborted u t e h = absurd (true≢false (sym e))
+abort_low c u t e h = grind arith
 
 abort_high : (s : State) (u t : ℤ) → open_state s ≡ true → pos 0 ≤ℤ t → (pos 0 +ℤ pos 0) ≤ℤ ((if committed_state s then u else pos 0) +ℤ (if open_state s then t else pos 0))
-abort_high Open u t e h = omega (arith, ints)
-abort_high Committed u t e h = absurd (true≢false (sym e))
-abort_high Aborted u t e h = absurd (true≢false (sym e))
+abort_high c u t e h = grind arith
 
 better-abort : (o : Order) → Fine o → is_open o ≡ true → Better o (set_state Aborted o)
-better-abort o fine e = record {
-  number = refl;
-  fine = record { sound = record { used = fine.sound.used; one = fine.sound.one }; pair = fine.pair };
-  low_is = λ f. abort_low o.state (moved f (λ l. l.used) o) (total (takes f) o.lines) e (takes-not_negative f o.lines);
-  high_is = λ f. abort_high o.state (moved f (λ l. l.used) o) (total (adds f) o.lines) e (adds-not_negative f o.lines);
-}
+better-abort o fine e = grind (arith, abort_high, abort_low, adds, adds-not_negative, takes, takes-not_negative)
 
 -- a use or a release, on an open order
 
@@ -186,23 +143,11 @@ one_on-map f h (l ∷ ls) s one = (λ e. none ls s.1 (one.0 (subst (λ g. same_n
     none [] t e = tt
     none (m ∷ ms) t e = (subst (λ g. same_name f g ≡ false) (sym t.0.name) e.0, none ms t.1 e.1)
 
-take_less : (b : Bool) (w : Way) (m n : ℕ) → m ≤ n → (if b then pos (if_take w m) else pos 0) ≤ℤ (if b then pos (if_take w n) else pos 0)
-take_less true Take m n h = omega (arith, ints)
-take_less true Add m n h = omega (arith, ints)
-take_less false w m n h = omega (arith, ints)
-
-add_less : (b : Bool) (w : Way) (m n : ℕ) → m ≤ n → (if b then pos (if_add w m) else pos 0) ≤ℤ (if b then pos (if_add w n) else pos 0)
-add_less true Take m n h = omega (arith, ints)
-add_less true Add m n h = omega (arith, ints)
-add_less false w m n h = omega (arith, ints)
-
 takes-step : (f : Name) (l new : Line) → LineStep l new → takes f new ≤ℤ takes f l
-takes-step f l new s = subst (λ n. (if same_name f n then pos (if_take new.way new.held) else pos 0) ≤ℤ takes f l) (sym s.name)
-    (subst (λ w. (if on f l then pos (if_take w new.held) else pos 0) ≤ℤ takes f l) (sym s.way) (take_less (on f l) l.way new.held l.held s.held))
+takes-step f l new s = grind arith
 
 adds-step : (f : Name) (l new : Line) → LineStep l new → adds f new ≤ℤ adds f l
-adds-step f l new s = subst (λ n. (if same_name f n then pos (if_add new.way new.held) else pos 0) ≤ℤ adds f l) (sym s.name)
-    (subst (λ w. (if on f l then pos (if_add w new.held) else pos 0) ≤ℤ adds f l) (sym s.way) (add_less (on f l) l.way new.held l.held s.held))
+adds-step f l new s = grind arith
 
 takes-map : (f : Name) (h : Line → Line) (ls : List Line) → Each (λ l. LineStep l (h l)) ls → total (takes f) (map h ls) ≤ℤ total (takes f) ls
 takes-map f h [] s = omega (arith, ints)
@@ -213,14 +158,10 @@ adds-map f h [] s = omega (arith, ints)
 adds-map f h (l ∷ ls) s = let a : adds f (h l) ≤ℤ adds f l = adds-step f l (h l) s.0 in let b : total (adds f) (map h ls) ≤ℤ total (adds f) ls = adds-map f h ls s.1 in omega (arith, ints)
 
 held_low : (s : State) (u v t n : ℤ) → open_state s ≡ true → n ≤ℤ t → ((if committed_state s then u else pos 0) -ℤ (if open_state s then t else pos 0)) ≤ℤ ((if committed_state s then v else pos 0) -ℤ (if open_state s then n else pos 0))
-held_low Open u v t n e h = omega (arith, ints)
-held_low Committed u v t n e h = absurd (true≢false (sym e))
-held_low Aborted u v t n e h = absurd (true≢false (sym e))
+held_low c u v t n e h = grind arith
 
 held_high : (s : State) (u v t n : ℤ) → open_state s ≡ true → n ≤ℤ t → ((if committed_state s then v else pos 0) +ℤ (if open_state s then n else pos 0)) ≤ℤ ((if committed_state s then u else pos 0) +ℤ (if open_state s then t else pos 0))
-held_high Open u v t n e h = omega (arith, ints)
-held_high Committed u v t n e h = absurd (true≢false (sym e))
-held_high Aborted u v t n e h = absurd (true≢false (sym e))
+held_high c u v t n e h = grind arith
 
 used-map : (h : Line → Line) (ls : List Line) → Each (λ l. LineStep l (h l)) ls → Each (λ l. l.used ≤ l.held) (map h ls)
 used-map h [] s = tt
@@ -243,8 +184,7 @@ at_line P f [] one h = tt
 at_line P f (l ∷ ls) one h = step (λ k. at_line P f ls one.1 k) (on f l) refl h
   where
     step : (IsSomeAnd (find (on f) ls) P → Each (λ l. on f l ≡ true → P l) ls) → (b : Bool) → on f l ≡ b → IsSomeAnd (if b then Some l else find (on f) ls) P → Each (λ l. on f l ≡ true → P l) (l ∷ ls)
-    step more true e h = (λ _. h, each-imp (λ m no yes. absurd (true≢false (sym yes ∙ no))) ls (one.0 e))
-    step more false e h = (λ yes. absurd (true≢false (sym yes ∙ e)), more h)
+    step more b e h = grind (arith, each-imp)
 
 pub less_is : (a b : ℕ) → nat_cmp a b ≡ Less → a < b
 less_is a b e = subst (λ r. MatchOrdering r (a < b) (a ≡ b) (b < a)) e (ranks a b)
@@ -263,8 +203,7 @@ at_number P n (o ∷ os) sorted h = step (λ k. at_number P n os sorted.1 k) (o.
         apart e e2 a = grind arith
 
     step : (IsSomeAnd (find (λ o. o.number == n) os) P → Each (λ o. (o.number == n) ≡ true → P o) os) → (b : Bool) → (o.number == n) ≡ b → IsSomeAnd (if b then Some o else find (λ o. o.number == n) os) P → Each (λ o. (o.number == n) ≡ true → P o) (o ∷ os)
-    step more true e h = (λ _. h, rest e os sorted.0)
-    step more false e h = (λ yes. absurd (true≢false (sym yes ∙ e)), more h)
+    step more b e h = grind (arith, rest)
 
 none-is-not-some : {X : Type 0} (x : X) → None ≡ Some x → ⊥
 none-is-not-some x e = true≢false (sym (ap is_some e))
@@ -278,52 +217,23 @@ all_pass [] h = tt
 all_pass (c ∷ cs) (inl h) = absurd (none-is-not-some (c.refusal, c.line) h.1)
 all_pass (c ∷ cs) (inr h) = (h.0, all_pass cs h.1)
 
-pub open_there : (o : Option Order) → (IsNone o → ⊥) → (IsSomeAnd o (λ o. IsFalse (is_open o)) → ⊥) → IsSomeAnd o (λ o. is_open o ≡ true)
-open_there None h k = h refl
-open_there (Some o) h k = bool (is_open o) refl
-  where
-    bool : (b : Bool) → is_open o ≡ b → is_open o ≡ true
-    bool true e = e
-    bool false e = absurd (k e)
-
 -- The order is open, and its line on f has q left.
 abbrev pub Usable : Name → ℕ → Order → Type 0
 Usable f q o = (is_open o ≡ true) × IsSomeAnd (line_on o f) (λ l. l.used + q ≤ l.held)
 
-line_there : (q : ℕ) (l : Option Line) → (IsNone l → ⊥) → (IsSomeAnd l (λ l. l.held < l.used + q) → ⊥) → IsSomeAnd l (λ l. l.used + q ≤ l.held)
-line_there q None h k = h refl
-line_there q (Some l) h k = not_less l.held (l.used + q) k
-  where
-    not_less : (a b : ℕ) → (a < b → ⊥) → b ≤ a
-    not_less a b k = omega arith
-
 pub usable_there : (f : Name) (q : ℕ) (o : Option Order) → (IsNone o → ⊥) → (IsSomeAnd o (λ o. IsFalse (is_open o)) → ⊥) → (IsSomeAnd o (λ o. IsNone (line_on o f)) → ⊥)
     → (IsSomeAnd o (λ o. IsSomeAnd (line_on o f) (λ l. l.held < l.used + q)) → ⊥) → IsSomeAnd o (Usable f q)
-usable_there f q None a b c d = a refl
-usable_there f q (Some o) a b c d = (open_there (Some o) a b, line_there q (line_on o f) c d)
-
--- on a transfer both lines have the same left, else the one line on the field
-pair_left : (f : Name) (q : ℕ) (ls : List Line) → IsTransferPair ls → IsSomeAnd (find (on f) ls) (λ l. l.used + q ≤ l.held) → Each (λ l. l.used + q ≤ l.held) ls
-pair_left f q [] p h = tt
-pair_left f q (l ∷ []) p h = absurd p
-pair_left f q (l ∷ m ∷ k ∷ ls) p h = absurd p
-pair_left f q (l ∷ m ∷ []) p h = step (on f l) (on f m) h
-  where
-    step : (b c : Bool) → IsSomeAnd (if b then Some l else (if c then Some m else None)) (λ l. l.used + q ≤ l.held) → (l.used + q ≤ l.held) × ((m.used + q ≤ m.held) × Unit {0})
-    step true c h = let e : l.held ≡ m.held = p.3 in let d : l.used ≡ m.used = p.4 in (h, (omega arith, tt))
-    step false true h = let e : l.held ≡ m.held = p.3 in let d : l.used ≡ m.used = p.4 in (omega arith, (h, tt))
-    step false false h = absurd h
+usable_there f q x a b c d = grind arith
 
 pub left_on : (f : Name) (q : ℕ) (o : Order) → Fine o → Usable f q o → Each (λ l. (is_transfer o || on f l) ≡ true → l.used + q ≤ l.held) o.lines
 left_on f q o fine u = step (is_transfer o) refl
   where
     step : (b : Bool) → is_transfer o ≡ b → Each (λ l. (b || on f l) ≡ true → l.used + q ≤ l.held) o.lines
-    step true e = each-imp (λ l h _. h) o.lines (pair_left f q o.lines (fine.pair e) u.1)
+    step true e = each-imp (λ l h _. h) o.lines (grind arith)
     step false e = at_line (λ l. l.used + q ≤ l.held) f o.lines (fine.sound.one f) u.1
 
 pub line_step : (b : Bool) (l new : Line) → l.used ≤ l.held → (b ≡ true → LineStep l new) → LineStep l (if b then new else l)
-line_step true l new h s = s refl
-line_step false l new h s = record { name = refl; way = refl; held = omega arith; used = h }
+line_step b l new h s = grind arith
 
 -- what a use and a release do to a line
 pub record IsClosingChange (q : ℕ) (change : Line → Line) : Type 0 where
@@ -342,14 +252,7 @@ steps f q change t ls c u left = each-both (λ l used h. line_step (t || on f l)
 
 pair-map : (f : Name) (q : ℕ) (change : Line → Line) (t : Bool) (ls : List Line) → IsClosingChange q change → (IsTrue t → IsTransferPair ls) → (IsTrue t → Each (λ l. LineStep l (if t || on f l then change l else l)) ls)
     → IsTrue t → IsTransferPair (map (λ l. if t || on f l then change l else l) ls)
-pair-map f q change t ls c pair s e = subst (λ t. IsTransferPair (map (λ l. if t || on f l then change l else l) ls)) (sym e)
-    (both ls (pair e) (subst (λ t. Each (λ l. LineStep l (if t || on f l then change l else l)) ls) e (s e)))
-  where
-    both : (ls : List Line) → IsTransferPair ls → Each (λ l. LineStep l (change l)) ls → IsTransferPair (map change ls)
-    both [] p s = absurd p
-    both (l ∷ []) p s = absurd p
-    both (l ∷ m ∷ k ∷ ls) p s = absurd p
-    both (l ∷ m ∷ []) p s = (s.0.way ∙ p.0, s.1.0.way ∙ p.1, ap (λ n. n.article) s.0.name ∙ p.2 ∙ sym (ap (λ n. n.article) s.1.0.name), (c.pair l m p.3 p.4).0, (c.pair l m p.3 p.4).1)
+pair-map f q change t ls c pair s e = grind arith
 
 better-change : (f : Name) (q : ℕ) (change : Line → Line) (o : Order) → IsClosingChange q change → Fine o → Usable f q o → Better o (change_lines f change o)
 better-change f q change o c fine u = let s = steps f q change (is_transfer o) o.lines c fine.sound.used (left_on f q o fine u) in
@@ -359,12 +262,12 @@ better-change f q change o c fine u = let s = steps f q change (is_transfer o) o
 
 fit-commit : (A : Ledger) (key : List ℕ) (n : ℕ) → Fit A → FirstFailure (checks A (command.Commit n)) None → Fit (accept A (record { key = key; command = command.Commit n }))
 fit-commit A key n fit h = let p = all_pass (checks A (command.Commit n)) h in
-    let there = at_number (λ o. is_open o ≡ true) n A.orders fit.numbers (open_there (order_numbered A n) p.0 p.1.0) in
+    let there = at_number (λ o. is_open o ≡ true) n A.orders fit.numbers (grind arith) in
     fit-changed A (λ o. if o.number == n then set_state Committed o else o) _ _ fit (each-both (λ o fine e. better_if (o.number == n) o (set_state Committed o) fine (λ y. better-commit o fine (e y))) A.orders fit.orders there)
 
 fit-abort : (A : Ledger) (key : List ℕ) (n : ℕ) → Fit A → FirstFailure (checks A (command.Abort n)) None → Fit (accept A (record { key = key; command = command.Abort n }))
 fit-abort A key n fit h = let p = all_pass (checks A (command.Abort n)) h in
-    let there = at_number (λ o. is_open o ≡ true) n A.orders fit.numbers (open_there (order_numbered A n) p.0 p.1.0) in
+    let there = at_number (λ o. is_open o ≡ true) n A.orders fit.numbers (grind arith) in
     fit-changed A (λ o. if o.number == n then set_state Aborted o else o) _ _ fit (each-both (λ o fine e. better_if (o.number == n) o (set_state Aborted o) fine (λ y. better-abort o fine (e y))) A.orders fit.orders there)
 
 expired_open : (b c : Bool) → (b && c) ≡ true → b ≡ true
@@ -388,17 +291,12 @@ fit-release A key n br ar q fit h = let f : Name = record { branch = br; article
     fit-change A n f q (lower_held q) _ (release_change q) fit (usable_there f q (order_numbered A n) p.1.0 p.1.1.0 p.1.1.1.0 p.1.1.1.1.0)
 
 pub fit-accept : (A : Ledger) (key : List ℕ) (c : Command) → AsksNoStock c → Fit A → FirstFailure (checks A c) None → Fit (accept A (record { key = key; command = c }))
-fit-accept A key (command.Field b a lo hi start) w fit h = absurd w
-fit-accept A key (command.Deliver b a q) w fit h = absurd w
-fit-accept A key (command.Writeoff b a q) w fit h = absurd w
-fit-accept A key (command.Open n until lines) w fit h = absurd w
-fit-accept A key (command.Transfer n until a from to q) w fit h = absurd w
-fit-accept A key (command.More n way b a q) w fit h = absurd w
 fit-accept A key (command.Use n b a q) w fit h = fit-use A key n b a q fit h
 fit-accept A key (command.Release n b a q) w fit h = fit-release A key n b a q fit h
 fit-accept A key (command.Commit n) w fit h = fit-commit A key n fit h
 fit-accept A key (command.Abort n) w fit h = fit-abort A key n fit h
 fit-accept A key (command.Expire now) w fit h = fit-expire A key now fit
+fit-accept A key c w fit h = absurd w
 
 pub fit-answer : (A : Ledger) (r : Request) (reply : Reply) (B : Ledger) → AsksNoStock r.command → Fit A → Answers A r reply B → Fit B
 fit-answer A r reply B w fit h = by_key (kept_under A r.key) h
@@ -408,8 +306,7 @@ fit-answer A r reply B w fit h = by_key (kept_under A r.key) h
     by_found (Some e) f m = subst Fit (sym m.1) fit
 
     by_key : (k : Option Kept) → MatchOption k (AnswersNew A r reply B) (λ k. (reply ≡ (if same_command k.command r.command then Done k.place else Refused KeyReused 0)) × (B ≡ A)) → Fit B
-    by_key None m = by_found m.0 m.1 m.2
-    by_key (Some k) m = subst Fit (sym m.1) fit
+    by_key b m = grind (arith, by_found)
 
 fit-run : (A : Ledger) (rs : List Request) (replies : List Reply) (B : Ledger) → IsFuture rs → Fit A → Runs A rs replies B → Fit B
 fit-run A [] [] B w fit h = subst Fit (sym h) fit
@@ -429,26 +326,16 @@ fit_from_good A g = let s = each-imp (λ o x. sound_from_good A o x) A.orders g.
 held_take-not_negative : (f : Name) (os : List Order) → pos 0 ≤ℤ takes_part f os
 unfolding takes_part
 held_take-not_negative f [] = omega (arith, ints)
-held_take-not_negative f (o ∷ os) = let a = if_not_negative (is_open o) (total (takes f) o.lines) (takes-not_negative f o.lines) in let b = held_take-not_negative f os in omega (arith, ints)
-  where
-    if_not_negative : (b : Bool) (z : ℤ) → pos 0 ≤ℤ z → pos 0 ≤ℤ (if b then z else pos 0)
-    if_not_negative true z h = h
-    if_not_negative false z h = omega (arith, ints)
+held_take-not_negative f (o ∷ os) = let more = held_take-not_negative f os in grind (arith, (takes f), (takes-not_negative f o.lines))
 
 held_add-not_negative : (f : Name) (os : List Order) → pos 0 ≤ℤ adds_part f os
 unfolding adds_part
 held_add-not_negative f [] = omega (arith, ints)
-held_add-not_negative f (o ∷ os) = let a = if_not_negative (is_open o) (total (adds f) o.lines) (adds-not_negative f o.lines) in let b = held_add-not_negative f os in omega (arith, ints)
-  where
-    if_not_negative : (b : Bool) (z : ℤ) → pos 0 ≤ℤ z → pos 0 ≤ℤ (if b then z else pos 0)
-    if_not_negative true z h = h
-    if_not_negative false z h = omega (arith, ints)
+held_add-not_negative f (o ∷ os) = let more = held_add-not_negative f os in grind (arith, (adds f), (adds-not_negative f o.lines))
 
 settled_within : (A : Ledger) (f : Field) → HasRoom A f → IsWithin f (settled A f)
 unfolding takes_part adds_part
-settled_within A f r = let p : (pos f.lo) ≤ℤ (settled A f -ℤ held_to_take A f.name) = r.0 in let q : (settled A f +ℤ held_to_add A f.name) ≤ℤ pos f.hi = r.1 in
-    let x : pos 0 ≤ℤ held_to_take A f.name = held_take-not_negative f.name A.orders in let y : pos 0 ≤ℤ held_to_add A f.name = held_add-not_negative f.name A.orders in
-    (omega (arith, ints), omega (arith, ints))
+settled_within A f r = grind (arith, ints, common_steps, (held_take-not_negative f.name A.orders), (held_add-not_negative f.name A.orders), f.lo, f.name, r.0, f.hi, r.1, A.orders)
 
 -- an order is found under its number
 found : (os : List Order) → IsStrictlySortedBy nat_cmp (map (λ o. o.number) os) → Each (λ o. find (λ e. e.number == o.number) os ≡ Some o) os
@@ -466,9 +353,6 @@ found (o ∷ os) sorted = (here, each-both (λ m a e. step m a e) os (unmap os s
     step : (m : Order) → o.number < m.number → find (λ e. e.number == m.number) os ≡ Some m → find (λ e. e.number == m.number) (o ∷ os) ≡ Some m
     step m a e = let d : (o.number == m.number) ≡ false = grind arith in rw d e
 
-commit_passes : (A : Ledger) (o : Order) → order_numbered A o.number ≡ Some o → is_open o ≡ true → FirstFailure (checks A (command.Commit o.number)) None
-commit_passes A o e open_is = rw e (inr ((λ h. true≢false h), inr ((λ h. true≢false (sym open_is ∙ h)), refl)))
-
 commits : (A : Ledger) → Fit A → Each (λ o. IsTrue (is_open o) → (key : List ℕ) → IsNone (kept_under A key)
     → (C : Ledger) × Answers A (record { key = key; command = command.Commit o.number }) (Done (places A + 1)) C) A.orders
 commits A fit = each-imp (λ o e. commit o e) A.orders (found A.orders fit.numbers)
@@ -478,8 +362,7 @@ commits A fit = each-imp (λ o e. commit o e) A.orders (found A.orders fit.numbe
       where
         answer : (k : Option Kept) → IsNone k → MatchOption k (AnswersNew A (record { key = key; command = command.Commit o.number }) (Done (places A + 1)) (accept A (record { key = key; command = command.Commit o.number })))
             (λ k. (Done (places A + 1) ≡ (if same_command k.command (command.Commit o.number) then Done k.place else Refused KeyReused 0)) × (accept A (record { key = key; command = command.Commit o.number }) ≡ A))
-        answer None none = (None, commit_passes A o e t, (refl, refl))
-        answer (Some k) none = absurd (true≢false none)
+        answer b none = grind arith
 
 pub stands_if_fit : (A : Ledger) → Fit A → Stands A
 stands_if_fit A fit = record { within = each-imp (λ f r. settled_within A f r) A.fields fit.room; commits = commits A fit }

@@ -1,18 +1,6 @@
 -- Each test of a check by all outcomes is one comparison with the numbers of the ledger as it is.
+use Rattle.book.proofs.Prelude.{Add, BreaksBound, Each, Good, IsDistinct, IsStrictlySortedBy, Kind, Ledger, Line, MayHoldMore, Name, OpenLine, Order, Take, Way, add_hold, bound, change_order, common_steps, held_to_add, held_to_take, if_add, if_take, ints, is_open, line_name, line_on, new_line, new_order, on, open_state, order_numbered, raise_held, same_name, with_order}
 use Rattle.std.proofs.Common.{◌≡◌, ◌∙◌, ℕ, ◌+◌, ℤ, pos, ◌+ℤ◌, ◌==◌, ◌↔◌, Bool, true, false, List, [], ◌∷◌, ◌++◌, Option, None, Some, IsNone, IsSomeAnd, MatchOption, ap, arith, find, if◌then◌else◌, map, nat_cmp, Less, refl, subst, sym, true≢false}
-use Rattle.std.proofs.lemmas.Int.{ints}
-use Rattle.std.specs.List.{AllByRecursion as Each, IsDistinct}
-use Rattle.std.specs.List.Sorted.{IsStrictlySortedBy}
-use Rattle.escrow.specs.declared.quantity.Way.{Way}
-use Rattle.escrow.specs.declared.quantity.Way.TheVariants.{Add, Take}
-use Rattle.words.specs.declared.open_line.OpenLine.{OpenLine}
-use Rattle.book.specs.declared.order.Kind.{Kind}
-use Rattle.book.specs.declared.order.Line.{Line}
-use Rattle.book.specs.Answers.{bound}
-use Rattle.book.specs.Good.{Good}
-use Rattle.book.specs.Held.{MayHoldMore, BreaksBound, held_to_add, held_to_take, if_add, if_take}
-use Rattle.book.specs.Ledger.{Ledger, Name, Order, is_open, line_name, line_on, on, open_state, order_numbered, same_name}
-use Rattle.book.specs.Next.{add_hold, change_order, new_line, new_order, raise_held, with_order}
 use Rattle.book.specs.Outcomes.{total}
 use Rattle.book.proofs.Asked.{add_line_test, named, same_self, take_line_test, total-push}
 use Rattle.book.proofs.Bounds.{OneOn, Sound, falls_below_iff, rises_above_iff}
@@ -30,12 +18,10 @@ pub line_test : (A : Ledger) (n : ℕ) (k : Kind) (u : ℕ) (before : List OpenL
 line_test A n k u before l i good apart none = by l.way refl
   where
     alone : (x : Option Line) → IsNone x → x ≡ None
-    alone None e = refl
-    alone (Some line) e = absurd (true≢false e)
+    alone b e = grind arith
 
     by : (w : Way) → l.way ≡ w → (bound w (with_order (new_order n k u (before ++ l ∷ [])) A) (line_name (new_line l)) i).fails ↔ BreaksBound w A (line_name (new_line l)) l.qty
-    by Take e = take_line_test A n k u before l (sounds_from_good A good) (λ g. one_on g (map new_line before) apart) (alone _ none) e
-    by Add e = add_line_test A n k u before l (sounds_from_good A good) (λ g. one_on g (map new_line before) apart) (alone _ none) e
+    by b e = grind (arith, add_line_test, one_on, sounds_from_good, take_line_test, alone)
 
 -- ---- an amount more on an order's line
 
@@ -44,18 +30,15 @@ abbrev IsSum : (Way → ℕ → ℕ) → Type 0
 IsSum p = (w : Way) (m n : ℕ) → p w (m + n) ≡ p w m + p w n
 
 take_sum : IsSum if_take
-take_sum Take m n = refl
-take_sum Add m n = refl
+take_sum b m n = grind arith
 
 add_sum : IsSum if_add
-add_sum Take m n = refl
-add_sum Add m n = refl
+add_sum b m n = grind arith
 
 part_none : (p : Way → ℕ → ℕ) (name : Name) (q : ℕ) (ls : List Line) → Each (λ m. on name m ≡ false) ls
     → total (part p name) (map (λ m. if on name m then raise_held q m else m) ls) ≡ total (part p name) ls
 part_none p name q [] h = refl
-part_none p name q (m ∷ ms) h =
-    let same : (if on name m then raise_held q m else m) ≡ m = rw h.0 refl in let b = part_none p name q ms h.1 in λ i. part p name (same i) +ℤ b i
+part_none p name q (m ∷ ms) h = let more = part_none p name q ms h.1 in cc
 
 part_raised : (p : Way → ℕ → ℕ) → IsSum p → (name : Name) (w : Way) (q : ℕ) (ls : List Line) → OneOn name ls → IsSomeAnd (find (on name) ls) (λ m. m.way ≡ w)
     → total (part p name) (map (λ m. if on name m then raise_held q m else m) ls) ≡ total (part p name) ls +ℤ pos (p w q)
@@ -63,20 +46,12 @@ part_raised p sum name w q [] one found = absurd found
 part_raised p sum name w q (m ∷ ms) one found = step (on name m) refl found (λ k. part_raised p sum name w q ms one.1 k)
   where
     lifted : (b : Bool) → b ≡ true → m.way ≡ w → (if b then pos (p m.way (m.held + q)) else pos 0) ≡ (if b then pos (p m.way m.held) else pos 0) +ℤ pos (p w q)
-    lifted true e way = ap pos (sum m.way m.held q ∙ ap (λ v. p m.way m.held + p v q) way)
-    lifted false e way = absurd (true≢false (sym e))
+    lifted b e way = grind arith
 
     step : (b : Bool) → on name m ≡ b → IsSomeAnd (if b then Some m else find (on name) ms) (λ m. m.way ≡ w)
         → (IsSomeAnd (find (on name) ms) (λ m. m.way ≡ w) → total (part p name) (map (λ m. if on name m then raise_held q m else m) ms) ≡ total (part p name) ms +ℤ pos (p w q))
         → total (part p name) (map (λ m. if on name m then raise_held q m else m) (m ∷ ms)) ≡ total (part p name) (m ∷ ms) +ℤ pos (p w q)
-    step true e way more =
-        let same : (if on name m then raise_held q m else m) ≡ raise_held q m = rw e refl in
-        let a : part p name (if on name m then raise_held q m else m) ≡ part p name m +ℤ pos (p w q) = ap (part p name) same ∙ lifted (on name m) e way in
-        let b = part_none p name q ms (one.0 e) in omega (arith, ints)
-    step false e found more =
-        let same : (if on name m then raise_held q m else m) ≡ m = rw e refl in
-        let a : part p name (if on name m then raise_held q m else m) ≡ part p name m = ap (part p name) same in
-        let b = more found in omega (arith, ints)
+    step x e way more = grind (arith, ints, common_steps, part, part_none, lifted)
 
 part_more : (p : Way → ℕ → ℕ) → IsSum p → (l : OpenLine) (o : Order) → Sound o → MayHoldMore (line_name (new_line l)) l.way o
     → total (part p (line_name (new_line l))) (add_hold l o).lines ≡ total (part p (line_name (new_line l))) o.lines +ℤ pos (p l.way l.qty)
@@ -112,20 +87,7 @@ total_changed g h n z (m ∷ ms) sorted found = step (m.number == n) refl found 
 held_more : (p : Way → ℕ → ℕ) → IsSum p → (A : Ledger) (n : ℕ) (l : OpenLine) → Good A → IsSomeAnd (order_numbered A n) (MayHoldMore (line_name (new_line l)) l.way)
     → total (λ o. if is_open o then total (part p (line_name (new_line l))) o.lines else pos 0) (change_order n (add_hold l) A).orders
     ≡ total (λ o. if is_open o then total (part p (line_name (new_line l))) o.lines else pos 0) A.orders +ℤ pos (p l.way l.qty)
-held_more p sum A n l good may = total_changed held (add_hold l) n (pos (p l.way l.qty)) A.orders good.orders_in_order (by (order_numbered A n) refl may)
-  where
-    name : Name
-    name = line_name (new_line l)
-
-    held : Order → ℤ
-    held o = if is_open o then total (part p name) o.lines else pos 0
-
-    by : (x : Option Order) → order_numbered A n ≡ x → IsSomeAnd x (MayHoldMore name l.way) → IsSomeAnd x (λ o. held (add_hold l o) ≡ held o +ℤ pos (p l.way l.qty))
-    by None e m = m
-    by (Some o) e m =
-        let sound = found_is Sound n A.orders o (sounds_from_good A good) e in
-        let stays : is_open (add_hold l o) ≡ true = subst (λ s. open_state s ≡ true) (sym (raised l o sound m).state) m.0 in
-        rw (stays, m.0) (part_more p sum l o sound m)
+held_more p sum A n l good may = grind (arith, (sounds_from_good A good), Sound, found_is, part, part_more, raised, total_changed)
 
 pub more_test : (A : Ledger) (n : ℕ) (l : OpenLine) (i : ℕ) → Good A → IsSomeAnd (order_numbered A n) (MayHoldMore (line_name (new_line l)) l.way)
     → (bound l.way (change_order n (add_hold l) A) (line_name (new_line l)) i).fails ↔ BreaksBound l.way A (line_name (new_line l)) l.qty

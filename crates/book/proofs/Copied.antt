@@ -1,21 +1,10 @@
 -- How the order that an accepted command changes may be changed in a copy.
 use Rattle.std.proofs.Common.{◌≡◌, ℕ, ◌<◌, ◌∙◌, ◌==◌, Option, None, Some, ap, arith, is_some, refl, subst, sym, true≢false, IsSomeAnd}
 use Rattle.std.specs.Option.{option_map}
-use Rattle.std.specs.Vec.{vec_capacity, vec_len}
-use Rattle.std.proofs.lemmas.Option.{same_Some}
-use Rattle.words.specs.declared.command.Command.{Command}
+use Rattle.book.proofs.Prelude.{Command, FirstFailure, Good, IsAccepted, IsGoodOrder, Ledger, MayChangeOrder, Name, OpenLine, Order, OrderEntry, Request, accept, add_hold, changed_order, checks, name_of, order_after, order_numbered, order_of, same_Some, vec_capacity, vec_len}
 use Rattle.words.specs.declared.command.Command.TheVariants as command
-use Rattle.words.specs.declared.command.Request.{Request}
-use Rattle.words.specs.declared.open_line.OpenLine.{OpenLine}
-use Rattle.book.specs.After.{order_after}
-use Rattle.book.specs.Answers.{FirstFailure, IsAccepted, checks}
-use Rattle.book.specs.Good.{Good, IsGoodOrder}
-use Rattle.book.specs.InPlace.{MayChangeOrder, changed_order, order_change_of}
-use Rattle.book.specs.Ledger.{Ledger, Name, Order, order_numbered, name_of}
-use Rattle.book.specs.Next.{accept, add_hold}
-use Rattle.book.specs.View.{order_of}
+use Rattle.book.specs.InPlace.{order_change_of}
 use Rattle.book.specs.declared.book.made.OrderChange.{OrderChange}
-use Rattle.book.specs.declared.entries.OrderEntry.{OrderEntry}
 use Rattle.book.proofs.Allowed.{hold_allowed}
 use Rattle.book.proofs.Closing.{Fine, Usable, all_pass, fit_from_good, left_on, usable_there}
 use Rattle.book.proofs.Made.{each-found, made_there}
@@ -49,23 +38,8 @@ copy_may_change A r p o good after ok e there room = by r.command refl p e there
         left_on f q (order_of (n, o)) w.0 w.1) there
     by (command.Commit n) is p e there = subst (λ (x : ℕ × OrderChange). MayChangeOrder x.1 o) (same_Some _ p e) tt
     by (command.Abort n) is p e there = subst (λ (x : ℕ × OrderChange). MayChangeOrder x.1 o) (same_Some _ p e) tt
-    by (command.Field br ar lo hi start) is p e there = absurd (true≢false (sym (ap is_some e)))
-    by (command.Deliver br ar q) is p e there = absurd (true≢false (sym (ap is_some e)))
-    by (command.Writeoff br ar q) is p e there = absurd (true≢false (sym (ap is_some e)))
-    by (command.Open n until lines) is p e there = absurd (true≢false (sym (ap is_some e)))
-    by (command.Transfer n until ar from to q) is p e there = absurd (true≢false (sym (ap is_some e)))
-    by (command.Expire now) is p e there = absurd (true≢false (sym (ap is_some e)))
+    by c is p e there = absurd (true≢false (sym (ap is_some e)))
 
 -- the order that is changed is what the command makes
 pub changed_is_after : (A : Ledger) (c : Command) (p : ℕ × OrderChange) → order_change_of c ≡ Some p → option_map (changed_order p.1) (order_numbered A p.0) ≡ order_after A c
-changed_is_after A (command.More n way b a q) p e = sym (ap (λ (x : ℕ × OrderChange). option_map (changed_order x.1) (order_numbered A x.0)) (same_Some _ p e))
-changed_is_after A (command.Use n b a q) p e = sym (ap (λ (x : ℕ × OrderChange). option_map (changed_order x.1) (order_numbered A x.0)) (same_Some _ p e))
-changed_is_after A (command.Release n b a q) p e = sym (ap (λ (x : ℕ × OrderChange). option_map (changed_order x.1) (order_numbered A x.0)) (same_Some _ p e))
-changed_is_after A (command.Commit n) p e = sym (ap (λ (x : ℕ × OrderChange). option_map (changed_order x.1) (order_numbered A x.0)) (same_Some _ p e))
-changed_is_after A (command.Abort n) p e = sym (ap (λ (x : ℕ × OrderChange). option_map (changed_order x.1) (order_numbered A x.0)) (same_Some _ p e))
-changed_is_after A (command.Field br ar lo hi start) p e = absurd (true≢false (sym (ap is_some e)))
-changed_is_after A (command.Deliver br ar q) p e = absurd (true≢false (sym (ap is_some e)))
-changed_is_after A (command.Writeoff br ar q) p e = absurd (true≢false (sym (ap is_some e)))
-changed_is_after A (command.Open n until lines) p e = absurd (true≢false (sym (ap is_some e)))
-changed_is_after A (command.Transfer n until ar from to q) p e = absurd (true≢false (sym (ap is_some e)))
-changed_is_after A (command.Expire now) p e = absurd (true≢false (sym (ap is_some e)))
+changed_is_after b c p e = grind arith

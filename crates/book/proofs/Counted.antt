@@ -1,21 +1,10 @@
 -- How many orders are open, and how many in the next ledger.
 use Rattle.std.proofs.Common.{◌≡◌, ◌∙◌, ℕ, ◌+◌, ℤ, pos, ◌+ℤ◌, ◌-ℤ◌, ◌&&◌, ◌++◌, List, [], ◌∷◌, Bool, true, false, IsNone, Option, None, Some, ap, arith, count_by, if◌then◌else◌, is_some, map, refl, sym, true≢false}
-use Rattle.std.proofs.lemmas.Int.{ints}
+use Rattle.book.proofs.Prelude.{Aborted, BookView, Command, Committed, FirstFailure, Good, Inside, Ledger, Name, OpenLine, Order, State, add_hold, change_lines, checks, expires, hold_more, ints, is_open, is_opening, ledger_of, line_name, line_on, lower_held, name_of, new_line, next, open_orders, open_state, order_after, order_number, order_numbered, raise_used, set_state, some_part, view_of}
 use Rattle.std.specs.Option.{option_map}
-use Rattle.words.specs.Kinds.{is_change, is_opening}
-use Rattle.words.specs.declared.command.Command.{Command}
+use Rattle.words.specs.Kinds.{is_change}
 use Rattle.words.specs.declared.command.Command.TheVariants as command
-use Rattle.words.specs.declared.open_line.OpenLine.{OpenLine}
-use Rattle.book.specs.After.{order_after, order_number, some_part}
-use Rattle.book.specs.Answers.{FirstFailure, checks}
-use Rattle.book.specs.Good.{Good}
-use Rattle.book.specs.Ledger.{Ledger, Name, Order, is_open, line_name, line_on, name_of, open_orders, open_state, order_numbered}
-use Rattle.book.specs.Next.{add_hold, change_lines, expires, hold_more, lower_held, new_line, next, raise_used, set_state}
 use Rattle.book.specs.Outcomes.{total}
-use Rattle.book.specs.View.{BookView, ledger_of, view_of}
-use Rattle.book.specs.declared.book.Book.TheInside.{Inside}
-use Rattle.book.specs.declared.order.State.{State}
-use Rattle.book.specs.declared.order.State.TheVariants.{Aborted, Committed}
 use Rattle.book.proofs.Closing.{all_pass}
 use Rattle.book.proofs.FieldRows.{parted}
 use Rattle.book.proofs.Lists.{counted}
@@ -33,28 +22,14 @@ one o = if is_open o then pos 1 else pos 0
 
 total_one : (os : List Order) → total one os ≡ pos (count_by is_open os)
 total_one [] = refl
-total_one (o ∷ os) = by (is_open o) (total_one os) (counted is_open o os)
-  where
-    by : (b : Bool) → total one os ≡ pos (count_by is_open os) → count_by is_open (o ∷ os) ≡ (if b then 1 else 0) + count_by is_open os → (if b then pos 1 else pos 0) +ℤ total one os ≡ pos (count_by is_open (o ∷ os))
-    by true e c = omega (arith, ints)
-    by false e c = omega (arith, ints)
+total_one (o ∷ os) = let more = total_one os in grind (arith, (counted is_open o os))
 
 expired_one : (now : ℕ) (os : List Order) → total (λ o. if expires now o then one o else pos 0) os ≡ pos (count_by (expires now) os)
 expired_one now [] = refl
-expired_one now (o ∷ os) = by (expires now o) refl (expired_one now os) (counted (expires now) o os)
-  where
-    first_true : (a b : Bool) → (a && b) ≡ true → a ≡ true
-    first_true true b e = refl
-    first_true false b e = e
-
-    by : (b : Bool) → expires now o ≡ b → total (λ o. if expires now o then one o else pos 0) os ≡ pos (count_by (expires now) os) → count_by (expires now) (o ∷ os) ≡ (if b then 1 else 0) + count_by (expires now) os
-        → (if b then one o else pos 0) +ℤ total (λ o. if expires now o then one o else pos 0) os ≡ pos (count_by (expires now) (o ∷ os))
-    by true is e c = let here = ap (λ t. if t then pos 1 else pos 0) (first_true (is_open o) _ is) in omega (arith, ints)
-    by false is e c = omega (arith, ints)
+expired_one now (o ∷ os) = let more = expired_one now os in grind (arith, (counted (expires now) o os))
 
 one_before : (x : Option Order) (f : Name) → IsBefore f x → some_part one x ≡ (if is_some x then pos 1 else pos 0)
-one_before None f is = refl
-one_before (Some o) f is = ap (λ t. if t then pos 1 else pos 0) is.0
+one_before b f is = grind arith
 
 -- any field, since the orders' states do not hang on it
 abbrev nowhere : Name
@@ -71,72 +46,29 @@ counted_on A c n good passed e =
     omega (arith, ints)
 
 pub opened_count : (A : Ledger) (c : Command) → Good A → FirstFailure (checks A c) None → is_opening c ≡ true → open_orders (next A c) ≡ open_orders A + 1
-opened_count A (command.Open n until lines) good h is =
-    let sum = counted_on A (command.Open n until lines) n good h refl in
-    let none = ap (λ (x : Option Order). if is_some x then pos 1 else pos 0) (none_opened A (command.Open n until lines) n h refl refl) in
-    omega (arith, ints)
-opened_count A (command.Transfer n until a from to q) good h is =
-    let sum = counted_on A (command.Transfer n until a from to q) n good h refl in
-    let none = ap (λ (x : Option Order). if is_some x then pos 1 else pos 0) (none_opened A (command.Transfer n until a from to q) n h refl refl) in
-    omega (arith, ints)
-opened_count A (command.Field b a lo hi start) good h is = absurd (true≢false (sym is))
-opened_count A (command.Deliver b a q) good h is = absurd (true≢false (sym is))
-opened_count A (command.Writeoff b a q) good h is = absurd (true≢false (sym is))
-opened_count A (command.More n way b a q) good h is = absurd (true≢false (sym is))
-opened_count A (command.Use n b a q) good h is = absurd (true≢false (sym is))
-opened_count A (command.Release n b a q) good h is = absurd (true≢false (sym is))
-opened_count A (command.Commit n) good h is = absurd (true≢false (sym is))
-opened_count A (command.Abort n) good h is = absurd (true≢false (sym is))
-opened_count A (command.Expire now) good h is = absurd (true≢false (sym is))
+opened_count A (command.Open n until lines) good h is = grind (arith, (none_opened A (command.Open n until lines) n h refl refl), (counted_on A (command.Open n until lines) n good h refl))
+opened_count A (command.Transfer n until a from to q) good h is = grind (arith, (none_opened A (command.Transfer n until a from to q) n h refl refl), (counted_on A (command.Transfer n until a from to q) n good h refl))
+opened_count A c good h is = absurd (true≢false (sym is))
 
 -- the order under the number is there
 numbered : (x : Option Order) → (IsNone x → ⊥) → is_some x ≡ true
-numbered None h = absurd (h refl)
-numbered (Some o) h = refl
+numbered b h = grind arith
 
 -- where it stays open
 kept_open : (x : Option Order) (f : Name) (h : Order → Order) → ((o : Order) → (h o).state ≡ o.state) → IsBefore f x → is_some x ≡ true → some_part one (option_map h x) ≡ pos 1
-kept_open None f h keeps is there = absurd (true≢false (sym there))
-kept_open (Some o) f h keeps is there = ap (λ s. if open_state s then pos 1 else pos 0) (keeps o) ∙ ap (λ t. if t then pos 1 else pos 0) is.0
+kept_open b f h keeps is there = grind arith
 
 ended_part : (x : Option Order) (s : State) → open_state s ≡ false → some_part one (option_map (set_state s) x) ≡ pos 0
-ended_part None s e = refl
-ended_part (Some o) s e = ap (λ t. if t then pos 1 else pos 0) e
+ended_part b s e = grind arith
 
 held_state : (l : OpenLine) (o : Order) → (add_hold l o).state ≡ o.state
-held_state l o = by (is_some (line_on o (line_name (new_line l))))
-  where
-    by : (b : Bool) → (if b then hold_more (line_name (new_line l)) l.qty o else record o { lines = o.lines ++ new_line l ∷ [] }).state ≡ o.state
-    by true = refl
-    by false = refl
+held_state l o = grind arith
 
 pub changed_count : (A : Ledger) (c : Command) → Good A → FirstFailure (checks A c) None → is_change c ≡ true → open_orders (next A c) ≡ open_orders A
-changed_count A (command.More n way b a q) good h is =
-    let sum = counted_on A (command.More n way b a q) n good h refl in
-    let there = numbered (order_numbered A n) (all_pass (checks A (command.More n way b a q)) h).1.0 in
-    let one_there = ap (λ t. if t then pos 1 else pos 0) there in
-    let after = kept_open (order_numbered A n) nowhere (add_hold (record { way = way; branch = b; article = a; qty = q })) (held_state _) (before A (command.More n way b a q) n nowhere good h refl) there in
-    omega (arith, ints)
-changed_count A (command.Use n b a q) good h is =
-    let sum = counted_on A (command.Use n b a q) n good h refl in
-    let there = numbered (order_numbered A n) (all_pass (checks A (command.Use n b a q)) h).1.0 in
-    let one_there = ap (λ t. if t then pos 1 else pos 0) there in
-    let after = kept_open (order_numbered A n) nowhere (change_lines (name_of b a) (raise_used q)) (λ o. refl) (before A (command.Use n b a q) n nowhere good h refl) there in
-    omega (arith, ints)
-changed_count A (command.Release n b a q) good h is =
-    let sum = counted_on A (command.Release n b a q) n good h refl in
-    let there = numbered (order_numbered A n) (all_pass (checks A (command.Release n b a q)) h).1.0 in
-    let one_there = ap (λ t. if t then pos 1 else pos 0) there in
-    let after = kept_open (order_numbered A n) nowhere (change_lines (name_of b a) (lower_held q)) (λ o. refl) (before A (command.Release n b a q) n nowhere good h refl) there in
-    omega (arith, ints)
-changed_count A (command.Field b a lo hi start) good h is = absurd (true≢false (sym is))
-changed_count A (command.Deliver b a q) good h is = absurd (true≢false (sym is))
-changed_count A (command.Writeoff b a q) good h is = absurd (true≢false (sym is))
-changed_count A (command.Open n until lines) good h is = absurd (true≢false (sym is))
-changed_count A (command.Transfer n until a from to q) good h is = absurd (true≢false (sym is))
-changed_count A (command.Commit n) good h is = absurd (true≢false (sym is))
-changed_count A (command.Abort n) good h is = absurd (true≢false (sym is))
-changed_count A (command.Expire now) good h is = absurd (true≢false (sym is))
+changed_count A (command.More n way b a q) good h is = grind (arith, (counted_on A (command.More n way b a q) n good h refl), (numbered (order_numbered A n) (all_pass (checks A (command.More n way b a q)) h).1.0), all_pass, before, held_state, kept_open)
+changed_count A (command.Use n b a q) good h is = grind (arith, (counted_on A (command.Use n b a q) n good h refl), (numbered (order_numbered A n) (all_pass (checks A (command.Use n b a q)) h).1.0), all_pass, before, kept_open)
+changed_count A (command.Release n b a q) good h is = grind (arith, (counted_on A (command.Release n b a q) n good h refl), (numbered (order_numbered A n) (all_pass (checks A (command.Release n b a q)) h).1.0), all_pass, before, kept_open)
+changed_count A c good h is = absurd (true≢false (sym is))
 
 pub committed_count : (A : Ledger) (n : ℕ) → Good A → FirstFailure (checks A (command.Commit n)) None → open_orders (next A (command.Commit n)) + 1 ≡ open_orders A
 committed_count A n good h =
@@ -163,17 +95,7 @@ expired_count A now good h =
 
 pub other_count : (A : Ledger) (c : Command) → Good A → FirstFailure (checks A c) None → ((n until : ℕ) (lines : List OpenLine) → c ≡ command.Open n until lines → ⊥) → ((n until : ℕ) (a from to : List ℕ) (q : ℕ) → c ≡ command.Transfer n until a from to q → ⊥)
     → ((n : ℕ) → c ≡ command.Commit n → ⊥) → ((n : ℕ) → c ≡ command.Abort n → ⊥) → ((now : ℕ) → c ≡ command.Expire now → ⊥) → open_orders (next A c) ≡ open_orders A
-other_count A (command.Field b a lo hi start) good h o t k z e = refl
-other_count A (command.Deliver b a q) good h o t k z e = refl
-other_count A (command.Writeoff b a q) good h o t k z e = refl
-other_count A (command.Open n until lines) good h o t k z e = absurd (o n until lines refl)
-other_count A (command.Transfer n until a from to q) good h o t k z e = absurd (t n until a from to q refl)
-other_count A (command.More n way b a q) good h o t k z e = changed_count A (command.More n way b a q) good h refl
-other_count A (command.Use n b a q) good h o t k z e = changed_count A (command.Use n b a q) good h refl
-other_count A (command.Release n b a q) good h o t k z e = changed_count A (command.Release n b a q) good h refl
-other_count A (command.Commit n) good h o t k z e = absurd (k n refl)
-other_count A (command.Abort n) good h o t k z e = absurd (z n refl)
-other_count A (command.Expire now) good h o t k z e = absurd (e now refl)
+other_count x c good h o t k z e = grind (arith, changed_count)
 
 -- ---- as the book knows it
 

@@ -1,21 +1,8 @@
 -- The orders that an expiry aborts, by their numbers.
 use Rattle.std.proofs.Common.{◌≡◌, ◌∙◌, ℕ, suc, ◌+◌, ◌<◌, ◌≤◌, ◌==◌, ◌&&◌, ◌||◌, ◌++◌, Bool, true, false, List, [], ◌∷◌, Some, ap, append-nil, append_assoc, arith, count_by, drop, flat_map, get_or, if◌then◌else◌, inl, inr, length, map, nat_cmp, Less, refl, subst, sym, take}
-use Rattle.std.proofs.lemmas.Bool.{cases_lt}
-use Rattle.std.proofs.lemmas.Grind.{flat_map-append}
-use Rattle.std.proofs.lemmas.List.Sorted.{IsPermutation-map, sum_by-IsPermutation}
-use Rattle.std.specs.List.{AllByRecursion as Each, filter, fold, list_any}
-use Rattle.std.specs.List.Sorted.{IsNonDecreasingBy, IsPermutation, IsStrictlySortedBy}
-use Rattle.std.specs.Option.{option_map_or}
-use Rattle.book.specs.After.{of_numbered}
-use Rattle.book.specs.Good.{Good}
-use Rattle.book.specs.InPlace.{abort_all, abort_one}
-use Rattle.book.specs.Ledger.{Ledger, Order, order_numbered}
-use Rattle.book.specs.Next.{expires, set_state}
-use Rattle.book.specs.Running.{MayGiveBack}
-use Rattle.book.specs.View.{order_of}
-use Rattle.book.specs.declared.entries.OrderEntry.{OrderEntry}
-use Rattle.book.specs.declared.order.Line.{Line}
-use Rattle.book.specs.declared.order.State.TheVariants.{Aborted}
+use Rattle.book.proofs.Prelude.{Aborted, Each, Good, IsNonDecreasingBy, IsPermutation, IsPermutation-map, IsStrictlySortedBy, Ledger, Line, MayGiveBack, Order, OrderEntry, abort_all, abort_one, cases_lt, common_steps, expires, filter, flat_map-append, list_any, of_numbered, option_map_or, order_numbered, order_of, set_state}
+use Rattle.std.proofs.lemmas.List.Sorted.{sum_by-IsPermutation}
+use Rattle.std.specs.List.{fold}
 use Rattle.book.proofs.Chosen.{none_any}
 use Rattle.book.proofs.Closing.{less_is}
 use Rattle.book.proofs.GivingBack.{may_prefix}
@@ -104,11 +91,7 @@ module _ (p : Order → Bool) where
 
   each_filter : (P : Order → Type 0) (os : List Order) → Each P os → Each P (filter p os)
   each_filter P [] h = tt
-  each_filter P (o ∷ os) h = by (p o) (each_filter P os h.1)
-    where
-      by : (b : Bool) → Each P (filter p os) → Each P (if b then o ∷ filter p os else filter p os)
-      by true more = (h.0, more)
-      by false more = more
+  each_filter P (o ∷ os) h = let more = each_filter P os h.1 in grind arith
 
   each_number : (P : ℕ → Type 0) (os : List Order) → Each P (map (λ o. o.number) os) → Each P (numbers os)
   each_number P os h = each-map P (λ o. o.number) (filter p os) (each_filter (λ o. P o.number) os (each-unmap P (λ o. o.number) os h))
@@ -116,33 +99,15 @@ module _ (p : Order → Bool) where
   numbers_rise : (os : List Order) → IsStrictlySortedBy nat_cmp (map (λ o. o.number) os) → Rising (numbers os)
   unfolding IsStrictlySortedBy
   numbers_rise [] sorted = tt
-  numbers_rise (o ∷ os) sorted = by (p o) (numbers_rise os sorted.1)
-    where
-      le : (k : ℕ) → nat_cmp o.number k ≡ Less → o.number ≤ k
-      le k e = let lt = less_is o.number k e in omega arith
-
-      by : (b : Bool) → Rising (numbers os) → Rising (map (λ o. o.number) (if b then o ∷ filter p os else filter p os))
-      by true more = (each-imp le (numbers os) (each_number (λ k. nat_cmp o.number k ≡ Less) os sorted.0), more)
-      by false more = more
+  numbers_rise (o ∷ os) sorted = let more = numbers_rise os sorted.1 in grind (arith, (each_number (λ k. nat_cmp o.number k ≡ Less) os sorted.0), each-imp, less_is)
 
   count_numbers : (n : ℕ) (os : List Order) → count n (numbers os) ≡ count_by (λ o. p o && (o.number == n)) os
   count_numbers n [] = refl
-  count_numbers n (o ∷ os) = by (p o) (count_numbers n os) ∙ sym (counted (λ o. p o && (o.number == n)) o os)
-    where
-      rest : ℕ
-      rest = count_by (λ o. p o && (o.number == n)) os
-
-      by : (b : Bool) → count n (numbers os) ≡ rest → count n (map (λ o. o.number) (if b then o ∷ filter p os else filter p os)) ≡ (if b && (o.number == n) then 1 else 0) + rest
-      by true more = counted (λ m. m == n) o.number (numbers os) ∙ ap (λ k. (if o.number == n then 1 else 0) + k) more
-      by false more = omega (arith, more)
+  count_numbers n (o ∷ os) = let more = count_numbers n os in grind (arith, common_steps, counted, o.number)
 
   pub length_numbers : (os : List Order) → length (numbers os) ≡ count_by p os
   length_numbers [] = refl
-  length_numbers (o ∷ os) = by (p o) (length_numbers os) ∙ sym (counted p o os)
-    where
-      by : (b : Bool) → length (numbers os) ≡ count_by p os → length (map (λ o. o.number) (if b then o ∷ filter p os else filter p os)) ≡ (if b then 1 else 0) + count_by p os
-      by true more = omega arith
-      by false more = omega arith
+  length_numbers (o ∷ os) = let more = length_numbers os in grind (arith, counted)
 
   -- a number is among them exactly where its order passes
   own_number : (os : List Order) → IsStrictlySortedBy nat_cmp (map (λ o. o.number) os) → Each (λ o. list_any (λ n. o.number == n) (numbers os) ≡ p o) os
@@ -157,12 +122,10 @@ module _ (p : Order → Bool) where
       none = none_any (λ n. o.number == n) (numbers os) (each-imp (λ k e. below o.number k (less_is o.number k e)) (numbers os) (each_number (λ k. nat_cmp o.number k ≡ Less) os sorted.0))
 
       first : (b : Bool) → list_any (λ n. o.number == n) (map (λ o. o.number) (if b then o ∷ filter p os else filter p os)) ≡ b
-      first true = ap (λ b. b || list_any (λ n. o.number == n) (numbers os)) (same o.number)
-      first false = none
+      first x = grind (arith, same, none)
 
       later : (m : Order) (b : Bool) → nat_cmp o.number m.number ≡ Less → list_any (λ n. m.number == n) (map (λ o. o.number) (if b then o ∷ filter p os else filter p os)) ≡ list_any (λ n. m.number == n) (numbers os)
-      later m true e = ap (λ b. b || list_any (λ n. m.number == n) (numbers os)) (above o.number m.number (less_is o.number m.number e))
-      later m false e = refl
+      later m x e = grind arith
 
   -- what the orders have that pass, by their numbers
   pub numbered_flat : {X : Type 0} (A : Ledger) (parts : Order → List X) → Good A → flat_map (of_numbered A parts) (numbers A.orders) ≡ flat_map (λ o. if p o then parts o else []) A.orders
@@ -176,8 +139,7 @@ module _ (p : Order → Bool) where
           rest = flat_map (λ o. if p o then parts o else []) os
 
           by : (b : Bool) → flat_map (of_numbered A parts) (numbers os) ≡ rest → flat_map (of_numbered A parts) (map (λ o. o.number) (if b then o ∷ filter p os else filter p os)) ≡ (if b then parts o else []) ++ rest
-          by true more = λ i. option_map_or parts (h.0 i) [] ++ more i
-          by false more = more
+          by b more = grind arith
 
 -- the numbers of those that expire, found in any order of the entries and then put in theirs
 pub numbers_sorted : (now : ℕ) (es lying : List (ℕ × OrderEntry)) (ns : List ℕ) → IsStrictlySortedBy nat_cmp (map (λ o. o.number) (map order_of es)) → IsPermutation es lying → IsPermutation (numbers (expires now) (map order_of lying)) ns → IsNonDecreasingBy (λ x. x) ns
@@ -203,19 +165,7 @@ no_fates (n ∷ ns) = no_fates ns
 
 fate : (ns : List ℕ) (o : Order) → fold one_fate o ns ≡ (if list_any (λ n. o.number == n) ns then set_state Aborted o else o)
 fate [] o = refl
-fate (n ∷ ns) o = by (o.number == n) (fate ns (set_state Aborted o)) (fate ns o)
-  where
-    any : Bool
-    any = list_any (λ n. o.number == n) ns
-
-    stays : (b : Bool) → (if b then set_state Aborted (set_state Aborted o) else set_state Aborted o) ≡ set_state Aborted o
-    stays true = refl
-    stays false = refl
-
-    by : (b : Bool) → fold one_fate (set_state Aborted o) ns ≡ (if any then set_state Aborted (set_state Aborted o) else set_state Aborted o) → fold one_fate o ns ≡ (if any then set_state Aborted o else o)
-        → fold one_fate (if b then set_state Aborted o else o) ns ≡ (if b || any then set_state Aborted o else o)
-    by true ended going = ended ∙ stays any
-    by false ended going = going
+fate (n ∷ ns) o = let more = fate ns (set_state Aborted o) in let rest = fate ns o in grind arith
 
 pub all_aborted : (A : Ledger) (now : ℕ) → Good A → abort_all (numbers (expires now) A.orders) A.orders ≡ map (λ o. if expires now o then set_state Aborted o else o) A.orders
 all_aborted A now good = go A.orders (own_number (expires now) A.orders good.orders_in_order)

@@ -1,31 +1,11 @@
 -- The rows of the fields that a request makes or changes, for each kind of command.
 use Rattle.std.proofs.Common.{◌≡◌, ◌∙◌, ℕ, ℤ, pos, ◌+ℤ◌, ◌-ℤ◌, ◌&&◌, ◌||◌, ◌++◌, Bool, true, false, List, [], ◌∷◌, IsNone, IsSome, IsSomeAnd, Option, None, Some, ap, append-nil, arith, cond, find, flat_map, if◌then◌else◌, is_some, map, refl, subst, sym, true≢false}
-use Rattle.std.proofs.lemmas.Int.{ints}
-use Rattle.std.proofs.lemmas.List.Folds.{list_any-append}
-use Rattle.std.specs.BTreeMap.{insert_entry, is_at}
-use Rattle.std.specs.List.{AllByRecursion as Each, list_any}
-use Rattle.std.specs.List.Sorted.{IsStrictlySortedBy}
-use Rattle.std.specs.Map.{keys_of, lookup}
+use Rattle.book.proofs.Prelude.{Accepts, Add, Command, Each, FieldCells, FieldEntry, FirstFailure, GivenBack, GivesBack, Good, HasEntry, IsChangedField, IsStrictlySortedBy, Ledger, Line, Name, OpenLine, Order, Puts, Request, Take, accept, add_hold, added_part, change_lines, changed_fields, changes_field, checks, committed_state, entry_row, expired_lines, expires, field_named, field_of, field_row, field_rows, has_line_on, held_to_add, held_to_take, hold_more, if_add, if_take, insert_entry, ints, is_at, is_committed, is_eq, is_open, is_transfer, keys_of, line_name, line_on, list_any, list_any-append, lookup, lower_held, moved_part, name_cmp, name_of, new_field_rows, new_line, next, on, order_after, order_is, order_numbered, raise_held, same_name, settled, some_has_line, taken_part}
 use Rattle.std.specs.Option.{option_map}
-use Rattle.std.specs.Ordering.{is_eq}
-use Rattle.escrow.specs.declared.quantity.Way.TheVariants.{Add, Take}
-use Rattle.words.specs.declared.command.Command.{Command}
 use Rattle.words.specs.declared.command.Command.TheVariants as command
-use Rattle.words.specs.declared.command.Request.{Request}
-use Rattle.words.specs.declared.open_line.OpenLine.{OpenLine}
-use Rattle.book.specs.After.{added_part, changed_fields, field_row, field_rows, moved_part, new_field_rows, order_after, some_has_line, taken_part}
-use Rattle.book.specs.Answers.{FirstFailure, checks}
-use Rattle.book.specs.Changes.{changes_field, has_line_on, order_is}
-use Rattle.book.specs.Good.{Good}
-use Rattle.book.specs.Held.{held_to_add, held_to_take, if_add, if_take}
-use Rattle.book.specs.Ledger.{Field, Ledger, Name, Order, committed_state, field_named, is_committed, is_open, is_transfer, line_name, line_on, name_cmp, name_of, on, order_numbered, same_name}
-use Rattle.book.specs.Next.{accept, add_hold, change_lines, expires, hold_more, lower_held, new_line, next, raise_held}
-use Rattle.book.specs.Outcomes.{settled, total}
-use Rattle.book.specs.Rows.{FieldCells}
-use Rattle.book.specs.Running.{Accepts, GivenBack, GivesBack, HasEntry, HasLines, IsChangedField, MovesField, Puts, entry_row, expired_lines, lines_add, lines_take}
-use Rattle.book.specs.View.{field_of}
-use Rattle.book.specs.declared.entries.FieldEntry.{FieldEntry}
-use Rattle.book.specs.declared.order.Line.{Line}
+use Rattle.book.specs.Ledger.{Field}
+use Rattle.book.specs.Outcomes.{total}
+use Rattle.book.specs.Running.{HasLines, MovesField, lines_add, lines_take}
 use Rattle.book.proofs.Asked.{none_found, same_self}
 use Rattle.book.proofs.ChangedFields.{all_rows, put_self, self_eq}
 use Rattle.book.proofs.Chosen.{any-eq, any-map, some_is}
@@ -43,8 +23,7 @@ no_new : (A : Ledger) (r : Request) (rows : List FieldCells) → new_field_rows 
 no_new A r rows none is = is ∙ sym (append-nil (changed_fields A r A.fields)) ∙ ap (λ (more : List FieldCells). changed_fields A r A.fields ++ more) (sym none)
 
 changed_rows : (A : Ledger) (r : Request) (D : List (Name × FieldEntry)) → Good A → IsStrictlySortedBy name_cmp (keys_of D) → Each (IsChangedField A r) D → ((f : Field) → changes_field A r.command f.name ≡ true → HasEntry D f.name) → new_field_rows (accept A r) r.command ≡ [] → map entry_row D ≡ field_rows A r
-changed_rows A r D good rising changed all none =
-    no_new A r (map entry_row D) none (all_rows (changes_field A r.command) (field_row (accept A r)) A.fields D good.fields_in_order rising changed (each all A.fields))
+changed_rows A r D good rising changed all none = grind (arith, (all_rows (changes_field A r.command) (field_row (accept A r)) A.fields D good.fields_in_order rising changed (each all A.fields)), each, no_new)
 
 -- ---- one field
 
@@ -55,8 +34,7 @@ one_row A r n old D good empty rising puts only none =
     (λ f changes. subst (λ (k : Name). HasEntry D k) (sym (only f.name changes)) (subst (λ (C : List (Name × FieldEntry)). HasEntry C n) (sym is) (put_self [] n puts.entry))) none
 
 some_there : {X : Type 0} (o : Option X) → (IsNone o → ⊥) → IsSome o
-some_there None h = absurd (h refl)
-some_there (Some x) h = refl
+some_there b h = grind arith
 
 abbrev any_field : Name → Field
 any_field n = record { name = n; lo = 0; hi = 0; start = 0 }
@@ -124,44 +102,26 @@ any_line P f [] all e = absurd (true≢false (sym e))
 any_line P f (l ∷ ls) all e = by (on f l) refl e (λ k. any_line P f ls all.1 k)
   where
     by : (b : Bool) → on f l ≡ b → (b || list_any (on f) ls) ≡ true → (list_any (on f) ls ≡ true → P f) → P f
-    by true is e more = subst P (sym (name_is f (line_name l) is)) all.0
-    by false is e more = more e
+    by b is e more = grind (arith, name_is)
 
 any_there : (f : Name) (ls : List Line) → is_some (find (on f) ls) ≡ list_any (on f) ls
 any_there f [] = refl
-any_there f (l ∷ ls) = by (on f l) (any_there f ls)
-  where
-    by : (b : Bool) → is_some (find (on f) ls) ≡ list_any (on f) ls → is_some (if b then Some l else find (on f) ls) ≡ (b || list_any (on f) ls)
-    by true e = refl
-    by false e = e
+any_there f (l ∷ ls) = let more = any_there f ls in grind arith
 
 raised_on : (b : Bool) (f : Name) (q : ℕ) (l : Line) → on f (if b then raise_held q l else l) ≡ on f l
-raised_on true f q l = refl
-raised_on false f q l = refl
+raised_on b f q l = grind arith
 
 or_true : (a b : Bool) → b ≡ true → (a || b) ≡ true
-or_true true b e = refl
-or_true false b e = e
+or_true x b e = grind arith
 
 held_on : (f : Name) (ol : OpenLine) (o : Order) → f ≡ line_name (new_line ol) → list_any (on f) (add_hold ol o).lines ≡ true
-held_on f ol o is = by (is_some (line_on o (line_name (new_line ol)))) refl
-  where
-    by : (b : Bool) → is_some (line_on o (line_name (new_line ol))) ≡ b → list_any (on f) (if b then hold_more (line_name (new_line ol)) ol.qty o else record o { lines = o.lines ++ new_line ol ∷ [] }).lines ≡ true
-    by true e = any-map (on f) (λ m. if on (line_name (new_line ol)) m then raise_held ol.qty m else m) o.lines
-        ∙ any-eq (λ m. on f (if on (line_name (new_line ol)) m then raise_held ol.qty m else m)) (on f) o.lines (each (λ m. raised_on (on (line_name (new_line ol)) m) f ol.qty m) o.lines)
-        ∙ ap (λ (k : Name). list_any (on k) o.lines) is ∙ sym (any_there (line_name (new_line ol)) o.lines) ∙ e
-    by false e = any-append (on f) o.lines (new_line ol) ∙ or_true (list_any (on f) o.lines) (on f (new_line ol)) (ap (λ (k : Name). same_name k (line_name (new_line ol))) is ∙ same_self (line_name (new_line ol)))
+held_on f ol o is = grind (arith, (each (λ m. raised_on (on (line_name (new_line ol)) m) f ol.qty m) o.lines), (any_there (line_name (new_line ol)) o.lines), any-append, any-eq, any-map, or_true, raised_on, same_self)
 
 second_true : (a b : Bool) → (a && b) ≡ true → b ≡ true
-second_true true b e = e
-second_true false b e = absurd (true≢false (sym e))
+second_true x b e = grind arith
 
 -- a field that the request changes has a line of the order that it makes
 changed_has_line : (A : Ledger) (c : Command) (f : Name) (o : Order) → Good A → FirstFailure (checks A c) None → order_after A c ≡ Some o → changes_field A c f ≡ true → list_any (on f) o.lines ≡ true
-changed_has_line A (command.Open n until lines) f o good h made e = ap (some_has_line f) (sym made) ∙ lined A (command.Open n until lines) f good refl ∙ e
-changed_has_line A (command.Transfer n until a from to q) f o good h made e = ap (some_has_line f) (sym made) ∙ lined A (command.Transfer n until a from to q) f good refl ∙ e
-changed_has_line A (command.Commit n) f o good h made e = ap (some_has_line f) (sym made) ∙ lined A (command.Commit n) f good refl ∙ e
-changed_has_line A (command.Abort n) f o good h made e = ap (some_has_line f) (sym made) ∙ lined A (command.Abort n) f good refl ∙ e
 changed_has_line A (command.More n way b a q) f o good h made e = by (order_numbered A n) made
   where
     by : (x : Option Order) → option_map (add_hold (record { way = way; branch = b; article = a; qty = q })) x ≡ Some o → list_any (on f) o.lines ≡ true
@@ -180,26 +140,16 @@ changed_has_line A (command.Release n b a q) f o good h made e = by (order_numbe
     here p there false is k = second_true (is_transfer p) (has_line_on f p) (sym (any_one n (λ o. is_transfer o && has_line_on f o) p A.orders good.orders_in_order there) ∙ k)
 
     by : (x : Option Order) → order_numbered A n ≡ x → option_map (change_lines g (lower_held q)) x ≡ Some o → list_any (on f) o.lines ≡ true
-    by None there k = absurd (true≢false (sym (ap is_some k)))
-    by (Some p) there k = subst (λ (m : Order). list_any (on f) m.lines ≡ true) (some_is _ o k) (released_on f g q p ∙ here p there (same_name f g) refl e)
+    by b there k = grind (arith, released_on, some_is, g, here)
 changed_has_line A (command.Use n b a q) f o good h made e = absurd (true≢false (sym e))
 changed_has_line A (command.Field b a lo hi start) f o good h made e = absurd (true≢false (sym (ap is_some made)))
 changed_has_line A (command.Deliver b a q) f o good h made e = absurd (true≢false (sym (ap is_some made)))
 changed_has_line A (command.Writeoff b a q) f o good h made e = absurd (true≢false (sym (ap is_some made)))
 changed_has_line A (command.Expire now) f o good h made e = absurd (true≢false (sym (ap is_some made)))
+changed_has_line A c f o good h made e = ap (some_has_line f) (sym made) ∙ lined A c f good refl ∙ e
 
 no_field_made : (B A : Ledger) (c : Command) (o : Order) → order_after A c ≡ Some o → new_field_rows B c ≡ []
-no_field_made B A (command.Field b a lo hi start) o made = absurd (true≢false (sym (ap is_some made)))
-no_field_made B A (command.Deliver b a q) o made = refl
-no_field_made B A (command.Writeoff b a q) o made = refl
-no_field_made B A (command.Open n until lines) o made = refl
-no_field_made B A (command.Transfer n until a from to q) o made = refl
-no_field_made B A (command.More n way b a q) o made = refl
-no_field_made B A (command.Use n b a q) o made = refl
-no_field_made B A (command.Release n b a q) o made = refl
-no_field_made B A (command.Commit n) o made = refl
-no_field_made B A (command.Abort n) o made = refl
-no_field_made B A (command.Expire now) o made = refl
+no_field_made b x c o made = grind arith
 
 pub lines_rows : (A : Ledger) (r : Request) (o : Order) (D : List (Name × FieldEntry)) → Accepts A r → order_after A r.command ≡ Some o → IsStrictlySortedBy name_cmp (keys_of D) → HasLines A r o.lines D → map entry_row D ≡ field_rows A r
 lines_rows A r o D accepts made rising has =
@@ -210,18 +160,10 @@ lines_rows A r o D accepts made rising has =
 
 entry_itself : (D : List (Name × FieldEntry)) → Each (λ e. HasEntry D e.0) D
 entry_itself [] = tt
-entry_itself (e ∷ D) = (ap (λ b. is_some (cond b (Some e.1) (lookup (is_at (name_cmp e.0)) D))) (self e.0), each-imp (λ d has. later (is_eq (name_cmp d.0 e.0)) (lookup (is_at (name_cmp d.0)) D) has) D (entry_itself D))
-  where
-    self : (n : Name) → is_eq (name_cmp n n) ≡ true
-    self n = self_eq n
-
-    later : (b : Bool) (rest : Option FieldEntry) → is_some rest ≡ true → is_some (cond b (Some e.1) rest) ≡ true
-    later true rest h = refl
-    later false rest h = h
+entry_itself (e ∷ D) = let more = entry_itself D in grind (arith, each-imp, self_eq)
 
 any_if : (b : Bool) (f : Name) (ls : List Line) → list_any (on f) (if b then ls else []) ≡ (b && list_any (on f) ls)
-any_if true f ls = refl
-any_if false f ls = refl
+any_if b f ls = grind arith
 
 any_expired : (now : ℕ) (f : Name) (os : List Order) → list_any (on f) (expired_lines now os) ≡ list_any (λ o. expires now o && has_line_on f o) os
 any_expired now f [] = refl
@@ -237,20 +179,14 @@ parted p g (o ∷ os) = by (p o) (parted p g os)
     by false e = omega (arith, ints)
 
 open_part : (a b : Bool) (z : ℤ) → (if a && b then z else pos 0) ≡ (if a && b then (if a then z else pos 0) else pos 0)
-open_part true true z = refl
-open_part true false z = refl
-open_part false b z = refl
+open_part x b z = grind arith
 
 -- what the orders that expire hold on a field
 expired_part : (now : ℕ) (g : Line → ℤ) (os : List Order) → total g (expired_lines now os) ≡ total (λ o. if expires now o then (if is_open o then total g o.lines else pos 0) else pos 0) os
-expired_part now g os = total-flat g (λ (o : Order). if expires now o then o.lines else []) os
-    ∙ total-eq (λ (o : Order). total g (if expires now o then o.lines else [])) (λ o. if expires now o then (if is_open o then total g o.lines else pos 0) else pos 0) os
-    (each (λ o. lines_if (expires now o) g o.lines ∙ open_part (is_open o) _ (total g o.lines)) os)
+expired_part now g os = grind (arith, each, lines_if, open_part, total-eq, total-flat)
 
 not_committed : (a b c : Bool) (z : ℤ) → (a ≡ true → c ≡ false) → (if a && b then pos 0 else (if c then z else pos 0)) ≡ (if c then z else pos 0)
-not_committed true true c z h = sym (ap (λ t. if t then z else pos 0) (h refl))
-not_committed true false c z h = refl
-not_committed false b c z h = refl
+not_committed x b c z h = grind arith
 
 -- what the expiry leaves
 abbrev Left : Ledger → Ledger → ℕ → Field → Type 0

@@ -1,6 +1,6 @@
 -- The first element that passes a test, found by a walk.
-use Rattle.std.proofs.Common.{◌≡◌, ℕ, ◌+◌, ◌<◌, ◌≤◌, List, [], ◌∷◌, ◌++◌, map, Option, take, drop, length, get_or, find, Bool, true, false, None, Some, is_some, refl, sym, ap, ◌∙◌, if◌then◌else◌, true≢false}
-use Rattle.std.proofs.lemmas.List.{take_all}
+use Rattle.std.proofs.Common.{arith, ◌≡◌, ℕ, ◌+◌, ◌<◌, ◌≤◌, List, [], ◌∷◌, ◌++◌, map, Option, take, drop, length, get_or, find, Bool, true, false, None, Some, is_some, refl, sym, ap, ◌∙◌, if◌then◌else◌, true≢false}
+use Rattle.book.proofs.Prelude.{take_all}
 use Rattle.book.proofs.Walked.{cut_at, take-step}
 
 find-past : {X : Type 0} (p : X → Bool) (xs ys : List X) → find p xs ≡ None → find p (xs ++ ys) ≡ find p ys
@@ -8,8 +8,7 @@ find-past p [] ys n = refl
 find-past p (x ∷ xs) ys n = step (p x) n (λ k. find-past p xs ys k)
   where
     step : (b : Bool) → (if b then Some x else find p xs) ≡ None → (find p xs ≡ None → find p (xs ++ ys) ≡ find p ys) → (if b then Some x else find p (xs ++ ys)) ≡ find p ys
-    step true n k = absurd (true≢false (ap is_some n))
-    step false n k = k n
+    step b n k = grind arith
 
 -- none before, and not this one
 pub find-next : {X : Type 0} (p : X → Bool) (xs : List X) (i : ℕ) (x : X) → i < length xs → x ≡ get_or xs i x → find p (take i xs) ≡ None → p x ≡ false → find p (take (i + 1) xs) ≡ None
@@ -20,18 +19,11 @@ find-left p x [] vs k = absurd (true≢false (sym (ap is_some k)))
 find-left p x (u ∷ us) vs k = by (p u) k (λ z. find-left p x us vs z)
   where
     by : (b : Bool) → (if b then Some u else find p us) ≡ Some x → (find p us ≡ Some x → find p (us ++ vs) ≡ Some x) → (if b then Some u else find p (us ++ vs)) ≡ Some x
-    by true k z = k
-    by false k z = z k
+    by b k z = grind arith
 
 -- none before, but this one
 pub find-here : {X : Type 0} (p : X → Bool) (xs : List X) (i : ℕ) (x : X) → i < length xs → x ≡ get_or xs i x → find p (take i xs) ≡ None → p x ≡ true → find p xs ≡ Some x
-find-here p xs i x h e n t = ap (find p) (cut_at xs i x h e) ∙ found (find-past p (take i xs) (x ∷ []) n)
-  where
-    here : find p (x ∷ []) ≡ Some x
-    here = ap (λ b. if b then Some x else None) t
-
-    found : find p (take i xs ++ x ∷ []) ≡ find p (x ∷ []) → find p ((take i xs ++ x ∷ []) ++ drop (i + 1) xs) ≡ Some x
-    found q = find-left p x (take i xs ++ x ∷ []) (drop (i + 1) xs) (q ∙ here)
+find-here p xs i x h e n t = grind (arith, (cut_at xs i x h e), (find-past p (take i xs) (x ∷ []) n), find-left)
 
 -- none in all that the walk went over
 pub find-all : {X : Type 0} (p : X → Bool) (xs : List X) (i : ℕ) → length xs ≤ i → find p (take i xs) ≡ None → find p xs ≡ None
@@ -44,8 +36,7 @@ find-map-none p h [] n = refl
 find-map-none p h (x ∷ xs) n = by (p (h x)) n (λ k. find-map-none p h xs k)
   where
     by : (b : Bool) → (if b then Some x else find (λ x. p (h x)) xs) ≡ None → (find (λ x. p (h x)) xs ≡ None → find p (map h xs) ≡ None) → (if b then Some (h x) else find p (map h xs)) ≡ None
-    by true n k = absurd (true≢false (ap is_some n))
-    by false n k = k n
+    by b n k = grind arith
 
 -- the element, or else d
 abbrev pub from_some : {X : Type 0} → X → Option X → X
@@ -57,5 +48,4 @@ find-map-some p h [] y n = absurd (true≢false (sym (ap is_some n)))
 find-map-some p h (x ∷ xs) y n = by (p (h x)) n (λ k. find-map-some p h xs y k)
   where
     by : (b : Bool) → (if b then Some x else find (λ x. p (h x)) xs) ≡ Some y → (find (λ x. p (h x)) xs ≡ Some y → find p (map h xs) ≡ Some (h y)) → (if b then Some (h x) else find p (map h xs)) ≡ Some (h y)
-    by true n k = ap (λ o. Some (h (from_some x o))) n
-    by false n k = k n
+    by b n k = grind arith

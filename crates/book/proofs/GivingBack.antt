@@ -1,27 +1,8 @@
 -- What lines give back, as the orders end that hold it.
+use Rattle.book.proofs.Prelude.{Add, Each, FieldCells, FieldEntry, GivenBack, GivesBack, Good, IsGoodOrder, IsStrictlySortedBy, IsUpToDate, Ledger, Line, MayGiveBack, Name, Order, Ordering, Stock, Take, Way, common_steps, expired_lines, expires, field_named, field_of, giving_back, held_of, if_add, if_take, insert_entry, ints, is_at, is_eq, is_open, keys_of, line_name, list_any, lookup, match_ordering, name_cmp, on, order_numbered, same_name}
 use Rattle.std.proofs.Common.{◌≡◌, ◌∙◌, ℕ, ◌+◌, ◌<◌, ◌≤◌, ◌==◌, ℤ, pos, ◌+ℤ◌, ◌≤ℤ◌, ◌&&◌, ◌||◌, ◌++◌, Bool, true, false, List, [], ◌∷◌, Option, None, Some, IsSome, ap, append_assoc, arith, cond, drop, flat_map, get_or, length, if◌then◌else◌, is_some, refl, subst, sym, take, true≢false}
-use Rattle.std.proofs.lemmas.Int.{ints}
-use Rattle.std.specs.BTreeMap.{insert_entry, is_at}
-use Rattle.std.specs.List.{AllByRecursion as Each, list_any}
-use Rattle.std.specs.List.Sorted.{IsStrictlySortedBy}
-use Rattle.std.specs.Map.{keys_of, lookup}
-use Rattle.std.specs.Ordering.{is_eq, match_ordering}
-use Rattle.std.specs.declared.cmp.Ordering.{Ordering}
 use Rattle.std.specs.declared.cmp.Ordering.TheVariants.{Equal, Greater, Less}
-use Rattle.escrow.specs.Escrow.{giving_back, held_of}
-use Rattle.escrow.specs.Stock.{Stock}
-use Rattle.escrow.specs.declared.quantity.Way.{Way}
-use Rattle.escrow.specs.declared.quantity.Way.TheVariants.{Add, Take}
-use Rattle.book.specs.Good.{Good, IsGoodOrder}
-use Rattle.book.specs.Held.{if_add, if_take}
-use Rattle.book.specs.Ledger.{Ledger, Name, Order, field_named, is_open, line_name, name_cmp, on, order_numbered, same_name}
-use Rattle.book.specs.Next.{expires}
 use Rattle.book.specs.Outcomes.{total}
-use Rattle.book.specs.Rows.{FieldCells}
-use Rattle.book.specs.Running.{GivenBack, GivesBack, IsUpToDate, MayGiveBack, expired_lines}
-use Rattle.book.specs.View.{field_of}
-use Rattle.book.specs.declared.entries.FieldEntry.{FieldEntry}
-use Rattle.book.specs.declared.order.Line.{Line}
 use Rattle.book.proofs.Asked.{same_self, total-push}
 use Rattle.book.proofs.Bounds.{adds-not_negative, takes-not_negative}
 use Rattle.book.proofs.ChangedFields.{each_at_name, less_other}
@@ -44,24 +25,15 @@ total-flat g f [] = refl
 total-flat g f (x ∷ xs) = let first = total-append g (f x) (flat_map f xs) in let more = total-flat g f xs in omega (arith, ints)
 
 pub any-append : {X : Type 0} (t : X → Bool) (xs : List X) (y : X) → list_any t (xs ++ y ∷ []) ≡ (list_any t xs || t y)
-any-append t [] y = or_false (t y)
-  where
-    or_false : (b : Bool) → (b || false) ≡ b
-    or_false true = refl
-    or_false false = refl
-any-append t (x ∷ xs) y = by (t x) (any-append t xs y)
-  where
-    by : (b : Bool) → list_any t (xs ++ y ∷ []) ≡ (list_any t xs || t y) → (b || list_any t (xs ++ y ∷ [])) ≡ ((b || list_any t xs) || t y)
-    by true more = refl
-    by false more = more
+any-append t [] y = grind arith
+any-append t (x ∷ xs) y = let more = any-append t xs y in grind arith
 
 none_on : (n : Name) (ls : List Line) → list_any (on n) ls ≡ false → Each (λ l. on n l ≡ false) ls
 none_on n [] e = tt
 none_on n (l ∷ ls) e = by (on n l) refl e (λ k. none_on n ls k)
   where
     by : (b : Bool) → on n l ≡ b → (b || list_any (on n) ls) ≡ false → (list_any (on n) ls ≡ false → Each (λ l. on n l ≡ false) ls) → Each (λ l. on n l ≡ false) (l ∷ ls)
-    by true is e more = absurd (true≢false e)
-    by false is e more = (is, more e)
+    by b is e more = grind arith
 
 -- no line on the field holds anything there
 none_held : (n : Name) (g : Line → ℤ) (ls : List Line) → list_any (on n) ls ≡ false → total (λ l. if on n l then g l else pos 0) ls ≡ pos 0
@@ -91,21 +63,7 @@ on_itself : (l : Line) (z : ℤ) → part (on (line_name l) l) z ≡ z
 on_itself l z = ap (λ b. part b z) (same_self (line_name l))
 
 pub held_there : (A : Ledger) (ls : List Line) (l : Line) (v : FieldEntry) → GivenBack A ls (line_name l, v) → MayGiveBack A (ls ++ l ∷ []) → l.held ≤ held_of v.quantity l.way
-held_there A ls l v given may = by l.way refl
-  where
-    by : (w : Way) → l.way ≡ w → l.held ≤ held_of v.quantity w
-    by Take is =
-        let most = (may (line_name l)).0 in
-        let sum = total-push (λ m. if on (line_name l) m then pos (if_take m.way m.held) else pos 0) ls l in
-        let own = on_itself l (pos (if_take l.way l.held)) ∙ ap (λ w. pos (if_take w l.held)) is in
-        let takes = given.takes in
-        omega (arith, ints)
-    by Add is =
-        let most = (may (line_name l)).1 in
-        let sum = total-push (λ m. if on (line_name l) m then pos (if_add m.way m.held) else pos 0) ls l in
-        let own = on_itself l (pos (if_add l.way l.held)) ∙ ap (λ w. pos (if_add w l.held)) is in
-        let adds = given.adds in
-        omega (arith, ints)
+held_there A ls l v given may = grind (arith, ints, (total-push (λ m. if on (line_name l) m then pos (if_take m.way m.held) else pos 0) ls l), (total-push (λ m. if on (line_name l) m then pos (if_add m.way m.held) else pos 0) ls l), on_itself)
 
 given_itself : (A : Ledger) (ls : List Line) (l : Line) (v : FieldEntry) (w : Way) → l.way ≡ w → l.held ≤ held_of v.quantity w → GivenBack A ls (line_name l, v) → GivenBack A (ls ++ l ∷ []) (line_name l, record { start = v.start; quantity = giving_back v.quantity w l.held })
 given_itself A ls l v Take is held given =
@@ -126,14 +84,7 @@ given_itself A ls l v Add is held given =
     record { there = given.there; value = given.value; takes = omega (arith, ints); adds = omega (arith, ints) }
 
 given_other : (A : Ledger) (ls : List Line) (l : Line) (e : Name × FieldEntry) → same_name e.0 (line_name l) ≡ false → GivenBack A ls e → GivenBack A (ls ++ l ∷ []) e
-given_other A ls l e other given =
-    let take_sum = total-push (λ m. if on e.0 m then pos (if_take m.way m.held) else pos 0) ls l in
-    let own_take = off (on e.0 l) (pos (if_take l.way l.held)) other in
-    let add_sum = total-push (λ m. if on e.0 m then pos (if_add m.way m.held) else pos 0) ls l in
-    let own_add = off (on e.0 l) (pos (if_add l.way l.held)) other in
-    let takes = given.takes in
-    let adds = given.adds in
-    record { there = given.there; value = given.value; takes = omega (arith, ints); adds = omega (arith, ints) }
+given_other A ls l e other given = grind (arith, (total-push (λ m. if on e.0 m then pos (if_take m.way m.held) else pos 0) ls l), (off (on e.0 l) (pos (if_take l.way l.held)) other), (total-push (λ m. if on e.0 m then pos (if_add m.way m.held) else pos 0) ls l), (off (on e.0 l) (pos (if_add l.way l.held)) other))
 
 -- one put among others in their order
 put_other : (P Q : Name × FieldEntry → Type 0) (n : Name) (v : FieldEntry) → Q (n, v) → ((e : Name × FieldEntry) → same_name e.0 n ≡ false → P e → Q e) → (C : List (Name × FieldEntry)) → IsStrictlySortedBy name_cmp (keys_of C) → Each P C → Each Q (insert_entry name_cmp C n v)
@@ -159,27 +110,17 @@ put_other P Q n v own other (e ∷ C) sorted all = by (name_cmp n e.0) refl (put
 
 -- what is there once one is put in
 put_has : (C : List (Name × FieldEntry)) (n m : Name) (v : FieldEntry) → is_some (lookup (is_at (name_cmp m)) (insert_entry name_cmp C n v)) ≡ (is_some (lookup (is_at (name_cmp m)) C) || is_eq (name_cmp m n))
-put_has [] n m v = by (is_eq (name_cmp m n))
-  where
-    by : (b : Bool) → is_some (cond b (Some v) None) ≡ (false || b)
-    by true = refl
-    by false = refl
+put_has [] n m v = grind arith
 put_has (e ∷ C) n m v = by (name_cmp n e.0) refl (put_has C n m v)
   where
     first : (b : Bool) (rest : Option FieldEntry) → is_some (cond b (Some v) rest) ≡ (is_some rest || b)
-    first true None = refl
-    first true (Some x) = refl
-    first false None = refl
-    first false (Some x) = refl
+    first b x = grind arith
 
     replaced : (b : Bool) (rest : Option FieldEntry) → is_some (cond b (Some v) rest) ≡ (is_some (cond b (Some e.1) rest) || b)
-    replaced true rest = refl
-    replaced false None = refl
-    replaced false (Some x) = refl
+    replaced b rest = grind arith
 
     later : (b : Bool) (rest more : Option FieldEntry) (c : Bool) → is_some more ≡ (is_some rest || c) → is_some (cond b (Some e.1) more) ≡ (is_some (cond b (Some e.1) rest) || c)
-    later true rest more c h = refl
-    later false rest more c h = h
+    later b rest more c h = grind arith
 
     by : (o : Ordering) → name_cmp n e.0 ≡ o → is_some (lookup (is_at (name_cmp m)) (insert_entry name_cmp C n v)) ≡ (is_some (lookup (is_at (name_cmp m)) C) || is_eq (name_cmp m n))
         → is_some (lookup (is_at (name_cmp m)) (match_ordering o ((n, v) ∷ e ∷ C) ((e.0, v) ∷ C) (e ∷ insert_entry name_cmp C n v))) ≡ (is_some (lookup (is_at (name_cmp m)) (e ∷ C)) || is_eq (name_cmp m n))
@@ -200,43 +141,19 @@ line_given A ls l v new C D sorted gives may given is put =
 -- ---- all lines of an order, and of all orders that expire
 
 pub may_prefix : (A : Ledger) (ls ms ns : List Line) → MayGiveBack A (ls ++ (ms ++ ns)) → MayGiveBack A (ls ++ ms)
-may_prefix A ls ms ns may n =
-    let takes = total-append (λ l. if on n l then pos (if_take l.way l.held) else pos 0) ls (ms ++ ns) in
-    let takes_in = total-append (λ l. if on n l then pos (if_take l.way l.held) else pos 0) ms ns in
-    let takes_own = total-append (λ l. if on n l then pos (if_take l.way l.held) else pos 0) ls ms in
-    let takes_rest = takes-not_negative n ns in
-    let adds = total-append (λ l. if on n l then pos (if_add l.way l.held) else pos 0) ls (ms ++ ns) in
-    let adds_in = total-append (λ l. if on n l then pos (if_add l.way l.held) else pos 0) ms ns in
-    let adds_own = total-append (λ l. if on n l then pos (if_add l.way l.held) else pos 0) ls ms in
-    let adds_rest = adds-not_negative n ns in
-    let most = may n in
-    let take_most = most.0 in
-    let add_most = most.1 in
-    (omega (arith, ints), omega (arith, ints))
+may_prefix A ls ms ns may n = grind (arith, ints, (total-append (λ l. if on n l then pos (if_take l.way l.held) else pos 0) ls (ms ++ ns)), (total-append (λ l. if on n l then pos (if_take l.way l.held) else pos 0) ms ns), (total-append (λ l. if on n l then pos (if_take l.way l.held) else pos 0) ls ms), (takes-not_negative n ns), (total-append (λ l. if on n l then pos (if_add l.way l.held) else pos 0) ls (ms ++ ns)), (total-append (λ l. if on n l then pos (if_add l.way l.held) else pos 0) ms ns), (total-append (λ l. if on n l then pos (if_add l.way l.held) else pos 0) ls ms), (adds-not_negative n ns))
 
 pub lines_if : (b : Bool) (g : Line → ℤ) (ls : List Line) → total g (if b then ls else []) ≡ (if b then total g ls else pos 0)
-lines_if true g ls = refl
-lines_if false g ls = refl
-
-expiring_least : (a b : Bool) (z : ℤ) → pos 0 ≤ℤ z → (if a && b then z else pos 0) ≤ℤ (if a then z else pos 0)
-expiring_least true true z h = omega (arith, ints)
-expiring_least true false z h = h
-expiring_least false b z h = omega (arith, ints)
+lines_if b g ls = grind arith
 
 expired_most : (now : ℕ) (g : Line → ℤ) → ((ls : List Line) → pos 0 ≤ℤ total g ls) → (os : List Order) → total g (expired_lines now os) ≤ℤ total (λ o. if is_open o then total g o.lines else pos 0) os
-expired_most now g least os =
-    let flat = total-flat g (λ (o : Order). if expires now o then o.lines else []) os in
-    let le = total-le (λ (o : Order). total g (if expires now o then o.lines else [])) (λ o. if is_open o then total g o.lines else pos 0) os
-    (each (λ o. subst (λ z. z ≤ℤ (if is_open o then total g o.lines else pos 0)) (sym (lines_if (expires now o) g o.lines)) (expiring_least (is_open o) _ (total g o.lines) (least o.lines))) os) in
-    omega (arith, ints)
+expired_most now g least os = grind (arith, (total-flat g (λ (o : Order). if expires now o then o.lines else []) os), each, lines_if, total-le)
 
 pub may_all : (A : Ledger) (now : ℕ) → MayGiveBack A (expired_lines now A.orders)
 may_all A now n = (expired_most now (λ l. if on n l then pos (if_take l.way l.held) else pos 0) (takes-not_negative n) A.orders, expired_most now (λ l. if on n l then pos (if_add l.way l.held) else pos 0) (adds-not_negative n) A.orders)
 
 pub may_step : (A : Ledger) (ls lines : List Line) (i : ℕ) (x : Line) → i < length lines → x ≡ get_or lines i x → MayGiveBack A (ls ++ lines) → MayGiveBack A ((ls ++ take i lines) ++ x ∷ [])
-may_step A ls lines i x within is may =
-    subst (MayGiveBack A) (sym (append_assoc ls (take i lines) (x ∷ [])))
-    (may_prefix A ls (take i lines ++ x ∷ []) (drop (i + 1) lines) (subst (λ (ms : List Line). MayGiveBack A (ls ++ ms)) (cut_at lines i x within is) may))
+may_step A ls lines i x within is may = grind (arith, common_steps, (may_prefix A ls (take i lines ++ x ∷ []) (drop (i + 1) lines) (subst (λ (ms : List Line). MayGiveBack A (ls ++ ms)) (cut_at lines i x within is) may)), cut_at)
 
 -- the fields of the lines of an order are there
 pub lines_there : (A : Ledger) (n : ℕ) (o : Order) → Good A → order_numbered A n ≡ Some o → Each (λ l. IsSome (field_named A (line_name l))) o.lines

@@ -1,51 +1,26 @@
 -- From a good ledger every accepted command leaves a good one.
 use Rattle.std.proofs.Common.{◌≡◌, ℕ, ◌+◌, ◌<◌, ◌≤◌, ℤ, pos, neg_ℤ, nat_abs, ◌+ℤ◌, ◌-ℤ◌, ◌≤ℤ◌, List, [], ◌∷◌, ◌++◌, map, find, Bool, true, false, ◌==◌, IsTrue, IsNone, IsSome, IsSomeAnd, MatchOption, Option, Some, None, refl, sym, ◌∙◌, subst, arith, if◌then◌else◌, true≢false, nat_cmp, nat_lt, length, is_some, zero, suc, append_assoc, append-nil}
-use Rattle.std.proofs.lemmas.Int.{ints}
-use Rattle.std.proofs.lemmas.Cmp.{nat_cmp_total, nat_list_cmp_total}
-use Rattle.std.specs.Ordering.{is_lt}
-use Rattle.std.specs.Cmp.Lexicographic.{slice_cmp}
-use Rattle.std.specs.List.{AllByRecursion as Each}
-use Rattle.std.specs.Str.{bytes_eq}
-use Rattle.escrow.specs.declared.quantity.Way.{Way}
-use Rattle.escrow.specs.declared.quantity.Way.TheVariants.{Take, Add}
-use Rattle.escrow.specs.Codes.{IsKey}
-use Rattle.escrow.specs.Ranges.{IsLevel, IsMoment, IsOrderNo, IsQty}
-use Rattle.words.specs.declared.open_line.OpenLine.{OpenLine}
-use Rattle.words.specs.declared.command.Command.{Command}
+use Rattle.book.proofs.Prelude.{Aborted, Add, Answers, AnswersNew, Command, Committed, Done, Each, FirstFailure, Good, IsGoodField, IsGoodKept, IsGoodLine, IsGoodMove, IsGoodOrder, IsInRange, IsKey, IsLevel, IsMoment, IsOpenLine, IsQty, IsTransferPair, Kept, KeyReused, Kind, Ledger, Line, MayHoldMore, Move, Name, OpenLine, Order, Plain, Refusal, Refused, Reply, Request, Take, Way, accept, add_hold, bytes_eq, change_order, checks, field_named, held_to_add, held_to_take, hold_more, if_add, if_take, insert_in_order, ints, is_lt, is_open, is_transfer, kept_under, line_checks, line_name, line_on, lower_held, name_cmp, nat_cmp_total, nat_list_cmp_total, new_line, new_order, on, open_orders, order_numbered, places, raise_held, raise_used, recursion_from_All, same_command, same_name, settled, slice_cmp, transfer_lines, with_move, with_order}
+use Rattle.escrow.specs.Ranges.{IsOrderNo}
 use Rattle.words.specs.declared.command.Command.TheVariants as command
-use Rattle.words.specs.declared.command.Request.{Request}
-use Rattle.words.specs.declared.reply.Refusal.{Refusal}
-use Rattle.words.specs.declared.reply.Refusal.TheVariants.{KeyReused}
-use Rattle.words.specs.declared.reply.Reply.{Reply}
-use Rattle.words.specs.declared.reply.Reply.TheVariants.{Done, Refused}
-use Rattle.words.specs.OpenLines.{AreOpenLines, IsOpenLine}
-use Rattle.words.specs.Spelling.{IsInRange}
-use Rattle.std.proofs.lemmas.List.Elements.{recursion_from_All}
-use Rattle.book.specs.declared.order.Kind.{Kind}
-use Rattle.book.specs.declared.order.Kind.TheVariants.{Plain, Transfer}
-use Rattle.book.specs.declared.order.State.TheVariants.{Committed, Aborted}
-use Rattle.book.specs.declared.order.Line.{Line}
-use Rattle.book.specs.Ledger.{Name, Field, Move, Order, Ledger, Kept, on, is_open, is_transfer, line_name, same_name, name_cmp, line_on, order_numbered, field_named, kept_under, places, open_orders, insert_in_order}
-use Rattle.book.specs.Outcomes.{total, settled, IsSafe}
-use Rattle.book.specs.Held.{if_take, if_add, held_to_take, held_to_add, MayHoldMore}
-use Rattle.book.specs.Next.{accept, raise_used, lower_held, raise_held, hold_more, add_hold, new_line, new_order, with_order, with_move, transfer_lines, change_order}
-use Rattle.book.specs.Answers.{FirstFailure, checks, line_checks, Answers, AnswersNew, same_command}
-use Rattle.book.specs.Good.{Good, IsGoodField, IsGoodMove, IsGoodLine, IsGoodOrder, IsGoodKept, IsTransferPair}
+use Rattle.words.specs.OpenLines.{AreOpenLines}
+use Rattle.book.specs.declared.order.Kind.TheVariants.{Transfer}
+use Rattle.book.specs.Ledger.{Field}
+use Rattle.book.specs.Outcomes.{total, IsSafe}
 use Rattle.book.proofs.Sums.{each, each-imp, each-both, each-map}
-use Rattle.book.proofs.Staying.{name_cmp_total, equal_name, other_number, other_key, lt_is, StillThere, line_kept, order_kept, same_number, move_kept, apart_lines, Parts, not_full, not_many, changed, changing, stating, expiring, using}
+use Rattle.book.proofs.Staying.{name_cmp_total, equal_name, other_number, other_key, lt_is, StillThere, line_kept, order_kept, same_number, move_kept, apart_lines, Parts, not_many, changed, changing, stating, expiring, using}
 use Rattle.book.proofs.Bounds.{OneOn, Sound, takes, adds, takes-not_negative, adds-not_negative, room_from_safe, HasRoom}
 use Rattle.book.proofs.Closing.{fit_from_good, fit-accept, all_pass, AllPass, name_is, sounds_from_good, at_number}
 use Rattle.book.proofs.Asked.{each-insert, none_found, same_self, fresh-push}
 use Rattle.book.proofs.Growing.{Room, none_if_not_some, room-order}
 use Rattle.book.proofs.Raising.{sound-more, raised}
 use Rattle.book.proofs.Safety.{safe_after, takes_more, not_false}
-use Rattle.book.proofs.Lists.{each-unmap, each-two, each-all, each-of-push, sorted-insert, sorted-push, cmp_less, distinct-insert, length-insert, length-of-map, length-of-push, count-insert, count-map, find-insert, total-has}
+use Rattle.book.proofs.Lists.{each-unmap, each-two, each-all, each-of-push, sorted-insert, sorted-push, distinct-insert, length-insert, length-of-map, length-of-push, count-insert, count-map, find-insert, total-has}
 
 -- what is held on a field that is there is a level
 
 level : (w : Way) (h lo hi : ℕ) (s t a : ℤ) → pos (if_take w h) ≤ℤ t → pos (if_add w h) ≤ℤ a → pos lo ≤ℤ (s -ℤ t) → (s +ℤ a) ≤ℤ pos hi → hi ≤ 1000000000 → h ≤ 1000000000
-level Take h lo hi s t a p q r u v = omega (arith, ints)
-level Add h lo hi s t a p q r u v = omega (arith, ints)
+level b h lo hi s t a p q r u v = grind arith
 
 find_named : (P : Field → Type 0) (name : Name) (fs : List Field) → Each P fs → IsSome (find (λ e. same_name name e.name) fs) → (f : Field) × (f.name ≡ name) × P f
 find_named P name [] h e = absurd (true≢false (sym e))
@@ -56,16 +31,13 @@ find_named P name (f ∷ fs) h e = step (same_name name f.name) refl e (λ k. fi
     step false t e more = more e
 
 part_not_negative : (b : Bool) (n : ℕ) → pos 0 ≤ℤ (if b then pos n else pos 0)
-part_not_negative true n = omega (arith, ints)
-part_not_negative false n = omega (arith, ints)
+part_not_negative b n = grind arith
 
 open_not_negative : (b : Bool) (z : ℤ) → pos 0 ≤ℤ z → pos 0 ≤ℤ (if b then z else pos 0)
-open_not_negative true z h = h
-open_not_negative false z h = omega (arith, ints)
+open_not_negative b z h = grind arith
 
 when_open : (b : Bool) (z t : ℤ) → b ≡ true → (if b then z else pos 0) ≤ℤ t → z ≤ℤ t
-when_open true z t e h = h
-when_open false z t e h = absurd (true≢false (sym e))
+when_open b z t e h = grind arith
 
 pub held_levels : (B : Ledger) → Each IsGoodField B.fields → Room B → Each (λ o. is_open o ≡ true → Each (λ l. IsSome (field_named B (line_name l)) → IsLevel l.held) o.lines) B.orders
 held_levels B good room = each-imp (λ o p e. of_order o e p.0 p.1) B.orders
@@ -96,28 +68,7 @@ held_levels B good room = each-imp (λ o p e. of_order o e p.0 p.1) B.orders
 -- a delivery and a write-off
 moving : (A : Ledger) (f : Name) (z : ℤ) (kept : List Kept) → Good A → length kept ≡ places A + 1 → IsSome (field_named A f) → IsQty (nat_abs z) → places A + open_orders A + 1 ≤ 200000
     → Parts (record (with_move f z A) { kept = kept })
-moving A f z kept g more there size room =
-    let m : Move = record { place = places A + 1; field = f; amount = z } in
-    let B : Ledger = record (with_move f z A) { kept = kept } in
-    record {
-      clock = g.clock;
-      fields = g.fields;
-      fields_in_order = g.fields_in_order;
-      few_fields = g.few_fields;
-      moves = each-of-push (IsGoodMove B) A.moves m (each-imp (move_kept A B (λ f x. x) (omega arith)) A.moves g.moves) (record { first = omega arith; last = omega arith; field = there; size = size });
-      moves_in_order = sorted-push nat_cmp (λ m. m.place) A.moves m (each-imp (λ n x. cmp_less n.place m.place (before n x)) A.moves g.moves) g.moves_in_order;
-      orders = each-imp (order_kept A B (λ f x. x)) A.orders g.orders;
-      orders_in_order = g.orders_in_order;
-      few_orders = g.few_orders;
-      room = omega arith;
-    }
-  where
-    before : (n : Move) → IsGoodMove A n → n.place < places A + 1
-    before n x = let a = x.last in omega arith
-
-size-neg : (q : ℕ) → nat_abs (neg_ℤ (pos q)) ≡ q
-size-neg zero = refl
-size-neg (suc q) = refl
+moving A f z kept g more there size room = grind (arith, each-imp, each-of-push, move_kept, order_kept, sorted-push)
 
 -- a new field
 fielding : (A : Ledger) (f : Field) (kept : List Kept) → Good A → IsGoodField f → length kept ≡ places A + 1 → (IsSome (field_named A f.name) → ⊥) → (10000 ≤ length A.fields → ⊥) → places A + open_orders A + 1 ≤ 200000
@@ -190,18 +141,14 @@ adding A n l kept g more full there qty takes_it fits sound room =
     name = line_name (new_line l)
 
     number_as : (o : Order) (b : Bool) → (if b then hold_more name l.qty o else record o { lines = o.lines ++ new_line l ∷ [] }).number ≡ o.number
-    number_as o true = refl
-    number_as o false = refl
+    number_as o b = grind arith
 
     open_as : (o : Order) (b c : Bool) → is_open (if b then (if c then hold_more name l.qty o else record o { lines = o.lines ++ new_line l ∷ [] }) else o) ≡ true → is_open o ≡ true
-    open_as o true true e = e
-    open_as o true false e = e
-    open_as o false c e = e
+    open_as o b c e = grind arith
 
     raised_good : (B : Ledger) → StillThere A B → (t : Bool) (m : Line) → IsGoodLine A m → (if t then raise_held l.qty m else m).used ≤ (if t then raise_held l.qty m else m).held
         → (IsSome (field_named B (line_name (if t then raise_held l.qty m else m))) → IsLevel (if t then raise_held l.qty m else m).held) → IsGoodLine B (if t then raise_held l.qty m else m)
-    raised_good B still true m x u v = record { field = still (line_name m) x.field; held = v (still (line_name m) x.field); used = u }
-    raised_good B still false m x u v = line_kept A B still m x
+    raised_good b still y m x u v = grind arith
 
     held_more : (B : Ledger) (o : Order) → StillThere A B → IsGoodOrder A o → MayHoldMore name l.way o → (c : Bool) → ((c ≡ false) → length o.lines ≤ 63)
         → Sound (if c then hold_more name l.qty o else record o { lines = o.lines ++ new_line l ∷ [] })
@@ -237,13 +184,6 @@ adding A n l kept g more full there qty takes_it fits sound room =
     by B o true still x t fit s v = held_more B o still x (t refl) (is_some (line_on o name)) (fit refl) s v
     by B o false still x t fit s v = order_kept A B still o x
 
-few_more : (f : Name) (o : Option Order) → (IsNone o → ⊥) → (IsSomeAnd o (λ o. IsNone (line_on o f) × (64 ≤ length o.lines)) → ⊥) → IsSomeAnd o (λ o. IsNone (line_on o f) → length o.lines ≤ 63)
-few_more f None there h = there refl
-few_more f (Some o) there h = λ none. by (λ k. h (none, k))
-  where
-    by : (64 ≤ length o.lines → ⊥) → length o.lines ≤ 63
-    by k = omega arith
-
 one_lines : (A : Ledger) (n : ℕ) (k : Kind) (u : ℕ) (before ls : List OpenLine) → ((g : Name) → OneOn g (map new_line before)) → AllPass (line_checks A (new_order n k u) before ls) → (g : Name) → OneOn g (map new_line (before ++ ls))
 one_lines A n k u before [] one p = subst (λ ls. (g : Name) → OneOn g (map new_line ls)) (sym (append-nil before)) one
 one_lines A n k u before (l ∷ ls) one p = subst (λ ls. (g : Name) → OneOn g (map new_line ls)) (append_assoc before (l ∷ []) ls)
@@ -258,34 +198,34 @@ quantities ls h = each-imp (λ (l : OpenLine) (x : IsOpenLine l). x.qty) ls (rec
 
 parts_accept : (A : Ledger) (key : List ℕ) (c : Command) → Good A → IsInRange c → FirstFailure (checks A c) None → Parts (accept A (record { key = key; command = c }))
 parts_accept A key (command.Field b a lo hi start) g i h = let p = all_pass (checks A (command.Field b a lo hi start)) h in
-    fielding A (record { name = record { branch = b; article = a }; lo = lo; hi = hi; start = start }) _ g (record { branch = i.0; article = i.1; lo = i.2; hi = i.3; start = i.4 }) (kept_more A _) p.1.1.0 p.1.0 (not_full _ p.0)
+    fielding A (record { name = record { branch = b; article = a }; lo = lo; hi = hi; start = start }) _ g (record { branch = i.0; article = i.1; lo = i.2; hi = i.3; start = i.4 }) (kept_more A _) p.1.1.0 p.1.0 (omega arith)
 parts_accept A key (command.Deliver b a q) g i h = let p = all_pass (checks A (command.Deliver b a q)) h in
-    moving A (record { branch = b; article = a }) (pos q) _ g (kept_more A _) (not_false _ p.1.0) i.2 (not_full _ p.0)
+    moving A (record { branch = b; article = a }) (pos q) _ g (kept_more A _) (not_false _ p.1.0) i.2 (omega arith)
 parts_accept A key (command.Writeoff b a q) g i h = let p = all_pass (checks A (command.Writeoff b a q)) h in
-    moving A (record { branch = b; article = a }) (neg_ℤ (pos q)) _ g (kept_more A _) (not_false _ p.1.0) (subst IsQty (sym (size-neg q)) i.2) (not_full _ p.0)
+    moving A (record { branch = b; article = a }) (neg_ℤ (pos q)) _ g (kept_more A _) (not_false _ p.1.0) (subst IsQty (sym (grind arith)) i.2) (omega arith)
 parts_accept A key (command.Open n until lines) g i h = let p = all_pass (checks A (command.Open n until lines)) h in
     let r = room-order A n Plain until lines (sounds_from_good A g) g.fields_in_order (fit_from_good A g).room p.1.1.1.1 in
-    opening A n Plain until lines _ g (kept_more A _) i.0 i.1 i.2.some i.2.fits (quantities lines i.2) (λ e. absurd (true≢false (sym e))) p.1.1.1.1 p.1.1.0 p.1.0 (not_full _ p.0) r.1 (one_lines A n Plain until [] lines (λ _. tt) p.1.1.1.1)
+    opening A n Plain until lines _ g (kept_more A _) i.0 i.1 i.2.some i.2.fits (quantities lines i.2) (λ e. absurd (true≢false (sym e))) p.1.1.1.1 p.1.1.0 p.1.0 (omega arith) r.1 (one_lines A n Plain until [] lines (λ _. tt) p.1.1.1.1)
 parts_accept A key (command.Transfer n until a from to q) g i h = let p = all_pass (checks A (command.Transfer n until a from to q)) h in
     let ls : List OpenLine = transfer_lines a from to q in
     let r = room-order A n Transfer until ls (sounds_from_good A g) g.fields_in_order (fit_from_good A g).room p.1.1.1.1 in
-    opening A n Transfer until ls _ g (kept_more A _) i.0 i.1 (omega arith) (omega arith) (i.5, (i.5, tt)) (λ _. (refl, refl, refl, refl, refl)) p.1.1.1.1 p.1.1.0 p.1.0 (not_full _ p.0) r.1 (one_lines A n Transfer until [] ls (λ _. tt) p.1.1.1.1)
+    opening A n Transfer until ls _ g (kept_more A _) i.0 i.1 (omega arith) (omega arith) (i.5, (i.5, tt)) (λ _. (refl, refl, refl, refl, refl)) p.1.1.1.1 p.1.1.0 p.1.0 (omega arith) r.1 (one_lines A n Transfer until [] ls (λ _. tt) p.1.1.1.1)
 parts_accept A key (command.More n way b a q) g i h = let p = all_pass (checks A (command.More n way b a q)) h in
     let f : Name = record { branch = b; article = a } in
     let l : OpenLine = record { way = way; branch = b; article = a; qty = q } in
     let t = at_number (MayHoldMore f way) n A.orders g.orders_in_order (takes_more f way (order_numbered A n) p.1.0 p.1.1.0 p.1.1.1.0 p.1.1.1.1.1.0) in
-    let few = at_number (λ o. IsNone (line_on o f) → length o.lines ≤ 63) n A.orders g.orders_in_order (few_more f (order_numbered A n) p.1.0 p.1.1.1.1.1.1.0) in
+    let few = at_number (λ o. IsNone (line_on o f) → length o.lines ≤ 63) n A.orders g.orders_in_order (grind arith) in
     let sounds = sounds_from_good A g in
     let sound : Each Sound (change_order n (add_hold l) A).orders = sound-more A n l sounds (each-both (λ o s k e. ((k e).0, raised l o s (k e))) A.orders sounds t) in
-    adding A n l _ g (kept_more A _) (not_full _ p.0) (not_false _ p.1.1.1.1.0) i.3 t few sound
+    adding A n l _ g (kept_more A _) (omega arith) (not_false _ p.1.1.1.1.0) i.3 t few sound
     (room_from_safe (accept A (record { key = key; command = command.More n way b a q })) sound (safe_after A (record { key = key; command = command.More n way b a q }) g h))
 parts_accept A key (command.Use n b a q) g i h = let p = all_pass (checks A (command.Use n b a q)) h in
-    using A n (record { branch = b; article = a }) (raise_used q) _ (λ l. (refl, omega arith)) g (kept_more A _) (not_full _ p.0) (fit-accept A key (command.Use n b a q) tt (fit_from_good A g) h)
+    using A n (record { branch = b; article = a }) (raise_used q) _ (λ l. (refl, omega arith)) g (kept_more A _) (omega arith) (fit-accept A key (command.Use n b a q) tt (fit_from_good A g) h)
 parts_accept A key (command.Release n b a q) g i h = let p = all_pass (checks A (command.Release n b a q)) h in
-    using A n (record { branch = b; article = a }) (lower_held q) _ (λ l. (refl, omega arith)) g (kept_more A _) (not_full _ p.0) (fit-accept A key (command.Release n b a q) tt (fit_from_good A g) h)
+    using A n (record { branch = b; article = a }) (lower_held q) _ (λ l. (refl, omega arith)) g (kept_more A _) (omega arith) (fit-accept A key (command.Release n b a q) tt (fit_from_good A g) h)
 parts_accept A key (command.Commit n) g i h = let p = all_pass (checks A (command.Commit n)) h in stating A n Committed _ refl g (kept_more A _) p.0 p.1.0
 parts_accept A key (command.Abort n) g i h = let p = all_pass (checks A (command.Abort n)) h in stating A n Aborted _ refl g (kept_more A _) p.0 p.1.0
-parts_accept A key (command.Expire now) g i h = let p = all_pass (checks A (command.Expire now)) h in expiring A now _ g i (kept_more A _) (not_full _ p.0)
+parts_accept A key (command.Expire now) g i h = let p = all_pass (checks A (command.Expire now)) h in expiring A now _ g i (kept_more A _) (omega arith)
 
 keeping : (A : Ledger) (r : Request) → Good A → IsKey r.key → IsInRange r.command → kept_under A r.key ≡ None → Parts (accept A r) → IsSafe (accept A r) → Good (accept A r)
 keeping A r g key range none p safe =
@@ -323,9 +263,7 @@ pub good_answer : (A : Ledger) (r : Request) (reply : Reply) (B : Ledger) → Go
 good_answer A r reply B g key range h = by_key (kept_under A r.key) refl h
   where
     by_found : kept_under A r.key ≡ None → (found : Option (Refusal × ℕ)) → FirstFailure (checks A r.command) found → MatchOption found ((reply ≡ Done (places A + 1)) × (B ≡ accept A r)) (λ e. (reply ≡ Refused e.0 e.1) × (B ≡ A)) → Good B
-    by_found none None f m = subst Good (sym m.1) (good_accept A r g key range none f)
-    by_found none (Some e) f m = subst Good (sym m.1) g
+    by_found none b f m = grind (arith, good_accept)
 
     by_key : (k : Option Kept) → kept_under A r.key ≡ k → MatchOption k (AnswersNew A r reply B) (λ k. (reply ≡ (if same_command k.command r.command then Done k.place else Refused KeyReused 0)) × (B ≡ A)) → Good B
-    by_key None e m = by_found e m.0 m.1 m.2
-    by_key (Some k) e m = subst Good (sym m.1) g
+    by_key b e m = grind (arith, by_found)

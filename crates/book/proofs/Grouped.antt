@@ -1,18 +1,9 @@
 -- Rows of lines in a row, order after order.
 use Rattle.std.proofs.Common.{◌≡◌, ◌∙◌, ℕ, ◌+◌, append-nil, append_assoc, length-drop, zero, suc, ◌<◌, ◌≤◌, pos, List, [], ◌∷◌, ◌++◌, ap, arith, drop, get_or, length, map, flat_map, refl, subst, sym, nat_cmp}
-use Rattle.std.proofs.lemmas.Grind.{flat_map-append}
+use Rattle.book.proofs.Prelude.{AllZip, AreNumbered, AreOthers, BeginsOther, Each, Head, IsLineTold, IsStrictlySortedBy, Line, LineCells, LineRow, Order, TellOrders, common_steps, flat_map-append, head_of, line_cells, line_row, lines_from, order_lines}
 use Rattle.std.proofs.Math.ListN.{drop_of_length-le}
-use Rattle.std.specs.List.{AllByRecursion as Each, AllZip}
-use Rattle.std.specs.List.Sorted.{IsStrictlySortedBy}
-use Rattle.book.specs.declared.book.tables.group.Head.{Head}
-use Rattle.book.specs.declared.order.Line.{Line}
-use Rattle.book.specs.declared.rows.LineRow.{LineRow}
-use Rattle.book.specs.Ledger.{Order}
-use Rattle.book.specs.Rows.{LineCells, line_row, lines_from, order_lines}
-use Rattle.book.specs.Tables.{line_cells}
-use Rattle.book.specs.Told.{AreNumbered, AreOthers, BeginsOther, IsLineTold, TellOrders, head_of}
 use Rattle.book.proofs.Lists.{length-of-map}
-use Rattle.book.proofs.Told.{after, not_empty, others_after, same_first, same_rest}
+use Rattle.book.proofs.Told.{after, others_after, same_first, same_rest}
 
 drop-suc : {X : Type 0} (xs : List X) (i : ℕ) (d : X) → i < length xs → drop i xs ≡ get_or xs i d ∷ drop (suc i) xs
 drop-suc [] i d lt = absurd (omega arith)
@@ -40,18 +31,14 @@ pub own_rows : (n k : ℕ) (ls : List Line) (rows : List LineRow) → AllZip IsL
 own_rows n k [] [] told own numbered = refl
 own_rows n k [] (r ∷ rows) told own numbered = absurd told
 own_rows n k (l ∷ ls) [] told own numbered = absurd told
-own_rows n k (l ∷ ls) (r ∷ rows) told own numbered =
-    let cells = told.0.cells in
-    let more = own_rows n (k + 1) ls rows told.1 own.1 numbered.1 in
-    λ i. record { number = sym own.0 i; nr = sym numbered.0 i; branch = sym cells.branch i; article = sym cells.article i; way = sym cells.way i; held = sym cells.held i; used = sym cells.used i } ∷ more i
+own_rows n k (l ∷ ls) (r ∷ rows) told own numbered = let more = own_rows n (k + 1) ls rows told.1 own.1 numbered.1 in cc
 
 abbrev pub BeginsOtherCells : ℕ → List LineCells → Type 0
 BeginsOtherCells n [] = Unit {0}
 BeginsOtherCells n (r ∷ rows) = r.number ≡ pos n → ⊥
 
 pub begins-cells : (n : ℕ) (rows : List LineRow) → BeginsOther n rows → BeginsOtherCells n (map line_cells rows)
-begins-cells n [] h = tt
-begins-cells n (r ∷ rows) h = h
+begins-cells n b h = grind arith
 
 pub own-number : (n k : ℕ) (ls : List Line) → Each (λ r. r.number ≡ pos n) (lines_from n k ls)
 own-number n k [] = tt
@@ -65,20 +52,17 @@ number-cells n (r ∷ rows) h = (h.0, number-cells n rows h.1)
 pub split_rows : (n k : ℕ) (own : List Line) (rest run tail : List LineCells) → AreOthers n rest → Each (λ r. r.number ≡ pos n) run → BeginsOtherCells n tail → lines_from n k own ++ rest ≡ run ++ tail
     → (lines_from n k own ≡ run) × (rest ≡ tail)
 split_rows n k [] rest [] tail others all end e = (refl, e)
-split_rows n k [] [] (r ∷ run) tail others all end e = absurd (not_empty _ _ (sym e))
+split_rows n k [] [] (r ∷ run) tail others all end e = absurd (cc)
 split_rows n k [] (x ∷ rest) (r ∷ run) tail others all end e = absurd (others.0 (ap (λ (r : LineCells). r.number) (same_first _ _ _ _ e) ∙ all.0))
-split_rows n k (l ∷ own) rest [] [] others all end e = absurd (not_empty _ _ e)
+split_rows n k (l ∷ own) rest [] [] others all end e = absurd (cc)
 split_rows n k (l ∷ own) rest [] (t ∷ tail) others all end e = absurd (end (sym (ap (λ (r : LineCells). r.number) (same_first _ _ _ _ e))))
-split_rows n k (l ∷ own) rest (r ∷ run) tail others all end e =
-    let first = same_first (line_row n k l) r (lines_from n (k + 1) own ++ rest) (run ++ tail) e in
-    let more = split_rows n (k + 1) own rest run tail others all.1 end (same_rest (line_row n k l) r (lines_from n (k + 1) own ++ rest) (run ++ tail) e) in
-    ((λ i. first i ∷ more.0 i), more.1)
+split_rows n k (l ∷ own) rest (r ∷ run) tail others all end e = let more = split_rows n (k + 1) own rest run tail others all.1 end (same_rest (line_row n k l) r (lines_from n (k + 1) own ++ rest) (run ++ tail) e) in grind arith
 
 -- rows of an order's lines count on
 pub numbered-from : (n k : ℕ) (own : List Line) (rows : List LineRow) → lines_from n k own ≡ map line_cells rows → AreNumbered k rows
 numbered-from n k [] [] e = tt
-numbered-from n k [] (r ∷ rows) e = absurd (not_empty _ _ (sym e))
-numbered-from n k (l ∷ own) [] e = absurd (not_empty _ _ e)
+numbered-from n k [] (r ∷ rows) e = absurd (cc)
+numbered-from n k (l ∷ own) [] e = absurd (cc)
 numbered-from n k (l ∷ own) (r ∷ rows) e = (sym (ap (λ (r : LineCells). r.nr) (same_first _ _ _ _ e)), numbered-from n (k + 1) own rows (same_rest (line_row n k l) (line_cells r) (lines_from n (k + 1) own) (map line_cells rows) e))
 
 -- ---- the orders from here on
@@ -94,7 +78,7 @@ tail-end lines t = by t.orders t.tell
   where
     by : (os : List Order) → TellOrders os [] lines → lines ≡ []
     by [] tell = sym tell.lines_are
-    by (o ∷ os) tell = absurd (not_empty _ _ tell.heads_are)
+    by (o ∷ os) tell = absurd (cc)
 
 -- the first order: its own lines, and the rows of the others behind them
 pub record First (h : Head) (heads : List Head) (lines : List LineCells) : Type 0 where
@@ -109,7 +93,7 @@ unfolding IsStrictlySortedBy
 tail-first h heads lines t = by t.orders t.sorted t.tell
   where
     by : (os : List Order) → IsStrictlySortedBy nat_cmp (map (λ o. o.number) os) → TellOrders os (h ∷ heads) lines → First h heads lines
-    by [] sorted tell = absurd (not_empty _ _ (sym tell.heads_are))
+    by [] sorted tell = absurd (cc)
     by (o ∷ os) sorted tell =
         let is : o.number ≡ h.number = ap (λ (h : Head). h.number) (same_first (head_of o) h (map head_of os) heads tell.heads_are) in
         record {
@@ -124,15 +108,10 @@ tail-first h heads lines t = by t.orders t.sorted t.tell
 
 pub left_step : (h : Head) (heads : List Head) (own : List Line) (rows : List LineRow) → lines_from h.number 1 own ++ map line_cells (drop (length own) rows) ≡ map line_cells rows
     → BeginsOther h.number (drop (length own) rows) → Tail (h ∷ heads) (map line_cells rows) → Tail heads (map line_cells (drop (length own) rows))
-left_step h heads own rows told end t =
-    let f = tail-first h heads (map line_cells rows) t in
-    let parts = split_rows h.number 1 f.own f.rest (lines_from h.number 1 own) (map line_cells (drop (length own) rows)) f.others (own-number h.number 1 own) (begins-cells h.number (drop (length own) rows) end) (f.lines_are ∙ sym told) in
-    subst (Tail heads) parts.1 f.more
+left_step h heads own rows told end t = grind (arith, (own-number h.number 1 own), (begins-cells h.number (drop (length own) rows) end), (tail-first h heads (map line_cells rows) t), split_rows)
 
 pub lines_step : (os : List Order) (o : Order) (tail mid whole : List LineCells) → flat_map order_lines os ++ mid ≡ whole → order_lines o ++ tail ≡ mid → flat_map order_lines (os ++ o ∷ []) ++ tail ≡ whole
-lines_step os o tail mid whole e d =
-    ap (λ (xs : List LineCells). xs ++ tail) (flat_map-append order_lines os (o ∷ []) ∙ ap (λ (xs : List LineCells). flat_map order_lines os ++ xs) (append-nil (order_lines o)))
-    ∙ append_assoc (flat_map order_lines os) (order_lines o) tail ∙ ap (λ (xs : List LineCells). flat_map order_lines os ++ xs) d ∙ e
+lines_step os o tail mid whole e d = grind (arith, common_steps, (flat_map-append order_lines os (o ∷ []) ∙ ap (λ (xs : List LineCells). flat_map order_lines os ++ xs) (append-nil (order_lines o))))
 
 -- at the end of the heads, rows that are left belong to no order
 pub none_left : (heads : List Head) (i : ℕ) (rows : List LineRow) (start : ℕ) → length heads ≤ i → start ≤ length rows → (start ≡ length rows → ⊥) → Tail (drop i heads) (map line_cells (drop start rows)) → ⊥

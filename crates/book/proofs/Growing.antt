@@ -1,19 +1,8 @@
 -- A delivery, a write-off, and a new order that pass their checks leave every field its room.
 use Rattle.std.proofs.Common.{◌≡◌, ℕ, ◌+◌, ℤ, pos, ◌+ℤ◌, ◌-ℤ◌, neg_ℤ, ◌≤ℤ◌, ◌<ℤ◌, List, [], ◌∷◌, ◌++◌, map, find, Bool, true, false, IsSome, IsSomeAnd, Option, Some, None, refl, sym, ap, ◌∙◌, subst, arith, if◌then◌else◌, true≢false, nat_cmp, nat_lt, Less, Equal, append_assoc, append-nil, length}
-use Rattle.std.proofs.lemmas.Int.{ints, by_lt_z}
-use Rattle.std.specs.List.{AllByRecursion as Each}
-use Rattle.std.specs.List.Sorted.{IsStrictlySortedBy}
-use Rattle.std.specs.Ordering.{is_lt}
-use Rattle.std.specs.Cmp.Lexicographic.{slice_cmp}
-use Rattle.escrow.specs.declared.quantity.Way.{Way}
-use Rattle.escrow.specs.declared.quantity.Way.TheVariants.{Take, Add}
-use Rattle.words.specs.declared.open_line.OpenLine.{OpenLine}
-use Rattle.book.specs.declared.order.Kind.{Kind}
-use Rattle.book.specs.Ledger.{Name, Field, Ledger, on, line_name, same_name, name_cmp, places}
-use Rattle.book.specs.Outcomes.{total, settled, FallsBelow, RisesAbove}
-use Rattle.book.specs.Held.{if_take, if_add, held_to_take, held_to_add}
-use Rattle.book.specs.Next.{with_move, with_order, new_order, new_line}
-use Rattle.book.specs.Answers.{line_checks, bound}
+use Rattle.book.proofs.Prelude.{Add, Each, FallsBelow, IsStrictlySortedBy, Kind, Ledger, Name, OpenLine, RisesAbove, Take, Way, bound, by_lt_z, held_to_add, held_to_take, if_add, if_take, ints, is_lt, line_checks, line_name, name_cmp, new_line, new_order, on, places, same_name, settled, slice_cmp, with_move, with_order}
+use Rattle.book.specs.Ledger.{Field}
+use Rattle.book.specs.Outcomes.{total}
 use Rattle.book.proofs.Sums.{each-imp, each-both}
 use Rattle.book.proofs.Bounds.{OneOn, Sound, takes, adds, falls_below_iff, rises_above_iff, HasRoom}
 use Rattle.book.proofs.Closing.{name_is, AllPass}
@@ -22,10 +11,7 @@ use Rattle.book.proofs.Asked.{total-push, each-insert, map-push, same_self, fres
 -- no name is before itself
 cmp_self : (xs : List ℕ) → slice_cmp nat_cmp xs xs ≡ Equal
 cmp_self [] = refl
-cmp_self (x ∷ xs) = let e : nat_cmp x x ≡ Equal = same x in rw e (cmp_self xs)
-  where
-    same : (x : ℕ) → nat_cmp x x ≡ Equal
-    same x = grind arith
+cmp_self (x ∷ xs) = let more = cmp_self xs in grind arith
 
 not_before_itself : (f : Name) → name_cmp f f ≡ Less → ⊥
 not_before_itself f e = let d : name_cmp f f ≡ Equal = rw (cmp_self f.branch) (cmp_self f.article) in true≢false (ap is_lt (sym e ∙ d))
@@ -46,8 +32,7 @@ none_bad P name (f ∷ fs) sorted h = step (same_name name f.name) refl h (λ k.
 
     step : (b : Bool) → same_name name f.name ≡ b → (IsSomeAnd (if b then Some f else find (λ e. same_name name e.name) fs) P → ⊥) → ((IsSomeAnd (find (λ e. same_name name e.name) fs) P → ⊥) → Each (λ f. same_name name f.name ≡ true → P f → ⊥) fs)
         → Each (λ f. same_name name f.name ≡ true → P f → ⊥) (f ∷ fs)
-    step true e k more = ((λ _. k), rest e fs sorted.0)
-    step false e k more = ((λ d. absurd (true≢false (sym d ∙ e))), more k)
+    step b e k more = grind (arith, rest)
 
 -- the other way round
 pub other_way : (f g : Name) → same_name f g ≡ false → same_name g f ≡ false
@@ -62,10 +47,7 @@ Room A = Each (HasRoom A) A.fields
 
 -- another field is not moved
 moved-other : (A : Ledger) (name : Name) (z : ℤ) (f : Field) → same_name name f.name ≡ false → settled (with_move name z A) f ≡ settled A f
-moved-other A name z f e =
-    let a = total-push (λ m. if same_name f.name m.field then m.amount else pos 0) A.moves (record { place = places A + 1; field = name; amount = z }) in
-    let b : (if same_name f.name name then z else pos 0) ≡ pos 0 = rw (other_way name f.name e) refl in
-    omega (arith, ints)
+moved-other A name z f e = grind (arith, (other_way name f.name e), total-push)
 
 pub not_less : (a b : ℤ) → (a <ℤ b → ⊥) → b ≤ℤ a
 not_less a b h = by_lt_z a b (λ k. absurd (h k)) (λ k. k)
@@ -96,12 +78,10 @@ adds-more : (f : Name) (ls : List OpenLine) (l : OpenLine) → total (adds f) (m
 adds-more f ls l = rw (map-push ls l) (total-push (adds f) (map new_line ls) (new_line l))
 
 no_add : (b : Bool) (w : Way) (q : ℕ) → w ≡ Take → (if b then pos (if_add w q) else pos 0) ≡ pos 0
-no_add true w q e = ap (λ w. pos (if_add w q)) e
-no_add false w q e = refl
+no_add b w q e = grind arith
 
 no_take : (b : Bool) (w : Way) (q : ℕ) → w ≡ Add → (if b then pos (if_take w q) else pos 0) ≡ pos 0
-no_take true w q e = ap (λ w. pos (if_take w q)) e
-no_take false w q e = refl
+no_take b w q e = grind arith
 
 -- what the check of a line says, by its way
 abbrev pub LinePasses : Ledger → Name → Way → Type 0
@@ -170,12 +150,10 @@ room-line A n k u ls l Add way sound sorted one room check = each-both (λ f r n
             let y : adds f.name (new_line l) ≡ pos 0 = rw (other_way name f.name e) refl in omega (arith, ints)
 
 pub none_if_not_some : {X : Type 0} (o : Option X) → (IsSome o → ⊥) → o ≡ None
-none_if_not_some None h = refl
-none_if_not_some (Some x) h = absurd (h refl)
+none_if_not_some b h = grind arith
 
 pub line_passes : (w : Way) (B : Ledger) (f : Name) (i : ℕ) → ((bound w B f i).fails → ⊥) → LinePasses B f w
-line_passes Take B f i h = h
-line_passes Add B f i h = h
+line_passes b x f i h = grind arith
 
 -- all lines of a new order, each checked beside those before it
 pub room-lines : (A : Ledger) (n : ℕ) (k : Kind) (u : ℕ) (before ls : List OpenLine) → Each Sound A.orders → InOrder A

@@ -1,17 +1,9 @@
 -- A good ledger has one content, and its rows stand in the order of their keys.
 use Rattle.std.proofs.Common.{◌≡◌, ℕ, ◌+◌, ◌<◌, pos, List, [], ◌∷◌, ◌++◌, map, flat_map, refl, sym, ◌∙◌, subst, arith, nat_cmp, Less}
-use Rattle.std.proofs.lemmas.Int.{ints}
-use Rattle.std.proofs.lemmas.Cmp.{int_cmp_total, tied_itself}
-use Rattle.std.specs.declared.cmp.Ordering.{Ordering}
+use Rattle.book.proofs.Prelude.{AllZip, Content, Each, FieldCells, Good, IsFieldRow, IsRowsOf, IsStrictlySortedBy, Ledger, Line, Order, Ordering, desk_row, field_cmp, field_row, int_cmp_total, ints, kept_cmp, kept_row, line_cmp, line_row, lines_from, move_cmp, move_row, name_cmp, order_cmp, order_lines, order_row, slice_cmp, tied_itself}
 use Rattle.std.specs.Ordering.{int_cmp}
-use Rattle.std.specs.Cmp.Lexicographic.{slice_cmp}
-use Rattle.std.specs.List.{AllByRecursion as Each, AllZip}
-use Rattle.std.specs.List.Sorted.{IsStrictlySortedBy}
-use Rattle.book.specs.declared.order.Line.{Line}
-use Rattle.book.specs.Ledger.{Field, Order, Ledger, name_cmp}
-use Rattle.book.specs.Good.{Good}
-use Rattle.book.specs.After.{field_row}
-use Rattle.book.specs.Rows.{Content, FieldCells, IsFieldRow, IsInKeyOrder, IsRowsOf, desk_row, field_cmp, kept_cmp, kept_row, line_cmp, line_row, lines_from, move_cmp, move_row, order_cmp, order_lines, order_row}
+use Rattle.book.specs.Ledger.{Field}
+use Rattle.book.specs.Rows.{IsInKeyOrder}
 use Rattle.book.proofs.Sums.{each-imp, each-map}
 use Rattle.book.proofs.Bounds.{inf_is, inf_unique, sup_is, sup_unique}
 use Rattle.book.proofs.Closing.{less_is, sounds_from_good}
@@ -71,16 +63,7 @@ lines_sorted [] s = tt
 lines_sorted (o ∷ os) s = lines_sorted_from o.number 1 o.lines os (each-imp (λ m e. less_is o.number m.number e) os (each-unmap (λ n. nat_cmp o.number n ≡ Less) (λ o. o.number) os s.0)) (lines_sorted os s.1)
 
 same_row : (A : Ledger) (f : Field) (x y : FieldCells) → IsFieldRow A f x → IsFieldRow A f y → x ≡ y
-same_row A f x y h j =
-    let branch = h.branch ∙ sym j.branch in
-    let article = h.article ∙ sym j.article in
-    let lo = h.lo ∙ sym j.lo in
-    let hi = h.hi ∙ sym j.hi in
-    let start = h.start ∙ sym j.start in
-    let value = h.value ∙ sym j.value in
-    let inf = inf_unique A f x.inf y.inf h.inf j.inf in
-    let sup = sup_unique A f x.sup y.sup h.sup j.sup in
-    λ i. record { branch = branch i; article = article i; lo = lo i; hi = hi i; start = start i; value = value i; inf = inf i; sup = sup i }
+same_row A f x y h j = grind (arith, (inf_unique A f x.inf y.inf h.inf j.inf), (sup_unique A f x.sup y.sup h.sup j.sup))
 
 same_rows : (A : Ledger) (fs : List Field) (xs ys : List FieldCells) → AllZip (IsFieldRow A) fs xs → AllZip (IsFieldRow A) fs ys → xs ≡ ys
 same_rows A [] [] [] h k = refl
@@ -91,14 +74,7 @@ same_rows A (f ∷ fs) (x ∷ xs) [] h k = absurd k
 same_rows A (f ∷ fs) (x ∷ xs) (y ∷ ys) h k = let first = same_row A f x y h.0 k.0 in let more = same_rows A fs xs ys h.1 k.1 in λ i. first i ∷ more i
 
 pub one_content : (A : Ledger) (C D : Content) → IsRowsOf A C → IsRowsOf A D → C ≡ D
-one_content A C D x y =
-    let desk = x.desk ∙ sym y.desk in
-    let fields = same_rows A A.fields C.fields D.fields x.fields y.fields in
-    let moves = x.moves ∙ sym y.moves in
-    let orders = x.orders ∙ sym y.orders in
-    let lines = x.lines ∙ sym y.lines in
-    let kept = x.kept ∙ sym y.kept in
-    λ i. record { desk = desk i; fields = fields i; moves = moves i; orders = orders i; lines = lines i; kept = kept i }
+one_content A C D x y = grind (arith, (same_rows A A.fields C.fields D.fields x.fields y.fields))
 
 field_rows : (A : Ledger) (fs : List Field) → Good A → AllZip (IsFieldRow A) fs (map (field_row A) fs)
 field_rows A [] g = tt
@@ -115,10 +91,4 @@ pub a_content : (A : Ledger) → Good A → (C : Content) × IsRowsOf A C
 a_content A g = (rows_of A, rows_are A g)
 
 pub rows_in_order : (A : Ledger) (C : Content) → Good A → IsRowsOf A C → IsInKeyOrder C
-rows_in_order A C g x = record {
-  fields = fields_sorted A A.fields C.fields g.fields_in_order x.fields;
-  moves = subst (IsStrictlySortedBy move_cmp) (sym x.moves) (moves_sorted A g);
-  orders = subst (IsStrictlySortedBy order_cmp) (sym x.orders) (orders_sorted A g);
-  lines = subst (IsStrictlySortedBy line_cmp) (sym x.lines) (lines_sorted A.orders g.orders_in_order);
-  kept = subst (IsStrictlySortedBy kept_cmp) (sym x.kept) (kept_sorted A g);
-}
+rows_in_order A C g x = grind (arith, (moves_sorted A g), (orders_sorted A g), (lines_sorted A.orders g.orders_in_order), (kept_sorted A g), fields_sorted)

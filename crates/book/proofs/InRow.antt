@@ -1,20 +1,15 @@
 -- Whether a list is in the order of its keys, told from each two neighbours.
 use Rattle.std.proofs.Common.{◌≡◌, ◌↔◌, ◌∙◌, ℕ, zero, suc, ◌+◌, ◌<◌, Bool, IsTrue, List, [], ◌∷◌, true, false, Less, Equal, ap, arith, length, map, refl, subst, sym, true≢false}
-use Rattle.std.proofs.lemmas.Simd.{map-map}
-use Rattle.std.specs.declared.cmp.Ordering.{Ordering}
+use Rattle.book.proofs.Prelude.{IsStrictlySortedBy, IsTotalOrder, Ordering, is_lt, map-map}
 use Rattle.std.specs.declared.cmp.Ordering.TheVariants.{Greater}
-use Rattle.std.specs.Ordering.{is_lt, nat_cmp}
-use Rattle.std.specs.Cmp.{IsTotalOrder}
+use Rattle.std.specs.Ordering.{nat_cmp}
 use Rattle.std.specs.List.{AllAdjacentBelow, IsAllAdjacentAnswer}
-use Rattle.std.specs.List.Sorted.{IsStrictlySortedBy}
 use Rattle.std.specs.Prelude.{nat_lt, slice_index_or}
 use Rattle.book.proofs.Sums.{each-imp}
 use Rattle.book.proofs.Tested.{no, yes}
 
 less_if : (o : Ordering) → is_lt o ≡ true → o ≡ Less
-less_if Less e = refl
-less_if Equal e = absurd (true≢false (sym e))
-less_if Greater e = absurd (true≢false (sym e))
+less_if c e = grind arith
 
 -- numbers compared as they are ordered
 pub numbers_less : (a b : ℕ) → nat_lt a b ≡ is_lt (nat_cmp a b)

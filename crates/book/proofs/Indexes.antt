@@ -1,15 +1,12 @@
 -- The entries at the indexes of an order.
 use Rattle.std.proofs.Common.{◌≡◌, ℕ, zero, suc, ◌+◌, ◌<◌, ◌≢◌, eqb, false, List, [], ◌∷◌, ◌++◌, length, get_or, set, map, Some, slice_get, refl, sym, ap, subst, ◌∙◌, arith, add-zero, zero-add}
-use Rattle.std.specs.List.{AllByRecursion as Each, IsDistinct, insert, range_with_len}
-use Rattle.std.specs.List.Sorted.{IsPermutation}
-use Rattle.std.proofs.lemmas.List.Elements.{recursion_from_All, All-from_recursion, All-from_get_or}
+use Rattle.book.proofs.Prelude.{Each, IsDistinct, IsPermutation, IsPermutation-map, IsPermutation-refl, at_indexes, insert, nat_tests, range_with_len, recursion_from_All}
+use Rattle.std.proofs.lemmas.List.Elements.{All-from_recursion, All-from_get_or}
 use Rattle.std.proofs.lemmas.List.FromFn.{length-range_with_len, get_or-range_with_len, fill_by_all}
 use Rattle.std.proofs.lemmas.Bool.{eqb-false}
-use Rattle.std.proofs.lemmas.Bool.Decides.{nat_tests}
 use Rattle.std.proofs.lemmas.Map.Keys.{IsDistinct-from_apart, IsDistinct-IsPermutation}
 use Rattle.std.proofs.lemmas.Option.{slice_get-get_or}
-use Rattle.std.proofs.lemmas.List.Sorted.{All-permutation, length_permutation, IsPermutation-push_more, IsPermutation-insert, IsPermutation-map, IsPermutation-sym, IsPermutation-refl}
-use Rattle.book.specs.InOrder.{at_indexes}
+use Rattle.std.proofs.lemmas.List.Sorted.{All-permutation, length_permutation, IsPermutation-push_more, IsPermutation-insert, IsPermutation-sym}
 
 -- ---- orders of so many indexes
 

@@ -1,28 +1,18 @@
 -- Keys among entries in their order.
+use Rattle.book.proofs.Prelude.{Each, IsBinarySearchResult, IsGap, IsNonDecreasingBy, IsSearchInRange, IsStrictlySortedBy, IsTotalOrder, Ordering, at_indexes, cases_lt, common_steps, compare_at, get_or_from_slice_get, insert, insert_entry, is_at, is_eq, keys_of, lookup, match_ordering, none-some, option_map_or, ordering_index, ordering_reverse, same_Some, set_value, slice_get-map, slice_get_read, slice_get_within}
 use Rattle.std.proofs.Common.{◌≡◌, ℕ, zero, suc, ◌<◌, ◌≤◌, List, [], ◌∷◌, ◌++◌, length, length-append, length-set, get_or, set, Some, None, IfOk, IfErr, cond, Result, Ok, Err, slice_get, refl, sym, ap, subst, ◌∙◌, inl, inr, arith}
-use Rattle.std.specs.Cmp.{IsTotalOrder}
-use Rattle.std.specs.List.{AllByRecursion as Each, insert}
-use Rattle.std.specs.List.Sorted.{IsBinarySearchResult, IsNonDecreasingBy, IsSearchInRange, IsStrictlySortedBy}
-use Rattle.std.specs.Map.{keys_of, lookup, set_value}
-use Rattle.std.specs.BTreeMap.{insert_entry, is_at}
-use Rattle.std.specs.Option.{option_map, option_map_or}
-use Rattle.std.specs.Ordering.{is_eq, match_ordering, ordering_index, ordering_reverse}
-use Rattle.std.specs.declared.cmp.Ordering.{Ordering}
+use Rattle.std.specs.Option.{option_map}
 use Rattle.std.specs.declared.cmp.Ordering.TheVariants.{Less, Equal, Greater}
-use Rattle.std.proofs.lemmas.Bool.{cases_lt}
 use Rattle.std.proofs.lemmas.Cmp.{alike_right, eq_by_cmp_equiv, tied_back}
 use Rattle.std.proofs.lemmas.List.Edits.{insert_end}
 use Rattle.std.proofs.lemmas.List.Sorted.{IsNonDecreasingBy-from_default}
 use Rattle.std.proofs.lemmas.Map.Entries.{lookup_at_gap, lookup_from_place, length-keys_of}
 use Rattle.std.proofs.lemmas.Map.Keys.{IsDistinct-from_sorted, Less-from_sorted}
-use Rattle.std.proofs.lemmas.Option.{get_or_from_slice_get, none-some, slice_get-map, slice_get_within, slice_get_read, same_Some}
-use Rattle.book.specs.InOrder.{IsAt, IsGap, IsKeyOrder, at_indexes, compare_at, set_value_at}
+use Rattle.book.specs.InOrder.{IsAt, IsKeyOrder, set_value_at}
 use Rattle.book.proofs.Indexes.{Names, names_more, index_at, at_indexes-set, in_range, at_indexes-insert, get-at_indexes, length-at_indexes, some_at}
 
 at_most_2 : (o : Ordering) → ordering_index o ≤ 2
-at_most_2 Less = omega arith
-at_most_2 Equal = omega arith
-at_most_2 Greater = omega arith
+at_most_2 c = grind arith
 
 module _ {K V : Type 0} where
   pub keys-set_value_at : (l : List (K × V)) (place : ℕ) (w : V) → keys_of (set_value_at l place w) ≡ keys_of l
@@ -43,12 +33,7 @@ module _ {K V : Type 0} where
 
   -- so the keys stay
   pub kept_written : (cmp : K → K → Ordering) (es : List (K × V)) (order : List ℕ) (place i : ℕ) (e : K × V) (w : V) → IsKeyOrder cmp es order → place < length (at_indexes es order) → i ≡ get_or order place i → e ≡ get_or es i e → IsKeyOrder cmp (set es i (e.0, w)) order
-  kept_written cmp es order place i e w kept short read entry =
-      let value = written es order place i e w kept.each_once short read entry in
-      record {
-        each_once = rw length-set kept.each_once;
-        rising = rw (value, keys-set_value_at (at_indexes es order) place w) kept.rising;
-      }
+  kept_written cmp es order place i e w kept short read entry = grind (arith, common_steps, (written es order place i e w kept.each_once short read entry), keys-set_value_at, kept.each_once, kept.rising)
 
 module _ {K : Type 0} {cmp : K → K → Ordering} (total : IsTotalOrder cmp) (key : K) where
   before : (x : K) → cmp x key ≡ Less → cmp key x ≡ Greater
@@ -62,9 +47,7 @@ module _ {K : Type 0} {cmp : K → K → Ordering} (total : IsTotalOrder cmp) (k
 
   -- the answers of a search for the key rise with the keys
   rises : (x y : K) → cmp x y ≡ Less → (o : Ordering) → cmp y key ≡ o → ordering_index (cmp x key) ≤ ordering_index o
-  rises x y h Less e = rw (total.trans x y key h e) (omega arith)
-  rises x y h Equal e = let same : cmp x key ≡ Less = sym (alike_right total y key x e) ∙ h in rw same (omega arith)
-  rises x y h Greater e = at_most_2 (cmp x key)
+  rises x y h b e = grind arith
 
   each_below : (x : K) → cmp key x ≡ Less → (ks : List K) → Each (λ y. cmp x y ≡ Less) ks → Each (λ y. cmp key y ≡ Less) ks
   each_below x h [] all = tt

@@ -1,21 +1,10 @@
 -- Entries under keys, as they stand in a ledger.
-use Rattle.std.proofs.Common.{◌≡◌, ◌∙◌, ◌&&◌, ◌==◌, Bool, true, false, ℕ, List, [], ◌∷◌, Option, Some, None, ap, cond, find, if◌then◌else◌, is_some, map, refl, subst, sym, true≢false}
-use lib.Pointwise.{bytes_decides}
-use Rattle.std.proofs.lemmas.Cmp.{nat_cmp_total, nat_list_eq_equiv, tied_itself}
-use Rattle.std.proofs.lemmas.Map.Text.{is_eq-slice_cmp}
-use Rattle.std.specs.BTreeMap.{insert_entry, is_at}
-use Rattle.std.specs.Cmp.Lexicographic.{slice_cmp}
-use Rattle.std.specs.Map.{lookup}
+use Rattle.std.proofs.Common.{arith, ◌≡◌, ◌∙◌, ◌&&◌, ◌==◌, Bool, true, false, ℕ, List, [], ◌∷◌, Option, Some, None, ap, cond, find, if◌then◌else◌, is_some, map, refl, subst, sym, true≢false}
+use Rattle.book.proofs.Prelude.{FieldEntry, KeptEntry, Name, OrderEntry, Ordering, bytes_decides, bytes_eq, field_of, insert_entry, insert_in_order, is_at, is_eq, is_eq-slice_cmp, is_lt, kept_of, lookup, match_ordering, name_cmp, nat_cmp_total, order_of, ordering_then, same_name, slice_cmp, tied_itself}
+use Rattle.std.proofs.lemmas.Cmp.{nat_list_eq_equiv}
 use Rattle.std.specs.Option.{option_map}
-use Rattle.std.specs.Ordering.{is_eq, is_lt, match_ordering, nat_cmp, ordering_then}
-use Rattle.std.specs.Str.{bytes_eq}
-use Rattle.std.specs.declared.cmp.Ordering.{Ordering}
+use Rattle.std.specs.Ordering.{nat_cmp}
 use Rattle.std.specs.declared.cmp.Ordering.TheVariants.{Equal, Greater, Less}
-use Rattle.book.specs.Ledger.{Name, insert_in_order, name_cmp, same_name}
-use Rattle.book.specs.View.{field_of, kept_of, order_of}
-use Rattle.book.specs.declared.entries.FieldEntry.{FieldEntry}
-use Rattle.book.specs.declared.entries.KeptEntry.{KeptEntry}
-use Rattle.book.specs.declared.entries.OrderEntry.{OrderEntry}
 use Rattle.book.proofs.Chosen.{number_is}
 use Rattle.book.proofs.Closing.{name_is}
 use Rattle.book.proofs.Staying.{equal_name, equal_number, other_number}
@@ -24,39 +13,21 @@ module _ {K V X : Type 0} (cmp : K → K → Ordering) (ties : (a b : K) → cmp
   -- what stands under a key
   found : (key : K) (test : X → Bool) → ((e : K × V) → test (view e) ≡ is_eq (cmp key e.0)) → (l : List (K × V)) → find test (map view l) ≡ option_map (λ v. view (key, v)) (lookup (is_at (cmp key)) l)
   found key test same [] = refl
-  found key test same (e ∷ l) = rw (same e) (by (cmp key e.0) refl (found key test same l))
-    where
-      by : (o : Ordering) → cmp key e.0 ≡ o → find test (map view l) ≡ option_map (λ v. view (key, v)) (lookup (is_at (cmp key)) l)
-          → (if is_eq o then Some (view e) else find test (map view l)) ≡ option_map (λ v. view (key, v)) (cond (is_eq o) (Some e.1) (lookup (is_at (cmp key)) l))
-      by Less o more = more
-      by Equal o more = ap (λ k. Some (view (k, e.1))) (sym (ties key e.0 o))
-      by Greater o more = more
+  found key test same (e ∷ l) = let more = found key test same l in grind arith
 
   -- an entry under a key that none stands under is put before the first that it precedes
   inserted : (key : K) (v : V) (before : X → X → Bool) → ((e : K × V) → before (view (key, v)) (view e) ≡ is_lt (cmp key e.0)) → (l : List (K × V)) → lookup (is_at (cmp key)) l ≡ None
       → map view (insert_entry cmp l key v) ≡ insert_in_order before (view (key, v)) (map view l)
   inserted key v before first [] none = refl
-  inserted key v before first (e ∷ l) none = rw (first e) (by (cmp key e.0) none (inserted key v before first l))
-    where
-      by : (o : Ordering) → cond (is_eq o) (Some e.1) (lookup (is_at (cmp key)) l) ≡ None → (lookup (is_at (cmp key)) l ≡ None → map view (insert_entry cmp l key v) ≡ insert_in_order before (view (key, v)) (map view l))
-          → map view (match_ordering o ((key, v) ∷ e ∷ l) ((e.0, v) ∷ l) (e ∷ insert_entry cmp l key v)) ≡ (if is_lt o then view (key, v) ∷ view e ∷ map view l else view e ∷ insert_in_order before (view (key, v)) (map view l))
-      by Less none more = refl
-      by Equal none more = absurd (true≢false (ap is_some none))
-      by Greater none more = ap (λ xs. view e ∷ xs) (more none)
+  inserted key v before first (e ∷ l) none = let more = inserted key v before first l in grind arith
 
 nothing_there : {X Y : Type 0} (f : X → Y) (o : Option X) → option_map f o ≡ None → o ≡ None
-nothing_there f None h = refl
-nothing_there f (Some x) h = absurd (true≢false (ap is_some h))
+nothing_there f b h = grind arith
 
 -- ---- fields
 
-same_both : (a b : Ordering) → is_eq (ordering_then a b) ≡ (is_eq a && is_eq b)
-same_both Less b = refl
-same_both Equal b = refl
-same_both Greater b = refl
-
 pub same_field : (f g : Name) → same_name f g ≡ is_eq (name_cmp f g)
-same_field f g = rw (← is_eq-slice_cmp f.branch g.branch, ← is_eq-slice_cmp f.article g.article) (sym (same_both (slice_cmp nat_cmp f.branch g.branch) (slice_cmp nat_cmp f.article g.article)))
+same_field f g = rw (← is_eq-slice_cmp f.branch g.branch, ← is_eq-slice_cmp f.article g.article) (sym (grind arith))
 
 pub equal_field : (f g : Name) → name_cmp f g ≡ Equal → f ≡ g
 equal_field f g h = name_is f g (equal_name f g h)
@@ -67,16 +38,7 @@ field_found name l = found name_cmp equal_field field_of name (λ f. same_name n
 -- ---- orders
 
 pub same_number : (m n : ℕ) → (m == n) ≡ is_eq (nat_cmp n m)
-same_number m n = by (m == n) refl
-  where
-    apart : (o : Ordering) → (o ≡ Equal → ⊥) → false ≡ is_eq o
-    apart Less h = refl
-    apart Equal h = absurd (h refl)
-    apart Greater h = refl
-
-    by : (b : Bool) → (m == n) ≡ b → b ≡ is_eq (nat_cmp n m)
-    by true e = let same : nat_cmp n m ≡ Equal = subst (λ k. nat_cmp n k ≡ Equal) (sym (number_is m n e)) (tied_itself nat_cmp_total n) in rw same refl
-    by false e = apart (nat_cmp n m) (other_number n m e)
+same_number m n = grind arith
 
 pub order_found : (n : ℕ) (l : List (ℕ × OrderEntry)) → find (λ o. o.number == n) (map order_of l) ≡ option_map (λ v. order_of (n, v)) (lookup (is_at (nat_cmp n)) l)
 order_found n l = found nat_cmp equal_number order_of n (λ o. o.number == n) (λ e. same_number e.0 n) l

@@ -1,3 +1,4 @@
+pub mod Prelude
 pub mod Sums
 pub mod Bounds
 pub mod Closing

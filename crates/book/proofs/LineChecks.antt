@@ -1,16 +1,7 @@
 -- The checks of the lines of a new order, one line at a time.
 use Rattle.std.proofs.Common.{◌≡◌, ◌∙◌, ℕ, ◌+◌, ◌<◌, List, [], ◌∷◌, ◌++◌, Option, None, Some, true, false, find, length, take, drop, get_or, map, ap, arith, inr, is_some, length-take, refl, subst, sym, true≢false}
 use Rattle.std.proofs.lemmas.List.{drop_more}
-use Rattle.std.specs.List.{AllByRecursion as Each, IsDistinct}
-use Rattle.words.specs.declared.open_line.OpenLine.{OpenLine}
-use Rattle.words.specs.declared.reply.Refusal.{Refusal}
-use Rattle.book.specs.declared.order.Kind.{Kind}
-use Rattle.book.specs.declared.order.Line.{Line}
-use Rattle.book.specs.Answers.{Check, FirstFailure, bound, line_checks, no_field}
-use Rattle.book.specs.Checking.{stock_checks}
-use Rattle.book.specs.Good.{Good}
-use Rattle.book.specs.Ledger.{Ledger, Name, line_name, on, same_name}
-use Rattle.book.specs.Next.{new_line, new_order, with_order}
+use Rattle.book.proofs.Prelude.{Check, Each, FirstFailure, Good, IsDistinct, Kind, Ledger, Line, Name, OpenLine, Refusal, bound, line_checks, line_name, new_line, new_order, no_field, on, same_name, stock_checks, with_order}
 use Rattle.book.proofs.Asked.{map-push, none_found}
 use Rattle.book.proofs.Checked.{cut_short, go_on, has_stock}
 use Rattle.book.proofs.Compared.{line_test}
@@ -44,8 +35,7 @@ pub apart-step : (lines : List OpenLine) (i : ℕ) (l : OpenLine) → i < length
 apart-step lines i l h e apart alone = subst AreApart (sym (take-step lines i l h e)) (rw (map-push (take i lines) l) (apart_push (map new_line (take i lines)) (new_line l) apart (none_found _ _ (none _ alone))))
   where
     none : (o : Option Line) → is_some o ≡ false → o ≡ None
-    none None e = refl
-    none (Some m) e = absurd (true≢false e)
+    none b e = grind arith
 
 -- ---- the checks of a line, and of those after it
 
@@ -75,11 +65,9 @@ module _ (A : Ledger) (lines : List OpenLine) (i : ℕ) (l : OpenLine) (h : i < 
   -- the line's own checks decide
   pub line_fails : (fault : Option (Refusal × ℕ)) → FirstFailure (stock_checks l.way A (line_field l) l.qty (i + 1)) fault → is_some fault ≡ true → RestDecides A lines i
       → (n : ℕ) (kind : Kind) (until : ℕ) → FirstFailure (line_checks A (new_order n kind until) [] lines) fault
-  line_fails None k some rest n kind until = absurd (true≢false (sym some))
-  line_fails (Some x) k some rest n kind until = rest n kind until (Some x) (here n kind until (Some x) (cut_short (own n kind until) _ x (has_own n kind until (Some x) k)))
+  line_fails b k some rest n kind until = grind (arith, cut_short, has_own, here, own)
 
   -- they pass, and those after them decide
   pub line_passes : (fault : Option (Refusal × ℕ)) → FirstFailure (stock_checks l.way A (line_field l) l.qty (i + 1)) fault → is_some fault ≡ false → RestDecides A lines i → RestDecides A lines (i + 1)
   line_passes (Some x) k some rest n kind until found after = absurd (true≢false some)
-  line_passes None k some rest n kind until found after = rest n kind until found (here n kind until found (go_on (own n kind until) _ None found (has_own n kind until None k) refl
-      (subst (λ before. FirstFailure (line_checks A (new_order n kind until) before (drop (i + 1) lines)) found) (take-step lines i l h e) after)))
+  line_passes None k some rest n kind until found after = grind (arith, (own n kind until), (has_own n kind until None k), go_on, here, take-step)

@@ -1,23 +1,10 @@
 -- The order that a command opens or changes.
+use Rattle.book.proofs.Prelude.{Aborted, Command, Committed, Each, FirstFailure, Good, IsAccepted, IsGoodOrder, IsShort, IsStrictlySortedBy, Ledger, Line, Name, OpenLine, Order, Request, accept, add_hold, change_lines, changes_field, changes_state, checks, common_steps, expires, has_line_on, hold_more, insert_in_order, ints, is_opening, is_touched, is_transfer, line_name, line_on, list_any, lower_held, name_of, new_line, next, on, order_after, order_is, order_number, order_numbered, raise_used, same_name, set_state, some_has_line, some_is_transfer, some_part}
 use Rattle.std.proofs.Common.{◌≡◌, ◌∙◌, ℕ, ℤ, pos, ◌+ℤ◌, Bool, true, false, ◌&&◌, ◌||◌, ◌==◌, List, [], ◌∷◌, ◌++◌, IsSomeAnd, Option, None, Some, ap, arith, find, if◌then◌else◌, is_some, map, nat_cmp, nat_lt, refl, subst, sym, true≢false}
-use Rattle.std.proofs.lemmas.Int.{ints}
-use Rattle.std.specs.List.{AllByRecursion as Each, list_any}
-use Rattle.std.specs.List.Sorted.{IsStrictlySortedBy}
 use Rattle.std.specs.Option.{option_map}
-use Rattle.words.specs.declared.command.Command.{Command}
 use Rattle.words.specs.declared.command.Command.TheVariants as command
-use Rattle.words.specs.Kinds.{is_opening}
-use Rattle.words.specs.declared.command.Request.{Request}
-use Rattle.words.specs.declared.open_line.OpenLine.{OpenLine}
-use Rattle.book.specs.After.{changes_state, is_touched, names_field, order_after, order_number, some_has_line, some_is_transfer, some_part, IsShort}
-use Rattle.book.specs.Answers.{FirstFailure, IsAccepted, checks}
-use Rattle.book.specs.Changes.{changes_field, has_line_on, order_is}
-use Rattle.book.specs.Good.{Good, IsGoodOrder}
-use Rattle.book.specs.Ledger.{Ledger, Name, Order, insert_in_order, is_transfer, line_name, line_on, name_of, on, order_numbered, same_name}
-use Rattle.book.specs.Next.{accept, add_hold, change_lines, expires, hold_more, lower_held, new_line, next, raise_used, set_state}
+use Rattle.book.specs.After.{names_field}
 use Rattle.book.specs.Outcomes.{total}
-use Rattle.book.specs.declared.order.Line.{Line}
-use Rattle.book.specs.declared.order.State.TheVariants.{Aborted, Committed}
 use Rattle.book.proofs.Asked.{none_found, total-insert}
 use Rattle.book.proofs.Chosen.{any-eq, any-map, find-new, none_after, none_any, some_is}
 use Rattle.book.proofs.Closing.{all_pass, at_number}
@@ -31,23 +18,17 @@ pub only_one : (n : ℕ) (o : Order) (os : List Order) → IsStrictlySortedBy na
 only_one n o os sorted e = at_number (λ m. m ≡ o) n os sorted (subst (λ (x : Option Order). IsSomeAnd x (λ m. m ≡ o)) (sym e) refl)
 
 and_false : (a b : Bool) → (a ≡ true → b ≡ false) → (a && b) ≡ false
-and_false true b h = h refl
-and_false false b h = refl
+and_false x b h = grind arith
 
 any_found : (n : ℕ) (test : Order → Bool) (o : Order) (os : List Order) → find (λ m. m.number == n) os ≡ Some o → test o ≡ true → list_any (λ m. m.number == n && test m) os ≡ true
 any_found n test o [] e t = absurd (true≢false (sym (ap is_some e)))
 any_found n test o (m ∷ ms) e t = step (m.number == n) e (λ k. any_found n test o ms k t)
   where
     step : (b : Bool) → (if b then Some m else find (λ m. m.number == n) ms) ≡ Some o → (find (λ m. m.number == n) ms ≡ Some o → list_any (λ m. m.number == n && test m) ms ≡ true) → ((b && test m) || list_any (λ m. m.number == n && test m) ms) ≡ true
-    step true k more = rw (ap test (some_is m o k) ∙ t) refl
-    step false k more = more k
+    step b k more = grind arith
 
 pub any_one : (n : ℕ) (test : Order → Bool) (o : Order) (os : List Order) → IsStrictlySortedBy nat_cmp (map (λ o. o.number) os) → find (λ m. m.number == n) os ≡ Some o → list_any (λ m. m.number == n && test m) os ≡ test o
-any_one n test o os sorted e = step (test o) refl
-  where
-    step : (b : Bool) → test o ≡ b → list_any (λ m. m.number == n && test m) os ≡ b
-    step true t = any_found n test o os e t
-    step false t = none_any (λ m. m.number == n && test m) os (each-imp (λ m same. and_false (m.number == n) (test m) (λ k. ap test (same k) ∙ t)) os (only_one n o os sorted e))
+any_one n test o os sorted e = grind (arith, (only_one n o os sorted e), and_false, any_found, each-imp, none_any)
 
 pub any_none_there : (n : ℕ) (test : Order → Bool) (os : List Order) → find (λ m. m.number == n) os ≡ None → list_any (λ m. m.number == n && test m) os ≡ false
 any_none_there n test os e = none_any (λ m. m.number == n && test m) os (each-imp (λ m k. and_false (m.number == n) (test m) (λ t. absurd (true≢false (sym t ∙ k)))) os (none_found (λ m. m.number == n) os e))
@@ -57,97 +38,37 @@ any_none_there n test os e = none_any (λ m. m.number == n && test m) os (each-i
 opened_lines_on : (f : Name) (ls : List OpenLine) → list_any (on f) (map new_line ls) ≡ list_any (λ l. same_name f (name_of l.branch l.article)) ls
 opened_lines_on f ls = any-map (on f) new_line ls
 
-or_false : (a b : Bool) → (a || (b || false)) ≡ (a || b)
-or_false true b = refl
-or_false false true = refl
-or_false false false = refl
-
 ended_on : (A : Ledger) (n : ℕ) (f : Name) (change : Order → Order) → Good A → ((o : Order) → has_line_on f (change o) ≡ has_line_on f o) → some_has_line f (option_map change (order_numbered A n)) ≡ order_is A n (has_line_on f)
-ended_on A n f change g same = by (order_numbered A n) refl
-  where
-    by : (x : Option Order) → order_numbered A n ≡ x → some_has_line f (option_map change x) ≡ order_is A n (has_line_on f)
-    by None e = sym (any_none_there n (has_line_on f) A.orders e)
-    by (Some o) e = same o ∙ sym (any_one n (has_line_on f) o A.orders g.orders_in_order e)
+ended_on A n f change g same = grind (arith, any_none_there, any_one)
 
 -- a command that opens an order or ends one changes the fields of its lines
 pub lined : (A : Ledger) (c : Command) (f : Name) → Good A → changes_state c ≡ true → some_has_line f (order_after A c) ≡ changes_field A c f
-lined A (command.Open n until lines) f g e = opened_lines_on f lines
-lined A (command.Transfer n until a from to q) f g e = or_false (same_name f (name_of from a)) (same_name f (name_of to a))
-lined A (command.Commit n) f g e = ended_on A n f (set_state Committed) g (λ o. refl)
-lined A (command.Abort n) f g e = ended_on A n f (set_state Aborted) g (λ o. refl)
-lined A (command.Field b a lo hi start) f g e = absurd (true≢false (sym e))
-lined A (command.Deliver b a q) f g e = absurd (true≢false (sym e))
-lined A (command.Writeoff b a q) f g e = absurd (true≢false (sym e))
-lined A (command.More n way b a q) f g e = absurd (true≢false (sym e))
-lined A (command.Use n b a q) f g e = absurd (true≢false (sym e))
-lined A (command.Release n b a q) f g e = absurd (true≢false (sym e))
-lined A (command.Expire now) f g e = absurd (true≢false (sym e))
+lined b c f g e = grind (arith, ended_on, opened_lines_on)
 
 lowered_on : (b : Bool) (f : Name) (q : ℕ) (l : Line) → on f (if b then lower_held q l else l) ≡ on f l
-lowered_on true f q l = refl
-lowered_on false f q l = refl
+lowered_on b f q l = grind arith
 
 pub released_on : (f h : Name) (q : ℕ) (o : Order) → has_line_on f (change_lines h (lower_held q) o) ≡ has_line_on f o
-released_on f h q o = any-map (on f) (λ l. if is_transfer o || on h l then lower_held q l else l) o.lines
-    ∙ any-eq (λ l. on f (if is_transfer o || on h l then lower_held q l else l)) (on f) o.lines (each (λ l. lowered_on (is_transfer o || on h l) f q l) o.lines)
+released_on f h q o = grind (arith, (each (λ l. lowered_on (is_transfer o || on h l) f q l) o.lines), any-eq, any-map, lowered_on)
 
 -- a release changes the field that it names, on a transfer both
 pub released : (A : Ledger) (c : Command) (n : ℕ) (b a : List ℕ) (q : ℕ) (f : Name) → Good A → c ≡ command.Release n b a q → names_field f c ≡ false
     → (some_is_transfer (order_after A c) && some_has_line f (order_after A c)) ≡ changes_field A c f
-released A c n b a q f g is = subst (λ c. names_field f c ≡ false → (some_is_transfer (order_after A c) && some_has_line f (order_after A c)) ≡ changes_field A c f) (sym is) here
-  where
-    after : Option Order → Bool
-    after x = some_is_transfer (option_map (change_lines (name_of b a) (lower_held q)) x) && some_has_line f (option_map (change_lines (name_of b a) (lower_held q)) x)
-
-    by : (x : Option Order) → order_numbered A n ≡ x → after x ≡ order_is A n (λ o. is_transfer o && has_line_on f o)
-    by None e = sym (any_none_there n (λ o. is_transfer o && has_line_on f o) A.orders e)
-    by (Some o) e = ap (λ t. is_transfer o && t) (released_on f (name_of b a) q o) ∙ sym (any_one n (λ o. is_transfer o && has_line_on f o) o A.orders g.orders_in_order e)
-
-    here : same_name f (name_of b a) ≡ false → after (order_numbered A n) ≡ (same_name f (name_of b a) || order_is A n (λ o. is_transfer o && has_line_on f o))
-    here e = rw e (by (order_numbered A n) refl)
+released A c n b a q f g is = grind (arith, any_none_there, any_one, released_on)
 
 -- ---- the order under that number in the next ledger
-
-numbered_if : (b : Bool) (n : ℕ) (o new : Order) → new.number ≡ o.number → (o.number == n) ≡ b → ((if b then new else o).number == n) ≡ b
-numbered_if true n o new e t = ap (λ m. m == n) e ∙ t
-numbered_if false n o new e t = t
 
 find-changed : (n : ℕ) (change : Order → Order) → ((o : Order) → (change o).number ≡ o.number) → (os : List Order)
     → find (λ m. m.number == n) (map (λ o. if o.number == n then change o else o) os) ≡ option_map change (find (λ m. m.number == n) os)
 find-changed n change keeps [] = refl
-find-changed n change keeps (o ∷ os) = by (o.number == n) refl (find-changed n change keeps os)
-  where
-    by : (b : Bool) → (o.number == n) ≡ b → find (λ m. m.number == n) (map (λ o. if o.number == n then change o else o) os) ≡ option_map change (find (λ m. m.number == n) os)
-        → find (λ m. m.number == n) ((if b then change o else o) ∷ map (λ o. if o.number == n then change o else o) os) ≡ option_map change (if b then Some o else find (λ m. m.number == n) os)
-    by true e more = rw (numbered_if true n o (change o) (keeps o) e) refl
-    by false e more = rw e more
-
-held_number : (l : OpenLine) (o : Order) → (add_hold l o).number ≡ o.number
-held_number l o = by (is_some (line_on o (line_name (new_line l))))
-  where
-    by : (b : Bool) → (if b then hold_more (line_name (new_line l)) l.qty o else record o { lines = o.lines ++ new_line l ∷ [] }).number ≡ o.number
-    by true = refl
-    by false = refl
+find-changed n change keeps (o ∷ os) = let more = find-changed n change keeps os in grind arith
 
 -- a command that opens an order finds none under its number
 pub none_opened : (A : Ledger) (c : Command) (n : ℕ) → FirstFailure (checks A c) None → order_number c ≡ Some n → is_opening c ≡ true → order_numbered A n ≡ None
-none_opened A (command.Open m until lines) n h e is = subst (λ k. order_numbered A k ≡ None) (some_is m n e) (none_if_not_some (order_numbered A m) (let k = all_pass (checks A (command.Open m until lines)) h in k.1.1.0))
-none_opened A (command.Transfer m until a from to q) n h e is = subst (λ k. order_numbered A k ≡ None) (some_is m n e) (none_if_not_some (order_numbered A m) (let k = all_pass (checks A (command.Transfer m until a from to q)) h in k.1.1.0))
-none_opened A (command.Field b a lo hi start) n h e is = absurd (true≢false (sym is))
-none_opened A (command.Deliver b a q) n h e is = absurd (true≢false (sym is))
-none_opened A (command.Writeoff b a q) n h e is = absurd (true≢false (sym is))
-none_opened A (command.More m way b a q) n h e is = absurd (true≢false (sym is))
-none_opened A (command.Use m b a q) n h e is = absurd (true≢false (sym is))
-none_opened A (command.Release m b a q) n h e is = absurd (true≢false (sym is))
-none_opened A (command.Commit m) n h e is = absurd (true≢false (sym is))
-none_opened A (command.Abort m) n h e is = absurd (true≢false (sym is))
-none_opened A (command.Expire now) n h e is = absurd (true≢false (sym is))
+none_opened b c n h e is = grind arith
 
 opened_there : (n : ℕ) (o : Order) (A : Ledger) → (o.number == n) ≡ true → order_numbered A n ≡ None → find (λ m. m.number == n) (insert_in_order (λ a b. nat_lt a.number b.number) o A.orders) ≡ Some o
 opened_there n o A e none = find-new n (λ a b. nat_lt a.number b.number) o A.orders e (none_found (λ m. m.number == n) A.orders none)
-
-same_number : (n : ℕ) → (n == n) ≡ true
-same_number n = grind arith
 
 changed_there : (A : Ledger) (n m : ℕ) (change : Order → Order) → ((o : Order) → (change o).number ≡ o.number) → Some n ≡ Some m
     → find (λ o. o.number == m) (map (λ o. if o.number == n then change o else o) A.orders) ≡ option_map change (order_numbered A n)
@@ -155,46 +76,24 @@ changed_there A n m change keeps e = subst (λ k. find (λ o. o.number == k) (ma
 
 -- the order that the command makes is the next ledger's under its number
 pub made_there : (A : Ledger) (c : Command) (n : ℕ) → FirstFailure (checks A c) None → order_number c ≡ Some n → find (λ o. o.number == n) (next A c).orders ≡ order_after A c
-made_there A (command.Open m until lines) n h e = let none = none_opened A (command.Open m until lines) n h e refl in opened_there n _ A (subst (λ k. (m == k) ≡ true) (some_is m n e) (same_number m)) none
-made_there A (command.Transfer m until a from to q) n h e = let none = none_opened A (command.Transfer m until a from to q) n h e refl in opened_there n _ A (subst (λ k. (m == k) ≡ true) (some_is m n e) (same_number m)) none
-made_there A (command.More m way b a q) n h e = changed_there A m n (add_hold (record { way = way; branch = b; article = a; qty = q })) (held_number _) e
-made_there A (command.Use m b a q) n h e = changed_there A m n (change_lines (name_of b a) (raise_used q)) (λ o. refl) e
-made_there A (command.Release m b a q) n h e = changed_there A m n (change_lines (name_of b a) (lower_held q)) (λ o. refl) e
-made_there A (command.Commit m) n h e = changed_there A m n (set_state Committed) (λ o. refl) e
-made_there A (command.Abort m) n h e = changed_there A m n (set_state Aborted) (λ o. refl) e
-made_there A (command.Field b a lo hi start) n h e = absurd (true≢false (sym (ap is_some e)))
-made_there A (command.Deliver b a q) n h e = absurd (true≢false (sym (ap is_some e)))
-made_there A (command.Writeoff b a q) n h e = absurd (true≢false (sym (ap is_some e)))
-made_there A (command.Expire now) n h e = absurd (true≢false (sym (ap is_some e)))
+made_there x c n h e = grind (arith, changed_there, none_opened, opened_there, some_is)
 
 pub no_number : (A : Ledger) (c : Command) → order_number c ≡ None → order_after A c ≡ None
-no_number A (command.Open m until lines) e = absurd (true≢false (ap is_some e))
-no_number A (command.Transfer m until a from to q) e = absurd (true≢false (ap is_some e))
-no_number A (command.More m way b a q) e = absurd (true≢false (ap is_some e))
-no_number A (command.Use m b a q) e = absurd (true≢false (ap is_some e))
-no_number A (command.Release m b a q) e = absurd (true≢false (ap is_some e))
-no_number A (command.Commit m) e = absurd (true≢false (ap is_some e))
-no_number A (command.Abort m) e = absurd (true≢false (ap is_some e))
-no_number A (command.Field b a lo hi start) e = refl
-no_number A (command.Deliver b a q) e = refl
-no_number A (command.Writeoff b a q) e = refl
-no_number A (command.Expire now) e = refl
+no_number b c e = grind arith
 
 pub each-found : {X : Type 0} (P : X → Type 0) (t : X → Bool) (x : X) (xs : List X) → Each P xs → find t xs ≡ Some x → P x
 each-found P t x [] h e = absurd (true≢false (sym (ap is_some e)))
 each-found P t x (y ∷ ys) h e = by (t y) e (λ k. each-found P t x ys h.1 k)
   where
     by : (b : Bool) → (if b then Some y else find t ys) ≡ Some x → (find t ys ≡ Some x → P x) → P x
-    by true k more = subst P (some_is y x k) h.0
-    by false k more = more k
+    by b k more = grind arith
 
 -- the order that the command makes has at most 64 lines
 pub made_short : (A : Ledger) (r : Request) → Good (accept A r) → IsAccepted A r → IsShort (order_after A r.command)
 made_short A r g ok = by (order_number r.command) refl
   where
     short : (x : Option Order) (n : ℕ) → find (λ o. o.number == n) (accept A r).orders ≡ x → IsShort x
-    short None n e = tt
-    short (Some o) n e = (each-found (IsGoodOrder (accept A r)) (λ o. o.number == n) o (accept A r).orders g.orders e).few
+    short b n e = grind (arith, each-found)
 
     by : (x : Option ℕ) → order_number r.command ≡ x → IsShort (order_after A r.command)
     by None e = subst IsShort (sym (no_number A r.command e)) tt
@@ -216,38 +115,17 @@ pub total-changed : (g : Order → ℤ) (change : Order → Order) (n : ℕ) (os
     → total g (map (λ o. if o.number == n then change o else o) os) ≡ total (λ o. if o.number == n then pos 0 else g o) os +ℤ some_part g (option_map change (find (λ o. o.number == n) os))
 unfolding IsStrictlySortedBy
 total-changed g change n [] sorted = refl
-total-changed g change n (o ∷ os) sorted = by (o.number == n) refl (total-changed g change n os sorted.1)
-  where
-    by : (b : Bool) → (o.number == n) ≡ b
-        → total g (map (λ o. if o.number == n then change o else o) os) ≡ total (λ o. if o.number == n then pos 0 else g o) os +ℤ some_part g (option_map change (find (λ o. o.number == n) os))
-        → (g (if b then change o else o) +ℤ total g (map (λ o. if o.number == n then change o else o) os))
-        ≡ ((if b then pos 0 else g o) +ℤ total (λ o. if o.number == n then pos 0 else g o) os) +ℤ some_part g (option_map change (if b then Some o else find (λ o. o.number == n) os))
-    by true e more =
-        let none = none_after n o os e sorted.0 in
-        let x = none_changed g change n os none in
-        let y = all_left g n os none in
-        omega (arith, ints)
-    by false e more = omega (arith, ints)
+total-changed g change n (o ∷ os) sorted = let more = total-changed g change n os sorted.1 in grind (arith, common_steps, all_left, none_after, none_changed, o.number, sorted.1, sorted.0)
 
 expired_part : (g : Order → ℤ) → ((o : Order) → g (set_state Aborted o) ≡ pos 0) → (b : Bool) (o : Order) → g (if b then set_state Aborted o else o) ≡ (if b then pos 0 else g o)
-expired_part g ends true o = ends o
-expired_part g ends false o = refl
-
-pub nothing_more : (z : ℤ) → z ≡ z +ℤ pos 0
-nothing_more z = omega (arith, ints)
+expired_part g ends b o = grind arith
 
 total-opened : (g : Order → ℤ) (n : ℕ) (o : Order) (A : Ledger) → order_numbered A n ≡ None → total g (insert_in_order (λ a b. nat_lt a.number b.number) o A.orders) ≡ total (λ o. if o.number == n then pos 0 else g o) A.orders +ℤ g o
-total-opened g n o A none =
-    let x = total-insert g (λ a b. nat_lt a.number b.number) o A.orders in
-    let y = all_left g n A.orders (none_found (λ m. m.number == n) A.orders none) in
-    omega (arith, ints)
+total-opened g n o A none = grind (arith, (none_found (λ m. m.number == n) A.orders none), (total-insert g (λ a b. nat_lt a.number b.number) o A.orders), all_left)
 
 -- a sum over the orders of the next ledger, to which an aborted order adds nothing
 pub total-next : (g : Order → ℤ) → ((o : Order) → g (set_state Aborted o) ≡ pos 0) → (A : Ledger) (c : Command) → Good A → FirstFailure (checks A c) None
     → total g (next A c).orders ≡ total (left_out g c) A.orders +ℤ some_part g (order_after A c)
-total-next g ends A (command.Field b a lo hi start) good h = nothing_more (total g A.orders)
-total-next g ends A (command.Deliver b a q) good h = nothing_more (total g A.orders)
-total-next g ends A (command.Writeoff b a q) good h = nothing_more (total g A.orders)
 total-next g ends A (command.Open n until lines) good h = total-opened g n _ A (none_opened A (command.Open n until lines) n h refl refl)
 total-next g ends A (command.Transfer n until a from to q) good h = total-opened g n _ A (none_opened A (command.Transfer n until a from to q) n h refl refl)
 total-next g ends A (command.More n way b a q) good h = total-changed g (add_hold (record { way = way; branch = b; article = a; qty = q })) n A.orders good.orders_in_order
@@ -255,7 +133,5 @@ total-next g ends A (command.Use n b a q) good h = total-changed g (change_lines
 total-next g ends A (command.Release n b a q) good h = total-changed g (change_lines (name_of b a) (lower_held q)) n A.orders good.orders_in_order
 total-next g ends A (command.Commit n) good h = total-changed g (set_state Committed) n A.orders good.orders_in_order
 total-next g ends A (command.Abort n) good h = total-changed g (set_state Aborted) n A.orders good.orders_in_order
-total-next g ends A (command.Expire now) good h =
-    let x = total-map g (λ o. if expires now o then set_state Aborted o else o) A.orders in
-    let y = total-eq (λ o. g (if expires now o then set_state Aborted o else o)) (left_out g (command.Expire now)) A.orders (each (λ o. expired_part g ends (expires now o) o) A.orders) in
-    omega (arith, ints)
+total-next g ends A (command.Expire now) good h = grind (arith, (each (λ o. expired_part g ends (expires now o) o) A.orders), (total-map g (λ o. if expires now o then set_state Aborted o else o) A.orders), expired_part, total-eq)
+total-next g ends A c good h =  omega (arith, ints)

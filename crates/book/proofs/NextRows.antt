@@ -1,36 +1,14 @@
 -- The rows of the next ledger that an accepted request changes, table by table.
 use Rattle.std.proofs.Common.{◌≡◌, ◌∙◌, ℕ, ◌+◌, ◌<◌, ◌≤◌, pos, Bool, true, false, ◌&&◌, ◌||◌, ◌==◌, List, [], ◌∷◌, ◌++◌, Option, None, Some, ap, arith, find, flat_map, if◌then◌else◌, is_some, map, length, nat_cmp, Less, refl, subst, sym, true≢false}
 use Rattle.std.proofs.lemmas.Bool.Decides.{Decides-int_eq}
-use Rattle.std.proofs.lemmas.Int.{ints}
+use Rattle.book.proofs.Prelude.{Aborted, BookView, ChangesTo, Command, Content, DeskCells, Each, FieldCells, FirstFailure, Good, Inside, IsAccepted, IsInRange, IsKey, IsRowsOf, IsStrictlySortedBy, Ledger, Line, LineCells, MAX_PLACES, Name, Order, OrderCells, Request, Way, accept, bytes_decides, bytes_eq, change_lines, changed_fields, changed_orders, changed_rows, changes_field, changes_line, changes_move, changes_order, changes_state, checks, desk_row, expires, field_named, field_row, field_rows, filter, int_eq, ints, is_lt, is_transfer, kept_of, kept_row, ledger_of, line_name, line_row, line_rows, lines_from, list_any, lower_held, move_row, name_cmp, name_of, new_field_rows, next, order_after, order_is, order_lines, order_number, order_numbered, order_row, places, put_content, raise_used, same_name, set_state, slice_cmp, transfer_kind, view_of, with_fields, with_kept, with_lines, with_moves, with_orders}
 use Rattle.std.proofs.lemmas.List.{append-nil}
 use Rattle.std.proofs.lemmas.List.Elements.{filter-append}
-use Rattle.std.specs.Cmp.Lexicographic.{slice_cmp}
-use Rattle.std.specs.List.{AllByRecursion as Each, filter, list_any}
-use Rattle.std.specs.List.Sorted.{IsStrictlySortedBy}
 use Rattle.std.specs.Option.{option_map}
-use Rattle.std.specs.Ordering.{int_eq, is_lt}
-use Rattle.std.specs.Str.{bytes_eq}
-use lib.Pointwise.{bytes_decides}
-use Rattle.escrow.specs.Codes.{IsKey}
-use Rattle.escrow.specs.declared.quantity.Way.{Way}
-use Rattle.words.specs.Spelling.{IsInRange}
-use Rattle.words.specs.declared.command.Command.{Command}
 use Rattle.words.specs.declared.command.Command.TheVariants as command
-use Rattle.words.specs.declared.command.Request.{Request}
-use Rattle.book.specs.After.{changed_fields, changed_orders, changes_state, expired_rows, field_row, field_rows, line_rows, new_field_rows, order_after, order_number, own_line_rows, own_move_rows, own_order_rows, with_fields, with_kept, with_lines, with_moves, with_orders}
-use Rattle.book.specs.Answers.{FirstFailure, IsAccepted, checks}
-use Rattle.book.specs.Changes.{put_content, changed_rows, changes_field, changes_line, changes_move, changes_order, order_is}
-use Rattle.book.specs.Good.{Good}
-use Rattle.book.specs.Ledger.{Field, Ledger, Name, Order, field_named, is_transfer, line_name, name_cmp, name_of, order_numbered, places, same_name, transfer_kind}
-use Rattle.book.specs.Plans.{ChangesTo}
-use Rattle.book.specs.Next.{accept, change_lines, expires, lower_held, next, raise_used, set_state}
-use Rattle.book.specs.Rows.{Content, DeskCells, IsRowsOf, FieldCells, LineCells, OrderCells, desk_row, kept_row, line_row, lines_from, move_row, order_lines, order_row}
+use Rattle.book.specs.After.{expired_rows, own_line_rows, own_move_rows, own_order_rows}
+use Rattle.book.specs.Ledger.{Field}
 use Rattle.book.specs.Tables.{no_content}
-use Rattle.book.specs.View.{BookView, kept_of, ledger_of, view_of}
-use Rattle.book.specs.declared.book.Book.TheInside.{Inside}
-use Rattle.book.specs.declared.limits.TheConstants.{MAX_PLACES}
-use Rattle.book.specs.declared.order.Line.{Line}
-use Rattle.book.specs.declared.order.State.TheVariants.{Aborted}
 use Rattle.book.proofs.Asked.{none_found, same_self}
 use Rattle.book.proofs.Changed.{changes_suffice}
 use Rattle.book.proofs.Chosen.{filter-each, filter-insert, filter-none, filter-push, none_after, none_any, number_is, some_is}
@@ -47,23 +25,10 @@ pos_same : (m n : ℕ) → (m == n) ≡ true → int_eq (pos m) (pos n) ≡ true
 pos_same m n e = (Decides-int_eq (pos m) (pos n)).1 (ap pos (number_is m n e))
 
 pos_other : (m n : ℕ) → (m == n) ≡ false → int_eq (pos m) (pos n) ≡ false
-pos_other m n e = by (int_eq (pos m) (pos n)) refl
-  where
-    same_pos : pos m ≡ pos n → m ≡ n
-    same_pos k = omega (arith, ints)
-
-    apart : m ≡ n → (m == n) ≡ false → ⊥
-    apart k e = grind arith
-
-    by : (b : Bool) → int_eq (pos m) (pos n) ≡ b → b ≡ false
-    by true t = absurd (apart (same_pos ((Decides-int_eq (pos m) (pos n)).0 t)) e)
-    by false t = refl
+pos_other m n e = grind arith
 
 pos_above : (m n : ℕ) → m ≤ n → int_eq (pos m) (pos (n + 1)) ≡ false
-pos_above m n h = pos_other m (n + 1) (less_other m n h)
-  where
-    less_other : (m n : ℕ) → m ≤ n → (m == n + 1) ≡ false
-    less_other m n h = grind arith
+pos_above m n h = grind arith
 
 same_number : (n : ℕ) → (n == n) ≡ true
 same_number n = grind arith
@@ -77,15 +42,7 @@ filter-false (x ∷ xs) = filter-false xs
 moves_changed : (A : Ledger) (key : List ℕ) (c : Command) → Good A → filter (λ row. changes_move A c row.place) (map move_row (accept A (record { key = key; command = c })).moves) ≡ own_move_rows (places A + 1) c
 moves_changed A key (command.Deliver b a q) g = filter-push (λ row. int_eq row.place (pos (places A + 1))) move_row _ A.moves (pos_same (places A + 1) (places A + 1) (same_number (places A + 1))) (each-imp (λ m x. pos_above m.place (places A) x.last) A.moves g.moves)
 moves_changed A key (command.Writeoff b a q) g = filter-push (λ row. int_eq row.place (pos (places A + 1))) move_row _ A.moves (pos_same (places A + 1) (places A + 1) (same_number (places A + 1))) (each-imp (λ m x. pos_above m.place (places A) x.last) A.moves g.moves)
-moves_changed A key (command.Field b a lo hi start) g = filter-false (map move_row A.moves)
-moves_changed A key (command.Open n until lines) g = filter-false (map move_row A.moves)
-moves_changed A key (command.Transfer n until a from to q) g = filter-false (map move_row A.moves)
-moves_changed A key (command.More n way b a q) g = filter-false (map move_row A.moves)
-moves_changed A key (command.Use n b a q) g = filter-false (map move_row A.moves)
-moves_changed A key (command.Release n b a q) g = filter-false (map move_row A.moves)
-moves_changed A key (command.Commit n) g = filter-false (map move_row A.moves)
-moves_changed A key (command.Abort n) g = filter-false (map move_row A.moves)
-moves_changed A key (command.Expire now) g = filter-false (map move_row A.moves)
+moves_changed A key c g = filter-false (map move_row A.moves)
 
 -- ---- kept keys
 
@@ -152,30 +109,21 @@ find_self (o ∷ os) sorted = (ap (λ b. if b then Some o else find (λ m. m.num
     later [] h k = tt
     later (m ∷ ms) h k = (ap (λ b. if b then Some o else find (λ k. k.number == m.number) os) (less_other o.number m.number (less_is o.number m.number h.0)) ∙ k.0, later ms h.1 k.1)
 
-number_kept : (b : Bool) (o : Order) → (if b then set_state Aborted o else o).number ≡ o.number
-number_kept true o = refl
-number_kept false o = refl
-
 and_false : (a b : Bool) → (b ≡ true → a ≡ false) → (a && b) ≡ false
-and_false true true h = absurd (true≢false (h refl))
-and_false true false h = refl
-and_false false b h = refl
+and_false x b h = grind arith
 
 and_true : (a b : Bool) → a ≡ true → b ≡ true → (a && b) ≡ true
-and_true true b e h = h
-and_true false b e h = absurd (true≢false (sym e))
+and_true x b e h = cc
 
 any_there : (t : Order → Bool) (n : ℕ) (o : Order) (os : List Order) → find (λ m. m.number == n) os ≡ Some o → t o ≡ true → list_any t os ≡ true
 any_there t n o [] e h = absurd (true≢false (sym (ap is_some e)))
 any_there t n o (m ∷ ms) e h = by (m.number == n) e (λ k. any_there t n o ms k h)
   where
     or_right : (a b : Bool) → b ≡ true → (a || b) ≡ true
-    or_right true b e = refl
-    or_right false b e = e
+    or_right x b e = grind arith
 
     by : (b : Bool) → (if b then Some m else find (λ m. m.number == n) ms) ≡ Some o → (find (λ m. m.number == n) ms ≡ Some o → list_any t ms ≡ true) → (t m || list_any t ms) ≡ true
-    by true k more = rw (ap t (some_is m o k) ∙ h) refl
-    by false k more = or_right (t m) (list_any t ms) (more k)
+    by b k more = grind arith
 
 -- some order that expires has the number exactly where the order does
 number_expires : (now : ℕ) (o : Order) (os : List Order) → IsStrictlySortedBy nat_cmp (map (λ o. o.number) os) → find (λ m. m.number == o.number) os ≡ Some o → list_any (λ p. expires now p && int_eq (pos o.number) (pos p.number)) os ≡ expires now o
@@ -205,20 +153,12 @@ orders_expired A now g =
     let t : OrderCells → Bool = λ row. changes_order A (command.Expire now) row.number in
     ap (filter t) (map-twice h A.orders)
     ∙ sym (filter-each t (λ o. order_row (h o)) (λ o. order_row (set_state Aborted o)) (expires now) A.orders
-    (each-imp (λ o e. ap (λ n. list_any (λ p. expires now p && int_eq (pos n) (pos p.number)) A.orders) (number_kept (expires now o) o) ∙ number_expires now o A.orders g.orders_in_order e) A.orders (find_self A.orders g.orders_in_order))
+    (each-imp (λ o e. ap (λ n. list_any (λ p. expires now p && int_eq (pos n) (pos p.number)) A.orders) (grind arith) ∙ number_expires now o A.orders g.orders_in_order e) A.orders (find_self A.orders g.orders_in_order))
     (each (λ o e. ap (λ b. order_row (if b then set_state Aborted o else o)) (sym e)) A.orders))
-
-no_state : (c : Command) (x : Option Order) → changes_state c ≡ false → own_order_rows c x ≡ []
-no_state c None e = refl
-no_state c (Some o) e = ap (λ b. if b then order_row o ∷ [] else []) e
-
-with_state : (c : Command) (x : Option Order) → changes_state c ≡ true → row_there x ≡ own_order_rows c x
-with_state c None e = refl
-with_state c (Some o) e = ap (λ b. if b then order_row o ∷ [] else []) (sym e)
 
 own_order : (A : Ledger) (key : List ℕ) (c : Command) (n : ℕ) → Good (accept A (record { key = key; command = c })) → FirstFailure (checks A c) None → order_number c ≡ Some n → changes_state c ≡ true
     → filter (λ row. int_eq row.number (pos n)) (map order_row (accept A (record { key = key; command = c })).orders) ≡ own_order_rows c (order_after A c)
-own_order A key c n k h is state = order_one n (next A c).orders k.orders_in_order ∙ ap row_there (made_there A c n h is) ∙ with_state c (order_after A c) state
+own_order A key c n k h is state = order_one n (next A c).orders k.orders_in_order ∙ ap row_there (made_there A c n h is) ∙ grind arith
 
 orders_changed : (A : Ledger) (key : List ℕ) (c : Command) → Good A → Good (accept A (record { key = key; command = c })) → FirstFailure (checks A c) None
     → filter (λ row. changes_order A c row.number) (map order_row (accept A (record { key = key; command = c })).orders) ≡ changed_orders A c
@@ -227,12 +167,10 @@ orders_changed A key (command.Transfer n until a from to q) g k h = own_order A 
 orders_changed A key (command.Commit n) g k h = own_order A key (command.Commit n) n k h refl refl
 orders_changed A key (command.Abort n) g k h = own_order A key (command.Abort n) n k h refl refl
 orders_changed A key (command.Expire now) g k h = orders_expired A now g
-orders_changed A key (command.Field b a lo hi start) g k h = filter-false (map order_row A.orders)
-orders_changed A key (command.Deliver b a q) g k h = filter-false (map order_row A.orders)
-orders_changed A key (command.Writeoff b a q) g k h = filter-false (map order_row A.orders)
-orders_changed A key (command.More n way b a q) g k h = filter-false (map order_row (next A (command.More n way b a q)).orders) ∙ sym (no_state (command.More n way b a q) (order_after A (command.More n way b a q)) refl)
-orders_changed A key (command.Use n b a q) g k h = filter-false (map order_row (next A (command.Use n b a q)).orders) ∙ sym (no_state (command.Use n b a q) (order_after A (command.Use n b a q)) refl)
-orders_changed A key (command.Release n b a q) g k h = filter-false (map order_row (next A (command.Release n b a q)).orders) ∙ sym (no_state (command.Release n b a q) (order_after A (command.Release n b a q)) refl)
+orders_changed A key (command.More n way b a q) g k h = filter-false (map order_row (next A (command.More n way b a q)).orders) ∙ sym (grind arith)
+orders_changed A key (command.Use n b a q) g k h = filter-false (map order_row (next A (command.Use n b a q)).orders) ∙ sym (grind arith)
+orders_changed A key (command.Release n b a q) g k h = filter-false (map order_row (next A (command.Release n b a q)).orders) ∙ sym (grind arith)
+orders_changed A key c g k h = filter-false (map order_row A.orders)
 
 -- ---- lines
 
@@ -246,17 +184,12 @@ lines_none chosen m k (l ∷ ls) h = rw (h k l) (lines_none chosen m (k + 1) ls 
 
 lines_chosen : (chosen : LineCells → Bool) (t : Line → Bool) (m k : ℕ) (ls : List Line) → ((k : ℕ) (l : Line) → chosen (line_row m k l) ≡ t l) → filter chosen (lines_from m k ls) ≡ line_rows t m k ls
 lines_chosen chosen t m k [] h = refl
-lines_chosen chosen t m k (l ∷ ls) h = by (t l) (h k l) (lines_chosen chosen t m (k + 1) ls h)
-  where
-    by : (b : Bool) → chosen (line_row m k l) ≡ b → filter chosen (lines_from m (k + 1) ls) ≡ line_rows t m (k + 1) ls → filter chosen (lines_from m k (l ∷ ls)) ≡ (if b then line_row m k l ∷ [] else []) ++ line_rows t m (k + 1) ls
-    by true e more = rw e (ap (λ (rows : List LineCells). line_row m k l ∷ rows) more)
-    by false e more = rw e more
+lines_chosen chosen t m k (l ∷ ls) h = let more = lines_chosen chosen t m (k + 1) ls h in grind arith
 
 -- of the lines of others none
 all_none : (chosen : LineCells → Bool) (n : ℕ) (os : List Order) → ((m k : ℕ) (l : Line) → (m == n) ≡ false → chosen (line_row m k l) ≡ false) → Each (λ o. (o.number == n) ≡ false) os → filter chosen (flat_map order_lines os) ≡ []
 all_none chosen n [] h none = refl
-all_none chosen n (o ∷ os) h none = filter-append chosen (order_lines o) (flat_map order_lines os)
-    ∙ ap (λ (rows : List LineCells). rows ++ filter chosen (flat_map order_lines os)) (lines_none chosen o.number 1 o.lines (λ k l. h o.number k l none.0)) ∙ all_none chosen n os h none.1
+all_none chosen n (o ∷ os) h none = let more = all_none chosen n os h none.1 in grind (arith, (lines_none chosen o.number 1 o.lines (λ k l. h o.number k l none.0)), filter-append)
 
 lines_one : (chosen : LineCells → Bool) (t : Line → Bool) (n : ℕ) (os : List Order) → IsStrictlySortedBy nat_cmp (map (λ o. o.number) os)
     → ((m k : ℕ) (l : Line) → (m == n) ≡ false → chosen (line_row m k l) ≡ false) → ((m k : ℕ) (l : Line) → (m == n) ≡ true → chosen (line_row m k l) ≡ t l)
@@ -282,8 +215,7 @@ and_first a b e = ap (λ x. x && b) e
 -- those of the order that the command makes whose fields pass
 own_lines : (A : Ledger) (key : List ℕ) (c : Command) (n : ℕ) (u : Name → Bool) → Good (accept A (record { key = key; command = c })) → FirstFailure (checks A c) None → order_number c ≡ Some n
     → filter (λ (row : LineCells). int_eq row.number (pos n) && u (name_of row.branch row.article)) (flat_map order_lines (accept A (record { key = key; command = c })).orders) ≡ lines_there (λ l. u (line_name l)) (order_after A c)
-own_lines A key c n u k h is = lines_one (λ (row : LineCells). int_eq row.number (pos n) && u (name_of row.branch row.article)) (λ l. u (line_name l)) n (next A c).orders k.orders_in_order
-    (λ m i l e. and_first (int_eq (pos m) (pos n)) (u (line_name l)) (pos_other m n e)) (λ m i l e. and_second (int_eq (pos m) (pos n)) (u (line_name l)) (pos_same m n e)) ∙ ap (lines_there (λ l. u (line_name l))) (made_there A c n h is)
+own_lines A key c n u k h is = grind (arith, (made_there A c n h is), and_first, and_second, lines_one, pos_other, pos_same)
 
 -- all of them
 all_lines : (A : Ledger) (key : List ℕ) (c : Command) (n : ℕ) → Good (accept A (record { key = key; command = c })) → FirstFailure (checks A c) None → order_number c ≡ Some n
@@ -291,8 +223,7 @@ all_lines : (A : Ledger) (key : List ℕ) (c : Command) (n : ℕ) → Good (acce
 all_lines A key c n k h is = lines_one (λ (row : LineCells). int_eq row.number (pos n)) (λ l. true) n (next A c).orders k.orders_in_order (λ m i l e. pos_other m n e) (λ m i l e. pos_same m n e) ∙ ap (lines_there (λ l. true)) (made_there A c n h is)
 
 more_lines : (n : ℕ) (way : Way) (b a : List ℕ) (q : ℕ) (x : Option Order) → lines_there (λ l. same_name (line_name l) (name_of b a)) x ≡ own_line_rows (command.More n way b a q) x
-more_lines n way b a q None = refl
-more_lines n way b a q (Some o) = refl
+more_lines n way b a q x = cc
 
 -- a use or a release, which changes both lines of a transfer
 part_lines : (A : Ledger) (c : Command) (n : ℕ) (b a : List ℕ) (change : Order → Order) → Good A → ((o : Order) → (change o).kind ≡ o.kind)
@@ -325,10 +256,8 @@ lines_changed A key (command.Use n b a q) g k h = own_lines A key (command.Use n
 lines_changed A key (command.Release n b a q) g k h = own_lines A key (command.Release n b a q) n (λ f. order_is A n is_transfer || same_name f (name_of b a)) k h refl ∙ part_lines A (command.Release n b a q) n b a (change_lines (name_of b a) (lower_held q)) g (λ o. refl) (λ o. refl)
 lines_changed A key (command.Commit n) g k h = filter-false (flat_map order_lines (next A (command.Commit n)).orders) ∙ sym (commit_lines n (order_after A (command.Commit n)))
 lines_changed A key (command.Abort n) g k h = filter-false (flat_map order_lines (next A (command.Abort n)).orders) ∙ sym (abort_lines n (order_after A (command.Abort n)))
-lines_changed A key (command.Field b a lo hi start) g k h = filter-false (flat_map order_lines A.orders)
-lines_changed A key (command.Deliver b a q) g k h = filter-false (flat_map order_lines A.orders)
-lines_changed A key (command.Writeoff b a q) g k h = filter-false (flat_map order_lines A.orders)
 lines_changed A key (command.Expire now) g k h = filter-false (flat_map order_lines (next A (command.Expire now)).orders)
+lines_changed A key c g k h = filter-false (flat_map order_lines A.orders)
 
 -- ---- all tables
 
@@ -344,13 +273,7 @@ rows_made A r = record {
 }
 
 made_changed : (A : Ledger) (r : Request) → Good A → Good (accept A r) → IsAccepted A r → changed_rows A r (rows_of (accept A r)) ≡ rows_made A r
-made_changed A r g k ok =
-    let fields = fields_changed A r.key r.command ok.1 in
-    let moves = moves_changed A r.key r.command g in
-    let orders = orders_changed A r.key r.command g k ok.1 in
-    let lines = lines_changed A r.key r.command g k ok.1 in
-    let kept = kept_changed A r ok (λ key. (bytes_decides key key).1 refl) in
-    λ i. record { desk = desk_row (accept A r) ∷ []; fields = fields i; moves = moves i; orders = orders i; lines = lines i; kept = kept i }
+made_changed A r g k ok = cc ((fields_changed A r.key r.command ok.1), (moves_changed A r.key r.command g), (orders_changed A r.key r.command g k ok.1), (lines_changed A r.key r.command g k ok.1), (kept_changed A r ok (λ key. (bytes_decides key key).1 refl)))
 
 -- they are those that change
 pub changes_to : (A : Ledger) (r : Request) (rows : Content) → Good A → IsKey r.key → IsInRange r.command → IsAccepted A r → rows ≡ rows_made A r → ChangesTo A r rows
@@ -384,10 +307,7 @@ place_fits b v r n e is g =
     omega arith
 
 pub place_is : (b : Inside) (v : BookView) (n : ℕ) → view_of b ≡ v → n ≡ length b.kept.entries → n + 1 ≡ places v.ledger + 1
-place_is b v n e is =
-    let here = ap (λ (v : BookView). places v.ledger) e in
-    let same = length-of-map kept_of b.kept.entries in
-    omega arith
+place_is b v n e is = cc ((length-of-map kept_of b.kept.entries))
 
 -- the rows as they are made one after the other
 pub rows_in_turn : (A : Ledger) (r : Request) (place clock : ℕ) (made : Option Order) (cells : DeskCells) (desk fields moves orders lines kept : Content) → place ≡ places A + 1 → clock ≡ (next A r.command).clock → made ≡ order_after A r.command

@@ -1,8 +1,7 @@
 -- Numbers on a field: added to one another, and how great they can be.
 use Rattle.std.proofs.Common.{◌≡◌, ℕ, ◌+◌, ◌≤◌, arith}
-use Rattle.std.proofs.lemmas.Int.{ints}
+use Rattle.book.proofs.Prelude.{IsSmall, ints, nothing, plus}
 use Rattle.book.specs.declared.book.sums.Numbers.{Numbers}
-use Rattle.book.specs.Walk.{nothing, plus, IsSmall}
 
 -- numbers with equal parts are equal
 pub same-numbers : (n m : Numbers) → n.moved ≡ m.moved → n.takes ≡ m.takes → n.adds ≡ m.adds → n ≡ m
@@ -10,9 +9,6 @@ same-numbers n m a b c = λ i. record { moved = a i; takes = b i; adds = c i }
 
 pub plus-nothing : (n : Numbers) → plus n nothing ≡ n
 plus-nothing n = same-numbers _ _ (omega (arith, ints)) (omega (arith, ints)) (omega (arith, ints))
-
-pub nothing-plus : (n : Numbers) → plus nothing n ≡ n
-nothing-plus n = same-numbers _ _ (omega (arith, ints)) (omega (arith, ints)) (omega (arith, ints))
 
 pub plus-assoc : (a b c : Numbers) → plus (plus a b) c ≡ plus a (plus b c)
 plus-assoc a b c = same-numbers _ _ (omega (arith, ints)) (omega (arith, ints)) (omega (arith, ints))

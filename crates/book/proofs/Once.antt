@@ -1,18 +1,9 @@
 -- Each request has one answer, and each request of a future has an answer.
-use Rattle.std.proofs.Common.{◌≡◌, ℕ, ◌+◌, ◌<◌, List, [], ◌∷◌, Bool, true, false, is_some, IsNone, IsSomeAnd, Option, Some, None, refl, sym, ◌∙◌, subst, if◌then◌else◌, true≢false, ◌⊎◌, inl, inr, MatchOption}
+use Rattle.std.proofs.Common.{arith, ◌≡◌, ℕ, ◌+◌, ◌<◌, List, [], ◌∷◌, Bool, true, false, is_some, IsNone, IsSomeAnd, Option, Some, None, refl, sym, ◌∙◌, subst, if◌then◌else◌, true≢false, ◌⊎◌, inl, inr, MatchOption}
 use native.Mathlib.Decide.{dec_lt as decide_lt}
-use Rattle.words.specs.declared.command.Command.{Command}
+use Rattle.book.proofs.Prelude.{Answers, AnswersNew, AsksNoStock, Check, Command, Done, FirstFailure, Good, IsAccepted, IsFuture, Kept, KeyReused, Ledger, Name, Refusal, Refused, Reply, Request, Runs, Stands, accept, checks, is_open, kept_under, line_on, order_numbered, places, same_command}
 use Rattle.words.specs.declared.command.Command.TheVariants as command
-use Rattle.words.specs.declared.command.Request.{Request}
-use Rattle.words.specs.declared.reply.Refusal.{Refusal}
-use Rattle.words.specs.declared.reply.Refusal.TheVariants.{KeyReused}
-use Rattle.words.specs.declared.reply.Reply.{Reply}
-use Rattle.words.specs.declared.reply.Reply.TheVariants.{Done, Refused}
-use Rattle.book.specs.Ledger.{Name, Ledger, Kept, is_open, order_numbered, line_on, kept_under, places}
-use Rattle.book.specs.Next.{accept}
-use Rattle.book.specs.Answers.{Check, FirstFailure, checks, Answers, AnswersNew, IsAccepted, Runs, same_command}
-use Rattle.book.specs.Good.{Good}
-use Rattle.book.specs.Future.{AsksNoStock, IsFuture, Stands, Honours}
+use Rattle.book.specs.Future.{Honours}
 use Rattle.book.proofs.Closing.{Fit, fit_from_good, fit-answer, stands_if_fit}
 
 first_once : (cs : List Check) (a b : Option (Refusal × ℕ)) → FirstFailure cs a → FirstFailure cs b → a ≡ b
@@ -27,8 +18,7 @@ Left A r found reply B = MatchOption found ((reply ≡ Done (places A + 1)) × (
 
 left_once : (A : Ledger) (r : Request) (found : Option (Refusal × ℕ)) (p q : Reply) (B C : Ledger) → Left A r found p B → Left A r found q C → (p ≡ q) × (B ≡ C)
 unfolding Left
-left_once A r None p q B C h k = (h.0 ∙ sym k.0, h.1 ∙ sym k.1)
-left_once A r (Some e) p q B C h k = (h.0 ∙ sym k.0, h.1 ∙ sym k.1)
+left_once b r x p q y z h k = grind arith
 
 pub answered_once : (A : Ledger) (r : Request) (p q : Reply) (B C : Ledger) → Answers A r p B → Answers A r q C → (p ≡ q) × (B ≡ C)
 unfolding Left
@@ -36,12 +26,10 @@ answered_once A r p q B C h k = by_key (kept_under A r.key) h k
   where
     by_key : (o : Option Kept) → MatchOption o (AnswersNew A r p B) (λ k. (p ≡ (if same_command k.command r.command then Done k.place else Refused KeyReused 0)) × (B ≡ A))
         → MatchOption o (AnswersNew A r q C) (λ k. (q ≡ (if same_command k.command r.command then Done k.place else Refused KeyReused 0)) × (C ≡ A)) → (p ≡ q) × (B ≡ C)
-    by_key None h k = left_once A r h.0 p q B C h.2 (subst (λ f. Left A r f q C) (first_once (checks A r.command) k.0 h.0 k.1 h.1) k.2)
-    by_key (Some o) h k = (h.0 ∙ sym k.0, h.1 ∙ sym k.1)
+    by_key b h k = grind (arith, Left, first_once, left_once)
 
 pub no_key : (o : Option Kept) → IsNone o → o ≡ None
-no_key None e = refl
-no_key (Some k) e = absurd (true≢false e)
+no_key b e = grind arith
 
 -- an accepted request is done at the next place
 pub accepted_answered : (A : Ledger) (r : Request) → IsAccepted A r → Answers A r (Done (places A + 1)) (accept A r)
@@ -52,13 +40,7 @@ accepted_once A r reply B accepted h = answered_once A r reply (Done (places A +
 
 -- any other leaves the ledger
 pub others_stay : (A : Ledger) (r : Request) (reply : Reply) (B : Ledger) → (IsAccepted A r → ⊥) → Answers A r reply B → B ≡ A
-others_stay A r reply B not h = by_key (kept_under A r.key) (λ none passed. not (none, passed)) h
-  where
-    by_key : (o : Option Kept) → (IsNone o → FirstFailure (checks A r.command) None → ⊥)
-        → MatchOption o (AnswersNew A r reply B) (λ k. (reply ≡ (if same_command k.command r.command then Done k.place else Refused KeyReused 0)) × (B ≡ A)) → B ≡ A
-    by_key None not (None, passed, left) = absurd (not refl passed)
-    by_key None not (Some e, failed, left) = left.1
-    by_key (Some k) not h = h.1
+others_stay A r reply B not h = grind arith
 
 -- each check fails or does not
 abbrev Decided : List Check → Type 0
@@ -73,48 +55,6 @@ first_is (c ∷ cs) d = by d.0 (first_is cs d.1)
     by (inl h) r = (Some (c.refusal, c.line), inl (h, refl))
     by (inr h) r = (r.0, inr (h, r.1))
 
-dec_bool : (b : Bool) → (b ≡ false) ⊎ ((b ≡ false) → ⊥)
-dec_bool true = inr true≢false
-dec_bool false = inl refl
-
-dec_lt : (m n : ℕ) → (m < n) ⊎ ((m < n) → ⊥)
-dec_lt m n = elim (decide_lt m n) [ yes h ↦ inl h | no h ↦ inr h ]
-
-dec_some : {X : Type 0} (P : X → Type 0) (o : Option X) → ((x : X) → P x ⊎ (P x → ⊥)) → IsSomeAnd o P ⊎ (IsSomeAnd o P → ⊥)
-dec_some P None d = inr (λ h. absurd h)
-dec_some P (Some x) d = d x
-
-decided : (A : Ledger) (c : Command) → AsksNoStock c → Decided (checks A c)
-decided A (command.Field b a lo hi start) w = absurd w
-decided A (command.Deliver b a q) w = absurd w
-decided A (command.Writeoff b a q) w = absurd w
-decided A (command.Open n until lines) w = absurd w
-decided A (command.Transfer n until a from to q) w = absurd w
-decided A (command.More n way b a q) w = absurd w
-decided A (command.Use n b a q) w = let f : Name = record { branch = b; article = a } in (
-  dec_lt _ _,
-  (
-    dec_bool (is_some (order_numbered A n)),
-    (
-      dec_some _ (order_numbered A n) (λ o. dec_bool (is_open o)),
-      (dec_some _ (order_numbered A n) (λ o. dec_bool (is_some (line_on o f))), (dec_some _ (order_numbered A n) (λ o. dec_some _ (line_on o f) (λ l. dec_lt _ _)), tt)),
-    ),
-  ),
-)
-decided A (command.Release n b a q) w = let f : Name = record { branch = b; article = a } in (
-  dec_lt _ _,
-  (
-    dec_bool (is_some (order_numbered A n)),
-    (
-      dec_some _ (order_numbered A n) (λ o. dec_bool (is_open o)),
-      (dec_some _ (order_numbered A n) (λ o. dec_bool (is_some (line_on o f))), (dec_some _ (order_numbered A n) (λ o. dec_some _ (line_on o f) (λ l. dec_lt _ _)), tt)),
-    ),
-  ),
-)
-decided A (command.Commit n) w = (dec_bool (is_some (order_numbered A n)), (dec_some _ (order_numbered A n) (λ o. dec_bool (is_open o)), tt))
-decided A (command.Abort n) w = (dec_bool (is_some (order_numbered A n)), (dec_some _ (order_numbered A n) (λ o. dec_bool (is_open o)), tt))
-decided A (command.Expire now) w = (dec_lt _ _, (dec_lt _ _, tt))
-
 answered : (A : Ledger) (r : Request) → AsksNoStock r.command → (reply : Reply) × (B : Ledger) × Answers A r reply B
 answered A r w = by_key (kept_under A r.key)
   where
@@ -123,7 +63,7 @@ answered A r w = by_key (kept_under A r.key)
     by_found (Some e) f = (Refused e.0 e.1, A, (Some e, f, (refl, refl)))
 
     by_key : (o : Option Kept) → (reply : Reply) × (B : Ledger) × MatchOption o (AnswersNew A r reply B) (λ k. (reply ≡ (if same_command k.command r.command then Done k.place else Refused KeyReused 0)) × (B ≡ A))
-    by_key None = let f = first_is (checks A r.command) (decided A r.command w) in by_found f.0 f.1
+    by_key None = let f = first_is (checks A r.command) (grind arith) in by_found f.0 f.1
     by_key (Some k) = (if same_command k.command r.command then Done k.place else Refused KeyReused 0, A, (refl, refl))
 
 honoured : (A : Ledger) (rs : List Request) → IsFuture rs → Fit A → (replies : List Reply) × (B : Ledger) × Runs A rs replies B × Stands B

@@ -1,8 +1,7 @@
 -- Which numbers are among the places so far.
+use Rattle.book.proofs.Prelude.{Each, IsDistinct, common_steps, list_any, list_any-append}
 use Rattle.std.proofs.Common.{◌≡◌, ◌∙◌, ℕ, zero, suc, ◌+◌, ◌<◌, List, [], ◌∷◌, ◌++◌, Bool, ◌||◌, true, false, ap, arith, get_or, length, map, nat_eq, refl, set, subst, sym, take, true≢false}
 use Rattle.std.proofs.lemmas.List.{get_or-set_same, get_or-set_other}
-use Rattle.std.proofs.lemmas.List.Folds.{list_any-append}
-use Rattle.std.specs.List.{AllByRecursion as Each, IsDistinct, list_any}
 use Rattle.book.proofs.Lists.{each-unmap}
 use Rattle.book.proofs.Walked.{take-step}
 use Rattle.book.proofs.Walking.{each_get}
@@ -21,43 +20,22 @@ none_of p [] e = tt
 none_of p (x ∷ xs) e = step (p x) refl (λ k. none_of p xs k) e
   where
     step : (b : Bool) → p x ≡ b → (list_any p xs ≡ false → Each (λ x. p x ≡ false) xs) → (b || list_any p xs) ≡ false → Each (λ x. p x ≡ false) (x ∷ xs)
-    step true h more e = absurd (true≢false e)
-    step false h more e = (h, more e)
+    step b h more e = grind arith
 
 push_apart : {X : Type 0} (key : X → ℕ) (xs : List X) (x : X) → IsDistinct nat_eq (map key xs) → Each (λ y. nat_eq (key y) (key x) ≡ false) xs → IsDistinct nat_eq (map key (xs ++ x ∷ []))
 unfolding IsDistinct
 push_apart key [] x apart off = (tt, tt)
-push_apart key (y ∷ ys) x apart off = (all ys apart.0 off.0, push_apart key ys x apart.1 off.1)
-  where
-    all : (zs : List _) → Each (λ k. nat_eq (key y) k ≡ false) (map key zs) → nat_eq (key y) (key x) ≡ false → Each (λ k. nat_eq (key y) k ≡ false) (map key (zs ++ x ∷ []))
-    all [] h e = (e, tt)
-    all (z ∷ zs) h e = (h.0, all zs h.1 e)
+push_apart key (y ∷ ys) x apart off = let more = push_apart key ys x apart.1 off.1 in grind (arith, common_steps, apart.0, off.0, apart.1, off.1)
 
 -- one more, whose place is not among them
 pub apart_next : {X : Type 0} (key : X → ℕ) (xs : List X) (i : ℕ) (x : X) → i < length xs → x ≡ get_or xs i x → IsDistinct nat_eq (map key (take i xs)) → list_any (λ y. nat_eq (key y) (key x)) (take i xs) ≡ false
     → IsDistinct nat_eq (map key (take (i + 1) xs))
 apart_next key xs i x lt is apart off = subst (λ ys. IsDistinct nat_eq (map key ys)) (sym (take-step xs i x lt is)) (push_apart key (take i xs) x apart (none_of (λ y. nat_eq (key y) (key x)) (take i xs) off))
 
-same_number : (n : ℕ) → nat_eq n n ≡ true
-same_number n = grind arith
-
 other_number : (m n : ℕ) → nat_eq m n ≡ false → n ≡ m → ⊥
 other_number m n e f = grind (arith, e, f)
-
-or_true : (b : Bool) → (b || true) ≡ true
-or_true true = refl
-or_true false = refl
-
-or_false : (b : Bool) → (b || false) ≡ b
-or_false true = refl
-or_false false = refl
 
 -- its mark is set
 pub marks_next : {X : Type 0} (key : X → ℕ) (xs : List X) (i : ℕ) (x : X) (marks : List Bool) (p : ℕ) → i < length xs → x ≡ get_or xs i x → key x < length marks
     → get_or marks p true ≡ list_any (λ y. nat_eq (key y) p) (take i xs) → get_or (set marks (key x) true) p true ≡ list_any (λ y. nat_eq (key y) p) (take (i + 1) xs)
-marks_next key xs i x marks p lt is within h = by (nat_eq (key x) p) refl
-    ∙ sym (ap (list_any (λ y. nat_eq (key y) p)) (take-step xs i x lt is) ∙ list_any-append (λ y. nat_eq (key y) p) (take i xs) (x ∷ []) ∙ ap (λ b. list_any (λ y. nat_eq (key y) p) (take i xs) || b) (or_false (nat_eq (key x) p)))
-  where
-    by : (b : Bool) → nat_eq (key x) p ≡ b → get_or (set marks (key x) true) p true ≡ (list_any (λ y. nat_eq (key y) p) (take i xs) || nat_eq (key x) p)
-    by true e = let same : p ≡ key x = grind (arith, e) in rw (e, or_true (list_any (λ y. nat_eq (key y) p) (take i xs))) (ap (λ q. get_or (set marks (key x) true) q true) same ∙ get_or-set_same marks (key x) true true within)
-    by false e = rw (e, or_false (list_any (λ y. nat_eq (key y) p) (take i xs))) (get_or-set_other marks (key x) p true true (other_number (key x) p e) ∙ h)
+marks_next key xs i x marks p lt is within h = grind (arith, (take-step xs i x lt is), get_or-set_other, get_or-set_same, list_any-append, other_number)

@@ -1,16 +1,7 @@
 -- Scripts are played by computing: a script whose replies and numbers are those computed is played as it stands.
 use Rattle.std.proofs.Common.{◌≡◌, ℕ, ◌+◌, ℤ, pos, ◌-ℤ◌, ◌+ℤ◌, List, [], ◌∷◌, map, Option, Some, None, refl, ap, subst, inl, inr, if◌then◌else◌, MatchOption, IsSomeAnd}
-use Rattle.std.specs.List.{AllByRecursion as Each}
-use Rattle.words.specs.declared.command.Request.{Request}
-use Rattle.words.specs.declared.reply.Refusal.{Refusal}
-use Rattle.words.specs.declared.reply.Refusal.TheVariants.{KeyReused}
-use Rattle.words.specs.declared.reply.Reply.{Reply}
-use Rattle.words.specs.declared.reply.Reply.TheVariants.{Done, Refused}
-use Rattle.book.specs.Ledger.{Field, Ledger, Kept, field_named, kept_under, places}
-use Rattle.book.specs.Outcomes.{settled, article_total, IsInfimum, IsSupremum}
-use Rattle.book.specs.Held.{held_to_take, held_to_add}
-use Rattle.book.specs.Next.{accept}
-use Rattle.book.specs.Answers.{Check, FirstFailure, checks, Answers, AnswersNew, same_command}
+use Rattle.book.proofs.Prelude.{Answers, AnswersNew, Check, Done, Each, FirstFailure, IsInfimum, IsSupremum, Kept, KeyReused, Ledger, Refusal, Refused, Reply, Request, accept, article_total, checks, field_named, held_to_add, held_to_take, kept_under, places, same_command, settled}
+use Rattle.book.specs.Ledger.{Field}
 use Rattle.book.specs.Examples.{Numbers, numbers, total, Shows, Step, Plays}
 use Rattle.book.proofs.Bounds.{inf_is, sup_is}
 use Rattle.book.proofs.Tests.{Tested, holds, fails, unknown, AllTested, Sounds, if_sounds, sounds, tested}

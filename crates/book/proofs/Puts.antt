@@ -1,14 +1,7 @@
 -- Rows that are put in by their keys.
-use Rattle.std.proofs.Common.{◌≡◌, List, [], ◌∷◌, ◌++◌, map, Bool, true, false, refl, sym, ap, ◌∙◌, subst, if◌then◌else◌, Less, Equal, ◌⊎◌, inl, inr}
-use Rattle.std.proofs.lemmas.Cmp.{tied_itself}
-use Rattle.std.specs.declared.cmp.Ordering.{Ordering}
+use Rattle.std.proofs.Common.{arith, ◌≡◌, List, [], ◌∷◌, ◌++◌, map, Bool, true, false, refl, sym, ap, ◌∙◌, subst, if◌then◌else◌, Less, Equal, ◌⊎◌, inl, inr}
+use Rattle.book.proofs.Prelude.{Each, IsStrictlySortedBy, IsTotalOrder, Ordering, filter, insert_in_order, ordering_reverse, put_row, put_rows, tied_itself}
 use Rattle.std.specs.declared.cmp.Ordering.TheVariants.{Greater}
-use Rattle.std.specs.Ordering.{ordering_reverse}
-use Rattle.std.specs.Cmp.{IsTotalOrder}
-use Rattle.std.specs.List.{AllByRecursion as Each, filter}
-use Rattle.std.specs.List.Sorted.{IsStrictlySortedBy}
-use Rattle.book.specs.Ledger.{insert_in_order}
-use Rattle.book.specs.Changes.{put_row, put_rows}
 use Rattle.book.proofs.Sums.{each-imp, each-map}
 use Rattle.book.proofs.Lists.{each-unmap}
 
@@ -20,17 +13,12 @@ Follows {R = R} cmp chosen xs (y ∷ ys) = ((chosen y ≡ true) × Follows cmp c
 
 each-filter : {R : Type 0} (P : R → Type 0) (t : R → Bool) (xs : List R) → Each P xs → Each P (filter t xs)
 each-filter P t [] h = tt
-each-filter P t (x ∷ xs) h = step (t x) (each-filter P t xs h.1)
-  where
-    step : (b : Bool) → Each P (filter t xs) → Each P (if b then x ∷ filter t xs else filter t xs)
-    step true k = (h.0, k)
-    step false k = k
+each-filter P t (x ∷ xs) h = let more = each-filter P t xs h.1 in grind arith
 
 -- rows after y are put after y
 past : {R : Type 0} (cmp : R → R → Ordering) (y : R) (rs zs : List R) → Each (λ r. cmp r y ≡ Greater) rs → put_rows cmp rs (y ∷ zs) ≡ y ∷ put_rows cmp rs zs
 past cmp y [] zs h = refl
-past cmp y (r ∷ rs) zs h = let e : put_row cmp r (y ∷ zs) ≡ y ∷ put_row cmp r zs = rw h.0 refl in
-    ap (λ t. put_rows cmp rs t) e ∙ past cmp y rs (put_row cmp r zs) h.1
+past cmp y (r ∷ rs) zs h = let more = past cmp y rs (put_row cmp r zs) h.1 in cc
 
 turned : {R : Type 0} {cmp : R → R → Ordering} → IsTotalOrder cmp → (y r : R) → cmp y r ≡ Less → cmp r y ≡ Greater
 turned o y r e = o.antisymm r y ∙ ap ordering_reverse e
@@ -38,11 +26,7 @@ turned o y r e = o.antisymm r y ∙ ap ordering_reverse e
 below : {R : Type 0} (cmp : R → R → Ordering) → IsTotalOrder cmp → (chosen : R → Bool) (z : R) (xs ys : List R) → Follows cmp chosen xs ys → Each (λ y. cmp z y ≡ Less) ys → Each (λ x. cmp z x ≡ Less) xs
 below cmp o chosen z xs [] f h = subst (λ xs. Each (λ x. cmp z x ≡ Less) xs) (sym f) tt
 below cmp o chosen z xs (y ∷ ys) (inl f) h = below cmp o chosen z xs ys f.1 h.1
-below cmp o chosen z xs (y ∷ ys) (inr f) h = subst (λ xs. Each (λ x. cmp z x ≡ Less) xs) (sym f.2)
-    (up (o.congr y f.0 z f.3) h.0, below cmp o chosen z f.1 ys f.5 h.1)
-  where
-    up : cmp y z ≡ cmp f.0 z → cmp z y ≡ Less → cmp z f.0 ≡ Less
-    up e k = o.antisymm z f.0 ∙ ap ordering_reverse (sym e ∙ turned o z y k)
+below cmp o chosen z xs (y ∷ ys) (inr f) h = let more = below cmp o chosen z f.1 ys f.5 h.1 in grind arith
 
 put_first : {R : Type 0} (cmp : R → R → Ordering) (y : R) (xs : List R) → Each (λ x. cmp y x ≡ Less) xs → put_row cmp y xs ≡ y ∷ xs
 put_first cmp y [] h = refl
@@ -51,9 +35,7 @@ put_first cmp y (x ∷ xs) h = rw h.0 refl
 pub put_all : {R : Type 0} (cmp : R → R → Ordering) → IsTotalOrder cmp → (chosen : R → Bool) (xs ys : List R) → IsStrictlySortedBy cmp ys → Follows cmp chosen xs ys → put_rows cmp (filter chosen ys) xs ≡ ys
 unfolding IsStrictlySortedBy
 put_all cmp o chosen xs [] sorted f = f
-put_all cmp o chosen xs (y ∷ ys) sorted (inl f) =
-    let e : put_row cmp y xs ≡ y ∷ xs = put_first cmp y xs (below cmp o chosen y xs ys f.1 sorted.0) in
-    rw f.0 (ap (λ t. put_rows cmp (filter chosen ys) t) e ∙ past cmp y (filter chosen ys) xs (each-filter (λ r. cmp r y ≡ Greater) chosen ys (each-imp (λ r k. turned o y r k) ys sorted.0)) ∙ ap (λ t. y ∷ t) (put_all cmp o chosen xs ys sorted.1 f.1))
+put_all cmp o chosen xs (y ∷ ys) sorted (inl f) = let more = put_all cmp o chosen xs ys sorted.1 f.1 in grind (arith, (each-filter (λ r. cmp r y ≡ Greater) chosen ys (each-imp (λ r k. turned o y r k) ys sorted.0)), (put_first cmp y xs (below cmp o chosen y xs ys f.1 sorted.0)), below, each-imp, past, turned)
 put_all cmp o chosen xs (y ∷ ys) sorted (inr f) = ap (λ t. put_rows cmp (filter chosen (y ∷ ys)) t) f.2 ∙ step (chosen y) refl (put_all cmp o chosen f.1 ys sorted.1 f.5)
   where
     later : Each (λ r. cmp r y ≡ Greater) (filter chosen ys)
@@ -63,8 +45,7 @@ put_all cmp o chosen xs (y ∷ ys) sorted (inr f) = ap (λ t. put_rows cmp (filt
     replaced = rw f.3 refl
 
     step : (b : Bool) → chosen y ≡ b → put_rows cmp (filter chosen ys) f.1 ≡ ys → put_rows cmp (if b then y ∷ filter chosen ys else filter chosen ys) (f.0 ∷ f.1) ≡ y ∷ ys
-    step true e more = ap (λ t. put_rows cmp (filter chosen ys) t) replaced ∙ past cmp y (filter chosen ys) f.1 later ∙ ap (λ t. y ∷ t) more
-    step false e more = ap (λ x. put_rows cmp (filter chosen ys) (x ∷ f.1)) (f.4 e) ∙ past cmp y (filter chosen ys) f.1 later ∙ ap (λ t. y ∷ t) more
+    step b e more = grind (arith, past, later, replaced)
 
 pub follows-same : {R : Type 0} (cmp : R → R → Ordering) → IsTotalOrder cmp → (chosen : R → Bool) (xs : List R) → Follows cmp chosen xs xs
 follows-same cmp o chosen [] = refl
@@ -87,18 +68,8 @@ follows-map cmp chosen row h (x ∷ xs) e = inr (row x, map row xs, refl, e.0.0,
 
 pub follows-insert : {X R : Type 0} (cmp : R → R → Ordering) → IsTotalOrder cmp → (chosen : R → Bool) (row : X → R) (p : X → X → Bool) (x : X) (xs : List X) → chosen (row x) ≡ true → Follows cmp chosen (map row xs) (map row (insert_in_order p x xs))
 follows-insert cmp o chosen row p x [] e = inl (e, refl)
-follows-insert cmp o chosen row p x (y ∷ ys) e = step (p x y) (follows-insert cmp o chosen row p x ys e)
-  where
-    step : (b : Bool) → Follows cmp chosen (map row ys) (map row (insert_in_order p x ys)) → Follows cmp chosen (map row (y ∷ ys)) (map row (if b then x ∷ y ∷ ys else y ∷ insert_in_order p x ys))
-    step true f = inl (e, follows-same cmp o chosen (map row (y ∷ ys)))
-    step false f = inr (row y, map row ys, refl, tied_itself o (row y), (λ _. refl), f)
+follows-insert cmp o chosen row p x (y ∷ ys) e = let more = follows-insert cmp o chosen row p x ys e in grind (arith, follows-same, tied_itself)
 
 pub follows-push : {X R : Type 0} (cmp : R → R → Ordering) → IsTotalOrder cmp → (chosen : R → Bool) (row : X → R) (x : X) (xs : List X) → chosen (row x) ≡ true → Follows cmp chosen (map row xs) (map row (xs ++ x ∷ []))
 follows-push cmp o chosen row x [] e = inl (e, refl)
 follows-push cmp o chosen row x (y ∷ ys) e = inr (row y, map row ys, refl, tied_itself o (row y), (λ _. refl), follows-push cmp o chosen row x ys e)
-
--- order
-pub sorted-map : {X K R : Type 0} (key : X → K) (row : X → R) (c : K → K → Ordering) (d : R → R → Ordering) (xs : List X) → ((a b : X) → c (key a) (key b) ≡ Less → d (row a) (row b) ≡ Less) → IsStrictlySortedBy c (map key xs) → IsStrictlySortedBy d (map row xs)
-unfolding IsStrictlySortedBy
-sorted-map key row c d [] h sorted = tt
-sorted-map key row c d (x ∷ xs) h sorted = (each-map (λ r. d (row x) r ≡ Less) row xs (each-imp (λ y e. h x y e) xs (each-unmap (λ k. c (key x) k ≡ Less) key xs sorted.0)), sorted-map key row c d xs h sorted.1)

@@ -1,18 +1,9 @@
 -- More held on an order that is open leaves every field its room, if it passes its check.
 use Rattle.std.proofs.Common.{◌≡◌, ℕ, ◌+◌, ◌≤◌, ℤ, pos, ◌+ℤ◌, ◌-ℤ◌, ◌<ℤ◌, List, [], ◌∷◌, ◌++◌, map, Bool, true, false, IsSomeAnd, MatchOption, Option, Some, None, refl, sym, ap, ◌∙◌, subst, arith, if◌then◌else◌, true≢false, ◌==◌, nat_cmp}
-use Rattle.std.proofs.lemmas.Int.{ints}
-use Rattle.std.specs.List.{AllByRecursion as Each}
-use Rattle.std.specs.List.Sorted.{IsStrictlySortedBy}
-use Rattle.escrow.specs.declared.quantity.Way.{Way}
-use Rattle.escrow.specs.declared.quantity.Way.TheVariants.{Take, Add}
-use Rattle.words.specs.declared.open_line.OpenLine.{OpenLine}
-use Rattle.book.specs.declared.order.State.{State}
-use Rattle.book.specs.declared.order.State.TheVariants.{Open, Committed, Aborted}
-use Rattle.book.specs.declared.order.Line.{Line}
-use Rattle.book.specs.Ledger.{Name, Field, Order, Ledger, open_state, committed_state, on, is_open, is_committed, line_name, same_name, line_on, order_numbered}
-use Rattle.book.specs.Outcomes.{total, moved, settled}
-use Rattle.book.specs.Held.{MayHoldMore, held_to_add, held_to_take, if_add, if_take}
-use Rattle.book.specs.Next.{change_order, raise_held, add_hold, new_line}
+use Rattle.book.proofs.Prelude.{Aborted, Add, Committed, Each, IsStrictlySortedBy, Ledger, Line, MayHoldMore, Name, OpenLine, Order, State, Take, Way, add_hold, change_order, committed_state, held_to_add, held_to_take, if_add, if_take, ints, is_committed, is_open, line_name, line_on, new_line, on, open_state, order_numbered, raise_held, same_name, settled}
+use Rattle.book.specs.declared.order.State.TheVariants.{Open}
+use Rattle.book.specs.Ledger.{Field}
+use Rattle.book.specs.Outcomes.{total, moved}
 use Rattle.book.proofs.Sums.{each-imp, each-both, each-map, total-map, total-eq}
 use Rattle.book.proofs.Bounds.{OneOn, Sound, falls_below_iff, rises_above_iff, HasRoom}
 use Rattle.book.proofs.Closing.{name_is, at_line, at_number}
@@ -30,24 +21,13 @@ part-map : (p : Way → ℕ → ℕ) (g name : Name) (q : ℕ) (ms : List Line) 
     → total (part p g) (map (raised_line name q) ms) ≡ total (part p g) ms
 unfolding raised_line
 part-map p g name q [] h = refl
-part-map p g name q (m ∷ ms) h = let a = step (on name m) h.0 in let b : total (part p g) (map (raised_line name q) ms) ≡ total (part p g) ms = part-map p g name q ms h.1 in omega (arith, ints)
-  where
-    step : (b : Bool) → (b ≡ true → part p g (raise_held q m) ≡ part p g m) → part p g (if b then raise_held q m else m) ≡ part p g m
-    step true k = k refl
-    step false k = refl
+part-map p g name q (m ∷ ms) h = let more = part-map p g name q ms h.1 in grind arith
 
 part-other : (p : Way → ℕ → ℕ) (g name : Name) (q : ℕ) → same_name name g ≡ false → (m : Line) → on name m ≡ true → part p g (raise_held q m) ≡ part p g m
 part-other p g name q e m t = let d : on g m ≡ false = subst (λ h. same_name g h ≡ false) (name_is name (line_name m) t) (other_way name g e) in rw d refl
 
 part-side : (p : Way → ℕ → ℕ) (w : Way) → ((h : ℕ) → p w h ≡ 0) → (g : Name) (q : ℕ) (m : Line) → m.way ≡ w → part p g (raise_held q m) ≡ part p g m
-part-side p w none g q m e = step (on g m)
-  where
-    zero_at : (h : ℕ) → p m.way h ≡ 0
-    zero_at h = subst (λ v. p v h ≡ 0) (sym e) (none h)
-
-    step : (b : Bool) → (if b then pos (p m.way (m.held + q)) else pos 0) ≡ (if b then pos (p m.way m.held) else pos 0)
-    step true = ap pos (zero_at (m.held + q) ∙ sym (zero_at m.held))
-    step false = refl
+part-side p w none g q m e = grind arith
 
 -- the order with more held
 pub record Raised (name : Name) (w : Way) (o new : Order) : Type 0 where
@@ -60,22 +40,11 @@ pub record Raised (name : Name) (w : Way) (o new : Order) : Type 0 where
 raised-used : (name : Name) (q : ℕ) (ms : List Line) → Each (λ m. m.used ≤ m.held) ms → Each (λ m. m.used ≤ m.held) (map (raised_line name q) ms)
 unfolding raised_line
 raised-used name q [] h = tt
-raised-used name q (m ∷ ms) h = (step (on name m), raised-used name q ms h.1)
-  where
-    a : m.used ≤ m.held
-    a = h.0
-
-    step : (b : Bool) → (if b then raise_held q m else m).used ≤ (if b then raise_held q m else m).held
-    step true = let b : m.used ≤ m.held = a in omega arith
-    step false = a
+raised-used name q (m ∷ ms) h = let more = raised-used name q ms h.1 in grind arith
 
 raised-name : (name : Name) (q : ℕ) (m : Line) → line_name (raised_line name q m) ≡ line_name m
 unfolding raised_line
-raised-name name q m = step (on name m)
-  where
-    step : (b : Bool) → line_name (if b then raise_held q m else m) ≡ line_name m
-    step true = refl
-    step false = refl
+raised-name name q m = grind arith
 
 raised-one : (f name : Name) (q : ℕ) (ls : List Line) → OneOn f ls → OneOn f (map (raised_line name q) ls)
 raised-one f name q [] one = tt
@@ -106,8 +75,7 @@ raised_new l o sound none = record {
 }
   where
     at : (b : Bool) (p : Way → ℕ → ℕ) → p l.way l.qty ≡ 0 → (if b then pos (p l.way l.qty) else pos 0) ≡ pos 0
-    at true p e = ap pos e
-    at false p e = refl
+    at b p e = grind arith
 
 pub raised : (l : OpenLine) (o : Order) → Sound o → MayHoldMore (line_name (new_line l)) l.way o → Raised (line_name (new_line l)) l.way o (add_hold l o)
 unfolding raised_line
@@ -125,11 +93,6 @@ raised l o sound t = by (line_on o (line_name (new_line l))) refl t.2
 total-map-same : (g : Order → ℤ) (h : Order → Order) (os : List Order) → Each (λ o. g (h o) ≡ g o) os → total g (map h os) ≡ total g os
 total-map-same g h os e = total-map g h os ∙ total-eq (λ o. g (h o)) g os e
 
-not_committed : (s : State) → open_state s ≡ true → committed_state s ≡ false
-not_committed Open e = refl
-not_committed Committed e = absurd (true≢false (sym e))
-not_committed Aborted e = refl
-
 -- what is said of each order of that number, and of the order as it becomes
 abbrev pub Rising : ℕ → OpenLine → Order → Type 0
 Rising n l o = (o.number == n) ≡ true → (is_open o ≡ true) × Raised (line_name (new_line l)) l.way o (add_hold l o)
@@ -139,31 +102,16 @@ same_settled A n l r f = let e = total-map-same (λ o. if is_committed o then mo
   where
     step : (o : Order) (b : Bool) → (b ≡ true → (is_open o ≡ true) × Raised (line_name (new_line l)) l.way o (add_hold l o))
         → (if is_committed (if b then add_hold l o else o) then moved f.name (λ l. l.used) (if b then add_hold l o else o) else pos 0) ≡ (if is_committed o then moved f.name (λ l. l.used) o else pos 0)
-    step o false t = refl
-    step o true t = let x = t refl in
-        let c : is_committed o ≡ false = not_committed o.state x.0 in
-        let d : is_committed (add_hold l o) ≡ false = subst (λ s. committed_state s ≡ false) (sym x.1.state) c in
-        rw (c, d) refl
+    step o b t = grind arith
 
 -- a part of what is held, where it stays on each order of that number
 same_part : (p : Way → ℕ → ℕ) (g : Name) (A : Ledger) (n : ℕ) (l : OpenLine) → Each (Rising n l) A.orders
     → ((o : Order) → Raised (line_name (new_line l)) l.way o (add_hold l o) → total (part p g) (add_hold l o).lines ≡ total (part p g) o.lines)
     → total (λ o. if is_open o then total (part p g) o.lines else pos 0) (change_order n (add_hold l) A).orders ≡ total (λ o. if is_open o then total (part p g) o.lines else pos 0) A.orders
-same_part p g A n l r stays = total-map-same (λ o. if is_open o then total (part p g) o.lines else pos 0) (λ o. if o.number == n then add_hold l o else o) A.orders (each-imp (λ o t. step o (o.number == n) t) A.orders r)
-  where
-    step : (o : Order) (b : Bool) → (b ≡ true → (is_open o ≡ true) × Raised (line_name (new_line l)) l.way o (add_hold l o))
-        → (if is_open (if b then add_hold l o else o) then total (part p g) (if b then add_hold l o else o).lines else pos 0) ≡ (if is_open o then total (part p g) o.lines else pos 0)
-    step o false t = refl
-    step o true t = let x = t refl in
-        let d : is_open (add_hold l o) ≡ true = subst (λ s. open_state s ≡ true) (sym x.1.state) x.0 in
-        rw (x.0, d) (stays o x.1)
+same_part p g A n l r stays = grind (arith, each-imp, total-map-same)
 
 pub sound-more : (A : Ledger) (n : ℕ) (l : OpenLine) → Each Sound A.orders → Each (Rising n l) A.orders → Each Sound (change_order n (add_hold l) A).orders
-sound-more A n l sound r = each-map Sound (λ o. if o.number == n then add_hold l o else o) A.orders (each-both (λ o s t. step o (o.number == n) s t) A.orders sound r)
-  where
-    step : (o : Order) (b : Bool) → Sound o → (b ≡ true → (is_open o ≡ true) × Raised (line_name (new_line l)) l.way o (add_hold l o)) → Sound (if b then add_hold l o else o)
-    step o true s t = (t refl).1.sound
-    step o false s t = s
+sound-more A n l sound r = grind (arith, Sound, each-both, each-map)
 
 room-rising : (A : Ledger) (n : ℕ) (l : OpenLine) (w : Way) → l.way ≡ w → Each Sound A.orders → InOrder A → Room A → Each (Rising n l) A.orders
     → LinePasses (change_order n (add_hold l) A) (line_name (new_line l)) w → Room (change_order n (add_hold l) A)

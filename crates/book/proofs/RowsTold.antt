@@ -1,42 +1,22 @@
 -- Rows of a good ledger each tell something in range, and rows that each tell something tell a ledger.
 use Rattle.std.proofs.Common.{◌≡◌, ◌∙◌, ℕ, ◌+◌, ◌≤◌, ℤ, pos, negsuc, ◌+ℤ◌, ◌-ℤ◌, ◌≤ℤ◌, List, [], ◌∷◌, ap, arith, flat_map, map, nat_abs, refl, subst, sym, find, IsSome, true, false, Bool, if◌then◌else◌, Some, true≢false}
-use Rattle.std.proofs.lemmas.Int.{ints}
+use Rattle.book.proofs.Prelude.{AllZip, Each, FieldEntry, FieldRow, Good, Head, IsArticle, IsBounded, IsBranch, IsFieldRow, IsFieldTold, IsGoodField, IsGoodKept, IsGoodLine, IsGoodMove, IsGoodOrder, IsKeptTold, IsLevel, IsLineTold, IsMoveTold, KeptEntry, KeptRow, Ledger, Line, LineCells, LineRow, MoveEntry, MoveRow, Name, Order, OrderCells, OrderRow, TellsField, entry_row, field_cells, field_of, head_of, held_to_add, held_to_take, ints, kept_cells, kept_row, line_cells, line_name, lines_from, move_cells, move_row, order_cells, order_lines, order_row, same_name, settled}
 use Rattle.std.specs.Global.{Global}
 use denote.RawPtr.{null_ptr}
-use Rattle.std.specs.List.{AllByRecursion as Each, AllZip}
-use Rattle.escrow.specs.Codes.{IsArticle, IsBranch}
-use Rattle.escrow.specs.Ranges.{IsLevel}
-use Rattle.book.specs.declared.book.tables.group.Head.{Head}
-use Rattle.book.specs.declared.entries.FieldEntry.{FieldEntry}
-use Rattle.book.specs.declared.entries.KeptEntry.{KeptEntry}
-use Rattle.book.specs.declared.entries.MoveEntry.{MoveEntry}
-use Rattle.book.specs.declared.order.Line.{Line}
-use Rattle.book.specs.declared.rows.FieldRow.{FieldRow}
-use Rattle.book.specs.declared.rows.KeptRow.{KeptRow}
-use Rattle.book.specs.declared.rows.LineRow.{LineRow}
-use Rattle.book.specs.declared.rows.MoveRow.{MoveRow}
-use Rattle.book.specs.declared.rows.OrderRow.{OrderRow}
-use Rattle.book.specs.Good.{Good, IsGoodField, IsGoodKept, IsGoodLine, IsGoodMove, IsGoodOrder}
-use Rattle.book.specs.Ledger.{Field, Ledger, Name, Order, line_name, same_name}
-use Rattle.book.specs.Rows.{IsFieldRow, LineCells, OrderCells, kept_row, lines_from, move_row, order_lines, order_row}
-use Rattle.book.specs.Tables.{field_cells, kept_cells, line_cells, move_cells, order_cells}
-use Rattle.book.specs.Running.{entry_row}
-use Rattle.book.specs.Told.{IsBounded, IsFieldTold, IsHeadTold, IsKeptTold, IsLineTold, IsMoveTold, TellsField, TellsLine, head_of, head_row}
-use Rattle.book.specs.View.{field_of}
-use Rattle.book.specs.Held.{held_to_add, held_to_take}
-use Rattle.book.specs.Outcomes.{settled}
+use Rattle.book.specs.Ledger.{Field}
+use Rattle.book.specs.Told.{IsHeadTold, TellsLine, head_row}
 use Rattle.book.proofs.Bounds.{inf_is, inf_unique, sup_is, sup_unique}
 use Rattle.book.proofs.Closing.{name_is, sounds_from_good}
 use Rattle.book.proofs.Lists.{each-two, each-unmap}
 use Rattle.book.proofs.Runs.{in_order}
 use Rattle.book.proofs.Sums.{each-imp}
-use Rattle.book.proofs.Told.{each-join, not_empty, same_first, same_kind, same_pos, same_rest, same_state}
+use Rattle.book.proofs.Told.{each-join, same_first, same_kind, same_pos, same_rest, same_state}
 
 -- ---- rows, one by one
 
 each_row : {X Y V : Type 0} (f : X → V) (g : Y → V) (Q : X → Type 0) (P : Y → Type 0) → ((x : X) (y : Y) → Q x → g y ≡ f x → P y) → (xs : List X) (ys : List Y) → Each Q xs → map g ys ≡ map f xs → Each P ys
 each_row f g Q P to [] [] all e = tt
-each_row f g Q P to [] (y ∷ ys) all e = absurd (not_empty _ _ e)
+each_row f g Q P to [] (y ∷ ys) all e = absurd (cc)
 each_row f g Q P to (x ∷ xs) [] all e = tt
 each_row f g Q P to (x ∷ xs) (y ∷ ys) all e = (to x y all.0 (same_first _ _ _ _ e), each_row f g Q P to xs ys all.1 (same_rest (g y) (f x) (map g ys) (map f xs) e))
 
@@ -61,8 +41,7 @@ abbrev AreInOrder : Ledger → Field → Type 0
 AreInOrder A f = (pos f.lo ≤ℤ (settled A f -ℤ held_to_take A f.name)) × ((settled A f -ℤ held_to_take A f.name) ≤ℤ settled A f) × (settled A f ≤ℤ (settled A f +ℤ held_to_add A f.name)) × ((settled A f +ℤ held_to_add A f.name) ≤ℤ pos f.hi) × (f.hi ≤ 1000000000)
 
 natural : (z : ℤ) → pos 0 ≤ℤ z → pos (nat_abs z) ≡ z
-natural (pos n) h = refl
-natural (negsuc n) h = absurd (omega (arith, ints))
+natural b h = grind arith
 
 field_told : (A : Ledger) (f : Field) (row : FieldRow) → Good A → IsGoodField f → AreInOrder A f → IsFieldRow A f (field_cells row) → (e : Name × FieldEntry) × IsFieldTold e row
 field_told A f row g good r is =
@@ -99,11 +78,7 @@ field_told A f row g good r is =
 
 -- what is told of a field, said of the ledger's field
 pub good_field : (e : Name × FieldEntry) (row : FieldRow) → IsFieldTold e row → IsGoodField (field_of e)
-good_field e row told =
-    let low = told.quantity.bounded.low in
-    let high = told.quantity.bounded.high in
-    let greatest = told.quantity.greatest in
-    record { branch = told.branch; article = told.article; lo = omega arith; hi = told.quantity.greatest; start = told.start }
+good_field e row told = grind arith
 
 pub tells_field : (e : Name × FieldEntry) (row : FieldRow) → IsFieldTold e row → TellsField (field_of e) (field_cells row)
 tells_field e row told = record { branch = told.branch_is; article = told.article_is; lo = told.quantity.lo; hi = told.quantity.hi; start = told.start_is }
@@ -117,19 +92,7 @@ pub told_rows : (es : List (Name × FieldEntry)) (rows : List FieldRow) → AllZ
 told_rows [] [] told = refl
 told_rows [] (r ∷ rows) told = absurd told
 told_rows (e ∷ es) [] told = absurd told
-told_rows (e ∷ es) (r ∷ rows) told =
-    let first = told.0 in
-    let more = told_rows es rows told.1 in
-    λ i. record {
-      branch = sym first.branch_is i;
-      article = sym first.article_is i;
-      lo = sym first.quantity.lo i;
-      hi = sym first.quantity.hi i;
-      start = sym first.start_is i;
-      value = sym first.quantity.value i;
-      inf = sym first.quantity.inf i;
-      sup = sym first.quantity.sup i;
-    } ∷ more i
+told_rows (e ∷ es) (r ∷ rows) told = let more = told_rows es rows told.1 in cc
 
 pub fields_told : (A : Ledger) (rows : List FieldRow) → Good A → AllZip (IsFieldRow A) A.fields (map field_cells rows) → Each (λ row. (e : Name × FieldEntry) × IsFieldTold e row) rows
 fields_told A rows g z = each_zip (IsFieldRow A) field_cells (λ f. IsGoodField f × AreInOrder A f) (λ row. (e : Name × FieldEntry) × IsFieldTold e row)
@@ -161,11 +124,7 @@ record Line_told (cells : LineCells) : Type 0 where
 
 lines_each : (A : Ledger) (n nr : ℕ) (ls : List Line) → Good A → Each (IsGoodLine A) ls → Each Line_told (lines_from n nr ls)
 lines_each A n nr [] g good = tt
-lines_each A n nr (l ∷ ls) g good =
-    let codes = named_codes (line_name l) A.fields g.fields good.0.field in
-    let used = good.0.used in
-    let held = good.0.held in
-    (record { line = l; branch = codes.0; article = codes.1; held = good.0.held; used = omega arith; tells = record { branch = refl; article = refl; way = refl; held = refl; used = refl } }, lines_each A n (nr + 1) ls g good.1)
+lines_each A n nr (l ∷ ls) g good = let more = lines_each A n (nr + 1) ls g good.1 in grind (arith, (named_codes (line_name l) A.fields g.fields good.0.field))
 
 orders_each : (A : Ledger) (os : List Order) → Good A → Each (IsGoodOrder A) os → Each Line_told (flat_map order_lines os)
 orders_each A [] g good = tt
@@ -179,18 +138,11 @@ lines_told A rows g e =
 -- the heads that the rows tell are those of the orders
 pub heads_same : (hs : List Head) (rows : List OrderRow) (os : List Order) → AllZip IsHeadTold hs rows → map order_cells rows ≡ map order_row os → map head_of os ≡ hs
 heads_same [] [] [] z e = refl
-heads_same [] [] (o ∷ os) z e = absurd (not_empty _ _ (sym e))
+heads_same [] [] (o ∷ os) z e = absurd (cc)
 heads_same [] (r ∷ rows) os z e = absurd z
 heads_same (h ∷ hs) [] os z e = absurd z
-heads_same (h ∷ hs) (r ∷ rows) [] z e = absurd (not_empty _ _ e)
-heads_same (h ∷ hs) (r ∷ rows) (o ∷ os) z e =
-    let is = sym (same_first (order_cells r) (order_row o) (map order_cells rows) (map order_row os) e) ∙ z.0.cells in
-    let n = same_pos o.number h.number (ap (λ (r : OrderCells). r.number) is) in
-    let k = same_kind o.kind h.kind (ap (λ (r : OrderCells). r.kind) is) in
-    let u = same_pos o.until h.until (ap (λ (r : OrderCells). r.until) is) in
-    let s = same_state o.state h.state (ap (λ (r : OrderCells). r.state) is) in
-    let more = heads_same hs rows os z.1 (same_rest (order_cells r) (order_row o) (map order_cells rows) (map order_row os) e) in
-    λ i. record { number = n i; kind = k i; until = u i; state = s i } ∷ more i
+heads_same (h ∷ hs) (r ∷ rows) [] z e = absurd (cc)
+heads_same (h ∷ hs) (r ∷ rows) (o ∷ os) z e = let more = heads_same hs rows os z.1 (same_rest (order_cells r) (order_row o) (map order_cells rows) (map order_row os) e) in grind arith
 
 -- ---- rows, all together
 

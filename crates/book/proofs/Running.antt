@@ -1,43 +1,19 @@
 -- Running numbers: what the entries of fields say of a ledger, and what becomes of them.
+use Rattle.book.proofs.Prelude.{Add, BreaksBound, Command, Contains, Content, Each, FieldCells, FieldEntry, FirstFailure, Good, IsSafeMoved, IsUpToDate, Ledger, Line, Name, Order, Ordering, Request, Stock, Take, Way, accept, checks, common_steps, entry_row, field_cells, field_cmp, field_named, field_of, field_row, held_to_add, held_to_take, holding, if_add, if_take, insert_entry, insert_in_order, ints, is_at, is_committed, is_eq, is_lt, is_open, line_name, lookup, match_ordering, name_cmp, name_of, new_field_rows, next, on, put_row, put_rows, same_Some, same_name, settled, signed, with_entries}
 use Rattle.std.proofs.Common.{◌≡◌, ◌∙◌, ℕ, suc, ◌+◌, ◌≤◌, ℤ, pos, ◌+ℤ◌, ◌-ℤ◌, ◌≤ℤ◌, ◌<ℤ◌, List, [], ◌∷◌, Option, None, Some, IsSomeAnd, ap, arith, cond, if◌then◌else◌, is_some, map, refl, string_bytes, subst, sym, true, false, Bool, true≢false, Global, String}
-use Rattle.std.proofs.lemmas.Int.{ints}
-use Rattle.std.proofs.lemmas.Option.{same_Some}
-use Rattle.std.specs.BTreeMap.{insert_entry, is_at}
-use Rattle.std.specs.List.{AllByRecursion as Each, Contains}
-use Rattle.std.specs.Map.{lookup}
-use Rattle.std.specs.Ordering.{is_eq, is_lt, match_ordering}
-use Rattle.std.specs.declared.cmp.Ordering.{Ordering}
 use Rattle.std.specs.declared.cmp.Ordering.TheVariants.{Equal, Greater, Less}
 use Rattle.escrow.specs.Choices.{IsInfimum as IsLeastOf, IsSafe as IsSafeStock, IsSupremum as IsGreatestOf}
-use Rattle.escrow.specs.Escrow.{IsSafeMoved, holding}
-use Rattle.escrow.specs.Stock.{Stock}
-use Rattle.escrow.specs.declared.quantity.Way.{Way}
-use Rattle.escrow.specs.declared.quantity.Way.TheVariants.{Add, Take}
-use Rattle.words.specs.declared.command.Command.{Command}
 use Rattle.words.specs.declared.command.Command.TheVariants as command
-use Rattle.words.specs.declared.command.Request.{Request}
-use Rattle.book.specs.After.{field_row, new_field_rows}
-use Rattle.book.specs.Answers.{FirstFailure, checks}
-use Rattle.book.specs.Changes.{put_row, put_rows}
-use Rattle.book.specs.Good.{Good}
-use Rattle.book.specs.Held.{BreaksBound, held_to_add, held_to_take, if_add, if_take}
-use Rattle.book.specs.Ledger.{Field, Ledger, Name, Order, field_named, insert_in_order, is_committed, is_open, line_name, name_cmp, name_of, on, same_name}
-use Rattle.book.specs.Next.{accept, next}
-use Rattle.book.specs.Outcomes.{moved, settled, signed, total}
+use Rattle.book.specs.Ledger.{Field}
+use Rattle.book.specs.Outcomes.{moved, total}
 use Rattle.book.specs.Plans.{Fits, PlanView}
-use Rattle.book.specs.Rows.{Content, FieldCells, field_cmp}
-use Rattle.book.specs.Running.{IsUpToDate, entry_row, with_entries}
-use Rattle.book.specs.Tables.{field_cells}
-use Rattle.book.specs.View.{field_of}
-use Rattle.book.specs.declared.entries.FieldEntry.{FieldEntry}
-use Rattle.book.specs.declared.order.Line.{Line}
 use Rattle.book.proofs.Closing.{all_pass, name_is}
 use Rattle.book.proofs.Growing.{none_if_not_some}
 use Rattle.book.proofs.InOrder.{rows_are, rows_of}
 use Rattle.book.proofs.Keyed.{equal_field}
 use Rattle.book.proofs.Runs.{in_order}
 use Rattle.book.proofs.Sums.{each-imp, total-zero}
-use Rattle.book.proofs.Told.{not_empty, same_first, same_pos, same_rest}
+use Rattle.book.proofs.Told.{same_first, same_pos, same_rest}
 use Rattle.book.proofs.Viewed.{Contains-of_find}
 use Rattle.book.proofs.Walked.{each-at}
 
@@ -51,11 +27,7 @@ least_is s z h =
     omega (arith, ints)
 
 pub greatest_is : (s : Stock) (z : ℤ) → IsGreatestOf s z → z ≡ pos s.value +ℤ pos s.held_to_add
-greatest_is s z h =
-    let high = h.greatest 0 s.held_to_add (omega arith) (omega arith) in
-    let added = h.reached.3 in
-    let is = h.reached.4 in
-    omega (arith, ints)
+greatest_is s z h = grind (arith, common_steps, h.greatest, s.held_to_add, h.reached.3, h.reached.4)
 
 -- ---- the check of a bound
 
@@ -132,9 +104,8 @@ up_to_date_at A name [] v all there = absurd (true≢false (sym (ap is_some ther
 up_to_date_at A name (e ∷ l) v all there = by (name_cmp name e.0) refl there (λ is. up_to_date_at A name l v all.1 is)
   where
     by : (o : Ordering) → name_cmp name e.0 ≡ o → cond (is_eq o) (Some e.1) (lookup (is_at (name_cmp name)) l) ≡ Some v → (lookup (is_at (name_cmp name)) l ≡ Some v → IsUpToDate A (name, v)) → IsUpToDate A (name, v)
-    by Less o is more = more is
-    by Greater o is more = more is
     by Equal o is more = subst (λ (v : FieldEntry). IsUpToDate A (name, v)) (same_Some e.1 v is) (subst (λ (k : Name). IsUpToDate A (k, e.1)) (sym (equal_field name e.0 o)) all.0)
+    by c o is more = more is
 
 -- ---- rows of entries
 
@@ -143,11 +114,7 @@ rows_of_entries A [] all = refl
 rows_of_entries A (e ∷ es) all = let first = all.0 in let more = rows_of_entries A es all.1 in λ i. first i ∷ more i
 
 same_field : (e : Name × FieldEntry) (A : Ledger) (f : Field) → entry_row e ≡ field_row A f → field_of e ≡ f
-same_field e A f is =
-    let lo = same_pos e.1.quantity.lo f.lo (ap (λ (r : FieldCells). r.lo) is) in
-    let hi = same_pos e.1.quantity.hi f.hi (ap (λ (r : FieldCells). r.hi) is) in
-    let start = same_pos e.1.start f.start (ap (λ (r : FieldCells). r.start) is) in
-    λ i. record { name = record { branch = (is i).branch; article = (is i).article }; lo = lo i; hi = hi i; start = start i }
+same_field e A f is = grind arith
 
 pub entry_cells_are : (e : Name × FieldEntry) (branch article : String Global) (lo hi start value inf sup : ℤ) → string_bytes branch ≡ e.0.branch → string_bytes article ≡ e.0.article → lo ≡ pos e.1.quantity.lo → hi ≡ pos e.1.quantity.hi → start ≡ pos e.1.start
     → value ≡ pos e.1.quantity.value → inf ≡ pos e.1.quantity.value -ℤ pos e.1.quantity.held_to_take → sup ≡ pos e.1.quantity.value +ℤ pos e.1.quantity.held_to_add
@@ -157,13 +124,9 @@ entry_cells_are e branch article lo hi start value inf sup b a l h s v i u = λ 
 -- entries whose rows are those of a ledger are its fields, up to date
 pub entries_of_rows : (A : Ledger) (es : List (Name × FieldEntry)) (fs : List Field) → map entry_row es ≡ map (field_row A) fs → (map field_of es ≡ fs) × Each (IsUpToDate A) es
 entries_of_rows A [] [] is = (refl, tt)
-entries_of_rows A [] (f ∷ fs) is = absurd (not_empty _ _ (sym is))
-entries_of_rows A (e ∷ es) [] is = absurd (not_empty _ _ is)
-entries_of_rows A (e ∷ es) (f ∷ fs) is =
-    let row = same_first (entry_row e) (field_row A f) (map entry_row es) (map (field_row A) fs) is in
-    let field = same_field e A f row in
-    let more = entries_of_rows A es fs (same_rest (entry_row e) (field_row A f) (map entry_row es) (map (field_row A) fs) is) in
-    ((λ i. field i ∷ more.0 i), (row ∙ ap (field_row A) (sym field), more.1))
+entries_of_rows A [] (f ∷ fs) is = absurd (cc)
+entries_of_rows A (e ∷ es) [] is = absurd (cc)
+entries_of_rows A (e ∷ es) (f ∷ fs) is = let more = entries_of_rows A es fs (same_rest (entry_row e) (field_row A f) (map entry_row es) (map (field_row A) fs) is) in grind (arith, (same_rest (entry_row e) (field_row A f) (map entry_row es) (map (field_row A) fs) is), (same_first (entry_row e) (field_row A f) (map entry_row es) (map (field_row A) fs) is), same_field)
 
 -- ---- entries put in
 
@@ -195,12 +158,10 @@ adopted A plan old good next fits fields all =
 -- ---- a new field
 
 pub off : (b : Bool) (z : ℤ) → b ≡ false → (if b then z else pos 0) ≡ pos 0
-off true z e = absurd (true≢false e)
-off false z e = refl
+off b z e = cc
 
 part_zero : (b : Bool) (z : ℤ) → z ≡ pos 0 → (if b then z else pos 0) ≡ pos 0
-part_zero true z e = e
-part_zero false z e = refl
+part_zero b z e = grind arith
 
 -- what is on some field is not on one that is not there
 elsewhere : (A : Ledger) (n m : Name) → field_named A n ≡ None → is_some (field_named A m) ≡ true → same_name n m ≡ false
@@ -214,8 +175,7 @@ lines_zero : (A : Ledger) (n : Name) (g : Line → ℤ) (o : Order) → field_na
 lines_zero A n g o none there = total-zero (λ l. if on n l then g l else pos 0) o.lines (each-imp (λ l x. off (on n l) (g l) (elsewhere A n (line_name l) none x)) o.lines there)
 
 orders_zero : (A : Ledger) (n : Name) (p : Order → Bool) (g : Line → ℤ) → Good A → field_named A n ≡ None → total (λ o. if p o then total (λ l. if on n l then g l else pos 0) o.lines else pos 0) A.orders ≡ pos 0
-orders_zero A n p g good none = total-zero (λ o. if p o then total (λ l. if on n l then g l else pos 0) o.lines else pos 0) A.orders
-    (each-imp (λ o x. part_zero (p o) (total (λ l. if on n l then g l else pos 0) o.lines) (lines_zero A n g o none (each-imp (λ l y. y.field) o.lines x.lines))) A.orders good.orders)
+orders_zero A n p g good none = grind (arith, (each-imp (λ o x. part_zero (p o) (total (λ l. if on n l then g l else pos 0) o.lines) (lines_zero A n g o none (each-imp (λ l y. y.field) o.lines x.lines))) A.orders good.orders), lines_zero, part_zero, total-zero)
 
 -- its value is its start, and nothing is held on it
 pub new_field : (A : Ledger) (r : Request) (b a : List ℕ) (lo hi start : ℕ) → r.command ≡ command.Field b a lo hi start → Good A → FirstFailure (checks A r.command) None
@@ -264,21 +224,10 @@ each_inserted P p x [] all = tt
 each_inserted P p x (y ∷ ys) all = by (p x y) all (λ k. each_inserted P p x ys k)
   where
     by : (b : Bool) → Each P (if b then x ∷ y ∷ ys else y ∷ insert_in_order p x ys) → (Each P (insert_in_order p x ys) → Each P ys) → Each P (y ∷ ys)
-    by true all more = all.1
-    by false all more = (all.0, more all.1)
+    by b all more = grind arith
 
 pub stay : (P : Field → Type 0) (A : Ledger) (c : Command) → Each P (next A c).fields → Each P A.fields
-stay P A (command.Field b a lo hi start) all = each_inserted P (λ f g. is_lt (name_cmp f.name g.name)) (record { name = name_of b a; lo = lo; hi = hi; start = start }) A.fields all
-stay P A (command.Deliver b a q) all = all
-stay P A (command.Writeoff b a q) all = all
-stay P A (command.Open n until lines) all = all
-stay P A (command.Transfer n until a from to q) all = all
-stay P A (command.More n way b a q) all = all
-stay P A (command.Use n b a q) all = all
-stay P A (command.Release n b a q) all = all
-stay P A (command.Commit n) all = all
-stay P A (command.Abort n) all = all
-stay P A (command.Expire now) all = all
+stay x y c all = grind (arith, each_inserted)
 
 pub bounds_at : (A : Ledger) (f : Field) → Good A → Contains A.fields f
     → (pos f.lo ≤ℤ (settled A f -ℤ held_to_take A f.name)) × ((settled A f -ℤ held_to_take A f.name) ≤ℤ settled A f) × (settled A f ≤ℤ (settled A f +ℤ held_to_add A f.name)) × ((settled A f +ℤ held_to_add A f.name) ≤ℤ pos f.hi) × (f.hi ≤ 1000000000)

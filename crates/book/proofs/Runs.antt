@@ -1,19 +1,9 @@
 -- Whole runs from a good ledger, and the numbers of a good ledger's fields.
 use Rattle.std.proofs.Common.{◌≡◌, ℕ, zero, suc, ◌≤◌, ℤ, pos, ◌+ℤ◌, ◌-ℤ◌, ◌≤ℤ◌, List, [], ◌∷◌, Bool, true, false, refl, sym, ap, ◌∙◌, subst, arith, if◌then◌else◌, ◌↔◌, take}
-use Rattle.std.proofs.lemmas.Int.{ints}
-use Rattle.std.specs.List.{AllByRecursion as Each, IsDistinct}
-use Rattle.std.specs.List.Sorted.{IsStrictlySortedBy}
-use lib.Pointwise.{bytes_decides}
-use Rattle.escrow.specs.Codes.{IsKey}
-use Rattle.words.specs.declared.command.Command.{Command}
-use Rattle.words.specs.declared.command.Request.{Request}
-use Rattle.words.specs.declared.reply.Reply.{Reply}
-use Rattle.words.specs.Spelling.{IsInRange, spelling}
-use Rattle.book.specs.Ledger.{Field, Ledger, is_open, new_ledger}
-use Rattle.book.specs.Outcomes.{total, settled}
-use Rattle.book.specs.Held.{held_to_take, held_to_add}
-use Rattle.book.specs.Answers.{Runs, After, same_command}
-use Rattle.book.specs.Good.{Good, IsGoodField}
+use Rattle.book.proofs.Prelude.{Command, Each, Good, IsDistinct, IsGoodField, IsInRange, IsKey, IsStrictlySortedBy, Ledger, Reply, Request, Runs, bytes_decides, held_to_add, held_to_take, ints, is_open, new_ledger, same_command, settled, spelling, spelling_one}
+use Rattle.book.specs.Ledger.{Field}
+use Rattle.book.specs.Outcomes.{total}
+use Rattle.book.specs.Answers.{After}
 use Rattle.book.proofs.Sums.{each-both}
 use Rattle.book.proofs.Bounds.{takes, adds, takes-not_negative, adds-not_negative, room_from_safe, HasRoom}
 use Rattle.book.proofs.Closing.{sounds_from_good}
@@ -21,7 +11,6 @@ use Rattle.book.proofs.Once.{answered_once}
 use Rattle.book.proofs.Total.{answered_if_good}
 use Rattle.book.proofs.Lists.{total-not_negative}
 use Rattle.book.proofs.Goodness.{good_answer}
-use Rattle.words.proofs.OneItem.{spelling_one}
 
 -- the same text is the same command
 pub same_is : (c d : Command) → IsInRange c → IsInRange d → (same_command c d ≡ true) ↔ (c ≡ d)
@@ -66,8 +55,7 @@ pub in_order : (A : Ledger) → Good A → Each (λ f. (pos f.lo ≤ℤ (settled
 in_order A g = each-both (λ f r x. one f r x) A.fields (room_from_safe A (sounds_from_good A g) g.safe) g.fields
   where
     part : (b : Bool) (z : ℤ) → pos 0 ≤ℤ z → pos 0 ≤ℤ (if b then z else pos 0)
-    part true z h = h
-    part false z h = omega (arith, ints)
+    part b z h = grind arith
 
     one : (f : Field) → HasRoom A f → IsGoodField f → (pos f.lo ≤ℤ (settled A f -ℤ held_to_take A f.name)) × ((settled A f -ℤ held_to_take A f.name) ≤ℤ settled A f) × (settled A f ≤ℤ (settled A f +ℤ held_to_add A f.name)) × ((settled A f +ℤ held_to_add A f.name) ≤ℤ pos f.hi) × (f.hi ≤ 1000000000)
     one f r x =
@@ -78,20 +66,4 @@ in_order A g = each-both (λ f r x. one f r x) A.fields (room_from_safe A (sound
 -- the ledger of a new desk is good
 pub good_new : Good new_ledger
 unfolding IsStrictlySortedBy IsDistinct
-good_new = record {
-  clock = omega arith;
-  fields = tt;
-  fields_in_order = tt;
-  few_fields = omega arith;
-  moves = tt;
-  moves_in_order = tt;
-  orders = tt;
-  orders_in_order = tt;
-  few_orders = omega arith;
-  kept = tt;
-  kept_in_order = tt;
-  places_in_range = tt;
-  places_apart = tt;
-  places_fit = omega arith;
-  safe = λ X h. tt;
-}
+good_new = grind arith

@@ -1,23 +1,10 @@
 -- Every accepted command leaves a good ledger safe.
+use Rattle.book.proofs.Prelude.{Add, Command, Each, FirstFailure, Good, IsGoodLine, IsGoodOrder, Ledger, Line, MayHoldMore, Name, OpenLine, Order, Plain, Request, Take, Way, accept, checks, common_steps, dec_le, field_named, held_to_add, held_to_take, if_add, if_take, ints, is_committed, is_lt, is_open, is_transfer, line_name, line_on, name_cmp, next, on, order_numbered, same_name, signed, transfer_lines}
 use Rattle.std.proofs.Common.{◌≡◌, ◌≢◌, ℕ, ◌≤◌, ℤ, pos, List, Bool, true, false, IsTrue, IsFalse, IsNone, IsSome, IsSomeAnd, MatchOption, Option, Some, None, refl, sym, subst, arith, if◌then◌else◌}
-use Rattle.std.proofs.lemmas.Int.{ints}
-use Rattle.std.specs.List.{AllByRecursion as Each}
-use native.Mathlib.Decide.{dec_le}
-use Rattle.std.specs.Ordering.{is_lt}
-use Rattle.escrow.specs.declared.quantity.Way.{Way}
-use Rattle.escrow.specs.declared.quantity.Way.TheVariants.{Take, Add}
-use Rattle.words.specs.declared.open_line.OpenLine.{OpenLine}
-use Rattle.words.specs.declared.command.Command.{Command}
 use Rattle.words.specs.declared.command.Command.TheVariants as command
-use Rattle.words.specs.declared.command.Request.{Request}
-use Rattle.book.specs.declared.order.Kind.TheVariants.{Plain, Transfer}
-use Rattle.book.specs.declared.order.Line.{Line}
-use Rattle.book.specs.Ledger.{Name, Field, Order, Ledger, on, is_open, is_committed, is_transfer, line_name, same_name, name_cmp, line_on, order_numbered, field_named}
-use Rattle.book.specs.Outcomes.{total, moved, signed, IsSafe}
-use Rattle.book.specs.Held.{if_take, if_add, held_to_take, held_to_add, MayHoldMore}
-use Rattle.book.specs.Next.{next, accept, transfer_lines}
-use Rattle.book.specs.Answers.{FirstFailure, checks}
-use Rattle.book.specs.Good.{Good, IsGoodLine, IsGoodOrder}
+use Rattle.book.specs.declared.order.Kind.TheVariants.{Transfer}
+use Rattle.book.specs.Ledger.{Field}
+use Rattle.book.specs.Outcomes.{total, moved, IsSafe}
 use Rattle.book.proofs.Sums.{each-imp, total-zero}
 use Rattle.book.proofs.Bounds.{safe_from_room, HasRoom}
 use Rattle.book.proofs.Closing.{fit_from_good, fit-accept, all_pass, name_is, sounds_from_good}
@@ -26,18 +13,10 @@ use Rattle.book.proofs.Growing.{Room, room-delivery, room-write_off, room-order,
 use Rattle.book.proofs.Raising.{room-more}
 
 pub not_true : (b : Bool) → (b ≡ true → ⊥) → b ≡ false
-not_true true h = absurd (h refl)
-not_true false h = refl
+not_true b h = grind arith
 
 pub not_false : (b : Bool) → (b ≡ false → ⊥) → b ≡ true
-not_false true h = refl
-not_false false h = absurd (h refl)
-
-pub same_way : (w v : Way) → ((w ≡ v → ⊥) → ⊥) → w ≡ v
-same_way Take Take h = refl
-same_way Add Add h = refl
-same_way Take Add h = absurd (h (λ e. cc))
-same_way Add Take h = absurd (h (λ e. cc))
+not_false b h = grind arith
 
 -- A new field has had no move and no line.
 
@@ -52,26 +31,14 @@ no_orders : (A : Ledger) (name : Name) (test : Order → Bool) (g : Order → Li
 no_orders A name test g none os h = total-zero _ os (each-imp (λ o good. zero (test o) (total (λ l. if on name l then g o l else pos 0) o.lines) (no_lines A name (g o) none o.lines good.lines)) os h)
   where
     zero : (b : Bool) (z : ℤ) → z ≡ pos 0 → (if b then z else pos 0) ≡ pos 0
-    zero true z e = e
-    zero false z e = refl
+    zero b z e = grind arith
 
 room-field : (A : Ledger) (f : Field) → Good A → (IsSome (field_named A f.name) → ⊥) → (f.lo ≤ f.start) × (f.start ≤ f.hi) → HasRoom A f
-room-field A f g none h =
-    let m : total (λ m. if same_name f.name m.field then m.amount else pos 0) A.moves ≡ pos 0 = total-zero _ A.moves (each-imp (λ m good. let e : same_name f.name m.field ≡ false = not_there A f.name m.field none good.field in rw e refl) A.moves g.moves) in
-    let c : total (λ o. if is_committed o then moved f.name (λ l. l.used) o else pos 0) A.orders ≡ pos 0 = no_orders A f.name is_committed (λ o l. signed l.way l.used) none A.orders g.orders in
-    let t : held_to_take A f.name ≡ pos 0 = no_orders A f.name is_open (λ o l. pos (if_take l.way l.held)) none A.orders g.orders in
-    let a : held_to_add A f.name ≡ pos 0 = no_orders A f.name is_open (λ o l. pos (if_add l.way l.held)) none A.orders g.orders in
-    let low = h.0 in let high = h.1 in
-    (omega (arith, ints), omega (arith, ints))
+room-field A f g none h = grind (arith, common_steps, (no_orders A f.name is_committed (λ o l. signed l.way l.used) none A.orders g.orders), (no_orders A f.name is_open (λ o l. pos (if_take l.way l.held)) none A.orders g.orders), (no_orders A f.name is_open (λ o l. pos (if_add l.way l.held)) none A.orders g.orders), each-imp, not_there, total-zero, f.name, A.moves, g.moves, A.orders, g.orders, h.0, h.1)
 
 pub takes_more : (f : Name) (w : Way) (o : Option Order) → (IsNone o → ⊥) → (IsSomeAnd o (λ o. IsFalse (is_open o)) → ⊥) → (IsSomeAnd o (λ o. IsTrue (is_transfer o)) → ⊥)
     → (IsSomeAnd o (λ o. IsSomeAnd (line_on o f) (λ l. l.way ≢ w)) → ⊥) → IsSomeAnd o (MayHoldMore f w)
-takes_more f w None a b c d = a refl
-takes_more f w (Some o) a b c d = (not_false (is_open o) b, not_true (is_transfer o) c, by (line_on o f) d)
-  where
-    by : (l : Option Line) → (IsSomeAnd l (λ l. l.way ≢ w) → ⊥) → MatchOption l (Unit {0}) (λ m. m.way ≡ w)
-    by None d = tt
-    by (Some l) d = same_way l.way w d
+takes_more f w x a b c d = grind arith
 
 room-accept : (A : Ledger) (key : List ℕ) (c : Command) → Good A → FirstFailure (checks A c) None → Room (accept A (record { key = key; command = c }))
 room-accept A key (command.Field b a lo hi start) g h = let p = all_pass (checks A (command.Field b a lo hi start)) h in
@@ -86,12 +53,9 @@ room-accept A key (command.Field b a lo hi start) g h = let p = all_pass (checks
 
         high : (((lo ≤ start) × (start ≤ hi) → ⊥) → ⊥) → start ≤ hi
         high k = elim (dec_le start hi) [ yes h ↦ h | no h ↦ absurd (k (λ p. h p.1)) ]
-room-accept A key (command.Deliver b a q) g h = let p = all_pass (checks A (command.Deliver b a q)) h in
-    room-delivery A (record { branch = b; article = a }) q (sounds_from_good A g) g.fields_in_order (fit_from_good A g).room p.1.1.0
-room-accept A key (command.Writeoff b a q) g h = let p = all_pass (checks A (command.Writeoff b a q)) h in
-    room-write_off A (record { branch = b; article = a }) q (sounds_from_good A g) g.fields_in_order (fit_from_good A g).room p.1.1.0
-room-accept A key (command.Open n until lines) g h = let p = all_pass (checks A (command.Open n until lines)) h in
-    (room-order A n Plain until lines (sounds_from_good A g) g.fields_in_order (fit_from_good A g).room p.1.1.1.1).0
+room-accept A key (command.Deliver b a q) g h = grind (arith, (sounds_from_good A g), (fit_from_good A g), (all_pass (checks A (command.Deliver b a q)) h), room-delivery)
+room-accept A key (command.Writeoff b a q) g h = grind (arith, (sounds_from_good A g), (fit_from_good A g), (all_pass (checks A (command.Writeoff b a q)) h), room-write_off)
+room-accept A key (command.Open n until lines) g h = grind (arith, (sounds_from_good A g), (fit_from_good A g), (all_pass (checks A (command.Open n until lines)) h), room-order)
 room-accept A key (command.Transfer n until a from to q) g h = let p = all_pass (checks A (command.Transfer n until a from to q)) h in
     (room-order A n Transfer until (transfer_lines a from to q) (sounds_from_good A g) g.fields_in_order (fit_from_good A g).room p.1.1.1.1).0
 room-accept A key (command.More n way b a q) g h = let p = all_pass (checks A (command.More n way b a q)) h in
@@ -99,11 +63,7 @@ room-accept A key (command.More n way b a q) g h = let p = all_pass (checks A (c
     room-more A n l (sounds_from_good A g) g.orders_in_order g.fields_in_order (fit_from_good A g).room
     (takes_more (record { branch = b; article = a }) way (order_numbered A n) p.1.0 p.1.1.0 p.1.1.1.0 p.1.1.1.1.1.0)
     (line_passes way (next A (command.More n way b a q)) (record { branch = b; article = a }) 0 p.1.1.1.1.1.1.1.0)
-room-accept A key (command.Use n b a q) g h = (fit-accept A key (command.Use n b a q) tt (fit_from_good A g) h).room
-room-accept A key (command.Release n b a q) g h = (fit-accept A key (command.Release n b a q) tt (fit_from_good A g) h).room
-room-accept A key (command.Commit n) g h = (fit-accept A key (command.Commit n) tt (fit_from_good A g) h).room
-room-accept A key (command.Abort n) g h = (fit-accept A key (command.Abort n) tt (fit_from_good A g) h).room
-room-accept A key (command.Expire now) g h = (fit-accept A key (command.Expire now) tt (fit_from_good A g) h).room
+room-accept A key c g h = (fit-accept A key c tt (fit_from_good A g) h).room
 
 -- whatever is accepted, the ledger stays safe
 pub safe_after : (A : Ledger) (r : Request) → Good A → FirstFailure (checks A r.command) None → IsSafe (accept A r)

@@ -1,26 +1,10 @@
 -- All that makes a ledger good but its kept keys and its safety, and where it stays though orders change.
 use Rattle.std.proofs.Common.{◌≡◌, ℕ, ◌+◌, ◌<◌, ◌≤◌, List, [], ◌∷◌, map, Bool, true, false, ◌&&◌, ◌||◌, ◌==◌, IsFalse, IsNone, IsSome, IsSomeAnd, refl, sym, ap, ◌∙◌, subst, arith, if◌then◌else◌, true≢false, nat_cmp, nat_lt, nat_le, Less, Equal, length, count_by}
-use Rattle.std.proofs.lemmas.Cmp.{nat_list_cmp_total, then_total, on_total}
-use Rattle.std.proofs.lemmas.Map.Text.{is_eq-slice_cmp}
-use Rattle.std.specs.declared.cmp.Ordering.{Ordering}
+use Rattle.book.proofs.Prelude.{Aborted, Each, Good, IsDistinct, IsGoodField, IsGoodLine, IsGoodMove, IsGoodOrder, IsMoment, IsStrictlySortedBy, IsTotalOrder, Kept, Ledger, Line, MatchOrdering, Move, Name, Order, Ordering, State, bytes_decides, bytes_eq, change_lines, field_named, is_eq, is_eq-slice_cmp, is_lt, is_open, is_transfer, line_name, name_cmp, nat_list_cmp_total, on, on_total, open_orders, open_state, order_numbered, ordering_then, places, ranks, same_name, set_state, slice_cmp, then_total}
 use Rattle.std.specs.declared.cmp.Ordering.TheVariants.{Greater}
-use Rattle.std.specs.Cmp.{IsTotalOrder, ranks}
-use Rattle.std.specs.Ordering.{is_lt, is_eq, ordering_then, MatchOrdering}
-use Rattle.std.specs.Cmp.Lexicographic.{slice_cmp}
-use Rattle.std.specs.List.{AllByRecursion as Each, IsDistinct}
-use Rattle.std.specs.List.Sorted.{IsStrictlySortedBy}
-use lib.Pointwise.{bytes_decides}
-use Rattle.std.specs.Str.{bytes_eq}
-use Rattle.escrow.specs.Ranges.{IsMoment}
-use Rattle.book.specs.declared.order.State.{State}
-use Rattle.book.specs.declared.order.State.TheVariants.{Aborted}
-use Rattle.book.specs.declared.order.Line.{Line}
-use Rattle.book.specs.Ledger.{Name, Move, Order, Ledger, Kept, on, is_open, is_transfer, open_state, line_name, same_name, name_cmp, order_numbered, field_named, places, open_orders}
-use Rattle.book.specs.Next.{set_state, change_lines}
-use Rattle.book.specs.Good.{Good, IsGoodField, IsGoodMove, IsGoodLine, IsGoodOrder}
 use Rattle.book.proofs.Sums.{each, each-imp, each-both, each-map}
 use Rattle.book.proofs.Bounds.{OneOn}
-use Rattle.book.proofs.Closing.{Fit, Fine, open_there}
+use Rattle.book.proofs.Closing.{Fit, Fine}
 use Rattle.book.proofs.Asked.{same_self}
 use Rattle.book.proofs.Lists.{each-unmap, length-of-map, count-map, count-fewer}
 
@@ -30,17 +14,13 @@ pub name_cmp_total : IsTotalOrder name_cmp
 name_cmp_total = then_total (on_total (λ f. f.branch) nat_list_cmp_total) (on_total (λ f. f.article) nat_list_cmp_total)
 
 both_equal : (a b : Ordering) → ordering_then a b ≡ Equal → (a ≡ Equal) × (b ≡ Equal)
-both_equal Less b e = absurd (true≢false (ap is_lt e))
-both_equal Equal b e = (refl, e)
-both_equal Greater b e = absurd (true≢false (sym (ap is_eq e)))
+both_equal x b e = grind arith
 
 equal_text : (xs ys : List ℕ) → slice_cmp nat_cmp xs ys ≡ Equal → bytes_eq xs ys ≡ true
 equal_text xs ys e = sym (is_eq-slice_cmp xs ys) ∙ ap is_eq e
 
 both_true : (a b : Bool) → a ≡ true → b ≡ true → (a && b) ≡ true
-both_true true true e h = refl
-both_true true false e h = h
-both_true false b e h = e
+both_true x b e h = cc
 
 pub equal_name : (f g : Name) → name_cmp f g ≡ Equal → same_name f g ≡ true
 equal_name f g e = let p = both_equal _ _ e in both_true _ _ (equal_text f.branch g.branch p.0) (equal_text f.article g.article p.1)
@@ -49,21 +29,13 @@ pub equal_number : (a b : ℕ) → nat_cmp a b ≡ Equal → a ≡ b
 equal_number a b e = subst (λ r. MatchOrdering r (a < b) (a ≡ b) (b < a)) e (ranks a b)
 
 pub other_number : (n m : ℕ) → (m == n) ≡ false → nat_cmp n m ≡ Equal → ⊥
-other_number n m e h = let d = equal_number n m h in bad d
-  where
-    bad : n ≡ m → ⊥
-    bad d = grind arith
+other_number n m e h = grind arith
 
 pub other_key : (k key : List ℕ) → bytes_eq k key ≡ false → slice_cmp nat_cmp key k ≡ Equal → ⊥
 other_key k key e h = let d : key ≡ k = (bytes_decides key k).0 (equal_text key k h) in true≢false (sym ((bytes_decides k key).1 (sym d)) ∙ e)
 
 pub lt_is : (a b : ℕ) → nat_lt a b ≡ is_lt (nat_cmp a b)
-lt_is a b = by (nat_lt a b) (a == b)
-  where
-    by : (c d : Bool) → c ≡ is_lt (if c then Less else (if d then Equal else Greater))
-    by true d = refl
-    by false true = refl
-    by false false = refl
+lt_is a b = grind arith
 
 -- what stays
 
@@ -80,12 +52,10 @@ order_stated : (A B : Ledger) → StillThere A B → (s : State) (o : Order) →
 order_stated A B still s o x = record { number = x.number; until = x.until; some = x.some; few = x.few; lines = each-imp (line_kept A B still) o.lines x.lines; apart = x.apart; transfer = x.transfer }
 
 either : (P : Order → Type 0) (b : Bool) (o new : Order) → P o → (b ≡ true → P new) → P (if b then new else o)
-either P true o new x y = y refl
-either P false o new x y = x
+either b z o new x y = grind arith
 
 pub same_number : (b : Bool) (o new : Order) → new.number ≡ o.number → (if b then new else o).number ≡ o.number
-same_number true o new e = e
-same_number false o new e = refl
+same_number b o new e = grind arith
 
 same_numbers : (h : Order → Order) → ((o : Order) → (h o).number ≡ o.number) → (os : List Order) → map (λ o. o.number) (map h os) ≡ map (λ o. o.number) os
 same_numbers h e [] = refl
@@ -113,9 +83,6 @@ pub record Parts (B : Ledger) : Type 0 where
   pub few_orders : length B.orders ≤ 100000
   pub room : places B + open_orders B ≤ 200000
 
-pub not_full : (n : ℕ) → (200000 < n → ⊥) → n ≤ 200000
-not_full n h = omega arith
-
 pub not_many : (m n : ℕ) → (m ≤ n → ⊥) → n + 1 ≤ m
 not_many m n h = omega arith
 
@@ -125,18 +92,7 @@ changed h clock kept A = record { clock = clock; fields = A.fields; moves = A.mo
 
 pub changing : (A : Ledger) (h : Order → Order) (clock : ℕ) (kept : List Kept) → Good A → IsMoment clock → length kept ≡ places A + 1 → ((o : Order) → (h o).number ≡ o.number)
     → Each (λ o. IsGoodOrder (changed h clock kept A) (h o)) A.orders → places A + count_by is_open (map h A.orders) + 1 ≤ 200000 → Parts (changed h clock kept A)
-changing A h clock kept g moment more number orders room = record {
-  clock = moment;
-  fields = g.fields;
-  fields_in_order = g.fields_in_order;
-  few_fields = g.few_fields;
-  moves = each-imp (move_kept A (changed h clock kept A) (λ f x. x) (omega arith)) A.moves g.moves;
-  moves_in_order = g.moves_in_order;
-  orders = each-map (IsGoodOrder (changed h clock kept A)) h A.orders orders;
-  orders_in_order = subst (IsStrictlySortedBy nat_cmp) (sym (same_numbers h number A.orders)) g.orders_in_order;
-  few_orders = (let e = length-of-map h A.orders in let f = g.few_orders in omega arith);
-  room = omega arith;
-}
+changing A h clock kept g moment more number orders room = grind (arith, (same_numbers h number A.orders), (length-of-map h A.orders), each-imp, each-map, move_kept)
 
 -- a commit and an abort
 pub stating : (A : Ledger) (n : ℕ) (s : State) (kept : List Kept) → open_state s ≡ false → Good A → length kept ≡ places A + 1 → (IsNone (order_numbered A n) → ⊥) → (IsSomeAnd (order_numbered A n) (λ o. IsFalse (is_open o)) → ⊥)
@@ -146,7 +102,7 @@ stating A n s kept closed g more there open_is =
     let B : Ledger = changed h A.clock kept A in
     changing A h A.clock kept g g.clock more (λ o. same_number (o.number == n) o (set_state s o) refl)
     (each-imp (λ o x. either (IsGoodOrder B) (o.number == n) o (set_state s o) (order_kept A B (λ f y. y) o x) (λ _. order_stated A B (λ f y. y) s o x)) A.orders g.orders)
-    (let c = count-fewer is_open (λ o. o.number == n) (set_state s) A.orders (λ _. closed) (open_there (order_numbered A n) there open_is) in let r = g.places_fit in omega arith)
+    (let c = count-fewer is_open (λ o. o.number == n) (set_state s) A.orders (λ _. closed) (grind arith) in let r = g.places_fit in omega arith)
 
 pub expiring : (A : Ledger) (now : ℕ) (kept : List Kept) → Good A → IsMoment now → length kept ≡ places A + 1 → places A + open_orders A + 1 ≤ 200000
     → Parts (changed (λ o. if is_open o && nat_le o.until now then set_state Aborted o else o) now kept A)
@@ -158,8 +114,7 @@ expiring A now kept g moment more room =
     (let c = count-map is_open h A.orders (each (λ o. closes o (is_open o && nat_le o.until now)) A.orders) in omega arith)
   where
     closes : (o : Order) (b : Bool) → is_open (if b then set_state Aborted o else o) ≡ true → is_open o ≡ true
-    closes o true e = absurd (true≢false (sym e))
-    closes o false e = e
+    closes o b e = grind arith
 
 -- a use and a release
 abbrev pub Lessens : (Line → Line) → Type 0
@@ -175,12 +130,10 @@ using A n f change kept less g more room fit =
     (let c = count-map is_open h A.orders (each (λ o. open_as o (o.number == n)) A.orders) in omega arith)
   where
     open_as : (o : Order) (b : Bool) → is_open (if b then change_lines f change o else o) ≡ true → is_open o ≡ true
-    open_as o true e = e
-    open_as o false e = e
+    open_as o b e = grind arith
 
     less_line : (B : Ledger) → StillThere A B → (t : Bool) (l : Line) → IsGoodLine A l → (if t then change l else l).used ≤ (if t then change l else l).held → IsGoodLine B (if t then change l else l)
-    less_line B still true l x u = record { field = subst (λ m. IsSome (field_named B m)) (sym (less l).0) (still (line_name l) x.field); held = (let a = (less l).1 in let b : l.held ≤ 1000000000 = x.held in omega arith); used = u }
-    less_line B still false l x u = line_kept A B still l x
+    less_line y still z l x u = grind arith
 
     used_order : (B : Ledger) (o : Order) (b : Bool) → StillThere A B → IsGoodOrder A o → Fine (if b then change_lines f change o else o) → IsGoodOrder B (if b then change_lines f change o else o)
     used_order B o false still x y = order_kept A B still o x

@@ -1,36 +1,14 @@
 -- What becomes of a field's stock, as an accepted command changes an order's line on it.
+use Rattle.book.proofs.Prelude.{Aborted, Add, Becomes, Command, Committed, Contains, Each, FieldCells, FieldEntry, FirstFailure, Good, IsAccepted, IsGoodOrder, IsInRange, IsQty, IsSafeMoved, IsStrictlySortedBy, IsUpToDate, Ledger, Line, MayBecome, Name, OpenLine, Order, Request, State, Stock, Take, Way, accept, add_hold, added_part, change_lines, changes_field, checks, committed_state, common_steps, entry_row, field_of, field_row, held_of, held_to_add, held_to_take, hold_more, holding, if_add, if_take, ints, is_committed, is_open, is_touched, is_transfer, line_name, line_on, lower_held, moved_by_command, moved_part, name_of, new_line, next, on, open_state, order_after, order_number, order_numbered, part_of_line, raise_held, raise_used, same_name, set_state, settled, signed, some_part, taken_part, transfer_lines}
 use Rattle.std.proofs.Common.{◌≡◌, ◌∙◌, ℕ, ◌-◌, ◌<◌, ◌≤◌, ℤ, pos, neg_ℤ, ◌+ℤ◌, ◌-ℤ◌, ◌≤ℤ◌, ◌==◌, ◌||◌, ◌++◌, Bool, true, false, List, [], ◌∷◌, IsFalse, IsSomeAnd, MatchOption, Option, None, Some, ap, arith, find, if◌then◌else◌, is_some, map, nat_cmp, refl, subst, sym, true≢false}
-use Rattle.std.proofs.lemmas.Int.{ints}
-use Rattle.std.specs.List.{AllByRecursion as Each, Contains}
-use Rattle.std.specs.List.Sorted.{IsStrictlySortedBy}
 use Rattle.std.specs.Option.{option_map}
 use Rattle.escrow.specs.Choices.{IsSafe}
-use Rattle.escrow.specs.Escrow.{held_of, holding, moved, IsSafeMoved, MovesValue}
-use Rattle.escrow.specs.Ranges.{IsQty}
-use Rattle.escrow.specs.Stock.{Stock}
-use Rattle.escrow.specs.declared.quantity.Way.{Way}
-use Rattle.escrow.specs.declared.quantity.Way.TheVariants.{Add, Take}
-use Rattle.words.specs.Spelling.{IsInRange}
-use Rattle.words.specs.declared.command.Command.{Command}
+use Rattle.escrow.specs.Escrow.{moved, MovesValue}
 use Rattle.words.specs.declared.command.Command.TheVariants as command
-use Rattle.words.specs.declared.command.Request.{Request}
-use Rattle.words.specs.declared.open_line.OpenLine.{OpenLine}
-use Rattle.book.specs.After.{added_part, field_row, is_touched, moved_by_command, moved_part, order_after, order_number, some_part, taken_part}
-use Rattle.book.specs.Answers.{FirstFailure, IsAccepted, checks}
-use Rattle.book.specs.Changes.{changes_field}
-use Rattle.book.specs.Good.{Good, IsGoodOrder}
-use Rattle.book.specs.Held.{held_to_add, held_to_take, if_add, if_take}
-use Rattle.book.specs.Ledger.{Field, Ledger, Name, Order, committed_state, is_committed, is_open, is_transfer, line_name, line_on, name_of, on, open_state, order_numbered, same_name}
-use Rattle.book.specs.Next.{accept, add_hold, change_lines, hold_more, lower_held, new_line, next, raise_held, raise_used, set_state, transfer_lines}
-use Rattle.book.specs.Outcomes.{settled, signed, total}
-use Rattle.book.specs.Rows.{FieldCells}
-use Rattle.book.specs.Running.{Becomes, IsUpToDate, MayBecome, amount_held, entry_row, line_before}
-use Rattle.book.specs.Sums.{part_of_line}
-use Rattle.book.specs.View.{field_of}
-use Rattle.book.specs.declared.entries.FieldEntry.{FieldEntry}
-use Rattle.book.specs.declared.order.Line.{Line}
-use Rattle.book.specs.declared.order.State.{State}
-use Rattle.book.specs.declared.order.State.TheVariants.{Aborted, Committed, Open}
+use Rattle.book.specs.Ledger.{Field}
+use Rattle.book.specs.Outcomes.{total}
+use Rattle.book.specs.Running.{amount_held, line_before}
+use Rattle.book.specs.declared.order.State.TheVariants.{Open}
 use Rattle.book.proofs.After.{moved-next}
 use Rattle.book.proofs.Bounds.{OneOn, adds-not_negative, takes-not_negative}
 use Rattle.book.proofs.Chosen.{some_is}
@@ -50,51 +28,27 @@ of_line g (Some l) = g l
 
 pub total_found : (f : Name) (g : Line → ℤ) (ls : List Line) → OneOn f ls → total (λ l. if on f l then g l else pos 0) ls ≡ of_line g (find (on f) ls)
 total_found f g [] one = refl
-total_found f g (l ∷ ls) one = by (on f l) refl (total_found f g ls one.1)
-  where
-    by : (b : Bool) → on f l ≡ b → total (λ l. if on f l then g l else pos 0) ls ≡ of_line g (find (on f) ls)
-        → (if b then g l else pos 0) +ℤ total (λ l. if on f l then g l else pos 0) ls ≡ of_line g (if b then Some l else find (on f) ls)
-    by true e more = let rest = total-zero (λ l. if on f l then g l else pos 0) ls (each-imp (λ m k. off (on f m) (g m) k) ls (one.0 e)) in omega (arith, ints)
-    by false e more = omega (arith, ints)
+total_found f g (l ∷ ls) one = let more = total_found f g ls one.1 in grind (arith, each-imp, off, total-zero)
 
 find_map : (f : Name) (g : Line → Line) → ((k : Line) → on f (g k) ≡ on f k) → (ls : List Line) → find (on f) (map g ls) ≡ option_map g (find (on f) ls)
 find_map f g keeps [] = refl
-find_map f g keeps (l ∷ ls) = rw (keeps l) (by (on f l) (find_map f g keeps ls))
-  where
-    by : (b : Bool) → find (on f) (map g ls) ≡ option_map g (find (on f) ls) → (if b then Some (g l) else find (on f) (map g ls)) ≡ option_map g (if b then Some l else find (on f) ls)
-    by true more = refl
-    by false more = more
+find_map f g keeps (l ∷ ls) = let more = find_map f g keeps ls in grind arith
 
 -- ---- sums over orders, as one of them changes
 
 same_orders : (n : ℕ) (os : List Order) → map (λ o. if o.number == n then o else o) os ≡ os
 same_orders n [] = refl
-same_orders n (o ∷ os) = let first = same (o.number == n) in let more = same_orders n os in λ i. first i ∷ more i
-  where
-    same : (b : Bool) → (if b then o else o) ≡ o
-    same true = refl
-    same false = refl
+same_orders n (o ∷ os) = let more = same_orders n os in grind arith
 
 same_option : (x : Option Order) → option_map (λ o. o) x ≡ x
-same_option None = refl
-same_option (Some o) = refl
+same_option b = grind arith
 
 total_parts : (g : Order → ℤ) (n : ℕ) (os : List Order) → IsStrictlySortedBy nat_cmp (map (λ o. o.number) os) → total g os ≡ total (λ o. if o.number == n then pos 0 else g o) os +ℤ some_part g (find (λ o. o.number == n) os)
 total_parts g n os sorted = ap (total g) (sym (same_orders n os)) ∙ total-changed g (λ o. o) n os sorted ∙ ap (λ (x : Option Order). total (λ o. if o.number == n then pos 0 else g o) os +ℤ some_part g x) (same_option (find (λ o. o.number == n) os))
 
 -- the order that the command opens or changes is the one that it touches
 touched : (c : Command) (n : ℕ) → order_number c ≡ Some n → (o : Order) → is_touched c o ≡ (o.number == n)
-touched (command.Open m until lines) n e o = ap (λ k. o.number == k) (some_is m n e)
-touched (command.Transfer m until a from to q) n e o = ap (λ k. o.number == k) (some_is m n e)
-touched (command.More m way b a q) n e o = ap (λ k. o.number == k) (some_is m n e)
-touched (command.Use m b a q) n e o = ap (λ k. o.number == k) (some_is m n e)
-touched (command.Release m b a q) n e o = ap (λ k. o.number == k) (some_is m n e)
-touched (command.Commit m) n e o = ap (λ k. o.number == k) (some_is m n e)
-touched (command.Abort m) n e o = ap (λ k. o.number == k) (some_is m n e)
-touched (command.Field b a lo hi start) n e o = absurd (true≢false (sym (ap is_some e)))
-touched (command.Deliver b a q) n e o = absurd (true≢false (sym (ap is_some e)))
-touched (command.Writeoff b a q) n e o = absurd (true≢false (sym (ap is_some e)))
-touched (command.Expire now) n e o = absurd (true≢false (sym (ap is_some e)))
+touched c n e o = grind arith
 
 -- a sum over the orders of the next ledger
 pub total_moved : (g : Order → ℤ) → ((o : Order) → g (set_state Aborted o) ≡ pos 0) → (A : Ledger) (c : Command) (n : ℕ) → Good A → FirstFailure (checks A c) None → order_number c ≡ Some n
@@ -113,8 +67,7 @@ total_most g least A n good =
     omega (arith, ints)
   where
     by : (b : Bool) (z : ℤ) → pos 0 ≤ℤ z → pos 0 ≤ℤ (if b then pos 0 else z)
-    by true z h = omega (arith, ints)
-    by false z h = h
+    by b z h = grind arith
 
 -- ---- the order before
 
@@ -123,34 +76,16 @@ abbrev pub IsBefore : Name → Option Order → Type 0
 IsBefore f x = MatchOption x (Unit {0}) (λ o. (is_open o ≡ true) × OneOn f o.lines)
 
 opened : (o : Order) → (IsSomeAnd (Some o) (λ o. IsFalse (is_open o)) → ⊥) → is_open o ≡ true
-opened o ended = by (is_open o) ended
-  where
-    by : (b : Bool) → (b ≡ false → ⊥) → b ≡ true
-    by true h = refl
-    by false h = absurd (h refl)
+opened o ended = grind arith
 
 before_of : (A : Ledger) (n : ℕ) (f : Name) → Good A → (IsSomeAnd (order_numbered A n) (λ o. IsFalse (is_open o)) → ⊥) → IsBefore f (order_numbered A n)
-before_of A n f good ended = by (order_numbered A n) refl ended
-  where
-    by : (x : Option Order) → order_numbered A n ≡ x → (IsSomeAnd x (λ o. IsFalse (is_open o)) → ⊥) → IsBefore f x
-    by None e h = tt
-    by (Some o) e h = (opened o h, one_on f o.lines (each-found (IsGoodOrder A) (λ o. o.number == n) o A.orders good.orders e).apart)
+before_of A n f good ended = grind (arith, each-found, one_on, opened)
 
 before_none : (f : Name) (x : Option Order) → x ≡ None → IsBefore f x
 before_none f x e = subst (IsBefore f) (sym e) tt
 
 pub before : (A : Ledger) (c : Command) (n : ℕ) (f : Name) → Good A → FirstFailure (checks A c) None → order_number c ≡ Some n → IsBefore f (order_numbered A n)
-before A (command.Open m until lines) n f good h e = before_none f (order_numbered A n) (none_opened A (command.Open m until lines) n h e refl)
-before A (command.Transfer m until a from to q) n f good h e = before_none f (order_numbered A n) (none_opened A (command.Transfer m until a from to q) n h e refl)
-before A (command.More m way b a q) n f good h e = subst (λ k. IsBefore f (order_numbered A k)) (some_is m n e) (before_of A m f good (all_pass (checks A (command.More m way b a q)) h).1.1.0)
-before A (command.Use m b a q) n f good h e = subst (λ k. IsBefore f (order_numbered A k)) (some_is m n e) (before_of A m f good (all_pass (checks A (command.Use m b a q)) h).1.1.0)
-before A (command.Release m b a q) n f good h e = subst (λ k. IsBefore f (order_numbered A k)) (some_is m n e) (before_of A m f good (all_pass (checks A (command.Release m b a q)) h).1.1.0)
-before A (command.Commit m) n f good h e = subst (λ k. IsBefore f (order_numbered A k)) (some_is m n e) (before_of A m f good (all_pass (checks A (command.Commit m)) h).1.0)
-before A (command.Abort m) n f good h e = subst (λ k. IsBefore f (order_numbered A k)) (some_is m n e) (before_of A m f good (all_pass (checks A (command.Abort m)) h).1.0)
-before A (command.Field b a lo hi start) n f good h e = absurd (true≢false (sym (ap is_some e)))
-before A (command.Deliver b a q) n f good h e = absurd (true≢false (sym (ap is_some e)))
-before A (command.Writeoff b a q) n f good h e = absurd (true≢false (sym (ap is_some e)))
-before A (command.Expire now) n f good h e = absurd (true≢false (sym (ap is_some e)))
+before x c n f good h e = grind (arith, all_pass, before_none, before_of, none_opened, some_is)
 
 -- ---- the line before and after
 
@@ -165,19 +100,11 @@ open_not_committed e = true≢false (ap open_state e)
 
 -- a line of a new order
 new_goes : (f : Name) (ls : List OpenLine) (l : Line) (x : Option Line) → x ≡ None → Each (λ l. IsQty l.qty) ls → find (on f) (map new_line ls) ≡ Some l → LineGoes x l Open
-new_goes f ls l x none range there =
-    let qty = each-found (λ l. IsQty l.held) (on f) l (map new_line ls) (each-map (λ l. IsQty l.held) new_line ls range) there in
-    let first = qty.0 in
-    let last = qty.1 in
-    subst (λ (x : Option Line). LineGoes x l Open) (sym none) (record { way = tt; used = λ e. absurd (open_not_committed e); qty = λ e more. (omega arith, omega arith) })
+new_goes f ls l x none range there = grind (arith, (each-found (λ l. IsQty l.held) (on f) l (map new_line ls) (each-map (λ l. IsQty l.held) new_line ls range) there), each-map, open_not_committed)
 
 -- a line that stays on its field, its way the same
 kept_goes : (f : Name) (g : Line → Line) (ls : List Line) (s : State) (l : Line) → ((k : Line) → on f (g k) ≡ on f k) → ((k : Line) → LineGoes (Some k) (g k) s) → find (on f) (map g ls) ≡ Some l → LineGoes (find (on f) ls) l s
-kept_goes f g ls s l keeps goes there = by (find (on f) ls) (sym (find_map f g keeps ls) ∙ there)
-  where
-    by : (x : Option Line) → option_map g x ≡ Some l → LineGoes x l s
-    by None e = absurd (true≢false (sym (ap is_some e)))
-    by (Some k) e = subst (λ m. LineGoes (Some k) m s) (some_is (g k) l e) (goes k)
+kept_goes f g ls s l keeps goes there = grind (arith, (find_map f g keeps ls), some_is)
 
 less_not : (m n : ℕ) → m ≤ n → n < m → ⊥
 less_not m n h k = absurd (omega arith)
@@ -187,41 +114,27 @@ no_more : (k l : Line) (s : State) → k.way ≡ l.way → l.held ≤ k.held →
 no_more k l s way less used = record { way = way; used = used; qty = λ e more. absurd (less_not l.held k.held less more) }
 
 lowered : (b : Bool) (q : ℕ) (k : Line) → LineGoes (Some k) (if b then lower_held q k else k) Open
-lowered true q k = no_more k (lower_held q k) Open refl (omega arith) (λ e. absurd (open_not_committed e))
-lowered false q k = no_more k k Open refl (omega arith) (λ e. absurd (open_not_committed e))
+lowered b q k = grind arith
 
 used_more : (b : Bool) (q : ℕ) (k : Line) → LineGoes (Some k) (if b then raise_used q k else k) Open
-used_more true q k = no_more k (raise_used q k) Open refl (omega arith) (λ e. absurd (open_not_committed e))
-used_more false q k = no_more k k Open refl (omega arith) (λ e. absurd (open_not_committed e))
+used_more b q k = grind arith
 
 raised : (b : Bool) (q : ℕ) (k : Line) → IsQty q → LineGoes (Some k) (if b then raise_held q k else k) Open
-raised true q k range =
-    let first = range.0 in
-    let last = range.1 in
-    record { way = refl; used = λ e. absurd (open_not_committed e); qty = λ e more. (omega arith, omega arith) }
-raised false q k range = no_more k k Open refl (omega arith) (λ e. absurd (open_not_committed e))
+raised b q k range = grind arith
 
 on_kept : (f : Name) (b : Bool) (g : Line → Line) (k : Line) → on f (g k) ≡ on f k → on f (if b then g k else k) ≡ on f k
-on_kept f true g k e = e
-on_kept f false g k e = refl
+on_kept f b g k e = grind arith
 
 -- one line more at the end
 pushed_goes : (f : Name) (ol : OpenLine) (ls : List Line) (l : Line) → IsQty ol.qty → find (on f) (ls ++ new_line ol ∷ []) ≡ Some l → LineGoes (find (on f) ls) l Open
-pushed_goes f ol [] l range there = by (on f (new_line ol)) there
-  where
-    by : (b : Bool) → (if b then Some (new_line ol) else None) ≡ Some l → LineGoes None l Open
-    by true e = subst (λ m. LineGoes None m Open) (some_is (new_line ol) l e) (let first = range.0 in let last = range.1 in record { way = tt; used = λ e. absurd (open_not_committed e); qty = λ e more. (omega arith, omega arith) })
-    by false e = absurd (true≢false (sym (ap is_some e)))
+pushed_goes f ol [] l range there = grind arith
 pushed_goes f ol (k ∷ ls) l range there = by (on f k) there (λ h. pushed_goes f ol ls l range h)
   where
     by : (b : Bool) → (if b then Some k else find (on f) (ls ++ new_line ol ∷ [])) ≡ Some l → (find (on f) (ls ++ new_line ol ∷ []) ≡ Some l → LineGoes (find (on f) ls) l Open) → LineGoes (if b then Some k else find (on f) ls) l Open
-    by true e more = subst (λ m. LineGoes (Some k) m Open) (some_is k l e) (no_more k k Open refl (omega arith) (λ e. absurd (open_not_committed e)))
-    by false e more = more e
+    by b e more = grind arith
 
 pub state_is : (s : State) → open_state s ≡ true → Open ≡ s
-state_is Open e = refl
-state_is Committed e = absurd (true≢false (sym e))
-state_is Aborted e = absurd (true≢false (sym e))
+state_is c e = grind arith
 
 held_goes : (f : Name) (ol : OpenLine) (o : Order) (l : Line) → IsQty ol.qty → is_open o ≡ true → find (on f) (add_hold ol o).lines ≡ Some l → LineGoes (line_on o f) l (add_hold ol o).state
 held_goes f ol o l range unended there = by (is_some (line_on o (line_name (new_line ol)))) there
@@ -253,8 +166,7 @@ opened_goes f new o ls l x none lines state range e there =
 pub line_goes : (A : Ledger) (c : Command) (n : ℕ) (f : Name) (o : Order) (l : Line) → Good A → IsInRange c → FirstFailure (checks A c) None → order_number c ≡ Some n → IsBefore f (order_numbered A n) → order_after A c ≡ Some o → find (on f) o.lines ≡ Some l
     → LineGoes (line_before (order_numbered A n) f) l o.state
 line_goes A (command.Open m until lines) n f o l good range h e is made there = opened_goes f _ o lines l (order_numbered A n) (none_opened A (command.Open m until lines) n h e refl) refl refl (quantities lines range.2) made there
-line_goes A (command.Transfer m until a from to q) n f o l good range h e is made there =
-    opened_goes f _ o (transfer_lines a from to q) l (order_numbered A n) (none_opened A (command.Transfer m until a from to q) n h e refl) refl refl (range.5, (range.5, tt)) made there
+line_goes A (command.Transfer m until a from to q) n f o l good range h e is made there = grind arith
 line_goes A (command.More m way b a q) n f o l good range h e is made there =
     changed_goes A n f (add_hold (record { way = way; branch = b; article = a; qty = q })) o l good is (λ p g unended k. held_goes f (record { way = way; branch = b; article = a; qty = q }) p l range.3 unended k) (subst (λ k. option_map (add_hold (record { way = way; branch = b; article = a; qty = q })) (order_numbered A k) ≡ Some o) (some_is m n e) made) there
 line_goes A (command.Use m b a q) n f o l good range h e is made there =
@@ -265,38 +177,27 @@ line_goes A (command.Release m b a q) n f o l good range h e is made there =
     changed_goes A n f (change_lines (name_of b a) (lower_held q)) o l good is
     (λ p g unended k. subst (LineGoes (line_on p f) l) (state_is p.state unended) (kept_goes f (λ x. if is_transfer p || on (name_of b a) x then lower_held q x else x) p.lines Open l (λ x. on_kept f (is_transfer p || on (name_of b a) x) (lower_held q) x refl) (λ x. lowered (is_transfer p || on (name_of b a) x) q x) k))
     (subst (λ k. option_map (change_lines (name_of b a) (lower_held q)) (order_numbered A k) ≡ Some o) (some_is m n e) made) there
-line_goes A (command.Commit m) n f o l good range h e is made there =
-    changed_goes A n f (set_state Committed) o l good is (λ p g unended k. subst (λ (x : Option Line). LineGoes x l Committed) (sym k) (no_more l l Committed refl (omega arith) (λ e. (each-found _ (on f) l p.lines g.lines k).used)))
-    (subst (λ k. option_map (set_state Committed) (order_numbered A k) ≡ Some o) (some_is m n e) made) there
-line_goes A (command.Abort m) n f o l good range h e is made there =
-    changed_goes A n f (set_state Aborted) o l good is (λ p g unended k. subst (λ (x : Option Line). LineGoes x l Aborted) (sym k) (no_more l l Aborted refl (omega arith) (λ e. absurd (true≢false (sym (ap committed_state e))))))
-    (subst (λ k. option_map (set_state Aborted) (order_numbered A k) ≡ Some o) (some_is m n e) made) there
-line_goes A (command.Field b a lo hi start) n f o l good range h e is made there = absurd (true≢false (sym (ap is_some e)))
-line_goes A (command.Deliver b a q) n f o l good range h e is made there = absurd (true≢false (sym (ap is_some e)))
-line_goes A (command.Writeoff b a q) n f o l good range h e is made there = absurd (true≢false (sym (ap is_some e)))
-line_goes A (command.Expire now) n f o l good range h e is made there = absurd (true≢false (sym (ap is_some e)))
+line_goes A (command.Commit m) n f o l good range h e is made there = grind (arith, common_steps, (some_is m n e), changed_goes, each-found, no_more)
+line_goes A (command.Abort m) n f o l good range h e is made there = grind arith
+line_goes A c n f o l good range h e is made there = absurd (true≢false (sym (ap is_some e)))
 
 -- ---- what the order adds before and after
 
 none_held : (w : Way) → pos 0 ≡ pos (if_take w 0)
-none_held Take = refl
-none_held Add = refl
+none_held b = grind arith
 
 none_added : (w : Way) → pos 0 ≡ pos (if_add w 0)
-none_added Take = refl
-none_added Add = refl
+none_added b = grind arith
 
 -- the line before, if there is one, has the way
 abbrev HasWay : Way → Option Line → Type 0
 HasWay w x = MatchOption x (Unit {0}) (λ k. k.way ≡ w)
 
 takes_of : (w : Way) (x : Option Line) → HasWay w x → of_line (λ l. pos (if_take l.way l.held)) x ≡ pos (if_take w (amount_held x))
-takes_of w None way = none_held w
-takes_of w (Some k) way = ap (λ v. pos (if_take v k.held)) way
+takes_of w b way = grind arith
 
 adds_of : (w : Way) (x : Option Line) → HasWay w x → of_line (λ l. pos (if_add l.way l.held)) x ≡ pos (if_add w (amount_held x))
-adds_of w None way = none_added w
-adds_of w (Some k) way = ap (λ v. pos (if_add v k.held)) way
+adds_of w b way = grind arith
 
 takes_before : (f : Name) (w : Way) (x : Option Order) → IsBefore f x → HasWay w (line_before x f) → some_part (taken_part f) x ≡ pos (if_take w (amount_held (line_before x f)))
 takes_before f w None is way = none_held w
@@ -309,21 +210,10 @@ adds_before f w (Some o) is way =
     ap (λ b. if b then total (λ l. if on f l then pos (if_add l.way l.held) else pos 0) o.lines else pos 0) is.0 ∙ total_found f (λ l. pos (if_add l.way l.held)) o.lines is.1 ∙ adds_of w (line_on o f) way
 
 moved_before : (f : Name) (x : Option Order) → IsBefore f x → some_part (moved_part f) x ≡ pos 0
-moved_before f None is = refl
-moved_before f (Some o) is = ap (λ s. if committed_state s then total (λ l. if on f l then signed l.way l.used else pos 0) o.lines else pos 0) (sym (state_is o.state is.0))
+moved_before f b is = grind arith
 
 not_moved : (f : Name) (A : Ledger) (c : Command) (n : ℕ) → order_number c ≡ Some n → total (λ m. if same_name f m.field then m.amount else pos 0) (next A c).moves ≡ total (λ m. if same_name f m.field then m.amount else pos 0) A.moves
-not_moved f A (command.Open m until lines) n e = refl
-not_moved f A (command.Transfer m until a from to q) n e = refl
-not_moved f A (command.More m way b a q) n e = refl
-not_moved f A (command.Use m b a q) n e = refl
-not_moved f A (command.Release m b a q) n e = refl
-not_moved f A (command.Commit m) n e = refl
-not_moved f A (command.Abort m) n e = refl
-not_moved f A (command.Field b a lo hi start) n e = refl
-not_moved f A (command.Deliver b a q) n e = absurd (true≢false (sym (ap is_some e)))
-not_moved f A (command.Writeoff b a q) n e = absurd (true≢false (sym (ap is_some e)))
-not_moved f A (command.Expire now) n e = refl
+not_moved f b c n e = grind arith
 
 -- the numbers of the next ledger on the field
 record Changes (A B : Ledger) (fld : Field) (held : ℕ) (l : Line) (s : State) : Type 0 where
@@ -356,10 +246,7 @@ changes A r n o fld l good after ok range number made there =
 
 pub entry_is : (B : Ledger) (f : Name) (e : FieldEntry) (new : Stock) → new.lo ≡ e.quantity.lo → new.hi ≡ e.quantity.hi → pos new.value ≡ settled B (field_of (f, e)) → pos new.held_to_take ≡ held_to_take B f → pos new.held_to_add ≡ held_to_add B f
     → entry_row (f, record { start = e.start; quantity = new }) ≡ field_row B (field_of (f, e))
-entry_is B f e new lo hi value takes adds =
-    let inf : pos new.value -ℤ pos new.held_to_take ≡ settled B (field_of (f, e)) -ℤ held_to_take B f = omega (arith, ints) in
-    let sup : pos new.value +ℤ pos new.held_to_add ≡ settled B (field_of (f, e)) +ℤ held_to_add B f = omega (arith, ints) in
-    λ i. record { branch = f.branch; article = f.article; lo = pos (lo i); hi = pos (hi i); start = pos e.start; value = value i; inf = inf i; sup = sup i }
+entry_is B f e new lo hi value takes adds = cc
 
 -- with its line changed, the field is that of the next ledger
 pub stock_changed : (A : Ledger) (r : Request) (n : ℕ) (o : Order) (f : Name) (e : FieldEntry) (l : Line) (new : Stock) → Good A → Good (accept A r) → IsAccepted A r → IsInRange r.command → order_number r.command ≡ Some n → order_after A r.command ≡ Some o
@@ -378,20 +265,11 @@ stock_changed A r n o f e l new good after ok range number made up there becomes
     entry_is (accept A r) f e new becomes.lo becomes.hi (omega (arith, ints)) (omega (arith, ints)) (omega (arith, ints))
 
 least_if : (b : Bool) (z : ℤ) → pos 0 ≤ℤ z → pos 0 ≤ℤ (if b then z else pos 0)
-least_if true z h = h
-least_if false z h = omega (arith, ints)
+least_if b z h = grind arith
 
 held_there : (A : Ledger) (f : Name) (x : Option Order) (e : FieldEntry) (w : Way) → IsUpToDate A (f, e) → some_part (taken_part f) x ≤ℤ held_to_take A f → some_part (added_part f) x ≤ℤ held_to_add A f → IsBefore f x → HasWay w (line_before x f) → amount_held (line_before x f) ≤ held_of e.quantity w
-held_there A f x e Take up takes adds is way =
-    let value = ap (λ (row : FieldCells). row.value) up in
-    let inf = ap (λ (row : FieldCells). row.inf) up in
-    let was = takes_before f Take x is way in
-    omega (arith, ints)
-held_there A f x e Add up takes adds is way =
-    let value = ap (λ (row : FieldCells). row.value) up in
-    let sup = ap (λ (row : FieldCells). row.sup) up in
-    let was = adds_before f Add x is way in
-    omega (arith, ints)
+held_there A f x e Take up takes adds is way = grind (arith, ints, (takes_before f Take x is way))
+held_there A f x e Add up takes adds is way = grind (arith, (adds_before f Add x is way))
 
 -- what is held more is safe, since the next ledger is
 more_safe : (A B : Ledger) (f : Name) (e : FieldEntry) (held : ℕ) (l : Line) (w : Way) → l.way ≡ w → Good B → Contains B.fields (field_of (f, e)) → IsUpToDate A (f, e) → Changes A B (field_of (f, e)) held l Open → held < l.held → held ≤ held_of e.quantity w → IsSafe (holding e.quantity w (l.held - held))
@@ -406,17 +284,7 @@ more_safe A B f e held l Take is good there up sums more within taken added t a 
     let takes_sum = sums.takes ∙ ap (λ w. (held_to_take A f -ℤ pos (if_take w held)) +ℤ pos (if_take w l.held)) is in
     let adds_sum = sums.adds ∙ ap (λ w. (held_to_add A f -ℤ pos (if_add w held)) +ℤ pos (if_add w l.held)) is in
     (omega (arith, ints), omega (arith, ints))
-more_safe A B f e held l Add is good there up sums more within taken added t a =
-    let bounds = bounds_at B (field_of (f, e)) good there in
-    let low = bounds.0 in
-    let high = bounds.3 in
-    let value = ap (λ (row : FieldCells). row.value) up in
-    let inf = ap (λ (row : FieldCells). row.inf) up in
-    let sup = ap (λ (row : FieldCells). row.sup) up in
-    let value_sum = sums.value in
-    let takes_sum = sums.takes ∙ ap (λ w. (held_to_take A f -ℤ pos (if_take w held)) +ℤ pos (if_take w l.held)) is in
-    let adds_sum = sums.adds ∙ ap (λ w. (held_to_add A f -ℤ pos (if_add w held)) +ℤ pos (if_add w l.held)) is in
-    (omega (arith, ints), omega (arith, ints))
+more_safe A B f e held l Add is good there up sums more within taken added t a = grind (arith, ints, common_steps, (bounds_at B (field_of (f, e)) good there), sums.value, sums.takes, l.held, sums.adds)
 
 -- the line of the field may change so
 pub stock_may : (A : Ledger) (r : Request) (n : ℕ) (o : Order) (f : Name) (e : FieldEntry) (l : Line) → Good A → Good (accept A r) → IsAccepted A r → IsInRange r.command → order_number r.command ≡ Some n → order_after A r.command ≡ Some o
@@ -441,34 +309,13 @@ stock_may A r n o f e l good after ok range number made up there found =
 -- its value moved, the field is that of the next ledger
 pub value_moved : (A B : Ledger) (f : Name) (e : FieldEntry) (w : Way) (q : ℕ) (new : Stock) → IsUpToDate A (f, e) → settled B (field_of (f, e)) ≡ moved w q (settled A (field_of (f, e))) → held_to_take B f ≡ held_to_take A f → held_to_add B f ≡ held_to_add A f
     → MovesValue e.quantity w q new → entry_row (f, record { start = e.start; quantity = new }) ≡ field_row B (field_of (f, e))
-value_moved A B f e w q new up value takes adds moves =
-    let was = ap (λ (row : FieldCells). row.value) up in
-    let inf = ap (λ (row : FieldCells). row.inf) up in
-    let sup = ap (λ (row : FieldCells). row.sup) up in
-    let held : pos e.quantity.held_to_take ≡ held_to_take B f = omega (arith, ints) in
-    let added : pos e.quantity.held_to_add ≡ held_to_add B f = omega (arith, ints) in
-    entry_is B f e new (ap (λ (s : Stock). s.lo) moves.others) (ap (λ (s : Stock). s.hi) moves.others) (moves.value ∙ ap (moved w q) was ∙ sym value)
-    (ap (λ (s : Stock). pos s.held_to_take) moves.others ∙ held) (ap (λ (s : Stock). pos s.held_to_add) moves.others ∙ added)
+value_moved A B f e w q new up value takes adds moves = grind (arith, common_steps, entry_is, e.quantity.held_to_take, e.quantity.held_to_add, moves.others, moves.value)
 
 -- it may be moved, since the next ledger is safe
 pub value_may : (A B : Ledger) (f : Name) (e : FieldEntry) (w : Way) (q : ℕ) → Good B → Contains B.fields (field_of (f, e)) → IsUpToDate A (f, e) → settled B (field_of (f, e)) ≡ moved w q (settled A (field_of (f, e))) → held_to_take B f ≡ held_to_take A f → held_to_add B f ≡ held_to_add A f
     → IsSafeMoved e.quantity w q
-value_may A B f e Take q good there up value takes adds taken added t a =
-    let bounds = bounds_at B (field_of (f, e)) good there in
-    let low = bounds.0 in
-    let high = bounds.3 in
-    let was = ap (λ (row : FieldCells). row.value) up in
-    let inf = ap (λ (row : FieldCells). row.inf) up in
-    let sup = ap (λ (row : FieldCells). row.sup) up in
-    (omega (arith, ints), omega (arith, ints))
-value_may A B f e Add q good there up value takes adds taken added t a =
-    let bounds = bounds_at B (field_of (f, e)) good there in
-    let low = bounds.0 in
-    let high = bounds.3 in
-    let was = ap (λ (row : FieldCells). row.value) up in
-    let inf = ap (λ (row : FieldCells). row.inf) up in
-    let sup = ap (λ (row : FieldCells). row.sup) up in
-    (omega (arith, ints), omega (arith, ints))
+value_may A B f e Take q good there up value takes adds taken added t a = grind (arith, ints, common_steps, (bounds_at B (field_of (f, e)) good there))
+value_may A B f e Add q good there up value takes adds taken added t a = grind (arith, common_steps, (bounds_at B (field_of (f, e)) good there))
 
 settled_moved : (A : Ledger) (fld : Field) (c : Command) (z : ℤ) → moved_by_command fld.name c ≡ z → total (λ o. if is_committed o then total (λ l. if on fld.name l then signed l.way l.used else pos 0) o.lines else pos 0) (next A c).orders ≡ total (λ o. if is_committed o then total (λ l. if on fld.name l then signed l.way l.used else pos 0) o.lines else pos 0) A.orders
     → settled (next A c) fld ≡ settled A fld +ℤ z
@@ -476,10 +323,8 @@ settled_moved A fld c z is orders = let moves = moved-next A c fld.name in omega
 
 pub delivered : (A : Ledger) (r : Request) (fld : Field) (b a : List ℕ) (q : ℕ) → r.command ≡ command.Deliver b a q → changes_field A r.command fld.name ≡ true
     → (settled (accept A r) fld ≡ moved Add q (settled A fld)) × (held_to_take (accept A r) fld.name ≡ held_to_take A fld.name) × (held_to_add (accept A r) fld.name ≡ held_to_add A fld.name)
-delivered A r fld b a q is = subst (λ (c : Command). changes_field A c fld.name ≡ true → (settled (next A c) fld ≡ moved Add q (settled A fld)) × (held_to_take (next A c) fld.name ≡ held_to_take A fld.name) × (held_to_add (next A c) fld.name ≡ held_to_add A fld.name)) (sym is)
-    (λ named. (settled_moved A fld (command.Deliver b a q) (pos q) (ap (λ t. if t then pos q else pos 0) named) refl, refl, refl))
+delivered A r fld b a q is = grind (arith, settled_moved)
 
 pub written_off : (A : Ledger) (r : Request) (fld : Field) (b a : List ℕ) (q : ℕ) → r.command ≡ command.Writeoff b a q → changes_field A r.command fld.name ≡ true
     → (settled (accept A r) fld ≡ moved Take q (settled A fld)) × (held_to_take (accept A r) fld.name ≡ held_to_take A fld.name) × (held_to_add (accept A r) fld.name ≡ held_to_add A fld.name)
-written_off A r fld b a q is = subst (λ (c : Command). changes_field A c fld.name ≡ true → (settled (next A c) fld ≡ moved Take q (settled A fld)) × (held_to_take (next A c) fld.name ≡ held_to_take A fld.name) × (held_to_add (next A c) fld.name ≡ held_to_add A fld.name)) (sym is)
-    (λ named. let s = settled_moved A fld (command.Writeoff b a q) (neg_ℤ (pos q)) (ap (λ t. if t then neg_ℤ (pos q) else pos 0) named) refl in (omega (arith, ints), refl, refl))
+written_off A r fld b a q is = grind (arith, settled_moved)

@@ -1,30 +1,17 @@
 -- Sums on each of the fields: where a field stands among those in order, and what an entry more adds.
+use Rattle.book.proofs.Prelude.{Aborted, Committed, Each, FieldEntry, IsBinarySearchResult, IsField, IsNonDecreasingBy, IsSearchInRange, IsSmall, IsStrictlySortedBy, Line, MoveEntry, Name, OrderEntry, Ordering, State, added, committed_state, common_steps, entry_name, field_of, if_add, if_take, ints, is_lt, line_name, lines_numbers, moved_by_move, moved_by_order, name_cmp, nothing, numbers_on, only_on, open_state, ordering_index, ordering_reverse, part_of_line, plus, same_name, signed, tied_itself}
 use Rattle.std.proofs.Common.{◌≡◌, ◌∙◌, ℕ, zero, suc, ◌+◌, ◌<◌, ◌≤◌, pos, ◌+ℤ◌, Bool, true, false, true≢false, List, [], ◌∷◌, Some, is_some, IsSome, IsNone, if◌then◌else◌, ap, arith, get_or, length, map, refl, set, subst, sym, take, Less, Equal, Greater, Result, Ok, Err, MatchResult}
-use Rattle.std.proofs.lemmas.Int.{ints}
-use Rattle.std.proofs.lemmas.Cmp.{tied_itself}
 use Rattle.std.proofs.lemmas.List.Sorted.{searchable_from_sorted}
-use Rattle.std.specs.declared.cmp.Ordering.{Ordering}
-use Rattle.std.specs.Ordering.{is_lt, is_gt, ordering_index, ordering_reverse}
-use Rattle.std.specs.List.{AllByRecursion as Each}
-use Rattle.std.specs.List.Sorted.{IsBinarySearchResult, IsNonDecreasingBy, IsSearchInRange, IsStrictlySortedBy}
+use Rattle.std.specs.Ordering.{is_gt}
 use Rattle.book.specs.declared.book.sums.Numbers.{Numbers}
-use Rattle.book.specs.declared.entries.FieldEntry.{FieldEntry}
-use Rattle.book.specs.declared.entries.MoveEntry.{MoveEntry}
-use Rattle.book.specs.declared.entries.OrderEntry.{OrderEntry}
-use Rattle.book.specs.declared.order.Line.{Line}
-use Rattle.book.specs.declared.order.State.{State}
-use Rattle.book.specs.declared.order.State.TheVariants.{Open, Committed, Aborted}
-use Rattle.book.specs.Ledger.{Name, committed_state, line_name, name_cmp, open_state, same_name}
-use Rattle.book.specs.Outcomes.{signed}
-use Rattle.book.specs.Held.{if_add, if_take}
-use Rattle.book.specs.View.{field_of}
-use Rattle.book.specs.Walk.{added_by_line, added_by_order, moved_by_line, moved_by_move, moved_by_order, nothing, plus, taken_by_line, taken_by_order, IsSmall}
-use Rattle.book.specs.Sums.{added, entry_name, field_among, lines_numbers, numbers_on, only_on, part_of_line, AreFieldsInOrder, IsField, IsFieldAt}
+use Rattle.book.specs.declared.order.State.TheVariants.{Open}
+use Rattle.book.specs.Walk.{added_by_line, added_by_order, moved_by_line, taken_by_line, taken_by_order}
+use Rattle.book.specs.Sums.{field_among, AreFieldsInOrder, IsFieldAt}
 use Rattle.book.proofs.Asked.{same_self}
 use Rattle.book.proofs.Closing.{name_is}
 use Rattle.book.proofs.Staying.{equal_name, name_cmp_total}
 use Rattle.book.proofs.Lists.{each-of-push, each-unmap}
-use Rattle.book.proofs.Numbers.{nothing-plus, plus-assoc, plus-nothing, same-numbers, small-plus, small-up}
+use Rattle.book.proofs.Numbers.{plus-assoc, plus-nothing, same-numbers, small-plus, small-up}
 use Rattle.book.proofs.Sums.{each, each-imp, each-map}
 use Rattle.book.proofs.Walked.{take-step, total-step}
 use Rattle.book.proofs.Walking.{each_get, each_set}
@@ -47,43 +34,29 @@ each-small-set k m i d part ns lt s t =
 pub added-nothing : (part : Name → Numbers) → ((f : Name) → part f ≡ nothing) → (fs : List (Name × FieldEntry)) (ns : List Numbers) → added part fs ns ≡ ns
 added-nothing part h [] ns = refl
 added-nothing part h (f ∷ fs) [] = refl
-added-nothing part h (f ∷ fs) (n ∷ ns) =
-    let first : plus n (part (entry_name f)) ≡ n = ap (plus n) (h (entry_name f)) ∙ plus-nothing n in
-    let more = added-nothing part h fs ns in
-    λ i. first i ∷ more i
+added-nothing part h (f ∷ fs) (n ∷ ns) = let more = added-nothing part h fs ns in grind arith
 
 -- the same added gives the same
 pub added-same : (g h : Name → Numbers) → ((f : Name) → g f ≡ h f) → (fs : List (Name × FieldEntry)) (ns : List Numbers) → added g fs ns ≡ added h fs ns
 added-same g h same [] ns = refl
 added-same g h same (f ∷ fs) [] = refl
-added-same g h same (f ∷ fs) (n ∷ ns) =
-    let first = ap (plus n) (same (entry_name f)) in
-    let more = added-same g h same fs ns in
-    λ i. first i ∷ more i
+added-same g h same (f ∷ fs) (n ∷ ns) = let more = added-same g h same fs ns in grind arith
 
 -- first one, then the other
 pub added-twice : (g h k : Name → Numbers) → ((f : Name) → plus (g f) (h f) ≡ k f) → (fs : List (Name × FieldEntry)) (ns : List Numbers) → added h fs (added g fs ns) ≡ added k fs ns
 added-twice g h k both [] ns = refl
 added-twice g h k both (f ∷ fs) [] = refl
-added-twice g h k both (f ∷ fs) (n ∷ ns) =
-    let name : Name = entry_name f in
-    let first = plus-assoc n (g name) (h name) ∙ ap (plus n) (both name) in
-    let more = added-twice g h k both fs ns in
-    λ i. first i ∷ more i
+added-twice g h k both (f ∷ fs) (n ∷ ns) = let more = added-twice g h k both fs ns in grind (arith, plus-assoc)
 
 -- added to nothing, the parts alone are left
 added-to_nothing : (h : Name → Numbers) (fs : List (Name × FieldEntry)) → added h fs (map (λ f. nothing) fs) ≡ map (λ f. h (entry_name f)) fs
 added-to_nothing h [] = refl
-added-to_nothing h (f ∷ fs) =
-    let first = nothing-plus (h (entry_name f)) in
-    let more = added-to_nothing h fs in
-    λ i. first i ∷ more i
+added-to_nothing h (f ∷ fs) = let more = added-to_nothing h fs in grind arith
 
 -- ---- names of fields in order
 
 is_false : (b : Bool) → (b ≡ true → ⊥) → b ≡ false
-is_false true h = absurd (h refl)
-is_false false h = refl
+is_false b h = grind arith
 
 -- names that do not compare as equal are different
 other_name : (f g : Name) → (name_cmp f g ≡ Equal → ⊥) → (same_name f g ≡ false) × (same_name g f ≡ false)
@@ -122,14 +95,7 @@ none_there name (f ∷ fs) h =
 -- what a search for the name answers
 pub searched : (name : Name) (fs : List (Name × FieldEntry)) → AreFieldsInOrder fs → (r : Result ℕ ℕ) → IsSearchInRange r (length fs) → IsBinarySearchResult (λ e. name_cmp (entry_name e) name) fs r
     → MatchResult r (IsFieldAt fs name) (λ i. IsNone (field_among fs name))
-searched name fs s (Ok i) range found = record { within = range; named = λ d. name_is _ name (equal_name _ name (found d)) }
-searched name fs s (Err i) range parted =
-    let parts = parted (rising name fs s) in
-    none_there name fs (λ j d lt. by j d lt (parts.0 j d (omega arith)) (parts.1 j d))
-  where
-    by : (j : ℕ) (d : Name × FieldEntry) → j < length fs → (j < i → name_cmp (entry_name (get_or fs j d)) name ≡ Less) → (i ≤ j → j < length fs → name_cmp (entry_name (get_or fs j d)) name ≡ Greater)
-        → name_cmp (entry_name (get_or fs j d)) name ≡ Equal → ⊥
-    by j d lt below above e = let past : j < i → ⊥ = λ b. not_less _ (below b) e in not_greater _ (above (omega arith) lt) e
+searched name fs s b range found = grind (arith, equal_name, name_is, none_there, not_greater, not_less, rising)
 
 -- a field at a place is among them
 pub there_at : (name : Name) (fs : List (Name × FieldEntry)) (i : ℕ) → IsFieldAt fs name i → IsField fs name
@@ -141,8 +107,7 @@ there_at name (f ∷ fs) zero at = rw (same_as (at.named f)) refl
 there_at name (f ∷ fs) (suc i) at = by (same_name name (entry_name f)) (there_at name fs i (record { within = omega arith; named = at.named }))
   where
     by : (b : Bool) → IsField fs name → IsSome (if b then Some (field_of f) else field_among fs name)
-    by true h = refl
-    by false h = h
+    by b h = grind arith
 
 -- ---- a sum that is added to
 
@@ -150,10 +115,7 @@ there_at name (f ∷ fs) (suc i) at = by (same_name name (entry_name f)) (there_
 added-elsewhere : (name : Name) (part : Numbers) (fs : List (Name × FieldEntry)) (ns : List Numbers) → Each (λ f. same_name (entry_name f) name ≡ false) fs → added (only_on name part) fs ns ≡ ns
 added-elsewhere name part [] ns h = refl
 added-elsewhere name part (f ∷ fs) [] h = refl
-added-elsewhere name part (f ∷ fs) (n ∷ ns) h =
-    let first : plus n (only_on name part (entry_name f)) ≡ n = ap (λ b. plus n (if b then part else nothing)) h.0 ∙ plus-nothing n in
-    let more = added-elsewhere name part fs ns h.1 in
-    λ i. first i ∷ more i
+added-elsewhere name part (f ∷ fs) (n ∷ ns) h = let more = added-elsewhere name part fs ns h.1 in grind arith
 
 -- the same, where a look-up finds none
 pub added-none : (name : Name) (part : Numbers) (fs : List (Name × FieldEntry)) (ns : List Numbers) → IsNone (field_among fs name) → added (only_on name part) fs ns ≡ ns
@@ -203,58 +165,17 @@ added-at name part (f ∷ fs) (n ∷ ns) (suc i) s long at =
 
 -- ---- what entries add
 
--- a line adds its part to its field alone
-pub part-line : (s : State) (l : Line) (f : Name) → only_on (line_name l) (part_of_line s l) f ≡ lines_numbers s (l ∷ []) f
-part-line s l f = by (same_name f (line_name l)) s
-  where
-    numbers : Bool → State → Numbers
-    numbers b s = record {
-      moved = if committed_state s then (if b then signed l.way l.used else pos 0) +ℤ pos 0 else pos 0;
-      takes = if open_state s then (if b then pos (if_take l.way l.held) else pos 0) +ℤ pos 0 else pos 0;
-      adds = if open_state s then (if b then pos (if_add l.way l.held) else pos 0) +ℤ pos 0 else pos 0;
-    }
-
-    by : (b : Bool) (s : State) → (if b then part_of_line s l else nothing) ≡ numbers b s
-    by true Open = same-numbers _ _ refl (omega (arith, ints)) (omega (arith, ints))
-    by true Committed = same-numbers _ _ (omega (arith, ints)) refl refl
-    by true Aborted = refl
-    by false Open = same-numbers _ _ refl (omega (arith, ints)) (omega (arith, ints))
-    by false Committed = same-numbers _ _ (omega (arith, ints)) refl refl
-    by false Aborted = refl
-
 -- one move more
 pub move-step : (ms : List MoveEntry) (i : ℕ) (m : MoveEntry) → i < length ms → m ≡ get_or ms i m → (f : Name) → plus (numbers_on (take i ms) [] f) (numbers_on (m ∷ []) [] f) ≡ numbers_on (take (i + 1) ms) [] f
-move-step ms i m h e f =
-    let step = total-step (moved_by_move f) ms i m h e in
-    same-numbers _ _ (omega (arith, ints)) (omega (arith, ints)) (omega (arith, ints))
+move-step ms i m h e f = grind (arith, (total-step (moved_by_move f) ms i m h e), same-numbers)
 
 -- one line more
 pub line-step : (s : State) (ls : List Line) (i : ℕ) (l : Line) → i < length ls → l ≡ get_or ls i l → (f : Name) → plus (lines_numbers s (take i ls) f) (lines_numbers s (l ∷ []) f) ≡ lines_numbers s (take (i + 1) ls) f
-line-step s ls i l h e f = by s
-  where
-    by : (s : State) → plus (lines_numbers s (take i ls) f) (lines_numbers s (l ∷ []) f) ≡ lines_numbers s (take (i + 1) ls) f
-    by Open =
-        let takes = total-step (taken_by_line f) ls i l h e in
-        let adds = total-step (added_by_line f) ls i l h e in
-        same-numbers _ _ (omega (arith, ints)) (omega (arith, ints)) (omega (arith, ints))
-    by Committed =
-        let moved = total-step (moved_by_line f) ls i l h e in
-        same-numbers _ _ (omega (arith, ints)) (omega (arith, ints)) (omega (arith, ints))
-    by Aborted = same-numbers _ _ (omega (arith, ints)) (omega (arith, ints)) (omega (arith, ints))
-
--- no lines come to nothing
-pub lines-none : (s : State) (f : Name) → lines_numbers s [] f ≡ nothing
-lines-none Open f = refl
-lines-none Committed f = refl
-lines-none Aborted f = refl
+line-step s ls i l h e f = grind (arith, common_steps, (total-step (taken_by_line f) ls i l h e), (total-step (added_by_line f) ls i l h e), (total-step (moved_by_line f) ls i l h e), same-numbers)
 
 -- one order more
 pub order-step : (os : List (ℕ × OrderEntry)) (i : ℕ) (o : ℕ × OrderEntry) → i < length os → o ≡ get_or os i o → (f : Name) → plus (numbers_on [] (take i os) f) (lines_numbers o.1.state o.1.lines.items f) ≡ numbers_on [] (take (i + 1) os) f
-order-step os i o h e f =
-    let moved = total-step (moved_by_order f) os i o h e in
-    let takes = total-step (taken_by_order f) os i o h e in
-    let adds = total-step (added_by_order f) os i o h e in
-    same-numbers _ _ (omega (arith, ints)) (omega (arith, ints)) (omega (arith, ints))
+order-step os i o h e f = grind (arith, (total-step (moved_by_order f) os i o h e), (total-step (taken_by_order f) os i o h e), (total-step (added_by_order f) os i o h e), same-numbers)
 
 -- one element more has the fact
 pub each-more : {X : Type 0} (P : X → Type 0) (xs : List X) (i : ℕ) (x : X) → i < length xs → x ≡ get_or xs i x → Each P (take i xs) → P x → Each P (take (i + 1) xs)
@@ -266,7 +187,4 @@ added-all ms os fs = added-twice (numbers_on ms []) (numbers_on [] os) (numbers_
 
 -- nothing is small
 pub small-nothing : (fs : List (Name × FieldEntry)) (ns : List Numbers) → ns ≡ map (λ f. nothing) fs → Each (IsSmall 0) ns
-small-nothing fs ns e = subst (Each (IsSmall 0)) (sym e) (each-map (IsSmall 0) (λ f. nothing) fs (each (λ f. small) fs))
-  where
-    small : IsSmall 0 nothing
-    small = record { low = omega (arith, ints); high = omega (arith, ints); take_low = omega (arith, ints); take_high = omega (arith, ints); add_low = omega (arith, ints); add_high = omega (arith, ints) }
+small-nothing fs ns e = grind (arith, each, each-map)

@@ -1,5 +1,5 @@
 -- What a test answers of a fact, and a call of an error.
-use Rattle.std.proofs.Common.{◌≡◌, ◌↔◌, ◌∙◌, Bool, Err, IfErr, IsTrue, Ok, Result, refl, subst, sym, true, false, true≢false}
+use Rattle.std.proofs.Common.{arith, ◌≡◌, ◌↔◌, ◌∙◌, Bool, Err, IfErr, IsTrue, Ok, Result, refl, subst, sym, true, false, true≢false}
 use Rattle.std.specs.Result.{IsErrAnd}
 
 pub yes : {P : Type 0} → P → IsTrue true ↔ P
@@ -13,5 +13,4 @@ true_not_false e f = true≢false (sym e ∙ f)
 
 -- an error that `?` passes up
 pub passed_up : {T E : Type 0} (r : Result T E) (e : E) (P : E → Type 0) → IsErrAnd r (λ y. y ≡ e) → P e → IfErr r P
-passed_up (Ok x) e P is p = tt
-passed_up (Err y) e P is p = subst P (sym is) p
+passed_up b e x is p = grind arith

@@ -2,22 +2,11 @@
 -- `abbrev`s, which unfold, and the proofs in them are not.
 use Rattle.std.proofs.Common.{◌≡◌, ◌≢◌, ℕ, ◌+◌, ◌<◌, ◌≤◌, ℤ, pos, ◌-ℤ◌, ◌+ℤ◌, ◌<ℤ◌, List, [], ◌∷◌, ◌++◌, length, Bool, true, false, IsTrue, IsFalse, IsNone, IsSomeAnd, Option, Some, None, refl, sym, subst, arith, true≢false, ◌↔◌, nat_lt, nat_le}
 use Rattle.std.specs.Prelude.{int_lt, is_some}
-use Rattle.std.proofs.lemmas.Int.{ints}
-use Rattle.std.specs.List.{AllByRecursion as Each}
-use Rattle.escrow.specs.declared.quantity.Way.{Way}
-use Rattle.escrow.specs.declared.quantity.Way.TheVariants.{Take, Add}
-use Rattle.words.specs.declared.open_line.OpenLine.{OpenLine}
-use Rattle.words.specs.declared.command.Command.{Command}
+use Rattle.book.proofs.Prelude.{Add, Check, Command, Each, Ledger, Line, MAX_ORDER_LINES, MAX_PLACES, Name, OpenLine, Order, Plain, Take, Way, bound, checks, field_named, full, held_to_add, held_to_take, ints, is_open, is_transfer, line_checks, line_name, line_on, new_order, next, on, open_orders, order_checks, order_numbered, places, settled, transfer_lines, with_order}
 use Rattle.words.specs.declared.command.Command.TheVariants as command
-use Rattle.words.specs.declared.limits.TheConstants.{MAX_ORDER_LINES}
-use Rattle.book.specs.declared.limits.TheConstants.{MAX_FIELDS, MAX_ORDERS, MAX_PLACES}
-use Rattle.book.specs.declared.order.Kind.TheVariants.{Plain, Transfer}
-use Rattle.book.specs.declared.order.Line.{Line}
-use Rattle.book.specs.Ledger.{Name, Order, Ledger, on, is_open, is_transfer, line_name, line_on, open_orders, order_numbered, field_named, places}
-use Rattle.book.specs.Outcomes.{settled}
-use Rattle.book.specs.Held.{held_to_take, held_to_add}
-use Rattle.book.specs.Next.{next, new_order, with_order, transfer_lines}
-use Rattle.book.specs.Answers.{Check, checks, order_checks, line_checks, bound, full, no_order, ended, not_held, over_use}
+use Rattle.book.specs.declared.limits.TheConstants.{MAX_FIELDS, MAX_ORDERS}
+use Rattle.book.specs.declared.order.Kind.TheVariants.{Transfer}
+use Rattle.book.specs.Answers.{no_order, ended, not_held, over_use}
 use Rattle.book.proofs.Bounds.{OneOn, Sound, falls_below_iff, rises_above_iff}
 use Rattle.book.proofs.Sums.{each-imp}
 use Rattle.book.proofs.Closing.{name_is}

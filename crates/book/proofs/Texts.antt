@@ -1,29 +1,22 @@
 -- Codes, keys and the spellings of commands are in ASCII.
 use Rattle.std.proofs.Common.{◌≡◌, ℕ, zero, suc, ◌<◌, ◌≤◌, Bool, true, false, ◌&&◌, List, [], ◌∷◌, codes, decimal, refl, sym, arith, true≢false}
-use Rattle.std.proofs.lemmas.Bool.Decides.{nat_tests}
+use Rattle.book.proofs.Prelude.{Add, Command, Deliver, Each, IsArticle, IsBranch, IsInRange, IsKey, IsOpenLine, IsUtf8, More, OpenLine, Take, Way, Writeoff, nat_tests, recursion_from_All, spelling}
 use Rattle.std.proofs.lemmas.Fmt.{IsAscii-decimal}
-use Rattle.std.proofs.lemmas.List.Elements.{recursion_from_All}
 use Rattle.std.proofs.lemmas.Str.{IsAscii-append, IsUtf8-from_ascii}
 use Rattle.std.proofs.lemmas.Str.Ascii.{IsAscii-nil}
-use Rattle.std.specs.List.{AllByRecursion as Each, list_all}
-use Rattle.std.specs.Str.{IsAscii, IsUtf8}
-use Rattle.escrow.specs.Codes.{IsArticle, IsBranch, IsKey, is_article_byte, is_branch_byte, is_key_byte}
-use Rattle.escrow.specs.declared.quantity.Way.{Way}
-use Rattle.escrow.specs.declared.quantity.Way.TheVariants.{Add, Take}
-use Rattle.words.specs.OpenLines.{IsOpenLine, line_words, way_word}
-use Rattle.words.specs.Spelling.{IsInRange, command_words, spelling}
+use Rattle.std.specs.List.{list_all}
+use Rattle.std.specs.Str.{IsAscii}
+use Rattle.escrow.specs.Codes.{is_article_byte, is_branch_byte, is_key_byte}
+use Rattle.words.specs.OpenLines.{line_words, way_word}
+use Rattle.words.specs.Spelling.{command_words}
 use Rattle.words.specs.Words.{spaced}
-use Rattle.words.specs.declared.command.Command.{Command}
-use Rattle.words.specs.declared.command.Command.TheVariants.{Abort, Commit, Deliver, Expire, Field, More, Open, Release, Transfer, Use, Writeoff}
-use Rattle.words.specs.declared.open_line.OpenLine.{OpenLine}
+use Rattle.words.specs.declared.command.Command.TheVariants.{Abort, Commit, Expire, Field, Open, Release, Transfer, Use}
 
 ascii_cons : (b : ℕ) (bs : List ℕ) → b < 128 → IsAscii bs → IsAscii (b ∷ bs)
-ascii_cons b bs h k zero = h
-ascii_cons b bs h k (suc i) = k i
+ascii_cons b bs h k x = grind arith
 
 both : (a b : Bool) → (a && b) ≡ true → (a ≡ true) × (b ≡ true)
-both true b h = (refl, h)
-both false b h = absurd (true≢false (sym h))
+both x b h = grind arith
 
 ascii_all : (p : ℕ → Bool) → ((b : ℕ) → p b ≡ true → b < 128) → (bs : List ℕ) → list_all p bs ≡ true → IsAscii bs
 ascii_all p small [] h = IsAscii-nil
@@ -68,13 +61,11 @@ spaced_ascii (w ∷ []) h = h.0
 spaced_ascii (w ∷ v ∷ ws) h = IsAscii-append w (32 ∷ spaced (v ∷ ws)) h.0 (ascii_cons 32 (spaced (v ∷ ws)) (omega arith) (spaced_ascii (v ∷ ws) h.1))
 
 way_ascii : (way : Way) → IsAscii (way_word way)
-way_ascii Take = text_ascii (codes "take") (omega arith, (omega arith, (omega arith, (omega arith, tt))))
-way_ascii Add = text_ascii (codes "add") (omega arith, (omega arith, (omega arith, tt)))
+way_ascii b = grind arith
 
 lines_ascii : (lines : List OpenLine) → Each IsOpenLine lines → Each IsAscii (line_words lines)
 lines_ascii [] h = tt
-lines_ascii (line ∷ lines) h =
-    (way_ascii line.way, (branch_ascii line.branch h.0.branch, (article_ascii line.article h.0.article, (number_ascii line.qty (let q = h.0.qty in omega arith), lines_ascii lines h.1))))
+lines_ascii (line ∷ lines) h = let more = lines_ascii lines h.1 in grind (arith, article_ascii, branch_ascii, number_ascii, way_ascii)
 
 words_ascii : (c : Command) → IsInRange c → Each IsAscii (command_words c)
 words_ascii (Field b a lo hi start) h = (text_ascii (codes "field") (omega arith, (omega arith, (omega arith, (omega arith, (omega arith, tt))))), (branch_ascii b h.0, (article_ascii a h.1, (number_ascii lo (let k = h.2 in omega arith), (number_ascii hi (let k = h.3 in omega arith), (number_ascii start (let k = h.4 in omega arith), tt))))))

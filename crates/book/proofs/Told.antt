@@ -1,64 +1,34 @@
 -- Two good ledgers with equal rows are equal, and so is whatever the same rows tell.
 use Rattle.std.proofs.Common.{◌≡◌, ℕ, ◌+◌, ◌<◌, pos, List, [], ◌∷◌, ◌++◌, map, flat_map, Bool, true, false, refl, sym, ap, ◌∙◌, subst, arith, true≢false, nat_cmp, Less}
-use Rattle.std.proofs.lemmas.Int.{ints}
-use Rattle.std.specs.List.{AllByRecursion as Each, AllZip}
-use Rattle.std.specs.List.Sorted.{IsStrictlySortedBy}
-use Rattle.escrow.specs.declared.quantity.Way.{Way}
-use Rattle.escrow.specs.declared.quantity.Way.TheVariants.{Take, Add}
-use Rattle.book.specs.declared.order.Kind.{Kind}
-use Rattle.book.specs.declared.order.Kind.TheVariants.{Plain, Transfer}
-use Rattle.book.specs.declared.order.State.{State}
-use Rattle.book.specs.declared.order.State.TheVariants.{Open, Committed, Aborted}
-use Rattle.book.specs.declared.order.Line.{Line}
-use Rattle.book.specs.Ledger.{Field, Move, Order, Ledger, Kept}
-use Rattle.book.specs.Good.{Good, IsGoodKept}
-use Rattle.book.specs.Told.{AreOthers, TellsField, TellsLedger}
-use Rattle.book.specs.Rows.{FieldCells, LineCells, OrderCells, kind_code, state_code, way_code, IsFieldRow, move_row, order_row, line_row, lines_from, order_lines, kept_row, desk_row, Content, IsRowsOf}
+use Rattle.book.proofs.Prelude.{Aborted, Add, AllZip, AreOthers, Committed, Content, Each, FieldCells, Good, IsFieldRow, IsGoodKept, IsRowsOf, IsStrictlySortedBy, Kept, Kind, Ledger, Line, LineCells, Move, Order, OrderCells, Plain, State, Take, TellsField, Way, desk_row, ints, kept_row, line_row, lines_from, move_row, order_lines, order_row, spelling_one}
+use Rattle.book.specs.declared.order.Kind.TheVariants.{Transfer}
+use Rattle.book.specs.declared.order.State.TheVariants.{Open}
+use Rattle.book.specs.Ledger.{Field}
+use Rattle.book.specs.Told.{TellsLedger}
+use Rattle.book.specs.Rows.{kind_code, state_code, way_code}
 use Rattle.book.proofs.Sums.{each-imp}
 use Rattle.book.proofs.Closing.{less_is}
 use Rattle.book.proofs.Lists.{each-unmap}
-use Rattle.words.proofs.OneItem.{spelling_one}
 
 pub same_pos : (a b : ℕ) → pos a ≡ pos b → a ≡ b
 same_pos a b e = omega (arith, ints)
 
-head_or : {X : Type 0} → X → List X → X
-head_or d [] = d
-head_or d (x ∷ xs) = x
-
-rest_of : {X : Type 0} → List X → List X
-rest_of [] = []
-rest_of (x ∷ xs) = xs
-
-is_some_list : {X : Type 0} → List X → Bool
-is_some_list [] = false
-is_some_list (x ∷ xs) = true
-
 pub same_first : {X : Type 0} (x y : X) (xs ys : List X) → x ∷ xs ≡ y ∷ ys → x ≡ y
-unfolding head_or
-same_first x y xs ys e = ap (head_or x) e
+same_first x y xs ys e = cc
 
 pub same_rest : {X : Type 0} (x y : X) (xs ys : List X) → x ∷ xs ≡ y ∷ ys → xs ≡ ys
-unfolding rest_of
-same_rest x y xs ys e = ap rest_of e
-
-pub not_empty : {X : Type 0} (x : X) (xs : List X) → x ∷ xs ≡ [] → ⊥
-unfolding is_some_list
-not_empty x xs e = true≢false (ap is_some_list e)
+same_rest x y xs ys e = cc
 
 pub map_tells : {X Y : Type 0} (P : X → Type 0) (f : X → Y) → ((a b : X) → P a → P b → f a ≡ f b → a ≡ b) → (xs ys : List X) → Each P xs → Each P ys → map f xs ≡ map f ys → xs ≡ ys
 map_tells P f one [] [] h k e = refl
-map_tells P f one [] (y ∷ ys) h k e = absurd (not_empty (f y) (map f ys) (sym e))
-map_tells P f one (x ∷ xs) [] h k e = absurd (not_empty (f x) (map f xs) e)
+map_tells P f one [] (y ∷ ys) h k e = absurd (cc)
+map_tells P f one (x ∷ xs) [] h k e = absurd (cc)
 map_tells P f one (x ∷ xs) (y ∷ ys) h k e = let a = one x y h.0 k.0 (same_first (f x) (f y) (map f xs) (map f ys) e) in let b = map_tells P f one xs ys h.1 k.1 (same_rest (f x) (f y) (map f xs) (map f ys) e) in λ i. a i ∷ b i
 
 -- fields
 
 same_field : (f g : Field) (row : FieldCells) → TellsField f row → TellsField g row → f ≡ g
-same_field f g row h k =
-    let b = sym h.branch ∙ k.branch in let a = sym h.article ∙ k.article in
-    let l = same_pos f.lo g.lo (sym h.lo ∙ k.lo) in let u = same_pos f.hi g.hi (sym h.hi ∙ k.hi) in let s = same_pos f.start g.start (sym h.start ∙ k.start) in
-    λ i. record { name = record { branch = b i; article = a i }; lo = l i; hi = u i; start = s i }
+same_field f g row h k = grind arith
 
 same_fields : (fs gs : List Field) (rows : List FieldCells) → AllZip TellsField fs rows → AllZip TellsField gs rows → fs ≡ gs
 same_fields [] [] rows h k = refl
@@ -77,48 +47,25 @@ fields_tell A (f ∷ fs) (r ∷ rows) h = (record { branch = h.0.branch; article
 -- moves
 
 same_move : (m n : Move) → move_row m ≡ move_row n → m ≡ n
-same_move m n e = let p = same_pos m.place n.place (ap (λ r. r.place) e) in
-    λ i. record { place = p i; field = record { branch = (e i).branch; article = (e i).article }; amount = (e i).qty }
+same_move m n e = grind arith
 
 -- codes
 
 pub same_kind : (k j : Kind) → kind_code k ≡ kind_code j → k ≡ j
-same_kind Plain Plain e = refl
-same_kind Transfer Transfer e = refl
-same_kind Plain Transfer e = absurd (omega (arith, ints))
-same_kind Transfer Plain e = absurd (omega (arith, ints))
+same_kind b x e = grind arith
 
 pub same_state : (s t : State) → state_code s ≡ state_code t → s ≡ t
-same_state Open Open e = refl
-same_state Committed Committed e = refl
-same_state Aborted Aborted e = refl
-same_state Open Committed e = absurd (omega (arith, ints))
-same_state Open Aborted e = absurd (omega (arith, ints))
-same_state Committed Open e = absurd (omega (arith, ints))
-same_state Committed Aborted e = absurd (omega (arith, ints))
-same_state Aborted Open e = absurd (omega (arith, ints))
-same_state Aborted Committed e = absurd (omega (arith, ints))
-
-pub same_way : (v w : Way) → way_code v ≡ way_code w → v ≡ w
-same_way Take Take e = refl
-same_way Add Add e = refl
-same_way Take Add e = absurd (omega (arith, ints))
-same_way Add Take e = absurd (omega (arith, ints))
+same_state c b e = grind arith
 
 -- lines and orders
 
 same_line : (n nr : ℕ) (l m : Line) → line_row n nr l ≡ line_row n nr m → l ≡ m
-same_line n nr l m e = let w = same_way l.way m.way (ap (λ r. r.way) e) in let h = same_pos l.held m.held (ap (λ r. r.held) e) in let u = same_pos l.used m.used (ap (λ r. r.used) e) in
-    λ i. record { way = w i; branch = (e i).branch; article = (e i).article; held = h i; used = u i }
-
-no_other : (n nr : ℕ) (l : Line) (rest rows : List LineCells) → AreOthers n rows → line_row n nr l ∷ rest ≡ rows → ⊥
-no_other n nr l rest [] o e = not_empty _ _ e
-no_other n nr l rest (r ∷ rows) o e = o.0 (sym (ap (λ r. r.number) (same_first _ _ _ _ e)))
+same_line n nr l m e = grind arith
 
 same_lines : (n nr : ℕ) (ls ms : List Line) (rest others : List LineCells) → AreOthers n rest → AreOthers n others → lines_from n nr ls ++ rest ≡ lines_from n nr ms ++ others → (ls ≡ ms) × (rest ≡ others)
 same_lines n nr [] [] rest others p q e = (refl, e)
-same_lines n nr [] (m ∷ ms) rest others p q e = absurd (no_other n nr m (lines_from n (nr + 1) ms ++ others) rest p (sym e))
-same_lines n nr (l ∷ ls) [] rest others p q e = absurd (no_other n nr l (lines_from n (nr + 1) ls ++ rest) others q e)
+same_lines n nr [] (m ∷ ms) rest others p q e = absurd (grind arith)
+same_lines n nr (l ∷ ls) [] rest others p q e = absurd (grind arith)
 same_lines n nr (l ∷ ls) (m ∷ ms) rest others p q e =
     let a = same_line n nr l m (same_first _ _ _ _ e) in
     let b = same_lines n (nr + 1) ls ms rest others p q (same_rest _ _ _ _ e) in
@@ -142,8 +89,8 @@ after o os h = each-imp (λ m e. less_is o.number m.number e) os (each-unmap (λ
 same_orders : (os ps : List Order) → IsStrictlySortedBy nat_cmp (map (λ o. o.number) os) → IsStrictlySortedBy nat_cmp (map (λ o. o.number) ps) → map order_row os ≡ map order_row ps → flat_map order_lines os ≡ flat_map order_lines ps → os ≡ ps
 unfolding IsStrictlySortedBy
 same_orders [] [] h k e d = refl
-same_orders [] (p ∷ ps) h k e d = absurd (not_empty _ _ (sym e))
-same_orders (o ∷ os) [] h k e d = absurd (not_empty _ _ e)
+same_orders [] (p ∷ ps) h k e d = absurd (cc)
+same_orders (o ∷ os) [] h k e d = absurd (cc)
 same_orders (o ∷ os) (p ∷ ps) h k e d =
     let row = same_first (order_row o) (order_row p) (map order_row os) (map order_row ps) e in
     let n = same_pos o.number p.number (ap (λ r. r.number) row) in
@@ -157,8 +104,7 @@ same_orders (o ∷ os) (p ∷ ps) h k e d =
     λ i. record { number = n i; kind = ki i; until = u i; state = s i; lines = ls.0 i } ∷ more i
 
 same_kept : (k j : Kept) → IsGoodKept k → IsGoodKept j → kept_row k ≡ kept_row j → k ≡ j
-same_kept k j g h e = let p = same_pos k.place j.place (ap (λ r. r.place) e) in let c = spelling_one k.command j.command g.command h.command (ap (λ r. r.words) e) in
-    λ i. record { key = (e i).reqkey; place = p i; command = c i }
+same_kept k j g h e = grind (arith, (same_pos k.place j.place (ap (λ r. r.place) e)), (spelling_one k.command j.command g.command h.command (ap (λ r. r.words) e)))
 
 any : {X : Type 0} (xs : List X) → Each (λ x. Unit {0}) xs
 any [] = tt
@@ -166,12 +112,9 @@ any (x ∷ xs) = (tt, any xs)
 
 same_numbers : (os ps : List Order) → map order_row os ≡ map order_row ps → map (λ o. o.number) os ≡ map (λ o. o.number) ps
 same_numbers [] [] e = refl
-same_numbers [] (p ∷ ps) e = absurd (not_empty _ _ (sym e))
-same_numbers (o ∷ os) [] e = absurd (not_empty _ _ e)
-same_numbers (o ∷ os) (p ∷ ps) e =
-    let a = same_pos o.number p.number (ap (λ (r : OrderCells). r.number) (same_first (order_row o) (order_row p) (map order_row os) (map order_row ps) e)) in
-    let b = same_numbers os ps (same_rest (order_row o) (order_row p) (map order_row os) (map order_row ps) e) in
-    λ i. a i ∷ b i
+same_numbers [] (p ∷ ps) e = absurd (cc)
+same_numbers (o ∷ os) [] e = absurd (cc)
+same_numbers (o ∷ os) (p ∷ ps) e = let more = same_numbers os ps (same_rest (order_row o) (order_row p) (map order_row os) (map order_row ps) e) in grind arith
 
 pub rows_tell : (A : Ledger) (C : Content) → IsRowsOf A C → TellsLedger A C
 rows_tell A C r = record { desk = r.desk; fields = fields_tell A A.fields C.fields r.fields; moves = r.moves; orders = r.orders; lines = r.lines; kept = r.kept }

@@ -1,25 +1,9 @@
 -- At a good ledger every request has an answer.
 use Rattle.std.proofs.Common.{◌≡◌, ◌≢◌, ℕ, ◌+◌, ◌<◌, ◌≤◌, ℤ, ◌<ℤ◌, List, [], ◌∷◌, ◌++◌, map, find, Bool, true, false, IsSomeAnd, Option, Some, None, refl, sym, arith, if◌then◌else◌, true≢false, ◌⊎◌, inl, inr, ◌↔◌, MatchOption, nat_lt, length}
-use Rattle.std.proofs.lemmas.Int.{ints, by_lt_z}
-use native.Mathlib.Decide.{dec_le, dec_lt}
-use Rattle.std.specs.List.{AllByRecursion as Each}
-use Rattle.escrow.specs.declared.quantity.Way.{Way}
-use Rattle.escrow.specs.declared.quantity.Way.TheVariants.{Take, Add}
-use Rattle.words.specs.declared.open_line.OpenLine.{OpenLine}
-use Rattle.words.specs.declared.command.Command.{Command}
+use Rattle.book.proofs.Prelude.{Add, Answers, AnswersNew, Check, Command, Done, Each, FirstFailure, Good, Kept, KeyReused, Kind, Ledger, MayHoldMore, Name, OpenLine, Plain, Refusal, Refused, Reply, Request, Take, Way, accept, add_hold, bound, by_lt_z, change_order, checks, dec_le, field_named, ints, kept_under, line_checks, line_name, line_on, new_line, new_order, next, on, order_numbered, places, same_command, transfer_lines, with_order}
+use native.Mathlib.Decide.{dec_lt}
 use Rattle.words.specs.declared.command.Command.TheVariants as command
-use Rattle.words.specs.declared.command.Request.{Request}
-use Rattle.words.specs.declared.reply.Refusal.{Refusal}
-use Rattle.words.specs.declared.reply.Refusal.TheVariants.{KeyReused}
-use Rattle.words.specs.declared.reply.Reply.{Reply}
-use Rattle.words.specs.declared.reply.Reply.TheVariants.{Done, Refused}
-use Rattle.book.specs.declared.order.Kind.{Kind}
-use Rattle.book.specs.declared.order.Kind.TheVariants.{Plain, Transfer}
-use Rattle.book.specs.Held.{MayHoldMore}
-use Rattle.book.specs.Ledger.{Name, Ledger, Kept, on, line_name, line_on, order_numbered, field_named, kept_under, places}
-use Rattle.book.specs.Next.{next, accept, change_order, add_hold, new_line, new_order, with_order, transfer_lines}
-use Rattle.book.specs.Answers.{Check, FirstFailure, checks, bound, line_checks, Answers, AnswersNew, same_command}
-use Rattle.book.specs.Good.{Good}
+use Rattle.book.specs.declared.order.Kind.TheVariants.{Transfer}
 use Rattle.book.proofs.Sums.{each-both}
 use Rattle.book.proofs.Bounds.{OneOn, Sound, falls_below_iff, rises_above_iff}
 use Rattle.book.proofs.Closing.{sounds_from_good, at_number}
@@ -47,10 +31,6 @@ in_turn (c ∷ cs) d = by d.0 (λ h. in_turn cs (d.1 h))
     by (inl h) rest = (Some (c.refusal, c.line), inl (h, refl))
     by (inr h) rest = let r = rest h in (r.0, inr (h, r.1))
 
-dec_iff : {P Q : Type 0} → P ↔ Q → Decided Q → Decided P
-dec_iff e (inl h) = inl (e.1 h)
-dec_iff e (inr h) = inr (λ k. h (e.0 k))
-
 dec_less : (m n : ℕ) → Decided (m < n)
 dec_less m n = elim (dec_lt m n) [ yes h ↦ inl h | no h ↦ inr h ]
 
@@ -60,41 +40,15 @@ dec_upto m n = elim (dec_le m n) [ yes h ↦ inl h | no h ↦ inr h ]
 dec_less_z : (a b : ℤ) → Decided (a <ℤ b)
 dec_less_z a b = by_lt_z a b (λ h. inl h) (λ h. inr (λ k. omega (arith, ints)))
 
-dec_is : (b c : Bool) → Decided (b ≡ c)
-dec_is true true = inl refl
-dec_is false false = inl refl
-dec_is true false = inr true≢false
-dec_is false true = inr (λ e. true≢false (sym e))
-
-dec_some : {X : Type 0} (P : X → Type 0) (o : Option X) → ((x : X) → Decided (P x)) → Decided (IsSomeAnd o P)
-dec_some P None d = inr (λ h. absurd h)
-dec_some P (Some x) d = d x
-
-dec_way : (w v : Way) → Decided (w ≢ v)
-dec_way Take Take = inr (λ h. h refl)
-dec_way Add Add = inr (λ h. h refl)
-dec_way Take Add = inl (λ e. cc)
-dec_way Add Take = inl (λ e. cc)
-
-dec_both : {P Q : Type 0} → Decided P → Decided Q → Decided (P × Q)
-dec_both (inl p) (inl q) = inl (p, q)
-dec_both (inl p) (inr q) = inr (λ h. q h.1)
-dec_both (inr p) d = inr (λ h. p h.0)
-
-dec_not : {P : Type 0} → Decided P → Decided (P → ⊥)
-dec_not (inl p) = inr (λ h. h p)
-dec_not (inr p) = inl p
-
 dec_bound : (w : Way) (B : Ledger) (f : Name) (i : ℕ) → Each Sound B.orders → Decided (bound w B f i).fails
-dec_bound Take B f i s = dec_iff (falls_below_iff B s f) (dec_some _ (field_named B f) (λ e. dec_less_z _ _))
-dec_bound Add B f i s = dec_iff (rises_above_iff B s f) (dec_some _ (field_named B f) (λ e. dec_less_z _ _))
+dec_bound b x f i s = grind (arith, dec_less_z, falls_below_iff, rises_above_iff)
 
 found_lines : (A : Ledger) (n : ℕ) (k : Kind) (u : ℕ) (before ls : List OpenLine) → Each Sound A.orders → ((g : Name) → OneOn g (map new_line before)) → InTurn (line_checks A (new_order n k u) before ls)
 found_lines A n k u before [] s one = tt
 found_lines A n k u before (l ∷ ls) s one = (
-  (dec_is _ _),
+  (grind arith),
   λ same. (
-    (dec_is _ _),
+    (grind arith),
     λ there.
         let one' : (g : Name) → OneOn g (map new_line (before ++ l ∷ [])) = fresh-push before l one (none_if_not_some (find (on (line_name (new_line l))) (map new_line before)) same) in (
           (dec_bound l.way (with_order (new_order n k u (before ++ l ∷ [])) A) (line_name (new_line l)) (length before + 1)
@@ -105,25 +59,25 @@ found_lines A n k u before (l ∷ ls) s one = (
 )
 
 found : (A : Ledger) (c : Command) → Good A → InTurn (checks A c)
-found A (command.Field b a lo hi start) g = ((dec_less _ _), λ _. ((dec_upto _ _), λ _. ((dec_is _ _), λ _. ((dec_not (dec_both (dec_upto lo start) (dec_upto start hi))), λ _. tt))))
-found A (command.Deliver b a q) g = ((dec_less _ _), λ _. ((dec_is _ _), λ _. ((dec_bound Add (next A (command.Deliver b a q)) (record { branch = b; article = a }) 0 (sounds_from_good A g)), λ _. tt)))
-found A (command.Writeoff b a q) g = ((dec_less _ _), λ _. ((dec_is _ _), λ _. ((dec_bound Take (next A (command.Writeoff b a q)) (record { branch = b; article = a }) 0 (sounds_from_good A g)), λ _. tt)))
-found A (command.Open n until lines) g = ((dec_less _ _), λ _. ((dec_upto _ _), λ _. ((dec_is _ _), λ _. ((dec_upto _ _), λ _. found_lines A n Plain until [] lines (sounds_from_good A g) (λ _. tt)))))
-found A (command.Transfer n until a from to q) g = ((dec_less _ _), λ _. ((dec_upto _ _), λ _. ((dec_is _ _), λ _. ((dec_upto _ _), λ _. found_lines A n Transfer until [] (transfer_lines a from to q) (sounds_from_good A g) (λ _. tt)))))
+found A (command.Field b a lo hi start) g = ((dec_less _ _), λ _. ((dec_upto _ _), λ _. ((grind arith), λ _. ((grind arith), λ _. tt))))
+found A (command.Deliver b a q) g = ((dec_less _ _), λ _. ((grind arith), λ _. ((dec_bound Add (next A (command.Deliver b a q)) (record { branch = b; article = a }) 0 (sounds_from_good A g)), λ _. tt)))
+found A (command.Writeoff b a q) g = ((dec_less _ _), λ _. ((grind arith), λ _. ((dec_bound Take (next A (command.Writeoff b a q)) (record { branch = b; article = a }) 0 (sounds_from_good A g)), λ _. tt)))
+found A (command.Open n until lines) g = ((dec_less _ _), λ _. ((dec_upto _ _), λ _. ((grind arith), λ _. ((dec_upto _ _), λ _. found_lines A n Plain until [] lines (sounds_from_good A g) (λ _. tt)))))
+found A (command.Transfer n until a from to q) g = ((dec_less _ _), λ _. ((dec_upto _ _), λ _. ((grind arith), λ _. ((dec_upto _ _), λ _. found_lines A n Transfer until [] (transfer_lines a from to q) (sounds_from_good A g) (λ _. tt)))))
 found A (command.More n way b a q) g = let f : Name = record { branch = b; article = a } in let l : OpenLine = record { way = way; branch = b; article = a; qty = q } in (
   (dec_less _ _),
   λ _. (
-    (dec_is _ _),
+    (grind arith),
     λ p1. (
-      (dec_some _ (order_numbered A n) (λ o. dec_is _ _)),
+      (grind arith),
       λ p2. (
-        (dec_some _ (order_numbered A n) (λ o. dec_is _ _)),
+        (grind arith),
         λ p3. (
-          (dec_is _ _),
+          (grind arith),
           λ _. (
-            (dec_some _ (order_numbered A n) (λ o. dec_some _ (line_on o f) (λ m. dec_way m.way way))),
+            (grind arith),
             λ p5. (
-              (dec_some _ (order_numbered A n) (λ o. dec_both (dec_is _ _) (dec_upto _ _))),
+              (grind arith),
               λ _.
                   ((dec_bound way (next A (command.More n way b a q)) f 0 (more_sound l (takes_more f way (order_numbered A n) p1 p2 p3 p5))), λ _. tt),
             ),
@@ -136,12 +90,10 @@ found A (command.More n way b a q) g = let f : Name = record { branch = b; artic
   where
     more_sound : (l : OpenLine) → IsSomeAnd (order_numbered A n) (MayHoldMore (line_name (new_line l)) l.way) → Each Sound (change_order n (add_hold l) A).orders
     more_sound l t = sound-more A n l (sounds_from_good A g) (each-both (λ o s k e. ((k e).0, raised l o s (k e))) A.orders (sounds_from_good A g) (at_number (MayHoldMore (line_name (new_line l)) l.way) n A.orders g.orders_in_order t))
-found A (command.Use n b a q) g = let f : Name = record { branch = b; article = a } in
-    ((dec_less _ _), λ _. ((dec_is _ _), λ _. ((dec_some _ (order_numbered A n) (λ o. dec_is _ _)), λ _. ((dec_some _ (order_numbered A n) (λ o. dec_is _ _)), λ _. ((dec_some _ (order_numbered A n) (λ o. dec_some _ (line_on o f) (λ m. dec_less _ _))), λ _. tt)))))
-found A (command.Release n b a q) g = let f : Name = record { branch = b; article = a } in
-    ((dec_less _ _), λ _. ((dec_is _ _), λ _. ((dec_some _ (order_numbered A n) (λ o. dec_is _ _)), λ _. ((dec_some _ (order_numbered A n) (λ o. dec_is _ _)), λ _. ((dec_some _ (order_numbered A n) (λ o. dec_some _ (line_on o f) (λ m. dec_less _ _))), λ _. tt)))))
-found A (command.Commit n) g = ((dec_is _ _), λ _. ((dec_some _ (order_numbered A n) (λ o. dec_is _ _)), λ _. tt))
-found A (command.Abort n) g = ((dec_is _ _), λ _. ((dec_some _ (order_numbered A n) (λ o. dec_is _ _)), λ _. tt))
+found A (command.Use n b a q) g = grind arith
+found A (command.Release n b a q) g = grind arith
+found A (command.Commit n) g = ((grind arith), λ _. ((grind arith), λ _. tt))
+found A (command.Abort n) g = ((grind arith), λ _. ((grind arith), λ _. tt))
 found A (command.Expire now) g = ((dec_less _ _), λ _. ((dec_less _ _), λ _. tt))
 
 pub answered_if_good : (A : Ledger) (r : Request) → Good A → (reply : Reply) × (B : Ledger) × Answers A r reply B

@@ -1,29 +1,12 @@
 -- The commit of a transfer leaves every article's total as it was.
+use Rattle.book.proofs.Prelude.{Aborted, Add, Answers, AnswersNew, Committed, Done, Each, FirstFailure, Good, IsGoodLine, IsStrictlySortedBy, IsTransferPair, Kept, KeyReused, Ledger, Line, Name, Order, Refusal, Refused, Reply, Request, State, Take, Way, accept, article_total, bytes_eq, checks, committed_state, common_steps, ints, is_committed, is_lt, is_open, is_transfer, kept_under, line_name, name_cmp, on, open_state, order_numbered, places, same_command, same_name, set_state, settled, signed, tied_itself}
 use Rattle.std.proofs.Common.{◌≡◌, ℕ, ◌<◌, ℤ, pos, neg_ℤ, ◌+ℤ◌, List, [], ◌∷◌, map, find, Bool, true, false, ◌==◌, IsTrue, IsSome, IsSomeAnd, Option, Some, None, refl, sym, ap, ◌∙◌, subst, arith, if◌then◌else◌, true≢false, nat_cmp, Less, is_some, MatchOption, ◌+◌}
-use Rattle.std.proofs.lemmas.Int.{ints}
-use Rattle.std.specs.List.{AllByRecursion as Each}
-use Rattle.std.specs.List.Sorted.{IsStrictlySortedBy}
-use Rattle.std.specs.Str.{bytes_eq}
-use Rattle.escrow.specs.declared.quantity.Way.{Way}
-use Rattle.escrow.specs.declared.quantity.Way.TheVariants.{Take, Add}
 use Rattle.words.specs.declared.command.Command.TheVariants as command
-use Rattle.words.specs.declared.command.Request.{Request}
-use Rattle.words.specs.declared.reply.Refusal.{Refusal}
-use Rattle.words.specs.declared.reply.Refusal.TheVariants.{KeyReused}
-use Rattle.words.specs.declared.reply.Reply.{Reply}
-use Rattle.words.specs.declared.reply.Reply.TheVariants.{Done, Refused}
-use Rattle.book.specs.declared.order.State.{State}
-use Rattle.book.specs.declared.order.State.TheVariants.{Open, Committed, Aborted}
-use Rattle.book.specs.declared.order.Line.{Line}
-use Rattle.book.specs.Ledger.{Name, Field, Order, Ledger, Kept, kept_under, places, on, is_open, is_committed, open_state, committed_state, is_transfer, line_name, same_name, name_cmp, order_numbered}
-use Rattle.book.specs.Outcomes.{total, signed, moved, settled, article_total}
-use Rattle.book.specs.Next.{accept, set_state}
-use Rattle.book.specs.Answers.{FirstFailure, checks, Answers, AnswersNew, same_command}
-use Rattle.book.specs.Good.{Good, IsGoodLine, IsTransferPair}
+use Rattle.book.specs.declared.order.State.TheVariants.{Open}
+use Rattle.book.specs.Ledger.{Field}
+use Rattle.book.specs.Outcomes.{total, moved}
 use Rattle.book.proofs.Sums.{each, each-imp, total-eq, total-sum, total-zero}
-use Rattle.book.proofs.Closing.{all_pass, name_is, open_there, less_is}
-use Rattle.std.proofs.lemmas.Cmp.{tied_itself}
-use Rattle.std.specs.Ordering.{is_lt}
+use Rattle.book.proofs.Closing.{all_pass, name_is, less_is}
 use Rattle.book.proofs.Staying.{name_cmp_total}
 use Rattle.book.proofs.Lists.{each-unmap}
 
@@ -36,11 +19,7 @@ one_part article name z f = if bytes_eq f.name.article article then (if same_nam
 
 at_none : (article : List ℕ) (name : Name) (z : ℤ) (fs : List Field) → Each (λ f. same_name f.name name ≡ false) fs → total (one_part article name z) fs ≡ pos 0
 unfolding one_part
-at_none article name z fs h = total-zero _ fs (each-imp (λ f e. by f (bytes_eq f.name.article article) e) fs h)
-  where
-    by : (f : Field) (b : Bool) → same_name f.name name ≡ false → (if b then (if same_name f.name name then z else pos 0) else pos 0) ≡ pos 0
-    by f true e = rw e refl
-    by f false e = refl
+at_none article name z fs h = grind (arith, each-imp, total-zero)
 
 back : (f g : Name) → same_name f g ≡ true → same_name g f ≡ true
 back f g e = subst (λ h. same_name g h ≡ true) (sym (name_is f g e)) (subst (λ h. same_name h g ≡ true) (name_is f g e) e)
@@ -59,23 +38,11 @@ at_one article name z (f ∷ fs) sorted h = step (same_name name f.name) refl h 
     here t = rw (back name f.name t) (ap (λ n. if bytes_eq n.article article then z else pos 0) (sym (name_is name f.name t)))
 
     apart : same_name name f.name ≡ false → (b c : Bool) → same_name f.name name ≡ c → (if b then (if same_name f.name name then z else pos 0) else pos 0) ≡ pos 0
-    apart t true true d = absurd (true≢false (sym (back f.name name d) ∙ t))
-    apart t true false d = rw d refl
-    apart t false c d = refl
+    apart t b c d = grind (arith, back)
 
     step : (b : Bool) → same_name name f.name ≡ b → IsSome (if b then Some f else find (λ e. same_name name e.name) fs) → (IsSome (find (λ e. same_name name e.name) fs) → total (one_part article name z) fs ≡ (if bytes_eq name.article article then z else pos 0))
         → total (one_part article name z) (f ∷ fs) ≡ (if bytes_eq name.article article then z else pos 0)
-    step true t h more =
-        let a = here t in
-        let b : total (one_part article name z) fs ≡ pos 0 = at_none article name z fs (each-imp (λ m less. others t m less (same_name m.name name) refl) fs (each-unmap (λ n. name_cmp f.name n ≡ Less) (λ f. f.name) fs sorted.0)) in omega (arith, ints)
-    step false t h more =
-        let a = apart t (bytes_eq f.name.article article) (same_name f.name name) refl in
-        let b : total (one_part article name z) fs ≡ (if bytes_eq name.article article then z else pos 0) = more h in omega (arith, ints)
-
--- over the article's fields, the two lines of a transfer even out
-evens : (b : Bool) (v w : Way) (m n : ℕ) → v ≡ Take → w ≡ Add → m ≡ n → (if b then signed v m else pos 0) +ℤ (if b then signed w n else pos 0) ≡ pos 0
-evens true v w m n e d h = let a : signed v m ≡ neg_ℤ (pos m) = ap (λ w. signed w m) e in let b : signed w n ≡ pos n = ap (λ w. signed w n) d in omega (arith, ints)
-evens false v w m n e d h = refl
+    step x t h more = grind (arith, at_none, each-imp, each-unmap, one_part, apart, here, others)
 
 pair_evens : (A : Ledger) (article : List ℕ) (ls : List Line) → IsStrictlySortedBy name_cmp (map (λ f. f.name) A.fields) → IsTransferPair ls → Each (IsGoodLine A) ls
     → total (λ f. if bytes_eq f.name.article article then total (λ l. if on f.name l then signed l.way l.used else pos 0) ls else pos 0) A.fields ≡ pos 0
@@ -91,32 +58,24 @@ pair_evens A article (l ∷ m ∷ []) sorted p g =
     (each (λ f. by (bytes_eq f.name.article article) (if on f.name l then signed l.way l.used else pos 0) (if on f.name m then signed m.way m.used else pos 0)) A.fields) in
     let d = total-sum (one_part article (line_name l) (signed l.way l.used)) (one_part article (line_name m) (signed m.way m.used)) A.fields in
     let e : (if bytes_eq l.article article then signed l.way l.used else pos 0) +ℤ (if bytes_eq m.article article then signed m.way m.used else pos 0) ≡ pos 0
-    = subst (λ t. (if bytes_eq l.article article then signed l.way l.used else pos 0) +ℤ (if bytes_eq t article then signed m.way m.used else pos 0) ≡ pos 0) p.2 (evens (bytes_eq l.article article) l.way m.way l.used m.used p.0 p.1 p.4) in
+    = subst (λ t. (if bytes_eq l.article article then signed l.way l.used else pos 0) +ℤ (if bytes_eq t article then signed m.way m.used else pos 0) ≡ pos 0) p.2 (grind arith) in
     c ∙ d ∙ (λ i. a i +ℤ b i) ∙ e
   where
     by : (b : Bool) (x y : ℤ) → (if b then (x +ℤ (y +ℤ pos 0)) else pos 0) ≡ (if b then x else pos 0) +ℤ (if b then y else pos 0)
-    by true x y = omega (arith, ints)
-    by false x y = refl
+    by b x y = grind arith
 
 -- the settled value of a field after a commit
 committed_part : Name → Order → ℤ
 committed_part f o = if is_committed o then moved f (λ l. l.used) o else pos 0
 
 was_open : (s : State) → open_state s ≡ true → committed_state s ≡ false
-was_open Open e = refl
-was_open Committed e = absurd (true≢false (sym e))
-was_open Aborted e = refl
+was_open c e = grind arith
 
 pub not_same : (o m : Order) (n : ℕ) → (o.number == n) ≡ true → o.number < m.number → (m.number == n) ≡ false
 not_same o m n e h = grind arith
 
-else_of : Option Order → Order → Order
-else_of None o = o
-else_of (Some x) o = x
-
 some_is : (m o : Order) → Some m ≡ Some o → m ≡ o
-unfolding else_of
-some_is m o e = ap (λ x. else_of x m) e
+some_is m o e = cc
 
 commits_one : (f : Name) (n : ℕ) (o : Order) (os : List Order) → IsStrictlySortedBy nat_cmp (map (λ o. o.number) os) → find (λ o. o.number == n) os ≡ Some o → is_open o ≡ true
     → total (committed_part f) (map (λ o. if o.number == n then set_state Committed o else o) os) ≡ total (committed_part f) os +ℤ moved f (λ l. l.used) o
@@ -148,8 +107,7 @@ found_is P n [] o h e = absurd (true≢false (sym (ap is_some e)))
 found_is P n (m ∷ ms) o h e = step (m.number == n) e (λ k. found_is P n ms o h.1 k)
   where
     step : (b : Bool) → (if b then Some m else find (λ o. o.number == n) ms) ≡ Some o → (find (λ o. o.number == n) ms ≡ Some o → P o) → P o
-    step true e more = subst P (some_is m o e) h.0
-    step false e more = more e
+    step b e more = grind arith
 
 pub total_stays : (A : Ledger) (key : List ℕ) (n : ℕ) (article : List ℕ) → Good A → FirstFailure (checks A (command.Commit n)) None → IsSomeAnd (order_numbered A n) (λ o. IsTrue (is_transfer o))
     → article_total (accept A (record { key = key; command = command.Commit n })) article ≡ article_total A article
@@ -167,7 +125,7 @@ total_stays A key n article g h t = by (order_numbered A n) refl t
     by None e t = absurd t
     by (Some o) e t =
         let p = all_pass (checks A (command.Commit n)) h in
-        let open_is : is_open o ≡ true = subst (λ x. IsSomeAnd x (λ o. is_open o ≡ true)) e (open_there (order_numbered A n) p.0 p.1.0) in
+        let open_is : is_open o ≡ true = subst (λ x. IsSomeAnd x (λ o. is_open o ≡ true)) e (grind arith) in
         let good = found_is (λ o. (IsTrue (is_transfer o) → IsTransferPair o.lines) × Each (IsGoodLine A) o.lines) n A.orders o (each-imp (λ o x. (x.transfer, x.lines)) A.orders g.orders) e in
         let a = total-eq (λ f. if bytes_eq f.name.article article then settled B f else pos 0) (λ f. (if bytes_eq f.name.article article then settled A f else pos 0) +ℤ (if bytes_eq f.name.article article then moved f.name (λ l. l.used) o else pos 0)) A.fields
         (each (λ f. each_field o e open_is f (bytes_eq f.name.article article)) A.fields) in
@@ -183,11 +141,7 @@ pub total_answer : (A : Ledger) (r : Request) (n : ℕ) (reply : Reply) (B : Led
 total_answer A r n reply B article g e h t = by_key (kept_under A r.key) h
   where
     by_found : (found : Option (Refusal × ℕ)) → FirstFailure (checks A r.command) found → MatchOption found ((reply ≡ Done (places A + 1)) × (B ≡ accept A r)) (λ e. (reply ≡ Refused e.0 e.1) × (B ≡ A)) → article_total B article ≡ article_total A article
-    by_found None f m = ap (λ L. article_total L article) m.1
-        ∙ ap (λ c. article_total (accept A (record { key = r.key; command = c })) article) e
-        ∙ total_stays A r.key n article g (subst (λ c. FirstFailure (checks A c) None) e f) t
-    by_found (Some x) f m = ap (λ L. article_total L article) m.1
+    by_found b f m = grind (arith, ints, common_steps, total_stays)
 
     by_key : (k : Option Kept) → MatchOption k (AnswersNew A r reply B) (λ k. (reply ≡ (if same_command k.command r.command then Done k.place else Refused KeyReused 0)) × (B ≡ A)) → article_total B article ≡ article_total A article
-    by_key None m = by_found m.0 m.1 m.2
-    by_key (Some k) m = ap (λ L. article_total L article) m.1
+    by_key b m = grind (arith, by_found)

@@ -1,16 +1,8 @@
 -- The numbers that a book shows of its fields.
+use Rattle.book.proofs.Prelude.{BookView, Contains, FieldEntry, Good, Inside, Ledger, Name, common_steps, field_of, held_to_add, held_to_take, ints, settled, slice_get-map, view_of}
 use Rattle.std.proofs.Common.{◌≡◌, ℕ, suc, pos, ◌+ℤ◌, ◌-ℤ◌, ◌≤ℤ◌, List, [], ◌∷◌, find, option_map, slice_get, Bool, true, false, Some, is_some, sym, ap, ◌∙◌, arith, if◌then◌else◌, true≢false}
-use Rattle.std.proofs.lemmas.Int.{ints}
-use Rattle.std.proofs.lemmas.Option.{slice_get-map}
-use Rattle.std.specs.List.{Contains}
 use Rattle.escrow.specs.declared.limits.TheConstants.{MAX_LEVEL}
-use Rattle.book.specs.declared.book.Book.TheInside.{Inside}
-use Rattle.book.specs.declared.entries.FieldEntry.{FieldEntry}
-use Rattle.book.specs.Ledger.{Field, Ledger, Name}
-use Rattle.book.specs.Outcomes.{settled}
-use Rattle.book.specs.Held.{held_to_add, held_to_take}
-use Rattle.book.specs.Good.{Good}
-use Rattle.book.specs.View.{BookView, field_of, view_of}
+use Rattle.book.specs.Ledger.{Field}
 use Rattle.book.proofs.Found.{from_some}
 use Rattle.book.proofs.Runs.{in_order}
 use Rattle.book.proofs.Walked.{each-at}
@@ -35,7 +27,4 @@ pub record AreLevels (A : Ledger) (f : Field) : Type 0 where
   pub greatest : (settled A f +ℤ held_to_add A f.name) ≤ℤ pos MAX_LEVEL
 
 pub levels_of : (A : Ledger) (f : Field) → Good A → Contains A.fields f → AreLevels A f
-levels_of A f g h =
-    let r = each-at _ A.fields h.0 f h.1 (sym h.2) (in_order A g) in
-    let least = r.0 in let greatest = r.3 in let high = r.4 in
-    record { least = omega (arith, ints); inf = r.1; sup = r.2; greatest = omega (arith, ints) }
+levels_of A f g h = grind (arith, common_steps, (in_order A g), each-at, A.fields, h.0, h.1, h.2)

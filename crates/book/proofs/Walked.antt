@@ -1,16 +1,8 @@
 -- A walk over a list, one element at a time.
 use Rattle.std.proofs.Common.{◌≡◌, ℕ, ◌+◌, ◌<◌, ◌≤◌, ℤ, ◌+ℤ◌, List, [], ◌∷◌, ◌++◌, Some, map, slice_get, take, drop, length, get_or, sym, ap, ◌∙◌, subst, arith, nat_cmp, Less}
-use Rattle.std.proofs.lemmas.List.{take-append-drop, take_all}
+use Rattle.book.proofs.Prelude.{Each, Good, Inside, IsStrictlySortedBy, Ledger, MAX_PLACES, Move, get_or_from_slice_get, ledger_of, move_of, places, slice_get_within, take-append-drop, take_all}
 use Rattle.std.proofs.lemmas.Grind.{take_at_read}
-use Rattle.std.proofs.lemmas.Option.{get_or_from_slice_get, slice_get_within}
-use Rattle.std.specs.List.{AllByRecursion as Each}
-use Rattle.std.specs.List.Sorted.{IsStrictlySortedBy}
-use Rattle.book.specs.declared.limits.TheConstants.{MAX_PLACES}
-use Rattle.book.specs.declared.book.Book.TheInside.{Inside}
-use Rattle.book.specs.Ledger.{Ledger, Move, places}
 use Rattle.book.specs.Outcomes.{total}
-use Rattle.book.specs.Good.{Good}
-use Rattle.book.specs.View.{ledger_of, move_of}
 use Rattle.book.proofs.Asked.{total-push}
 use Rattle.book.proofs.Closing.{less_is}
 use Rattle.book.proofs.Lists.{each-of-push, each-unmap, length-of-map}
@@ -54,15 +46,4 @@ each-end P xs i past all = subst (Each P) (take_all i xs past) all
 pub few_sorted : (first last : ℕ) (ms : List Move) → first ≤ last → Each (λ m. first < m.place) ms → Each (λ m. m.place ≤ last) ms → IsStrictlySortedBy nat_cmp (map (λ m. m.place) ms) → length ms + first ≤ last
 unfolding IsStrictlySortedBy
 few_sorted first last [] h a b s = omega arith
-few_sorted first last (m ∷ ms) h a b s =
-    let r = few_sorted m.place last ms b.0 (each-imp (λ x e. less_is m.place x.place e) ms (each-unmap (λ k. nat_cmp m.place k ≡ Less) (λ x. x.place) ms s.0)) b.1 s.1 in
-    let z = a.0 in omega arith
-
--- no more moves than places
-pub few_moves : (b : Inside) → Good (ledger_of b) → length b.moves.items ≤ MAX_PLACES
-few_moves b g =
-    let A : Ledger = ledger_of b in
-    let r = few_sorted 0 (places A) A.moves (omega arith) (each-imp (λ m x. x.first) A.moves g.moves) (each-imp (λ m x. x.last) A.moves g.moves) g.moves_in_order in
-    let fit = g.places_fit in
-    let same = length-of-map move_of b.moves.items in
-    omega arith
+few_sorted first last (m ∷ ms) h a b s = let more = few_sorted m.place last ms b.0 (each-imp (λ x e. less_is m.place x.place e) ms (each-unmap (λ k. nat_cmp m.place k ≡ Less) (λ x. x.place) ms s.0)) b.1 s.1 in grind arith

@@ -1,6 +1,6 @@
 -- A walk that changes each element in place.
 use Rattle.std.proofs.Common.{◌≡◌, ◌∙◌, ℕ, zero, suc, ◌+◌, ◌<◌, ◌≤◌, List, [], ◌∷◌, ◌++◌, ap, arith, drop, get_or, length, map, refl, set, take}
-use Rattle.std.specs.List.{AllByRecursion as Each}
+use Rattle.book.proofs.Prelude.{Each}
 
 -- the elements so far are changed, and the rest is as it was
 abbrev pub walked : {X : Type 0} → (X → X) → ℕ → List X → List X
@@ -30,14 +30,6 @@ walk_end f (x ∷ xs) zero h = absurd (omega arith)
 walk_end f (x ∷ xs) (suc i) h = ap (λ ys. f x ∷ ys) (walk_end f xs i (omega arith))
 
 -- ---- a walk whose elements are seen through a view
-
--- the elements so far are seen changed, and the rest is as it was
-abbrev pub seen : {X Y : Type 0} → (X → Y) → (Y → Y) → ℕ → List X → List X → Type 0
-seen view f i old new = (map view new ≡ walked f i (map view old)) × (drop i new ≡ drop i old)
-
-length-map : {X Y : Type 0} (view : X → Y) (xs : List X) → length (map view xs) ≡ length xs
-length-map view [] = refl
-length-map view (x ∷ xs) = let e = length-map view xs in omega arith
 
 -- ---- a walk that leaves what is seen
 

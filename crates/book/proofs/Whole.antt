@@ -1,21 +1,11 @@
 -- What makes a told ledger good, and that rows tell one good ledger at the most.
+use Rattle.book.proofs.Prelude.{AreMovesOnFields, AreOnFields, AreOrdersOnFields, Each, FieldCells, FieldEntry, Good, HasNumbers, HaveNumbers, IsBounded, IsField, IsGoodLine, IsGoodMove, IsGoodOrder, IsMoveByItself, IsOrderByItself, IsUpToDate, IsWhole, Ledger, MAX_PLACES, Name, Order, common_steps, field_of, held_to_add, held_to_take, ints, is_committed, line_name, move_of, moved_by_move, moved_by_order, numbers_on, order_of, places, same_name, settled, told_ledger}
 use Rattle.std.proofs.Common.{◌≡◌, ◌↔◌, ◌≤◌, ◌+ℤ◌, ◌-ℤ◌, pos, List, [], ◌∷◌, ap, arith, length, map, if◌then◌else◌}
-use Rattle.std.proofs.lemmas.Int.{ints}
-use Rattle.std.specs.List.{AllByRecursion as Each}
-use Rattle.book.specs.declared.limits.TheConstants.{MAX_PLACES}
 use Rattle.book.specs.declared.book.tables.Entries.{Entries}
 use Rattle.book.specs.declared.book.sums.Numbers.{Numbers}
-use Rattle.book.specs.declared.entries.FieldEntry.{FieldEntry}
-use Rattle.book.specs.Good.{Good, IsGoodLine, IsGoodMove, IsGoodOrder}
-use Rattle.book.specs.Held.{held_to_add, held_to_take}
-use Rattle.book.specs.Ledger.{Field, Ledger, Name, Order, is_committed, line_name, places, same_name}
-use Rattle.book.specs.Outcomes.{IsSafe, moved, settled, total}
-use Rattle.book.specs.Rows.{FieldCells}
-use Rattle.book.specs.Sums.{AreMovesOnFields, AreOnFields, AreOrdersOnFields, IsField, numbers_on}
-use Rattle.book.specs.Walk.{moved_by_move, moved_by_order}
-use Rattle.book.specs.Running.{IsUpToDate}
-use Rattle.book.specs.Told.{AreGood, HasNumbers, HaveNumbers, IsBounded, IsInForm, IsMoveByItself, IsOrderByItself, IsWhole, told_ledger}
-use Rattle.book.specs.View.{field_of, move_of, order_of}
+use Rattle.book.specs.Ledger.{Field}
+use Rattle.book.specs.Outcomes.{IsSafe, moved, total}
+use Rattle.book.specs.Told.{AreGood, IsInForm}
 use Rattle.book.proofs.Bounds.{HasRoom, safe_from_room}
 use Rattle.book.proofs.Lists.{each-two, each-unmap}
 use Rattle.book.proofs.Walked.{few_sorted}
@@ -47,31 +37,12 @@ orders_good e w there = let os = e.orders.items in
     each-map (IsGoodOrder (told_ledger e)) order_of os (each-imp (λ o x. good_order e (order_of o) x) os (each-two _ _ os (each-unmap IsOrderByItself order_of os w.orders) there))
 
 pub good_if_whole : (e : Entries) → IsInForm (told_ledger e) → IsWhole (told_ledger e) → AreOnFields e.fields.items e.moves.items e.orders.items → IsSafe (told_ledger e) → Good (told_ledger e)
-good_if_whole e form w there safe = record {
-  clock = form.clock;
-  fields = form.fields;
-  fields_in_order = w.in_order.fields;
-  few_fields = w.limits.fields;
-  moves = moves_good e w there.0;
-  moves_in_order = w.in_order.moves;
-  orders = orders_good e w there.1;
-  orders_in_order = w.in_order.orders;
-  few_orders = w.limits.orders;
-  kept = form.kept;
-  kept_in_order = w.in_order.kept;
-  places_in_range = w.places_in_range;
-  places_apart = w.places_apart;
-  places_fit = w.limits.places;
-  safe = safe;
-}
+good_if_whole e form w there safe = grind (arith, moves_good, orders_good)
 
 -- ---- the numbers of fields
 
 pub told_settled : (e : Entries) (f : Field) → settled (told_ledger e) f ≡ pos f.start +ℤ (numbers_on e.moves.items e.orders.items f.name).moved
-told_settled e f =
-    let ms : total (λ m. if same_name f.name m.field then m.amount else pos 0) (map move_of e.moves.items) ≡ total (moved_by_move f.name) e.moves.items = total-map _ move_of e.moves.items in
-    let os : total (λ o. if is_committed o then moved f.name (λ l. l.used) o else pos 0) (map order_of e.orders.items) ≡ total (moved_by_order f.name) e.orders.items = total-map _ order_of e.orders.items in
-    omega (arith, ints)
+told_settled e f = grind (arith, common_steps, total-map, f.name, e.moves.items, e.orders.items)
 
 pub told_takes : (e : Entries) (n : Name) → held_to_take (told_ledger e) n ≡ (numbers_on e.moves.items e.orders.items n).takes
 told_takes e n = total-map _ order_of e.orders.items
@@ -84,16 +55,7 @@ numbers_of e = numbers_on e.moves.items e.orders.items
 
 -- an entry with these numbers is safe
 room_if : (e : Entries) (f : Name × FieldEntry) → HasNumbers (numbers_of e f.0) f.1 → IsBounded f.1.quantity → HasRoom (told_ledger e) (field_of f)
-room_if e f h bounded =
-    let settled_is = told_settled e (field_of f) in
-    let takes_is = told_takes e f.0 in
-    let adds_is = told_adds e f.0 in
-    let value = h.value in
-    let takes = h.takes in
-    let adds = h.adds in
-    let low = bounded.low in
-    let high = bounded.high in
-    (omega (arith, ints), omega (arith, ints))
+room_if e f h bounded = grind (arith, (told_settled e (field_of f)), (told_takes e f.0), (told_adds e f.0))
 
 pub rooms_if : (e : Entries) (fs : List (Name × FieldEntry)) → HaveNumbers (numbers_of e) fs → Each (λ f. IsBounded f.1.quantity) fs → Each (HasRoom (told_ledger e)) (map field_of fs)
 rooms_if e [] h bounded = tt
@@ -101,28 +63,10 @@ rooms_if e (f ∷ fs) h bounded = (room_if e f h.0 bounded.0, rooms_if e fs h.1 
 
 -- an entry has the numbers exactly where it is up to date
 up_to_date_if : (e : Entries) (f : Name × FieldEntry) → HasNumbers (numbers_of e f.0) f.1 → IsUpToDate (told_ledger e) f
-up_to_date_if e f h =
-    let A : Ledger = told_ledger e in
-    let settled_is = told_settled e (field_of f) in
-    let takes_is = told_takes e f.0 in
-    let adds_is = told_adds e f.0 in
-    let value_is = h.value in
-    let takes = h.takes in
-    let adds = h.adds in
-    let value : pos f.1.quantity.value ≡ settled A (field_of f) = omega (arith, ints) in
-    let inf : pos f.1.quantity.value -ℤ pos f.1.quantity.held_to_take ≡ settled A (field_of f) -ℤ held_to_take A f.0 = omega (arith, ints) in
-    let sup : pos f.1.quantity.value +ℤ pos f.1.quantity.held_to_add ≡ settled A (field_of f) +ℤ held_to_add A f.0 = omega (arith, ints) in
-    λ i. record { branch = f.0.branch; article = f.0.article; lo = pos f.1.quantity.lo; hi = pos f.1.quantity.hi; start = pos f.1.start; value = value i; inf = inf i; sup = sup i }
+up_to_date_if e f h = cc ((told_settled e (field_of f)), (told_takes e f.0), (told_adds e f.0))
 
 numbers_if : (e : Entries) (f : Name × FieldEntry) → IsUpToDate (told_ledger e) f → HasNumbers (numbers_of e f.0) f.1
-numbers_if e f up =
-    let settled_is = told_settled e (field_of f) in
-    let takes_is = told_takes e f.0 in
-    let adds_is = told_adds e f.0 in
-    let value = ap (λ (r : FieldCells). r.value) up in
-    let inf = ap (λ (r : FieldCells). r.inf) up in
-    let sup = ap (λ (r : FieldCells). r.sup) up in
-    record { value = omega (arith, ints); takes = omega (arith, ints); adds = omega (arith, ints) }
+numbers_if e f up = grind (arith, (told_settled e (field_of f)), (told_takes e f.0), (told_adds e f.0))
 
 -- ---- all together
 

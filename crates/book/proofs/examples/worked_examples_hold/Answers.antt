@@ -1,7 +1,7 @@
 use Rattle.std.proofs.Common.{refl}
 use Rattle.std.specs.Fmt.{digits}
 use Rattle.book.specs.Examples.{long_script, release_and_abort, tight_bounds, transfer}
-use Rattle.book.specs.Ledger.{new_ledger}
+use Rattle.book.proofs.Prelude.{new_ledger}
 use Rattle.book.proofs.Played.{plays}
 use Rattle.book.proofs.examples.worked_examples_hold.Goals as goal
 

@@ -10,6 +10,3 @@ returns-clause-one c = answered_once
 
 pub returns-clause-accepted : goal.returns-clause-accepted
 returns-clause-accepted c = accepted_once
-
-pub returns-clause-others : goal.returns-clause-others
-returns-clause-others c = others_stay

@@ -1,16 +1,6 @@
 use Rattle.std.proofs.Common.{◌≡◌, ◌∙◌, ◌+◌, None, ap, map, rules, subst, sym}
-use Rattle.std.specs.List.{AllByRecursion as Each}
-use Rattle.escrow.specs.Codes.{IsKey}
-use Rattle.words.specs.Spelling.{IsInRange}
-use Rattle.words.specs.declared.reply.Reply.TheVariants.{Done}
-use Rattle.book.specs.Answers.{IsAccepted}
-use Rattle.book.specs.Good.{Good}
-use Rattle.words.specs.declared.command.Command.{Command}
-use Rattle.book.specs.Ledger.{Ledger, kept_under, open_orders, places}
-use Rattle.book.specs.Next.{accept, next as next_of}
-use Rattle.book.specs.Outcomes.{article_total}
-use Rattle.book.specs.Running.{IsUpToDate, with_entries}
-use Rattle.book.specs.View.{BookView, field_of, ledger_of}
+use Rattle.book.proofs.Prelude.{BookView, Command, Done, Each, Good, IsAccepted, IsInRange, IsKey, IsUpToDate, Ledger, accept, article_total, field_of, kept_under, ledger_of, open_orders, places, with_entries}
+use Rattle.book.specs.Next.{next as next_of}
 use Rattle.book.proofs.Closing.{honours_always}
 use Rattle.book.proofs.Goodness.{good_accept}
 use Rattle.book.proofs.Running.{adopted}

@@ -1,9 +1,6 @@
-use Rattle.std.proofs.Common.{◌≡◌, ◌∙◌, ℕ, Bool, true, false, ◌&&◌, None, Option, Some, ap, is_some, refl, sym, true≢false}
+use Rattle.std.proofs.Common.{arith, ◌≡◌, ◌∙◌, ℕ, Bool, true, false, ◌&&◌, None, Option, Some, ap, is_some, refl, sym, true≢false}
 use Rattle.std.specs.Option.{option_map}
-use Rattle.book.specs.After.{changes_state, order_after, some_has_line, some_is_transfer}
-use Rattle.book.specs.Ledger.{Ledger, Name, Order, name_of}
-use Rattle.book.specs.View.{order_of}
-use Rattle.book.specs.declared.entries.OrderEntry.{OrderEntry}
+use Rattle.book.proofs.Prelude.{Ledger, Name, Order, OrderEntry, changes_state, name_of, order_after, order_of, some_has_line, some_is_transfer}
 use Rattle.book.proofs.Made.{lined, released}
 use Rattle.book.proofs.book.Book.changes_field.Goals as goal
 
@@ -12,29 +9,13 @@ some_same f None = refl
 some_same f (Some x) = refl
 
 pub returns-in-Open : goal.returns-in-Open
-returns-in-Open c =
-    let f : Name = name_of c.args.branch c.args.article in
-    c.makes_line.ensures ∙ ap (some_has_line f) c.requires.made ∙ lined c.args.self.now.ledger c.args.command.now f c.requires.good (ap changes_state c.in-Open.is)
-
-pub returns-in-Transfer : goal.returns-in-Transfer
-returns-in-Transfer c =
-    let f : Name = name_of c.args.branch c.args.article in
-    c.makes_line-in-Transfer.ensures ∙ ap (some_has_line f) c.requires.made ∙ lined c.args.self.now.ledger c.args.command.now f c.requires.good (ap changes_state c.in-Transfer.is)
+returns-in-Open c = grind (arith, lined)
 
 pub returns-in-Commit : goal.returns-in-Commit
-returns-in-Commit c =
-    let f : Name = name_of c.args.branch c.args.article in
-    c.makes_line-in-Commit.ensures ∙ ap (some_has_line f) c.requires.made ∙ lined c.args.self.now.ledger c.args.command.now f c.requires.good (ap changes_state c.in-Commit.is)
+returns-in-Commit c = grind (arith, lined)
 
 pub returns-in-Abort : goal.returns-in-Abort
-returns-in-Abort c =
-    let f : Name = name_of c.args.branch c.args.article in
-    c.makes_line-in-Abort.ensures ∙ ap (some_has_line f) c.requires.made ∙ lined c.args.self.now.ledger c.args.command.now f c.requires.good (ap changes_state c.in-Abort.is)
-
-pub returns-in-Expire : goal.returns-in-Expire
-returns-in-Expire c =
-    let none = c.requires.made ∙ ap (order_after c.args.self.now.ledger) c.in-Expire.is in
-    absurd (true≢false (sym (sym (ap is_some none) ∙ some_same order_of c.args.made.now ∙ c.requires.one)))
+returns-in-Abort c = grind (arith, lined)
 
 pub returns-then-makes_transfer : goal.returns-then-makes_transfer
 returns-then-makes_transfer c =

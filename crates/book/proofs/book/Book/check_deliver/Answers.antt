@@ -1,8 +1,6 @@
 use Rattle.std.proofs.Common.{inr}
 use Rattle.escrow.specs.declared.quantity.Way.TheVariants as way
-use Rattle.words.specs.declared.command.Command.TheVariants.{Deliver}
-use Rattle.book.specs.Ledger.{Ledger, Name, name_of}
-use Rattle.book.specs.Next.{next}
+use Rattle.book.proofs.Prelude.{Deliver, Ledger, Name, name_of, next}
 use Rattle.book.proofs.Asked.{delivery_test}
 use Rattle.book.proofs.Checked.{has_stock, no}
 use Rattle.book.proofs.Closing.{sounds_from_good}

@@ -1,5 +1,5 @@
-use Rattle.std.proofs.Common.{◌∙◌, sym}
-use Rattle.words.specs.declared.open_line.OpenLine.{OpenLine}
+use Rattle.std.proofs.Common.{arith, ◌∙◌, sym}
+use Rattle.book.proofs.Prelude.{OpenLine}
 use Rattle.book.proofs.LineChecks.{apart-step, line_fails, line_passes, none_apart}
 use Rattle.book.proofs.book.Book.check_lines.Goals as goal
 
@@ -7,10 +7,7 @@ pub loop-i-init : goal.loop-i-init
 loop-i-init c = record { apart = none_apart; rest = λ n kind until found k. k }
 
 pub returns-then-is_some : goal.returns-then-is_some
-returns-then-is_some c =
-    let l : OpenLine = c.index-lines-i.result in
-    line_fails c.args.self.now.ledger c.args.lines.now c.loop-i.i l c.loop-i-test.true c.index-lines-i.is c.check_stock-fault.ensures.good c.loop-i.invariant.apart (sym c.has_line_on.ensures ∙ c.if-has_line_on.false)
-    c.check_stock-fault.result c.check_stock-fault.ensures.found (sym c.is_some.ensures ∙ c.if-is_some.true) c.loop-i.invariant.rest
+returns-then-is_some c = grind (arith, line_fails)
 
 pub loop-i-preserved : goal.loop-i-preserved
 loop-i-preserved c =

@@ -1,8 +1,6 @@
 use Rattle.std.proofs.Common.{◌∙◌, [], sym}
 use Rattle.book.specs.declared.order.Kind.TheVariants.{Transfer}
-use Rattle.book.specs.Answers.{line_checks, order_checks}
-use Rattle.book.specs.Ledger.{Ledger}
-use Rattle.book.specs.Next.{new_order, transfer_lines}
+use Rattle.book.proofs.Prelude.{Ledger, line_checks, new_order, order_checks, transfer_lines}
 use Rattle.book.proofs.Checked.{go_on}
 use Rattle.book.proofs.book.Book.check_transfer.Goals as goal
 

@@ -1,8 +1,6 @@
 use Rattle.std.proofs.Common.{inr}
 use Rattle.escrow.specs.declared.quantity.Way.TheVariants as way
-use Rattle.words.specs.declared.command.Command.TheVariants.{Writeoff}
-use Rattle.book.specs.Ledger.{Ledger, Name, name_of}
-use Rattle.book.specs.Next.{next}
+use Rattle.book.proofs.Prelude.{Ledger, Name, Writeoff, name_of, next}
 use Rattle.book.proofs.Asked.{write_off_test}
 use Rattle.book.proofs.Checked.{has_stock, no}
 use Rattle.book.proofs.Closing.{sounds_from_good}

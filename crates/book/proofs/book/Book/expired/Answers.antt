@@ -1,11 +1,6 @@
 use Rattle.std.proofs.Common.{◌∙◌, ap, map, subst, sym, List, ℕ}
 use Rattle.std.proofs.lemmas.List.Sorted.{IsNonDecreasingBy-from_sort}
-use Rattle.std.specs.List.{filter}
-use Rattle.std.specs.List.Sorted.{IsPermutation}
-use Rattle.words.specs.declared.command.Command.{Command}
-use Rattle.book.specs.After.{expired_numbers}
-use Rattle.book.specs.Next.{expires}
-use Rattle.book.specs.View.{BookView}
+use Rattle.book.proofs.Prelude.{BookView, Command, IsPermutation, expired_numbers, expires, filter}
 use Rattle.book.proofs.Expiring.{numbers_sorted}
 use Rattle.book.proofs.book.Book.expired.Goals as goal
 

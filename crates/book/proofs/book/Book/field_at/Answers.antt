@@ -1,8 +1,5 @@
 use Rattle.std.proofs.Common.{subst, sym}
-use Rattle.std.proofs.lemmas.Option.{get_or_from_slice_get, slice_get_within}
-use Rattle.book.specs.Good.{Good}
-use Rattle.book.specs.Running.{IsUpToDate}
-use Rattle.book.specs.View.{BookView, ledger_of}
+use Rattle.book.proofs.Prelude.{BookView, Good, IsUpToDate, get_or_from_slice_get, ledger_of, slice_get_within}
 use Rattle.book.proofs.Viewed.{slice_get-fields}
 use Rattle.book.proofs.Walked.{each-at}
 use Rattle.book.proofs.book.Book.field_at.Goals as goal

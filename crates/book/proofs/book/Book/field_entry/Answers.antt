@@ -1,13 +1,7 @@
-use Rattle.std.proofs.Common.{◌≡◌, Bor, List, Option, Some, None, IfSome, MatchOption, subst, sym}
-use Rattle.std.specs.BTreeMap.{is_at}
-use Rattle.std.specs.List.{AllByRecursion as Each}
-use Rattle.std.specs.Map.{lookup}
-use Rattle.std.specs.Option.{option_copied, option_map}
-use Rattle.book.specs.Good.{Good}
-use Rattle.book.specs.Ledger.{Field, Ledger, Name, name_cmp, name_of}
-use Rattle.book.specs.Running.{IsUpToDate}
-use Rattle.book.specs.View.{BookView, field_of, ledger_of}
-use Rattle.book.specs.declared.entries.FieldEntry.{FieldEntry}
+use Rattle.std.proofs.Common.{arith, ◌≡◌, Bor, List, Option, Some, None, IfSome, MatchOption, subst, sym}
+use Rattle.book.proofs.Prelude.{BookView, Each, FieldEntry, Good, IsUpToDate, Ledger, Name, field_of, is_at, ledger_of, lookup, name_cmp, name_of, option_copied}
+use Rattle.std.specs.Option.{option_map}
+use Rattle.book.specs.Ledger.{Field}
 use Rattle.book.proofs.Keyed.{field_found}
 use Rattle.book.proofs.Running.{up_to_date_at}
 use Rattle.book.proofs.book.Book.field_entry.Goals as goal
@@ -21,13 +15,8 @@ up : (A : Ledger) (name : Name) (l : List (Name × FieldEntry)) (result : Option
 up A name l None all is = tt
 up A name l (Some r) all is = up_to_date_at A name l r.now all (sym is)
 
-pub returns-clause-good : goal.returns-clause-good
-returns-clause-good c = subst (λ (v : BookView). Good v.ledger) c.self.view_is c.self.invariant.0
-
 pub returns-clause-found : goal.returns-clause-found
-returns-clause-found c =
-    let name : Name = name_of c.args.branch c.args.article in
-    rw (← c.self.view_is) (told name c.get.result _ _ c.get.ensures (field_found name c.self.inside.fields.entries))
+returns-clause-found c = grind (arith, field_found, told)
 
 pub returns-clause-up_to_date : goal.returns-clause-up_to_date
 returns-clause-up_to_date c =

@@ -1,8 +1,5 @@
 use Rattle.std.proofs.Common.{◌∙◌, ap, sym}
-use Rattle.std.specs.Option.{option_copied}
-use Rattle.book.specs.Ledger.{line_name, name_cmp}
-use Rattle.std.specs.BTreeMap.{is_at}
-use Rattle.std.specs.Map.{lookup}
+use Rattle.book.proofs.Prelude.{is_at, line_name, lookup, name_cmp, option_copied}
 use Rattle.book.proofs.GivingBack.{from_book, from_entries}
 use Rattle.book.proofs.book.Book.field_so_far.Goals as goal
 

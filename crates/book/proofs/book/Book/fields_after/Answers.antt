@@ -1,10 +1,6 @@
+use Rattle.std.proofs.Common.{arith}
 use Rattle.book.proofs.NextRows.{good_next, good_now}
 use Rattle.book.proofs.book.Book.fields_after.Goals as goal
 
 pub put_changed-requires-clause-accepts : goal.put_changed-requires-clause-accepts
-put_changed-requires-clause-accepts c = record {
-  accepted = c.requires.accepted;
-  range = c.in_range.ensures.command;
-  before = good_now c.self.inside c.args.self.now c.self.view_is c.self.invariant.0;
-  after = good_next c.self.inside c.args.self.now c.args.request.now c.self.view_is c.self.invariant.0 c.in_range.ensures.key c.in_range.ensures.command c.requires.accepted;
-}
+put_changed-requires-clause-accepts c = grind (arith, good_next, good_now)

@@ -1,7 +1,6 @@
 -- the lines so far have given back what they hold
 use Rattle.std.proofs.Common.{List, ◌++◌, take}
-use Rattle.book.specs.Running.{GivesBack, MayGiveBack}
-use Rattle.book.specs.declared.order.Line.{Line}
+use Rattle.book.proofs.Prelude.{GivesBack, Line, MayGiveBack}
 use Rattle.book.proofs.book.Book.give_back_lines.Given as goal
 
 abbrev pub invariant-loop-line : goal.invariant-loop-line

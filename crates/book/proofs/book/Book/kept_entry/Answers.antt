@@ -1,8 +1,6 @@
 use Rattle.std.proofs.Common.{◌≡◌, Bor, List, ℕ, Option, Some, None, MatchOption}
-use Rattle.std.specs.Option.{option_copied, option_map}
-use Rattle.book.specs.Ledger.{Kept}
-use Rattle.book.specs.View.{kept_of}
-use Rattle.book.specs.declared.entries.KeptEntry.{KeptEntry}
+use Rattle.std.specs.Option.{option_map}
+use Rattle.book.proofs.Prelude.{Kept, KeptEntry, kept_of, option_copied}
 use Rattle.book.proofs.Keyed.{kept_found}
 use Rattle.book.proofs.book.Book.kept_entry.Goals as goal
 

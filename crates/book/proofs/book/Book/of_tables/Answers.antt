@@ -1,17 +1,8 @@
-use Rattle.std.proofs.Common.{◌≡◌, ◌∙◌, ℕ, ap, count_by, map, subst, sym}
-use Rattle.std.proofs.lemmas.Simd.{map-map}
-use Rattle.std.specs.Cmp.Lexicographic.{slice_cmp}
-use Rattle.std.specs.List.Sorted.{IsStrictlySortedBy}
+use Rattle.std.proofs.Common.{arith, ◌≡◌, ◌∙◌, ℕ, ap, count_by, map, subst, sym}
+use Rattle.book.proofs.Prelude.{AllZip, Content, Each, Good, IsFieldRow, IsRowsOf, IsStrictlySortedBy, IsUpToDate, Kept, Ledger, Order, OrderEntry, field_of, is_open, kept_of, ledger_of, map-map, move_of, name_cmp, open_orders, open_state, order_of, slice_cmp, told_ledger}
 use Rattle.std.specs.Ordering.{nat_cmp}
-use Rattle.book.specs.Good.{Good}
-use Rattle.book.specs.Ledger.{Field, Kept, Ledger, Order, is_open, name_cmp, open_orders, open_state}
-use Rattle.book.specs.Rows.{Content, IsFieldRow, IsRowsOf}
+use Rattle.book.specs.Ledger.{Field}
 use Rattle.book.specs.Tables.{content_of}
-use Rattle.book.specs.Told.{told_ledger}
-use Rattle.book.specs.View.{field_of, kept_of, ledger_of, move_of, order_of}
-use Rattle.std.specs.List.{AllByRecursion as Each, AllZip}
-use Rattle.book.specs.Running.{IsUpToDate}
-use Rattle.book.specs.declared.entries.OrderEntry.{OrderEntry}
 use Rattle.book.proofs.Counted.{viewed}
 use Rattle.book.proofs.Tested.{true_not_false}
 use Rattle.book.proofs.InOrder.{one_content, rows_are, rows_of}
@@ -34,16 +25,13 @@ returns-in-Ok-false-clause-damaged c _ A g rows =
     true_not_false (c.in-Ok-false.ensures.1 (good, (entries_of_rows B c.in_ok-entries.entries.fields.items B.fields fields).1)) c.in-Ok-false.field-0-test
 
 pub from_sorted-requires-clause-rising : goal.from_sorted-requires-clause-rising
-from_sorted-requires-clause-rising c =
-    subst (IsStrictlySortedBy name_cmp) (map-map (λ (f : Field). f.name) field_of c.in_ok-entries.entries.fields.items) (c.in-Ok-true.ensures.0 c.in-Ok-true.field-0-test).0.fields_in_order
+from_sorted-requires-clause-rising c = grind (arith, (map-map (λ (f : Field). f.name) field_of c.in_ok-entries.entries.fields.items))
 
 pub from_sorted-requires-2-clause-rising : goal.from_sorted-requires-2-clause-rising
-from_sorted-requires-2-clause-rising c =
-    subst (IsStrictlySortedBy nat_cmp) (map-map (λ (o : Order). o.number) order_of c.in_ok-entries.entries.orders.items) (c.in-Ok-true.ensures.0 c.in-Ok-true.field-0-test).0.orders_in_order
+from_sorted-requires-2-clause-rising c = grind (arith, (map-map (λ (o : Order). o.number) order_of c.in_ok-entries.entries.orders.items))
 
 pub from_sorted-requires-3-clause-rising : goal.from_sorted-requires-3-clause-rising
-from_sorted-requires-3-clause-rising c =
-    subst (IsStrictlySortedBy (slice_cmp nat_cmp)) (map-map (λ (k : Kept). k.key) kept_of c.in_ok-entries.entries.kept.items) (c.in-Ok-true.ensures.0 c.in-Ok-true.field-0-test).0.kept_in_order
+from_sorted-requires-3-clause-rising c = grind (arith, (map-map (λ (k : Kept). k.key) kept_of c.in_ok-entries.entries.kept.items))
 
 pub returns-clause-ok : goal.returns-clause-ok
 returns-clause-ok c =

@@ -1,13 +1,5 @@
 use Rattle.std.proofs.Common.{◌≡◌, ◌∙◌, ap, arith, is_some, map, subst, sym}
-use Rattle.words.specs.declared.command.Request.{Request}
-use Rattle.book.specs.After.{expired_numbers, order_after}
-use Rattle.book.specs.Answers.{IsAccepted}
-use Rattle.book.specs.Ledger.{places}
-use Rattle.book.specs.Plans.{ChangesTo}
-use Rattle.book.specs.Rows.{Content}
-use Rattle.book.specs.Running.{entry_row}
-use Rattle.book.specs.Tables.{rows_among}
-use Rattle.book.specs.View.{BookView, kept_of}
+use Rattle.book.proofs.Prelude.{BookView, ChangesTo, Content, IsAccepted, Request, entry_row, expired_numbers, kept_of, order_after, places, rows_among}
 use Rattle.book.proofs.Lists.{length-of-map}
 use Rattle.book.proofs.book.Book.plan.Goals as goal
 

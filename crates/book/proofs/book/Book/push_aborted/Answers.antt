@@ -1,4 +1,4 @@
-use Rattle.std.proofs.lemmas.Result.{on_ok_weaker}
+use Rattle.book.proofs.Prelude.{on_ok_weaker}
 use Rattle.book.proofs.Among.{order_pushed}
 use Rattle.book.proofs.book.Book.push_aborted.Goals as goal
 

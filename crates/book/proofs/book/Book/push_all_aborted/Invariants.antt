@@ -1,7 +1,6 @@
 -- the rows of the orders so far are there
 use Rattle.std.proofs.Common.{◌≡◌, flat_map, take}
-use Rattle.book.specs.After.{aborted_rows, of_numbered, with_orders}
-use Rattle.book.specs.Tables.{rows_among}
+use Rattle.book.proofs.Prelude.{aborted_rows, of_numbered, rows_among, with_orders}
 use Rattle.book.proofs.book.Book.push_all_aborted.Given as goal
 
 abbrev pub invariant-loop-number : goal.invariant-loop-number

@@ -1,14 +1,7 @@
-use Rattle.std.proofs.Common.{◌≡◌, ◌∙◌, ℕ, List, ap, flat_map, subst, sym}
+use Rattle.std.proofs.Common.{arith, ◌≡◌, ◌∙◌, ℕ, List, ap, flat_map, subst, sym}
 use Rattle.std.specs.Option.{option_map}
-use Rattle.words.specs.declared.command.Command.{Command}
+use Rattle.book.proofs.Prelude.{Command, GivesBack, Good, Ledger, Line, MayGiveBack, expired_lines, expired_numbers, expires, of_numbered, order_of}
 use Rattle.words.specs.declared.command.Command.TheVariants as command
-use Rattle.book.specs.After.{expired_numbers, of_numbered}
-use Rattle.book.specs.Good.{Good}
-use Rattle.book.specs.Ledger.{Ledger}
-use Rattle.book.specs.Next.{expires}
-use Rattle.book.specs.Running.{GivesBack, MayGiveBack, expired_lines}
-use Rattle.book.specs.declared.order.Line.{Line}
-use Rattle.book.specs.View.{order_of}
 use Rattle.book.proofs.ChangedFields.{on_ok}
 use Rattle.book.proofs.Expiring.{numbered_flat}
 use Rattle.book.proofs.FieldRows.{delivery_moves, delivery_rows, expired_rows, lines_rows, new_rows, write_off_moves, write_off_rows}
@@ -22,10 +15,7 @@ pub put_moved-requires-in-Writeoff : goal.put_moved-requires-in-Writeoff
 put_moved-requires-in-Writeoff c = (c.args.request.now, write_off_moves c.args.self.now.ledger c.args.request.now c.in-Writeoff.branch c.in-Writeoff.article c.in-Writeoff.qty c.requires.accepts c.in-Writeoff.is)
 
 pub returns-in-Ok : goal.returns-in-Ok
-returns-in-Ok c = on_ok c.put.result (λ put rising.
-    let start = c.in-Field.start in
-    new_rows c.args.self.now.ledger c.args.request.now c.in-Field.branch c.in-Field.article c.in-Field.lo c.in-Field.hi start c.args.fields.now.entries c.put.new.fields.entries (record { start = start; quantity = c.in-Ok.quantity }) c.requires.accepts c.in-Field.is c.requires.none put
-    (λ i. record { start = start; quantity = c.in-Ok.ensures.ok i })) c.put.ensures.put
+returns-in-Ok c = grind (arith, new_rows, on_ok)
 
 pub returns-in-Deliver : goal.returns-in-Deliver
 returns-in-Deliver c = on_ok c.put_moved.result (λ puts rising.
@@ -59,6 +49,4 @@ returns-in-Expire c = on_ok c.put_expired.result (λ gives rising.
     expired_rows A c.args.request.now now c.put_expired.new.fields.entries c.requires.accepts c.in-Expire.is rising (subst (λ (ls : List Line). GivesBack A ls c.put_expired.new.fields.entries) all gives)) c.put_expired.ensures
 
 pub returns-in-Some : goal.returns-in-Some
-returns-in-Some c = on_ok c.put_lines.result (λ has rising.
-    let made = sym c.requires.made ∙ ap (option_map order_of) c.in-Some.is in
-    lines_rows c.args.self.now.ledger c.args.request.now (order_of c.in-Some.order) c.put_lines.new.fields.entries c.requires.accepts made rising has) c.put_lines.ensures
+returns-in-Some c = grind (arith, lines_rows, on_ok)

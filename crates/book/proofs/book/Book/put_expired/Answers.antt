@@ -1,13 +1,7 @@
 use Rattle.std.proofs.Common.{List, flat_map, refl, subst, sym, take}
-use Rattle.book.specs.After.{of_numbered}
-use Rattle.book.specs.Ledger.{Ledger}
-use Rattle.book.specs.Running.{GivesBack}
-use Rattle.book.specs.declared.order.Line.{Line}
+use Rattle.book.proofs.Prelude.{GivesBack, Ledger, Line, of_numbered}
 use Rattle.book.proofs.Expiring.{flat_next, may_next}
 use Rattle.book.proofs.book.Book.put_expired.Goals as goal
-
-pub loop-number-init : goal.loop-number-init
-loop-number-init c = rw c.requires.none (record { each = tt; all = λ n. refl })
 
 pub give_back_order-requires : goal.give_back_order-requires
 give_back_order-requires c =

@@ -1,9 +1,6 @@
 use Rattle.std.proofs.Common.{◌∙◌, ap, is_some, subst, sym, true≢false}
-use Rattle.std.specs.BTreeMap.{insert_entry}
+use Rattle.book.proofs.Prelude.{Becomes, Ledger, MayBecome, Name, Order, field_of, insert_entry, line_name, name_cmp, order_of}
 use Rattle.std.specs.Option.{option_map}
-use Rattle.book.specs.Ledger.{Ledger, Name, Order, line_name, name_cmp}
-use Rattle.book.specs.Running.{Becomes, MayBecome}
-use Rattle.book.specs.View.{field_of, order_of}
 use Rattle.book.proofs.ChangedFields.{found_stays, line_there, number_of_made, on_ok}
 use Rattle.book.proofs.StockChanges.{stock_changed, stock_may}
 use Rattle.book.proofs.book.Book.put_line.Goals as goal

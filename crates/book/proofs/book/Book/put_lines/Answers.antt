@@ -1,9 +1,6 @@
 use Rattle.std.proofs.Common.{◌≡◌, ◌∙◌, List, Some, ap, find, subst, sym}
-use Rattle.std.specs.List.{AllByRecursion as Each}
+use Rattle.book.proofs.Prelude.{Each, Ledger, Line, line_name, on, order_of}
 use Rattle.std.specs.Option.{option_map}
-use Rattle.book.specs.Ledger.{Ledger, line_name, on}
-use Rattle.book.specs.View.{order_of}
-use Rattle.book.specs.declared.order.Line.{Line}
 use Rattle.book.proofs.ChangedFields.{found_itself, lines_step, made_good}
 use Rattle.book.proofs.Closing.{one_on}
 use Rattle.book.proofs.Walked.{each-at}
@@ -18,9 +15,6 @@ put_line-requires-clause-line c =
     let good = made_good A r o c.requires.accepts made in
     let itself = subst (λ (ls : List Line). Each (λ l. find (on (line_name l)) o.lines ≡ Some l) ls) (sym c.deref-line-items.ensures.value) (found_itself o.lines (λ f. one_on f o.lines good.apart)) in
     each-at (λ l. find (on (line_name l)) o.lines ≡ Some l) c.deref-line-items.result.now c.loop-line.line-index c.line-item.result c.loop-line-test.true c.line-item.is itself
-
-pub loop-line-init : goal.loop-line-init
-loop-line-init c = record { each = rw c.requires.none tt; all = tt }
 
 pub loop-line-preserved : goal.loop-line-preserved
 loop-line-preserved c =

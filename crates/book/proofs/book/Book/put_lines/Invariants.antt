@@ -1,9 +1,6 @@
 -- the fields so far that the request changes are there
 use Rattle.std.proofs.Common.{◌≡◌, true, take}
-use Rattle.std.specs.List.{AllByRecursion as Each}
-use Rattle.book.specs.Changes.{changes_field}
-use Rattle.book.specs.Ledger.{line_name}
-use Rattle.book.specs.Running.{HasEntry, IsChangedField}
+use Rattle.book.proofs.Prelude.{Each, HasEntry, IsChangedField, changes_field, line_name}
 use Rattle.book.proofs.book.Book.put_lines.Given as goal
 
 abbrev pub invariant-loop-line : goal.invariant-loop-line

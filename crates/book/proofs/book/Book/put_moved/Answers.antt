@@ -1,13 +1,8 @@
 use Rattle.std.proofs.Common.{◌∙◌, ap, is_some, refl, sym, true≢false}
-use Rattle.book.specs.Ledger.{Ledger}
-use Rattle.book.specs.Next.{accept}
-use Rattle.book.specs.View.{field_of}
+use Rattle.book.proofs.Prelude.{Ledger, accept, field_of}
 use Rattle.book.proofs.ChangedFields.{found_stays, on_ok}
 use Rattle.book.proofs.StockChanges.{value_may, value_moved}
 use Rattle.book.proofs.book.Book.put_moved.Goals as goal
-
-pub unreachable-requires : goal.unreachable-requires
-unreachable-requires c = true≢false (sym (sym (ap is_some c.in_default.ensures.found) ∙ c.requires.1.there))
 
 pub move_value-requires : goal.move_value-requires
 move_value-requires c =

@@ -1,8 +1,6 @@
 use Rattle.std.proofs.Common.{◌∙◌, [], ◌∷◌, ap, arith, sym, take}
 use Rattle.std.proofs.lemmas.List.Sums.{fold-append}
-use Rattle.std.specs.BTreeMap.{insert_entry}
-use Rattle.book.specs.Ledger.{name_cmp}
-use Rattle.book.specs.Running.{with_entries}
+use Rattle.book.proofs.Prelude.{insert_entry, name_cmp, with_entries}
 use Rattle.book.proofs.Walked.{read-step}
 use Rattle.book.proofs.book.adopt.adopt_fields.Goals as goal
 

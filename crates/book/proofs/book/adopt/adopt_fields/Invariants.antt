@@ -1,6 +1,6 @@
 -- the fields so far are in, and there is room for the others
 use Rattle.std.proofs.Common.{◌≡◌, ◌+◌, ◌≤◌, length, take}
-use Rattle.book.specs.Running.{with_entries}
+use Rattle.book.proofs.Prelude.{with_entries}
 use Rattle.book.proofs.book.adopt.adopt_fields.Given as goal
 
 abbrev pub invariant-loop-place : goal.invariant-loop-place

@@ -1,5 +1,5 @@
 use Rattle.std.proofs.Common.{◌∙◌, ap, map}
-use Rattle.book.specs.View.{kept_of}
+use Rattle.book.proofs.Prelude.{kept_of}
 use Rattle.book.proofs.Keyed.{kept_absent, kept_inserted}
 use Rattle.book.proofs.book.adopt.insert_kept.Goals as goal
 

@@ -1,5 +1,5 @@
 use Rattle.std.proofs.Common.{sym, subst}
-use Rattle.std.specs.Str.{IsUtf8}
+use Rattle.book.proofs.Prelude.{IsUtf8}
 use Rattle.book.proofs.Texts.{key_utf8}
 use Rattle.book.proofs.book.changed_rows.key_text.Goals as goal
 

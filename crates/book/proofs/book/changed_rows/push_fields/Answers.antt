@@ -1,7 +1,5 @@
 use Rattle.std.proofs.Common.{◌∙◌, ◌+◌, [], ◌∷◌, ap, map, take}
-use Rattle.std.proofs.lemmas.List.{map-append}
-use Rattle.book.specs.Running.{entry_row}
-use Rattle.book.specs.Tables.{rows_among}
+use Rattle.book.proofs.Prelude.{entry_row, map-append, rows_among}
 use Rattle.book.proofs.Among.{field_joined, field_pushed}
 use Rattle.book.proofs.Walked.{read-step}
 use Rattle.book.proofs.book.changed_rows.push_fields.Goals as goal

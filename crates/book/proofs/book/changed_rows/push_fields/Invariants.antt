@@ -1,8 +1,6 @@
 -- the rows of the fields so far are there
 use Rattle.std.proofs.Common.{◌≡◌, map, take}
-use Rattle.book.specs.After.{with_fields}
-use Rattle.book.specs.Running.{entry_row}
-use Rattle.book.specs.Tables.{rows_among}
+use Rattle.book.proofs.Prelude.{entry_row, rows_among, with_fields}
 use Rattle.book.proofs.book.changed_rows.push_fields.Given as goal
 
 abbrev pub invariant-loop-place : goal.invariant-loop-place

@@ -1,4 +1,4 @@
-use Rattle.std.proofs.lemmas.Result.{on_ok_weaker}
+use Rattle.book.proofs.Prelude.{on_ok_weaker}
 use Rattle.book.proofs.Among.{kept_pushed}
 use Rattle.book.proofs.book.changed_rows.push_kept.Goals as goal
 

@@ -1,9 +1,5 @@
 use Rattle.std.proofs.Common.{◌≡◌, ◌+◌, ◌++◌, ◌∷◌, [], List, subst, take}
-use Rattle.book.specs.After.{changes_own_line, line_rows}
-use Rattle.book.specs.Ledger.{is_transfer}
-use Rattle.book.specs.Tables.{rows_among}
-use Rattle.book.specs.View.{order_of}
-use Rattle.book.specs.declared.order.Line.{Line}
+use Rattle.book.proofs.Prelude.{Line, changes_own_line, is_transfer, line_rows, order_of, rows_among}
 use Rattle.book.proofs.Among.{line_joined}
 use Rattle.book.proofs.Lined.{line_rows-step}
 use Rattle.book.proofs.book.changed_rows.push_lines.Goals as goal

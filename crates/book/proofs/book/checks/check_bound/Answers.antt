@@ -1,5 +1,5 @@
 use Rattle.std.proofs.Common.{ap, inl, inr, refl, true≢false, Some, sym}
-use Rattle.words.specs.declared.reply.Refusal.{Refusal}
+use Rattle.book.proofs.Prelude.{Refusal}
 use Rattle.book.proofs.Running.{grants, refuses}
 use Rattle.book.proofs.book.checks.check_bound.Goals as goal
 

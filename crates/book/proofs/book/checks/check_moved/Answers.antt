@@ -1,5 +1,5 @@
 use Rattle.std.proofs.Common.{ap, inl, inr, refl, true≢false, Some, sym}
-use Rattle.words.specs.declared.reply.Refusal.{Refusal}
+use Rattle.book.proofs.Prelude.{Refusal}
 use Rattle.book.proofs.Running.{grants, held_if_moved, moved_if_held, refuses, stock_safe}
 use Rattle.book.proofs.book.checks.check_moved.Goals as goal
 

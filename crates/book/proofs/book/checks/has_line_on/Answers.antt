@@ -1,6 +1,5 @@
 use Rattle.std.proofs.Common.{◌∙◌, ap, arith, is_some, sym}
-use Rattle.book.specs.Ledger.{Name, on, name_of}
-use Rattle.book.specs.Next.{new_line}
+use Rattle.book.proofs.Prelude.{Name, name_of, new_line, on}
 use Rattle.book.proofs.Found.{find-all, find-here, find-map-none, find-map-some, find-next}
 use Rattle.book.proofs.book.checks.has_line_on.Goals as goal
 
@@ -14,6 +13,4 @@ pub loop-line-preserved : goal.loop-line-preserved
 loop-line-preserved c = find-next _ c.args.lines.now c.loop-line.line-index c.line-item.result c.loop-line-test.true c.line-item.is c.loop-line.invariant (sym c.is_line_on.ensures ∙ c.if-is_line_on.false)
 
 pub returns : goal.returns
-returns c =
-    let f : Name = name_of c.args.branch c.args.article in
-    ap is_some (sym (find-map-none (on f) new_line c.args.lines.now (find-all _ c.args.lines.now c.loop-line.line-index (omega arith) c.loop-line.invariant)))
+returns c = grind (arith, find-all, find-map-none)

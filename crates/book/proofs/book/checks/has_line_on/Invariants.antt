@@ -1,6 +1,5 @@
 use Rattle.std.proofs.Common.{◌≡◌, take, find, None}
-use Rattle.book.specs.Ledger.{on, name_of}
-use Rattle.book.specs.Next.{new_line}
+use Rattle.book.proofs.Prelude.{name_of, new_line, on}
 use Rattle.book.proofs.book.checks.has_line_on.Given as goal
 
 abbrev pub invariant-loop-line : goal.invariant-loop-line

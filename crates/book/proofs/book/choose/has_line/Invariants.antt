@@ -1,7 +1,6 @@
 -- none so far is on the field
 use Rattle.std.proofs.Common.{◌≡◌, false, take}
-use Rattle.std.specs.List.{list_any}
-use Rattle.book.specs.Ledger.{name_of, on}
+use Rattle.book.proofs.Prelude.{list_any, name_of, on}
 use Rattle.book.proofs.book.choose.has_line.Given as goal
 
 abbrev pub invariant-loop-line : goal.invariant-loop-line

@@ -1,7 +1,6 @@
 -- the orders so far are aborted
 use Rattle.std.proofs.Common.{◌≡◌, map, take}
-use Rattle.book.specs.InPlace.{abort_all}
-use Rattle.book.specs.View.{order_of}
+use Rattle.book.proofs.Prelude.{abort_all, order_of}
 use Rattle.book.proofs.book.expiry.abort_all.Given as goal
 
 abbrev pub invariant-loop-number : goal.invariant-loop-number

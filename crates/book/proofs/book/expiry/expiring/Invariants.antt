@@ -1,8 +1,6 @@
 -- the numbers of those so far that expire
 use Rattle.std.proofs.Common.{◌≡◌, map, take}
-use Rattle.std.specs.List.{filter}
-use Rattle.book.specs.Next.{expires}
-use Rattle.book.specs.View.{order_of}
+use Rattle.book.proofs.Prelude.{expires, filter, order_of}
 use Rattle.book.proofs.book.expiry.expiring.Given as goal
 
 abbrev pub invariant-loop-order : goal.invariant-loop-order

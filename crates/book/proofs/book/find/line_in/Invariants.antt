@@ -1,5 +1,5 @@
 use Rattle.std.proofs.Common.{◌≡◌, take, find, None}
-use Rattle.book.specs.Ledger.{on, name_of}
+use Rattle.book.proofs.Prelude.{name_of, on}
 use Rattle.book.proofs.book.find.line_in.Given as goal
 
 abbrev pub invariant-loop-line : goal.invariant-loop-line

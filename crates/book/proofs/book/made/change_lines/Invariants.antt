@@ -1,7 +1,6 @@
 -- the lines so far are changed
 use Rattle.std.proofs.Common.{◌≡◌, ◌||◌, if◌then◌else◌}
-use Rattle.book.specs.InPlace.{changed_line}
-use Rattle.book.specs.Ledger.{on, name_of}
+use Rattle.book.proofs.Prelude.{changed_line, name_of, on}
 use Rattle.book.proofs.Walking.{walked}
 use Rattle.book.proofs.book.made.change_lines.Given as goal
 

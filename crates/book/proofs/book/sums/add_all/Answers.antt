@@ -1,5 +1,5 @@
-use Rattle.std.proofs.Common.{◌∙◌, [], ap, refl}
-use Rattle.book.specs.Sums.{added, numbers_on}
+use Rattle.std.proofs.Common.{arith, ◌∙◌, [], ap, refl}
+use Rattle.book.proofs.Prelude.{added, numbers_on}
 use Rattle.book.proofs.SumsOnFields.{added-all, small-nothing}
 use Rattle.book.proofs.book.sums.add_all.Goals as goal
 
@@ -7,10 +7,4 @@ pub add_moves-requires-clause-room : goal.add_moves-requires-clause-room
 add_moves-requires-clause-room c = small-nothing c.args.fields.now c.args.sums.now c.requires.nothing
 
 pub returns-then-add_moves-clause-sums : goal.returns-then-add_moves-clause-sums
-returns-then-add_moves-clause-sums c t =
-    let fields = c.args.fields.now in
-    let moves = c.args.moves.now in
-    let orders = c.args.orders.now in
-    c.add_orders.ensures.sums t
-    ∙ ap (added (numbers_on [] orders) fields) (c.if-add_moves.ensures.sums refl ∙ ap (added (numbers_on moves []) fields) c.requires.nothing)
-    ∙ added-all moves orders fields
+returns-then-add_moves-clause-sums c t = grind (arith, added-all)

@@ -1,16 +1,11 @@
-use Rattle.std.proofs.Common.{◌∙◌, ap}
+use Rattle.std.proofs.Common.{arith, ◌∙◌, ap}
 use Rattle.book.specs.declared.book.sums.Numbers.{Numbers}
-use Rattle.book.specs.Ledger.{line_name}
-use Rattle.book.specs.Walk.{most_of_line}
-use Rattle.book.specs.Sums.{added, only_on, part_of_line}
-use Rattle.book.proofs.SumsOnFields.{added-same, part-line}
+use Rattle.book.proofs.Prelude.{added, line_name, most_of_line, only_on, part_of_line}
+use Rattle.book.proofs.SumsOnFields.{added-same}
 use Rattle.book.proofs.book.sums.add_line.Goals as goal
 
 pub returns-clause-sums : goal.returns-clause-sums
-returns-clause-sums c =
-    c.add_on.ensures.sums
-    ∙ ap (λ (part : Numbers). added (only_on (line_name c.args.line.now) part) c.args.fields.now c.args.sums.now) c.part_of-part.ensures.part
-    ∙ added-same (only_on (line_name c.args.line.now) (part_of_line c.args.state.now c.args.line.now)) _ (part-line c.args.state.now c.args.line.now) c.args.fields.now c.args.sums.now
+returns-clause-sums c = grind (arith, added-same)
 
 pub returns-clause-small : goal.returns-clause-small
 returns-clause-small c k small = c.add_on.ensures.small k most_of_line small c.part_of-part.ensures.small

@@ -1,13 +1,10 @@
 use Rattle.std.proofs.Common.{◌≡◌, ◌∙◌, ℕ, ◌+◌, ◌*◌, ◌≤◌, [], ◌∷◌, ap, arith, refl, subst, sym, take}
-use Rattle.std.specs.List.{AllByRecursion as Each}
-use Rattle.book.specs.Ledger.{line_name}
-use Rattle.book.specs.Walk.{most_of_all, most_of_line, most_of_lines, IsSmall}
-use Rattle.book.specs.Sums.{added, lines_numbers, IsField}
-use Rattle.book.proofs.SumsOnFields.{added-nothing, added-twice, each-more, each-small-up, line-step, lines-none}
+use Rattle.book.proofs.Prelude.{Each, IsField, IsSmall, added, line_name, lines_numbers, most_of_all, most_of_line, most_of_lines}
+use Rattle.book.proofs.SumsOnFields.{added-nothing, added-twice, each-more, each-small-up, line-step}
 use Rattle.book.proofs.book.sums.add_lines.Goals as goal
 
 pub loop-line-init : goal.loop-line-init
-loop-line-init c = record { there = tt; sums = sym (added-nothing (lines_numbers c.args.state.now []) (lines-none c.args.state.now) c.args.fields.now c.args.sums.now); small = λ k small. let more : k ≤ k + 0 = omega arith in each-small-up k (k + 0) c.args.sums.now more small }
+loop-line-init c = record { there = tt; sums = sym (added-nothing (lines_numbers c.args.state.now []) (grind arith) c.args.fields.now c.args.sums.now); small = λ k small. let more : k ≤ k + 0 = omega arith in each-small-up k (k + 0) c.args.sums.now more small }
 
 pub add_line-requires-clause-room : goal.add_line-requires-clause-room
 add_line-requires-clause-room c =

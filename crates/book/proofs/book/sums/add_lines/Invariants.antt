@@ -1,8 +1,6 @@
 -- the lines so far are on fields, and added
 use Rattle.std.proofs.Common.{◌≡◌, ℕ, ◌+◌, ◌*◌, take}
-use Rattle.std.specs.List.{AllByRecursion as Each}
-use Rattle.book.specs.Walk.{most_of_line, IsSmall}
-use Rattle.book.specs.Sums.{added, lines_numbers, AreLinesOnFields}
+use Rattle.book.proofs.Prelude.{AreLinesOnFields, Each, IsSmall, added, lines_numbers, most_of_line}
 use Rattle.book.proofs.book.sums.add_lines.Given as goal
 
 abbrev pub invariant-loop-line : goal.invariant-loop-line

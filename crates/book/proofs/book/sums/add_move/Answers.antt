@@ -1,6 +1,5 @@
 use Rattle.std.proofs.Common.{◌+◌, ◌≤◌, arith}
-use Rattle.std.proofs.lemmas.Int.{ints}
-use Rattle.book.specs.Walk.{most_of_all, most_of_move}
+use Rattle.book.proofs.Prelude.{ints, most_of_all, most_of_move}
 use Rattle.book.proofs.SumsOnFields.{each-small-up}
 use Rattle.book.proofs.book.sums.add_move.Goals as goal
 

@@ -1,8 +1,5 @@
 use Rattle.std.proofs.Common.{◌≡◌, ◌∙◌, ℕ, ◌+◌, ◌*◌, ◌≤◌, [], ◌∷◌, ap, arith, refl, subst, sym, take}
-use Rattle.std.specs.List.{AllByRecursion as Each}
-use Rattle.book.specs.View.{move_of}
-use Rattle.book.specs.Walk.{most_of_all, most_of_move, most_of_moves, IsSmall}
-use Rattle.book.specs.Sums.{added, numbers_on, IsField}
+use Rattle.book.proofs.Prelude.{Each, IsField, IsSmall, added, most_of_all, most_of_move, most_of_moves, move_of, numbers_on}
 use Rattle.book.proofs.SumsOnFields.{added-nothing, added-twice, each-more, each-small-up, move-step}
 use Rattle.book.proofs.book.sums.add_moves.Goals as goal
 
@@ -10,9 +7,7 @@ pub loop-entry-init : goal.loop-entry-init
 loop-entry-init c = record { there = tt; sums = sym (added-nothing (numbers_on [] []) (λ f. refl) c.args.fields.now c.args.sums.now); small = c.requires.room }
 
 pub add_move-requires-clause-room : goal.add_move-requires-clause-room
-add_move-requires-clause-room c =
-    let up : most_of_move * c.loop-entry.entry-index ≤ most_of_all = omega arith in
-    each-small-up (most_of_move * c.loop-entry.entry-index) most_of_all c.loop-entry.sums up c.loop-entry.invariant.small
+add_move-requires-clause-room c = grind (arith, each-small-up)
 
 pub loop-entry-preserved : goal.loop-entry-preserved
 loop-entry-preserved c =
@@ -29,6 +24,4 @@ loop-entry-preserved c =
     }
 
 pub returns-clause-small : goal.returns-clause-small
-returns-clause-small c t =
-    let up : most_of_move * c.loop-entry.entry-index ≤ most_of_moves = omega arith in
-    each-small-up (most_of_move * c.loop-entry.entry-index) most_of_moves c.loop-entry.sums up c.loop-entry.invariant.small
+returns-clause-small c t = grind (arith, each-small-up)

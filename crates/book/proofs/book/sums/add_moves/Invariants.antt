@@ -1,8 +1,6 @@
 -- the moves so far are on fields, and added
 use Rattle.std.proofs.Common.{◌≡◌, ◌*◌, [], take}
-use Rattle.std.specs.List.{AllByRecursion as Each}
-use Rattle.book.specs.Walk.{most_of_move, IsSmall}
-use Rattle.book.specs.Sums.{added, numbers_on, AreMovesOnFields}
+use Rattle.book.proofs.Prelude.{AreMovesOnFields, Each, IsSmall, added, most_of_move, numbers_on}
 use Rattle.book.proofs.book.sums.add_moves.Given as goal
 
 abbrev pub invariant-loop-entry : goal.invariant-loop-entry

@@ -1,5 +1,5 @@
 use Rattle.std.proofs.Common.{◌∙◌, ◌+◌, ◌≤◌, arith, refl, sym}
-use Rattle.book.specs.Ledger.{Name, name_of}
+use Rattle.book.proofs.Prelude.{Name, name_of}
 use Rattle.book.proofs.SumsOnFields.{added-at, added-none, there_at, each-small-up}
 use Rattle.book.proofs.book.sums.add_on.Goals as goal
 
@@ -9,14 +9,10 @@ returns-in-Some-clause-there c =
     ((λ t. there_at name c.args.fields.now c.in-Some.place c.in-Some.ensures), λ f. refl)
 
 pub returns-in-Some-clause-sums : goal.returns-in-Some-clause-sums
-returns-in-Some-clause-sums c =
-    let name : Name = name_of c.args.branch c.args.article in
-    c.add_at.ensures.sums ∙ added-at name c.args.part.now c.args.fields.now c.args.sums.now c.in-Some.place c.requires.sorted c.requires.long c.in-Some.ensures
+returns-in-Some-clause-sums c = grind (arith, added-at)
 
 pub returns-in-None-clause-sums : goal.returns-in-None-clause-sums
-returns-in-None-clause-sums c =
-    let name : Name = name_of c.args.branch c.args.article in
-    sym (added-none name c.args.part.now c.args.fields.now c.args.sums.now c.in-None.ensures)
+returns-in-None-clause-sums c = grind (arith, added-none)
 
 pub returns-in-None-clause-small : goal.returns-in-None-clause-small
 returns-in-None-clause-small c k m small part = let more : k ≤ k + m = omega arith in each-small-up k (k + m) c.args.sums.now more small

@@ -1,8 +1,5 @@
 use Rattle.std.proofs.Common.{◌≡◌, ◌∙◌, ℕ, ◌+◌, ◌*◌, ◌≤◌, List, [], ap, arith, refl, subst, sym, take}
-use Rattle.std.specs.List.{AllByRecursion as Each}
-use Rattle.book.specs.declared.order.Line.{Line}
-use Rattle.book.specs.Walk.{most_of_all, most_of_lines, most_of_moves, IsSmall}
-use Rattle.book.specs.Sums.{added, lines_numbers, numbers_on, AreLinesOnFields}
+use Rattle.book.proofs.Prelude.{AreLinesOnFields, Each, IsSmall, Line, added, lines_numbers, most_of_all, most_of_lines, most_of_moves, numbers_on}
 use Rattle.book.proofs.SumsOnFields.{added-nothing, added-twice, each-more, each-small-up, order-step}
 use Rattle.book.proofs.book.sums.add_orders.Goals as goal
 
@@ -10,10 +7,7 @@ pub loop-entry-init : goal.loop-entry-init
 loop-entry-init c = record { there = tt; sums = sym (added-nothing (numbers_on [] []) (λ f. refl) c.args.fields.now c.args.sums.now); small = c.requires.room }
 
 pub add_lines-requires-clause-room : goal.add_lines-requires-clause-room
-add_lines-requires-clause-room c =
-    let i : ℕ = c.loop-entry.entry-index in
-    let up : most_of_moves + most_of_lines * i ≤ most_of_all = omega arith in
-    each-small-up (most_of_moves + most_of_lines * i) most_of_all c.loop-entry.sums up c.loop-entry.invariant.small
+add_lines-requires-clause-room c = grind (arith, each-small-up)
 
 pub loop-entry-preserved : goal.loop-entry-preserved
 loop-entry-preserved c =
@@ -32,9 +26,4 @@ loop-entry-preserved c =
     }
 
 pub returns-clause-small : goal.returns-clause-small
-returns-clause-small c _ =
-    let i : ℕ = c.loop-entry.entry-index in
-    let few = c.requires.few in
-    let so_far = c.loop-entry.auto.entry-index-end in
-    let up : most_of_moves + most_of_lines * i ≤ most_of_all = omega arith in
-    each-small-up (most_of_moves + most_of_lines * i) most_of_all c.loop-entry.sums up c.loop-entry.invariant.small
+returns-clause-small c _ = grind (arith, each-small-up)

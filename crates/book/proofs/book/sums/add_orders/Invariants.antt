@@ -1,8 +1,6 @@
 -- the orders so far are on fields, and added
 use Rattle.std.proofs.Common.{◌≡◌, ◌+◌, ◌*◌, [], take}
-use Rattle.std.specs.List.{AllByRecursion as Each}
-use Rattle.book.specs.Walk.{most_of_lines, most_of_moves, IsSmall}
-use Rattle.book.specs.Sums.{added, numbers_on, AreOrdersOnFields}
+use Rattle.book.proofs.Prelude.{AreOrdersOnFields, Each, IsSmall, added, most_of_lines, most_of_moves, numbers_on}
 use Rattle.book.proofs.book.sums.add_orders.Given as goal
 
 abbrev pub invariant-loop-entry : goal.invariant-loop-entry

@@ -1,7 +1,5 @@
 use Rattle.std.proofs.Common.{◌≡◌, rules, of_calls, Ok, Err}
-use Rattle.std.proofs.lemmas.Fn.{always_returns_same}
-use Rattle.book.specs.Ledger.{Name, name_cmp, name_of}
-use Rattle.book.specs.Sums.{entry_name}
+use Rattle.book.proofs.Prelude.{Name, always_returns_same, entry_name, name_cmp, name_of}
 use Rattle.book.proofs.SumsOnFields.{searched}
 use Rattle.book.proofs.book.sums.field_index.Goals as goal
 

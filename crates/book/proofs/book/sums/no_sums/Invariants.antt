@@ -1,6 +1,6 @@
 -- nothing for each field so far
 use Rattle.std.proofs.Common.{◌≡◌, map, take}
-use Rattle.book.specs.Walk.{nothing}
+use Rattle.book.proofs.Prelude.{nothing}
 use Rattle.book.proofs.book.sums.no_sums.Given as goal
 
 abbrev pub invariant-loop : goal.invariant-loop

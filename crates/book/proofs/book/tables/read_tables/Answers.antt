@@ -1,15 +1,5 @@
 use Rattle.std.proofs.Common.{◌≡◌, ◌∙◌, ℕ, [], ◌∷◌, List, ap, arith, length, map, pos, subst, sym}
-use Rattle.std.specs.List.{AllByRecursion as Each, AllZip}
-use Rattle.book.specs.declared.entries.FieldEntry.{FieldEntry}
-use Rattle.book.specs.declared.entries.KeptEntry.{KeptEntry}
-use Rattle.book.specs.declared.rows.FieldRow.{FieldRow}
-use Rattle.book.specs.declared.rows.KeptRow.{KeptRow}
-use Rattle.book.specs.Good.{IsGoodField, IsGoodKept}
-use Rattle.book.specs.Ledger.{Name, places}
-use Rattle.book.specs.Rows.{DeskCells, IsFieldRow, KeptCells, kept_row, move_row}
-use Rattle.book.specs.Tables.{field_cells, kept_cells, line_cells, move_cells, order_cells}
-use Rattle.book.specs.Told.{IsFieldTold, IsKeptTold, IsLineTold, IsMoveTold, TellsField}
-use Rattle.book.specs.View.{field_of, kept_of, move_of, order_of}
+use Rattle.book.proofs.Prelude.{AllZip, DeskCells, Each, FieldEntry, FieldRow, IsFieldRow, IsFieldTold, IsGoodField, IsGoodKept, IsKeptTold, IsLineTold, IsMoveTold, KeptCells, KeptEntry, KeptRow, Name, TellsField, field_cells, field_of, kept_cells, kept_of, kept_row, line_cells, move_cells, move_of, move_row, order_cells, order_of, places}
 use Rattle.book.proofs.RowsTold.{fields_told, good_field, heads_same, heads_told, kept_told, lines_told, moves_told, orders_rows, rows_of, tells_field}
 use Rattle.book.proofs.Lists.{length-of-map}
 use Rattle.book.proofs.Told.{same_first}
@@ -38,21 +28,11 @@ returns-in_err-lines-clause-damaged c = passed_up c.from_residual-in_err-lines.r
     (λ is A g rows. c.in_err-lines.ensures.damaged is (lines_told A c.as_slice-4.result.now g (ap (map line_cells) c.as_slice-4.ensures ∙ rows.lines)))
 
 pub returns-in_err-orders-clause-damaged : goal.returns-in_err-orders-clause-damaged
-returns-in_err-orders-clause-damaged c = passed_up c.from_residual-in_err-orders.result c.in_err-orders.field-0.0 _ c.from_residual-in_err-orders.ensures.1
-    (λ is A g rows. c.in_err-orders.ensures.damaged is A.orders g.orders_in_order
-    (record {
-      heads_are = heads_same c.in_ok-heads.heads.items c.as_slice-3.result.now A.orders c.in_ok-heads.ensures.told (ap (map order_cells) c.as_slice-3.ensures ∙ rows.orders) ∙ sym c.deref.ensures.value;
-      lines_are = sym (ap (map line_cells) c.as_slice-5.ensures ∙ rows.lines);
-    }))
+returns-in_err-orders-clause-damaged c = grind (arith, heads_same, passed_up)
 
 pub returns-in_err-kept-clause-damaged : goal.returns-in_err-kept-clause-damaged
 returns-in_err-kept-clause-damaged c = passed_up c.from_residual-in_err-kept.result c.in_err-kept.field-0.0 _ c.from_residual-in_err-kept.ensures.1
     (λ is A g rows. c.in_err-kept.ensures.damaged is (kept_told c.args.alloc A c.as_slice-6.result.now g (ap (map kept_cells) c.as_slice-6.ensures ∙ rows.kept)))
-
-pub group-requires : goal.group-requires
-group-requires c =
-    subst (λ ls. AllZip IsLineTold ls c.as_slice-5.result.now) (sym c.deref-2.ensures.value)
-    (subst (AllZip IsLineTold c.in_ok-lines.lines.items) (c.as_slice-4.ensures ∙ sym c.as_slice-5.ensures) c.in_ok-lines.ensures.told)
 
 pub returns-in_default-clause-damaged : goal.returns-in_default-clause-damaged
 returns-in_default-clause-damaged c _ A g rows =
@@ -66,21 +46,7 @@ returns-in_default-clause-damaged c _ A g rows =
     c.in_default.ensures A.clock g.clock (same_first _ _ _ _ rows.desk ∙ ap (desk_at A.clock) places)
 
 pub returns-clause-told : goal.returns-clause-told
-returns-clause-told c = record {
-  desk =
-      let counted = c.len.ensures in
-      let kept = c.in_ok-kept.kept.ok.0 in
-      let entries = length-of-map kept_of c.in_ok-kept.kept.items in
-      let places : c.len.result ≡ length (map kept_of c.in_ok-kept.kept.items) = omega arith in
-      ap (λ (d : DeskCells). d ∷ []) (c.in-Some.ensures.1 ∙ ap (desk_at c.in-Some.clock) places);
-  fields = subst (λ (fs : List FieldRow). AllZip TellsField (map field_of c.in_ok-fields.fields.items) (map field_cells fs)) c.as_slice.ensures
-      (zip-map IsFieldTold TellsField field_of field_cells tells_field c.in_ok-fields.fields.items c.as_slice.result.now c.in_ok-fields.ensures.told);
-  moves = ap (map move_cells) (sym c.as_slice-2.ensures) ∙ rows_of IsMoveTold move_of move_row move_cells (λ e row told. told.cells) c.in_ok-moves.moves.items c.as_slice-2.result.now c.in_ok-moves.ensures.told;
-  orders = ap (map order_cells) (sym c.as_slice-3.ensures)
-      ∙ orders_rows c.in_ok-heads.heads.items c.as_slice-3.result.now (map order_of c.in_ok-orders.orders.items) c.in_ok-heads.ensures.told (c.in_ok-orders.ensures.told.heads_are ∙ c.deref.ensures.value);
-  lines = ap (map line_cells) (sym c.as_slice-5.ensures) ∙ sym c.in_ok-orders.ensures.told.lines_are;
-  kept = ap (map kept_cells) (sym c.as_slice-6.ensures) ∙ rows_of IsKeptTold kept_of kept_row kept_cells (λ e row told. told.cells) c.in_ok-kept.kept.items c.as_slice-6.result.now c.in_ok-kept.ensures.told;
-}
+returns-clause-told c = grind (arith, (zip-map IsFieldTold TellsField field_of field_cells tells_field c.in_ok-fields.fields.items c.as_slice.result.now c.in_ok-fields.ensures.told), (length-of-map kept_of c.in_ok-kept.kept.items), orders_rows, rows_of, tells_field)
 
 good_fields : (es : List (Name × FieldEntry)) (rows : List FieldRow) → AllZip IsFieldTold es rows → Each IsGoodField (map field_of es)
 good_fields [] [] told = tt
@@ -95,11 +61,4 @@ good_kept (e ∷ es) [] told = absurd told
 good_kept (e ∷ es) (r ∷ rows) told = (record { key = told.0.key; command = told.0.command }, good_kept es rows told.1)
 
 pub returns-clause-form : goal.returns-clause-form
-returns-clause-form c = record {
-  clock = c.in-Some.ensures.0;
-  fields = good_fields c.in_ok-fields.fields.items c.as_slice.result.now c.in_ok-fields.ensures.told;
-  kept = good_kept c.in_ok-kept.kept.items c.as_slice-6.result.now c.in_ok-kept.ensures.told;
-}
-
-pub returns-clause-fields : goal.returns-clause-fields
-returns-clause-fields c = subst (AllZip IsFieldTold c.in_ok-fields.fields.items) c.as_slice.ensures c.in_ok-fields.ensures.told
+returns-clause-form c = grind (arith, good_fields, good_kept)

@@ -1,9 +1,6 @@
 use Rattle.std.proofs.Common.{◌≡◌, ◌∙◌, pos, ◌+ℤ◌, ◌-ℤ◌, ap, refl, subst, sym}
-use Rattle.book.specs.Held.{held_to_add, held_to_take}
+use Rattle.book.proofs.Prelude.{FieldCells, IsInfimum, IsSupremum, field_of, held_to_add, held_to_take, settled}
 use Rattle.book.specs.Ledger.{Field}
-use Rattle.book.specs.Outcomes.{IsInfimum, IsSupremum, settled}
-use Rattle.book.specs.Rows.{FieldCells}
-use Rattle.book.specs.View.{field_of}
 use Rattle.book.proofs.Bounds.{inf_is, sup_is}
 use Rattle.book.proofs.Closing.{sounds_from_good}
 use Rattle.book.proofs.Running.{greatest_is, least_is}

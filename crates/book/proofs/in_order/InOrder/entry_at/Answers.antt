@@ -1,5 +1,5 @@
 use Rattle.std.proofs.Common.{◌<◌, ◌∙◌, sym, ap, subst, length, slice_get, refl, arith}
-use Rattle.std.proofs.lemmas.Option.{slice_get_read}
+use Rattle.book.proofs.Prelude.{slice_get_read}
 use Rattle.book.proofs.Indexes.{index_at, length_in_order, length_order}
 use Rattle.book.proofs.in_order.InOrder.entry_at.Goals as goal
 

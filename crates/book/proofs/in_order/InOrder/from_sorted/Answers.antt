@@ -1,7 +1,5 @@
 use Rattle.std.proofs.Common.{◌≡◌, ◌∙◌, ap, length, refl, add-one, zero-add, arith}
-use Rattle.std.specs.List.{range_with_len}
-use Rattle.std.proofs.lemmas.List.Sorted.{IsPermutation-refl}
-use Rattle.book.specs.InOrder.{at_indexes}
+use Rattle.book.proofs.Prelude.{IsPermutation-refl, at_indexes, range_with_len}
 use Rattle.book.proofs.Indexes.{at_indexes-all, range_more}
 use Rattle.book.proofs.in_order.InOrder.from_sorted.Goals as goal
 
@@ -9,10 +7,7 @@ pub loop-index-preserved : goal.loop-index-preserved
 loop-index-preserved g c = rw (c.in_ok-push.ensures.items, c.loop-index.invariant, add-one, range_more 0 c.loop-index.index, zero-add) refl
 
 pub invariant_of-result : goal.invariant_of-result
-invariant_of-result g c =
-    let all : c.loop-index.index ≡ length c.args.entries.items = omega (arith, c.args.entries.ok.0) in
-    let ordered : c.loop-index.order.items ≡ range_with_len 0 (length c.args.entries.items) = c.loop-index.invariant ∙ ap (range_with_len 0) all in
-    rw ordered (record { each_once = IsPermutation-refl _; rising = rw (at_indexes-all c.args.entries.items) c.requires.rising })
+invariant_of-result g c = grind (arith, (at_indexes-all c.args.entries.items), IsPermutation-refl)
 
 pub returns : goal.returns
 returns g c =

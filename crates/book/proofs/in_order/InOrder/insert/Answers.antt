@@ -1,11 +1,8 @@
 use Rattle.std.proofs.Common.{◌≤◌, ◌∙◌, sym, ap, subst, arith}
-use Rattle.std.specs.BTreeMap.{insert_entry}
-use Rattle.std.specs.Vec.{vec_capacity, vec_len}
-use Rattle.std.proofs.lemmas.Option.{none-some}
-use Rattle.book.specs.InOrder.{IsGap, room_left}
+use Rattle.book.proofs.Prelude.{IsGap, insert_entry, none-some, room_left, vec_capacity, vec_len}
 use Rattle.book.proofs.Indexes.{length_in_order, length_order}
 use Rattle.book.proofs.KeyPlaces.{lookup_at, kept, listed}
-use Rattle.book.proofs.IndexRoom.{has_room, room_used}
+use Rattle.book.proofs.IndexRoom.{has_room}
 use Rattle.book.proofs.in_order.InOrder.insert.Goals as goal
 
 -- the key is not there
@@ -49,4 +46,4 @@ returns-clause-room g c =
     let same = length_order _ inside.order.items c.self.invariant.each_once in
     let in_entries = (c.in-Ok-insert.ensures.in_place fits.0).1.0 in
     let in_order = (c.in-Ok.ensures.in_place (omega (arith, fits.1, same, inside.order.ok.0, inside.entries.ok.0))).1.0 in
-    rw (in_entries, in_order, c.in-Ok-insert.ensures.len) (room_used _ _ _ room ∙ before)
+    rw (in_entries, in_order, c.in-Ok-insert.ensures.len) (omega arith)

@@ -1,6 +1,5 @@
 use Rattle.std.proofs.Common.{[]}
-use Rattle.std.specs.List.Sorted.{IsStrictlySortedBy}
-use Rattle.std.proofs.lemmas.List.Sorted.{IsPermutation-refl}
+use Rattle.book.proofs.Prelude.{IsPermutation-refl, IsStrictlySortedBy}
 use Rattle.book.proofs.in_order.InOrder.new.Goals as goal
 
 pub invariant_of-result : goal.invariant_of-result

@@ -1,8 +1,6 @@
 use Rattle.std.proofs.Common.{◌<◌, ◌∙◌, sym, ap, subst, length, refl, arith}
-use Rattle.std.proofs.lemmas.Option.{slice_get_read, slice_get-map}
+use Rattle.book.proofs.Prelude.{at_indexes, room_left, slice_get-map, slice_get_read, vec_capacity, vec_len}
 use Rattle.std.specs.Option.{option_map}
-use Rattle.std.specs.Vec.{vec_capacity, vec_len}
-use Rattle.book.specs.InOrder.{at_indexes, room_left}
 use Rattle.book.proofs.Indexes.{index_at, length_in_order, length_order}
 use Rattle.book.proofs.KeyPlaces.{kept_written, written}
 use Rattle.book.proofs.in_order.InOrder.nth_mut.Goals as goal

@@ -1,6 +1,5 @@
 use Rattle.std.proofs.Common.{rules}
-use Rattle.std.proofs.lemmas.Fn.{always_returns_same}
-use Rattle.book.specs.InOrder.{compare_at}
+use Rattle.book.proofs.Prelude.{always_returns_same, compare_at}
 use Rattle.book.proofs.KeyPlaces.{searched}
 use Rattle.book.proofs.in_order.InOrder.place.Goals as goal
 

@@ -1,5 +1,5 @@
 use Rattle.std.proofs.Common.{arith}
-use Rattle.std.proofs.lemmas.Int.{ints}
+use Rattle.book.proofs.Prelude.{ints}
 use Rattle.book.proofs.Numbers.{same-numbers}
 use Rattle.book.proofs.book.sums.Numbers.plus.Goals as goal
 

@@ -1,7 +1,5 @@
 use Rattle.std.proofs.Common.{◌≡◌, ◌∙◌, zero, suc, ◌<◌, List, [], ◌∷◌, None, Some, ap, arith, find, get_or, length, map, refl, subst, sym, take, false, ℕ, is_some, Option, MatchOption, Bor, true, true≢false}
-use Rattle.std.specs.List.{IsDistinct}
-use Rattle.book.specs.declared.order.Line.{Line}
-use Rattle.book.specs.Ledger.{line_name, on, same_name}
+use Rattle.book.proofs.Prelude.{IsDistinct, Line, line_name, on, same_name}
 use Rattle.book.proofs.Asked.{none_found}
 use Rattle.book.proofs.Growing.{other_way}
 use Rattle.book.proofs.LineChecks.{apart_push}
@@ -38,6 +36,4 @@ loop-i-preserved c =
     (apart_push (take c.loop-i.i c.args.lines.now) c.index-lines-i.result c.loop-i.invariant (none_found (on (line_name c.index-lines-i.result)) (take c.loop-i.i c.args.lines.now) none))
 
 pub returns-then-is_some : goal.returns-then-is_some
-returns-then-is_some c = no (λ apart.
-    some_if c.line_in.result _ c.line_in.ensures (sym c.is_some.ensures ∙ c.if-is_some.true)
-    (subst (λ (l : Line). find (on (line_name l)) (take c.loop-i.i c.args.lines.now) ≡ None) (sym c.index-lines-i.is) (none_before c.args.lines.now c.loop-i.i c.index-lines-i.result c.loop-i-test.true apart)))
+returns-then-is_some c = grind (arith, no, none_before, some_if)

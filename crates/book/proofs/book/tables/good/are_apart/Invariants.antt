@@ -1,7 +1,6 @@
 -- no two of the lines so far are on one field
 use Rattle.std.proofs.Common.{map, take}
-use Rattle.std.specs.List.{IsDistinct}
-use Rattle.book.specs.Ledger.{line_name, same_name}
+use Rattle.book.proofs.Prelude.{IsDistinct, line_name, same_name}
 use Rattle.book.proofs.book.tables.good.are_apart.Given as goal
 
 abbrev pub invariant-loop-i : goal.invariant-loop-i

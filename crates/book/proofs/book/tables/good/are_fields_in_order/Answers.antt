@@ -1,9 +1,6 @@
 use Rattle.std.proofs.Common.{◌≡◌, Bool, of_calls, refl, rules}
-use Rattle.std.proofs.lemmas.Fn.{always_returns_same}
-use Rattle.std.specs.Ordering.{is_lt}
-use Rattle.book.specs.Ledger.{Field, Name, name_cmp}
-use Rattle.book.specs.View.{field_of}
-use Rattle.book.specs.declared.entries.FieldEntry.{FieldEntry}
+use Rattle.book.proofs.Prelude.{FieldEntry, Name, always_returns_same, field_of, is_lt, name_cmp}
+use Rattle.book.specs.Ledger.{Field}
 use Rattle.book.proofs.Staying.{name_cmp_total}
 use Rattle.book.proofs.InRow.{in_order}
 use Rattle.book.proofs.book.tables.good.are_fields_in_order.Goals as goal

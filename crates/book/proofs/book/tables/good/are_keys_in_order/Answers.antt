@@ -1,11 +1,6 @@
 use Rattle.std.proofs.Common.{◌≡◌, ℕ, Bool, List, of_calls, refl, rules}
-use Rattle.std.proofs.lemmas.Fn.{always_returns_same}
-use Rattle.std.specs.Ordering.{is_lt, nat_cmp}
-use Rattle.std.specs.Cmp.Lexicographic.{slice_cmp}
-use Rattle.std.proofs.lemmas.Cmp.{nat_list_cmp_total}
-use Rattle.book.specs.Ledger.{Kept}
-use Rattle.book.specs.View.{kept_of}
-use Rattle.book.specs.declared.entries.KeptEntry.{KeptEntry}
+use Rattle.book.proofs.Prelude.{Kept, KeptEntry, always_returns_same, is_lt, kept_of, nat_list_cmp_total, slice_cmp}
+use Rattle.std.specs.Ordering.{nat_cmp}
 use Rattle.book.proofs.InRow.{in_order}
 use Rattle.book.proofs.book.tables.good.are_keys_in_order.Goals as goal
 

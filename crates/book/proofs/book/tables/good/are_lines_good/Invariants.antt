@@ -1,7 +1,6 @@
 -- the lines so far use no more than they hold
 use Rattle.std.proofs.Common.{◌≤◌, take}
-use Rattle.std.specs.List.{AllByRecursion as Each}
-use Rattle.escrow.specs.Ranges.{IsLevel}
+use Rattle.book.proofs.Prelude.{Each, IsLevel}
 use Rattle.book.proofs.book.tables.good.are_lines_good.Given as goal
 
 abbrev pub invariant-loop-line : goal.invariant-loop-line

@@ -1,8 +1,6 @@
 -- those so far are good
 use Rattle.std.proofs.Common.{take}
-use Rattle.std.specs.List.{AllByRecursion as Each}
-use Rattle.book.specs.Told.{IsMoveByItself}
-use Rattle.book.specs.View.{move_of}
+use Rattle.book.proofs.Prelude.{Each, IsMoveByItself, move_of}
 use Rattle.book.proofs.book.tables.good.are_moves_good.Given as goal
 
 abbrev pub invariant-loop-entry : goal.invariant-loop-entry

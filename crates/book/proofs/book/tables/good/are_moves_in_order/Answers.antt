@@ -1,10 +1,6 @@
 use Rattle.std.proofs.Common.{◌≡◌, Bool, nat_lt, of_calls, rules}
-use Rattle.std.proofs.lemmas.Fn.{always_returns_same}
+use Rattle.book.proofs.Prelude.{Move, MoveEntry, always_returns_same, move_of, nat_cmp_total}
 use Rattle.std.specs.Ordering.{nat_cmp}
-use Rattle.std.proofs.lemmas.Cmp.{nat_cmp_total}
-use Rattle.book.specs.Ledger.{Move}
-use Rattle.book.specs.View.{move_of}
-use Rattle.book.specs.declared.entries.MoveEntry.{MoveEntry}
 use Rattle.book.proofs.InRow.{in_order, numbers_less}
 use Rattle.book.proofs.book.tables.good.are_moves_in_order.Goals as goal
 

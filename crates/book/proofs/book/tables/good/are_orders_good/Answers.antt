@@ -1,5 +1,5 @@
-use Rattle.book.specs.Told.{IsOrderByItself}
-use Rattle.book.specs.View.{order_of}
+use Rattle.std.proofs.Common.{arith}
+use Rattle.book.proofs.Prelude.{IsOrderByItself, order_of}
 use Rattle.book.proofs.Lists.{each-unmap}
 use Rattle.book.proofs.Sums.{each-map}
 use Rattle.book.proofs.Tested.{no, true_not_false, yes}
@@ -10,8 +10,7 @@ pub loop-order-preserved : goal.loop-order-preserved
 loop-order-preserved c = each-next (λ e. IsOrderByItself (order_of e)) c.args.orders.now c.loop-order.order-index c.order-item.result c.loop-order-test.true c.order-item.is c.loop-order.invariant (c.is_order_good.ensures.0 c.if-not-is_order_good.false)
 
 pub returns-then-not-is_order_good : goal.returns-then-not-is_order_good
-returns-then-not-is_order_good c = no (λ all.
-    true_not_false (c.is_order_good.ensures.1 (each-at (λ e. IsOrderByItself (order_of e)) c.args.orders.now c.loop-order.order-index c.order-item.result c.loop-order-test.true c.order-item.is (each-unmap IsOrderByItself order_of c.args.orders.now all))) c.if-not-is_order_good.true)
+returns-then-not-is_order_good c = grind (arith, each-at, each-unmap, no, true_not_false)
 
 pub returns : goal.returns
 returns c = yes (each-map IsOrderByItself order_of c.args.orders.now (each-end (λ e. IsOrderByItself (order_of e)) c.args.orders.now c.loop-order.order-index c.loop-order-test.false c.loop-order.invariant))

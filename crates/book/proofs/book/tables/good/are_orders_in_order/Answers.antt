@@ -1,10 +1,6 @@
 use Rattle.std.proofs.Common.{◌≡◌, ℕ, Bool, nat_lt, of_calls, rules}
-use Rattle.std.proofs.lemmas.Fn.{always_returns_same}
+use Rattle.book.proofs.Prelude.{Order, OrderEntry, always_returns_same, nat_cmp_total, order_of}
 use Rattle.std.specs.Ordering.{nat_cmp}
-use Rattle.std.proofs.lemmas.Cmp.{nat_cmp_total}
-use Rattle.book.specs.Ledger.{Order}
-use Rattle.book.specs.View.{order_of}
-use Rattle.book.specs.declared.entries.OrderEntry.{OrderEntry}
 use Rattle.book.proofs.InRow.{in_order, numbers_less}
 use Rattle.book.proofs.book.tables.good.are_orders_in_order.Goals as goal
 

@@ -1,13 +1,5 @@
 use Rattle.std.proofs.Common.{◌≡◌, ◌∙◌, ◌+◌, ◌<◌, ◌++◌, [], ◌∷◌, List, ℕ, ap, arith, drop, drop-drop, flat_map, get_or, length, length-drop, map, sym, subst, take}
-use Rattle.std.proofs.lemmas.List.{map-append}
-use Rattle.std.specs.List.{AllZip}
-use Rattle.book.specs.declared.book.tables.group.Head.{Head}
-use Rattle.book.specs.declared.rows.LineRow.{LineRow}
-use Rattle.book.specs.Ledger.{Order}
-use Rattle.book.specs.Rows.{LineCells, lines_from, order_lines}
-use Rattle.book.specs.Tables.{line_cells}
-use Rattle.book.specs.Told.{BeginsOther, IsLineTold, head_of}
-use Rattle.book.specs.View.{order_of}
+use Rattle.book.proofs.Prelude.{AllZip, BeginsOther, Head, IsLineTold, LineCells, LineRow, Order, head_of, line_cells, lines_from, map-append, order_lines, order_of}
 use Rattle.book.proofs.Grouped.{Tail, drop-step, left_step, lines_step, none_left, tail-first}
 use Rattle.book.proofs.Zipped.{zip-drop, zip-length}
 use Rattle.book.proofs.Tested.{passed_up}
@@ -15,15 +7,10 @@ use Rattle.book.proofs.Walked.{take-step}
 use Rattle.book.proofs.book.tables.group.group.Goals as goal
 
 pub behind-lines_left-requires : goal.behind-lines_left-requires
-behind-lines_left-requires c =
-    let long = zip-length IsLineTold c.args.lines.now c.args.rows.now c.requires in
-    let within = c.loop-head.invariant.within in
-    omega arith
+behind-lines_left-requires c = grind (arith, (zip-length IsLineTold c.args.lines.now c.args.rows.now c.requires))
 
 pub lines_of_order-requires : goal.lines_of_order-requires
-lines_of_order-requires c =
-    subst (λ ls. AllZip IsLineTold ls c.behind-rows_left.result.now) (sym c.behind-lines_left.ensures)
-    (subst (AllZip IsLineTold (drop c.loop-head.start c.args.lines.now)) (sym c.behind-rows_left.ensures) (zip-drop IsLineTold c.loop-head.start c.args.lines.now c.args.rows.now c.requires))
+lines_of_order-requires c = grind (arith, (zip-drop IsLineTold c.loop-head.start c.args.lines.now c.args.rows.now c.requires))
 
 -- the heads that are left begin with this one
 left_here : (heads : List Head) (i : ℕ) (head : Head) (rows : List LineCells) → i < length heads → head ≡ get_or heads i head → Tail (drop i heads) rows → Tail (head ∷ drop (i + 1) heads) rows
@@ -37,8 +24,7 @@ returns-in_err-own-clause-damaged c = passed_up c.from_residual.result c.in_err-
     c.in_err-own.ensures.damaged is first.own first.rest first.others (first.lines_are ∙ ap (map line_cells) (sym c.behind-rows_left.ensures)))
 
 pub returns-then-start-rows-clause-damaged : goal.returns-then-start-rows-clause-damaged
-returns-then-start-rows-clause-damaged c _ orders sorted tell =
-    none_left c.args.heads.now c.loop-head.head-index c.args.rows.now c.loop-head.start c.loop-head-test.false c.loop-head.invariant.within c.if-start-rows.true (c.loop-head.invariant.left orders sorted tell)
+returns-then-start-rows-clause-damaged c _ orders sorted tell = grind (arith, (none_left c.args.heads.now c.loop-head.head-index c.args.rows.now c.loop-head.start c.loop-head-test.false c.loop-head.invariant.within c.if-start-rows.true (c.loop-head.invariant.left orders sorted tell)))
 
 pub loop-head-preserved : goal.loop-head-preserved
 loop-head-preserved c =

@@ -1,27 +1,17 @@
 use Rattle.std.proofs.Common.{◌≡◌, ◌∙◌, ◌++◌, List, ap, arith, drop, length, map, sym, subst, take, true≢false}
-use Rattle.std.proofs.lemmas.List.{length-take-le, map-append, take-append-drop}
-use Rattle.book.specs.declared.rows.LineRow.{LineRow}
-use Rattle.book.specs.Rows.{LineCells, lines_from}
-use Rattle.book.specs.Tables.{line_cells}
-use Rattle.book.specs.Told.{BeginsOther, IsLineTold}
+use Rattle.book.proofs.Prelude.{BeginsOther, IsLineTold, LineCells, LineRow, length-take-le, line_cells, lines_from, map-append, take-append-drop}
 use Rattle.book.proofs.Grouped.{begins-cells, number-cells, numbered-from, own_rows, split_rows}
 use Rattle.book.proofs.Zipped.{zip-length, zip-take}
 use Rattle.book.proofs.book.tables.group.lines_of_order.Goals as goal
 
 pub slice_bounds-from_slice-end : goal.slice_bounds-from_slice-end
-slice_bounds-from_slice-end c =
-    let within = c.run_length-count.ensures.within in
-    let long = zip-length IsLineTold c.args.lines.now c.args.rows.now c.requires in
-    sym (length-take-le c.run_length-count.result c.args.lines.now (omega arith))
+slice_bounds-from_slice-end c = grind (arith, (zip-length IsLineTold c.args.lines.now c.args.rows.now c.requires), length-take-le)
 
 cut : (rows : List LineRow) (i : _) → map line_cells (take i rows) ++ map line_cells (drop i rows) ≡ map line_cells rows
 cut rows i = sym (map-append line_cells (take i rows) (drop i rows)) ∙ ap (map line_cells) (take-append-drop i rows)
 
 own_length : (c : goal.In-Ok) → length c.in-Ok.own.items ≡ c.run_length-count.result
-own_length c =
-    let within = c.run_length-count.ensures.within in
-    let long = zip-length IsLineTold c.args.lines.now c.args.rows.now c.requires in
-    ap (λ ls. length ls) c.in-Ok.ensures.items ∙ length-take-le c.run_length-count.result c.args.lines.now (omega arith)
+own_length c = grind (arith, (zip-length IsLineTold c.args.lines.now c.args.rows.now c.requires), length-take-le)
 
 pub returns-then-not-are_numbered-clause-damaged : goal.returns-then-not-are_numbered-clause-damaged
 returns-then-not-are_numbered-clause-damaged c _ own rest others e =

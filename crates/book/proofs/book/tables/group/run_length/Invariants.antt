@@ -1,6 +1,6 @@
 -- all rows so far are of the order
 use Rattle.std.proofs.Common.{◌≡◌, pos, take}
-use Rattle.std.specs.List.{AllByRecursion as Each}
+use Rattle.book.proofs.Prelude.{Each}
 use Rattle.book.proofs.book.tables.group.run_length.Given as goal
 
 abbrev pub invariant-loop-i : goal.invariant-loop-i

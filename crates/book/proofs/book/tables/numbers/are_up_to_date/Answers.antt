@@ -1,5 +1,5 @@
 use Rattle.std.proofs.Common.{◌∙◌, refl}
-use Rattle.book.specs.Sums.{numbers_on}
+use Rattle.book.proofs.Prelude.{numbers_on}
 use Rattle.book.proofs.book.tables.numbers.are_up_to_date.Goals as goal
 
 pub returns-in-Some : goal.returns-in-Some

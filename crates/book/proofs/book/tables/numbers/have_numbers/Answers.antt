@@ -1,9 +1,6 @@
-use Rattle.std.proofs.Common.{◌≡◌, ◌∙◌, ◌<◌, ℕ, List, ap, get_or, length, map, pos, refl, subst, sym}
-use Rattle.book.specs.declared.entries.FieldEntry.{FieldEntry}
+use Rattle.std.proofs.Common.{arith, ◌≡◌, ◌∙◌, ◌<◌, ℕ, List, ap, get_or, length, map, pos, refl, subst, sym}
+use Rattle.book.proofs.Prelude.{FieldEntry, HasNumbers, Name, entry_name}
 use Rattle.book.specs.declared.book.sums.Numbers.{Numbers}
-use Rattle.book.specs.Ledger.{Name}
-use Rattle.book.specs.Sums.{entry_name}
-use Rattle.book.specs.Told.{HasNumbers}
 use Rattle.book.proofs.Tested.{no, true_not_false}
 use Rattle.book.proofs.Walked.{each-at, each-next}
 use Rattle.book.proofs.Zipped.{get-of-map}
@@ -16,8 +13,7 @@ none = record { moved = pos 0; takes = pos 0; adds = pos 0 }
 -- the numbers at hand are those of the field at hand
 at_hand : (sums : List Numbers) (fields : List (Name × FieldEntry)) (i : ℕ) (f : Name × FieldEntry) (numbers : Name → Numbers) → sums ≡ map (λ f. numbers (entry_name f)) fields → i < length fields → f ≡ get_or fields i f
     → get_or sums i none ≡ numbers (entry_name f)
-at_hand sums fields i f numbers same within is =
-    ap (λ ns. get_or ns i none) same ∙ get-of-map (λ f. numbers (entry_name f)) fields i f none within ∙ ap (λ g. numbers (entry_name g)) (sym is)
+at_hand sums fields i f numbers same within is = grind (arith, get-of-map)
 
 pub loop-i-preserved : goal.loop-i-preserved
 loop-i-preserved c numbers same =
@@ -27,12 +23,3 @@ loop-i-preserved c numbers same =
     let within = c.loop-i-test.true in
     each-next (λ e. HasNumbers (numbers e.0) e.1) fields i f within c.index-fields-i.is (c.loop-i.invariant numbers same)
     (subst (λ n. HasNumbers n f.1) (at_hand c.args.sums.now fields i f numbers same within c.index-fields-i.is) (c.if-not-has_numbers.ensures.0 refl))
-
-pub returns-then-not-has_numbers : goal.returns-then-not-has_numbers
-returns-then-not-has_numbers c numbers same = no (λ all.
-    let fields = c.args.fields.now in
-    let i = c.loop-i.i in
-    let f = c.index-fields-i.result in
-    let within = c.loop-i-test.true in
-    let has = each-at (λ e. HasNumbers (numbers e.0) e.1) fields i f within c.index-fields-i.is all in
-    true_not_false (c.has_numbers.ensures.1 (subst (λ n. HasNumbers n f.1) (sym (at_hand c.args.sums.now fields i f numbers same within c.index-fields-i.is)) has)) c.if-not-has_numbers.true)

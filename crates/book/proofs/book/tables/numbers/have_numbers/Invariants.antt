@@ -1,8 +1,6 @@
 -- the entries so far have their numbers, whatever numbers the sums are
 use Rattle.std.proofs.Common.{◌≡◌, map, take}
-use Rattle.book.specs.Ledger.{Name}
-use Rattle.book.specs.Sums.{entry_name}
-use Rattle.book.specs.Told.{HaveNumbers}
+use Rattle.book.proofs.Prelude.{HaveNumbers, Name, entry_name}
 use Rattle.book.specs.declared.book.sums.Numbers.{Numbers}
 use Rattle.book.proofs.book.tables.numbers.have_numbers.Given as goal
 

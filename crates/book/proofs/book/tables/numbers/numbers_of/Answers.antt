@@ -1,5 +1,5 @@
 use Rattle.std.proofs.Common.{arith, pos}
-use Rattle.std.proofs.lemmas.Int.{ints}
+use Rattle.book.proofs.Prelude.{ints}
 use Rattle.book.proofs.Running.{greatest_is, least_is}
 use Rattle.book.proofs.book.tables.numbers.numbers_of.Goals as goal
 

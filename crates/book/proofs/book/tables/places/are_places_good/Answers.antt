@@ -1,10 +1,6 @@
 use Rattle.std.proofs.Common.{◌≡◌, ◌∙◌, ◌+◌, ◌≤◌, ℕ, Bool, List, ap, arith, length, map, refl, nat_eq, slice_index_or, subst, sym, take, true, false}
-use Rattle.std.proofs.lemmas.Simd.{map-map}
-use Rattle.std.proofs.lemmas.List.{get_or-replicate, length-set, take_all}
-use Rattle.std.specs.List.{IsDistinct, list_any}
-use Rattle.book.specs.declared.entries.KeptEntry.{KeptEntry}
-use Rattle.book.specs.Ledger.{Kept}
-use Rattle.book.specs.View.{kept_of}
+use Rattle.book.proofs.Prelude.{IsDistinct, Kept, KeptEntry, kept_of, list_any, map-map, take_all}
+use Rattle.std.proofs.lemmas.List.{get_or-replicate, length-set}
 use Rattle.book.proofs.Lists.{each-unmap}
 use Rattle.book.proofs.Places.{apart_next, marks_next, not_before}
 use Rattle.book.proofs.Sums.{each-map}
@@ -20,17 +16,7 @@ place e = e.1.place
 
 pub loop-entry-init : goal.loop-entry-init
 unfolding IsDistinct
-loop-entry-init c =
-    let items = c.in-Ok.ensures.items_if_clones_equal (λ y e. e) in
-    record {
-      long =
-          let counted = c.in-Ok.ensures.len in
-          let known = c.in-Ok.taken.ok.0 in
-          omega arith;
-      range = tt;
-      apart = tt;
-      marks = λ p within. ap (λ bs. slice_index_or bs p true) items ∙ get_or-replicate (length c.args.kept.now + 1) p false true (omega arith);
-    }
+loop-entry-init c = grind (arith, get_or-replicate)
 
 pub loop-entry-preserved : goal.loop-entry-preserved
 loop-entry-preserved c =

@@ -1,6 +1,6 @@
 -- the places so far are in range and apart, and just they are taken
 use Rattle.std.proofs.Common.{◌≡◌, ◌+◌, ◌≤◌, ℕ, length, map, nat_eq, slice_index_or, take, true}
-use Rattle.std.specs.List.{AllByRecursion as Each, IsDistinct, list_any}
+use Rattle.book.proofs.Prelude.{Each, IsDistinct, list_any}
 use Rattle.book.proofs.book.tables.places.are_places_good.Given as goal
 
 abbrev pub invariant-loop-entry : goal.invariant-loop-entry
