@@ -1,8 +1,8 @@
 """Tests of the built program as a real process: what its words and its FILE may be, what its help says, a store and memory
-that are refused, scripts a line a run, long ones, files of requests, replies on a pipe that stays open, the file as another
-SQLite reads it, connections, and sessions that are killed. The one argument is the program."""
+that are refused, scripts a line a run, long ones, files of requests, also killed and called again, replies on a pipe that
+stays open, the file as another SQLite reads it, connections, and sessions that are killed. The one argument is the
+program."""
 
-import csv
 import os
 import random
 import resource
@@ -16,6 +16,7 @@ import threading
 # no folder of compiled modules beside the sources
 sys.dont_write_bytecode = True
 
+import resumed
 import service
 from programs import (
     COLUMNS,
@@ -31,6 +32,7 @@ from programs import (
     rows_of,
     say,
     sqlite3,
+    write_records,
 )
 
 ROUNDS = 50
@@ -183,11 +185,6 @@ def test_no_other_file_is_touched(program, folder):
         if text:
             expect_end(program, ["init", path], NOT_A_DESK)
         expect(bytes_of(path) == text, f"{text} was changed")
-
-
-def write_records(path, records):
-    with open(path, "w", encoding="latin-1", newline="") as file:
-        csv.writer(file).writerows(records)
 
 
 def test_a_file_of_requests_is_judged_last(program, folder):
@@ -391,6 +388,7 @@ def main():
         test_an_empty_script_changes_nothing,
         test_older_files_are_read,
         test_nothing_acknowledged_is_lost,
+        *resumed.TESTS,
         *service.TESTS,
     ]:
         say(f"process {test.__name__}")

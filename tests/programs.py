@@ -1,5 +1,6 @@
 """What the tests of the built program have in common: a run and its end, files, and the rows of a desk."""
 
+import csv
 import os
 import resource
 import subprocess
@@ -66,6 +67,11 @@ def expect_end(program, words, want, text="K1 expire 1\n"):
 def lines_of(name):
     with open(os.path.join(FILES, name), encoding="ascii") as file:
         return file.read().splitlines()
+
+
+def write_records(path, records):
+    with open(path, "w", encoding="latin-1", newline="") as file:
+        csv.writer(file).writerows(records)
 
 
 def bytes_of(path):
