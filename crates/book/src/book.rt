@@ -21,8 +21,6 @@ mod plan;
 mod room;
 mod sums;
 mod tables;
-#[cfg(test)]
-mod tests;
 mod views;
 
 pub use plan::Planned;

@@ -13,9 +13,6 @@ use std::alloc::{AllocError, Global};
 use std::cmp::Ordering;
 use std::marker::Model;
 
-#[cfg(test)]
-mod tests;
-
 /// How many entries there can be: an index has 32 bits.
 const MAX_LEN: usize = 1 << 32;
 

@@ -18,6 +18,3 @@ pub use limits::{
 };
 pub use number::{Level, Moment, OrderNo, Qty};
 pub use quantity::{BadBounds, Bound, Quantity, Way};
-
-#[cfg(test)]
-mod tests;

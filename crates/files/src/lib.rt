@@ -8,11 +8,7 @@ mod intake;
 mod laws;
 mod orders;
 mod record;
-#[cfg(test)]
-mod samples;
 mod sheet;
-#[cfg(test)]
-mod tests;
 mod word;
 
 pub use deliveries::read_deliveries;

@@ -11,8 +11,6 @@ mod open_line;
 mod read;
 mod reply;
 mod streams;
-#[cfg(test)]
-mod tests;
 mod word;
 mod write;
 

@@ -14,10 +14,6 @@ mod good;
 mod group;
 mod numbers;
 mod places;
-#[cfg(test)]
-mod put_tests;
-#[cfg(test)]
-mod tests;
 mod told;
 
 use self::good::{

@@ -1,27 +1,29 @@
-use super::*;
-use crate::book::Planned;
-use crate::book::tests::{carry_out, expect_lines, numbers, order, request};
-use crate::limits::limits_are_those_of_the_rules;
-use crate::order::State;
-use crate::rows::{FieldRow, KeptRow, LineRow, MoveRow, OrderRow, Rows};
-use std::process::Abort;
+//! Books from the rows of their tables.
+
+use super::{expect_lines, numbers, order};
+use crate::scripts::{carry_out, request};
+use book::{
+    Book, DeskRow, FieldRow, KeptRow, LineRow, MoveRow, OrderRow, Planned, Rows, State, Tables,
+    TablesFault,
+};
+use std::alloc::Global;
 use std::test::Fail;
 use words::Refusal;
 
 /// Rows to be changed before they are opened.
 #[derive(Drop)]
-pub(super) struct Parts {
-    pub desk: DeskRow,
-    pub fields: Vec<FieldRow>,
-    pub moves: Vec<MoveRow>,
-    pub orders: Vec<OrderRow>,
-    pub lines: Vec<LineRow>,
-    pub kept: Vec<KeptRow>,
+struct Parts {
+    desk: DeskRow,
+    fields: Vec<FieldRow>,
+    moves: Vec<MoveRow>,
+    orders: Vec<OrderRow>,
+    lines: Vec<LineRow>,
+    kept: Vec<KeptRow>,
 }
 
 impl Parts {
     /// So many places, and no rows yet.
-    pub fn new<R: AllocGlobal>(rt: &R, places: i64) -> Parts {
+    fn new<R: AllocGlobal>(rt: &R, places: i64) -> Parts {
         let alloc = rt.alloc();
         Parts {
             desk: DeskRow {
@@ -38,7 +40,7 @@ impl Parts {
         }
     }
 
-    pub fn into_tables(self) -> Tables {
+    fn into_tables(self) -> Tables {
         Tables {
             desk: self.desk,
             fields: Rows::new(self.fields),
@@ -203,13 +205,18 @@ fn without_the_delivery(parts: &mut Parts) {
 }
 
 /// The book of these rows: the call without its clauses, so that a test's proof need not carry them.
-pub(super) fn opened<R: AllocGlobal>(rt: &R, parts: Parts) -> Result<Book, TablesFault> {
+fn book_of<R: AllocGlobal>(rt: &R, parts: Parts) -> Result<Book, TablesFault> {
     Book::of_tables(rt.alloc(), parts.into_tables())
+}
+
+/// The same, of rows of a good ledger.
+fn opened<R: AllocGlobal>(rt: &R, parts: Parts) -> Result<Book, Fail> {
+    Ok(book_of(rt, parts)?)
 }
 
 /// They are the rows of no good ledger.
 fn expect_damaged<R: AllocGlobal>(rt: &R, parts: Parts) -> Result<(), Fail> {
-    match opened(rt, parts) {
+    match book_of(rt, parts) {
         Err(TablesFault::Damaged) => Ok(()),
         Err(TablesFault::Memory) => Err(Fail::from("out of memory")),
         Ok(_) => Err(Fail::from("not damaged")),
@@ -245,86 +252,87 @@ fn rows_give_back_their_vector(rt: HostRuntime) -> Result<(), Fail> {
     Ok(())
 }
 
-#[test]
-fn a_stored_infimum_one_too_high_is_damaged(rt: HostRuntime) -> Result<(), Fail> {
-    let mut parts = sample(&rt)?;
-    let Some(row) = parts.fields.first_mut() else {
-        return Err(Fail::from("no row"));
-    };
-    row.inf = 12;
-    expect_damaged(&rt, parts)
+/// The sample with these numbers of the desk.
+fn with_desk<R: AllocGlobal>(rt: &R, version: i64, places: i64) -> Result<Parts, Fail> {
+    let mut parts = sample(rt)?;
+    parts.desk.version = version;
+    parts.desk.places = places;
+    Ok(parts)
 }
 
 #[test]
-fn a_field_that_may_fall_below_its_bound_is_damaged(rt: HostRuntime) -> Result<(), Fail> {
-    let mut parts = sample(&rt)?;
-    let Some(row) = parts.fields.first_mut() else {
-        return Err(Fail::from("no row"));
-    };
-    row.lo = 12;
-    expect_damaged(&rt, parts)
+fn another_version_or_a_place_too_few_is_damaged(rt: HostRuntime) -> Result<(), Fail> {
+    expect_damaged(&rt, with_desk(&rt, 2, 8)?)?;
+    expect_damaged(&rt, with_desk(&rt, 1, 7)?)
+}
+
+/// The sample with these numbers of the first field.
+fn with_field<R: AllocGlobal>(rt: &R, lo: i64, inf: i64) -> Result<Parts, Fail> {
+    let mut parts = sample(rt)?;
+    let row = parts.fields.first_mut().ok_or("no row")?;
+    row.lo = lo;
+    row.inf = inf;
+    Ok(parts)
 }
 
 #[test]
-fn another_version_is_damaged(rt: HostRuntime) -> Result<(), Fail> {
-    let mut parts = sample(&rt)?;
-    parts.desk.version = 2;
-    expect_damaged(&rt, parts)
+fn another_number_of_a_field_is_damaged(rt: HostRuntime) -> Result<(), Fail> {
+    // an infimum one too high
+    expect_damaged(&rt, with_field(&rt, 0, 12)?)?;
+    // a field that may fall below its bound
+    expect_damaged(&rt, with_field(&rt, 12, 11)?)
+}
+
+/// The sample with its delivery at that branch, and the first field as it would be without it.
+fn with_delivery_at<R: AllocGlobal>(rt: &R, branch: &str) -> Result<Parts, Fail> {
+    let mut parts = sample(rt)?;
+    let row = parts.moves.first_mut().ok_or("no row")?;
+    row.branch = String::from_str(rt.alloc(), branch)?;
+    without_the_delivery(&mut parts);
+    Ok(parts)
 }
 
 #[test]
-fn a_place_too_few_is_damaged(rt: HostRuntime) -> Result<(), Fail> {
-    let mut parts = sample(&rt)?;
-    parts.desk.places = 7;
-    expect_damaged(&rt, parts)
+fn a_move_on_no_code_or_no_field_is_damaged(rt: HostRuntime) -> Result<(), Fail> {
+    expect_damaged(&rt, with_delivery_at(&rt, "n1")?)?;
+    expect_damaged(&rt, with_delivery_at(&rt, "N3")?)
+}
+
+/// The sample with this last row of `kept`.
+fn with_last_kept<R: AllocGlobal>(rt: &R, place: i64, words: &str) -> Result<Parts, Fail> {
+    let mut parts = sample(rt)?;
+    let row = parts.kept.last_mut().ok_or("no row")?;
+    row.place = place;
+    row.words = String::from_str(rt.alloc(), words)?;
+    Ok(parts)
+}
+
+#[test]
+fn a_text_that_is_no_spelling_or_a_place_taken_twice_is_damaged(
+    rt: HostRuntime,
+) -> Result<(), Fail> {
+    expect_damaged(&rt, with_last_kept(&rt, 8, "writeoff N2 A-1 02")?)?;
+    expect_damaged(&rt, with_last_kept(&rt, 7, "writeoff N2 A-1 2")?)
+}
+
+/// The sample with this much used of its first line, and this much held on its last one.
+fn with_lines<R: AllocGlobal>(rt: &R, first_used: i64, last_held: i64) -> Result<Parts, Fail> {
+    let mut parts = sample(rt)?;
+    parts.lines.first_mut().ok_or("no row")?.used = first_used;
+    parts.lines.last_mut().ok_or("no row")?.held = last_held;
+    Ok(parts)
+}
+
+#[test]
+fn more_used_than_held_or_unequal_halves_are_damaged(rt: HostRuntime) -> Result<(), Fail> {
+    expect_damaged(&rt, with_lines(&rt, 36, 10)?)?;
+    expect_damaged(&rt, with_lines(&rt, 0, 11)?)
 }
 
 #[test]
 fn an_order_out_of_order_is_damaged(rt: HostRuntime) -> Result<(), Fail> {
     let mut parts = sample(&rt)?;
     parts.orders.reverse();
-    expect_damaged(&rt, parts)
-}
-
-#[test]
-fn a_code_that_is_none_is_damaged(rt: HostRuntime) -> Result<(), Fail> {
-    let mut parts = sample(&rt)?;
-    let Some(row) = parts.moves.first_mut() else {
-        return Err(Fail::from("no row"));
-    };
-    row.branch = String::from_str(rt.alloc(), "n1")?;
-    without_the_delivery(&mut parts);
-    expect_damaged(&rt, parts)
-}
-
-#[test]
-fn a_text_that_is_no_spelling_is_damaged(rt: HostRuntime) -> Result<(), Fail> {
-    let mut parts = sample(&rt)?;
-    let Some(row) = parts.kept.last_mut() else {
-        return Err(Fail::from("no row"));
-    };
-    row.words = String::from_str(rt.alloc(), "writeoff N2 A-1 02")?;
-    expect_damaged(&rt, parts)
-}
-
-#[test]
-fn a_place_taken_twice_is_damaged(rt: HostRuntime) -> Result<(), Fail> {
-    let mut parts = sample(&rt)?;
-    let Some(row) = parts.kept.last_mut() else {
-        return Err(Fail::from("no row"));
-    };
-    row.place = 7;
-    expect_damaged(&rt, parts)
-}
-
-#[test]
-fn a_move_on_no_field_is_damaged(rt: HostRuntime) -> Result<(), Fail> {
-    let mut parts = sample(&rt)?;
-    let Some(row) = parts.moves.first_mut() else {
-        return Err(Fail::from("no row"));
-    };
-    row.branch = String::from_str(rt.alloc(), "N3")?;
-    without_the_delivery(&mut parts);
     expect_damaged(&rt, parts)
 }
 
@@ -339,26 +347,6 @@ fn a_line_without_its_order_is_damaged(rt: HostRuntime) -> Result<(), Fail> {
 fn an_order_without_lines_is_damaged(rt: HostRuntime) -> Result<(), Fail> {
     let mut parts = sample(&rt)?;
     push_order(&mut parts, 21, 0, 900, 2)?;
-    expect_damaged(&rt, parts)
-}
-
-#[test]
-fn more_used_than_held_is_damaged(rt: HostRuntime) -> Result<(), Fail> {
-    let mut parts = sample(&rt)?;
-    let Some(row) = parts.lines.first_mut() else {
-        return Err(Fail::from("no row"));
-    };
-    row.used = 36;
-    expect_damaged(&rt, parts)
-}
-
-#[test]
-fn unequal_halves_of_a_transfer_are_damaged(rt: HostRuntime) -> Result<(), Fail> {
-    let mut parts = sample(&rt)?;
-    let Some(row) = parts.lines.last_mut() else {
-        return Err(Fail::from("no row"));
-    };
-    row.held = 11;
     expect_damaged(&rt, parts)
 }
 
@@ -385,20 +373,22 @@ fn numbered_key<R: AllocGlobal>(rt: &R, number: u64) -> Result<String, Fail> {
     Ok(String::from_utf8_lossy(rt.alloc(), &digits)?)
 }
 
+/// Adds the rows of 199,999 accepted commands.
+fn push_many_kept<R: AllocGlobal>(rt: &R, parts: &mut Parts) -> Result<(), Fail> {
+    for number in 1..200_000 {
+        let key = numbered_key(rt, number)?;
+        parts.push_kept(rt, key.as_str(), number as i64, "expire 0")?;
+    }
+    Ok(())
+}
+
 /// 199,999 accepted commands, and one open order that holds 5 of a field.
 fn full_desk<R: AllocGlobal>(rt: &R) -> Result<Parts, Fail> {
-    let alloc = rt.alloc();
     let mut parts = Parts::new(rt, 199_999);
     parts.push_field(rt, "N1", (0, 100), 40, (40, 35, 40))?;
     push_order(&mut parts, 7, 0, 120, 0)?;
     parts.push_line(rt, (7, 1), 0, "N1", (5, 0))?;
-    for number in 1..200_000 {
-        parts.kept.push(KeptRow {
-            reqkey: numbered_key(rt, number)?,
-            place: number as i64,
-            words: String::from_str(alloc, "expire 0")?,
-        })?;
-    }
+    push_many_kept(rt, &mut parts)?;
     Ok(parts)
 }
 
@@ -442,7 +432,6 @@ fn many_fields<R: AllocGlobal>(rt: &R, count: u64) -> Result<Parts, Fail> {
 
 #[test]
 fn a_field_over_the_limit_is_damaged(rt: HostRuntime) -> Result<(), Fail> {
-    limits_are_those_of_the_rules();
     let book = opened(&rt, many_fields(&rt, 10_000)?)?;
     assert_eq!(rt; book.field_count(), 10_000);
     expect_damaged(&rt, many_fields(&rt, 10_001)?)

@@ -1,9 +1,17 @@
-use super::*;
+//! Lines, commands and replies, read and written.
+
+use crate::streams::{Drip, Sink};
 use escrow::Way;
-use std::alloc::{AllocGlobal, Global};
-use std::io::{self, Read, Write};
+use std::alloc::Global;
+use std::io::{Read, Write};
 use std::process::Abort;
 use std::test::Fail;
+use words::{
+    Command, Item, Lines, MAX_LINE_LEN, MAX_ORDER_LINES, Memory, OpenLines, ReadFault, Refusal,
+    Reply, WordsFault, WriteFault, cuts_do_not_matter, exactly_one_item, no_request_is_too_long,
+    read_command, read_item, read_number, read_piece, read_way, write_command, write_reply,
+    write_whole,
+};
 
 /// A command of each kind.
 fn commands() -> &'static [&'static str] {
@@ -90,7 +98,7 @@ const REFUSALS: [(Refusal, u64, &str); 19] = [
 ];
 
 /// Appends a line as the item that it was read as, with its newline.
-fn push_item(alloc: Global, out: &mut Vec<u8>, item: &Item) -> Result<(), Fail> {
+fn push_item(out: &mut Vec<u8>, item: &Item) -> Result<(), Fail> {
     match item {
         Item::Request(request) => {
             out.extend_from_slice(request.key.as_bytes())?;
@@ -104,9 +112,8 @@ fn push_item(alloc: Global, out: &mut Vec<u8>, item: &Item) -> Result<(), Fail> 
             out.extend_from_slice(article.as_bytes())?;
         }
         Item::AskOrder(number) => {
-            let mut text = Vec::from_slice(alloc, b"? order")?;
-            write::push_number(&mut text, number.get())?;
-            out.extend_from_slice(&text)?;
+            let number = number.get();
+            write!(out, "? order {number}")?;
         }
         Item::Bad => {}
     }
@@ -123,7 +130,7 @@ fn fed(alloc: Global, lines: &mut Lines, script: &[u8], size: usize) -> Result<V
     for piece in script.chunks(size) {
         let items = lines.feed(alloc, piece)?;
         for item in items.as_slice() {
-            push_item(alloc, &mut out, item)?;
+            push_item(&mut out, item)?;
         }
     }
     Ok(out)
@@ -237,30 +244,41 @@ fn an_order_has_1_to_64_lines(rt: HostRuntime) -> Result<(), Fail> {
     Ok(())
 }
 
+/// Words, and the number and the way that they are.
+fn single_words() -> &'static [(&'static str, Option<u64>, Option<Way>)] {
+    &SINGLE_WORDS
+}
+
+const SINGLE_WORDS: [(&str, Option<u64>, Option<Way>); 18] = [
+    ("0", Some(0), None),
+    ("7", Some(7), None),
+    ("10", Some(10), None),
+    ("4000000000", Some(4_000_000_000), None),
+    ("take", None, Some(Way::Take)),
+    ("add", None, Some(Way::Add)),
+    ("", None, None),
+    ("00", None, None),
+    ("07", None, None),
+    ("+7", None, None),
+    ("-7", None, None),
+    ("7 ", None, None),
+    ("7a", None, None),
+    ("4000000001", None, None),
+    ("99999999999999999999", None, None),
+    ("Take", None, None),
+    ("takes", None, None),
+    ("ad", None, None),
+];
+
+fn expect_word<R: Abort>(rt: &R, text: &str, number: Option<u64>, way: Option<Way>) {
+    assert!(rt; read_number(text.as_bytes()) == number, "{text}");
+    assert!(rt; read_way(text.as_bytes()) == way, "{text}");
+}
+
 #[test]
 fn words_are_numbers_and_ways(rt: HostRuntime) {
-    for (text, number, way) in [
-        ("0", Some(0), None),
-        ("7", Some(7), None),
-        ("10", Some(10), None),
-        ("4000000000", Some(4_000_000_000), None),
-        ("take", None, Some(Way::Take)),
-        ("add", None, Some(Way::Add)),
-        ("", None, None),
-        ("00", None, None),
-        ("07", None, None),
-        ("+7", None, None),
-        ("-7", None, None),
-        ("7 ", None, None),
-        ("7a", None, None),
-        ("4000000001", None, None),
-        ("99999999999999999999", None, None),
-        ("Take", None, None),
-        ("takes", None, None),
-        ("ad", None, None),
-    ] {
-        assert!(rt; read_number(text.as_bytes()) == number, "{text}");
-        assert!(rt; read_way(text.as_bytes()) == way, "{text}");
+    for (text, number, way) in single_words() {
+        expect_word(&rt, text, *number, *way);
     }
 }
 
@@ -368,62 +386,6 @@ fn a_longer_line_is_let_go(rt: HostRuntime) -> Result<(), Fail> {
     Ok(())
 }
 
-/// Gives its bytes one at a time, fails once, in the place of the byte with this number, and goes on.
-#[derive(Drop)]
-struct Drip<'a> {
-    bytes: &'a [u8],
-    before_fault: usize,
-}
-
-impl Read for Drip<'_> {
-    fn read(&mut self, buffer: &mut [u8]) -> io::Result<usize> {
-        if self.before_fault == 0 {
-            self.before_fault = usize::MAX;
-            return Err(io::Error::from(io::ErrorKind::Interrupted));
-        }
-        let bytes = self.bytes;
-        match (bytes, buffer) {
-            ([first, rest @ ..], [cell, ..]) => {
-                *cell = *first;
-                self.bytes = rest;
-                self.before_fault -= 1;
-                Ok(1)
-            }
-            _ => Ok(0),
-        }
-    }
-}
-
-/// Takes a byte at a time, after so many takes none once or fails once, and goes on.
-#[derive(Drop)]
-struct Sink {
-    taken: Vec<u8>,
-    before_fault: usize,
-    takes_none: bool,
-}
-
-impl Write for Sink {
-    fn write(&mut self, bytes: &[u8]) -> io::Result<usize> {
-        if self.before_fault == 0 {
-            self.before_fault = usize::MAX;
-            if self.takes_none {
-                return Ok(0);
-            }
-            return Err(io::Error::from(io::ErrorKind::Interrupted));
-        }
-        let Some(first) = bytes.first() else {
-            return Ok(0);
-        };
-        self.taken.push(*first)?;
-        self.before_fault -= 1;
-        Ok(1)
-    }
-
-    fn flush(&mut self) -> io::Result<()> {
-        Ok(())
-    }
-}
-
 /// A read into eight bytes takes these, or fails.
 fn expect_read<R: Abort, I: Read>(rt: &R, reader: &mut I, want: Option<&[u8]>) {
     let mut buffer = [0; 8];
@@ -445,6 +407,7 @@ fn a_read_is_a_piece_or_a_fault(rt: HostRuntime) {
     }
     let mut drip = Drip {
         bytes: b"K1\n",
+        piece: 1,
         before_fault: 2,
     };
     for piece in [Some("K"), Some("1"), None, Some("\n"), Some("")] {
@@ -462,6 +425,7 @@ fn a_text_is_written_whole_or_a_beginning(rt: HostRuntime) -> Result<(), Fail> {
         for takes_none in [false, true] {
             let mut sink = Sink {
                 taken: Vec::new(rt.alloc()),
+                piece: 1,
                 before_fault,
                 takes_none,
             };

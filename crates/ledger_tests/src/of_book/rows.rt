@@ -1,6 +1,7 @@
-use super::{book_after, request};
-use crate::book::{Book, Planned};
-use crate::rows::{Change, DeskRow, FieldRow, KeptRow, LineRow, MoveRow, OrderRow};
+//! The rows that commands change.
+
+use crate::scripts::{book_after, request};
+use book::{Book, Change, DeskRow, FieldRow, KeptRow, LineRow, MoveRow, OrderRow, Planned};
 use std::alloc::Global;
 use std::process::Abort;
 use std::test::Fail;

@@ -1,10 +1,65 @@
-use crate::samples::{Failing, Filling, Kind, book_after, expect_fault, expect_requests, read};
-use crate::{FileFault, SheetFault, article_sheet, branch_sheet, laws};
-use book::Book;
-use escrow::{Article, Branch};
+//! Files of requests, and stock sheets.
+
+mod sheets;
+
+use crate::streams::Drip;
+use files::{FileFault, read_deliveries, read_orders};
 use std::alloc::Global;
+use std::io::Read;
 use std::process::Abort;
 use std::test::Fail;
+use words::{Request, write_command};
+
+/// The two kinds of files.
+#[derive(Clone, Copy, Debug)]
+enum Kind {
+    Orders,
+    Deliveries,
+}
+
+/// The requests of a file.
+fn read<R: Read + Drop>(alloc: Global, kind: Kind, reader: R) -> Result<Vec<Request>, FileFault> {
+    match kind {
+        Kind::Orders => read_orders(alloc, reader),
+        Kind::Deliveries => read_deliveries(alloc, reader),
+    }
+}
+
+fn spell(line: &mut Vec<u8>, request: &Request) -> Result<(), Fail> {
+    line.extend_from_slice(request.key.as_bytes())?;
+    line.extend_from_slice(b" ")?;
+    write_command(&request.command, line)?;
+    line.extend_from_slice(b"\n")?;
+    Ok(())
+}
+
+/// The requests as lines of a script.
+fn lines_of(alloc: Global, requests: &[Request]) -> Result<Vec<u8>, Fail> {
+    let mut lines = Vec::new(alloc);
+    for request in requests {
+        spell(&mut lines, request)?;
+    }
+    Ok(lines)
+}
+
+/// The file says these requests.
+fn expect_requests<R: Abort + AllocGlobal>(
+    rt: &R,
+    kind: Kind,
+    file: &[u8],
+    want: &str,
+) -> Result<(), Fail> {
+    let requests = read(rt.alloc(), kind, file)?;
+    let lines = lines_of(rt.alloc(), &requests)?;
+    assert!(rt; lines.as_slice() == want.as_bytes(), "{want}");
+    Ok(())
+}
+
+/// The first record at fault of the file is that one.
+fn expect_fault<R: Abort + AllocGlobal>(rt: &R, kind: Kind, file: &[u8], number: u64) {
+    let fault = read(rt.alloc(), kind, file).err();
+    assert_eq!(rt; fault, Some(FileFault::BadRecord(number)));
+}
 
 /// Files, and the requests that they say.
 fn good_files() -> &'static [(Kind, &'static [u8], &'static str)] {
@@ -89,8 +144,8 @@ fn files_say_their_requests(rt: HostRuntime) -> Result<(), Fail> {
     for (kind, file, want) in good_files() {
         expect_requests(&rt, *kind, file, want)?;
     }
-    laws::an_order_file_says_one_thing();
-    laws::a_delivery_file_says_one_thing();
+    files::an_order_file_says_one_thing();
+    files::a_delivery_file_says_one_thing();
     Ok(())
 }
 
@@ -204,10 +259,10 @@ const FILE: &[u8] =
 #[test]
 fn a_failing_read_is_a_fault_at_once(rt: HostRuntime) {
     for reads_left in 0..10usize {
-        let reader = Failing {
-            text: FILE,
+        let reader = Drip {
+            bytes: FILE,
             piece: 16,
-            reads_left,
+            before_fault: reads_left,
         };
         let fault = read(rt.alloc(), Kind::Orders, reader).err();
         // one byte, the rest by pieces of 16, and the end
@@ -218,103 +273,4 @@ fn a_failing_read_is_a_fault_at_once(rt: HostRuntime) {
             "{reads_left}"
         );
     }
-}
-
-/// The stock of the long script.
-fn book(alloc: Global) -> Result<Book, Fail> {
-    book_after(
-        alloc,
-        &[
-            "K1 field N1 A-1 0 100 40",
-            "K2 open 7 120 take N1 A-1 35",
-            "K3 open 8 120 take N1 A-1 5",
-            "K4 deliver N1 A-1 60",
-            "K5 use 7 N1 A-1 20",
-            "K6 commit 7",
-            "K7 expire 120",
-        ],
-    )
-}
-
-const SHEET: &str =
-    "A-1                       0        100         80         80         80\ntotal                        80\n";
-
-#[test]
-fn a_sheet_is_a_line_a_field_and_the_total(rt: HostRuntime) -> Result<(), Fail> {
-    let book = book(rt.alloc())?;
-    let mut out: Vec<u8> = Vec::new(rt.alloc());
-    branch_sheet(rt.alloc(), &book, Branch::read(b"N1")?, &mut out)?;
-    assert!(rt; out.as_slice() == SHEET.as_bytes());
-    let mut none: Vec<u8> = Vec::new(rt.alloc());
-    branch_sheet(rt.alloc(), &book, Branch::read(b"N9")?, &mut none)?;
-    assert!(rt; none.as_slice() == b"total                         0\n".as_slice());
-    laws::exactly_one_sheet();
-    laws::sheets_keep_their_columns();
-    Ok(())
-}
-
-/// Three fields, one of them with open orders on it, and one whose numbers fill their columns.
-fn wide_book(alloc: Global) -> Result<Book, Fail> {
-    book_after(
-        alloc,
-        &[
-            "K1 field N2 A-1 0 1000000000 1000000000",
-            "K2 field N1 A-1 3 90 40",
-            "K3 field N1 ABCDEFGHIJKLMNOP 1000000000 1000000000 1000000000",
-            "K4 open 7 120 take N1 A-1 35",
-            "K5 open 8 120 add N1 A-1 50",
-        ],
-    )
-}
-
-const WIDE_BRANCH: &str =
-    "A-1                       3         90         40          5         90\nABCDEFGHIJKLMNOP 1000000000 1000000000 1000000000 1000000000 1000000000\ntotal                1000000040\n";
-
-const WIDE_ARTICLE: &str =
-    "N1                        3         90         40          5         90\nN2                        0 1000000000 1000000000 1000000000 1000000000\ntotal                1000000040\n";
-
-#[test]
-fn columns_hold_the_greatest_numbers(rt: HostRuntime) -> Result<(), Fail> {
-    let book = wide_book(rt.alloc())?;
-    let mut out: Vec<u8> = Vec::new(rt.alloc());
-    branch_sheet(rt.alloc(), &book, Branch::read(b"N1")?, &mut out)?;
-    assert!(rt; out.as_slice() == WIDE_BRANCH.as_bytes());
-    let mut out: Vec<u8> = Vec::new(rt.alloc());
-    article_sheet(rt.alloc(), &book, Article::read(b"A-1")?, &mut out)?;
-    assert!(rt; out.as_slice() == WIDE_ARTICLE.as_bytes());
-    Ok(())
-}
-
-/// A write fails, or takes nothing, when the writer has taken so many pieces of 10 bytes: that much of the sheet is written.
-fn expect_beginning<R: Abort + AllocGlobal>(
-    rt: &R,
-    book: &Book,
-    writes_left: usize,
-    fails: bool,
-    want: &[u8],
-) -> Result<(), Fail> {
-    let mut writer = Filling {
-        taken: Vec::new(rt.alloc()),
-        piece: 10,
-        writes_left,
-        fails,
-    };
-    let ended = branch_sheet(rt.alloc(), book, Branch::read(b"N1")?, &mut writer);
-    let is_whole = want.len() == SHEET.len();
-    assert_eq!(rt; ended.is_ok(), is_whole);
-    assert!(rt; is_whole || ended == Err(SheetFault::Io));
-    assert!(rt; writer.taken.as_slice() == want);
-    Ok(())
-}
-
-#[test]
-fn after_a_fault_a_beginning_is_written(rt: HostRuntime) -> Result<(), Fail> {
-    let book = book(rt.alloc())?;
-    for writes_left in 0..12usize {
-        let len = SHEET.len().min(10 * writes_left);
-        let want = SHEET.as_bytes().get(..len).ok_or("a beginning")?;
-        expect_beginning(&rt, &book, writes_left, true, want)?;
-        expect_beginning(&rt, &book, writes_left, false, want)?;
-    }
-    Ok(())
 }

@@ -1,6 +1,10 @@
+//! Codes, numbers and quantities.
+
 ghost use Rattle.std.specs.Prelude.{◌≡◌, ◌-◌, IfOk};
 
-use super::*;
+use escrow::{
+    Article, BadBounds, BadCode, Bound, Branch, Key, Level, Moment, OrderNo, Qty, Quantity, Way,
+};
 use std::process::Abort;
 use std::test::Fail;
 
@@ -27,6 +31,23 @@ fn restore(lo: u64, hi: u64, value: u64, inf: u64, sup: u64) -> Result<Quantity,
 {
     let (lo, hi, value) = (level(lo)?, level(hi)?, level(value)?);
     Ok(Quantity::restore(lo, hi, value, level(inf)?, level(sup)?)?)
+}
+
+/// The call without its clauses, so that a test's proof need not carry them.
+fn started(lo: u64, hi: u64, value: u64) -> Result<Result<Quantity, BadBounds>, Fail> {
+    Ok(Quantity::start(level(lo)?, level(hi)?, level(value)?))
+}
+
+/// The call without its clauses, likewise.
+fn restored(
+    lo: u64,
+    hi: u64,
+    value: u64,
+    inf: u64,
+    sup: u64,
+) -> Result<Result<Quantity, BadBounds>, Fail> {
+    let (lo, hi, value) = (level(lo)?, level(hi)?, level(value)?);
+    Ok(Quantity::restore(lo, hi, value, level(inf)?, level(sup)?))
 }
 
 /// Compares the value, the infimum and the supremum.
@@ -178,12 +199,17 @@ fn requests_are_tested_against_the_worst_outcome(rt: HostRuntime) -> Result<(), 
 #[test]
 fn bounds_may_leave_no_room(rt: HostRuntime) -> Result<(), Fail> {
     let mut stock = start(5, 5, 5)?;
-    assert_eq!(rt; stock.ask(Way::Take, qty(1)?), Err(Bound::TooLittle));
-    assert_eq!(rt; stock.ask(Way::Add, qty(1)?), Err(Bound::TooMuch));
+    for (way, bound) in [(Way::Take, Bound::TooLittle), (Way::Add, Bound::TooMuch)] {
+        assert_eq!(rt; request(&mut stock, When::Held, way, qty(1)?), Err(bound));
+    }
     shows(&rt, &stock, 5, 5, 5);
+    Ok(())
+}
+
+#[test]
+fn a_quantity_starts_within_its_bounds(rt: HostRuntime) -> Result<(), Fail> {
     for (lo, hi, value) in [(5, 4, 5), (5, 9, 4), (0, 4, 5)] {
-        let made = Quantity::start(level(lo)?, level(hi)?, level(value)?);
-        assert_eq!(rt; made, Err(BadBounds));
+        assert_eq!(rt; started(lo, hi, value)?, Err(BadBounds));
     }
     Ok(())
 }
@@ -235,15 +261,18 @@ fn quantities_are_restored_in_their_order(rt: HostRuntime) -> Result<(), Fail> {
         let stock = restore(lo, hi, value, inf, sup)?;
         shows(&rt, &stock, value, inf, sup);
     }
+    Ok(())
+}
+
+#[test]
+fn quantities_out_of_order_are_not_restored(rt: HostRuntime) -> Result<(), Fail> {
     for (lo, hi, value, inf, sup) in [
         (6, 100, 40, 5, 40),
         (0, 100, 40, 41, 41),
         (0, 100, 40, 5, 39),
         (0, 100, 40, 5, 101),
     ] {
-        let (lo, hi, value) = (level(lo)?, level(hi)?, level(value)?);
-        let made = Quantity::restore(lo, hi, value, level(inf)?, level(sup)?);
-        assert_eq!(rt; made, Err(BadBounds));
+        assert_eq!(rt; restored(lo, hi, value, inf, sup)?, Err(BadBounds));
     }
     Ok(())
 }

@@ -1,91 +1,48 @@
-mod rows;
+//! Books: what is planned and carried out, and what is shown.
 
-use super::*;
-use crate::laws;
-use crate::order::{Kind, State};
-use escrow::{Article, Branch, Key, OrderNo};
+mod rows;
+mod tables;
+
+use crate::scripts::{book_after, carry_out, planned};
+use book::{Book, Kind, OrderView, Planned, State};
+use escrow::{Article, Branch, OrderNo};
+use std::alloc::Global;
 use std::process::Abort;
 use std::test::Fail;
-use words::{Refusal, Request, read_command};
+use words::Refusal;
 
-pub(super) fn request(alloc: Global, key: &str, command: &str) -> Result<Request, Fail> {
-    let key = Key::read(key.as_bytes())?;
-    let command = read_command(alloc, command.as_bytes())?;
-    Ok(Request { key, command })
-}
-
-/// What is planned for the command under the key.
-pub(super) fn planned(
-    alloc: Global,
-    book: &Book,
-    key: &str,
-    command: &str,
-) -> Result<Planned, Fail> {
-    let request = request(alloc, key, command)?;
-    Ok(book.plan(alloc, &request)?)
-}
-
-/// Carries the command out. Its place.
-pub(super) fn carry_out(
-    alloc: Global,
-    book: &mut Book,
-    key: &str,
-    command: &str,
-) -> Result<u64, Fail> {
-    let request = request(alloc, key, command)?;
-    let Planned::Accept(plan) = book.plan(alloc, &request)? else {
-        return Err(Fail::from("refused"));
-    };
-    let place = plan.place();
-    book.make_room(&plan)?;
-    book.adopt(plan);
-    Ok(place)
-}
-
-/// A book that has carried these out, one after the other, each under its key.
-fn book_after(alloc: Global, script: &[(&str, &str)]) -> Result<Book, Fail> {
-    let mut book = Book::new(alloc);
-    for (key, command) in script {
-        carry_out(alloc, &mut book, key, command)?;
-    }
-    Ok(book)
-}
-
-#[test]
-fn a_new_book_is_empty(rt: HostRuntime) -> Result<(), Fail> {
-    let book = Book::new(rt.alloc());
-    assert_eq!(rt; book.clock.get(), 0);
-    assert!(rt; book.fields.len() == 0);
-    assert!(rt; book.moves.is_empty());
-    assert!(rt; book.orders.len() == 0);
-    assert!(rt; book.kept.len() == 0);
-    // what holds of its ledger, as of every good one
-    laws::exactly_one_answer();
-    laws::answers_stay_good();
-    laws::runs_stay_good();
-    laws::bounds_are_held();
-    laws::tests_are_comparisons();
-    laws::good_ledgers_honour();
-    laws::transfers_even_out();
-    laws::spellings_tell_commands();
-    laws::rows_tell_all();
-    laws::rows_are_one();
-    laws::changes_suffice();
-    crate::examples::worked_examples_hold();
+/// No field and no order is shown.
+fn expect_nothing<R: Abort>(rt: &R, book: &Book) -> Result<(), Fail> {
+    let branch = Branch::read(b"NORTH")?;
+    let article = Article::read(b"NAILS-8")?;
+    assert_eq!(rt; book.field_count(), 0);
+    assert_eq!(rt; book.field(branch, article), None);
+    assert_eq!(rt; book.field_at(0), None);
+    assert!(rt; order(book, 1).is_none());
     Ok(())
 }
 
 #[test]
 fn a_new_book_shows_nothing(rt: HostRuntime) -> Result<(), Fail> {
-    let book = Book::new(rt.alloc());
-    let branch = Branch::read(b"NORTH")?;
-    let article = Article::read(b"NAILS-8")?;
-    let number = OrderNo::new(1).ok_or("a number")?;
-    assert_eq!(rt; book.field_count(), 0);
-    assert_eq!(rt; book.field(branch, article), None);
-    assert_eq!(rt; book.field_at(0), None);
-    assert!(rt; book.order(number).is_none());
-    Ok(())
+    expect_nothing(&rt, &Book::new(rt.alloc()))
+}
+
+/// The laws hold of every ledger; a call of one costs nothing.
+#[test]
+fn laws_can_be_called() {
+    book::exactly_one_answer();
+    book::answers_stay_good();
+    book::runs_stay_good();
+    book::bounds_are_held();
+    book::tests_are_comparisons();
+    book::good_ledgers_honour();
+    book::transfers_even_out();
+    book::spellings_tell_commands();
+    book::rows_tell_all();
+    book::rows_are_one();
+    book::changes_suffice();
+    book::worked_examples_hold();
+    book::limits_are_those_of_the_rules();
 }
 
 /// Two fields, and an order on the second of them, which is used.
@@ -145,15 +102,19 @@ fn an_order_is_shown(rt: HostRuntime) -> Result<(), Fail> {
     Ok(())
 }
 
-#[test]
-fn fields_are_shown_in_order(rt: HostRuntime) -> Result<(), Fail> {
-    let book = book_after(rt.alloc(), used())?;
+/// The book shows two fields, one after the other.
+fn expect_two_fields<R: Abort>(rt: &R, book: &Book) -> Result<(), Fail> {
     assert_eq!(rt; book.field_count(), 2);
-    assert!(rt; branch_at(&book, 0)? < branch_at(&book, 1)?);
+    assert!(rt; branch_at(book, 0)? < branch_at(book, 1)?);
     assert_eq!(rt; book.field_at(2), None);
     let last = book.field_at(1).ok_or("no field")?;
     assert_eq!(rt; book.field(last.branch, last.article), Some(last));
     Ok(())
+}
+
+#[test]
+fn fields_are_shown_in_order(rt: HostRuntime) -> Result<(), Fail> {
+    expect_two_fields(&rt, &book_after(rt.alloc(), used())?)
 }
 
 #[test]
