@@ -8,12 +8,16 @@ from statistics import median
 
 from desks import ASKS, KINDS
 
-FILE, C_FILE, MEMORY, C_MEMORY = "file", "C on a file", "memory", "C in memory"
+FILE, HTTP, C_FILE, MEMORY, C_MEMORY = "file", "HTTP on a file", "C on a file", "memory", "C in memory"
 GROWTH = 1.3
 EXPIRY_GROWTH = 3
 DELIVERY = 1.2
 OPENING = 0.3
 RESIDENT = 4
+# a message takes at most so many times what its line takes, so that there are at least 0.8 as many a second
+MESSAGE = 1.25
+LONG_RUN = 1.01
+COMMANDS = [kind for kind in KINDS if kind != "ask"]
 NAMES = {
     "ask": "ask",
     "all": "ask, each field once",
@@ -37,6 +41,8 @@ class Found:
     bytes: dict = field(default_factory=dict)
     played: dict = field(default_factory=dict)
     runs: dict = field(default_factory=dict)
+    # messages, messages more, and the bytes that are resident behind the first and behind the last of them
+    long: tuple = None
 
     def of(self, size, player, name, choose=median):
         """The median of a number of the sessions, or what else is chosen, or None where there were none."""
@@ -51,9 +57,9 @@ class Found:
         parts = self.parts(size, player, kind)
         return median(parts) if parts else None
 
-    def against(self, size, player, beside, kind):
+    def against(self, size, player, beside, *kinds):
         """The median of the ratios to the other player's part that was played right after each, or None."""
-        pairs = list(zip(self.parts(size, player, kind), self.parts(size, beside, kind)))
+        pairs = [pair for kind in kinds for pair in zip(self.parts(size, player, kind), self.parts(size, beside, kind))]
         return median(one / other for one, other in pairs) if pairs else None
 
     def run_seconds(self, size):
@@ -128,10 +134,10 @@ def cells(found, size, kind, player, beside):
     return [number(own), number(other), ratio(found.against(size, player, beside, kind))]
 
 
-def commands(found, player, beside):
+def commands(found, player, beside, name="C"):
     heads = ["microseconds"]
     for size in found.sizes:
-        heads += [f"{size:,}", "C", "ratio"]
+        heads += [f"{size:,}", name, "ratio"]
     rows = []
     for kind in ["all", *KINDS]:
         rows.append([NAMES[kind], *(cell for size in found.sizes for cell in cells(found, size, kind, player, beside))])
@@ -163,6 +169,12 @@ def memories(found):
     return table(heads, rows)
 
 
+def services(found):
+    first, more, before, after = found.long
+    heads = ["messages", "resident, MiB"]
+    return table(heads, [[f"{first:,}", mebibytes(before)], [f"{first + more:,}", mebibytes(after)]])
+
+
 def growths(found):
     """Each command at the greatest size against the least, where there are two."""
     least, most = min(found.sizes), max(found.sizes)
@@ -173,10 +185,23 @@ def growths(found):
             yield f"{NAMES[kind]} {where}, {most:,} against {least:,}", limit, value
 
 
+def over_http(found):
+    """Commands as messages against their lines, an ask at the greatest size against the least, and the memory."""
+    for size in found.sizes:
+        yield f"commands over HTTP against a script's, {size:,}", MESSAGE, found.against(size, HTTP, FILE, *COMMANDS)
+    least, most = min(found.sizes), max(found.sizes)
+    if least < most:
+        value = over(found.micros(most, HTTP, "ask"), found.micros(least, HTTP, "ask"))
+        yield f"ask over HTTP, {most:,} against {least:,}", GROWTH, value
+    _, _, before, after = found.long
+    yield "resident memory of a service, behind many messages against the first", LONG_RUN, after / before
+
+
 def targets(found):
     """Each target with its limit, and what was found."""
     size = max(found.sizes)
     yield from growths(found)
+    yield from over_http(found)
     yield f"delivery on a file against C, {size:,}", DELIVERY, found.against(size, FILE, C_FILE, "deliver")
     asking = found.micros(size, FILE, "all") * found.counts[size]["fields"] / 1000
     yield f"asking every field once on a file, {size:,}, milliseconds", None, asking
@@ -202,9 +227,11 @@ def text(found):
     parts = [
         ("Desks", desks(found)),
         ("On a file", commands(found, FILE, C_FILE)),
+        ("Over HTTP", commands(found, HTTP, FILE, "script")),
         ("In memory", commands(found, MEMORY, C_MEMORY)),
         ("Opening", openings(found)),
         ("Memory", memories(found)),
+        ("Memory of a service", services(found)),
         ("Targets", reckoning(found)),
     ]
     return [line for name, lines in parts for line in [f"### {name}", "", *lines]]

@@ -2,10 +2,13 @@
 
 import os
 import select
+import socket
 import subprocess
 import time
 from collections import defaultdict
 from dataclasses import dataclass, field
+
+from messages import answer_of, message_of
 
 PIECE = 65_536
 
@@ -33,27 +36,37 @@ class Session:
         self.played = Played()
         self.began = time.perf_counter()
         self.process = subprocess.Popen(words, stdin=subprocess.PIPE, stdout=subprocess.PIPE, bufsize=0)
-        self.input = self.process.stdin.fileno()
-        self.output = self.process.stdout.fileno()
+        self.input, self.output = self.channels()
         os.set_blocking(self.input, False)
+
+    def channels(self):
+        """What is written to, and what is read from."""
+        return self.process.stdin.fileno(), self.process.stdout.fileno()
 
     def exchange(self, lines, answers, seconds=None):
         """Writes the lines and reads so many answers meanwhile: these, and the seconds until the last one."""
-        data = memoryview("".join(line + "\n" for line in lines).encode())
+        data = "".join(line + "\n" for line in lines).encode()
+        read, found = self.transfer(data, answers, lambda piece: piece.count(b"\n"), seconds)
+        return read.decode().splitlines(), found
+
+    def transfer(self, data, left, count, seconds=None):
+        """Writes the bytes and reads meanwhile until nothing is left, as the pieces that come are counted: these, and the
+        seconds until the last one."""
+        data = memoryview(data)
         read = bytearray()
         began = time.perf_counter()
-        while answers:
+        while left > 0:
             rest = None if seconds is None else max(0, began + seconds - time.perf_counter())
             readable, writable, _ = select.select([self.output], [self.input] if data else [], [], rest)
             if not readable and not writable:
                 raise Late
             if readable:
                 piece = self.piece()
-                answers -= piece.count(b"\n")
+                left -= count(piece)
                 read += piece
             if writable:
                 data = data[os.write(self.input, data[:PIECE]) :]
-        return read.decode().splitlines(), time.perf_counter() - began
+        return bytes(read), time.perf_counter() - began
 
     def piece(self):
         piece = os.read(self.output, PIECE)
@@ -66,10 +79,14 @@ class Session:
         that are resident, and the most that ever were."""
         found, _ = self.exchange(lines, len(lines), seconds)
         self.played.opening = time.perf_counter() - self.began
+        self.played.resident, self.played.peak = self.memory()
+        return found
+
+    def memory(self):
+        """The bytes that are resident, and the most that ever were."""
         with open(f"/proc/{self.process.pid}/status", encoding="utf-8") as file:
             status = dict(line.split(":", 1) for line in file)
-        self.played.resident, self.played.peak = [1024 * int(status[name].split()[0]) for name in ("VmRSS", "VmHWM")]
-        return found
+        return [1024 * int(status[name].split()[0]) for name in ("VmRSS", "VmHWM")]
 
     def __enter__(self):
         return self
@@ -107,6 +124,29 @@ class Program(Session):
         found, seconds = self.exchange([step.line for step in steps], len(steps))
         expect_answers(found, [step.answer for step in steps], kind)
         return seconds
+
+
+class Service(Session):
+    """The program, which serves a desk in a file to one connection. Each of its answers is expected."""
+
+    def channels(self):
+        _, port = self.process.stdout.readline().split()
+        self.socket = socket.create_connection(("127.0.0.1", int(port)))
+        self.socket.setsockopt(socket.IPPROTO_TCP, socket.TCP_NODELAY, 1)
+        return self.socket.fileno(), self.socket.fileno()
+
+    def play(self, kind, steps):
+        """Plays the steps as messages: the seconds from the first byte written to the last one read."""
+        wanted = [answer_of(step.answer) for step in steps]
+        data = b"".join(message_of(step.line) for step in steps)
+        found, seconds = self.transfer(data, sum(map(len, wanted)), len)
+        if found != b"".join(wanted):
+            raise SystemExit(f"bench: {kind} over HTTP: {found!r}")
+        return seconds
+
+    def __exit__(self, kind, error, trace):
+        self.socket.close()
+        super().__exit__(kind, error, trace)
 
 
 class Rows(Session):

@@ -1,5 +1,7 @@
 //! The desk, served: over a socket of this machine, and to connections in memory.
 
+ghost use Rattle.std.specs.Prelude.{◌≡◌, false, IfOk};
+
 use super::{Drip, Sink, expect_done};
 use crate::loopback::{Listen, serve_all};
 use crate::session::Fault;

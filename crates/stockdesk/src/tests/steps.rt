@@ -234,7 +234,7 @@ fn bytes_of(rt: &HostRuntime, file: &str) -> Result<Vec<u8>, Fail> {
 }
 
 /// The file of requests that a command reads.
-const CSV: &str = "requests.csv";
+const CSV: &str = "files_test/requests.csv";
 
 /// A command of its name and a file, and what it reads.
 fn expect_input<'a>(
