@@ -54,20 +54,13 @@ opened_count A c good h is = absurd (true≢false (sym is))
 numbered : (x : Option Order) → (IsNone x → ⊥) → is_some x ≡ true
 numbered b h = grind arith
 
--- where it stays open
-kept_open : (x : Option Order) (f : Name) (h : Order → Order) → ((o : Order) → (h o).state ≡ o.state) → IsBefore f x → is_some x ≡ true → some_part one (option_map h x) ≡ pos 1
-kept_open b f h keeps is there = grind arith
-
 ended_part : (x : Option Order) (s : State) → open_state s ≡ false → some_part one (option_map (set_state s) x) ≡ pos 0
 ended_part b s e = grind arith
 
-held_state : (l : OpenLine) (o : Order) → (add_hold l o).state ≡ o.state
-held_state l o = grind arith
-
 pub changed_count : (A : Ledger) (c : Command) → Good A → FirstFailure (checks A c) None → is_change c ≡ true → open_orders (next A c) ≡ open_orders A
-changed_count A (command.More n way b a q) good h is = grind (arith, (counted_on A (command.More n way b a q) n good h refl), (numbered (order_numbered A n) (all_pass (checks A (command.More n way b a q)) h).1.0), all_pass, before, held_state, kept_open)
-changed_count A (command.Use n b a q) good h is = grind (arith, (counted_on A (command.Use n b a q) n good h refl), (numbered (order_numbered A n) (all_pass (checks A (command.Use n b a q)) h).1.0), all_pass, before, kept_open)
-changed_count A (command.Release n b a q) good h is = grind (arith, (counted_on A (command.Release n b a q) n good h refl), (numbered (order_numbered A n) (all_pass (checks A (command.Release n b a q)) h).1.0), all_pass, before, kept_open)
+changed_count A (command.More n way b a q) good h is = grind (arith, (counted_on A (command.More n way b a q) n good h refl), (numbered (order_numbered A n) (all_pass (checks A (command.More n way b a q)) h).1.0), all_pass, before)
+changed_count A (command.Use n b a q) good h is = grind (arith, (counted_on A (command.Use n b a q) n good h refl), (numbered (order_numbered A n) (all_pass (checks A (command.Use n b a q)) h).1.0), all_pass, before)
+changed_count A (command.Release n b a q) good h is = grind (arith, (counted_on A (command.Release n b a q) n good h refl), (numbered (order_numbered A n) (all_pass (checks A (command.Release n b a q)) h).1.0), all_pass, before)
 changed_count A c good h is = absurd (true≢false (sym is))
 
 pub committed_count : (A : Ledger) (n : ℕ) → Good A → FirstFailure (checks A (command.Commit n)) None → open_orders (next A (command.Commit n)) + 1 ≡ open_orders A

@@ -8,9 +8,9 @@ use Rattle.book.specs.Outcomes.{total}
 use Rattle.book.specs.Running.{HasLines, MovesField, lines_add, lines_take}
 use Rattle.book.proofs.Asked.{none_found, same_self}
 use Rattle.book.proofs.ChangedFields.{all_rows, put_self, self_eq}
-use Rattle.book.proofs.Chosen.{any-eq, any-map, some_is}
+use Rattle.book.proofs.Chosen.{any-map, some_is}
 use Rattle.book.proofs.Closing.{all_pass, name_is}
-use Rattle.book.proofs.GivingBack.{any-append, lines_if, total-flat}
+use Rattle.book.proofs.GivingBack.{any-append, total-flat}
 use Rattle.book.proofs.Growing.{none_if_not_some, other_way}
 use Rattle.book.proofs.Made.{any_one, left_out, lined, released_on, total-next}
 use Rattle.book.proofs.Running.{new_field}
@@ -111,11 +111,8 @@ any_there f (l ∷ ls) = let more = any_there f ls in grind arith
 raised_on : (b : Bool) (f : Name) (q : ℕ) (l : Line) → on f (if b then raise_held q l else l) ≡ on f l
 raised_on b f q l = grind arith
 
-or_true : (a b : Bool) → b ≡ true → (a || b) ≡ true
-or_true x b e = grind arith
-
 held_on : (f : Name) (ol : OpenLine) (o : Order) → f ≡ line_name (new_line ol) → list_any (on f) (add_hold ol o).lines ≡ true
-held_on f ol o is = grind (arith, (each (λ m. raised_on (on (line_name (new_line ol)) m) f ol.qty m) o.lines), (any_there (line_name (new_line ol)) o.lines), any-append, any-eq, any-map, or_true, raised_on, same_self)
+held_on f ol o is = grind (arith, (each (λ m. raised_on (on (line_name (new_line ol)) m) f ol.qty m) o.lines), (any_there (line_name (new_line ol)) o.lines), any-append, any-map, raised_on, same_self)
 
 second_true : (a b : Bool) → (a && b) ≡ true → b ≡ true
 second_true x b e = grind arith
@@ -178,12 +175,9 @@ parted p g (o ∷ os) = by (p o) (parted p g os)
     by true e = omega (arith, ints)
     by false e = omega (arith, ints)
 
-open_part : (a b : Bool) (z : ℤ) → (if a && b then z else pos 0) ≡ (if a && b then (if a then z else pos 0) else pos 0)
-open_part x b z = grind arith
-
 -- what the orders that expire hold on a field
 expired_part : (now : ℕ) (g : Line → ℤ) (os : List Order) → total g (expired_lines now os) ≡ total (λ o. if expires now o then (if is_open o then total g o.lines else pos 0) else pos 0) os
-expired_part now g os = grind (arith, each, lines_if, open_part, total-eq, total-flat)
+expired_part now g os = grind (arith, each, total-eq, total-flat)
 
 not_committed : (a b c : Bool) (z : ℤ) → (a ≡ true → c ≡ false) → (if a && b then pos 0 else (if c then z else pos 0)) ≡ (if c then z else pos 0)
 not_committed x b c z h = grind arith

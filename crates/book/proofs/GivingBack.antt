@@ -143,11 +143,8 @@ line_given A ls l v new C D sorted gives may given is put =
 pub may_prefix : (A : Ledger) (ls ms ns : List Line) → MayGiveBack A (ls ++ (ms ++ ns)) → MayGiveBack A (ls ++ ms)
 may_prefix A ls ms ns may n = grind (arith, ints, (total-append (λ l. if on n l then pos (if_take l.way l.held) else pos 0) ls (ms ++ ns)), (total-append (λ l. if on n l then pos (if_take l.way l.held) else pos 0) ms ns), (total-append (λ l. if on n l then pos (if_take l.way l.held) else pos 0) ls ms), (takes-not_negative n ns), (total-append (λ l. if on n l then pos (if_add l.way l.held) else pos 0) ls (ms ++ ns)), (total-append (λ l. if on n l then pos (if_add l.way l.held) else pos 0) ms ns), (total-append (λ l. if on n l then pos (if_add l.way l.held) else pos 0) ls ms), (adds-not_negative n ns))
 
-pub lines_if : (b : Bool) (g : Line → ℤ) (ls : List Line) → total g (if b then ls else []) ≡ (if b then total g ls else pos 0)
-lines_if b g ls = grind arith
-
 expired_most : (now : ℕ) (g : Line → ℤ) → ((ls : List Line) → pos 0 ≤ℤ total g ls) → (os : List Order) → total g (expired_lines now os) ≤ℤ total (λ o. if is_open o then total g o.lines else pos 0) os
-expired_most now g least os = grind (arith, (total-flat g (λ (o : Order). if expires now o then o.lines else []) os), each, lines_if, total-le)
+expired_most now g least os = grind (arith, (total-flat g (λ (o : Order). if expires now o then o.lines else []) os), each, total-le)
 
 pub may_all : (A : Ledger) (now : ℕ) → MayGiveBack A (expired_lines now A.orders)
 may_all A now n = (expired_most now (λ l. if on n l then pos (if_take l.way l.held) else pos 0) (takes-not_negative n) A.orders, expired_most now (λ l. if on n l then pos (if_add l.way l.held) else pos 0) (adds-not_negative n) A.orders)

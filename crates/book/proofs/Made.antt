@@ -6,7 +6,7 @@ use Rattle.words.specs.declared.command.Command.TheVariants as command
 use Rattle.book.specs.After.{names_field}
 use Rattle.book.specs.Outcomes.{total}
 use Rattle.book.proofs.Asked.{none_found, total-insert}
-use Rattle.book.proofs.Chosen.{any-eq, any-map, find-new, none_after, none_any, some_is}
+use Rattle.book.proofs.Chosen.{any-map, find-new, none_after, none_any, some_is}
 use Rattle.book.proofs.Closing.{all_pass, at_number}
 use Rattle.book.proofs.Growing.{none_if_not_some}
 use Rattle.book.proofs.Sums.{each, each-imp, total-eq, total-map}
@@ -49,7 +49,7 @@ lowered_on : (b : Bool) (f : Name) (q : ℕ) (l : Line) → on f (if b then lowe
 lowered_on b f q l = grind arith
 
 pub released_on : (f h : Name) (q : ℕ) (o : Order) → has_line_on f (change_lines h (lower_held q) o) ≡ has_line_on f o
-released_on f h q o = grind (arith, (each (λ l. lowered_on (is_transfer o || on h l) f q l) o.lines), any-eq, any-map, lowered_on)
+released_on f h q o = grind (arith, (each (λ l. lowered_on (is_transfer o || on h l) f q l) o.lines), any-map, lowered_on)
 
 -- a release changes the field that it names, on a transfer both
 pub released : (A : Ledger) (c : Command) (n : ℕ) (b a : List ℕ) (q : ℕ) (f : Name) → Good A → c ≡ command.Release n b a q → names_field f c ≡ false

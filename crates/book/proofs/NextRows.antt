@@ -206,16 +206,10 @@ lines_one chosen t n (o ∷ os) sorted other own = filter-append chosen (order_l
         (λ i. here i ++ rest i) ∙ append-nil (line_rows t o.number 1 o.lines)
     by false e more = ap (λ (rows : List LineCells). rows ++ filter chosen (flat_map order_lines os)) (lines_none chosen o.number 1 o.lines (λ k l. other o.number k l e)) ∙ more
 
-and_second : (a b : Bool) → a ≡ true → (a && b) ≡ b
-and_second a b e = ap (λ x. x && b) e
-
-and_first : (a b : Bool) → a ≡ false → (a && b) ≡ false
-and_first a b e = ap (λ x. x && b) e
-
 -- those of the order that the command makes whose fields pass
 own_lines : (A : Ledger) (key : List ℕ) (c : Command) (n : ℕ) (u : Name → Bool) → Good (accept A (record { key = key; command = c })) → FirstFailure (checks A c) None → order_number c ≡ Some n
     → filter (λ (row : LineCells). int_eq row.number (pos n) && u (name_of row.branch row.article)) (flat_map order_lines (accept A (record { key = key; command = c })).orders) ≡ lines_there (λ l. u (line_name l)) (order_after A c)
-own_lines A key c n u k h is = grind (arith, (made_there A c n h is), and_first, and_second, lines_one, pos_other, pos_same)
+own_lines A key c n u k h is = grind (arith, (made_there A c n h is), lines_one, pos_other, pos_same)
 
 -- all of them
 all_lines : (A : Ledger) (key : List ℕ) (c : Command) (n : ℕ) → Good (accept A (record { key = key; command = c })) → FirstFailure (checks A c) None → order_number c ≡ Some n

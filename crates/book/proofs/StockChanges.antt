@@ -75,17 +75,11 @@ total_most g least A n good =
 abbrev pub IsBefore : Name → Option Order → Type 0
 IsBefore f x = MatchOption x (Unit {0}) (λ o. (is_open o ≡ true) × OneOn f o.lines)
 
-opened : (o : Order) → (IsSomeAnd (Some o) (λ o. IsFalse (is_open o)) → ⊥) → is_open o ≡ true
-opened o ended = grind arith
-
 before_of : (A : Ledger) (n : ℕ) (f : Name) → Good A → (IsSomeAnd (order_numbered A n) (λ o. IsFalse (is_open o)) → ⊥) → IsBefore f (order_numbered A n)
-before_of A n f good ended = grind (arith, each-found, one_on, opened)
-
-before_none : (f : Name) (x : Option Order) → x ≡ None → IsBefore f x
-before_none f x e = subst (IsBefore f) (sym e) tt
+before_of A n f good ended = grind (arith, each-found, one_on)
 
 pub before : (A : Ledger) (c : Command) (n : ℕ) (f : Name) → Good A → FirstFailure (checks A c) None → order_number c ≡ Some n → IsBefore f (order_numbered A n)
-before x c n f good h e = grind (arith, all_pass, before_none, before_of, none_opened, some_is)
+before x c n f good h e = grind (arith, all_pass, before_of, none_opened, some_is)
 
 -- ---- the line before and after
 
@@ -95,23 +89,13 @@ pub record LineGoes (x : Option Line) (l : Line) (s : State) : Type 0 where
   pub used : s ≡ Committed → l.used ≤ amount_held x
   pub qty : s ≡ Open → amount_held x < l.held → IsQty (l.held - amount_held x)
 
-open_not_committed : Open ≡ Committed → ⊥
-open_not_committed e = true≢false (ap open_state e)
-
 -- a line of a new order
 new_goes : (f : Name) (ls : List OpenLine) (l : Line) (x : Option Line) → x ≡ None → Each (λ l. IsQty l.qty) ls → find (on f) (map new_line ls) ≡ Some l → LineGoes x l Open
-new_goes f ls l x none range there = grind (arith, (each-found (λ l. IsQty l.held) (on f) l (map new_line ls) (each-map (λ l. IsQty l.held) new_line ls range) there), each-map, open_not_committed)
+new_goes f ls l x none range there = grind (arith, (each-found (λ l. IsQty l.held) (on f) l (map new_line ls) (each-map (λ l. IsQty l.held) new_line ls range) there), each-map)
 
 -- a line that stays on its field, its way the same
 kept_goes : (f : Name) (g : Line → Line) (ls : List Line) (s : State) (l : Line) → ((k : Line) → on f (g k) ≡ on f k) → ((k : Line) → LineGoes (Some k) (g k) s) → find (on f) (map g ls) ≡ Some l → LineGoes (find (on f) ls) l s
 kept_goes f g ls s l keeps goes there = grind (arith, (find_map f g keeps ls), some_is)
-
-less_not : (m n : ℕ) → m ≤ n → n < m → ⊥
-less_not m n h k = absurd (omega arith)
-
--- no more is held than before
-no_more : (k l : Line) (s : State) → k.way ≡ l.way → l.held ≤ k.held → (s ≡ Committed → l.used ≤ k.held) → LineGoes (Some k) l s
-no_more k l s way less used = record { way = way; used = used; qty = λ e more. absurd (less_not l.held k.held less more) }
 
 lowered : (b : Bool) (q : ℕ) (k : Line) → LineGoes (Some k) (if b then lower_held q k else k) Open
 lowered b q k = grind arith
@@ -177,7 +161,7 @@ line_goes A (command.Release m b a q) n f o l good range h e is made there =
     changed_goes A n f (change_lines (name_of b a) (lower_held q)) o l good is
     (λ p g unended k. subst (LineGoes (line_on p f) l) (state_is p.state unended) (kept_goes f (λ x. if is_transfer p || on (name_of b a) x then lower_held q x else x) p.lines Open l (λ x. on_kept f (is_transfer p || on (name_of b a) x) (lower_held q) x refl) (λ x. lowered (is_transfer p || on (name_of b a) x) q x) k))
     (subst (λ k. option_map (change_lines (name_of b a) (lower_held q)) (order_numbered A k) ≡ Some o) (some_is m n e) made) there
-line_goes A (command.Commit m) n f o l good range h e is made there = grind (arith, common_steps, (some_is m n e), changed_goes, each-found, no_more)
+line_goes A (command.Commit m) n f o l good range h e is made there = grind (arith, common_steps, (some_is m n e), changed_goes, each-found)
 line_goes A (command.Abort m) n f o l good range h e is made there = grind arith
 line_goes A c n f o l good range h e is made there = absurd (true≢false (sym (ap is_some e)))
 

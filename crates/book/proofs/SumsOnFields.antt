@@ -68,9 +68,6 @@ other_name f g h = (
 not_less : (o : Ordering) → o ≡ Less → o ≡ Equal → ⊥
 not_less o a b = true≢false (ap is_lt (sym a ∙ b))
 
-not_greater : (o : Ordering) → o ≡ Greater → o ≡ Equal → ⊥
-not_greater o a b = true≢false (ap is_gt (sym a ∙ b))
-
 -- no field stands before the one before it
 ascending : (fs : List (Name × FieldEntry)) → AreFieldsInOrder fs → (k : ℕ) (d : Name × FieldEntry) → k + 1 < length fs → is_lt (name_cmp (entry_name (get_or fs (k + 1) d)) (entry_name (get_or fs k d))) ≡ false
 unfolding IsStrictlySortedBy
@@ -95,7 +92,7 @@ none_there name (f ∷ fs) h =
 -- what a search for the name answers
 pub searched : (name : Name) (fs : List (Name × FieldEntry)) → AreFieldsInOrder fs → (r : Result ℕ ℕ) → IsSearchInRange r (length fs) → IsBinarySearchResult (λ e. name_cmp (entry_name e) name) fs r
     → MatchResult r (IsFieldAt fs name) (λ i. IsNone (field_among fs name))
-searched name fs s b range found = grind (arith, equal_name, name_is, none_there, not_greater, not_less, rising)
+searched name fs s b range found = grind (arith, equal_name, name_is, none_there, not_less, rising)
 
 -- a field at a place is among them
 pub there_at : (name : Name) (fs : List (Name × FieldEntry)) (i : ℕ) → IsFieldAt fs name i → IsField fs name

@@ -37,11 +37,8 @@ dec_less m n = elim (dec_lt m n) [ yes h ↦ inl h | no h ↦ inr h ]
 dec_upto : (m n : ℕ) → Decided (m ≤ n)
 dec_upto m n = elim (dec_le m n) [ yes h ↦ inl h | no h ↦ inr h ]
 
-dec_less_z : (a b : ℤ) → Decided (a <ℤ b)
-dec_less_z a b = by_lt_z a b (λ h. inl h) (λ h. inr (λ k. omega (arith, ints)))
-
 dec_bound : (w : Way) (B : Ledger) (f : Name) (i : ℕ) → Each Sound B.orders → Decided (bound w B f i).fails
-dec_bound b x f i s = grind (arith, dec_less_z, falls_below_iff, rises_above_iff)
+dec_bound b x f i s = grind (arith, falls_below_iff, rises_above_iff)
 
 found_lines : (A : Ledger) (n : ℕ) (k : Kind) (u : ℕ) (before ls : List OpenLine) → Each Sound A.orders → ((g : Name) → OneOn g (map new_line before)) → InTurn (line_checks A (new_order n k u) before ls)
 found_lines A n k u before [] s one = tt
