@@ -1,11 +1,7 @@
 -- The rows that an accepted command names, put into the ledger's rows, give the rows of the next ledger.
 use Rattle.std.proofs.Common.{◌≡◌, ℕ, ◌+◌, ℤ, pos, neg_ℤ, List, [], ◌∷◌, ◌++◌, map, flat_map, Bool, true, false, ◌&&◌, ◌||◌, ◌==◌, IsTrue, IsFalse, IsNone, IsSomeAnd, Option, Some, None, refl, sym, ap, ◌∙◌, subst, arith, if◌then◌else◌, true≢false, nat_cmp, nat_lt, Equal, inl, inr, is_some}
-use Rattle.book.proofs.Prelude.{Aborted, AllZip, Command, Committed, Content, DeskCells, Each, FieldCells, FirstFailure, Good, IsFieldRow, IsInRange, IsKey, IsRowsOf, IsStrictlySortedBy, IsSupremum, IsTotalOrder, Kept, Ledger, Line, LineCells, Move, Name, OpenLine, Order, OrderCells, Ordering, Plain, Request, State, Way, accept, add_hold, bytes_decides, bytes_eq, change_lines, changed_rows, changes_field, changes_line, changes_move, changes_order, checks, committed_state, desk_row, expires, field_cmp, filter, has_line_on, held_to_add, held_to_take, hold_more, if_add, if_take, insert_in_order, int_cmp_total, int_eq, ints, is_committed, is_eq, is_lt, is_open, is_transfer, kept_cmp, kept_row, kept_under, line_cmp, line_name, line_on, line_row, lines_from, list_any, lower_held, move_cmp, move_row, name_cmp, name_of, nat_list_cmp_total, new_line, new_order, on, on_total, open_state, order_cmp, order_is, order_lines, order_numbered, order_row, places, put_content, put_rows, raise_held, raise_used, same_name, set_state, settled, signed, slice_cmp, then_total, tied_itself, transfer_lines, with_order}
+use Rattle.book.proofs.Prelude.{Aborted, AllZip, Command, Committed, Content, DeskCells, Each, Field, FieldCells, FirstFailure, Good, IsFieldRow, IsInRange, IsKey, IsRowsOf, IsStrictlySortedBy, IsSupremum, IsTotalOrder, Kept, Ledger, Line, LineCells, Move, Name, Open, OpenLine, Order, OrderCells, Ordering, Plain, Request, State, Transfer, Way, accept, add_hold, bytes_decides, bytes_eq, change_lines, changed_rows, changes_field, changes_line, changes_move, changes_order, checks, committed_state, desk_row, expires, field_cmp, filter, has_line_on, held_to_add, held_to_take, hold_more, if_add, if_take, insert_in_order, int_cmp_total, int_eq, ints, is_committed, is_eq, is_lt, is_open, is_transfer, kept_cmp, kept_row, kept_under, line_cmp, line_name, line_on, line_row, lines_from, list_any, lower_held, move_cmp, move_row, moved, name_cmp, name_of, nat_list_cmp_total, new_line, new_order, on, on_total, open_state, order_cmp, order_is, order_lines, order_numbered, order_row, places, put_content, put_rows, raise_held, raise_used, same_name, set_state, settled, signed, slice_cmp, then_total, tied_itself, total, transfer_lines, with_order}
 use Rattle.words.specs.declared.command.Command.TheVariants as command
-use Rattle.book.specs.declared.order.Kind.TheVariants.{Transfer}
-use Rattle.book.specs.declared.order.State.TheVariants.{Open}
-use Rattle.book.specs.Ledger.{Field}
-use Rattle.book.specs.Outcomes.{total, moved}
 use Rattle.book.specs.Rows.{desk_cmp}
 use Rattle.book.proofs.Sums.{each, each-imp, each-both, each-map, total-map, total-eq}
 use Rattle.book.proofs.Bounds.{takes, adds, none-total, inf_is, sup_is, inf_unique}

@@ -1,9 +1,7 @@
 -- The fields that a request makes or changes, put in one after the other by their names.
 use Rattle.std.proofs.Common.{arith, ◌≡◌, ◌∙◌, ℕ, ◌+◌, ◌<◌, ◌==◌, ◌++◌, Bool, Err, IsSome, OnOk, Ok, Result, true, false, List, [], ◌∷◌, Option, None, Some, ap, cond, find, flat_map, if◌then◌else◌, get_or, is_some, length, map, refl, subst, sym, take, true≢false}
-use Rattle.book.proofs.Prelude.{Accepts, Command, Contains, Each, FieldCells, FieldEntry, FirstFailure, HasEntry, IsChangedField, IsGoodLine, IsGoodOrder, IsStrictlySortedBy, Ledger, Line, Name, Order, Ordering, Puts, Request, accept, changes_field, checks, entry_row, field_named, insert_entry, is_at, is_eq, keys_of, line_name, lookup, match_ordering, name_cmp, next, on, order_after, order_number, ordering_reverse, same_name, tied_itself}
-use Rattle.std.specs.declared.cmp.Ordering.TheVariants.{Equal, Greater, Less}
+use Rattle.book.proofs.Prelude.{Accepts, Command, Contains, Each, Equal, Field, FieldCells, FieldEntry, FirstFailure, Greater, HasEntry, IsChangedField, IsGoodLine, IsGoodOrder, IsStrictlySortedBy, Ledger, Less, Line, Name, Order, Ordering, Puts, Request, accept, changes_field, checks, entry_row, field_named, insert_entry, is_at, is_eq, keys_of, line_name, lookup, match_ordering, name_cmp, next, on, order_after, order_number, ordering_reverse, same_name, tied_itself}
 use Rattle.words.specs.declared.command.Command.TheVariants as command
-use Rattle.book.specs.Ledger.{Field}
 use Rattle.book.specs.Running.{IsOneOf}
 use Rattle.book.proofs.Asked.{same_self}
 use Rattle.book.proofs.Bounds.{OneOn}

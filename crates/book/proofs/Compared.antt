@@ -1,7 +1,6 @@
 -- Each test of a check by all outcomes is one comparison with the numbers of the ledger as it is.
-use Rattle.book.proofs.Prelude.{Add, BreaksBound, Each, Good, IsDistinct, IsStrictlySortedBy, Kind, Ledger, Line, MayHoldMore, Name, OpenLine, Order, Take, Way, add_hold, bound, change_order, common_steps, held_to_add, held_to_take, if_add, if_take, ints, is_open, line_name, line_on, new_line, new_order, on, open_state, order_numbered, raise_held, same_name, with_order}
+use Rattle.book.proofs.Prelude.{Add, BreaksBound, Each, Good, IsDistinct, IsStrictlySortedBy, Kind, Ledger, Line, MayHoldMore, Name, OpenLine, Order, Take, Way, add_hold, bound, change_order, common_steps, held_to_add, held_to_take, if_add, if_take, ints, is_open, line_name, line_on, new_line, new_order, on, open_state, order_numbered, raise_held, same_name, total, with_order}
 use Rattle.std.proofs.Common.{◌≡◌, ◌∙◌, ℕ, ◌+◌, ℤ, pos, ◌+ℤ◌, ◌==◌, ◌↔◌, Bool, true, false, List, [], ◌∷◌, ◌++◌, Option, None, Some, IsNone, IsSomeAnd, MatchOption, ap, arith, find, if◌then◌else◌, map, nat_cmp, Less, refl, subst, sym, true≢false}
-use Rattle.book.specs.Outcomes.{total}
 use Rattle.book.proofs.Asked.{add_line_test, named, same_self, take_line_test, total-push}
 use Rattle.book.proofs.Bounds.{OneOn, Sound, falls_below_iff, rises_above_iff}
 use Rattle.book.proofs.Closing.{at_number, less_is, one_on, sounds_from_good}

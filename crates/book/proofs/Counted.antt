@@ -1,10 +1,8 @@
 -- How many orders are open, and how many in the next ledger.
 use Rattle.std.proofs.Common.{◌≡◌, ◌∙◌, ℕ, ◌+◌, ℤ, pos, ◌+ℤ◌, ◌-ℤ◌, ◌&&◌, ◌++◌, List, [], ◌∷◌, Bool, true, false, IsNone, Option, None, Some, ap, arith, count_by, if◌then◌else◌, is_some, map, refl, sym, true≢false}
-use Rattle.book.proofs.Prelude.{Aborted, BookView, Command, Committed, FirstFailure, Good, Inside, Ledger, Name, OpenLine, Order, State, add_hold, change_lines, checks, expires, hold_more, ints, is_open, is_opening, ledger_of, line_name, line_on, lower_held, name_of, new_line, next, open_orders, open_state, order_after, order_number, order_numbered, raise_used, set_state, some_part, view_of}
-use Rattle.std.specs.Option.{option_map}
+use Rattle.book.proofs.Prelude.{Aborted, BookView, Command, Committed, FirstFailure, Good, Inside, Ledger, Name, OpenLine, Order, State, add_hold, change_lines, checks, expires, hold_more, ints, is_open, is_opening, ledger_of, line_name, line_on, lower_held, name_of, new_line, next, open_orders, open_state, option_map, order_after, order_number, order_numbered, raise_used, set_state, some_part, total, view_of}
 use Rattle.words.specs.Kinds.{is_change}
 use Rattle.words.specs.declared.command.Command.TheVariants as command
-use Rattle.book.specs.Outcomes.{total}
 use Rattle.book.proofs.Closing.{all_pass}
 use Rattle.book.proofs.FieldRows.{parted}
 use Rattle.book.proofs.Lists.{counted}

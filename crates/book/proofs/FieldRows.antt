@@ -1,10 +1,7 @@
 -- The rows of the fields that a request makes or changes, for each kind of command.
 use Rattle.std.proofs.Common.{◌≡◌, ◌∙◌, ℕ, ℤ, pos, ◌+ℤ◌, ◌-ℤ◌, ◌&&◌, ◌||◌, ◌++◌, Bool, true, false, List, [], ◌∷◌, IsNone, IsSome, IsSomeAnd, Option, None, Some, ap, append-nil, arith, cond, find, flat_map, if◌then◌else◌, is_some, map, refl, subst, sym, true≢false}
-use Rattle.book.proofs.Prelude.{Accepts, Add, Command, Each, FieldCells, FieldEntry, FirstFailure, GivenBack, GivesBack, Good, HasEntry, IsChangedField, IsStrictlySortedBy, Ledger, Line, Name, OpenLine, Order, Puts, Request, Take, accept, add_hold, added_part, change_lines, changed_fields, changes_field, checks, committed_state, entry_row, expired_lines, expires, field_named, field_of, field_row, field_rows, has_line_on, held_to_add, held_to_take, hold_more, if_add, if_take, insert_entry, ints, is_at, is_committed, is_eq, is_open, is_transfer, keys_of, line_name, line_on, list_any, list_any-append, lookup, lower_held, moved_part, name_cmp, name_of, new_field_rows, new_line, next, on, order_after, order_is, order_numbered, raise_held, same_name, settled, some_has_line, taken_part}
-use Rattle.std.specs.Option.{option_map}
+use Rattle.book.proofs.Prelude.{Accepts, Add, Command, Each, Field, FieldCells, FieldEntry, FirstFailure, GivenBack, GivesBack, Good, HasEntry, IsChangedField, IsStrictlySortedBy, Ledger, Line, Name, OpenLine, Order, Puts, Request, Take, accept, add_hold, added_part, change_lines, changed_fields, changes_field, checks, committed_state, entry_row, expired_lines, expires, field_named, field_of, field_row, field_rows, has_line_on, held_to_add, held_to_take, hold_more, if_add, if_take, insert_entry, ints, is_at, is_committed, is_eq, is_open, is_transfer, keys_of, line_name, line_on, list_any, list_any-append, lookup, lower_held, moved_part, name_cmp, name_of, new_field_rows, new_line, next, on, option_map, order_after, order_is, order_numbered, raise_held, same_name, settled, some_has_line, taken_part, total}
 use Rattle.words.specs.declared.command.Command.TheVariants as command
-use Rattle.book.specs.Ledger.{Field}
-use Rattle.book.specs.Outcomes.{total}
 use Rattle.book.specs.Running.{HasLines, MovesField, lines_add, lines_take}
 use Rattle.book.proofs.Asked.{none_found, same_self}
 use Rattle.book.proofs.ChangedFields.{all_rows, put_self, self_eq}

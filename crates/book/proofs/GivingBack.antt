@@ -1,8 +1,6 @@
 -- What lines give back, as the orders end that hold it.
-use Rattle.book.proofs.Prelude.{Add, Each, FieldCells, FieldEntry, GivenBack, GivesBack, Good, IsGoodOrder, IsStrictlySortedBy, IsUpToDate, Ledger, Line, MayGiveBack, Name, Order, Ordering, Stock, Take, Way, common_steps, expired_lines, expires, field_named, field_of, giving_back, held_of, if_add, if_take, insert_entry, ints, is_at, is_eq, is_open, keys_of, line_name, list_any, lookup, match_ordering, name_cmp, on, order_numbered, same_name}
+use Rattle.book.proofs.Prelude.{Add, Each, Equal, FieldCells, FieldEntry, GivenBack, GivesBack, Good, Greater, IsGoodOrder, IsStrictlySortedBy, IsUpToDate, Ledger, Less, Line, MayGiveBack, Name, Order, Ordering, Stock, Take, Way, common_steps, expired_lines, expires, field_named, field_of, giving_back, held_of, if_add, if_take, insert_entry, ints, is_at, is_eq, is_open, keys_of, line_name, list_any, lookup, match_ordering, name_cmp, on, order_numbered, same_name, total}
 use Rattle.std.proofs.Common.{◌≡◌, ◌∙◌, ℕ, ◌+◌, ◌<◌, ◌≤◌, ◌==◌, ℤ, pos, ◌+ℤ◌, ◌≤ℤ◌, ◌&&◌, ◌||◌, ◌++◌, Bool, true, false, List, [], ◌∷◌, Option, None, Some, IsSome, ap, append_assoc, arith, cond, drop, flat_map, get_or, length, if◌then◌else◌, is_some, refl, subst, sym, take, true≢false}
-use Rattle.std.specs.declared.cmp.Ordering.TheVariants.{Equal, Greater, Less}
-use Rattle.book.specs.Outcomes.{total}
 use Rattle.book.proofs.Asked.{same_self, total-push}
 use Rattle.book.proofs.Bounds.{adds-not_negative, takes-not_negative}
 use Rattle.book.proofs.ChangedFields.{each_at_name, less_other}

@@ -1,12 +1,9 @@
 -- From a good ledger every accepted command leaves a good one.
 use Rattle.std.proofs.Common.{◌≡◌, ℕ, ◌+◌, ◌<◌, ◌≤◌, ℤ, pos, neg_ℤ, nat_abs, ◌+ℤ◌, ◌-ℤ◌, ◌≤ℤ◌, List, [], ◌∷◌, ◌++◌, map, find, Bool, true, false, ◌==◌, IsTrue, IsNone, IsSome, IsSomeAnd, MatchOption, Option, Some, None, refl, sym, ◌∙◌, subst, arith, if◌then◌else◌, true≢false, nat_cmp, nat_lt, length, is_some, zero, suc, append_assoc, append-nil}
-use Rattle.book.proofs.Prelude.{Aborted, Add, Answers, AnswersNew, Command, Committed, Done, Each, FirstFailure, Good, IsGoodField, IsGoodKept, IsGoodLine, IsGoodMove, IsGoodOrder, IsInRange, IsKey, IsLevel, IsMoment, IsOpenLine, IsQty, IsTransferPair, Kept, KeyReused, Kind, Ledger, Line, MayHoldMore, Move, Name, OpenLine, Order, Plain, Refusal, Refused, Reply, Request, Take, Way, accept, add_hold, bytes_eq, change_order, checks, field_named, held_to_add, held_to_take, hold_more, if_add, if_take, insert_in_order, ints, is_lt, is_open, is_transfer, kept_under, line_checks, line_name, line_on, lower_held, name_cmp, nat_cmp_total, nat_list_cmp_total, new_line, new_order, on, open_orders, order_numbered, places, raise_held, raise_used, recursion_from_All, same_command, same_name, settled, slice_cmp, transfer_lines, with_move, with_order}
+use Rattle.book.proofs.Prelude.{Aborted, Add, Answers, AnswersNew, Command, Committed, Done, Each, Field, FirstFailure, Good, IsGoodField, IsGoodKept, IsGoodLine, IsGoodMove, IsGoodOrder, IsInRange, IsKey, IsLevel, IsMoment, IsOpenLine, IsQty, IsSafe, IsTransferPair, Kept, KeyReused, Kind, Ledger, Line, MayHoldMore, Move, Name, OpenLine, Order, Plain, Refusal, Refused, Reply, Request, Take, Transfer, Way, accept, add_hold, bytes_eq, change_order, checks, field_named, held_to_add, held_to_take, hold_more, if_add, if_take, insert_in_order, ints, is_lt, is_open, is_transfer, kept_under, line_checks, line_name, line_on, lower_held, name_cmp, nat_cmp_total, nat_list_cmp_total, new_line, new_order, on, open_orders, order_numbered, places, raise_held, raise_used, recursion_from_All, same_command, same_name, settled, slice_cmp, total, transfer_lines, with_move, with_order}
 use Rattle.escrow.specs.Ranges.{IsOrderNo}
 use Rattle.words.specs.declared.command.Command.TheVariants as command
 use Rattle.words.specs.OpenLines.{AreOpenLines}
-use Rattle.book.specs.declared.order.Kind.TheVariants.{Transfer}
-use Rattle.book.specs.Ledger.{Field}
-use Rattle.book.specs.Outcomes.{total, IsSafe}
 use Rattle.book.proofs.Sums.{each, each-imp, each-both, each-map}
 use Rattle.book.proofs.Staying.{name_cmp_total, equal_name, other_number, other_key, lt_is, StillThere, line_kept, order_kept, same_number, move_kept, apart_lines, Parts, not_many, changed, changing, stating, expiring, using}
 use Rattle.book.proofs.Bounds.{OneOn, Sound, takes, adds, takes-not_negative, adds-not_negative, room_from_safe, HasRoom}

@@ -1,8 +1,6 @@
 -- A delivery, a write-off, and a new order that pass their checks leave every field its room.
 use Rattle.std.proofs.Common.{◌≡◌, ℕ, ◌+◌, ℤ, pos, ◌+ℤ◌, ◌-ℤ◌, neg_ℤ, ◌≤ℤ◌, ◌<ℤ◌, List, [], ◌∷◌, ◌++◌, map, find, Bool, true, false, IsSome, IsSomeAnd, Option, Some, None, refl, sym, ap, ◌∙◌, subst, arith, if◌then◌else◌, true≢false, nat_cmp, nat_lt, Less, Equal, append_assoc, append-nil, length}
-use Rattle.book.proofs.Prelude.{Add, Each, FallsBelow, IsStrictlySortedBy, Kind, Ledger, Name, OpenLine, RisesAbove, Take, Way, bound, by_lt_z, held_to_add, held_to_take, if_add, if_take, ints, is_lt, line_checks, line_name, name_cmp, new_line, new_order, on, places, same_name, settled, slice_cmp, with_move, with_order}
-use Rattle.book.specs.Ledger.{Field}
-use Rattle.book.specs.Outcomes.{total}
+use Rattle.book.proofs.Prelude.{Add, Each, FallsBelow, Field, IsStrictlySortedBy, Kind, Ledger, Name, OpenLine, RisesAbove, Take, Way, bound, by_lt_z, held_to_add, held_to_take, if_add, if_take, ints, is_lt, line_checks, line_name, name_cmp, new_line, new_order, on, places, same_name, settled, slice_cmp, total, with_move, with_order}
 use Rattle.book.proofs.Sums.{each-imp, each-both}
 use Rattle.book.proofs.Bounds.{OneOn, Sound, takes, adds, falls_below_iff, rises_above_iff, HasRoom}
 use Rattle.book.proofs.Closing.{name_is, AllPass}

@@ -1,10 +1,8 @@
 -- The order that a command opens or changes.
-use Rattle.book.proofs.Prelude.{Aborted, Command, Committed, Each, FirstFailure, Good, IsAccepted, IsGoodOrder, IsShort, IsStrictlySortedBy, Ledger, Line, Name, OpenLine, Order, Request, accept, add_hold, change_lines, changes_field, changes_state, checks, common_steps, expires, has_line_on, hold_more, insert_in_order, ints, is_opening, is_touched, is_transfer, line_name, line_on, list_any, lower_held, name_of, new_line, next, on, order_after, order_is, order_number, order_numbered, raise_used, same_name, set_state, some_has_line, some_is_transfer, some_part}
+use Rattle.book.proofs.Prelude.{Aborted, Command, Committed, Each, FirstFailure, Good, IsAccepted, IsGoodOrder, IsShort, IsStrictlySortedBy, Ledger, Line, Name, OpenLine, Order, Request, accept, add_hold, change_lines, changes_field, changes_state, checks, common_steps, expires, has_line_on, hold_more, insert_in_order, ints, is_opening, is_touched, is_transfer, line_name, line_on, list_any, lower_held, name_of, new_line, next, on, option_map, order_after, order_is, order_number, order_numbered, raise_used, same_name, set_state, some_has_line, some_is_transfer, some_part, total}
 use Rattle.std.proofs.Common.{◌≡◌, ◌∙◌, ℕ, ℤ, pos, ◌+ℤ◌, Bool, true, false, ◌&&◌, ◌||◌, ◌==◌, List, [], ◌∷◌, ◌++◌, IsSomeAnd, Option, None, Some, ap, arith, find, if◌then◌else◌, is_some, map, nat_cmp, nat_lt, refl, subst, sym, true≢false}
-use Rattle.std.specs.Option.{option_map}
 use Rattle.words.specs.declared.command.Command.TheVariants as command
 use Rattle.book.specs.After.{names_field}
-use Rattle.book.specs.Outcomes.{total}
 use Rattle.book.proofs.Asked.{none_found, total-insert}
 use Rattle.book.proofs.Chosen.{any-map, find-new, none_after, none_any, some_is}
 use Rattle.book.proofs.Closing.{all_pass, at_number}

@@ -1,13 +1,10 @@
 -- The rows of the next ledger that an accepted request changes, table by table.
 use Rattle.std.proofs.Common.{◌≡◌, ◌∙◌, ℕ, ◌+◌, ◌<◌, ◌≤◌, pos, Bool, true, false, ◌&&◌, ◌||◌, ◌==◌, List, [], ◌∷◌, ◌++◌, Option, None, Some, ap, arith, find, flat_map, if◌then◌else◌, is_some, map, length, nat_cmp, Less, refl, subst, sym, true≢false}
 use Rattle.std.proofs.lemmas.Bool.Decides.{Decides-int_eq}
-use Rattle.book.proofs.Prelude.{Aborted, BookView, ChangesTo, Command, Content, DeskCells, Each, FieldCells, FirstFailure, Good, Inside, IsAccepted, IsInRange, IsKey, IsRowsOf, IsStrictlySortedBy, Ledger, Line, LineCells, MAX_PLACES, Name, Order, OrderCells, Request, Way, accept, bytes_decides, bytes_eq, change_lines, changed_fields, changed_orders, changed_rows, changes_field, changes_line, changes_move, changes_order, changes_state, checks, desk_row, expires, field_named, field_row, field_rows, filter, int_eq, ints, is_lt, is_transfer, kept_of, kept_row, ledger_of, line_name, line_row, line_rows, lines_from, list_any, lower_held, move_row, name_cmp, name_of, new_field_rows, next, order_after, order_is, order_lines, order_number, order_numbered, order_row, places, put_content, raise_used, same_name, set_state, slice_cmp, transfer_kind, view_of, with_fields, with_kept, with_lines, with_moves, with_orders}
-use Rattle.std.proofs.lemmas.List.{append-nil}
+use Rattle.book.proofs.Prelude.{Aborted, BookView, ChangesTo, Command, Content, DeskCells, Each, Field, FieldCells, FirstFailure, Good, Inside, IsAccepted, IsInRange, IsKey, IsRowsOf, IsStrictlySortedBy, Ledger, Line, LineCells, MAX_PLACES, Name, Order, OrderCells, Request, Way, accept, append-nil, bytes_decides, bytes_eq, change_lines, changed_fields, changed_orders, changed_rows, changes_field, changes_line, changes_move, changes_order, changes_state, checks, desk_row, expires, field_named, field_row, field_rows, filter, int_eq, ints, is_lt, is_transfer, kept_of, kept_row, ledger_of, line_name, line_row, line_rows, lines_from, list_any, lower_held, move_row, name_cmp, name_of, new_field_rows, next, option_map, order_after, order_is, order_lines, order_number, order_numbered, order_row, places, put_content, raise_used, same_name, set_state, slice_cmp, transfer_kind, view_of, with_fields, with_kept, with_lines, with_moves, with_orders}
 use Rattle.std.proofs.lemmas.List.Elements.{filter-append}
-use Rattle.std.specs.Option.{option_map}
 use Rattle.words.specs.declared.command.Command.TheVariants as command
 use Rattle.book.specs.After.{expired_rows, own_line_rows, own_move_rows, own_order_rows}
-use Rattle.book.specs.Ledger.{Field}
 use Rattle.book.specs.Tables.{no_content}
 use Rattle.book.proofs.Asked.{none_found, same_self}
 use Rattle.book.proofs.Changed.{changes_suffice}

@@ -1,9 +1,6 @@
 -- More held on an order that is open leaves every field its room, if it passes its check.
 use Rattle.std.proofs.Common.{◌≡◌, ℕ, ◌+◌, ◌≤◌, ℤ, pos, ◌+ℤ◌, ◌-ℤ◌, ◌<ℤ◌, List, [], ◌∷◌, ◌++◌, map, Bool, true, false, IsSomeAnd, MatchOption, Option, Some, None, refl, sym, ap, ◌∙◌, subst, arith, if◌then◌else◌, true≢false, ◌==◌, nat_cmp}
-use Rattle.book.proofs.Prelude.{Aborted, Add, Committed, Each, IsStrictlySortedBy, Ledger, Line, MayHoldMore, Name, OpenLine, Order, State, Take, Way, add_hold, change_order, committed_state, held_to_add, held_to_take, if_add, if_take, ints, is_committed, is_open, line_name, line_on, new_line, on, open_state, order_numbered, raise_held, same_name, settled}
-use Rattle.book.specs.declared.order.State.TheVariants.{Open}
-use Rattle.book.specs.Ledger.{Field}
-use Rattle.book.specs.Outcomes.{total, moved}
+use Rattle.book.proofs.Prelude.{Aborted, Add, Committed, Each, Field, IsStrictlySortedBy, Ledger, Line, MayHoldMore, Name, Open, OpenLine, Order, State, Take, Way, add_hold, change_order, committed_state, held_to_add, held_to_take, if_add, if_take, ints, is_committed, is_open, line_name, line_on, moved, new_line, on, open_state, order_numbered, raise_held, same_name, settled, total}
 use Rattle.book.proofs.Sums.{each-imp, each-both, each-map, total-map, total-eq}
 use Rattle.book.proofs.Bounds.{OneOn, Sound, falls_below_iff, rises_above_iff, HasRoom}
 use Rattle.book.proofs.Closing.{name_is, at_line, at_number}

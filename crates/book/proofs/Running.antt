@@ -1,11 +1,8 @@
 -- Running numbers: what the entries of fields say of a ledger, and what becomes of them.
-use Rattle.book.proofs.Prelude.{Add, BreaksBound, Command, Contains, Content, Each, FieldCells, FieldEntry, FirstFailure, Good, IsSafeMoved, IsUpToDate, Ledger, Line, Name, Order, Ordering, Request, Stock, Take, Way, accept, checks, common_steps, entry_row, field_cells, field_cmp, field_named, field_of, field_row, held_to_add, held_to_take, holding, if_add, if_take, insert_entry, insert_in_order, ints, is_at, is_committed, is_eq, is_lt, is_open, line_name, lookup, match_ordering, name_cmp, name_of, new_field_rows, next, on, put_row, put_rows, same_Some, same_name, settled, signed, with_entries}
+use Rattle.book.proofs.Prelude.{Add, BreaksBound, Command, Contains, Content, Each, Equal, Field, FieldCells, FieldEntry, FirstFailure, Good, Greater, IsSafeMoved, IsUpToDate, Ledger, Less, Line, Name, Order, Ordering, Request, Stock, Take, Way, accept, checks, common_steps, entry_row, field_cells, field_cmp, field_named, field_of, field_row, held_to_add, held_to_take, holding, if_add, if_take, insert_entry, insert_in_order, ints, is_at, is_committed, is_eq, is_lt, is_open, line_name, lookup, match_ordering, moved, name_cmp, name_of, new_field_rows, next, on, put_row, put_rows, same_Some, same_name, settled, signed, total, with_entries}
 use Rattle.std.proofs.Common.{◌≡◌, ◌∙◌, ℕ, suc, ◌+◌, ◌≤◌, ℤ, pos, ◌+ℤ◌, ◌-ℤ◌, ◌≤ℤ◌, ◌<ℤ◌, List, [], ◌∷◌, Option, None, Some, IsSomeAnd, ap, arith, cond, if◌then◌else◌, is_some, map, refl, string_bytes, subst, sym, true, false, Bool, true≢false, Global, String}
-use Rattle.std.specs.declared.cmp.Ordering.TheVariants.{Equal, Greater, Less}
 use Rattle.escrow.specs.Choices.{IsInfimum as IsLeastOf, IsSafe as IsSafeStock, IsSupremum as IsGreatestOf}
 use Rattle.words.specs.declared.command.Command.TheVariants as command
-use Rattle.book.specs.Ledger.{Field}
-use Rattle.book.specs.Outcomes.{moved, total}
 use Rattle.book.specs.Plans.{Fits, PlanView}
 use Rattle.book.proofs.Closing.{all_pass, name_is}
 use Rattle.book.proofs.Growing.{none_if_not_some}

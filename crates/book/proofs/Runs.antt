@@ -1,8 +1,6 @@
 -- Whole runs from a good ledger, and the numbers of a good ledger's fields.
 use Rattle.std.proofs.Common.{◌≡◌, ℕ, zero, suc, ◌≤◌, ℤ, pos, ◌+ℤ◌, ◌-ℤ◌, ◌≤ℤ◌, List, [], ◌∷◌, Bool, true, false, refl, sym, ap, ◌∙◌, subst, arith, if◌then◌else◌, ◌↔◌, take}
-use Rattle.book.proofs.Prelude.{Command, Each, Good, IsDistinct, IsGoodField, IsInRange, IsKey, IsStrictlySortedBy, Ledger, Reply, Request, Runs, bytes_decides, held_to_add, held_to_take, ints, is_open, new_ledger, same_command, settled, spelling, spelling_one}
-use Rattle.book.specs.Ledger.{Field}
-use Rattle.book.specs.Outcomes.{total}
+use Rattle.book.proofs.Prelude.{Command, Each, Field, Good, IsDistinct, IsGoodField, IsInRange, IsKey, IsStrictlySortedBy, Ledger, Reply, Request, Runs, bytes_decides, held_to_add, held_to_take, ints, is_open, new_ledger, same_command, settled, spelling, spelling_one, total}
 use Rattle.book.specs.Answers.{After}
 use Rattle.book.proofs.Sums.{each-both}
 use Rattle.book.proofs.Bounds.{takes, adds, takes-not_negative, adds-not_negative, room_from_safe, HasRoom}

@@ -1,14 +1,10 @@
 -- What becomes of a field's stock, as an accepted command changes an order's line on it.
-use Rattle.book.proofs.Prelude.{Aborted, Add, Becomes, Command, Committed, Contains, Each, FieldCells, FieldEntry, FirstFailure, Good, IsAccepted, IsGoodOrder, IsInRange, IsQty, IsSafeMoved, IsStrictlySortedBy, IsUpToDate, Ledger, Line, MayBecome, Name, OpenLine, Order, Request, State, Stock, Take, Way, accept, add_hold, added_part, change_lines, changes_field, checks, committed_state, common_steps, entry_row, field_of, field_row, held_of, held_to_add, held_to_take, hold_more, holding, if_add, if_take, ints, is_committed, is_open, is_touched, is_transfer, line_name, line_on, lower_held, moved_by_command, moved_part, name_of, new_line, next, on, open_state, order_after, order_number, order_numbered, part_of_line, raise_held, raise_used, same_name, set_state, settled, signed, some_part, taken_part, transfer_lines}
+use Rattle.book.proofs.Prelude.{Aborted, Add, Becomes, Command, Committed, Contains, Each, Field, FieldCells, FieldEntry, FirstFailure, Good, IsAccepted, IsGoodOrder, IsInRange, IsQty, IsSafeMoved, IsStrictlySortedBy, IsUpToDate, Ledger, Line, MayBecome, Name, Open, OpenLine, Order, Request, State, Stock, Take, Way, accept, add_hold, added_part, change_lines, changes_field, checks, committed_state, common_steps, entry_row, field_of, field_row, held_of, held_to_add, held_to_take, hold_more, holding, if_add, if_take, ints, is_committed, is_open, is_touched, is_transfer, line_name, line_on, lower_held, moved_by_command, moved_part, name_of, new_line, next, on, open_state, option_map, order_after, order_number, order_numbered, part_of_line, raise_held, raise_used, same_name, set_state, settled, signed, some_part, taken_part, total, transfer_lines}
 use Rattle.std.proofs.Common.{◌≡◌, ◌∙◌, ℕ, ◌-◌, ◌<◌, ◌≤◌, ℤ, pos, neg_ℤ, ◌+ℤ◌, ◌-ℤ◌, ◌≤ℤ◌, ◌==◌, ◌||◌, ◌++◌, Bool, true, false, List, [], ◌∷◌, IsFalse, IsSomeAnd, MatchOption, Option, None, Some, ap, arith, find, if◌then◌else◌, is_some, map, nat_cmp, refl, subst, sym, true≢false}
-use Rattle.std.specs.Option.{option_map}
 use Rattle.escrow.specs.Choices.{IsSafe}
 use Rattle.escrow.specs.Escrow.{moved, MovesValue}
 use Rattle.words.specs.declared.command.Command.TheVariants as command
-use Rattle.book.specs.Ledger.{Field}
-use Rattle.book.specs.Outcomes.{total}
 use Rattle.book.specs.Running.{amount_held, line_before}
-use Rattle.book.specs.declared.order.State.TheVariants.{Open}
 use Rattle.book.proofs.After.{moved-next}
 use Rattle.book.proofs.Bounds.{OneOn, adds-not_negative, takes-not_negative}
 use Rattle.book.proofs.Chosen.{some_is}

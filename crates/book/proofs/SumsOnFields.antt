@@ -1,10 +1,8 @@
 -- Sums on each of the fields: where a field stands among those in order, and what an entry more adds.
-use Rattle.book.proofs.Prelude.{Aborted, Committed, Each, FieldEntry, IsBinarySearchResult, IsField, IsNonDecreasingBy, IsSearchInRange, IsSmall, IsStrictlySortedBy, Line, MoveEntry, Name, OrderEntry, Ordering, State, added, committed_state, common_steps, entry_name, field_of, if_add, if_take, ints, is_lt, line_name, lines_numbers, moved_by_move, moved_by_order, name_cmp, nothing, numbers_on, only_on, open_state, ordering_index, ordering_reverse, part_of_line, plus, same_name, signed, tied_itself}
+use Rattle.book.proofs.Prelude.{Aborted, Committed, Each, FieldEntry, IsBinarySearchResult, IsField, IsNonDecreasingBy, IsSearchInRange, IsSmall, IsStrictlySortedBy, Line, MoveEntry, Name, Numbers, Open, OrderEntry, Ordering, State, added, committed_state, common_steps, entry_name, field_of, if_add, if_take, ints, is_lt, line_name, lines_numbers, moved_by_move, moved_by_order, name_cmp, nothing, numbers_on, only_on, open_state, ordering_index, ordering_reverse, part_of_line, plus, same_name, signed, tied_itself}
 use Rattle.std.proofs.Common.{◌≡◌, ◌∙◌, ℕ, zero, suc, ◌+◌, ◌<◌, ◌≤◌, pos, ◌+ℤ◌, Bool, true, false, true≢false, List, [], ◌∷◌, Some, is_some, IsSome, IsNone, if◌then◌else◌, ap, arith, get_or, length, map, refl, set, subst, sym, take, Less, Equal, Greater, Result, Ok, Err, MatchResult}
 use Rattle.std.proofs.lemmas.List.Sorted.{searchable_from_sorted}
 use Rattle.std.specs.Ordering.{is_gt}
-use Rattle.book.specs.declared.book.sums.Numbers.{Numbers}
-use Rattle.book.specs.declared.order.State.TheVariants.{Open}
 use Rattle.book.specs.Walk.{added_by_line, added_by_order, moved_by_line, taken_by_line, taken_by_order}
 use Rattle.book.specs.Sums.{field_among, AreFieldsInOrder, IsFieldAt}
 use Rattle.book.proofs.Asked.{same_self}

@@ -1,9 +1,8 @@
 -- At a good ledger every request has an answer.
 use Rattle.std.proofs.Common.{◌≡◌, ◌≢◌, ℕ, ◌+◌, ◌<◌, ◌≤◌, ℤ, ◌<ℤ◌, List, [], ◌∷◌, ◌++◌, map, find, Bool, true, false, IsSomeAnd, Option, Some, None, refl, sym, arith, if◌then◌else◌, true≢false, ◌⊎◌, inl, inr, ◌↔◌, MatchOption, nat_lt, length}
-use Rattle.book.proofs.Prelude.{Add, Answers, AnswersNew, Check, Command, Done, Each, FirstFailure, Good, Kept, KeyReused, Kind, Ledger, MayHoldMore, Name, OpenLine, Plain, Refusal, Refused, Reply, Request, Take, Way, accept, add_hold, bound, by_lt_z, change_order, checks, dec_le, field_named, ints, kept_under, line_checks, line_name, line_on, new_line, new_order, next, on, order_numbered, places, same_command, transfer_lines, with_order}
+use Rattle.book.proofs.Prelude.{Add, Answers, AnswersNew, Check, Command, Done, Each, FirstFailure, Good, Kept, KeyReused, Kind, Ledger, MayHoldMore, Name, OpenLine, Plain, Refusal, Refused, Reply, Request, Take, Transfer, Way, accept, add_hold, bound, by_lt_z, change_order, checks, dec_le, field_named, ints, kept_under, line_checks, line_name, line_on, new_line, new_order, next, on, order_numbered, places, same_command, transfer_lines, with_order}
 use native.Mathlib.Decide.{dec_lt}
 use Rattle.words.specs.declared.command.Command.TheVariants as command
-use Rattle.book.specs.declared.order.Kind.TheVariants.{Transfer}
 use Rattle.book.proofs.Sums.{each-both}
 use Rattle.book.proofs.Bounds.{OneOn, Sound, falls_below_iff, rises_above_iff}
 use Rattle.book.proofs.Closing.{sounds_from_good, at_number}

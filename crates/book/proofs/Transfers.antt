@@ -1,10 +1,7 @@
 -- The commit of a transfer leaves every article's total as it was.
-use Rattle.book.proofs.Prelude.{Aborted, Add, Answers, AnswersNew, Committed, Done, Each, FirstFailure, Good, IsGoodLine, IsStrictlySortedBy, IsTransferPair, Kept, KeyReused, Ledger, Line, Name, Order, Refusal, Refused, Reply, Request, State, Take, Way, accept, article_total, bytes_eq, checks, committed_state, common_steps, ints, is_committed, is_lt, is_open, is_transfer, kept_under, line_name, name_cmp, on, open_state, order_numbered, places, same_command, same_name, set_state, settled, signed, tied_itself}
+use Rattle.book.proofs.Prelude.{Aborted, Add, Answers, AnswersNew, Committed, Done, Each, Field, FirstFailure, Good, IsGoodLine, IsStrictlySortedBy, IsTransferPair, Kept, KeyReused, Ledger, Line, Name, Open, Order, Refusal, Refused, Reply, Request, State, Take, Way, accept, article_total, bytes_eq, checks, committed_state, common_steps, ints, is_committed, is_lt, is_open, is_transfer, kept_under, line_name, moved, name_cmp, on, open_state, order_numbered, places, same_command, same_name, set_state, settled, signed, tied_itself, total}
 use Rattle.std.proofs.Common.{◌≡◌, ℕ, ◌<◌, ℤ, pos, neg_ℤ, ◌+ℤ◌, List, [], ◌∷◌, map, find, Bool, true, false, ◌==◌, IsTrue, IsSome, IsSomeAnd, Option, Some, None, refl, sym, ap, ◌∙◌, subst, arith, if◌then◌else◌, true≢false, nat_cmp, Less, is_some, MatchOption, ◌+◌}
 use Rattle.words.specs.declared.command.Command.TheVariants as command
-use Rattle.book.specs.declared.order.State.TheVariants.{Open}
-use Rattle.book.specs.Ledger.{Field}
-use Rattle.book.specs.Outcomes.{total, moved}
 use Rattle.book.proofs.Sums.{each, each-imp, total-eq, total-sum, total-zero}
 use Rattle.book.proofs.Closing.{all_pass, name_is, less_is}
 use Rattle.book.proofs.Staying.{name_cmp_total}
