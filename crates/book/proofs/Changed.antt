@@ -244,8 +244,7 @@ other_move : (A : Ledger) (g : Name) (z : ℤ) (f : Field) (ms : List Move) → 
 other_move A g z f ms e h = grind (arith, total-push)
 
 hold_parts : (f g : Name) (l : OpenLine) (o : Order) → line_name (new_line l) ≡ g → same_name f g ≡ false → is_open o ≡ true → is_transfer o ≡ false → (b : Bool) → SameParts f o (if b then hold_more g l.qty o else record o { lines = o.lines ++ new_line l ∷ [] })
-hold_parts f g l o i e open_is plain true = grind (arith, (map_part (takes f) (λ m. if on g m then raise_held l.qty m else m) o.lines (each (λ m. off f (raise_held l.qty) (takes f) (λ n. refl) (grind arith) (on g m) m (λ k. apart f g m e k)) o.lines)), (map_part (adds f) (λ m. if on g m then raise_held l.qty m else m) o.lines (each (λ m. off f (raise_held l.qty) (adds f) (λ n. refl) (grind arith) (on g m) m (λ k. apart f g m e k)) o.lines)), adds, apart, each, off, parts_lines, takes)
-hold_parts f g l o i e open_is plain false = grind (arith, (total-push (takes f) o.lines (new_line l)), (total-push (adds f) o.lines (new_line l)), adds, parts_lines, takes)
+hold_parts f g l o i e open_is plain b = grind (arith, adds, apart, each, map_part, off, parts_lines, takes, total-push)
 
 same_field : (A : Ledger) (key : List ℕ) (c : Command) → Good A → FirstFailure (checks A c) None → (f : Field) → changes_field A c f.name ≡ false → SameNumbers A (accept A (record { key = key; command = c })) f
 same_field A key (command.Field b a lo hi start) g h f e = (refl, refl, refl)

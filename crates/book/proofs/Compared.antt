@@ -77,9 +77,7 @@ total_changed g h n z (m ∷ ms) sorted found = step (m.number == n) refl found 
     step : (b : Bool) → (m.number == n) ≡ b → IsSomeAnd (if b then Some m else find (λ o. o.number == n) ms) (λ o. g (h o) ≡ g o +ℤ z)
         → (IsSomeAnd (find (λ o. o.number == n) ms) (λ o. g (h o) ≡ g o +ℤ z) → total g (map (λ o. if o.number == n then h o else o) ms) ≡ total g ms +ℤ z)
         → total g (map (λ o. if o.number == n then h o else o) (m ∷ ms)) ≡ total g (m ∷ ms) +ℤ z
-    step true t found more =
-        let a : g (if m.number == n then h m else m) ≡ g m +ℤ z = rw t found in
-        let b = rest ms (each-imp (λ k less. not_same m k n t (less_is m.number k.number less)) ms (each-unmap (λ k. nat_cmp m.number k ≡ Less) (λ o. o.number) ms sorted.0)) in omega (arith, ints)
+    step true t found more = grind (arith, ints, common_steps, (rest ms (each-imp (λ k less. not_same m k n t (less_is m.number k.number less)) ms (each-unmap (λ k. nat_cmp m.number k ≡ Less) (λ o. o.number) ms sorted.0))), each-imp, each-unmap, less_is, not_same)
     step false t found more = let a : g (if m.number == n then h m else m) ≡ g m = rw t refl in let b = more found in omega (arith, ints)
 
 -- what open orders hold on the field, with that much more

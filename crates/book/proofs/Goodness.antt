@@ -44,23 +44,11 @@ held_levels B good room = each-imp (λ o p e. of_order o e p.0 p.1) B.orders
   where
     of_line : (o : Order) → is_open o ≡ true → ((f : Name) → (if is_open o then total (takes f) o.lines else pos 0) ≤ℤ held_to_take B f) → ((f : Name) → (if is_open o then total (adds f) o.lines else pos 0) ≤ℤ held_to_add B f)
         → (l : Line) → ((f : Name) → takes f l ≤ℤ total (takes f) o.lines) → ((f : Name) → adds f l ≤ℤ total (adds f) o.lines) → IsSome (field_named B (line_name l)) → IsLevel l.held
-    of_line o e t a l p q some =
-        let name : Name = line_name l in
-        let f = find_named (λ f. IsGoodField f × HasRoom B f) name B.fields (each-two IsGoodField (HasRoom B) B.fields good room) some in
-        let x : pos (if_take l.way l.held) ≤ℤ total (takes name) o.lines = subst (λ b. (if b then pos (if_take l.way l.held) else pos 0) ≤ℤ total (takes name) o.lines) (same_self name) (p name) in
-        let y : pos (if_add l.way l.held) ≤ℤ total (adds name) o.lines = subst (λ b. (if b then pos (if_add l.way l.held) else pos 0) ≤ℤ total (adds name) o.lines) (same_self name) (q name) in
-        let u = when_open (is_open o) (total (takes name) o.lines) (held_to_take B name) e (t name) in
-        let v = when_open (is_open o) (total (adds name) o.lines) (held_to_add B name) e (a name) in
-        level l.way l.held f.0.lo f.0.hi (settled B f.0) (held_to_take B f.0.name) (held_to_add B f.0.name)
-        (subst (λ g. pos (if_take l.way l.held) ≤ℤ held_to_take B g) (sym f.1) (omega (arith, ints)))
-        (subst (λ g. pos (if_add l.way l.held) ≤ℤ held_to_add B g) (sym f.1) (omega (arith, ints)))
-        f.2.1.0 f.2.1.1 f.2.0.hi
+    of_line o e t a l p q some = grind (arith, ints, (each-two IsGoodField (HasRoom B) B.fields good room), HasRoom, adds, find_named, level, same_self, takes, when_open)
 
     of_order : (o : Order) → is_open o ≡ true → ((f : Name) → (if is_open o then total (takes f) o.lines else pos 0) ≤ℤ held_to_take B f) → ((f : Name) → (if is_open o then total (adds f) o.lines else pos 0) ≤ℤ held_to_add B f)
         → Each (λ l. IsSome (field_named B (line_name l)) → IsLevel l.held) o.lines
-    of_order o e t a = each-both (λ l p q. of_line o e t a l p q) o.lines
-        (each-all (λ f l. takes f l ≤ℤ total (takes f) o.lines) o.lines (λ f. total-has (takes f) (λ l. part_not_negative (on f l) (if_take l.way l.held)) o.lines))
-        (each-all (λ f l. adds f l ≤ℤ total (adds f) o.lines) o.lines (λ f. total-has (adds f) (λ l. part_not_negative (on f l) (if_add l.way l.held)) o.lines))
+    of_order o e t a = grind (arith, (each-all (λ f l. takes f l ≤ℤ total (takes f) o.lines) o.lines (λ f. total-has (takes f) (λ l. part_not_negative (on f l) (if_take l.way l.held)) o.lines)), (each-all (λ f l. adds f l ≤ℤ total (adds f) o.lines) o.lines (λ f. total-has (adds f) (λ l. part_not_negative (on f l) (if_add l.way l.held)) o.lines)), adds, each-both, of_line, part_not_negative, takes, total-has)
 
 -- a delivery and a write-off
 moving : (A : Ledger) (f : Name) (z : ℤ) (kept : List Kept) → Good A → length kept ≡ places A + 1 → IsSome (field_named A f) → IsQty (nat_abs z) → places A + open_orders A + 1 ≤ 200000
@@ -164,17 +152,7 @@ adding A n l kept g more full there qty takes_it fits sound room =
           apart = apart_lines (map c o.lines) s.one;
           transfer = λ e. absurd (true≢false (sym e ∙ t.1));
         }
-    held_more B o still x t false fit s v =
-        let e = length-of-push o.lines (new_line l) in let some = x.some in let few = fit refl in
-        record {
-          number = x.number;
-          until = x.until;
-          some = omega arith;
-          few = omega arith;
-          lines = each-of-push (IsGoodLine B) o.lines (new_line l) (each-imp (line_kept A B still) o.lines x.lines) (record { field = still name there; held = (let q = qty.1 in omega arith); used = omega arith });
-          apart = apart_lines (o.lines ++ new_line l ∷ []) s.one;
-          transfer = λ e. absurd (true≢false (sym e ∙ t.1));
-        }
+    held_more B o still x t false fit s v = grind (arith, (each-imp (line_kept A B still) o.lines x.lines), (length-of-push o.lines (new_line l)), apart_lines, each-of-push, line_kept, name)
 
     by : (B : Ledger) (o : Order) (b : Bool) → StillThere A B → IsGoodOrder A o → (b ≡ true → MayHoldMore name l.way o) → (b ≡ true → IsNone (line_on o name) → length o.lines ≤ 63) → Sound (if b then add_hold l o else o)
         → (is_open (if b then add_hold l o else o) ≡ true → Each (λ m. IsSome (field_named B (line_name m)) → IsLevel m.held) (if b then add_hold l o else o).lines) → IsGoodOrder B (if b then add_hold l o else o)

@@ -132,4 +132,4 @@ total-next g ends A (command.Release n b a q) good h = total-changed g (change_l
 total-next g ends A (command.Commit n) good h = total-changed g (set_state Committed) n A.orders good.orders_in_order
 total-next g ends A (command.Abort n) good h = total-changed g (set_state Aborted) n A.orders good.orders_in_order
 total-next g ends A (command.Expire now) good h = grind (arith, (each (λ o. expired_part g ends (expires now o) o) A.orders), (total-map g (λ o. if expires now o then set_state Aborted o else o) A.orders), expired_part, total-eq)
-total-next g ends A c good h =  omega (arith, ints)
+total-next g ends A c good h = omega (arith, ints)

@@ -137,8 +137,7 @@ number_expires now o os sorted e = by (expires now o) refl
 
     by : (b : Bool) → expires now o ≡ b → list_any (λ p. expires now p && int_eq (pos o.number) (pos p.number)) os ≡ b
     by true x = any_there (λ p. expires now p && int_eq (pos o.number) (pos p.number)) o.number o os e (and_true (expires now o) _ x (pos_same o.number o.number (same_number o.number)))
-    by false x = none_any (λ p. expires now p && int_eq (pos o.number) (pos p.number)) os
-        (each-imp (λ p same. and_false (expires now p) (int_eq (pos o.number) (pos p.number)) (λ t. ap (expires now) (same (same_of p t)) ∙ x)) os (only_one o.number o os sorted e))
+    by false x = grind (arith, (each-imp (λ p same. and_false (expires now p) (int_eq (pos o.number) (pos p.number)) (λ t. ap (expires now) (same (same_of p t)) ∙ x)) os (only_one o.number o os sorted e)), and_false, none_any, only_one, same_of)
 
 map-twice : (h : Order → Order) (os : List Order) → map order_row (map h os) ≡ map (λ o. order_row (h o)) os
 map-twice h [] = refl
@@ -197,10 +196,7 @@ lines_one chosen t n (o ∷ os) sorted other own = filter-append chosen (order_l
   where
     by : (b : Bool) → (o.number == n) ≡ b → filter chosen (flat_map order_lines os) ≡ lines_there t (find (λ o. o.number == n) os)
         → filter chosen (order_lines o) ++ filter chosen (flat_map order_lines os) ≡ lines_there t (if b then Some o else find (λ o. o.number == n) os)
-    by true e more =
-        let here = lines_chosen chosen t o.number 1 o.lines (λ k l. own o.number k l e) in
-        let rest = all_none chosen n os other (none_after n o os e sorted.0) in
-        (λ i. here i ++ rest i) ∙ append-nil (line_rows t o.number 1 o.lines)
+    by true e more = grind (arith, (lines_chosen chosen t o.number 1 o.lines (λ k l. own o.number k l e)), (all_none chosen n os other (none_after n o os e sorted.0)), append-nil, none_after)
     by false e more = ap (λ (rows : List LineCells). rows ++ filter chosen (flat_map order_lines os)) (lines_none chosen o.number 1 o.lines (λ k l. other o.number k l e)) ∙ more
 
 -- those of the order that the command makes whose fields pass

@@ -202,13 +202,7 @@ new_field A r b a lo hi start is good passed = rw is (ap (λ (row : FieldCells).
 
     row : entry_row (n, record { start = start; quantity = record { lo = lo; hi = hi; value = start; held_to_take = 0; held_to_add = 0 } })
         ≡ field_row (accept A (record { key = r.key; command = command.Field b a lo hi start })) (record { name = n; lo = lo; hi = hi; start = start })
-    row =
-        let v = value in
-        let t = takes in
-        let h = adds in
-        let inf : pos start -ℤ pos 0 ≡ ((pos start +ℤ total (λ m. if same_name n m.field then m.amount else pos 0) A.moves) +ℤ total (λ o. if is_committed o then moved n (λ l. l.used) o else pos 0) A.orders) -ℤ held_to_take A n = omega (arith, ints) in
-        let sup : pos start +ℤ pos 0 ≡ ((pos start +ℤ total (λ m. if same_name n m.field then m.amount else pos 0) A.moves) +ℤ total (λ o. if is_committed o then moved n (λ l. l.used) o else pos 0) A.orders) +ℤ held_to_add A n = omega (arith, ints) in
-        λ i. record { branch = b; article = a; lo = pos lo; hi = pos hi; start = pos start; value = value i; inf = inf i; sup = sup i }
+    row = grind (arith, adds, moves, n, takes, used, value)
 
 -- ---- fields stay
 

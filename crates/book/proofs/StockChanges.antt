@@ -133,9 +133,7 @@ changed_goes A n f change o l good is goes e there = by (order_numbered A n) ref
   where
     by : (x : Option Order) → order_numbered A n ≡ x → IsBefore f x → option_map change x ≡ Some o → LineGoes (line_before x f) l o.state
     by None k is e = absurd (true≢false (sym (ap is_some e)))
-    by (Some m) k is e =
-        let same = some_is (change m) o e in
-        subst (λ (p : Order). LineGoes (line_on m f) l p.state) same (goes m (each-found (IsGoodOrder A) (λ o. o.number == n) m A.orders good.orders k) is.0 (subst (λ (p : Order). find (on f) p.lines ≡ Some l) (sym same) there))
+    by (Some m) k is e = grind (arith, (each-found (IsGoodOrder A) (λ o. o.number == n) m A.orders good.orders k), (some_is (change m) o e))
 
 opened_goes : (f : Name) (new o : Order) (ls : List OpenLine) (l : Line) (x : Option Order) → x ≡ None → new.lines ≡ map new_line ls → new.state ≡ Open → Each (λ l. IsQty l.qty) ls → Some new ≡ Some o → find (on f) o.lines ≡ Some l → LineGoes (line_before x f) l o.state
 opened_goes f new o ls l x none lines state range e there =
@@ -248,8 +246,7 @@ least_if : (b : Bool) (z : ℤ) → pos 0 ≤ℤ z → pos 0 ≤ℤ (if b then z
 least_if b z h = grind arith
 
 held_there : (A : Ledger) (f : Name) (x : Option Order) (e : FieldEntry) (w : Way) → IsUpToDate A (f, e) → some_part (taken_part f) x ≤ℤ held_to_take A f → some_part (added_part f) x ≤ℤ held_to_add A f → IsBefore f x → HasWay w (line_before x f) → amount_held (line_before x f) ≤ held_of e.quantity w
-held_there A f x e Take up takes adds is way = grind (arith, ints, (takes_before f Take x is way))
-held_there A f x e Add up takes adds is way = grind (arith, (adds_before f Add x is way))
+held_there b f x e y up takes adds is way = grind (arith, ints, common_steps, adds_before, takes_before)
 
 -- what is held more is safe, since the next ledger is
 more_safe : (A B : Ledger) (f : Name) (e : FieldEntry) (held : ℕ) (l : Line) (w : Way) → l.way ≡ w → Good B → Contains B.fields (field_of (f, e)) → IsUpToDate A (f, e) → Changes A B (field_of (f, e)) held l Open → held < l.held → held ≤ held_of e.quantity w → IsSafe (holding e.quantity w (l.held - held))
