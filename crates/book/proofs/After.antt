@@ -1,8 +1,7 @@
 -- What the entries add up to on a field of the next ledger.
 use Rattle.std.proofs.Common.{arith, ◌≡◌, ℤ, pos, ◌+ℤ◌, if◌then◌else◌}
-use Rattle.book.proofs.Prelude.{Command, Ledger, Move, Name, moved_by_command, next, same_name}
+use Rattle.book.proofs.Prelude.{Command, Ledger, Move, Name, moved_by_command, next, same_name, total}
 use Rattle.words.specs.declared.command.Command.TheVariants as command
-use Rattle.book.specs.Outcomes.{total}
 use Rattle.book.proofs.Asked.{total-push}
 
 abbrev on_field : Name → Move → ℤ

@@ -1,7 +1,6 @@
 -- Rows among changes, as changes are appended.
 use Rattle.std.proofs.Common.{arith, ◌≡◌, ◌∙◌, List, [], ◌∷◌, ◌++◌, ap, refl, sym}
-use Rattle.std.proofs.lemmas.List.{append-nil, append_assoc}
-use Rattle.book.proofs.Prelude.{Change, Content, FieldCells, FieldRow, KeptCells, KeptRow, LineCells, LineRow, MoveRow, OrderCells, OrderRow, field_cells, kept_cells, line_cells, move_cells, order_cells, rows_among, with_fields, with_kept, with_lines, with_moves, with_orders}
+use Rattle.book.proofs.Prelude.{Change, Content, FieldCells, FieldRow, KeptCells, KeptRow, LineCells, LineRow, MoveRow, OrderCells, OrderRow, append-nil, append_assoc, field_cells, kept_cells, line_cells, move_cells, order_cells, rows_among, with_fields, with_kept, with_lines, with_moves, with_orders}
 use Rattle.book.specs.Rows.{MoveCells}
 use Rattle.book.specs.Tables.{with_change}
 use Rattle.book.specs.declared.rows.Change.TheVariants as change

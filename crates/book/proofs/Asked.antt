@@ -1,8 +1,6 @@
 -- The model's tests of a request, over all outcomes, as the comparisons that a program makes.
-use Rattle.book.proofs.Prelude.{Add, Each, FallsBelow, Kind, Ledger, Line, Name, OpenLine, RisesAbove, Take, bytes_decides, common_steps, field_named, held_to_add, held_to_take, if_add, if_take, insert_in_order, ints, is_committed, is_open, line_name, new_line, new_order, on, places, same_name, settled, with_move, with_order}
+use Rattle.book.proofs.Prelude.{Add, Each, FallsBelow, Field, Kind, Ledger, Line, Name, OpenLine, RisesAbove, Take, bytes_decides, common_steps, field_named, held_to_add, held_to_take, if_add, if_take, insert_in_order, ints, is_committed, is_open, line_name, moved, new_line, new_order, on, places, same_name, settled, total, with_move, with_order}
 use Rattle.std.proofs.Common.{◌≡◌, ℕ, ◌+◌, ◌≤◌, ℤ, pos, ◌+ℤ◌, ◌-ℤ◌, neg_ℤ, ◌<ℤ◌, List, [], ◌∷◌, ◌++◌, map, find, Bool, true, false, is_some, IsSomeAnd, Some, None, refl, sym, ap, ◌∙◌, subst, arith, if◌then◌else◌, true≢false, ◌↔◌, nat_lt}
-use Rattle.book.specs.Ledger.{Field}
-use Rattle.book.specs.Outcomes.{total, moved}
 use Rattle.book.proofs.Bounds.{OneOn, Sound, takes, adds, none-total, falls_below_iff, rises_above_iff}
 use Rattle.book.proofs.Closing.{name_is}
 

@@ -1,8 +1,7 @@
 -- The least and the greatest result over all outcomes, by what is held.
 use Rattle.std.proofs.Common.{Option, Some, None, IsSomeAnd, ◌≡◌, ℕ, ◌≤◌, ℤ, pos, ◌+ℤ◌, ◌-ℤ◌, neg_ℤ, ◌≤ℤ◌, ◌<ℤ◌, List, [], ◌∷◌, Bool, true, false, ◌&&◌, ◌||◌, IsTrue, refl, sym, ◌∙◌, subst, arith, if◌then◌else◌, true≢false, ◌↔◌}
-use Rattle.book.proofs.Prelude.{Add, Each, FallsBelow, IsInfimum, IsSupremum, IsWithin, Ledger, Line, Name, Order, RisesAbove, Take, Way, field_named, held_to_add, held_to_take, if_add, if_take, ints, is_open, list_any, on, settled, signed}
-use Rattle.book.specs.Ledger.{Field}
-use Rattle.book.specs.Outcomes.{total, moved, Outcome, IsOutcome, outcome_result, IsSafe}
+use Rattle.book.proofs.Prelude.{Add, Each, FallsBelow, Field, IsInfimum, IsSafe, IsSupremum, IsWithin, Ledger, Line, Name, Order, RisesAbove, Take, Way, field_named, held_to_add, held_to_take, if_add, if_take, ints, is_open, list_any, moved, on, settled, signed, total}
+use Rattle.book.specs.Outcomes.{Outcome, IsOutcome, outcome_result}
 use Rattle.book.proofs.Sums.{each-imp}
 
 -- at most one line is on the field

@@ -1,11 +1,7 @@
 -- The rows that an accepted command names, put into the ledger's rows, give the rows of the next ledger.
 use Rattle.std.proofs.Common.{◌≡◌, ℕ, ◌+◌, ℤ, pos, neg_ℤ, List, [], ◌∷◌, ◌++◌, map, flat_map, Bool, true, false, ◌&&◌, ◌||◌, ◌==◌, IsTrue, IsFalse, IsNone, IsSomeAnd, Option, Some, None, refl, sym, ap, ◌∙◌, subst, arith, if◌then◌else◌, true≢false, nat_cmp, nat_lt, Equal, inl, inr, is_some}
-use Rattle.book.proofs.Prelude.{Aborted, AllZip, Command, Committed, Content, DeskCells, Each, FieldCells, FirstFailure, Good, IsFieldRow, IsInRange, IsKey, IsRowsOf, IsStrictlySortedBy, IsSupremum, IsTotalOrder, Kept, Ledger, Line, LineCells, Move, Name, OpenLine, Order, OrderCells, Ordering, Plain, Request, State, Way, accept, add_hold, bytes_decides, bytes_eq, change_lines, changed_rows, changes_field, changes_line, changes_move, changes_order, checks, committed_state, desk_row, expires, field_cmp, filter, has_line_on, held_to_add, held_to_take, hold_more, if_add, if_take, insert_in_order, int_cmp_total, int_eq, ints, is_committed, is_eq, is_lt, is_open, is_transfer, kept_cmp, kept_row, kept_under, line_cmp, line_name, line_on, line_row, lines_from, list_any, lower_held, move_cmp, move_row, name_cmp, name_of, nat_list_cmp_total, new_line, new_order, on, on_total, open_state, order_cmp, order_is, order_lines, order_numbered, order_row, places, put_content, put_rows, raise_held, raise_used, same_name, set_state, settled, signed, slice_cmp, then_total, tied_itself, transfer_lines, with_order}
+use Rattle.book.proofs.Prelude.{Aborted, AllZip, Command, Committed, Content, DeskCells, Each, Field, FieldCells, FirstFailure, Good, IsFieldRow, IsInRange, IsKey, IsRowsOf, IsStrictlySortedBy, IsSupremum, IsTotalOrder, Kept, Ledger, Line, LineCells, Move, Name, Open, OpenLine, Order, OrderCells, Ordering, Plain, Request, State, Transfer, Way, accept, add_hold, bytes_decides, bytes_eq, change_lines, changed_rows, changes_field, changes_line, changes_move, changes_order, checks, committed_state, desk_row, expires, field_cmp, filter, has_line_on, held_to_add, held_to_take, hold_more, if_add, if_take, insert_in_order, int_cmp_total, int_eq, ints, is_committed, is_eq, is_lt, is_open, is_transfer, kept_cmp, kept_row, kept_under, line_cmp, line_name, line_on, line_row, lines_from, list_any, lower_held, move_cmp, move_row, moved, name_cmp, name_of, nat_list_cmp_total, new_line, new_order, on, on_total, open_state, order_cmp, order_is, order_lines, order_numbered, order_row, places, put_content, put_rows, raise_held, raise_used, same_name, set_state, settled, signed, slice_cmp, then_total, tied_itself, total, transfer_lines, with_order}
 use Rattle.words.specs.declared.command.Command.TheVariants as command
-use Rattle.book.specs.declared.order.Kind.TheVariants.{Transfer}
-use Rattle.book.specs.declared.order.State.TheVariants.{Open}
-use Rattle.book.specs.Ledger.{Field}
-use Rattle.book.specs.Outcomes.{total, moved}
 use Rattle.book.specs.Rows.{desk_cmp}
 use Rattle.book.proofs.Sums.{each, each-imp, each-both, each-map, total-map, total-eq}
 use Rattle.book.proofs.Bounds.{takes, adds, none-total, inf_is, sup_is, inf_unique}
@@ -248,8 +244,7 @@ other_move : (A : Ledger) (g : Name) (z : ℤ) (f : Field) (ms : List Move) → 
 other_move A g z f ms e h = grind (arith, total-push)
 
 hold_parts : (f g : Name) (l : OpenLine) (o : Order) → line_name (new_line l) ≡ g → same_name f g ≡ false → is_open o ≡ true → is_transfer o ≡ false → (b : Bool) → SameParts f o (if b then hold_more g l.qty o else record o { lines = o.lines ++ new_line l ∷ [] })
-hold_parts f g l o i e open_is plain true = grind (arith, (map_part (takes f) (λ m. if on g m then raise_held l.qty m else m) o.lines (each (λ m. off f (raise_held l.qty) (takes f) (λ n. refl) (grind arith) (on g m) m (λ k. apart f g m e k)) o.lines)), (map_part (adds f) (λ m. if on g m then raise_held l.qty m else m) o.lines (each (λ m. off f (raise_held l.qty) (adds f) (λ n. refl) (grind arith) (on g m) m (λ k. apart f g m e k)) o.lines)), adds, apart, each, off, parts_lines, takes)
-hold_parts f g l o i e open_is plain false = grind (arith, (total-push (takes f) o.lines (new_line l)), (total-push (adds f) o.lines (new_line l)), adds, parts_lines, takes)
+hold_parts f g l o i e open_is plain b = grind (arith, adds, apart, each, map_part, off, parts_lines, takes, total-push)
 
 same_field : (A : Ledger) (key : List ℕ) (c : Command) → Good A → FirstFailure (checks A c) None → (f : Field) → changes_field A c f.name ≡ false → SameNumbers A (accept A (record { key = key; command = c })) f
 same_field A key (command.Field b a lo hi start) g h f e = (refl, refl, refl)

@@ -1,9 +1,7 @@
 -- The fields that a request makes or changes, put in one after the other by their names.
 use Rattle.std.proofs.Common.{arith, ◌≡◌, ◌∙◌, ℕ, ◌+◌, ◌<◌, ◌==◌, ◌++◌, Bool, Err, IsSome, OnOk, Ok, Result, true, false, List, [], ◌∷◌, Option, None, Some, ap, cond, find, flat_map, if◌then◌else◌, get_or, is_some, length, map, refl, subst, sym, take, true≢false}
-use Rattle.book.proofs.Prelude.{Accepts, Command, Contains, Each, FieldCells, FieldEntry, FirstFailure, HasEntry, IsChangedField, IsGoodLine, IsGoodOrder, IsStrictlySortedBy, Ledger, Line, Name, Order, Ordering, Puts, Request, accept, changes_field, checks, entry_row, field_named, insert_entry, is_at, is_eq, keys_of, line_name, lookup, match_ordering, name_cmp, next, on, order_after, order_number, ordering_reverse, same_name, tied_itself}
-use Rattle.std.specs.declared.cmp.Ordering.TheVariants.{Equal, Greater, Less}
+use Rattle.book.proofs.Prelude.{common_steps, ints, Accepts, Command, Contains, Each, Equal, Field, FieldCells, FieldEntry, FirstFailure, Greater, HasEntry, IsChangedField, IsGoodLine, IsGoodOrder, IsStrictlySortedBy, Ledger, Less, Line, Name, Order, Ordering, Puts, Request, accept, changes_field, checks, entry_row, field_named, insert_entry, is_at, is_eq, keys_of, line_name, lookup, match_ordering, name_cmp, next, on, order_after, order_number, ordering_reverse, same_name, tied_itself}
 use Rattle.words.specs.declared.command.Command.TheVariants as command
-use Rattle.book.specs.Ledger.{Field}
 use Rattle.book.specs.Running.{IsOneOf}
 use Rattle.book.proofs.Asked.{same_self}
 use Rattle.book.proofs.Bounds.{OneOn}
@@ -130,10 +128,7 @@ module _ (t : Name → Bool) (row : Field → FieldCells) where
           let here = each.0.has_row ∙ ap row (sym field) in
           let rest = more C rising.1 (later_ones f fs x C same rising.0 each.1) (later_there f x C fs same sorted.0 all.1) in
           λ i. here i ∷ rest i
-      first x C passes rising each all more false e =
-          let found = ap (λ b. if b then Some f else find (λ g. same_name x.0 g.name) fs) (sym e) ∙ each.0.there in
-          let below = found_after f x.0 fs each.0.field sorted.0 found in
-          absurd (true≢false (sym (all.0 passes) ∙ ap is_some (none_below f.name (x ∷ C) (below, after_all f.name x.0 (keys_of C) below rising.0))))
+      first x C passes rising each all more false e = grind (arith, after_all, found_after, none_below)
 
       by : (b : Bool) → t f.name ≡ b → (C : List (Name × FieldEntry)) → IsStrictlySortedBy name_cmp (keys_of C) → Each (IsOne (f ∷ fs)) C → Each (λ g. t g.name ≡ true → is_some (lookup (is_at (name_cmp g.name)) C) ≡ true) (f ∷ fs) → Rest fs
           → map entry_row C ≡ (if b then row f ∷ [] else []) ++ flat_map (λ f. if t f.name then row f ∷ [] else []) fs
@@ -208,13 +203,7 @@ lines_step A r lines ls i x C D same within is each all changed left = subst (λ
               (each-imp (λ y has c. subst (λ (E : List (Name × FieldEntry)). HasEntry E (line_name y)) (sym new) (put_there C (line_name x) (line_name y) put.entry (has c))) (take i lines) all)
               (λ c. subst (λ (E : List (Name × FieldEntry)). HasEntry E (line_name x)) (sym new) (put_self C (line_name x) put.entry)),
         )
-    by false e within is =
-        let new = left e in (
-          subst (Each (IsChangedField A r)) (sym new) each,
-          each-next (λ y. changes_field A r.command (line_name y) ≡ true → HasEntry D (line_name y)) lines i x within is
-              (each-imp (λ y has c. subst (λ (E : List (Name × FieldEntry)). HasEntry E (line_name y)) (sym new) (has c)) (take i lines) all)
-              (λ c. absurd (true≢false (sym c ∙ e))),
-        )
+    by false e within is = grind (arith, ints, common_steps, each-imp, each-next)
 
 -- a field that is there is one of the next ledger
 pub found_stays : (A : Ledger) (r : Request) (n : Name) (f : Field) → field_named A n ≡ Some f → Contains (accept A r).fields f

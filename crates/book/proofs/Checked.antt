@@ -1,13 +1,11 @@
 -- What the comparisons of a program say of the checks of a command.
 use Rattle.std.proofs.Common.{arith, ◌≡◌, ◌≢◌, ◌∙◌, ◌↔◌, ◌≤◌, ℕ, List, [], ◌∷◌, ◌++◌, Bool, false, Option, None, Some, IsFalse, IsNone, IsSomeAnd, IsTrue, MatchOption, inl, inr, is_some, length, refl, sym, true≢false}
 use denote.Enum.Bare.{sameb}
-use Rattle.book.proofs.Prelude.{Add, BreaksBound, Check, FirstFailure, Good, Kind, Ledger, Line, MAX_ORDER_LINES, MayHoldMore, More, Name, OpenLine, Order, Plain, Refusal, Take, Way, bound, checks, field_named, full, is_open, is_transfer, line_on, next, no_field, order_numbered, stock_checks, transfer_kind}
+use Rattle.book.proofs.Prelude.{Add, BreaksBound, Check, Field, FirstFailure, Good, Kind, Ledger, Line, MAX_ORDER_LINES, MayHoldMore, More, Name, OpenLine, Order, Plain, Refusal, Take, Transfer, Way, bound, checks, field_named, full, is_open, is_transfer, line_on, next, no_field, order_numbered, stock_checks, transfer_kind}
 use Rattle.words.specs.declared.reply.Refusal.TheVariants.{OtherWay, TooManyLines, TransferFixed}
 use Rattle.book.specs.contracts.order.Kind.{the_type}
-use Rattle.book.specs.declared.order.Kind.TheVariants.{Transfer}
 use Rattle.book.specs.Answers.{OfLine, OfOrder, check, open_checks}
 use Rattle.book.specs.Checking.{bound_checks, hold_checks}
-use Rattle.book.specs.Ledger.{Field}
 use Rattle.book.proofs.Compared.{more_test}
 
 -- ---- lists of checks

@@ -34,10 +34,6 @@ pub any-map : {X Y : Type 0} (t : Y → Bool) (h : X → Y) (xs : List X) → li
 any-map t h [] = refl
 any-map t h (x ∷ xs) = ap (λ b. t (h x) || b) (any-map t h xs)
 
-pub any-eq : {X : Type 0} (s t : X → Bool) (xs : List X) → Each (λ x. s x ≡ t x) xs → list_any s xs ≡ list_any t xs
-any-eq s t [] h = refl
-any-eq s t (x ∷ xs) h = let a = h.0 in let b = any-eq s t xs h.1 in λ i. a i || b i
-
 -- ---- the order under a number
 
 pub number_is : (a b : ℕ) → (a == b) ≡ true → a ≡ b

@@ -1,10 +1,7 @@
 -- From a good ledger every future keeps the bounds and the commits.
-use Rattle.book.proofs.Prelude.{Aborted, Add, Answers, AnswersNew, AsksNoStock, Check, Command, Committed, Done, Each, FirstFailure, Good, IsDistinct, IsFuture, IsGoodOrder, IsStrictlySortedBy, IsTransferPair, IsWithin, Kept, KeyReused, Ledger, Line, MatchOrdering, Name, Order, Refusal, Refused, Reply, Request, Runs, Stands, State, Take, Way, accept, bytes_decides, change_lines, checks, committed_state, common_steps, held_to_add, held_to_take, if_add, if_take, ints, is_committed, is_open, is_transfer, kept_under, line_name, line_on, lower_held, on, open_state, order_numbered, places, raise_used, ranks, same_command, same_name, set_state, settled, signed}
+use Rattle.book.proofs.Prelude.{Aborted, Add, Answers, AnswersNew, AsksNoStock, Check, Command, Committed, Done, Each, Field, FirstFailure, Good, IsDistinct, IsFuture, IsGoodOrder, IsStrictlySortedBy, IsTransferPair, IsWithin, Kept, KeyReused, Ledger, Line, MatchOrdering, Name, Open, Order, Refusal, Refused, Reply, Request, Runs, Stands, State, Take, Way, accept, bytes_decides, change_lines, checks, committed_state, common_steps, held_to_add, held_to_take, if_add, if_take, ints, is_committed, is_open, is_transfer, kept_under, line_name, line_on, lower_held, moved, on, open_state, order_numbered, places, raise_used, ranks, same_command, same_name, set_state, settled, signed, total}
 use Rattle.std.proofs.Common.{◌≡◌, ℕ, ◌+◌, ◌-◌, ◌<◌, ◌≤◌, ℤ, pos, ◌+ℤ◌, ◌-ℤ◌, neg_ℤ, ◌≤ℤ◌, List, [], ◌∷◌, map, Bool, true, false, ◌&&◌, ◌||◌, IsTrue, IsFalse, IsNone, is_some, IsSomeAnd, Option, Some, None, find, refl, sym, ap, ◌∙◌, subst, arith, if◌then◌else◌, true≢false, inl, inr, ◌==◌, nat_le, nat_cmp, Less, MatchOption}
 use Rattle.words.specs.declared.command.Command.TheVariants as command
-use Rattle.book.specs.declared.order.State.TheVariants.{Open}
-use Rattle.book.specs.Ledger.{Field}
-use Rattle.book.specs.Outcomes.{total, moved}
 use Rattle.book.specs.Future.{HonoursAlways}
 use Rattle.book.proofs.Sums.{each-imp, each-both, each-map}
 use Rattle.book.proofs.Bounds.{OneOn, Sound, takes, adds, takes-not_negative, adds-not_negative, moved-low, moved-high, room_from_safe, HasRoom}

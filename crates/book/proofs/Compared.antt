@@ -1,7 +1,6 @@
 -- Each test of a check by all outcomes is one comparison with the numbers of the ledger as it is.
-use Rattle.book.proofs.Prelude.{Add, BreaksBound, Each, Good, IsDistinct, IsStrictlySortedBy, Kind, Ledger, Line, MayHoldMore, Name, OpenLine, Order, Take, Way, add_hold, bound, change_order, common_steps, held_to_add, held_to_take, if_add, if_take, ints, is_open, line_name, line_on, new_line, new_order, on, open_state, order_numbered, raise_held, same_name, with_order}
+use Rattle.book.proofs.Prelude.{Add, BreaksBound, Each, Good, IsDistinct, IsStrictlySortedBy, Kind, Ledger, Line, MayHoldMore, Name, OpenLine, Order, Take, Way, add_hold, bound, change_order, common_steps, held_to_add, held_to_take, if_add, if_take, ints, is_open, line_name, line_on, new_line, new_order, on, open_state, order_numbered, raise_held, same_name, total, with_order}
 use Rattle.std.proofs.Common.{◌≡◌, ◌∙◌, ℕ, ◌+◌, ℤ, pos, ◌+ℤ◌, ◌==◌, ◌↔◌, Bool, true, false, List, [], ◌∷◌, ◌++◌, Option, None, Some, IsNone, IsSomeAnd, MatchOption, ap, arith, find, if◌then◌else◌, map, nat_cmp, Less, refl, subst, sym, true≢false}
-use Rattle.book.specs.Outcomes.{total}
 use Rattle.book.proofs.Asked.{add_line_test, named, same_self, take_line_test, total-push}
 use Rattle.book.proofs.Bounds.{OneOn, Sound, falls_below_iff, rises_above_iff}
 use Rattle.book.proofs.Closing.{at_number, less_is, one_on, sounds_from_good}
@@ -78,9 +77,7 @@ total_changed g h n z (m ∷ ms) sorted found = step (m.number == n) refl found 
     step : (b : Bool) → (m.number == n) ≡ b → IsSomeAnd (if b then Some m else find (λ o. o.number == n) ms) (λ o. g (h o) ≡ g o +ℤ z)
         → (IsSomeAnd (find (λ o. o.number == n) ms) (λ o. g (h o) ≡ g o +ℤ z) → total g (map (λ o. if o.number == n then h o else o) ms) ≡ total g ms +ℤ z)
         → total g (map (λ o. if o.number == n then h o else o) (m ∷ ms)) ≡ total g (m ∷ ms) +ℤ z
-    step true t found more =
-        let a : g (if m.number == n then h m else m) ≡ g m +ℤ z = rw t found in
-        let b = rest ms (each-imp (λ k less. not_same m k n t (less_is m.number k.number less)) ms (each-unmap (λ k. nat_cmp m.number k ≡ Less) (λ o. o.number) ms sorted.0)) in omega (arith, ints)
+    step true t found more = grind (arith, ints, common_steps, (rest ms (each-imp (λ k less. not_same m k n t (less_is m.number k.number less)) ms (each-unmap (λ k. nat_cmp m.number k ≡ Less) (λ o. o.number) ms sorted.0))), each-imp, each-unmap, less_is, not_same)
     step false t found more = let a : g (if m.number == n then h m else m) ≡ g m = rw t refl in let b = more found in omega (arith, ints)
 
 -- what open orders hold on the field, with that much more

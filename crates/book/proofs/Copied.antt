@@ -1,7 +1,6 @@
 -- How the order that an accepted command changes may be changed in a copy.
 use Rattle.std.proofs.Common.{◌≡◌, ℕ, ◌<◌, ◌∙◌, ◌==◌, Option, None, Some, ap, arith, is_some, refl, subst, sym, true≢false, IsSomeAnd}
-use Rattle.std.specs.Option.{option_map}
-use Rattle.book.proofs.Prelude.{Command, FirstFailure, Good, IsAccepted, IsGoodOrder, Ledger, MayChangeOrder, Name, OpenLine, Order, OrderEntry, Request, accept, add_hold, changed_order, checks, name_of, order_after, order_numbered, order_of, same_Some, vec_capacity, vec_len}
+use Rattle.book.proofs.Prelude.{Command, FirstFailure, Good, IsAccepted, IsGoodOrder, Ledger, MayChangeOrder, Name, OpenLine, Order, OrderEntry, Request, accept, add_hold, changed_order, checks, name_of, option_map, order_after, order_numbered, order_of, same_Some, vec_capacity, vec_len}
 use Rattle.words.specs.declared.command.Command.TheVariants as command
 use Rattle.book.specs.InPlace.{order_change_of}
 use Rattle.book.specs.declared.book.made.OrderChange.{OrderChange}

@@ -1,10 +1,8 @@
 -- How many orders are open, and how many in the next ledger.
 use Rattle.std.proofs.Common.{◌≡◌, ◌∙◌, ℕ, ◌+◌, ℤ, pos, ◌+ℤ◌, ◌-ℤ◌, ◌&&◌, ◌++◌, List, [], ◌∷◌, Bool, true, false, IsNone, Option, None, Some, ap, arith, count_by, if◌then◌else◌, is_some, map, refl, sym, true≢false}
-use Rattle.book.proofs.Prelude.{Aborted, BookView, Command, Committed, FirstFailure, Good, Inside, Ledger, Name, OpenLine, Order, State, add_hold, change_lines, checks, expires, hold_more, ints, is_open, is_opening, ledger_of, line_name, line_on, lower_held, name_of, new_line, next, open_orders, open_state, order_after, order_number, order_numbered, raise_used, set_state, some_part, view_of}
-use Rattle.std.specs.Option.{option_map}
+use Rattle.book.proofs.Prelude.{common_steps, Aborted, BookView, Command, Committed, FirstFailure, Good, Inside, Ledger, Name, OpenLine, Order, State, add_hold, change_lines, checks, expires, hold_more, ints, is_open, is_opening, ledger_of, line_name, line_on, lower_held, name_of, new_line, next, open_orders, open_state, option_map, order_after, order_number, order_numbered, raise_used, set_state, some_part, total, view_of}
 use Rattle.words.specs.Kinds.{is_change}
 use Rattle.words.specs.declared.command.Command.TheVariants as command
-use Rattle.book.specs.Outcomes.{total}
 use Rattle.book.proofs.Closing.{all_pass}
 use Rattle.book.proofs.FieldRows.{parted}
 use Rattle.book.proofs.Lists.{counted}
@@ -54,21 +52,11 @@ opened_count A c good h is = absurd (true≢false (sym is))
 numbered : (x : Option Order) → (IsNone x → ⊥) → is_some x ≡ true
 numbered b h = grind arith
 
--- where it stays open
-kept_open : (x : Option Order) (f : Name) (h : Order → Order) → ((o : Order) → (h o).state ≡ o.state) → IsBefore f x → is_some x ≡ true → some_part one (option_map h x) ≡ pos 1
-kept_open b f h keeps is there = grind arith
-
 ended_part : (x : Option Order) (s : State) → open_state s ≡ false → some_part one (option_map (set_state s) x) ≡ pos 0
 ended_part b s e = grind arith
 
-held_state : (l : OpenLine) (o : Order) → (add_hold l o).state ≡ o.state
-held_state l o = grind arith
-
 pub changed_count : (A : Ledger) (c : Command) → Good A → FirstFailure (checks A c) None → is_change c ≡ true → open_orders (next A c) ≡ open_orders A
-changed_count A (command.More n way b a q) good h is = grind (arith, (counted_on A (command.More n way b a q) n good h refl), (numbered (order_numbered A n) (all_pass (checks A (command.More n way b a q)) h).1.0), all_pass, before, held_state, kept_open)
-changed_count A (command.Use n b a q) good h is = grind (arith, (counted_on A (command.Use n b a q) n good h refl), (numbered (order_numbered A n) (all_pass (checks A (command.Use n b a q)) h).1.0), all_pass, before, kept_open)
-changed_count A (command.Release n b a q) good h is = grind (arith, (counted_on A (command.Release n b a q) n good h refl), (numbered (order_numbered A n) (all_pass (checks A (command.Release n b a q)) h).1.0), all_pass, before, kept_open)
-changed_count A c good h is = absurd (true≢false (sym is))
+changed_count x c good h is = grind (arith, ints, common_steps, all_pass, before, counted_on, numbered)
 
 pub committed_count : (A : Ledger) (n : ℕ) → Good A → FirstFailure (checks A (command.Commit n)) None → open_orders (next A (command.Commit n)) + 1 ≡ open_orders A
 committed_count A n good h =

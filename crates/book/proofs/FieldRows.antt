@@ -1,16 +1,13 @@
 -- The rows of the fields that a request makes or changes, for each kind of command.
 use Rattle.std.proofs.Common.{◌≡◌, ◌∙◌, ℕ, ℤ, pos, ◌+ℤ◌, ◌-ℤ◌, ◌&&◌, ◌||◌, ◌++◌, Bool, true, false, List, [], ◌∷◌, IsNone, IsSome, IsSomeAnd, Option, None, Some, ap, append-nil, arith, cond, find, flat_map, if◌then◌else◌, is_some, map, refl, subst, sym, true≢false}
-use Rattle.book.proofs.Prelude.{Accepts, Add, Command, Each, FieldCells, FieldEntry, FirstFailure, GivenBack, GivesBack, Good, HasEntry, IsChangedField, IsStrictlySortedBy, Ledger, Line, Name, OpenLine, Order, Puts, Request, Take, accept, add_hold, added_part, change_lines, changed_fields, changes_field, checks, committed_state, entry_row, expired_lines, expires, field_named, field_of, field_row, field_rows, has_line_on, held_to_add, held_to_take, hold_more, if_add, if_take, insert_entry, ints, is_at, is_committed, is_eq, is_open, is_transfer, keys_of, line_name, line_on, list_any, list_any-append, lookup, lower_held, moved_part, name_cmp, name_of, new_field_rows, new_line, next, on, order_after, order_is, order_numbered, raise_held, same_name, settled, some_has_line, taken_part}
-use Rattle.std.specs.Option.{option_map}
+use Rattle.book.proofs.Prelude.{common_steps, Accepts, Add, Command, Each, Field, FieldCells, FieldEntry, FirstFailure, GivenBack, GivesBack, Good, HasEntry, IsChangedField, IsStrictlySortedBy, Ledger, Line, Name, OpenLine, Order, Puts, Request, Take, accept, add_hold, added_part, change_lines, changed_fields, changes_field, checks, committed_state, entry_row, expired_lines, expires, field_named, field_of, field_row, field_rows, has_line_on, held_to_add, held_to_take, hold_more, if_add, if_take, insert_entry, ints, is_at, is_committed, is_eq, is_open, is_transfer, keys_of, line_name, line_on, list_any, list_any-append, lookup, lower_held, moved_part, name_cmp, name_of, new_field_rows, new_line, next, on, option_map, order_after, order_is, order_numbered, raise_held, same_name, settled, some_has_line, taken_part, total}
 use Rattle.words.specs.declared.command.Command.TheVariants as command
-use Rattle.book.specs.Ledger.{Field}
-use Rattle.book.specs.Outcomes.{total}
 use Rattle.book.specs.Running.{HasLines, MovesField, lines_add, lines_take}
 use Rattle.book.proofs.Asked.{none_found, same_self}
 use Rattle.book.proofs.ChangedFields.{all_rows, put_self, self_eq}
-use Rattle.book.proofs.Chosen.{any-eq, any-map, some_is}
+use Rattle.book.proofs.Chosen.{any-map, some_is}
 use Rattle.book.proofs.Closing.{all_pass, name_is}
-use Rattle.book.proofs.GivingBack.{any-append, lines_if, total-flat}
+use Rattle.book.proofs.GivingBack.{any-append, total-flat}
 use Rattle.book.proofs.Growing.{none_if_not_some, other_way}
 use Rattle.book.proofs.Made.{any_one, left_out, lined, released_on, total-next}
 use Rattle.book.proofs.Running.{new_field}
@@ -111,11 +108,8 @@ any_there f (l ∷ ls) = let more = any_there f ls in grind arith
 raised_on : (b : Bool) (f : Name) (q : ℕ) (l : Line) → on f (if b then raise_held q l else l) ≡ on f l
 raised_on b f q l = grind arith
 
-or_true : (a b : Bool) → b ≡ true → (a || b) ≡ true
-or_true x b e = grind arith
-
 held_on : (f : Name) (ol : OpenLine) (o : Order) → f ≡ line_name (new_line ol) → list_any (on f) (add_hold ol o).lines ≡ true
-held_on f ol o is = grind (arith, (each (λ m. raised_on (on (line_name (new_line ol)) m) f ol.qty m) o.lines), (any_there (line_name (new_line ol)) o.lines), any-append, any-eq, any-map, or_true, raised_on, same_self)
+held_on f ol o is = grind (arith, (each (λ m. raised_on (on (line_name (new_line ol)) m) f ol.qty m) o.lines), (any_there (line_name (new_line ol)) o.lines), any-append, any-map, raised_on, same_self)
 
 second_true : (a b : Bool) → (a && b) ≡ true → b ≡ true
 second_true x b e = grind arith
@@ -133,10 +127,7 @@ changed_has_line A (command.Release n b a q) f o good h made e = by (order_numbe
     g = name_of b a
 
     here : (p : Order) → order_numbered A n ≡ Some p → (t : Bool) → same_name f g ≡ t → (t || order_is A n (λ o. is_transfer o && has_line_on f o)) ≡ true → has_line_on f p ≡ true
-    here p there true is k =
-        let held = (all_pass (checks A (command.Release n b a q)) h).1.1.1.0 in
-        let line = some_there (line_on p g) (λ none. held (subst (λ (x : Option Order). IsSomeAnd x (λ o. IsNone (line_on o g))) (sym there) none)) in
-        ap (λ (k : Name). list_any (on k) p.lines) (name_is f g is) ∙ sym (any_there g p.lines) ∙ line
+    here p there true is k = grind (arith, (name_is f g is), (any_there g p.lines), ((all_pass (checks A (command.Release n b a q)) h).1.1.1.0), g, some_there)
     here p there false is k = second_true (is_transfer p) (has_line_on f p) (sym (any_one n (λ o. is_transfer o && has_line_on f o) p A.orders good.orders_in_order there) ∙ k)
 
     by : (x : Option Order) → order_numbered A n ≡ x → option_map (change_lines g (lower_held q)) x ≡ Some o → list_any (on f) o.lines ≡ true
@@ -175,15 +166,11 @@ parted p g (o ∷ os) = by (p o) (parted p g os)
   where
     by : (b : Bool) → total g os ≡ total (λ o. if p o then pos 0 else g o) os +ℤ total (λ o. if p o then g o else pos 0) os
         → g o +ℤ total g os ≡ ((if b then pos 0 else g o) +ℤ total (λ o. if p o then pos 0 else g o) os) +ℤ ((if b then g o else pos 0) +ℤ total (λ o. if p o then g o else pos 0) os)
-    by true e = omega (arith, ints)
-    by false e = omega (arith, ints)
-
-open_part : (a b : Bool) (z : ℤ) → (if a && b then z else pos 0) ≡ (if a && b then (if a then z else pos 0) else pos 0)
-open_part x b z = grind arith
+    by b e = grind (arith, ints, common_steps)
 
 -- what the orders that expire hold on a field
 expired_part : (now : ℕ) (g : Line → ℤ) (os : List Order) → total g (expired_lines now os) ≡ total (λ o. if expires now o then (if is_open o then total g o.lines else pos 0) else pos 0) os
-expired_part now g os = grind (arith, each, lines_if, open_part, total-eq, total-flat)
+expired_part now g os = grind (arith, each, total-eq, total-flat)
 
 not_committed : (a b c : Bool) (z : ℤ) → (a ≡ true → c ≡ false) → (if a && b then pos 0 else (if c then z else pos 0)) ≡ (if c then z else pos 0)
 not_committed x b c z h = grind arith

@@ -1,8 +1,6 @@
 -- What lines give back, as the orders end that hold it.
-use Rattle.book.proofs.Prelude.{Add, Each, FieldCells, FieldEntry, GivenBack, GivesBack, Good, IsGoodOrder, IsStrictlySortedBy, IsUpToDate, Ledger, Line, MayGiveBack, Name, Order, Ordering, Stock, Take, Way, common_steps, expired_lines, expires, field_named, field_of, giving_back, held_of, if_add, if_take, insert_entry, ints, is_at, is_eq, is_open, keys_of, line_name, list_any, lookup, match_ordering, name_cmp, on, order_numbered, same_name}
+use Rattle.book.proofs.Prelude.{Add, Each, Equal, FieldCells, FieldEntry, GivenBack, GivesBack, Good, Greater, IsGoodOrder, IsStrictlySortedBy, IsUpToDate, Ledger, Less, Line, MayGiveBack, Name, Order, Ordering, Stock, Take, Way, common_steps, expired_lines, expires, field_named, field_of, giving_back, held_of, if_add, if_take, insert_entry, ints, is_at, is_eq, is_open, keys_of, line_name, list_any, lookup, match_ordering, name_cmp, on, order_numbered, same_name, total}
 use Rattle.std.proofs.Common.{◌≡◌, ◌∙◌, ℕ, ◌+◌, ◌<◌, ◌≤◌, ◌==◌, ℤ, pos, ◌+ℤ◌, ◌≤ℤ◌, ◌&&◌, ◌||◌, ◌++◌, Bool, true, false, List, [], ◌∷◌, Option, None, Some, IsSome, ap, append_assoc, arith, cond, drop, flat_map, get_or, length, if◌then◌else◌, is_some, refl, subst, sym, take, true≢false}
-use Rattle.std.specs.declared.cmp.Ordering.TheVariants.{Equal, Greater, Less}
-use Rattle.book.specs.Outcomes.{total}
 use Rattle.book.proofs.Asked.{same_self, total-push}
 use Rattle.book.proofs.Bounds.{adds-not_negative, takes-not_negative}
 use Rattle.book.proofs.ChangedFields.{each_at_name, less_other}
@@ -143,11 +141,8 @@ line_given A ls l v new C D sorted gives may given is put =
 pub may_prefix : (A : Ledger) (ls ms ns : List Line) → MayGiveBack A (ls ++ (ms ++ ns)) → MayGiveBack A (ls ++ ms)
 may_prefix A ls ms ns may n = grind (arith, ints, (total-append (λ l. if on n l then pos (if_take l.way l.held) else pos 0) ls (ms ++ ns)), (total-append (λ l. if on n l then pos (if_take l.way l.held) else pos 0) ms ns), (total-append (λ l. if on n l then pos (if_take l.way l.held) else pos 0) ls ms), (takes-not_negative n ns), (total-append (λ l. if on n l then pos (if_add l.way l.held) else pos 0) ls (ms ++ ns)), (total-append (λ l. if on n l then pos (if_add l.way l.held) else pos 0) ms ns), (total-append (λ l. if on n l then pos (if_add l.way l.held) else pos 0) ls ms), (adds-not_negative n ns))
 
-pub lines_if : (b : Bool) (g : Line → ℤ) (ls : List Line) → total g (if b then ls else []) ≡ (if b then total g ls else pos 0)
-lines_if b g ls = grind arith
-
 expired_most : (now : ℕ) (g : Line → ℤ) → ((ls : List Line) → pos 0 ≤ℤ total g ls) → (os : List Order) → total g (expired_lines now os) ≤ℤ total (λ o. if is_open o then total g o.lines else pos 0) os
-expired_most now g least os = grind (arith, (total-flat g (λ (o : Order). if expires now o then o.lines else []) os), each, lines_if, total-le)
+expired_most now g least os = grind (arith, (total-flat g (λ (o : Order). if expires now o then o.lines else []) os), each, total-le)
 
 pub may_all : (A : Ledger) (now : ℕ) → MayGiveBack A (expired_lines now A.orders)
 may_all A now n = (expired_most now (λ l. if on n l then pos (if_take l.way l.held) else pos 0) (takes-not_negative n) A.orders, expired_most now (λ l. if on n l then pos (if_add l.way l.held) else pos 0) (adds-not_negative n) A.orders)

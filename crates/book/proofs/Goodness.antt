@@ -1,12 +1,9 @@
 -- From a good ledger every accepted command leaves a good one.
 use Rattle.std.proofs.Common.{◌≡◌, ℕ, ◌+◌, ◌<◌, ◌≤◌, ℤ, pos, neg_ℤ, nat_abs, ◌+ℤ◌, ◌-ℤ◌, ◌≤ℤ◌, List, [], ◌∷◌, ◌++◌, map, find, Bool, true, false, ◌==◌, IsTrue, IsNone, IsSome, IsSomeAnd, MatchOption, Option, Some, None, refl, sym, ◌∙◌, subst, arith, if◌then◌else◌, true≢false, nat_cmp, nat_lt, length, is_some, zero, suc, append_assoc, append-nil}
-use Rattle.book.proofs.Prelude.{Aborted, Add, Answers, AnswersNew, Command, Committed, Done, Each, FirstFailure, Good, IsGoodField, IsGoodKept, IsGoodLine, IsGoodMove, IsGoodOrder, IsInRange, IsKey, IsLevel, IsMoment, IsOpenLine, IsQty, IsTransferPair, Kept, KeyReused, Kind, Ledger, Line, MayHoldMore, Move, Name, OpenLine, Order, Plain, Refusal, Refused, Reply, Request, Take, Way, accept, add_hold, bytes_eq, change_order, checks, field_named, held_to_add, held_to_take, hold_more, if_add, if_take, insert_in_order, ints, is_lt, is_open, is_transfer, kept_under, line_checks, line_name, line_on, lower_held, name_cmp, nat_cmp_total, nat_list_cmp_total, new_line, new_order, on, open_orders, order_numbered, places, raise_held, raise_used, recursion_from_All, same_command, same_name, settled, slice_cmp, transfer_lines, with_move, with_order}
+use Rattle.book.proofs.Prelude.{Aborted, Add, Answers, AnswersNew, Command, Committed, Done, Each, Field, FirstFailure, Good, IsGoodField, IsGoodKept, IsGoodLine, IsGoodMove, IsGoodOrder, IsInRange, IsKey, IsLevel, IsMoment, IsOpenLine, IsQty, IsSafe, IsTransferPair, Kept, KeyReused, Kind, Ledger, Line, MayHoldMore, Move, Name, OpenLine, Order, Plain, Refusal, Refused, Reply, Request, Take, Transfer, Way, accept, add_hold, bytes_eq, change_order, checks, field_named, held_to_add, held_to_take, hold_more, if_add, if_take, insert_in_order, ints, is_lt, is_open, is_transfer, kept_under, line_checks, line_name, line_on, lower_held, name_cmp, nat_cmp_total, nat_list_cmp_total, new_line, new_order, on, open_orders, order_numbered, places, raise_held, raise_used, recursion_from_All, same_command, same_name, settled, slice_cmp, total, transfer_lines, with_move, with_order}
 use Rattle.escrow.specs.Ranges.{IsOrderNo}
 use Rattle.words.specs.declared.command.Command.TheVariants as command
 use Rattle.words.specs.OpenLines.{AreOpenLines}
-use Rattle.book.specs.declared.order.Kind.TheVariants.{Transfer}
-use Rattle.book.specs.Ledger.{Field}
-use Rattle.book.specs.Outcomes.{total, IsSafe}
 use Rattle.book.proofs.Sums.{each, each-imp, each-both, each-map}
 use Rattle.book.proofs.Staying.{name_cmp_total, equal_name, other_number, other_key, lt_is, StillThere, line_kept, order_kept, same_number, move_kept, apart_lines, Parts, not_many, changed, changing, stating, expiring, using}
 use Rattle.book.proofs.Bounds.{OneOn, Sound, takes, adds, takes-not_negative, adds-not_negative, room_from_safe, HasRoom}
@@ -47,23 +44,11 @@ held_levels B good room = each-imp (λ o p e. of_order o e p.0 p.1) B.orders
   where
     of_line : (o : Order) → is_open o ≡ true → ((f : Name) → (if is_open o then total (takes f) o.lines else pos 0) ≤ℤ held_to_take B f) → ((f : Name) → (if is_open o then total (adds f) o.lines else pos 0) ≤ℤ held_to_add B f)
         → (l : Line) → ((f : Name) → takes f l ≤ℤ total (takes f) o.lines) → ((f : Name) → adds f l ≤ℤ total (adds f) o.lines) → IsSome (field_named B (line_name l)) → IsLevel l.held
-    of_line o e t a l p q some =
-        let name : Name = line_name l in
-        let f = find_named (λ f. IsGoodField f × HasRoom B f) name B.fields (each-two IsGoodField (HasRoom B) B.fields good room) some in
-        let x : pos (if_take l.way l.held) ≤ℤ total (takes name) o.lines = subst (λ b. (if b then pos (if_take l.way l.held) else pos 0) ≤ℤ total (takes name) o.lines) (same_self name) (p name) in
-        let y : pos (if_add l.way l.held) ≤ℤ total (adds name) o.lines = subst (λ b. (if b then pos (if_add l.way l.held) else pos 0) ≤ℤ total (adds name) o.lines) (same_self name) (q name) in
-        let u = when_open (is_open o) (total (takes name) o.lines) (held_to_take B name) e (t name) in
-        let v = when_open (is_open o) (total (adds name) o.lines) (held_to_add B name) e (a name) in
-        level l.way l.held f.0.lo f.0.hi (settled B f.0) (held_to_take B f.0.name) (held_to_add B f.0.name)
-        (subst (λ g. pos (if_take l.way l.held) ≤ℤ held_to_take B g) (sym f.1) (omega (arith, ints)))
-        (subst (λ g. pos (if_add l.way l.held) ≤ℤ held_to_add B g) (sym f.1) (omega (arith, ints)))
-        f.2.1.0 f.2.1.1 f.2.0.hi
+    of_line o e t a l p q some = grind (arith, ints, (each-two IsGoodField (HasRoom B) B.fields good room), HasRoom, adds, find_named, level, same_self, takes, when_open)
 
     of_order : (o : Order) → is_open o ≡ true → ((f : Name) → (if is_open o then total (takes f) o.lines else pos 0) ≤ℤ held_to_take B f) → ((f : Name) → (if is_open o then total (adds f) o.lines else pos 0) ≤ℤ held_to_add B f)
         → Each (λ l. IsSome (field_named B (line_name l)) → IsLevel l.held) o.lines
-    of_order o e t a = each-both (λ l p q. of_line o e t a l p q) o.lines
-        (each-all (λ f l. takes f l ≤ℤ total (takes f) o.lines) o.lines (λ f. total-has (takes f) (λ l. part_not_negative (on f l) (if_take l.way l.held)) o.lines))
-        (each-all (λ f l. adds f l ≤ℤ total (adds f) o.lines) o.lines (λ f. total-has (adds f) (λ l. part_not_negative (on f l) (if_add l.way l.held)) o.lines))
+    of_order o e t a = grind (arith, (each-all (λ f l. takes f l ≤ℤ total (takes f) o.lines) o.lines (λ f. total-has (takes f) (λ l. part_not_negative (on f l) (if_take l.way l.held)) o.lines)), (each-all (λ f l. adds f l ≤ℤ total (adds f) o.lines) o.lines (λ f. total-has (adds f) (λ l. part_not_negative (on f l) (if_add l.way l.held)) o.lines)), adds, each-both, of_line, part_not_negative, takes, total-has)
 
 -- a delivery and a write-off
 moving : (A : Ledger) (f : Name) (z : ℤ) (kept : List Kept) → Good A → length kept ≡ places A + 1 → IsSome (field_named A f) → IsQty (nat_abs z) → places A + open_orders A + 1 ≤ 200000
@@ -167,17 +152,7 @@ adding A n l kept g more full there qty takes_it fits sound room =
           apart = apart_lines (map c o.lines) s.one;
           transfer = λ e. absurd (true≢false (sym e ∙ t.1));
         }
-    held_more B o still x t false fit s v =
-        let e = length-of-push o.lines (new_line l) in let some = x.some in let few = fit refl in
-        record {
-          number = x.number;
-          until = x.until;
-          some = omega arith;
-          few = omega arith;
-          lines = each-of-push (IsGoodLine B) o.lines (new_line l) (each-imp (line_kept A B still) o.lines x.lines) (record { field = still name there; held = (let q = qty.1 in omega arith); used = omega arith });
-          apart = apart_lines (o.lines ++ new_line l ∷ []) s.one;
-          transfer = λ e. absurd (true≢false (sym e ∙ t.1));
-        }
+    held_more B o still x t false fit s v = grind (arith, (each-imp (line_kept A B still) o.lines x.lines), (length-of-push o.lines (new_line l)), apart_lines, each-of-push, line_kept, name)
 
     by : (B : Ledger) (o : Order) (b : Bool) → StillThere A B → IsGoodOrder A o → (b ≡ true → MayHoldMore name l.way o) → (b ≡ true → IsNone (line_on o name) → length o.lines ≤ 63) → Sound (if b then add_hold l o else o)
         → (is_open (if b then add_hold l o else o) ≡ true → Each (λ m. IsSome (field_named B (line_name m)) → IsLevel m.held) (if b then add_hold l o else o).lines) → IsGoodOrder B (if b then add_hold l o else o)

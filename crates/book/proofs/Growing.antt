@@ -1,8 +1,6 @@
 -- A delivery, a write-off, and a new order that pass their checks leave every field its room.
 use Rattle.std.proofs.Common.{◌≡◌, ℕ, ◌+◌, ℤ, pos, ◌+ℤ◌, ◌-ℤ◌, neg_ℤ, ◌≤ℤ◌, ◌<ℤ◌, List, [], ◌∷◌, ◌++◌, map, find, Bool, true, false, IsSome, IsSomeAnd, Option, Some, None, refl, sym, ap, ◌∙◌, subst, arith, if◌then◌else◌, true≢false, nat_cmp, nat_lt, Less, Equal, append_assoc, append-nil, length}
-use Rattle.book.proofs.Prelude.{Add, Each, FallsBelow, IsStrictlySortedBy, Kind, Ledger, Name, OpenLine, RisesAbove, Take, Way, bound, by_lt_z, held_to_add, held_to_take, if_add, if_take, ints, is_lt, line_checks, line_name, name_cmp, new_line, new_order, on, places, same_name, settled, slice_cmp, with_move, with_order}
-use Rattle.book.specs.Ledger.{Field}
-use Rattle.book.specs.Outcomes.{total}
+use Rattle.book.proofs.Prelude.{Add, Each, FallsBelow, Field, IsStrictlySortedBy, Kind, Ledger, Name, OpenLine, RisesAbove, Take, Way, bound, by_lt_z, held_to_add, held_to_take, if_add, if_take, ints, is_lt, line_checks, line_name, name_cmp, new_line, new_order, on, places, same_name, settled, slice_cmp, total, with_move, with_order}
 use Rattle.book.proofs.Sums.{each-imp, each-both}
 use Rattle.book.proofs.Bounds.{OneOn, Sound, takes, adds, falls_below_iff, rises_above_iff, HasRoom}
 use Rattle.book.proofs.Closing.{name_is, AllPass}
@@ -114,12 +112,7 @@ room-line A n k u ls l Take way sound sorted one room check = each-both (λ f r 
       where
         by : (b : Bool) → same_name name f.name ≡ b → pos f.lo ≤ℤ (settled B f -ℤ held_to_take B f.name)
         by true e = not_less _ _ (bad e)
-        by false e =
-            let low = r.0 in
-            let s = settled-order A n k u (ls ++ l ∷ []) f in let s' = settled-order A n k u ls f in
-            let t = held_take-order A n k u (ls ++ l ∷ []) f.name in let t' = held_take-order A n k u ls f.name in
-            let x = takes-more f.name ls l in
-            let y : takes f.name (new_line l) ≡ pos 0 = rw (other_way name f.name e) refl in omega (arith, ints)
+        by false e = grind (arith, (other_way name f.name e), (settled-order A n k u (ls ++ l ∷ []) f), (settled-order A n k u ls f), (held_take-order A n k u (ls ++ l ∷ []) f.name), (held_take-order A n k u ls f.name), (takes-more f.name ls l), name, takes)
 room-line A n k u ls l Add way sound sorted one room check = each-both (λ f r n. at f r (same_name name f.name) refl n) A.fields room
     (none_bad (λ f. pos f.hi <ℤ (settled B f +ℤ held_to_add B f.name)) name A.fields sorted (λ h. check ((rises_above_iff B (each-insert Sound (λ a b. nat_lt a.number b.number) (new_order n k u (ls ++ l ∷ [])) A.orders (fresh-sound n k u (ls ++ l ∷ []) one) sound) name).1 h)))
   where
@@ -142,12 +135,7 @@ room-line A n k u ls l Add way sound sorted one room check = each-both (λ f r n
       where
         by : (b : Bool) → same_name name f.name ≡ b → (settled B f +ℤ held_to_add B f.name) ≤ℤ pos f.hi
         by true e = not_less _ _ (bad e)
-        by false e =
-            let high = r.1 in
-            let s = settled-order A n k u (ls ++ l ∷ []) f in let s' = settled-order A n k u ls f in
-            let a = held_add-order A n k u (ls ++ l ∷ []) f.name in let a' = held_add-order A n k u ls f.name in
-            let x = adds-more f.name ls l in
-            let y : adds f.name (new_line l) ≡ pos 0 = rw (other_way name f.name e) refl in omega (arith, ints)
+        by false e = grind (arith, (other_way name f.name e), (settled-order A n k u (ls ++ l ∷ []) f), (settled-order A n k u ls f), (held_add-order A n k u (ls ++ l ∷ []) f.name), (held_add-order A n k u ls f.name), (adds-more f.name ls l), adds, name)
 
 pub none_if_not_some : {X : Type 0} (o : Option X) → (IsSome o → ⊥) → o ≡ None
 none_if_not_some b h = grind arith

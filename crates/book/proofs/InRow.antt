@@ -1,8 +1,6 @@
 -- Whether a list is in the order of its keys, told from each two neighbours.
 use Rattle.std.proofs.Common.{◌≡◌, ◌↔◌, ◌∙◌, ℕ, zero, suc, ◌+◌, ◌<◌, Bool, IsTrue, List, [], ◌∷◌, true, false, Less, Equal, ap, arith, length, map, refl, subst, sym, true≢false}
-use Rattle.book.proofs.Prelude.{IsStrictlySortedBy, IsTotalOrder, Ordering, is_lt, map-map}
-use Rattle.std.specs.declared.cmp.Ordering.TheVariants.{Greater}
-use Rattle.std.specs.Ordering.{nat_cmp}
+use Rattle.book.proofs.Prelude.{Greater, IsStrictlySortedBy, IsTotalOrder, Ordering, is_lt, map-map, nat_cmp}
 use Rattle.std.specs.List.{AllAdjacentBelow, IsAllAdjacentAnswer}
 use Rattle.std.specs.Prelude.{nat_lt, slice_index_or}
 use Rattle.book.proofs.Sums.{each-imp}

@@ -1,8 +1,6 @@
 -- Keys among entries in their order.
-use Rattle.book.proofs.Prelude.{Each, IsBinarySearchResult, IsGap, IsNonDecreasingBy, IsSearchInRange, IsStrictlySortedBy, IsTotalOrder, Ordering, at_indexes, cases_lt, common_steps, compare_at, get_or_from_slice_get, insert, insert_entry, is_at, is_eq, keys_of, lookup, match_ordering, none-some, option_map_or, ordering_index, ordering_reverse, same_Some, set_value, slice_get-map, slice_get_read, slice_get_within}
+use Rattle.book.proofs.Prelude.{Each, Equal, Greater, IsBinarySearchResult, IsGap, IsNonDecreasingBy, IsSearchInRange, IsStrictlySortedBy, IsTotalOrder, Less, Ordering, at_indexes, cases_lt, common_steps, compare_at, get_or_from_slice_get, insert, insert_entry, is_at, is_eq, keys_of, lookup, match_ordering, none-some, option_map, option_map_or, ordering_index, ordering_reverse, same_Some, set_value, slice_get-map, slice_get_read, slice_get_within}
 use Rattle.std.proofs.Common.{◌≡◌, ℕ, zero, suc, ◌<◌, ◌≤◌, List, [], ◌∷◌, ◌++◌, length, length-append, length-set, get_or, set, Some, None, IfOk, IfErr, cond, Result, Ok, Err, slice_get, refl, sym, ap, subst, ◌∙◌, inl, inr, arith}
-use Rattle.std.specs.Option.{option_map}
-use Rattle.std.specs.declared.cmp.Ordering.TheVariants.{Less, Equal, Greater}
 use Rattle.std.proofs.lemmas.Cmp.{alike_right, eq_by_cmp_equiv, tied_back}
 use Rattle.std.proofs.lemmas.List.Edits.{insert_end}
 use Rattle.std.proofs.lemmas.List.Sorted.{IsNonDecreasingBy-from_default}

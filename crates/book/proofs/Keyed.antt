@@ -1,10 +1,7 @@
 -- Entries under keys, as they stand in a ledger.
 use Rattle.std.proofs.Common.{arith, ◌≡◌, ◌∙◌, ◌&&◌, ◌==◌, Bool, true, false, ℕ, List, [], ◌∷◌, Option, Some, None, ap, cond, find, if◌then◌else◌, is_some, map, refl, subst, sym, true≢false}
-use Rattle.book.proofs.Prelude.{FieldEntry, KeptEntry, Name, OrderEntry, Ordering, bytes_decides, bytes_eq, field_of, insert_entry, insert_in_order, is_at, is_eq, is_eq-slice_cmp, is_lt, kept_of, lookup, match_ordering, name_cmp, nat_cmp_total, order_of, ordering_then, same_name, slice_cmp, tied_itself}
+use Rattle.book.proofs.Prelude.{Equal, FieldEntry, Greater, KeptEntry, Less, Name, OrderEntry, Ordering, bytes_decides, bytes_eq, field_of, insert_entry, insert_in_order, is_at, is_eq, is_eq-slice_cmp, is_lt, kept_of, lookup, match_ordering, name_cmp, nat_cmp, nat_cmp_total, option_map, order_of, ordering_then, same_name, slice_cmp, tied_itself}
 use Rattle.std.proofs.lemmas.Cmp.{nat_list_eq_equiv}
-use Rattle.std.specs.Option.{option_map}
-use Rattle.std.specs.Ordering.{nat_cmp}
-use Rattle.std.specs.declared.cmp.Ordering.TheVariants.{Equal, Greater, Less}
 use Rattle.book.proofs.Chosen.{number_is}
 use Rattle.book.proofs.Closing.{name_is}
 use Rattle.book.proofs.Staying.{equal_name, equal_number, other_number}

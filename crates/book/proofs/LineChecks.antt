@@ -65,9 +65,9 @@ module _ (A : Ledger) (lines : List OpenLine) (i : ℕ) (l : OpenLine) (h : i < 
   -- the line's own checks decide
   pub line_fails : (fault : Option (Refusal × ℕ)) → FirstFailure (stock_checks l.way A (line_field l) l.qty (i + 1)) fault → is_some fault ≡ true → RestDecides A lines i
       → (n : ℕ) (kind : Kind) (until : ℕ) → FirstFailure (line_checks A (new_order n kind until) [] lines) fault
-  line_fails b k some rest n kind until = grind (arith, cut_short, has_own, here, own)
+  line_fails b k some rest n kind until = grind (arith, cut_short, has_own, here)
 
   -- they pass, and those after them decide
   pub line_passes : (fault : Option (Refusal × ℕ)) → FirstFailure (stock_checks l.way A (line_field l) l.qty (i + 1)) fault → is_some fault ≡ false → RestDecides A lines i → RestDecides A lines (i + 1)
   line_passes (Some x) k some rest n kind until found after = absurd (true≢false some)
-  line_passes None k some rest n kind until found after = grind (arith, (own n kind until), (has_own n kind until None k), go_on, here, take-step)
+  line_passes None k some rest n kind until found after = grind (arith, (has_own n kind until None k), go_on, here, take-step)

@@ -1,7 +1,6 @@
 -- Rows of lines, one more at a time.
 use Rattle.std.proofs.Common.{◌≡◌, ◌∙◌, ℕ, ◌+◌, ◌<◌, Bool, List, [], ◌∷◌, ◌++◌, ap, arith, get_or, if◌then◌else◌, length, sym, take}
-use Rattle.std.proofs.lemmas.List.{append_assoc}
-use Rattle.book.proofs.Prelude.{Line, LineCells, length-take-le, line_row, line_rows}
+use Rattle.book.proofs.Prelude.{Line, LineCells, append_assoc, length-take-le, line_row, line_rows}
 use Rattle.book.proofs.Walked.{take-step}
 
 line_rows-push : (t : Line → Bool) (n nr : ℕ) (ls : List Line) (l : Line) → line_rows t n nr (ls ++ l ∷ []) ≡ line_rows t n nr ls ++ line_rows t n (nr + length ls) (l ∷ [])

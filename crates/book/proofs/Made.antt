@@ -1,12 +1,10 @@
 -- The order that a command opens or changes.
-use Rattle.book.proofs.Prelude.{Aborted, Command, Committed, Each, FirstFailure, Good, IsAccepted, IsGoodOrder, IsShort, IsStrictlySortedBy, Ledger, Line, Name, OpenLine, Order, Request, accept, add_hold, change_lines, changes_field, changes_state, checks, common_steps, expires, has_line_on, hold_more, insert_in_order, ints, is_opening, is_touched, is_transfer, line_name, line_on, list_any, lower_held, name_of, new_line, next, on, order_after, order_is, order_number, order_numbered, raise_used, same_name, set_state, some_has_line, some_is_transfer, some_part}
+use Rattle.book.proofs.Prelude.{Aborted, Command, Committed, Each, FirstFailure, Good, IsAccepted, IsGoodOrder, IsShort, IsStrictlySortedBy, Ledger, Line, Name, OpenLine, Order, Request, accept, add_hold, change_lines, changes_field, changes_state, checks, common_steps, expires, has_line_on, hold_more, insert_in_order, ints, is_opening, is_touched, is_transfer, line_name, line_on, list_any, lower_held, name_of, new_line, next, on, option_map, order_after, order_is, order_number, order_numbered, raise_used, same_name, set_state, some_has_line, some_is_transfer, some_part, total}
 use Rattle.std.proofs.Common.{◌≡◌, ◌∙◌, ℕ, ℤ, pos, ◌+ℤ◌, Bool, true, false, ◌&&◌, ◌||◌, ◌==◌, List, [], ◌∷◌, ◌++◌, IsSomeAnd, Option, None, Some, ap, arith, find, if◌then◌else◌, is_some, map, nat_cmp, nat_lt, refl, subst, sym, true≢false}
-use Rattle.std.specs.Option.{option_map}
 use Rattle.words.specs.declared.command.Command.TheVariants as command
 use Rattle.book.specs.After.{names_field}
-use Rattle.book.specs.Outcomes.{total}
 use Rattle.book.proofs.Asked.{none_found, total-insert}
-use Rattle.book.proofs.Chosen.{any-eq, any-map, find-new, none_after, none_any, some_is}
+use Rattle.book.proofs.Chosen.{any-map, find-new, none_after, none_any, some_is}
 use Rattle.book.proofs.Closing.{all_pass, at_number}
 use Rattle.book.proofs.Growing.{none_if_not_some}
 use Rattle.book.proofs.Sums.{each, each-imp, total-eq, total-map}
@@ -49,7 +47,7 @@ lowered_on : (b : Bool) (f : Name) (q : ℕ) (l : Line) → on f (if b then lowe
 lowered_on b f q l = grind arith
 
 pub released_on : (f h : Name) (q : ℕ) (o : Order) → has_line_on f (change_lines h (lower_held q) o) ≡ has_line_on f o
-released_on f h q o = grind (arith, (each (λ l. lowered_on (is_transfer o || on h l) f q l) o.lines), any-eq, any-map, lowered_on)
+released_on f h q o = grind (arith, (each (λ l. lowered_on (is_transfer o || on h l) f q l) o.lines), any-map, lowered_on)
 
 -- a release changes the field that it names, on a transfer both
 pub released : (A : Ledger) (c : Command) (n : ℕ) (b a : List ℕ) (q : ℕ) (f : Name) → Good A → c ≡ command.Release n b a q → names_field f c ≡ false
@@ -134,4 +132,4 @@ total-next g ends A (command.Release n b a q) good h = total-changed g (change_l
 total-next g ends A (command.Commit n) good h = total-changed g (set_state Committed) n A.orders good.orders_in_order
 total-next g ends A (command.Abort n) good h = total-changed g (set_state Aborted) n A.orders good.orders_in_order
 total-next g ends A (command.Expire now) good h = grind (arith, (each (λ o. expired_part g ends (expires now o) o) A.orders), (total-map g (λ o. if expires now o then set_state Aborted o else o) A.orders), expired_part, total-eq)
-total-next g ends A c good h =  omega (arith, ints)
+total-next g ends A c good h = omega (arith, ints)

@@ -1,13 +1,10 @@
 -- The rows of the next ledger that an accepted request changes, table by table.
 use Rattle.std.proofs.Common.{◌≡◌, ◌∙◌, ℕ, ◌+◌, ◌<◌, ◌≤◌, pos, Bool, true, false, ◌&&◌, ◌||◌, ◌==◌, List, [], ◌∷◌, ◌++◌, Option, None, Some, ap, arith, find, flat_map, if◌then◌else◌, is_some, map, length, nat_cmp, Less, refl, subst, sym, true≢false}
 use Rattle.std.proofs.lemmas.Bool.Decides.{Decides-int_eq}
-use Rattle.book.proofs.Prelude.{Aborted, BookView, ChangesTo, Command, Content, DeskCells, Each, FieldCells, FirstFailure, Good, Inside, IsAccepted, IsInRange, IsKey, IsRowsOf, IsStrictlySortedBy, Ledger, Line, LineCells, MAX_PLACES, Name, Order, OrderCells, Request, Way, accept, bytes_decides, bytes_eq, change_lines, changed_fields, changed_orders, changed_rows, changes_field, changes_line, changes_move, changes_order, changes_state, checks, desk_row, expires, field_named, field_row, field_rows, filter, int_eq, ints, is_lt, is_transfer, kept_of, kept_row, ledger_of, line_name, line_row, line_rows, lines_from, list_any, lower_held, move_row, name_cmp, name_of, new_field_rows, next, order_after, order_is, order_lines, order_number, order_numbered, order_row, places, put_content, raise_used, same_name, set_state, slice_cmp, transfer_kind, view_of, with_fields, with_kept, with_lines, with_moves, with_orders}
-use Rattle.std.proofs.lemmas.List.{append-nil}
+use Rattle.book.proofs.Prelude.{Aborted, BookView, ChangesTo, Command, Content, DeskCells, Each, Field, FieldCells, FirstFailure, Good, Inside, IsAccepted, IsInRange, IsKey, IsRowsOf, IsStrictlySortedBy, Ledger, Line, LineCells, MAX_PLACES, Name, Order, OrderCells, Request, Way, accept, append-nil, bytes_decides, bytes_eq, change_lines, changed_fields, changed_orders, changed_rows, changes_field, changes_line, changes_move, changes_order, changes_state, checks, desk_row, expires, field_named, field_row, field_rows, filter, int_eq, ints, is_lt, is_transfer, kept_of, kept_row, ledger_of, line_name, line_row, line_rows, lines_from, list_any, lower_held, move_row, name_cmp, name_of, new_field_rows, next, option_map, order_after, order_is, order_lines, order_number, order_numbered, order_row, places, put_content, raise_used, same_name, set_state, slice_cmp, transfer_kind, view_of, with_fields, with_kept, with_lines, with_moves, with_orders}
 use Rattle.std.proofs.lemmas.List.Elements.{filter-append}
-use Rattle.std.specs.Option.{option_map}
 use Rattle.words.specs.declared.command.Command.TheVariants as command
 use Rattle.book.specs.After.{expired_rows, own_line_rows, own_move_rows, own_order_rows}
-use Rattle.book.specs.Ledger.{Field}
 use Rattle.book.specs.Tables.{no_content}
 use Rattle.book.proofs.Asked.{none_found, same_self}
 use Rattle.book.proofs.Changed.{changes_suffice}
@@ -140,8 +137,7 @@ number_expires now o os sorted e = by (expires now o) refl
 
     by : (b : Bool) → expires now o ≡ b → list_any (λ p. expires now p && int_eq (pos o.number) (pos p.number)) os ≡ b
     by true x = any_there (λ p. expires now p && int_eq (pos o.number) (pos p.number)) o.number o os e (and_true (expires now o) _ x (pos_same o.number o.number (same_number o.number)))
-    by false x = none_any (λ p. expires now p && int_eq (pos o.number) (pos p.number)) os
-        (each-imp (λ p same. and_false (expires now p) (int_eq (pos o.number) (pos p.number)) (λ t. ap (expires now) (same (same_of p t)) ∙ x)) os (only_one o.number o os sorted e))
+    by false x = grind (arith, (each-imp (λ p same. and_false (expires now p) (int_eq (pos o.number) (pos p.number)) (λ t. ap (expires now) (same (same_of p t)) ∙ x)) os (only_one o.number o os sorted e)), and_false, none_any, only_one, same_of)
 
 map-twice : (h : Order → Order) (os : List Order) → map order_row (map h os) ≡ map (λ o. order_row (h o)) os
 map-twice h [] = refl
@@ -200,22 +196,13 @@ lines_one chosen t n (o ∷ os) sorted other own = filter-append chosen (order_l
   where
     by : (b : Bool) → (o.number == n) ≡ b → filter chosen (flat_map order_lines os) ≡ lines_there t (find (λ o. o.number == n) os)
         → filter chosen (order_lines o) ++ filter chosen (flat_map order_lines os) ≡ lines_there t (if b then Some o else find (λ o. o.number == n) os)
-    by true e more =
-        let here = lines_chosen chosen t o.number 1 o.lines (λ k l. own o.number k l e) in
-        let rest = all_none chosen n os other (none_after n o os e sorted.0) in
-        (λ i. here i ++ rest i) ∙ append-nil (line_rows t o.number 1 o.lines)
+    by true e more = grind (arith, (lines_chosen chosen t o.number 1 o.lines (λ k l. own o.number k l e)), (all_none chosen n os other (none_after n o os e sorted.0)), append-nil, none_after)
     by false e more = ap (λ (rows : List LineCells). rows ++ filter chosen (flat_map order_lines os)) (lines_none chosen o.number 1 o.lines (λ k l. other o.number k l e)) ∙ more
-
-and_second : (a b : Bool) → a ≡ true → (a && b) ≡ b
-and_second a b e = ap (λ x. x && b) e
-
-and_first : (a b : Bool) → a ≡ false → (a && b) ≡ false
-and_first a b e = ap (λ x. x && b) e
 
 -- those of the order that the command makes whose fields pass
 own_lines : (A : Ledger) (key : List ℕ) (c : Command) (n : ℕ) (u : Name → Bool) → Good (accept A (record { key = key; command = c })) → FirstFailure (checks A c) None → order_number c ≡ Some n
     → filter (λ (row : LineCells). int_eq row.number (pos n) && u (name_of row.branch row.article)) (flat_map order_lines (accept A (record { key = key; command = c })).orders) ≡ lines_there (λ l. u (line_name l)) (order_after A c)
-own_lines A key c n u k h is = grind (arith, (made_there A c n h is), and_first, and_second, lines_one, pos_other, pos_same)
+own_lines A key c n u k h is = grind (arith, (made_there A c n h is), lines_one, pos_other, pos_same)
 
 -- all of them
 all_lines : (A : Ledger) (key : List ℕ) (c : Command) (n : ℕ) → Good (accept A (record { key = key; command = c })) → FirstFailure (checks A c) None → order_number c ≡ Some n

@@ -1,7 +1,6 @@
 -- Numbers on a field: added to one another, and how great they can be.
 use Rattle.std.proofs.Common.{◌≡◌, ℕ, ◌+◌, ◌≤◌, arith}
-use Rattle.book.proofs.Prelude.{IsSmall, ints, nothing, plus}
-use Rattle.book.specs.declared.book.sums.Numbers.{Numbers}
+use Rattle.book.proofs.Prelude.{IsSmall, Numbers, ints, nothing, plus}
 
 -- numbers with equal parts are equal
 pub same-numbers : (n m : Numbers) → n.moved ≡ m.moved → n.takes ≡ m.takes → n.adds ≡ m.adds → n ≡ m

@@ -16,17 +16,13 @@ first_once (c ∷ cs) a b (inr h) (inr k) = first_once cs a b h.1 k.1
 Left : Ledger → Request → Option (Refusal × ℕ) → Reply → Ledger → Type 0
 Left A r found reply B = MatchOption found ((reply ≡ Done (places A + 1)) × (B ≡ accept A r)) (λ e. (reply ≡ Refused e.0 e.1) × (B ≡ A))
 
-left_once : (A : Ledger) (r : Request) (found : Option (Refusal × ℕ)) (p q : Reply) (B C : Ledger) → Left A r found p B → Left A r found q C → (p ≡ q) × (B ≡ C)
-unfolding Left
-left_once b r x p q y z h k = grind arith
-
 pub answered_once : (A : Ledger) (r : Request) (p q : Reply) (B C : Ledger) → Answers A r p B → Answers A r q C → (p ≡ q) × (B ≡ C)
 unfolding Left
 answered_once A r p q B C h k = by_key (kept_under A r.key) h k
   where
     by_key : (o : Option Kept) → MatchOption o (AnswersNew A r p B) (λ k. (p ≡ (if same_command k.command r.command then Done k.place else Refused KeyReused 0)) × (B ≡ A))
         → MatchOption o (AnswersNew A r q C) (λ k. (q ≡ (if same_command k.command r.command then Done k.place else Refused KeyReused 0)) × (C ≡ A)) → (p ≡ q) × (B ≡ C)
-    by_key b h k = grind (arith, Left, first_once, left_once)
+    by_key b h k = grind (arith, Left, first_once)
 
 pub no_key : (o : Option Kept) → IsNone o → o ≡ None
 no_key b e = grind arith

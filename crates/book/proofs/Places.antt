@@ -32,10 +32,7 @@ pub apart_next : {X : Type 0} (key : X → ℕ) (xs : List X) (i : ℕ) (x : X) 
     → IsDistinct nat_eq (map key (take (i + 1) xs))
 apart_next key xs i x lt is apart off = subst (λ ys. IsDistinct nat_eq (map key ys)) (sym (take-step xs i x lt is)) (push_apart key (take i xs) x apart (none_of (λ y. nat_eq (key y) (key x)) (take i xs) off))
 
-other_number : (m n : ℕ) → nat_eq m n ≡ false → n ≡ m → ⊥
-other_number m n e f = grind (arith, e, f)
-
 -- its mark is set
 pub marks_next : {X : Type 0} (key : X → ℕ) (xs : List X) (i : ℕ) (x : X) (marks : List Bool) (p : ℕ) → i < length xs → x ≡ get_or xs i x → key x < length marks
     → get_or marks p true ≡ list_any (λ y. nat_eq (key y) p) (take i xs) → get_or (set marks (key x) true) p true ≡ list_any (λ y. nat_eq (key y) p) (take (i + 1) xs)
-marks_next key xs i x marks p lt is within h = grind (arith, (take-step xs i x lt is), get_or-set_other, get_or-set_same, list_any-append, other_number)
+marks_next key xs i x marks p lt is within h = grind (arith, (take-step xs i x lt is), get_or-set_other, get_or-set_same, list_any-append)

@@ -1,7 +1,6 @@
 -- Scripts are played by computing: a script whose replies and numbers are those computed is played as it stands.
-use Rattle.std.proofs.Common.{◌≡◌, ℕ, ◌+◌, ℤ, pos, ◌-ℤ◌, ◌+ℤ◌, List, [], ◌∷◌, map, Option, Some, None, refl, ap, subst, inl, inr, if◌then◌else◌, MatchOption, IsSomeAnd}
-use Rattle.book.proofs.Prelude.{Answers, AnswersNew, Check, Done, Each, FirstFailure, IsInfimum, IsSupremum, Kept, KeyReused, Ledger, Refusal, Refused, Reply, Request, accept, article_total, checks, field_named, held_to_add, held_to_take, kept_under, places, same_command, settled}
-use Rattle.book.specs.Ledger.{Field}
+use Rattle.std.proofs.Common.{arith, ◌≡◌, ℕ, ◌+◌, ℤ, pos, ◌-ℤ◌, ◌+ℤ◌, List, [], ◌∷◌, map, Option, Some, None, refl, ap, subst, inl, inr, if◌then◌else◌, MatchOption, IsSomeAnd}
+use Rattle.book.proofs.Prelude.{Answers, AnswersNew, Check, Done, Each, Field, FirstFailure, IsInfimum, IsSupremum, Kept, KeyReused, Ledger, Refusal, Refused, Reply, Request, accept, article_total, checks, field_named, held_to_add, held_to_take, kept_under, places, same_command, settled}
 use Rattle.book.specs.Examples.{Numbers, numbers, total, Shows, Step, Plays}
 use Rattle.book.proofs.Bounds.{inf_is, sup_is}
 use Rattle.book.proofs.Tests.{Tested, holds, fails, unknown, AllTested, Sounds, if_sounds, sounds, tested}
@@ -64,10 +63,7 @@ shows A (numbers branch article value infimum supremum) e = by (if_sounds A) (fi
   where
     by : (t : Tested (Sounds A)) (o : Option Field) → field_seen A t o ≡ pos value ∷ pos infimum ∷ pos supremum ∷ []
         → IsSomeAnd o (λ f. (settled A f ≡ pos value) × IsInfimum A f (pos infimum) × IsSupremum A f (pos supremum))
-    by (holds s) (Some f) e =
-        let low : settled A f -ℤ held_to_take A f.name ≡ pos infimum = cc in
-        let high : settled A f +ℤ held_to_add A f.name ≡ pos supremum = cc in
-        (cc, subst (λ z. IsInfimum A f z) low (inf_is A (sounds A s) f), subst (λ z. IsSupremum A f z) high (sup_is A (sounds A s) f))
+    by (holds s) (Some f) e = grind (arith, (inf_is A (sounds A s) f), (sup_is A (sounds A s) f), sounds)
     by (holds s) None e = absurd cc
     by (fails s) o e = absurd cc
     by unknown o e = absurd cc

@@ -8,9 +8,9 @@ pub use Rattle.book.specs.Good.{Good, IsGoodField, IsGoodKept, IsGoodLine, IsGoo
 pub use Rattle.book.specs.Held.{BreaksBound, MayHoldMore, held_to_add, held_to_take, if_add, if_take}
 pub use Rattle.book.specs.InOrder.{IsGap, at_indexes, compare_at, room_left}
 pub use Rattle.book.specs.InPlace.{MayChangeOrder, abort_all, abort_one, changed_line, changed_order}
-pub use Rattle.book.specs.Ledger.{Kept, Ledger, Move, Name, Order, committed_state, field_named, insert_in_order, is_committed, is_open, is_transfer, kept_under, line_name, line_on, name_cmp, name_of, new_ledger, on, open_orders, open_state, order_numbered, places, same_name, transfer_kind}
+pub use Rattle.book.specs.Ledger.{Field, Kept, Ledger, Move, Name, Order, committed_state, field_named, insert_in_order, is_committed, is_open, is_transfer, kept_under, line_name, line_on, name_cmp, name_of, new_ledger, on, open_orders, open_state, order_numbered, places, same_name, transfer_kind}
 pub use Rattle.book.specs.Next.{accept, add_hold, change_lines, change_order, expires, hold_more, lower_held, new_line, new_order, next, raise_held, raise_used, set_state, transfer_lines, with_move, with_order}
-pub use Rattle.book.specs.Outcomes.{FallsBelow, IsInfimum, IsSupremum, IsWithin, RisesAbove, article_total, settled, signed}
+pub use Rattle.book.specs.Outcomes.{FallsBelow, IsInfimum, IsSafe, IsSupremum, IsWithin, RisesAbove, article_total, moved, settled, signed, total}
 pub use Rattle.book.specs.Plans.{ChangesTo}
 pub use Rattle.book.specs.Rows.{Content, DeskCells, FieldCells, IsFieldRow, IsRowsOf, KeptCells, LineCells, OrderCells, desk_row, field_cmp, kept_cmp, kept_row, line_cmp, line_row, lines_from, move_cmp, move_row, order_cmp, order_lines, order_row}
 pub use Rattle.book.specs.Running.{Accepts, Becomes, GivenBack, GivesBack, HasEntry, IsChangedField, IsUpToDate, MayBecome, MayGiveBack, Puts, entry_row, expired_lines, with_entries}
@@ -20,17 +20,18 @@ pub use Rattle.book.specs.Told.{AreNumbered, AreOthers, BeginsOther, HasNumbers,
 pub use Rattle.book.specs.View.{BookView, field_of, kept_of, ledger_of, move_of, order_of, view_of}
 pub use Rattle.book.specs.Walk.{IsSmall, most_of_all, most_of_line, most_of_lines, most_of_move, most_of_moves, moved_by_move, moved_by_order, nothing, plus}
 pub use Rattle.book.specs.declared.book.Book.TheInside.{Inside}
+pub use Rattle.book.specs.declared.book.sums.Numbers.{Numbers}
 pub use Rattle.book.specs.declared.book.tables.group.Head.{Head}
 pub use Rattle.book.specs.declared.entries.FieldEntry.{FieldEntry}
 pub use Rattle.book.specs.declared.entries.KeptEntry.{KeptEntry}
 pub use Rattle.book.specs.declared.entries.MoveEntry.{MoveEntry}
 pub use Rattle.book.specs.declared.entries.OrderEntry.{OrderEntry}
 pub use Rattle.book.specs.declared.limits.TheConstants.{MAX_PLACES}
+pub use Rattle.book.specs.declared.order.Kind.TheVariants.{Plain, Transfer}
 pub use Rattle.book.specs.declared.order.Kind.{Kind}
-pub use Rattle.book.specs.declared.order.Kind.TheVariants.{Plain}
 pub use Rattle.book.specs.declared.order.Line.{Line}
+pub use Rattle.book.specs.declared.order.State.TheVariants.{Aborted, Committed, Open}
 pub use Rattle.book.specs.declared.order.State.{State}
-pub use Rattle.book.specs.declared.order.State.TheVariants.{Aborted, Committed}
 pub use Rattle.book.specs.declared.rows.Change.{Change}
 pub use Rattle.book.specs.declared.rows.FieldRow.{FieldRow}
 pub use Rattle.book.specs.declared.rows.KeptRow.{KeptRow}
@@ -41,47 +42,48 @@ pub use Rattle.escrow.specs.Codes.{IsArticle, IsBranch, IsKey}
 pub use Rattle.escrow.specs.Escrow.{IsSafeMoved, giving_back, held_of, holding}
 pub use Rattle.escrow.specs.Ranges.{IsLevel, IsMoment, IsQty}
 pub use Rattle.escrow.specs.Stock.{Stock}
-pub use Rattle.escrow.specs.declared.quantity.Way.{Way}
 pub use Rattle.escrow.specs.declared.quantity.Way.TheVariants.{Add, Take}
-pub use Rattle.std.proofs.lemmas.Bool.{cases_lt}
+pub use Rattle.escrow.specs.declared.quantity.Way.{Way}
 pub use Rattle.std.proofs.lemmas.Bool.Decides.{nat_tests}
+pub use Rattle.std.proofs.lemmas.Bool.{cases_lt}
 pub use Rattle.std.proofs.lemmas.Cmp.{int_cmp_total, nat_cmp_total, nat_list_cmp_total, on_total, then_total, tied_itself}
 pub use Rattle.std.proofs.lemmas.Fn.{always_returns_same}
 pub use Rattle.std.proofs.lemmas.Grind.{common_steps, flat_map-append}
 pub use Rattle.std.proofs.lemmas.Int.{by_lt_z, ints}
-pub use Rattle.std.proofs.lemmas.List.{length-take-le, map-append, take-append-drop, take_all}
 pub use Rattle.std.proofs.lemmas.List.Elements.{recursion_from_All}
 pub use Rattle.std.proofs.lemmas.List.Folds.{list_any-append}
 pub use Rattle.std.proofs.lemmas.List.Sorted.{IsPermutation-map, IsPermutation-refl}
+pub use Rattle.std.proofs.lemmas.List.{append-nil, append_assoc, length-take-le, map-append, take-append-drop, take_all}
 pub use Rattle.std.proofs.lemmas.Map.Text.{is_eq-slice_cmp}
 pub use Rattle.std.proofs.lemmas.Option.{get_or_from_slice_get, none-some, same_Some, slice_get-map, slice_get_read, slice_get_within}
 pub use Rattle.std.proofs.lemmas.Result.{IfOk-weaker, on_ok_weaker}
 pub use Rattle.std.proofs.lemmas.Simd.{map-map}
 pub use Rattle.std.specs.BTreeMap.{insert_entry, is_at}
-pub use Rattle.std.specs.Cmp.{IsTotalOrder, ranks}
 pub use Rattle.std.specs.Cmp.Lexicographic.{slice_cmp}
-pub use Rattle.std.specs.List.{AllByRecursion as Each, AllZip, Contains, filter, insert, list_any, range_with_len}
-unfoldable pub use Rattle.std.specs.List.{IsDistinct}
+pub use Rattle.std.specs.Cmp.{IsTotalOrder, ranks}
 pub use Rattle.std.specs.List.Sorted.{IsBinarySearchResult, IsNonDecreasingBy, IsPermutation, IsSearchInRange}
 unfoldable pub use Rattle.std.specs.List.Sorted.{IsStrictlySortedBy}
+pub use Rattle.std.specs.List.{AllByRecursion as Each, AllZip, Contains, filter, insert, list_any, range_with_len}
+unfoldable pub use Rattle.std.specs.List.{IsDistinct}
 pub use Rattle.std.specs.Map.{keys_of, lookup, set_value}
-pub use Rattle.std.specs.Option.{option_copied, option_map_or}
-pub use Rattle.std.specs.Ordering.{MatchOrdering, int_eq, is_eq, is_lt, match_ordering, ordering_index, ordering_reverse, ordering_then}
+pub use Rattle.std.specs.Option.{option_copied, option_map, option_map_or}
+pub use Rattle.std.specs.Ordering.{MatchOrdering, int_eq, is_eq, is_lt, match_ordering, nat_cmp, ordering_index, ordering_reverse, ordering_then}
 pub use Rattle.std.specs.Str.{IsUtf8, bytes_eq}
 pub use Rattle.std.specs.Vec.{vec_capacity, vec_len}
+pub use Rattle.std.specs.declared.cmp.Ordering.TheVariants.{Equal, Greater, Less}
 pub use Rattle.std.specs.declared.cmp.Ordering.{Ordering}
 pub use Rattle.words.proofs.OneItem.{spelling_one}
 pub use Rattle.words.specs.Kinds.{is_opening}
 pub use Rattle.words.specs.OpenLines.{IsOpenLine}
 pub use Rattle.words.specs.Spelling.{IsInRange, spelling}
-pub use Rattle.words.specs.declared.command.Command.{Command}
 pub use Rattle.words.specs.declared.command.Command.TheVariants.{Deliver, More, Writeoff}
+pub use Rattle.words.specs.declared.command.Command.{Command}
 pub use Rattle.words.specs.declared.command.Request.{Request}
 pub use Rattle.words.specs.declared.limits.TheConstants.{MAX_ORDER_LINES}
 pub use Rattle.words.specs.declared.open_line.OpenLine.{OpenLine}
-pub use Rattle.words.specs.declared.reply.Refusal.{Refusal}
 pub use Rattle.words.specs.declared.reply.Refusal.TheVariants.{KeyReused}
-pub use Rattle.words.specs.declared.reply.Reply.{Reply}
+pub use Rattle.words.specs.declared.reply.Refusal.{Refusal}
 pub use Rattle.words.specs.declared.reply.Reply.TheVariants.{Done, Refused}
+pub use Rattle.words.specs.declared.reply.Reply.{Reply}
 pub use lib.Pointwise.{bytes_decides}
 pub use native.Mathlib.Decide.{dec_le}

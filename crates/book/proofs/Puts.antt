@@ -1,7 +1,6 @@
 -- Rows that are put in by their keys.
 use Rattle.std.proofs.Common.{arith, ◌≡◌, List, [], ◌∷◌, ◌++◌, map, Bool, true, false, refl, sym, ap, ◌∙◌, subst, if◌then◌else◌, Less, Equal, ◌⊎◌, inl, inr}
-use Rattle.book.proofs.Prelude.{Each, IsStrictlySortedBy, IsTotalOrder, Ordering, filter, insert_in_order, ordering_reverse, put_row, put_rows, tied_itself}
-use Rattle.std.specs.declared.cmp.Ordering.TheVariants.{Greater}
+use Rattle.book.proofs.Prelude.{Each, Greater, IsStrictlySortedBy, IsTotalOrder, Ordering, filter, insert_in_order, ordering_reverse, put_row, put_rows, tied_itself}
 use Rattle.book.proofs.Sums.{each-imp, each-map}
 use Rattle.book.proofs.Lists.{each-unmap}
 

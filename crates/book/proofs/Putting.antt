@@ -1,9 +1,6 @@
 -- The order that a command makes, put in by its number.
 use Rattle.std.proofs.Common.{arith, ◌≡◌, ◌∙◌, ℕ, ◌==◌, ◌++◌, Bool, true, false, List, [], ◌∷◌, Option, None, Some, IsNone, ap, cond, find, if◌then◌else◌, is_some, map, nat_lt, refl, subst, sym, true≢false}
-use Rattle.book.proofs.Prelude.{Aborted, Command, Committed, Each, FirstFailure, Good, IsStrictlySortedBy, Ledger, Name, OpenLine, Order, OrderEntry, Ordering, abort_one, add_hold, change_lines, checks, hold_more, insert_entry, insert_in_order, is_at, is_eq, is_lt, keys_of, line_on, lookup, lower_held, match_ordering, name_of, nat_cmp_total, new_line, next, none-some, order_after, order_numbered, order_of, ordering_reverse, put_row, raise_used, same_Some, set_state, set_value, tied_itself}
-use Rattle.std.specs.Option.{option_map}
-use Rattle.std.specs.Ordering.{nat_cmp}
-use Rattle.std.specs.declared.cmp.Ordering.TheVariants.{Equal, Greater, Less}
+use Rattle.book.proofs.Prelude.{Aborted, Command, Committed, Each, Equal, FirstFailure, Good, Greater, IsStrictlySortedBy, Ledger, Less, Name, OpenLine, Order, OrderEntry, Ordering, abort_one, add_hold, change_lines, checks, hold_more, insert_entry, insert_in_order, is_at, is_eq, is_lt, keys_of, line_on, lookup, lower_held, match_ordering, name_of, nat_cmp, nat_cmp_total, new_line, next, none-some, option_map, order_after, order_numbered, order_of, ordering_reverse, put_row, raise_used, same_Some, set_state, set_value, tied_itself}
 use Rattle.words.specs.declared.command.Command.TheVariants as command
 use Rattle.book.proofs.Chosen.{none_after}
 use Rattle.book.proofs.Keyed.{same_number}

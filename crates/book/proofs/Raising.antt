@@ -1,9 +1,6 @@
 -- More held on an order that is open leaves every field its room, if it passes its check.
 use Rattle.std.proofs.Common.{◌≡◌, ℕ, ◌+◌, ◌≤◌, ℤ, pos, ◌+ℤ◌, ◌-ℤ◌, ◌<ℤ◌, List, [], ◌∷◌, ◌++◌, map, Bool, true, false, IsSomeAnd, MatchOption, Option, Some, None, refl, sym, ap, ◌∙◌, subst, arith, if◌then◌else◌, true≢false, ◌==◌, nat_cmp}
-use Rattle.book.proofs.Prelude.{Aborted, Add, Committed, Each, IsStrictlySortedBy, Ledger, Line, MayHoldMore, Name, OpenLine, Order, State, Take, Way, add_hold, change_order, committed_state, held_to_add, held_to_take, if_add, if_take, ints, is_committed, is_open, line_name, line_on, new_line, on, open_state, order_numbered, raise_held, same_name, settled}
-use Rattle.book.specs.declared.order.State.TheVariants.{Open}
-use Rattle.book.specs.Ledger.{Field}
-use Rattle.book.specs.Outcomes.{total, moved}
+use Rattle.book.proofs.Prelude.{common_steps, Aborted, Add, Committed, Each, Field, IsStrictlySortedBy, Ledger, Line, MayHoldMore, Name, Open, OpenLine, Order, State, Take, Way, add_hold, change_order, committed_state, held_to_add, held_to_take, if_add, if_take, ints, is_committed, is_open, line_name, line_on, moved, new_line, on, open_state, order_numbered, raise_held, same_name, settled, total}
 use Rattle.book.proofs.Sums.{each-imp, each-both, each-map, total-map, total-eq}
 use Rattle.book.proofs.Bounds.{OneOn, Sound, falls_below_iff, rises_above_iff, HasRoom}
 use Rattle.book.proofs.Closing.{name_is, at_line, at_number}
@@ -125,13 +122,8 @@ room-rising A n l Take way sound sorted room r check = each-both (λ f h bad. at
     B = change_order n (add_hold l) A
 
     at : (f : Field) → HasRoom A f → (b : Bool) → same_name name f.name ≡ b → (same_name name f.name ≡ true → (settled B f -ℤ held_to_take B f.name) <ℤ pos f.lo → ⊥) → HasRoom B f
-    at f h true e bad = let high = h.1 in let s = same_settled A n l r f in
-        let a : held_to_add B f.name ≡ held_to_add A f.name = same_part if_add f.name A n l r (λ o x. x.side if_add (λ k. ap (λ w. if_add w k) way) f.name) in
-        (not_less _ _ (bad e), omega (arith, ints))
-    at f h false e bad = let low = h.0 in let high = h.1 in let s = same_settled A n l r f in
-        let t : held_to_take B f.name ≡ held_to_take A f.name = same_part if_take f.name A n l r (λ o x. x.others if_take f.name e) in
-        let a : held_to_add B f.name ≡ held_to_add A f.name = same_part if_add f.name A n l r (λ o x. x.others if_add f.name e) in
-        (omega (arith, ints), omega (arith, ints))
+    at f h true e bad = grind (arith, ints, common_steps, (same_settled A n l r f), (same_part if_add f.name A n l r (λ o x. x.side if_add (λ k. ap (λ w. if_add w k) way) f.name)), B, name, not_less)
+    at f h false e bad = grind (arith, (same_settled A n l r f), (same_part if_take f.name A n l r (λ o x. x.others if_take f.name e)), (same_part if_add f.name A n l r (λ o x. x.others if_add f.name e)), B, name)
 room-rising A n l Add way sound sorted room r check = each-both (λ f h bad. at f h (same_name name f.name) refl bad) A.fields room
     (none_bad (λ f. pos f.hi <ℤ (settled B f +ℤ held_to_add B f.name)) name A.fields sorted (λ h. check ((rises_above_iff B (sound-more A n l sound r) name).1 h)))
   where
@@ -142,13 +134,8 @@ room-rising A n l Add way sound sorted room r check = each-both (λ f h bad. at 
     B = change_order n (add_hold l) A
 
     at : (f : Field) → HasRoom A f → (b : Bool) → same_name name f.name ≡ b → (same_name name f.name ≡ true → pos f.hi <ℤ (settled B f +ℤ held_to_add B f.name) → ⊥) → HasRoom B f
-    at f h true e bad = let low = h.0 in let s = same_settled A n l r f in
-        let t : held_to_take B f.name ≡ held_to_take A f.name = same_part if_take f.name A n l r (λ o x. x.side if_take (λ k. ap (λ w. if_take w k) way) f.name) in
-        (omega (arith, ints), not_less _ _ (bad e))
-    at f h false e bad = let low = h.0 in let high = h.1 in let s = same_settled A n l r f in
-        let t : held_to_take B f.name ≡ held_to_take A f.name = same_part if_take f.name A n l r (λ o x. x.others if_take f.name e) in
-        let a : held_to_add B f.name ≡ held_to_add A f.name = same_part if_add f.name A n l r (λ o x. x.others if_add f.name e) in
-        (omega (arith, ints), omega (arith, ints))
+    at f h true e bad = grind (arith, (same_settled A n l r f), (same_part if_take f.name A n l r (λ o x. x.side if_take (λ k. ap (λ w. if_take w k) way) f.name)), B, name, not_less)
+    at f h false e bad = grind (arith, (same_settled A n l r f), (same_part if_take f.name A n l r (λ o x. x.others if_take f.name e)), (same_part if_add f.name A n l r (λ o x. x.others if_add f.name e)), B, name)
 
 pub room-more : (A : Ledger) (n : ℕ) (l : OpenLine) → Each Sound A.orders → IsStrictlySortedBy nat_cmp (map (λ o. o.number) A.orders) → InOrder A → Room A
     → IsSomeAnd (order_numbered A n) (MayHoldMore (line_name (new_line l)) l.way) → LinePasses (change_order n (add_hold l) A) (line_name (new_line l)) l.way

@@ -1,9 +1,8 @@
 -- Rows of a good ledger each tell something in range, and rows that each tell something tell a ledger.
 use Rattle.std.proofs.Common.{◌≡◌, ◌∙◌, ℕ, ◌+◌, ◌≤◌, ℤ, pos, negsuc, ◌+ℤ◌, ◌-ℤ◌, ◌≤ℤ◌, List, [], ◌∷◌, ap, arith, flat_map, map, nat_abs, refl, subst, sym, find, IsSome, true, false, Bool, if◌then◌else◌, Some, true≢false}
-use Rattle.book.proofs.Prelude.{AllZip, Each, FieldEntry, FieldRow, Good, Head, IsArticle, IsBounded, IsBranch, IsFieldRow, IsFieldTold, IsGoodField, IsGoodKept, IsGoodLine, IsGoodMove, IsGoodOrder, IsKeptTold, IsLevel, IsLineTold, IsMoveTold, KeptEntry, KeptRow, Ledger, Line, LineCells, LineRow, MoveEntry, MoveRow, Name, Order, OrderCells, OrderRow, TellsField, entry_row, field_cells, field_of, head_of, held_to_add, held_to_take, ints, kept_cells, kept_row, line_cells, line_name, lines_from, move_cells, move_row, order_cells, order_lines, order_row, same_name, settled}
+use Rattle.book.proofs.Prelude.{AllZip, Each, Field, FieldEntry, FieldRow, Good, Head, IsArticle, IsBounded, IsBranch, IsFieldRow, IsFieldTold, IsGoodField, IsGoodKept, IsGoodLine, IsGoodMove, IsGoodOrder, IsKeptTold, IsLevel, IsLineTold, IsMoveTold, KeptEntry, KeptRow, Ledger, Line, LineCells, LineRow, MoveEntry, MoveRow, Name, Order, OrderCells, OrderRow, TellsField, entry_row, field_cells, field_of, head_of, held_to_add, held_to_take, ints, kept_cells, kept_row, line_cells, line_name, lines_from, move_cells, move_row, order_cells, order_lines, order_row, same_name, settled}
 use Rattle.std.specs.Global.{Global}
 use denote.RawPtr.{null_ptr}
-use Rattle.book.specs.Ledger.{Field}
 use Rattle.book.specs.Told.{IsHeadTold, TellsLine, head_row}
 use Rattle.book.proofs.Bounds.{inf_is, inf_unique, sup_is, sup_unique}
 use Rattle.book.proofs.Closing.{name_is, sounds_from_good}

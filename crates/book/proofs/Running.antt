@@ -1,11 +1,8 @@
 -- Running numbers: what the entries of fields say of a ledger, and what becomes of them.
-use Rattle.book.proofs.Prelude.{Add, BreaksBound, Command, Contains, Content, Each, FieldCells, FieldEntry, FirstFailure, Good, IsSafeMoved, IsUpToDate, Ledger, Line, Name, Order, Ordering, Request, Stock, Take, Way, accept, checks, common_steps, entry_row, field_cells, field_cmp, field_named, field_of, field_row, held_to_add, held_to_take, holding, if_add, if_take, insert_entry, insert_in_order, ints, is_at, is_committed, is_eq, is_lt, is_open, line_name, lookup, match_ordering, name_cmp, name_of, new_field_rows, next, on, put_row, put_rows, same_Some, same_name, settled, signed, with_entries}
+use Rattle.book.proofs.Prelude.{Add, BreaksBound, Command, Contains, Content, Each, Equal, Field, FieldCells, FieldEntry, FirstFailure, Good, Greater, IsSafeMoved, IsUpToDate, Ledger, Less, Line, Name, Order, Ordering, Request, Stock, Take, Way, accept, checks, common_steps, entry_row, field_cells, field_cmp, field_named, field_of, field_row, held_to_add, held_to_take, holding, if_add, if_take, insert_entry, insert_in_order, ints, is_at, is_committed, is_eq, is_lt, is_open, line_name, lookup, match_ordering, moved, name_cmp, name_of, new_field_rows, next, on, put_row, put_rows, same_Some, same_name, settled, signed, total, with_entries}
 use Rattle.std.proofs.Common.{◌≡◌, ◌∙◌, ℕ, suc, ◌+◌, ◌≤◌, ℤ, pos, ◌+ℤ◌, ◌-ℤ◌, ◌≤ℤ◌, ◌<ℤ◌, List, [], ◌∷◌, Option, None, Some, IsSomeAnd, ap, arith, cond, if◌then◌else◌, is_some, map, refl, string_bytes, subst, sym, true, false, Bool, true≢false, Global, String}
-use Rattle.std.specs.declared.cmp.Ordering.TheVariants.{Equal, Greater, Less}
 use Rattle.escrow.specs.Choices.{IsInfimum as IsLeastOf, IsSafe as IsSafeStock, IsSupremum as IsGreatestOf}
 use Rattle.words.specs.declared.command.Command.TheVariants as command
-use Rattle.book.specs.Ledger.{Field}
-use Rattle.book.specs.Outcomes.{moved, total}
 use Rattle.book.specs.Plans.{Fits, PlanView}
 use Rattle.book.proofs.Closing.{all_pass, name_is}
 use Rattle.book.proofs.Growing.{none_if_not_some}
@@ -205,13 +202,7 @@ new_field A r b a lo hi start is good passed = rw is (ap (λ (row : FieldCells).
 
     row : entry_row (n, record { start = start; quantity = record { lo = lo; hi = hi; value = start; held_to_take = 0; held_to_add = 0 } })
         ≡ field_row (accept A (record { key = r.key; command = command.Field b a lo hi start })) (record { name = n; lo = lo; hi = hi; start = start })
-    row =
-        let v = value in
-        let t = takes in
-        let h = adds in
-        let inf : pos start -ℤ pos 0 ≡ ((pos start +ℤ total (λ m. if same_name n m.field then m.amount else pos 0) A.moves) +ℤ total (λ o. if is_committed o then moved n (λ l. l.used) o else pos 0) A.orders) -ℤ held_to_take A n = omega (arith, ints) in
-        let sup : pos start +ℤ pos 0 ≡ ((pos start +ℤ total (λ m. if same_name n m.field then m.amount else pos 0) A.moves) +ℤ total (λ o. if is_committed o then moved n (λ l. l.used) o else pos 0) A.orders) +ℤ held_to_add A n = omega (arith, ints) in
-        λ i. record { branch = b; article = a; lo = pos lo; hi = pos hi; start = pos start; value = value i; inf = inf i; sup = sup i }
+    row = grind (arith, adds, moves, n, takes, used, value)
 
 -- ---- fields stay
 

@@ -1,8 +1,6 @@
 -- Whole runs from a good ledger, and the numbers of a good ledger's fields.
 use Rattle.std.proofs.Common.{◌≡◌, ℕ, zero, suc, ◌≤◌, ℤ, pos, ◌+ℤ◌, ◌-ℤ◌, ◌≤ℤ◌, List, [], ◌∷◌, Bool, true, false, refl, sym, ap, ◌∙◌, subst, arith, if◌then◌else◌, ◌↔◌, take}
-use Rattle.book.proofs.Prelude.{Command, Each, Good, IsDistinct, IsGoodField, IsInRange, IsKey, IsStrictlySortedBy, Ledger, Reply, Request, Runs, bytes_decides, held_to_add, held_to_take, ints, is_open, new_ledger, same_command, settled, spelling, spelling_one}
-use Rattle.book.specs.Ledger.{Field}
-use Rattle.book.specs.Outcomes.{total}
+use Rattle.book.proofs.Prelude.{Command, Each, Field, Good, IsDistinct, IsGoodField, IsInRange, IsKey, IsStrictlySortedBy, Ledger, Reply, Request, Runs, bytes_decides, held_to_add, held_to_take, ints, is_open, new_ledger, same_command, settled, spelling, spelling_one, total}
 use Rattle.book.specs.Answers.{After}
 use Rattle.book.proofs.Sums.{each-both}
 use Rattle.book.proofs.Bounds.{takes, adds, takes-not_negative, adds-not_negative, room_from_safe, HasRoom}
@@ -58,10 +56,7 @@ in_order A g = each-both (λ f r x. one f r x) A.fields (room_from_safe A (sound
     part b z h = grind arith
 
     one : (f : Field) → HasRoom A f → IsGoodField f → (pos f.lo ≤ℤ (settled A f -ℤ held_to_take A f.name)) × ((settled A f -ℤ held_to_take A f.name) ≤ℤ settled A f) × (settled A f ≤ℤ (settled A f +ℤ held_to_add A f.name)) × ((settled A f +ℤ held_to_add A f.name) ≤ℤ pos f.hi) × (f.hi ≤ 1000000000)
-    one f r x =
-        let t : pos 0 ≤ℤ held_to_take A f.name = total-not_negative (λ o. if is_open o then total (takes f.name) o.lines else pos 0) (λ o. part (is_open o) (total (takes f.name) o.lines) (takes-not_negative f.name o.lines)) A.orders in
-        let a : pos 0 ≤ℤ held_to_add A f.name = total-not_negative (λ o. if is_open o then total (adds f.name) o.lines else pos 0) (λ o. part (is_open o) (total (adds f.name) o.lines) (adds-not_negative f.name o.lines)) A.orders in
-        (r.0, (omega (arith, ints)), (omega (arith, ints)), r.1, x.hi)
+    one f r x = grind (arith, ints, (total-not_negative (λ o. if is_open o then total (takes f.name) o.lines else pos 0) (λ o. part (is_open o) (total (takes f.name) o.lines) (takes-not_negative f.name o.lines)) A.orders), (total-not_negative (λ o. if is_open o then total (adds f.name) o.lines else pos 0) (λ o. part (is_open o) (total (adds f.name) o.lines) (adds-not_negative f.name o.lines)) A.orders), adds, adds-not_negative, part, takes, takes-not_negative)
 
 -- the ledger of a new desk is good
 pub good_new : Good new_ledger

@@ -1,10 +1,7 @@
 -- Every accepted command leaves a good ledger safe.
-use Rattle.book.proofs.Prelude.{Add, Command, Each, FirstFailure, Good, IsGoodLine, IsGoodOrder, Ledger, Line, MayHoldMore, Name, OpenLine, Order, Plain, Request, Take, Way, accept, checks, common_steps, dec_le, field_named, held_to_add, held_to_take, if_add, if_take, ints, is_committed, is_lt, is_open, is_transfer, line_name, line_on, name_cmp, next, on, order_numbered, same_name, signed, transfer_lines}
+use Rattle.book.proofs.Prelude.{Add, Command, Each, Field, FirstFailure, Good, IsGoodLine, IsGoodOrder, IsSafe, Ledger, Line, MayHoldMore, Name, OpenLine, Order, Plain, Request, Take, Transfer, Way, accept, checks, common_steps, dec_le, field_named, held_to_add, held_to_take, if_add, if_take, ints, is_committed, is_lt, is_open, is_transfer, line_name, line_on, moved, name_cmp, next, on, order_numbered, same_name, signed, total, transfer_lines}
 use Rattle.std.proofs.Common.{◌≡◌, ◌≢◌, ℕ, ◌≤◌, ℤ, pos, List, Bool, true, false, IsTrue, IsFalse, IsNone, IsSome, IsSomeAnd, MatchOption, Option, Some, None, refl, sym, subst, arith, if◌then◌else◌}
 use Rattle.words.specs.declared.command.Command.TheVariants as command
-use Rattle.book.specs.declared.order.Kind.TheVariants.{Transfer}
-use Rattle.book.specs.Ledger.{Field}
-use Rattle.book.specs.Outcomes.{total, moved, IsSafe}
 use Rattle.book.proofs.Sums.{each-imp, total-zero}
 use Rattle.book.proofs.Bounds.{safe_from_room, HasRoom}
 use Rattle.book.proofs.Closing.{fit_from_good, fit-accept, all_pass, name_is, sounds_from_good}

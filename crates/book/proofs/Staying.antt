@@ -1,7 +1,6 @@
 -- All that makes a ledger good but its kept keys and its safety, and where it stays though orders change.
 use Rattle.std.proofs.Common.{◌≡◌, ℕ, ◌+◌, ◌<◌, ◌≤◌, List, [], ◌∷◌, map, Bool, true, false, ◌&&◌, ◌||◌, ◌==◌, IsFalse, IsNone, IsSome, IsSomeAnd, refl, sym, ap, ◌∙◌, subst, arith, if◌then◌else◌, true≢false, nat_cmp, nat_lt, nat_le, Less, Equal, length, count_by}
-use Rattle.book.proofs.Prelude.{Aborted, Each, Good, IsDistinct, IsGoodField, IsGoodLine, IsGoodMove, IsGoodOrder, IsMoment, IsStrictlySortedBy, IsTotalOrder, Kept, Ledger, Line, MatchOrdering, Move, Name, Order, Ordering, State, bytes_decides, bytes_eq, change_lines, field_named, is_eq, is_eq-slice_cmp, is_lt, is_open, is_transfer, line_name, name_cmp, nat_list_cmp_total, on, on_total, open_orders, open_state, order_numbered, ordering_then, places, ranks, same_name, set_state, slice_cmp, then_total}
-use Rattle.std.specs.declared.cmp.Ordering.TheVariants.{Greater}
+use Rattle.book.proofs.Prelude.{Aborted, Each, Good, Greater, IsDistinct, IsGoodField, IsGoodLine, IsGoodMove, IsGoodOrder, IsMoment, IsStrictlySortedBy, IsTotalOrder, Kept, Ledger, Line, MatchOrdering, Move, Name, Order, Ordering, State, bytes_decides, bytes_eq, change_lines, field_named, is_eq, is_eq-slice_cmp, is_lt, is_open, is_transfer, line_name, name_cmp, nat_list_cmp_total, on, on_total, open_orders, open_state, order_numbered, ordering_then, places, ranks, same_name, set_state, slice_cmp, then_total}
 use Rattle.book.proofs.Sums.{each, each-imp, each-both, each-map}
 use Rattle.book.proofs.Bounds.{OneOn}
 use Rattle.book.proofs.Closing.{Fit, Fine}

@@ -1,14 +1,10 @@
 -- What becomes of a field's stock, as an accepted command changes an order's line on it.
-use Rattle.book.proofs.Prelude.{Aborted, Add, Becomes, Command, Committed, Contains, Each, FieldCells, FieldEntry, FirstFailure, Good, IsAccepted, IsGoodOrder, IsInRange, IsQty, IsSafeMoved, IsStrictlySortedBy, IsUpToDate, Ledger, Line, MayBecome, Name, OpenLine, Order, Request, State, Stock, Take, Way, accept, add_hold, added_part, change_lines, changes_field, checks, committed_state, common_steps, entry_row, field_of, field_row, held_of, held_to_add, held_to_take, hold_more, holding, if_add, if_take, ints, is_committed, is_open, is_touched, is_transfer, line_name, line_on, lower_held, moved_by_command, moved_part, name_of, new_line, next, on, open_state, order_after, order_number, order_numbered, part_of_line, raise_held, raise_used, same_name, set_state, settled, signed, some_part, taken_part, transfer_lines}
+use Rattle.book.proofs.Prelude.{Aborted, Add, Becomes, Command, Committed, Contains, Each, Field, FieldCells, FieldEntry, FirstFailure, Good, IsAccepted, IsGoodOrder, IsInRange, IsQty, IsSafeMoved, IsStrictlySortedBy, IsUpToDate, Ledger, Line, MayBecome, Name, Open, OpenLine, Order, Request, State, Stock, Take, Way, accept, add_hold, added_part, change_lines, changes_field, checks, committed_state, common_steps, entry_row, field_of, field_row, held_of, held_to_add, held_to_take, hold_more, holding, if_add, if_take, ints, is_committed, is_open, is_touched, is_transfer, line_name, line_on, lower_held, moved_by_command, moved_part, name_of, new_line, next, on, open_state, option_map, order_after, order_number, order_numbered, part_of_line, raise_held, raise_used, same_name, set_state, settled, signed, some_part, taken_part, total, transfer_lines}
 use Rattle.std.proofs.Common.{◌≡◌, ◌∙◌, ℕ, ◌-◌, ◌<◌, ◌≤◌, ℤ, pos, neg_ℤ, ◌+ℤ◌, ◌-ℤ◌, ◌≤ℤ◌, ◌==◌, ◌||◌, ◌++◌, Bool, true, false, List, [], ◌∷◌, IsFalse, IsSomeAnd, MatchOption, Option, None, Some, ap, arith, find, if◌then◌else◌, is_some, map, nat_cmp, refl, subst, sym, true≢false}
-use Rattle.std.specs.Option.{option_map}
 use Rattle.escrow.specs.Choices.{IsSafe}
 use Rattle.escrow.specs.Escrow.{moved, MovesValue}
 use Rattle.words.specs.declared.command.Command.TheVariants as command
-use Rattle.book.specs.Ledger.{Field}
-use Rattle.book.specs.Outcomes.{total}
 use Rattle.book.specs.Running.{amount_held, line_before}
-use Rattle.book.specs.declared.order.State.TheVariants.{Open}
 use Rattle.book.proofs.After.{moved-next}
 use Rattle.book.proofs.Bounds.{OneOn, adds-not_negative, takes-not_negative}
 use Rattle.book.proofs.Chosen.{some_is}
@@ -75,17 +71,11 @@ total_most g least A n good =
 abbrev pub IsBefore : Name → Option Order → Type 0
 IsBefore f x = MatchOption x (Unit {0}) (λ o. (is_open o ≡ true) × OneOn f o.lines)
 
-opened : (o : Order) → (IsSomeAnd (Some o) (λ o. IsFalse (is_open o)) → ⊥) → is_open o ≡ true
-opened o ended = grind arith
-
 before_of : (A : Ledger) (n : ℕ) (f : Name) → Good A → (IsSomeAnd (order_numbered A n) (λ o. IsFalse (is_open o)) → ⊥) → IsBefore f (order_numbered A n)
-before_of A n f good ended = grind (arith, each-found, one_on, opened)
-
-before_none : (f : Name) (x : Option Order) → x ≡ None → IsBefore f x
-before_none f x e = subst (IsBefore f) (sym e) tt
+before_of A n f good ended = grind (arith, each-found, one_on)
 
 pub before : (A : Ledger) (c : Command) (n : ℕ) (f : Name) → Good A → FirstFailure (checks A c) None → order_number c ≡ Some n → IsBefore f (order_numbered A n)
-before x c n f good h e = grind (arith, all_pass, before_none, before_of, none_opened, some_is)
+before x c n f good h e = grind (arith, all_pass, before_of, none_opened, some_is)
 
 -- ---- the line before and after
 
@@ -95,23 +85,13 @@ pub record LineGoes (x : Option Line) (l : Line) (s : State) : Type 0 where
   pub used : s ≡ Committed → l.used ≤ amount_held x
   pub qty : s ≡ Open → amount_held x < l.held → IsQty (l.held - amount_held x)
 
-open_not_committed : Open ≡ Committed → ⊥
-open_not_committed e = true≢false (ap open_state e)
-
 -- a line of a new order
 new_goes : (f : Name) (ls : List OpenLine) (l : Line) (x : Option Line) → x ≡ None → Each (λ l. IsQty l.qty) ls → find (on f) (map new_line ls) ≡ Some l → LineGoes x l Open
-new_goes f ls l x none range there = grind (arith, (each-found (λ l. IsQty l.held) (on f) l (map new_line ls) (each-map (λ l. IsQty l.held) new_line ls range) there), each-map, open_not_committed)
+new_goes f ls l x none range there = grind (arith, (each-found (λ l. IsQty l.held) (on f) l (map new_line ls) (each-map (λ l. IsQty l.held) new_line ls range) there), each-map)
 
 -- a line that stays on its field, its way the same
 kept_goes : (f : Name) (g : Line → Line) (ls : List Line) (s : State) (l : Line) → ((k : Line) → on f (g k) ≡ on f k) → ((k : Line) → LineGoes (Some k) (g k) s) → find (on f) (map g ls) ≡ Some l → LineGoes (find (on f) ls) l s
 kept_goes f g ls s l keeps goes there = grind (arith, (find_map f g keeps ls), some_is)
-
-less_not : (m n : ℕ) → m ≤ n → n < m → ⊥
-less_not m n h k = absurd (omega arith)
-
--- no more is held than before
-no_more : (k l : Line) (s : State) → k.way ≡ l.way → l.held ≤ k.held → (s ≡ Committed → l.used ≤ k.held) → LineGoes (Some k) l s
-no_more k l s way less used = record { way = way; used = used; qty = λ e more. absurd (less_not l.held k.held less more) }
 
 lowered : (b : Bool) (q : ℕ) (k : Line) → LineGoes (Some k) (if b then lower_held q k else k) Open
 lowered b q k = grind arith
@@ -153,9 +133,7 @@ changed_goes A n f change o l good is goes e there = by (order_numbered A n) ref
   where
     by : (x : Option Order) → order_numbered A n ≡ x → IsBefore f x → option_map change x ≡ Some o → LineGoes (line_before x f) l o.state
     by None k is e = absurd (true≢false (sym (ap is_some e)))
-    by (Some m) k is e =
-        let same = some_is (change m) o e in
-        subst (λ (p : Order). LineGoes (line_on m f) l p.state) same (goes m (each-found (IsGoodOrder A) (λ o. o.number == n) m A.orders good.orders k) is.0 (subst (λ (p : Order). find (on f) p.lines ≡ Some l) (sym same) there))
+    by (Some m) k is e = grind (arith, (each-found (IsGoodOrder A) (λ o. o.number == n) m A.orders good.orders k), (some_is (change m) o e))
 
 opened_goes : (f : Name) (new o : Order) (ls : List OpenLine) (l : Line) (x : Option Order) → x ≡ None → new.lines ≡ map new_line ls → new.state ≡ Open → Each (λ l. IsQty l.qty) ls → Some new ≡ Some o → find (on f) o.lines ≡ Some l → LineGoes (line_before x f) l o.state
 opened_goes f new o ls l x none lines state range e there =
@@ -177,7 +155,7 @@ line_goes A (command.Release m b a q) n f o l good range h e is made there =
     changed_goes A n f (change_lines (name_of b a) (lower_held q)) o l good is
     (λ p g unended k. subst (LineGoes (line_on p f) l) (state_is p.state unended) (kept_goes f (λ x. if is_transfer p || on (name_of b a) x then lower_held q x else x) p.lines Open l (λ x. on_kept f (is_transfer p || on (name_of b a) x) (lower_held q) x refl) (λ x. lowered (is_transfer p || on (name_of b a) x) q x) k))
     (subst (λ k. option_map (change_lines (name_of b a) (lower_held q)) (order_numbered A k) ≡ Some o) (some_is m n e) made) there
-line_goes A (command.Commit m) n f o l good range h e is made there = grind (arith, common_steps, (some_is m n e), changed_goes, each-found, no_more)
+line_goes A (command.Commit m) n f o l good range h e is made there = grind (arith, common_steps, (some_is m n e), changed_goes, each-found)
 line_goes A (command.Abort m) n f o l good range h e is made there = grind arith
 line_goes A c n f o l good range h e is made there = absurd (true≢false (sym (ap is_some e)))
 
@@ -268,8 +246,7 @@ least_if : (b : Bool) (z : ℤ) → pos 0 ≤ℤ z → pos 0 ≤ℤ (if b then z
 least_if b z h = grind arith
 
 held_there : (A : Ledger) (f : Name) (x : Option Order) (e : FieldEntry) (w : Way) → IsUpToDate A (f, e) → some_part (taken_part f) x ≤ℤ held_to_take A f → some_part (added_part f) x ≤ℤ held_to_add A f → IsBefore f x → HasWay w (line_before x f) → amount_held (line_before x f) ≤ held_of e.quantity w
-held_there A f x e Take up takes adds is way = grind (arith, ints, (takes_before f Take x is way))
-held_there A f x e Add up takes adds is way = grind (arith, (adds_before f Add x is way))
+held_there b f x e y up takes adds is way = grind (arith, ints, common_steps, adds_before, takes_before)
 
 -- what is held more is safe, since the next ledger is
 more_safe : (A B : Ledger) (f : Name) (e : FieldEntry) (held : ℕ) (l : Line) (w : Way) → l.way ≡ w → Good B → Contains B.fields (field_of (f, e)) → IsUpToDate A (f, e) → Changes A B (field_of (f, e)) held l Open → held < l.held → held ≤ held_of e.quantity w → IsSafe (holding e.quantity w (l.held - held))

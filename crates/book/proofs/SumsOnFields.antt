@@ -1,10 +1,8 @@
 -- Sums on each of the fields: where a field stands among those in order, and what an entry more adds.
-use Rattle.book.proofs.Prelude.{Aborted, Committed, Each, FieldEntry, IsBinarySearchResult, IsField, IsNonDecreasingBy, IsSearchInRange, IsSmall, IsStrictlySortedBy, Line, MoveEntry, Name, OrderEntry, Ordering, State, added, committed_state, common_steps, entry_name, field_of, if_add, if_take, ints, is_lt, line_name, lines_numbers, moved_by_move, moved_by_order, name_cmp, nothing, numbers_on, only_on, open_state, ordering_index, ordering_reverse, part_of_line, plus, same_name, signed, tied_itself}
+use Rattle.book.proofs.Prelude.{Aborted, Committed, Each, FieldEntry, IsBinarySearchResult, IsField, IsNonDecreasingBy, IsSearchInRange, IsSmall, IsStrictlySortedBy, Line, MoveEntry, Name, Numbers, Open, OrderEntry, Ordering, State, added, committed_state, common_steps, entry_name, field_of, if_add, if_take, ints, is_lt, line_name, lines_numbers, moved_by_move, moved_by_order, name_cmp, nothing, numbers_on, only_on, open_state, ordering_index, ordering_reverse, part_of_line, plus, same_name, signed, tied_itself}
 use Rattle.std.proofs.Common.{◌≡◌, ◌∙◌, ℕ, zero, suc, ◌+◌, ◌<◌, ◌≤◌, pos, ◌+ℤ◌, Bool, true, false, true≢false, List, [], ◌∷◌, Some, is_some, IsSome, IsNone, if◌then◌else◌, ap, arith, get_or, length, map, refl, set, subst, sym, take, Less, Equal, Greater, Result, Ok, Err, MatchResult}
 use Rattle.std.proofs.lemmas.List.Sorted.{searchable_from_sorted}
 use Rattle.std.specs.Ordering.{is_gt}
-use Rattle.book.specs.declared.book.sums.Numbers.{Numbers}
-use Rattle.book.specs.declared.order.State.TheVariants.{Open}
 use Rattle.book.specs.Walk.{added_by_line, added_by_order, moved_by_line, taken_by_line, taken_by_order}
 use Rattle.book.specs.Sums.{field_among, AreFieldsInOrder, IsFieldAt}
 use Rattle.book.proofs.Asked.{same_self}
@@ -68,9 +66,6 @@ other_name f g h = (
 not_less : (o : Ordering) → o ≡ Less → o ≡ Equal → ⊥
 not_less o a b = true≢false (ap is_lt (sym a ∙ b))
 
-not_greater : (o : Ordering) → o ≡ Greater → o ≡ Equal → ⊥
-not_greater o a b = true≢false (ap is_gt (sym a ∙ b))
-
 -- no field stands before the one before it
 ascending : (fs : List (Name × FieldEntry)) → AreFieldsInOrder fs → (k : ℕ) (d : Name × FieldEntry) → k + 1 < length fs → is_lt (name_cmp (entry_name (get_or fs (k + 1) d)) (entry_name (get_or fs k d))) ≡ false
 unfolding IsStrictlySortedBy
@@ -95,7 +90,7 @@ none_there name (f ∷ fs) h =
 -- what a search for the name answers
 pub searched : (name : Name) (fs : List (Name × FieldEntry)) → AreFieldsInOrder fs → (r : Result ℕ ℕ) → IsSearchInRange r (length fs) → IsBinarySearchResult (λ e. name_cmp (entry_name e) name) fs r
     → MatchResult r (IsFieldAt fs name) (λ i. IsNone (field_among fs name))
-searched name fs s b range found = grind (arith, equal_name, name_is, none_there, not_greater, not_less, rising)
+searched name fs s b range found = grind (arith, equal_name, name_is, none_there, not_less, rising)
 
 -- a field at a place is among them
 pub there_at : (name : Name) (fs : List (Name × FieldEntry)) (i : ℕ) → IsFieldAt fs name i → IsField fs name

@@ -2,10 +2,9 @@
 -- `abbrev`s, which unfold, and the proofs in them are not.
 use Rattle.std.proofs.Common.{◌≡◌, ◌≢◌, ℕ, ◌+◌, ◌<◌, ◌≤◌, ℤ, pos, ◌-ℤ◌, ◌+ℤ◌, ◌<ℤ◌, List, [], ◌∷◌, ◌++◌, length, Bool, true, false, IsTrue, IsFalse, IsNone, IsSomeAnd, Option, Some, None, refl, sym, subst, arith, true≢false, ◌↔◌, nat_lt, nat_le}
 use Rattle.std.specs.Prelude.{int_lt, is_some}
-use Rattle.book.proofs.Prelude.{Add, Check, Command, Each, Ledger, Line, MAX_ORDER_LINES, MAX_PLACES, Name, OpenLine, Order, Plain, Take, Way, bound, checks, field_named, full, held_to_add, held_to_take, ints, is_open, is_transfer, line_checks, line_name, line_on, new_order, next, on, open_orders, order_checks, order_numbered, places, settled, transfer_lines, with_order}
+use Rattle.book.proofs.Prelude.{Add, Check, Command, Each, Ledger, Line, MAX_ORDER_LINES, MAX_PLACES, Name, OpenLine, Order, Plain, Take, Transfer, Way, bound, checks, field_named, full, held_to_add, held_to_take, ints, is_open, is_transfer, line_checks, line_name, line_on, new_order, next, on, open_orders, order_checks, order_numbered, places, settled, transfer_lines, with_order}
 use Rattle.words.specs.declared.command.Command.TheVariants as command
 use Rattle.book.specs.declared.limits.TheConstants.{MAX_FIELDS, MAX_ORDERS}
-use Rattle.book.specs.declared.order.Kind.TheVariants.{Transfer}
 use Rattle.book.specs.Answers.{no_order, ended, not_held, over_use}
 use Rattle.book.proofs.Bounds.{OneOn, Sound, falls_below_iff, rises_above_iff}
 use Rattle.book.proofs.Sums.{each-imp}

@@ -68,17 +68,7 @@ lines_ascii [] h = tt
 lines_ascii (line ∷ lines) h = let more = lines_ascii lines h.1 in grind (arith, article_ascii, branch_ascii, number_ascii, way_ascii)
 
 words_ascii : (c : Command) → IsInRange c → Each IsAscii (command_words c)
-words_ascii (Field b a lo hi start) h = (text_ascii (codes "field") (omega arith, (omega arith, (omega arith, (omega arith, (omega arith, tt))))), (branch_ascii b h.0, (article_ascii a h.1, (number_ascii lo (let k = h.2 in omega arith), (number_ascii hi (let k = h.3 in omega arith), (number_ascii start (let k = h.4 in omega arith), tt))))))
-words_ascii (Deliver b a qty) h = (text_ascii (codes "deliver") (omega arith, (omega arith, (omega arith, (omega arith, (omega arith, (omega arith, (omega arith, tt))))))), (branch_ascii b h.0, (article_ascii a h.1, (number_ascii qty (let k = h.2 in omega arith), tt))))
-words_ascii (Writeoff b a qty) h = (text_ascii (codes "writeoff") (omega arith, (omega arith, (omega arith, (omega arith, (omega arith, (omega arith, (omega arith, (omega arith, tt)))))))), (branch_ascii b h.0, (article_ascii a h.1, (number_ascii qty (let k = h.2 in omega arith), tt))))
-words_ascii (Open n until lines) h = (text_ascii (codes "open") (omega arith, (omega arith, (omega arith, (omega arith, tt)))), (number_ascii n (let k = h.0 in omega arith), (number_ascii until (let k = h.1 in omega arith), lines_ascii lines (recursion_from_All IsOpenLine lines h.2.each))))
-words_ascii (Transfer n until a from to qty) h = (text_ascii (codes "transfer") (omega arith, (omega arith, (omega arith, (omega arith, (omega arith, (omega arith, (omega arith, (omega arith, tt)))))))), (number_ascii n (let k = h.0 in omega arith), (number_ascii until (let k = h.1 in omega arith), (article_ascii a h.2, (branch_ascii from h.3, (branch_ascii to h.4, (number_ascii qty (let k = h.5 in omega arith), tt)))))))
-words_ascii (More n way b a qty) h = (text_ascii (codes "more") (omega arith, (omega arith, (omega arith, (omega arith, tt)))), (number_ascii n (let k = h.0 in omega arith), (way_ascii way, (branch_ascii b h.1, (article_ascii a h.2, (number_ascii qty (let k = h.3 in omega arith), tt))))))
-words_ascii (Use n b a qty) h = (text_ascii (codes "use") (omega arith, (omega arith, (omega arith, tt))), (number_ascii n (let k = h.0 in omega arith), (branch_ascii b h.1, (article_ascii a h.2, (number_ascii qty (let k = h.3 in omega arith), tt)))))
-words_ascii (Release n b a qty) h = (text_ascii (codes "release") (omega arith, (omega arith, (omega arith, (omega arith, (omega arith, (omega arith, (omega arith, tt))))))), (number_ascii n (let k = h.0 in omega arith), (branch_ascii b h.1, (article_ascii a h.2, (number_ascii qty (let k = h.3 in omega arith), tt)))))
-words_ascii (Commit n) h = (text_ascii (codes "commit") (omega arith, (omega arith, (omega arith, (omega arith, (omega arith, (omega arith, tt)))))), (number_ascii n (omega arith), tt))
-words_ascii (Abort n) h = (text_ascii (codes "abort") (omega arith, (omega arith, (omega arith, (omega arith, (omega arith, tt))))), (number_ascii n (omega arith), tt))
-words_ascii (Expire now) h = (text_ascii (codes "expire") (omega arith, (omega arith, (omega arith, (omega arith, (omega arith, (omega arith, tt)))))), (number_ascii now (omega arith), tt))
+words_ascii x h = grind (arith, article_ascii, branch_ascii, lines_ascii, number_ascii, recursion_from_All, text_ascii, way_ascii)
 
 pub spelling_utf8 : (c : Command) → IsInRange c → IsUtf8 (spelling c)
 spelling_utf8 c h = IsUtf8-from_ascii (spelling c) (spaced_ascii (command_words c) (words_ascii c h))

@@ -1,9 +1,8 @@
 -- At a good ledger every request has an answer.
 use Rattle.std.proofs.Common.{◌≡◌, ◌≢◌, ℕ, ◌+◌, ◌<◌, ◌≤◌, ℤ, ◌<ℤ◌, List, [], ◌∷◌, ◌++◌, map, find, Bool, true, false, IsSomeAnd, Option, Some, None, refl, sym, arith, if◌then◌else◌, true≢false, ◌⊎◌, inl, inr, ◌↔◌, MatchOption, nat_lt, length}
-use Rattle.book.proofs.Prelude.{Add, Answers, AnswersNew, Check, Command, Done, Each, FirstFailure, Good, Kept, KeyReused, Kind, Ledger, MayHoldMore, Name, OpenLine, Plain, Refusal, Refused, Reply, Request, Take, Way, accept, add_hold, bound, by_lt_z, change_order, checks, dec_le, field_named, ints, kept_under, line_checks, line_name, line_on, new_line, new_order, next, on, order_numbered, places, same_command, transfer_lines, with_order}
+use Rattle.book.proofs.Prelude.{Add, Answers, AnswersNew, Check, Command, Done, Each, FirstFailure, Good, Kept, KeyReused, Kind, Ledger, MayHoldMore, Name, OpenLine, Plain, Refusal, Refused, Reply, Request, Take, Transfer, Way, accept, add_hold, bound, by_lt_z, change_order, checks, dec_le, field_named, ints, kept_under, line_checks, line_name, line_on, new_line, new_order, next, on, order_numbered, places, same_command, transfer_lines, with_order}
 use native.Mathlib.Decide.{dec_lt}
 use Rattle.words.specs.declared.command.Command.TheVariants as command
-use Rattle.book.specs.declared.order.Kind.TheVariants.{Transfer}
 use Rattle.book.proofs.Sums.{each-both}
 use Rattle.book.proofs.Bounds.{OneOn, Sound, falls_below_iff, rises_above_iff}
 use Rattle.book.proofs.Closing.{sounds_from_good, at_number}
@@ -37,11 +36,8 @@ dec_less m n = elim (dec_lt m n) [ yes h ↦ inl h | no h ↦ inr h ]
 dec_upto : (m n : ℕ) → Decided (m ≤ n)
 dec_upto m n = elim (dec_le m n) [ yes h ↦ inl h | no h ↦ inr h ]
 
-dec_less_z : (a b : ℤ) → Decided (a <ℤ b)
-dec_less_z a b = by_lt_z a b (λ h. inl h) (λ h. inr (λ k. omega (arith, ints)))
-
 dec_bound : (w : Way) (B : Ledger) (f : Name) (i : ℕ) → Each Sound B.orders → Decided (bound w B f i).fails
-dec_bound b x f i s = grind (arith, dec_less_z, falls_below_iff, rises_above_iff)
+dec_bound b x f i s = grind (arith, falls_below_iff, rises_above_iff)
 
 found_lines : (A : Ledger) (n : ℕ) (k : Kind) (u : ℕ) (before ls : List OpenLine) → Each Sound A.orders → ((g : Name) → OneOn g (map new_line before)) → InTurn (line_checks A (new_order n k u) before ls)
 found_lines A n k u before [] s one = tt

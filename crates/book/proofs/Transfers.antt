@@ -1,10 +1,7 @@
 -- The commit of a transfer leaves every article's total as it was.
-use Rattle.book.proofs.Prelude.{Aborted, Add, Answers, AnswersNew, Committed, Done, Each, FirstFailure, Good, IsGoodLine, IsStrictlySortedBy, IsTransferPair, Kept, KeyReused, Ledger, Line, Name, Order, Refusal, Refused, Reply, Request, State, Take, Way, accept, article_total, bytes_eq, checks, committed_state, common_steps, ints, is_committed, is_lt, is_open, is_transfer, kept_under, line_name, name_cmp, on, open_state, order_numbered, places, same_command, same_name, set_state, settled, signed, tied_itself}
+use Rattle.book.proofs.Prelude.{Aborted, Add, Answers, AnswersNew, Committed, Done, Each, Field, FirstFailure, Good, IsGoodLine, IsStrictlySortedBy, IsTransferPair, Kept, KeyReused, Ledger, Line, Name, Open, Order, Refusal, Refused, Reply, Request, State, Take, Way, accept, article_total, bytes_eq, checks, committed_state, common_steps, ints, is_committed, is_lt, is_open, is_transfer, kept_under, line_name, moved, name_cmp, on, open_state, order_numbered, places, same_command, same_name, set_state, settled, signed, tied_itself, total}
 use Rattle.std.proofs.Common.{◌≡◌, ℕ, ◌<◌, ℤ, pos, neg_ℤ, ◌+ℤ◌, List, [], ◌∷◌, map, find, Bool, true, false, ◌==◌, IsTrue, IsSome, IsSomeAnd, Option, Some, None, refl, sym, ap, ◌∙◌, subst, arith, if◌then◌else◌, true≢false, nat_cmp, Less, is_some, MatchOption, ◌+◌}
 use Rattle.words.specs.declared.command.Command.TheVariants as command
-use Rattle.book.specs.declared.order.State.TheVariants.{Open}
-use Rattle.book.specs.Ledger.{Field}
-use Rattle.book.specs.Outcomes.{total, moved}
 use Rattle.book.proofs.Sums.{each, each-imp, total-eq, total-sum, total-zero}
 use Rattle.book.proofs.Closing.{all_pass, name_is, less_is}
 use Rattle.book.proofs.Staying.{name_cmp_total}
@@ -93,14 +90,8 @@ commits_one f n o (m ∷ ms) sorted found open_is = step (m.number == n) refl fo
     step : (b : Bool) → (m.number == n) ≡ b → (if b then Some m else find (λ o. o.number == n) ms) ≡ Some o
         → (find (λ o. o.number == n) ms ≡ Some o → total (committed_part f) (map (λ o. if o.number == n then set_state Committed o else o) ms) ≡ total (committed_part f) ms +ℤ moved f (λ l. l.used) o)
         → total (committed_part f) (map (λ o. if o.number == n then set_state Committed o else o) (m ∷ ms)) ≡ total (committed_part f) (m ∷ ms) +ℤ moved f (λ l. l.used) o
-    step true t found more =
-        let same : m ≡ o = some_is m o found in
-        let a : committed_part f (if m.number == n then set_state Committed m else m) ≡ moved f (λ l. l.used) o = rw t (ap (λ o. moved f (λ l. l.used) o) same) in
-        let c : committed_part f m ≡ pos 0 = rw (was_open m.state (subst (λ o. is_open o ≡ true) (sym same) open_is)) refl in
-        let b = rest ms (each-imp (λ k less. not_same m k n t (less_is m.number k.number less)) ms (each-unmap (λ k. nat_cmp m.number k ≡ Less) (λ o. o.number) ms sorted.0)) in omega (arith, ints)
-    step false t found more =
-        let a : committed_part f (if m.number == n then set_state Committed m else m) ≡ committed_part f m = rw t refl in
-        let b = more found in omega (arith, ints)
+    step true t found more = grind (arith, (some_is m o found), (rest ms (each-imp (λ k less. not_same m k n t (less_is m.number k.number less)) ms (each-unmap (λ k. nat_cmp m.number k ≡ Less) (λ o. o.number) ms sorted.0))), committed_part, each-imp, each-unmap, less_is, not_same, was_open)
+    step false t found more = grind (arith, ints, common_steps, committed_part)
 
 pub found_is : (P : Order → Type 0) (n : ℕ) (os : List Order) (o : Order) → Each P os → find (λ o. o.number == n) os ≡ Some o → P o
 found_is P n [] o h e = absurd (true≢false (sym (ap is_some e)))

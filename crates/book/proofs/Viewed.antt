@@ -1,8 +1,7 @@
 -- The numbers that a book shows of its fields.
-use Rattle.book.proofs.Prelude.{BookView, Contains, FieldEntry, Good, Inside, Ledger, Name, common_steps, field_of, held_to_add, held_to_take, ints, settled, slice_get-map, view_of}
+use Rattle.book.proofs.Prelude.{BookView, Contains, Field, FieldEntry, Good, Inside, Ledger, Name, common_steps, field_of, held_to_add, held_to_take, ints, settled, slice_get-map, view_of}
 use Rattle.std.proofs.Common.{◌≡◌, ℕ, suc, pos, ◌+ℤ◌, ◌-ℤ◌, ◌≤ℤ◌, List, [], ◌∷◌, find, option_map, slice_get, Bool, true, false, Some, is_some, sym, ap, ◌∙◌, arith, if◌then◌else◌, true≢false}
 use Rattle.escrow.specs.declared.limits.TheConstants.{MAX_LEVEL}
-use Rattle.book.specs.Ledger.{Field}
 use Rattle.book.proofs.Found.{from_some}
 use Rattle.book.proofs.Runs.{in_order}
 use Rattle.book.proofs.Walked.{each-at}

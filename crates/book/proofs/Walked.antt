@@ -1,8 +1,7 @@
 -- A walk over a list, one element at a time.
 use Rattle.std.proofs.Common.{◌≡◌, ℕ, ◌+◌, ◌<◌, ◌≤◌, ℤ, ◌+ℤ◌, List, [], ◌∷◌, ◌++◌, Some, map, slice_get, take, drop, length, get_or, sym, ap, ◌∙◌, subst, arith, nat_cmp, Less}
-use Rattle.book.proofs.Prelude.{Each, Good, Inside, IsStrictlySortedBy, Ledger, MAX_PLACES, Move, get_or_from_slice_get, ledger_of, move_of, places, slice_get_within, take-append-drop, take_all}
+use Rattle.book.proofs.Prelude.{Each, Good, Inside, IsStrictlySortedBy, Ledger, MAX_PLACES, Move, get_or_from_slice_get, ledger_of, move_of, places, slice_get_within, take-append-drop, take_all, total}
 use Rattle.std.proofs.lemmas.Grind.{take_at_read}
-use Rattle.book.specs.Outcomes.{total}
 use Rattle.book.proofs.Asked.{total-push}
 use Rattle.book.proofs.Closing.{less_is}
 use Rattle.book.proofs.Lists.{each-of-push, each-unmap, length-of-map}

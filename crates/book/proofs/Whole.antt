@@ -1,10 +1,7 @@
 -- What makes a told ledger good, and that rows tell one good ledger at the most.
-use Rattle.book.proofs.Prelude.{AreMovesOnFields, AreOnFields, AreOrdersOnFields, Each, FieldCells, FieldEntry, Good, HasNumbers, HaveNumbers, IsBounded, IsField, IsGoodLine, IsGoodMove, IsGoodOrder, IsMoveByItself, IsOrderByItself, IsUpToDate, IsWhole, Ledger, MAX_PLACES, Name, Order, common_steps, field_of, held_to_add, held_to_take, ints, is_committed, line_name, move_of, moved_by_move, moved_by_order, numbers_on, order_of, places, same_name, settled, told_ledger}
+use Rattle.book.proofs.Prelude.{AreMovesOnFields, AreOnFields, AreOrdersOnFields, Each, Field, FieldCells, FieldEntry, Good, HasNumbers, HaveNumbers, IsBounded, IsField, IsGoodLine, IsGoodMove, IsGoodOrder, IsMoveByItself, IsOrderByItself, IsSafe, IsUpToDate, IsWhole, Ledger, MAX_PLACES, Name, Numbers, Order, common_steps, field_of, held_to_add, held_to_take, ints, is_committed, line_name, move_of, moved, moved_by_move, moved_by_order, numbers_on, order_of, places, same_name, settled, told_ledger, total}
 use Rattle.std.proofs.Common.{◌≡◌, ◌↔◌, ◌≤◌, ◌+ℤ◌, ◌-ℤ◌, pos, List, [], ◌∷◌, ap, arith, length, map, if◌then◌else◌}
 use Rattle.book.specs.declared.book.tables.Entries.{Entries}
-use Rattle.book.specs.declared.book.sums.Numbers.{Numbers}
-use Rattle.book.specs.Ledger.{Field}
-use Rattle.book.specs.Outcomes.{IsSafe, moved, total}
 use Rattle.book.specs.Told.{AreGood, IsInForm}
 use Rattle.book.proofs.Bounds.{HasRoom, safe_from_room}
 use Rattle.book.proofs.Lists.{each-two, each-unmap}

@@ -1,6 +1,5 @@
 use Rattle.std.proofs.Common.{arith, ◌≡◌, ◌∙◌, ℕ, Bool, true, false, ◌&&◌, None, Option, Some, ap, is_some, refl, sym, true≢false}
-use Rattle.std.specs.Option.{option_map}
-use Rattle.book.proofs.Prelude.{Ledger, Name, Order, OrderEntry, changes_state, name_of, order_after, order_of, some_has_line, some_is_transfer}
+use Rattle.book.proofs.Prelude.{Ledger, Name, Order, OrderEntry, changes_state, name_of, option_map, order_after, order_of, some_has_line, some_is_transfer}
 use Rattle.book.proofs.Made.{lined, released}
 use Rattle.book.proofs.book.Book.changes_field.Goals as goal
 

@@ -1,6 +1,5 @@
 use Rattle.std.proofs.Common.{◌≡◌, ◌∙◌, ◌+◌, List, [], ◌∷◌, ◌++◌, ap, arith, subst, sym}
-use Rattle.std.specs.Option.{option_map}
-use Rattle.book.proofs.Prelude.{Change, Content, FieldCells, IsShort, Ledger, Request, order_of, rows_among, with_fields}
+use Rattle.book.proofs.Prelude.{Change, Content, FieldCells, IsShort, Ledger, Request, option_map, order_of, rows_among, with_fields}
 use Rattle.book.specs.Tables.{desk_cells}
 use Rattle.book.specs.declared.rows.Change.TheVariants.{Desk}
 use Rattle.book.proofs.Made.{made_short}

@@ -1,6 +1,5 @@
 use Rattle.std.proofs.Common.{◌∙◌, [], sym}
-use Rattle.book.specs.declared.order.Kind.TheVariants.{Transfer}
-use Rattle.book.proofs.Prelude.{Ledger, line_checks, new_order, order_checks, transfer_lines}
+use Rattle.book.proofs.Prelude.{Ledger, Transfer, line_checks, new_order, order_checks, transfer_lines}
 use Rattle.book.proofs.Checked.{go_on}
 use Rattle.book.proofs.book.Book.check_transfer.Goals as goal
 

@@ -1,7 +1,5 @@
 use Rattle.std.proofs.Common.{arith, ◌≡◌, Bor, List, Option, Some, None, IfSome, MatchOption, subst, sym}
-use Rattle.book.proofs.Prelude.{BookView, Each, FieldEntry, Good, IsUpToDate, Ledger, Name, field_of, is_at, ledger_of, lookup, name_cmp, name_of, option_copied}
-use Rattle.std.specs.Option.{option_map}
-use Rattle.book.specs.Ledger.{Field}
+use Rattle.book.proofs.Prelude.{BookView, Each, Field, FieldEntry, Good, IsUpToDate, Ledger, Name, field_of, is_at, ledger_of, lookup, name_cmp, name_of, option_copied, option_map}
 use Rattle.book.proofs.Keyed.{field_found}
 use Rattle.book.proofs.Running.{up_to_date_at}
 use Rattle.book.proofs.book.Book.field_entry.Goals as goal

@@ -1,6 +1,5 @@
 use Rattle.std.proofs.Common.{◌≡◌, Bor, List, ℕ, Option, Some, None, MatchOption}
-use Rattle.std.specs.Option.{option_map}
-use Rattle.book.proofs.Prelude.{Kept, KeptEntry, kept_of, option_copied}
+use Rattle.book.proofs.Prelude.{Kept, KeptEntry, kept_of, option_copied, option_map}
 use Rattle.book.proofs.Keyed.{kept_found}
 use Rattle.book.proofs.book.Book.kept_entry.Goals as goal
 

@@ -1,6 +1,5 @@
 use Rattle.std.proofs.Common.{arith, ◌≡◌, ◌∙◌, ℕ, Option, sym}
-use Rattle.book.proofs.Prelude.{IfOk-weaker, OrderEntry, changed_order, order_after, order_numbered, order_of}
-use Rattle.std.specs.Option.{option_map}
+use Rattle.book.proofs.Prelude.{IfOk-weaker, OrderEntry, changed_order, option_map, order_after, order_numbered, order_of}
 use Rattle.book.proofs.Copied.{changed_is_after, copy_may_change}
 use Rattle.book.proofs.book.Book.order_after.Goals as goal
 

@@ -1,6 +1,5 @@
 use Rattle.std.proofs.Common.{◌∙◌, Some, ap, sym}
-use Rattle.std.specs.Option.{option_map}
-use Rattle.book.proofs.Prelude.{changed_order}
+use Rattle.book.proofs.Prelude.{changed_order, option_map}
 use Rattle.book.proofs.book.Book.order_changed.Goals as goal
 
 pub change_order-requires : goal.change_order-requires

@@ -1,6 +1,5 @@
 use Rattle.std.proofs.Common.{◌≡◌, Bor, ℕ, Option, Some, None, MatchOption}
-use Rattle.std.specs.Option.{option_map}
-use Rattle.book.proofs.Prelude.{Order, OrderEntry, option_copied, order_of}
+use Rattle.book.proofs.Prelude.{Order, OrderEntry, option_copied, option_map, order_of}
 use Rattle.book.proofs.Keyed.{order_found}
 use Rattle.book.proofs.book.Book.order_entry.Goals as goal
 

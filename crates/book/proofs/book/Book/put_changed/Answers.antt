@@ -1,6 +1,5 @@
 use Rattle.std.proofs.Common.{arith, ◌≡◌, ◌∙◌, ℕ, List, ap, flat_map, subst, sym}
-use Rattle.std.specs.Option.{option_map}
-use Rattle.book.proofs.Prelude.{Command, GivesBack, Good, Ledger, Line, MayGiveBack, expired_lines, expired_numbers, expires, of_numbered, order_of}
+use Rattle.book.proofs.Prelude.{Command, GivesBack, Good, Ledger, Line, MayGiveBack, expired_lines, expired_numbers, expires, of_numbered, option_map, order_of}
 use Rattle.words.specs.declared.command.Command.TheVariants as command
 use Rattle.book.proofs.ChangedFields.{on_ok}
 use Rattle.book.proofs.Expiring.{numbered_flat}

@@ -1,6 +1,5 @@
 use Rattle.std.proofs.Common.{◌∙◌, ap, is_some, subst, sym, true≢false}
-use Rattle.book.proofs.Prelude.{Becomes, Ledger, MayBecome, Name, Order, field_of, insert_entry, line_name, name_cmp, order_of}
-use Rattle.std.specs.Option.{option_map}
+use Rattle.book.proofs.Prelude.{Becomes, Ledger, MayBecome, Name, Order, field_of, insert_entry, line_name, name_cmp, option_map, order_of}
 use Rattle.book.proofs.ChangedFields.{found_stays, line_there, number_of_made, on_ok}
 use Rattle.book.proofs.StockChanges.{stock_changed, stock_may}
 use Rattle.book.proofs.book.Book.put_line.Goals as goal

@@ -1,6 +1,5 @@
 use Rattle.std.proofs.Common.{◌≡◌, ◌∙◌, List, Some, ap, find, subst, sym}
-use Rattle.book.proofs.Prelude.{Each, Ledger, Line, line_name, on, order_of}
-use Rattle.std.specs.Option.{option_map}
+use Rattle.book.proofs.Prelude.{Each, Ledger, Line, line_name, on, option_map, order_of}
 use Rattle.book.proofs.ChangedFields.{found_itself, lines_step, made_good}
 use Rattle.book.proofs.Closing.{one_on}
 use Rattle.book.proofs.Walked.{each-at}

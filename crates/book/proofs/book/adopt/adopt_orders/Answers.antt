@@ -1,6 +1,5 @@
 use Rattle.std.proofs.Common.{arith, ◌∙◌, ap, map, sym}
-use Rattle.std.specs.Option.{option_map}
-use Rattle.book.proofs.Prelude.{Command, abort_all, expired_numbers, next, order_of}
+use Rattle.book.proofs.Prelude.{Command, abort_all, expired_numbers, next, option_map, order_of}
 use Rattle.book.proofs.Expiring.{all_aborted}
 use Rattle.book.proofs.Putting.{orders_put}
 use Rattle.book.proofs.book.adopt.adopt_orders.Goals as goal

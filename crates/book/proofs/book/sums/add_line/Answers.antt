@@ -1,6 +1,5 @@
 use Rattle.std.proofs.Common.{arith, ◌∙◌, ap}
-use Rattle.book.specs.declared.book.sums.Numbers.{Numbers}
-use Rattle.book.proofs.Prelude.{added, line_name, most_of_line, only_on, part_of_line}
+use Rattle.book.proofs.Prelude.{Numbers, added, line_name, most_of_line, only_on, part_of_line}
 use Rattle.book.proofs.SumsOnFields.{added-same}
 use Rattle.book.proofs.book.sums.add_line.Goals as goal
 

@@ -1,6 +1,5 @@
 use Rattle.std.proofs.Common.{◌≡◌, Bool, nat_lt, of_calls, rules}
-use Rattle.book.proofs.Prelude.{Move, MoveEntry, always_returns_same, move_of, nat_cmp_total}
-use Rattle.std.specs.Ordering.{nat_cmp}
+use Rattle.book.proofs.Prelude.{Move, MoveEntry, always_returns_same, move_of, nat_cmp, nat_cmp_total}
 use Rattle.book.proofs.InRow.{in_order, numbers_less}
 use Rattle.book.proofs.book.tables.good.are_moves_in_order.Goals as goal
 

@@ -1,6 +1,5 @@
 use Rattle.std.proofs.Common.{◌≡◌, ℕ, Bool, nat_lt, of_calls, rules}
-use Rattle.book.proofs.Prelude.{Order, OrderEntry, always_returns_same, nat_cmp_total, order_of}
-use Rattle.std.specs.Ordering.{nat_cmp}
+use Rattle.book.proofs.Prelude.{Order, OrderEntry, always_returns_same, nat_cmp, nat_cmp_total, order_of}
 use Rattle.book.proofs.InRow.{in_order, numbers_less}
 use Rattle.book.proofs.book.tables.good.are_orders_in_order.Goals as goal
 

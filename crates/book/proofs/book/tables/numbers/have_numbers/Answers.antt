@@ -1,6 +1,5 @@
 use Rattle.std.proofs.Common.{arith, ◌≡◌, ◌∙◌, ◌<◌, ℕ, List, ap, get_or, length, map, pos, refl, subst, sym}
-use Rattle.book.proofs.Prelude.{FieldEntry, HasNumbers, Name, entry_name}
-use Rattle.book.specs.declared.book.sums.Numbers.{Numbers}
+use Rattle.book.proofs.Prelude.{FieldEntry, HasNumbers, Name, Numbers, entry_name}
 use Rattle.book.proofs.Tested.{no, true_not_false}
 use Rattle.book.proofs.Walked.{each-at, each-next}
 use Rattle.book.proofs.Zipped.{get-of-map}

@@ -1,7 +1,6 @@
 -- the entries so far have their numbers, whatever numbers the sums are
 use Rattle.std.proofs.Common.{◌≡◌, map, take}
-use Rattle.book.proofs.Prelude.{HaveNumbers, Name, entry_name}
-use Rattle.book.specs.declared.book.sums.Numbers.{Numbers}
+use Rattle.book.proofs.Prelude.{HaveNumbers, Name, Numbers, entry_name}
 use Rattle.book.proofs.book.tables.numbers.have_numbers.Given as goal
 
 abbrev pub invariant-loop-i : goal.invariant-loop-i
