@@ -7,11 +7,7 @@ mod laws;
 mod lines;
 mod reply;
 mod run;
-#[cfg(test)]
-mod samples;
 mod scripts;
-#[cfg(test)]
-mod tests;
 
 pub use desk::Desk;
 pub use fault::{CallFault, OpenFault, ScriptFault};

@@ -9,9 +9,6 @@ ghost use Rattle.keep.specs.Schema.{desk_schema, no_schema};
 ghost use Rattle.keep.specs.Stages.{IsBare, with_desk, with_field, with_line, with_move, with_orders};
 ghost use Rattle.keep.specs.Transactions.{IsSettled, Makes};
 
-#[cfg(test)]
-mod tests;
-
 use crate::keep::{KeepFault, fault_of};
 use crate::schema::is_empty;
 use crate::sql::SqlKeep;

@@ -3,22 +3,16 @@
 
 mod commit;
 mod create;
-#[cfg(test)]
-mod disks;
 mod keep;
 mod laws;
 mod load;
 mod plain;
 mod reopening;
 mod row;
-#[cfg(test)]
-mod samples;
 mod schema;
 mod sql;
 mod stored;
 mod tables;
-#[cfg(test)]
-mod tests;
 
 pub use keep::{Keep, KeepFault};
 pub use laws::{a_fuse_tells_no_lie, keepers_in_memory_are_honest};

@@ -8,8 +8,6 @@ ghost use Rattle.keep.specs.Plain.{IsToFail, after_commit, after_error, after_fa
 ghost use Rattle.keep.specs.Transactions.{with_changes};
 
 mod shelf;
-#[cfg(test)]
-mod tests;
 
 use crate::keep::{Keep, KeepFault};
 use book::{Change, Tables};

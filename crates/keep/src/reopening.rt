@@ -10,9 +10,6 @@ ghost use Rattle.book.specs.Rows.{Content};
 ghost use Rattle.book.specs.Tables.{content_of};
 ghost use Rattle.keep.specs.Content.{Holds, IsAmong, IsContent, IsDesk, LeavesOnly};
 
-#[cfg(test)]
-mod tests;
-
 use crate::keep::{Keep, KeepFault};
 use crate::sql::SqlKeep;
 use book::Tables;

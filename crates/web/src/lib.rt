@@ -18,8 +18,6 @@ mod route;
 mod served;
 mod size;
 mod targets;
-#[cfg(test)]
-mod tests;
 mod views;
 mod word;
 

@@ -1,21 +1,7 @@
-//! Scripts with what is answered to each line, and desks that play them.
+//! Scripts with what is answered to each line.
 
-ghost use Rattle.std.specs.Prelude.{All};
-ghost use Rattle.book.specs.Tables.{rows_among};
-ghost use Rattle.keep.specs.Content.{IsTheRow};
-
-use crate::desk::Desk;
-use crate::fault::{CallFault, OpenFault, ScriptFault};
-use crate::run::Run;
-use crate::scripts::script;
-use book::{Change, Tables};
-use keep::{Keep, KeepFault, SqlKeep};
-use sqlite::{Connection, MemStore};
 use std::alloc::Global;
-use std::io::{Read, Write};
-use std::process::Abort;
 use std::test::Fail;
-use words::{Item, Reply, Request, read_item};
 
 /// A line, and what is answered to it.
 pub(crate) type Row = (&'static str, &'static str);
@@ -85,7 +71,7 @@ const LONG_SCRIPT: [Row; 29] = [
 ];
 
 /// A transfer, which is used and committed.
-pub(crate) fn transfer() -> &'static [Row] {
+fn transfer() -> &'static [Row] {
     &TRANSFER
 }
 
@@ -124,7 +110,7 @@ const TRANSFER: [Row; 13] = [
 ];
 
 /// An order that is used, released and aborted.
-pub(crate) fn release_and_abort() -> &'static [Row] {
+fn release_and_abort() -> &'static [Row] {
     &RELEASE_AND_ABORT
 }
 
@@ -168,102 +154,71 @@ const RELEASE_AND_ABORT: [Row; 19] = [
     ("P13 use 5 N1 A-1 1", "P13 refused 8 Ended 0"),
 ];
 
-/// The call without its clauses, so that a test's proof need not carry them.
-pub(crate) fn open<K: Keep>(alloc: Global, keep: K) -> Result<Desk<K>, (OpenFault, K)> {
-    Desk::open(alloc, keep)
+/// Open orders, one of them a transfer that is used.
+fn open_orders() -> &'static [Row] {
+    &OPEN_ORDERS
 }
 
-/// The call without its clauses, likewise.
-pub(crate) fn call<K: Keep>(
-    alloc: Global,
-    desk: &mut Desk<K>,
-    request: &Request,
-) -> Result<Reply, CallFault> {
-    desk.call(alloc, request)
+const OPEN_ORDERS: [Row; 11] = [
+    ("K1 field N1 A-1 0 100 40", "K1 done 1"),
+    ("K2 field N2 A-1 0 50 5", "K2 done 2"),
+    ("K3 deliver N1 A-1 10", "K3 done 3"),
+    ("K4 open 7 120 take N1 A-1 20", "K4 done 4"),
+    ("K5 more 7 take N1 A-1 15", "K5 done 5"),
+    ("K6 transfer 20 900 A-1 N1 N2 10", "K6 done 6"),
+    ("K7 use 20 N2 A-1 4", "K7 done 7"),
+    // 40 + 10, of which 20 + 15 and 10 may be taken
+    (
+        "? field N1 A-1",
+        "? field N1 A-1 lo 0 hi 100 value 50 inf 5 sup 50",
+    ),
+    // 5, to which 10 may be added
+    (
+        "? field N2 A-1",
+        "? field N2 A-1 lo 0 hi 50 value 5 inf 5 sup 15",
+    ),
+    (
+        "? order 20",
+        "? order 20 transfer 900 open take N1 A-1 10 4 add N2 A-1 10 4",
+    ),
+    ("K7 use 20 N2 A-1 4", "K7 done 7"),
+];
+
+/// Orders that have ended, each in a way of its own.
+fn ended_orders() -> &'static [Row] {
+    &ENDED_ORDERS
 }
 
-/// The call without its clauses, likewise.
-pub(crate) fn run<K: Keep>(alloc: Global, desk: &mut Desk<K>, requests: &[Request]) -> Run {
-    desk.run(alloc, requests)
-}
+const ENDED_ORDERS: [Row; 14] = [
+    ("K1 field N1 A-1 0 100 40", "K1 done 1"),
+    ("K2 writeoff N1 A-1 2", "K2 done 2"),
+    ("K3 open 7 120 take N1 A-1 9", "K3 done 3"),
+    ("K4 open 8 120 take N1 A-1 5", "K4 done 4"),
+    ("K5 open 9 130 take N1 A-1 3", "K5 done 5"),
+    ("K6 use 7 N1 A-1 4", "K6 done 6"),
+    ("K7 release 7 N1 A-1 2", "K7 done 7"),
+    ("K8 commit 7", "K8 done 8"),
+    ("K9 abort 9", "K9 done 9"),
+    ("KA expire 120", "KA done 10"),
+    // 40 - 2 - 4, and nothing is held
+    (
+        "? field N1 A-1",
+        "? field N1 A-1 lo 0 hi 100 value 34 inf 34 sup 34",
+    ),
+    ("? order 7", "? order 7 plain 120 committed take N1 A-1 7 4"),
+    ("? order 8", "? order 8 plain 120 aborted take N1 A-1 5 0"),
+    ("? order 9", "? order 9 plain 130 aborted take N1 A-1 3 0"),
+];
 
-/// What a script on these streams ends with, likewise.
-pub(crate) fn answer_stream<K: Keep, R: Read, W: Write>(
-    alloc: Global,
-    reader: &mut R,
-    writer: &mut W,
-    desk: &mut Desk<K>,
-) -> Result<(), ScriptFault> {
-    script(alloc, reader, writer, desk)
-}
-
-/// What a script of these bytes ends with.
-pub(crate) fn answer_script<K: Keep>(
-    alloc: Global,
-    text: &[u8],
-    out: &mut Vec<u8>,
-    desk: &mut Desk<K>,
-) -> Result<(), ScriptFault> {
-    let mut reader = text;
-    answer_stream(alloc, &mut reader, out, desk)
-}
-
-/// The connection of the desk's keeper.
-pub(crate) fn connection_of(desk: Desk<SqlKeep<MemStore>>) -> Connection<MemStore> {
-    desk.into_keep().into_connection()
-}
-
-/// What the keeper loads, likewise.
-pub(crate) fn load<K: Keep>(alloc: Global, keep: &mut K) -> Result<Tables, KeepFault> {
-    keep.load(alloc)
-}
-
-/// What the keeper answers to a commit, likewise.
-pub(crate) fn commit<K: Keep>(keep: &mut K, changes: &[Change]) -> Result<(), KeepFault>
-    requires { All IsTheRow (rows_among changes.now).desk }
-{
-    keep.commit(changes)
-}
-
-/// A keeper over the connection, which is in no transaction.
-pub(crate) fn keeper(conn: Connection<MemStore>) -> Result<SqlKeep<MemStore>, Fail> {
-    if conn.is_autocommit() {
-        Ok(SqlKeep::over(conn))
-    } else {
-        Err("a transaction is open")?
-    }
-}
-
-/// Makes a new desk over the connection, which is in no transaction.
-fn create(conn: &mut Connection<MemStore>) -> Result<(), Fail> {
-    if conn.is_autocommit() {
-        Ok(SqlKeep::create_over(conn)?)
-    } else {
-        Err("a transaction is open")?
-    }
-}
-
-/// A keeper of a new desk in memory, over SQLite.
-pub(crate) fn sql_keeper<R: AllocGlobal>(rt: &R) -> Result<SqlKeep<MemStore>, Fail> {
-    let mut conn = Connection::open_in_memory(rt.alloc())?;
-    create(&mut conn)?;
-    keeper(conn)
-}
-
-/// The desk whose rows the keeper holds.
-pub(crate) fn opened<R: AllocGlobal, K: Keep + Drop>(rt: &R, keep: K) -> Result<Desk<K>, Fail> {
-    match open(rt.alloc(), keep) {
-        Ok(desk) => Ok(desk),
-        Err((fault, _)) => Err(fault)?,
-    }
-}
-
-/// The request that a line says.
-pub(crate) fn request<R: AllocGlobal>(rt: &R, line: &str) -> Result<Request, Fail> {
-    match read_item(rt.alloc(), line.as_bytes())? {
-        Item::Request(request) => Ok(request),
-        _ => Err("no request")?,
-    }
+/// All scripts.
+pub(crate) fn scripts() -> [&'static [Row]; 5] {
+    [
+        long_script(),
+        transfer(),
+        release_and_abort(),
+        open_orders(),
+        ended_orders(),
+    ]
 }
 
 /// The lines of these rows.
@@ -284,17 +239,4 @@ pub(crate) fn replies_of(alloc: Global, rows: &[Row]) -> Result<Vec<u8>, Fail> {
         text.push(b'\n')?;
     }
     Ok(text)
-}
-
-/// Plays the rows as a script: each line is answered by what stands beside it.
-pub(crate) fn play<R: Abort + AllocGlobal, K: Keep>(
-    rt: &R,
-    desk: &mut Desk<K>,
-    rows: &[Row],
-) -> Result<(), Fail> {
-    let text = lines_of(rt.alloc(), rows)?;
-    let mut out = Vec::new(rt.alloc());
-    assert_eq!(rt; answer_script(rt.alloc(), &text, &mut out, desk), Ok(()));
-    assert!(rt; out.as_slice() == replies_of(rt.alloc(), rows)?.as_slice());
-    Ok(())
 }

@@ -1,21 +1,17 @@
-use crate::keep::{Keep, KeepFault};
-use crate::samples::{
-    commit, connection_of, create, expect_rows, expect_rows_by_their_keys, field, keeper, kept,
-    load,
-};
-use crate::sql::SqlKeep;
-use book::{Change, Tables};
-use sqlite::{Alter, Connection, MemStore};
-use std::alloc::Global;
-use std::process::Abort;
-use std::test::Fail;
+//! Keepers over SQLite and in memory.
 
-/// A keeper over a new desk in memory.
-fn new_desk<R: AllocGlobal>(rt: &R) -> Result<SqlKeep<MemStore>, Fail> {
-    let mut conn = Connection::open_in_memory(rt.alloc())?;
-    create(&mut conn)?;
-    keeper(conn)
-}
+mod create;
+mod disks;
+mod plain;
+mod reopening;
+mod rows;
+
+use crate::keepers::{commit, connection_of, keeper, load, load_fault, sql_keeper};
+use book::{Change, Tables};
+use keep::{Keep, KeepFault};
+use rows::{expect_rows, expect_rows_by_their_keys, field, kept};
+use sqlite::{Alter, Connection};
+use std::test::Fail;
 
 fn run<S: Alter>(conn: &mut Connection<S>, statement: &str) -> Result<(), Fail> {
     conn.execute(statement, &[])?;
@@ -24,7 +20,7 @@ fn run<S: Alter>(conn: &mut Connection<S>, statement: &str) -> Result<(), Fail> 
 
 /// What the load of a new desk in memory answers, after this statement.
 fn load_after<R: AllocGlobal>(rt: &R, statement: &str) -> Result<Result<Tables, KeepFault>, Fail> {
-    let mut conn = connection_of(new_desk(rt)?);
+    let mut conn = connection_of(sql_keeper(rt)?);
     run(&mut conn, statement)?;
     let mut keep = keeper(conn)?;
     Ok(load(&mut keep, rt.alloc()))
@@ -32,20 +28,20 @@ fn load_after<R: AllocGlobal>(rt: &R, statement: &str) -> Result<Result<Tables, 
 
 #[test]
 fn a_new_desk_is_loaded(rt: HostRuntime) -> Result<(), Fail> {
-    let mut keep = new_desk(&rt)?;
+    let mut keep = sql_keeper(&rt)?;
     assert!(rt; !keep.is_stopped());
     expect_rows(&rt, &mut keep, &["desk 1 1 0 0"])
 }
 
 #[test]
 fn rows_come_back_by_their_keys(rt: HostRuntime) -> Result<(), Fail> {
-    let mut keep = new_desk(&rt)?;
+    let mut keep = sql_keeper(&rt)?;
     expect_rows_by_their_keys(&rt, &mut keep)
 }
 
 #[test]
 fn rows_outlive_their_keeper(rt: HostRuntime) -> Result<(), Fail> {
-    let mut keep = new_desk(&rt)?;
+    let mut keep = sql_keeper(&rt)?;
     commit(&mut keep, &[Change::Field(field(&rt, "N1", "A-1", 43)?)])?;
     let mut again = keeper(connection_of(keep))?;
     let rows = ["desk 1 1 0 0", "field N1 A-1 1 90 50 43 30 70"];
@@ -72,7 +68,7 @@ const FIELDS: [&str; 6] = [
 
 #[test]
 fn codes_come_back_byte_for_byte(rt: HostRuntime) -> Result<(), Fail> {
-    let mut keep = new_desk(&rt)?;
+    let mut keep = sql_keeper(&rt)?;
     for (branch, article, value) in CODES {
         let row = field(&rt, branch, article, value)?;
         commit(&mut keep, &[Change::Field(row)])?;
@@ -97,7 +93,7 @@ const KEPT: [&str; 3] = [
 
 #[test]
 fn keys_come_back_byte_for_byte(rt: HostRuntime) -> Result<(), Fail> {
-    let mut keep = new_desk(&rt)?;
+    let mut keep = sql_keeper(&rt)?;
     for (key, words) in KEYS {
         let row = kept(&rt, key, words)?;
         commit(&mut keep, &[Change::Kept(row)])?;
@@ -108,7 +104,7 @@ fn keys_come_back_byte_for_byte(rt: HostRuntime) -> Result<(), Fail> {
 /// A text that SQL would read as the end of a string and a statement is a text like any other.
 #[test]
 fn a_text_is_no_statement(rt: HostRuntime) -> Result<(), Fail> {
-    let mut keep = new_desk(&rt)?;
+    let mut keep = sql_keeper(&rt)?;
     let words = "'); DROP TABLE kept; --";
     commit(&mut keep, &[Change::Kept(kept(&rt, "K1", words)?)])?;
     let rows = ["desk 1 1 0 0", "kept K1 4 '); DROP TABLE kept; --"];
@@ -118,9 +114,12 @@ fn a_text_is_no_statement(rt: HostRuntime) -> Result<(), Fail> {
 #[test]
 fn a_store_without_tables_is_no_desk(rt: HostRuntime) -> Result<(), Fail> {
     let mut keep = keeper(Connection::open_in_memory(rt.alloc())?)?;
-    assert!(rt; matches!(load(&mut keep, rt.alloc()), Err(KeepFault::NotADesk)));
+    assert_eq!(rt;
+        load_fault(&mut keep, rt.alloc()),
+        Some(KeepFault::NotADesk)
+    );
     assert!(rt; keep.is_stopped());
-    assert!(rt; matches!(load(&mut keep, rt.alloc()), Err(KeepFault::Stopped)));
+    assert_eq!(rt; load_fault(&mut keep, rt.alloc()), Some(KeepFault::Stopped));
     assert_eq!(rt; commit(&mut keep, &[]), Err(KeepFault::Stopped));
     assert!(rt; connection_of(keep).schema().tables.is_empty());
     Ok(())
@@ -134,8 +133,8 @@ fn what_is_no_desk_is_told(rt: HostRuntime) -> Result<(), Fail> {
         "UPDATE desk SET version = 2",
         "INSERT INTO desk (one, version, clock, places) VALUES (2, 1, 0, 0)",
     ] {
-        let loaded = load_after(&rt, statement)?;
-        assert!(rt; matches!(loaded, Err(KeepFault::NotADesk)), "{statement}");
+        let fault = load_after(&rt, statement)?.err();
+        assert_eq!(rt; fault, Some(KeepFault::NotADesk), "{statement}");
     }
     Ok(())
 }
@@ -143,14 +142,14 @@ fn what_is_no_desk_is_told(rt: HostRuntime) -> Result<(), Fail> {
 #[test]
 fn another_schema_is_not_read(rt: HostRuntime) -> Result<(), Fail> {
     let loaded = load_after(&rt, "CREATE TABLE seventh (n INTEGER) STRICT")?;
-    assert!(rt; matches!(loaded, Err(KeepFault::Store)));
+    assert_eq!(rt; loaded.err(), Some(KeepFault::Store));
     Ok(())
 }
 
 /// A store that refuses a statement has failed: it wants no memory, and may well hold a desk.
 #[test]
 fn a_load_that_the_store_refuses_is_its_failure(rt: HostRuntime) -> Result<(), Fail> {
-    let mut keep = new_desk(&rt)?;
+    let mut keep = sql_keeper(&rt)?;
     let changes = [
         Change::Field(field(&rt, "N1", "A-1", 43)?),
         Change::Field(field(&rt, "N1", "A-2", 43)?),
@@ -159,7 +158,10 @@ fn a_load_that_the_store_refuses_is_its_failure(rt: HostRuntime) -> Result<(), F
     let mut conn = connection_of(keep);
     conn.set_step_limit(Some(1));
     let mut limited = keeper(conn)?;
-    assert!(rt; matches!(load(&mut limited, rt.alloc()), Err(KeepFault::Store)));
+    assert_eq!(rt;
+        load_fault(&mut limited, rt.alloc()),
+        Some(KeepFault::Store)
+    );
     assert!(rt; limited.is_stopped());
     Ok(())
 }

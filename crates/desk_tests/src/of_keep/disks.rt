@@ -3,10 +3,10 @@
 ghost use Rattle.std.specs.Prelude.{IsTrue, IfOk};
 ghost use Rattle.sqlite_disk.specs.Memory.{memory_is_usable};
 
-use crate::keep::{Keep, KeepFault};
-use crate::samples::{commit, connection_of, create, keeper, load, order, shown};
-use crate::schema::is_empty;
+use super::rows::{order, shown};
+use crate::keepers::{commit, connection_of, create, keeper, load};
 use book::Change;
+use keep::{Keep, KeepFault};
 use sqlite::{Alter, Connection, FileStore, Files, Options};
 use sqlite_disk::{Crash, Disk, Fuse, Memory};
 use std::alloc::Global;
@@ -72,7 +72,7 @@ fn look<S: Alter + Drop>(
     alloc: Global,
     conn: Connection<S>,
 ) -> Result<(Connection<S>, Option<String>), Fail> {
-    if is_empty(conn.schema()) {
+    if conn.schema().tables.is_empty() {
         return Ok((conn, None));
     }
     let mut keep = keeper(conn)?;

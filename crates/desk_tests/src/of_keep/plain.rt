@@ -1,5 +1,9 @@
-use super::*;
-use crate::samples::{expect_rows, expect_rows_by_their_keys, expect_text, order, text};
+//! Keepers in memory, of which a commit fails.
+
+use super::rows::{expect_rows, expect_rows_by_their_keys, expect_text, order, text};
+use crate::keepers::load_fault;
+use book::Change;
+use keep::{Keep, KeepFault, PlainKeep};
 use std::cmp::Ordering;
 use std::process::Abort;
 use std::test::Fail;
@@ -61,7 +65,7 @@ fn expect_failure<R: Abort + AllocGlobal>(
 fn expect_landed<R: Abort + AllocGlobal>(rt: &R, fail_at: u32, lands: bool) -> Result<(), Fail> {
     let mut keep = PlainKeep::start(rt.alloc(), Some(fail_at as u64), lands);
     expect_failure(rt, &mut keep, fail_at)?;
-    assert!(rt; matches!(keep.load(rt.alloc()), Err(KeepFault::Stopped)));
+    assert_eq!(rt; load_fault(&mut keep, rt.alloc()), Some(KeepFault::Stopped));
     let mut again = keep.reopen(None, lands);
     assert!(rt; !again.is_stopped());
     expect_orders(

@@ -1,6 +1,9 @@
-use super::*;
-use crate::disks::{CUTS, Task, calls_to, new_files, perform, visit_cut};
-use crate::samples::create;
+//! New desks made over a store.
+
+use super::disks::{CUTS, Task, calls_to, new_files, perform, visit_cut};
+use crate::keepers::create;
+use keep::KeepFault;
+use sqlite::{Alter, Connection};
 use std::alloc::Global;
 use std::test::Fail;
 

@@ -1,11 +1,15 @@
+//! What a stop leaves for the next open.
+
 ghost use Rattle.std.specs.Prelude.{IsTrue};
 
-use super::*;
-use crate::disks::{CUTS, Task, calls_to, desk_files, open, visit_cut};
-use crate::samples::{commit, keeper, order, shown};
-use book::Change;
-use sqlite::{Alter, Files, Unknown};
+use super::disks::{CUTS, Task, calls_to, desk_files, open, visit_cut};
+use super::rows::{order, shown};
+use crate::keepers::{commit, keeper};
+use book::{Change, Tables};
+use keep::{SqlKeep, open_path, reopen, reopen_and_load};
+use sqlite::{Alter, Connection, FileStore, Files, Options, Unknown};
 use sqlite_disk::{Crash, Disk};
+use std::alloc::Global;
 use std::fs;
 use std::test::Fail;
 
@@ -63,20 +67,33 @@ fn reopened<D: Crash + Drop>(
 }
 
 /// What is reopened and loaded, likewise.
-fn reloaded<D: Crash + Drop>(
+fn reloaded<D: Crash + Drop>(alloc: Global, keep: SqlKeep<FileStore<D>>) -> Result<Tables, Fail> {
+    match reopen_and_load(alloc, keep, Options::new(3)) {
+        Some((_, loaded)) => Ok(loaded?),
+        None => Err("not reopened")?,
+    }
+}
+
+/// A keeper over the files, after one commit.
+fn opened_with_order<D: Disk + Drop>(
     alloc: Global,
-    keep: SqlKeep<FileStore<D>>,
-) -> Option<(SqlKeep<FileStore<D>>, Result<Tables, KeepFault>)> {
-    reopen_and_load(alloc, keep, Options::new(3))
+    files: Files<D>,
+) -> Result<SqlKeep<FileStore<D>>, Fail>
+    requires { IsTrue (D.Disk.is_usable files.log) × IsTrue (D.Disk.is_usable files.db) }
+{
+    match open(alloc, files) {
+        Ok(conn) => with_order(conn),
+        Err(_) => Err("not opened")?,
+    }
 }
 
 /// What is loaded after one commit and two power cuts.
 fn left_by_cuts<D: Crash + Drop>(alloc: Global, files: Files<D>) -> Result<String, Fail>
     requires { IsTrue (D.Disk.is_usable files.log) × IsTrue (D.Disk.is_usable files.db) }
 {
-    let keep = with_order(open(alloc, files).ok().ok_or("not opened")?)?;
-    let (_, loaded) = reloaded(alloc, reopened(alloc, keep)?).ok_or("not reopened")?;
-    Ok(shown(alloc, &loaded?)?)
+    let keep = opened_with_order(alloc, files)?;
+    let tables = reloaded(alloc, reopened(alloc, keep)?)?;
+    Ok(shown(alloc, &tables)?)
 }
 
 #[test]

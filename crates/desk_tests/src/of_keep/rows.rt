@@ -1,13 +1,8 @@
 //! Rows that both keepers are tried with.
 
-ghost use Rattle.std.specs.Prelude.{All};
-ghost use Rattle.book.specs.Tables.{rows_among};
-ghost use Rattle.keep.specs.Content.{IsTheRow};
-
-use crate::keep::{Keep, KeepFault};
-use crate::sql::SqlKeep;
+use crate::keepers::{commit, load};
 use book::{Change, DeskRow, FieldRow, KeptRow, LineRow, MoveRow, OrderRow, Tables};
-use sqlite::{Alter, Connection};
+use keep::Keep;
 use std::alloc::{AllocError, Global};
 use std::process::Abort;
 use std::test::Fail;
@@ -63,18 +58,6 @@ fn show_kept(text: &mut String, rows: &[KeptRow]) -> Result<(), AllocError> {
         writeln!(text, "kept {} {} {}", row.reqkey, row.place, row.words)?;
     }
     Ok(())
-}
-
-/// What the keeper loads: the call without its clauses, so that a test's proof need not carry them.
-pub(crate) fn load<K: Keep>(keep: &mut K, alloc: Global) -> Result<Tables, KeepFault> {
-    keep.load(alloc)
-}
-
-/// What the keeper answers to a commit, likewise.
-pub(crate) fn commit<K: Keep>(keep: &mut K, changes: &[Change]) -> Result<(), KeepFault>
-    requires { All IsTheRow (rows_among changes.now).desk }
-{
-    keep.commit(changes)
 }
 
 /// All columns of all rows, in their order.
@@ -307,25 +290,4 @@ pub(crate) fn expect_rows_by_their_keys<R: Abort + AllocGlobal, K: Keep>(
     expect_rows(rt, keep, &NEW_ROWS)?;
     commit_more_rows(rt, keep)?;
     expect_rows(rt, keep, &MORE_ROWS)
-}
-
-/// A keeper over the connection, which is in no transaction.
-pub(crate) fn keeper<S: Alter + Drop>(conn: Connection<S>) -> Result<SqlKeep<S>, Fail> {
-    if conn.is_autocommit() {
-        Ok(SqlKeep::over(conn))
-    } else {
-        Err("a transaction is open")?
-    }
-}
-
-pub(crate) fn create<S: Alter>(conn: &mut Connection<S>) -> Result<(), KeepFault> {
-    if conn.is_autocommit() {
-        SqlKeep::create_over(conn)
-    } else {
-        Err(KeepFault::Store)
-    }
-}
-
-pub(crate) fn connection_of<S: Alter>(keep: SqlKeep<S>) -> Connection<S> {
-    keep.into_connection()
 }

@@ -1,23 +1,17 @@
-use crate::samples::{
-    Row, answer_script, answer_stream, call, commit, connection_of, keeper, lines_of, load,
-    long_script, open, opened, play, release_and_abort, replies_of, request, run, sql_keeper,
-    transfer,
-};
-use crate::{CallFault, Desk, Ending, OpenFault, ScriptFault, answer_all};
+//! Desks over both keepers.
+
+use crate::desks::{answer_script, answer_stream, call, open, opened, play, request, run};
+use crate::keepers::{commit, connection_of, keeper, load, plain_keeper, sql_keeper};
+use crate::scripts::{Row, lines_of, long_script, replies_of, scripts};
+use crate::streams::{Drip, Sink};
 use book::{Change, FieldRow};
+use desk::{CallFault, Desk, Ending, OpenFault, ScriptFault, answer_all};
 use keep::{Keep, PlainKeep};
 use sqlite::{Connection, MemStore};
 use std::alloc::Global;
-use std::io;
-use std::io::{Read, Write};
 use std::process::Abort;
 use std::test::Fail;
 use words::{Item, Refusal, Reply, Request, read_item};
-
-/// A keeper of a new desk that never fails.
-fn plain_keeper<R: AllocGlobal>(rt: &R) -> PlainKeep {
-    PlainKeep::start(rt.alloc(), None, false)
-}
 
 /// Plays the rows on the desk that the keeper holds.
 fn play_on<R: Abort + AllocGlobal, K: Keep + Drop>(
@@ -30,11 +24,11 @@ fn play_on<R: Abort + AllocGlobal, K: Keep + Drop>(
 
 #[test]
 fn each_script_is_answered(rt: HostRuntime) -> Result<(), Fail> {
-    for rows in [long_script(), transfer(), release_and_abort()] {
+    for rows in scripts() {
         play_on(&rt, sql_keeper(&rt)?, rows)?;
         play_on(&rt, plain_keeper(&rt), rows)?;
     }
-    crate::laws::exactly_one_text();
+    desk::exactly_one_text();
     Ok(())
 }
 
@@ -44,7 +38,7 @@ fn play_sql_reopened<R: Abort + AllocGlobal>(rt: &R, rows: &[Row]) -> Result<(),
     for row in rows {
         let mut desk = opened(rt, keep)?;
         play(rt, &mut desk, &[*row])?;
-        keep = keeper(connection_of(desk))?;
+        keep = keeper(connection_of(desk.into_keep()))?;
     }
     Ok(())
 }
@@ -62,7 +56,7 @@ fn play_plain_reopened<R: Abort + AllocGlobal>(rt: &R, rows: &[Row]) -> Result<(
 
 #[test]
 fn a_reopening_changes_no_answer(rt: HostRuntime) -> Result<(), Fail> {
-    for rows in [long_script(), transfer(), release_and_abort()] {
+    for rows in scripts() {
         play_sql_reopened(&rt, rows)?;
         play_plain_reopened(&rt, rows)?;
     }
@@ -147,21 +141,28 @@ fn answer_items<K: Keep>(
     answer_all(alloc, items, out, desk)
 }
 
-/// The items of the long script end so on a new desk on which that commit fails, and so many of them are answered.
+/// What the answers to the items of the long script end with on a new desk on which that commit fails.
+fn answer_long_script<R: AllocGlobal>(
+    rt: &R,
+    fail_at: Option<u64>,
+    out: &mut Vec<u8>,
+) -> Result<Result<(), ScriptFault>, Fail> {
+    let items = items_of(rt, long_script())?;
+    let mut desk = opened(rt, PlainKeep::start(rt.alloc(), fail_at, false))?;
+    Ok(answer_items(rt.alloc(), &items, out, &mut desk))
+}
+
+/// They end so, and so many of them are answered.
 fn expect_items<R: Abort + AllocGlobal>(
     rt: &R,
     fail_at: Option<u64>,
     ended: Result<(), ScriptFault>,
     count: usize,
 ) -> Result<(), Fail> {
-    let rows = long_script();
-    let items = items_of(rt, rows)?;
-    let mut desk = opened(rt, PlainKeep::start(rt.alloc(), fail_at, false))?;
     let mut out: Vec<u8> = Vec::new(rt.alloc());
-    let done = answer_items(rt.alloc(), &items, &mut out, &mut desk);
-    let replies = replies_of(rt.alloc(), rows.get(..count).ok_or("rows")?)?;
-    assert_eq!(rt; done, ended);
-    assert!(rt; out.as_slice() == replies.as_slice());
+    assert_eq!(rt; answer_long_script(rt, fail_at, &mut out)?, ended);
+    let answered = long_script().get(..count).ok_or("rows")?;
+    assert!(rt; out.as_slice() == replies_of(rt.alloc(), answered)?.as_slice());
     Ok(())
 }
 
@@ -211,15 +212,20 @@ fn expect_call<R: Abort + AllocGlobal, K: Keep>(
     Ok(())
 }
 
-/// A session whose second commit fails: then nothing is answered, and no desk is opened.
+/// The second commit fails: then nothing is answered.
+fn expect_stop<R: Abort + AllocGlobal, K: Keep>(rt: &R, desk: &mut Desk<K>) -> Result<(), Fail> {
+    let (first, second) = ("K1 field N1 A-1 0 100 40", "K2 deliver N1 A-1 5");
+    expect_call(rt, desk, first, Ok(Reply::Done(1)))?;
+    expect_call(rt, desk, second, Err(CallFault::Stopped))?;
+    expect_call(rt, desk, first, Err(CallFault::Stopped))?;
+    assert!(rt; desk.is_stopped());
+    expect_field(rt, desk, 40, 40)
+}
+
+/// A session whose second commit fails: then no desk is opened.
 fn stopped_session<R: Abort + AllocGlobal, K: Keep + Drop>(rt: &R, keep: K) -> Result<K, Fail> {
     let mut desk = opened(rt, keep)?;
-    let (first, second) = ("K1 field N1 A-1 0 100 40", "K2 deliver N1 A-1 5");
-    expect_call(rt, &mut desk, first, Ok(Reply::Done(1)))?;
-    expect_call(rt, &mut desk, second, Err(CallFault::Stopped))?;
-    expect_call(rt, &mut desk, first, Err(CallFault::Stopped))?;
-    assert!(rt; desk.is_stopped());
-    expect_field(rt, &desk, 40, 40)?;
+    expect_stop(rt, &mut desk)?;
     refused(rt, desk.into_keep(), OpenFault::Store)
 }
 
@@ -251,7 +257,7 @@ fn a_store_without_tables_opens_no_desk(rt: HostRuntime) -> Result<(), Fail> {
 
 #[test]
 fn a_store_with_one_table_more_is_a_store_fault(rt: HostRuntime) -> Result<(), Fail> {
-    let mut conn = connection_of(opened(&rt, sql_keeper(&rt)?)?);
+    let mut conn = connection_of(opened(&rt, sql_keeper(&rt)?)?.into_keep());
     conn.execute("CREATE TABLE more (x INTEGER)", &[])?;
     expect_no_desk(&rt, conn, OpenFault::Store)
 }
@@ -290,7 +296,7 @@ fn expect_infimum<R: Abort + AllocGlobal, K: Keep>(
     keep: &mut K,
     inf: i64,
 ) -> Result<(), Fail> {
-    let tables = load(rt.alloc(), keep)?;
+    let tables = load(keep, rt.alloc())?;
     let [field] = tables.fields.as_slice() else {
         return Err(Fail::from("one field"));
     };
@@ -401,48 +407,27 @@ fn a_refusal_ends_no_run(rt: HostRuntime) -> Result<(), Fail> {
     Ok(())
 }
 
-/// A stream that fails at its first read or write, and not again.
-#[derive(Drop)]
-struct FailsOnce {
-    has_failed: bool,
-}
-
-impl Read for FailsOnce {
-    fn read(&mut self, _buffer: &mut [u8]) -> io::Result<usize> {
-        if self.has_failed {
-            return Ok(0);
-        }
-        self.has_failed = true;
-        Err(io::Error::from(io::ErrorKind::Interrupted))
-    }
-}
-
-impl Write for FailsOnce {
-    fn write(&mut self, bytes: &[u8]) -> io::Result<usize> {
-        if self.has_failed {
-            return Ok(bytes.len());
-        }
-        self.has_failed = true;
-        Err(io::Error::from(io::ErrorKind::Interrupted))
-    }
-
-    fn flush(&mut self) -> io::Result<()> {
-        Ok(())
-    }
-}
-
 #[test]
 fn a_stream_that_fails_once_is_a_fault_at_once(rt: HostRuntime) -> Result<(), Fail> {
     let mut desk = opened(&rt, plain_keeper(&rt))?;
     let mut out: Vec<u8> = Vec::new(rt.alloc());
-    let mut reader = FailsOnce { has_failed: false };
+    let mut reader = Drip {
+        bytes: b"? order 7\n",
+        piece: 512,
+        before_fault: 0,
+    };
     assert_eq!(rt;
         answer_stream(rt.alloc(), &mut reader, &mut out, &mut desk),
         Err(ScriptFault::Read)
     );
     assert!(rt; out.is_empty());
     let mut text = b"? order 7\n".as_slice();
-    let mut writer = FailsOnce { has_failed: false };
+    let mut writer = Sink {
+        taken: Vec::new(rt.alloc()),
+        piece: 512,
+        before_fault: 0,
+        takes_none: false,
+    };
     assert_eq!(rt;
         answer_stream(rt.alloc(), &mut text, &mut writer, &mut desk),
         Err(ScriptFault::Write)

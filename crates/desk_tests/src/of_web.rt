@@ -1,15 +1,15 @@
 //! Messages, and what they are answered.
 
-mod streams;
-
-use crate::{Ending, Served, WebFault, serve};
-use desk::{Desk, OpenFault};
+use crate::desks::opened;
+use crate::keepers::plain_keeper;
+use crate::streams::{Drip, Sink};
+use desk::Desk;
 use keep::{Keep, PlainKeep};
 use std::alloc::Global;
 use std::io::{Read, Write};
 use std::process::Abort;
 use std::test::Fail;
-use streams::{Drip, Sink};
+use web::{Ending, Served, WebFault, serve};
 
 /// A method and a target, a body, and the status, the type and the body of the answer.
 type Row = (
@@ -273,6 +273,16 @@ fn expect_rows<R: Abort + AllocGlobal, K: Keep>(
     Ok(())
 }
 
+/// How serving these streams ends on a new desk.
+fn serve_new<R: AllocGlobal, I: Read, O: Write>(
+    rt: &R,
+    reader: &mut I,
+    writer: &mut O,
+) -> Result<Result<Served, WebFault>, Fail> {
+    let mut desk = opened(rt, plain_keeper(rt))?;
+    Ok(serve_on(rt.alloc(), reader, writer, &mut desk))
+}
+
 /// The stream has one answer, this one, and ends so.
 fn expect_answer<R: Abort + AllocGlobal>(
     rt: &R,
@@ -280,10 +290,9 @@ fn expect_answer<R: Abort + AllocGlobal>(
     ending: Ending,
     answer: &[u8],
 ) -> Result<(), Fail> {
-    let mut desk = opened(rt.alloc(), PlainKeep::start(rt.alloc(), None, false))?;
     let mut reader = stream;
     let mut out = Vec::new(rt.alloc());
-    let served = serve_on(rt.alloc(), &mut reader, &mut out, &mut desk)?;
+    let served = serve_new(rt, &mut reader, &mut out)??;
     assert_eq!(rt; (served.answered, served.ending), (1, ending));
     assert!(rt; out.as_slice() == answer);
     Ok(())
@@ -292,7 +301,7 @@ fn expect_answer<R: Abort + AllocGlobal>(
 #[test]
 fn messages_are_answered_in_any_pieces(rt: HostRuntime) -> Result<(), Fail> {
     for piece in 1..=20 {
-        let mut desk = opened(rt.alloc(), PlainKeep::start(rt.alloc(), None, false))?;
+        let mut desk = opened(&rt, plain_keeper(&rt))?;
         expect_rows(&rt, &mut desk, piece, worked())?;
     }
     Ok(())
@@ -300,7 +309,7 @@ fn messages_are_answered_in_any_pieces(rt: HostRuntime) -> Result<(), Fail> {
 
 #[test]
 fn a_stopped_desk_answers_so(rt: HostRuntime) -> Result<(), Fail> {
-    let mut desk = opened(rt.alloc(), PlainKeep::start(rt.alloc(), Some(2), false))?;
+    let mut desk = opened(&rt, PlainKeep::start(rt.alloc(), Some(2), false))?;
     expect_rows(&rt, &mut desk, 512, stopped())
 }
 
@@ -379,9 +388,26 @@ fn a_body_has_its_limit(rt: HostRuntime) -> Result<(), Fail> {
     expect_answer(&rt, &nested, Ending::Input, NO_COMMAND)
 }
 
-/// How serving the rows ends where the read with this number fails.
+/// What was written is a beginning of the answers to the rows.
+fn expect_beginning<R: Abort + AllocGlobal>(rt: &R, written: &[u8]) -> Result<(), Fail> {
+    let answers = answers_of(rt.alloc(), worked())?;
+    assert!(rt; answers.starts_with(written));
+    Ok(())
+}
+
+/// Whether it ended by a fault, which is this one.
+fn has_failed<R: Abort>(rt: &R, ended: Result<Served, WebFault>, want: WebFault) -> bool {
+    match ended {
+        Ok(_) => false,
+        Err(fault) => {
+            assert_eq!(rt; fault, want);
+            true
+        }
+    }
+}
+
+/// Serves the rows where the read with this number fails: whether it was needed.
 fn with_failing_read<R: Abort + AllocGlobal>(rt: &R, before_fault: usize) -> Result<bool, Fail> {
-    let mut desk = opened(rt.alloc(), PlainKeep::start(rt.alloc(), None, false))?;
     let messages = messages_of(rt.alloc(), worked())?;
     let mut reader = Drip {
         bytes: &messages,
@@ -389,25 +415,17 @@ fn with_failing_read<R: Abort + AllocGlobal>(rt: &R, before_fault: usize) -> Res
         before_fault,
     };
     let mut out = Vec::new(rt.alloc());
-    let served = serve_on(rt.alloc(), &mut reader, &mut out, &mut desk);
-    let answers = answers_of(rt.alloc(), worked())?;
-    assert!(rt; answers.starts_with(&out));
-    match served {
-        Ok(_) => Ok(false),
-        Err(fault) => {
-            assert_eq!(rt; fault, WebFault::Read);
-            Ok(true)
-        }
-    }
+    let ended = serve_new(rt, &mut reader, &mut out)?;
+    expect_beginning(rt, &out)?;
+    Ok(has_failed(rt, ended, WebFault::Read))
 }
 
-/// How serving the rows ends where the write with this number fails, or takes nothing.
+/// Serves the rows where the write with this number fails, or takes nothing: whether it was needed.
 fn with_failing_write<R: Abort + AllocGlobal>(
     rt: &R,
     before_fault: usize,
     takes_none: bool,
 ) -> Result<bool, Fail> {
-    let mut desk = opened(rt.alloc(), PlainKeep::start(rt.alloc(), None, false))?;
     let messages = messages_of(rt.alloc(), worked())?;
     let mut reader = messages.as_slice();
     let mut writer = Sink {
@@ -416,16 +434,9 @@ fn with_failing_write<R: Abort + AllocGlobal>(
         before_fault,
         takes_none,
     };
-    let served = serve_on(rt.alloc(), &mut reader, &mut writer, &mut desk);
-    let answers = answers_of(rt.alloc(), worked())?;
-    assert!(rt; answers.starts_with(&writer.taken));
-    match served {
-        Ok(_) => Ok(false),
-        Err(fault) => {
-            assert_eq!(rt; fault, WebFault::Write);
-            Ok(true)
-        }
-    }
+    let ended = serve_new(rt, &mut reader, &mut writer)?;
+    expect_beginning(rt, &writer.taken)?;
+    Ok(has_failed(rt, ended, WebFault::Write))
 }
 
 /// The number of the first read that is not needed.
@@ -455,17 +466,4 @@ fn a_failing_stream_is_a_fault_at_once(rt: HostRuntime) -> Result<(), Fail> {
     assert!(rt; reads_needed(&rt)? > 10);
     assert!(rt; writes_needed(&rt)? >= worked().len());
     Ok(())
-}
-
-/// What an opening over the keeper gives.
-fn open<K: Keep>(alloc: Global, keep: K) -> Result<Desk<K>, (OpenFault, K)> {
-    Desk::open(alloc, keep)
-}
-
-/// The desk whose rows the keeper holds.
-fn opened<K: Keep + Drop>(alloc: Global, keep: K) -> Result<Desk<K>, Fail> {
-    match open(alloc, keep) {
-        Ok(desk) => Ok(desk),
-        Err((fault, _)) => Err(fault)?,
-    }
 }

@@ -4,7 +4,7 @@ use std::io::{self, Read, Write};
 
 /// Gives its bytes in pieces, fails once, in the place of the piece with this number, and goes on.
 #[derive(Drop)]
-pub struct Drip<'a> {
+pub(crate) struct Drip<'a> {
     pub bytes: &'a [u8],
     pub piece: usize,
     pub before_fault: usize,
@@ -26,7 +26,7 @@ impl Read for Drip<'_> {
 
 /// Takes pieces; once, in the place of the piece with this number, it takes none or fails, and goes on.
 #[derive(Drop)]
-pub struct Sink {
+pub(crate) struct Sink {
     pub taken: Vec<u8>,
     pub piece: usize,
     pub before_fault: usize,

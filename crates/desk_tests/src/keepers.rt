@@ -1,0 +1,62 @@
+//! Keepers of new desks, and their calls without clauses, so that a test's proof need not carry them.
+
+ghost use Rattle.std.specs.Prelude.{All};
+ghost use Rattle.book.specs.Tables.{rows_among};
+ghost use Rattle.keep.specs.Content.{IsTheRow};
+
+use book::{Change, Tables};
+use keep::{Keep, KeepFault, PlainKeep, SqlKeep};
+use sqlite::{Alter, Connection, MemStore};
+use std::alloc::Global;
+use std::test::Fail;
+
+/// What the keeper loads.
+pub(crate) fn load<K: Keep>(keep: &mut K, alloc: Global) -> Result<Tables, KeepFault> {
+    keep.load(alloc)
+}
+
+/// How the keeper fails to load.
+pub(crate) fn load_fault<K: Keep>(keep: &mut K, alloc: Global) -> Option<KeepFault> {
+    load(keep, alloc).err()
+}
+
+/// What the keeper answers to a commit.
+pub(crate) fn commit<K: Keep>(keep: &mut K, changes: &[Change]) -> Result<(), KeepFault>
+    requires { All IsTheRow (rows_among changes.now).desk }
+{
+    keep.commit(changes)
+}
+
+/// A keeper over the connection, which is in no transaction.
+pub(crate) fn keeper<S: Alter + Drop>(conn: Connection<S>) -> Result<SqlKeep<S>, Fail> {
+    if conn.is_autocommit() {
+        Ok(SqlKeep::over(conn))
+    } else {
+        Err("a transaction is open")?
+    }
+}
+
+/// Makes a new desk over the connection, which is in no transaction.
+pub(crate) fn create<S: Alter>(conn: &mut Connection<S>) -> Result<(), KeepFault> {
+    if conn.is_autocommit() {
+        SqlKeep::create_over(conn)
+    } else {
+        Err(KeepFault::Store)
+    }
+}
+
+pub(crate) fn connection_of<S: Alter>(keep: SqlKeep<S>) -> Connection<S> {
+    keep.into_connection()
+}
+
+/// A keeper of a new desk in memory, over SQLite.
+pub(crate) fn sql_keeper<R: AllocGlobal>(rt: &R) -> Result<SqlKeep<MemStore>, Fail> {
+    let mut conn = Connection::open_in_memory(rt.alloc())?;
+    create(&mut conn)?;
+    keeper(conn)
+}
+
+/// A keeper of a new desk that never fails.
+pub(crate) fn plain_keeper<R: AllocGlobal>(rt: &R) -> PlainKeep {
+    PlainKeep::start(rt.alloc(), None, false)
+}
