@@ -1,5 +1,5 @@
 -- Connections, served one after the other, and the line that tells their port.
-use Rattle.std.proofs.Common.{◌≡◌, ◌≤◌, ◌∙◌, ◌+◌, Bool, ℕ, List, [], ◌∷◌, ◌++◌, Option, arith, false, inl, inr, length, refl, subst, sym, true≢false}
+use Rattle.std.proofs.Common.{◌≡◌, ◌≤◌, ◌∙◌, ◌+◌, Bool, Err, IfErr, IfOk, ℕ, List, [], ◌∷◌, ◌++◌, Ok, Option, Result, arith, false, inl, inr, length, refl, subst, sym, true≢false}
 use Rattle.std.specs.Io.KnownBytes.{Appends, Keeps}
 use Rattle.std.proofs.KnownBytes.{Appends-kept, Appends-nil}
 use Rattle.std.proofs.lemmas.List.{length-append, take_all}
@@ -11,7 +11,7 @@ use Rattle.web.specs.Serving.{EndsCut, EndsShort, EndsWhole, Serves, stand}
 use Rattle.web.specs.Web.{Stand}
 use Rattle.web.specs.declared.served.Served.{Served}
 use Rattle.web.specs.declared.served.WebFault.{WebFault}
-use Rattle.stockdesk.specs.Connections.{AreServed, IsServed, PortBegun, PortTold, ServesAll, ServesSome, ServiceCut, ServiceInPart, ServiceWhole, Streams, listening_line}
+use Rattle.stockdesk.specs.Connections.{AreServed, Came, IsServed, PortBegun, PortTold, ServiceCut, ServiceInPart, ServiceWhole, Streams, listening_line}
 use Rattle.stockdesk.specs.Sessions.{IsUnbegun}
 use Rattle.stockdesk.specs.declared.session.Fault.{Fault}
 use Rattle.stockdesk.proofs.Played.{not_unbegun}
@@ -79,6 +79,12 @@ module _ (H G : Type 0) (L M : List Content → Type 0) where
   are_again (s ∷ streams) old new going (mid, before, one, rest) =
       (mid, before, is_again s old mid (goes_before H L streams mid new going rest) one, are_again streams mid new going rest)
 
+-- a connection ends whole, or by a fault
+pub is_served : (result : Result Served WebFault) (H : Type 0) (L : List Content → Type 0) (old new : Stand) (R r W w : Option (List ℕ)) → IfOk result (λ served. EndsWhole served H L old new R r W w)
+    → IfErr result (λ fault. EndsCut fault H L old new R r W w) → IsServed H L old (record { reader_old = R; reader_new = r; writer_old = W; writer_new = w }) new
+is_served (Ok served) H L old new R r W w whole cut = inl (served, whole)
+is_served (Err fault) H L old new R r W w whole cut = inr (fault, cut)
+
 -- ---- one connection more
 
 served_on : (H : Type 0) (L : List Content → Type 0) (streams : List Streams) (s : Streams) (old mid new : Stand)
@@ -86,35 +92,44 @@ served_on : (H : Type 0) (L : List Content → Type 0) (streams : List Streams) 
 served_on H L [] s old mid new same going one = subst (λ (o : Stand). AreServed H L o (s ∷ []) new) same (new, going, one, refl)
 served_on H L (t ∷ streams) s old mid new (next, before, first, rest) going one = (next, before, first, served_on H L streams s next mid new rest going one)
 
-abbrev pub ServesTo : ℕ → Bool → (is_honest : Type 0) → (leaves : List Content → Type 0) → Ledger → Ledger → Type 0
-ServesTo count is_stopped is_honest leaves first last =
-    (streams : List Streams) × (length streams ≡ count) × AreServed is_honest leaves (stand first false) streams (stand last is_stopped)
+-- so many connections were served, as they came
+abbrev pub ServesFrom : {N R W : Type 0} → (N → R → W → N → Type 0) → (R → Option (List ℕ)) → (W → Option (List ℕ)) → ℕ → Bool → (is_honest : Type 0) → (leaves : List Content → Type 0) → Ledger → Ledger → N → N → Type 0
+ServesFrom comes remaining contents count is_stopped is_honest leaves first last old new =
+    (streams : List Streams) × (length streams ≡ count) × AreServed is_honest leaves (stand first false) streams (stand last is_stopped) × Came comes remaining contents old streams new
 
-module _ {H G : Type 0} {L M : List Content → Type 0} where
-  pub serves_one : (count : ℕ) (s : Streams) (first mid last : Ledger) (was is : Bool) → was ≡ false → ServesAll count H L first mid → IsServed G M (stand mid was) s (stand last is)
-      → ServesTo (count + 1) is G M first last
-  serves_one count s first mid last was is going (streams, size, are) one =
+came_on : {N R W : Type 0} (comes : N → R → W → N → Type 0) (remaining : R → Option (List ℕ)) (contents : W → Option (List ℕ)) (streams : List Streams) (s : Streams) (old mid new : N) (reader : R) (writer : W)
+    → Came comes remaining contents old streams mid → comes mid reader writer new → s.reader_old ≡ remaining reader → s.writer_old ≡ contents writer → Came comes remaining contents old (streams ++ s ∷ []) new
+came_on comes remaining contents [] s old mid new reader writer same came reads writes =
+    (reader, writer, new, subst (λ o. comes o reader writer new) same came, reads, writes, refl)
+came_on comes remaining contents (t ∷ streams) s old mid new reader writer (r, w, next, first, was, is, rest) came reads writes =
+    (r, w, next, first, was, is, came_on comes remaining contents streams s next mid new reader writer rest came reads writes)
+
+module _ {N R W : Type 0} (comes : N → R → W → N → Type 0) (remaining : R → Option (List ℕ)) (contents : W → Option (List ℕ)) {H G : Type 0} {L M : List Content → Type 0} where
+  pub serves_one : (count : ℕ) (s : Streams) (first mid last : Ledger) (was is : Bool) (old now new : N) (reader : R) (writer : W) → was ≡ false → ServesFrom comes remaining contents count false H L first mid old now
+      → comes now reader writer new → s.reader_old ≡ remaining reader → s.writer_old ≡ contents writer → IsServed G M (stand mid was) s (stand last is)
+      → ServesFrom comes remaining contents (count + 1) is G M first last old new
+  serves_one count s first mid last was is old now new reader writer going (streams, size, are, come) came reads writes one =
       let more = length-append streams (s ∷ []) in (
         streams ++ s ∷ [],
         omega (arith, size, more),
         served_on G M streams s (stand first false) (stand mid false) (stand last is) (are_again H G L M streams (stand first false) (stand mid false) refl are) refl
             (subst (λ (b : Bool). IsServed G M (stand mid b) s (stand last is)) going one),
+        came_on comes remaining contents streams s old now new reader writer come came reads writes,
       )
 
-pub serves_none : (H : Type 0) (L : List Content → Type 0) (first : Ledger) → ServesAll 0 H L first first
-serves_none H L first = ([], refl, refl)
+module _ {N R W : Type 0} {comes : N → R → W → N → Type 0} {remaining : R → Option (List ℕ)} {contents : W → Option (List ℕ)} where
+  pub serves_none : (H : Type 0) (L : List Content → Type 0) (first : Ledger) (old : N) → ServesFrom comes remaining contents 0 false H L first first old old
+  serves_none H L first old = ([], refl, refl, refl)
 
-module _ {H : Type 0} {L : List Content → Type 0} where
-  pub serves_all : (count : ℕ) (is : Bool) (first last : Ledger) → is ≡ false → ServesTo count is H L first last → ServesAll count H L first last
-  serves_all count is first last going to = subst (λ (b : Bool). ServesTo count b H L first last) going to
+  module _ {H : Type 0} {L : List Content → Type 0} where
+    pub goes_on : (count : ℕ) (is : Bool) (first last : Ledger) (old new : N) → is ≡ false → ServesFrom comes remaining contents count is H L first last old new → ServesFrom comes remaining contents count false H L first last old new
+    goes_on count is first last old new going from = subst (λ (b : Bool). ServesFrom comes remaining contents count b H L first last old new) going from
 
-  pub serves_some : (count most : ℕ) (is : Bool) (first last : Ledger) → count ≤ most → ServesTo count is H L first last → ServesSome most is H L first last
-  serves_some count most is first last few (streams, size, are) = (streams, omega (arith, size, few), are)
-
-  -- those so far, of a desk that goes on
-  pub serves_so_far : (count most : ℕ) (is : Bool) (first last : Ledger) → count ≤ most → is ≡ false → ServesAll count H L first last → ServesSome most is H L first last
-  serves_so_far count most is first last few going (streams, size, are) =
-      (streams, omega (arith, size, few), subst (λ (b : Bool). AreServed H L (stand first false) streams (stand last b)) (sym going) are)
+    -- those so far
+    pub serves_so_far : (count most : ℕ) (was is : Bool) (first last : Ledger) (old now : N) → count ≤ most → is ≡ was → ServesFrom comes remaining contents count was H L first last old now
+        → (streams : List Streams) × (length streams ≤ most) × AreServed H L (stand first false) streams (stand last is) × (mid : N) × Came comes remaining contents old streams mid
+    serves_so_far count most was is first last old now few same (streams, size, are, come) =
+        (streams, omega (arith, size, few), subst (λ (b : Bool). AreServed H L (stand first false) streams (stand last b)) (sym same) are, now, come)
 
 -- ---- the port
 

@@ -47,6 +47,13 @@ AreServed is_honest leaves old [] new = new ≡ old
 AreServed is_honest leaves old (s ∷ streams) new =
     (mid : Stand) × (old.is_stopped ≡ false) × IsServed is_honest leaves old s mid × AreServed is_honest leaves mid streams new
 
+-- These connections came one after the other to what listens, which was so before and is so after them.
+abbrev pub Came : {L R W : Type 0} → (comes : L → R → W → L → Type 0) → (remaining : R → Option (List ℕ)) → (contents : W → Option (List ℕ)) → L → List Streams → L → Type 0
+Came comes remaining contents old [] new = new ≡ old
+Came {L} {R} {W} comes remaining contents old (s ∷ streams) new =
+    (reader : R) × (writer : W) × (mid : L) × comes old reader writer mid × (s.reader_old ≡ remaining reader) × (s.writer_old ≡ contents writer)
+    × Came comes remaining contents mid streams new
+
 -- so many connections were served, and the desk goes on
 abbrev pub ServesAll : ℕ → (is_honest : Type 0) → (leaves : List Content → Type 0) → Ledger → Ledger → Type 0
 ServesAll count is_honest leaves first last =

@@ -1,10 +1,9 @@
 //! A desk that a keeper holds, served to connections on this machine.
 
 ghost use Rattle.std.specs.Prelude.{◌≡◌, ◌≢◌, ◌≤◌, ◌⊎◌, false, Err, IfErr, IfOk, IsTrue, List, length, OnErr, OnOk};
-ghost use Rattle.std.specs.Io.KnownBytes.{Keeps};
 ghost use Rattle.desk.specs.Desk.{Keeps as KeepsRows};
 ghost use Rattle.web.specs.Serving.{stand};
-ghost use Rattle.stockdesk.specs.Connections.{AreServed, IsServed, PortBegun, PortTold, ServesAll, ServesSome, ServiceCut, ServiceInPart, ServiceWhole, Streams, listening_line};
+ghost use Rattle.stockdesk.specs.Connections.{AreServed, Came, IsServed, PortBegun, PortTold, ServesAll, ServiceCut, ServiceInPart, ServiceWhole, Streams, listening_line};
 ghost use Rattle.stockdesk.specs.Sessions.{IsLeft, IsNoDesk};
 
 use crate::session::{Fault, open_desk};
@@ -29,14 +28,21 @@ pub trait Listen {
 
     type Writer: Write + Drop;
 
+    /// A connection that may come, and what listens after that.
+    ghost comes: { Self → Self.Reader → Self.Writer → Self → Type 0 };
+
     /// Waits for the next connection.
-    fn next_connection(&mut self) -> io::Result<(Self::Reader, Self::Writer)>;
+    fn next_connection(&mut self) -> io::Result<(Self::Reader, Self::Writer)>
+        ensures { IfOk result (λ connection. comes self.old connection.0 connection.1 self.new) };
 }
 
 impl Listen for TcpListener {
     type Reader = TcpStream;
 
     type Writer = TcpStream;
+
+    // no clause knows what a socket brings
+    ghost comes = { λ old reader writer new. Unit {0} };
 
     fn next_connection(&mut self) -> io::Result<(TcpStream, TcpStream)> {
         let (stream, _) = self.accept()?;
@@ -46,23 +52,22 @@ impl Listen for TcpListener {
     }
 }
 
-/// Serves a connection. A fault ends it alone.
-fn serve_one<K: Keep, R: Read, W: Write>(
+/// Serves a connection, and closes it. A fault ends it alone.
+fn serve_one<K: Keep, R: Read + Drop, W: Write + Drop>(
     alloc: Global,
     desk: &mut Desk<K>,
-    reader: &mut R,
-    writer: &mut W,
+    connection: (R, W),
 )
-    ensures served { IsServed (K.is_honest desk.new.keep) (K.leaves desk.new.keep) (stand desk.old.ledger (K.stopped desk.old.keep))
-        (record { reader_old = R.remaining reader.old; reader_new = R.remaining reader.new; writer_old = W.contents writer.old; writer_new = W.contents writer.new })
-        (stand desk.new.ledger (K.stopped desk.new.keep)) }
+    ensures served { (s : Streams) × (s.reader_old ≡ R.remaining connection.0) × (s.writer_old ≡ W.contents connection.1)
+        × IsServed (K.is_honest desk.new.keep) (K.leaves desk.new.keep) (stand desk.old.ledger (K.stopped desk.old.keep)) s (stand desk.new.ledger (K.stopped desk.new.keep)) }
     ensures honest { K.is_honest desk.new.keep → K.is_honest desk.old.keep }
 {
-    let _ = web::serve(alloc, reader, writer, desk);
+    let (mut reader, mut writer) = connection;
+    let _ = web::serve(alloc, &mut reader, &mut writer, desk);
 }
 
-/// Serves so many connections on a desk that is not stopped, one after the other. Those before a fault are served: `Socket` where no
-/// connection could be had, and `Store` where the last of them stopped the desk.
+/// Serves so many connections on a desk that is not stopped, each as it comes, one after the other. Those before a fault are served:
+/// `Socket` where no connection could be had, and `Store` where the last of them stopped the desk.
 pub fn serve_all<K: Keep, L: Listen>(
     alloc: Global,
     desk: &mut Desk<K>,
@@ -70,18 +75,22 @@ pub fn serve_all<K: Keep, L: Listen>(
     connections: u32,
 ) -> Result<(), Fault>
     requires going { K.stopped desk.old.keep ≡ false }
-    ensures whole { OnOk result (ServesAll connections (K.is_honest desk.new.keep) (K.leaves desk.new.keep) desk.old.ledger desk.new.ledger) }
-    ensures cut { OnErr result (ServesSome connections (K.stopped desk.new.keep) (K.is_honest desk.new.keep) (K.leaves desk.new.keep) desk.old.ledger desk.new.ledger) }
+    ensures whole { OnOk result ((streams : List Streams) × (length streams ≡ connections)
+        × AreServed (K.is_honest desk.new.keep) (K.leaves desk.new.keep) (stand desk.old.ledger false) streams (stand desk.new.ledger false)
+        × Came L.comes L.Reader.remaining L.Writer.contents listener.old streams listener.new) }
+    ensures cut { OnErr result ((streams : List Streams) × (length streams ≤ connections)
+        × AreServed (K.is_honest desk.new.keep) (K.leaves desk.new.keep) (stand desk.old.ledger false) streams (stand desk.new.ledger (K.stopped desk.new.keep))
+        × (mid : L) × Came L.comes L.Reader.remaining L.Writer.contents listener.old streams mid) }
     ensures fault { IfErr result (λ fault. (fault ≡ Fault.Socket) ⊎ (fault ≡ Fault.Store)) }
     ensures going { result ≢ Err Fault.Store → K.stopped desk.new.keep ≡ false }
     ensures stopped { result ≡ Err Fault.Store → IsTrue (K.stopped desk.new.keep) }
     ensures honest { K.is_honest desk.new.keep → K.is_honest desk.old.keep }
 {
     for _turn in 0..connections {
-        let Ok((mut reader, mut writer)) = listener.next_connection() else {
+        let Ok(connection) = listener.next_connection() else {
             return Err(Fault::Socket);
         };
-        serve_one(alloc, desk, &mut reader, &mut writer);
+        serve_one(alloc, desk, connection);
         if desk.is_stopped() {
             return Err(Fault::Store);
         }

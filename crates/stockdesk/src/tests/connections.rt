@@ -98,6 +98,8 @@ impl Listen for Coming<'_> {
 
     type Writer = Sink;
 
+    ghost comes = { λ old reader writer new. Unit {0} };
+
     fn next_connection(&mut self) -> io::Result<(Drip<'static>, Sink)> {
         let Some((next, left)) = self.left.split_first() else {
             return Err(io::Error::from(io::ErrorKind::ConnectionAborted));

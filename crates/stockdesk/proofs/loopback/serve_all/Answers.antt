@@ -1,22 +1,26 @@
-use Rattle.std.proofs.Common.{◌∙◌, rules, sym}
-use Rattle.stockdesk.proofs.Connected.{serves_all, serves_none, serves_one, serves_so_far, serves_some}
+use Rattle.std.proofs.Common.{◌∙◌, refl, rules, sym}
+use Rattle.stockdesk.proofs.Connected.{goes_on, serves_none, serves_one, serves_so_far}
 use Rattle.stockdesk.proofs.loopback.serve_all.Goals as goal
 
 pub loop-turn-init : goal.loop-turn-init
-loop-turn-init g c = record { going = search rules; served = serves_none _ _ _; honest = λ h. h }
+loop-turn-init g c = record { going = search rules; served = serves_none _ _ _ _; honest = λ h. h }
 
 pub returns-in_default-clause-cut : goal.returns-in_default-clause-cut
-returns-in_default-clause-cut g c = serves_so_far _ _ _ _ _ (search rules) c.loop-turn.invariant.going c.loop-turn.invariant.served
+returns-in_default-clause-cut g c = serves_so_far _ _ _ _ _ _ _ _ (search rules) c.loop-turn.invariant.going c.loop-turn.invariant.served
 
 pub returns-then-is_stopped-clause-cut : goal.returns-then-is_stopped-clause-cut
 returns-then-is_stopped-clause-cut g c =
-    serves_some _ _ _ _ _ (search rules) (serves_one _ _ _ _ _ _ _ c.loop-turn.invariant.going c.loop-turn.invariant.served c.serve_one.ensures.served)
+    let (s, reads, writes, one) = c.serve_one.ensures.served in
+    serves_so_far _ _ _ _ _ _ _ _ (search rules) refl
+    (serves_one _ _ _ _ _ _ _ _ _ _ _ _ _ _ _ c.loop-turn.invariant.going c.loop-turn.invariant.served c.in-Ok.ensures reads writes one)
 
 pub loop-turn-preserved : goal.loop-turn-preserved
 loop-turn-preserved g c =
     let going = sym c.is_stopped.ensures.stopped ∙ c.if-is_stopped.false in
+    let (s, reads, writes, one) = c.serve_one.ensures.served in
     record {
       going = going;
-      served = serves_all _ _ _ _ going (serves_one _ _ _ _ _ _ _ c.loop-turn.invariant.going c.loop-turn.invariant.served c.serve_one.ensures.served);
+      served = goes_on _ _ _ _ _ _ going
+          (serves_one _ _ _ _ _ _ _ _ _ _ _ _ _ _ _ c.loop-turn.invariant.going c.loop-turn.invariant.served c.in-Ok.ensures reads writes one);
       honest = λ h. c.loop-turn.invariant.honest (c.serve_one.ensures.honest h);
     }
