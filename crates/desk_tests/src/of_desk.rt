@@ -1,5 +1,7 @@
 //! Desks over both keepers.
 
+mod resuming;
+
 use crate::desks::{answer_script, answer_stream, call, open, opened, play, request, run};
 use crate::keepers::{commit, connection_of, keeper, load, plain_keeper, sql_keeper};
 use crate::scripts::{Row, lines_of, long_script, replies_of, scripts};
@@ -350,6 +352,19 @@ fn expect_run<R: Abort + AllocGlobal, K: Keep>(
     assert!(rt; done.replies.as_slice() == replies);
 }
 
+/// The run is resumed at its second request, and ends with these replies.
+fn expect_rest<R: Abort + AllocGlobal, K: Keep>(
+    rt: &R,
+    desk: &mut Desk<K>,
+    requests: &[Request],
+    replies: &[Reply],
+) -> Result<(), Fail> {
+    let done = resuming::resume(rt.alloc(), desk, requests, 2)?;
+    assert_eq!(rt; done.ending, Ending::All);
+    assert!(rt; done.replies.as_slice() == replies);
+    Ok(())
+}
+
 /// Three orders under keys of their own, each of 10 pieces.
 const ORDERS: [&str; 3] = [
     "F1 open 31 500 take N1 A-1 10",
@@ -370,12 +385,14 @@ fn cut_run<R: Abort + AllocGlobal>(
     Ok(desk.into_keep())
 }
 
-/// A run whose second commit fails: the infimum that a reopening finds, and the same run again.
+/// A run whose second commit fails: the infimum that a reopening finds, the rest of the run, and the same run again.
 fn expect_cut_run<R: Abort + AllocGlobal>(rt: &R, lands: bool, inf: u64) -> Result<(), Fail> {
     let orders = requests(rt, &ORDERS)?;
     let keep = cut_run(rt, &orders, lands)?;
     let mut desk = opened(rt, keep.reopen(None, false))?;
     expect_field(rt, &desk, 40, inf)?;
+    expect_rest(rt, &mut desk, &orders, &[Reply::Done(3), Reply::Done(4)])?;
+    expect_field(rt, &desk, 40, 10)?;
     let replies = [Reply::Done(2), Reply::Done(3), Reply::Done(4)];
     expect_run(rt, &mut desk, &orders, Ending::All, &replies);
     expect_field(rt, &desk, 40, 10)

@@ -1,7 +1,7 @@
 //! Keepers over SQLite and in memory.
 
 mod create;
-mod disks;
+pub(crate) mod disks;
 mod plain;
 mod reopening;
 mod rows;

@@ -123,7 +123,7 @@ pub(crate) fn open<D: Disk + Drop>(
     }
 }
 
-fn files_of<D: Disk + Drop>(conn: Connection<FileStore<D>>) -> Files<D> {
+pub(crate) fn files_of<D: Disk + Drop>(conn: Connection<FileStore<D>>) -> Files<D> {
     match conn.close_files() {
         Ok(files) => files,
         Err((_, store)) => store.close(),
@@ -188,7 +188,7 @@ pub(crate) fn desk_files(alloc: Global) -> Result<Files<Memory>, Fail>
 }
 
 /// The bytes that are left for the next open, after a power cut or without one.
-fn left_by(
+pub(crate) fn left_by(
     alloc: Global,
     mut files: Files<Fuse<Memory>>,
     is_cut: bool,

@@ -1,0 +1,240 @@
+//! A list of requests that is cut, at any call of the disk, and resumed.
+
+ghost use Rattle.std.specs.Prelude.{IsTrue, IfOk};
+ghost use Rattle.sqlite_disk.specs.Memory.{memory_is_usable};
+
+use crate::desks::{answer_script, open};
+use crate::keepers::{connection_of, keeper};
+use crate::of_keep::disks::{self, CUTS, calls_to, desk_files, files_of, left_by};
+use desk::{Desk, Ending, OpenFault, Run};
+use keep::Keep;
+use sqlite::{Alter, Connection, Files};
+use sqlite_disk::{Disk, Fuse, Memory};
+use std::alloc::Global;
+use std::test::Fail;
+use words::{Item, Refusal, Reply, Request, read_item};
+
+/// The list of requests.
+const LIST: [&str; 6] = [
+    "S1 field N1 A-1 0 100 40",
+    "S2 open 7 500 take N1 A-1 30",
+    "S3 open 8 500 take N1 A-1 11",
+    "S4 use 7 N1 A-1 20",
+    "S5 commit 7",
+    "S6 open 8 500 take N1 A-1 20",
+];
+
+/// The replies to them.
+fn replies() -> [Reply; 6] {
+    [
+        Reply::Done(1),
+        Reply::Done(2),
+        Reply::Refused(Refusal::TooLittle, 1),
+        Reply::Done(3),
+        Reply::Done(4),
+        Reply::Done(5),
+    ]
+}
+
+/// What is asked of a desk.
+const ASKS: &str = "? field N1 A-1\n? order 7\n? order 8\n";
+
+/// What is answered before the list, and behind each of its requests.
+fn states() -> [&'static str; 7] {
+    [
+        "? none\n? none\n? none\n",
+        "? field N1 A-1 lo 0 hi 100 value 40 inf 40 sup 40\n? none\n? none\n",
+        "? field N1 A-1 lo 0 hi 100 value 40 inf 10 sup 40\n? order 7 plain 500 open take N1 A-1 30 0\n? none\n",
+        "? field N1 A-1 lo 0 hi 100 value 40 inf 10 sup 40\n? order 7 plain 500 open take N1 A-1 30 0\n? none\n",
+        "? field N1 A-1 lo 0 hi 100 value 40 inf 10 sup 40\n? order 7 plain 500 open take N1 A-1 30 20\n? none\n",
+        "? field N1 A-1 lo 0 hi 100 value 20 inf 20 sup 20\n? order 7 plain 500 committed take N1 A-1 30 20\n? none\n",
+        "? field N1 A-1 lo 0 hi 100 value 20 inf 0 sup 20\n? order 7 plain 500 committed take N1 A-1 30 20\n? order 8 plain 500 open take N1 A-1 20 0\n",
+    ]
+}
+
+/// Which of the states the desk is in: as behind so many requests of the list.
+fn stands<K: Keep>(alloc: Global, desk: &mut Desk<K>, done: usize) -> Result<bool, Fail> {
+    let mut out: Vec<u8> = Vec::new(alloc);
+    answer_script(alloc, ASKS.as_bytes(), &mut out, desk)?;
+    match states().get(done) {
+        Some(state) => Ok(state.as_bytes() == out.as_slice()),
+        None => Ok(false),
+    }
+}
+
+fn requests(alloc: Global) -> Result<Vec<Request>, Fail> {
+    let mut requests = Vec::new(alloc);
+    for line in LIST {
+        match read_item(alloc, line.as_bytes())? {
+            Item::Request(request) => requests.push(request)?,
+            _ => Err("no request")?,
+        }
+    }
+    Ok(requests)
+}
+
+/// The requests are answered from this number on: the call without its clauses, where there is such a number.
+pub(crate) fn resume<K: Keep>(
+    alloc: Global,
+    desk: &mut Desk<K>,
+    requests: &[Request],
+    first: usize,
+) -> Result<Run, Fail> {
+    if first < 1 || first > requests.len() + 1 {
+        Err("no such number")?;
+    }
+    Ok(desk.resume(alloc, requests, first))
+}
+
+/// The replies are those of the table behind so many, and they are all of these exactly where the run ended with all.
+fn expect_run(before: usize, run: &Run) -> Result<(), Fail> {
+    let want = replies();
+    let rest = want.get(before..).ok_or("no such number")?;
+    let count = run.replies.len();
+    if rest.get(..count).ok_or("too many")? != run.replies.as_slice() {
+        Err("another reply")?;
+    }
+    if (run.ending == Ending::All) != (count == rest.len()) {
+        Err("ended before its end")?;
+    }
+    Ok(())
+}
+
+/// A desk that stands behind so many requests, or one more, answers the rest: how many replies it gave.
+fn answer_rest<K: Keep>(alloc: Global, desk: &mut Desk<K>, before: usize) -> Result<usize, Fail> {
+    let next = before.checked_add(1).ok_or("no such number")?;
+    if !stands(alloc, desk, before)? && !stands(alloc, desk, next)? {
+        Err("another ledger than before that request or behind it")?;
+    }
+    let run = resume(alloc, desk, &requests(alloc)?, next)?;
+    expect_run(before, &run)?;
+    if desk.is_stopped() != (run.ending == Ending::Stopped) {
+        Err("stopped and not told, or told and not stopped")?;
+    }
+    Ok(run.replies.len())
+}
+
+/// A session over the connection behind so many replies: how many it gave, none where no desk was opened.
+fn session<S: Alter + Drop>(
+    alloc: Global,
+    conn: Connection<S>,
+    before: usize,
+) -> Result<(Connection<S>, usize), Fail> {
+    match open(alloc, keeper(conn)?) {
+        Err((OpenFault::Store, keep)) => Ok((connection_of(keep), 0)),
+        Err(_) => Err("the store is told as something else")?,
+        Ok(mut desk) => {
+            let count = answer_rest(alloc, &mut desk, before)?;
+            Ok((connection_of(desk.into_keep()), count))
+        }
+    }
+}
+
+/// The same over two files; where these cannot be opened there is no session.
+fn visit<D: Disk + Drop>(
+    alloc: Global,
+    files: Files<D>,
+    before: usize,
+) -> Result<(Files<D>, usize), Fail>
+    requires { IsTrue (D.Disk.is_usable files.log) × IsTrue (D.Disk.is_usable files.db) }
+{
+    match disks::open(alloc, files) {
+        Err(files) => Ok((files, 0)),
+        Ok(conn) => {
+            let (conn, count) = session(alloc, conn, before)?;
+            Ok((files_of(conn), count))
+        }
+    }
+}
+
+/// A session over files of which one fails after so many calls, with a power cut at the end or not: the files that are
+/// left, and how many replies it gave.
+fn visit_cut(
+    alloc: Global,
+    files: Files<Memory>,
+    before: usize,
+    calls: (u64, u64),
+    is_cut: bool,
+) -> Result<(Files<Memory>, usize), Fail>
+    requires { IsTrue (memory_is_usable files.log) × IsTrue (memory_is_usable files.db) }
+    ensures { IfOk result (λ left. IsTrue (memory_is_usable left.0.log) × IsTrue (memory_is_usable left.0.db)) }
+{
+    let fused = Files {
+        log: Fuse::new(files.log, calls.0),
+        db: Fuse::new(files.db, calls.1),
+    };
+    let (fused, count) = visit(alloc, fused, before)?;
+    Ok((left_by(alloc, fused, is_cut)?, count))
+}
+
+/// The list is cut by these two failures, one after the other, and then resumed to its end: how many replies came before the
+/// first.
+fn cut_twice(
+    alloc: Global,
+    first: (u64, u64),
+    second: (u64, u64),
+    is_cut: bool,
+) -> Result<usize, Fail> {
+    let (left, begun) = visit_cut(alloc, desk_files(alloc)?, 0, first, is_cut)?;
+    let (left, more) = visit_cut(alloc, left, begun, second, is_cut)?;
+    let before = begun.checked_add(more).ok_or("no such number")?;
+    let (_, rest) = visit(alloc, left, before)?;
+    if before.checked_add(rest) != Some(LIST.len()) {
+        Err("not resumed to its end")?;
+    }
+    Ok(begun)
+}
+
+/// Fails at each call of one of the files in turn, up to the first run that is not cut: each is resumed, and that is cut
+/// after so many calls too. How many were tried.
+fn cut_at_each_call(alloc: Global, on_log: bool, is_cut: bool, second: u64) -> Result<u64, Fail> {
+    for calls in 0..400u64 {
+        let (first, second) = (calls_to(on_log, calls), calls_to(on_log, second));
+        if cut_twice(alloc, first, second, is_cut)? == LIST.len() {
+            return Ok(calls);
+        }
+    }
+    Err("never ended")?
+}
+
+#[test]
+fn a_list_is_resumed_after_a_failure_at_any_call(rt: HostRuntime) -> Result<(), Fail> {
+    for (on_log, is_cut) in CUTS {
+        assert!(rt; cut_at_each_call(rt.alloc(), on_log, is_cut, u64::MAX)? > 0);
+    }
+    Ok(())
+}
+
+/// The same with a second failure, after up to 19 calls.
+fn cut_twice_at_each_call(alloc: Global, on_log: bool, is_cut: bool) -> Result<(), Fail> {
+    for second in 0..20 {
+        if cut_at_each_call(alloc, on_log, is_cut, second)? == 0 {
+            Err("none was tried")?;
+        }
+    }
+    Ok(())
+}
+
+#[test]
+fn a_list_is_resumed_after_two_failures_of_the_log(rt: HostRuntime) -> Result<(), Fail> {
+    cut_twice_at_each_call(rt.alloc(), true, false)
+}
+
+#[test]
+fn a_list_is_resumed_after_two_failures_of_the_log_and_a_power_cut(
+    rt: HostRuntime,
+) -> Result<(), Fail> {
+    cut_twice_at_each_call(rt.alloc(), true, true)
+}
+
+#[test]
+fn a_list_is_resumed_after_two_failures_of_the_database(rt: HostRuntime) -> Result<(), Fail> {
+    cut_twice_at_each_call(rt.alloc(), false, false)
+}
+
+#[test]
+fn a_list_is_resumed_after_two_failures_of_the_database_and_a_power_cut(
+    rt: HostRuntime,
+) -> Result<(), Fail> {
+    cut_twice_at_each_call(rt.alloc(), false, true)
+}
