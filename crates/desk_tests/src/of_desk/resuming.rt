@@ -3,8 +3,8 @@
 ghost use Rattle.std.specs.Prelude.{IsTrue, IfOk};
 ghost use Rattle.sqlite_disk.specs.Memory.{memory_is_usable};
 
-use crate::desks::{answer_script, open};
-use crate::keepers::{connection_of, keeper};
+use crate::desks::{answer_script, open, opened};
+use crate::keepers::{connection_of, keeper, sql_keeper};
 use crate::of_keep::disks::{self, CUTS, calls_to, desk_files, files_of, left_by};
 use desk::{Desk, Ending, OpenFault, Run};
 use keep::Keep;
@@ -237,4 +237,16 @@ fn a_list_is_resumed_after_two_failures_of_the_database_and_a_power_cut(
     rt: HostRuntime,
 ) -> Result<(), Fail> {
     cut_twice_at_each_call(rt.alloc(), false, true)
+}
+
+#[test]
+fn a_whole_list_again_is_decided_anew(rt: HostRuntime) -> Result<(), Fail> {
+    let requests = requests(rt.alloc())?;
+    let mut desk = opened(&rt, sql_keeper(&rt)?)?;
+    expect_run(0, &resume(rt.alloc(), &mut desk, &requests, 1)?)?;
+    let again = resume(rt.alloc(), &mut desk, &requests, 1)?;
+    let mut want = replies();
+    want[2] = Reply::Refused(Refusal::OrderThere, 0);
+    assert!(rt; again.replies.as_slice() == want.as_slice());
+    Ok(())
 }

@@ -202,6 +202,30 @@ const ORDERS: [Step; 10] = [
     ("run", "? order 54\n", 0, "? none\n", ""),
 ];
 
+/// A file of orders that comes twice.
+fn orders_twice() -> &'static [Step] {
+    &ORDERS_TWICE
+}
+
+const THREE_ORDERS: &str =
+    "key,order,until,way,branch,article,qty\nF1,31,500,take,N1,A-1,10\nF2,32,500,take,N1,A-1,10\nF3,33,500,take,N1,A-1,10\n";
+
+const THREE_REPLIES: &str = "F1 done 2\nF2 done 3\nF3 done 4\n";
+
+const ORDERS_TWICE: [Step; 5] = [
+    ("init", "", 0, "", ""),
+    ("run", "K1 field N1 A-1 0 100 40\n", 0, "K1 done 1\n", ""),
+    ("orders", THREE_ORDERS, 0, THREE_REPLIES, ""),
+    ("orders", THREE_ORDERS, 0, THREE_REPLIES, ""),
+    (
+        "run",
+        "? field N1 A-1\n",
+        0,
+        "? field N1 A-1 lo 0 hi 100 value 40 inf 10 sup 40\n",
+        "",
+    ),
+];
+
 /// Sheets of what the long script leaves, and words that are no codes.
 fn sheets() -> &'static [Step] {
     &SHEETS
@@ -306,6 +330,7 @@ fn commands_go_on_in_a_file(rt: HostRuntime) -> Result<(), Fail> {
     expect_steps(&rt, "files_test/c.db", spelling())?;
     expect_steps(&rt, "files_test/d.db", deliveries())?;
     expect_steps(&rt, "files_test/e.db", orders())?;
+    expect_steps(&rt, "files_test/o.db", orders_twice())?;
     expect_steps(&rt, "files_test/f.db", sheets())?;
     fs::remove_dir_all(&rt, "files_test")?;
     Ok(())
