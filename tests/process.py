@@ -8,7 +8,6 @@ import random
 import resource
 import shutil
 import signal
-import subprocess
 import sys
 import tempfile
 import threading
@@ -16,12 +15,13 @@ import threading
 # no folder of compiled modules beside the sources
 sys.dont_write_bytecode = True
 
+import hostile
 import resumed
 import service
 from programs import (
     COLUMNS,
     FILES,
-    SECONDS,
+    Session,
     bytes_of,
     done,
     ended,
@@ -103,27 +103,6 @@ ROWS = {
         ("T6", 5, "commit 20"),
     ],
 }
-
-
-class Session:
-    """A run on a file whose input stays open."""
-
-    def __init__(self, program, path):
-        self.process = subprocess.Popen([program, "run", path], stdin=subprocess.PIPE, stdout=subprocess.PIPE)
-        # a reply that never comes ends the test
-        self.clock = threading.Timer(SECONDS, self.process.kill)
-        self.clock.start()
-
-    def ask(self, line):
-        self.process.stdin.write(line.encode() + b"\n")
-        self.process.stdin.flush()
-        return self.process.stdout.readline().decode().rstrip("\n")
-
-    def end(self):
-        self.process.stdin.close()
-        self.process.wait()
-        self.process.stdout.close()
-        self.clock.cancel()
 
 
 def test_other_words_ask_for_nothing(program, folder):
@@ -388,6 +367,7 @@ def main():
         test_an_empty_script_changes_nothing,
         test_older_files_are_read,
         test_nothing_acknowledged_is_lost,
+        *hostile.TESTS,
         *resumed.TESTS,
         *service.TESTS,
     ]:

@@ -5,6 +5,7 @@ import os
 import resource
 import subprocess
 import sys
+import threading
 
 try:
     import sqlite3
@@ -62,6 +63,27 @@ def done(program, words, text=""):
 def expect_end(program, words, want, text="K1 expire 1\n"):
     found = ended(program, words, text)
     expect(found == want, f"{words}: {found} and not {want}")
+
+
+class Session:
+    """A run on a file whose input stays open."""
+
+    def __init__(self, program, path):
+        self.process = subprocess.Popen([program, "run", path], stdin=subprocess.PIPE, stdout=subprocess.PIPE)
+        # a reply that never comes ends the test
+        self.clock = threading.Timer(SECONDS, self.process.kill)
+        self.clock.start()
+
+    def ask(self, line):
+        self.process.stdin.write(line.encode() + b"\n")
+        self.process.stdin.flush()
+        return self.process.stdout.readline().decode().rstrip("\n")
+
+    def end(self):
+        self.process.stdin.close()
+        self.process.wait()
+        self.process.stdout.close()
+        self.clock.cancel()
 
 
 def lines_of(name):

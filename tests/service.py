@@ -1,6 +1,7 @@
 """Tests of the built program that serves connections: words that are no numbers, ports, many messages against the same as a
 script, `curl`, connections that break off, a store that fails, and services that are killed."""
 
+import contextlib
 import http.client
 import json
 import random
@@ -11,7 +12,9 @@ import socket
 import struct
 import subprocess
 import threading
+import time
 
+from forms import compact
 from programs import SECONDS, done, expect, expect_end, new_desk, rows_of, say, sqlite3
 
 COMMANDS = 2_000
@@ -60,8 +63,27 @@ def ask(connection, method, target, body=None):
     return answer.status, answer.getheader("content-type"), answer.read().decode()
 
 
-def compact(value):
-    return json.dumps(value, separators=(",", ":"), sort_keys=True)
+def answered(port, pieces, is_reset=False):
+    """What is answered to these pieces, sent one by one, until the connection ends; or the connection is reset behind them."""
+    found = b""
+    with socket.create_connection(("127.0.0.1", port), SECONDS) as connection:
+        connection.setsockopt(socket.IPPROTO_TCP, socket.TCP_NODELAY, 1)
+        if is_reset:
+            # it is closed without a farewell
+            connection.setsockopt(socket.SOL_SOCKET, socket.SO_LINGER, struct.pack("ii", 1, 0))
+        # the other end may have closed behind what it could not read
+        with contextlib.suppress(OSError):
+            for piece in pieces:
+                connection.sendall(piece)
+                if len(pieces) > 1:
+                    time.sleep(0.0002)
+            if is_reset:
+                return found
+            connection.shutdown(socket.SHUT_WR)
+        with contextlib.suppress(ConnectionResetError):
+            while part := connection.recv(65_536):
+                found += part
+    return found
 
 
 def post(connection, key, command):
@@ -215,16 +237,9 @@ def test_a_connection_that_breaks_off_is_the_last_of_nothing(program, folder):
     """One that is reset, one that ends within a body, one that is no HTTP: the next is served."""
     service = Service(program, new_desk(program, folder), 4)
     cut = b"POST /v1/commands HTTP/1.1\r\nContent-Length: 46\r\n\r\n{"
-    with socket.create_connection(("127.0.0.1", service.port), SECONDS) as reset:
-        reset.sendall(cut)
-        # it is closed without a farewell
-        reset.setsockopt(socket.SOL_SOCKET, socket.SO_LINGER, struct.pack("ii", 1, 0))
+    answered(service.port, [cut], is_reset=True)
     for text in [cut, b"K1 expire 1\n"]:
-        with socket.create_connection(("127.0.0.1", service.port), SECONDS) as other:
-            other.sendall(text)
-            other.shutdown(socket.SHUT_WR)
-            with other.makefile("rb") as answers:
-                found = answers.read()
+        found = answered(service.port, [text])
         told = found.startswith(b"HTTP/1.1 400 Bad Request\r\n") and found.endswith(b'{"error":"message"}')
         expect(told, f"{text}: {found}")
     connection = service.connect()

@@ -1,0 +1,231 @@
+"""Random and damaged input for the built program, outside the gate: `tests/fuzz.py PROGRAM SEED COUNT` plays COUNT rounds, each a
+script of 50 lines, a file of requests, ten streams of HTTP messages and a damaged database file. It holds what the rules say
+of any input: the program ends by itself, as its table of statuses says; each line, record and message is answered in its
+form; a stream in pieces is answered as the whole stream is; a file that was not opened stays as it was, but that its log may
+be copied into it; and every file that was has the sums of a desk. Rounds are played in blocks of 100, each on new desks and from a seed of its own."""
+
+import contextlib
+import os
+import re
+import shutil
+import signal
+import subprocess
+import sys
+import tempfile
+
+sys.dont_write_bytecode = True
+
+from forms import REPLY, answers_of, is_answer
+from inputs import Inputs
+from programs import COLUMNS, FILES, SECONDS, bytes_of, expect, new_desk, rows_of, say, sqlite3
+from service import Service, answered
+from sums import expect_sums
+
+BLOCK = 100
+LINES = 50
+STREAMS = 10
+
+RECORD = re.compile(rb"stockdesk: record (0|[1-9][0-9]*)\n")
+ORDER_FILE = ["key", "order", "until", "way", "branch", "article", "qty"]
+DELIVERY_FILE = ["key", "branch", "article", "qty"]
+
+# how a run ends on a file that is opened, and on one that is not
+OPENED = [(0, b""), (1, b"stockdesk: store\n")]
+NOT_OPENED = [(1, b"stockdesk: store\n"), (3, b"stockdesk: not a desk\n"), (3, b"stockdesk: damaged\n")]
+
+
+def played(program, words, text):
+    """The status, the output and the errors of a run that ends by itself."""
+    run = subprocess.run([program, *words], input=text, capture_output=True, timeout=SECONDS)
+    return run.returncode, run.stdout, run.stderr
+
+
+def lines_in(text):
+    """The lines of a text, the last one also where it has no end."""
+    lines = text.split(b"\n")
+    return lines if lines[-1] else lines[:-1]
+
+
+def expect_answers(script, out):
+    """Each line of the script is answered by a line of its form."""
+    lines, replies = lines_in(script), lines_in(out)
+    ended = script.endswith(b"\n") or not script
+    expect(out.endswith(b"\n") or not out, f"a reply without an end: {out[-100:]}")
+    expect(len(lines) == len(replies), f"{len(lines)} lines, {len(replies)} replies: {script}")
+    for number, (line, reply) in enumerate(zip(lines, replies), 1):
+        # bytes behind the last newline say nothing
+        line = line if ended or number < len(lines) else b""
+        expect(is_answer(line, reply), f"{line} is answered {reply}")
+
+
+def read(path):
+    """The rows of the file and its log, or how another SQLite fails to read them."""
+    try:
+        return rows_of(path)
+    except sqlite3.Error as fault:
+        return str(fault)
+
+
+class Block:
+    """100 rounds on new desks in a folder of their own."""
+
+    def __init__(self, program, seed, folder):
+        self.program = program
+        self.inputs = Inputs(seed)
+        self.folder = folder
+
+    def new_desk(self, name):
+        return new_desk(self.program, self.folder, name)
+
+    def scripts(self):
+        path = self.new_desk("scripts.db")
+        for number in range(BLOCK):
+            script = self.inputs.script(LINES)
+            status, out, errors = played(self.program, ["run", path] if number % 4 else ["run"], script)
+            expect((status, errors) == (0, b""), f"status {status}, {errors}: {script}")
+            expect_answers(script, out)
+        expect_sums(path, "scripts")
+        return path
+
+    def files(self, path):
+        """Files of requests, each twice: what is done is done once."""
+        file = os.path.join(self.folder, "requests.csv")
+        for _ in range(BLOCK):
+            command, columns = self.inputs.random.choice([("orders", ORDER_FILE), ("deliveries", DELIVERY_FILE)])
+            text, before = self.inputs.records(columns), bytes_of(path)
+            with open(file, "wb") as out:
+                out.write(text)
+            ends = [played(self.program, [command, path, file], b"") for _ in range(2)]
+            for status, out, errors in ends:
+                if status == 4:
+                    expect(out == b"" and RECORD.fullmatch(errors), f"{out}, {errors}: {text}")
+                    expect(bytes_of(path) == before, f"the desk was changed: {text}")
+                else:
+                    expect((status, errors) == (0, b""), f"status {status}, {errors}: {text}")
+                    expect(all(map(REPLY.fullmatch, lines_in(out))), f"{out}: {text}")
+            first, again = (lines_in(out) for _, out, _ in ends)
+            expect(len(first) == len(again), f"{first} and then {again}: {text}")
+            for reply, other in zip(first, again):
+                expect(reply == other or b" done " not in reply, f"{reply} and then {other}: {text}")
+        expect_sums(path, "files")
+
+    def streams(self):
+        """Each stream comes whole to one service, in pieces to another, and breaks off at a third."""
+        paths = [self.new_desk(f"{name}.db") for name in ["whole", "pieces", "broken"]]
+        services = [Service(self.program, path, BLOCK * STREAMS) for path in paths]
+        whole, pieces, broken = (service.port for service in services)
+        try:
+            for service in services:
+                service.clock.cancel()
+            for _ in range(BLOCK * STREAMS):
+                stream = self.inputs.stream()
+                found = answered(whole, [stream])
+                expect(answers_of(found) is not None, f"{found}: {stream}")
+                other = answered(pieces, self.inputs.pieces(stream))
+                expect(found == other, f"whole {found}, in pieces {other}: {stream}")
+                answered(broken, [stream[: self.inputs.random.randrange(len(stream) + 1)]], is_reset=True)
+            for service in services:
+                service.expect_end()
+        finally:
+            for service in services:
+                service.process.kill()
+        for path in paths:
+            expect_sums(path, "streams")
+        expect(rows_of(paths[0]) == rows_of(paths[1]), "a stream in pieces leaves other rows")
+
+    def session_killed(self, path):
+        """A session that is killed leaves its log beside the file."""
+        shutil.copyfile(path, other := os.path.join(self.folder, "killed.db"))
+        session = subprocess.Popen([self.program, "run", other], stdin=subprocess.PIPE, stdout=subprocess.PIPE)
+        session.stdin.write(self.inputs.script(LINES) + b"\n? order 1\n")
+        session.stdin.flush()
+        while not session.stdout.readline().startswith((b"? order 1 ", b"? none")):
+            pass
+        session.send_signal(signal.SIGKILL)
+        session.communicate()
+        return other
+
+    def row_changed(self, path):
+        """One row of the file is taken out, or one of its columns has another value."""
+        draw = self.inputs.random
+        table = draw.choice(list(COLUMNS))
+        column = draw.choice(COLUMNS[table])
+        with contextlib.closing(sqlite3.connect(path)) as database:
+            rows = database.execute(f"SELECT rowid, {column} FROM {table}").fetchall()
+            if not rows:
+                return
+            row, value = draw.choice(rows)
+            near = [draw.choice(rows)[1]]
+            near += [value + 1, value - 1, -1, 2**63 - 1, -(2**63)] if isinstance(value, int) else ["", value + "0", "n1"]
+            with contextlib.suppress(sqlite3.IntegrityError), database:
+                if self.inputs.chance(0.1):
+                    database.execute(f"DELETE FROM {table} WHERE rowid = ?", [row])
+                else:
+                    database.execute(f"UPDATE {table} SET {column} = ? WHERE rowid = ?", [draw.choice(near), row])
+
+    def damage(self, path, bases):
+        """Puts one of the files in that place, damaged, or with another log beside it."""
+        base = self.inputs.random.choice(bases)
+        log, kind = bytes_of(f"{base}-wal") if os.path.exists(f"{base}-wal") else b"", self.inputs.random.random()
+        shutil.copyfile(base, path)
+        if kind < 0.3:
+            self.row_changed(path)
+            log = b""
+        elif kind < 0.7 or not log:
+            with open(path, "wb") as file:
+                file.write(self.inputs.damaged(bytes_of(base)))
+        if log:
+            with open(f"{path}-wal", "wb") as file:
+                file.write(self.inputs.damaged(log) if kind >= 0.5 else log)
+
+    def databases(self, path):
+        """Counts how many of the damaged files were opened."""
+        bases = [path, self.session_killed(path), *(os.path.join(FILES, f"{name}.db") for name in ["long", "transfer", "many"])]
+        opened = 0
+        for number in range(BLOCK):
+            file, copy = (os.path.join(self.folder, f"{name}{number}.db") for name in ["damaged", "copy"])
+            self.damage(file, bases)
+            for end in ["", "-wal"]:
+                if os.path.exists(file + end):
+                    shutil.copyfile(file + end, copy + end)
+            script = b"? order 1\n" + self.inputs.script(LINES // 5)
+            status, out, errors = played(self.program, ["run", file], script)
+            if out:
+                opened += 1
+                expect((status, errors) in OPENED, f"{file}: status {status}, {errors}")
+                if status == 0:
+                    expect_answers(script, out)
+                expect_sums(file, file)
+            else:
+                expect((status, errors) in NOT_OPENED, f"{file}: status {status}, {errors}")
+                same = bytes_of(file) == bytes_of(copy) or os.path.exists(f"{copy}-wal") and read(file) == read(copy)
+                expect(same, f"{file} was changed")
+            for left in [file, copy, f"{file}-wal", f"{copy}-wal"]:
+                with contextlib.suppress(FileNotFoundError):
+                    os.remove(left)
+        return opened
+
+    def play(self):
+        path = self.scripts()
+        self.files(path)
+        self.streams()
+        return self.databases(path)
+
+
+def main():
+    program, seed, count = sys.argv[1:]
+    program, opened = os.path.abspath(program), 0
+    for number in range(int(count) // BLOCK):
+        folder = tempfile.mkdtemp()
+        try:
+            opened += Block(program, int(seed) + number, folder).play()
+        except BaseException:
+            say(f"seed {int(seed) + number}, {BLOCK} rounds; the files are in {folder}")
+            raise
+        shutil.rmtree(folder)
+    rounds = int(count) // BLOCK * BLOCK
+    say(f"{rounds * LINES} lines, {rounds} files of requests, {rounds * STREAMS} streams, {rounds} damaged files ({opened} opened)")
+
+
+if __name__ == "__main__":
+    main()

@@ -1,0 +1,51 @@
+"""What the tables of any desk satisfy, asked of its file in SQL by another SQLite than the program's."""
+
+import contextlib
+
+from programs import expect, sqlite3
+
+# what an order's lines move on a field, by the order's state, what is looked at (held or used), and the ways that count
+LINES = """(SELECT coalesce(sum(CASE line.way WHEN 0 THEN -line.{amount} ELSE line.{amount} END), 0)
+    FROM line JOIN orders ON orders.number = line.number
+    WHERE orders.state = {state} AND line.way IN ({ways})
+    AND line.branch = field.branch AND line.article = field.article)"""
+MOVES = """(SELECT coalesce(sum(move.qty), 0) FROM move
+    WHERE move.branch = field.branch AND move.article = field.article)"""
+
+# each selects rows that no desk has
+NEVER = {
+    "a value that is not the sum": f"""SELECT * FROM field
+        WHERE value <> start + {MOVES} + {LINES.format(amount="used", state=1, ways="0, 1")}""",
+    "an infimum that is not the sum": f"""SELECT * FROM field
+        WHERE inf <> value + {LINES.format(amount="held", state=0, ways="0")}""",
+    "a supremum that is not the sum": f"""SELECT * FROM field
+        WHERE sup <> value + {LINES.format(amount="held", state=0, ways="1")}""",
+    "a field beyond its bounds": """SELECT * FROM field
+        WHERE NOT (0 <= lo AND lo <= inf AND inf <= value AND value <= sup AND sup <= hi AND hi <= 1000000000)""",
+    "a start beyond the bounds": "SELECT * FROM field WHERE NOT (lo <= start AND start <= hi)",
+    "other places than 1 to their number": """SELECT * FROM desk
+        WHERE (SELECT count(*) FROM kept) <> places OR (SELECT count(DISTINCT place) FROM kept) <> places
+        OR EXISTS (SELECT * FROM kept WHERE place NOT BETWEEN 1 AND places)""",
+    "a move without its place": "SELECT * FROM move WHERE place NOT IN (SELECT place FROM kept) OR qty = 0",
+    "more used than held": "SELECT * FROM line WHERE NOT (0 <= used AND used <= held)",
+    "a line on no field": """SELECT * FROM line WHERE NOT EXISTS
+        (SELECT * FROM field WHERE field.branch = line.branch AND field.article = line.article)""",
+    "a line of no order": "SELECT * FROM line WHERE number NOT IN (SELECT number FROM orders)",
+    "an order without lines": "SELECT * FROM orders WHERE number NOT IN (SELECT number FROM line)",
+    "lines that are not numbered from 1": """SELECT number FROM line GROUP BY number
+        HAVING min(nr) <> 1 OR max(nr) <> count(*) OR count(*) > 64""",
+    "two lines on one field": "SELECT number FROM line GROUP BY number, branch, article HAVING count(*) > 1",
+    "halves of a transfer that differ": """SELECT * FROM line AS taken JOIN line AS added
+        ON added.number = taken.number AND taken.nr = 1 AND added.nr = 2
+        JOIN orders ON orders.number = taken.number AND orders.kind = 1
+        WHERE (taken.way, added.way) <> (0, 1) OR taken.article <> added.article
+        OR taken.held <> added.held OR taken.used <> added.used""",
+}
+
+
+def expect_sums(path, of):
+    """The file has the rows of a desk, as far as sums tell it."""
+    with contextlib.closing(sqlite3.connect(path)) as database:
+        for fault, query in NEVER.items():
+            found = database.execute(query).fetchall()
+            expect(found == [], f"{of}: {fault}: {found}")
