@@ -1,5 +1,4 @@
-use Rattle.std.proofs.Common.{arith, ◌∙◌, ap, flat_map, sym}
-use Rattle.book.proofs.Prelude.{Command, Ledger, aborted_rows, changed_orders, expired_numbers, expires, of_numbered, on_ok_weaker, rows_among, with_orders}
+use Rattle.book.proofs.Prelude.{arith, on_ok_weaker}
 use Rattle.book.proofs.Expiring.{numbered_flat}
 use Rattle.book.proofs.book.Book.push_orders.Goals as goal
 
