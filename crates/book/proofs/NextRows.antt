@@ -1,6 +1,6 @@
 -- The rows of the next ledger that an accepted request changes, table by table.
 use Rattle.std.proofs.lemmas.Bool.Decides.{Decides-int_eq}
-use Rattle.book.proofs.Prelude.{[], ◌&&◌, ◌++◌, ◌+◌, ◌==◌, ◌||◌, ◌∙◌, ◌∷◌, ◌≡◌, ◌≤◌, Aborted, BookView, Bool, ChangesTo, Command, Content, DeskCells, Each, Field, FieldCells, FirstFailure, Good, IfSome, Inside, IsAccepted, IsInRange, IsKey, IsRowsOf, IsStrictlySortedBy, Ledger, Line, LineCells, List, MAX_PLACES, Move, MoveEntry, Name, None, Option, Order, OrderCells, Request, Some, Way, accept, ap, append-nil, arith, bytes_decides, bytes_eq, change_lines, changed_fields, changed_orders, changed_rows, changes_field, changes_line, changes_move, changes_order, changes_state, checks, desk_row, entry_row, expires, false, field_named, field_row, field_rows, filter, find, flat_map, if◌then◌else◌, int_eq, is_lt, is_some, is_transfer, kept_of, kept_row, ledger_of, length, line_name, line_row, line_rows, lines_from, list_any, lower_held, map, move_of, move_row, name_cmp, name_of, nat_cmp, new_field_rows, next, option_map, option_map_or, order_after, order_is, order_lines, order_number, order_numbered, order_of, order_row, places, pos, put_content, raise_used, refl, same_name, set_state, signed, slice_cmp, subst, sym, transfer_kind, true, true≢false, view_of, with_fields, with_kept, with_lines, with_moves, with_orders, ℕ}
+use Rattle.book.proofs.Prelude.{[], ◌&&◌, ◌++◌, ◌+◌, ◌==◌, ◌||◌, ◌∙◌, ◌∷◌, ◌≡◌, ◌≤◌, Aborted, BookView, Bool, ChangesTo, Command, Content, DeskCells, Each, Field, FieldCells, FirstFailure, Good, IfSome, Inside, IsAccepted, IsInRange, IsKey, IsRowsOf, IsStrictlySortedBy, Ledger, Line, LineCells, List, MAX_PLACES, Move, MoveEntry, Name, None, Option, Order, OrderCells, Request, Some, Way, aborted_rows, accept, ap, append-nil, arith, bytes_decides, bytes_eq, change_lines, changed_fields, changed_orders, changed_rows, changes_field, changes_line, changes_move, changes_order, changes_state, checks, desk_row, entry_row, expired_numbers, expires, false, field_named, field_row, field_rows, filter, find, flat_map, if◌then◌else◌, int_eq, is_lt, is_some, is_transfer, kept_of, kept_row, ledger_of, length, line_name, line_row, line_rows, lines_from, list_any, lower_held, map, move_of, move_row, name_cmp, name_of, nat_cmp, new_field_rows, next, of_numbered, option_map, option_map_or, order_after, order_is, order_lines, order_number, order_numbered, order_of, order_row, places, pos, put_content, raise_used, refl, same_name, set_state, signed, slice_cmp, subst, sym, transfer_kind, true, true≢false, view_of, with_fields, with_kept, with_lines, with_moves, with_orders, ℕ}
 use Rattle.std.proofs.lemmas.List.Elements.{filter-append}
 use Rattle.words.specs.declared.command.Command.TheVariants as command
 use Rattle.book.specs.After.{expired_rows, move_made, move_rows, moved_at_once, own_line_rows, own_order_rows}
@@ -18,6 +18,7 @@ use Rattle.book.proofs.Lists.{length-insert, length-of-map}
 use Rattle.book.proofs.Made.{any_one, made_there}
 use Rattle.book.proofs.Once.{no_key}
 use Rattle.book.proofs.Sums.{each, each-imp}
+use Rattle.book.proofs.Expiring.{numbered_flat}
 
 pos_same : (m n : ℕ) → (m == n) ≡ true → int_eq (pos m) (pos n) ≡ true
 pos_same m n e = (Decides-int_eq (pos m) (pos n)).1 (ap pos (number_is m n e))
@@ -269,23 +270,30 @@ placed (Some m) n c e fit = by (moved_at_once c) e
     by None e = absurd (true≢false (ap is_some e))
     by (Some k) e = subst (λ z. z ≤ MAX_PLACES) (sym (ap (λ (x : Move). x.place) (some_is (move_of m) _ e))) fit
 
+-- the order that is made and those that are aborted, of which there are not both
+orders_made : (A : Ledger) (c : Command) → Good A → own_order_rows c (order_after A c) ++ flat_map (of_numbered A aborted_rows) (expired_numbers A c) ≡ changed_orders A c
+orders_made A (command.Expire now) good = numbered_flat (expires now) A aborted_rows good
+orders_made A c good = append-nil (own_order_rows c (order_after A c))
+
 -- the rows as they are made one after the other
-pub rows_in_turn : (A : Ledger) (r : Request) (p : PlanParts) (clock : ℕ) (cells : DeskCells) (desk fields moves orders lines kept : Content) → Makes A r p → clock ≡ (next A r.command).clock
+pub rows_in_turn : (A : Ledger) (r : Request) (p : PlanParts) (clock : ℕ) (cells : DeskCells) (desk fields moves orders aborted lines kept : Content) → Good A → Makes A r p → clock ≡ (next A r.command).clock
     → cells ≡ record { one = pos 1; version = pos 1; clock = pos clock; places = pos p.place } → desk ≡ record no_content { desk = cells ∷ [] } → fields ≡ with_fields (map entry_row p.fields.entries) desk
-    → moves ≡ with_moves (move_rows (option_map move_of p.moved)) fields → orders ≡ with_orders (changed_orders A r.command) moves → lines ≡ with_lines (own_line_rows r.command (option_map order_of p.made)) orders
+    → moves ≡ with_moves (move_rows (option_map move_of p.moved)) fields → orders ≡ with_orders (own_order_rows r.command (option_map order_of p.made)) moves → aborted ≡ with_orders (flat_map (of_numbered A aborted_rows) p.expired.items) orders
+    → lines ≡ with_lines (own_line_rows r.command (option_map order_of p.made)) aborted
     → kept ≡ with_kept (kept_row (record { key = r.key; place = p.place; command = r.command }) ∷ []) lines → kept ≡ rows_made A r
-rows_in_turn A r p clock cells desk fields moves orders lines kept m time is a b d f g h =
+rows_in_turn A r p clock cells desk fields moves orders aborted lines kept good m time is a b d f e g h =
     let more : places (accept A r) ≡ places A + 1 = length-insert (λ a b. is_lt (slice_cmp nat_cmp a.key b.key)) (record { key = r.key; place = places A + 1; command = r.command }) A.kept in
     let count = m.place ∙ sym more in
     let moved = m.moved ∙ ap (λ n. move_made n r.command) m.place in
+    let states = (λ i. own_order_rows r.command (m.made i) ++ flat_map (of_numbered A aborted_rows) (m.expired i)) ∙ orders_made A r.command good in
     let row : cells ≡ desk_row (accept A r) = is ∙ (λ i. record { one = pos 1; version = pos 1; clock = pos (time i); places = pos (count i) }) in
-    h ∙ ap (with_kept (kept_row (record { key = r.key; place = p.place; command = r.command }) ∷ [])) (g ∙ ap (with_lines (own_line_rows r.command (option_map order_of p.made))) (f ∙ ap (with_orders (changed_orders A r.command)) (d
-    ∙ ap (with_moves (move_rows (option_map move_of p.moved))) (b ∙ ap (with_fields (map entry_row p.fields.entries)) a))))
+    h ∙ ap (with_kept (kept_row (record { key = r.key; place = p.place; command = r.command }) ∷ [])) (g ∙ ap (with_lines (own_line_rows r.command (option_map order_of p.made))) (e ∙ ap (with_orders (flat_map (of_numbered A aborted_rows) p.expired.items)) (f ∙ ap (with_orders (own_order_rows r.command (option_map order_of p.made))) (d
+    ∙ ap (with_moves (move_rows (option_map move_of p.moved))) (b ∙ ap (with_fields (map entry_row p.fields.entries)) a)))))
     ∙ (λ i. record {
       desk = row i ∷ [];
       fields = m.fields i;
       moves = move_rows (moved i);
-      orders = changed_orders A r.command;
+      orders = states i;
       lines = own_line_rows r.command (m.made i);
       kept = kept_row (record { key = r.key; place = m.place i; command = r.command }) ∷ [];
     })

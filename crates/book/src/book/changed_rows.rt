@@ -10,8 +10,7 @@ ghost use Rattle.book.specs.Rows.{kept_row, kind_code, line_row, move_row, order
 ghost use Rattle.book.specs.Running.{Accepts, entry_row};
 ghost use Rattle.book.specs.Tables.{desk_cells, field_cells, kept_cells, line_cells, move_cells, order_cells, rows_among};
 ghost use Rattle.book.specs.View.{move_of, order_of};
-ghost use Rattle.book.specs.After.{aborted_rows, changed_orders, changes_own_line, expired_numbers, line_rows, move_rows, of_numbered, order_after, own_line_rows, own_order_rows, with_fields, with_kept, with_lines, with_moves, with_orders, IsShort};
-ghost use Rattle.book.specs.Good.{Good};
+ghost use Rattle.book.specs.After.{aborted_rows, changes_own_line, line_rows, move_rows, of_numbered, order_after, own_line_rows, own_order_rows, with_fields, with_kept, with_lines, with_moves, with_orders, IsShort};
 ghost use Rattle.book.specs.Plans.{ChangesTo, Makes};
 
 use super::made::{changes_line, changes_state, is_transfer};
@@ -332,25 +331,6 @@ impl Book {
         Ok(())
     }
 
-    /// Appends the rows of the orders that are new or whose states change.
-    fn push_orders(
-        &self,
-        changes: &mut Vec<Change>,
-        command: &Command,
-        made: &Option<Order>,
-        expired: &[OrderNo],
-    ) -> Result<(), Memory>
-        requires good { Good self.now.ledger }
-        requires made { option_map order_of made.now ≡ order_after self.now.ledger command.now }
-        requires expired { expired.now ≡ expired_numbers self.now.ledger command.now }
-        ensures { OnOk result (rows_among changes.new.items ≡ with_orders (changed_orders self.now.ledger command.now) (rows_among changes.old.items)) }
-    {
-        match command {
-            Command::Expire { .. } => self.push_all_aborted(changes, expired),
-            _ => push_order(changes, command, made),
-        }
-    }
-
     /// The rows that the accepted request changes, which puts these parts into the book, those of each table in the order
     /// of its key.
     pub(super) fn changes_of(
@@ -370,7 +350,8 @@ impl Book {
         push(&mut changes, Change::Desk(desk))?;
         push_fields(alloc, &mut changes, &parts.fields)?;
         push_move(alloc, &mut changes, &parts.moved)?;
-        self.push_orders(&mut changes, command, &parts.made, &parts.expired)?;
+        push_order(&mut changes, command, &parts.made)?;
+        self.push_all_aborted(&mut changes, &parts.expired)?;
         push_own_lines(alloc, &mut changes, command, &parts.made)?;
         push_kept(alloc, &mut changes, parts.place, request)?;
         Ok(changes)
