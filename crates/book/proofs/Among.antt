@@ -1,9 +1,8 @@
 -- Rows among changes, as changes are appended.
-use Rattle.std.proofs.Common.{arith, ◌≡◌, ◌∙◌, List, [], ◌∷◌, ◌++◌, ap, refl, sym}
-use Rattle.book.proofs.Prelude.{Change, Content, FieldCells, FieldRow, KeptCells, KeptRow, LineCells, LineRow, MoveRow, OrderCells, OrderRow, append-nil, append_assoc, field_cells, kept_cells, line_cells, move_cells, order_cells, rows_among, with_fields, with_kept, with_lines, with_moves, with_orders}
+use Rattle.book.proofs.Prelude.{[], ◌++◌, ◌+◌, ◌<◌, ◌∙◌, ◌∷◌, ◌≡◌, Bool, Change, Content, FieldCells, FieldRow, KeptCells, KeptRow, Line, LineCells, LineRow, List, MoveRow, OrderCells, OrderRow, ap, append_assoc, arith, field_cells, get_or, kept_cells, length, length-take-le, line_cells, line_rows, move_cells, order_cells, refl, rows_among, sym, take, with_fields, with_kept, with_lines, with_moves, with_orders, ℕ}
 use Rattle.book.specs.Rows.{MoveCells}
-use Rattle.book.specs.Tables.{with_change}
 use Rattle.book.specs.declared.rows.Change.TheVariants as change
+use Rattle.book.proofs.Walked.{take-step}
 
 field_last : (cs : List Change) (r : FieldRow) → rows_among (cs ++ change.Field r ∷ []) ≡ with_fields (field_cells r ∷ []) (rows_among cs)
 field_last [] r = refl
@@ -50,3 +49,12 @@ kept_last (c ∷ cs) r = let more = kept_last cs r in grind arith
 -- one row more in that table
 pub kept_pushed : (old new : List Change) (r : KeptRow) (cells : KeptCells) → new ≡ old ++ change.Kept r ∷ [] → kept_cells r ≡ cells → rows_among new ≡ with_kept (cells ∷ []) (rows_among old)
 kept_pushed old new r cells e is = ap rows_among e ∙ kept_last old r ∙ ap (λ (x : KeptCells). with_kept (x ∷ []) (rows_among old)) is
+
+-- ---- rows of lines, one more at a time
+
+line_rows-push : (t : Line → Bool) (n nr : ℕ) (ls : List Line) (l : Line) → line_rows t n nr (ls ++ l ∷ []) ≡ line_rows t n nr ls ++ line_rows t n (nr + length ls) (l ∷ [])
+line_rows-push t n nr [] l = ap (λ k. line_rows t n k (l ∷ [])) (omega arith)
+line_rows-push t n nr (m ∷ ms) l = let more = line_rows-push t n (nr + 1) ms l in grind arith
+
+pub line_rows-step : (t : Line → Bool) (n : ℕ) (ls : List Line) (i : ℕ) (l : Line) → i < length ls → l ≡ get_or ls i l → line_rows t n 1 (take (i + 1) ls) ≡ line_rows t n 1 (take i ls) ++ line_rows t n (i + 1) (l ∷ [])
+line_rows-step t n ls i l h e = grind (arith, (take-step ls i l h e), length-take-le, line_rows-push)

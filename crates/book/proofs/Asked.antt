@@ -1,8 +1,8 @@
 -- The model's tests of a request, over all outcomes, as the comparisons that a program makes.
-use Rattle.book.proofs.Prelude.{Add, Each, FallsBelow, Field, Kind, Ledger, Line, Name, OpenLine, RisesAbove, Take, bytes_decides, common_steps, field_named, held_to_add, held_to_take, if_add, if_take, insert_in_order, ints, is_committed, is_open, line_name, moved, new_line, new_order, on, places, same_name, settled, total, with_move, with_order}
-use Rattle.std.proofs.Common.{◌≡◌, ℕ, ◌+◌, ◌≤◌, ℤ, pos, ◌+ℤ◌, ◌-ℤ◌, neg_ℤ, ◌<ℤ◌, List, [], ◌∷◌, ◌++◌, map, find, Bool, true, false, is_some, IsSomeAnd, Some, None, refl, sym, ap, ◌∙◌, subst, arith, if◌then◌else◌, true≢false, ◌↔◌, nat_lt}
+use Rattle.book.proofs.Prelude.{[], ◌++◌, ◌+ℤ◌, ◌-ℤ◌, ◌<ℤ◌, ◌↔◌, ◌∙◌, ◌∷◌, ◌≡◌, ◌≤◌, Add, Bool, BreaksBound, Each, FallsBelow, Field, IsSomeAnd, Kind, Ledger, Line, List, Move, Name, None, OpenLine, Order, RisesAbove, Some, Take, Way, ap, arith, bytes_decides, common_steps, false, field_named, find, held_to_add, held_to_take, if_add, if_take, if◌then◌else◌, insert_in_order, ints, is_committed, is_open, line_name, map, moved, nat_lt, neg_ℤ, new_line, new_order, on, pos, refl, same_name, settled, subst, sym, total, true, true≢false, with_move, with_order, ℕ, ℤ}
 use Rattle.book.proofs.Bounds.{OneOn, Sound, takes, adds, none-total, falls_below_iff, rises_above_iff}
 use Rattle.book.proofs.Closing.{name_is}
+use Rattle.book.proofs.Sums.{each-of-push}
 
 pub total-insert : {X : Type 0} (g : X → ℤ) (p : X → X → Bool) (x : X) (xs : List X) → total g (insert_in_order p x xs) ≡ g x +ℤ total g xs
 total-insert g p x [] = refl
@@ -15,10 +15,6 @@ total-push g (y ∷ ys) x = let e : total g (ys ++ x ∷ []) ≡ total g ys +ℤ
 pub each-insert : {X : Type 0} (P : X → Type 0) (p : X → X → Bool) (x : X) (xs : List X) → P x → Each P xs → Each P (insert_in_order p x xs)
 each-insert P p x [] h k = (h, tt)
 each-insert P p x (y ∷ ys) h k = let more = each-insert P p x ys h k.1 in grind arith
-
-pub each-push : {X : Type 0} (P : X → Type 0) (xs : List X) (x : X) → Each P xs → P x → Each P (xs ++ x ∷ [])
-each-push P [] x h k = (k, tt)
-each-push P (y ∷ ys) x h k = (h.0, each-push P ys x h.1 k)
 
 pub map-push : (ls : List OpenLine) (l : OpenLine) → map new_line (ls ++ l ∷ []) ≡ map new_line ls ++ new_line l ∷ []
 map-push [] l = refl
@@ -37,7 +33,7 @@ same_self f = rw ((bytes_decides f.branch f.branch).1 refl, (bytes_decides f.art
 
 pub one_on-push : (g : Name) (ls : List Line) (l : Line) → OneOn g ls → Each (λ m. on (line_name l) m ≡ false) ls → OneOn g (ls ++ l ∷ [])
 one_on-push g [] l one h = ((λ _. tt), tt)
-one_on-push g (m ∷ ms) l one h = ((λ e. each-push (λ k. on g k ≡ false) ms l (one.0 e) (apart (same_name g (line_name l)) refl e)), one_on-push g ms l one.1 h.1)
+one_on-push g (m ∷ ms) l one h = ((λ e. each-of-push (λ k. on g k ≡ false) ms l (one.0 e) (apart (same_name g (line_name l)) refl e)), one_on-push g ms l one.1 h.1)
   where
     apart : (b : Bool) → same_name g (line_name l) ≡ b → on g m ≡ true → on g l ≡ false
     apart false d e = d
@@ -55,20 +51,15 @@ unused (l ∷ ls) = (omega arith, unused ls)
 pub fresh-sound : (n : ℕ) (k : Kind) (u : ℕ) (ls : List OpenLine) → ((g : Name) → OneOn g (map new_line ls)) → Sound (new_order n k u ls)
 fresh-sound n k u ls one = record { used = unused ls; one = one }
 
-takes-push : (ls : List OpenLine) (l : OpenLine) → find (on (line_name (new_line l))) (map new_line ls) ≡ None
-    → total (takes (line_name (new_line l))) (map new_line (ls ++ l ∷ [])) ≡ pos (if_take l.way l.qty)
-takes-push ls l none = let f : Name = line_name (new_line l) in
-    let a : total (takes f) (map new_line ls) ≡ pos 0 = none-total f (λ m. pos (if_take m.way m.held)) (map new_line ls) (none_found (on f) (map new_line ls) none) in
-    let b : takes f (new_line l) ≡ pos (if_take l.way l.qty) = rw (same_self f) refl in
-    let c : total (takes f) (map new_line ls ++ new_line l ∷ []) ≡ total (takes f) (map new_line ls) +ℤ takes f (new_line l) = total-push (takes f) (map new_line ls) (new_line l) in
-    rw (map-push ls l) (omega (arith, ints))
-
-adds-push : (ls : List OpenLine) (l : OpenLine) → find (on (line_name (new_line l))) (map new_line ls) ≡ None
-    → total (adds (line_name (new_line l))) (map new_line (ls ++ l ∷ [])) ≡ pos (if_add l.way l.qty)
-adds-push ls l none = let f : Name = line_name (new_line l) in
-    let a : total (adds f) (map new_line ls) ≡ pos 0 = none-total f (λ m. pos (if_add m.way m.held)) (map new_line ls) (none_found (on f) (map new_line ls) none) in
-    let b : adds f (new_line l) ≡ pos (if_add l.way l.qty) = rw (same_self f) refl in
-    let c : total (adds f) (map new_line ls ++ new_line l ∷ []) ≡ total (adds f) (map new_line ls) +ℤ adds f (new_line l) = total-push (adds f) (map new_line ls) (new_line l) in
+-- what it holds on that field
+held-push : (p : Way → ℕ → ℕ) (ls : List OpenLine) (l : OpenLine) → find (on (line_name (new_line l))) (map new_line ls) ≡ None
+    → total (λ m. if on (line_name (new_line l)) m then pos (p m.way m.held) else pos 0) (map new_line (ls ++ l ∷ [])) ≡ pos (p l.way l.qty)
+held-push p ls l none =
+    let f : Name = line_name (new_line l) in
+    let g : Line → ℤ = λ m. if on f m then pos (p m.way m.held) else pos 0 in
+    let a = none-total f (λ m. pos (p m.way m.held)) (map new_line ls) (none_found (on f) (map new_line ls) none) in
+    let b : g (new_line l) ≡ pos (p l.way l.qty) = rw (same_self f) refl in
+    let c = total-push g (map new_line ls) (new_line l) in
     rw (map-push ls l) (omega (arith, ints))
 
 -- a field that is found under a name has that name
@@ -90,12 +81,33 @@ held_take-order A n k u ls f = total-insert (λ o. if is_open o then total (take
 pub held_add-order : (A : Ledger) (n : ℕ) (k : Kind) (u : ℕ) (ls : List OpenLine) (f : Name) → held_to_add (with_order (new_order n k u ls) A) f ≡ total (adds f) (map new_line ls) +ℤ held_to_add A f
 held_add-order A n k u ls f = total-insert (λ o. if is_open o then total (adds f) o.lines else pos 0) (λ a b. nat_lt a.number b.number) (new_order n k u ls) A.orders
 
--- The test of a line of a new order is one comparison in the ledger before.
-pub take_line_test : (A : Ledger) (n : ℕ) (k : Kind) (u : ℕ) (ls : List OpenLine) (l : OpenLine) → Each Sound A.orders
-    → ((g : Name) → OneOn g (map new_line ls)) → find (on (line_name (new_line l))) (map new_line ls) ≡ None → l.way ≡ Take
-    → FallsBelow (with_order (new_order n k u (ls ++ l ∷ [])) A) (line_name (new_line l))
-    ↔ IsSomeAnd (field_named A (line_name (new_line l))) (λ f. ((settled A f -ℤ held_to_take A f.name) -ℤ pos l.qty) <ℤ pos f.lo)
-take_line_test A n k u ls l sound one none way = (λ h. named A.fields name _ _ (λ f e x. there f e x) (iff.0 h), λ h. iff.1 (named A.fields name _ _ (λ f e x. back f e x) h))
+-- ---- The test by all outcomes is one comparison in the ledger before.
+
+-- the ledger has so much more that way, settled or held
+abbrev pub HasMore : Way → Ledger → Ledger → Field → ℕ → Type 0
+HasMore Take A B f q = settled B f -ℤ held_to_take B f.name ≡ (settled A f -ℤ held_to_take A f.name) -ℤ pos q
+HasMore Add A B f q = settled B f +ℤ held_to_add B f.name ≡ (settled A f +ℤ held_to_add A f.name) +ℤ pos q
+
+-- some outcome passes the bound that way
+abbrev pub Passes : Way → Ledger → Name → Type 0
+Passes Take B name = FallsBelow B name
+Passes Add B name = RisesAbove B name
+
+pub compared : (w : Way) (A : Ledger) (ms : List Move) (os : List Order) (name : Name) (q : ℕ) → Each Sound os → ((f : Field) → f.name ≡ name → HasMore w A (record A { moves = ms; orders = os }) f q)
+    → Passes w (record A { moves = ms; orders = os }) name ↔ BreaksBound w A name q
+compared Take A ms os name q sound more = let iff = falls_below_iff (record A { moves = ms; orders = os }) sound name in (
+  (λ h. named A.fields name _ _ (λ f e x. subst (λ z. z <ℤ pos f.lo) (more f e) x) (iff.0 h)),
+  (λ h. iff.1 (named A.fields name _ _ (λ f e x. subst (λ z. z <ℤ pos f.lo) (sym (more f e)) x) h)),
+)
+compared Add A ms os name q sound more = let iff = rises_above_iff (record A { moves = ms; orders = os }) sound name in (
+  (λ h. named A.fields name _ _ (λ f e x. subst (λ z. pos f.hi <ℤ z) (more f e) x) (iff.0 h)),
+  (λ h. iff.1 (named A.fields name _ _ (λ f e x. subst (λ z. pos f.hi <ℤ z) (sym (more f e)) x) h)),
+)
+
+-- a line of a new order
+pub line_compared : (A : Ledger) (n : ℕ) (k : Kind) (u : ℕ) (ls : List OpenLine) (l : OpenLine) → Each Sound A.orders → ((g : Name) → OneOn g (map new_line ls)) → find (on (line_name (new_line l))) (map new_line ls) ≡ None
+    → Passes l.way (with_order (new_order n k u (ls ++ l ∷ [])) A) (line_name (new_line l)) ↔ BreaksBound l.way A (line_name (new_line l)) l.qty
+line_compared A n k u ls l sound one none = compared l.way A A.moves B.orders name l.qty (each-insert Sound (λ a b. nat_lt a.number b.number) (new_order n k u (ls ++ l ∷ [])) A.orders (fresh-sound n k u (ls ++ l ∷ []) (fresh-push ls l one none)) sound) (more l.way refl)
   where
     name : Name
     name = line_name (new_line l)
@@ -103,74 +115,29 @@ take_line_test A n k u ls l sound one none way = (λ h. named A.fields name _ _ 
     B : Ledger
     B = with_order (new_order n k u (ls ++ l ∷ [])) A
 
-    iff : FallsBelow B name ↔ IsSomeAnd (field_named B name) (λ f. (settled B f -ℤ held_to_take B f.name) <ℤ pos f.lo)
-    iff = falls_below_iff B (each-insert Sound (λ a b. nat_lt a.number b.number) (new_order n k u (ls ++ l ∷ [])) A.orders (fresh-sound n k u (ls ++ l ∷ []) (fresh-push ls l one none)) sound) name
+    held : (p : Way → ℕ → ℕ) (f : Name) → f ≡ name → total (λ m. if on f m then pos (p m.way m.held) else pos 0) (map new_line (ls ++ l ∷ [])) ≡ pos (p l.way l.qty)
+    held p f e = subst (λ g. total (λ m. if on g m then pos (p m.way m.held) else pos 0) (map new_line (ls ++ l ∷ [])) ≡ pos (p l.way l.qty)) (sym e) (held-push p ls l none)
 
-    held : (f : Field) → f.name ≡ name → held_to_take B f.name ≡ pos l.qty +ℤ held_to_take A f.name
-    held f e = held_take-order A n k u (ls ++ l ∷ []) f.name ∙ ap (λ z. z +ℤ held_to_take A f.name) (subst (λ g. total (takes g) (map new_line (ls ++ l ∷ [])) ≡ pos (if_take l.way l.qty)) (sym e) (takes-push ls l none) ∙ ap (λ w. pos (if_take w l.qty)) way)
+    more : (w : Way) → l.way ≡ w → (f : Field) → f.name ≡ name → HasMore w A B f l.qty
+    more Take way f e =
+        let a = settled-order A n k u (ls ++ l ∷ []) f in
+        let b = held_take-order A n k u (ls ++ l ∷ []) f.name in
+        let c = held if_take f.name e ∙ ap (λ w. pos (if_take w l.qty)) way in
+        omega (arith, ints)
+    more Add way f e =
+        let a = settled-order A n k u (ls ++ l ∷ []) f in
+        let b = held_add-order A n k u (ls ++ l ∷ []) f.name in
+        let c = held if_add f.name e ∙ ap (λ w. pos (if_add w l.qty)) way in
+        omega (arith, ints)
 
-    there : (f : Field) → f.name ≡ name → (settled B f -ℤ held_to_take B f.name) <ℤ pos f.lo → ((settled A f -ℤ held_to_take A f.name) -ℤ pos l.qty) <ℤ pos f.lo
-    there f e x = let a = settled-order A n k u (ls ++ l ∷ []) f in let b = held f e in omega (arith, ints)
-
-    back : (f : Field) → f.name ≡ name → ((settled A f -ℤ held_to_take A f.name) -ℤ pos l.qty) <ℤ pos f.lo → (settled B f -ℤ held_to_take B f.name) <ℤ pos f.lo
-    back f e x = let a = settled-order A n k u (ls ++ l ∷ []) f in let b = held f e in omega (arith, ints)
-
-pub add_line_test : (A : Ledger) (n : ℕ) (k : Kind) (u : ℕ) (ls : List OpenLine) (l : OpenLine) → Each Sound A.orders
-    → ((g : Name) → OneOn g (map new_line ls)) → find (on (line_name (new_line l))) (map new_line ls) ≡ None → l.way ≡ Add
-    → RisesAbove (with_order (new_order n k u (ls ++ l ∷ [])) A) (line_name (new_line l))
-    ↔ IsSomeAnd (field_named A (line_name (new_line l))) (λ f. pos f.hi <ℤ ((settled A f +ℤ held_to_add A f.name) +ℤ pos l.qty))
-add_line_test A n k u ls l sound one none way = (λ h. named A.fields name _ _ (λ f e x. there f e x) (iff.0 h), λ h. iff.1 (named A.fields name _ _ (λ f e x. back f e x) h))
-  where
-    name : Name
-    name = line_name (new_line l)
-
-    B : Ledger
-    B = with_order (new_order n k u (ls ++ l ∷ [])) A
-
-    iff : RisesAbove B name ↔ IsSomeAnd (field_named B name) (λ f. pos f.hi <ℤ (settled B f +ℤ held_to_add B f.name))
-    iff = rises_above_iff B (each-insert Sound (λ a b. nat_lt a.number b.number) (new_order n k u (ls ++ l ∷ [])) A.orders (fresh-sound n k u (ls ++ l ∷ []) (fresh-push ls l one none)) sound) name
-
-    held : (f : Field) → f.name ≡ name → held_to_add B f.name ≡ pos l.qty +ℤ held_to_add A f.name
-    held f e = held_add-order A n k u (ls ++ l ∷ []) f.name ∙ ap (λ z. z +ℤ held_to_add A f.name) (subst (λ g. total (adds g) (map new_line (ls ++ l ∷ [])) ≡ pos (if_add l.way l.qty)) (sym e) (adds-push ls l none) ∙ ap (λ w. pos (if_add w l.qty)) way)
-
-    there : (f : Field) → f.name ≡ name → pos f.hi <ℤ (settled B f +ℤ held_to_add B f.name) → pos f.hi <ℤ ((settled A f +ℤ held_to_add A f.name) +ℤ pos l.qty)
-    there f e x = let a = settled-order A n k u (ls ++ l ∷ []) f in let b = held f e in omega (arith, ints)
-
-    back : (f : Field) → f.name ≡ name → pos f.hi <ℤ ((settled A f +ℤ held_to_add A f.name) +ℤ pos l.qty) → pos f.hi <ℤ (settled B f +ℤ held_to_add B f.name)
-    back f e x = let a = settled-order A n k u (ls ++ l ∷ []) f in let b = held f e in omega (arith, ints)
-
--- The test of a delivery and of a write-off is one comparison too.
+-- a delivery and a write-off
 pub moved-settled : (A : Ledger) (name : Name) (z : ℤ) (f : Field) → f.name ≡ name → settled (with_move name z A) f ≡ settled A f +ℤ z
 moved-settled A name z f e = grind (arith, common_steps, (same_self name), total-push, f.name, A.moves)
 
 pub write_off_test : (A : Ledger) (name : Name) (q : ℕ) → Each Sound A.orders
     → FallsBelow (with_move name (neg_ℤ (pos q)) A) name ↔ IsSomeAnd (field_named A name) (λ f. ((settled A f -ℤ held_to_take A f.name) -ℤ pos q) <ℤ pos f.lo)
-write_off_test A name q sound = (λ h. named A.fields name _ _ (λ f e x. there f e x) (iff.0 h), λ h. iff.1 (named A.fields name _ _ (λ f e x. back f e x) h))
-  where
-    B : Ledger
-    B = with_move name (neg_ℤ (pos q)) A
-
-    iff : FallsBelow B name ↔ IsSomeAnd (field_named B name) (λ f. (settled B f -ℤ held_to_take B f.name) <ℤ pos f.lo)
-    iff = falls_below_iff B sound name
-
-    there : (f : Field) → f.name ≡ name → (settled B f -ℤ held_to_take B f.name) <ℤ pos f.lo → ((settled A f -ℤ held_to_take A f.name) -ℤ pos q) <ℤ pos f.lo
-    there f e x = let a = moved-settled A name (neg_ℤ (pos q)) f e in omega (arith, ints)
-
-    back : (f : Field) → f.name ≡ name → ((settled A f -ℤ held_to_take A f.name) -ℤ pos q) <ℤ pos f.lo → (settled B f -ℤ held_to_take B f.name) <ℤ pos f.lo
-    back f e x = let a = moved-settled A name (neg_ℤ (pos q)) f e in omega (arith, ints)
+write_off_test A name q sound = compared Take A (with_move name (neg_ℤ (pos q)) A).moves A.orders name q sound (λ f e. let a = moved-settled A name (neg_ℤ (pos q)) f e in omega (arith, ints))
 
 pub delivery_test : (A : Ledger) (name : Name) (q : ℕ) → Each Sound A.orders
     → RisesAbove (with_move name (pos q) A) name ↔ IsSomeAnd (field_named A name) (λ f. pos f.hi <ℤ ((settled A f +ℤ held_to_add A f.name) +ℤ pos q))
-delivery_test A name q sound = (λ h. named A.fields name _ _ (λ f e x. there f e x) (iff.0 h), λ h. iff.1 (named A.fields name _ _ (λ f e x. back f e x) h))
-  where
-    B : Ledger
-    B = with_move name (pos q) A
-
-    iff : RisesAbove B name ↔ IsSomeAnd (field_named B name) (λ f. pos f.hi <ℤ (settled B f +ℤ held_to_add B f.name))
-    iff = rises_above_iff B sound name
-
-    there : (f : Field) → f.name ≡ name → pos f.hi <ℤ (settled B f +ℤ held_to_add B f.name) → pos f.hi <ℤ ((settled A f +ℤ held_to_add A f.name) +ℤ pos q)
-    there f e x = let a = moved-settled A name (pos q) f e in omega (arith, ints)
-
-    back : (f : Field) → f.name ≡ name → pos f.hi <ℤ ((settled A f +ℤ held_to_add A f.name) +ℤ pos q) → pos f.hi <ℤ (settled B f +ℤ held_to_add B f.name)
-    back f e x = let a = moved-settled A name (pos q) f e in omega (arith, ints)
+delivery_test A name q sound = compared Add A (with_move name (pos q) A).moves A.orders name q sound (λ f e. let a = moved-settled A name (pos q) f e in omega (arith, ints))

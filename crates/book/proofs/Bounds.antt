@@ -1,6 +1,5 @@
 -- The least and the greatest result over all outcomes, by what is held.
-use Rattle.std.proofs.Common.{Option, Some, None, IsSomeAnd, ◌≡◌, ℕ, ◌≤◌, ℤ, pos, ◌+ℤ◌, ◌-ℤ◌, neg_ℤ, ◌≤ℤ◌, ◌<ℤ◌, List, [], ◌∷◌, Bool, true, false, ◌&&◌, ◌||◌, IsTrue, refl, sym, ◌∙◌, subst, arith, if◌then◌else◌, true≢false, ◌↔◌}
-use Rattle.book.proofs.Prelude.{Add, Each, FallsBelow, Field, IsInfimum, IsSafe, IsSupremum, IsWithin, Ledger, Line, Name, Order, RisesAbove, Take, Way, field_named, held_to_add, held_to_take, if_add, if_take, ints, is_open, list_any, moved, on, settled, signed, total}
+use Rattle.book.proofs.Prelude.{[], ◌&&◌, ◌+ℤ◌, ◌-ℤ◌, ◌<ℤ◌, ◌||◌, ◌↔◌, ◌∙◌, ◌∷◌, ◌≡◌, ◌≤ℤ◌, ◌≤◌, Add, Bool, Each, FallsBelow, Field, IsInfimum, IsSafe, IsSomeAnd, IsSupremum, IsTrue, IsWithin, Ledger, Line, List, Name, None, Option, Order, RisesAbove, Some, Take, Way, ap, arith, false, field_named, held_to_add, held_to_take, if_add, if_take, if◌then◌else◌, ints, is_open, list_any, moved, neg_ℤ, on, pos, refl, settled, signed, subst, sym, total, true, true≢false, ℕ, ℤ}
 use Rattle.book.specs.Outcomes.{Outcome, IsOutcome, outcome_result}
 use Rattle.book.proofs.Sums.{each-imp}
 
@@ -18,13 +17,21 @@ pub record Sound (o : Order) : Type 0 where
   pub used : Each (λ l. l.used ≤ l.held) o.lines
   pub one : (f : Name) → OneOn f o.lines
 
-is_take : Way → Bool
-is_take Take = true
-is_take Add = false
+is_way : Way → Way → Bool
+is_way Take Take = true
+is_way Take Add = false
+is_way Add Take = false
+is_way Add Add = true
 
-is_add : Way → Bool
-is_add Take = false
-is_add Add = true
+-- an amount, where it is that way
+abbrev if_way : Way → Way → ℕ → ℕ
+if_way Take = if_take
+if_way Add = if_add
+
+-- down for a take, up for an add
+abbrev toward : Way → ℤ → ℤ
+toward Take z = neg_ℤ z
+toward Add z = z
 
 abbrev pub takes : Name → Line → ℤ
 takes f l = if on f l then pos (if_take l.way l.held) else pos 0
@@ -101,103 +108,72 @@ unfolding has
 none-has w f [] h = refl
 none-has w f (l ∷ ls) h = rw h.0 (none-has w f ls h.1)
 
-take_step : (b : Bool) (w : Way) (h : ℕ) (r s : ℤ) (any : Bool) → (b ≡ true → (r ≡ pos 0) × (s ≡ pos 0) × (any ≡ false)) → (any ≡ true → r ≡ neg_ℤ s)
-    → (b && is_take w || any) ≡ true → (if b then signed w h else pos 0) +ℤ r ≡ neg_ℤ ((if b then pos (if_take w h) else pos 0) +ℤ s)
-unfolding is_take
-take_step b w h r s any p q e = grind arith
+-- what a line holds that way on the field
+abbrev held : Way → Name → Line → ℤ
+held w f l = if on f l then pos (if_way w l.way l.held) else pos 0
 
-take_in_full : (f : Name) (ls : List Line) → OneOn f ls → has is_take f ls ≡ true → total (λ l. if on f l then signed l.way l.held else pos 0) ls ≡ neg_ℤ (total (takes f) ls)
+full_step : (w : Way) (b : Bool) (v : Way) (h : ℕ) (r s : ℤ) (any : Bool) → (b ≡ true → (r ≡ pos 0) × (s ≡ pos 0) × (any ≡ false)) → (any ≡ true → r ≡ toward w s)
+    → (b && is_way w v || any) ≡ true → (if b then signed v h else pos 0) +ℤ r ≡ toward w ((if b then pos (if_way w v h) else pos 0) +ℤ s)
+unfolding is_way
+full_step Take b v h r s any p q e = grind arith
+full_step Add b v h r s any p q e = grind arith
+
+in_full : (w : Way) (f : Name) (ls : List Line) → OneOn f ls → has (is_way w) f ls ≡ true → total (λ l. if on f l then signed l.way l.held else pos 0) ls ≡ toward w (total (held w f) ls)
 unfolding has
-take_in_full f [] one e = absurd (true≢false (sym e))
-take_in_full f (l ∷ ls) one e = take_step (on f l) l.way l.held (total (λ l. if on f l then signed l.way l.held else pos 0) ls) (total (takes f) ls) (has is_take f ls)
-    (λ b. (none-total f (λ l. signed l.way l.held) ls (one.0 b), none-total f (λ l. pos (if_take l.way l.held)) ls (one.0 b), none-has is_take f ls (one.0 b)))
-    (λ h. take_in_full f ls one.1 h) e
+in_full w f [] one e = absurd (true≢false (sym e))
+in_full w f (l ∷ ls) one e = full_step w (on f l) l.way l.held (total (λ l. if on f l then signed l.way l.held else pos 0) ls) (total (held w f) ls) (has (is_way w) f ls)
+    (λ b. (none-total f (λ l. signed l.way l.held) ls (one.0 b), none-total f (λ l. pos (if_way w l.way l.held)) ls (one.0 b), none-has (is_way w) f ls (one.0 b)))
+    (λ h. in_full w f ls one.1 h) e
 
-no_take_step : (b : Bool) (w : Way) (h : ℕ) (s : ℤ) (any : Bool) → (any ≡ false → s ≡ pos 0) → (b && is_take w || any) ≡ false → (if b then pos (if_take w h) else pos 0) +ℤ s ≡ pos 0
-unfolding is_take
-no_take_step b w h s any q e = grind arith
+none_step : (w : Way) (b : Bool) (v : Way) (h : ℕ) (s : ℤ) (any : Bool) → (any ≡ false → s ≡ pos 0) → (b && is_way w v || any) ≡ false → (if b then pos (if_way w v h) else pos 0) +ℤ s ≡ pos 0
+unfolding is_way
+none_step Take b v h s any q e = grind arith
+none_step Add b v h s any q e = grind arith
 
-no_take : (f : Name) (ls : List Line) → has is_take f ls ≡ false → total (takes f) ls ≡ pos 0
+none_held : (w : Way) (f : Name) (ls : List Line) → has (is_way w) f ls ≡ false → total (held w f) ls ≡ pos 0
 unfolding has
-no_take f [] e = refl
-no_take f (l ∷ ls) e = no_take_step (on f l) l.way l.held (total (takes f) ls) (has is_take f ls) (λ h. no_take f ls h) e
+none_held w f [] e = refl
+none_held w f (l ∷ ls) e = none_step w (on f l) l.way l.held (total (held w f) ls) (has (is_way w) f ls) (λ h. none_held w f ls h) e
 
--- every open order with a take on the field commits in full, and no other
-worst : Name → Outcome
-worst f = record { commits = λ o. has is_take f o.lines; amount = λ o l. l.held }
+-- every open order with such a line on the field commits in full, and no other
+extreme : Way → Name → Outcome
+extreme w f = record { commits = λ o. has (is_way w) f o.lines; amount = λ o l. l.held }
 
-in_full : (ls : List Line) → Each (λ l. l.used ≤ l.held) ls → Each (λ l. (l.used ≤ l.held) × (l.held ≤ l.held)) ls
-in_full [] h = tt
-in_full (l ∷ ls) h = ((h.0, omega arith), in_full ls h.1)
+extreme-outcome : (w : Way) (f : Name) (A : Ledger) → Each Sound A.orders → IsOutcome A (extreme w f)
+unfolding extreme
+extreme-outcome w f A h = each-imp (λ o s c. each-imp (λ l u. (u, omega arith)) o.lines s.used) A.orders h
 
-worst-outcome : (f : Name) (A : Ledger) → Each Sound A.orders → IsOutcome A (worst f)
-unfolding worst
-worst-outcome f A h = each-imp (λ o s c. in_full o.lines s.used) A.orders h
+extreme_order : (w : Way) (b c : Bool) (m z : ℤ) → (c ≡ true → m ≡ toward w z) → (c ≡ false → z ≡ pos 0) → (if b && c then m else pos 0) ≡ toward w (if b then z else pos 0)
+extreme_order Take b c m z p q = grind arith
+extreme_order Add b c m z p q = grind arith
 
-worst_order : (b c : Bool) (m held : ℤ) → (c ≡ true → m ≡ neg_ℤ held) → (c ≡ false → held ≡ pos 0) → (if b && c then m else pos 0) ≡ neg_ℤ (if b then held else pos 0)
-worst_order b c m held p q = grind arith
+both_toward : (w : Way) (y z : ℤ) → toward w (y +ℤ z) ≡ toward w y +ℤ toward w z
+both_toward Take y z = omega (arith, ints)
+both_toward Add y z = refl
 
-worst-result : (f : Field) (A : Ledger) → Each Sound A.orders → outcome_result A (worst f.name) f ≡ settled A f -ℤ held_to_take A f.name
-unfolding worst
-worst-result f A h = let e = go A.orders h in omega (arith, ints)
+extreme-result : (w : Way) (f : Field) (A : Ledger) → Each Sound A.orders → outcome_result A (extreme w f.name) f ≡ settled A f +ℤ toward w (total (λ o. if is_open o then total (held w f.name) o.lines else pos 0) A.orders)
+unfolding extreme
+extreme-result w f A h = ap (λ z. settled A f +ℤ z) (go A.orders h)
   where
-    go : (os : List Order) → Each Sound os → total (λ o. if is_open o && has is_take f.name o.lines then moved f.name (λ l. l.held) o else pos 0) os ≡ neg_ℤ (total (λ o. if is_open o then total (takes f.name) o.lines else pos 0) os)
-    go [] h = refl
+    go : (os : List Order) → Each Sound os → total (λ o. if is_open o && has (is_way w) f.name o.lines then moved f.name (λ l. l.held) o else pos 0) os ≡ toward w (total (λ o. if is_open o then total (held w f.name) o.lines else pos 0) os)
+    go [] h = none w
+      where
+        none : (w : Way) → pos 0 ≡ toward w (pos 0)
+        none Take = refl
+        none Add = refl
     go (o ∷ os) h =
-        let a = worst_order (is_open o) (has is_take f.name o.lines) (moved f.name (λ l. l.held) o) (total (takes f.name) o.lines) (take_in_full f.name o.lines (h.0.one f.name)) (no_take f.name o.lines) in
+        let a = extreme_order w (is_open o) (has (is_way w) f.name o.lines) (moved f.name (λ l. l.held) o) (total (held w f.name) o.lines) (in_full w f.name o.lines (h.0.one f.name)) (none_held w f.name o.lines) in
         let b = go os h.1 in
-        omega (arith, ints)
+        (λ i. a i +ℤ b i) ∙ sym (both_toward w (if is_open o then total (held w f.name) o.lines else pos 0) (total (λ o. if is_open o then total (held w f.name) o.lines else pos 0) os))
 
--- the same for adds
-
-add_step : (b : Bool) (w : Way) (h : ℕ) (r s : ℤ) (any : Bool) → (b ≡ true → (r ≡ pos 0) × (s ≡ pos 0) × (any ≡ false)) → (any ≡ true → r ≡ s)
-    → (b && is_add w || any) ≡ true → (if b then signed w h else pos 0) +ℤ r ≡ (if b then pos (if_add w h) else pos 0) +ℤ s
-unfolding is_add
-add_step b w h r s any p q e = grind arith
-
-add_in_full : (f : Name) (ls : List Line) → OneOn f ls → has is_add f ls ≡ true → total (λ l. if on f l then signed l.way l.held else pos 0) ls ≡ total (adds f) ls
-unfolding has
-add_in_full f [] one e = absurd (true≢false (sym e))
-add_in_full f (l ∷ ls) one e = add_step (on f l) l.way l.held (total (λ l. if on f l then signed l.way l.held else pos 0) ls) (total (adds f) ls) (has is_add f ls)
-    (λ b. (none-total f (λ l. signed l.way l.held) ls (one.0 b), none-total f (λ l. pos (if_add l.way l.held)) ls (one.0 b), none-has is_add f ls (one.0 b)))
-    (λ h. add_in_full f ls one.1 h) e
-
-no_add_step : (b : Bool) (w : Way) (h : ℕ) (s : ℤ) (any : Bool) → (any ≡ false → s ≡ pos 0) → (b && is_add w || any) ≡ false → (if b then pos (if_add w h) else pos 0) +ℤ s ≡ pos 0
-unfolding is_add
-no_add_step b w h s any q e = grind arith
-
-no_add : (f : Name) (ls : List Line) → has is_add f ls ≡ false → total (adds f) ls ≡ pos 0
-unfolding has
-no_add f [] e = refl
-no_add f (l ∷ ls) e = no_add_step (on f l) l.way l.held (total (adds f) ls) (has is_add f ls) (λ h. no_add f ls h) e
-
--- every open order with an add on the field commits in full, and no other
-best : Name → Outcome
-best f = record { commits = λ o. has is_add f o.lines; amount = λ o l. l.held }
-
-best-outcome : (f : Name) (A : Ledger) → Each Sound A.orders → IsOutcome A (best f)
-unfolding best
-best-outcome f A h = each-imp (λ o s c. in_full o.lines s.used) A.orders h
-
-best_order : (b c : Bool) (m held : ℤ) → (c ≡ true → m ≡ held) → (c ≡ false → held ≡ pos 0) → (if b && c then m else pos 0) ≡ (if b then held else pos 0)
-best_order b c m held p q = grind arith
-
-best-result : (f : Field) (A : Ledger) → Each Sound A.orders → outcome_result A (best f.name) f ≡ settled A f +ℤ held_to_add A f.name
-unfolding best
-best-result f A h = let e = go A.orders h in omega (arith, ints)
-  where
-    go : (os : List Order) → Each Sound os → total (λ o. if is_open o && has is_add f.name o.lines then moved f.name (λ l. l.held) o else pos 0) os ≡ total (λ o. if is_open o then total (adds f.name) o.lines else pos 0) os
-    go [] h = refl
-    go (o ∷ os) h =
-        let a = best_order (is_open o) (has is_add f.name o.lines) (moved f.name (λ l. l.held) o) (total (adds f.name) o.lines) (add_in_full f.name o.lines (h.0.one f.name)) (no_add f.name o.lines) in
-        let b = go os h.1 in
-        omega (arith, ints)
+least-result : (f : Field) (A : Ledger) → Each Sound A.orders → outcome_result A (extreme Take f.name) f ≡ settled A f -ℤ held_to_take A f.name
+least-result f A h = let e = extreme-result Take f A h in omega (arith, ints)
 
 pub inf_is : (A : Ledger) → Each Sound A.orders → (f : Field) → IsInfimum A f (settled A f -ℤ held_to_take A f.name)
-inf_is A h f = record { reached = (worst f.name, worst-outcome f.name A h, worst-result f A h); least = least A f }
+inf_is A h f = record { reached = (extreme Take f.name, extreme-outcome Take f.name A h, least-result f A h); least = least A f }
 
 pub sup_is : (A : Ledger) → Each Sound A.orders → (f : Field) → IsSupremum A f (settled A f +ℤ held_to_add A f.name)
-sup_is A h f = record { reached = (best f.name, best-outcome f.name A h, best-result f A h); greatest = greatest A f }
+sup_is A h f = record { reached = (extreme Add f.name, extreme-outcome Add f.name A h, extreme-result Add f A h); greatest = greatest A f }
 
 -- an infimum is unique
 pub inf_unique : (A : Ledger) (f : Field) (a b : ℤ) → IsInfimum A f a → IsInfimum A f b → a ≡ b
@@ -216,8 +192,8 @@ all_at A P (f ∷ fs) h p = (p f (λ X o. (h X o).0), all_at A P fs (λ X o. (h 
 
 pub room_from_safe : (A : Ledger) → Each Sound A.orders → IsSafe A → Each (HasRoom A) A.fields
 room_from_safe A s h = all_at A (HasRoom A) A.fields h (λ f w. (
-  subst (λ z. pos f.lo ≤ℤ z) (worst-result f A s) (w (worst f.name) (worst-outcome f.name A s)).0,
-  subst (λ z. z ≤ℤ pos f.hi) (best-result f A s) (w (best f.name) (best-outcome f.name A s)).1,
+  subst (λ z. pos f.lo ≤ℤ z) (least-result f A s) (w (extreme Take f.name) (extreme-outcome Take f.name A s)).0,
+  subst (λ z. z ≤ℤ pos f.hi) (extreme-result Add f A s) (w (extreme Add f.name) (extreme-outcome Add f.name A s)).1,
 ))
 
 pub safe_from_room : (A : Ledger) → Each (HasRoom A) A.fields → IsSafe A
@@ -236,7 +212,7 @@ falls_below_iff B s name = (there (field_named B name), back (field_named B name
 
     back : (o : Option Field) → IsSomeAnd o (λ f. (settled B f -ℤ held_to_take B f.name) <ℤ pos f.lo) → IsSomeAnd o (λ f. (X : Outcome) × IsOutcome B X × (outcome_result B X f <ℤ pos f.lo))
     back None h = h
-    back (Some f) h = (worst f.name, worst-outcome f.name B s, subst (λ z. z <ℤ pos f.lo) (sym (worst-result f B s)) h)
+    back (Some f) h = (extreme Take f.name, extreme-outcome Take f.name B s, subst (λ z. z <ℤ pos f.lo) (sym (least-result f B s)) h)
 
 pub rises_above_iff : (B : Ledger) → Each Sound B.orders → (name : Name) → RisesAbove B name ↔ IsSomeAnd (field_named B name) (λ f. pos f.hi <ℤ (settled B f +ℤ held_to_add B f.name))
 rises_above_iff B s name = (there (field_named B name), back (field_named B name))
@@ -247,4 +223,4 @@ rises_above_iff B s name = (there (field_named B name), back (field_named B name
 
     back : (o : Option Field) → IsSomeAnd o (λ f. pos f.hi <ℤ (settled B f +ℤ held_to_add B f.name)) → IsSomeAnd o (λ f. (X : Outcome) × IsOutcome B X × (pos f.hi <ℤ outcome_result B X f))
     back None h = h
-    back (Some f) h = (best f.name, best-outcome f.name B s, subst (λ z. pos f.hi <ℤ z) (sym (best-result f B s)) h)
+    back (Some f) h = (extreme Add f.name, extreme-outcome Add f.name B s, subst (λ z. pos f.hi <ℤ z) (sym (extreme-result Add f B s)) h)

@@ -1,16 +1,17 @@
 -- The rows that an accepted command names, put into the ledger's rows, give the rows of the next ledger.
-use Rattle.std.proofs.Common.{◌≡◌, ℕ, ◌+◌, ℤ, pos, neg_ℤ, List, [], ◌∷◌, ◌++◌, map, flat_map, Bool, true, false, ◌&&◌, ◌||◌, ◌==◌, IsTrue, IsFalse, IsNone, IsSomeAnd, Option, Some, None, refl, sym, ap, ◌∙◌, subst, arith, if◌then◌else◌, true≢false, nat_cmp, nat_lt, Equal, inl, inr, is_some}
-use Rattle.book.proofs.Prelude.{Aborted, AllZip, Command, Committed, Content, DeskCells, Each, Field, FieldCells, FirstFailure, Good, IsFieldRow, IsInRange, IsKey, IsRowsOf, IsStrictlySortedBy, IsSupremum, IsTotalOrder, Kept, Ledger, Line, LineCells, Move, Name, Open, OpenLine, Order, OrderCells, Ordering, Plain, Request, State, Transfer, Way, accept, add_hold, bytes_decides, bytes_eq, change_lines, changed_rows, changes_field, changes_line, changes_move, changes_order, checks, committed_state, desk_row, expires, field_cmp, filter, has_line_on, held_to_add, held_to_take, hold_more, if_add, if_take, insert_in_order, int_cmp_total, int_eq, ints, is_committed, is_eq, is_lt, is_open, is_transfer, kept_cmp, kept_row, kept_under, line_cmp, line_name, line_on, line_row, lines_from, list_any, lower_held, move_cmp, move_row, moved, name_cmp, name_of, nat_list_cmp_total, new_line, new_order, on, on_total, open_state, order_cmp, order_is, order_lines, order_numbered, order_row, places, put_content, put_rows, raise_held, raise_used, same_name, set_state, settled, signed, slice_cmp, then_total, tied_itself, total, transfer_lines, with_order}
+use Rattle.book.proofs.Prelude.{[], ◌&&◌, ◌++◌, ◌+◌, ◌==◌, ◌||◌, ◌∙◌, ◌∷◌, ◌≡◌, Aborted, AllZip, Bool, Command, Committed, Content, DeskCells, Each, Equal, Field, FieldCells, FirstFailure, Good, IsFalse, IsFieldRow, IsInRange, IsKey, IsNone, IsRowsOf, IsSomeAnd, IsStrictlySortedBy, IsTotalOrder, Kept, Ledger, Line, LineCells, List, Move, Name, None, OpenLine, Order, OrderCells, Ordering, Plain, Request, State, Transfer, Way, accept, add_hold, ap, arith, bytes_decides, bytes_eq, change_lines, changed_rows, changes_field, changes_line, changes_move, changes_order, checks, committed_state, desk_row, expires, false, field_cmp, filter, flat_map, has_line_on, held_to_add, held_to_take, hold_more, if_add, if_take, if◌then◌else◌, inl, inr, insert_in_order, int_cmp_total, int_eq, ints, is_committed, is_eq, is_lt, is_open, is_some, is_transfer, kept_cmp, kept_row, kept_under, line_cmp, line_name, line_on, line_row, lines_from, list_any, lower_held, map, move_cmp, move_row, moved, name_cmp, name_of, nat_cmp, nat_list_cmp_total, nat_lt, neg_ℤ, new_line, new_order, on, on_total, open_state, order_cmp, order_is, order_lines, order_numbered, order_row, places, pos, put_content, put_rows, raise_held, raise_used, refl, same_name, set_state, settled, signed, slice_cmp, subst, sym, then_total, tied_itself, total, transfer_lines, true, true≢false, with_order, ℕ, ℤ}
 use Rattle.words.specs.declared.command.Command.TheVariants as command
 use Rattle.book.specs.Rows.{desk_cmp}
-use Rattle.book.proofs.Sums.{each, each-imp, each-both, each-map, total-map, total-eq}
-use Rattle.book.proofs.Bounds.{takes, adds, none-total, inf_is, sup_is, inf_unique}
-use Rattle.book.proofs.Closing.{all_pass, at_number, name_is, sounds_from_good}
+use Rattle.book.proofs.Sums.{each, each-imp, each-both, each-map, total-kept}
+use Rattle.book.proofs.Bounds.{takes, adds, none-total, inf_is, sup_is, inf_unique, sup_unique}
+use Rattle.book.proofs.Closing.{all_pass, at_number, name_is, sounds_from_good, changed}
 use Rattle.book.proofs.Asked.{same_self, total-push, settled-order, held_take-order, held_add-order}
-use Rattle.book.proofs.Safety.{not_true}
 use Rattle.book.proofs.Goodness.{good_accept}
 use Rattle.book.proofs.Puts.{Follows, put_all, follows-same, follows-before, follows-join, follows-map, follows-insert, follows-push}
 use Rattle.book.proofs.InOrder.{fields_sorted, kept_sorted, lines_sorted, moves_sorted, orders_sorted}
+use Rattle.book.proofs.Transfers.{was_open}
+use Rattle.book.proofs.Chosen.{any_none, or_false, or_right}
+use Rattle.book.proofs.Staying.{both_true}
 
 -- orders of the six tables
 
@@ -33,19 +34,6 @@ kept_cmp_total : IsTotalOrder kept_cmp
 kept_cmp_total = on_total (λ r. r.reqkey) nat_list_cmp_total
 
 -- tests over lists
-
-or_false : (a b : Bool) → (a || b) ≡ false → (a ≡ false) × (b ≡ false)
-or_false x b e = grind arith
-
-and_true : (a b : Bool) → a ≡ true → b ≡ true → (a && b) ≡ true
-and_true x b e h = cc
-
-pub any_none : {X : Type 0} (t : X → Bool) (xs : List X) → list_any t xs ≡ false → Each (λ x. t x ≡ false) xs
-any_none t [] e = tt
-any_none t (x ∷ xs) e = let p = or_false (t x) (list_any t xs) e in (p.0, any_none t xs p.1)
-
-or_right : (a b : Bool) → b ≡ true → (a || b) ≡ true
-or_right x b e = grind arith
 
 any_has : {X : Type 0} (P : X → Type 0) (t : X → X → Bool) → ((x : X) → P x → t x x ≡ true) → (xs : List X) → Each (λ x. P x → list_any (t x) xs ≡ true) xs
 any_has P t h [] = tt
@@ -87,7 +75,7 @@ orders_follow A key (command.Commit n) = follows-map order_cmp (λ row. int_eq r
 orders_follow A key (command.Abort n) = follows-map order_cmp (λ row. int_eq row.number (pos n)) order_row _ A.orders (each (λ o. order_if (λ row. int_eq row.number (pos n)) (o.number == n) o (set_state Aborted o) (λ e. order_chosen (λ row. int_eq row.number (pos n)) Aborted o (numbered n o e))) A.orders)
 orders_follow A key (command.Expire now) = follows-map order_cmp (λ row. changes_order A (command.Expire now) row.number) order_row _ A.orders
     (each-imp (λ o k. order_if (λ row. changes_order A (command.Expire now) row.number) (expires now o) o (set_state Aborted o) (λ e. order_chosen (λ row. changes_order A (command.Expire now) row.number) Aborted o (k e))) A.orders
-    (any_has (λ o. expires now o ≡ true) (λ o p. expires now p && int_eq (pos o.number) (pos p.number)) (λ o e. and_true _ _ e (int_same (pos o.number))) A.orders))
+    (any_has (λ o. expires now o ≡ true) (λ o p. expires now p && int_eq (pos o.number) (pos p.number)) (λ o e. both_true _ _ e (int_same (pos o.number))) A.orders))
 orders_follow A key c = follows-same order_cmp order_cmp_total _ (map order_row A.orders)
 
 -- lines
@@ -125,8 +113,8 @@ keeps_line f change t l same x y e k h = by t (on f l) refl k h
   where
     by : (t c : Bool) → on f l ≡ c → (t ≡ true → y ≡ true) → (x && (y || same_name (line_name (if t || c then change l else l)) f)) ≡ false → l ≡ (if t || c then change l else l)
     by false false d k h = refl
-    by true c d k h = absurd (true≢false (sym (and_true x _ e (rw (k refl) refl)) ∙ h))
-    by false true d k h = absurd (true≢false (sym (and_true x _ e (or_right y _ (subst (λ n. same_name n f ≡ true) (sym same) (turn d)))) ∙ h))
+    by true c d k h = absurd (true≢false (sym (both_true x _ e (rw (k refl) refl)) ∙ h))
+    by false true d k h = absurd (true≢false (sym (both_true x _ e (or_right y _ (subst (λ n. same_name n f ≡ true) (sym same) (turn d)))) ∙ h))
       where
         turn : on f l ≡ true → same_name (line_name l) f ≡ true
         turn d = subst (λ g. same_name (line_name l) g ≡ true) (sym (name_is f (line_name l) d)) (same_self (line_name l))
@@ -136,7 +124,7 @@ changed_lines : (A : Ledger) (n : ℕ) (f : Name) (change : Line → Line) → (
 changed_lines A n f change same = follows-flat _ _ A.orders (each-imp (λ o k. same_lines_if _ (o.number == n) o (change_lines f change o)
     (λ e. lines_step _ o.number 1 (λ l. if is_transfer o || on f l then change l else l) o.lines
     (each (λ l nr h. keeps_line f change (is_transfer o) l (same l) (int_eq (pos o.number) (pos n)) (order_is A n is_transfer) (numbered n o e) (λ t. k (e, t)) h) o.lines))) A.orders
-    (any_has (λ o. ((o.number == n) ≡ true) × (is_transfer o ≡ true)) (λ o p. p.number == n && is_transfer p) (λ o e. and_true _ _ e.0 e.1) A.orders))
+    (any_has (λ o. ((o.number == n) ≡ true) × (is_transfer o ≡ true)) (λ o p. p.number == n && is_transfer p) (λ o e. both_true _ _ e.0 e.1) A.orders))
 
 lines_follow : (A : Ledger) (key : List ℕ) (c : Command) → ((n : ℕ) (l : OpenLine) → c ≡ command.More n l.way l.branch l.article l.qty → Each (λ o. (o.number == n) ≡ true → is_transfer o ≡ false) A.orders)
     → Follows line_cmp (λ row. changes_line A c row.number (name_of row.branch row.article)) (flat_map order_lines A.orders) (flat_map order_lines (accept A (record { key = key; command = c })).orders)
@@ -156,7 +144,7 @@ lines_follow A key (command.More n way b a q) m = follows-flat _ _ A.orders (eac
     held_more : (o : Order) → (o.number == n) ≡ true → is_transfer o ≡ false → (c : Bool) → Follows line_cmp (λ row. int_eq row.number (pos n) && same_name (name_of row.branch row.article) f) (order_lines o) (order_lines (if c then hold_more f q o else record o { lines = o.lines ++ new_line l ∷ [] }))
     held_more o e plain true = lines_step _ o.number 1 (λ m. if on f m then raise_held q m else m) o.lines
         (each (λ m nr h. keeps_line f (raise_held q) false m refl (int_eq (pos o.number) (pos n)) false (numbered n o e) (λ t. absurd (true≢false (sym t))) h) o.lines)
-    held_more o e plain false = lines_push _ o.number 1 (new_line l) o.lines (λ nr. and_true _ _ (numbered n o e) (same_self f))
+    held_more o e plain false = lines_push _ o.number 1 (new_line l) o.lines (λ nr. both_true _ _ (numbered n o e) (same_self f))
 lines_follow A key (command.Use n b a q) m = changed_lines A n (name_of b a) (raise_used q) (λ l. refl)
 lines_follow A key (command.Release n b a q) m = changed_lines A n (name_of b a) (lower_held q) (λ l. refl)
 lines_follow A key (command.Commit n) m = follows-flat _ _ A.orders (each (λ o. same_lines_if _ (o.number == n) o (set_state Committed o) (λ _. follows-same line_cmp line_cmp_total _ (order_lines o))) A.orders)
@@ -174,18 +162,12 @@ SameParts f o p = ((if is_committed p then moved f (λ l. l.used) p else pos 0) 
     × ((if is_open p then total (takes f) p.lines else pos 0) ≡ (if is_open o then total (takes f) o.lines else pos 0))
     × ((if is_open p then total (adds f) p.lines else pos 0) ≡ (if is_open o then total (adds f) o.lines else pos 0))
 
-total-map-same : (g : Order → ℤ) (h : Order → Order) (os : List Order) → Each (λ o. g (h o) ≡ g o) os → total g (map h os) ≡ total g os
-total-map-same g h os e = total-map g h os ∙ total-eq (λ o. g (h o)) g os e
-
-abbrev with_orders : (Order → Order) → ℕ → List Kept → Ledger → Ledger
-with_orders h clock kept A = record { clock = clock; fields = A.fields; moves = A.moves; orders = map h A.orders; kept = kept }
-
-same_numbers : (A : Ledger) (h : Order → Order) (clock : ℕ) (kept : List Kept) (f : Field) → Each (λ o. SameParts f.name o (h o)) A.orders → SameNumbers A (with_orders h clock kept A) f
+same_numbers : (A : Ledger) (h : Order → Order) (clock : ℕ) (kept : List Kept) (f : Field) → Each (λ o. SameParts f.name o (h o)) A.orders → SameNumbers A (changed h clock kept A) f
 same_numbers A h clock kept f e =
-    let a = total-map-same (λ o. if is_committed o then moved f.name (λ l. l.used) o else pos 0) h A.orders (each-imp (λ o x. x.0) A.orders e) in (
+    let a = total-kept (λ o. if is_committed o then moved f.name (λ l. l.used) o else pos 0) h A.orders (each-imp (λ o x. x.0) A.orders e) in (
       (omega (arith, ints)),
-      total-map-same (λ o. if is_open o then total (takes f.name) o.lines else pos 0) h A.orders (each-imp (λ o x. x.1) A.orders e),
-      total-map-same (λ o. if is_open o then total (adds f.name) o.lines else pos 0) h A.orders (each-imp (λ o x. x.2) A.orders e),
+      total-kept (λ o. if is_open o then total (takes f.name) o.lines else pos 0) h A.orders (each-imp (λ o x. x.1) A.orders e),
+      total-kept (λ o. if is_open o then total (adds f.name) o.lines else pos 0) h A.orders (each-imp (λ o x. x.2) A.orders e),
     )
 
 parts_if : (f : Name) (b : Bool) (o new : Order) → (b ≡ true → SameParts f o new) → SameParts f o (if b then new else o)
@@ -201,21 +183,15 @@ parts_state f s o e = let k = any_none (on f) o.lines e in (
   zero_if (open_state s) (is_open o) _ (none-total f (λ l. pos (if_add l.way l.held)) o.lines k),
 )
 
-not_committed : (s : State) → open_state s ≡ true → committed_state s ≡ false
-not_committed c e = grind arith
-
 parts_lines : (f : Name) (o : Order) (ls : List Line) → is_open o ≡ true → total (takes f) ls ≡ total (takes f) o.lines → total (adds f) ls ≡ total (adds f) o.lines → SameParts f o (record o { lines = ls })
-parts_lines f o ls e t a = (rw (not_committed o.state e) refl, ap (λ z. if is_open o then z else pos 0) t, ap (λ z. if is_open o then z else pos 0) a)
-
-map_part : (g : Line → ℤ) (c : Line → Line) (ls : List Line) → Each (λ l. g (c l) ≡ g l) ls → total g (map c ls) ≡ total g ls
-map_part g c ls e = total-map g c ls ∙ total-eq (λ l. g (c l)) g ls e
+parts_lines f o ls e t a = (rw (was_open o.state e) refl, ap (λ z. if is_open o then z else pos 0) t, ap (λ z. if is_open o then z else pos 0) a)
 
 -- a line that is not on f holds nothing on it, and still does not once its amounts are changed
 off : (f : Name) (change : Line → Line) (part : Line → ℤ) → ((l : Line) → line_name (change l) ≡ line_name l) → ((l : Line) → on f l ≡ false → part l ≡ pos 0) → (b : Bool) (l : Line) → (b ≡ true → on f l ≡ false) → part (if b then change l else l) ≡ part l
 off f change part same zero_off b l h = grind arith
 
 parts_off : (f g : Name) (change : Line → Line) (o : Order) → ((l : Line) → line_name (change l) ≡ line_name l) → is_open o ≡ true → Each (λ l. (is_transfer o || on g l) ≡ true → on f l ≡ false) o.lines → SameParts f o (change_lines g change o)
-parts_off f g change o same open_is h = grind (arith, (map_part (takes f) (λ l. if is_transfer o || on g l then change l else l) o.lines (each-imp (λ l k. off f change (takes f) same (grind arith) (is_transfer o || on g l) l k) o.lines h)), (map_part (adds f) (λ l. if is_transfer o || on g l then change l else l) o.lines (each-imp (λ l k. off f change (adds f) same (grind arith) (is_transfer o || on g l) l k) o.lines h)), adds, each-imp, off, parts_lines, takes)
+parts_off f g change o same open_is h = grind (arith, (total-kept (takes f) (λ l. if is_transfer o || on g l then change l else l) o.lines (each-imp (λ l k. off f change (takes f) same (grind arith) (is_transfer o || on g l) l k) o.lines h)), (total-kept (adds f) (λ l. if is_transfer o || on g l then change l else l) o.lines (each-imp (λ l k. off f change (adds f) same (grind arith) (is_transfer o || on g l) l k) o.lines h)), adds, each-imp, off, parts_lines, takes)
 
 apart : (f g : Name) (l : Line) → same_name f g ≡ false → on g l ≡ true → on f l ≡ false
 apart f g l e h = subst (λ n. same_name f n ≡ false) (name_is g (line_name l) h) e
@@ -244,7 +220,7 @@ other_move : (A : Ledger) (g : Name) (z : ℤ) (f : Field) (ms : List Move) → 
 other_move A g z f ms e h = grind (arith, total-push)
 
 hold_parts : (f g : Name) (l : OpenLine) (o : Order) → line_name (new_line l) ≡ g → same_name f g ≡ false → is_open o ≡ true → is_transfer o ≡ false → (b : Bool) → SameParts f o (if b then hold_more g l.qty o else record o { lines = o.lines ++ new_line l ∷ [] })
-hold_parts f g l o i e open_is plain b = grind (arith, adds, apart, each, map_part, off, parts_lines, takes, total-push)
+hold_parts f g l o i e open_is plain b = grind (arith, adds, apart, each, total-kept, off, parts_lines, takes, total-push)
 
 same_field : (A : Ledger) (key : List ℕ) (c : Command) → Good A → FirstFailure (checks A c) None → (f : Field) → changes_field A c f.name ≡ false → SameNumbers A (accept A (record { key = key; command = c })) f
 same_field A key (command.Field b a lo hi start) g h f e = (refl, refl, refl)
@@ -259,8 +235,8 @@ same_field A key (command.More n way b a q) g h f e = let p = all_pass (checks A
 same_field A key (command.Use n b a q) g h f e = let p = all_pass (checks A (command.Use n b a q)) h in
     same_numbers A (λ o. if o.number == n then change_lines (name_of b a) (raise_used q) o else o) A.clock A.kept f
     (each-imp (λ o x. parts_if f.name (o.number == n) o (change_lines (name_of b a) (raise_used q) o) (λ t. parts_lines f.name o _ (x t)
-    (map_part (takes f.name) (λ l. if is_transfer o || on (name_of b a) l then raise_used q l else l) o.lines (each (λ l. use_if f.name (name_of b a) q (takes f.name) (λ m. refl) (is_transfer o || on (name_of b a) l) l) o.lines))
-    (map_part (adds f.name) (λ l. if is_transfer o || on (name_of b a) l then raise_used q l else l) o.lines (each (λ l. use_if f.name (name_of b a) q (adds f.name) (λ m. refl) (is_transfer o || on (name_of b a) l) l) o.lines))))
+    (total-kept (takes f.name) (λ l. if is_transfer o || on (name_of b a) l then raise_used q l else l) o.lines (each (λ l. use_if f.name (name_of b a) q (takes f.name) (λ m. refl) (is_transfer o || on (name_of b a) l) l) o.lines))
+    (total-kept (adds f.name) (λ l. if is_transfer o || on (name_of b a) l then raise_used q l else l) o.lines (each (λ l. use_if f.name (name_of b a) q (adds f.name) (λ m. refl) (is_transfer o || on (name_of b a) l) l) o.lines))))
     A.orders (opened A n g p.1.0 p.1.1.0))
 same_field A key (command.Release n b a q) g h f e = let p = all_pass (checks A (command.Release n b a q)) h in let k = or_false _ _ e in
     same_numbers A (λ o. if o.number == n then change_lines (name_of b a) (lower_held q) o else o) A.clock A.kept f
@@ -275,9 +251,6 @@ same_field A key (command.Abort n) g h f e =
 same_field A key (command.Expire now) g h f e =
     same_numbers A (λ o. if expires now o then set_state Aborted o else o) now A.kept f
     (each-imp (λ o y. parts_if f.name (expires now o) o (set_state Aborted o) (λ t. parts_state f.name Aborted o (cc))) A.orders (any_none (λ o. expires now o && has_line_on f.name o) A.orders e))
-
-sup_unique : (A : Ledger) (f : Field) (a b : ℤ) → IsSupremum A f a → IsSupremum A f b → a ≡ b
-sup_unique A f a b h k = grind arith
 
 pub same_field_row : (A B : Ledger) (f : Field) (x y : FieldCells) → Good A → Good B → SameNumbers A B f → IsFieldRow A f x → IsFieldRow B f y → x ≡ y
 same_field_row A B f x y g k s h j =

@@ -1,11 +1,9 @@
 -- The fields that a request makes or changes, put in one after the other by their names.
-use Rattle.std.proofs.Common.{arith, ◌≡◌, ◌∙◌, ℕ, ◌+◌, ◌<◌, ◌==◌, ◌++◌, Bool, Err, IsSome, OnOk, Ok, Result, true, false, List, [], ◌∷◌, Option, None, Some, ap, cond, find, flat_map, if◌then◌else◌, get_or, is_some, length, map, refl, subst, sym, take, true≢false}
-use Rattle.book.proofs.Prelude.{common_steps, ints, Accepts, Command, Contains, Each, Equal, Field, FieldCells, FieldEntry, FirstFailure, Greater, HasEntry, IsChangedField, IsGoodLine, IsGoodOrder, IsStrictlySortedBy, Ledger, Less, Line, Name, Order, Ordering, Puts, Request, accept, changes_field, checks, entry_row, field_named, insert_entry, is_at, is_eq, keys_of, line_name, lookup, match_ordering, name_cmp, next, on, order_after, order_number, ordering_reverse, same_name, tied_itself}
-use Rattle.words.specs.declared.command.Command.TheVariants as command
+use Rattle.book.proofs.Prelude.{[], ◌++◌, ◌+◌, ◌<◌, ◌==◌, ◌||◌, ◌∙◌, ◌∷◌, ◌≡◌, Accepts, Bool, Command, Contains, Each, Equal, Field, FieldCells, FieldEntry, FirstFailure, Greater, HasEntry, IsChangedField, IsGoodOrder, IsSome, IsStrictlySortedBy, Ledger, Less, Line, List, Name, None, OnOk, Option, Order, Ordering, Puts, Request, Result, Some, accept, ap, arith, changes_field, checks, common_steps, cond, entry_row, false, field_named, find, flat_map, get_or, if◌then◌else◌, insert_entry, ints, is_at, is_eq, is_some, keys_of, length, line_name, lookup, map, match_ordering, name_cmp, next, on, order_after, order_number, ordering_reverse, refl, same_name, subst, sym, take, tied_itself, true, true≢false, ℕ}
 use Rattle.book.specs.Running.{IsOneOf}
 use Rattle.book.proofs.Asked.{same_self}
 use Rattle.book.proofs.Bounds.{OneOn}
-use Rattle.book.proofs.Chosen.{number_is, some_is}
+use Rattle.book.proofs.Chosen.{number_is, some_is, or_right}
 use Rattle.book.proofs.Closing.{name_is}
 use Rattle.book.proofs.Growing.{other_way}
 use Rattle.book.proofs.Keyed.{equal_field}
@@ -30,28 +28,32 @@ each_put P (e ∷ C) n v p all = by (name_cmp n e.0) refl (each_put P C n v p al
 pub self_eq : (n : Name) → is_eq (name_cmp n n) ≡ true
 self_eq n = ap is_eq (tied_itself name_cmp_total n)
 
+-- what is there once one is put in
+pub put_has : (C : List (Name × FieldEntry)) (n m : Name) (v : FieldEntry) → is_some (lookup (is_at (name_cmp m)) (insert_entry name_cmp C n v)) ≡ (is_some (lookup (is_at (name_cmp m)) C) || is_eq (name_cmp m n))
+put_has [] n m v = grind arith
+put_has (e ∷ C) n m v = by (name_cmp n e.0) refl (put_has C n m v)
+  where
+    first : (b : Bool) (rest : Option FieldEntry) → is_some (cond b (Some v) rest) ≡ (is_some rest || b)
+    first b x = grind arith
+
+    replaced : (b : Bool) (rest : Option FieldEntry) → is_some (cond b (Some v) rest) ≡ (is_some (cond b (Some e.1) rest) || b)
+    replaced b rest = grind arith
+
+    later : (b : Bool) (rest more : Option FieldEntry) (c : Bool) → is_some more ≡ (is_some rest || c) → is_some (cond b (Some e.1) more) ≡ (is_some (cond b (Some e.1) rest) || c)
+    later b rest more c h = grind arith
+
+    by : (o : Ordering) → name_cmp n e.0 ≡ o → is_some (lookup (is_at (name_cmp m)) (insert_entry name_cmp C n v)) ≡ (is_some (lookup (is_at (name_cmp m)) C) || is_eq (name_cmp m n))
+        → is_some (lookup (is_at (name_cmp m)) (match_ordering o ((n, v) ∷ e ∷ C) ((e.0, v) ∷ C) (e ∷ insert_entry name_cmp C n v))) ≡ (is_some (lookup (is_at (name_cmp m)) (e ∷ C)) || is_eq (name_cmp m n))
+    by Less is more = first (is_eq (name_cmp m n)) (lookup (is_at (name_cmp m)) (e ∷ C))
+    by Equal is more = replaced (is_eq (name_cmp m e.0)) (lookup (is_at (name_cmp m)) C) ∙ ap (λ (k : Name). is_some (lookup (is_at (name_cmp m)) (e ∷ C)) || is_eq (name_cmp m k)) (sym (equal_field n e.0 is))
+    by Greater is more = later (is_eq (name_cmp m e.0)) (lookup (is_at (name_cmp m)) C) _ (is_eq (name_cmp m n)) more
+
 -- what was there is there still, and what is put in is
 pub put_there : (C : List (Name × FieldEntry)) (n m : Name) (v : FieldEntry) → is_some (lookup (is_at (name_cmp m)) C) ≡ true → is_some (lookup (is_at (name_cmp m)) (insert_entry name_cmp C n v)) ≡ true
-put_there [] n m v there = absurd (true≢false (sym there))
-put_there (e ∷ C) n m v there = by (name_cmp n e.0) (is_eq (name_cmp m e.0)) there (λ h. put_there C n m v h) refl
-  where
-    later : (b : Bool) (x y : FieldEntry) (rest : Option FieldEntry) → is_some (cond b (Some x) rest) ≡ true → is_some (cond b (Some y) rest) ≡ true
-    later b x y rest h = grind arith
-
-    first : (b : Bool) (x : FieldEntry) (rest : Option FieldEntry) → is_some rest ≡ true → is_some (cond b (Some x) rest) ≡ true
-    first b x rest h = grind arith
-
-    both : (b : Bool) (x : FieldEntry) (rest more : Option FieldEntry) → is_some (cond b (Some x) rest) ≡ true → (is_some rest ≡ true → is_some more ≡ true) → is_some (cond b (Some x) more) ≡ true
-    both b x rest more h k = grind arith
-
-    by : (o : Ordering) (b : Bool) → is_some (cond b (Some e.1) (lookup (is_at (name_cmp m)) C)) ≡ true
-        → (is_some (lookup (is_at (name_cmp m)) C) ≡ true → is_some (lookup (is_at (name_cmp m)) (insert_entry name_cmp C n v)) ≡ true) → is_eq (name_cmp m e.0) ≡ b
-        → is_some (lookup (is_at (name_cmp m)) (match_ordering o ((n, v) ∷ e ∷ C) ((e.0, v) ∷ C) (e ∷ insert_entry name_cmp C n v))) ≡ true
-    by x b h more is = grind arith
+put_there C n m v there = put_has C n m v ∙ ap (λ b. b || is_eq (name_cmp m n)) there
 
 pub put_self : (C : List (Name × FieldEntry)) (n : Name) (v : FieldEntry) → is_some (lookup (is_at (name_cmp n)) (insert_entry name_cmp C n v)) ≡ true
-put_self [] n v = ap (λ b. is_some (cond b (Some v) None)) (self_eq n)
-put_self (e ∷ C) n v = let more = put_self C n v in grind (arith, (self_eq n))
+put_self C n v = put_has C n n v ∙ or_right (is_some (lookup (is_at (name_cmp n)) C)) (is_eq (name_cmp n n)) (self_eq n)
 
 pub less_other : (n m : Name) → name_cmp n m ≡ Less → same_name m n ≡ false
 less_other n m less = by (same_name m n) refl

@@ -1,11 +1,12 @@
 -- What the comparisons of a program say of the checks of a command.
-use Rattle.std.proofs.Common.{arith, ◌≡◌, ◌≢◌, ◌∙◌, ◌↔◌, ◌≤◌, ℕ, List, [], ◌∷◌, ◌++◌, Bool, false, Option, None, Some, IsFalse, IsNone, IsSomeAnd, IsTrue, MatchOption, inl, inr, is_some, length, refl, sym, true≢false}
-use denote.Enum.Bare.{sameb}
-use Rattle.book.proofs.Prelude.{Add, BreaksBound, Check, Field, FirstFailure, Good, Kind, Ledger, Line, MAX_ORDER_LINES, MayHoldMore, More, Name, OpenLine, Order, Plain, Refusal, Take, Transfer, Way, bound, checks, field_named, full, is_open, is_transfer, line_on, next, no_field, order_numbered, stock_checks, transfer_kind}
-use Rattle.words.specs.declared.reply.Refusal.TheVariants.{OtherWay, TooManyLines, TransferFixed}
-use Rattle.book.specs.contracts.order.Kind.{the_type}
+use Rattle.book.proofs.Prelude.{[], ◌++◌, ◌↔◌, ◌∙◌, ◌∷◌, ◌≡◌, ◌≢◌, ◌≤◌, Add, Bool, BreaksBound, Check, Command, Deliver, Field, FirstFailure, Good, IsFalse, IsNone, IsSome, IsTrue, Ledger, List, MAX_ORDER_LINES, More, Name, None, OpenLine, Option, Order, Refusal, Some, Take, Way, Writeoff, ap, arith, bound, checks, false, field_named, full, inl, inr, is_open, is_some, is_transfer, length, line_on, name_of, next, no_field, order_numbered, refl, stock_checks, subst, sym, true, true≢false, ℕ}
+use Rattle.words.specs.declared.reply.Refusal.TheVariants.{Full, OtherWay, TooManyLines, TransferFixed}
+use Rattle.book.specs.After.{moved_at_once}
 use Rattle.book.specs.Answers.{OfLine, OfOrder, check, open_checks}
 use Rattle.book.specs.Checking.{bound_checks, hold_checks}
+use Rattle.book.proofs.Asked.{delivery_test, write_off_test}
+use Rattle.book.proofs.Chosen.{some_is}
+use Rattle.book.proofs.Closing.{sounds_from_good}
 use Rattle.book.proofs.Compared.{more_test}
 
 -- ---- lists of checks
@@ -15,6 +16,10 @@ pub cut_short : (cs ds : List Check) (x : Refusal × ℕ) → FirstFailure cs (S
 cut_short [] ds x e = cc
 cut_short (c ∷ cs) ds x (inl h) = inl h
 cut_short (c ∷ cs) ds x (inr h) = inr (h.0, cut_short cs ds x h.1)
+
+pub cut_off : (cs ds : List Check) (found : Option (Refusal × ℕ)) → FirstFailure cs found → is_some found ≡ true → FirstFailure (cs ++ ds) found
+cut_off cs ds None h e = absurd (true≢false (sym e))
+cut_off cs ds (Some x) h e = cut_short cs ds x h
 
 -- where it finds nothing, those after it decide
 pub go_on : (cs ds : List Check) (first found : Option (Refusal × ℕ)) → FirstFailure cs first → is_some first ≡ false → FirstFailure ds found → FirstFailure (cs ++ ds) found
@@ -39,6 +44,25 @@ has_stock A B w f q line found same (inr h) = inr (h.0, has_bound A B w f q line
 -- what a test that says no decides
 pub no : {P : Type 0} {b : Bool} → IsTrue b ↔ P → b ≡ false → P → ⊥
 no iff e h = true≢false (sym (iff.1 h) ∙ e)
+
+-- ---- what is moved at once
+
+pub full_decides : (A : Ledger) (c : Command) → IsSome (moved_at_once c) → (full A 1).fails → FirstFailure (checks A c) (Some (Full, 0))
+full_decides A (Deliver b a q) some is = inl (is, refl)
+full_decides A (Writeoff b a q) some is = inl (is, refl)
+full_decides A c some is = absurd (true≢false (sym some))
+
+-- The field is there, and the value may be moved.
+pub moving_decides : (A : Ledger) (c : Command) (n : Name) (w : Way) (q : ℕ) (found : Option (Refusal × ℕ)) → moved_at_once c ≡ Some (n, w, q) → ((full A 1).fails → ⊥) → Good A → FirstFailure (stock_checks w A n q 0) found → FirstFailure (checks A c) found
+moving_decides A (Deliver b a p) n w q found e room good k = inr (
+  room,
+  has_stock A (next A (Deliver b a p)) Add (name_of b a) p 0 found (delivery_test A (name_of b a) p (sounds_from_good A good)) (subst (λ (m : Name × Way × ℕ). FirstFailure (stock_checks m.1 A m.0 m.2 0) found) (sym (some_is _ (n, w, q) e)) k),
+)
+moving_decides A (Writeoff b a p) n w q found e room good k = inr (
+  room,
+  has_stock A (next A (Writeoff b a p)) Take (name_of b a) p 0 found (write_off_test A (name_of b a) p (sounds_from_good A good)) (subst (λ (m : Name × Way × ℕ). FirstFailure (stock_checks m.1 A m.0 m.2 0) found) (sym (some_is _ (n, w, q) e)) k),
+)
+moving_decides A c n w q found e room good k = absurd (true≢false (sym (ap is_some e)))
 
 -- ---- an amount more on an order
 

@@ -1,8 +1,6 @@
 -- Which of the rows of a list pass a test.
-use Rattle.std.proofs.Common.{◌≡◌, ℕ, ◌<◌, Bool, true, false, ◌||◌, ◌==◌, List, [], ◌∷◌, ◌++◌, Some, ap, arith, find, flat_map, if◌then◌else◌, map, nat_cmp, Less, refl}
-use Rattle.book.proofs.Prelude.{Each, Order, filter, insert_in_order, list_any}
+use Rattle.book.proofs.Prelude.{[], ◌++◌, ◌<◌, ◌==◌, ◌||◌, ◌∷◌, ◌≡◌, Bool, Each, Less, List, Order, Some, ap, arith, false, filter, find, flat_map, if◌then◌else◌, insert_in_order, list_any, map, nat_cmp, refl, true, ℕ}
 use Rattle.book.proofs.Closing.{less_is}
-use Rattle.book.proofs.Found.{from_some}
 use Rattle.book.proofs.Lists.{each-unmap}
 use Rattle.book.proofs.Sums.{each-imp}
 
@@ -30,11 +28,24 @@ pub none_any : {X : Type 0} (t : X → Bool) (xs : List X) → Each (λ x. t x �
 none_any t [] h = refl
 none_any t (x ∷ xs) h = rw h.0 (none_any t xs h.1)
 
+pub or_false : (a b : Bool) → (a || b) ≡ false → (a ≡ false) × (b ≡ false)
+or_false x b e = grind arith
+
+pub any_none : {X : Type 0} (t : X → Bool) (xs : List X) → list_any t xs ≡ false → Each (λ x. t x ≡ false) xs
+any_none t [] e = tt
+any_none t (x ∷ xs) e = let p = or_false (t x) (list_any t xs) e in (p.0, any_none t xs p.1)
+
+pub or_right : (a b : Bool) → b ≡ true → (a || b) ≡ true
+or_right x b e = grind arith
+
 pub any-map : {X Y : Type 0} (t : Y → Bool) (h : X → Y) (xs : List X) → list_any t (map h xs) ≡ list_any (λ x. t (h x)) xs
 any-map t h [] = refl
 any-map t h (x ∷ xs) = ap (λ b. t (h x) || b) (any-map t h xs)
 
 -- ---- the order under a number
+
+pub same_number : (n : ℕ) → (n == n) ≡ true
+same_number n = grind arith
 
 pub number_is : (a b : ℕ) → (a == b) ≡ true → a ≡ b
 number_is a b e = grind arith

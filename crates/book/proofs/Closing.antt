@@ -1,6 +1,5 @@
 -- From a good ledger every future keeps the bounds and the commits.
-use Rattle.book.proofs.Prelude.{Aborted, Add, Answers, AnswersNew, AsksNoStock, Check, Command, Committed, Done, Each, Field, FirstFailure, Good, IsDistinct, IsFuture, IsGoodOrder, IsStrictlySortedBy, IsTransferPair, IsWithin, Kept, KeyReused, Ledger, Line, MatchOrdering, Name, Open, Order, Refusal, Refused, Reply, Request, Runs, Stands, State, Take, Way, accept, bytes_decides, change_lines, checks, committed_state, common_steps, held_to_add, held_to_take, if_add, if_take, ints, is_committed, is_open, is_transfer, kept_under, line_name, line_on, lower_held, moved, on, open_state, order_numbered, places, raise_used, ranks, same_command, same_name, set_state, settled, signed, total}
-use Rattle.std.proofs.Common.{◌≡◌, ℕ, ◌+◌, ◌-◌, ◌<◌, ◌≤◌, ℤ, pos, ◌+ℤ◌, ◌-ℤ◌, neg_ℤ, ◌≤ℤ◌, List, [], ◌∷◌, map, Bool, true, false, ◌&&◌, ◌||◌, IsTrue, IsFalse, IsNone, is_some, IsSomeAnd, Option, Some, None, find, refl, sym, ap, ◌∙◌, subst, arith, if◌then◌else◌, true≢false, inl, inr, ◌==◌, nat_le, nat_cmp, Less, MatchOption}
+use Rattle.book.proofs.Prelude.{[], ◌&&◌, ◌+ℤ◌, ◌+◌, ◌-ℤ◌, ◌-◌, ◌<◌, ◌==◌, ◌||◌, ◌∷◌, ◌≡◌, ◌≤ℤ◌, ◌≤◌, Aborted, Answers, AnswersNew, AsksNoStock, Bool, Check, Command, Committed, Done, Each, Field, FirstFailure, Good, IsDistinct, IsFalse, IsFuture, IsGoodOrder, IsNone, IsSomeAnd, IsStrictlySortedBy, IsTransferPair, IsTrue, IsWithin, Kept, KeyReused, Ledger, Less, Line, List, MatchOption, MatchOrdering, Name, None, Option, Order, Refusal, Refused, Reply, Request, Runs, Some, Stands, State, accept, ap, arith, bytes_decides, change_lines, checks, committed_state, common_steps, false, find, held_to_add, held_to_take, if◌then◌else◌, inl, inr, ints, is_committed, is_open, is_some, is_transfer, kept_under, line_name, line_on, lower_held, map, moved, nat_cmp, nat_le, neg_ℤ, on, open_state, order_numbered, places, pos, raise_used, ranks, refl, same_command, same_name, set_state, settled, signed, subst, sym, total, true, true≢false, ℕ, ℤ}
 use Rattle.words.specs.declared.command.Command.TheVariants as command
 use Rattle.book.specs.Future.{HonoursAlways}
 use Rattle.book.proofs.Sums.{each-imp, each-both, each-map}
@@ -78,7 +77,7 @@ higher f h [] b = omega (arith, ints)
 higher f h (o ∷ os) b = let x = b.0.high_is f in let y = higher f h os b.1 in omega (arith, ints)
 
 -- the ledger with each order changed
-abbrev changed : (Order → Order) → ℕ → List Kept → Ledger → Ledger
+abbrev pub changed : (Order → Order) → ℕ → List Kept → Ledger → Ledger
 changed h clock kept A = record { clock = clock; fields = A.fields; moves = A.moves; orders = map h A.orders; kept = kept }
 
 room-changed : (A : Ledger) (h : Order → Order) (clock : ℕ) (kept : List Kept) → Each (λ o. Better o (h o)) A.orders → (f : Field) → HasRoom A f → HasRoom (changed h clock kept A) f
@@ -132,13 +131,13 @@ pub record LineStep (l new : Line) : Type 0 where
   pub held : new.held ≤ l.held
   pub used : new.used ≤ new.held
 
-pub one_on-map : (f : Name) (h : Line → Line) (ls : List Line) → Each (λ l. LineStep l (h l)) ls → OneOn f ls → OneOn f (map h ls)
+pub one_on-map : (f : Name) (h : Line → Line) (ls : List Line) → Each (λ l. line_name (h l) ≡ line_name l) ls → OneOn f ls → OneOn f (map h ls)
 one_on-map f h [] s one = tt
-one_on-map f h (l ∷ ls) s one = (λ e. none ls s.1 (one.0 (subst (λ g. same_name f g ≡ true) s.0.name e)), one_on-map f h ls s.1 one.1)
+one_on-map f h (l ∷ ls) s one = (λ e. none ls s.1 (one.0 (subst (λ g. same_name f g ≡ true) s.0 e)), one_on-map f h ls s.1 one.1)
   where
-    none : (ms : List Line) → Each (λ l. LineStep l (h l)) ms → Each (λ m. on f m ≡ false) ms → Each (λ m. on f m ≡ false) (map h ms)
+    none : (ms : List Line) → Each (λ l. line_name (h l) ≡ line_name l) ms → Each (λ m. on f m ≡ false) ms → Each (λ m. on f m ≡ false) (map h ms)
     none [] t e = tt
-    none (m ∷ ms) t e = (subst (λ g. same_name f g ≡ false) (sym t.0.name) e.0, none ms t.1 e.1)
+    none (m ∷ ms) t e = (subst (λ g. same_name f g ≡ false) (sym t.0) e.0, none ms t.1 e.1)
 
 takes-step : (f : Name) (l new : Line) → LineStep l new → takes f new ≤ℤ takes f l
 takes-step f l new s = grind arith
@@ -168,7 +167,7 @@ better-lines : (o : Order) (h : Line → Line) → Fine o → is_open o ≡ true
     → Better o (record o { lines = map h o.lines })
 better-lines o h fine e s pair = record {
   number = refl;
-  fine = record { sound = record { used = used-map h o.lines s; one = λ f. one_on-map f h o.lines s (fine.sound.one f) }; pair = pair };
+  fine = record { sound = record { used = used-map h o.lines s; one = λ f. one_on-map f h o.lines (each-imp (λ l x. x.name) o.lines s) (fine.sound.one f) }; pair = pair };
   low_is = λ f. held_low o.state (moved f (λ l. l.used) o) (total (λ l. if on f l then signed l.way l.used else pos 0) (map h o.lines)) (total (takes f) o.lines) (total (takes f) (map h o.lines)) e (takes-map f h o.lines s);
   high_is = λ f. held_high o.state (moved f (λ l. l.used) o) (total (λ l. if on f l then signed l.way l.used else pos 0) (map h o.lines)) (total (adds f) o.lines) (total (adds f) (map h o.lines)) e (adds-map f h o.lines s);
 }
@@ -257,15 +256,9 @@ better-change f q change o c fine u = let s = steps f q change (is_transfer o) o
 
 -- each command of a future
 
-fit-commit : (A : Ledger) (key : List ℕ) (n : ℕ) → Fit A → FirstFailure (checks A (command.Commit n)) None → Fit (accept A (record { key = key; command = command.Commit n }))
-fit-commit A key n fit h = let p = all_pass (checks A (command.Commit n)) h in
-    let there = at_number (λ o. is_open o ≡ true) n A.orders fit.numbers (grind arith) in
-    fit-changed A (λ o. if o.number == n then set_state Committed o else o) _ _ fit (each-both (λ o fine e. better_if (o.number == n) o (set_state Committed o) fine (λ y. better-commit o fine (e y))) A.orders fit.orders there)
-
-fit-abort : (A : Ledger) (key : List ℕ) (n : ℕ) → Fit A → FirstFailure (checks A (command.Abort n)) None → Fit (accept A (record { key = key; command = command.Abort n }))
-fit-abort A key n fit h = let p = all_pass (checks A (command.Abort n)) h in
-    let there = at_number (λ o. is_open o ≡ true) n A.orders fit.numbers (grind arith) in
-    fit-changed A (λ o. if o.number == n then set_state Aborted o else o) _ _ fit (each-both (λ o fine e. better_if (o.number == n) o (set_state Aborted o) fine (λ y. better-abort o fine (e y))) A.orders fit.orders there)
+fit-end : (A : Ledger) (n : ℕ) (s : State) (kept : List Kept) → ((o : Order) → Fine o → is_open o ≡ true → Better o (set_state s o)) → Fit A → IsSomeAnd (order_numbered A n) (λ o. is_open o ≡ true) → Fit (changed (λ o. if o.number == n then set_state s o else o) A.clock kept A)
+fit-end A n s kept better fit there = fit-changed A (λ o. if o.number == n then set_state s o else o) _ _ fit
+    (each-both (λ o fine e. better_if (o.number == n) o (set_state s o) fine (λ y. better o fine (e y))) A.orders fit.orders (at_number (λ o. is_open o ≡ true) n A.orders fit.numbers there))
 
 expired_open : (b c : Bool) → (b && c) ≡ true → b ≡ true
 expired_open b c e = (same_parts b c e).0
@@ -290,8 +283,8 @@ fit-release A key n br ar q fit h = let f : Name = record { branch = br; article
 pub fit-accept : (A : Ledger) (key : List ℕ) (c : Command) → AsksNoStock c → Fit A → FirstFailure (checks A c) None → Fit (accept A (record { key = key; command = c }))
 fit-accept A key (command.Use n b a q) w fit h = fit-use A key n b a q fit h
 fit-accept A key (command.Release n b a q) w fit h = fit-release A key n b a q fit h
-fit-accept A key (command.Commit n) w fit h = fit-commit A key n fit h
-fit-accept A key (command.Abort n) w fit h = fit-abort A key n fit h
+fit-accept A key (command.Commit n) w fit h = let p = all_pass (checks A (command.Commit n)) h in fit-end A n Committed _ better-commit fit (grind arith)
+fit-accept A key (command.Abort n) w fit h = let p = all_pass (checks A (command.Abort n)) h in fit-end A n Aborted _ better-abort fit (grind arith)
 fit-accept A key (command.Expire now) w fit h = fit-expire A key now fit
 fit-accept A key c w fit h = absurd w
 
@@ -335,10 +328,10 @@ unfolding takes_part adds_part
 settled_within A f r = grind (arith, ints, common_steps, (held_take-not_negative f.name A.orders), (held_add-not_negative f.name A.orders), f.lo, f.name, r.0, f.hi, r.1, A.orders)
 
 -- an order is found under its number
-found : (os : List Order) → IsStrictlySortedBy nat_cmp (map (λ o. o.number) os) → Each (λ o. find (λ e. e.number == o.number) os ≡ Some o) os
+pub find_self : (os : List Order) → IsStrictlySortedBy nat_cmp (map (λ o. o.number) os) → Each (λ o. find (λ e. e.number == o.number) os ≡ Some o) os
 unfolding IsStrictlySortedBy
-found [] sorted = tt
-found (o ∷ os) sorted = (here, each-both (λ m a e. step m a e) os (unmap os sorted.0) (found os sorted.1))
+find_self [] sorted = tt
+find_self (o ∷ os) sorted = (here, each-both (λ m a e. step m a e) os (unmap os sorted.0) (find_self os sorted.1))
   where
     here : find (λ e. e.number == o.number) (o ∷ os) ≡ Some o
     here = let e : (o.number == o.number) ≡ true = grind arith in rw e refl
@@ -352,7 +345,7 @@ found (o ∷ os) sorted = (here, each-both (λ m a e. step m a e) os (unmap os s
 
 commits : (A : Ledger) → Fit A → Each (λ o. IsTrue (is_open o) → (key : List ℕ) → IsNone (kept_under A key)
     → (C : Ledger) × Answers A (record { key = key; command = command.Commit o.number }) (Done (places A + 1)) C) A.orders
-commits A fit = each-imp (λ o e. commit o e) A.orders (found A.orders fit.numbers)
+commits A fit = each-imp (λ o e. commit o e) A.orders (find_self A.orders fit.numbers)
   where
     commit : (o : Order) → order_numbered A o.number ≡ Some o → IsTrue (is_open o) → (key : List ℕ) → IsNone (kept_under A key) → (C : Ledger) × Answers A (record { key = key; command = command.Commit o.number }) (Done (places A + 1)) C
     commit o e t key none = (accept A (record { key = key; command = command.Commit o.number }), answer (kept_under A key) none)

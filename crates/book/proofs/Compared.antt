@@ -1,26 +1,27 @@
 -- Each test of a check by all outcomes is one comparison with the numbers of the ledger as it is.
-use Rattle.book.proofs.Prelude.{Add, BreaksBound, Each, Good, IsDistinct, IsStrictlySortedBy, Kind, Ledger, Line, MayHoldMore, Name, OpenLine, Order, Take, Way, add_hold, bound, change_order, common_steps, held_to_add, held_to_take, if_add, if_take, ints, is_open, line_name, line_on, new_line, new_order, on, open_state, order_numbered, raise_held, same_name, total, with_order}
-use Rattle.std.proofs.Common.{◌≡◌, ◌∙◌, ℕ, ◌+◌, ℤ, pos, ◌+ℤ◌, ◌==◌, ◌↔◌, Bool, true, false, List, [], ◌∷◌, ◌++◌, Option, None, Some, IsNone, IsSomeAnd, MatchOption, ap, arith, find, if◌then◌else◌, map, nat_cmp, Less, refl, subst, sym, true≢false}
-use Rattle.book.proofs.Asked.{add_line_test, named, same_self, take_line_test, total-push}
-use Rattle.book.proofs.Bounds.{OneOn, Sound, falls_below_iff, rises_above_iff}
-use Rattle.book.proofs.Closing.{at_number, less_is, one_on, sounds_from_good}
-use Rattle.book.proofs.Lists.{each-unmap}
+use Rattle.book.proofs.Prelude.{[], ◌++◌, ◌+ℤ◌, ◌+◌, ◌==◌, ◌↔◌, ◌∙◌, ◌∷◌, ◌≡◌, Add, Bool, BreaksBound, Each, Field, Good, IsDistinct, IsNone, IsSomeAnd, IsStrictlySortedBy, Kind, Ledger, Line, List, MatchOption, MayHoldMore, Name, None, OpenLine, Option, Order, Some, Take, Way, add_hold, ap, arith, bound, change_order, common_steps, false, find, held_to_add, held_to_take, if_add, if_take, if◌then◌else◌, ints, is_open, line_name, line_on, map, nat_cmp, new_line, new_order, on, option_map, order_numbered, pos, raise_held, refl, same_name, some_part, subst, sym, total, true, with_order, ℕ, ℤ}
+use Rattle.book.proofs.Asked.{HasMore, Passes, compared, line_compared, same_self, total-push}
+use Rattle.book.proofs.Bounds.{OneOn, Sound}
+use Rattle.book.proofs.Closing.{at_number, one_on, sounds_from_good}
 use Rattle.book.proofs.Raising.{Rising, part, raised, same_settled, sound-more}
-use Rattle.book.proofs.Sums.{each-both, each-imp}
-use Rattle.book.proofs.Transfers.{found_is, not_same}
+use Rattle.book.proofs.Sums.{each-both}
+use Rattle.book.proofs.Transfers.{found_is}
+use Rattle.book.proofs.Made.{total-changed, total_parts}
+
+-- the check of a bound fails where some outcome passes it
+fails_so : {Q : Type 0} (w : Way) (B : Ledger) (name : Name) (i : ℕ) → Passes w B name ↔ Q → (bound w B name i).fails ↔ Q
+fails_so Take B name i h = h
+fails_so Add B name i h = h
 
 -- ---- a line of a new order
 
 pub line_test : (A : Ledger) (n : ℕ) (k : Kind) (u : ℕ) (before : List OpenLine) (l : OpenLine) (i : ℕ) → Good A
     → IsDistinct same_name (map line_name (new_order n k u before).lines) → IsNone (line_on (new_order n k u before) (line_name (new_line l)))
     → (bound l.way (with_order (new_order n k u (before ++ l ∷ [])) A) (line_name (new_line l)) i).fails ↔ BreaksBound l.way A (line_name (new_line l)) l.qty
-line_test A n k u before l i good apart none = by l.way refl
+line_test A n k u before l i good apart none = fails_so l.way _ _ i (line_compared A n k u before l (sounds_from_good A good) (λ g. one_on g (map new_line before) apart) (alone (line_on (new_order n k u before) (line_name (new_line l))) none))
   where
     alone : (x : Option Line) → IsNone x → x ≡ None
     alone b e = grind arith
-
-    by : (w : Way) → l.way ≡ w → (bound w (with_order (new_order n k u (before ++ l ∷ [])) A) (line_name (new_line l)) i).fails ↔ BreaksBound w A (line_name (new_line l)) l.qty
-    by b e = grind (arith, add_line_test, one_on, sounds_from_good, take_line_test, alone)
 
 -- ---- an amount more on an order's line
 
@@ -66,19 +67,15 @@ part_more p sum l o sound may = by (line_on o name) refl may.2
 -- the one order of that number is changed, and its part by z
 total_changed : (g : Order → ℤ) (h : Order → Order) (n : ℕ) (z : ℤ) (os : List Order) → IsStrictlySortedBy nat_cmp (map (λ o. o.number) os)
     → IsSomeAnd (find (λ o. o.number == n) os) (λ o. g (h o) ≡ g o +ℤ z) → total g (map (λ o. if o.number == n then h o else o) os) ≡ total g os +ℤ z
-unfolding IsStrictlySortedBy
-total_changed g h n z [] sorted found = absurd found
-total_changed g h n z (m ∷ ms) sorted found = step (m.number == n) refl found (λ k. total_changed g h n z ms sorted.1 k)
+total_changed g h n z os sorted found =
+    let after = total-changed g h n os sorted in
+    let before = total_parts g n os sorted in
+    let part = by (find (λ o. o.number == n) os) found in
+    omega (arith, ints)
   where
-    rest : (os : List Order) → Each (λ k. (k.number == n) ≡ false) os → total g (map (λ o. if o.number == n then h o else o) os) ≡ total g os
-    rest [] e = refl
-    rest (k ∷ ks) e = let a : g (if k.number == n then h k else k) ≡ g k = rw e.0 refl in let b = rest ks e.1 in λ i. a i +ℤ b i
-
-    step : (b : Bool) → (m.number == n) ≡ b → IsSomeAnd (if b then Some m else find (λ o. o.number == n) ms) (λ o. g (h o) ≡ g o +ℤ z)
-        → (IsSomeAnd (find (λ o. o.number == n) ms) (λ o. g (h o) ≡ g o +ℤ z) → total g (map (λ o. if o.number == n then h o else o) ms) ≡ total g ms +ℤ z)
-        → total g (map (λ o. if o.number == n then h o else o) (m ∷ ms)) ≡ total g (m ∷ ms) +ℤ z
-    step true t found more = grind (arith, ints, common_steps, (rest ms (each-imp (λ k less. not_same m k n t (less_is m.number k.number less)) ms (each-unmap (λ k. nat_cmp m.number k ≡ Less) (λ o. o.number) ms sorted.0))), each-imp, each-unmap, less_is, not_same)
-    step false t found more = let a : g (if m.number == n then h m else m) ≡ g m = rw t refl in let b = more found in omega (arith, ints)
+    by : (x : Option Order) → IsSomeAnd x (λ o. g (h o) ≡ g o +ℤ z) → some_part g (option_map h x) ≡ some_part g x +ℤ z
+    by None k = absurd k
+    by (Some o) k = k
 
 -- what open orders hold on the field, with that much more
 held_more : (p : Way → ℕ → ℕ) → IsSum p → (A : Ledger) (n : ℕ) (l : OpenLine) → Good A → IsSomeAnd (order_numbered A n) (MayHoldMore (line_name (new_line l)) l.way)
@@ -88,7 +85,7 @@ held_more p sum A n l good may = grind (arith, (sounds_from_good A good), Sound,
 
 pub more_test : (A : Ledger) (n : ℕ) (l : OpenLine) (i : ℕ) → Good A → IsSomeAnd (order_numbered A n) (MayHoldMore (line_name (new_line l)) l.way)
     → (bound l.way (change_order n (add_hold l) A) (line_name (new_line l)) i).fails ↔ BreaksBound l.way A (line_name (new_line l)) l.qty
-more_test A n l i good may = by l.way refl
+more_test A n l i good may = fails_so l.way B name i (compared l.way A A.moves B.orders name l.qty (sound-more A n l sound rising) (more l.way refl))
   where
     name : Name
     name = line_name (new_line l)
@@ -108,12 +105,6 @@ more_test A n l i good may = by l.way refl
     adds : l.way ≡ Add → held_to_add B name ≡ held_to_add A name +ℤ pos l.qty
     adds e = held_more if_add add_sum A n l good may ∙ ap (λ w. held_to_add A name +ℤ pos (if_add w l.qty)) e
 
-    by : (w : Way) → l.way ≡ w → (bound w B name i).fails ↔ BreaksBound w A name l.qty
-    by Take e = let iff = falls_below_iff B (sound-more A n l sound rising) name in (
-      (λ h. named A.fields name _ _ (λ f is x. let s = same_settled A n l rising f in let t = subst (λ g. held_to_take B g ≡ held_to_take A g +ℤ pos l.qty) (sym is) (takes e) in omega (arith, ints)) (iff.0 h)),
-      (λ h. iff.1 (named A.fields name _ _ (λ f is x. let s = same_settled A n l rising f in let t = subst (λ g. held_to_take B g ≡ held_to_take A g +ℤ pos l.qty) (sym is) (takes e) in omega (arith, ints)) h)),
-    )
-    by Add e = let iff = rises_above_iff B (sound-more A n l sound rising) name in (
-      (λ h. named A.fields name _ _ (λ f is x. let s = same_settled A n l rising f in let t = subst (λ g. held_to_add B g ≡ held_to_add A g +ℤ pos l.qty) (sym is) (adds e) in omega (arith, ints)) (iff.0 h)),
-      (λ h. iff.1 (named A.fields name _ _ (λ f is x. let s = same_settled A n l rising f in let t = subst (λ g. held_to_add B g ≡ held_to_add A g +ℤ pos l.qty) (sym is) (adds e) in omega (arith, ints)) h)),
-    )
+    more : (w : Way) → l.way ≡ w → (f : Field) → f.name ≡ name → HasMore w A B f l.qty
+    more Take e f is = let s = same_settled A n l rising f in let t = subst (λ g. held_to_take B g ≡ held_to_take A g +ℤ pos l.qty) (sym is) (takes e) in omega (arith, ints)
+    more Add e f is = let s = same_settled A n l rising f in let t = subst (λ g. held_to_add B g ≡ held_to_add A g +ℤ pos l.qty) (sym is) (adds e) in omega (arith, ints)

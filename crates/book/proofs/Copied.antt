@@ -1,12 +1,17 @@
 -- How the order that an accepted command changes may be changed in a copy.
-use Rattle.std.proofs.Common.{◌≡◌, ℕ, ◌<◌, ◌∙◌, ◌==◌, Option, None, Some, ap, arith, is_some, refl, subst, sym, true≢false, IsSomeAnd}
-use Rattle.book.proofs.Prelude.{Command, FirstFailure, Good, IsAccepted, IsGoodOrder, Ledger, MayChangeOrder, Name, OpenLine, Order, OrderEntry, Request, accept, add_hold, changed_order, checks, name_of, option_map, order_after, order_numbered, order_of, same_Some, vec_capacity, vec_len}
+use Rattle.book.proofs.Prelude.{◌-◌, ◌<◌, ◌==◌, ◌∙◌, ◌≡◌, ◌≤◌, Command, FirstFailure, Good, IsAccepted, IsGoodOrder, IsSomeAnd, Ledger, MayChangeOrder, Name, None, OpenLine, Option, Order, OrderEntry, Request, Some, accept, add_hold, ap, arith, changed_order, checks, is_some, name_of, option_map, order_after, order_numbered, order_of, refl, same_Some, subst, sym, true≢false, vec_capacity, vec_len, ℕ}
 use Rattle.words.specs.declared.command.Command.TheVariants as command
 use Rattle.book.specs.InPlace.{order_change_of}
 use Rattle.book.specs.declared.book.made.OrderChange.{OrderChange}
-use Rattle.book.proofs.Allowed.{hold_allowed}
 use Rattle.book.proofs.Closing.{Fine, Usable, all_pass, fit_from_good, left_on, usable_there}
 use Rattle.book.proofs.Made.{each-found, made_there}
+use Rattle.book.specs.declared.book.made.OrderChange.TheVariants.{HoldMore}
+use Rattle.book.proofs.Lists.{each-unmap}
+use Rattle.book.proofs.Sums.{each-imp}
+
+-- an amount more, on the line that is there or on one at the end
+pub hold_allowed : (B : Ledger) (n : ℕ) (l : OpenLine) (o : OrderEntry) → 1 ≤ vec_capacity o.lines - vec_len o.lines → IsGoodOrder B (add_hold l (order_of (n, o))) → MayChangeOrder (HoldMore l) o
+hold_allowed B n l o room good = grind (arith, each-imp, each-unmap)
 
 part_may : (A : Ledger) (n : ℕ) (f : Name) (q : ℕ) (o : OrderEntry) → Good A → IsSomeAnd (order_numbered A n) (Usable f q) → order_numbered A n ≡ Some (order_of (n, o)) → Fine (order_of (n, o)) × Usable f q (order_of (n, o))
 part_may A n f q o good usable e = (

@@ -1,13 +1,14 @@
 -- How many orders are open, and how many in the next ledger.
-use Rattle.std.proofs.Common.{◌≡◌, ◌∙◌, ℕ, ◌+◌, ℤ, pos, ◌+ℤ◌, ◌-ℤ◌, ◌&&◌, ◌++◌, List, [], ◌∷◌, Bool, true, false, IsNone, Option, None, Some, ap, arith, count_by, if◌then◌else◌, is_some, map, refl, sym, true≢false}
-use Rattle.book.proofs.Prelude.{common_steps, Aborted, BookView, Command, Committed, FirstFailure, Good, Inside, Ledger, Name, OpenLine, Order, State, add_hold, change_lines, checks, expires, hold_more, ints, is_open, is_opening, ledger_of, line_name, line_on, lower_held, name_of, new_line, next, open_orders, open_state, option_map, order_after, order_number, order_numbered, raise_used, set_state, some_part, total, view_of}
-use Rattle.words.specs.Kinds.{is_change}
+use Rattle.book.proofs.Prelude.{[], ◌+◌, ◌∙◌, ◌∷◌, ◌≡◌, BookView, Bool, Command, FirstFailure, Good, Inside, Ledger, List, None, Option, Order, Some, ap, arith, checks, count_by, expires, if◌then◌else◌, ints, is_open, is_some, ledger_of, map, next, open_orders, order_after, order_numbered, pos, refl, some_part, sym, total, true≢false, view_of, ℕ, ℤ}
 use Rattle.words.specs.declared.command.Command.TheVariants as command
+use Rattle.book.specs.After.{open_among}
+use Rattle.book.proofs.ChangedFields.{number_of_made}
 use Rattle.book.proofs.Closing.{all_pass}
 use Rattle.book.proofs.FieldRows.{parted}
 use Rattle.book.proofs.Lists.{counted}
-use Rattle.book.proofs.Made.{none_opened, total-next}
-use Rattle.book.proofs.StockChanges.{IsBefore, before, total_moved}
+use Rattle.book.proofs.Made.{total-next}
+use Rattle.book.proofs.Putting.{there}
+use Rattle.book.proofs.StockChanges.{total_moved}
 
 pub viewed : {X Y : Type 0} (view : X → Y) (p : Y → Bool) (xs : List X) → count_by p (map view xs) ≡ count_by (λ x. p (view x)) xs
 viewed view p [] = refl
@@ -26,51 +27,34 @@ expired_one : (now : ℕ) (os : List Order) → total (λ o. if expires now o th
 expired_one now [] = refl
 expired_one now (o ∷ os) = let more = expired_one now os in grind (arith, (counted (expires now) o os))
 
-one_before : (x : Option Order) (f : Name) → IsBefore f x → some_part one x ≡ (if is_some x then pos 1 else pos 0)
-one_before b f is = grind arith
+one_among : (x : Option Order) → some_part one x ≡ pos (open_among x)
+one_among None = refl
+one_among (Some o) = by (is_open o)
+  where
+    by : (b : Bool) → (if b then pos 1 else pos 0) ≡ pos (if b then 1 else 0)
+    by b = grind arith
 
--- any field, since the orders' states do not hang on it
-abbrev nowhere : Name
-nowhere = name_of [] []
-
--- where the order under the number was open, or there was none
-counted_on : (A : Ledger) (c : Command) (n : ℕ) → Good A → FirstFailure (checks A c) None → order_number c ≡ Some n
-    → pos (open_orders (next A c)) ≡ (pos (open_orders A) -ℤ (if is_some (order_numbered A n) then pos 1 else pos 0)) +ℤ some_part one (order_after A c)
-counted_on A c n good passed e =
-    let was = one_before (order_numbered A n) nowhere (before A c n nowhere good passed e) in
-    let moved = total_moved one (λ o. refl) A c n good passed e in
+-- with what was under the number left out, and what the command makes added
+pub made_count : (A : Ledger) (c : Command) (o : Order) → Good A → FirstFailure (checks A c) None → order_after A c ≡ Some o → open_orders (next A c) + open_among (order_numbered A o.number) ≡ open_orders A + open_among (Some o)
+made_count A c o good passed made =
+    let was = one_among (order_numbered A o.number) in
+    let is = ap (some_part one) made ∙ one_among (Some o) in
+    let moved = total_moved one (λ o. refl) A c o.number good passed (number_of_made A c o passed made) in
     let now = total_one A.orders in
     let next_one = total_one (next A c).orders in
     omega (arith, ints)
 
-pub opened_count : (A : Ledger) (c : Command) → Good A → FirstFailure (checks A c) None → is_opening c ≡ true → open_orders (next A c) ≡ open_orders A + 1
-opened_count A (command.Open n until lines) good h is = grind (arith, (none_opened A (command.Open n until lines) n h refl refl), (counted_on A (command.Open n until lines) n good h refl))
-opened_count A (command.Transfer n until a from to q) good h is = grind (arith, (none_opened A (command.Transfer n until a from to q) n h refl refl), (counted_on A (command.Transfer n until a from to q) n good h refl))
-opened_count A c good h is = absurd (true≢false (sym is))
-
--- the order under the number is there
-numbered : (x : Option Order) → (IsNone x → ⊥) → is_some x ≡ true
-numbered b h = grind arith
-
-ended_part : (x : Option Order) (s : State) → open_state s ≡ false → some_part one (option_map (set_state s) x) ≡ pos 0
-ended_part b s e = grind arith
-
-pub changed_count : (A : Ledger) (c : Command) → Good A → FirstFailure (checks A c) None → is_change c ≡ true → open_orders (next A c) ≡ open_orders A
-changed_count x c good h is = grind (arith, ints, common_steps, all_pass, before, counted_on, numbered)
-
-pub committed_count : (A : Ledger) (n : ℕ) → Good A → FirstFailure (checks A (command.Commit n)) None → open_orders (next A (command.Commit n)) + 1 ≡ open_orders A
-committed_count A n good h =
-    let sum = counted_on A (command.Commit n) n good h refl in
-    let there = ap (λ t. if t then pos 1 else pos 0) (numbered (order_numbered A n) (all_pass (checks A (command.Commit n)) h).0) in
-    let after = ended_part (order_numbered A n) Committed refl in
-    omega (arith, ints)
-
-pub aborted_count : (A : Ledger) (n : ℕ) → Good A → FirstFailure (checks A (command.Abort n)) None → open_orders (next A (command.Abort n)) + 1 ≡ open_orders A
-aborted_count A n good h =
-    let sum = counted_on A (command.Abort n) n good h refl in
-    let there = ap (λ t. if t then pos 1 else pos 0) (numbered (order_numbered A n) (all_pass (checks A (command.Abort n)) h).0) in
-    let after = ended_part (order_numbered A n) Aborted refl in
-    omega (arith, ints)
+-- a command that makes no order and is no expiry leaves the orders as they were
+pub unmade : (A : Ledger) (c : Command) → FirstFailure (checks A c) None → order_after A c ≡ None → ((now : ℕ) → c ≡ command.Expire now → ⊥) → open_orders (next A c) ≡ open_orders A
+unmade A (command.Expire now) passed none other = absurd (other now refl)
+unmade A (command.Open n until lines) passed none other = absurd (true≢false (ap is_some none))
+unmade A (command.Transfer n until a from to q) passed none other = absurd (true≢false (ap is_some none))
+unmade A (command.More n way b a q) passed none other = absurd (there _ (order_numbered A n) (all_pass (checks A (command.More n way b a q)) passed).1.0 none)
+unmade A (command.Use n b a q) passed none other = absurd (there _ (order_numbered A n) (all_pass (checks A (command.Use n b a q)) passed).1.0 none)
+unmade A (command.Release n b a q) passed none other = absurd (there _ (order_numbered A n) (all_pass (checks A (command.Release n b a q)) passed).1.0 none)
+unmade A (command.Commit n) passed none other = absurd (there _ (order_numbered A n) (all_pass (checks A (command.Commit n)) passed).0 none)
+unmade A (command.Abort n) passed none other = absurd (there _ (order_numbered A n) (all_pass (checks A (command.Abort n)) passed).0 none)
+unmade A c passed none other = refl
 
 pub expired_count : (A : Ledger) (now : ℕ) → Good A → FirstFailure (checks A (command.Expire now)) None → open_orders (next A (command.Expire now)) + count_by (expires now) A.orders ≡ open_orders A
 expired_count A now good h =
@@ -80,10 +64,6 @@ expired_count A now good h =
     let before = total_one A.orders in
     let next_one = total_one (next A (command.Expire now)).orders in
     omega (arith, ints)
-
-pub other_count : (A : Ledger) (c : Command) → Good A → FirstFailure (checks A c) None → ((n until : ℕ) (lines : List OpenLine) → c ≡ command.Open n until lines → ⊥) → ((n until : ℕ) (a from to : List ℕ) (q : ℕ) → c ≡ command.Transfer n until a from to q → ⊥)
-    → ((n : ℕ) → c ≡ command.Commit n → ⊥) → ((n : ℕ) → c ≡ command.Abort n → ⊥) → ((now : ℕ) → c ≡ command.Expire now → ⊥) → open_orders (next A c) ≡ open_orders A
-other_count x c good h o t k z e = grind (arith, changed_count)
 
 -- ---- as the book knows it
 

@@ -1,18 +1,14 @@
 -- The orders that an expiry aborts, by their numbers.
-use Rattle.std.proofs.Common.{◌≡◌, ◌∙◌, ℕ, suc, ◌+◌, ◌<◌, ◌≤◌, ◌==◌, ◌&&◌, ◌||◌, ◌++◌, Bool, true, false, List, [], ◌∷◌, Some, ap, append-nil, append_assoc, arith, count_by, drop, flat_map, get_or, if◌then◌else◌, inl, inr, length, map, nat_cmp, Less, refl, subst, sym, take}
-use Rattle.book.proofs.Prelude.{Aborted, Each, Good, IsNonDecreasingBy, IsPermutation, IsPermutation-map, IsStrictlySortedBy, Ledger, Line, MayGiveBack, Order, OrderEntry, abort_all, abort_one, cases_lt, common_steps, expires, filter, flat_map-append, list_any, of_numbered, option_map_or, order_numbered, order_of, set_state}
+use Rattle.book.proofs.Prelude.{[], ◌&&◌, ◌++◌, ◌+◌, ◌<◌, ◌==◌, ◌∙◌, ◌∷◌, ◌≡◌, ◌≤◌, Aborted, Bool, Each, Good, IsNonDecreasingBy, IsPermutation, IsPermutation-map, IsStrictlySortedBy, Ledger, Less, Line, List, MayGiveBack, Order, OrderEntry, Some, abort_all, abort_one, ap, append-nil, append_assoc, arith, cases_lt, common_steps, count_by, drop, expires, false, filter, flat_map, flat_map-append, get_or, if◌then◌else◌, inl, inr, length, list_any, map, nat_cmp, of_numbered, order_numbered, order_of, refl, set_state, subst, suc, sym, take, ℕ}
 use Rattle.std.proofs.lemmas.List.Sorted.{sum_by-IsPermutation}
 use Rattle.std.specs.List.{fold}
-use Rattle.book.proofs.Chosen.{none_any}
-use Rattle.book.proofs.Closing.{less_is}
+use Rattle.book.proofs.Chosen.{none_any, same_number}
+use Rattle.book.proofs.Closing.{less_is, find_self}
 use Rattle.book.proofs.GivingBack.{may_prefix}
 use Rattle.book.proofs.Lists.{counted, each-two, each-unmap}
-use Rattle.book.proofs.NextRows.{find_self}
 use Rattle.book.proofs.Sums.{each-imp, each-map}
 use Rattle.book.proofs.Walked.{cut_at, take-step}
-
-same : (n : ℕ) → (n == n) ≡ true
-same n = grind arith
+use Rattle.book.proofs.Puts.{each-filter}
 
 above : (m n : ℕ) → m < n → (n == m) ≡ false
 above m n h = grind arith
@@ -31,7 +27,7 @@ abbrev count : ℕ → List ℕ → ℕ
 count n xs = count_by (λ m. m == n) xs
 
 count_first : (n : ℕ) (xs : List ℕ) → count n (n ∷ xs) ≡ 1 + count n xs
-count_first n xs = counted (λ m. m == n) n xs ∙ ap (λ b. (if b then 1 else 0) + count n xs) (same n)
+count_first n xs = counted (λ m. m == n) n xs ∙ ap (λ b. (if b then 1 else 0) + count n xs) (same_number n)
 
 count_none : (n : ℕ) (xs : List ℕ) → Each (λ m. n < m) xs → count n xs ≡ 0
 count_none n [] h = refl
@@ -89,12 +85,8 @@ module _ (p : Order → Bool) where
   abbrev numbers : List Order → List ℕ
   numbers os = map (λ o. o.number) (filter p os)
 
-  each_filter : (P : Order → Type 0) (os : List Order) → Each P os → Each P (filter p os)
-  each_filter P [] h = tt
-  each_filter P (o ∷ os) h = let more = each_filter P os h.1 in grind arith
-
   each_number : (P : ℕ → Type 0) (os : List Order) → Each P (map (λ o. o.number) os) → Each P (numbers os)
-  each_number P os h = each-map P (λ o. o.number) (filter p os) (each_filter (λ o. P o.number) os (each-unmap P (λ o. o.number) os h))
+  each_number P os h = each-map P (λ o. o.number) (filter p os) (each-filter (λ o. P o.number) p os (each-unmap P (λ o. o.number) os h))
 
   numbers_rise : (os : List Order) → IsStrictlySortedBy nat_cmp (map (λ o. o.number) os) → Rising (numbers os)
   unfolding IsStrictlySortedBy
@@ -122,7 +114,7 @@ module _ (p : Order → Bool) where
       none = none_any (λ n. o.number == n) (numbers os) (each-imp (λ k e. below o.number k (less_is o.number k e)) (numbers os) (each_number (λ k. nat_cmp o.number k ≡ Less) os sorted.0))
 
       first : (b : Bool) → list_any (λ n. o.number == n) (map (λ o. o.number) (if b then o ∷ filter p os else filter p os)) ≡ b
-      first x = grind (arith, same, none)
+      first x = grind (arith, same_number, none)
 
       later : (m : Order) (b : Bool) → nat_cmp o.number m.number ≡ Less → list_any (λ n. m.number == n) (map (λ o. o.number) (if b then o ∷ filter p os else filter p os)) ≡ list_any (λ n. m.number == n) (numbers os)
       later m x e = grind arith

@@ -1,7 +1,7 @@
 -- The rows of the fields that a request makes or changes, for each kind of command.
-use Rattle.std.proofs.Common.{◌≡◌, ◌∙◌, ℕ, ℤ, pos, ◌+ℤ◌, ◌-ℤ◌, ◌&&◌, ◌||◌, ◌++◌, Bool, true, false, List, [], ◌∷◌, IsNone, IsSome, IsSomeAnd, Option, None, Some, ap, append-nil, arith, cond, find, flat_map, if◌then◌else◌, is_some, map, refl, subst, sym, true≢false}
-use Rattle.book.proofs.Prelude.{common_steps, Accepts, Add, Command, Each, Field, FieldCells, FieldEntry, FirstFailure, GivenBack, GivesBack, Good, HasEntry, IsChangedField, IsStrictlySortedBy, Ledger, Line, Name, OpenLine, Order, Puts, Request, Take, accept, add_hold, added_part, change_lines, changed_fields, changes_field, checks, committed_state, entry_row, expired_lines, expires, field_named, field_of, field_row, field_rows, has_line_on, held_to_add, held_to_take, hold_more, if_add, if_take, insert_entry, ints, is_at, is_committed, is_eq, is_open, is_transfer, keys_of, line_name, line_on, list_any, list_any-append, lookup, lower_held, moved_part, name_cmp, name_of, new_field_rows, new_line, next, on, option_map, order_after, order_is, order_numbered, raise_held, same_name, settled, some_has_line, taken_part, total}
+use Rattle.book.proofs.Prelude.{[], ◌&&◌, ◌++◌, ◌+ℤ◌, ◌-ℤ◌, ◌||◌, ◌∙◌, ◌∷◌, ◌≡◌, Accepts, Bool, Command, Each, Field, FieldCells, FieldEntry, FirstFailure, GivenBack, GivesBack, Good, HasEntry, IsChangedField, IsNone, IsSome, IsStrictlySortedBy, Ledger, Line, List, Name, None, OpenLine, Option, Order, Puts, Request, Some, Way, accept, add_hold, added_part, ap, append-nil, arith, change_lines, changed_fields, changes_field, checks, committed_state, common_steps, entry_row, expired_lines, expires, false, field_named, field_of, field_row, field_rows, find, flat_map, has_line_on, held_to_add, held_to_take, if_add, if_take, if◌then◌else◌, insert_entry, ints, is_committed, is_open, is_some, is_transfer, keys_of, line_name, list_any, list_any-append, lower_held, map, moved_by_command, moved_part, name_cmp, name_of, new_field_rows, new_line, next, on, option_map, order_after, order_is, order_numbered, pos, raise_held, refl, same_name, settled, signed, some_has_line, subst, sym, taken_part, total, true, true≢false, ℕ, ℤ}
 use Rattle.words.specs.declared.command.Command.TheVariants as command
+use Rattle.book.specs.After.{changes_own_stock, moved_at_once}
 use Rattle.book.specs.Running.{HasLines, MovesField, lines_add, lines_take}
 use Rattle.book.proofs.Asked.{none_found, same_self}
 use Rattle.book.proofs.ChangedFields.{all_rows, put_self, self_eq}
@@ -11,7 +11,7 @@ use Rattle.book.proofs.GivingBack.{any-append, total-flat}
 use Rattle.book.proofs.Growing.{none_if_not_some, other_way}
 use Rattle.book.proofs.Made.{any_one, left_out, lined, released_on, total-next}
 use Rattle.book.proofs.Running.{new_field}
-use Rattle.book.proofs.StockChanges.{delivered, entry_is, state_is, written_off}
+use Rattle.book.proofs.StockChanges.{entry_is, settled_moved, state_is}
 use Rattle.book.proofs.Sums.{each, each-both, each-imp, total-eq}
 
 -- ---- the rows, from the entries
@@ -33,49 +33,36 @@ one_row A r n old D good empty rising puts only none =
 some_there : {X : Type 0} (o : Option X) → (IsNone o → ⊥) → IsSome o
 some_there b h = grind arith
 
-abbrev any_field : Name → Field
-any_field n = record { name = n; lo = 0; hi = 0; start = 0 }
+-- The command moves the value of that field alone, which is there, and changes no order.
+record MovesAtOnce (A : Ledger) (c : Command) (n : Name) (w : Way) (q : ℕ) : Type 0 where
+  there : IsSome (field_named A n)
+  names : (f : Name) → changes_field A c f ≡ same_name f n
+  moves : (f : Name) → moved_by_command f c ≡ (if same_name f n then signed w q else pos 0)
+  orders : (next A c).orders ≡ A.orders
+  fields : (B : Ledger) → new_field_rows B c ≡ []
 
-named : (A : Ledger) (c d : Command) (n : Name) → c ≡ d → changes_field A d n ≡ true → changes_field A c n ≡ true
-named A c d n is e = ap (λ (c : Command). changes_field A c n) is ∙ e
+moves_at_once : (A : Ledger) (c : Command) (n : Name) (w : Way) (q : ℕ) → FirstFailure (checks A c) None → moved_at_once c ≡ Some (n, w, q) → MovesAtOnce A c n w q
+moves_at_once A (command.Deliver b a p) n w q h e = subst (λ (m : Name × Way × ℕ). MovesAtOnce A (command.Deliver b a p) m.0 m.1 m.2) (some_is _ (n, w, q) e)
+    (record { there = some_there (field_named A (name_of b a)) (all_pass (checks A (command.Deliver b a p)) h).1.0; names = λ f. refl; moves = λ f. refl; orders = refl; fields = λ B. refl })
+moves_at_once A (command.Writeoff b a p) n w q h e = subst (λ (m : Name × Way × ℕ). MovesAtOnce A (command.Writeoff b a p) m.0 m.1 m.2) (some_is _ (n, w, q) e)
+    (record { there = some_there (field_named A (name_of b a)) (all_pass (checks A (command.Writeoff b a p)) h).1.0; names = λ f. refl; moves = λ f. refl; orders = refl; fields = λ B. refl })
+moves_at_once A c n w q h e = absurd (true≢false (sym (ap is_some e)))
 
-pub delivery_moves : (A : Ledger) (r : Request) (b a : List ℕ) (q : ℕ) → Accepts A r → r.command ≡ command.Deliver b a q → MovesField A r (name_of b a) Add q
-delivery_moves A r b a q accepts is =
-    let n : Name = name_of b a in
-    let changes = named A r.command (command.Deliver b a q) n is (same_self n) in
-    let passed = all_pass (checks A (command.Deliver b a q)) (subst (λ (c : Command). FirstFailure (checks A c) None) is accepts.accepted.1) in
-    let held = delivered A r (any_field n) b a q is changes in
-    record {
+pub moving : (A : Ledger) (r : Request) (n : Name) (w : Way) (q : ℕ) → Accepts A r → moved_at_once r.command ≡ Some (n, w, q) → MovesField A r n w q
+moving A r n w q accepts is =
+    let m = moves_at_once A r.command n w q accepts.accepted.1 is in record {
       accepts = accepts;
-      there = some_there (field_named A n) passed.1.0;
-      changes = changes;
-      value = λ f e. (delivered A r f b a q is (ap (λ (k : Name). changes_field A r.command k) e ∙ changes)).0;
-      takes = held.1;
-      adds = held.2;
+      there = m.there;
+      changes = m.names n ∙ same_self n;
+      value = λ f e. settled_moved A f r.command w q (m.moves f.name ∙ ap (λ (k : Name). if same_name k n then signed w q else pos 0) e ∙ ap (λ b. if b then signed w q else pos 0) (same_self n)) m.orders;
+      takes = ap (total (taken_part n)) m.orders;
+      adds = ap (total (added_part n)) m.orders;
     }
 
-pub write_off_moves : (A : Ledger) (r : Request) (b a : List ℕ) (q : ℕ) → Accepts A r → r.command ≡ command.Writeoff b a q → MovesField A r (name_of b a) Take q
-write_off_moves A r b a q accepts is =
-    let n : Name = name_of b a in
-    let changes = named A r.command (command.Writeoff b a q) n is (same_self n) in
-    let passed = all_pass (checks A (command.Writeoff b a q)) (subst (λ (c : Command). FirstFailure (checks A c) None) is accepts.accepted.1) in
-    let held = written_off A r (any_field n) b a q is changes in
-    record {
-      accepts = accepts;
-      there = some_there (field_named A n) passed.1.0;
-      changes = changes;
-      value = λ f e. (written_off A r f b a q is (ap (λ (k : Name). changes_field A r.command k) e ∙ changes)).0;
-      takes = held.1;
-      adds = held.2;
-    }
-
-pub delivery_rows : (A : Ledger) (r : Request) (b a : List ℕ) (q : ℕ) (old D : List (Name × FieldEntry)) → Accepts A r → r.command ≡ command.Deliver b a q → old ≡ [] → IsStrictlySortedBy name_cmp (keys_of D) → Puts A r (name_of b a) old D → map entry_row D ≡ field_rows A r
-delivery_rows A r b a q old D accepts is empty rising puts =
-    one_row A r (name_of b a) old D accepts.before empty rising puts (λ f changes. name_is f (name_of b a) (ap (λ (c : Command). changes_field A c f) (sym is) ∙ changes)) (ap (λ (c : Command). new_field_rows (accept A r) c) is)
-
-pub write_off_rows : (A : Ledger) (r : Request) (b a : List ℕ) (q : ℕ) (old D : List (Name × FieldEntry)) → Accepts A r → r.command ≡ command.Writeoff b a q → old ≡ [] → IsStrictlySortedBy name_cmp (keys_of D) → Puts A r (name_of b a) old D → map entry_row D ≡ field_rows A r
-write_off_rows A r b a q old D accepts is empty rising puts =
-    one_row A r (name_of b a) old D accepts.before empty rising puts (λ f changes. name_is f (name_of b a) (ap (λ (c : Command). changes_field A c f) (sym is) ∙ changes)) (ap (λ (c : Command). new_field_rows (accept A r) c) is)
+pub moving_rows : (A : Ledger) (r : Request) (n : Name) (w : Way) (q : ℕ) (old D : List (Name × FieldEntry)) → Accepts A r → moved_at_once r.command ≡ Some (n, w, q) → old ≡ [] → IsStrictlySortedBy name_cmp (keys_of D) → Puts A r n old D → map entry_row D ≡ field_rows A r
+moving_rows A r n w q old D accepts is empty rising puts =
+    let m = moves_at_once A r.command n w q accepts.accepted.1 is in
+    one_row A r n old D accepts.before empty rising puts (λ f changes. name_is f n (sym (m.names f) ∙ changes)) (m.fields (accept A r))
 
 -- ---- a new field
 
@@ -138,6 +125,38 @@ changed_has_line A (command.Deliver b a q) f o good h made e = absurd (true≢fa
 changed_has_line A (command.Writeoff b a q) f o good h made e = absurd (true≢false (sym (ap is_some made)))
 changed_has_line A (command.Expire now) f o good h made e = absurd (true≢false (sym (ap is_some made)))
 changed_has_line A c f o good h made e = ap (some_has_line f) (sym made) ∙ lined A c f good refl ∙ e
+
+-- a command changes the field of a line of the order that it makes exactly where it changes the line's stock
+pub own_stock : (A : Ledger) (c : Command) (o : Order) (l : Line) → Good A → FirstFailure (checks A c) None → order_after A c ≡ Some o → find (on (line_name l)) o.lines ≡ Some l → changes_own_stock (is_transfer o) c l ≡ changes_field A c (line_name l)
+own_stock A c o l good h made there = by c made
+  where
+    f : Name
+    f = line_name l
+
+    has : has_line_on f o ≡ true
+    has = sym (any_there f o.lines) ∙ ap is_some there
+
+    both : (t s k : Bool) → k ≡ true → (t || s) ≡ (s || (t && k))
+    both t s k e = grind arith
+
+    one : (n : ℕ) (b a : List ℕ) (q : ℕ) (x : Option Order) → order_numbered A n ≡ x → option_map (change_lines (name_of b a) (lower_held q)) x ≡ Some o
+        → (is_transfer o || same_name f (name_of b a)) ≡ (same_name f (name_of b a) || order_is A n (λ o. is_transfer o && has_line_on f o))
+    one n b a q None e k = absurd (true≢false (sym (ap is_some k)))
+    one n b a q (Some p) e k =
+        let same = some_is _ o k in
+        ap (λ (m : Order). is_transfer m || same_name f (name_of b a)) (sym same)
+        ∙ both (is_transfer p) (same_name f (name_of b a)) (has_line_on f p) (sym (released_on f (name_of b a) q p) ∙ ap (has_line_on f) same ∙ has)
+        ∙ ap (λ t. same_name f (name_of b a) || t) (sym (any_one n (λ o. is_transfer o && has_line_on f o) p A.orders good.orders_in_order e))
+
+    by : (c : Command) → order_after A c ≡ Some o → changes_own_stock (is_transfer o) c l ≡ changes_field A c f
+    by (command.More n way b a q) made = refl
+    by (command.Use n b a q) made = refl
+    by (command.Release n b a q) made = one n b a q (order_numbered A n) refl made
+    by (command.Field b a lo hi start) made = absurd (true≢false (sym (ap is_some made)))
+    by (command.Deliver b a q) made = absurd (true≢false (sym (ap is_some made)))
+    by (command.Writeoff b a q) made = absurd (true≢false (sym (ap is_some made)))
+    by (command.Expire now) made = absurd (true≢false (sym (ap is_some made)))
+    by c made = sym has ∙ ap (some_has_line f) (sym made) ∙ lined A c f good refl
 
 no_field_made : (B A : Ledger) (c : Command) (o : Order) → order_after A c ≡ Some o → new_field_rows B c ≡ []
 no_field_made b x c o made = grind arith

@@ -1,6 +1,5 @@
 -- The first element that passes a test, found by a walk.
-use Rattle.std.proofs.Common.{arith, ◌≡◌, ℕ, ◌+◌, ◌<◌, ◌≤◌, List, [], ◌∷◌, ◌++◌, map, Option, take, drop, length, get_or, find, Bool, true, false, None, Some, is_some, refl, sym, ap, ◌∙◌, if◌then◌else◌, true≢false}
-use Rattle.book.proofs.Prelude.{take_all}
+use Rattle.book.proofs.Prelude.{[], ◌++◌, ◌+◌, ◌<◌, ◌∙◌, ◌∷◌, ◌≡◌, ◌≤◌, Bool, List, None, Option, Some, ap, arith, false, find, get_or, if◌then◌else◌, is_some, length, map, option_map, refl, sym, take, take_all, true, true≢false, ℕ}
 use Rattle.book.proofs.Walked.{cut_at, take-step}
 
 find-past : {X : Type 0} (p : X → Bool) (xs ys : List X) → find p xs ≡ None → find p (xs ++ ys) ≡ find p ys
@@ -31,21 +30,17 @@ find-all p xs i h n = ap (find p) (sym (take_all i xs h)) ∙ n
 
 -- ---- in a list and in what it is mapped to
 
+find-map : {X Y : Type 0} (p : Y → Bool) (h : X → Y) (xs : List X) → find p (map h xs) ≡ option_map h (find (λ x. p (h x)) xs)
+find-map p h [] = refl
+find-map p h (x ∷ xs) = let more = find-map p h xs in grind arith
+
 pub find-map-none : {X Y : Type 0} (p : Y → Bool) (h : X → Y) (xs : List X) → find (λ x. p (h x)) xs ≡ None → find p (map h xs) ≡ None
-find-map-none p h [] n = refl
-find-map-none p h (x ∷ xs) n = by (p (h x)) n (λ k. find-map-none p h xs k)
-  where
-    by : (b : Bool) → (if b then Some x else find (λ x. p (h x)) xs) ≡ None → (find (λ x. p (h x)) xs ≡ None → find p (map h xs) ≡ None) → (if b then Some (h x) else find p (map h xs)) ≡ None
-    by b n k = grind arith
+find-map-none p h xs n = find-map p h xs ∙ ap (option_map h) n
+
+pub find-map-some : {X Y : Type 0} (p : Y → Bool) (h : X → Y) (xs : List X) (y : X) → find (λ x. p (h x)) xs ≡ Some y → find p (map h xs) ≡ Some (h y)
+find-map-some p h xs y n = find-map p h xs ∙ ap (option_map h) n
 
 -- the element, or else d
 abbrev pub from_some : {X : Type 0} → X → Option X → X
 from_some d None = d
 from_some d (Some x) = x
-
-pub find-map-some : {X Y : Type 0} (p : Y → Bool) (h : X → Y) (xs : List X) (y : X) → find (λ x. p (h x)) xs ≡ Some y → find p (map h xs) ≡ Some (h y)
-find-map-some p h [] y n = absurd (true≢false (sym (ap is_some n)))
-find-map-some p h (x ∷ xs) y n = by (p (h x)) n (λ k. find-map-some p h xs y k)
-  where
-    by : (b : Bool) → (if b then Some x else find (λ x. p (h x)) xs) ≡ Some y → (find (λ x. p (h x)) xs ≡ Some y → find p (map h xs) ≡ Some (h y)) → (if b then Some (h x) else find p (map h xs)) ≡ Some (h y)
-    by b n k = grind arith

@@ -1,9 +1,8 @@
 -- What lines give back, as the orders end that hold it.
-use Rattle.book.proofs.Prelude.{Add, Each, Equal, FieldCells, FieldEntry, GivenBack, GivesBack, Good, Greater, IsGoodOrder, IsStrictlySortedBy, IsUpToDate, Ledger, Less, Line, MayGiveBack, Name, Order, Ordering, Stock, Take, Way, common_steps, expired_lines, expires, field_named, field_of, giving_back, held_of, if_add, if_take, insert_entry, ints, is_at, is_eq, is_open, keys_of, line_name, list_any, lookup, match_ordering, name_cmp, on, order_numbered, same_name, total}
-use Rattle.std.proofs.Common.{◌≡◌, ◌∙◌, ℕ, ◌+◌, ◌<◌, ◌≤◌, ◌==◌, ℤ, pos, ◌+ℤ◌, ◌≤ℤ◌, ◌&&◌, ◌||◌, ◌++◌, Bool, true, false, List, [], ◌∷◌, Option, None, Some, IsSome, ap, append_assoc, arith, cond, drop, flat_map, get_or, length, if◌then◌else◌, is_some, refl, subst, sym, take, true≢false}
+use Rattle.book.proofs.Prelude.{[], ◌++◌, ◌+ℤ◌, ◌+◌, ◌<◌, ◌==◌, ◌||◌, ◌∙◌, ◌∷◌, ◌≡◌, ◌≤ℤ◌, ◌≤◌, Add, Bool, Each, Equal, FieldCells, FieldEntry, GivenBack, GivesBack, Good, Greater, IsGoodOrder, IsSome, IsStrictlySortedBy, IsUpToDate, Ledger, Less, Line, List, MayGiveBack, Name, None, Order, Ordering, Some, Stock, Take, Way, ap, arith, common_steps, drop, expired_lines, expires, false, field_named, field_of, flat_map, get_or, giving_back, held_of, if_add, if_take, if◌then◌else◌, insert_entry, ints, is_at, is_eq, is_open, is_some, keys_of, length, line_name, list_any, lookup, match_ordering, name_cmp, on, order_numbered, pos, refl, same_name, subst, sym, take, total, ℕ, ℤ}
 use Rattle.book.proofs.Asked.{same_self, total-push}
 use Rattle.book.proofs.Bounds.{adds-not_negative, takes-not_negative}
-use Rattle.book.proofs.ChangedFields.{each_at_name, less_other}
+use Rattle.book.proofs.ChangedFields.{each_at_name, less_other, put_has}
 use Rattle.book.proofs.Growing.{other_way}
 use Rattle.book.proofs.Keyed.{equal_field, same_field}
 use Rattle.book.proofs.Made.{each-found}
@@ -11,6 +10,7 @@ use Rattle.book.proofs.Running.{off}
 use Rattle.book.proofs.Staying.{name_cmp_total}
 use Rattle.book.proofs.Sums.{each, each-imp, total-le, total-zero}
 use Rattle.book.proofs.Walked.{cut_at}
+use Rattle.book.proofs.Chosen.{any_none}
 
 -- ---- sums over lines
 
@@ -26,16 +26,9 @@ pub any-append : {X : Type 0} (t : X → Bool) (xs : List X) (y : X) → list_an
 any-append t [] y = grind arith
 any-append t (x ∷ xs) y = let more = any-append t xs y in grind arith
 
-none_on : (n : Name) (ls : List Line) → list_any (on n) ls ≡ false → Each (λ l. on n l ≡ false) ls
-none_on n [] e = tt
-none_on n (l ∷ ls) e = by (on n l) refl e (λ k. none_on n ls k)
-  where
-    by : (b : Bool) → on n l ≡ b → (b || list_any (on n) ls) ≡ false → (list_any (on n) ls ≡ false → Each (λ l. on n l ≡ false) ls) → Each (λ l. on n l ≡ false) (l ∷ ls)
-    by b is e more = grind arith
-
 -- no line on the field holds anything there
 none_held : (n : Name) (g : Line → ℤ) (ls : List Line) → list_any (on n) ls ≡ false → total (λ l. if on n l then g l else pos 0) ls ≡ pos 0
-none_held n g ls e = total-zero (λ l. if on n l then g l else pos 0) ls (each-imp (λ l k. off (on n l) (g l) k) ls (none_on n ls e))
+none_held n g ls e = total-zero (λ l. if on n l then g l else pos 0) ls (each-imp (λ l k. off (on n l) (g l) k) ls (any_none (on n) ls e))
 
 -- ---- the entry so far
 
@@ -105,26 +98,6 @@ put_other P Q n v own other (e ∷ C) sorted all = by (name_cmp n e.0) refl (put
     by Less is more = (own, (other e (less_other n e.0 is) all.0, later e.0 C is sorted.0 all.1))
     by Equal is more = (subst (λ (k : Name). Q (k, v)) (equal_field n e.0 is) own, same C (equal_field n e.0 is) sorted.0 all.1)
     by Greater is more = (other e (not_equal Greater is refl) all.0, more)
-
--- what is there once one is put in
-put_has : (C : List (Name × FieldEntry)) (n m : Name) (v : FieldEntry) → is_some (lookup (is_at (name_cmp m)) (insert_entry name_cmp C n v)) ≡ (is_some (lookup (is_at (name_cmp m)) C) || is_eq (name_cmp m n))
-put_has [] n m v = grind arith
-put_has (e ∷ C) n m v = by (name_cmp n e.0) refl (put_has C n m v)
-  where
-    first : (b : Bool) (rest : Option FieldEntry) → is_some (cond b (Some v) rest) ≡ (is_some rest || b)
-    first b x = grind arith
-
-    replaced : (b : Bool) (rest : Option FieldEntry) → is_some (cond b (Some v) rest) ≡ (is_some (cond b (Some e.1) rest) || b)
-    replaced b rest = grind arith
-
-    later : (b : Bool) (rest more : Option FieldEntry) (c : Bool) → is_some more ≡ (is_some rest || c) → is_some (cond b (Some e.1) more) ≡ (is_some (cond b (Some e.1) rest) || c)
-    later b rest more c h = grind arith
-
-    by : (o : Ordering) → name_cmp n e.0 ≡ o → is_some (lookup (is_at (name_cmp m)) (insert_entry name_cmp C n v)) ≡ (is_some (lookup (is_at (name_cmp m)) C) || is_eq (name_cmp m n))
-        → is_some (lookup (is_at (name_cmp m)) (match_ordering o ((n, v) ∷ e ∷ C) ((e.0, v) ∷ C) (e ∷ insert_entry name_cmp C n v))) ≡ (is_some (lookup (is_at (name_cmp m)) (e ∷ C)) || is_eq (name_cmp m n))
-    by Less is more = first (is_eq (name_cmp m n)) (lookup (is_at (name_cmp m)) (e ∷ C))
-    by Equal is more = replaced (is_eq (name_cmp m e.0)) (lookup (is_at (name_cmp m)) C) ∙ ap (λ (k : Name). is_some (lookup (is_at (name_cmp m)) (e ∷ C)) || is_eq (name_cmp m k)) (sym (equal_field n e.0 is))
-    by Greater is more = later (is_eq (name_cmp m e.0)) (lookup (is_at (name_cmp m)) C) _ (is_eq (name_cmp m n)) more
 
 pub line_given : (A : Ledger) (ls : List Line) (l : Line) (v : FieldEntry) (new : Stock) (C D : List (Name × FieldEntry)) → IsStrictlySortedBy name_cmp (keys_of C) → GivesBack A ls C → MayGiveBack A (ls ++ l ∷ []) → GivenBack A ls (line_name l, v)
     → new ≡ giving_back v.quantity l.way l.held → D ≡ insert_entry name_cmp C (line_name l) (record { start = v.start; quantity = new }) → GivesBack A (ls ++ l ∷ []) D

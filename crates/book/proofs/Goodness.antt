@@ -1,18 +1,17 @@
 -- From a good ledger every accepted command leaves a good one.
-use Rattle.std.proofs.Common.{◌≡◌, ℕ, ◌+◌, ◌<◌, ◌≤◌, ℤ, pos, neg_ℤ, nat_abs, ◌+ℤ◌, ◌-ℤ◌, ◌≤ℤ◌, List, [], ◌∷◌, ◌++◌, map, find, Bool, true, false, ◌==◌, IsTrue, IsNone, IsSome, IsSomeAnd, MatchOption, Option, Some, None, refl, sym, ◌∙◌, subst, arith, if◌then◌else◌, true≢false, nat_cmp, nat_lt, length, is_some, zero, suc, append_assoc, append-nil}
-use Rattle.book.proofs.Prelude.{Aborted, Add, Answers, AnswersNew, Command, Committed, Done, Each, Field, FirstFailure, Good, IsGoodField, IsGoodKept, IsGoodLine, IsGoodMove, IsGoodOrder, IsInRange, IsKey, IsLevel, IsMoment, IsOpenLine, IsQty, IsSafe, IsTransferPair, Kept, KeyReused, Kind, Ledger, Line, MayHoldMore, Move, Name, OpenLine, Order, Plain, Refusal, Refused, Reply, Request, Take, Transfer, Way, accept, add_hold, bytes_eq, change_order, checks, field_named, held_to_add, held_to_take, hold_more, if_add, if_take, insert_in_order, ints, is_lt, is_open, is_transfer, kept_under, line_checks, line_name, line_on, lower_held, name_cmp, nat_cmp_total, nat_list_cmp_total, new_line, new_order, on, open_orders, order_numbered, places, raise_held, raise_used, recursion_from_All, same_command, same_name, settled, slice_cmp, total, transfer_lines, with_move, with_order}
+use Rattle.book.proofs.Prelude.{[], ◌++◌, ◌+ℤ◌, ◌+◌, ◌-ℤ◌, ◌<◌, ◌==◌, ◌∙◌, ◌∷◌, ◌≡◌, ◌≤ℤ◌, ◌≤◌, Aborted, Answers, AnswersNew, Bool, Command, Committed, Done, Each, Field, FirstFailure, Good, IsGoodField, IsGoodKept, IsGoodLine, IsGoodOrder, IsInRange, IsKey, IsLevel, IsMoment, IsNone, IsOpenLine, IsQty, IsSafe, IsSome, IsTransferPair, IsTrue, Kept, KeyReused, Kind, Ledger, Line, List, MatchOption, MayHoldMore, Name, None, OpenLine, Option, Order, Plain, Refusal, Refused, Reply, Request, Some, Transfer, Way, accept, add_hold, append-nil, append_assoc, arith, bytes_eq, change_order, checks, false, field_named, find, held_to_add, held_to_take, hold_more, if_add, if_take, if◌then◌else◌, insert_in_order, ints, is_lt, is_open, is_some, is_transfer, kept_under, length, line_checks, line_name, line_on, lower_held, map, name_cmp, nat_abs, nat_cmp, nat_cmp_total, nat_list_cmp_total, nat_lt, neg_ℤ, new_line, new_order, on, open_orders, order_numbered, places, pos, raise_held, raise_used, recursion_from_All, refl, same_command, same_name, slice_cmp, subst, sym, total, transfer_lines, true, true≢false, with_move, with_order, ℕ, ℤ}
 use Rattle.escrow.specs.Ranges.{IsOrderNo}
 use Rattle.words.specs.declared.command.Command.TheVariants as command
 use Rattle.words.specs.OpenLines.{AreOpenLines}
-use Rattle.book.proofs.Sums.{each, each-imp, each-both, each-map}
-use Rattle.book.proofs.Staying.{name_cmp_total, equal_name, other_number, other_key, lt_is, StillThere, line_kept, order_kept, same_number, move_kept, apart_lines, Parts, not_many, changed, changing, stating, expiring, using}
+use Rattle.book.proofs.Sums.{each, each-imp, each-both, each-map, each-of-push, least_if}
+use Rattle.book.proofs.Staying.{name_cmp_total, equal_name, other_number, other_key, lt_is, StillThere, line_kept, order_kept, same_number, move_kept, apart_lines, Parts, not_many, changing, stating, expiring, using}
 use Rattle.book.proofs.Bounds.{OneOn, Sound, takes, adds, takes-not_negative, adds-not_negative, room_from_safe, HasRoom}
-use Rattle.book.proofs.Closing.{fit_from_good, fit-accept, all_pass, AllPass, name_is, sounds_from_good, at_number}
+use Rattle.book.proofs.Closing.{fit_from_good, fit-accept, all_pass, AllPass, name_is, sounds_from_good, at_number, changed}
 use Rattle.book.proofs.Asked.{each-insert, none_found, same_self, fresh-push}
 use Rattle.book.proofs.Growing.{Room, none_if_not_some, room-order}
 use Rattle.book.proofs.Raising.{sound-more, raised}
 use Rattle.book.proofs.Safety.{safe_after, takes_more, not_false}
-use Rattle.book.proofs.Lists.{each-unmap, each-two, each-all, each-of-push, sorted-insert, sorted-push, distinct-insert, length-insert, length-of-map, length-of-push, count-insert, count-map, find-insert, total-has}
+use Rattle.book.proofs.Lists.{each-unmap, each-two, each-all, sorted-insert, sorted-push, distinct-insert, length-insert, length-of-map, length-of-push, count-insert, count-map, find-insert, total-has}
 
 -- what is held on a field that is there is a level
 
@@ -30,17 +29,14 @@ find_named P name (f ∷ fs) h e = step (same_name name f.name) refl e (λ k. fi
 part_not_negative : (b : Bool) (n : ℕ) → pos 0 ≤ℤ (if b then pos n else pos 0)
 part_not_negative b n = grind arith
 
-open_not_negative : (b : Bool) (z : ℤ) → pos 0 ≤ℤ z → pos 0 ≤ℤ (if b then z else pos 0)
-open_not_negative b z h = grind arith
-
 when_open : (b : Bool) (z t : ℤ) → b ≡ true → (if b then z else pos 0) ≤ℤ t → z ≤ℤ t
 when_open b z t e h = grind arith
 
 pub held_levels : (B : Ledger) → Each IsGoodField B.fields → Room B → Each (λ o. is_open o ≡ true → Each (λ l. IsSome (field_named B (line_name l)) → IsLevel l.held) o.lines) B.orders
 held_levels B good room = each-imp (λ o p e. of_order o e p.0 p.1) B.orders
     (each-two _ _ B.orders
-    (each-all (λ f o. (if is_open o then total (takes f) o.lines else pos 0) ≤ℤ held_to_take B f) B.orders (λ f. total-has (λ o. if is_open o then total (takes f) o.lines else pos 0) (λ o. open_not_negative (is_open o) (total (takes f) o.lines) (takes-not_negative f o.lines)) B.orders))
-    (each-all (λ f o. (if is_open o then total (adds f) o.lines else pos 0) ≤ℤ held_to_add B f) B.orders (λ f. total-has (λ o. if is_open o then total (adds f) o.lines else pos 0) (λ o. open_not_negative (is_open o) (total (adds f) o.lines) (adds-not_negative f o.lines)) B.orders)))
+    (each-all (λ f o. (if is_open o then total (takes f) o.lines else pos 0) ≤ℤ held_to_take B f) B.orders (λ f. total-has (λ o. if is_open o then total (takes f) o.lines else pos 0) (λ o. least_if (is_open o) (total (takes f) o.lines) (takes-not_negative f o.lines)) B.orders))
+    (each-all (λ f o. (if is_open o then total (adds f) o.lines else pos 0) ≤ℤ held_to_add B f) B.orders (λ f. total-has (λ o. if is_open o then total (adds f) o.lines else pos 0) (λ o. least_if (is_open o) (total (adds f) o.lines) (adds-not_negative f o.lines)) B.orders)))
   where
     of_line : (o : Order) → is_open o ≡ true → ((f : Name) → (if is_open o then total (takes f) o.lines else pos 0) ≤ℤ held_to_take B f) → ((f : Name) → (if is_open o then total (adds f) o.lines else pos 0) ≤ℤ held_to_add B f)
         → (l : Line) → ((f : Name) → takes f l ≤ℤ total (takes f) o.lines) → ((f : Name) → adds f l ≤ℤ total (adds f) o.lines) → IsSome (field_named B (line_name l)) → IsLevel l.held

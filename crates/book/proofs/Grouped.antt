@@ -1,6 +1,5 @@
 -- Rows of lines in a row, order after order.
-use Rattle.std.proofs.Common.{◌≡◌, ◌∙◌, ℕ, ◌+◌, append-nil, append_assoc, length-drop, zero, suc, ◌<◌, ◌≤◌, pos, List, [], ◌∷◌, ◌++◌, ap, arith, drop, get_or, length, map, flat_map, refl, subst, sym, nat_cmp}
-use Rattle.book.proofs.Prelude.{AllZip, AreNumbered, AreOthers, BeginsOther, Each, Head, IsLineTold, IsStrictlySortedBy, Line, LineCells, LineRow, Order, TellOrders, common_steps, flat_map-append, head_of, line_cells, line_row, lines_from, order_lines}
+use Rattle.book.proofs.Prelude.{[], ◌++◌, ◌+◌, ◌<◌, ◌∙◌, ◌∷◌, ◌≡◌, ◌≤◌, AllZip, AreNumbered, AreOthers, BeginsOther, Each, Head, IsLineTold, IsStrictlySortedBy, Line, LineCells, LineRow, List, Order, TellOrders, ap, append-nil, arith, common_steps, drop, flat_map, flat_map-append, get_or, head_of, length, length-drop, line_cells, line_row, lines_from, map, nat_cmp, order_lines, pos, refl, subst, suc, sym, zero, ℕ}
 use Rattle.std.proofs.Math.ListN.{drop_of_length-le}
 use Rattle.book.proofs.Lists.{length-of-map}
 use Rattle.book.proofs.Told.{after, others_after, same_first, same_rest}

@@ -1,6 +1,5 @@
 -- A delivery, a write-off, and a new order that pass their checks leave every field its room.
-use Rattle.std.proofs.Common.{◌≡◌, ℕ, ◌+◌, ℤ, pos, ◌+ℤ◌, ◌-ℤ◌, neg_ℤ, ◌≤ℤ◌, ◌<ℤ◌, List, [], ◌∷◌, ◌++◌, map, find, Bool, true, false, IsSome, IsSomeAnd, Option, Some, None, refl, sym, ap, ◌∙◌, subst, arith, if◌then◌else◌, true≢false, nat_cmp, nat_lt, Less, Equal, append_assoc, append-nil, length}
-use Rattle.book.proofs.Prelude.{Add, Each, FallsBelow, Field, IsStrictlySortedBy, Kind, Ledger, Name, OpenLine, RisesAbove, Take, Way, bound, by_lt_z, held_to_add, held_to_take, if_add, if_take, ints, is_lt, line_checks, line_name, name_cmp, new_line, new_order, on, places, same_name, settled, slice_cmp, total, with_move, with_order}
+use Rattle.book.proofs.Prelude.{[], ◌++◌, ◌+ℤ◌, ◌+◌, ◌-ℤ◌, ◌<ℤ◌, ◌∙◌, ◌∷◌, ◌≡◌, ◌≤ℤ◌, Add, Bool, Each, Equal, FallsBelow, Field, IsSome, IsSomeAnd, IsStrictlySortedBy, Kind, Ledger, Less, List, Name, None, OpenLine, Option, RisesAbove, Some, Take, Way, ap, append-nil, append_assoc, arith, bound, by_lt_z, false, find, held_to_add, held_to_take, if_add, if_take, if◌then◌else◌, ints, is_lt, length, line_checks, line_name, map, name_cmp, nat_cmp, nat_lt, neg_ℤ, new_line, new_order, on, pos, refl, same_name, settled, slice_cmp, subst, sym, total, true, true≢false, with_move, with_order, ℕ, ℤ}
 use Rattle.book.proofs.Sums.{each-imp, each-both}
 use Rattle.book.proofs.Bounds.{OneOn, Sound, takes, adds, falls_below_iff, rises_above_iff, HasRoom}
 use Rattle.book.proofs.Closing.{name_is, AllPass}
@@ -11,7 +10,7 @@ cmp_self : (xs : List ℕ) → slice_cmp nat_cmp xs xs ≡ Equal
 cmp_self [] = refl
 cmp_self (x ∷ xs) = let more = cmp_self xs in grind arith
 
-not_before_itself : (f : Name) → name_cmp f f ≡ Less → ⊥
+pub not_before_itself : (f : Name) → name_cmp f f ≡ Less → ⊥
 not_before_itself f e = let d : name_cmp f f ≡ Equal = rw (cmp_self f.branch) (cmp_self f.article) in true≢false (ap is_lt (sym e ∙ d))
 
 abbrev pub InOrder : Ledger → Type 0

@@ -1,6 +1,5 @@
 -- A good ledger has one content, and its rows stand in the order of their keys.
-use Rattle.std.proofs.Common.{◌≡◌, ℕ, ◌+◌, ◌<◌, pos, List, [], ◌∷◌, ◌++◌, map, flat_map, refl, sym, ◌∙◌, subst, arith, nat_cmp, Less}
-use Rattle.book.proofs.Prelude.{AllZip, Content, Each, Field, FieldCells, Good, IsFieldRow, IsRowsOf, IsStrictlySortedBy, Ledger, Line, Order, Ordering, desk_row, field_cmp, field_row, int_cmp_total, ints, kept_cmp, kept_row, line_cmp, line_row, lines_from, move_cmp, move_row, name_cmp, order_cmp, order_lines, order_row, slice_cmp, tied_itself}
+use Rattle.book.proofs.Prelude.{[], ◌++◌, ◌+◌, ◌<◌, ◌∷◌, ◌≡◌, AllZip, Content, Each, Field, FieldCells, Good, IsFieldRow, IsRowsOf, IsStrictlySortedBy, Ledger, Less, Line, List, Order, Ordering, arith, desk_row, field_cmp, field_row, flat_map, int_cmp_total, ints, kept_cmp, kept_row, line_cmp, line_row, lines_from, map, move_cmp, move_row, name_cmp, nat_cmp, order_cmp, order_lines, order_row, pos, refl, slice_cmp, tied_itself, ℕ}
 use Rattle.std.specs.Ordering.{int_cmp}
 use Rattle.book.specs.Rows.{IsInKeyOrder}
 use Rattle.book.proofs.Sums.{each-imp, each-map}

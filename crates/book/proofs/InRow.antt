@@ -1,17 +1,12 @@
 -- Whether a list is in the order of its keys, told from each two neighbours.
-use Rattle.std.proofs.Common.{◌≡◌, ◌↔◌, ◌∙◌, ℕ, zero, suc, ◌+◌, ◌<◌, Bool, IsTrue, List, [], ◌∷◌, true, false, Less, Equal, ap, arith, length, map, refl, subst, sym, true≢false}
-use Rattle.book.proofs.Prelude.{Greater, IsStrictlySortedBy, IsTotalOrder, Ordering, is_lt, map-map, nat_cmp}
+use Rattle.book.proofs.Prelude.{[], ◌+◌, ◌<◌, ◌↔◌, ◌∙◌, ◌∷◌, ◌≡◌, Bool, IsStrictlySortedBy, IsTotalOrder, IsTrue, Less, List, Ordering, ap, arith, false, is_lt, length, map, map-map, subst, suc, sym, true, true≢false, zero, ℕ}
 use Rattle.std.specs.List.{AllAdjacentBelow, IsAllAdjacentAnswer}
-use Rattle.std.specs.Prelude.{nat_lt, slice_index_or}
+use Rattle.std.specs.Prelude.{slice_index_or}
 use Rattle.book.proofs.Sums.{each-imp}
 use Rattle.book.proofs.Tested.{no, yes}
 
 less_if : (o : Ordering) → is_lt o ≡ true → o ≡ Less
 less_if c e = grind arith
-
--- numbers compared as they are ordered
-pub numbers_less : (a b : ℕ) → nat_lt a b ≡ is_lt (nat_cmp a b)
-numbers_less a b = grind arith
 
 after : (k : ℕ) → suc k + 1 ≡ suc (k + 1)
 after k = omega arith

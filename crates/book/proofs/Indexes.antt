@@ -1,6 +1,5 @@
 -- The entries at the indexes of an order.
-use Rattle.std.proofs.Common.{◌≡◌, ℕ, zero, suc, ◌+◌, ◌<◌, ◌≢◌, eqb, false, List, [], ◌∷◌, ◌++◌, length, get_or, set, map, Some, slice_get, refl, sym, ap, subst, ◌∙◌, arith, add-zero, zero-add}
-use Rattle.book.proofs.Prelude.{Each, IsDistinct, IsPermutation, IsPermutation-map, IsPermutation-refl, at_indexes, insert, nat_tests, range_with_len, recursion_from_All}
+use Rattle.book.proofs.Prelude.{[], ◌++◌, ◌+◌, ◌-◌, ◌<◌, ◌^◌, ◌∙◌, ◌∷◌, ◌≡◌, ◌≢◌, ◌≤◌, Each, IsDistinct, IsPermutation, IsPermutation-map, IsPermutation-refl, List, Some, add-zero, ap, arith, at_indexes, eqb, false, get_or, insert, length, map, nat_tests, range_with_len, recursion_from_All, refl, room_left, set, slice_get, subst, suc, sym, zero, zero-add, ℕ}
 use Rattle.std.proofs.lemmas.List.Elements.{All-from_recursion, All-from_get_or}
 use Rattle.std.proofs.lemmas.List.FromFn.{length-range_with_len, get_or-range_with_len, fill_by_all}
 use Rattle.std.proofs.lemmas.Bool.{eqb-false}
@@ -146,3 +145,14 @@ module _ {E : Type 0} where
       let listed : at_indexes all order ≡ map (λ i. get_or all i e) order = at_indexes-map all e order (in_range (length all) order p) in
       let in_turn : map (λ i. get_or all i e) (range_with_len 0 (length all)) ≡ all = sym (at_indexes-map all e (range_with_len 0 (length all)) (in_range (length all) _ (IsPermutation-refl _))) ∙ at_indexes-all all in
       subst (λ l. IsPermutation (at_indexes all order) l) in_turn (rw listed (IsPermutation-sym _ _ (IsPermutation-map (λ i. get_or all i e) _ order p)))
+
+-- ---- how many entries more fit without memory
+
+pub room_made : (n m more entries order : ℕ) → m ≡ n → more ≤ 2 ^ 32 - n → n + more ≤ entries → m + more ≤ order → more ≤ room_left n entries order
+room_made n m more entries order same short in_entries in_order = omega arith
+
+pub no_room : (n m more entries order : ℕ) → m ≡ n → m ≤ order → order < m + more → room_left n entries order < more
+no_room n m more entries order same within full = omega arith
+
+pub has_room : (n entries order : ℕ) → 1 ≤ room_left n entries order → (n < entries) × (n < order)
+has_room n entries order room = (omega arith, omega arith)

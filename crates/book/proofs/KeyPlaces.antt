@@ -1,6 +1,5 @@
 -- Keys among entries in their order.
-use Rattle.book.proofs.Prelude.{Each, Equal, Greater, IsBinarySearchResult, IsGap, IsNonDecreasingBy, IsSearchInRange, IsStrictlySortedBy, IsTotalOrder, Less, Ordering, at_indexes, cases_lt, common_steps, compare_at, get_or_from_slice_get, insert, insert_entry, is_at, is_eq, keys_of, lookup, match_ordering, none-some, option_map, option_map_or, ordering_index, ordering_reverse, same_Some, set_value, slice_get-map, slice_get_read, slice_get_within}
-use Rattle.std.proofs.Common.{◌≡◌, ℕ, zero, suc, ◌<◌, ◌≤◌, List, [], ◌∷◌, ◌++◌, length, length-append, length-set, get_or, set, Some, None, IfOk, IfErr, cond, Result, Ok, Err, slice_get, refl, sym, ap, subst, ◌∙◌, inl, inr, arith}
+use Rattle.book.proofs.Prelude.{[], ◌++◌, ◌<◌, ◌∙◌, ◌∷◌, ◌≡◌, ◌≤◌, Each, Equal, Err, Greater, IfErr, IfOk, IsBinarySearchResult, IsGap, IsNonDecreasingBy, IsSearchInRange, IsStrictlySortedBy, IsTotalOrder, Less, List, None, Ok, Ordering, Result, Some, ap, arith, at_indexes, cases_lt, common_steps, compare_at, cond, get_or, get_or_from_slice_get, inl, inr, insert, insert_entry, is_at, is_eq, keys_of, length, length-append, lookup, match_ordering, none-some, option_map, option_map_or, ordering_index, ordering_reverse, refl, same_Some, set, set_value, slice_get, slice_get-map, slice_get_read, slice_get_within, subst, suc, sym, zero, ℕ}
 use Rattle.std.proofs.lemmas.Cmp.{alike_right, eq_by_cmp_equiv, tied_back}
 use Rattle.std.proofs.lemmas.List.Edits.{insert_end}
 use Rattle.std.proofs.lemmas.List.Sorted.{IsNonDecreasingBy-from_default}
@@ -8,9 +7,6 @@ use Rattle.std.proofs.lemmas.Map.Entries.{lookup_at_gap, lookup_from_place, leng
 use Rattle.std.proofs.lemmas.Map.Keys.{IsDistinct-from_sorted, Less-from_sorted}
 use Rattle.book.specs.InOrder.{IsAt, IsKeyOrder, set_value_at}
 use Rattle.book.proofs.Indexes.{Names, names_more, index_at, at_indexes-set, in_range, at_indexes-insert, get-at_indexes, length-at_indexes, some_at}
-
-at_most_2 : (o : Ordering) → ordering_index o ≤ 2
-at_most_2 c = grind arith
 
 module _ {K V : Type 0} where
   pub keys-set_value_at : (l : List (K × V)) (place : ℕ) (w : V) → keys_of (set_value_at l place w) ≡ keys_of l

@@ -1,10 +1,8 @@
 -- Entries under keys, as they stand in a ledger.
-use Rattle.std.proofs.Common.{arith, ◌≡◌, ◌∙◌, ◌&&◌, ◌==◌, Bool, true, false, ℕ, List, [], ◌∷◌, Option, Some, None, ap, cond, find, if◌then◌else◌, is_some, map, refl, subst, sym, true≢false}
-use Rattle.book.proofs.Prelude.{Equal, FieldEntry, Greater, KeptEntry, Less, Name, OrderEntry, Ordering, bytes_decides, bytes_eq, field_of, insert_entry, insert_in_order, is_at, is_eq, is_eq-slice_cmp, is_lt, kept_of, lookup, match_ordering, name_cmp, nat_cmp, nat_cmp_total, option_map, order_of, ordering_then, same_name, slice_cmp, tied_itself}
+use Rattle.book.proofs.Prelude.{[], ◌==◌, ◌∙◌, ◌∷◌, ◌≡◌, Bool, Equal, FieldEntry, KeptEntry, List, Name, None, Option, OrderEntry, Ordering, ap, arith, bytes_decides, bytes_eq, field_of, find, insert_entry, insert_in_order, is_at, is_eq, is_eq-slice_cmp, is_lt, kept_of, lookup, map, name_cmp, nat_cmp, option_map, order_of, refl, same_name, slice_cmp, sym, ℕ}
 use Rattle.std.proofs.lemmas.Cmp.{nat_list_eq_equiv}
-use Rattle.book.proofs.Chosen.{number_is}
 use Rattle.book.proofs.Closing.{name_is}
-use Rattle.book.proofs.Staying.{equal_name, equal_number, other_number}
+use Rattle.book.proofs.Staying.{equal_name, equal_number}
 
 module _ {K V X : Type 0} (cmp : K → K → Ordering) (ties : (a b : K) → cmp a b ≡ Equal → a ≡ b) (view : K × V → X) where
   -- what stands under a key

@@ -1,7 +1,6 @@
 -- The checks of the lines of a new order, one line at a time.
-use Rattle.std.proofs.Common.{◌≡◌, ◌∙◌, ℕ, ◌+◌, ◌<◌, List, [], ◌∷◌, ◌++◌, Option, None, Some, true, false, find, length, take, drop, get_or, map, ap, arith, inr, is_some, length-take, refl, subst, sym, true≢false}
 use Rattle.std.proofs.lemmas.List.{drop_more}
-use Rattle.book.proofs.Prelude.{Check, Each, FirstFailure, Good, IsDistinct, Kind, Ledger, Line, Name, OpenLine, Refusal, bound, line_checks, line_name, new_line, new_order, no_field, on, same_name, stock_checks, with_order}
+use Rattle.book.proofs.Prelude.{[], ◌++◌, ◌+◌, ◌<◌, ◌∙◌, ◌∷◌, ◌≡◌, Check, Each, FirstFailure, Good, IsDistinct, Kind, Ledger, Line, List, Name, None, OpenLine, Option, Refusal, Some, ap, arith, bound, drop, false, find, get_or, inr, is_some, length, length-take, line_checks, line_name, map, new_line, new_order, no_field, on, same_name, stock_checks, subst, sym, take, true, true≢false, with_order, ℕ}
 use Rattle.book.proofs.Asked.{map-push, none_found}
 use Rattle.book.proofs.Checked.{cut_short, go_on, has_stock}
 use Rattle.book.proofs.Compared.{line_test}

@@ -1,12 +1,9 @@
 -- The order that a command opens or changes.
-use Rattle.book.proofs.Prelude.{Aborted, Command, Committed, Each, FirstFailure, Good, IsAccepted, IsGoodOrder, IsShort, IsStrictlySortedBy, Ledger, Line, Name, OpenLine, Order, Request, accept, add_hold, change_lines, changes_field, changes_state, checks, common_steps, expires, has_line_on, hold_more, insert_in_order, ints, is_opening, is_touched, is_transfer, line_name, line_on, list_any, lower_held, name_of, new_line, next, on, option_map, order_after, order_is, order_number, order_numbered, raise_used, same_name, set_state, some_has_line, some_is_transfer, some_part, total}
-use Rattle.std.proofs.Common.{◌≡◌, ◌∙◌, ℕ, ℤ, pos, ◌+ℤ◌, Bool, true, false, ◌&&◌, ◌||◌, ◌==◌, List, [], ◌∷◌, ◌++◌, IsSomeAnd, Option, None, Some, ap, arith, find, if◌then◌else◌, is_some, map, nat_cmp, nat_lt, refl, subst, sym, true≢false}
+use Rattle.book.proofs.Prelude.{[], ◌&&◌, ◌+ℤ◌, ◌==◌, ◌||◌, ◌∙◌, ◌∷◌, ◌≡◌, Aborted, Bool, Command, Committed, Each, FirstFailure, Good, IsAccepted, IsShort, IsSomeAnd, IsStrictlySortedBy, Ledger, Line, List, Name, None, OpenLine, Option, Order, Request, Some, accept, add_hold, ap, arith, change_lines, changes_field, changes_state, checks, common_steps, expires, false, find, has_line_on, if◌then◌else◌, insert_in_order, ints, is_opening, is_some, is_touched, is_transfer, list_any, lower_held, map, name_of, nat_cmp, nat_lt, new_line, next, on, option_map, order_after, order_is, order_number, order_numbered, pos, raise_used, refl, same_name, set_state, some_has_line, some_part, subst, sym, total, true, true≢false, ℕ, ℤ}
 use Rattle.words.specs.declared.command.Command.TheVariants as command
-use Rattle.book.specs.After.{names_field}
 use Rattle.book.proofs.Asked.{none_found, total-insert}
 use Rattle.book.proofs.Chosen.{any-map, find-new, none_after, none_any, some_is}
-use Rattle.book.proofs.Closing.{all_pass, at_number}
-use Rattle.book.proofs.Growing.{none_if_not_some}
+use Rattle.book.proofs.Closing.{at_number}
 use Rattle.book.proofs.Sums.{each, each-imp, total-eq, total-map}
 
 -- ---- one order under a number
@@ -48,11 +45,6 @@ lowered_on b f q l = grind arith
 
 pub released_on : (f h : Name) (q : ℕ) (o : Order) → has_line_on f (change_lines h (lower_held q) o) ≡ has_line_on f o
 released_on f h q o = grind (arith, (each (λ l. lowered_on (is_transfer o || on h l) f q l) o.lines), any-map, lowered_on)
-
--- a release changes the field that it names, on a transfer both
-pub released : (A : Ledger) (c : Command) (n : ℕ) (b a : List ℕ) (q : ℕ) (f : Name) → Good A → c ≡ command.Release n b a q → names_field f c ≡ false
-    → (some_is_transfer (order_after A c) && some_has_line f (order_after A c)) ≡ changes_field A c f
-released A c n b a q f g is = grind (arith, any_none_there, any_one, released_on)
 
 -- ---- the order under that number in the next ledger
 
@@ -114,6 +106,16 @@ pub total-changed : (g : Order → ℤ) (change : Order → Order) (n : ℕ) (os
 unfolding IsStrictlySortedBy
 total-changed g change n [] sorted = refl
 total-changed g change n (o ∷ os) sorted = let more = total-changed g change n os sorted.1 in grind (arith, common_steps, all_left, none_after, none_changed, o.number, sorted.1, sorted.0)
+
+same_orders : (n : ℕ) (os : List Order) → map (λ o. if o.number == n then o else o) os ≡ os
+same_orders n [] = refl
+same_orders n (o ∷ os) = let more = same_orders n os in grind arith
+
+same_option : (x : Option Order) → option_map (λ o. o) x ≡ x
+same_option b = grind arith
+
+pub total_parts : (g : Order → ℤ) (n : ℕ) (os : List Order) → IsStrictlySortedBy nat_cmp (map (λ o. o.number) os) → total g os ≡ total (λ o. if o.number == n then pos 0 else g o) os +ℤ some_part g (find (λ o. o.number == n) os)
+total_parts g n os sorted = ap (total g) (sym (same_orders n os)) ∙ total-changed g (λ o. o) n os sorted ∙ ap (λ (x : Option Order). total (λ o. if o.number == n then pos 0 else g o) os +ℤ some_part g x) (same_option (find (λ o. o.number == n) os))
 
 expired_part : (g : Order → ℤ) → ((o : Order) → g (set_state Aborted o) ≡ pos 0) → (b : Bool) (o : Order) → g (if b then set_state Aborted o else o) ≡ (if b then pos 0 else g o)
 expired_part g ends b o = grind arith

@@ -1,22 +1,24 @@
 -- The rows of the next ledger that an accepted request changes, table by table.
-use Rattle.std.proofs.Common.{◌≡◌, ◌∙◌, ℕ, ◌+◌, ◌<◌, ◌≤◌, pos, Bool, true, false, ◌&&◌, ◌||◌, ◌==◌, List, [], ◌∷◌, ◌++◌, Option, None, Some, ap, arith, find, flat_map, if◌then◌else◌, is_some, map, length, nat_cmp, Less, refl, subst, sym, true≢false}
 use Rattle.std.proofs.lemmas.Bool.Decides.{Decides-int_eq}
-use Rattle.book.proofs.Prelude.{Aborted, BookView, ChangesTo, Command, Content, DeskCells, Each, Field, FieldCells, FirstFailure, Good, Inside, IsAccepted, IsInRange, IsKey, IsRowsOf, IsStrictlySortedBy, Ledger, Line, LineCells, MAX_PLACES, Name, Order, OrderCells, Request, Way, accept, append-nil, bytes_decides, bytes_eq, change_lines, changed_fields, changed_orders, changed_rows, changes_field, changes_line, changes_move, changes_order, changes_state, checks, desk_row, expires, field_named, field_row, field_rows, filter, int_eq, ints, is_lt, is_transfer, kept_of, kept_row, ledger_of, line_name, line_row, line_rows, lines_from, list_any, lower_held, move_row, name_cmp, name_of, new_field_rows, next, option_map, order_after, order_is, order_lines, order_number, order_numbered, order_row, places, put_content, raise_used, same_name, set_state, slice_cmp, transfer_kind, view_of, with_fields, with_kept, with_lines, with_moves, with_orders}
+use Rattle.book.proofs.Prelude.{[], ◌&&◌, ◌++◌, ◌+◌, ◌==◌, ◌||◌, ◌∙◌, ◌∷◌, ◌≡◌, ◌≤◌, Aborted, BookView, Bool, ChangesTo, Command, Content, DeskCells, Each, Field, FieldCells, FirstFailure, Good, IfSome, Inside, IsAccepted, IsInRange, IsKey, IsRowsOf, IsStrictlySortedBy, Ledger, Line, LineCells, List, MAX_PLACES, Move, MoveEntry, Name, None, Option, Order, OrderCells, Request, Some, Way, aborted_rows, accept, ap, append-nil, arith, bytes_decides, bytes_eq, change_lines, changed_fields, changed_orders, changed_rows, changes_field, changes_line, changes_move, changes_order, changes_state, checks, desk_row, entry_row, expired_numbers, expires, false, field_named, field_row, field_rows, filter, find, flat_map, if◌then◌else◌, int_eq, is_lt, is_some, is_transfer, kept_of, kept_row, ledger_of, length, line_name, line_row, line_rows, lines_from, list_any, lower_held, map, move_of, move_row, name_cmp, name_of, nat_cmp, new_field_rows, next, of_numbered, option_map, option_map_or, order_after, order_is, order_lines, order_number, order_numbered, order_of, order_row, places, pos, put_content, raise_used, refl, same_name, set_state, signed, slice_cmp, subst, sym, transfer_kind, true, true≢false, view_of, with_fields, with_kept, with_lines, with_moves, with_orders, ℕ}
 use Rattle.std.proofs.lemmas.List.Elements.{filter-append}
 use Rattle.words.specs.declared.command.Command.TheVariants as command
-use Rattle.book.specs.After.{expired_rows, own_line_rows, own_move_rows, own_order_rows}
+use Rattle.book.specs.After.{expired_rows, move_made, move_rows, moved_at_once, own_line_rows, own_order_rows}
+use Rattle.book.specs.Plans.{Makes}
 use Rattle.book.specs.Tables.{no_content}
+use Rattle.book.specs.declared.book.plan.PlanParts.{PlanParts}
 use Rattle.book.proofs.Asked.{none_found, same_self}
 use Rattle.book.proofs.Changed.{changes_suffice}
-use Rattle.book.proofs.Chosen.{filter-each, filter-insert, filter-none, filter-push, none_after, none_any, number_is, some_is}
-use Rattle.book.proofs.Closing.{all_pass, less_is}
+use Rattle.book.proofs.Chosen.{filter-each, filter-insert, filter-none, filter-push, none_after, number_is, some_is, same_number}
+use Rattle.book.proofs.Closing.{all_pass, find_self}
 use Rattle.book.proofs.Goodness.{good_accept}
 use Rattle.book.proofs.InOrder.{one_content, rows_are, rows_of}
 use Rattle.book.proofs.Growing.{none_if_not_some, other_way}
 use Rattle.book.proofs.Lists.{length-insert, length-of-map}
-use Rattle.book.proofs.Made.{any_one, made_there, only_one}
+use Rattle.book.proofs.Made.{any_one, made_there}
 use Rattle.book.proofs.Once.{no_key}
 use Rattle.book.proofs.Sums.{each, each-imp}
+use Rattle.book.proofs.Expiring.{numbered_flat}
 
 pos_same : (m n : ℕ) → (m == n) ≡ true → int_eq (pos m) (pos n) ≡ true
 pos_same m n e = (Decides-int_eq (pos m) (pos n)).1 (ap pos (number_is m n e))
@@ -27,16 +29,13 @@ pos_other m n e = grind arith
 pos_above : (m n : ℕ) → m ≤ n → int_eq (pos m) (pos (n + 1)) ≡ false
 pos_above m n h = grind arith
 
-same_number : (n : ℕ) → (n == n) ≡ true
-same_number n = grind arith
-
 filter-false : {X : Type 0} (xs : List X) → filter (λ x. false) xs ≡ []
 filter-false [] = refl
 filter-false (x ∷ xs) = filter-false xs
 
 -- ---- moves
 
-moves_changed : (A : Ledger) (key : List ℕ) (c : Command) → Good A → filter (λ row. changes_move A c row.place) (map move_row (accept A (record { key = key; command = c })).moves) ≡ own_move_rows (places A + 1) c
+moves_changed : (A : Ledger) (key : List ℕ) (c : Command) → Good A → filter (λ row. changes_move A c row.place) (map move_row (accept A (record { key = key; command = c })).moves) ≡ move_rows (move_made (places A + 1) c)
 moves_changed A key (command.Deliver b a q) g = filter-push (λ row. int_eq row.place (pos (places A + 1))) move_row _ A.moves (pos_same (places A + 1) (places A + 1) (same_number (places A + 1))) (each-imp (λ m x. pos_above m.place (places A) x.last) A.moves g.moves)
 moves_changed A key (command.Writeoff b a q) g = filter-push (λ row. int_eq row.place (pos (places A + 1))) move_row _ A.moves (pos_same (places A + 1) (places A + 1) (same_number (places A + 1))) (each-imp (λ m x. pos_above m.place (places A) x.last) A.moves g.moves)
 moves_changed A key c g = filter-false (map move_row A.moves)
@@ -67,77 +66,48 @@ fields_changed A key (command.Field b a lo hi start) h =
     let none : Each (λ f. chosen (field_row B f) ≡ false) A.fields = each-imp (λ f e. other_way (name_of b a) f.name e) A.fields (none_found (λ e. same_name (name_of b a) e.name) A.fields (none_if_not_some (field_named A (name_of b a)) k.1.1.0)) in
     let before : changed_fields A r A.fields ≡ [] = all_fields A r A.fields ∙ filter-none chosen (field_row B) A.fields none in
     filter-insert chosen (field_row B) (λ f g. is_lt (name_cmp f.name g.name)) new A.fields (same_self (name_of b a)) none ∙ ap (λ (rows : List FieldCells). rows ++ field_row B new ∷ []) (sym before)
-fields_changed A key (command.Deliver b a q) h = no_more _ _ (all_fields A (record { key = key; command = command.Deliver b a q }) A.fields)
-fields_changed A key (command.Writeoff b a q) h = no_more _ _ (all_fields A (record { key = key; command = command.Writeoff b a q }) A.fields)
-fields_changed A key (command.Open n until lines) h = no_more _ _ (all_fields A (record { key = key; command = command.Open n until lines }) A.fields)
-fields_changed A key (command.Transfer n until a from to q) h = no_more _ _ (all_fields A (record { key = key; command = command.Transfer n until a from to q }) A.fields)
-fields_changed A key (command.More n way b a q) h = no_more _ _ (all_fields A (record { key = key; command = command.More n way b a q }) A.fields)
-fields_changed A key (command.Use n b a q) h = no_more _ _ (all_fields A (record { key = key; command = command.Use n b a q }) A.fields)
-fields_changed A key (command.Release n b a q) h = no_more _ _ (all_fields A (record { key = key; command = command.Release n b a q }) A.fields)
-fields_changed A key (command.Commit n) h = no_more _ _ (all_fields A (record { key = key; command = command.Commit n }) A.fields)
-fields_changed A key (command.Abort n) h = no_more _ _ (all_fields A (record { key = key; command = command.Abort n }) A.fields)
-fields_changed A key (command.Expire now) h = no_more _ _ (all_fields A (record { key = key; command = command.Expire now }) A.fields)
+fields_changed A key c h = no_more _ _ (all_fields A (record { key = key; command = c }) A.fields)
+
+-- ---- rows of one order
+
+-- of the rows of orders under other numbers none passes
+none_of : {R : Type 0} (t : R → Bool) (rows : Order → List R) (n : ℕ) (os : List Order) → ((o : Order) → (o.number == n) ≡ false → filter t (rows o) ≡ []) → Each (λ o. (o.number == n) ≡ false) os → filter t (flat_map rows os) ≡ []
+none_of t rows n [] other none = refl
+none_of t rows n (o ∷ os) other none = filter-append t (rows o) (flat_map rows os) ∙ (λ i. other o none.0 i ++ none_of t rows n os other none.1 i)
+
+-- the rows that pass are those of the order under the number
+rows_of_one : {R : Type 0} (t : R → Bool) (rows made : Order → List R) (n : ℕ) (os : List Order) → IsStrictlySortedBy nat_cmp (map (λ o. o.number) os) → ((o : Order) → (o.number == n) ≡ false → filter t (rows o) ≡ []) → ((o : Order) → (o.number == n) ≡ true → filter t (rows o) ≡ made o)
+    → filter t (flat_map rows os) ≡ option_map_or made (find (λ o. o.number == n) os) []
+unfolding IsStrictlySortedBy
+rows_of_one t rows made n [] sorted other own = refl
+rows_of_one {R = R} t rows made n (o ∷ os) sorted other own = filter-append t (rows o) (flat_map rows os) ∙ by (o.number == n) refl (rows_of_one t rows made n os sorted.1 other own)
+  where
+    by : (b : Bool) → (o.number == n) ≡ b → filter t (flat_map rows os) ≡ option_map_or made (find (λ o. o.number == n) os) []
+        → filter t (rows o) ++ filter t (flat_map rows os) ≡ option_map_or made (if b then Some o else find (λ o. o.number == n) os) []
+    by true e more = (λ i. own o e i ++ none_of t rows n os other (none_after n o os e sorted.0) i) ∙ append-nil (made o)
+    by false e more = ap (λ (xs : List R). xs ++ filter t (flat_map rows os)) (other o e) ∙ more
 
 -- ---- orders
 
-abbrev row_there : Option Order → List OrderCells
-row_there None = []
-row_there (Some o) = order_row o ∷ []
+rows_by_one : (os : List Order) → map order_row os ≡ flat_map (λ o. order_row o ∷ []) os
+rows_by_one [] = refl
+rows_by_one (o ∷ os) = ap (λ (rows : List OrderCells). order_row o ∷ rows) (rows_by_one os)
 
-order_one : (n : ℕ) (os : List Order) → IsStrictlySortedBy nat_cmp (map (λ o. o.number) os) → filter (λ row. int_eq row.number (pos n)) (map order_row os) ≡ row_there (find (λ o. o.number == n) os)
-unfolding IsStrictlySortedBy
-order_one n [] sorted = refl
-order_one n (o ∷ os) sorted = by (o.number == n) refl (order_one n os sorted.1)
+any_same : {X : Type 0} (s t : X → Bool) (xs : List X) → Each (λ x. s x ≡ t x) xs → list_any s xs ≡ list_any t xs
+any_same s t [] h = refl
+any_same s t (x ∷ xs) h = λ i. h.0 i || any_same s t xs h.1 i
+
+-- a test and an equal number, the other way round
+turned : (m n : ℕ) (b : Bool) → (b && int_eq (pos m) (pos n)) ≡ ((n == m) && b)
+turned m n b = by (n == m) refl
   where
-    by : (b : Bool) → (o.number == n) ≡ b → filter (λ row. int_eq row.number (pos n)) (map order_row os) ≡ row_there (find (λ o. o.number == n) os)
-        → filter (λ row. int_eq row.number (pos n)) (map order_row (o ∷ os)) ≡ row_there (if b then Some o else find (λ o. o.number == n) os)
-    by true e more = rw (pos_same o.number n e) (ap (λ (rows : List OrderCells). order_row o ∷ rows) (filter-none (λ row. int_eq row.number (pos n)) order_row os (each-imp (λ m k. pos_other m.number n k) os (none_after n o os e sorted.0))))
-    by false e more = rw (pos_other o.number n e) more
-
-pub find_self : (os : List Order) → IsStrictlySortedBy nat_cmp (map (λ o. o.number) os) → Each (λ o. find (λ m. m.number == o.number) os ≡ Some o) os
-unfolding IsStrictlySortedBy
-find_self [] sorted = tt
-find_self (o ∷ os) sorted = (ap (λ b. if b then Some o else find (λ m. m.number == o.number) os) (same_number o.number), later os sorted.0 (find_self os sorted.1))
-  where
-    less_other : (m n : ℕ) → m < n → (m == n) ≡ false
-    less_other m n h = grind arith
-
-    later : (ms : List Order) → Each (λ k. nat_cmp o.number k ≡ Less) (map (λ m. m.number) ms) → Each (λ m. find (λ k. k.number == m.number) os ≡ Some m) ms → Each (λ m. find (λ k. k.number == m.number) (o ∷ os) ≡ Some m) ms
-    later [] h k = tt
-    later (m ∷ ms) h k = (ap (λ b. if b then Some o else find (λ k. k.number == m.number) os) (less_other o.number m.number (less_is o.number m.number h.0)) ∙ k.0, later ms h.1 k.1)
-
-and_false : (a b : Bool) → (b ≡ true → a ≡ false) → (a && b) ≡ false
-and_false x b h = grind arith
-
-and_true : (a b : Bool) → a ≡ true → b ≡ true → (a && b) ≡ true
-and_true x b e h = cc
-
-any_there : (t : Order → Bool) (n : ℕ) (o : Order) (os : List Order) → find (λ m. m.number == n) os ≡ Some o → t o ≡ true → list_any t os ≡ true
-any_there t n o [] e h = absurd (true≢false (sym (ap is_some e)))
-any_there t n o (m ∷ ms) e h = by (m.number == n) e (λ k. any_there t n o ms k h)
-  where
-    or_right : (a b : Bool) → b ≡ true → (a || b) ≡ true
-    or_right x b e = grind arith
-
-    by : (b : Bool) → (if b then Some m else find (λ m. m.number == n) ms) ≡ Some o → (find (λ m. m.number == n) ms ≡ Some o → list_any t ms ≡ true) → (t m || list_any t ms) ≡ true
-    by b k more = grind arith
+    by : (s : Bool) → (n == m) ≡ s → (b && int_eq (pos m) (pos n)) ≡ (s && b)
+    by true e = ap (λ t. b && t) (pos_same m n (ap (λ k. k == n) (sym (number_is n m e)) ∙ same_number n)) ∙ grind arith
+    by false e = ap (λ t. b && t) (pos_other m n (grind arith)) ∙ grind arith
 
 -- some order that expires has the number exactly where the order does
 number_expires : (now : ℕ) (o : Order) (os : List Order) → IsStrictlySortedBy nat_cmp (map (λ o. o.number) os) → find (λ m. m.number == o.number) os ≡ Some o → list_any (λ p. expires now p && int_eq (pos o.number) (pos p.number)) os ≡ expires now o
-number_expires now o os sorted e = by (expires now o) refl
-  where
-    same_of : (p : Order) → int_eq (pos o.number) (pos p.number) ≡ true → (p.number == o.number) ≡ true
-    same_of p t = let k = (Decides-int_eq (pos o.number) (pos p.number)).0 t in numbers p.number o.number (pos_is o.number p.number k)
-      where
-        pos_is : (m n : ℕ) → pos m ≡ pos n → m ≡ n
-        pos_is m n k = omega (arith, ints)
-
-        numbers : (m n : ℕ) → n ≡ m → (m == n) ≡ true
-        numbers m n h = grind arith
-
-    by : (b : Bool) → expires now o ≡ b → list_any (λ p. expires now p && int_eq (pos o.number) (pos p.number)) os ≡ b
-    by true x = any_there (λ p. expires now p && int_eq (pos o.number) (pos p.number)) o.number o os e (and_true (expires now o) _ x (pos_same o.number o.number (same_number o.number)))
-    by false x = grind (arith, (each-imp (λ p same. and_false (expires now p) (int_eq (pos o.number) (pos p.number)) (λ t. ap (expires now) (same (same_of p t)) ∙ x)) os (only_one o.number o os sorted e)), and_false, none_any, only_one, same_of)
+number_expires now o os sorted e = any_same _ _ os (each (λ p. turned o.number p.number (expires now p)) os) ∙ any_one o.number (expires now) o os sorted e
 
 map-twice : (h : Order → Order) (os : List Order) → map order_row (map h os) ≡ map (λ o. order_row (h o)) os
 map-twice h [] = refl
@@ -152,9 +122,16 @@ orders_expired A now g =
     (each-imp (λ o e. ap (λ n. list_any (λ p. expires now p && int_eq (pos n) (pos p.number)) A.orders) (grind arith) ∙ number_expires now o A.orders g.orders_in_order e) A.orders (find_self A.orders g.orders_in_order))
     (each (λ o e. ap (λ b. order_row (if b then set_state Aborted o else o)) (sym e)) A.orders))
 
+of_made : (c : Command) (x : Option Order) → changes_state c ≡ true → option_map_or (λ o. order_row o ∷ []) x [] ≡ own_order_rows c x
+of_made c None state = refl
+of_made c (Some o) state = sym (ap (λ b. if b then order_row o ∷ [] else []) state)
+
 own_order : (A : Ledger) (key : List ℕ) (c : Command) (n : ℕ) → Good (accept A (record { key = key; command = c })) → FirstFailure (checks A c) None → order_number c ≡ Some n → changes_state c ≡ true
     → filter (λ row. int_eq row.number (pos n)) (map order_row (accept A (record { key = key; command = c })).orders) ≡ own_order_rows c (order_after A c)
-own_order A key c n k h is state = order_one n (next A c).orders k.orders_in_order ∙ ap row_there (made_there A c n h is) ∙ grind arith
+own_order A key c n k h is state =
+    ap (filter (λ row. int_eq row.number (pos n))) (rows_by_one (next A c).orders)
+    ∙ rows_of_one (λ row. int_eq row.number (pos n)) (λ o. order_row o ∷ []) (λ o. order_row o ∷ []) n (next A c).orders k.orders_in_order (λ o e. rw (pos_other o.number n e) refl) (λ o e. rw (pos_same o.number n e) refl)
+    ∙ ap (λ (x : Option Order). option_map_or (λ o. order_row o ∷ []) x []) (made_there A c n h is) ∙ of_made c (order_after A c) state
 
 orders_changed : (A : Ledger) (key : List ℕ) (c : Command) → Good A → Good (accept A (record { key = key; command = c })) → FirstFailure (checks A c) None
     → filter (λ row. changes_order A c row.number) (map order_row (accept A (record { key = key; command = c })).orders) ≡ changed_orders A c
@@ -171,8 +148,7 @@ orders_changed A key c g k h = filter-false (map order_row A.orders)
 -- ---- lines
 
 abbrev lines_there : (Line → Bool) → Option Order → List LineCells
-lines_there t None = []
-lines_there t (Some o) = line_rows t o.number 1 o.lines
+lines_there t x = option_map_or (λ o. line_rows t o.number 1 o.lines) x []
 
 lines_none : (chosen : LineCells → Bool) (m k : ℕ) (ls : List Line) → ((k : ℕ) (l : Line) → chosen (line_row m k l) ≡ false) → filter chosen (lines_from m k ls) ≡ []
 lines_none chosen m k [] h = refl
@@ -182,35 +158,26 @@ lines_chosen : (chosen : LineCells → Bool) (t : Line → Bool) (m k : ℕ) (ls
 lines_chosen chosen t m k [] h = refl
 lines_chosen chosen t m k (l ∷ ls) h = let more = lines_chosen chosen t m (k + 1) ls h in grind arith
 
--- of the lines of others none
-all_none : (chosen : LineCells → Bool) (n : ℕ) (os : List Order) → ((m k : ℕ) (l : Line) → (m == n) ≡ false → chosen (line_row m k l) ≡ false) → Each (λ o. (o.number == n) ≡ false) os → filter chosen (flat_map order_lines os) ≡ []
-all_none chosen n [] h none = refl
-all_none chosen n (o ∷ os) h none = let more = all_none chosen n os h none.1 in grind (arith, (lines_none chosen o.number 1 o.lines (λ k l. h o.number k l none.0)), filter-append)
-
-lines_one : (chosen : LineCells → Bool) (t : Line → Bool) (n : ℕ) (os : List Order) → IsStrictlySortedBy nat_cmp (map (λ o. o.number) os)
-    → ((m k : ℕ) (l : Line) → (m == n) ≡ false → chosen (line_row m k l) ≡ false) → ((m k : ℕ) (l : Line) → (m == n) ≡ true → chosen (line_row m k l) ≡ t l)
-    → filter chosen (flat_map order_lines os) ≡ lines_there t (find (λ o. o.number == n) os)
-unfolding IsStrictlySortedBy
-lines_one chosen t n [] sorted other own = refl
-lines_one chosen t n (o ∷ os) sorted other own = filter-append chosen (order_lines o) (flat_map order_lines os) ∙ by (o.number == n) refl (lines_one chosen t n os sorted.1 other own)
-  where
-    by : (b : Bool) → (o.number == n) ≡ b → filter chosen (flat_map order_lines os) ≡ lines_there t (find (λ o. o.number == n) os)
-        → filter chosen (order_lines o) ++ filter chosen (flat_map order_lines os) ≡ lines_there t (if b then Some o else find (λ o. o.number == n) os)
-    by true e more = grind (arith, (lines_chosen chosen t o.number 1 o.lines (λ k l. own o.number k l e)), (all_none chosen n os other (none_after n o os e sorted.0)), append-nil, none_after)
-    by false e more = ap (λ (rows : List LineCells). rows ++ filter chosen (flat_map order_lines os)) (lines_none chosen o.number 1 o.lines (λ k l. other o.number k l e)) ∙ more
-
 -- those of the order that the command makes whose fields pass
 own_lines : (A : Ledger) (key : List ℕ) (c : Command) (n : ℕ) (u : Name → Bool) → Good (accept A (record { key = key; command = c })) → FirstFailure (checks A c) None → order_number c ≡ Some n
     → filter (λ (row : LineCells). int_eq row.number (pos n) && u (name_of row.branch row.article)) (flat_map order_lines (accept A (record { key = key; command = c })).orders) ≡ lines_there (λ l. u (line_name l)) (order_after A c)
-own_lines A key c n u k h is = grind (arith, (made_there A c n h is), lines_one, pos_other, pos_same)
+own_lines A key c n u k h is =
+    rows_of_one (λ (row : LineCells). int_eq row.number (pos n) && u (name_of row.branch row.article)) order_lines (λ o. line_rows (λ l. u (line_name l)) o.number 1 o.lines) n (next A c).orders k.orders_in_order
+    (λ o e. lines_none _ o.number 1 o.lines (λ i l. ap (λ b. b && u (line_name l)) (pos_other o.number n e)))
+    (λ o e. lines_chosen _ (λ l. u (line_name l)) o.number 1 o.lines (λ i l. ap (λ b. b && u (line_name l)) (pos_same o.number n e)))
+    ∙ ap (lines_there (λ l. u (line_name l))) (made_there A c n h is)
 
 -- all of them
 all_lines : (A : Ledger) (key : List ℕ) (c : Command) (n : ℕ) → Good (accept A (record { key = key; command = c })) → FirstFailure (checks A c) None → order_number c ≡ Some n
     → filter (λ (row : LineCells). int_eq row.number (pos n)) (flat_map order_lines (accept A (record { key = key; command = c })).orders) ≡ lines_there (λ l. true) (order_after A c)
-all_lines A key c n k h is = lines_one (λ (row : LineCells). int_eq row.number (pos n)) (λ l. true) n (next A c).orders k.orders_in_order (λ m i l e. pos_other m n e) (λ m i l e. pos_same m n e) ∙ ap (lines_there (λ l. true)) (made_there A c n h is)
+all_lines A key c n k h is =
+    rows_of_one (λ (row : LineCells). int_eq row.number (pos n)) order_lines (λ o. line_rows (λ l. true) o.number 1 o.lines) n (next A c).orders k.orders_in_order
+    (λ o e. lines_none _ o.number 1 o.lines (λ i l. pos_other o.number n e)) (λ o e. lines_chosen _ (λ l. true) o.number 1 o.lines (λ i l. pos_same o.number n e))
+    ∙ ap (lines_there (λ l. true)) (made_there A c n h is)
 
 more_lines : (n : ℕ) (way : Way) (b a : List ℕ) (q : ℕ) (x : Option Order) → lines_there (λ l. same_name (line_name l) (name_of b a)) x ≡ own_line_rows (command.More n way b a q) x
-more_lines n way b a q x = cc
+more_lines n way b a q None = refl
+more_lines n way b a q (Some o) = refl
 
 -- a use or a release, which changes both lines of a transfer
 part_lines : (A : Ledger) (c : Command) (n : ℕ) (b a : List ℕ) (change : Order → Order) → Good A → ((o : Order) → (change o).kind ≡ o.kind)
@@ -253,7 +220,7 @@ abbrev pub rows_made : Ledger → Request → Content
 rows_made A r = record {
   desk = desk_row (accept A r) ∷ [];
   fields = field_rows A r;
-  moves = own_move_rows (places A + 1) r.command;
+  moves = move_rows (move_made (places A + 1) r.command);
   orders = changed_orders A r.command;
   lines = own_line_rows r.command (order_after A r.command);
   kept = kept_row (record { key = r.key; place = places A + 1; command = r.command }) ∷ [];
@@ -285,33 +252,48 @@ pub good_next : (b : Inside) (v : BookView) (r : Request) → view_of b ≡ v �
 good_next b v r e g key range ok = good_accept v.ledger r (good_now b v e g) key range (no_key _ ok.0) ok.1
 
 -- the place of the command is there
-pub place_fits : (b : Inside) (v : BookView) (r : Request) (n : ℕ) → view_of b ≡ v → n ≡ length b.kept.entries → Good (accept v.ledger r) → n + 1 ≤ MAX_PLACES
-place_fits b v r n e is g =
+pub place_fits : (A : Ledger) (r : Request) → Good (accept A r) → places A + 1 ≤ MAX_PLACES
+place_fits A r g =
     let fit = g.places_fit in
-    let more = length-insert (λ a b. is_lt (slice_cmp nat_cmp a.key b.key)) (record { key = r.key; place = places v.ledger + 1; command = r.command }) v.ledger.kept in
-    let here = ap (λ (v : BookView). places v.ledger) e in
-    let same = length-of-map kept_of b.kept.entries in
+    let more = length-insert (λ a b. is_lt (slice_cmp nat_cmp a.key b.key)) (record { key = r.key; place = places A + 1; command = r.command }) A.kept in
     omega arith
 
 pub place_is : (b : Inside) (v : BookView) (n : ℕ) → view_of b ≡ v → n ≡ length b.kept.entries → n + 1 ≡ places v.ledger + 1
 place_is b v n e is = cc ((length-of-map kept_of b.kept.entries))
 
+-- the move that the command makes has it
+pub placed : (x : Option MoveEntry) (n : ℕ) (c : Command) → option_map move_of x ≡ move_made n c → n ≤ MAX_PLACES → IfSome x (λ e. e.place ≤ MAX_PLACES)
+placed None n c e fit = tt
+placed (Some m) n c e fit = by (moved_at_once c) e
+  where
+    by : (y : Option (Name × Way × ℕ)) → Some (move_of m) ≡ option_map (λ k. record { place = n; field = k.0; amount = signed k.1 k.2 }) y → m.place ≤ MAX_PLACES
+    by None e = absurd (true≢false (ap is_some e))
+    by (Some k) e = subst (λ z. z ≤ MAX_PLACES) (sym (ap (λ (x : Move). x.place) (some_is (move_of m) _ e))) fit
+
+-- the order that is made and those that are aborted, of which there are not both
+orders_made : (A : Ledger) (c : Command) → Good A → own_order_rows c (order_after A c) ++ flat_map (of_numbered A aborted_rows) (expired_numbers A c) ≡ changed_orders A c
+orders_made A (command.Expire now) good = numbered_flat (expires now) A aborted_rows good
+orders_made A c good = append-nil (own_order_rows c (order_after A c))
+
 -- the rows as they are made one after the other
-pub rows_in_turn : (A : Ledger) (r : Request) (place clock : ℕ) (made : Option Order) (cells : DeskCells) (desk fields moves orders lines kept : Content) → place ≡ places A + 1 → clock ≡ (next A r.command).clock → made ≡ order_after A r.command
-    → cells ≡ record { one = pos 1; version = pos 1; clock = pos clock; places = pos place } → desk ≡ record no_content { desk = cells ∷ [] } → fields ≡ with_fields (field_rows A r) desk
-    → moves ≡ with_moves (own_move_rows place r.command) fields → orders ≡ with_orders (changed_orders A r.command) moves → lines ≡ with_lines (own_line_rows r.command made) orders
-    → kept ≡ with_kept (kept_row (record { key = r.key; place = place; command = r.command }) ∷ []) lines → kept ≡ rows_made A r
-rows_in_turn A r place clock made cells desk fields moves orders lines kept at time is a b d f g h k =
+pub rows_in_turn : (A : Ledger) (r : Request) (p : PlanParts) (clock : ℕ) (cells : DeskCells) (desk fields moves orders aborted lines kept : Content) → Good A → Makes A r p → clock ≡ (next A r.command).clock
+    → cells ≡ record { one = pos 1; version = pos 1; clock = pos clock; places = pos p.place } → desk ≡ record no_content { desk = cells ∷ [] } → fields ≡ with_fields (map entry_row p.fields.entries) desk
+    → moves ≡ with_moves (move_rows (option_map move_of p.moved)) fields → orders ≡ with_orders (own_order_rows r.command (option_map order_of p.made)) moves → aborted ≡ with_orders (flat_map (of_numbered A aborted_rows) p.expired.items) orders
+    → lines ≡ with_lines (own_line_rows r.command (option_map order_of p.made)) aborted
+    → kept ≡ with_kept (kept_row (record { key = r.key; place = p.place; command = r.command }) ∷ []) lines → kept ≡ rows_made A r
+rows_in_turn A r p clock cells desk fields moves orders aborted lines kept good m time is a b d f e g h =
     let more : places (accept A r) ≡ places A + 1 = length-insert (λ a b. is_lt (slice_cmp nat_cmp a.key b.key)) (record { key = r.key; place = places A + 1; command = r.command }) A.kept in
-    let count = at ∙ sym more in
-    let row : cells ≡ desk_row (accept A r) = a ∙ (λ i. record { one = pos 1; version = pos 1; clock = pos (time i); places = pos (count i) }) in
-    k ∙ ap (with_kept (kept_row (record { key = r.key; place = place; command = r.command }) ∷ [])) (h ∙ ap (with_lines (own_line_rows r.command made)) (g ∙ ap (with_orders (changed_orders A r.command)) (f
-    ∙ ap (with_moves (own_move_rows place r.command)) (d ∙ ap (with_fields (field_rows A r)) b))))
+    let count = m.place ∙ sym more in
+    let moved = m.moved ∙ ap (λ n. move_made n r.command) m.place in
+    let states = (λ i. own_order_rows r.command (m.made i) ++ flat_map (of_numbered A aborted_rows) (m.expired i)) ∙ orders_made A r.command good in
+    let row : cells ≡ desk_row (accept A r) = is ∙ (λ i. record { one = pos 1; version = pos 1; clock = pos (time i); places = pos (count i) }) in
+    h ∙ ap (with_kept (kept_row (record { key = r.key; place = p.place; command = r.command }) ∷ [])) (g ∙ ap (with_lines (own_line_rows r.command (option_map order_of p.made))) (e ∙ ap (with_orders (flat_map (of_numbered A aborted_rows) p.expired.items)) (f ∙ ap (with_orders (own_order_rows r.command (option_map order_of p.made))) (d
+    ∙ ap (with_moves (move_rows (option_map move_of p.moved))) (b ∙ ap (with_fields (map entry_row p.fields.entries)) a)))))
     ∙ (λ i. record {
       desk = row i ∷ [];
-      fields = field_rows A r;
-      moves = own_move_rows (at i) r.command;
-      orders = changed_orders A r.command;
-      lines = own_line_rows r.command (is i);
-      kept = kept_row (record { key = r.key; place = at i; command = r.command }) ∷ [];
+      fields = m.fields i;
+      moves = move_rows (moved i);
+      orders = states i;
+      lines = own_line_rows r.command (m.made i);
+      kept = kept_row (record { key = r.key; place = m.place i; command = r.command }) ∷ [];
     })

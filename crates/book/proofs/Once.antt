@@ -1,8 +1,5 @@
 -- Each request has one answer, and each request of a future has an answer.
-use Rattle.std.proofs.Common.{arith, ◌≡◌, ℕ, ◌+◌, ◌<◌, List, [], ◌∷◌, Bool, true, false, is_some, IsNone, IsSomeAnd, Option, Some, None, refl, sym, ◌∙◌, subst, if◌then◌else◌, true≢false, ◌⊎◌, inl, inr, MatchOption}
-use native.Mathlib.Decide.{dec_lt as decide_lt}
-use Rattle.book.proofs.Prelude.{Answers, AnswersNew, AsksNoStock, Check, Command, Done, FirstFailure, Good, IsAccepted, IsFuture, Kept, KeyReused, Ledger, Name, Refusal, Refused, Reply, Request, Runs, Stands, accept, checks, is_open, kept_under, line_on, order_numbered, places, same_command}
-use Rattle.words.specs.declared.command.Command.TheVariants as command
+use Rattle.book.proofs.Prelude.{[], ◌+◌, ◌∙◌, ◌∷◌, ◌≡◌, ◌⊎◌, Answers, AnswersNew, AsksNoStock, Check, Done, FirstFailure, Good, IsAccepted, IsFuture, IsNone, Kept, KeyReused, Ledger, List, MatchOption, None, Option, Refusal, Refused, Reply, Request, Runs, Some, Stands, accept, arith, checks, if◌then◌else◌, inl, inr, kept_under, places, refl, same_command, sym, ℕ}
 use Rattle.book.specs.Future.{Honours}
 use Rattle.book.proofs.Closing.{Fit, fit_from_good, fit-answer, stands_if_fit}
 
@@ -34,10 +31,6 @@ accepted_answered A r (none, passed) = rw (no_key (kept_under A r.key) none) (No
 pub accepted_once : (A : Ledger) (r : Request) (reply : Reply) (B : Ledger) → IsAccepted A r → Answers A r reply B → (reply ≡ Done (places A + 1)) × (B ≡ accept A r)
 accepted_once A r reply B accepted h = answered_once A r reply (Done (places A + 1)) B (accept A r) h (accepted_answered A r accepted)
 
--- any other leaves the ledger
-pub others_stay : (A : Ledger) (r : Request) (reply : Reply) (B : Ledger) → (IsAccepted A r → ⊥) → Answers A r reply B → B ≡ A
-others_stay A r reply B not h = grind arith
-
 -- each check fails or does not
 abbrev Decided : List Check → Type 0
 Decided [] = Unit {0}
@@ -51,16 +44,20 @@ first_is (c ∷ cs) d = by d.0 (first_is cs d.1)
     by (inl h) r = (Some (c.refusal, c.line), inl (h, refl))
     by (inr h) r = (r.0, inr (h, r.1))
 
-answered : (A : Ledger) (r : Request) → AsksNoStock r.command → (reply : Reply) × (B : Ledger) × Answers A r reply B
-answered A r w = by_key (kept_under A r.key)
+-- what the checks find is answered
+pub answers_found : (A : Ledger) (r : Request) → (found : Option (Refusal × ℕ)) × FirstFailure (checks A r.command) found → (reply : Reply) × (B : Ledger) × Answers A r reply B
+answers_found A r first = by_key (kept_under A r.key)
   where
     by_found : (found : Option (Refusal × ℕ)) → FirstFailure (checks A r.command) found → (reply : Reply) × (B : Ledger) × AnswersNew A r reply B
     by_found None f = (Done (places A + 1), accept A r, (None, f, (refl, refl)))
     by_found (Some e) f = (Refused e.0 e.1, A, (Some e, f, (refl, refl)))
 
     by_key : (o : Option Kept) → (reply : Reply) × (B : Ledger) × MatchOption o (AnswersNew A r reply B) (λ k. (reply ≡ (if same_command k.command r.command then Done k.place else Refused KeyReused 0)) × (B ≡ A))
-    by_key None = let f = first_is (checks A r.command) (grind arith) in by_found f.0 f.1
+    by_key None = by_found first.0 first.1
     by_key (Some k) = (if same_command k.command r.command then Done k.place else Refused KeyReused 0, A, (refl, refl))
+
+answered : (A : Ledger) (r : Request) → AsksNoStock r.command → (reply : Reply) × (B : Ledger) × Answers A r reply B
+answered A r w = answers_found A r (first_is (checks A r.command) (grind arith))
 
 honoured : (A : Ledger) (rs : List Request) → IsFuture rs → Fit A → (replies : List Reply) × (B : Ledger) × Runs A rs replies B × Stands B
 honoured A [] w fit = ([], A, refl, stands_if_fit A fit)

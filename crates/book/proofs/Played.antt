@@ -1,6 +1,5 @@
 -- Scripts are played by computing: a script whose replies and numbers are those computed is played as it stands.
-use Rattle.std.proofs.Common.{arith, ◌≡◌, ℕ, ◌+◌, ℤ, pos, ◌-ℤ◌, ◌+ℤ◌, List, [], ◌∷◌, map, Option, Some, None, refl, ap, subst, inl, inr, if◌then◌else◌, MatchOption, IsSomeAnd}
-use Rattle.book.proofs.Prelude.{Answers, AnswersNew, Check, Done, Each, Field, FirstFailure, IsInfimum, IsSupremum, Kept, KeyReused, Ledger, Refusal, Refused, Reply, Request, accept, article_total, checks, field_named, held_to_add, held_to_take, kept_under, places, same_command, settled}
+use Rattle.book.proofs.Prelude.{[], ◌+ℤ◌, ◌+◌, ◌-ℤ◌, ◌∷◌, ◌≡◌, Answers, AnswersNew, Check, Done, Each, Field, FirstFailure, IsInfimum, IsSomeAnd, IsSupremum, Kept, KeyReused, Ledger, List, MatchOption, None, Option, Refusal, Refused, Reply, Request, Some, accept, ap, arith, article_total, checks, field_named, held_to_add, held_to_take, if◌then◌else◌, inl, inr, kept_under, map, places, pos, refl, same_command, settled, subst, ℕ, ℤ}
 use Rattle.book.specs.Examples.{Numbers, numbers, total, Shows, Step, Plays}
 use Rattle.book.proofs.Bounds.{inf_is, sup_is}
 use Rattle.book.proofs.Tests.{Tested, holds, fails, unknown, AllTested, Sounds, if_sounds, sounds, tested}

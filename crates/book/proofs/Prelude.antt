@@ -1,5 +1,5 @@
 -- The words that lemmas and answers speak in: definitions and lemmas from elsewhere that several files name.
-pub use Rattle.book.specs.After.{IsShort, aborted_rows, added_part, changed_fields, changed_orders, changes_own_line, changes_state, expired_numbers, field_row, field_rows, is_touched, line_rows, moved_by_command, moved_part, new_field_rows, of_numbered, order_after, order_number, some_has_line, some_is_transfer, some_part, taken_part, with_fields, with_kept, with_lines, with_moves, with_orders}
+pub use Rattle.book.specs.After.{IsShort, aborted_rows, added_part, changed_fields, changed_orders, changes_own_line, changes_state, expired_numbers, field_row, field_rows, is_touched, line_rows, moved_by_command, moved_part, new_field_rows, of_numbered, order_after, order_number, some_has_line, some_part, taken_part, with_fields, with_kept, with_lines, with_moves, with_orders}
 pub use Rattle.book.specs.Answers.{Answers, AnswersNew, Check, FirstFailure, IsAccepted, Runs, bound, checks, full, line_checks, no_field, order_checks, same_command}
 pub use Rattle.book.specs.Changes.{changed_rows, changes_field, changes_line, changes_move, changes_order, has_line_on, order_is, put_content, put_row, put_rows}
 pub use Rattle.book.specs.Checking.{stock_checks}
@@ -20,12 +20,12 @@ pub use Rattle.book.specs.Told.{AreNumbered, AreOthers, BeginsOther, HasNumbers,
 pub use Rattle.book.specs.View.{BookView, field_of, kept_of, ledger_of, move_of, order_of, view_of}
 pub use Rattle.book.specs.Walk.{IsSmall, most_of_all, most_of_line, most_of_lines, most_of_move, most_of_moves, moved_by_move, moved_by_order, nothing, plus}
 pub use Rattle.book.specs.declared.book.Book.TheInside.{Inside}
-pub use Rattle.book.specs.declared.book.sums.Numbers.{Numbers}
+pub use Rattle.book.specs.declared.book.tables.sums.Numbers.{Numbers}
 pub use Rattle.book.specs.declared.book.tables.group.Head.{Head}
-pub use Rattle.book.specs.declared.entries.FieldEntry.{FieldEntry}
-pub use Rattle.book.specs.declared.entries.KeptEntry.{KeptEntry}
-pub use Rattle.book.specs.declared.entries.MoveEntry.{MoveEntry}
-pub use Rattle.book.specs.declared.entries.OrderEntry.{OrderEntry}
+pub use Rattle.book.specs.declared.book.FieldEntry.{FieldEntry}
+pub use Rattle.book.specs.declared.book.KeptEntry.{KeptEntry}
+pub use Rattle.book.specs.declared.book.MoveEntry.{MoveEntry}
+pub use Rattle.book.specs.declared.order.OrderEntry.{OrderEntry}
 pub use Rattle.book.specs.declared.limits.TheConstants.{MAX_PLACES}
 pub use Rattle.book.specs.declared.order.Kind.TheVariants.{Plain, Transfer}
 pub use Rattle.book.specs.declared.order.Kind.{Kind}
@@ -44,6 +44,7 @@ pub use Rattle.escrow.specs.Ranges.{IsLevel, IsMoment, IsQty}
 pub use Rattle.escrow.specs.Stock.{Stock}
 pub use Rattle.escrow.specs.declared.quantity.Way.TheVariants.{Add, Take}
 pub use Rattle.escrow.specs.declared.quantity.Way.{Way}
+pub use Rattle.std.proofs.Common.{[], ◌&&◌, ◌*◌, ◌++◌, ◌+ℤ◌, ◌+◌, ◌-ℤ◌, ◌-◌, ◌<ℤ◌, ◌<◌, ◌==◌, ◌^◌, ◌||◌, ◌↔◌, ◌∙◌, ◌∷◌, ◌≡◌, ◌≢◌, ◌≤ℤ◌, ◌≤◌, ◌⊎◌, Bool, Bor, Err, Global, IfErr, IfOk, IfSome, IsFalse, IsNone, IsSome, IsSomeAnd, IsTrue, List, MatchOption, MatchResult, None, Ok, OnOk, Option, Result, Some, String, add-one, add-zero, ap, arith, codes, cond, count_by, decimal, drop, drop-drop, eqb, false, find, flat_map, get_or, if◌then◌else◌, inl, inr, is_some, length, length-append, length-drop, length-set, length-take, map, nat_abs, nat_eq, nat_le, nat_lt, neg_ℤ, negsuc, of_calls, pos, refl, rules, set, slice_get, slice_index_or, string_bytes, subst, suc, sym, take, true, true≢false, zero, zero-add, ℕ, ℤ}
 pub use Rattle.std.proofs.lemmas.Bool.Decides.{nat_tests}
 pub use Rattle.std.proofs.lemmas.Bool.{cases_lt}
 pub use Rattle.std.proofs.lemmas.Cmp.{int_cmp_total, nat_cmp_total, nat_list_cmp_total, on_total, then_total, tied_itself}

@@ -1,8 +1,6 @@
 -- Rows that are put in by their keys.
-use Rattle.std.proofs.Common.{arith, ◌≡◌, List, [], ◌∷◌, ◌++◌, map, Bool, true, false, refl, sym, ap, ◌∙◌, subst, if◌then◌else◌, Less, Equal, ◌⊎◌, inl, inr}
-use Rattle.book.proofs.Prelude.{Each, Greater, IsStrictlySortedBy, IsTotalOrder, Ordering, filter, insert_in_order, ordering_reverse, put_row, put_rows, tied_itself}
-use Rattle.book.proofs.Sums.{each-imp, each-map}
-use Rattle.book.proofs.Lists.{each-unmap}
+use Rattle.book.proofs.Prelude.{[], ◌++◌, ◌∙◌, ◌∷◌, ◌≡◌, ◌⊎◌, Bool, Each, Equal, Greater, IsStrictlySortedBy, IsTotalOrder, Less, List, Ordering, ap, arith, false, filter, if◌then◌else◌, inl, inr, insert_in_order, map, ordering_reverse, put_row, put_rows, refl, subst, sym, tied_itself, true}
+use Rattle.book.proofs.Sums.{each-imp}
 
 -- Row by row, the second list has the first one's rows, with new ones between; what is not chosen is as it was.
 abbrev pub Follows : {R : Type 0} → (R → R → Ordering) → (R → Bool) → List R → List R → Type 0
@@ -10,7 +8,7 @@ Follows cmp chosen xs [] = xs ≡ []
 Follows {R = R} cmp chosen xs (y ∷ ys) = ((chosen y ≡ true) × Follows cmp chosen xs ys)
     ⊎ ((x : R) × (rest : List R) × (xs ≡ x ∷ rest) × (cmp y x ≡ Equal) × (chosen y ≡ false → x ≡ y) × Follows cmp chosen rest ys)
 
-each-filter : {R : Type 0} (P : R → Type 0) (t : R → Bool) (xs : List R) → Each P xs → Each P (filter t xs)
+pub each-filter : {R : Type 0} (P : R → Type 0) (t : R → Bool) (xs : List R) → Each P xs → Each P (filter t xs)
 each-filter P t [] h = tt
 each-filter P t (x ∷ xs) h = let more = each-filter P t xs h.1 in grind arith
 

@@ -1,11 +1,9 @@
 -- The order that a command makes, put in by its number.
-use Rattle.std.proofs.Common.{arith, ◌≡◌, ◌∙◌, ℕ, ◌==◌, ◌++◌, Bool, true, false, List, [], ◌∷◌, Option, None, Some, IsNone, ap, cond, find, if◌then◌else◌, is_some, map, nat_lt, refl, subst, sym, true≢false}
-use Rattle.book.proofs.Prelude.{Aborted, Command, Committed, Each, Equal, FirstFailure, Good, Greater, IsStrictlySortedBy, Ledger, Less, Name, OpenLine, Order, OrderEntry, Ordering, abort_one, add_hold, change_lines, checks, hold_more, insert_entry, insert_in_order, is_at, is_eq, is_lt, keys_of, line_on, lookup, lower_held, match_ordering, name_of, nat_cmp, nat_cmp_total, new_line, next, none-some, option_map, order_after, order_numbered, order_of, ordering_reverse, put_row, raise_used, same_Some, set_state, set_value, tied_itself}
+use Rattle.book.proofs.Prelude.{[], ◌==◌, ◌∙◌, ◌∷◌, ◌≡◌, Aborted, Bool, Command, Committed, Each, FirstFailure, Good, IsNone, IsStrictlySortedBy, Ledger, Less, List, None, Option, Order, OrderEntry, Ordering, Some, abort_one, ap, arith, change_lines, checks, cond, false, find, if◌then◌else◌, insert_entry, insert_in_order, is_at, is_eq, is_some, keys_of, lookup, lower_held, map, name_of, nat_cmp, nat_cmp_total, nat_lt, next, none-some, option_map, order_after, order_numbered, order_of, put_row, raise_used, refl, same_Some, set_state, set_value, subst, sym, tied_itself, true, true≢false, ℕ}
 use Rattle.words.specs.declared.command.Command.TheVariants as command
 use Rattle.book.proofs.Chosen.{none_after}
 use Rattle.book.proofs.Keyed.{same_number}
 use Rattle.book.proofs.Made.{none_opened}
-use Rattle.book.proofs.Staying.{equal_number, lt_is, other_number}
 
 abbrev number_cmp : Order → Order → Ordering
 number_cmp a b = nat_cmp a.number b.number
@@ -60,7 +58,7 @@ orders_put A c n v l good h is made = put_viewed n v l ∙ ap (put_row number_cm
 
 -- ---- a command that makes none
 
-there : (h : Order → Order) (x : Option Order) → (IsNone x → ⊥) → option_map h x ≡ None → ⊥
+pub there : (h : Order → Order) (x : Option Order) → (IsNone x → ⊥) → option_map h x ≡ None → ⊥
 there h b found none = grind arith
 
 -- ---- an order aborted under its number

@@ -1,10 +1,9 @@
 -- More held on an order that is open leaves every field its room, if it passes its check.
-use Rattle.std.proofs.Common.{◌≡◌, ℕ, ◌+◌, ◌≤◌, ℤ, pos, ◌+ℤ◌, ◌-ℤ◌, ◌<ℤ◌, List, [], ◌∷◌, ◌++◌, map, Bool, true, false, IsSomeAnd, MatchOption, Option, Some, None, refl, sym, ap, ◌∙◌, subst, arith, if◌then◌else◌, true≢false, ◌==◌, nat_cmp}
-use Rattle.book.proofs.Prelude.{common_steps, Aborted, Add, Committed, Each, Field, IsStrictlySortedBy, Ledger, Line, MayHoldMore, Name, Open, OpenLine, Order, State, Take, Way, add_hold, change_order, committed_state, held_to_add, held_to_take, if_add, if_take, ints, is_committed, is_open, line_name, line_on, moved, new_line, on, open_state, order_numbered, raise_held, same_name, settled, total}
-use Rattle.book.proofs.Sums.{each-imp, each-both, each-map, total-map, total-eq}
-use Rattle.book.proofs.Bounds.{OneOn, Sound, falls_below_iff, rises_above_iff, HasRoom}
-use Rattle.book.proofs.Closing.{name_is, at_line, at_number}
-use Rattle.book.proofs.Asked.{total-push, each-push, none_found, one_on-push}
+use Rattle.book.proofs.Prelude.{[], ◌++◌, ◌+ℤ◌, ◌-ℤ◌, ◌<ℤ◌, ◌==◌, ◌∷◌, ◌≡◌, ◌≤◌, Add, Bool, Each, Field, IsSomeAnd, IsStrictlySortedBy, Ledger, Line, List, MatchOption, MayHoldMore, Name, None, OpenLine, Option, Order, Some, Take, Way, add_hold, ap, arith, change_order, common_steps, false, held_to_add, held_to_take, if_add, if_take, if◌then◌else◌, ints, is_committed, is_open, line_name, line_on, map, moved, nat_cmp, new_line, on, order_numbered, pos, raise_held, refl, same_name, settled, subst, sym, total, true, ℕ, ℤ}
+use Rattle.book.proofs.Sums.{each-imp, each-both, each-map, each-of-push, total-kept, each}
+use Rattle.book.proofs.Bounds.{Sound, falls_below_iff, rises_above_iff, HasRoom}
+use Rattle.book.proofs.Closing.{name_is, at_line, at_number, one_on-map}
+use Rattle.book.proofs.Asked.{total-push, none_found, one_on-push}
 use Rattle.book.proofs.Growing.{InOrder, Room, LinePasses, none_bad, other_way, not_less}
 
 -- a part of what is held on a field
@@ -43,20 +42,12 @@ raised-name : (name : Name) (q : ℕ) (m : Line) → line_name (raised_line name
 unfolding raised_line
 raised-name name q m = grind arith
 
-raised-one : (f name : Name) (q : ℕ) (ls : List Line) → OneOn f ls → OneOn f (map (raised_line name q) ls)
-raised-one f name q [] one = tt
-raised-one f name q (l ∷ ls) one = ((λ e. none ls (one.0 (subst (λ g. same_name f g ≡ true) (raised-name name q l) e))), raised-one f name q ls one.1)
-  where
-    none : (ms : List Line) → Each (λ m. on f m ≡ false) ms → Each (λ m. on f m ≡ false) (map (raised_line name q) ms)
-    none [] e = tt
-    none (m ∷ ms) e = (subst (λ g. same_name f g ≡ false) (sym (raised-name name q m)) e.0, none ms e.1)
-
 -- on a line that is there
 raised_there : (name : Name) (w : Way) (q : ℕ) (o : Order) → Sound o → Each (λ m. on name m ≡ true → m.way ≡ w) o.lines → Raised name w o (record o { lines = map (raised_line name q) o.lines })
 raised_there name w q o sound ways = record {
   number = refl;
   state = refl;
-  sound = record { used = raised-used name q o.lines sound.used; one = λ f. raised-one f name q o.lines (sound.one f) };
+  sound = record { used = raised-used name q o.lines sound.used; one = λ f. one_on-map f (raised_line name q) o.lines (each (raised-name name q) o.lines) (sound.one f) };
   others = λ p g e. part-map p g name q o.lines (each-imp (λ m _ t. part-other p g name q e m t) o.lines ways);
   side = λ p none g. part-map p g name q o.lines (each-imp (λ m k t. part-side p w none g q m (k t)) o.lines ways);
 }
@@ -66,7 +57,7 @@ raised_new : (l : OpenLine) (o : Order) → Sound o → Each (λ m. on (line_nam
 raised_new l o sound none = record {
   number = refl;
   state = refl;
-  sound = record { used = each-push (λ m. m.used ≤ m.held) o.lines (new_line l) sound.used (omega arith); one = λ f. one_on-push f o.lines (new_line l) (sound.one f) none };
+  sound = record { used = each-of-push (λ m. m.used ≤ m.held) o.lines (new_line l) sound.used (omega arith); one = λ f. one_on-push f o.lines (new_line l) (sound.one f) none };
   others = λ p g e. let a = total-push (part p g) o.lines (new_line l) in let b : part p g (new_line l) ≡ pos 0 = rw (other_way (line_name (new_line l)) g e) refl in omega (arith, ints);
   side = λ p zero_at g. let a = total-push (part p g) o.lines (new_line l) in let b : part p g (new_line l) ≡ pos 0 = at (on g (new_line l)) p (zero_at l.qty) in omega (arith, ints);
 }
@@ -87,15 +78,12 @@ raised l o sound t = by (line_on o (line_name (new_line l))) refl t.2
 
 -- the ledger with more held
 
-total-map-same : (g : Order → ℤ) (h : Order → Order) (os : List Order) → Each (λ o. g (h o) ≡ g o) os → total g (map h os) ≡ total g os
-total-map-same g h os e = total-map g h os ∙ total-eq (λ o. g (h o)) g os e
-
 -- what is said of each order of that number, and of the order as it becomes
 abbrev pub Rising : ℕ → OpenLine → Order → Type 0
 Rising n l o = (o.number == n) ≡ true → (is_open o ≡ true) × Raised (line_name (new_line l)) l.way o (add_hold l o)
 
 pub same_settled : (A : Ledger) (n : ℕ) (l : OpenLine) → Each (Rising n l) A.orders → (f : Field) → settled (change_order n (add_hold l) A) f ≡ settled A f
-same_settled A n l r f = let e = total-map-same (λ o. if is_committed o then moved f.name (λ l. l.used) o else pos 0) (λ o. if o.number == n then add_hold l o else o) A.orders (each-imp (λ o t. step o (o.number == n) t) A.orders r) in omega (arith, ints)
+same_settled A n l r f = let e = total-kept (λ o. if is_committed o then moved f.name (λ l. l.used) o else pos 0) (λ o. if o.number == n then add_hold l o else o) A.orders (each-imp (λ o t. step o (o.number == n) t) A.orders r) in omega (arith, ints)
   where
     step : (o : Order) (b : Bool) → (b ≡ true → (is_open o ≡ true) × Raised (line_name (new_line l)) l.way o (add_hold l o))
         → (if is_committed (if b then add_hold l o else o) then moved f.name (λ l. l.used) (if b then add_hold l o else o) else pos 0) ≡ (if is_committed o then moved f.name (λ l. l.used) o else pos 0)
@@ -105,7 +93,7 @@ same_settled A n l r f = let e = total-map-same (λ o. if is_committed o then mo
 same_part : (p : Way → ℕ → ℕ) (g : Name) (A : Ledger) (n : ℕ) (l : OpenLine) → Each (Rising n l) A.orders
     → ((o : Order) → Raised (line_name (new_line l)) l.way o (add_hold l o) → total (part p g) (add_hold l o).lines ≡ total (part p g) o.lines)
     → total (λ o. if is_open o then total (part p g) o.lines else pos 0) (change_order n (add_hold l) A).orders ≡ total (λ o. if is_open o then total (part p g) o.lines else pos 0) A.orders
-same_part p g A n l r stays = grind (arith, each-imp, total-map-same)
+same_part p g A n l r stays = grind (arith, each-imp, total-kept)
 
 pub sound-more : (A : Ledger) (n : ℕ) (l : OpenLine) → Each Sound A.orders → Each (Rising n l) A.orders → Each Sound (change_order n (add_hold l) A).orders
 sound-more A n l sound r = grind (arith, Sound, each-both, each-map)

@@ -1,6 +1,5 @@
 -- Rows of a good ledger each tell something in range, and rows that each tell something tell a ledger.
-use Rattle.std.proofs.Common.{◌≡◌, ◌∙◌, ℕ, ◌+◌, ◌≤◌, ℤ, pos, negsuc, ◌+ℤ◌, ◌-ℤ◌, ◌≤ℤ◌, List, [], ◌∷◌, ap, arith, flat_map, map, nat_abs, refl, subst, sym, find, IsSome, true, false, Bool, if◌then◌else◌, Some, true≢false}
-use Rattle.book.proofs.Prelude.{AllZip, Each, Field, FieldEntry, FieldRow, Good, Head, IsArticle, IsBounded, IsBranch, IsFieldRow, IsFieldTold, IsGoodField, IsGoodKept, IsGoodLine, IsGoodMove, IsGoodOrder, IsKeptTold, IsLevel, IsLineTold, IsMoveTold, KeptEntry, KeptRow, Ledger, Line, LineCells, LineRow, MoveEntry, MoveRow, Name, Order, OrderCells, OrderRow, TellsField, entry_row, field_cells, field_of, head_of, held_to_add, held_to_take, ints, kept_cells, kept_row, line_cells, line_name, lines_from, move_cells, move_row, order_cells, order_lines, order_row, same_name, settled}
+use Rattle.book.proofs.Prelude.{[], ◌+ℤ◌, ◌+◌, ◌-ℤ◌, ◌∙◌, ◌∷◌, ◌≡◌, ◌≤ℤ◌, ◌≤◌, AllZip, Bool, Each, Field, FieldEntry, FieldRow, Good, Head, IsArticle, IsBounded, IsBranch, IsFieldRow, IsFieldTold, IsGoodField, IsGoodKept, IsGoodLine, IsGoodMove, IsGoodOrder, IsKeptTold, IsLevel, IsLineTold, IsMoveTold, IsSome, KeptEntry, KeptRow, Ledger, Line, LineCells, LineRow, List, MoveEntry, MoveRow, Name, Order, OrderRow, Some, TellsField, ap, arith, entry_row, false, field_cells, field_of, find, flat_map, head_of, held_to_add, held_to_take, if◌then◌else◌, ints, kept_cells, kept_row, line_cells, line_name, lines_from, map, move_cells, move_row, nat_abs, order_cells, order_lines, order_row, pos, refl, same_name, settled, subst, sym, true, true≢false, ℕ, ℤ}
 use Rattle.std.specs.Global.{Global}
 use denote.RawPtr.{null_ptr}
 use Rattle.book.specs.Told.{IsHeadTold, TellsLine, head_row}
@@ -9,7 +8,7 @@ use Rattle.book.proofs.Closing.{name_is, sounds_from_good}
 use Rattle.book.proofs.Lists.{each-two, each-unmap}
 use Rattle.book.proofs.Runs.{in_order}
 use Rattle.book.proofs.Sums.{each-imp}
-use Rattle.book.proofs.Told.{each-join, same_first, same_kind, same_pos, same_rest, same_state}
+use Rattle.book.proofs.Told.{each-join, same_first, same_rest}
 
 -- ---- rows, one by one
 

@@ -1,18 +1,18 @@
 -- Running numbers: what the entries of fields say of a ledger, and what becomes of them.
-use Rattle.book.proofs.Prelude.{Add, BreaksBound, Command, Contains, Content, Each, Equal, Field, FieldCells, FieldEntry, FirstFailure, Good, Greater, IsSafeMoved, IsUpToDate, Ledger, Less, Line, Name, Order, Ordering, Request, Stock, Take, Way, accept, checks, common_steps, entry_row, field_cells, field_cmp, field_named, field_of, field_row, held_to_add, held_to_take, holding, if_add, if_take, insert_entry, insert_in_order, ints, is_at, is_committed, is_eq, is_lt, is_open, line_name, lookup, match_ordering, moved, name_cmp, name_of, new_field_rows, next, on, put_row, put_rows, same_Some, same_name, settled, signed, total, with_entries}
-use Rattle.std.proofs.Common.{◌≡◌, ◌∙◌, ℕ, suc, ◌+◌, ◌≤◌, ℤ, pos, ◌+ℤ◌, ◌-ℤ◌, ◌≤ℤ◌, ◌<ℤ◌, List, [], ◌∷◌, Option, None, Some, IsSomeAnd, ap, arith, cond, if◌then◌else◌, is_some, map, refl, string_bytes, subst, sym, true, false, Bool, true≢false, Global, String}
+use Rattle.book.proofs.Prelude.{[], ◌+ℤ◌, ◌+◌, ◌-ℤ◌, ◌<ℤ◌, ◌∙◌, ◌∷◌, ◌≡◌, ◌≤ℤ◌, ◌≤◌, Add, Bool, BreaksBound, Command, Contains, Content, Each, Equal, Field, FieldCells, FieldEntry, FirstFailure, Global, Good, Greater, IsSafeMoved, IsSome, IsSomeAnd, IsUpToDate, Ledger, Less, List, Name, None, Option, Ordering, Request, Some, Stock, String, Take, Way, accept, ap, arith, checks, common_steps, entry_row, false, field_cells, field_cmp, field_named, field_of, field_row, held_to_add, held_to_take, holding, if_add, if_take, if◌then◌else◌, insert_entry, insert_in_order, ints, is_committed, is_eq, is_lt, is_open, is_some, map, match_ordering, moved, name_cmp, name_of, new_field_rows, next, pos, put_row, put_rows, refl, same_name, settled, signed, string_bytes, subst, suc, sym, total, true≢false, with_entries, ℕ, ℤ}
 use Rattle.escrow.specs.Choices.{IsInfimum as IsLeastOf, IsSafe as IsSafeStock, IsSupremum as IsGreatestOf}
 use Rattle.words.specs.declared.command.Command.TheVariants as command
 use Rattle.book.specs.Plans.{Fits, PlanView}
-use Rattle.book.proofs.Closing.{all_pass, name_is}
+use Rattle.book.proofs.Closing.{all_pass}
 use Rattle.book.proofs.Growing.{none_if_not_some}
 use Rattle.book.proofs.InOrder.{rows_are, rows_of}
 use Rattle.book.proofs.Keyed.{equal_field}
 use Rattle.book.proofs.Runs.{in_order}
 use Rattle.book.proofs.Sums.{each-imp, total-zero}
-use Rattle.book.proofs.Told.{same_first, same_pos, same_rest}
+use Rattle.book.proofs.Told.{same_first, same_rest}
 use Rattle.book.proofs.Viewed.{Contains-of_find}
 use Rattle.book.proofs.Walked.{each-at}
+use Rattle.book.proofs.Safety.{no_orders, not_there}
 
 -- ---- one quantity
 
@@ -94,16 +94,6 @@ refuses A n e Add q good up there unsafe =
     subst (λ (o : Option Field). IsSomeAnd o (λ f. pos f.hi <ℤ ((settled A f +ℤ held_to_add A f.name) +ℤ pos q))) (sym there)
     (not_above ((settled A f +ℤ held_to_add A n) +ℤ pos q) (pos e.quantity.hi) (λ high. unsafe (λ taken added t a. (omega (arith, ints), omega (arith, ints)))))
 
--- ---- entries under their names
-
-pub up_to_date_at : (A : Ledger) (name : Name) (l : List (Name × FieldEntry)) (v : FieldEntry) → Each (IsUpToDate A) l → lookup (is_at (name_cmp name)) l ≡ Some v → IsUpToDate A (name, v)
-up_to_date_at A name [] v all there = absurd (true≢false (sym (ap is_some there)))
-up_to_date_at A name (e ∷ l) v all there = by (name_cmp name e.0) refl there (λ is. up_to_date_at A name l v all.1 is)
-  where
-    by : (o : Ordering) → name_cmp name e.0 ≡ o → cond (is_eq o) (Some e.1) (lookup (is_at (name_cmp name)) l) ≡ Some v → (lookup (is_at (name_cmp name)) l ≡ Some v → IsUpToDate A (name, v)) → IsUpToDate A (name, v)
-    by Equal o is more = subst (λ (v : FieldEntry). IsUpToDate A (name, v)) (same_Some e.1 v is) (subst (λ (k : Name). IsUpToDate A (k, e.1)) (sym (equal_field name e.0 o)) all.0)
-    by c o is more = more is
-
 -- ---- rows of entries
 
 pub rows_of_entries : (A : Ledger) (es : List (Name × FieldEntry)) → Each (IsUpToDate A) es → map entry_row es ≡ map (field_row A) (map field_of es)
@@ -157,23 +147,6 @@ adopted A plan old good next fits fields all =
 pub off : (b : Bool) (z : ℤ) → b ≡ false → (if b then z else pos 0) ≡ pos 0
 off b z e = cc
 
-part_zero : (b : Bool) (z : ℤ) → z ≡ pos 0 → (if b then z else pos 0) ≡ pos 0
-part_zero b z e = grind arith
-
--- what is on some field is not on one that is not there
-elsewhere : (A : Ledger) (n m : Name) → field_named A n ≡ None → is_some (field_named A m) ≡ true → same_name n m ≡ false
-elsewhere A n m none there = by (same_name n m) refl
-  where
-    by : (b : Bool) → same_name n m ≡ b → b ≡ false
-    by true e = absurd (true≢false (sym there ∙ ap (λ (k : Name). is_some (field_named A k)) (sym (name_is n m e)) ∙ ap is_some none))
-    by false e = refl
-
-lines_zero : (A : Ledger) (n : Name) (g : Line → ℤ) (o : Order) → field_named A n ≡ None → Each (λ l. is_some (field_named A (line_name l)) ≡ true) o.lines → total (λ l. if on n l then g l else pos 0) o.lines ≡ pos 0
-lines_zero A n g o none there = total-zero (λ l. if on n l then g l else pos 0) o.lines (each-imp (λ l x. off (on n l) (g l) (elsewhere A n (line_name l) none x)) o.lines there)
-
-orders_zero : (A : Ledger) (n : Name) (p : Order → Bool) (g : Line → ℤ) → Good A → field_named A n ≡ None → total (λ o. if p o then total (λ l. if on n l then g l else pos 0) o.lines else pos 0) A.orders ≡ pos 0
-orders_zero A n p g good none = grind (arith, (each-imp (λ o x. part_zero (p o) (total (λ l. if on n l then g l else pos 0) o.lines) (lines_zero A n g o none (each-imp (λ l y. y.field) o.lines x.lines))) A.orders good.orders), lines_zero, part_zero, total-zero)
-
 -- its value is its start, and nothing is held on it
 pub new_field : (A : Ledger) (r : Request) (b a : List ℕ) (lo hi start : ℕ) → r.command ≡ command.Field b a lo hi start → Good A → FirstFailure (checks A r.command) None
     → entry_row (name_of b a, record { start = start; quantity = record { lo = lo; hi = hi; value = start; held_to_take = 0; held_to_add = 0 } }) ∷ [] ≡ new_field_rows (accept A r) r.command
@@ -185,17 +158,20 @@ new_field A r b a lo hi start is good passed = rw is (ap (λ (row : FieldCells).
     none : field_named A n ≡ None
     none = none_if_not_some _ (all_pass (checks A (command.Field b a lo hi start)) (subst (λ c. FirstFailure (checks A c) None) is passed)).1.1.0
 
+    not : IsSome (field_named A n) → ⊥
+    not some = true≢false (sym some ∙ ap is_some none)
+
     moves : total (λ m. if same_name n m.field then m.amount else pos 0) A.moves ≡ pos 0
-    moves = total-zero (λ m. if same_name n m.field then m.amount else pos 0) A.moves (each-imp (λ m x. off (same_name n m.field) m.amount (elsewhere A n m.field none x.field)) A.moves good.moves)
+    moves = total-zero (λ m. if same_name n m.field then m.amount else pos 0) A.moves (each-imp (λ m x. off (same_name n m.field) m.amount (not_there A n m.field not x.field)) A.moves good.moves)
 
     used : total (λ o. if is_committed o then moved n (λ l. l.used) o else pos 0) A.orders ≡ pos 0
-    used = orders_zero A n is_committed (λ l. signed l.way l.used) good none
+    used = no_orders A n is_committed (λ o l. signed l.way l.used) not A.orders good.orders
 
     takes : held_to_take A n ≡ pos 0
-    takes = orders_zero A n is_open (λ l. pos (if_take l.way l.held)) good none
+    takes = no_orders A n is_open (λ o l. pos (if_take l.way l.held)) not A.orders good.orders
 
     adds : held_to_add A n ≡ pos 0
-    adds = orders_zero A n is_open (λ l. pos (if_add l.way l.held)) good none
+    adds = no_orders A n is_open (λ o l. pos (if_add l.way l.held)) not A.orders good.orders
 
     value : pos start ≡ (pos start +ℤ total (λ m. if same_name n m.field then m.amount else pos 0) A.moves) +ℤ total (λ o. if is_committed o then moved n (λ l. l.used) o else pos 0) A.orders
     value = let m = moves in let u = used in omega (arith, ints)

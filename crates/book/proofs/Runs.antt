@@ -1,8 +1,7 @@
 -- Whole runs from a good ledger, and the numbers of a good ledger's fields.
-use Rattle.std.proofs.Common.{◌≡◌, ℕ, zero, suc, ◌≤◌, ℤ, pos, ◌+ℤ◌, ◌-ℤ◌, ◌≤ℤ◌, List, [], ◌∷◌, Bool, true, false, refl, sym, ap, ◌∙◌, subst, arith, if◌then◌else◌, ◌↔◌, take}
-use Rattle.book.proofs.Prelude.{Command, Each, Field, Good, IsDistinct, IsGoodField, IsInRange, IsKey, IsStrictlySortedBy, Ledger, Reply, Request, Runs, bytes_decides, held_to_add, held_to_take, ints, is_open, new_ledger, same_command, settled, spelling, spelling_one, total}
+use Rattle.book.proofs.Prelude.{[], ◌+ℤ◌, ◌-ℤ◌, ◌↔◌, ◌∙◌, ◌∷◌, ◌≡◌, ◌≤ℤ◌, ◌≤◌, Command, Each, Field, Good, IsDistinct, IsGoodField, IsInRange, IsKey, IsStrictlySortedBy, Ledger, List, Reply, Request, Runs, ap, arith, bytes_decides, held_to_add, held_to_take, if◌then◌else◌, ints, is_open, new_ledger, pos, refl, same_command, settled, spelling, spelling_one, subst, suc, sym, take, total, true, zero, ℕ}
 use Rattle.book.specs.Answers.{After}
-use Rattle.book.proofs.Sums.{each-both}
+use Rattle.book.proofs.Sums.{each-both, least_if}
 use Rattle.book.proofs.Bounds.{takes, adds, takes-not_negative, adds-not_negative, room_from_safe, HasRoom}
 use Rattle.book.proofs.Closing.{sounds_from_good}
 use Rattle.book.proofs.Once.{answered_once}
@@ -52,11 +51,8 @@ after_once A rs i B C h k = (runs_once A (take i rs) h.0 k.0 B C h.1 k.1).1
 pub in_order : (A : Ledger) → Good A → Each (λ f. (pos f.lo ≤ℤ (settled A f -ℤ held_to_take A f.name)) × ((settled A f -ℤ held_to_take A f.name) ≤ℤ settled A f) × (settled A f ≤ℤ (settled A f +ℤ held_to_add A f.name)) × ((settled A f +ℤ held_to_add A f.name) ≤ℤ pos f.hi) × (f.hi ≤ 1000000000)) A.fields
 in_order A g = each-both (λ f r x. one f r x) A.fields (room_from_safe A (sounds_from_good A g) g.safe) g.fields
   where
-    part : (b : Bool) (z : ℤ) → pos 0 ≤ℤ z → pos 0 ≤ℤ (if b then z else pos 0)
-    part b z h = grind arith
-
     one : (f : Field) → HasRoom A f → IsGoodField f → (pos f.lo ≤ℤ (settled A f -ℤ held_to_take A f.name)) × ((settled A f -ℤ held_to_take A f.name) ≤ℤ settled A f) × (settled A f ≤ℤ (settled A f +ℤ held_to_add A f.name)) × ((settled A f +ℤ held_to_add A f.name) ≤ℤ pos f.hi) × (f.hi ≤ 1000000000)
-    one f r x = grind (arith, ints, (total-not_negative (λ o. if is_open o then total (takes f.name) o.lines else pos 0) (λ o. part (is_open o) (total (takes f.name) o.lines) (takes-not_negative f.name o.lines)) A.orders), (total-not_negative (λ o. if is_open o then total (adds f.name) o.lines else pos 0) (λ o. part (is_open o) (total (adds f.name) o.lines) (adds-not_negative f.name o.lines)) A.orders), adds, adds-not_negative, part, takes, takes-not_negative)
+    one f r x = grind (arith, ints, (total-not_negative (λ o. if is_open o then total (takes f.name) o.lines else pos 0) (λ o. least_if (is_open o) (total (takes f.name) o.lines) (takes-not_negative f.name o.lines)) A.orders), (total-not_negative (λ o. if is_open o then total (adds f.name) o.lines else pos 0) (λ o. least_if (is_open o) (total (adds f.name) o.lines) (adds-not_negative f.name o.lines)) A.orders), adds, adds-not_negative, least_if, takes, takes-not_negative)
 
 -- the ledger of a new desk is good
 pub good_new : Good new_ledger

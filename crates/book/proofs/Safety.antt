@@ -1,6 +1,5 @@
 -- Every accepted command leaves a good ledger safe.
-use Rattle.book.proofs.Prelude.{Add, Command, Each, Field, FirstFailure, Good, IsGoodLine, IsGoodOrder, IsSafe, Ledger, Line, MayHoldMore, Name, OpenLine, Order, Plain, Request, Take, Transfer, Way, accept, checks, common_steps, dec_le, field_named, held_to_add, held_to_take, if_add, if_take, ints, is_committed, is_lt, is_open, is_transfer, line_name, line_on, moved, name_cmp, next, on, order_numbered, same_name, signed, total, transfer_lines}
-use Rattle.std.proofs.Common.{◌≡◌, ◌≢◌, ℕ, ◌≤◌, ℤ, pos, List, Bool, true, false, IsTrue, IsFalse, IsNone, IsSome, IsSomeAnd, MatchOption, Option, Some, None, refl, sym, subst, arith, if◌then◌else◌}
+use Rattle.book.proofs.Prelude.{◌≡◌, ◌≢◌, ◌≤◌, Bool, Command, Each, Field, FirstFailure, Good, IsFalse, IsGoodLine, IsGoodOrder, IsNone, IsSafe, IsSome, IsSomeAnd, IsTrue, Ledger, Line, List, MayHoldMore, Name, None, OpenLine, Option, Order, Request, Transfer, Way, accept, arith, checks, common_steps, dec_le, false, field_named, if_add, if_take, if◌then◌else◌, is_committed, is_lt, is_open, is_transfer, line_name, line_on, name_cmp, next, on, order_numbered, pos, refl, same_name, signed, subst, sym, total, transfer_lines, true, ℕ, ℤ}
 use Rattle.words.specs.declared.command.Command.TheVariants as command
 use Rattle.book.proofs.Sums.{each-imp, total-zero}
 use Rattle.book.proofs.Bounds.{safe_from_room, HasRoom}
@@ -17,13 +16,13 @@ not_false b h = grind arith
 
 -- A new field has had no move and no line.
 
-not_there : (A : Ledger) (name other : Name) → (IsSome (field_named A name) → ⊥) → IsSome (field_named A other) → same_name name other ≡ false
+pub not_there : (A : Ledger) (name other : Name) → (IsSome (field_named A name) → ⊥) → IsSome (field_named A other) → same_name name other ≡ false
 not_there A name other none some = not_true (same_name name other) (λ e. none (subst (λ g. IsSome (field_named A g)) (sym (name_is name other e)) some))
 
 no_lines : (A : Ledger) (name : Name) (g : Line → ℤ) → (IsSome (field_named A name) → ⊥) → (ls : List Line) → Each (IsGoodLine A) ls → total (λ l. if on name l then g l else pos 0) ls ≡ pos 0
 no_lines A name g none ls h = total-zero (λ l. if on name l then g l else pos 0) ls (each-imp (λ l good. let e : on name l ≡ false = not_there A name (line_name l) none good.field in rw e refl) ls h)
 
-no_orders : (A : Ledger) (name : Name) (test : Order → Bool) (g : Order → Line → ℤ) → (IsSome (field_named A name) → ⊥) → (os : List Order) → Each (IsGoodOrder A) os
+pub no_orders : (A : Ledger) (name : Name) (test : Order → Bool) (g : Order → Line → ℤ) → (IsSome (field_named A name) → ⊥) → (os : List Order) → Each (IsGoodOrder A) os
     → total (λ o. if test o then total (λ l. if on name l then g o l else pos 0) o.lines else pos 0) os ≡ pos 0
 no_orders A name test g none os h = total-zero _ os (each-imp (λ o good. zero (test o) (total (λ l. if on name l then g o l else pos 0) o.lines) (no_lines A name (g o) none o.lines good.lines)) os h)
   where

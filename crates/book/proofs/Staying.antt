@@ -1,9 +1,8 @@
 -- All that makes a ledger good but its kept keys and its safety, and where it stays though orders change.
-use Rattle.std.proofs.Common.{◌≡◌, ℕ, ◌+◌, ◌<◌, ◌≤◌, List, [], ◌∷◌, map, Bool, true, false, ◌&&◌, ◌||◌, ◌==◌, IsFalse, IsNone, IsSome, IsSomeAnd, refl, sym, ap, ◌∙◌, subst, arith, if◌then◌else◌, true≢false, nat_cmp, nat_lt, nat_le, Less, Equal, length, count_by}
-use Rattle.book.proofs.Prelude.{Aborted, Each, Good, Greater, IsDistinct, IsGoodField, IsGoodLine, IsGoodMove, IsGoodOrder, IsMoment, IsStrictlySortedBy, IsTotalOrder, Kept, Ledger, Line, MatchOrdering, Move, Name, Order, Ordering, State, bytes_decides, bytes_eq, change_lines, field_named, is_eq, is_eq-slice_cmp, is_lt, is_open, is_transfer, line_name, name_cmp, nat_list_cmp_total, on, on_total, open_orders, open_state, order_numbered, ordering_then, places, ranks, same_name, set_state, slice_cmp, then_total}
+use Rattle.book.proofs.Prelude.{[], ◌&&◌, ◌+◌, ◌<◌, ◌==◌, ◌||◌, ◌∙◌, ◌∷◌, ◌≡◌, ◌≤◌, Aborted, Bool, Each, Equal, Good, IsDistinct, IsFalse, IsGoodField, IsGoodLine, IsGoodMove, IsGoodOrder, IsMoment, IsNone, IsSome, IsSomeAnd, IsStrictlySortedBy, IsTotalOrder, Kept, Ledger, Line, List, MatchOrdering, Move, Name, Order, Ordering, State, ap, arith, bytes_decides, bytes_eq, change_lines, count_by, false, field_named, if◌then◌else◌, is_eq, is_eq-slice_cmp, is_lt, is_open, is_transfer, length, line_name, map, name_cmp, nat_cmp, nat_le, nat_list_cmp_total, nat_lt, on, on_total, open_orders, open_state, order_numbered, ordering_then, places, ranks, refl, same_name, set_state, slice_cmp, subst, sym, then_total, true, true≢false, ℕ}
 use Rattle.book.proofs.Sums.{each, each-imp, each-both, each-map}
 use Rattle.book.proofs.Bounds.{OneOn}
-use Rattle.book.proofs.Closing.{Fit, Fine}
+use Rattle.book.proofs.Closing.{Fit, Fine, changed}
 use Rattle.book.proofs.Asked.{same_self}
 use Rattle.book.proofs.Lists.{each-unmap, length-of-map, count-map, count-fewer}
 
@@ -18,7 +17,7 @@ both_equal x b e = grind arith
 equal_text : (xs ys : List ℕ) → slice_cmp nat_cmp xs ys ≡ Equal → bytes_eq xs ys ≡ true
 equal_text xs ys e = sym (is_eq-slice_cmp xs ys) ∙ ap is_eq e
 
-both_true : (a b : Bool) → a ≡ true → b ≡ true → (a && b) ≡ true
+pub both_true : (a b : Bool) → a ≡ true → b ≡ true → (a && b) ≡ true
 both_true x b e h = cc
 
 pub equal_name : (f g : Name) → name_cmp f g ≡ Equal → same_name f g ≡ true
@@ -84,10 +83,6 @@ pub record Parts (B : Ledger) : Type 0 where
 
 pub not_many : (m n : ℕ) → (m ≤ n → ⊥) → n + 1 ≤ m
 not_many m n h = omega arith
-
--- the orders alone are changed, one by one
-abbrev pub changed : (Order → Order) → ℕ → List Kept → Ledger → Ledger
-changed h clock kept A = record { clock = clock; fields = A.fields; moves = A.moves; orders = map h A.orders; kept = kept }
 
 pub changing : (A : Ledger) (h : Order → Order) (clock : ℕ) (kept : List Kept) → Good A → IsMoment clock → length kept ≡ places A + 1 → ((o : Order) → (h o).number ≡ o.number)
     → Each (λ o. IsGoodOrder (changed h clock kept A) (h o)) A.orders → places A + count_by is_open (map h A.orders) + 1 ≤ 200000 → Parts (changed h clock kept A)

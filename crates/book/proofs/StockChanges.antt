@@ -1,19 +1,26 @@
 -- What becomes of a field's stock, as an accepted command changes an order's line on it.
-use Rattle.book.proofs.Prelude.{Aborted, Add, Becomes, Command, Committed, Contains, Each, Field, FieldCells, FieldEntry, FirstFailure, Good, IsAccepted, IsGoodOrder, IsInRange, IsQty, IsSafeMoved, IsStrictlySortedBy, IsUpToDate, Ledger, Line, MayBecome, Name, Open, OpenLine, Order, Request, State, Stock, Take, Way, accept, add_hold, added_part, change_lines, changes_field, checks, committed_state, common_steps, entry_row, field_of, field_row, held_of, held_to_add, held_to_take, hold_more, holding, if_add, if_take, ints, is_committed, is_open, is_touched, is_transfer, line_name, line_on, lower_held, moved_by_command, moved_part, name_of, new_line, next, on, open_state, option_map, order_after, order_number, order_numbered, part_of_line, raise_held, raise_used, same_name, set_state, settled, signed, some_part, taken_part, total, transfer_lines}
-use Rattle.std.proofs.Common.{◌≡◌, ◌∙◌, ℕ, ◌-◌, ◌<◌, ◌≤◌, ℤ, pos, neg_ℤ, ◌+ℤ◌, ◌-ℤ◌, ◌≤ℤ◌, ◌==◌, ◌||◌, ◌++◌, Bool, true, false, List, [], ◌∷◌, IsFalse, IsSomeAnd, MatchOption, Option, None, Some, ap, arith, find, if◌then◌else◌, is_some, map, nat_cmp, refl, subst, sym, true≢false}
+use Rattle.book.proofs.Prelude.{[], ◌++◌, ◌+ℤ◌, ◌-ℤ◌, ◌-◌, ◌<◌, ◌==◌, ◌||◌, ◌∙◌, ◌∷◌, ◌≡◌, ◌≤ℤ◌, ◌≤◌, Aborted, Add, Becomes, Bool, Command, Committed, Contains, Each, Field, FieldCells, FieldEntry, FirstFailure, Good, IsAccepted, IsFalse, IsGoodOrder, IsInRange, IsQty, IsSafeMoved, IsSomeAnd, IsUpToDate, Ledger, Line, List, MatchOption, MayBecome, Move, Name, None, Open, OpenLine, Option, Order, Request, Some, State, Stock, Take, Way, accept, add_hold, added_part, ap, arith, change_lines, checks, committed_state, common_steps, entry_row, false, field_of, field_row, find, held_of, held_to_add, held_to_take, hold_more, holding, if_add, if_take, if◌then◌else◌, ints, is_open, is_some, is_touched, is_transfer, line_name, line_on, lower_held, map, moved_by_command, moved_part, name_of, new_line, next, on, open_state, option_map, order_after, order_number, order_numbered, part_of_line, pos, raise_held, raise_used, refl, same_name, set_state, settled, signed, some_part, subst, sym, taken_part, total, true, true≢false, ℕ, ℤ}
 use Rattle.escrow.specs.Choices.{IsSafe}
 use Rattle.escrow.specs.Escrow.{moved, MovesValue}
 use Rattle.words.specs.declared.command.Command.TheVariants as command
 use Rattle.book.specs.Running.{amount_held, line_before}
-use Rattle.book.proofs.After.{moved-next}
 use Rattle.book.proofs.Bounds.{OneOn, adds-not_negative, takes-not_negative}
 use Rattle.book.proofs.Chosen.{some_is}
 use Rattle.book.proofs.Closing.{all_pass, one_on}
 use Rattle.book.proofs.Goodness.{quantities}
 use Rattle.book.proofs.Lists.{total-not_negative}
-use Rattle.book.proofs.Made.{each-found, left_out, made_there, none_opened, total-changed, total-next}
+use Rattle.book.proofs.Made.{each-found, left_out, made_there, none_opened, total-next, total_parts}
 use Rattle.book.proofs.Running.{bounds_at, off}
-use Rattle.book.proofs.Sums.{each, each-imp, each-map, total-eq, total-zero}
+use Rattle.book.proofs.Sums.{each, each-imp, each-map, total-eq, total-zero, least_if}
+use Rattle.book.proofs.Asked.{total-push}
+
+-- ---- what the moves add up to
+
+abbrev on_field : Name → Move → ℤ
+on_field f m = if same_name f m.field then m.amount else pos 0
+
+pub moved-next : (A : Ledger) (c : Command) (f : Name) → total (on_field f) (next A c).moves ≡ total (on_field f) A.moves +ℤ moved_by_command f c
+moved-next b c f = grind (arith, total-push)
 
 -- ---- lines of which one at most is on the field
 
@@ -31,16 +38,6 @@ find_map f g keeps [] = refl
 find_map f g keeps (l ∷ ls) = let more = find_map f g keeps ls in grind arith
 
 -- ---- sums over orders, as one of them changes
-
-same_orders : (n : ℕ) (os : List Order) → map (λ o. if o.number == n then o else o) os ≡ os
-same_orders n [] = refl
-same_orders n (o ∷ os) = let more = same_orders n os in grind arith
-
-same_option : (x : Option Order) → option_map (λ o. o) x ≡ x
-same_option b = grind arith
-
-total_parts : (g : Order → ℤ) (n : ℕ) (os : List Order) → IsStrictlySortedBy nat_cmp (map (λ o. o.number) os) → total g os ≡ total (λ o. if o.number == n then pos 0 else g o) os +ℤ some_part g (find (λ o. o.number == n) os)
-total_parts g n os sorted = ap (total g) (sym (same_orders n os)) ∙ total-changed g (λ o. o) n os sorted ∙ ap (λ (x : Option Order). total (λ o. if o.number == n then pos 0 else g o) os +ℤ some_part g x) (same_option (find (λ o. o.number == n) os))
 
 -- the order that the command opens or changes is the one that it touches
 touched : (c : Command) (n : ℕ) → order_number c ≡ Some n → (o : Order) → is_touched c o ≡ (o.number == n)
@@ -242,9 +239,6 @@ stock_changed A r n o f e l new good after ok range number made up there becomes
     let adds_is = becomes.adds in
     entry_is (accept A r) f e new becomes.lo becomes.hi (omega (arith, ints)) (omega (arith, ints)) (omega (arith, ints))
 
-least_if : (b : Bool) (z : ℤ) → pos 0 ≤ℤ z → pos 0 ≤ℤ (if b then z else pos 0)
-least_if b z h = grind arith
-
 held_there : (A : Ledger) (f : Name) (x : Option Order) (e : FieldEntry) (w : Way) → IsUpToDate A (f, e) → some_part (taken_part f) x ≤ℤ held_to_take A f → some_part (added_part f) x ≤ℤ held_to_add A f → IsBefore f x → HasWay w (line_before x f) → amount_held (line_before x f) ≤ held_of e.quantity w
 held_there b f x e y up takes adds is way = grind (arith, ints, common_steps, adds_before, takes_before)
 
@@ -294,14 +288,14 @@ pub value_may : (A B : Ledger) (f : Name) (e : FieldEntry) (w : Way) (q : ℕ) �
 value_may A B f e Take q good there up value takes adds taken added t a = grind (arith, ints, common_steps, (bounds_at B (field_of (f, e)) good there))
 value_may A B f e Add q good there up value takes adds taken added t a = grind (arith, common_steps, (bounds_at B (field_of (f, e)) good there))
 
-settled_moved : (A : Ledger) (fld : Field) (c : Command) (z : ℤ) → moved_by_command fld.name c ≡ z → total (λ o. if is_committed o then total (λ l. if on fld.name l then signed l.way l.used else pos 0) o.lines else pos 0) (next A c).orders ≡ total (λ o. if is_committed o then total (λ l. if on fld.name l then signed l.way l.used else pos 0) o.lines else pos 0) A.orders
-    → settled (next A c) fld ≡ settled A fld +ℤ z
-settled_moved A fld c z is orders = let moves = moved-next A c fld.name in omega (arith, ints)
+moved_is : (w : Way) (q : ℕ) (z : ℤ) → z +ℤ signed w q ≡ moved w q z
+moved_is Take q z = omega (arith, ints)
+moved_is Add q z = refl
 
-pub delivered : (A : Ledger) (r : Request) (fld : Field) (b a : List ℕ) (q : ℕ) → r.command ≡ command.Deliver b a q → changes_field A r.command fld.name ≡ true
-    → (settled (accept A r) fld ≡ moved Add q (settled A fld)) × (held_to_take (accept A r) fld.name ≡ held_to_take A fld.name) × (held_to_add (accept A r) fld.name ≡ held_to_add A fld.name)
-delivered A r fld b a q is = grind (arith, settled_moved)
-
-pub written_off : (A : Ledger) (r : Request) (fld : Field) (b a : List ℕ) (q : ℕ) → r.command ≡ command.Writeoff b a q → changes_field A r.command fld.name ≡ true
-    → (settled (accept A r) fld ≡ moved Take q (settled A fld)) × (held_to_take (accept A r) fld.name ≡ held_to_take A fld.name) × (held_to_add (accept A r) fld.name ≡ held_to_add A fld.name)
-written_off A r fld b a q is = grind (arith, settled_moved)
+-- what the command moves at once is all that its value is moved, where no order changes
+pub settled_moved : (A : Ledger) (fld : Field) (c : Command) (w : Way) (q : ℕ) → moved_by_command fld.name c ≡ signed w q → (next A c).orders ≡ A.orders → settled (next A c) fld ≡ moved w q (settled A fld)
+settled_moved A fld c w q is same =
+    let moves = moved-next A c fld.name in
+    let orders = ap (total (moved_part fld.name)) same in
+    let sum : settled (next A c) fld ≡ settled A fld +ℤ signed w q = omega (arith, ints) in
+    sum ∙ moved_is w q (settled A fld)

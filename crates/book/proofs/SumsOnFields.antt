@@ -1,18 +1,36 @@
 -- Sums on each of the fields: where a field stands among those in order, and what an entry more adds.
-use Rattle.book.proofs.Prelude.{Aborted, Committed, Each, FieldEntry, IsBinarySearchResult, IsField, IsNonDecreasingBy, IsSearchInRange, IsSmall, IsStrictlySortedBy, Line, MoveEntry, Name, Numbers, Open, OrderEntry, Ordering, State, added, committed_state, common_steps, entry_name, field_of, if_add, if_take, ints, is_lt, line_name, lines_numbers, moved_by_move, moved_by_order, name_cmp, nothing, numbers_on, only_on, open_state, ordering_index, ordering_reverse, part_of_line, plus, same_name, signed, tied_itself}
-use Rattle.std.proofs.Common.{◌≡◌, ◌∙◌, ℕ, zero, suc, ◌+◌, ◌<◌, ◌≤◌, pos, ◌+ℤ◌, Bool, true, false, true≢false, List, [], ◌∷◌, Some, is_some, IsSome, IsNone, if◌then◌else◌, ap, arith, get_or, length, map, refl, set, subst, sym, take, Less, Equal, Greater, Result, Ok, Err, MatchResult}
+use Rattle.book.proofs.Prelude.{[], ◌+◌, ◌<◌, ◌∙◌, ◌∷◌, ◌≡◌, ◌≤◌, Bool, Each, Equal, FieldEntry, IsBinarySearchResult, IsField, IsNonDecreasingBy, IsNone, IsSearchInRange, IsSmall, IsSome, IsStrictlySortedBy, Less, Line, List, MatchResult, MoveEntry, Name, Numbers, OrderEntry, Ordering, Result, Some, State, added, ap, arith, common_steps, entry_name, false, field_of, get_or, if◌then◌else◌, ints, is_lt, is_some, length, lines_numbers, map, moved_by_move, moved_by_order, name_cmp, nothing, numbers_on, only_on, ordering_index, ordering_reverse, plus, refl, same_name, set, subst, suc, sym, take, tied_itself, true, true≢false, zero, ℕ}
 use Rattle.std.proofs.lemmas.List.Sorted.{searchable_from_sorted}
-use Rattle.std.specs.Ordering.{is_gt}
 use Rattle.book.specs.Walk.{added_by_line, added_by_order, moved_by_line, taken_by_line, taken_by_order}
 use Rattle.book.specs.Sums.{field_among, AreFieldsInOrder, IsFieldAt}
 use Rattle.book.proofs.Asked.{same_self}
 use Rattle.book.proofs.Closing.{name_is}
 use Rattle.book.proofs.Staying.{equal_name, name_cmp_total}
-use Rattle.book.proofs.Lists.{each-of-push, each-unmap}
-use Rattle.book.proofs.Numbers.{plus-assoc, plus-nothing, same-numbers, small-plus, small-up}
+use Rattle.book.proofs.Lists.{each-unmap}
 use Rattle.book.proofs.Sums.{each, each-imp, each-map}
-use Rattle.book.proofs.Walked.{take-step, total-step}
+use Rattle.book.proofs.Walked.{total-step}
 use Rattle.book.proofs.Walking.{each_get, each_set}
+use Rattle.book.proofs.Safety.{not_true}
+
+-- ---- numbers added to one another, and how great they can be
+
+-- numbers with equal parts are equal
+pub same-numbers : (n m : Numbers) → n.moved ≡ m.moved → n.takes ≡ m.takes → n.adds ≡ m.adds → n ≡ m
+same-numbers n m a b c = λ i. record { moved = a i; takes = b i; adds = c i }
+
+pub plus-nothing : (n : Numbers) → plus n nothing ≡ n
+plus-nothing n = same-numbers _ _ (omega (arith, ints)) (omega (arith, ints)) (omega (arith, ints))
+
+pub plus-assoc : (a b c : Numbers) → plus (plus a b) c ≡ plus a (plus b c)
+plus-assoc a b c = same-numbers _ _ (omega (arith, ints)) (omega (arith, ints)) (omega (arith, ints))
+
+-- a bound may be raised
+pub small-up : (k m : ℕ) (n : Numbers) → k ≤ m → IsSmall k n → IsSmall m n
+small-up k m n h s = record { low = omega (arith, ints); high = omega (arith, ints); take_low = omega (arith, ints); take_high = omega (arith, ints); add_low = omega (arith, ints); add_high = omega (arith, ints) }
+
+-- the bounds of two add up
+pub small-plus : (k m : ℕ) (a b : Numbers) → IsSmall k a → IsSmall m b → IsSmall (k + m) (plus a b)
+small-plus k m a b s t = record { low = omega (arith, ints); high = omega (arith, ints); take_low = omega (arith, ints); take_high = omega (arith, ints); add_low = omega (arith, ints); add_high = omega (arith, ints) }
 
 -- ---- bounds of the sums
 
@@ -53,14 +71,11 @@ added-to_nothing h (f ∷ fs) = let more = added-to_nothing h fs in grind arith
 
 -- ---- names of fields in order
 
-is_false : (b : Bool) → (b ≡ true → ⊥) → b ≡ false
-is_false b h = grind arith
-
 -- names that do not compare as equal are different
 other_name : (f g : Name) → (name_cmp f g ≡ Equal → ⊥) → (same_name f g ≡ false) × (same_name g f ≡ false)
 other_name f g h = (
-  is_false _ (λ t. h (subst (λ k. name_cmp f k ≡ Equal) (name_is f g t) (tied_itself name_cmp_total f))),
-  is_false _ (λ t. h (subst (λ k. name_cmp k g ≡ Equal) (name_is g f t) (tied_itself name_cmp_total g))),
+  not_true _ (λ t. h (subst (λ k. name_cmp f k ≡ Equal) (name_is f g t) (tied_itself name_cmp_total f))),
+  not_true _ (λ t. h (subst (λ k. name_cmp k g ≡ Equal) (name_is g f t) (tied_itself name_cmp_total g))),
 )
 
 not_less : (o : Ordering) → o ≡ Less → o ≡ Equal → ⊥
@@ -123,7 +138,7 @@ added-none name part fs ns none = added-elsewhere name part fs ns (all fs none)
         by : (b : Bool) → same_name name (entry_name f) ≡ b → is_some (if b then Some (field_of f) else field_among fs name) ≡ false
             → (IsNone (field_among fs name) → Each (λ f. same_name (entry_name f) name ≡ false) fs) → Each (λ f. same_name (entry_name f) name ≡ false) (f ∷ fs)
         by true e h k = absurd (true≢false h)
-        by false e h k = (is_false _ (λ t. true≢false (sym (turn t) ∙ e)), k h)
+        by false e h k = (not_true _ (λ t. true≢false (sym (turn t) ∙ e)), k h)
           where
             turn : same_name (entry_name f) name ≡ true → same_name name (entry_name f) ≡ true
             turn t = subst (λ g. same_name g (entry_name f) ≡ true) (name_is _ _ t) (same_self (entry_name f))
@@ -171,10 +186,6 @@ line-step s ls i l h e f = grind (arith, common_steps, (total-step (taken_by_lin
 -- one order more
 pub order-step : (os : List (ℕ × OrderEntry)) (i : ℕ) (o : ℕ × OrderEntry) → i < length os → o ≡ get_or os i o → (f : Name) → plus (numbers_on [] (take i os) f) (lines_numbers o.1.state o.1.lines.items f) ≡ numbers_on [] (take (i + 1) os) f
 order-step os i o h e f = grind (arith, (total-step (moved_by_order f) os i o h e), (total-step (taken_by_order f) os i o h e), (total-step (added_by_order f) os i o h e), same-numbers)
-
--- one element more has the fact
-pub each-more : {X : Type 0} (P : X → Type 0) (xs : List X) (i : ℕ) (x : X) → i < length xs → x ≡ get_or xs i x → Each P (take i xs) → P x → Each P (take (i + 1) xs)
-each-more P xs i x h e so_far here = subst (Each P) (sym (take-step xs i x h e)) (each-of-push P (take i xs) x so_far here)
 
 -- the moves' sums, and then the orders', from nothing
 pub added-all : (ms : List MoveEntry) (os : List (ℕ × OrderEntry)) (fs : List (Name × FieldEntry)) → added (numbers_on [] os) fs (added (numbers_on ms []) fs (map (λ f. nothing) fs)) ≡ map (λ f. numbers_on ms os (entry_name f)) fs

@@ -1,5 +1,5 @@
 -- What a test answers of a fact, and a call of an error.
-use Rattle.std.proofs.Common.{arith, ◌≡◌, ◌↔◌, ◌∙◌, Bool, Err, IfErr, IsTrue, Ok, Result, refl, subst, sym, true, false, true≢false}
+use Rattle.book.proofs.Prelude.{arith, ◌≡◌, ◌↔◌, ◌∙◌, Bool, IfErr, IsTrue, Result, refl, sym, true, false, true≢false}
 use Rattle.std.specs.Result.{IsErrAnd}
 
 pub yes : {P : Type 0} → P → IsTrue true ↔ P

@@ -1,8 +1,7 @@
 -- Tests of a command's checks that compute. Each gives the proof of what it found, one way or the other: the tests are
 -- `abbrev`s, which unfold, and the proofs in them are not.
-use Rattle.std.proofs.Common.{◌≡◌, ◌≢◌, ℕ, ◌+◌, ◌<◌, ◌≤◌, ℤ, pos, ◌-ℤ◌, ◌+ℤ◌, ◌<ℤ◌, List, [], ◌∷◌, ◌++◌, length, Bool, true, false, IsTrue, IsFalse, IsNone, IsSomeAnd, Option, Some, None, refl, sym, subst, arith, true≢false, ◌↔◌, nat_lt, nat_le}
 use Rattle.std.specs.Prelude.{int_lt, is_some}
-use Rattle.book.proofs.Prelude.{Add, Check, Command, Each, Ledger, Line, MAX_ORDER_LINES, MAX_PLACES, Name, OpenLine, Order, Plain, Take, Transfer, Way, bound, checks, field_named, full, held_to_add, held_to_take, ints, is_open, is_transfer, line_checks, line_name, line_on, new_order, next, on, open_orders, order_checks, order_numbered, places, settled, transfer_lines, with_order}
+use Rattle.book.proofs.Prelude.{[], ◌++◌, ◌+ℤ◌, ◌+◌, ◌-ℤ◌, ◌<ℤ◌, ◌<◌, ◌↔◌, ◌∷◌, ◌≡◌, ◌≢◌, ◌≤◌, Add, Bool, Check, Command, Each, IsFalse, IsNone, IsSomeAnd, IsTrue, Ledger, Line, List, MAX_ORDER_LINES, MAX_PLACES, Name, None, OpenLine, Option, Order, Plain, Some, Take, Transfer, Way, arith, bound, checks, false, field_named, full, held_to_add, held_to_take, ints, is_open, is_transfer, length, line_checks, line_name, line_on, nat_le, nat_lt, new_order, next, on, open_orders, order_checks, order_numbered, places, pos, refl, settled, subst, sym, transfer_lines, true, true≢false, with_order, ℕ, ℤ}
 use Rattle.words.specs.declared.command.Command.TheVariants as command
 use Rattle.book.specs.declared.limits.TheConstants.{MAX_FIELDS, MAX_ORDERS}
 use Rattle.book.specs.Answers.{no_order, ended, not_held, over_use}

@@ -1,6 +1,5 @@
 -- Codes, keys and the spellings of commands are in ASCII.
-use Rattle.std.proofs.Common.{◌≡◌, ℕ, zero, suc, ◌<◌, ◌≤◌, Bool, true, false, ◌&&◌, List, [], ◌∷◌, codes, decimal, refl, sym, arith, true≢false}
-use Rattle.book.proofs.Prelude.{Add, Command, Deliver, Each, IsArticle, IsBranch, IsInRange, IsKey, IsOpenLine, IsUtf8, More, OpenLine, Take, Way, Writeoff, nat_tests, recursion_from_All, spelling}
+use Rattle.book.proofs.Prelude.{[], ◌<◌, ◌∷◌, ◌≡◌, ◌≤◌, Bool, Command, Each, IsArticle, IsBranch, IsInRange, IsKey, IsOpenLine, IsUtf8, List, OpenLine, Way, arith, decimal, nat_tests, recursion_from_All, spelling, true, ℕ}
 use Rattle.std.proofs.lemmas.Fmt.{IsAscii-decimal}
 use Rattle.std.proofs.lemmas.Str.{IsAscii-append, IsUtf8-from_ascii}
 use Rattle.std.proofs.lemmas.Str.Ascii.{IsAscii-nil}
@@ -10,17 +9,14 @@ use Rattle.escrow.specs.Codes.{is_article_byte, is_branch_byte, is_key_byte}
 use Rattle.words.specs.OpenLines.{line_words, way_word}
 use Rattle.words.specs.Spelling.{command_words}
 use Rattle.words.specs.Words.{spaced}
-use Rattle.words.specs.declared.command.Command.TheVariants.{Abort, Commit, Expire, Field, Open, Release, Transfer, Use}
+use Rattle.book.proofs.Closing.{same_parts}
 
 ascii_cons : (b : ℕ) (bs : List ℕ) → b < 128 → IsAscii bs → IsAscii (b ∷ bs)
 ascii_cons b bs h k x = grind arith
 
-both : (a b : Bool) → (a && b) ≡ true → (a ≡ true) × (b ≡ true)
-both x b h = grind arith
-
 ascii_all : (p : ℕ → Bool) → ((b : ℕ) → p b ≡ true → b < 128) → (bs : List ℕ) → list_all p bs ≡ true → IsAscii bs
 ascii_all p small [] h = IsAscii-nil
-ascii_all p small (b ∷ bs) h = let k = both (p b) (list_all p bs) h in ascii_cons b bs (small b k.0) (ascii_all p small bs k.1)
+ascii_all p small (b ∷ bs) h = let k = same_parts (p b) (list_all p bs) h in ascii_cons b bs (small b k.0) (ascii_all p small bs k.1)
 
 branch_byte : (b : ℕ) → is_branch_byte b ≡ true → b < 128
 branch_byte b h = grind (arith, nat_tests)

@@ -1,8 +1,7 @@
 -- Two good ledgers with equal rows are equal, and so is whatever the same rows tell.
-use Rattle.std.proofs.Common.{◌≡◌, ℕ, ◌+◌, ◌<◌, pos, List, [], ◌∷◌, ◌++◌, map, flat_map, Bool, true, false, refl, sym, ap, ◌∙◌, subst, arith, true≢false, nat_cmp, Less}
-use Rattle.book.proofs.Prelude.{Aborted, Add, AllZip, AreOthers, Committed, Content, Each, Field, FieldCells, Good, IsFieldRow, IsGoodKept, IsRowsOf, IsStrictlySortedBy, Kept, Kind, Ledger, Line, LineCells, Move, Open, Order, OrderCells, Plain, State, Take, TellsField, Transfer, Way, desk_row, ints, kept_row, line_row, lines_from, move_row, order_lines, order_row, spelling_one}
+use Rattle.book.proofs.Prelude.{[], ◌++◌, ◌+◌, ◌<◌, ◌∙◌, ◌∷◌, ◌≡◌, AllZip, AreOthers, Content, Each, Field, FieldCells, Good, IsFieldRow, IsGoodKept, IsRowsOf, IsStrictlySortedBy, Kept, Kind, Ledger, Less, Line, LineCells, List, Move, Order, State, TellsField, ap, arith, desk_row, flat_map, ints, kept_row, line_row, lines_from, map, move_row, nat_cmp, order_lines, order_row, pos, refl, spelling_one, subst, sym, ℕ}
 use Rattle.book.specs.Told.{TellsLedger}
-use Rattle.book.specs.Rows.{kind_code, state_code, way_code}
+use Rattle.book.specs.Rows.{kind_code, state_code}
 use Rattle.book.proofs.Sums.{each-imp}
 use Rattle.book.proofs.Closing.{less_is}
 use Rattle.book.proofs.Lists.{each-unmap}

@@ -1,6 +1,5 @@
 -- At a good ledger every request has an answer.
-use Rattle.std.proofs.Common.{◌≡◌, ◌≢◌, ℕ, ◌+◌, ◌<◌, ◌≤◌, ℤ, ◌<ℤ◌, List, [], ◌∷◌, ◌++◌, map, find, Bool, true, false, IsSomeAnd, Option, Some, None, refl, sym, arith, if◌then◌else◌, true≢false, ◌⊎◌, inl, inr, ◌↔◌, MatchOption, nat_lt, length}
-use Rattle.book.proofs.Prelude.{Add, Answers, AnswersNew, Check, Command, Done, Each, FirstFailure, Good, Kept, KeyReused, Kind, Ledger, MayHoldMore, Name, OpenLine, Plain, Refusal, Refused, Reply, Request, Take, Transfer, Way, accept, add_hold, bound, by_lt_z, change_order, checks, dec_le, field_named, ints, kept_under, line_checks, line_name, line_on, new_line, new_order, next, on, order_numbered, places, same_command, transfer_lines, with_order}
+use Rattle.book.proofs.Prelude.{[], ◌++◌, ◌+◌, ◌<◌, ◌∷◌, ◌≤◌, ◌⊎◌, Add, Answers, Check, Command, Each, FirstFailure, Good, IsSomeAnd, Kind, Ledger, List, MayHoldMore, Name, None, OpenLine, Option, Plain, Refusal, Reply, Request, Some, Take, Transfer, Way, add_hold, arith, bound, change_order, checks, dec_le, find, inl, inr, length, line_checks, line_name, map, nat_lt, new_line, new_order, next, on, order_numbered, refl, transfer_lines, with_order, ℕ}
 use native.Mathlib.Decide.{dec_lt}
 use Rattle.words.specs.declared.command.Command.TheVariants as command
 use Rattle.book.proofs.Sums.{each-both}
@@ -10,6 +9,7 @@ use Rattle.book.proofs.Asked.{each-insert, fresh-push, fresh-sound}
 use Rattle.book.proofs.Growing.{none_if_not_some}
 use Rattle.book.proofs.Raising.{sound-more, raised}
 use Rattle.book.proofs.Safety.{takes_more}
+use Rattle.book.proofs.Once.{answers_found}
 
 abbrev Decided : Type 0 → Type 0
 Decided P = P ⊎ (P → ⊥)
@@ -93,12 +93,4 @@ found A (command.Abort n) g = ((grind arith), λ _. ((grind arith), λ _. tt))
 found A (command.Expire now) g = ((dec_less _ _), λ _. ((dec_less _ _), λ _. tt))
 
 pub answered_if_good : (A : Ledger) (r : Request) → Good A → (reply : Reply) × (B : Ledger) × Answers A r reply B
-answered_if_good A r g = by_key (kept_under A r.key)
-  where
-    by_found : (found : Option (Refusal × ℕ)) → FirstFailure (checks A r.command) found → (reply : Reply) × (B : Ledger) × AnswersNew A r reply B
-    by_found None f = (Done (places A + 1), accept A r, (None, f, (refl, refl)))
-    by_found (Some e) f = (Refused e.0 e.1, A, (Some e, f, (refl, refl)))
-
-    by_key : (o : Option Kept) → (reply : Reply) × (B : Ledger) × MatchOption o (AnswersNew A r reply B) (λ k. (reply ≡ (if same_command k.command r.command then Done k.place else Refused KeyReused 0)) × (B ≡ A))
-    by_key None = let f = in_turn (checks A r.command) (found A r.command g) in by_found f.0 f.1
-    by_key (Some k) = (if same_command k.command r.command then Done k.place else Refused KeyReused 0, A, (refl, refl))
+answered_if_good A r g = answers_found A r (in_turn (checks A r.command) (found A r.command g))

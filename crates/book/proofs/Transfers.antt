@@ -1,14 +1,10 @@
 -- The commit of a transfer leaves every article's total as it was.
-use Rattle.book.proofs.Prelude.{Aborted, Add, Answers, AnswersNew, Committed, Done, Each, Field, FirstFailure, Good, IsGoodLine, IsStrictlySortedBy, IsTransferPair, Kept, KeyReused, Ledger, Line, Name, Open, Order, Refusal, Refused, Reply, Request, State, Take, Way, accept, article_total, bytes_eq, checks, committed_state, common_steps, ints, is_committed, is_lt, is_open, is_transfer, kept_under, line_name, moved, name_cmp, on, open_state, order_numbered, places, same_command, same_name, set_state, settled, signed, tied_itself, total}
-use Rattle.std.proofs.Common.{◌≡◌, ℕ, ◌<◌, ℤ, pos, neg_ℤ, ◌+ℤ◌, List, [], ◌∷◌, map, find, Bool, true, false, ◌==◌, IsTrue, IsSome, IsSomeAnd, Option, Some, None, refl, sym, ap, ◌∙◌, subst, arith, if◌then◌else◌, true≢false, nat_cmp, Less, is_some, MatchOption, ◌+◌}
+use Rattle.book.proofs.Prelude.{[], ◌+ℤ◌, ◌+◌, ◌<◌, ◌==◌, ◌∙◌, ◌∷◌, ◌≡◌, Answers, AnswersNew, Bool, Committed, Done, Each, Field, FirstFailure, Good, IsGoodLine, IsSome, IsSomeAnd, IsStrictlySortedBy, IsTransferPair, IsTrue, Kept, KeyReused, Ledger, Less, Line, List, MatchOption, Name, None, Option, Order, Refusal, Refused, Reply, Request, Some, State, accept, ap, arith, article_total, bytes_eq, checks, committed_state, common_steps, false, find, if◌then◌else◌, ints, is_committed, is_open, is_some, is_transfer, kept_under, line_name, map, moved, name_cmp, nat_cmp, on, open_state, order_numbered, places, pos, refl, same_command, same_name, set_state, settled, signed, subst, sym, total, true, true≢false, ℕ, ℤ}
 use Rattle.words.specs.declared.command.Command.TheVariants as command
 use Rattle.book.proofs.Sums.{each, each-imp, total-eq, total-sum, total-zero}
 use Rattle.book.proofs.Closing.{all_pass, name_is, less_is}
-use Rattle.book.proofs.Staying.{name_cmp_total}
 use Rattle.book.proofs.Lists.{each-unmap}
-
-not_before_itself : (f : Name) → name_cmp f f ≡ Less → ⊥
-not_before_itself f e = true≢false (ap is_lt (sym e ∙ tied_itself name_cmp_total f))
+use Rattle.book.proofs.Growing.{not_before_itself}
 
 -- what is moved on one field, over the article's fields
 one_part : List ℕ → Name → ℤ → Field → ℤ
@@ -65,7 +61,7 @@ pair_evens A article (l ∷ m ∷ []) sorted p g =
 committed_part : Name → Order → ℤ
 committed_part f o = if is_committed o then moved f (λ l. l.used) o else pos 0
 
-was_open : (s : State) → open_state s ≡ true → committed_state s ≡ false
+pub was_open : (s : State) → open_state s ≡ true → committed_state s ≡ false
 was_open c e = grind arith
 
 pub not_same : (o m : Order) (n : ℕ) → (o.number == n) ≡ true → o.number < m.number → (m.number == n) ≡ false

@@ -1,6 +1,5 @@
 -- The numbers that a book shows of its fields.
-use Rattle.book.proofs.Prelude.{BookView, Contains, Field, FieldEntry, Good, Inside, Ledger, Name, common_steps, field_of, held_to_add, held_to_take, ints, settled, slice_get-map, view_of}
-use Rattle.std.proofs.Common.{◌≡◌, ℕ, suc, pos, ◌+ℤ◌, ◌-ℤ◌, ◌≤ℤ◌, List, [], ◌∷◌, find, option_map, slice_get, Bool, true, false, Some, is_some, sym, ap, ◌∙◌, arith, if◌then◌else◌, true≢false}
+use Rattle.book.proofs.Prelude.{[], ◌+ℤ◌, ◌-ℤ◌, ◌∙◌, ◌∷◌, ◌≡◌, ◌≤ℤ◌, BookView, Bool, Contains, Field, FieldEntry, Good, Inside, Ledger, List, Name, Some, ap, arith, common_steps, false, field_of, find, held_to_add, held_to_take, if◌then◌else◌, is_some, option_map, pos, settled, slice_get, slice_get-map, suc, sym, true, true≢false, view_of, ℕ}
 use Rattle.escrow.specs.declared.limits.TheConstants.{MAX_LEVEL}
 use Rattle.book.proofs.Found.{from_some}
 use Rattle.book.proofs.Runs.{in_order}

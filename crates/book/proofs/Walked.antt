@@ -1,11 +1,10 @@
 -- A walk over a list, one element at a time.
-use Rattle.std.proofs.Common.{◌≡◌, ℕ, ◌+◌, ◌<◌, ◌≤◌, ℤ, ◌+ℤ◌, List, [], ◌∷◌, ◌++◌, Some, map, slice_get, take, drop, length, get_or, sym, ap, ◌∙◌, subst, arith, nat_cmp, Less}
-use Rattle.book.proofs.Prelude.{Each, Good, Inside, IsStrictlySortedBy, Ledger, MAX_PLACES, Move, get_or_from_slice_get, ledger_of, move_of, places, slice_get_within, take-append-drop, take_all, total}
+use Rattle.book.proofs.Prelude.{[], ◌++◌, ◌+ℤ◌, ◌+◌, ◌<◌, ◌∙◌, ◌∷◌, ◌≡◌, ◌≤◌, Each, IsStrictlySortedBy, Less, List, Move, Some, ap, arith, drop, get_or, get_or_from_slice_get, length, map, nat_cmp, slice_get, slice_get_within, subst, sym, take, take-append-drop, take_all, total, ℕ, ℤ}
 use Rattle.std.proofs.lemmas.Grind.{take_at_read}
 use Rattle.book.proofs.Asked.{total-push}
 use Rattle.book.proofs.Closing.{less_is}
-use Rattle.book.proofs.Lists.{each-of-push, each-unmap, length-of-map}
-use Rattle.book.proofs.Sums.{each-imp}
+use Rattle.book.proofs.Lists.{each-unmap}
+use Rattle.book.proofs.Sums.{each-imp, each-of-push}
 
 pub take-step : {X : Type 0} (xs : List X) (i : ℕ) (x : X) → i < length xs → x ≡ get_or xs i x → take (i + 1) xs ≡ take i xs ++ x ∷ []
 take-step xs i x h e = (take_at_read xs i x h).1 ∙ ap (λ y. take i xs ++ y ∷ []) (sym e)

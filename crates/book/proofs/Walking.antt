@@ -1,6 +1,5 @@
 -- A walk that changes each element in place.
-use Rattle.std.proofs.Common.{◌≡◌, ◌∙◌, ℕ, zero, suc, ◌+◌, ◌<◌, ◌≤◌, List, [], ◌∷◌, ◌++◌, ap, arith, drop, get_or, length, map, refl, set, take}
-use Rattle.book.proofs.Prelude.{Each}
+use Rattle.book.proofs.Prelude.{[], ◌++◌, ◌+◌, ◌<◌, ◌∙◌, ◌∷◌, ◌≡◌, ◌≤◌, Each, List, ap, arith, drop, get_or, length, map, refl, set, suc, take, zero, ℕ}
 
 -- the elements so far are changed, and the rest is as it was
 abbrev pub walked : {X : Type 0} → (X → X) → ℕ → List X → List X

@@ -1,6 +1,5 @@
 -- What makes a told ledger good, and that rows tell one good ledger at the most.
-use Rattle.book.proofs.Prelude.{AreMovesOnFields, AreOnFields, AreOrdersOnFields, Each, Field, FieldCells, FieldEntry, Good, HasNumbers, HaveNumbers, IsBounded, IsField, IsGoodLine, IsGoodMove, IsGoodOrder, IsMoveByItself, IsOrderByItself, IsSafe, IsUpToDate, IsWhole, Ledger, MAX_PLACES, Name, Numbers, Order, common_steps, field_of, held_to_add, held_to_take, ints, is_committed, line_name, move_of, moved, moved_by_move, moved_by_order, numbers_on, order_of, places, same_name, settled, told_ledger, total}
-use Rattle.std.proofs.Common.{◌≡◌, ◌↔◌, ◌≤◌, ◌+ℤ◌, ◌-ℤ◌, pos, List, [], ◌∷◌, ap, arith, length, map, if◌then◌else◌}
+use Rattle.book.proofs.Prelude.{[], ◌+ℤ◌, ◌↔◌, ◌∷◌, ◌≡◌, ◌≤◌, AreMovesOnFields, AreOnFields, AreOrdersOnFields, Each, Field, FieldEntry, Good, HasNumbers, HaveNumbers, IsBounded, IsField, IsGoodLine, IsGoodMove, IsGoodOrder, IsMoveByItself, IsOrderByItself, IsSafe, IsUpToDate, IsWhole, Ledger, List, MAX_PLACES, Name, Numbers, Order, arith, common_steps, field_of, held_to_add, held_to_take, length, line_name, map, move_of, numbers_on, order_of, places, pos, settled, told_ledger}
 use Rattle.book.specs.declared.book.tables.Entries.{Entries}
 use Rattle.book.specs.Told.{AreGood, IsInForm}
 use Rattle.book.proofs.Bounds.{HasRoom, safe_from_room}

@@ -1,6 +1,5 @@
 -- Two lists whose elements go together.
-use Rattle.std.proofs.Common.{◌≡◌, ℕ, zero, suc, ◌<◌, List, [], ◌∷◌, ◌++◌, arith, drop, get_or, length, map, refl, take}
-use Rattle.book.proofs.Prelude.{AllZip}
+use Rattle.book.proofs.Prelude.{[], ◌++◌, ◌<◌, ◌∷◌, ◌≡◌, AllZip, List, arith, drop, get_or, length, map, refl, suc, take, zero, ℕ}
 
 pub zip-push : {X Y : Type 0} (P : X → Y → Type 0) (xs : List X) (ys : List Y) (x : X) (y : Y) → AllZip P xs ys → P x y → AllZip P (xs ++ x ∷ []) (ys ++ y ∷ [])
 zip-push P [] [] x y h p = (p, tt)

@@ -1,6 +1,8 @@
 -- What an accepted command leaves of the orders, and the rows of a ledger as sums over its entries give them.
 use Rattle.std.specs.Prelude.{ℕ, ◌+◌, ◌≤◌, ℤ, pos, neg_ℤ, ◌+ℤ◌, ◌-ℤ◌, Bool, true, false, ◌||◌, ◌==◌, ◌++◌, List, [], ◌∷◌, filter, flat_map, map, Option, None, Some, option_map, MatchOption, length, if◌then◌else◌}
 use Rattle.std.specs.Option.{option_map_or}
+use Rattle.escrow.specs.declared.quantity.Way.{Way}
+use Rattle.escrow.specs.declared.quantity.Way.TheVariants.{Add, Take}
 use Rattle.words.specs.declared.command.Command.{Command}
 use Rattle.words.specs.declared.command.Request.{Request}
 use Rattle.words.specs.declared.command.Command.TheVariants.{Abort, Commit, Deliver, Expire, Field, More, Open, Release, Transfer, Use, Writeoff}
@@ -10,9 +12,9 @@ use Rattle.book.specs.Changes.{changes_field, has_line_on}
 use Rattle.book.specs.declared.order.Kind.TheVariants as kind
 use Rattle.book.specs.declared.order.State.TheVariants as state
 use Rattle.book.specs.Held.{held_to_add, held_to_take, if_add, if_take}
-use Rattle.book.specs.Ledger.{Field as FieldOf, Ledger, Name, Order, is_committed, is_open, is_transfer, line_name, name_of, on, order_numbered, same_name}
+use Rattle.book.specs.Ledger.{Field as FieldOf, Ledger, Move, Name, Order, is_committed, is_open, is_transfer, line_name, name_of, on, order_numbered, same_name}
 use Rattle.book.specs.Next.{accept, add_hold, change_lines, expires, lower_held, new_order, raise_used, set_state, transfer_lines}
-use Rattle.book.specs.Outcomes.{moved, settled, total}
+use Rattle.book.specs.Outcomes.{moved, settled, signed, total}
 use Rattle.book.specs.Rows.{Content, FieldCells, KeptCells, LineCells, MoveCells, OrderCells, line_row, move_row, order_row}
 
 -- ---- orders
@@ -50,6 +52,21 @@ abbrev pub moved_by_command : Name → Command → ℤ
 moved_by_command f (Deliver b a q) = if same_name f (name_of b a) then pos q else pos 0
 moved_by_command f (Writeoff b a q) = if same_name f (name_of b a) then neg_ℤ (pos q) else pos 0
 moved_by_command f c = pos 0
+
+-- the field whose value the command moves at once, the way, and how much
+abbrev pub moved_at_once : Command → Option (Name × Way × ℕ)
+moved_at_once (Deliver b a q) = Some (name_of b a, Add, q)
+moved_at_once (Writeoff b a q) = Some (name_of b a, Take, q)
+moved_at_once c = None
+
+-- the move that the command makes at that place
+abbrev pub move_made : ℕ → Command → Option Move
+move_made place c = option_map (λ m. record { place = place; field = m.0; amount = signed m.1 m.2 }) (moved_at_once c)
+
+-- how many orders are open under a number, none or one
+abbrev pub open_among : Option Order → ℕ
+open_among None = 0
+open_among (Some o) = if is_open o then 1 else 0
 
 -- what an order adds to a sum, if there is one
 abbrev pub some_part : (Order → ℤ) → Option Order → ℤ
@@ -114,20 +131,6 @@ abbrev pub some_has_line : Name → Option Order → Bool
 some_has_line f None = false
 some_has_line f (Some o) = has_line_on f o
 
--- the order, if there is one, is a transfer
-abbrev pub some_is_transfer : Option Order → Bool
-some_is_transfer None = false
-some_is_transfer (Some o) = is_transfer o
-
--- the command is about that one field
-abbrev pub names_field : Name → Command → Bool
-names_field f (Field b a lo hi start) = same_name f (name_of b a)
-names_field f (Deliver b a q) = same_name f (name_of b a)
-names_field f (Writeoff b a q) = same_name f (name_of b a)
-names_field f (More n way b a q) = same_name f (name_of b a)
-names_field f (Release n b a q) = same_name f (name_of b a)
-names_field f c = false
-
 -- the orders that the command aborts as expired
 abbrev pub expired_orders : Ledger → Command → List Order
 expired_orders A (Expire now) = filter (expires now) A.orders
@@ -149,6 +152,13 @@ changes_own_line transfer (More n way b a q) l = same_name (line_name l) (name_o
 changes_own_line transfer (Use n b a q) l = transfer || same_name (line_name l) (name_of b a)
 changes_own_line transfer (Release n b a q) l = transfer || same_name (line_name l) (name_of b a)
 changes_own_line transfer c l = false
+
+-- the stock of the line's field changes
+abbrev pub changes_own_stock : Bool → Command → Line → Bool
+changes_own_stock transfer (Use n b a q) l = false
+changes_own_stock transfer (Commit n) l = true
+changes_own_stock transfer (Abort n) l = true
+changes_own_stock transfer c l = changes_own_line transfer c l
 
 -- the rows of the lines of an order that pass a test
 abbrev pub line_rows : (Line → Bool) → ℕ → ℕ → List Line → List LineCells
@@ -181,11 +191,10 @@ abbrev pub own_order_rows : Command → Option Order → List OrderCells
 own_order_rows c None = []
 own_order_rows c (Some o) = if changes_state c then order_row o ∷ [] else []
 
--- the row of the move that the command makes
-abbrev pub own_move_rows : ℕ → Command → List MoveCells
-own_move_rows place (Deliver b a q) = move_row (record { place = place; field = name_of b a; amount = pos q }) ∷ []
-own_move_rows place (Writeoff b a q) = move_row (record { place = place; field = name_of b a; amount = neg_ℤ (pos q) }) ∷ []
-own_move_rows place c = []
+-- the row of the move, if there is one
+abbrev pub move_rows : Option Move → List MoveCells
+move_rows None = []
+move_rows (Some m) = move_row m ∷ []
 
 -- the row of the field that the command adds to the ledger
 abbrev pub new_field_rows : Ledger → Command → List FieldCells

@@ -10,7 +10,7 @@ use Rattle.book.specs.declared.book.made.LineChange.{LineChange}
 use Rattle.book.specs.declared.book.made.LineChange.TheVariants.{Hold, Release, Use}
 use Rattle.book.specs.declared.book.made.OrderChange.{OrderChange}
 use Rattle.book.specs.declared.book.made.OrderChange.TheVariants.{ChangeLines, End, HoldMore}
-use Rattle.book.specs.declared.entries.OrderEntry.{OrderEntry}
+use Rattle.book.specs.declared.order.OrderEntry.{OrderEntry}
 use Rattle.book.specs.declared.order.Line.{Line}
 use Rattle.book.specs.declared.order.State.TheVariants.{Aborted, Committed}
 use Rattle.book.specs.Ledger.{Order, line_name, name_of, on, transfer_kind}

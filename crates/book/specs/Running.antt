@@ -4,6 +4,7 @@ use Rattle.std.specs.BTreeMap.{insert_entry, is_at}
 use Rattle.std.specs.Map.{lookup}
 use Rattle.std.specs.List.{AllByRecursion as Each, fold, list_any}
 use Rattle.escrow.specs.Choices.{IsSafe}
+use Rattle.escrow.specs.Codes.{IsKey}
 use Rattle.escrow.specs.Escrow.{held_of, holding, moved}
 use Rattle.escrow.specs.Ranges.{IsQty}
 use Rattle.escrow.specs.Stock.{Stock}
@@ -22,7 +23,7 @@ use Rattle.book.specs.Rows.{FieldCells}
 use Rattle.book.specs.Sums.{part_of_line}
 use Rattle.book.specs.View.{field_of, ledger_of}
 use Rattle.book.specs.declared.book.Book.TheInside.{Inside}
-use Rattle.book.specs.declared.entries.FieldEntry.{FieldEntry}
+use Rattle.book.specs.declared.book.FieldEntry.{FieldEntry}
 use Rattle.book.specs.declared.order.Line.{Line}
 use Rattle.book.specs.declared.order.State.{State}
 use Rattle.book.specs.declared.order.State.TheVariants.{Committed, Open}
@@ -92,6 +93,7 @@ pub record MayBecome (old : Stock) (held : ℕ) (l : Line) (state : State) : Typ
 -- The request is accepted at a good ledger, in range, and the next ledger is good.
 pub record Accepts (A : Ledger) (r : Request) : Type 0 where
   pub accepted : IsAccepted A r
+  pub key : IsKey r.key
   pub range : IsInRange r.command
   pub before : Good A
   pub after : Good (accept A r)

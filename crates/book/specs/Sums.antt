@@ -2,10 +2,10 @@
 use Rattle.std.specs.Prelude.{◌≡◌, ℕ, ◌<◌, pos, ◌+ℤ◌, List, [], ◌∷◌, length, map, Option, find, if◌then◌else◌, IsSome}
 use Rattle.std.specs.List.{AllByRecursion as Each, HoldsAt}
 use Rattle.std.specs.List.Sorted.{IsStrictlySortedBy}
-use Rattle.book.specs.declared.book.sums.Numbers.{Numbers}
-use Rattle.book.specs.declared.entries.FieldEntry.{FieldEntry}
-use Rattle.book.specs.declared.entries.MoveEntry.{MoveEntry}
-use Rattle.book.specs.declared.entries.OrderEntry.{OrderEntry}
+use Rattle.book.specs.declared.book.tables.sums.Numbers.{Numbers}
+use Rattle.book.specs.declared.book.FieldEntry.{FieldEntry}
+use Rattle.book.specs.declared.book.MoveEntry.{MoveEntry}
+use Rattle.book.specs.declared.order.OrderEntry.{OrderEntry}
 use Rattle.book.specs.declared.order.Line.{Line}
 use Rattle.book.specs.declared.order.State.{State}
 use Rattle.book.specs.Ledger.{Field, Name, committed_state, line_name, name_cmp, open_state, same_name}

@@ -3,10 +3,10 @@ use Rattle.std.specs.Prelude.{ℕ, ◌-◌, List, map}
 use Rattle.std.specs.Vec.{vec_capacity, vec_len}
 use Rattle.book.specs.Ledger.{Field, Kept, Ledger, Move, Name, Order, name_of}
 use Rattle.book.specs.declared.book.Book.TheInside.{Inside}
-use Rattle.book.specs.declared.entries.FieldEntry.{FieldEntry}
-use Rattle.book.specs.declared.entries.KeptEntry.{KeptEntry}
-use Rattle.book.specs.declared.entries.MoveEntry.{MoveEntry}
-use Rattle.book.specs.declared.entries.OrderEntry.{OrderEntry}
+use Rattle.book.specs.declared.book.FieldEntry.{FieldEntry}
+use Rattle.book.specs.declared.book.KeptEntry.{KeptEntry}
+use Rattle.book.specs.declared.book.MoveEntry.{MoveEntry}
+use Rattle.book.specs.declared.order.OrderEntry.{OrderEntry}
 
 -- how many fields, moves, orders and kept keys more fit without memory
 pub record Room : Type 0 where

@@ -3,9 +3,9 @@ use Rattle.std.specs.Prelude.{ℕ, ◌+◌, ◌*◌, ℤ, pos, neg_ℤ, ◌+ℤ�
 use Rattle.escrow.specs.declared.limits.TheConstants.{MAX_LEVEL, MAX_QTY}
 use Rattle.words.specs.declared.limits.TheConstants.{MAX_ORDER_LINES}
 use Rattle.book.specs.declared.limits.TheConstants.{MAX_ORDERS, MAX_PLACES}
-use Rattle.book.specs.declared.book.sums.Numbers.{Numbers}
-use Rattle.book.specs.declared.entries.MoveEntry.{MoveEntry}
-use Rattle.book.specs.declared.entries.OrderEntry.{OrderEntry}
+use Rattle.book.specs.declared.book.tables.sums.Numbers.{Numbers}
+use Rattle.book.specs.declared.book.MoveEntry.{MoveEntry}
+use Rattle.book.specs.declared.order.OrderEntry.{OrderEntry}
 use Rattle.book.specs.declared.order.Line.{Line}
 use Rattle.book.specs.Ledger.{Name, committed_state, on, open_state, same_name}
 use Rattle.book.specs.Outcomes.{signed, total}

@@ -1,31 +1,66 @@
 //! The ledger in memory.
 
-ghost use Rattle.std.specs.Prelude.{◌≡◌};
-ghost use Rattle.book.specs.Ledger.{new_ledger};
+ghost use Rattle.book.specs.After.{expired_numbers, move_made, open_among, order_after};
+ghost use Rattle.book.specs.Answers.{FirstFailure, checks};
+ghost use Rattle.book.specs.Future.{Honours, HonoursAlways};
+ghost use Rattle.book.specs.Good.{Good};
+ghost use Rattle.book.specs.Ledger.{new_ledger, field_named, kept_under, name_of, order_numbered, Ledger, is_transfer, open_state, places, insert_in_order, open_orders};
+ghost use Rattle.book.specs.Next.{accept, next};
+ghost use Rattle.book.specs.Outcomes.{article_total};
+ghost use Rattle.book.specs.Plans.{Fits, HasRoomFor, KeepsRoom};
+ghost use Rattle.book.specs.Running.{IsUpToDate, with_entries};
+ghost use Rattle.book.specs.View.{field_of, kept_of, order_of, move_of};
+ghost use Rattle.std.specs.BTreeMap.{insert_entry};
+ghost use Rattle.std.specs.Cmp.Lexicographic.{slice_cmp};
+ghost use Rattle.std.specs.Ordering.{nat_cmp, is_lt};
+ghost use Rattle.std.specs.Prelude.{◌≡◌, IfSome, MatchOption, find, OnErr, OnOk, ◌<◌, ◌≤◌, ◌+◌, None, ℕ, List, IsSomeAnd, IsTrue, if◌then◌else◌, length, map, option_map};
+ghost use Rattle.std.specs.Str.{bytes_eq};
+ghost use Rattle.std.specs.Vec.{vec_capacity, vec_len};
+ghost use Rattle.words.specs.declared.command.Command.TheVariants.{Commit};
+ghost use Rattle.words.specs.declared.command.Command.{Command};
 
-use crate::entries::{FieldEntry, KeptEntry, MoveEntry, OrderEntry};
-use crate::in_order::InOrder;
-use escrow::{FieldName, Key, Moment, OrderNo};
-use std::alloc::Global;
-use std::marker::Model;
-
-mod adopt;
 mod changed_rows;
 mod checks;
-mod choose;
-mod expiry;
 mod fields;
-mod find;
 mod made;
 mod plan;
-mod room;
-mod sums;
 mod tables;
 mod views;
 
-pub use plan::Planned;
+use self::made::abort_all;
+use crate::in_order::InOrder;
+use crate::order::{Order, OrderEntry, State};
+use escrow::{Article, Branch, FieldName, Key, Level, Moment, OrderNo, Quantity};
+pub use plan::{Plan, Planned};
+use std::alloc::Global;
+use std::marker::Model;
 pub use tables::TablesFault;
 pub use views::{FieldView, OrderView};
+use words::{Command, Memory};
+
+/// A field: the level at which it started, and its stock as it stands, with its bounds.
+#[derive(Clone, Copy, Debug)]
+pub struct FieldEntry {
+    pub start: Level,
+    pub quantity: Quantity,
+}
+
+/// A delivery (above 0) or a write-off (below 0), with the place of its command.
+#[derive(Debug, Drop)]
+pub struct MoveEntry {
+    pub place: u64,
+    pub branch: Branch,
+    pub article: Article,
+    pub amount: i64,
+}
+
+/// What is kept under an accepted key: its place and its command. The command lies by itself, so that the list of these
+/// is short.
+#[derive(Debug, Drop)]
+pub struct KeptEntry {
+    pub place: u64,
+    pub command: Box<Command>,
+}
 
 /// A good ledger: all fields, with their stock as it stands, moves, orders and kept keys of the desk. Contracts see it as its ledger and, beside
 /// that, the room that has been made for entries to come.
@@ -64,5 +99,183 @@ impl Book {
             orders: InOrder::new(alloc),
             kept: InOrder::new(alloc),
         }
+    }
+}
+
+impl Book {
+    /// The field of that name.
+    fn field_entry(&self, branch: Branch, article: Article) -> Option<&FieldEntry>
+        ensures good { Good self.now.ledger }
+        ensures found { let found = field_named self.now.ledger (name_of branch article) in MatchOption result (found ≡ None) (λ entry. found ≡ Some (field_of (name_of branch article, entry.now))) }
+        ensures up_to_date { IfSome result (λ entry. IsUpToDate self.now.ledger (name_of branch article, entry.now)) }
+    {
+        self.fields.get(&FieldName { branch, article })
+    }
+
+    /// The order of that number.
+    fn order_entry(&self, number: OrderNo) -> Option<&OrderEntry>
+        ensures { let found = order_numbered self.now.ledger number in MatchOption result (found ≡ None) (λ entry. found ≡ Some (order_of (number, entry.now))) }
+    {
+        self.orders.get(&number)
+    }
+
+    /// What is kept under that key.
+    fn kept_entry(&self, key: Key) -> Option<&KeptEntry>
+        ensures { let found = kept_under self.now.ledger key in MatchOption result (found ≡ None) (λ entry. found ≡ Some (kept_of (key, entry.now))) }
+    {
+        self.kept.get(&key)
+    }
+}
+
+impl Book {
+    /// Makes room for the plan: for the fields that it changes, and an entry more of each other kind. Room made before stays, and the ledger is as it was,
+    /// also after a refusal. Memory is wanted only where there was no room for the plan.
+    pub fn make_room(&mut self, plan: &Plan) -> Result<(), Memory>
+        requires { Fits self.old.ledger plan.now }
+        ensures ok { OnOk result (HasRoomFor self.new plan.now) }
+        ensures same { self.new.ledger ≡ self.old.ledger }
+        ensures kept { KeepsRoom self.old self.new }
+        ensures memory { OnErr result (HasRoomFor self.old plan.now → ⊥) }
+    {
+        let Ok(()) = self.fields.reserve(plan.field_count()) else {
+            return Err(Memory);
+        };
+        let Ok(()) = self.moves.reserve(1) else {
+            return Err(Memory);
+        };
+        let Ok(()) = self.orders.reserve(1) else {
+            return Err(Memory);
+        };
+        self.kept.reserve(1).map_err(|_| Memory)
+    }
+}
+
+fn insert_kept(kept: &mut InOrder<Key, KeptEntry>, key: Key, entry: KeptEntry)
+    requires room { 1 ≤ kept.old.room }
+    requires absent { find (λ k. bytes_eq k.key key) (map kept_of kept.old.entries) ≡ None }
+    ensures { map kept_of kept.new.entries ≡ insert_in_order (λ a b. is_lt (slice_cmp nat_cmp a.key b.key)) (kept_of (key, entry)) (map kept_of kept.old.entries) }
+{
+    kept.insert(key, entry);
+}
+
+/// Puts the fields in, each by its name.
+fn adopt_fields(
+    fields: &mut InOrder<FieldName, FieldEntry>,
+    changed: &InOrder<FieldName, FieldEntry>,
+)
+    requires { length changed.now.entries ≤ fields.old.room }
+    ensures { fields.new.entries ≡ with_entries changed.now.entries fields.old.entries }
+{
+    for place in 0..changed.len() {
+        let (name, entry) = changed.entry_at(place);
+        fields.put(*name, *entry);
+    }
+}
+
+/// Puts the move in, if there is one.
+fn adopt_move(moves: &mut Vec<MoveEntry>, moved: Option<MoveEntry>)
+    requires { vec_len moves.old < vec_capacity moves.old }
+    ensures { (A : Ledger) (c : Command) → map move_of moves.old.items ≡ A.moves → option_map move_of moved ≡ move_made (places A + 1) c → map move_of moves.new.items ≡ (next A c).moves }
+{
+    let Some(entry) = moved else {
+        return;
+    };
+    match moves.push(entry) {
+        Ok(()) => {}
+        Err(_) => unreachable!(),
+    }
+}
+
+/// Puts the order in by its number.
+fn put_order(orders: &mut InOrder<OrderNo, OrderEntry>, order: Order)
+    requires { 1 ≤ orders.old.room }
+    ensures { orders.new.entries ≡ insert_entry nat_cmp orders.old.entries order.0 order.1 }
+{
+    let (number, entry) = order;
+    orders.put(number, entry);
+}
+
+/// The orders once the command is carried out, with the order that it makes and those that expire.
+fn adopt_orders(
+    orders: &mut InOrder<OrderNo, OrderEntry>,
+    made: Option<Order>,
+    expired: &[OrderNo],
+    command: &Command,
+)
+    requires room { 1 ≤ orders.old.room }
+    ensures { (A : Ledger) → Good A → FirstFailure (checks A command.now) None → map order_of orders.old.entries ≡ A.orders → option_map order_of made ≡ order_after A command.now → expired.now ≡ expired_numbers A command.now → map order_of orders.new.entries ≡ (next A command.now).orders }
+{
+    match command {
+        Command::Expire { .. } => abort_all(orders, expired),
+        _ => {
+            if let Some(order) = made {
+                put_order(orders, order);
+            }
+        }
+    }
+}
+
+/// How many orders of that state are open, for one of them.
+fn open_one(state: State) -> usize
+    ensures { result ≡ (if open_state state then 1 else 0) }
+{
+    match state {
+        State::Open => 1,
+        State::Committed | State::Aborted => 0,
+    }
+}
+
+impl Book {
+    /// How many orders of that number are open, none or one.
+    fn open_before(&self, number: OrderNo) -> usize
+        ensures { result ≡ open_among (order_numbered self.now.ledger number) }
+    {
+        match self.order_entry(number) {
+            Some(order) => open_one(order.state),
+            None => 0,
+        }
+    }
+
+    /// How many orders are open once the accepted command is carried out, with the order that it makes and so many that
+    /// it aborts as expired.
+    fn open_after(&self, command: &Command, made: &Option<Order>, expired: usize) -> usize
+        requires accepted { FirstFailure (checks self.now.ledger command.now) None }
+        requires made { option_map order_of made.now ≡ order_after self.now.ledger command.now }
+        requires expired { expired ≡ length (expired_numbers self.now.ledger command.now) }
+        ensures { result ≡ open_orders (next self.now.ledger command.now) }
+    {
+        match command {
+            Command::Expire { .. } => self.open_count - expired,
+            _ => match made {
+                Some(order) => {
+                    self.open_count + open_one(order.1.state) - self.open_before(order.0)
+                }
+                None => self.open_count,
+            },
+        }
+    }
+
+    /// Carries the plan out. Takes no memory, and always succeeds. The ledger stays good, and honours its open
+    /// orders; the commit of a transfer leaves the total of every article as it was.
+    pub fn adopt(&mut self, plan: Plan)
+        requires fits { Fits self.old.ledger plan }
+        requires room { HasRoomFor self.old plan }
+        ensures next { self.new.ledger ≡ accept self.old.ledger plan.request }
+        ensures good { Good self.new.ledger }
+        ensures honours { Honours self.new.ledger × HonoursAlways self.new.ledger }
+        ensures even { (n : ℕ) (article : List ℕ) → plan.request.command ≡ Commit n → IsSomeAnd (order_numbered self.old.ledger n) (λ o. IsTrue (is_transfer o)) → article_total self.new.ledger article ≡ article_total self.old.ledger article }
+    {
+        let parts = plan.into_parts();
+        let (key, command, place) = (parts.key, parts.command, parts.place);
+        key.as_bytes();
+        command.in_range();
+        let clock = self.clock_after(&command);
+        let open_count = self.open_after(&command, &parts.made, parts.expired.len());
+        self.clock = clock;
+        self.open_count = open_count;
+        adopt_fields(&mut self.fields, &parts.fields);
+        adopt_move(&mut self.moves, parts.moved);
+        adopt_orders(&mut self.orders, parts.made, &parts.expired, &command);
+        insert_kept(&mut self.kept, key, KeptEntry { place, command });
     }
 }

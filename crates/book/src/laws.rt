@@ -1,27 +1,27 @@
-//! Laws of ledgers, answers and runs.
+//! Laws of ledgers, answers and runs, and worked examples of the rules.
 
-ghost use Rattle.std.specs.Prelude.{◌≡◌, ◌+◌, ◌↔◌, ◌∷◌, ◌++◌, [], ◌+ℤ◌, ◌-ℤ◌, ℕ, List, IsNone, IsSomeAnd, IsTrue, map};
-ghost use Rattle.std.specs.List.{AllByRecursion as Each, IsDistinct};
-ghost use Rattle.escrow.specs.Codes.{IsKey};
-ghost use Rattle.escrow.specs.declared.quantity.Way.{Way};
-ghost use Rattle.escrow.specs.declared.quantity.Way.TheVariants.{Add, Take};
-ghost use Rattle.words.specs.Spelling.{IsInRange};
-ghost use Rattle.words.specs.declared.command.Command.{Command};
-ghost use Rattle.words.specs.declared.command.Command.TheVariants.{Commit, Deliver, More, Writeoff};
-ghost use Rattle.words.specs.declared.command.Request.{Request};
-ghost use Rattle.words.specs.declared.open_line.OpenLine.{OpenLine};
-ghost use Rattle.words.specs.declared.reply.Reply.{Reply};
-ghost use Rattle.words.specs.declared.reply.Reply.TheVariants.{Done};
 ghost use Rattle.book.specs.Answers.{After, Answers, IsAccepted, Runs, bound, same_command};
 ghost use Rattle.book.specs.Changes.{changed_rows, put_content};
+ghost use Rattle.book.specs.Examples.{Plays, long_script, release_and_abort, tight_bounds, transfer};
 ghost use Rattle.book.specs.Future.{Honours, HonoursAlways};
 ghost use Rattle.book.specs.Good.{Good};
 ghost use Rattle.book.specs.Held.{MayHoldMore, BreaksBound, held_to_add, held_to_take};
-ghost use Rattle.book.specs.Ledger.{Field, Ledger, Name, is_transfer, line_name, line_on, order_numbered, places, same_name};
+ghost use Rattle.book.specs.Ledger.{Field, Ledger, Name, is_transfer, line_name, line_on, order_numbered, places, same_name, new_ledger};
 ghost use Rattle.book.specs.Next.{accept, new_line, new_order, next, with_order};
 ghost use Rattle.book.specs.Outcomes.{FallsBelow, IsInfimum, IsSupremum, RisesAbove, article_total, settled};
 ghost use Rattle.book.specs.Rows.{Content, IsInKeyOrder, IsRowsOf};
 ghost use Rattle.book.specs.declared.order.Kind.{Kind};
+ghost use Rattle.escrow.specs.Codes.{IsKey};
+ghost use Rattle.escrow.specs.declared.quantity.Way.TheVariants.{Add, Take};
+ghost use Rattle.std.specs.List.{AllByRecursion as Each, IsDistinct};
+ghost use Rattle.std.specs.Prelude.{◌≡◌, ◌+◌, ◌↔◌, ◌∷◌, ◌++◌, [], ◌+ℤ◌, ◌-ℤ◌, ℕ, List, IsNone, IsSomeAnd, IsTrue, map};
+ghost use Rattle.words.specs.Spelling.{IsInRange};
+ghost use Rattle.words.specs.declared.command.Command.TheVariants.{Commit, Deliver, More, Writeoff};
+ghost use Rattle.words.specs.declared.command.Command.{Command};
+ghost use Rattle.words.specs.declared.command.Request.{Request};
+ghost use Rattle.words.specs.declared.open_line.OpenLine.{OpenLine};
+ghost use Rattle.words.specs.declared.reply.Reply.TheVariants.{Done};
+ghost use Rattle.words.specs.declared.reply.Reply.{Reply};
 
 /// At a good ledger every request has an answer; at no ledger it has two. An accepted one is done at the next
 /// place, and any other leaves the ledger as it was.
@@ -100,4 +100,13 @@ pub fn rows_are_one()
 /// The rows that an accepted request changes, put into the rows of a good ledger, give those of the next one.
 pub fn changes_suffice()
     ensures { (A : Ledger) (r : Request) (C D : Content) → Good A → IsKey r.key → IsInRange r.command → IsAccepted A r → IsRowsOf A C → IsRowsOf (accept A r) D → put_content (changed_rows A r D) C ≡ D }
+{}
+
+/// The worked examples of the desk's rules are theorems over the definitions: each request of a script is answered
+/// so, and leaves these numbers.
+pub fn worked_examples_hold()
+    ensures long_script { Plays new_ledger long_script }
+    ensures tight_bounds { Plays new_ledger tight_bounds }
+    ensures transfer { Plays new_ledger transfer }
+    ensures release_and_abort { Plays new_ledger release_and_abort }
 {}

@@ -2,23 +2,18 @@
 #![tactic(auto)]
 
 mod book;
-mod entries;
-mod examples;
 mod in_order;
 mod laws;
 mod limits;
 mod order;
-mod plan;
 mod rows;
 
-pub use book::{Book, FieldView, OrderView, Planned, TablesFault};
-pub use examples::worked_examples_hold;
+pub use book::{Book, FieldView, OrderView, Plan, Planned, TablesFault};
 pub use laws::{
     answers_stay_good, bounds_are_held, changes_suffice, exactly_one_answer, good_ledgers_honour,
     rows_are_one, rows_tell_all, runs_stay_good, spellings_tell_commands, tests_are_comparisons,
-    transfers_even_out,
+    transfers_even_out, worked_examples_hold,
 };
 pub use limits::{MAX_FIELDS, MAX_ORDERS, MAX_PLACES, limits_are_those_of_the_rules};
 pub use order::{Kind, Line, State};
-pub use plan::Plan;
 pub use rows::{Change, DeskRow, FieldRow, KeptRow, LineRow, MoveRow, OrderRow, Rows, Tables};

@@ -1,6 +1,9 @@
 //! Orders, which hold amounts on fields until they end.
 
-use escrow::{Article, Branch, Level, Way};
+ghost use Rattle.std.specs.Prelude.{◌≡◌, MatchOption, find};
+ghost use Rattle.book.specs.Ledger.{name_of, on};
+
+use escrow::{Article, Branch, Level, Moment, OrderNo, Way};
 
 /// What kind of order it is.
 #[derive(Clone, Copy, Debug, PartialEq, Eq)]
@@ -30,4 +33,35 @@ pub struct Line {
     pub article: Article,
     pub held: Level,
     pub used: Level,
+}
+
+/// An order, open or ended.
+#[derive(Debug, Drop)]
+pub struct OrderEntry {
+    pub kind: Kind,
+    pub until: Moment,
+    pub state: State,
+    pub lines: Vec<Line>,
+}
+
+/// An order under its number.
+pub type Order = (OrderNo, OrderEntry);
+
+/// The first line on that field.
+pub(crate) fn line_in(lines: &[Line], branch: Branch, article: Article) -> Option<&Line>
+    ensures { let found = find (on (name_of branch article)) lines.now in MatchOption result (found ≡ None) (λ line. found ≡ Some line.now) }
+{
+    for line in lines {
+        if is_on(line, branch, article) {
+            return Some(line);
+        }
+    }
+    None
+}
+
+/// Whether the line is on that field.
+pub(crate) fn is_on(line: &Line, branch: Branch, article: Article) -> bool
+    ensures { result ≡ on (name_of branch article) line.now }
+{
+    branch == line.branch && article == line.article
 }

@@ -1,28 +1,26 @@
 //! The rows that an accepted request changes.
 
-ghost use Rattle.std.specs.Prelude.{◌≡◌, ◌≤◌, pos, neg_ℤ, string_bytes, IfOk, ◌∷◌, ◌++◌, [], flat_map, length, map, option_map, OnOk, Some};
+ghost use Rattle.std.specs.Prelude.{◌≡◌, ◌≤◌, pos, string_bytes, IfOk, IfSome, ◌∷◌, ◌++◌, [], flat_map, length, map, option_map, OnOk, Some};
 ghost use Rattle.std.specs.Str.{IsUtf8};
 ghost use Rattle.words.specs.Spelling.{spelling};
 ghost use Rattle.words.specs.declared.limits.TheConstants.{MAX_ORDER_LINES};
-ghost use Rattle.book.specs.Ledger.{name_of, is_transfer};
+ghost use Rattle.book.specs.Ledger.{is_transfer};
 ghost use Rattle.book.specs.Next.{set_state, next};
 ghost use Rattle.book.specs.Rows.{kept_row, kind_code, line_row, move_row, order_row, state_code, way_code};
-ghost use Rattle.book.specs.Running.{entry_row};
+ghost use Rattle.book.specs.Running.{Accepts, entry_row};
 ghost use Rattle.book.specs.Tables.{desk_cells, field_cells, kept_cells, line_cells, move_cells, order_cells, rows_among};
-ghost use Rattle.book.specs.View.{order_of};
-ghost use Rattle.book.specs.After.{aborted_rows, changed_orders, changes_own_line, expired_numbers, field_rows, line_rows, of_numbered, order_after, own_line_rows, own_move_rows, own_order_rows, with_fields, with_kept, with_lines, with_moves, with_orders, IsShort};
-ghost use Rattle.book.specs.Answers.{IsAccepted};
-ghost use Rattle.book.specs.Good.{Good};
-ghost use Rattle.book.specs.Plans.{ChangesTo};
+ghost use Rattle.book.specs.View.{move_of, order_of};
+ghost use Rattle.book.specs.After.{aborted_rows, changes_own_line, line_rows, move_rows, of_numbered, order_after, own_line_rows, own_order_rows, with_fields, with_kept, with_lines, with_moves, with_orders, IsShort};
+ghost use Rattle.book.specs.Plans.{ChangesTo, Makes};
 
-use super::Book;
-use super::choose::{changes_line, changes_state, is_transfer};
-use crate::entries::{FieldEntry, Order, OrderEntry};
+use super::made::{changes_line, changes_state, is_transfer};
+use super::plan::PlanParts;
+use super::{Book, FieldEntry, MoveEntry};
 use crate::in_order::InOrder;
 use crate::limits::MAX_PLACES;
-use crate::order::{Kind, Line, State};
+use crate::order::{Kind, Line, Order, OrderEntry, State};
 use crate::rows::{Change, DeskRow, FieldRow, KeptRow, LineRow, MoveRow, OrderRow};
-use escrow::{Article, Branch, FieldName, Key, Moment, OrderNo, Qty, Way};
+use escrow::{Article, Branch, FieldName, Key, Moment, OrderNo, Way};
 use std::alloc::Global;
 use words::{Command, Memory, Request, write_command};
 
@@ -141,41 +139,16 @@ fn line_row(alloc: Global, number: OrderNo, nr: usize, line: &Line) -> Result<Li
     })
 }
 
-/// The row of a delivery.
-fn delivery_row(
-    alloc: Global,
-    place: u64,
-    branch: Branch,
-    article: Article,
-    qty: Qty,
-) -> Result<MoveRow, Memory>
-    requires { place ≤ MAX_PLACES }
-    ensures { IfOk result (λ row. move_cells row ≡ move_row (record { place = place; field = name_of branch article; amount = pos qty })) }
+/// The row of a move.
+fn move_row(alloc: Global, entry: &MoveEntry) -> Result<MoveRow, Memory>
+    requires { entry.now.place ≤ MAX_PLACES }
+    ensures { IfOk result (λ row. move_cells row ≡ move_row (move_of entry.now)) }
 {
     Ok(MoveRow {
-        place: place as i64,
-        branch: branch_text(alloc, branch)?,
-        article: article_text(alloc, article)?,
-        qty: qty.get() as i64,
-    })
-}
-
-/// The row of a write-off, whose amount is below 0.
-fn writeoff_row(
-    alloc: Global,
-    place: u64,
-    branch: Branch,
-    article: Article,
-    qty: Qty,
-) -> Result<MoveRow, Memory>
-    requires { place ≤ MAX_PLACES }
-    ensures { IfOk result (λ row. move_cells row ≡ move_row (record { place = place; field = name_of branch article; amount = neg_ℤ (pos qty) })) }
-{
-    Ok(MoveRow {
-        place: place as i64,
-        branch: branch_text(alloc, branch)?,
-        article: article_text(alloc, article)?,
-        qty: -(qty.get() as i64),
+        place: entry.place as i64,
+        branch: branch_text(alloc, entry.branch)?,
+        article: article_text(alloc, entry.article)?,
+        qty: entry.amount,
     })
 }
 
@@ -296,35 +269,20 @@ fn push_own_lines(
     }
 }
 
-/// Appends the row of the move that the command makes, if it makes one.
+/// Appends the row of the move, if there is one.
 fn push_move(
     alloc: Global,
     changes: &mut Vec<Change>,
-    place: u64,
-    command: &Command,
+    moved: &Option<MoveEntry>,
 ) -> Result<(), Memory>
-    requires { place ≤ MAX_PLACES }
-    ensures { OnOk result (rows_among changes.new.items ≡ with_moves (own_move_rows place command.now) (rows_among changes.old.items)) }
+    requires { IfSome moved.now (λ entry. entry.place ≤ MAX_PLACES) }
+    ensures { OnOk result (rows_among changes.new.items ≡ with_moves (move_rows (option_map move_of moved.now)) (rows_among changes.old.items)) }
 {
-    match command {
-        Command::Deliver {
-            branch,
-            article,
-            qty,
-        } => {
-            let row = delivery_row(alloc, place, *branch, *article, *qty)?;
-            push(changes, Change::Move(row))
-        }
-        Command::Writeoff {
-            branch,
-            article,
-            qty,
-        } => {
-            let row = writeoff_row(alloc, place, *branch, *article, *qty)?;
-            push(changes, Change::Move(row))
-        }
-        _ => Ok(()),
-    }
+    let Some(entry) = moved else {
+        return Ok(());
+    };
+    let row = move_row(alloc, entry)?;
+    push(changes, Change::Move(row))
 }
 
 /// Appends the row of the request's key.
@@ -373,52 +331,29 @@ impl Book {
         Ok(())
     }
 
-    /// Appends the rows of the orders that are new or whose states change.
-    fn push_orders(
-        &self,
-        changes: &mut Vec<Change>,
-        command: &Command,
-        made: &Option<Order>,
-        expired: &[OrderNo],
-    ) -> Result<(), Memory>
-        requires good { Good self.now.ledger }
-        requires made { option_map order_of made.now ≡ order_after self.now.ledger command.now }
-        requires expired { expired.now ≡ expired_numbers self.now.ledger command.now }
-        ensures { OnOk result (rows_among changes.new.items ≡ with_orders (changed_orders self.now.ledger command.now) (rows_among changes.old.items)) }
-    {
-        match command {
-            Command::Expire { .. } => self.push_all_aborted(changes, expired),
-            _ => push_order(changes, command, made),
-        }
-    }
-
-    /// The rows that the accepted request changes, with the fields and the order that it makes or changes and the orders
-    /// that expire, those of each table in the order of its key.
+    /// The rows that the accepted request changes, which puts these parts into the book, those of each table in the order
+    /// of its key.
     pub(super) fn changes_of(
         &self,
         alloc: Global,
         request: &Request,
-        fields: &InOrder<FieldName, FieldEntry>,
-        made: &Option<Order>,
-        expired: &[OrderNo],
+        parts: &PlanParts,
     ) -> Result<Vec<Change>, Memory>
-        requires accepted { IsAccepted self.now.ledger request.now }
-        requires fields { map entry_row fields.now.entries ≡ field_rows self.now.ledger request.now }
-        requires made { option_map order_of made.now ≡ order_after self.now.ledger request.now.command }
-        requires expired { expired.now ≡ expired_numbers self.now.ledger request.now.command }
+        requires accepts { Accepts self.now.ledger request.now }
+        requires makes { Makes self.now.ledger request.now parts.now }
         ensures changes { IfOk result (λ changes. ChangesTo self.now.ledger request.now (rows_among changes.items)) }
-        ensures fields { IfOk result (λ changes. map entry_row fields.now.entries ≡ (rows_among changes.items).fields) }
+        ensures fields { IfOk result (λ changes. map entry_row parts.now.fields.entries ≡ (rows_among changes.items).fields) }
     {
-        request.in_range();
-        let place = self.kept.len() as u64 + 1;
+        let command = &request.command;
         let mut changes = Vec::new(alloc);
-        let desk = desk_row(self.clock_after(&request.command), place);
+        let desk = desk_row(self.clock_after(command), parts.place);
         push(&mut changes, Change::Desk(desk))?;
-        push_fields(alloc, &mut changes, fields)?;
-        push_move(alloc, &mut changes, place, &request.command)?;
-        self.push_orders(&mut changes, &request.command, made, expired)?;
-        push_own_lines(alloc, &mut changes, &request.command, made)?;
-        push_kept(alloc, &mut changes, place, request)?;
+        push_fields(alloc, &mut changes, &parts.fields)?;
+        push_move(alloc, &mut changes, &parts.moved)?;
+        push_order(&mut changes, command, &parts.made)?;
+        self.push_all_aborted(&mut changes, &parts.expired)?;
+        push_own_lines(alloc, &mut changes, command, &parts.made)?;
+        push_kept(alloc, &mut changes, parts.place, request)?;
         Ok(changes)
     }
 }

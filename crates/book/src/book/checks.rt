@@ -1,9 +1,10 @@
 //! Which check of a command fails first.
 
 ghost use Rattle.std.specs.Bool.{OnTrue};
-ghost use Rattle.std.specs.Prelude.{◌≡◌, ℕ, None, Some, IfOk, IsTrue, MatchResult, [], find, is_some, map, ◌+◌, ◌≤◌, ◌<◌, ◌↔◌};
-ghost use Rattle.words.specs.Kinds.{is_change, is_opening, is_stock};
-ghost use Rattle.words.specs.declared.command.Command.TheVariants.{Deliver, Expire, Field, More, Open, Transfer, Writeoff};
+ghost use Rattle.std.specs.Prelude.{◌≡◌, ℕ, None, Some, IfOk, IsSome, IsTrue, MatchResult, [], find, is_some, map, ◌++◌, ◌+◌, ◌≤◌, ◌<◌, ◌↔◌};
+ghost use Rattle.words.specs.Kinds.{is_change, is_opening};
+ghost use Rattle.words.specs.declared.command.Command.TheVariants.{Expire, Field, More};
+ghost use Rattle.book.specs.After.{moved_at_once};
 ghost use Rattle.book.specs.Answers.{FirstFailure, checks, open_checks, order_checks, part_checks, line_checks};
 ghost use Rattle.book.specs.Checking.{hold_checks, bound_checks, refusal_of, stock_checks};
 ghost use Rattle.book.specs.Ledger.{is_open, order_numbered, name_of, Ledger, field_named, on, open_orders, places};
@@ -14,13 +15,12 @@ ghost use Rattle.book.specs.Next.{new_line, new_order};
 ghost use Rattle.book.specs.Running.{IsUpToDate};
 ghost use Rattle.book.specs.declared.order.Kind.{Kind};
 
-use super::Book;
-use super::find::line_in;
-use crate::entries::{FieldEntry, OrderEntry};
+use super::plan::{moved_at_once, transfer_lines};
+use super::{Book, FieldEntry};
 use crate::limits::{MAX_FIELDS, MAX_ORDERS, MAX_PLACES};
-use crate::order::{Kind, State};
+use crate::order::{Kind, OrderEntry, State, line_in};
 use escrow::{Article, Bound, Branch, FieldName, Level, Moment, OrderNo, Qty, Way};
-use words::{Command, MAX_ORDER_LINES, OpenLine, OpenLines, Refusal};
+use words::{Command, MAX_ORDER_LINES, OpenLine, Refusal};
 
 impl Book {
     /// Whether so many more places do not fit.
@@ -36,25 +36,6 @@ impl Book {
         ensures { FirstFailure (checks self.now.ledger command.now) result }
     {
         match command {
-            Command::Field { .. } => self.check_on_stock(command),
-            Command::Deliver { .. } => self.check_on_stock(command),
-            Command::Writeoff { .. } => self.check_on_stock(command),
-            Command::Open { .. } => self.check_opening(command),
-            Command::Transfer { .. } => self.check_opening(command),
-            Command::More { .. } => self.check_change(command),
-            Command::Use { .. } => self.check_change(command),
-            Command::Release { .. } => self.check_change(command),
-            Command::Commit { number } => self.check_end(*number),
-            Command::Abort { number } => self.check_end(*number),
-            Command::Expire { now } => self.check_expire(*now),
-        }
-    }
-
-    /// The same for a command about stock.
-    fn check_on_stock(&self, command: &Command) -> Option<(Refusal, u64)>
-        ensures { OnTrue (is_stock command.now) (FirstFailure (checks self.now.ledger command.now) result) }
-    {
-        match command {
             Command::Field {
                 branch,
                 article,
@@ -62,18 +43,26 @@ impl Book {
                 hi,
                 start,
             } => self.check_field(*branch, *article, *lo, *hi, *start),
-            Command::Deliver {
-                branch,
-                article,
-                qty,
-            } => self.check_deliver(*branch, *article, *qty),
-            Command::Writeoff {
-                branch,
-                article,
-                qty,
-            } => self.check_writeoff(*branch, *article, *qty),
-            _ => None,
+            Command::Deliver { .. } | Command::Writeoff { .. } => self.check_moving(command),
+            Command::Open { .. } | Command::Transfer { .. } => self.check_opening(command),
+            Command::More { .. } => self.check_change(command),
+            Command::Use { .. } | Command::Release { .. } => self.check_change(command),
+            Command::Commit { number } | Command::Abort { number } => self.check_end(*number),
+            Command::Expire { now } => self.check_expire(*now),
         }
+    }
+
+    /// The same for a command that moves a value at once.
+    fn check_moving(&self, command: &Command) -> Option<(Refusal, u64)>
+        ensures { IsSome (moved_at_once command.now) → FirstFailure (checks self.now.ledger command.now) result }
+    {
+        let Some(moved) = moved_at_once(command) else {
+            return None;
+        };
+        if self.is_full(1) {
+            return Some((Refusal::Full, 0));
+        }
+        self.check_move(moved.0, moved.1, moved.2)
     }
 
     /// The same for a command that opens an order.
@@ -85,7 +74,7 @@ impl Book {
                 number,
                 until,
                 lines,
-            } => self.check_open(*number, *until, lines),
+            } => self.check_open(*number, *until, lines.as_slice()),
             Command::Transfer {
                 number,
                 until,
@@ -93,7 +82,10 @@ impl Book {
                 from,
                 to,
                 qty,
-            } => self.check_transfer(*number, *until, *article, *from, *to, *qty),
+            } => {
+                let lines = transfer_lines(*article, *from, *to, *qty);
+                self.check_open(*number, *until, &lines)
+            }
             _ => None,
         }
     }
@@ -148,69 +140,20 @@ impl Book {
         None
     }
 
-    fn check_deliver(&self, branch: Branch, article: Article, qty: Qty) -> Option<(Refusal, u64)>
-        ensures { FirstFailure (checks self.now.ledger (Deliver branch article qty)) result }
-    {
-        if self.is_full(1) {
-            return Some((Refusal::Full, 0));
-        }
-        self.check_move(Way::Add, branch, article, qty)
-    }
-
-    fn check_writeoff(&self, branch: Branch, article: Article, qty: Qty) -> Option<(Refusal, u64)>
-        ensures { FirstFailure (checks self.now.ledger (Writeoff branch article qty)) result }
-    {
-        if self.is_full(1) {
-            return Some((Refusal::Full, 0));
-        }
-        self.check_move(Way::Take, branch, article, qty)
-    }
-
+    /// A new order of these lines, whatever its kind.
     fn check_open(
         &self,
         number: OrderNo,
         until: Moment,
-        lines: &OpenLines,
+        lines: &[OpenLine],
     ) -> Option<(Refusal, u64)>
-        ensures { FirstFailure (checks self.now.ledger (Open number until lines.now)) result }
+        ensures { (kind : Kind) → FirstFailure (order_checks self.now.ledger number until ++ line_checks self.now.ledger (new_order number kind until) [] lines.now) result }
     {
         let fault = self.check_order(number, until);
         if fault.is_some() {
             return fault;
         }
-        self.check_lines(lines.as_slice())
-    }
-
-    fn check_transfer(
-        &self,
-        number: OrderNo,
-        until: Moment,
-        article: Article,
-        from: Branch,
-        to: Branch,
-        qty: Qty,
-    ) -> Option<(Refusal, u64)>
-        ensures { FirstFailure (checks self.now.ledger (Transfer number until article from to qty)) result }
-    {
-        let fault = self.check_order(number, until);
-        if fault.is_some() {
-            return fault;
-        }
-        let lines = [
-            OpenLine {
-                way: Way::Take,
-                branch: from,
-                article,
-                qty,
-            },
-            OpenLine {
-                way: Way::Add,
-                branch: to,
-                article,
-                qty,
-            },
-        ];
-        self.check_lines(&lines)
+        self.check_lines(lines)
     }
 
     fn check_more(
@@ -362,7 +305,7 @@ impl Book {
             if has_line_on(&lines[..i], line.branch, line.article) {
                 return Some((Refusal::SameField, number));
             }
-            let fault = self.check_stock(line.way, line.branch, line.article, line.qty, number);
+            let fault = self.check_stock(line, number);
             if fault.is_some() {
                 return fault;
             }
@@ -370,38 +313,29 @@ impl Book {
         None
     }
 
-    /// The field is there, and has so much more room the one way.
-    fn check_stock(
-        &self,
-        way: Way,
-        branch: Branch,
-        article: Article,
-        qty: Qty,
-        line: u64,
-    ) -> Option<(Refusal, u64)>
+    /// The field of the line is there, and has so much more room the one way.
+    fn check_stock(&self, line: &OpenLine, number: u64) -> Option<(Refusal, u64)>
         ensures good { Good self.now.ledger }
-        ensures found { FirstFailure (stock_checks way self.now.ledger (name_of branch article) qty line) result }
+        ensures found { FirstFailure (stock_checks line.now.way self.now.ledger (name_of line.now.branch line.now.article) line.now.qty number) result }
     {
-        match self.field_entry(branch, article) {
-            None => Some((Refusal::NoField, line)),
-            Some(field) => check_bound(FieldName { branch, article }, field, way, qty, line),
+        let name = FieldName {
+            branch: line.branch,
+            article: line.article,
+        };
+        match self.field_entry(line.branch, line.article) {
+            None => Some((Refusal::NoField, number)),
+            Some(field) => check_bound(name, field, line.way, line.qty, number),
         }
     }
 
     /// The field is there, and its value may be moved so much the one way.
-    fn check_move(
-        &self,
-        way: Way,
-        branch: Branch,
-        article: Article,
-        qty: Qty,
-    ) -> Option<(Refusal, u64)>
+    fn check_move(&self, name: FieldName, way: Way, qty: Qty) -> Option<(Refusal, u64)>
         ensures good { Good self.now.ledger }
-        ensures found { FirstFailure (stock_checks way self.now.ledger (name_of branch article) qty 0) result }
+        ensures found { FirstFailure (stock_checks way self.now.ledger name qty 0) result }
     {
-        match self.field_entry(branch, article) {
+        match self.field_entry(name.branch, name.article) {
             None => Some((Refusal::NoField, 0)),
-            Some(field) => check_moved(FieldName { branch, article }, field, way, qty),
+            Some(field) => check_moved(name, field, way, qty),
         }
     }
 }

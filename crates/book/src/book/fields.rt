@@ -6,7 +6,6 @@ ghost use Rattle.std.specs.List.{AllByRecursion as Each};
 ghost use Rattle.std.specs.List.Sorted.{IsStrictlySortedBy};
 ghost use Rattle.std.specs.Map.{keys_of};
 ghost use Rattle.book.specs.After.{expired_numbers, field_rows, of_numbered, order_after};
-ghost use Rattle.book.specs.Answers.{IsAccepted};
 ghost use Rattle.book.specs.Changes.{changes_field};
 ghost use Rattle.book.specs.Ledger.{field_named, line_name, name_cmp, on, order_numbered, name_of};
 ghost use Rattle.book.specs.Running.{Accepts, GivenBack, GivesBack, HasLines, MayGiveBack, MovesField, Puts, amount_held, entry_row, line_before, Becomes, HoldsInstead, MayBecome};
@@ -17,11 +16,10 @@ ghost use Rattle.escrow.specs.Choices.{IsSafe};
 ghost use Rattle.escrow.specs.Escrow.{held_of, holding, IsSafeMoved, MovesValue};
 ghost use Rattle.escrow.specs.Ranges.{IsQty};
 
-use super::Book;
-use super::find::line_in;
-use crate::entries::{FieldEntry, Order};
+use super::plan::moved_at_once;
+use super::{Book, FieldEntry};
 use crate::in_order::InOrder;
-use crate::order::{Line, State};
+use crate::order::{Line, Order, State, line_in};
 use escrow::{Article, Branch, FieldName, OrderNo, Qty, Quantity, Way};
 use std::alloc::Global;
 use words::{Command, Memory, Request};
@@ -115,18 +113,16 @@ impl Book {
         &self,
         fields: &mut Fields,
         request: &Request,
-        made: &Option<Order>,
         order: &Order,
         line: &Line,
     ) -> Result<(), Memory>
         requires accepts { Accepts self.now.ledger request.now }
-        requires made { option_map order_of made.now ≡ order_after self.now.ledger request.now.command }
-        requires order { made.now ≡ Some order.now }
+        requires made { order_after self.now.ledger request.now.command ≡ Some (order_of order.now) }
         requires line { find (on (line_name line.now)) order.now.1.lines.items ≡ Some line.now }
         ensures changed { OnOk result (changes_field self.now.ledger request.now.command (line_name line.now) ≡ true → Puts self.now.ledger request.now (line_name line.now) fields.old.entries fields.new.entries) }
         ensures same { OnOk result (changes_field self.now.ledger request.now.command (line_name line.now) ≡ false → fields.new.entries ≡ fields.old.entries) }
     {
-        if !self.changes_field(&request.command, made, line.branch, line.article) {
+        if !self.changes_field(request, order, line) {
             return Ok(());
         }
         let held = self.held_before(order.0, line);
@@ -139,21 +135,14 @@ impl Book {
     }
 
     /// Puts in the fields of the lines of the order that the request makes, where it changes them.
-    fn put_lines(
-        &self,
-        fields: &mut Fields,
-        request: &Request,
-        made: &Option<Order>,
-        order: &Order,
-    ) -> Result<(), Memory>
+    fn put_lines(&self, fields: &mut Fields, request: &Request, order: &Order) -> Result<(), Memory>
         requires accepts { Accepts self.now.ledger request.now }
-        requires made { option_map order_of made.now ≡ order_after self.now.ledger request.now.command }
-        requires order { made.now ≡ Some order.now }
+        requires made { order_after self.now.ledger request.now.command ≡ Some (order_of order.now) }
         requires none { fields.old.entries ≡ [] }
         ensures { OnOk result (HasLines self.now.ledger request.now order.now.1.lines.items fields.new.entries) }
     {
         for line in order.1.lines.iter() {
-            self.put_line(fields, request, made, order, line)?;
+            self.put_line(fields, request, order, line)?;
         }
         Ok(())
     }
@@ -253,6 +242,9 @@ impl Book {
         requires none { fields.old.entries ≡ [] }
         ensures { OnOk result (IsStrictlySortedBy name_cmp (keys_of fields.new.entries) → map entry_row fields.new.entries ≡ field_rows self.now.ledger request.now) }
     {
+        if let Some(moved) = moved_at_once(&request.command) {
+            return self.put_moved(fields, moved.0, moved.1, moved.2);
+        }
         match &request.command {
             Command::Field {
                 branch,
@@ -271,31 +263,9 @@ impl Book {
                 };
                 put(fields, name, FieldEntry { start, quantity })
             }
-            Command::Deliver {
-                branch,
-                article,
-                qty,
-            } => {
-                let name = FieldName {
-                    branch: *branch,
-                    article: *article,
-                };
-                self.put_moved(fields, name, Way::Add, *qty)
-            }
-            Command::Writeoff {
-                branch,
-                article,
-                qty,
-            } => {
-                let name = FieldName {
-                    branch: *branch,
-                    article: *article,
-                };
-                self.put_moved(fields, name, Way::Take, *qty)
-            }
             Command::Expire { .. } => self.put_expired(fields, expired),
             _ => match made {
-                Some(order) => self.put_lines(fields, request, made, order),
+                Some(order) => self.put_lines(fields, request, order),
                 None => Ok(()),
             },
         }
@@ -310,14 +280,11 @@ impl Book {
         made: &Option<Order>,
         expired: &[OrderNo],
     ) -> Result<Fields, Memory>
-        requires accepted { IsAccepted self.now.ledger request.now }
+        requires accepts { Accepts self.now.ledger request.now }
         requires made { option_map order_of made.now ≡ order_after self.now.ledger request.now.command }
         requires expired { expired.now ≡ expired_numbers self.now.ledger request.now.command }
         ensures { IfOk result (λ fields. map entry_row fields.entries ≡ field_rows self.now.ledger request.now) }
     {
-        // so that the proof has the invariant
-        let _ = &self.fields;
-        request.in_range();
         let mut fields = InOrder::new(alloc);
         self.put_changed(&mut fields, request, made, expired)?;
         // so that the proof has their order

@@ -1,24 +1,23 @@
-//! The order that an accepted command opens or changes, as it is then.
+//! The orders that an accepted command opens, changes or aborts, as they are then, and what that changes of their lines.
 
-ghost use Rattle.std.specs.Prelude.{◌≡◌, ℕ, ◌<◌, ◌||◌, true, MatchOption, find, if◌then◌else◌, map, option_map, IfOk, Some};
-ghost use Rattle.std.specs.List.{AllByRecursion as Each};
-ghost use Rattle.std.specs.Vec.{vec_capacity, vec_len};
-ghost use Rattle.escrow.specs.Ranges.{IsLevel};
-ghost use Rattle.book.specs.InPlace.{MayChange, MayChangeOrder, changed_line, changed_order, held_lines, order_change_of};
-ghost use Rattle.book.specs.Ledger.{line_name, name_of, on, is_transfer, order_numbered};
-ghost use Rattle.book.specs.declared.book.made.LineChange.TheVariants as LineChange;
-ghost use Rattle.book.specs.Next.{new_line, accept};
+ghost use Rattle.book.specs.After.{order_after, changes_own_line, changes_own_stock, changes_state, expired_numbers};
+ghost use Rattle.book.specs.Changes.{changes_field};
+ghost use Rattle.book.specs.InPlace.{MayChange, MayChangeOrder, changed_line, changed_order, held_lines, order_change_of, abort_all, abort_one};
+ghost use Rattle.book.specs.Ledger.{line_name, name_of, on, is_transfer, order_numbered, same_name, open_state};
+ghost use Rattle.book.specs.Next.{new_line, expires};
+ghost use Rattle.book.specs.Running.{Accepts};
 ghost use Rattle.book.specs.View.{order_of};
-ghost use Rattle.book.specs.After.{order_after};
-ghost use Rattle.book.specs.Answers.{IsAccepted};
-ghost use Rattle.book.specs.Good.{Good};
+ghost use Rattle.book.specs.declared.book.made.LineChange.TheVariants as LineChange;
 ghost use Rattle.book.specs.declared.order.State.TheVariants as State;
+ghost use Rattle.escrow.specs.Ranges.{IsLevel};
+ghost use Rattle.std.specs.List.{AllByRecursion as Each, filter};
+ghost use Rattle.std.specs.Prelude.{◌≡◌, ℕ, ◌<◌, ◌||◌, true, MatchOption, find, if◌then◌else◌, map, option_map, IfOk, Some, ◌∷◌, ◌++◌, [], ◌&&◌, nat_le, OnOk};
+ghost use Rattle.std.specs.Vec.{vec_capacity, vec_len};
 
 use super::Book;
-use super::find::{is_on, line_in};
 use super::plan::lines_of;
-use crate::entries::{Order, OrderEntry};
-use crate::order::{Kind, Line, State};
+use crate::in_order::InOrder;
+use crate::order::{Kind, Line, Order, OrderEntry, State, is_on, line_in};
 use escrow::{Article, Branch, Level, Moment, OrderNo, Qty};
 use std::alloc::Global;
 use words::{Command, Memory, OpenLine, Request};
@@ -240,10 +239,12 @@ impl Book {
     }
 
     /// The order that the accepted command opens or changes, as it is then; none where it is about no one order.
-    fn order_after(&self, alloc: Global, request: &Request) -> Result<Option<Order>, Memory>
-        requires accepted { IsAccepted self.now.ledger request.now }
-        requires before { Good self.now.ledger }
-        requires good { Good (accept self.now.ledger request.now) }
+    pub(super) fn order_after(
+        &self,
+        alloc: Global,
+        request: &Request,
+    ) -> Result<Option<Order>, Memory>
+        requires { Accepts self.now.ledger request.now }
         ensures { IfOk result (λ made. option_map order_of made ≡ order_after self.now.ledger request.now.command) }
     {
         let command = &request.command;
@@ -262,19 +263,142 @@ impl Book {
             },
         }
     }
+}
 
-    /// The same, for a request whose ranges are not yet known.
-    pub(super) fn order_made(
-        &self,
-        alloc: Global,
-        request: &Request,
-    ) -> Result<Option<Order>, Memory>
-        requires { IsAccepted self.now.ledger request.now }
-        ensures { IfOk result (λ made. option_map order_of made ≡ order_after self.now.ledger request.now.command) }
+/// Whether the line is on the field of that name.
+fn is_same_field(line: &Line, branch: &Branch, article: &Article) -> bool
+    ensures { result ≡ same_name (line_name line.now) (name_of branch.now article.now) }
+{
+    line.branch == *branch && line.article == *article
+}
+
+/// Whether the order is a transfer.
+pub(super) fn is_transfer(order: &Order) -> bool
+    ensures { result ≡ is_transfer (order_of order.now) }
+{
+    match order.1.kind {
+        Kind::Plain => false,
+        Kind::Transfer => true,
+    }
+}
+
+/// Whether the command opens an order or ends one.
+pub(super) fn changes_state(command: &Command) -> bool
+    ensures { result ≡ changes_state command.now }
+{
+    match command {
+        Command::Open { .. } | Command::Transfer { .. } => true,
+        Command::Commit { .. } | Command::Abort { .. } => true,
+        _ => false,
+    }
+}
+
+/// Whether the row of the line of the order that the command makes is new, or its amounts change.
+pub(super) fn changes_line(command: &Command, is_transfer: bool, line: &Line) -> bool
+    ensures { result ≡ changes_own_line is_transfer command.now line.now }
+{
+    match command {
+        Command::Open { .. } | Command::Transfer { .. } => true,
+        Command::More {
+            branch,
+            article,
+            ..
+        } => is_same_field(line, branch, article),
+        Command::Use {
+            branch,
+            article,
+            ..
+        } => is_transfer || is_same_field(line, branch, article),
+        Command::Release {
+            branch,
+            article,
+            ..
+        } => is_transfer || is_same_field(line, branch, article),
+        _ => false,
+    }
+}
+
+/// Whether the command changes the stock of the field of a line of the order that it makes.
+fn changes_stock(command: &Command, is_transfer: bool, line: &Line) -> bool
+    ensures { result ≡ changes_own_stock is_transfer command.now line.now }
+{
+    match command {
+        Command::Use { .. } => false,
+        Command::Commit { .. } | Command::Abort { .. } => true,
+        _ => changes_line(command, is_transfer, line),
+    }
+}
+
+impl Book {
+    /// Whether the request changes the numbers of the field of a line of the order that it makes.
+    pub(super) fn changes_field(&self, request: &Request, order: &Order, line: &Line) -> bool
+        requires accepts { Accepts self.now.ledger request.now }
+        requires made { order_after self.now.ledger request.now.command ≡ Some (order_of order.now) }
+        requires line { find (on (line_name line.now)) order.now.1.lines.items ≡ Some line.now }
+        ensures { result ≡ changes_field self.now.ledger request.now.command (line_name line.now) }
     {
-        // so that the proof has the invariant
-        let _ = &self.orders;
-        request.in_range();
-        self.order_after(alloc, request)
+        changes_stock(&request.command, is_transfer(order), line)
+    }
+}
+
+/// Whether the expiry aborts the order.
+fn expires(order: &OrderEntry, now: Moment) -> bool
+    ensures { result ≡ open_state order.now.state && nat_le order.now.until now }
+{
+    // the moment first: few have come, so a processor guesses this test, while an order is as likely open as not
+    order.until <= now && matches!(order.state, State::Open)
+}
+
+/// Appends the order's number, where it expires.
+fn push_expiring(numbers: &mut Vec<OrderNo>, order: &Order, now: Moment) -> Result<(), Memory>
+    ensures { OnOk result (numbers.new.items ≡ numbers.old.items ++ map (λ o. o.number) (filter (expires now) (order_of order.now ∷ []))) }
+{
+    if expires(&order.1, now) {
+        return numbers.push(order.0).map_err(|_| Memory);
+    }
+    Ok(())
+}
+
+/// The numbers of those of the orders that expire, as the orders lie.
+fn expiring(alloc: Global, orders: &[Order], now: Moment) -> Result<Vec<OrderNo>, Memory>
+    ensures { IfOk result (λ numbers. numbers.items ≡ map (λ o. o.number) (filter (expires now) (map order_of orders.now))) }
+{
+    let mut numbers = Vec::new(alloc);
+    for order in orders {
+        push_expiring(&mut numbers, order, now)?;
+    }
+    Ok(numbers)
+}
+
+impl Book {
+    /// The numbers of the orders that the command aborts as expired, in their order. It looks at all orders as they
+    /// lie, and is the one that does.
+    pub(super) fn expired(&self, alloc: Global, command: &Command) -> Result<Vec<OrderNo>, Memory>
+        ensures { IfOk result (λ numbers. numbers.items ≡ expired_numbers self.now.ledger command.now) }
+    {
+        let Command::Expire { now } = command else {
+            return Ok(Vec::new(alloc));
+        };
+        let mut numbers = expiring(alloc, self.orders.arrived(), *now)?;
+        numbers.sort_unstable();
+        Ok(numbers)
+    }
+}
+
+/// The order of that number is aborted, if there is one.
+fn abort(orders: &mut InOrder<OrderNo, OrderEntry>, number: OrderNo)
+    ensures { map order_of orders.new.entries ≡ abort_one (map order_of orders.old.entries) number }
+{
+    if let Some(order) = orders.get_mut(&number) {
+        order.state = State::Aborted;
+    }
+}
+
+/// The orders of these numbers are aborted.
+pub(super) fn abort_all(orders: &mut InOrder<OrderNo, OrderEntry>, numbers: &[OrderNo])
+    ensures { map order_of orders.new.entries ≡ abort_all numbers.now (map order_of orders.old.entries) }
+{
+    for number in numbers {
+        abort(orders, *number);
     }
 }

@@ -1,19 +1,100 @@
-//! What is answered to a request, before it is carried out.
+//! What is answered to a request, before it is carried out; plans of accepted requests.
 
-ghost use Rattle.std.specs.Prelude.{◌≡◌, ◌⊎◌, IfOk, IsSome, OnErr, map};
+ghost use Rattle.book.specs.After.{move_made, moved_at_once};
 ghost use Rattle.book.specs.Answers.{IsAccepted, same_command};
-ghost use Rattle.book.specs.Ledger.{kept_under};
-ghost use Rattle.book.specs.Next.{new_line};
+ghost use Rattle.book.specs.Ledger.{kept_under, name_of};
+ghost use Rattle.book.specs.Next.{new_line, transfer_lines};
+ghost use Rattle.book.specs.Outcomes.{signed};
 ghost use Rattle.book.specs.Planned.{Plans};
-ghost use Rattle.book.specs.Plans.{opened_lines};
+ghost use Rattle.book.specs.Plans.{plan_of, Makes, opened_lines};
+ghost use Rattle.book.specs.Running.{Accepts};
+ghost use Rattle.book.specs.Tables.{rows_among};
+ghost use Rattle.book.specs.View.{move_of, order_of};
+ghost use Rattle.std.specs.Prelude.{◌≡◌, length, option_map, ◌⊎◌, IfOk, IsSome, OnErr, map};
 
-use super::Book;
 use super::made::new_line;
-use crate::order::Line;
-use crate::plan::Plan;
-use escrow::Way;
+use super::{Book, FieldEntry, MoveEntry};
+use crate::in_order::InOrder;
+use crate::order::{Line, Order};
+use crate::rows::Change;
+use escrow::{Article, Branch, FieldName, Key, OrderNo, Qty, Way};
 use std::alloc::Global;
+use std::marker::Model;
 use words::{Command, Memory, OpenLine, Refusal, Request, WordsFault, read_command, write_command};
+
+/// What an accepted request puts into the book: its key, its command and its place, the fields, the move and the order
+/// that it makes or changes, and the orders that expire.
+#[derive(Debug, Drop)]
+pub(crate) struct PlanParts {
+    pub key: Key,
+    pub command: Box<Command>,
+    pub place: u64,
+    pub fields: InOrder<FieldName, FieldEntry>,
+    pub moved: Option<MoveEntry>,
+    pub made: Option<Order>,
+    pub expired: Vec<OrderNo>,
+}
+
+/// An accepted request with its place, what it puts into the book, and the rows that change.
+/// `Book::plan` gives one that fits the book's ledger.
+#[derive(Debug, Drop)]
+pub struct Plan {
+    parts: PlanParts,
+    changes: Vec<Change>,
+}
+
+impl Model for Plan {
+    ghost use Rattle.book.specs.Plans.{PlanView, plan_of};
+    ghost use Rattle.book.specs.Tables.{rows_among};
+
+    ghost Value = { PlanView };
+
+    ghost view = { λ p. plan_of p.parts (rows_among p.changes.items) };
+}
+
+impl Plan {
+    /// The plan that puts these parts in and changes these rows.
+    pub(crate) fn new(parts: PlanParts, changes: Vec<Change>) -> Plan
+        ensures { result ≡ plan_of parts (rows_among changes.items) }
+    {
+        Plan { parts, changes }
+    }
+
+    /// The place that the command gets.
+    pub fn place(&self) -> u64
+        ensures { result ≡ self.now.place }
+    {
+        self.parts.place
+    }
+
+    /// The rows that the request changes, those of each table in the order of its key: put into the tables they
+    /// give those of the ledger that `Book::adopt` leaves.
+    pub fn changes(&self) -> &[Change]
+        ensures { rows_among result.now ≡ self.now.changes }
+    {
+        &self.changes
+    }
+
+    /// How many fields it makes or changes.
+    pub(crate) fn field_count(&self) -> usize
+        ensures { result ≡ length self.now.fields }
+    {
+        self.parts.fields.len()
+    }
+
+    /// What it puts into the book.
+    pub(crate) fn into_parts(self) -> PlanParts
+        ensures key { result.key ≡ self.request.key }
+        ensures command { result.command.value ≡ self.request.command }
+        ensures place { result.place ≡ self.place }
+        ensures fields { result.fields.entries ≡ self.fields }
+        ensures moved { option_map move_of result.moved ≡ self.moved }
+        ensures made { option_map order_of result.made ≡ self.made }
+        ensures expired { result.expired.items ≡ self.expired }
+    {
+        self.parts
+    }
+}
 
 /// What is answered to a request.
 #[derive(Debug, Drop)]
@@ -71,6 +152,24 @@ fn new_lines(alloc: Global, lines: &[OpenLine]) -> Result<Vec<Line>, Memory>
     Ok(made)
 }
 
+/// The lines of a transfer: a take at the one branch, an add at the other.
+pub(super) fn transfer_lines(article: Article, from: Branch, to: Branch, qty: Qty) -> [OpenLine; 2]
+    ensures { result ≡ transfer_lines article from to qty }
+{
+    let take = OpenLine {
+        way: Way::Take,
+        branch: from,
+        article,
+        qty,
+    };
+    let add = OpenLine {
+        way: Way::Add,
+        branch: to,
+        ..take
+    };
+    [take, add]
+}
+
 /// The lines of the order that the command opens.
 pub(super) fn lines_of(alloc: Global, command: &Command) -> Result<Vec<Line>, Memory>
     ensures { IfOk result (λ made. made.items ≡ map new_line (opened_lines command.now)) }
@@ -83,21 +182,59 @@ pub(super) fn lines_of(alloc: Global, command: &Command) -> Result<Vec<Line>, Me
             to,
             qty,
             ..
-        } => {
-            let take = OpenLine {
-                way: Way::Take,
-                branch: *from,
-                article: *article,
-                qty: *qty,
-            };
-            let add = OpenLine {
-                way: Way::Add,
-                branch: *to,
-                ..take
-            };
-            new_lines(alloc, &[take, add])
-        }
+        } => new_lines(alloc, &transfer_lines(*article, *from, *to, *qty)),
         _ => Ok(Vec::new(alloc)),
+    }
+}
+
+/// The field whose value the command moves at once, the way, and how much.
+pub(super) fn moved_at_once(command: &Command) -> Option<(FieldName, Way, Qty)>
+    ensures { result ≡ moved_at_once command.now }
+{
+    match command {
+        Command::Deliver {
+            branch,
+            article,
+            qty,
+        } => Some((field_name(*branch, *article), Way::Add, *qty)),
+        Command::Writeoff {
+            branch,
+            article,
+            qty,
+        } => Some((field_name(*branch, *article), Way::Take, *qty)),
+        _ => None,
+    }
+}
+
+fn field_name(branch: Branch, article: Article) -> FieldName
+    ensures { result ≡ name_of branch article }
+{
+    FieldName { branch, article }
+}
+
+/// The move at that place.
+fn move_at(place: u64, moved: (FieldName, Way, Qty)) -> MoveEntry
+    ensures { move_of result ≡ record { place = place; field = moved.0; amount = signed moved.1 moved.2 } }
+{
+    let amount = moved.2.get() as i64;
+    MoveEntry {
+        place,
+        branch: moved.0.branch,
+        article: moved.0.article,
+        amount: match moved.1 {
+            Way::Take => -amount,
+            Way::Add => amount,
+        },
+    }
+}
+
+/// The move that the command makes at that place, if it makes one.
+fn move_made(place: u64, command: &Command) -> Option<MoveEntry>
+    ensures { option_map move_of result ≡ move_made place command.now }
+{
+    match moved_at_once(command) {
+        Some(moved) => Some(move_at(place, moved)),
+        None => None,
     }
 }
 
@@ -118,14 +255,41 @@ impl Book {
         if let Some(failure) = self.check(&request.command) {
             return Ok(Planned::Refused(failure.0, failure.1));
         }
+        self.accepts(request);
+        let parts = self.parts_of(alloc, request)?;
+        let changes = self.changes_of(alloc, request, &parts)?;
+        Ok(Planned::Accept(Plan::new(parts, changes)))
+    }
+
+    /// That an accepted request is in range, and leaves a good ledger.
+    fn accepts(&self, request: &Request)
+        requires { IsAccepted self.now.ledger request.now }
+        ensures { Accepts self.now.ledger request.now }
+    {
+        // so that the proof has the invariant
+        let _ = &self.kept;
+        request.in_range();
+    }
+
+    /// What the accepted request puts into the book.
+    fn parts_of(&self, alloc: Global, request: &Request) -> Result<PlanParts, Memory>
+        requires { Accepts self.now.ledger request.now }
+        ensures { IfOk result (λ parts. Makes self.now.ledger request.now parts) }
+    {
         let copy = copy_of(alloc, &request.command)?;
         let command = boxed(alloc, copy)?;
         let place = self.kept.len() as u64 + 1;
-        let made = self.order_made(alloc, request)?;
+        let made = self.order_after(alloc, request)?;
         let expired = self.expired(alloc, &request.command)?;
         let fields = self.fields_after(alloc, request, &made, &expired)?;
-        let changes = self.changes_of(alloc, request, &fields, &made, &expired)?;
-        let plan = Plan::new(request.key, command, place, fields, made, expired, changes);
-        Ok(Planned::Accept(plan))
+        Ok(PlanParts {
+            key: request.key,
+            command,
+            place,
+            fields,
+            moved: move_made(place, &request.command),
+            made,
+            expired,
+        })
     }
 }

@@ -12,23 +12,20 @@ ghost use Rattle.book.specs.declared.book.tables.TablesFault.TheVariants as Tabl
 
 mod good;
 mod group;
-mod numbers;
-mod places;
+mod sums;
 mod told;
 
 use self::good::{
     are_fields_in_order, are_keys_in_order, are_moves_good, are_moves_in_order, are_orders_good,
-    are_orders_in_order,
+    are_orders_in_order, are_places_good,
 };
 use self::group::{Head, group};
-use self::numbers::are_up_to_date;
-use self::places::are_places_good;
+use self::sums::are_up_to_date;
 use self::told::{moment, natural, read_all};
-use crate::book::Book;
-use crate::entries::{FieldEntry, KeptEntry, MoveEntry, Order};
+use crate::book::{Book, FieldEntry, KeptEntry, MoveEntry};
 use crate::in_order::InOrder;
 use crate::limits::{MAX_FIELDS, MAX_ORDERS, MAX_PLACES};
-use crate::order::{Line, State};
+use crate::order::{Line, Order, State};
 use crate::rows::{DeskRow, Tables};
 use escrow::{FieldName, Key, Moment};
 use std::alloc::Global;

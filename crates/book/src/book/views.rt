@@ -8,8 +8,7 @@ ghost use Rattle.book.specs.Running.{IsUpToDate};
 ghost use Rattle.book.specs.View.{field_of};
 ghost use Rattle.book.specs.Views.{ShowsField, ShowsOrder};
 
-use super::Book;
-use crate::entries::FieldEntry;
+use super::{Book, FieldEntry};
 use crate::order::{Kind, Line, State};
 use escrow::{Article, Branch, FieldName, Level, Moment, OrderNo};
 

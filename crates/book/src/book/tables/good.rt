@@ -1,21 +1,21 @@
 //! Whether entries are those of a good ledger, whatever their fields' numbers.
 
-ghost use Rattle.std.specs.Prelude.{◌≡◌, ◌≤◌, ◌↔◌, IsTrue, map, nat_lt};
-ghost use Rattle.std.specs.Cmp.Lexicographic.{slice_cmp};
-ghost use Rattle.std.specs.List.{AllByRecursion as Each, IsDistinct};
-ghost use Rattle.std.specs.List.Sorted.{IsStrictlySortedBy};
-ghost use Rattle.std.specs.Ordering.{nat_cmp, is_lt};
-ghost use Rattle.escrow.specs.Ranges.{IsLevel};
 ghost use Rattle.book.specs.Good.{IsTransferPair};
 ghost use Rattle.book.specs.Ledger.{line_name, name_cmp, same_name};
 ghost use Rattle.book.specs.Told.{IsMoveByItself, IsOrderByItself};
 ghost use Rattle.book.specs.View.{field_of, kept_of, move_of, order_of};
+ghost use Rattle.escrow.specs.Ranges.{IsLevel};
+ghost use Rattle.std.specs.Cmp.Lexicographic.{slice_cmp};
+ghost use Rattle.std.specs.List.Sorted.{IsStrictlySortedBy};
+ghost use Rattle.std.specs.List.{AllByRecursion as Each, IsDistinct};
+ghost use Rattle.std.specs.Ordering.{nat_cmp, is_lt};
+ghost use Rattle.std.specs.Prelude.{◌≡◌, ◌≤◌, ◌↔◌, IsTrue, map, nat_lt, ◌<◌, IfOk, false, length, nat_eq, slice_index_or, true};
 
-use crate::book::find::line_in;
-use crate::entries::{FieldEntry, KeptEntry, MoveEntry, Order};
-use crate::order::{Kind, Line};
+use crate::book::{FieldEntry, KeptEntry, MoveEntry};
+use crate::order::{Kind, Line, Order, line_in};
 use escrow::{FieldName, Key, Qty, Way};
-use words::MAX_ORDER_LINES;
+use std::alloc::Global;
+use words::{MAX_ORDER_LINES, Memory};
 
 /// Whether the one field stands before the other: by branch, then by article.
 fn is_field_before(one: &(FieldName, FieldEntry), other: &(FieldName, FieldEntry)) -> bool
@@ -159,4 +159,27 @@ pub(super) fn are_orders_good(orders: &[Order]) -> bool
         }
     }
     true
+}
+
+/// Whether the places are 1 to the number of kept keys, each once.
+pub(super) fn are_places_good(alloc: Global, kept: &[(Key, KeptEntry)]) -> Result<bool, Memory>
+    ensures { IfOk result (λ good. IsTrue good ↔ (Each (λ k. (1 ≤ k.place) × (k.place ≤ length kept.now)) (map kept_of kept.now) × IsDistinct nat_eq (map (λ k. k.place) (map kept_of kept.now)))) }
+{
+    let Ok(mut taken) = Vec::from_elem(alloc, false, kept.len() + 1) else {
+        return Err(Memory);
+    };
+    for entry in kept {
+        if !is_free(&taken, entry.1.place) {
+            return Ok(false);
+        }
+        taken[entry.1.place as usize] = true;
+    }
+    Ok(true)
+}
+
+/// Whether there is such a place, from 1, and it is not taken.
+fn is_free(taken: &[bool], place: u64) -> bool
+    ensures { IsTrue result ↔ ((1 ≤ place) × (place < length taken.now) × (slice_index_or taken.now place true ≡ false)) }
+{
+    1 <= place && place < taken.len() as u64 && !taken[place as usize]
 }

@@ -13,8 +13,7 @@ ghost use Rattle.book.specs.declared.book.tables.TablesFault.TheVariants as Tabl
 ghost use Rattle.book.specs.declared.order.Line.{Line};
 
 use super::TablesFault;
-use crate::entries::{Order, OrderEntry};
-use crate::order::{Kind, Line, State};
+use crate::order::{Kind, Line, Order, OrderEntry, State};
 use crate::rows::LineRow;
 use escrow::{Moment, OrderNo};
 use std::alloc::Global;

@@ -1,5 +1,5 @@
-use Rattle.std.proofs.Common.{◌≡◌, ◌∙◌, ◌+◌, None, ap, map, rules, subst, sym}
-use Rattle.book.proofs.Prelude.{BookView, Command, Done, Each, Good, IsAccepted, IsInRange, IsKey, IsUpToDate, Ledger, accept, article_total, field_of, kept_under, ledger_of, open_orders, places, with_entries}
+use Rattle.book.proofs.Prelude.{◌+◌, ◌∙◌, ◌≡◌, BookView, Command, Done, Each, Good, IsAccepted, IsInRange, IsKey, IsUpToDate, Ledger, None, accept, ap, article_total, field_of, kept_under, ledger_of, map, open_orders, places, rules, subst, sym, with_entries}
+use Rattle.book.specs.After.{move_made}
 use Rattle.book.specs.Next.{next as next_of}
 use Rattle.book.proofs.Closing.{honours_always}
 use Rattle.book.proofs.Goodness.{good_accept}
@@ -34,7 +34,12 @@ put c =
     (ap (map field_of) is ∙ done.0, subst (Each (IsUpToDate (accept A plan.request))) (sym is) done.1)
 
 pub returns-clause-next : goal.returns-clause-next
-returns-clause-next c = let fields = (put c).0 in search rules
+returns-clause-next c =
+    let r = c.args.plan.request in
+    let fits = c.requires.fits in
+    let fields = (put c).0 in
+    let moves = c.adopt_move.ensures c.args.self.now.ledger r.command (ap (λ (v : BookView). v.ledger.moves) c.self.view_is) (c.into_parts-parts.ensures.moved ∙ fits.moved ∙ ap (λ n. move_made n r.command) fits.place) in
+    search rules
 
 pub invariant_of-self : goal.invariant_of-self
 invariant_of-self c =

@@ -1,26 +1,28 @@
-use Rattle.std.proofs.Common.{◌≡◌, ◌∙◌, ◌+◌, List, [], ◌∷◌, ◌++◌, ap, arith, subst, sym}
-use Rattle.book.proofs.Prelude.{Change, Content, FieldCells, IsShort, Ledger, Request, option_map, order_of, rows_among, with_fields}
+use Rattle.book.proofs.Prelude.{[], ◌++◌, ◌∙◌, ◌∷◌, ◌≤◌, Change, IsShort, List, MAX_PLACES, aborted_rows, ap, flat_map, of_numbered, rows_among, subst, sym, with_orders, ℕ}
 use Rattle.book.specs.Tables.{desk_cells}
 use Rattle.book.specs.declared.rows.Change.TheVariants.{Desk}
 use Rattle.book.proofs.Made.{made_short}
-use Rattle.book.proofs.NextRows.{changes_to, good_next, good_now, place_fits, place_is, rows_in_turn, rows_made}
+use Rattle.book.proofs.NextRows.{changes_to, place_fits, placed, rows_in_turn}
 use Rattle.book.proofs.book.Book.changes_of.Goals as goal
 
 pub desk_row-desk-requires : goal.desk_row-desk-requires
-desk_row-desk-requires c = grind (arith, (place_fits c.self.inside c.args.self.now c.args.request.now c.len.result c.self.view_is c.len.ensures.len (good_next c.self.inside c.args.self.now c.args.request.now c.self.view_is c.self.invariant.0 c.in_range.ensures.key c.in_range.ensures.command c.requires.accepted)), good_next)
+desk_row-desk-requires c = subst (λ n. n ≤ MAX_PLACES) (sym c.requires.makes.place) (place_fits c.args.self.now.ledger c.args.request.now c.requires.accepts.after)
 
 pub push_move-requires : goal.push_move-requires
-push_move-requires c = grind (arith, (place_fits c.self.inside c.args.self.now c.args.request.now c.len.result c.self.view_is c.len.ensures.len (good_next c.self.inside c.args.self.now c.args.request.now c.self.view_is c.self.invariant.0 c.in_range.ensures.key c.in_range.ensures.command c.requires.accepted)), good_next)
+push_move-requires c = placed c.args.parts.now.moved c.args.parts.now.place c.args.request.now.command c.requires.makes.moved (subst (λ n. n ≤ MAX_PLACES) (sym c.requires.makes.place) (place_fits c.args.self.now.ledger c.args.request.now c.requires.accepts.after))
 
 pub push_own_lines-requires : goal.push_own_lines-requires
-push_own_lines-requires c = grind (arith, (good_next c.self.inside c.args.self.now c.args.request.now c.self.view_is c.self.invariant.0 c.in_range.ensures.key c.in_range.ensures.command c.requires.accepted), made_short)
+push_own_lines-requires c = subst IsShort (sym c.requires.makes.made) (made_short c.args.self.now.ledger c.args.request.now c.requires.accepts.after c.requires.accepts.accepted)
 
 pub push_kept-requires : goal.push_kept-requires
-push_kept-requires c = grind (arith, (place_fits c.self.inside c.args.self.now c.args.request.now c.len.result c.self.view_is c.len.ensures.len (good_next c.self.inside c.args.self.now c.args.request.now c.self.view_is c.self.invariant.0 c.in_range.ensures.key c.in_range.ensures.command c.requires.accepted)), good_next)
-
--- the rows that were made
-made : (c : goal.In_ok-push_kept) → rows_among c.push_kept.new.changes.items ≡ rows_made c.args.self.now.ledger c.args.request.now
-made c = grind (arith, (place_is c.self.inside c.args.self.now c.len.result c.self.view_is c.len.ensures.len), rows_in_turn)
+push_kept-requires c = subst (λ n. n ≤ MAX_PLACES) (sym c.requires.makes.place) (place_fits c.args.self.now.ledger c.args.request.now c.requires.accepts.after)
 
 pub returns-clause-changes : goal.returns-clause-changes
-returns-clause-changes c = grind (arith, (good_now c.self.inside c.args.self.now c.self.view_is c.self.invariant.0), (made c), changes_to)
+returns-clause-changes c =
+    let a = c.requires.accepts in
+    let first = c.in_ok-push.ensures ∙ ap (λ (cs : List Change). cs ++ Desk c.desk_row-desk.result ∷ []) c.new-changes.ensures.items in
+    let aborted = c.in_ok-push_all_aborted.ensures ∙ ap (λ (ns : List ℕ). with_orders (flat_map (of_numbered c.args.self.now.ledger aborted_rows) ns) (rows_among c.push_order.new.changes.items)) c.deref.ensures.value in
+    changes_to c.args.self.now.ledger c.args.request.now (rows_among c.push_kept.new.changes.items) a.before a.key a.range a.accepted
+    (rows_in_turn c.args.self.now.ledger c.args.request.now c.args.parts.now c.clock_after.result (desk_cells c.desk_row-desk.result) (rows_among c.push.new.changes.items) (rows_among c.push_fields.new.changes.items) (rows_among c.push_move.new.changes.items)
+    (rows_among c.push_order.new.changes.items) (rows_among c.push_all_aborted.new.changes.items) (rows_among c.push_own_lines.new.changes.items) (rows_among c.push_kept.new.changes.items) a.before c.requires.makes c.clock_after.ensures c.desk_row-desk.ensures (ap rows_among first)
+    c.in_ok-push_fields.ensures c.in_ok-push_move.ensures c.in_ok-push_order.ensures aborted c.in_ok-push_own_lines.ensures c.in_ok-push_kept.ensures)

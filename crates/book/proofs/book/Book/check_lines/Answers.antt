@@ -1,5 +1,4 @@
-use Rattle.std.proofs.Common.{arith, ◌∙◌, sym}
-use Rattle.book.proofs.Prelude.{OpenLine}
+use Rattle.book.proofs.Prelude.{◌∙◌, OpenLine, arith, sym}
 use Rattle.book.proofs.LineChecks.{apart-step, line_fails, line_passes, none_apart}
 use Rattle.book.proofs.book.Book.check_lines.Goals as goal
 

@@ -1,4 +1,4 @@
-use Rattle.std.proofs.Common.{take}
+use Rattle.book.proofs.Prelude.{take}
 use Rattle.book.proofs.LineChecks.{AreApart, RestDecides}
 use Rattle.book.proofs.book.Book.check_lines.Given as goal
 

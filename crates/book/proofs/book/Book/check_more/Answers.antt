@@ -1,5 +1,4 @@
-use Rattle.std.proofs.Common.{arith, ◌∙◌, sym}
-use Rattle.book.proofs.Prelude.{field_of, name_of, order_of}
+use Rattle.book.proofs.Prelude.{◌∙◌, arith, field_of, name_of, order_of, sym}
 use Rattle.book.proofs.Checked.{more_decides, no}
 use Rattle.book.proofs.book.Book.check_more.Goals as goal
 

@@ -1,6 +1,5 @@
-use Rattle.std.proofs.Common.{◌∙◌, ap, map, subst, sym, List, ℕ}
 use Rattle.std.proofs.lemmas.List.Sorted.{IsNonDecreasingBy-from_sort}
-use Rattle.book.proofs.Prelude.{BookView, Command, IsPermutation, expired_numbers, expires, filter}
+use Rattle.book.proofs.Prelude.{◌∙◌, BookView, Command, IsPermutation, List, ap, expired_numbers, expires, filter, map, subst, sym, ℕ}
 use Rattle.book.proofs.Expiring.{numbers_sorted}
 use Rattle.book.proofs.book.Book.expired.Goals as goal
 

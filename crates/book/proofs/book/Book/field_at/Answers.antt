@@ -1,5 +1,4 @@
-use Rattle.std.proofs.Common.{subst, sym}
-use Rattle.book.proofs.Prelude.{BookView, Good, IsUpToDate, get_or_from_slice_get, ledger_of, slice_get_within}
+use Rattle.book.proofs.Prelude.{BookView, Good, IsUpToDate, get_or_from_slice_get, ledger_of, slice_get_within, subst, sym}
 use Rattle.book.proofs.Viewed.{slice_get-fields}
 use Rattle.book.proofs.Walked.{each-at}
 use Rattle.book.proofs.book.Book.field_at.Goals as goal

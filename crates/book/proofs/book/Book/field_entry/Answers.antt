@@ -1,7 +1,6 @@
-use Rattle.std.proofs.Common.{arith, ◌≡◌, Bor, List, Option, Some, None, IfSome, MatchOption, subst, sym}
-use Rattle.book.proofs.Prelude.{BookView, Each, Field, FieldEntry, Good, IsUpToDate, Ledger, Name, field_of, is_at, ledger_of, lookup, name_cmp, name_of, option_copied, option_map}
+use Rattle.book.proofs.Prelude.{◌≡◌, Bor, Each, Field, FieldEntry, IfSome, IsUpToDate, Ledger, List, MatchOption, Name, None, Option, Some, arith, field_of, is_at, ledger_of, lookup, name_cmp, name_of, option_copied, option_map, sym}
 use Rattle.book.proofs.Keyed.{field_found}
-use Rattle.book.proofs.Running.{up_to_date_at}
+use Rattle.book.proofs.ChangedFields.{each_at_name}
 use Rattle.book.proofs.book.Book.field_entry.Goals as goal
 
 told : (name : Name) (result : Option (Bor FieldEntry)) (there : Option FieldEntry) (found : Option Field) → option_copied result ≡ there → found ≡ option_map (λ v. field_of (name, v)) there
@@ -11,7 +10,7 @@ told name (Some r) there found is e = rw (← is) at e
 
 up : (A : Ledger) (name : Name) (l : List (Name × FieldEntry)) (result : Option (Bor FieldEntry)) → Each (IsUpToDate A) l → option_copied result ≡ lookup (is_at (name_cmp name)) l → IfSome result (λ entry. IsUpToDate A (name, entry.now))
 up A name l None all is = tt
-up A name l (Some r) all is = up_to_date_at A name l r.now all (sym is)
+up A name l (Some r) all is = each_at_name (IsUpToDate A) name l r.now all (sym is)
 
 pub returns-clause-found : goal.returns-clause-found
 returns-clause-found c = grind (arith, field_found, told)

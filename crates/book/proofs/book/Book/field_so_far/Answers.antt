@@ -1,5 +1,4 @@
-use Rattle.std.proofs.Common.{◌∙◌, ap, sym}
-use Rattle.book.proofs.Prelude.{is_at, line_name, lookup, name_cmp, option_copied}
+use Rattle.book.proofs.Prelude.{◌∙◌, ap, is_at, line_name, lookup, name_cmp, option_copied, sym}
 use Rattle.book.proofs.GivingBack.{from_book, from_entries}
 use Rattle.book.proofs.book.Book.field_so_far.Goals as goal
 

@@ -1,5 +1,4 @@
-use Rattle.std.proofs.Common.{◌∙◌, ◌++◌, [], ◌∷◌, List, ap, append_assoc, subst, sym, take}
-use Rattle.book.proofs.Prelude.{GivesBack, Line}
+use Rattle.book.proofs.Prelude.{[], ◌++◌, ◌∙◌, ◌∷◌, GivesBack, Line, List, ap, append_assoc, subst, sym, take}
 use Rattle.book.proofs.GivingBack.{may_step}
 use Rattle.book.proofs.Walked.{take-step}
 use Rattle.book.proofs.book.Book.give_back_lines.Goals as goal

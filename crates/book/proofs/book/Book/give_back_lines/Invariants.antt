@@ -1,6 +1,5 @@
 -- the lines so far have given back what they hold
-use Rattle.std.proofs.Common.{List, ◌++◌, take}
-use Rattle.book.proofs.Prelude.{GivesBack, Line, MayGiveBack}
+use Rattle.book.proofs.Prelude.{◌++◌, GivesBack, Line, List, MayGiveBack, take}
 use Rattle.book.proofs.book.Book.give_back_lines.Given as goal
 
 abbrev pub invariant-loop-line : goal.invariant-loop-line

@@ -1,5 +1,4 @@
-use Rattle.std.proofs.Common.{◌≡◌, Bor, List, ℕ, Option, Some, None, MatchOption}
-use Rattle.book.proofs.Prelude.{Kept, KeptEntry, kept_of, option_copied, option_map}
+use Rattle.book.proofs.Prelude.{◌≡◌, Bor, Kept, KeptEntry, List, MatchOption, None, Option, Some, kept_of, option_copied, option_map, ℕ}
 use Rattle.book.proofs.Keyed.{kept_found}
 use Rattle.book.proofs.book.Book.kept_entry.Goals as goal
 

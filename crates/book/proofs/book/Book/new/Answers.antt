@@ -1,4 +1,4 @@
-use Rattle.std.proofs.Common.{refl}
+use Rattle.book.proofs.Prelude.{refl}
 use Rattle.book.proofs.Runs.{good_new}
 use Rattle.book.proofs.book.Book.new.Goals as goal
 

@@ -1,5 +1,4 @@
-use Rattle.std.proofs.Common.{arith, ◌≡◌, ◌∙◌, ℕ, ap, count_by, map, subst, sym}
-use Rattle.book.proofs.Prelude.{AllZip, Content, Each, Field, Good, IsFieldRow, IsRowsOf, IsStrictlySortedBy, IsUpToDate, Kept, Ledger, Order, OrderEntry, field_of, is_open, kept_of, ledger_of, map-map, move_of, name_cmp, nat_cmp, open_orders, open_state, order_of, slice_cmp, told_ledger}
+use Rattle.book.proofs.Prelude.{◌∙◌, ◌≡◌, AllZip, Content, Each, Field, Good, IsFieldRow, IsRowsOf, IsUpToDate, Kept, Ledger, Order, OrderEntry, ap, arith, count_by, field_of, is_open, kept_of, ledger_of, map, map-map, move_of, open_orders, open_state, order_of, subst, sym, told_ledger, ℕ}
 use Rattle.book.specs.Tables.{content_of}
 use Rattle.book.proofs.Counted.{viewed}
 use Rattle.book.proofs.Tested.{true_not_false}

@@ -1,5 +1,4 @@
-use Rattle.std.proofs.Common.{◌∙◌, Some, ap, sym}
-use Rattle.book.proofs.Prelude.{changed_order, option_map}
+use Rattle.book.proofs.Prelude.{◌∙◌, Some, ap, changed_order, option_map, sym}
 use Rattle.book.proofs.book.Book.order_changed.Goals as goal
 
 pub change_order-requires : goal.change_order-requires

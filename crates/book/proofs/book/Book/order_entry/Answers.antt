@@ -1,5 +1,4 @@
-use Rattle.std.proofs.Common.{◌≡◌, Bor, ℕ, Option, Some, None, MatchOption}
-use Rattle.book.proofs.Prelude.{Order, OrderEntry, option_copied, option_map, order_of}
+use Rattle.book.proofs.Prelude.{◌≡◌, Bor, MatchOption, None, Option, Order, OrderEntry, Some, option_copied, option_map, order_of, ℕ}
 use Rattle.book.proofs.Keyed.{order_found}
 use Rattle.book.proofs.book.Book.order_entry.Goals as goal
 

@@ -1,26 +1,25 @@
-use Rattle.std.proofs.Common.{◌≡◌, ◌∙◌, ap, arith, is_some, map, subst, sym}
-use Rattle.book.proofs.Prelude.{BookView, ChangesTo, Content, IsAccepted, Request, entry_row, expired_numbers, kept_of, order_after, places, rows_among}
-use Rattle.book.proofs.Lists.{length-of-map}
+use Rattle.book.proofs.Prelude.{◌∙◌, ◌≡◌, ChangesTo, IsAccepted, Request, ap, expired_numbers, is_some, order_after, rows_among, subst, sym}
+use Rattle.book.specs.After.{move_made}
+use Rattle.book.specs.Plans.{Fits, PlanView, plan_of}
 use Rattle.book.proofs.book.Book.plan.Goals as goal
 
 pub returns : goal.returns
 returns c =
-    let same : ◌≡◌ {A = Request} c.new-plan.result.request c.args.request.now = λ i. record { key = c.new-plan.ensures.key i; command = (c.new-plan.ensures.command ∙ c.in_ok-command.ensures ∙ c.in_ok-copy.ensures) i } in
-    let place = c.new-plan.ensures.place in
-    let count = c.len.ensures.len in
-    let seen = length-of-map kept_of c.self.inside.kept.entries in
-    let is = ap (λ (v : BookView). places v.ledger) c.self.view_is in record {
-      planned = (
-        same,
-        record {
-          accepted = subst (λ (r : Request). IsAccepted c.args.self.now.ledger r) (sym same) (ap is_some c.in_default.ensures, c.in_default-check.ensures);
-          place = (omega arith);
-          made = c.new-plan.ensures.made ∙ c.in_ok-made.ensures ∙ ap (λ (r : Request). order_after c.args.self.now.ledger r.command) (sym same);
-          expired = c.new-plan.ensures.expired ∙ c.in_ok-expired.ensures ∙ ap (λ (r : Request). expired_numbers c.args.self.now.ledger r.command) (sym same);
-          fields = ap (map entry_row) c.new-plan.ensures.fields ∙ c.in_ok-changes.ensures.fields ∙ ap (λ (rows : Content). rows.fields) (sym c.new-plan.ensures.changes);
-          changes = subst (λ (rows : Content). ChangesTo c.args.self.now.ledger c.new-plan.result.request rows) (sym c.new-plan.ensures.changes)
-              (subst (λ (r : Request). ChangesTo c.args.self.now.ledger r (rows_among c.in_ok-changes.changes.items)) (sym same) c.in_ok-changes.ensures.changes);
-        },
-      );
+    let A = c.args.self.now.ledger in
+    let r : Request = c.args.request.now in
+    let rows = rows_among c.in_ok-changes.changes.items in
+    let makes = c.in_ok-parts.ensures in
+    let is = c.new.ensures in
+    let same : ◌≡◌ {A = Request} (plan_of c.in_ok-parts.parts rows).request r = λ i. record { key = makes.key i; command = makes.command i } in
+    let fits : Fits A (plan_of c.in_ok-parts.parts rows) = record {
+      accepted = subst (IsAccepted A) (sym same) (ap is_some c.in_default.ensures, c.in_default-check.ensures);
+      place = makes.place;
+      moved = makes.moved ∙ ap (move_made c.in_ok-parts.parts.place) (sym makes.command);
+      made = makes.made ∙ ap (order_after A) (sym makes.command);
+      expired = makes.expired ∙ ap (expired_numbers A) (sym makes.command);
+      changes = subst (λ (r : Request). ChangesTo A r rows) (sym same) c.in_ok-changes.ensures.changes;
+      fields = c.in_ok-changes.ensures.fields;
+    } in record {
+      planned = (ap (λ (p : PlanView). p.request) is ∙ same, subst (Fits A) (sym is) fits);
       memory = tt;
     }

@@ -1,6 +1,5 @@
 -- the rows of the orders so far are there
-use Rattle.std.proofs.Common.{◌≡◌, flat_map, take}
-use Rattle.book.proofs.Prelude.{aborted_rows, of_numbered, rows_among, with_orders}
+use Rattle.book.proofs.Prelude.{◌≡◌, aborted_rows, flat_map, of_numbered, rows_among, take, with_orders}
 use Rattle.book.proofs.book.Book.push_all_aborted.Given as goal
 
 abbrev pub invariant-loop-number : goal.invariant-loop-number

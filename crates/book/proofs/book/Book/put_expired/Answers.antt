@@ -1,5 +1,4 @@
-use Rattle.std.proofs.Common.{List, flat_map, refl, subst, sym, take}
-use Rattle.book.proofs.Prelude.{GivesBack, Ledger, Line, of_numbered}
+use Rattle.book.proofs.Prelude.{GivesBack, Ledger, Line, List, flat_map, of_numbered, subst, sym, take}
 use Rattle.book.proofs.Expiring.{flat_next, may_next}
 use Rattle.book.proofs.book.Book.put_expired.Goals as goal
 

@@ -1,6 +1,5 @@
 -- the orders so far have given back what they hold
-use Rattle.std.proofs.Common.{flat_map, take}
-use Rattle.book.proofs.Prelude.{GivesBack, of_numbered}
+use Rattle.book.proofs.Prelude.{GivesBack, flat_map, of_numbered, take}
 use Rattle.book.proofs.book.Book.put_expired.Given as goal
 
 abbrev pub invariant-loop-number : goal.invariant-loop-number

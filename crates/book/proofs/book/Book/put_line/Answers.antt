@@ -1,12 +1,11 @@
-use Rattle.std.proofs.Common.{◌∙◌, ap, is_some, subst, sym, true≢false}
-use Rattle.book.proofs.Prelude.{Becomes, Ledger, MayBecome, Name, Order, field_of, insert_entry, line_name, name_cmp, option_map, order_of}
+use Rattle.book.proofs.Prelude.{◌∙◌, Becomes, Ledger, MayBecome, Name, Order, ap, field_of, insert_entry, is_some, line_name, name_cmp, order_of, subst, sym, true≢false}
 use Rattle.book.proofs.ChangedFields.{found_stays, line_there, number_of_made, on_ok}
 use Rattle.book.proofs.StockChanges.{stock_changed, stock_may}
 use Rattle.book.proofs.book.Book.put_line.Goals as goal
 
 pub unreachable-requires : goal.unreachable-requires
 unreachable-requires c =
-    let made = sym c.requires.made ∙ ap (option_map order_of) c.requires.order in
+    let made = c.requires.made in
     let there = line_there c.args.self.now.ledger c.args.request.now (order_of c.args.order.now) c.args.line.now c.requires.accepts made c.requires.line in
     true≢false (sym (sym (ap is_some c.in_default.ensures.found) ∙ there))
 
@@ -15,7 +14,7 @@ change_stock-requires c =
     let A : Ledger = c.args.self.now.ledger in
     let r = c.args.request.now in
     let o : Order = order_of c.args.order.now in
-    let made = sym c.requires.made ∙ ap (option_map order_of) c.requires.order in
+    let made = c.requires.made in
     let l = c.args.line.now in
     let f : Name = line_name l in
     let e = c.in-Some.entry.now in
@@ -29,7 +28,7 @@ returns-clause-changed c = on_ok c.put.result (λ put changes.
     let A : Ledger = c.args.self.now.ledger in
     let r = c.args.request.now in
     let o : Order = order_of c.args.order.now in
-    let made = sym c.requires.made ∙ ap (option_map order_of) c.requires.order in
+    let made = c.requires.made in
     let l = c.args.line.now in
     let f : Name = line_name l in
     let e = c.in-Some.entry.now in

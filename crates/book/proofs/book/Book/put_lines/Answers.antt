@@ -1,5 +1,4 @@
-use Rattle.std.proofs.Common.{◌≡◌, ◌∙◌, List, Some, ap, find, subst, sym}
-use Rattle.book.proofs.Prelude.{Each, Ledger, Line, line_name, on, option_map, order_of}
+use Rattle.book.proofs.Prelude.{◌≡◌, Each, Ledger, Line, List, Some, find, line_name, on, order_of, subst, sym}
 use Rattle.book.proofs.ChangedFields.{found_itself, lines_step, made_good}
 use Rattle.book.proofs.Closing.{one_on}
 use Rattle.book.proofs.Walked.{each-at}
@@ -10,8 +9,7 @@ put_line-requires-clause-line c =
     let A : Ledger = c.args.self.now.ledger in
     let r = c.args.request.now in
     let o = order_of c.args.order.now in
-    let made = sym c.requires.made ∙ ap (option_map order_of) c.requires.order in
-    let good = made_good A r o c.requires.accepts made in
+    let good = made_good A r o c.requires.accepts c.requires.made in
     let itself = subst (λ (ls : List Line). Each (λ l. find (on (line_name l)) o.lines ≡ Some l) ls) (sym c.deref-line-items.ensures.value) (found_itself o.lines (λ f. one_on f o.lines good.apart)) in
     each-at (λ l. find (on (line_name l)) o.lines ≡ Some l) c.deref-line-items.result.now c.loop-line.line-index c.line-item.result c.loop-line-test.true c.line-item.is itself
 

@@ -1,6 +1,5 @@
 -- the fields so far that the request changes are there
-use Rattle.std.proofs.Common.{◌≡◌, true, take}
-use Rattle.book.proofs.Prelude.{Each, HasEntry, IsChangedField, changes_field, line_name}
+use Rattle.book.proofs.Prelude.{◌≡◌, Each, HasEntry, IsChangedField, changes_field, line_name, take, true}
 use Rattle.book.proofs.book.Book.put_lines.Given as goal
 
 abbrev pub invariant-loop-line : goal.invariant-loop-line

@@ -1,5 +1,4 @@
-use Rattle.std.proofs.Common.{◌∙◌, ap, is_some, refl, sym, true≢false}
-use Rattle.book.proofs.Prelude.{Ledger, accept, field_of}
+use Rattle.book.proofs.Prelude.{Ledger, accept, field_of, refl}
 use Rattle.book.proofs.ChangedFields.{found_stays, on_ok}
 use Rattle.book.proofs.StockChanges.{value_may, value_moved}
 use Rattle.book.proofs.book.Book.put_moved.Goals as goal

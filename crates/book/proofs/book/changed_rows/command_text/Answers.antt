@@ -1,5 +1,4 @@
-use Rattle.std.proofs.Common.{arith, sym, subst, ap, ◌∙◌, ◌++◌, List, ℕ}
-use Rattle.book.proofs.Prelude.{IsUtf8, spelling}
+use Rattle.book.proofs.Prelude.{arith}
 use Rattle.book.proofs.Texts.{spelling_utf8}
 use Rattle.book.proofs.book.changed_rows.command_text.Goals as goal
 

@@ -1,5 +1,4 @@
-use Rattle.std.proofs.Common.{pos, arith}
-use Rattle.book.proofs.Prelude.{ints}
+use Rattle.book.proofs.Prelude.{arith, ints, pos}
 use Rattle.book.proofs.Running.{entry_cells_are, greatest_is, least_is}
 use Rattle.book.proofs.book.changed_rows.field_row.Goals as goal
 

@@ -1,5 +1,4 @@
-use Rattle.std.proofs.Common.{◌∙◌, ◌+◌, [], ◌∷◌, ap, map, take}
-use Rattle.book.proofs.Prelude.{entry_row, map-append, rows_among}
+use Rattle.book.proofs.Prelude.{[], ◌+◌, ◌∙◌, ◌∷◌, ap, entry_row, map, map-append, rows_among, take}
 use Rattle.book.proofs.Among.{field_joined, field_pushed}
 use Rattle.book.proofs.Walked.{read-step}
 use Rattle.book.proofs.book.changed_rows.push_fields.Goals as goal

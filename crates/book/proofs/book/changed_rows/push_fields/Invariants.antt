@@ -1,6 +1,5 @@
 -- the rows of the fields so far are there
-use Rattle.std.proofs.Common.{◌≡◌, map, take}
-use Rattle.book.proofs.Prelude.{entry_row, rows_among, with_fields}
+use Rattle.book.proofs.Prelude.{◌≡◌, entry_row, map, rows_among, take, with_fields}
 use Rattle.book.proofs.book.changed_rows.push_fields.Given as goal
 
 abbrev pub invariant-loop-place : goal.invariant-loop-place

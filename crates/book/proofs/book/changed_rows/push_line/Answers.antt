@@ -1,5 +1,4 @@
-use Rattle.std.proofs.Common.{arith, ◌≡◌, ◌∙◌, Bool, true, ap, sym}
-use Rattle.book.proofs.Prelude.{changes_own_line, is_transfer, order_of}
+use Rattle.book.proofs.Prelude.{arith}
 use Rattle.book.proofs.Among.{line_pushed}
 use Rattle.book.proofs.book.changed_rows.push_line.Goals as goal
 

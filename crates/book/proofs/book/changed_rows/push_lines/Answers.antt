@@ -1,7 +1,5 @@
-use Rattle.std.proofs.Common.{◌≡◌, ◌+◌, ◌++◌, ◌∷◌, [], List, subst, take}
-use Rattle.book.proofs.Prelude.{Line, changes_own_line, is_transfer, line_rows, order_of, rows_among}
-use Rattle.book.proofs.Among.{line_joined}
-use Rattle.book.proofs.Lined.{line_rows-step}
+use Rattle.book.proofs.Prelude.{[], ◌++◌, ◌+◌, ◌∷◌, ◌≡◌, Line, List, changes_own_line, is_transfer, line_rows, order_of, rows_among, subst, take}
+use Rattle.book.proofs.Among.{line_joined, line_rows-step}
 use Rattle.book.proofs.book.changed_rows.push_lines.Goals as goal
 
 pub loop-index-preserved : goal.loop-index-preserved

@@ -1,6 +1,5 @@
 -- the rows of the lines so far that change are there
-use Rattle.std.proofs.Common.{◌≡◌, take}
-use Rattle.book.proofs.Prelude.{changes_own_line, is_transfer, line_rows, order_of, rows_among, with_lines}
+use Rattle.book.proofs.Prelude.{◌≡◌, changes_own_line, is_transfer, line_rows, order_of, rows_among, take, with_lines}
 use Rattle.book.proofs.book.changed_rows.push_lines.Given as goal
 
 abbrev pub invariant-loop-index : goal.invariant-loop-index

@@ -1,4 +1,4 @@
-use Rattle.std.proofs.Common.{◌∙◌, sym}
+use Rattle.book.proofs.Prelude.{◌∙◌, sym}
 use Rattle.book.proofs.Among.{order_pushed}
 use Rattle.book.proofs.book.changed_rows.push_order.Goals as goal
 

@@ -1,5 +1,4 @@
-use Rattle.std.proofs.Common.{ap, inl, inr, refl, true≢false, Some, sym}
-use Rattle.book.proofs.Prelude.{Refusal}
+use Rattle.book.proofs.Prelude.{Refusal, Some, ap, inl, inr, refl, sym, true≢false}
 use Rattle.book.proofs.Running.{grants, refuses}
 use Rattle.book.proofs.book.checks.check_bound.Goals as goal
 

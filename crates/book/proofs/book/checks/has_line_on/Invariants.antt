@@ -1,5 +1,4 @@
-use Rattle.std.proofs.Common.{◌≡◌, take, find, None}
-use Rattle.book.proofs.Prelude.{name_of, new_line, on}
+use Rattle.book.proofs.Prelude.{◌≡◌, None, find, name_of, new_line, on, take}
 use Rattle.book.proofs.book.checks.has_line_on.Given as goal
 
 abbrev pub invariant-loop-line : goal.invariant-loop-line

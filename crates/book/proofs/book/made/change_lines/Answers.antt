@@ -1,5 +1,4 @@
-use Rattle.std.proofs.Common.{◌∙◌, ◌||◌, ap, arith, get_or, if◌then◌else◌}
-use Rattle.book.proofs.Prelude.{Line, changed_line, name_of, on}
+use Rattle.book.proofs.Prelude.{◌∙◌, arith}
 use Rattle.book.proofs.Walking.{walk_end, walk_step}
 use Rattle.book.proofs.book.made.change_lines.Goals as goal
 

@@ -1,6 +1,5 @@
 -- the lines so far are changed
-use Rattle.std.proofs.Common.{◌≡◌, ◌||◌, if◌then◌else◌}
-use Rattle.book.proofs.Prelude.{changed_line, name_of, on}
+use Rattle.book.proofs.Prelude.{◌||◌, ◌≡◌, changed_line, if◌then◌else◌, name_of, on}
 use Rattle.book.proofs.Walking.{walked}
 use Rattle.book.proofs.book.made.change_lines.Given as goal
 

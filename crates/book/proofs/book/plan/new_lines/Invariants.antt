@@ -1,6 +1,5 @@
 -- the lines so far are made
-use Rattle.std.proofs.Common.{◌≡◌, map, take}
-use Rattle.book.proofs.Prelude.{new_line}
+use Rattle.book.proofs.Prelude.{◌≡◌, map, new_line, take}
 use Rattle.book.proofs.book.plan.new_lines.Given as goal
 
 abbrev pub invariant-loop-line : goal.invariant-loop-line

@@ -1,5 +1,4 @@
-use Rattle.book.proofs.Prelude.{AreOnFields, Each, FieldEntry, HaveNumbers, IfOk-weaker, IsMoveByItself, IsOrderByItself, IsQty, IsWhole, Ledger, MoveEntry, Name, OrderEntry, common_steps, ints, move_of, numbers_on, order_of, places, told_ledger}
-use Rattle.std.proofs.Common.{◌↔◌, ◌≤◌, ℕ, IfOk, IsTrue, List, ap, arith, length, nat_abs, subst, sym}
+use Rattle.book.proofs.Prelude.{◌↔◌, AreOnFields, HaveNumbers, IfOk, IfOk-weaker, IsTrue, IsWhole, arith, common_steps, ints, move_of, numbers_on, told_ledger}
 use Rattle.book.proofs.Lists.{each-unmap, length-of-map}
 use Rattle.book.proofs.Sums.{each-imp}
 use Rattle.book.proofs.Whole.{few_moves_if_whole, good_iff}

@@ -1,5 +1,4 @@
-use Rattle.std.proofs.Common.{◌≡◌, ◌∙◌, ℕ, [], ◌∷◌, List, ap, arith, length, map, pos, subst, sym}
-use Rattle.book.proofs.Prelude.{AllZip, DeskCells, Each, FieldEntry, FieldRow, IsFieldRow, IsFieldTold, IsGoodField, IsGoodKept, IsKeptTold, IsLineTold, IsMoveTold, KeptCells, KeptEntry, KeptRow, Name, TellsField, field_cells, field_of, kept_cells, kept_of, kept_row, line_cells, move_cells, move_of, move_row, order_cells, order_of, places}
+use Rattle.book.proofs.Prelude.{[], ◌∙◌, ◌∷◌, ◌≡◌, AllZip, DeskCells, Each, FieldEntry, FieldRow, IsFieldRow, IsFieldTold, IsGoodField, IsGoodKept, IsKeptTold, KeptCells, KeptEntry, KeptRow, List, Name, TellsField, ap, arith, field_cells, field_of, kept_cells, kept_of, kept_row, length, line_cells, map, move_cells, order_cells, places, pos, subst, sym, ℕ}
 use Rattle.book.proofs.RowsTold.{fields_told, good_field, heads_same, heads_told, kept_told, lines_told, moves_told, orders_rows, rows_of, tells_field}
 use Rattle.book.proofs.Lists.{length-of-map}
 use Rattle.book.proofs.Told.{same_first}

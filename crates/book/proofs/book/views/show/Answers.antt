@@ -1,5 +1,4 @@
-use Rattle.std.proofs.Common.{◌≡◌, ◌∙◌, pos, ◌+ℤ◌, ◌-ℤ◌, ap, refl, subst, sym}
-use Rattle.book.proofs.Prelude.{Field, FieldCells, IsInfimum, IsSupremum, field_of, held_to_add, held_to_take, settled}
+use Rattle.book.proofs.Prelude.{◌+ℤ◌, ◌-ℤ◌, ◌∙◌, ◌≡◌, Field, FieldCells, IsInfimum, IsSupremum, ap, field_of, held_to_add, held_to_take, pos, refl, settled, subst, sym}
 use Rattle.book.proofs.Bounds.{inf_is, sup_is}
 use Rattle.book.proofs.Closing.{sounds_from_good}
 use Rattle.book.proofs.Running.{greatest_is, least_is}

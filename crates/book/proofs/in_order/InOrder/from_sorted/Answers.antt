@@ -1,5 +1,4 @@
-use Rattle.std.proofs.Common.{◌≡◌, ◌∙◌, ap, length, refl, add-one, zero-add, arith}
-use Rattle.book.proofs.Prelude.{IsPermutation-refl, at_indexes, range_with_len}
+use Rattle.book.proofs.Prelude.{◌∙◌, ◌≡◌, IsPermutation-refl, add-one, ap, arith, at_indexes, length, range_with_len, refl, zero-add}
 use Rattle.book.proofs.Indexes.{at_indexes-all, range_more}
 use Rattle.book.proofs.in_order.InOrder.from_sorted.Goals as goal
 

@@ -1,5 +1,4 @@
-use Rattle.std.proofs.Common.{◌≡◌}
-use Rattle.book.proofs.Prelude.{range_with_len}
+use Rattle.book.proofs.Prelude.{◌≡◌, range_with_len}
 use Rattle.book.proofs.in_order.InOrder.from_sorted.Given as goal
 
 abbrev pub invariant-loop-index : goal.invariant-loop-index

@@ -1,5 +1,4 @@
-use Rattle.std.proofs.Common.{◌≡◌, ◌∙◌, sym}
-use Rattle.book.proofs.Prelude.{same_Some, slice_get_within}
+use Rattle.book.proofs.Prelude.{◌∙◌, ◌≡◌, same_Some, slice_get_within, sym}
 use Rattle.book.proofs.KeyPlaces.{lookup_at, lookup_gap}
 use Rattle.book.proofs.in_order.InOrder.get.Goals as goal
 

@@ -1,5 +1,4 @@
-use Rattle.std.proofs.Common.{◌∙◌, sym, ap, refl, inl}
-use Rattle.book.proofs.Prelude.{option_map, slice_get-map, slice_get_within}
+use Rattle.book.proofs.Prelude.{◌∙◌, ap, inl, option_map, refl, slice_get-map, slice_get_within, sym}
 use Rattle.book.proofs.KeyPlaces.{lookup_at, lookup_gap, set_value-at}
 use Rattle.book.proofs.in_order.InOrder.get_mut.Goals as goal
 

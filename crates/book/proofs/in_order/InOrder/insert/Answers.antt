@@ -1,8 +1,6 @@
-use Rattle.std.proofs.Common.{◌≤◌, ◌∙◌, sym, ap, subst, arith}
-use Rattle.book.proofs.Prelude.{IsGap, insert_entry, none-some, room_left, vec_capacity, vec_len}
-use Rattle.book.proofs.Indexes.{length_in_order, length_order}
+use Rattle.book.proofs.Prelude.{◌∙◌, ◌≤◌, IsGap, ap, arith, insert_entry, none-some, room_left, subst, sym, vec_capacity, vec_len}
+use Rattle.book.proofs.Indexes.{has_room, length_in_order, length_order}
 use Rattle.book.proofs.KeyPlaces.{lookup_at, kept, listed}
-use Rattle.book.proofs.IndexRoom.{has_room}
 use Rattle.book.proofs.in_order.InOrder.insert.Goals as goal
 
 -- the key is not there

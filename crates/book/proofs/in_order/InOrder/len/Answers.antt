@@ -1,4 +1,4 @@
-use Rattle.std.proofs.Common.{◌∙◌, sym, ap, length}
+use Rattle.book.proofs.Prelude.{◌∙◌, sym, ap, length}
 use Rattle.book.proofs.Indexes.{length_in_order}
 use Rattle.book.proofs.in_order.InOrder.len.Goals as goal
 

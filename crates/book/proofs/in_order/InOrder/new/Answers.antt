@@ -1,5 +1,4 @@
-use Rattle.std.proofs.Common.{[]}
-use Rattle.book.proofs.Prelude.{IsPermutation-refl, IsStrictlySortedBy}
+use Rattle.book.proofs.Prelude.{[], IsPermutation-refl, IsStrictlySortedBy}
 use Rattle.book.proofs.in_order.InOrder.new.Goals as goal
 
 pub invariant_of-result : goal.invariant_of-result

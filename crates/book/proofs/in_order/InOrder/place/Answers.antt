@@ -1,5 +1,4 @@
-use Rattle.std.proofs.Common.{rules}
-use Rattle.book.proofs.Prelude.{always_returns_same, compare_at}
+use Rattle.book.proofs.Prelude.{always_returns_same, compare_at, rules}
 use Rattle.book.proofs.KeyPlaces.{searched}
 use Rattle.book.proofs.in_order.InOrder.place.Goals as goal
 

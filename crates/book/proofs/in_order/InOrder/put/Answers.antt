@@ -1,4 +1,4 @@
-use Rattle.std.proofs.Common.{sym}
+use Rattle.book.proofs.Prelude.{sym}
 use Rattle.book.proofs.KeyPlaces.{set_value-insert}
 use Rattle.book.proofs.in_order.InOrder.put.Goals as goal
 

@@ -1,7 +1,5 @@
-use Rattle.std.proofs.Common.{◌<◌, subst, arith, rules}
-use Rattle.book.proofs.Prelude.{vec_capacity, vec_len}
-use Rattle.book.proofs.Indexes.{length_order}
-use Rattle.book.proofs.IndexRoom.{room_made, no_room}
+use Rattle.book.proofs.Prelude.{◌<◌, arith, rules, subst, vec_capacity, vec_len}
+use Rattle.book.proofs.Indexes.{length_order, no_room, room_made}
 use Rattle.book.proofs.in_order.InOrder.reserve.Goals as goal
 
 pub returns-clause-ok : goal.returns-clause-ok

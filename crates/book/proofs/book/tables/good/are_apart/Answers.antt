@@ -1,5 +1,4 @@
-use Rattle.std.proofs.Common.{◌≡◌, ◌∙◌, zero, suc, ◌<◌, List, [], ◌∷◌, None, Some, ap, arith, find, get_or, length, map, refl, subst, sym, take, false, ℕ, is_some, Option, MatchOption, Bor, true, true≢false}
-use Rattle.book.proofs.Prelude.{IsDistinct, Line, line_name, on, same_name}
+use Rattle.book.proofs.Prelude.{[], ◌<◌, ◌∙◌, ◌∷◌, ◌≡◌, Bor, IsDistinct, Line, List, MatchOption, None, Option, Some, ap, arith, false, find, get_or, is_some, length, line_name, map, on, refl, same_name, subst, suc, sym, take, true, true≢false, zero, ℕ}
 use Rattle.book.proofs.Asked.{none_found}
 use Rattle.book.proofs.Growing.{other_way}
 use Rattle.book.proofs.LineChecks.{apart_push}

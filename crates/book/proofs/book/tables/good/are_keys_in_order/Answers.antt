@@ -1,5 +1,4 @@
-use Rattle.std.proofs.Common.{◌≡◌, ℕ, Bool, List, of_calls, refl, rules}
-use Rattle.book.proofs.Prelude.{Kept, KeptEntry, always_returns_same, is_lt, kept_of, nat_cmp, nat_list_cmp_total, slice_cmp}
+use Rattle.book.proofs.Prelude.{◌≡◌, Bool, Kept, KeptEntry, List, always_returns_same, is_lt, kept_of, nat_cmp, nat_list_cmp_total, of_calls, refl, rules, slice_cmp, ℕ}
 use Rattle.book.proofs.InRow.{in_order}
 use Rattle.book.proofs.book.tables.good.are_keys_in_order.Goals as goal
 

@@ -1,6 +1,5 @@
 -- the lines so far use no more than they hold
-use Rattle.std.proofs.Common.{◌≤◌, take}
-use Rattle.book.proofs.Prelude.{Each, IsLevel}
+use Rattle.book.proofs.Prelude.{◌≤◌, Each, IsLevel, take}
 use Rattle.book.proofs.book.tables.good.are_lines_good.Given as goal
 
 abbrev pub invariant-loop-line : goal.invariant-loop-line

@@ -1,6 +1,5 @@
 -- those so far are good
-use Rattle.std.proofs.Common.{take}
-use Rattle.book.proofs.Prelude.{Each, IsMoveByItself, move_of}
+use Rattle.book.proofs.Prelude.{Each, IsMoveByItself, move_of, take}
 use Rattle.book.proofs.book.tables.good.are_moves_good.Given as goal
 
 abbrev pub invariant-loop-entry : goal.invariant-loop-entry

@@ -1,6 +1,6 @@
-use Rattle.std.proofs.Common.{◌≡◌, Bool, nat_lt, of_calls, rules}
-use Rattle.book.proofs.Prelude.{Move, MoveEntry, always_returns_same, move_of, nat_cmp, nat_cmp_total}
-use Rattle.book.proofs.InRow.{in_order, numbers_less}
+use Rattle.book.proofs.Prelude.{◌≡◌, Bool, Move, MoveEntry, always_returns_same, move_of, nat_cmp, nat_cmp_total, nat_lt, of_calls, rules}
+use Rattle.book.proofs.InRow.{in_order}
+use Rattle.book.proofs.Staying.{lt_is}
 use Rattle.book.proofs.book.tables.good.are_moves_in_order.Goals as goal
 
 abbrev before : MoveEntry → MoveEntry → Bool
@@ -8,5 +8,5 @@ before one other = nat_lt one.place other.place
 
 pub returns : goal.returns
 returns c =
-    in_order nat_cmp nat_cmp_total (λ (m : Move). m.place) move_of before (λ x y. numbers_less x.place y.place) c.args.moves.now c.is_sorted_by.result
+    in_order nat_cmp nat_cmp_total (λ (m : Move). m.place) move_of before (λ x y. lt_is x.place y.place) c.args.moves.now c.is_sorted_by.result
     (c.is_sorted_by.ensures.cases before (always_returns_same _ (λ a r. r ≡ before a.0.now a.1.0.now) _ (λ a r f k. search (rules, of_calls))))

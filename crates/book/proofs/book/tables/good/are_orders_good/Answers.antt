@@ -1,5 +1,4 @@
-use Rattle.std.proofs.Common.{arith}
-use Rattle.book.proofs.Prelude.{IsOrderByItself, order_of}
+use Rattle.book.proofs.Prelude.{IsOrderByItself, arith, order_of}
 use Rattle.book.proofs.Lists.{each-unmap}
 use Rattle.book.proofs.Sums.{each-map}
 use Rattle.book.proofs.Tested.{no, true_not_false, yes}

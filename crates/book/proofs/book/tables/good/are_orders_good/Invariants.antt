@@ -1,6 +1,5 @@
 -- those so far are good
-use Rattle.std.proofs.Common.{take}
-use Rattle.book.proofs.Prelude.{Each, IsOrderByItself, order_of}
+use Rattle.book.proofs.Prelude.{Each, IsOrderByItself, order_of, take}
 use Rattle.book.proofs.book.tables.good.are_orders_good.Given as goal
 
 abbrev pub invariant-loop-order : goal.invariant-loop-order

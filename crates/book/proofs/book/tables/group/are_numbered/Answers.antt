@@ -1,5 +1,4 @@
-use Rattle.book.proofs.Prelude.{AreNumbered, LineRow, common_steps, ints, length-take-le}
-use Rattle.std.proofs.Common.{ap, arith, sym, subst, take}
+use Rattle.book.proofs.Prelude.{arith, common_steps, ints, length-take-le}
 use Rattle.book.proofs.Grouped.{numbered-at, numbered-push}
 use Rattle.book.proofs.Tested.{no}
 use Rattle.book.proofs.Walked.{take-step}

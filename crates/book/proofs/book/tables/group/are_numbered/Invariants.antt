@@ -1,6 +1,5 @@
 -- the rows so far count from 1
-use Rattle.std.proofs.Common.{take}
-use Rattle.book.proofs.Prelude.{AreNumbered}
+use Rattle.book.proofs.Prelude.{AreNumbered, take}
 use Rattle.book.proofs.book.tables.group.are_numbered.Given as goal
 
 abbrev pub invariant-loop-i : goal.invariant-loop-i

@@ -1,5 +1,4 @@
-use Rattle.std.proofs.Common.{◌≡◌, ◌∙◌, ◌+◌, ◌<◌, ◌++◌, [], ◌∷◌, List, ℕ, ap, arith, drop, drop-drop, flat_map, get_or, length, length-drop, map, sym, subst, take}
-use Rattle.book.proofs.Prelude.{AllZip, BeginsOther, Head, IsLineTold, LineCells, LineRow, Order, head_of, line_cells, lines_from, map-append, order_lines, order_of}
+use Rattle.book.proofs.Prelude.{[], ◌++◌, ◌+◌, ◌<◌, ◌∙◌, ◌∷◌, ◌≡◌, BeginsOther, Head, IsLineTold, LineCells, LineRow, List, Order, ap, arith, drop, drop-drop, flat_map, get_or, head_of, length, length-drop, line_cells, lines_from, map, map-append, order_lines, order_of, subst, sym, take, ℕ}
 use Rattle.book.proofs.Grouped.{Tail, drop-step, left_step, lines_step, none_left, tail-first}
 use Rattle.book.proofs.Zipped.{zip-drop, zip-length}
 use Rattle.book.proofs.Tested.{passed_up}

@@ -1,5 +1,4 @@
-use Rattle.std.proofs.Common.{◌≡◌, ◌∙◌, ◌++◌, List, ap, arith, drop, length, map, sym, subst, take, true≢false}
-use Rattle.book.proofs.Prelude.{BeginsOther, IsLineTold, LineCells, LineRow, length-take-le, line_cells, lines_from, map-append, take-append-drop}
+use Rattle.book.proofs.Prelude.{◌++◌, ◌∙◌, ◌≡◌, BeginsOther, IsLineTold, LineCells, LineRow, List, ap, arith, drop, length, length-take-le, line_cells, lines_from, map, map-append, subst, sym, take, take-append-drop, true≢false}
 use Rattle.book.proofs.Grouped.{begins-cells, number-cells, numbered-from, own_rows, split_rows}
 use Rattle.book.proofs.Zipped.{zip-length, zip-take}
 use Rattle.book.proofs.book.tables.group.lines_of_order.Goals as goal

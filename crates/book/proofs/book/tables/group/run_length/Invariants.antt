@@ -1,6 +1,5 @@
 -- all rows so far are of the order
-use Rattle.std.proofs.Common.{◌≡◌, pos, take}
-use Rattle.book.proofs.Prelude.{Each}
+use Rattle.book.proofs.Prelude.{◌≡◌, Each, pos, take}
 use Rattle.book.proofs.book.tables.group.run_length.Given as goal
 
 abbrev pub invariant-loop-i : goal.invariant-loop-i

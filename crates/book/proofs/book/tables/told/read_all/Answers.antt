@@ -1,5 +1,4 @@
-use Rattle.std.proofs.Common.{arith, ◌+◌, [], ◌∷◌, ◌++◌, take, sym, subst}
-use Rattle.book.proofs.Prelude.{AllZip, take_all}
+use Rattle.book.proofs.Prelude.{arith, take}
 use Rattle.book.proofs.Tested.{passed_up}
 use Rattle.book.proofs.Walked.{each-at, take-step}
 use Rattle.book.proofs.Zipped.{zip-push}

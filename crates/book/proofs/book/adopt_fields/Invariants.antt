@@ -1,0 +1,9 @@
+-- the fields so far are in, and there is room for the others
+use Rattle.book.proofs.Prelude.{◌+◌, ◌≡◌, ◌≤◌, length, take, with_entries}
+use Rattle.book.proofs.book.adopt_fields.Given as goal
+
+abbrev pub invariant-loop-place : goal.invariant-loop-place
+invariant-loop-place l = record {
+  put : l.fields.entries ≡ with_entries (take l.place l.changed.entries) l.initial.fields.entries;
+  room : length l.changed.entries ≤ l.place + l.fields.room;
+}

@@ -1,9 +1,0 @@
-use Rattle.std.proofs.Common.{sym}
-use Rattle.book.proofs.Putting.{aborted_none, aborted_there}
-use Rattle.book.proofs.book.expiry.abort.Goals as goal
-
-pub returns-in-Some : goal.returns-in-Some
-returns-in-Some c = aborted_there c.args.number c.in-Some.order.now c.args.orders.now.entries c.get_mut.ensures.rising (sym c.in-Some.ensures.value)
-
-pub returns-in_default : goal.returns-in_default
-returns-in_default c = aborted_none c.args.number c.args.orders.now.entries (sym c.in_default.ensures.value)

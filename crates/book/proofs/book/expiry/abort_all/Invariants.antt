@@ -1,7 +1,0 @@
--- the orders so far are aborted
-use Rattle.std.proofs.Common.{◌≡◌, map, take}
-use Rattle.book.proofs.Prelude.{abort_all, order_of}
-use Rattle.book.proofs.book.expiry.abort_all.Given as goal
-
-abbrev pub invariant-loop-number : goal.invariant-loop-number
-invariant-loop-number l = map order_of l.orders.entries ≡ abort_all (take l.number-index l.numbers) (map order_of l.initial.orders.entries)

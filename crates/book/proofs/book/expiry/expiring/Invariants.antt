@@ -1,7 +1,0 @@
--- the numbers of those so far that expire
-use Rattle.std.proofs.Common.{◌≡◌, map, take}
-use Rattle.book.proofs.Prelude.{expires, filter, order_of}
-use Rattle.book.proofs.book.expiry.expiring.Given as goal
-
-abbrev pub invariant-loop-order : goal.invariant-loop-order
-invariant-loop-order l = l.numbers.items ≡ map (λ o. o.number) (filter (expires l.now) (map order_of (take l.order-index l.orders)))

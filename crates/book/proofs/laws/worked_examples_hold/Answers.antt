@@ -1,0 +1,18 @@
+use Rattle.std.specs.Fmt.{digits}
+use Rattle.book.specs.Examples.{long_script, release_and_abort, tight_bounds, transfer}
+use Rattle.book.proofs.Prelude.{new_ledger, refl}
+use Rattle.book.proofs.Played.{plays}
+use Rattle.book.proofs.laws.worked_examples_hold.Goals as goal
+
+pub returns-clause-long_script : goal.returns-clause-long_script
+unfolding digits
+returns-clause-long_script c = plays long_script new_ledger refl
+
+pub returns-clause-tight_bounds : goal.returns-clause-tight_bounds
+returns-clause-tight_bounds c = plays tight_bounds new_ledger refl
+
+pub returns-clause-transfer : goal.returns-clause-transfer
+returns-clause-transfer c = plays transfer new_ledger refl
+
+pub returns-clause-release_and_abort : goal.returns-clause-release_and_abort
+returns-clause-release_and_abort c = plays release_and_abort new_ledger refl

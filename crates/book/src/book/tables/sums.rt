@@ -1,0 +1,372 @@
+//! What all moves and orders add up to on each of the fields, in one walk over them; whether the fields have these numbers.
+
+ghost use Rattle.book.specs.Ledger.{line_name, name_cmp, name_of, Name};
+ghost use Rattle.book.specs.Sums.{added, entry_name, field_among, lines_numbers, numbers_on, only_on, part_of_line, AreFieldsInOrder, AreLinesOnFields, AreMovesOnFields, AreOnFields, AreOrdersOnFields, IsField, IsFieldAt};
+ghost use Rattle.book.specs.Told.{HasNumbers, HaveNumbers};
+ghost use Rattle.book.specs.View.{field_of, move_of};
+ghost use Rattle.book.specs.Walk.{most_of_all, plus, IsSmall, most_of_line, most_of_lines, most_of_move, most_of_moves, nothing};
+ghost use Rattle.book.specs.declared.book.tables.sums.Numbers.{Numbers};
+ghost use Rattle.book.specs.declared.limits.TheConstants.{MAX_ORDERS, MAX_PLACES};
+ghost use Rattle.book.specs.declared.order.State.TheVariants as State;
+ghost use Rattle.escrow.specs.Ranges.{IsQty};
+ghost use Rattle.std.specs.List.Sorted.{IsStrictlySortedBy};
+ghost use Rattle.std.specs.List.{AllByRecursion as Each};
+ghost use Rattle.std.specs.Prelude.{◌≡◌, ◌+◌, ◌≤◌, ◌<◌, ◌↔◌, length, IsTrue, ℕ, [], ◌∷◌, map, nat_abs, set, slice_index_or, IfOk, IfSome, IsNone, IsSome, MatchOption};
+ghost use Rattle.words.specs.declared.limits.TheConstants.{MAX_ORDER_LINES};
+
+use crate::book::{FieldEntry, MoveEntry};
+use crate::limits::MAX_PLACES;
+use crate::order::{Line, Order, State};
+use escrow::{Article, Branch, FieldName, Way};
+use std::alloc::Global;
+use std::cmp::Ordering;
+use words::Memory;
+
+/// What entries add up to on a field.
+#[derive(Clone, Copy, Debug)]
+pub(super) struct Numbers {
+    /// What has moved its value.
+    pub moved: i64,
+    /// What is held to take.
+    pub takes: i64,
+    /// What is held to add.
+    pub adds: i64,
+}
+
+pub(super) const NOTHING: Numbers = Numbers {
+    moved: 0,
+    takes: 0,
+    adds: 0,
+};
+
+impl Numbers {
+    /// Both together.
+    fn plus(self, more: Numbers) -> Numbers
+        requires room { IsSmall (most_of_all + most_of_all) self }
+        requires more { IsSmall most_of_all more }
+        ensures { result ≡ plus self more }
+    {
+        Numbers {
+            moved: self.moved + more.moved,
+            takes: self.takes + more.takes,
+            adds: self.adds + more.adds,
+        }
+    }
+}
+
+/// What the moves and the orders add up to on each of the fields; `None` exactly where one of them is on no field.
+pub(super) fn sums_of(
+    alloc: Global,
+    fields: &[(FieldName, FieldEntry)],
+    moves: &[MoveEntry],
+    orders: &[Order],
+) -> Result<Option<Vec<Numbers>>, Memory>
+    requires sorted { IsStrictlySortedBy name_cmp (map (λ f. f.name) (map field_of fields.now)) }
+    requires few_moves { length moves.now ≤ MAX_PLACES }
+    requires amounts { Each (λ entry. IsQty (nat_abs entry.amount)) moves.now }
+    requires few_orders { length orders.now ≤ MAX_ORDERS }
+    requires short { Each (λ order. length order.1.lines.items ≤ MAX_ORDER_LINES) orders.now }
+    ensures there { IfOk result (λ sums. IsSome sums ↔ AreOnFields fields.now moves.now orders.now) }
+    ensures sums { IfOk result (λ sums. IfSome sums (λ numbers. numbers.items ≡ map (λ f. numbers_on moves.now orders.now (field_of f).name) fields.now)) }
+    ensures small { IfOk result (λ sums. IfSome sums (λ numbers. Each (IsSmall most_of_all) numbers.items)) }
+{
+    let mut sums = no_sums(alloc, fields)?;
+    if add_all(fields, &mut sums, moves, orders) {
+        Ok(Some(sums))
+    } else {
+        Ok(None)
+    }
+}
+
+/// Adds the moves and the orders to the sums of their fields, which are nothing so far. Whether all of them are on
+/// fields.
+fn add_all(
+    fields: &[(FieldName, FieldEntry)],
+    sums: &mut [Numbers],
+    moves: &[MoveEntry],
+    orders: &[Order],
+) -> bool
+    requires sorted { AreFieldsInOrder fields.now }
+    requires nothing { sums.old ≡ map (λ f. nothing) fields.now }
+    requires few_moves { length moves.now ≤ MAX_PLACES }
+    requires amounts { Each (λ entry. IsQty (nat_abs entry.amount)) moves.now }
+    requires few_orders { length orders.now ≤ MAX_ORDERS }
+    requires short { Each (λ order. length order.1.lines.items ≤ MAX_ORDER_LINES) orders.now }
+    ensures there { IsTrue result ↔ AreOnFields fields.now moves.now orders.now }
+    ensures sums { IsTrue result → sums.new ≡ map (λ f. numbers_on moves.now orders.now (entry_name f)) fields.now }
+    ensures small { IsTrue result → Each (IsSmall most_of_all) sums.new }
+{
+    add_moves(fields, sums, moves) && add_orders(fields, sums, orders)
+}
+
+/// Nothing on each of the fields.
+fn no_sums(alloc: Global, fields: &[(FieldName, FieldEntry)]) -> Result<Vec<Numbers>, Memory>
+    ensures { IfOk result (λ sums. sums.items ≡ map (λ f. nothing) fields.now) }
+{
+    let mut sums = Vec::new(alloc);
+    for _ in fields {
+        sums.push(NOTHING).map_err(|_| Memory)?;
+    }
+    Ok(sums)
+}
+
+/// How the entry's field stands to the one of that name: by branch, then by article.
+fn compare(entry: &(FieldName, FieldEntry), branch: Branch, article: Article) -> Ordering
+    ensures { result ≡ name_cmp (entry_name entry.now) (name_of branch article) }
+{
+    match entry.0.branch.cmp(&branch) {
+        Ordering::Equal => entry.0.article.cmp(&article),
+        other => other,
+    }
+}
+
+/// The place of the field of that name, by a binary search.
+fn field_index(
+    fields: &[(FieldName, FieldEntry)],
+    branch: Branch,
+    article: Article,
+) -> Option<usize>
+    requires { AreFieldsInOrder fields.now }
+    ensures { let name = name_of branch article in MatchOption result (IsNone (field_among fields.now name)) (IsFieldAt fields.now name) }
+{
+    match fields.binary_search_by(|entry| compare(entry, branch, article)) {
+        Ok(place) => Some(place),
+        Err(_) => None,
+    }
+}
+
+/// Adds to the sum at that place.
+fn add_at(sums: &mut [Numbers], place: usize, part: &Numbers)
+    requires within { place < length sums.old }
+    requires room { Each (IsSmall (most_of_all + most_of_all)) sums.old }
+    requires part { IsSmall most_of_line part.now }
+    ensures sums { sums.new ≡ set sums.old place (plus (slice_index_or sums.old place nothing) part.now) }
+    ensures small { (k m : ℕ) → Each (IsSmall k) sums.old → IsSmall m part.now → Each (IsSmall (k + m)) sums.new }
+{
+    sums[place] = sums[place].plus(*part);
+}
+
+/// Adds to the sum of the field of that name. Whether there is such a field; if not, nothing changes.
+fn add_on(
+    fields: &[(FieldName, FieldEntry)],
+    sums: &mut [Numbers],
+    branch: Branch,
+    article: Article,
+    part: &Numbers,
+) -> bool
+    requires sorted { AreFieldsInOrder fields.now }
+    requires long { length sums.old ≡ length fields.now }
+    requires room { Each (IsSmall (most_of_all + most_of_all)) sums.old }
+    requires part { IsSmall most_of_line part.now }
+    ensures there { IsTrue result ↔ IsField fields.now (name_of branch article) }
+    ensures sums { sums.new ≡ added (only_on (name_of branch article) part.now) fields.now sums.old }
+    ensures small { (k m : ℕ) → Each (IsSmall k) sums.old → IsSmall m part.now → Each (IsSmall (k + m)) sums.new }
+{
+    match field_index(fields, branch, article) {
+        Some(place) => {
+            add_at(sums, place, part);
+            true
+        }
+        None => false,
+    }
+}
+
+/// Adds the moves, each to the sum of its field. Whether all of them are on fields.
+fn add_moves(fields: &[(FieldName, FieldEntry)], sums: &mut [Numbers], moves: &[MoveEntry]) -> bool
+    requires sorted { AreFieldsInOrder fields.now }
+    requires long { length sums.old ≡ length fields.now }
+    requires room { Each (IsSmall 0) sums.old }
+    requires few { length moves.now ≤ MAX_PLACES }
+    requires amounts { Each (λ entry. IsQty (nat_abs entry.amount)) moves.now }
+    ensures there { IsTrue result ↔ AreMovesOnFields fields.now moves.now }
+    ensures sums { IsTrue result → sums.new ≡ added (numbers_on moves.now []) fields.now sums.old }
+    ensures small { IsTrue result → Each (IsSmall most_of_moves) sums.new }
+{
+    for entry in moves {
+        if !add_move(fields, sums, entry) {
+            return false;
+        }
+    }
+    true
+}
+
+/// Adds the move to the sum of its field. Whether there is one.
+fn add_move(fields: &[(FieldName, FieldEntry)], sums: &mut [Numbers], entry: &MoveEntry) -> bool
+    requires sorted { AreFieldsInOrder fields.now }
+    requires long { length sums.old ≡ length fields.now }
+    requires room { Each (IsSmall most_of_all) sums.old }
+    requires amount { IsQty (nat_abs entry.now.amount) }
+    ensures there { IsTrue result ↔ IsField fields.now (move_of entry.now).field }
+    ensures sums { sums.new ≡ added (numbers_on (entry.now ∷ []) []) fields.now sums.old }
+    ensures small { (k : ℕ) → Each (IsSmall k) sums.old → Each (IsSmall (k + most_of_move)) sums.new }
+{
+    let part = Numbers {
+        moved: entry.amount,
+        takes: 0,
+        adds: 0,
+    };
+    add_on(fields, sums, entry.branch, entry.article, &part)
+}
+
+/// Adds the orders, each line to the sum of its field. Whether all lines are on fields.
+fn add_orders(fields: &[(FieldName, FieldEntry)], sums: &mut [Numbers], orders: &[Order]) -> bool
+    requires sorted { AreFieldsInOrder fields.now }
+    requires long { length sums.old ≡ length fields.now }
+    requires room { Each (IsSmall most_of_moves) sums.old }
+    requires few { length orders.now ≤ MAX_ORDERS }
+    requires short { Each (λ order. length order.1.lines.items ≤ MAX_ORDER_LINES) orders.now }
+    ensures there { IsTrue result ↔ AreOrdersOnFields fields.now orders.now }
+    ensures sums { IsTrue result → sums.new ≡ added (numbers_on [] orders.now) fields.now sums.old }
+    ensures small { IsTrue result → Each (IsSmall most_of_all) sums.new }
+{
+    for entry in orders {
+        if !add_lines(fields, sums, &entry.1.lines, &entry.1.state) {
+            return false;
+        }
+    }
+    true
+}
+
+/// Adds the lines of an order in that state, each to the sum of its field. Whether all of them are on fields.
+fn add_lines(
+    fields: &[(FieldName, FieldEntry)],
+    sums: &mut [Numbers],
+    lines: &[Line],
+    state: &State,
+) -> bool
+    requires sorted { AreFieldsInOrder fields.now }
+    requires long { length sums.old ≡ length fields.now }
+    requires room { Each (IsSmall most_of_all) sums.old }
+    requires short { length lines.now ≤ MAX_ORDER_LINES }
+    ensures there { IsTrue result ↔ AreLinesOnFields fields.now lines.now }
+    ensures sums { IsTrue result → sums.new ≡ added (lines_numbers state.now lines.now) fields.now sums.old }
+    ensures small { IsTrue result → (k : ℕ) → Each (IsSmall k) sums.old → Each (IsSmall (k + most_of_lines)) sums.new }
+{
+    for line in lines {
+        if !add_line(fields, sums, line, state) {
+            return false;
+        }
+    }
+    true
+}
+
+/// Adds the line to the sum of its field. Whether there is one.
+fn add_line(
+    fields: &[(FieldName, FieldEntry)],
+    sums: &mut [Numbers],
+    line: &Line,
+    state: &State,
+) -> bool
+    requires sorted { AreFieldsInOrder fields.now }
+    requires long { length sums.old ≡ length fields.now }
+    requires room { Each (IsSmall (most_of_all + most_of_all)) sums.old }
+    ensures there { IsTrue result ↔ IsField fields.now (line_name line.now) }
+    ensures sums { sums.new ≡ added (lines_numbers state.now (line.now ∷ [])) fields.now sums.old }
+    ensures small { (k : ℕ) → Each (IsSmall k) sums.old → Each (IsSmall (k + most_of_line)) sums.new }
+{
+    let part = part_of(line, state);
+    add_on(fields, sums, line.branch, line.article, &part)
+}
+
+/// What the line adds to its field, where its order has the state.
+fn part_of(line: &Line, state: &State) -> Numbers
+    ensures part { result ≡ part_of_line state.now line.now }
+    ensures small { IsSmall most_of_line result }
+{
+    match state {
+        State::Open => held_part(line),
+        State::Committed => used_part(line),
+        State::Aborted => NOTHING,
+    }
+}
+
+/// What it adds in an open order: what it holds.
+fn held_part(line: &Line) -> Numbers
+    ensures part { result ≡ part_of_line State.Open line.now }
+    ensures small { IsSmall most_of_line result }
+{
+    let held = line.held.get() as i64;
+    match line.way {
+        Way::Take => Numbers {
+            takes: held,
+            ..NOTHING
+        },
+        Way::Add => Numbers {
+            adds: held,
+            ..NOTHING
+        },
+    }
+}
+
+/// What it adds in a committed order: what it has used.
+fn used_part(line: &Line) -> Numbers
+    ensures part { result ≡ part_of_line State.Committed line.now }
+    ensures small { IsSmall most_of_line result }
+{
+    let used = line.used.get() as i64;
+    let moved = match line.way {
+        Way::Take => -used,
+        Way::Add => used,
+    };
+    Numbers { moved, ..NOTHING }
+}
+
+/// What must have moved its value, and what is held on it, where the field's quantity is right.
+fn numbers_of(entry: &FieldEntry) -> Numbers
+    ensures { HasNumbers result entry.now }
+{
+    let quantity = &entry.quantity;
+    let value = quantity.value().get() as i64;
+    Numbers {
+        moved: value - entry.start.get() as i64,
+        takes: value - quantity.inf().get() as i64,
+        adds: quantity.sup().get() as i64 - value,
+    }
+}
+
+fn are_same(one: &Numbers, other: &Numbers) -> bool
+    ensures { IsTrue result ↔ ((one.now.moved ≡ other.now.moved) × (one.now.takes ≡ other.now.takes) × (one.now.adds ≡ other.now.adds)) }
+{
+    one.moved == other.moved && one.takes == other.takes && one.adds == other.adds
+}
+
+/// Whether the field's quantity has what these numbers give it.
+fn has_numbers(entry: &FieldEntry, numbers: &Numbers) -> bool
+    ensures { IsTrue result ↔ HasNumbers numbers.now entry.now }
+{
+    are_same(&numbers_of(entry), numbers)
+}
+
+/// Whether each field's quantity has what the sum gives it.
+pub(super) fn have_numbers(fields: &[(FieldName, FieldEntry)], sums: &[Numbers]) -> bool
+    requires { length sums.now ≡ length fields.now }
+    ensures { (numbers : Name → Numbers) → sums.now ≡ map (λ f. numbers (entry_name f)) fields.now
+        → IsTrue result ↔ HaveNumbers numbers fields.now }
+{
+    for (i, entry) in fields.iter().enumerate() {
+        if !has_numbers(&entry.1, &sums[i]) {
+            return false;
+        }
+    }
+    true
+}
+
+/// Whether all moves and lines are on fields, and each field has what they add up to on it.
+pub(super) fn are_up_to_date(
+    alloc: Global,
+    fields: &[(FieldName, FieldEntry)],
+    moves: &[MoveEntry],
+    orders: &[Order],
+) -> Result<bool, Memory>
+    requires sorted { AreFieldsInOrder fields.now }
+    requires few_moves { length moves.now ≤ MAX_PLACES }
+    requires amounts { Each (λ entry. IsQty (nat_abs entry.amount)) moves.now }
+    requires few_orders { length orders.now ≤ MAX_ORDERS }
+    requires short { Each (λ order. length order.1.lines.items ≤ MAX_ORDER_LINES) orders.now }
+    ensures { IfOk result (λ fit. IsTrue fit ↔ (AreOnFields fields.now moves.now orders.now × HaveNumbers (numbers_on moves.now orders.now) fields.now)) }
+{
+    match sums_of(alloc, fields, moves, orders)? {
+        Some(sums) => Ok(have_numbers(fields, &sums)),
+        None => Ok(false),
+    }
+}
