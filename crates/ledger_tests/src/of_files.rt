@@ -2,13 +2,14 @@
 
 mod sheets;
 
+use crate::scripts::{answered, book_after};
 use crate::streams::Drip;
 use files::{FileFault, read_deliveries, read_orders};
 use std::alloc::Global;
 use std::io::Read;
 use std::process::Abort;
 use std::test::Fail;
-use words::{Request, write_command};
+use words::{Request, write_command, write_reply};
 
 /// The two kinds of files.
 #[derive(Clone, Copy, Debug)]
@@ -154,7 +155,7 @@ fn bad_files() -> &'static [(Kind, &'static [u8], u64)] {
     &BAD_FILES
 }
 
-const BAD_FILES: [(Kind, &[u8], u64); 22] = [
+const BAD_FILES: [(Kind, &[u8], u64); 30] = [
     (Kind::Orders, b"", 0),
     (Kind::Deliveries, b"", 0),
     (Kind::Deliveries, b"\n\r\n", 0),
@@ -197,6 +198,21 @@ const BAD_FILES: [(Kind, &[u8], u64); 22] = [
         b"key,order,until,way,branch,article,qty\nG1,50,500,take,N1,A-1,5,x\n",
         1,
     ),
+    (
+        Kind::Orders,
+        b"key,order,until,way,branch,article,qty\nG1,50,500,take,N1,A-1\n",
+        1,
+    ),
+    (
+        Kind::Orders,
+        b"key,order,until,way,branch,article,qty\nG1,50,500,take,N1,A-1,5\nG2,51,500,take,N1,A-1\n",
+        2,
+    ),
+    (
+        Kind::Deliveries,
+        b"key,branch,article,qty\nD1,N1,A-1,10\nD2,N1,A-1,10,10\n",
+        2,
+    ),
     // a byte that is not UTF-8
     (
         Kind::Deliveries,
@@ -205,8 +221,33 @@ const BAD_FILES: [(Kind, &[u8], u64); 22] = [
     ),
     (
         Kind::Deliveries,
+        b"key,branch,article,qty\nD1,N1,A-1,10\nD2,N1,A\xC3\x28,10\n",
+        2,
+    ),
+    (
+        Kind::Orders,
+        b"key,order,until,way,branch,article,qty\nG1,50,500,take,N1,A\xFF,5\n",
+        1,
+    ),
+    (
+        Kind::Orders,
+        b"key,order,until,way,branch,article,qty\nG1,50,500,take,N1,A-1,05\n",
+        1,
+    ),
+    (
+        Kind::Orders,
+        b"key,order,until,way,branch,article,qty\nG1,50,500,take,N1,A-1,5\nG2,051,500,take,N1,A-1,5\n",
+        2,
+    ),
+    (
+        Kind::Deliveries,
         b"key,branch,article,qty\nD1,N1,A-1,05\n",
         1,
+    ),
+    (
+        Kind::Deliveries,
+        b"key,branch,article,qty\nD1,N1,A-1,10\nD2,N1,A-1,05\n",
+        2,
     ),
     (
         Kind::Deliveries,
@@ -256,21 +297,91 @@ fn an_order_has_64_lines_at_the_most(rt: HostRuntime) -> Result<(), Fail> {
 const FILE: &[u8] =
     b"key,order,until,way,branch,article,qty\nG1,50,500,take,N1,A-1,5\nG1,50,500,add,N1,B-2,1\n";
 
+/// How long the pieces of a reader are, and how many reads of it a file needs: one byte, the rest piece by piece, and the end.
+const READS: [(usize, usize); 3] = [(1, 87), (16, 8), (512, 3)];
+
+/// The read with this number fails: what the file is answered then.
+fn fault_of_read<R: AllocGlobal>(
+    rt: &R,
+    piece: usize,
+    before_fault: usize,
+    is_interrupted: bool,
+) -> Option<FileFault> {
+    let reader = Drip {
+        bytes: FILE,
+        piece,
+        before_fault,
+        is_interrupted,
+    };
+    read(rt.alloc(), Kind::Orders, reader).err()
+}
+
+/// It is a fault, whatever its kind, where it is one of the reads that are needed.
+fn expect_read_fault<R: Abort + AllocGlobal>(rt: &R, piece: usize, read: usize, needed: usize) {
+    let want = if read < needed {
+        Some(FileFault::Io)
+    } else {
+        None
+    };
+    assert_eq!(rt;
+        fault_of_read(rt, piece, read, false),
+        want,
+        "{piece} {read}"
+    );
+    assert_eq!(rt;
+        fault_of_read(rt, piece, read, true),
+        want,
+        "{piece} {read}"
+    );
+}
+
+/// Each read fails in turn.
+fn expect_read_faults<R: Abort + AllocGlobal>(rt: &R, piece: usize, needed: usize) {
+    for read in 0..100usize {
+        expect_read_fault(rt, piece, read, needed);
+    }
+}
+
 #[test]
 fn a_failing_read_is_a_fault_at_once(rt: HostRuntime) {
-    for reads_left in 0..10usize {
-        let reader = Drip {
-            bytes: FILE,
-            piece: 16,
-            before_fault: reads_left,
-        };
-        let fault = read(rt.alloc(), Kind::Orders, reader).err();
-        // one byte, the rest by pieces of 16, and the end
-        let is_whole = reads_left >= 8;
-        assert_eq!(rt;
-            fault,
-            if is_whole { None } else { Some(FileFault::Io) },
-            "{reads_left}"
-        );
+    for (piece, needed) in READS {
+        expect_read_faults(&rt, piece, needed);
     }
+}
+
+/// Order files in which the first key comes back, and what is answered to their requests: it is taken where the first was done.
+const REUSED: [(&str, &str); 2] = [
+    (
+        "key,order,until,way,branch,article,qty\nG1,50,500,take,N1,A-1,5\nG2,51,500,take,N1,A-1,5\nG1,52,500,take,N1,A-1,5\n",
+        "G1 done 2\nG2 done 3\nG1 refused 1 KeyReused 0\n",
+    ),
+    (
+        "key,order,until,way,branch,article,qty\nG1,50,500,take,N1,A-1,41\nG2,51,500,take,N1,A-1,5\nG1,52,500,take,N1,A-1,5\n",
+        "G1 refused 13 TooLittle 1\nG2 done 2\nG1 done 3\n",
+    ),
+];
+
+/// The reply lines to the requests, one after the other, on a book of one field.
+fn replies_to(alloc: Global, requests: &[Request]) -> Result<Vec<u8>, Fail> {
+    let mut book = book_after(alloc, &[("K1", "field N1 A-1 0 100 40")])?;
+    let mut out = Vec::new(alloc);
+    for request in requests {
+        let reply = answered(alloc, &mut book, request)?;
+        out.extend_from_slice(request.key.as_bytes())?;
+        out.push(b' ')?;
+        write_reply(&reply, &mut out)?;
+        out.push(b'\n')?;
+    }
+    Ok(out)
+}
+
+#[test]
+fn a_key_that_comes_back_is_reused(rt: HostRuntime) -> Result<(), Fail> {
+    for (file, want) in REUSED {
+        let requests = read(rt.alloc(), Kind::Orders, file.as_bytes())?;
+        assert_eq!(rt; requests.len(), 3);
+        let replies = replies_to(rt.alloc(), &requests)?;
+        assert!(rt; replies.as_slice() == want.as_bytes(), "{want}");
+    }
+    Ok(())
 }

@@ -386,6 +386,30 @@ fn a_longer_line_is_let_go(rt: HostRuntime) -> Result<(), Fail> {
     Ok(())
 }
 
+/// A stream of which ten million bytes have come, and no newline.
+fn flooded(alloc: Global) -> Result<Lines, Fail> {
+    let piece = vec![in alloc; b'A'; 500]?;
+    let mut lines = Lines::new(alloc);
+    for _ in 0..20_000 {
+        if !lines.feed(alloc, &piece)?.is_empty() {
+            Err("a line has ended")?;
+        }
+    }
+    Ok(lines)
+}
+
+#[test]
+fn a_line_that_never_ends_is_one_bad_line(rt: HostRuntime) -> Result<(), Fail> {
+    let mut ended = flooded(rt.alloc())?;
+    assert!(rt; matches!(ended.finish(), Some(Item::Bad)));
+    assert!(rt; ended.finish().is_none());
+    let mut lines = flooded(rt.alloc())?;
+    let behind = b"\nK1 commit 7\n".as_slice();
+    let items = fed(rt.alloc(), &mut lines, behind, 512)?;
+    assert!(rt; items.as_slice() == behind);
+    Ok(())
+}
+
 /// A read into eight bytes takes these, or fails.
 fn expect_read<R: Abort, I: Read>(rt: &R, reader: &mut I, want: Option<&[u8]>) {
     let mut buffer = [0; 8];
@@ -409,6 +433,7 @@ fn a_read_is_a_piece_or_a_fault(rt: HostRuntime) {
         bytes: b"K1\n",
         piece: 1,
         before_fault: 2,
+        is_interrupted: true,
     };
     for piece in [Some("K"), Some("1"), None, Some("\n"), Some("")] {
         expect_read(&rt, &mut drip, piece.map(|text| text.as_bytes()));

@@ -4,7 +4,7 @@ use book::{Book, Planned};
 use escrow::Key;
 use std::alloc::Global;
 use std::test::Fail;
-use words::{Request, read_command};
+use words::{Reply, Request, read_command};
 
 pub(crate) fn request(alloc: Global, key: &str, command: &str) -> Result<Request, Fail> {
     let key = Key::read(key.as_bytes())?;
@@ -23,6 +23,20 @@ pub(crate) fn planned(
     Ok(book.plan(alloc, &request)?)
 }
 
+/// What is answered to the request, which is carried out where it is accepted.
+pub(crate) fn answered(alloc: Global, book: &mut Book, request: &Request) -> Result<Reply, Fail> {
+    match book.plan(alloc, request)? {
+        Planned::Again(place) => Ok(Reply::Done(place)),
+        Planned::Refused(refusal, line) => Ok(Reply::Refused(refusal, line)),
+        Planned::Accept(plan) => {
+            let place = plan.place();
+            book.make_room(&plan)?;
+            book.adopt(plan);
+            Ok(Reply::Done(place))
+        }
+    }
+}
+
 /// Carries the command out. Its place.
 pub(crate) fn carry_out(
     alloc: Global,
@@ -31,13 +45,10 @@ pub(crate) fn carry_out(
     command: &str,
 ) -> Result<u64, Fail> {
     let request = request(alloc, key, command)?;
-    let Planned::Accept(plan) = book.plan(alloc, &request)? else {
-        return Err(Fail::from("refused"));
-    };
-    let place = plan.place();
-    book.make_room(&plan)?;
-    book.adopt(plan);
-    Ok(place)
+    match answered(alloc, book, &request)? {
+        Reply::Done(place) => Ok(place),
+        Reply::Refused(_, _) => Err(Fail::from("refused")),
+    }
 }
 
 /// A book that has carried these out, one after the other, each under its key.

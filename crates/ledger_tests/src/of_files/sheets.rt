@@ -77,36 +77,79 @@ fn columns_hold_the_greatest_numbers(rt: HostRuntime) -> Result<(), Fail> {
     Ok(())
 }
 
-/// A write fails, or takes nothing, when the writer has taken so many pieces of 10 bytes: that much of the sheet is written.
+const ARTICLE_SHEET: &str =
+    "N1                        0        100         80         80         80\ntotal                        80\n";
+
+/// The two sheets on which the field stands.
+#[derive(Clone, Copy)]
+enum Kind {
+    Branch,
+    Article,
+}
+
+fn write_sheet(
+    alloc: Global,
+    book: &Book,
+    kind: Kind,
+    writer: &mut Sink,
+) -> Result<Result<(), SheetFault>, Fail> {
+    Ok(match kind {
+        Kind::Branch => branch_sheet(alloc, book, Branch::read(b"N1")?, writer),
+        Kind::Article => article_sheet(alloc, book, Article::read(b"A-1")?, writer),
+    })
+}
+
+/// A write fails, or takes nothing, when the writer has taken so many pieces: that much of the sheet is written.
 fn expect_beginning<R: Abort + AllocGlobal>(
     rt: &R,
     book: &Book,
-    writes_left: usize,
-    takes_none: bool,
-    want: &[u8],
+    (kind, sheet): (Kind, &str),
+    piece: usize,
+    (writes, takes_none): (usize, bool),
 ) -> Result<(), Fail> {
     let mut writer = Sink {
         taken: Vec::new(rt.alloc()),
-        piece: 10,
-        before_fault: writes_left,
+        piece,
+        before_fault: writes,
         takes_none,
     };
-    let ended = branch_sheet(rt.alloc(), book, Branch::read(b"N1")?, &mut writer);
-    let is_whole = want.len() == SHEET.len();
-    assert_eq!(rt; ended.is_ok(), is_whole);
-    assert!(rt; is_whole || ended == Err(SheetFault::Io));
+    let ended = write_sheet(rt.alloc(), book, kind, &mut writer)?;
+    let len = sheet.len().min(piece.saturating_mul(writes));
+    let is_whole = len == sheet.len();
+    assert_eq!(rt;
+        ended,
+        if is_whole {
+            Ok(())
+        } else {
+            Err(SheetFault::Io)
+        }
+    );
+    let want = sheet.as_bytes().get(..len).ok_or("a beginning")?;
     assert!(rt; writer.taken.as_slice() == want);
+    Ok(())
+}
+
+/// A fault at each of so many writes, of pieces of this length.
+fn expect_beginnings<R: Abort + AllocGlobal>(
+    rt: &R,
+    sheet: (Kind, &str),
+    piece: usize,
+    writes: usize,
+) -> Result<(), Fail> {
+    let book = small_book(rt.alloc())?;
+    for write in 0..writes {
+        expect_beginning(rt, &book, sheet, piece, (write, false))?;
+        expect_beginning(rt, &book, sheet, piece, (write, true))?;
+    }
     Ok(())
 }
 
 #[test]
 fn after_a_fault_a_beginning_is_written(rt: HostRuntime) -> Result<(), Fail> {
-    let book = small_book(rt.alloc())?;
-    for writes_left in 0..12usize {
-        let len = SHEET.len().min(10 * writes_left);
-        let want = SHEET.as_bytes().get(..len).ok_or("a beginning")?;
-        expect_beginning(&rt, &book, writes_left, true, want)?;
-        expect_beginning(&rt, &book, writes_left, false, want)?;
+    for sheet in [(Kind::Branch, SHEET), (Kind::Article, ARTICLE_SHEET)] {
+        expect_beginnings(&rt, sheet, 1, 105)?;
+        expect_beginnings(&rt, sheet, 10, 12)?;
+        expect_beginnings(&rt, sheet, 512, 2)?;
     }
     Ok(())
 }
