@@ -258,7 +258,8 @@ impl Book {
         self.accepts(request);
         let parts = self.parts_of(alloc, request)?;
         let changes = self.changes_of(alloc, request, &parts)?;
-        Ok(Planned::Accept(Plan::new(parts, changes)))
+        let plan = Plan::new(parts, changes);
+        Ok(Planned::Accept(plan))
     }
 
     /// That an accepted request is in range, and leaves a good ledger.

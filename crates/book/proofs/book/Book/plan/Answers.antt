@@ -9,7 +9,7 @@ returns c =
     let r : Request = c.args.request.now in
     let rows = rows_among c.in_ok-changes.changes.items in
     let makes = c.in_ok-parts.ensures in
-    let is = c.new.ensures in
+    let is = c.new-plan.ensures in
     let same : ◌≡◌ {A = Request} (plan_of c.in_ok-parts.parts rows).request r = λ i. record { key = makes.key i; command = makes.command i } in
     let fits : Fits A (plan_of c.in_ok-parts.parts rows) = record {
       accepted = subst (IsAccepted A) (sym same) (ap is_some c.in_default.ensures, c.in_default-check.ensures);
