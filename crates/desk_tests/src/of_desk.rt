@@ -1,11 +1,11 @@
 //! Desks over both keepers.
 
+mod hostile;
 mod resuming;
 
-use crate::desks::{answer_script, answer_stream, call, open, opened, play, request, run};
+use crate::desks::{answer_script, call, open, opened, play, request, run};
 use crate::keepers::{commit, connection_of, keeper, load, plain_keeper, sql_keeper};
 use crate::scripts::{Row, lines_of, long_script, replies_of, scripts};
-use crate::streams::{Drip, Sink};
 use book::{Change, FieldRow};
 use desk::{CallFault, Desk, Ending, OpenFault, ScriptFault, answer_all};
 use keep::{Keep, PlainKeep};
@@ -421,33 +421,5 @@ fn a_refusal_ends_no_run(rt: HostRuntime) -> Result<(), Fail> {
     let requests = requests(&rt, &lines)?;
     let mut desk = opened(&rt, sql_keeper(&rt)?)?;
     expect_run(&rt, &mut desk, &requests, Ending::All, &replies);
-    Ok(())
-}
-
-#[test]
-fn a_stream_that_fails_once_is_a_fault_at_once(rt: HostRuntime) -> Result<(), Fail> {
-    let mut desk = opened(&rt, plain_keeper(&rt))?;
-    let mut out: Vec<u8> = Vec::new(rt.alloc());
-    let mut reader = Drip {
-        bytes: b"? order 7\n",
-        piece: 512,
-        before_fault: 0,
-    };
-    assert_eq!(rt;
-        answer_stream(rt.alloc(), &mut reader, &mut out, &mut desk),
-        Err(ScriptFault::Read)
-    );
-    assert!(rt; out.is_empty());
-    let mut text = b"? order 7\n".as_slice();
-    let mut writer = Sink {
-        taken: Vec::new(rt.alloc()),
-        piece: 512,
-        before_fault: 0,
-        takes_none: false,
-    };
-    assert_eq!(rt;
-        answer_stream(rt.alloc(), &mut text, &mut writer, &mut desk),
-        Err(ScriptFault::Write)
-    );
     Ok(())
 }

@@ -1,8 +1,10 @@
 //! Messages, and what they are answered.
 
+mod hostile;
+
 use crate::desks::opened;
 use crate::keepers::plain_keeper;
-use crate::streams::{Drip, Sink};
+use crate::streams::Drip;
 use desk::Desk;
 use keep::{Keep, PlainKeep};
 use std::alloc::Global;
@@ -166,49 +168,12 @@ const STOPPED_ROWS: [Row; 9] = [
     ("PUT /v1/commands", FIRST, NOT_FOUND, JSON, NONE),
 ];
 
-/// The answer to what is no message.
-const NO_MESSAGE: &[u8] =
-    b"HTTP/1.1 400 Bad Request\r\ncontent-type: application/json\r\ncontent-length: 19\r\n\r\n{\"error\":\"message\"}";
-
-/// Streams that begin with no message, of which some have one behind that.
-fn unreadable() -> &'static [&'static [u8]] {
-    &UNREADABLE
-}
-
-const UNREADABLE: [&[u8]; 17] = [
-    b"POST /v1/commands HTTP/1.1\r\nContent-Length: 16385\r\n\r\n",
-    b"POST /v1/commands HTTP/1.1\r\nContent-Length: 046\r\n\r\n{\"command\":\"field N1 A-1 0 100 40\",\"key\":\"K1\"}",
-    b"POST /v1/commands HTTP/1.1\r\nContent-Length: +46\r\n\r\n{\"command\":\"field N1 A-1 0 100 40\",\"key\":\"K1\"}",
-    b"POST /v1/commands HTTP/1.1\r\nContent-Length: \r\n\r\n{\"command\":\"field N1 A-1 0 100 40\",\"key\":\"K1\"}",
-    b"POST /v1/commands HTTP/1.1\r\nContent-Length: 46\r\ncontent-length: 46\r\n\r\n{\"command\":\"field N1 A-1 0 100 40\",\"key\":\"K1\"}",
-    b"POST /v1/commands HTTP/1.1\r\nTransfer-Encoding: identity\r\nContent-Length: 46\r\n\r\n{\"command\":\"field N1 A-1 0 100 40\",\"key\":\"K1\"}",
-    b"POST /v1/commands HTTP/1.0\r\nContent-Length: 46\r\n\r\n{\"command\":\"field N1 A-1 0 100 40\",\"key\":\"K1\"}",
-    // cut bodies and heads
-    b"POST /v1/commands HTTP/1.1\r\nContent-Length: 46\r\n\r\n{\"command\":\"field N1 A-1 0 100 40\",\"key\":\"K1\"",
-    b"POST /v1/commands HTTP/1.1\r\nContent-Length: 47\r\n\r\n{\"command\":\"field N1 A-1 0 100 40\",\"key\":\"K1\"}",
-    b"POST /v1/commands HTTP/1.1\r\nContent-Length: 46\r\n",
-    b"G",
-    b"\r\n",
-    // no heads
-    b"\x00",
-    b"GET /v1/\xFF HTTP/1.1\r\n\r\n",
-    b"GET  /v1/sheets/N1 HTTP/1.1\r\n\r\n",
-    b"GET /v1/sheets/N1 HTTP/2\r\n\r\nGET /v1/sheets/N1 HTTP/1.1\r\n\r\n",
-    b"{\"command\":\"field N1 A-1 0 100 40\",\"key\":\"K1\"}\n",
-];
-
 /// The first message as `curl` sends it, and its answer, byte for byte.
 const FROM_CURL: &[u8] =
     b"POST /v1/commands HTTP/1.1\r\nHost: 127.0.0.1:8080\r\nUser-Agent: curl/8.5.0\r\nAccept: */*\r\nContent-Type: application/json\r\nContent-Length: 46\r\n\r\n{\"command\":\"field N1 A-1 0 100 40\",\"key\":\"K1\"}";
 
 const DONE: &[u8] =
     b"HTTP/1.1 200 OK\r\ncontent-type: application/json\r\ncontent-length: 11\r\n\r\n{\"place\":1}";
-
-const NOTHING: &[u8] =
-    b"HTTP/1.1 404 Not Found\r\ncontent-type: application/json\r\ncontent-length: 16\r\n\r\n{\"error\":\"none\"}";
-
-const NO_COMMAND: &[u8] =
-    b"HTTP/1.1 400 Bad Request\r\ncontent-type: application/json\r\ncontent-length: 43\r\n\r\n{\"code\":20,\"line\":0,\"refused\":\"BadCommand\"}";
 
 /// How serving these streams ends.
 fn serve_on<K: Keep, R: Read, W: Write>(
@@ -262,6 +227,7 @@ fn expect_rows<R: Abort + AllocGlobal, K: Keep>(
         bytes: &messages,
         piece,
         before_fault: usize::MAX,
+        is_interrupted: false,
     };
     let mut out = Vec::new(rt.alloc());
     let served = serve_on(rt.alloc(), &mut reader, &mut out, desk)?;
@@ -273,28 +239,20 @@ fn expect_rows<R: Abort + AllocGlobal, K: Keep>(
     Ok(())
 }
 
-/// How serving these streams ends on a new desk.
-fn serve_new<R: AllocGlobal, I: Read, O: Write>(
-    rt: &R,
-    reader: &mut I,
-    writer: &mut O,
-) -> Result<Result<Served, WebFault>, Fail> {
-    let mut desk = opened(rt, plain_keeper(rt))?;
-    Ok(serve_on(rt.alloc(), reader, writer, &mut desk))
-}
-
-/// The stream has one answer, this one, and ends so.
-fn expect_answer<R: Abort + AllocGlobal>(
+/// Serving the stream on a new desk ends so, with so many answers, these, and with so many fields.
+fn expect_served<R: Abort + AllocGlobal>(
     rt: &R,
     stream: &[u8],
-    ending: Ending,
-    answer: &[u8],
+    want: (u64, Ending, usize),
+    answers: &[u8],
 ) -> Result<(), Fail> {
     let mut reader = stream;
     let mut out = Vec::new(rt.alloc());
-    let served = serve_new(rt, &mut reader, &mut out)??;
-    assert_eq!(rt; (served.answered, served.ending), (1, ending));
-    assert!(rt; out.as_slice() == answer);
+    let mut desk = opened(rt, plain_keeper(rt))?;
+    let served = serve_on(rt.alloc(), &mut reader, &mut out, &mut desk)?;
+    let fields = desk.book().field_count();
+    assert_eq!(rt; (served.answered, served.ending, fields), want);
+    assert!(rt; out.as_slice() == answers);
     Ok(())
 }
 
@@ -314,156 +272,6 @@ fn a_stopped_desk_answers_so(rt: HostRuntime) -> Result<(), Fail> {
 }
 
 #[test]
-fn what_is_unreadable_is_answered_once(rt: HostRuntime) -> Result<(), Fail> {
-    for stream in unreadable() {
-        expect_answer(&rt, stream, Ending::BadMessage, NO_MESSAGE)?;
-    }
-    Ok(())
-}
-
-#[test]
 fn a_message_of_a_usual_client_is_read(rt: HostRuntime) -> Result<(), Fail> {
-    expect_answer(&rt, FROM_CURL, Ending::Input, DONE)
-}
-
-/// A head with so many header lines.
-fn head_of_lines(alloc: Global, lines: usize) -> Result<Vec<u8>, Fail> {
-    let mut head = Vec::from_slice(alloc, b"GET /v1/orders/7 HTTP/1.1\r\n")?;
-    for _ in 0..lines {
-        head.extend_from_slice(b"A: b\r\n")?;
-    }
-    head.extend_from_slice(b"\r\n")?;
-    Ok(head)
-}
-
-/// A head of so many bytes, 34 at the least.
-fn head_of_bytes(alloc: Global, bytes: usize) -> Result<Vec<u8>, Fail> {
-    let mut head = Vec::from_slice(alloc, b"GET /v1/orders/7 HTTP/1.1\r\nA: ")?;
-    for _ in 34..bytes {
-        head.push(b'b')?;
-    }
-    head.extend_from_slice(b"\r\n\r\n")?;
-    Ok(head)
-}
-
-#[test]
-fn a_head_has_its_limits(rt: HostRuntime) -> Result<(), Fail> {
-    let alloc = rt.alloc();
-    expect_answer(&rt, &head_of_lines(alloc, 32)?, Ending::Input, NOTHING)?;
-    expect_answer(
-        &rt,
-        &head_of_lines(alloc, 33)?,
-        Ending::BadMessage,
-        NO_MESSAGE,
-    )?;
-    expect_answer(&rt, &head_of_bytes(alloc, 8192)?, Ending::Input, NOTHING)?;
-    expect_answer(
-        &rt,
-        &head_of_bytes(alloc, 8193)?,
-        Ending::BadMessage,
-        NO_MESSAGE,
-    )
-}
-
-/// A message with a body of so many bytes: one of this kind, and then the rest of the text.
-fn posted(alloc: Global, bytes: usize, filling: u8, rest: &[u8]) -> Result<Vec<u8>, Fail> {
-    let mut message = Vec::new(alloc);
-    write!(
-        message,
-        "{COMMANDS} HTTP/1.1\r\nContent-Length: {bytes}\r\n\r\n"
-    )?;
-    for _ in rest.len()..bytes {
-        message.push(filling)?;
-    }
-    message.extend_from_slice(rest)?;
-    Ok(message)
-}
-
-#[test]
-fn a_body_has_its_limit(rt: HostRuntime) -> Result<(), Fail> {
-    let alloc = rt.alloc();
-    let longest = posted(alloc, 16_384, b' ', FIRST.as_bytes())?;
-    expect_answer(&rt, &longest, Ending::Input, DONE)?;
-    let nested = posted(alloc, 200, b'[', b"")?;
-    expect_answer(&rt, &nested, Ending::Input, NO_COMMAND)
-}
-
-/// What was written is a beginning of the answers to the rows.
-fn expect_beginning<R: Abort + AllocGlobal>(rt: &R, written: &[u8]) -> Result<(), Fail> {
-    let answers = answers_of(rt.alloc(), worked())?;
-    assert!(rt; answers.starts_with(written));
-    Ok(())
-}
-
-/// Whether it ended by a fault, which is this one.
-fn has_failed<R: Abort>(rt: &R, ended: Result<Served, WebFault>, want: WebFault) -> bool {
-    match ended {
-        Ok(_) => false,
-        Err(fault) => {
-            assert_eq!(rt; fault, want);
-            true
-        }
-    }
-}
-
-/// Serves the rows where the read with this number fails: whether it was needed.
-fn with_failing_read<R: Abort + AllocGlobal>(rt: &R, before_fault: usize) -> Result<bool, Fail> {
-    let messages = messages_of(rt.alloc(), worked())?;
-    let mut reader = Drip {
-        bytes: &messages,
-        piece: 100,
-        before_fault,
-    };
-    let mut out = Vec::new(rt.alloc());
-    let ended = serve_new(rt, &mut reader, &mut out)?;
-    expect_beginning(rt, &out)?;
-    Ok(has_failed(rt, ended, WebFault::Read))
-}
-
-/// Serves the rows where the write with this number fails, or takes nothing: whether it was needed.
-fn with_failing_write<R: Abort + AllocGlobal>(
-    rt: &R,
-    before_fault: usize,
-    takes_none: bool,
-) -> Result<bool, Fail> {
-    let messages = messages_of(rt.alloc(), worked())?;
-    let mut reader = messages.as_slice();
-    let mut writer = Sink {
-        taken: Vec::new(rt.alloc()),
-        piece: 100,
-        before_fault,
-        takes_none,
-    };
-    let ended = serve_new(rt, &mut reader, &mut writer)?;
-    expect_beginning(rt, &writer.taken)?;
-    Ok(has_failed(rt, ended, WebFault::Write))
-}
-
-/// The number of the first read that is not needed.
-fn reads_needed<R: Abort + AllocGlobal>(rt: &R) -> Result<usize, Fail> {
-    for read in 0..1_000 {
-        if !with_failing_read(rt, read)? {
-            return Ok(read);
-        }
-    }
-    Err("no end of reads")?
-}
-
-/// The number of the first write that is not needed.
-fn writes_needed<R: Abort + AllocGlobal>(rt: &R) -> Result<usize, Fail> {
-    for write in 0..1_000 {
-        let failed = with_failing_write(rt, write, false)?;
-        assert_eq!(rt; with_failing_write(rt, write, true)?, failed);
-        if !failed {
-            return Ok(write);
-        }
-    }
-    Err("no end of writes")?
-}
-
-#[test]
-fn a_failing_stream_is_a_fault_at_once(rt: HostRuntime) -> Result<(), Fail> {
-    assert!(rt; reads_needed(&rt)? > 10);
-    assert!(rt; writes_needed(&rt)? >= worked().len());
-    Ok(())
+    expect_served(&rt, FROM_CURL, (1, Ending::Input, 1), DONE)
 }

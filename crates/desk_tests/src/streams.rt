@@ -2,19 +2,29 @@
 
 use std::io::{self, Read, Write};
 
-/// Gives its bytes in pieces, fails once, in the place of the piece with this number, and goes on.
+/// Gives its bytes in pieces, fails once, in the place of the piece with this number, and goes on. The failure is an interrupted
+/// read, which might be tried again, or another.
 #[derive(Drop)]
 pub(crate) struct Drip<'a> {
     pub bytes: &'a [u8],
     pub piece: usize,
     pub before_fault: usize,
+    pub is_interrupted: bool,
+}
+
+fn read_fault(is_interrupted: bool) -> io::Error {
+    if is_interrupted {
+        io::Error::from(io::ErrorKind::Interrupted)
+    } else {
+        io::Error::from(io::ErrorKind::Other)
+    }
 }
 
 impl Read for Drip<'_> {
     fn read(&mut self, buffer: &mut [u8]) -> io::Result<usize> {
         if self.before_fault == 0 {
             self.before_fault = usize::MAX;
-            return Err(io::Error::from(io::ErrorKind::Interrupted));
+            return Err(read_fault(self.is_interrupted));
         }
         self.before_fault -= 1;
         let count = self.piece.min(self.bytes.len()).min(buffer.len());

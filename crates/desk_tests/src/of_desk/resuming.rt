@@ -111,6 +111,9 @@ fn answer_rest<K: Keep>(alloc: Global, desk: &mut Desk<K>, before: usize) -> Res
     if desk.is_stopped() != (run.ending == Ending::Stopped) {
         Err("stopped and not told, or told and not stopped")?;
     }
+    if run.ending == Ending::All && !stands(alloc, desk, LIST.len())? {
+        Err("another ledger than behind the whole list")?;
+    }
     Ok(run.replies.len())
 }
 
@@ -237,6 +240,33 @@ fn a_list_is_resumed_after_two_failures_of_the_database_and_a_power_cut(
     rt: HostRuntime,
 ) -> Result<(), Fail> {
     cut_twice_at_each_call(rt.alloc(), false, true)
+}
+
+/// The desk, or where it has stopped the one that is opened over what it left.
+fn going<K: Keep + Drop>(alloc: Global, desk: Desk<K>) -> Result<Desk<K>, Fail> {
+    if !desk.is_stopped() {
+        return Ok(desk);
+    }
+    match open(alloc, desk.into_keep()) {
+        Ok(desk) => Ok(desk),
+        Err((fault, _)) => Err(fault)?,
+    }
+}
+
+/// With ample memory that is one run. Where one allocation is refused, the list goes on behind the requests that were answered.
+#[test]
+fn a_list_is_resumed_where_memory_was_refused(rt: HostRuntime) -> Result<(), Fail> {
+    let mut desk = opened(&rt, sql_keeper(&rt)?)?;
+    let mut before = 0usize;
+    for _ in 0..3 {
+        let count = answer_rest(rt.alloc(), &mut desk, before)?;
+        before = before.checked_add(count).ok_or("too many")?;
+        if before == LIST.len() {
+            return Ok(());
+        }
+        desk = going(rt.alloc(), desk)?;
+    }
+    Err("never ended")?
 }
 
 #[test]
