@@ -117,17 +117,23 @@ fn answer_rest<K: Keep>(alloc: Global, desk: &mut Desk<K>, before: usize) -> Res
     Ok(run.replies.len())
 }
 
-/// A session over the connection behind so many replies: how many it gave, none where no desk was opened.
+/// A session over the connection behind so many replies: how many it gave, none where no desk was opened. It goes on where it can,
+/// at the end of the list too.
 fn session<S: Alter + Drop>(
     alloc: Global,
     conn: Connection<S>,
     before: usize,
 ) -> Result<(Connection<S>, usize), Fail> {
     match open(alloc, keeper(conn)?) {
-        Err((OpenFault::Store, keep)) => Ok((connection_of(keep), 0)),
+        Err((OpenFault::Store | OpenFault::Memory, keep)) => Ok((connection_of(keep), 0)),
         Err(_) => Err("the store is told as something else")?,
         Ok(mut desk) => {
-            let count = answer_rest(alloc, &mut desk, before)?;
+            let mut count = answer_rest(alloc, &mut desk, before)?;
+            if !desk.is_stopped() {
+                let next = before.checked_add(count).ok_or("no such number")?;
+                let more = answer_rest(alloc, &mut desk, next)?;
+                count = count.checked_add(more).ok_or("too many")?;
+            }
             Ok((connection_of(desk.into_keep()), count))
         }
     }
@@ -242,31 +248,13 @@ fn a_list_is_resumed_after_two_failures_of_the_database_and_a_power_cut(
     cut_twice_at_each_call(rt.alloc(), false, true)
 }
 
-/// The desk, or where it has stopped the one that is opened over what it left.
-fn going<K: Keep + Drop>(alloc: Global, desk: Desk<K>) -> Result<Desk<K>, Fail> {
-    if !desk.is_stopped() {
-        return Ok(desk);
-    }
-    match open(alloc, desk.into_keep()) {
-        Ok(desk) => Ok(desk),
-        Err((fault, _)) => Err(fault)?,
-    }
-}
-
-/// With ample memory that is one run. Where one allocation is refused, the list goes on behind the requests that were answered.
+/// With ample memory the list ends in its first session. Where one allocation is refused it goes on, in the same session or,
+/// where that was stopped, in the next.
 #[test]
 fn a_list_is_resumed_where_memory_was_refused(rt: HostRuntime) -> Result<(), Fail> {
-    let mut desk = opened(&rt, sql_keeper(&rt)?)?;
-    let mut before = 0usize;
-    for _ in 0..3 {
-        let count = answer_rest(rt.alloc(), &mut desk, before)?;
-        before = before.checked_add(count).ok_or("too many")?;
-        if before == LIST.len() {
-            return Ok(());
-        }
-        desk = going(rt.alloc(), desk)?;
-    }
-    Err("never ended")?
+    let uncut = calls_to(true, u64::MAX);
+    cut_twice(rt.alloc(), uncut, uncut, false)?;
+    Ok(())
 }
 
 #[test]
