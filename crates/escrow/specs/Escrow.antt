@@ -1,9 +1,12 @@
--- What can be asked of one quantity: to hold an amount more, to give back what is held, and to move the value.
-use Rattle.std.specs.Prelude.{◌≡◌, ℕ, ◌+◌, ◌-◌, ℤ, pos, ◌+ℤ◌, ◌-ℤ◌}
-use Rattle.escrow.specs.Choices.{EveryChoice, IsWithin}
+-- What can be asked of one quantity: to hold an amount more, to give back what is held, to move the value, and to take other
+-- bounds.
+use Rattle.std.specs.Prelude.{◌≡◌, ℕ, ◌+◌, ◌-◌, ◌<◌, ◌≤◌, ℤ, pos, ◌+ℤ◌, ◌-ℤ◌, ◌<ℤ◌, ◌≤ℤ◌}
+use Rattle.escrow.specs.Choices.{EveryChoice, IsWithin, SomeChoice}
 use Rattle.escrow.specs.Stock.{Stock}
 use Rattle.escrow.specs.declared.quantity.Bound.{Bound}
 use Rattle.escrow.specs.declared.quantity.Bound.TheVariants.{TooLittle, TooMuch}
+use Rattle.escrow.specs.declared.quantity.Rebound.{Rebound}
+use Rattle.escrow.specs.declared.quantity.Rebound.TheVariants as rebound
 use Rattle.escrow.specs.declared.quantity.Way.{Way}
 use Rattle.escrow.specs.declared.quantity.Way.TheVariants.{Add, Take}
 
@@ -40,3 +43,14 @@ pub record MovesValue (old : Stock) (way : Way) (n : ℕ) (new : Stock) : Type 0
 abbrev pub bound_of : Way → Bound
 bound_of Take = TooLittle
 bound_of Add = TooMuch
+
+-- the quantity with other bounds
+abbrev pub bounded : Stock → ℕ → ℕ → Stock
+bounded q lo hi = record q { lo = lo; hi = hi }
+
+-- Why other bounds are refused: the lower is above the upper one; or some choice is below the lower one; or none is, and some
+-- choice is above the upper one.
+abbrev pub RefusesBounds : Stock → ℕ → ℕ → Rebound → Type 0
+RefusesBounds q lo hi rebound.BadBounds = hi < lo
+RefusesBounds q lo hi rebound.TooLittle = (lo ≤ hi) × ((z : ℤ) × SomeChoice q z × (z <ℤ pos lo))
+RefusesBounds q lo hi rebound.TooMuch = (lo ≤ hi) × EveryChoice q (λ z. pos lo ≤ℤ z) × ((z : ℤ) × SomeChoice q z × (pos hi <ℤ z))

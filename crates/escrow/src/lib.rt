@@ -17,4 +17,4 @@ pub use limits::{
     MAX_ARTICLE_LEN, MAX_BRANCH_LEN, MAX_KEY_LEN, MAX_LEVEL, MAX_MOMENT, MAX_ORDER_NO, MAX_QTY,
 };
 pub use number::{Level, Moment, OrderNo, Qty};
-pub use quantity::{BadBounds, Bound, Quantity, Way};
+pub use quantity::{BadBounds, Bound, Quantity, Rebound, Way};

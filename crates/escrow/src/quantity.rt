@@ -2,7 +2,7 @@
 
 ghost use Rattle.std.specs.Prelude.{◌≡◌, ◌-◌, ◌≤◌, ◌↔◌, pos, IsOk, IfErr, IfOk, OnErr, OnOk};
 ghost use Rattle.escrow.specs.Choices.{IsInfimum, IsSafe, IsSupremum};
-ghost use Rattle.escrow.specs.Escrow.{IsSafeMoved, MovesValue, bound_of, giving_back, held_of, holding};
+ghost use Rattle.escrow.specs.Escrow.{IsSafeMoved, MovesValue, RefusesBounds, bound_of, bounded, giving_back, held_of, holding};
 ghost use Rattle.escrow.specs.Stock.{Stock};
 
 use crate::number::{Level, Qty};
@@ -24,6 +24,17 @@ pub struct BadBounds;
 /// The bound that some outcome of the open orders would pass.
 #[derive(Clone, Copy, Debug, PartialEq, Eq, Error)]
 pub enum Bound {
+    #[error("some outcome is below the lower bound")]
+    TooLittle,
+    #[error("some outcome is above the upper bound")]
+    TooMuch,
+}
+
+/// Why a quantity does not take other bounds.
+#[derive(Clone, Copy, Debug, PartialEq, Eq, Error)]
+pub enum Rebound {
+    #[error("the lower bound is above the upper bound")]
+    BadBounds,
     #[error("some outcome is below the lower bound")]
     TooLittle,
     #[error("some outcome is above the upper bound")]
@@ -194,6 +205,30 @@ impl Quantity {
                 self.sup += amount;
             }
         }
+        Ok(())
+    }
+
+    /// Takes other bounds, where the stock stays within them whatever becomes of what is held. Else the quantity is as it
+    /// was: it is `BadBounds` where `lo > hi`, then `TooLittle` where some outcome is below `lo`, then `TooMuch` where
+    /// some outcome is above `hi`.
+    pub fn rebound(&mut self, lo: Level, hi: Level) -> Result<(), Rebound>
+        ensures granted { IsOk result ↔ IsSafe (bounded self.old lo hi) }
+        ensures ok { OnOk result (self.new ≡ bounded self.old lo hi) }
+        ensures err { OnErr result (self.new ≡ self.old) }
+        ensures fault { IfErr result (RefusesBounds self.old lo hi) }
+    {
+        let (lo, hi) = (lo.get(), hi.get());
+        if lo > hi {
+            return Err(Rebound::BadBounds);
+        }
+        if self.inf < lo {
+            return Err(Rebound::TooLittle);
+        }
+        if self.sup > hi {
+            return Err(Rebound::TooMuch);
+        }
+        self.lo = lo;
+        self.hi = hi;
         Ok(())
     }
 
