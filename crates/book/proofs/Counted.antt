@@ -1,9 +1,12 @@
 -- How many orders are open, and how many in the next ledger.
-use Rattle.book.proofs.Prelude.{[], ◌+◌, ◌∙◌, ◌∷◌, ◌≡◌, BookView, Bool, Command, FirstFailure, Good, Inside, Ledger, List, None, Option, Order, Some, ap, arith, checks, count_by, expires, if◌then◌else◌, ints, is_open, is_some, ledger_of, map, next, open_orders, order_after, order_numbered, pos, refl, some_part, sym, total, true≢false, view_of, ℕ, ℤ}
+use Rattle.book.proofs.Prelude.{[], ◌+◌, ◌∙◌, ◌∷◌, ◌≡◌, BookView, Bool, Command, FirstFailure, Good, Inside, Ledger, List, None, Option, Order, Some, abort_all, add-zero, ap, arith, checks, count_by, expired_numbers, expires, if◌then◌else◌, ints, is_open, is_some, length, map, next, open_orders, order_after, order_numbered, pos, refl, some_part, subst, sym, total, true≢false, view_of, ℕ, ℤ}
 use Rattle.words.specs.declared.command.Command.TheVariants as command
 use Rattle.book.specs.After.{open_among}
+use Rattle.book.specs.Plans.{Leaves}
+use Rattle.book.specs.Running.{Stands}
 use Rattle.book.proofs.ChangedFields.{number_of_made}
 use Rattle.book.proofs.Closing.{all_pass}
+use Rattle.book.proofs.Expiring.{all_aborted, length_numbers}
 use Rattle.book.proofs.FieldRows.{parted}
 use Rattle.book.proofs.Lists.{counted}
 use Rattle.book.proofs.Made.{total-next}
@@ -35,7 +38,7 @@ one_among (Some o) = by (is_open o)
     by b = grind arith
 
 -- with what was under the number left out, and what the command makes added
-pub made_count : (A : Ledger) (c : Command) (o : Order) → Good A → FirstFailure (checks A c) None → order_after A c ≡ Some o → open_orders (next A c) + open_among (order_numbered A o.number) ≡ open_orders A + open_among (Some o)
+made_count : (A : Ledger) (c : Command) (o : Order) → Good A → FirstFailure (checks A c) None → order_after A c ≡ Some o → open_orders (next A c) + open_among (order_numbered A o.number) ≡ open_orders A + open_among (Some o)
 made_count A c o good passed made =
     let was = one_among (order_numbered A o.number) in
     let is = ap (some_part one) made ∙ one_among (Some o) in
@@ -44,19 +47,7 @@ made_count A c o good passed made =
     let next_one = total_one (next A c).orders in
     omega (arith, ints)
 
--- a command that makes no order and is no expiry leaves the orders as they were
-pub unmade : (A : Ledger) (c : Command) → FirstFailure (checks A c) None → order_after A c ≡ None → ((now : ℕ) → c ≡ command.Expire now → ⊥) → open_orders (next A c) ≡ open_orders A
-unmade A (command.Expire now) passed none other = absurd (other now refl)
-unmade A (command.Open n until lines) passed none other = absurd (true≢false (ap is_some none))
-unmade A (command.Transfer n until a from to q) passed none other = absurd (true≢false (ap is_some none))
-unmade A (command.More n way b a q) passed none other = absurd (there _ (order_numbered A n) (all_pass (checks A (command.More n way b a q)) passed).1.0 none)
-unmade A (command.Use n b a q) passed none other = absurd (there _ (order_numbered A n) (all_pass (checks A (command.Use n b a q)) passed).1.0 none)
-unmade A (command.Release n b a q) passed none other = absurd (there _ (order_numbered A n) (all_pass (checks A (command.Release n b a q)) passed).1.0 none)
-unmade A (command.Commit n) passed none other = absurd (there _ (order_numbered A n) (all_pass (checks A (command.Commit n)) passed).0 none)
-unmade A (command.Abort n) passed none other = absurd (there _ (order_numbered A n) (all_pass (checks A (command.Abort n)) passed).0 none)
-unmade A c passed none other = refl
-
-pub expired_count : (A : Ledger) (now : ℕ) → Good A → FirstFailure (checks A (command.Expire now)) None → open_orders (next A (command.Expire now)) + count_by (expires now) A.orders ≡ open_orders A
+expired_count : (A : Ledger) (now : ℕ) → Good A → FirstFailure (checks A (command.Expire now)) None → open_orders (next A (command.Expire now)) + count_by (expires now) A.orders ≡ open_orders A
 expired_count A now good h =
     let after = total-next one (λ o. refl) A (command.Expire now) good h in
     let parts = parted (expires now) one A.orders in
@@ -65,8 +56,30 @@ expired_count A now good h =
     let next_one = total_one (next A (command.Expire now)).orders in
     omega (arith, ints)
 
+-- a command that makes no order leaves those that do not expire
+pub none_made : (A : Ledger) (c : Command) → Good A → FirstFailure (checks A c) None → order_after A c ≡ None
+    → (abort_all (expired_numbers A c) A.orders ≡ (next A c).orders) × (open_orders (next A c) + length (expired_numbers A c) ≡ open_orders A)
+none_made A (command.Expire now) good passed none = let fewer = expired_count A now good passed in (all_aborted A now good, omega (arith, length_numbers (expires now) A.orders))
+none_made A (command.Open n until lines) good passed none = absurd (true≢false (ap is_some none))
+none_made A (command.Transfer n until a from to q) good passed none = absurd (true≢false (ap is_some none))
+none_made A (command.More n way b a q) good passed none = absurd (there _ (order_numbered A n) (all_pass (checks A (command.More n way b a q)) passed).1.0 none)
+none_made A (command.Use n b a q) good passed none = absurd (there _ (order_numbered A n) (all_pass (checks A (command.Use n b a q)) passed).1.0 none)
+none_made A (command.Release n b a q) good passed none = absurd (there _ (order_numbered A n) (all_pass (checks A (command.Release n b a q)) passed).1.0 none)
+none_made A (command.Commit n) good passed none = absurd (there _ (order_numbered A n) (all_pass (checks A (command.Commit n)) passed).0 none)
+none_made A (command.Abort n) good passed none = absurd (there _ (order_numbered A n) (all_pass (checks A (command.Abort n)) passed).0 none)
+none_made A c good passed none = (refl, add-zero _)
+
 -- ---- as the book knows it
 
--- what is known of the count holds of the ledger that is seen
-pub count_seen : (b : Inside) (v : BookView) → view_of b ≡ v → b.open_count ≡ open_orders (ledger_of b) → b.open_count ≡ open_orders v.ledger
-count_seen b v e is = is ∙ ap (λ (v : BookView). open_orders v.ledger) e
+module _ (b : Inside) (v : BookView) (e : view_of b ≡ v) (stands : Stands b) where
+  good : Good v.ledger
+  good = subst (λ (v : BookView). Good v.ledger) e stands.0
+
+  count : b.open_count ≡ open_orders v.ledger
+  count = stands.2 ∙ ap (λ (v : BookView). open_orders v.ledger) e
+
+  pub made_seen : (c : Command) (o : Order) (x : Option Order) (ns : List ℕ) → x ≡ Some o → Leaves v.ledger c x ns → open_orders (next v.ledger c) + open_among (order_numbered v.ledger o.number) ≡ b.open_count + open_among (Some o)
+  made_seen c o x ns some l = made_count v.ledger c o good l.passed (sym l.made_is ∙ some) ∙ ap (λ n. n + open_among (Some o)) (sym count)
+
+  pub unmade_seen : (c : Command) (x : Option Order) (ns : List ℕ) → x ≡ None → Leaves v.ledger c x ns → open_orders (next v.ledger c) + length ns ≡ b.open_count
+  unmade_seen c x ns none l = ap (λ (ns : List ℕ). open_orders (next v.ledger c) + length ns) l.expired_is ∙ (none_made v.ledger c good l.passed (sym l.made_is ∙ none)).1 ∙ sym count

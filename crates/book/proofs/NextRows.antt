@@ -276,18 +276,18 @@ orders_made A (command.Expire now) good = numbered_flat (expires now) A aborted_
 orders_made A c good = append-nil (own_order_rows c (order_after A c))
 
 -- the rows as they are made one after the other
-pub rows_in_turn : (A : Ledger) (r : Request) (p : PlanParts) (clock : ℕ) (cells : DeskCells) (desk fields moves orders aborted lines kept : Content) → Good A → Makes A r p → clock ≡ (next A r.command).clock
-    → cells ≡ record { one = pos 1; version = pos 1; clock = pos clock; places = pos p.place } → desk ≡ record no_content { desk = cells ∷ [] } → fields ≡ with_fields (map entry_row p.fields.entries) desk
+pub rows_in_turn : (A : Ledger) (r : Request) (p : PlanParts) (cells : DeskCells) (desk fields moves orders aborted lines kept : Content) → Good A → Makes A r p
+    → cells ≡ record { one = pos 1; version = pos 1; clock = pos p.clock; places = pos p.place } → desk ≡ record no_content { desk = cells ∷ [] } → fields ≡ with_fields (map entry_row p.fields.entries) desk
     → moves ≡ with_moves (move_rows (option_map move_of p.moved)) fields → orders ≡ with_orders (own_order_rows r.command (option_map order_of p.made)) moves → aborted ≡ with_orders (flat_map (of_numbered A aborted_rows) p.expired.items) orders
     → lines ≡ with_lines (own_line_rows r.command (option_map order_of p.made)) aborted
-    → kept ≡ with_kept (kept_row (record { key = r.key; place = p.place; command = r.command }) ∷ []) lines → kept ≡ rows_made A r
-rows_in_turn A r p clock cells desk fields moves orders aborted lines kept good m time is a b d f e g h =
+    → kept ≡ with_kept (kept_row (record { key = p.key; place = p.place; command = p.words }) ∷ []) lines → kept ≡ rows_made A r
+rows_in_turn A r p cells desk fields moves orders aborted lines kept good m is a b d f e g h =
     let more : places (accept A r) ≡ places A + 1 = length-insert (λ a b. is_lt (slice_cmp nat_cmp a.key b.key)) (record { key = r.key; place = places A + 1; command = r.command }) A.kept in
     let count = m.place ∙ sym more in
     let moved = m.moved ∙ ap (λ n. move_made n r.command) m.place in
     let states = (λ i. own_order_rows r.command (m.made i) ++ flat_map (of_numbered A aborted_rows) (m.expired i)) ∙ orders_made A r.command good in
-    let row : cells ≡ desk_row (accept A r) = is ∙ (λ i. record { one = pos 1; version = pos 1; clock = pos (time i); places = pos (count i) }) in
-    h ∙ ap (with_kept (kept_row (record { key = r.key; place = p.place; command = r.command }) ∷ [])) (g ∙ ap (with_lines (own_line_rows r.command (option_map order_of p.made))) (e ∙ ap (with_orders (flat_map (of_numbered A aborted_rows) p.expired.items)) (f ∙ ap (with_orders (own_order_rows r.command (option_map order_of p.made))) (d
+    let row : cells ≡ desk_row (accept A r) = is ∙ (λ i. record { one = pos 1; version = pos 1; clock = pos (m.clock i); places = pos (count i) }) in
+    h ∙ ap (with_kept (kept_row (record { key = p.key; place = p.place; command = p.words }) ∷ [])) (g ∙ ap (with_lines (own_line_rows r.command (option_map order_of p.made))) (e ∙ ap (with_orders (flat_map (of_numbered A aborted_rows) p.expired.items)) (f ∙ ap (with_orders (own_order_rows r.command (option_map order_of p.made))) (d
     ∙ ap (with_moves (move_rows (option_map move_of p.moved))) (b ∙ ap (with_fields (map entry_row p.fields.entries)) a)))))
     ∙ (λ i. record {
       desk = row i ∷ [];
@@ -295,5 +295,5 @@ rows_in_turn A r p clock cells desk fields moves orders aborted lines kept good 
       moves = move_rows (moved i);
       orders = states i;
       lines = own_line_rows r.command (m.made i);
-      kept = kept_row (record { key = r.key; place = m.place i; command = r.command }) ∷ [];
+      kept = kept_row (record { key = m.key i; place = m.place i; command = m.command i }) ∷ [];
     })

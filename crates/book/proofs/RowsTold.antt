@@ -1,7 +1,5 @@
 -- Rows of a good ledger each tell something in range, and rows that each tell something tell a ledger.
 use Rattle.book.proofs.Prelude.{[], ◌+ℤ◌, ◌+◌, ◌-ℤ◌, ◌∙◌, ◌∷◌, ◌≡◌, ◌≤ℤ◌, ◌≤◌, AllZip, Bool, Each, Field, FieldEntry, FieldRow, Good, Head, IsArticle, IsBounded, IsBranch, IsFieldRow, IsFieldTold, IsGoodField, IsGoodKept, IsGoodLine, IsGoodMove, IsGoodOrder, IsKeptTold, IsLevel, IsLineTold, IsMoveTold, IsSome, KeptEntry, KeptRow, Ledger, Line, LineCells, LineRow, List, MoveEntry, MoveRow, Name, Order, OrderRow, Some, TellsField, ap, arith, entry_row, false, field_cells, field_of, find, flat_map, head_of, held_to_add, held_to_take, if◌then◌else◌, ints, kept_cells, kept_row, line_cells, line_name, lines_from, map, move_cells, move_row, nat_abs, order_cells, order_lines, order_row, pos, refl, same_name, settled, subst, sym, true, true≢false, ℕ, ℤ}
-use Rattle.std.specs.Global.{Global}
-use denote.RawPtr.{null_ptr}
 use Rattle.book.specs.Told.{IsHeadTold, TellsLine, head_row}
 use Rattle.book.proofs.Bounds.{inf_is, inf_unique, sup_is, sup_unique}
 use Rattle.book.proofs.Closing.{name_is, sounds_from_good}
@@ -106,10 +104,9 @@ pub heads_told : (A : Ledger) (rows : List OrderRow) → Good A → map order_ce
 heads_told A rows g e = each_row order_row order_cells (IsGoodOrder A) (λ row. (h : Head) × IsHeadTold h row)
     (λ o row good is. (head_of o, record { number = good.number; until = good.until; cells = is })) A.orders rows g.orders e
 
--- (an entry's command may lie anywhere)
-pub kept_told : (heap : Global) (A : Ledger) (rows : List KeptRow) → Good A → map kept_cells rows ≡ map kept_row A.kept → Each (λ row. (e : List ℕ × KeptEntry) × IsKeptTold e row) rows
-kept_told heap A rows g e = each_row kept_row kept_cells IsGoodKept (λ row. (e : List ℕ × KeptEntry) × IsKeptTold e row)
-    (λ k row good is. ((k.key, record { place = k.place; command = record { ptr = null_ptr; alloc = heap; value = k.command } }), record { key = good.key; command = good.command; cells = is })) A.kept rows g.kept e
+pub kept_told : (A : Ledger) (rows : List KeptRow) → Good A → map kept_cells rows ≡ map kept_row A.kept → Each (λ row. (e : List ℕ × KeptEntry) × IsKeptTold e row) rows
+kept_told A rows g e = each_row kept_row kept_cells IsGoodKept (λ row. (e : List ℕ × KeptEntry) × IsKeptTold e row)
+    (λ k row good is. ((k.key, record { place = k.place; words = k.command }), record { key = good.key; command = good.command; cells = is })) A.kept rows g.kept e
 
 -- a line in range that the cells tell
 record Line_told (cells : LineCells) : Type 0 where

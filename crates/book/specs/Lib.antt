@@ -9,6 +9,7 @@ pub mod View
 pub mod Examples
 pub mod InOrder
 pub mod InPlace
+pub mod KeptWords
 pub mod Lends
 pub mod Walk
 pub mod Plans

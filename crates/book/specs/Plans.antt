@@ -1,25 +1,27 @@
 -- Plans of accepted requests, and what carrying one out needs.
-use Rattle.std.specs.Prelude.{ℕ, ◌+◌, ◌≤◌, ◌≡◌, List, [], ◌∷◌, Option, length, map, option_map}
+use Rattle.std.specs.Prelude.{ℕ, ◌+◌, ◌≤◌, ◌≡◌, List, [], ◌∷◌, None, Option, length, map, option_map}
 use Rattle.words.specs.declared.command.Command.{Command}
 use Rattle.words.specs.declared.command.Command.TheVariants as command
 use Rattle.words.specs.declared.command.Request.{Request}
 use Rattle.words.specs.declared.open_line.OpenLine.{OpenLine}
 use Rattle.book.specs.After.{expired_numbers, field_rows, move_made, order_after}
-use Rattle.book.specs.Answers.{IsAccepted}
+use Rattle.book.specs.Answers.{FirstFailure, IsAccepted, checks}
 use Rattle.book.specs.Changes.{changed_rows, put_content}
-use Rattle.book.specs.Ledger.{Ledger, Move, Name, Order, places}
-use Rattle.book.specs.Next.{accept, transfer_lines}
+use Rattle.book.specs.Ledger.{Ledger, Move, Name, Order, open_orders, places}
+use Rattle.book.specs.Next.{accept, next, transfer_lines}
 use Rattle.book.specs.Rows.{Content, IsRowsOf, desk_row}
 use Rattle.book.specs.Running.{entry_row}
 use Rattle.book.specs.View.{BookView, move_of, order_of}
 use Rattle.book.specs.declared.book.FieldEntry.{FieldEntry}
 use Rattle.book.specs.declared.book.plan.PlanParts.{PlanParts}
 
--- a plan as it is seen: the request that it carries out, the place that its command gets, the fields, the move and the
--- orders that it makes or changes, and the rows that change
+-- a plan as it is seen: the request that it carries out, the place that its command gets, the clock and how many orders
+-- are open then, the fields, the move and the orders that it makes or changes, and the rows that change
 pub record PlanView : Type 0 where
   pub request : Request
   pub place : ℕ
+  pub clock : ℕ
+  pub open_count : ℕ
   -- the entries of the fields that change, as they are then
   pub fields : List (Name × FieldEntry)
   -- the move that the command makes
@@ -33,8 +35,10 @@ pub record PlanView : Type 0 where
 -- the plan of these parts, which changes these rows
 abbrev pub plan_of : PlanParts → Content → PlanView
 plan_of p changes = record {
-  request = record { key = p.key; command = p.command.value };
+  request = record { key = p.key; command = p.words };
   place = p.place;
+  clock = p.clock;
+  open_count = p.open_count;
   fields = p.fields.entries;
   moved = option_map move_of p.moved;
   made = option_map order_of p.made;
@@ -51,11 +55,14 @@ pub record ChangesTo (A : Ledger) (r : Request) (rows : Content) : Type 0 where
   -- the desk row is the next ledger's
   pub desk : rows.desk ≡ desk_row (accept A r) ∷ []
 
--- The plan fits the ledger: its request is accepted there, at that place, makes that move and that order, ends those as
--- expired, and its rows are those that change; those of fields are the rows of its entries.
+-- The plan fits the ledger: its request is accepted there, at that place, leaves that clock and so many open orders,
+-- makes that move and that order, ends those as expired, and its rows are those that change; those of fields are the
+-- rows of its entries.
 pub record Fits (A : Ledger) (plan : PlanView) : Type 0 where
   pub accepted : IsAccepted A plan.request
   pub place : plan.place ≡ places A + 1
+  pub clock : plan.clock ≡ (next A plan.request.command).clock
+  pub open_count : plan.open_count ≡ open_orders (next A plan.request.command)
   pub moved : plan.moved ≡ move_made plan.place plan.request.command
   pub made : plan.made ≡ order_after A plan.request.command
   pub expired : plan.expired ≡ expired_numbers A plan.request.command
@@ -65,12 +72,20 @@ pub record Fits (A : Ledger) (plan : PlanView) : Type 0 where
 -- The parts are what the request makes of the ledger.
 pub record Makes (A : Ledger) (r : Request) (p : PlanParts) : Type 0 where
   pub key : p.key ≡ r.key
-  pub command : p.command.value ≡ r.command
+  pub command : p.words ≡ r.command
   pub place : p.place ≡ places A + 1
+  pub clock : p.clock ≡ (next A r.command).clock
+  pub open_count : p.open_count ≡ open_orders (next A r.command)
   pub moved : option_map move_of p.moved ≡ move_made p.place r.command
   pub made : option_map order_of p.made ≡ order_after A r.command
   pub expired : p.expired.items ≡ expired_numbers A r.command
   pub fields : map entry_row p.fields.entries ≡ field_rows A r
+
+-- The command passes its checks, and makes that order or aborts those as expired.
+pub record Leaves (A : Ledger) (c : Command) (made : Option Order) (expired : List ℕ) : Type 0 where
+  pub passed : FirstFailure (checks A c) None
+  pub made_is : made ≡ order_after A c
+  pub expired_is : expired ≡ expired_numbers A c
 
 -- the lines of the order that a command opens
 abbrev pub opened_lines : Command → List OpenLine

@@ -93,7 +93,7 @@ pub record IsLineTold (l : Line) (row : LineRow) : Type 0 where
 
 pub record IsKeptTold (e : List ℕ × KeptEntry) (row : KeptRow) : Type 0 where
   pub key : IsKey e.0
-  pub command : IsInRange e.1.command.value
+  pub command : IsInRange e.1.words
   pub cells : kept_cells row ≡ kept_row (kept_of e)
 
 -- ---- orders from rows

@@ -30,7 +30,7 @@ abbrev pub order_of : ℕ × OrderEntry → Order
 order_of e = record { number = e.0; kind = e.1.kind; until = e.1.until; state = e.1.state; lines = e.1.lines.items }
 
 abbrev pub kept_of : List ℕ × KeptEntry → Kept
-kept_of e = record { key = e.0; place = e.1.place; command = e.1.command.value }
+kept_of e = record { key = e.0; place = e.1.place; command = e.1.words }
 
 abbrev pub ledger_of : Inside → Ledger
 ledger_of b = record {

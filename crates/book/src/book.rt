@@ -1,13 +1,12 @@
 //! The ledger in memory.
 
-ghost use Rattle.book.specs.After.{expired_numbers, move_made, open_among, order_after};
-ghost use Rattle.book.specs.Answers.{FirstFailure, checks};
+ghost use Rattle.book.specs.After.{move_made, open_among};
 ghost use Rattle.book.specs.Future.{Honours, HonoursAlways};
 ghost use Rattle.book.specs.Good.{Good};
 ghost use Rattle.book.specs.Ledger.{new_ledger, field_named, kept_under, name_of, order_numbered, Ledger, is_transfer, open_state, places, insert_in_order, open_orders};
 ghost use Rattle.book.specs.Next.{accept, next};
 ghost use Rattle.book.specs.Outcomes.{article_total};
-ghost use Rattle.book.specs.Plans.{Fits, HasRoomFor, KeepsRoom};
+ghost use Rattle.book.specs.Plans.{Fits, HasRoomFor, KeepsRoom, Leaves};
 ghost use Rattle.book.specs.Running.{IsUpToDate, with_entries};
 ghost use Rattle.book.specs.View.{field_of, kept_of, order_of, move_of};
 ghost use Rattle.std.specs.BTreeMap.{insert_entry};
@@ -29,6 +28,7 @@ mod views;
 
 use self::made::abort_all;
 use crate::in_order::InOrder;
+use crate::kept_words::KeptWords;
 use crate::order::{Order, OrderEntry, State};
 use escrow::{Article, Branch, FieldName, Key, Level, Moment, OrderNo, Quantity};
 pub use plan::{Plan, Planned};
@@ -54,12 +54,11 @@ pub struct MoveEntry {
     pub amount: i64,
 }
 
-/// What is kept under an accepted key: its place and its command. The command lies by itself, so that the list of these
-/// is short.
+/// What is kept under an accepted key: its place and the words of its command.
 #[derive(Debug, Drop)]
 pub struct KeptEntry {
     pub place: u64,
-    pub command: Box<Command>,
+    pub words: KeptWords,
 }
 
 /// A good ledger: all fields, with their stock as it stands, moves, orders and kept keys of the desk. Contracts see it as its ledger and, beside
@@ -195,23 +194,14 @@ fn put_order(orders: &mut InOrder<OrderNo, OrderEntry>, order: Order)
     orders.put(number, entry);
 }
 
-/// The orders once the command is carried out, with the order that it makes and those that expire.
-fn adopt_orders(
-    orders: &mut InOrder<OrderNo, OrderEntry>,
-    made: Option<Order>,
-    expired: &[OrderNo],
-    command: &Command,
-)
+/// Puts the order in that the command makes, or else aborts those that expire.
+fn adopt_orders(orders: &mut InOrder<OrderNo, OrderEntry>, made: Option<Order>, expired: &[OrderNo])
     requires room { 1 ≤ orders.old.room }
-    ensures { (A : Ledger) → Good A → FirstFailure (checks A command.now) None → map order_of orders.old.entries ≡ A.orders → option_map order_of made ≡ order_after A command.now → expired.now ≡ expired_numbers A command.now → map order_of orders.new.entries ≡ (next A command.now).orders }
+    ensures { (A : Ledger) (c : Command) → Good A → Leaves A c (option_map order_of made) expired.now → map order_of orders.old.entries ≡ A.orders → map order_of orders.new.entries ≡ (next A c).orders }
 {
-    match command {
-        Command::Expire { .. } => abort_all(orders, expired),
-        _ => {
-            if let Some(order) = made {
-                put_order(orders, order);
-            }
-        }
+    match made {
+        Some(order) => put_order(orders, order),
+        None => abort_all(orders, expired),
     }
 }
 
@@ -236,22 +226,14 @@ impl Book {
         }
     }
 
-    /// How many orders are open once the accepted command is carried out, with the order that it makes and so many that
-    /// it aborts as expired.
-    fn open_after(&self, command: &Command, made: &Option<Order>, expired: usize) -> usize
-        requires accepted { FirstFailure (checks self.now.ledger command.now) None }
-        requires made { option_map order_of made.now ≡ order_after self.now.ledger command.now }
-        requires expired { expired ≡ length (expired_numbers self.now.ledger command.now) }
-        ensures { result ≡ open_orders (next self.now.ledger command.now) }
+    /// How many orders are open once a command is carried out that makes this order, or else aborts these as expired.
+    fn open_after(&self, made: &Option<Order>, expired: &[OrderNo]) -> usize
+        requires { (c : Command) × Leaves self.now.ledger c (option_map order_of made.now) expired.now }
+        ensures { (c : Command) → Leaves self.now.ledger c (option_map order_of made.now) expired.now → result ≡ open_orders (next self.now.ledger c) }
     {
-        match command {
-            Command::Expire { .. } => self.open_count - expired,
-            _ => match made {
-                Some(order) => {
-                    self.open_count + open_one(order.1.state) - self.open_before(order.0)
-                }
-                None => self.open_count,
-            },
+        match made {
+            Some(order) => self.open_count + open_one(order.1.state) - self.open_before(order.0),
+            None => self.open_count - expired.len(),
         }
     }
 
@@ -266,16 +248,14 @@ impl Book {
         ensures even { (n : ℕ) (article : List ℕ) → plan.request.command ≡ Commit n → IsSomeAnd (order_numbered self.old.ledger n) (λ o. IsTrue (is_transfer o)) → article_total self.new.ledger article ≡ article_total self.old.ledger article }
     {
         let parts = plan.into_parts();
-        let (key, command, place) = (parts.key, parts.command, parts.place);
+        let (key, place, words) = (parts.key, parts.place, parts.words);
         key.as_bytes();
-        command.in_range();
-        let clock = self.clock_after(&command);
-        let open_count = self.open_after(&command, &parts.made, parts.expired.len());
-        self.clock = clock;
-        self.open_count = open_count;
+        words.as_bytes();
+        self.clock = parts.clock;
+        self.open_count = parts.open_count;
         adopt_fields(&mut self.fields, &parts.fields);
         adopt_move(&mut self.moves, parts.moved);
-        adopt_orders(&mut self.orders, parts.made, &parts.expired, &command);
-        insert_kept(&mut self.kept, key, KeptEntry { place, command });
+        adopt_orders(&mut self.orders, parts.made, &parts.expired);
+        insert_kept(&mut self.kept, key, KeptEntry { place, words });
     }
 }

@@ -2,7 +2,6 @@
 
 ghost use Rattle.std.specs.Prelude.{◌≡◌, ◌≤◌, pos, string_bytes, IfOk, IfSome, ◌∷◌, ◌++◌, [], flat_map, length, map, option_map, OnOk, Some};
 ghost use Rattle.std.specs.Str.{IsUtf8};
-ghost use Rattle.words.specs.Spelling.{spelling};
 ghost use Rattle.words.specs.declared.limits.TheConstants.{MAX_ORDER_LINES};
 ghost use Rattle.book.specs.Ledger.{is_transfer};
 ghost use Rattle.book.specs.Next.{set_state, next};
@@ -17,12 +16,13 @@ use super::made::{changes_line, changes_state, is_transfer};
 use super::plan::PlanParts;
 use super::{Book, FieldEntry, MoveEntry};
 use crate::in_order::InOrder;
+use crate::kept_words::KeptWords;
 use crate::limits::MAX_PLACES;
 use crate::order::{Kind, Line, Order, OrderEntry, State};
 use crate::rows::{Change, DeskRow, FieldRow, KeptRow, LineRow, MoveRow, OrderRow};
 use escrow::{Article, Branch, FieldName, Key, Moment, OrderNo, Way};
 use std::alloc::Global;
-use words::{Command, Memory, Request, write_command};
+use words::{Command, Memory, Request};
 
 /// The text of these bytes.
 fn text_of(alloc: Global, bytes: &[u8]) -> Result<String, Memory>
@@ -51,18 +51,6 @@ fn key_text(alloc: Global, key: Key) -> Result<String, Memory>
     ensures { IfOk result (λ text. string_bytes text ≡ key) }
 {
     text_of(alloc, key.as_bytes())
-}
-
-/// The spelling of the command.
-fn command_text(alloc: Global, command: &Command) -> Result<String, Memory>
-    ensures { IfOk result (λ text. string_bytes text ≡ spelling command.now) }
-{
-    command.in_range();
-    let mut text = Vec::new(alloc);
-    let Ok(()) = write_command(command, &mut text) else {
-        return Err(Memory);
-    };
-    text_of(alloc, &text)
 }
 
 fn kind_code(kind: Kind) -> i64
@@ -152,15 +140,15 @@ fn move_row(alloc: Global, entry: &MoveEntry) -> Result<MoveRow, Memory>
     })
 }
 
-/// The row of the request's key.
-fn kept_row(alloc: Global, place: u64, request: &Request) -> Result<KeptRow, Memory>
+/// The row of a kept key.
+fn kept_row(alloc: Global, key: Key, place: u64, words: &KeptWords) -> Result<KeptRow, Memory>
     requires { place ≤ MAX_PLACES }
-    ensures { IfOk result (λ row. kept_cells row ≡ kept_row (record { key = request.now.key; place = place; command = request.now.command })) }
+    ensures { IfOk result (λ row. kept_cells row ≡ kept_row (record { key = key; place = place; command = words.now })) }
 {
     Ok(KeptRow {
-        reqkey: key_text(alloc, request.key)?,
+        reqkey: key_text(alloc, key)?,
         place: place as i64,
-        words: command_text(alloc, &request.command)?,
+        words: text_of(alloc, words.as_bytes())?,
     })
 }
 
@@ -285,17 +273,12 @@ fn push_move(
     push(changes, Change::Move(row))
 }
 
-/// Appends the row of the request's key.
-fn push_kept(
-    alloc: Global,
-    changes: &mut Vec<Change>,
-    place: u64,
-    request: &Request,
-) -> Result<(), Memory>
-    requires { place ≤ MAX_PLACES }
-    ensures { OnOk result (rows_among changes.new.items ≡ with_kept (kept_row (record { key = request.now.key; place = place; command = request.now.command }) ∷ []) (rows_among changes.old.items)) }
+/// Appends the row of the key that the parts put in.
+fn push_kept(alloc: Global, changes: &mut Vec<Change>, parts: &PlanParts) -> Result<(), Memory>
+    requires { parts.now.place ≤ MAX_PLACES }
+    ensures { OnOk result (rows_among changes.new.items ≡ with_kept (kept_row (record { key = parts.now.key; place = parts.now.place; command = parts.now.words }) ∷ []) (rows_among changes.old.items)) }
 {
-    let row = kept_row(alloc, place, request)?;
+    let row = kept_row(alloc, parts.key, parts.place, &parts.words)?;
     push(changes, Change::Kept(row))
 }
 
@@ -346,14 +329,14 @@ impl Book {
     {
         let command = &request.command;
         let mut changes = Vec::new(alloc);
-        let desk = desk_row(self.clock_after(command), parts.place);
+        let desk = desk_row(parts.clock, parts.place);
         push(&mut changes, Change::Desk(desk))?;
         push_fields(alloc, &mut changes, &parts.fields)?;
         push_move(alloc, &mut changes, &parts.moved)?;
         push_order(&mut changes, command, &parts.made)?;
         self.push_all_aborted(&mut changes, &parts.expired)?;
         push_own_lines(alloc, &mut changes, command, &parts.made)?;
-        push_kept(alloc, &mut changes, parts.place, request)?;
+        push_kept(alloc, &mut changes, parts)?;
         Ok(changes)
     }
 }

@@ -1,7 +1,7 @@
 //! What is answered to a request, before it is carried out; plans of accepted requests.
 
 ghost use Rattle.book.specs.After.{move_made, moved_at_once};
-ghost use Rattle.book.specs.Answers.{IsAccepted, same_command};
+ghost use Rattle.book.specs.Answers.{IsAccepted};
 ghost use Rattle.book.specs.Ledger.{kept_under, name_of};
 ghost use Rattle.book.specs.Next.{new_line, transfer_lines};
 ghost use Rattle.book.specs.Outcomes.{signed};
@@ -15,20 +15,23 @@ ghost use Rattle.std.specs.Prelude.{◌≡◌, length, option_map, ◌⊎◌, If
 use super::made::new_line;
 use super::{Book, FieldEntry, MoveEntry};
 use crate::in_order::InOrder;
+use crate::kept_words::KeptWords;
 use crate::order::{Line, Order};
 use crate::rows::Change;
-use escrow::{Article, Branch, FieldName, Key, OrderNo, Qty, Way};
+use escrow::{Article, Branch, FieldName, Key, Moment, OrderNo, Qty, Way};
 use std::alloc::Global;
 use std::marker::Model;
-use words::{Command, Memory, OpenLine, Refusal, Request, WordsFault, read_command, write_command};
+use words::{Command, Memory, OpenLine, Refusal, Request};
 
-/// What an accepted request puts into the book: its key, its command and its place, the fields, the move and the order
-/// that it makes or changes, and the orders that expire.
+/// What an accepted request puts into the book: its key, its words and its place, the clock and how many orders are
+/// open then, the fields, the move and the order that it makes or changes, and the orders that expire.
 #[derive(Debug, Drop)]
 pub(crate) struct PlanParts {
     pub key: Key,
-    pub command: Box<Command>,
+    pub words: KeptWords,
     pub place: u64,
+    pub clock: Moment,
+    pub open_count: usize,
     pub fields: InOrder<FieldName, FieldEntry>,
     pub moved: Option<MoveEntry>,
     pub made: Option<Order>,
@@ -85,8 +88,10 @@ impl Plan {
     /// What it puts into the book.
     pub(crate) fn into_parts(self) -> PlanParts
         ensures key { result.key ≡ self.request.key }
-        ensures command { result.command.value ≡ self.request.command }
+        ensures command { result.words ≡ self.request.command }
         ensures place { result.place ≡ self.place }
+        ensures clock { result.clock ≡ self.clock }
+        ensures open_count { result.open_count ≡ self.open_count }
         ensures fields { result.fields.entries ≡ self.fields }
         ensures moved { option_map move_of result.moved ≡ self.moved }
         ensures made { option_map order_of result.made ≡ self.made }
@@ -105,40 +110,6 @@ pub enum Planned {
     Refused(Refusal, u64),
     /// Accepted.
     Accept(Plan),
-}
-
-/// Whether the commands have one spelling.
-fn is_same(alloc: Global, one: &Command, other: &Command) -> Result<bool, Memory>
-    ensures { IfOk result (λ same. same ≡ same_command one.now other.now) }
-{
-    let mut first = Vec::new(alloc);
-    let mut second = Vec::new(alloc);
-    write_command(one, &mut first)?;
-    write_command(other, &mut second)?;
-    Ok(first.as_slice() == second.as_slice())
-}
-
-/// A copy of the command, by its one spelling.
-fn copy_of(alloc: Global, command: &Command) -> Result<Command, Memory>
-    ensures { IfOk result (λ copy. copy ≡ command.now) }
-{
-    command.in_range();
-    let mut text = Vec::new(alloc);
-    let Ok(()) = write_command(command, &mut text) else {
-        return Err(Memory);
-    };
-    match read_command(alloc, &text) {
-        Ok(copy) => Ok(copy),
-        Err(WordsFault::Memory) => Err(Memory),
-        Err(WordsFault::BadCommand) => unreachable!(),
-    }
-}
-
-/// The command on the heap.
-fn boxed(alloc: Global, command: Command) -> Result<Box<Command>, Memory>
-    ensures { IfOk result (λ boxed. boxed.value ≡ command) }
-{
-    Box::new(alloc, command).map_err(|_| Memory)
 }
 
 /// The lines of an order, which hold their amounts and have used nothing.
@@ -246,7 +217,8 @@ impl Book {
         ensures memory { OnErr result (IsSome (kept_under self.now.ledger request.now.key) ⊎ IsAccepted self.now.ledger request.now) }
     {
         if let Some(kept) = self.kept_entry(request.key) {
-            return if is_same(alloc, &kept.command, &request.command)? {
+            let words = KeptWords::of(alloc, &request.command)?;
+            return if kept.words.is_same(&words) {
                 Ok(Planned::Again(kept.place))
             } else {
                 Ok(Planned::Refused(Refusal::KeyReused, 0))
@@ -277,18 +249,20 @@ impl Book {
         requires { Accepts self.now.ledger request.now }
         ensures { IfOk result (λ parts. Makes self.now.ledger request.now parts) }
     {
-        let copy = copy_of(alloc, &request.command)?;
-        let command = boxed(alloc, copy)?;
+        let command = &request.command;
+        let words = KeptWords::of(alloc, command)?;
         let place = self.kept.len() as u64 + 1;
         let made = self.order_after(alloc, request)?;
-        let expired = self.expired(alloc, &request.command)?;
+        let expired = self.expired(alloc, command)?;
         let fields = self.fields_after(alloc, request, &made, &expired)?;
         Ok(PlanParts {
             key: request.key,
-            command,
+            words,
             place,
+            clock: self.clock_after(command),
+            open_count: self.open_after(&made, &expired),
             fields,
-            moved: move_made(place, &request.command),
+            moved: move_made(place, command),
             made,
             expired,
         })

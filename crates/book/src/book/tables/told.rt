@@ -7,7 +7,6 @@ ghost use Rattle.book.specs.Ledger.{Name};
 ghost use Rattle.book.specs.Rows.{kind_code, state_code, way_code};
 ghost use Rattle.book.specs.Told.{IsFieldTold, IsHeadTold, IsKeptTold, IsLineTold, IsMoveTold, IsQuantityTold};
 ghost use Rattle.escrow.specs.Stock.{Stock};
-ghost use Rattle.book.specs.View.{kept_of};
 ghost use Rattle.book.specs.declared.book.tables.TablesFault.TheVariants as TablesFault;
 ghost use Rattle.book.specs.declared.book.tables.group.Head.{Head};
 ghost use Rattle.book.specs.declared.book.FieldEntry.{FieldEntry};
@@ -20,11 +19,12 @@ ghost use Rattle.escrow.specs.declared.quantity.Way.{Way};
 use super::TablesFault;
 use super::group::Head;
 use crate::book::{FieldEntry, KeptEntry, MoveEntry};
+use crate::kept_words::KeptWords;
 use crate::order::{Kind, Line, State};
 use crate::rows::{FieldRow, KeptRow, LineRow, MoveRow, OrderRow};
 use escrow::{Article, Branch, FieldName, Key, Level, Moment, OrderNo, Quantity, Way};
 use std::alloc::Global;
-use words::{Command, WordsFault, read_command};
+use words::WordsFault;
 
 /// What a row tells.
 pub(super) trait Told<R>: Sized {
@@ -199,22 +199,6 @@ fn line(row: &LineRow) -> Option<Line>
     })
 }
 
-/// An entry of a kept key.
-fn kept(
-    alloc: Global,
-    key: Key,
-    place: u64,
-    command: Command,
-) -> Result<(Key, KeptEntry), TablesFault>
-    ensures ok { IfOk result (λ entry. kept_of entry ≡ record { key = key; place = place; command = command }) }
-    ensures err { IfErr result (λ fault. fault ≡ TablesFault.Memory) }
-{
-    match Box::new(alloc, command) {
-        Ok(command) => Ok((key, KeptEntry { place, command })),
-        Err(_) => Err(TablesFault::Memory),
-    }
-}
-
 impl Told<KeptRow> for (Key, KeptEntry) {
     ghost is_told = { IsKeptTold };
 
@@ -225,8 +209,8 @@ impl Told<KeptRow> for (Key, KeptEntry) {
         let Some(place) = natural(row.place) else {
             return Err(TablesFault::Damaged);
         };
-        match read_command(alloc, row.words.as_bytes()) {
-            Ok(command) => kept(alloc, key, place, command),
+        match KeptWords::read(alloc, row.words.as_bytes()) {
+            Ok(words) => Ok((key, KeptEntry { place, words })),
             Err(WordsFault::BadCommand) => Err(TablesFault::Damaged),
             Err(WordsFault::Memory) => Err(TablesFault::Memory),
         }

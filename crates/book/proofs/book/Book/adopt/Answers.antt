@@ -1,6 +1,5 @@
-use Rattle.book.proofs.Prelude.{◌+◌, ◌∙◌, ◌≡◌, BookView, Command, Done, Each, Good, IsAccepted, IsInRange, IsKey, IsUpToDate, Ledger, None, accept, ap, article_total, field_of, kept_under, ledger_of, map, open_orders, places, rules, subst, sym, with_entries}
+use Rattle.book.proofs.Prelude.{◌+◌, ◌∙◌, ◌≡◌, BookView, Done, Each, Good, IsAccepted, IsInRange, IsKey, IsUpToDate, Ledger, None, accept, ap, article_total, field_of, kept_under, ledger_of, map, open_orders, places, rules, subst, sym, with_entries}
 use Rattle.book.specs.After.{move_made}
-use Rattle.book.specs.Next.{next as next_of}
 use Rattle.book.proofs.Closing.{honours_always}
 use Rattle.book.proofs.Goodness.{good_accept}
 use Rattle.book.proofs.Running.{adopted}
@@ -21,7 +20,7 @@ good_after : (c : goal.After-drop-parts-3) → Good (accept c.args.self.now.ledg
 good_after c =
     let parts = c.into_parts-parts.ensures in
     let accepted = c.requires.fits.accepted in
-    good_accept c.args.self.now.ledger c.args.plan.request (good c) (subst IsKey parts.key c.as_bytes.ensures.form) (subst IsInRange (c.deref.ensures ∙ parts.command) c.in_range.ensures) (no_key _ accepted.0) accepted.1
+    good_accept c.args.self.now.ledger c.args.plan.request (good c) (subst IsKey parts.key c.as_bytes.ensures.form) (subst IsInRange parts.command c.as_bytes-2.ensures.range) (no_key _ accepted.0) accepted.1
 
 -- the fields as they are then
 put : (c : goal.After-drop-parts-3) → (map field_of c.adopt_fields.new.fields.entries ≡ (accept c.args.self.now.ledger c.args.plan.request).fields) × Each (IsUpToDate (accept c.args.self.now.ledger c.args.plan.request)) c.adopt_fields.new.fields.entries
@@ -44,7 +43,7 @@ returns-clause-next c =
 pub invariant_of-self : goal.invariant_of-self
 invariant_of-self c =
     let next = sym (returns-clause-next c) in
-    (subst Good next (good_after c), subst (λ (L : Ledger). Each (IsUpToDate L) c.adopt_fields.new.fields.entries) next (put c).1, c.open_after-open_count.ensures ∙ ap (λ (k : Command). open_orders (next_of c.args.self.now.ledger k)) (c.deref-3.ensures ∙ c.into_parts-parts.ensures.command) ∙ ap open_orders next)
+    (subst Good next (good_after c), subst (λ (L : Ledger). Each (IsUpToDate L) c.adopt_fields.new.fields.entries) next (put c).1, c.into_parts-parts.ensures.open_count ∙ c.requires.fits.open_count ∙ ap open_orders next)
 
 pub returns-clause-good : goal.returns-clause-good
 returns-clause-good c = (invariant_of-self c).0

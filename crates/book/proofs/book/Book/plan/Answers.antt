@@ -1,4 +1,4 @@
-use Rattle.book.proofs.Prelude.{◌∙◌, ◌≡◌, ChangesTo, IsAccepted, Request, ap, expired_numbers, is_some, order_after, rows_among, subst, sym}
+use Rattle.book.proofs.Prelude.{◌∙◌, ◌≡◌, ChangesTo, Command, IsAccepted, Request, ap, expired_numbers, is_some, next, open_orders, order_after, rows_among, subst, sym}
 use Rattle.book.specs.After.{move_made}
 use Rattle.book.specs.Plans.{Fits, PlanView, plan_of}
 use Rattle.book.proofs.book.Book.plan.Goals as goal
@@ -14,6 +14,8 @@ returns c =
     let fits : Fits A (plan_of c.in_ok-parts.parts rows) = record {
       accepted = subst (IsAccepted A) (sym same) (ap is_some c.in_default.ensures, c.in_default-check.ensures);
       place = makes.place;
+      clock = makes.clock ∙ ap (λ (k : Command). (next A k).clock) (sym makes.command);
+      open_count = makes.open_count ∙ ap (λ (k : Command). open_orders (next A k)) (sym makes.command);
       moved = makes.moved ∙ ap (move_made c.in_ok-parts.parts.place) (sym makes.command);
       made = makes.made ∙ ap (order_after A) (sym makes.command);
       expired = makes.expired ∙ ap (expired_numbers A) (sym makes.command);

@@ -31,7 +31,7 @@ returns-in_err-orders-clause-damaged c = grind (arith, heads_same, passed_up)
 
 pub returns-in_err-kept-clause-damaged : goal.returns-in_err-kept-clause-damaged
 returns-in_err-kept-clause-damaged c = passed_up c.from_residual-in_err-kept.result c.in_err-kept.field-0.0 _ c.from_residual-in_err-kept.ensures.1
-    (λ is A g rows. c.in_err-kept.ensures.damaged is (kept_told c.args.alloc A c.as_slice-6.result.now g (ap (map kept_cells) c.as_slice-6.ensures ∙ rows.kept)))
+    (λ is A g rows. c.in_err-kept.ensures.damaged is (kept_told A c.as_slice-6.result.now g (ap (map kept_cells) c.as_slice-6.ensures ∙ rows.kept)))
 
 pub returns-in_default-clause-damaged : goal.returns-in_default-clause-damaged
 returns-in_default-clause-damaged c _ A g rows =

@@ -1,0 +1,67 @@
+//! The words of a command, as they are kept.
+
+ghost use Rattle.std.specs.Prelude.{◌≡◌, IfErr, IfOk};
+ghost use Rattle.book.specs.KeptWords.{Spelled, Spelled-prop};
+ghost use Rattle.words.specs.Spelling.{IsInRange, Spells, spelling};
+ghost use Rattle.words.specs.declared.command.Command.{Command};
+ghost use Rattle.words.specs.declared.read.WordsFault.TheVariants as WordsFault;
+
+use std::alloc::Global;
+use std::marker::Model;
+use words::{Command, Memory, WordsFault, read_command, write_command};
+
+/// The one spelling of a command. Contracts see it as the command.
+#[derive(Debug, Drop)]
+pub struct KeptWords {
+    bytes: Vec<u8>,
+    ghost spelled: { Spelled bytes.items } by { Spelled-prop bytes.items },
+}
+
+impl Model for KeptWords {
+    ghost use Rattle.words.specs.declared.command.Command.{Command};
+
+    ghost Value = { Command };
+
+    ghost view = { λ w. w.spelled.0 };
+}
+
+impl KeptWords {
+    ghost use Rattle.book.specs.Answers.{same_command};
+
+    /// The words of the command.
+    pub fn of(alloc: Global, command: &Command) -> Result<KeptWords, Memory>
+        ensures { IfOk result (λ words. words ≡ command.now) }
+    {
+        command.in_range();
+        let mut bytes = Vec::new(alloc);
+        write_command(command, &mut bytes)?;
+        Ok(KeptWords { bytes })
+    }
+
+    /// These bytes, or `BadCommand` where they are no command's spelling.
+    pub fn read(alloc: Global, bytes: &[u8]) -> Result<KeptWords, WordsFault>
+        ensures spelled { IfOk result (λ words. Spells words bytes.now) }
+        ensures bad { IfErr result (λ fault. fault ≡ WordsFault.BadCommand → (c : Command) → Spells c bytes.now → ⊥) }
+    {
+        read_command(alloc, bytes)?;
+        match Vec::from_slice(alloc, bytes) {
+            Ok(bytes) => Ok(KeptWords { bytes }),
+            Err(_) => Err(WordsFault::Memory),
+        }
+    }
+
+    /// The bytes of the words.
+    pub fn as_bytes(&self) -> &[u8]
+        ensures value { result.now ≡ spelling self.now }
+        ensures range { IsInRange self.now }
+    {
+        &self.bytes
+    }
+
+    /// Whether they are the same words.
+    pub fn is_same(&self, other: &KeptWords) -> bool
+        ensures { result ≡ same_command self.now other.now }
+    {
+        self.as_bytes() == other.as_bytes()
+    }
+}
