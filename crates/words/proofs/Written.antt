@@ -1,5 +1,5 @@
 -- Words in a row, a word at a time.
-use Rattle.std.proofs.Common.{◌≡◌, ◌∙◌, ℕ, ◌+◌, ◌<◌, List, [], ◌∷◌, ◌++◌, ap, append-nil, append_assoc, decimal, get_or, length, refl, sym, take}
+use Rattle.std.proofs.Common.{◌≡◌, ◌∙◌, ℕ, ◌+◌, ◌<◌, List, [], ◌∷◌, ◌++◌, ap, append-nil, append_assoc, get_or, length, refl, sym, take}
 use Rattle.std.proofs.lemmas.List.{take_more}
 use Rattle.words.specs.OpenLines.{line_words}
 use Rattle.words.specs.Words.{after_space, spaced}
@@ -27,21 +27,3 @@ lines_more old before new lines i line lt is p q =
     ∙ ap (λ (l : List ℕ). old ++ l)
     (sym (after_space-append (line_words first) last) ∙ ap after_space (sym (line_words-append first (line ∷ [])))
     ∙ ap (λ (ls : List OpenLine). after_space (line_words ls)) (sym (take_more lines i line lt ∙ ap (λ (l : OpenLine). first ++ l ∷ []) (sym is))))
-
-open_more : (v a b : List ℕ) (lines : List (List ℕ)) (out : List ℕ) → out ≡ ((v ++ after_space (a ∷ [])) ++ after_space (b ∷ [])) ++ after_space lines → out ≡ spaced (v ∷ a ∷ b ∷ lines)
-open_more v a b lines out e =
-    e ∙ ap (λ (l : List ℕ). l ++ after_space lines)
-    (append_assoc v (after_space (a ∷ [])) (after_space (b ∷ [])) ∙ ap (λ (l : List ℕ). v ++ l) (sym (after_space-append (a ∷ []) (b ∷ []))))
-    ∙ append_assoc v (after_space (a ∷ b ∷ [])) (after_space lines)
-    ∙ ap (λ (l : List ℕ). v ++ l) (sym (after_space-append (a ∷ b ∷ []) lines))
-    ∙ sym (spaced-after v (a ∷ b ∷ lines))
-
--- the words of an `open`, pushed one after the other
-pub opened : (v : List ℕ) (lines : List (List ℕ)) (k l m n : ℕ) (a b c d : List ℕ) → a ≡ v → k ≡ m → l ≡ n
-    → b ≡ a ++ after_space (decimal k ∷ []) → c ≡ b ++ after_space (decimal l ∷ []) → d ≡ c ++ after_space lines → d ≡ spaced (v ∷ decimal m ∷ decimal n ∷ lines)
-opened v lines k l m n a b c d e f g h i j =
-    let all : d ≡ ((a ++ after_space (decimal k ∷ [])) ++ after_space (decimal l ∷ [])) ++ after_space lines = cc (h, i, j) in
-    open_more a (decimal k) (decimal l) lines d all
-    ∙ ap (λ (x : List ℕ). spaced (x ∷ decimal k ∷ decimal l ∷ lines)) e
-    ∙ ap (λ (x : ℕ). spaced (v ∷ decimal x ∷ decimal l ∷ lines)) f
-    ∙ ap (λ (x : ℕ). spaced (v ∷ decimal m ∷ decimal x ∷ lines)) g

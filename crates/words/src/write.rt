@@ -1,6 +1,6 @@
 //! Commands, written in their one spelling.
 
-ghost use Rattle.std.specs.Prelude.{◌≡◌, ◌++◌, ◌∷◌, [], IfOk, OnErr, OnOk, codes, decimal, if◌then◌else◌};
+ghost use Rattle.std.specs.Prelude.{◌≡◌, ◌++◌, ◌∷◌, [], OnErr, OnOk, codes, decimal, if◌then◌else◌};
 ghost use Rattle.words.specs.Kinds.{is_change, is_opening, is_stock};
 ghost use Rattle.words.specs.OpenLines.{line_words, way_word};
 ghost use Rattle.words.specs.Spelling.{spelling};
@@ -11,7 +11,7 @@ use crate::open_line::OpenLine;
 use crate::reply::Memory;
 use escrow::{Article, Branch, Moment, OrderNo, Qty, Way};
 use itoa::Buffer;
-use std::alloc::{AllocError, Global};
+use std::alloc::AllocError;
 
 /// Appends a space and a word.
 pub fn push_word(out: &mut Vec<u8>, word: &[u8]) -> Result<(), AllocError>
@@ -71,66 +71,62 @@ fn push_lines(out: &mut Vec<u8>, lines: &[OpenLine]) -> Result<(), AllocError>
     Ok(())
 }
 
-/// An `open`.
-fn open_text(
-    alloc: Global,
+/// Appends an `open`.
+fn push_open(
+    out: &mut Vec<u8>,
     number: OrderNo,
     until: Moment,
     lines: &[OpenLine],
-) -> Result<Vec<u8>, AllocError>
-    ensures { IfOk result (λ text. text.items ≡ spaced (codes "open" ∷ decimal number ∷ decimal until ∷ line_words lines.now)) }
+) -> Result<(), AllocError>
+    ensures { OnOk result (out.new.items ≡ out.old.items ++ (codes "open" ++ after_space (decimal number ∷ decimal until ∷ line_words lines.now))) }
 {
-    let mut text = Vec::from_slice(alloc, b"open")?;
-    push_number(&mut text, number.get())?;
-    push_number(&mut text, until.get())?;
-    push_lines(&mut text, lines)?;
-    Ok(text)
+    out.extend_from_slice(b"open")?;
+    push_number(out, number.get())?;
+    push_number(out, until.get())?;
+    push_lines(out, lines)
 }
 
-/// A verb, a number of an order, a field and a quantity.
-fn part_text(
-    alloc: Global,
+/// Appends a verb, a number of an order, a field and a quantity.
+fn push_part(
+    out: &mut Vec<u8>,
     verb: &[u8],
     number: OrderNo,
     branch: Branch,
     article: Article,
     qty: Qty,
-) -> Result<Vec<u8>, AllocError>
-    ensures { IfOk result (λ text. text.items ≡ spaced (verb.now ∷ decimal number ∷ branch ∷ article ∷ decimal qty ∷ [])) }
+) -> Result<(), AllocError>
+    ensures { OnOk result (out.new.items ≡ out.old.items ++ spaced (verb.now ∷ decimal number ∷ branch ∷ article ∷ decimal qty ∷ [])) }
 {
-    let mut text = Vec::from_slice(alloc, verb)?;
-    push_number(&mut text, number.get())?;
-    push_move(&mut text, branch, article, qty)?;
-    Ok(text)
+    out.extend_from_slice(verb)?;
+    push_number(out, number.get())?;
+    push_move(out, branch, article, qty)
 }
 
-/// A verb and a number.
-fn end_text(alloc: Global, verb: &[u8], number: u64) -> Result<Vec<u8>, AllocError>
-    ensures { IfOk result (λ text. text.items ≡ spaced (verb.now ∷ decimal number ∷ [])) }
+/// Appends a verb and a number.
+fn push_end(out: &mut Vec<u8>, verb: &[u8], number: u64) -> Result<(), AllocError>
+    ensures { OnOk result (out.new.items ≡ out.old.items ++ spaced (verb.now ∷ decimal number ∷ [])) }
 {
-    let mut text = Vec::from_slice(alloc, verb)?;
-    push_number(&mut text, number)?;
-    Ok(text)
+    out.extend_from_slice(verb)?;
+    push_number(out, number)
 }
 
-/// A verb, a field and a quantity.
-fn move_text(
-    alloc: Global,
+/// Appends a verb, a field and a quantity.
+fn push_stock_move(
+    out: &mut Vec<u8>,
     verb: &[u8],
     branch: Branch,
     article: Article,
     qty: Qty,
-) -> Result<Vec<u8>, AllocError>
-    ensures { IfOk result (λ text. text.items ≡ spaced (verb.now ∷ branch ∷ article ∷ decimal qty ∷ [])) }
+) -> Result<(), AllocError>
+    ensures { OnOk result (out.new.items ≡ out.old.items ++ spaced (verb.now ∷ branch ∷ article ∷ decimal qty ∷ [])) }
 {
-    let mut text = Vec::from_slice(alloc, verb)?;
-    push_move(&mut text, branch, article, qty)?;
-    Ok(text)
+    out.extend_from_slice(verb)?;
+    push_move(out, branch, article, qty)
 }
 
-/// The spelling of a command about stock, and no text for another.
-fn stock_text(alloc: Global, command: &Command) -> Result<Vec<u8>, AllocError>
-    ensures { IfOk result (λ text. text.items ≡ (if is_stock command.now then spelling command.now else [])) }
+/// Appends the spelling of a command about stock, and nothing for another.
+fn push_stock(out: &mut Vec<u8>, command: &Command) -> Result<(), AllocError>
+    ensures { OnOk result (out.new.items ≡ out.old.items ++ (if is_stock command.now then spelling command.now else [])) }
 {
     match command {
         Command::Field {
@@ -140,38 +136,53 @@ fn stock_text(alloc: Global, command: &Command) -> Result<Vec<u8>, AllocError>
             hi,
             start,
         } => {
-            let mut text = Vec::from_slice(alloc, b"field")?;
-            push_word(&mut text, branch.as_bytes())?;
-            push_word(&mut text, article.as_bytes())?;
-            push_number(&mut text, lo.get())?;
-            push_number(&mut text, hi.get())?;
-            push_number(&mut text, start.get())?;
-            Ok(text)
+            out.extend_from_slice(b"field")?;
+            push_word(out, branch.as_bytes())?;
+            push_word(out, article.as_bytes())?;
+            push_number(out, lo.get())?;
+            push_number(out, hi.get())?;
+            push_number(out, start.get())
         }
         Command::Deliver {
             branch,
             article,
             qty,
-        } => move_text(alloc, b"deliver", *branch, *article, *qty),
+        } => push_stock_move(out, b"deliver", *branch, *article, *qty),
         Command::Writeoff {
             branch,
             article,
             qty,
-        } => move_text(alloc, b"writeoff", *branch, *article, *qty),
-        _ => Ok(Vec::new(alloc)),
+        } => push_stock_move(out, b"writeoff", *branch, *article, *qty),
+        _ => Ok(()),
     }
 }
 
-/// The spelling of a command that opens an order, and no text for another.
-fn opening_text(alloc: Global, command: &Command) -> Result<Vec<u8>, AllocError>
-    ensures { IfOk result (λ text. text.items ≡ (if is_opening command.now then spelling command.now else [])) }
+/// Appends a transfer's article, branches and quantity.
+fn push_goods(
+    out: &mut Vec<u8>,
+    article: Article,
+    from: Branch,
+    to: Branch,
+    qty: Qty,
+) -> Result<(), AllocError>
+    ensures { OnOk result (out.new.items ≡ out.old.items ++ after_space (article ∷ from ∷ to ∷ decimal qty ∷ [])) }
+{
+    push_word(out, article.as_bytes())?;
+    push_word(out, from.as_bytes())?;
+    push_word(out, to.as_bytes())?;
+    push_number(out, qty.get())
+}
+
+/// Appends the spelling of a command that opens an order, and nothing for another.
+fn push_opening(out: &mut Vec<u8>, command: &Command) -> Result<(), AllocError>
+    ensures { OnOk result (out.new.items ≡ out.old.items ++ (if is_opening command.now then spelling command.now else [])) }
 {
     match command {
         Command::Open {
             number,
             until,
             lines,
-        } => open_text(alloc, *number, *until, lines.as_slice()),
+        } => push_open(out, *number, *until, lines.as_slice()),
         Command::Transfer {
             number,
             until,
@@ -180,22 +191,18 @@ fn opening_text(alloc: Global, command: &Command) -> Result<Vec<u8>, AllocError>
             to,
             qty,
         } => {
-            let mut text = Vec::from_slice(alloc, b"transfer")?;
-            push_number(&mut text, number.get())?;
-            push_number(&mut text, until.get())?;
-            push_word(&mut text, article.as_bytes())?;
-            push_word(&mut text, from.as_bytes())?;
-            push_word(&mut text, to.as_bytes())?;
-            push_number(&mut text, qty.get())?;
-            Ok(text)
+            out.extend_from_slice(b"transfer")?;
+            push_number(out, number.get())?;
+            push_number(out, until.get())?;
+            push_goods(out, *article, *from, *to, *qty)
         }
-        _ => Ok(Vec::new(alloc)),
+        _ => Ok(()),
     }
 }
 
-/// The spelling of a command that changes what an order holds, and no text for another.
-fn change_text(alloc: Global, command: &Command) -> Result<Vec<u8>, AllocError>
-    ensures { IfOk result (λ text. text.items ≡ (if is_change command.now then spelling command.now else [])) }
+/// Appends the spelling of a command that changes what an order holds, and nothing for another.
+fn push_change(out: &mut Vec<u8>, command: &Command) -> Result<(), AllocError>
+    ensures { OnOk result (out.new.items ≡ out.old.items ++ (if is_change command.now then spelling command.now else [])) }
 {
     match command {
         Command::More {
@@ -205,43 +212,42 @@ fn change_text(alloc: Global, command: &Command) -> Result<Vec<u8>, AllocError>
             article,
             qty,
         } => {
-            let mut text = Vec::from_slice(alloc, b"more")?;
-            push_number(&mut text, number.get())?;
-            push_way(&mut text, *way)?;
-            push_move(&mut text, *branch, *article, *qty)?;
-            Ok(text)
+            out.extend_from_slice(b"more")?;
+            push_number(out, number.get())?;
+            push_way(out, *way)?;
+            push_move(out, *branch, *article, *qty)
         }
         Command::Use {
             number,
             branch,
             article,
             qty,
-        } => part_text(alloc, b"use", *number, *branch, *article, *qty),
+        } => push_part(out, b"use", *number, *branch, *article, *qty),
         Command::Release {
             number,
             branch,
             article,
             qty,
-        } => part_text(alloc, b"release", *number, *branch, *article, *qty),
-        _ => Ok(Vec::new(alloc)),
+        } => push_part(out, b"release", *number, *branch, *article, *qty),
+        _ => Ok(()),
     }
 }
 
-/// The spelling of a command.
-fn text_of(alloc: Global, command: &Command) -> Result<Vec<u8>, AllocError>
-    ensures { IfOk result (λ text. text.items ≡ spelling command.now) }
+/// Appends the spelling of a command.
+fn push_command(out: &mut Vec<u8>, command: &Command) -> Result<(), AllocError>
+    ensures { OnOk result (out.new.items ≡ out.old.items ++ spelling command.now) }
 {
     match command {
         Command::Field { .. } | Command::Deliver { .. } | Command::Writeoff { .. } => {
-            stock_text(alloc, command)
+            push_stock(out, command)
         }
-        Command::Open { .. } | Command::Transfer { .. } => opening_text(alloc, command),
+        Command::Open { .. } | Command::Transfer { .. } => push_opening(out, command),
         Command::More { .. } | Command::Use { .. } | Command::Release { .. } => {
-            change_text(alloc, command)
+            push_change(out, command)
         }
-        Command::Commit { number } => end_text(alloc, b"commit", number.get()),
-        Command::Abort { number } => end_text(alloc, b"abort", number.get()),
-        Command::Expire { now } => end_text(alloc, b"expire", now.get()),
+        Command::Commit { number } => push_end(out, b"commit", number.get()),
+        Command::Abort { number } => push_end(out, b"abort", number.get()),
+        Command::Expire { now } => push_end(out, b"expire", now.get()),
     }
 }
 
@@ -250,7 +256,8 @@ pub fn write_command(command: &Command, out: &mut Vec<u8>) -> Result<(), Memory>
     ensures ok { OnOk result (out.new.items ≡ out.old.items ++ spelling command.now) }
     ensures err { OnErr result (out.new.items ≡ out.old.items) }
 {
-    let Ok(text) = text_of(*out.allocator(), command) else {
+    let mut text = Vec::new(*out.allocator());
+    let Ok(()) = push_command(&mut text, command) else {
         return Err(Memory);
     };
     match out.extend_from_slice(&text) {

@@ -1,0 +1,9 @@
+use Rattle.std.proofs.Common.{◌∷◌, arith, codes, decimal}
+use Rattle.words.specs.OpenLines.{line_words}
+use Rattle.words.proofs.Written.{spaced-after}
+use Rattle.words.proofs.write.push_opening.Goals as goal
+
+pub returns-in-Open : goal.returns-in-Open
+returns-in-Open c =
+    let e = spaced-after (codes "open") (decimal c.in-Open.number ∷ decimal c.in-Open.until ∷ line_words c.in-Open.lines) in
+    grind (arith, c.push_open.ensures, c.in-Open.is, c.as_slice.ensures.value, e)
