@@ -16,8 +16,11 @@ import threading
 sys.dont_write_bytecode = True
 
 import hostile
+import messages
 import resumed
+import scripts
 import service
+import stored
 from programs import (
     COLUMNS,
     FILES,
@@ -45,6 +48,7 @@ STORE = (1, b"", b"stockdesk: store\n")
 NO_TASK = [
     [],
     ["Run"],
+    ["walk"],
     ["init"],
     ["run", "usage.db", "more"],
     ["init", "usage.db", "more"],
@@ -157,6 +161,10 @@ def test_no_other_file_is_touched(program, folder):
     path = os.path.join(folder, "other.db")
     expect_end(program, ["run", path], NOT_A_DESK)
     expect(not os.path.exists(path), "a run made a file")
+    # in a folder that is not there no file can be made
+    nowhere = os.path.join(folder, "none", "a.db")
+    expect_end(program, ["init", nowhere], STORE)
+    expect_end(program, ["run", nowhere], NOT_A_DESK)
     for text, end in NO_DESK:
         with open(path, "wb") as file:
             file.write(text)
@@ -171,7 +179,8 @@ def test_a_file_of_requests_is_judged_last(program, folder):
     path, records = os.path.join(folder, "desk.db"), os.path.join(folder, "records.csv")
     for command in ["orders", "deliveries"]:
         expect_end(program, [command, path, records], NOT_A_DESK)
-    expect_end(program, ["sheet", path, "n1"], (2, b"", b"stockdesk: usage\n"))
+    for words in [["sheet", path, "n1"], ["article", path, "a-1"]]:
+        expect_end(program, words, (2, b"", b"stockdesk: usage\n"))
     expect_end(program, ["sheet", path, "N1"], NOT_A_DESK)
     new_desk(program, folder)
     found = bytes_of(path)
@@ -180,6 +189,13 @@ def test_a_file_of_requests_is_judged_last(program, folder):
     write_records(records, [["key", "branch", "article", "qty"], ["D1", "N1", "A-1", "\xf6"]])
     expect_end(program, ["deliveries", path, records], (4, b"", b"stockdesk: record 1\n"))
     expect_end(program, ["orders", path, records], (4, b"", b"stockdesk: record 0\n"))
+    write_records(records, [["key", "branch", "article"]])
+    expect_end(program, ["deliveries", path, records], (4, b"", b"stockdesk: record 0\n"))
+    write_records(records, [["key", "branch", "article", "qty"], ["D4", "N1", "A-1", "1"], ["D5", "N1", "A-1", "05"]])
+    expect_end(program, ["deliveries", path, records], (4, b"", b"stockdesk: record 2\n"))
+    header = ["key", "order", "until", "way", "branch", "article", "qty"]
+    write_records(records, [header, ["G4", "54", "500", "take", "N1", "A-1", "5", ""]])
+    expect_end(program, ["orders", path, records], (4, b"", b"stockdesk: record 1\n"))
     expect(bytes_of(path) == found, "the desk was changed")
 
 
@@ -368,8 +384,11 @@ def main():
         test_older_files_are_read,
         test_nothing_acknowledged_is_lost,
         *hostile.TESTS,
+        *messages.TESTS,
         *resumed.TESTS,
+        *scripts.TESTS,
         *service.TESTS,
+        *stored.TESTS,
     ]:
         say(f"process {test.__name__}")
         folder = tempfile.mkdtemp()

@@ -1,4 +1,4 @@
-"""Tests of the built program that serves connections: words that are no numbers, ports, many messages against the same as a
+"""Tests of the built program that serves connections: ports, many messages against the same as a
 script, `curl`, connections that break off, a store that fails, and services that are killed."""
 
 import contextlib
@@ -88,13 +88,6 @@ def answered(port, pieces, is_reset=False):
 
 def post(connection, key, command):
     return ask(connection, "POST", "/v1/commands", compact({"key": key, "command": command}))
-
-
-def test_words_that_are_no_numbers_are_refused(program, folder):
-    path = new_desk(program, folder)
-    for port, connections in [("65536", "1"), ("00", "1"), ("0", "0"), ("0", "01"), ("0", "1000001"), ("0", "one")]:
-        words = ["serve", path, "--port", port, "--connections", connections]
-        expect_end(program, words, (2, b"", b"stockdesk: usage\n"))
 
 
 def test_a_port_is_told_and_taken(program, folder):
@@ -310,7 +303,6 @@ def test_nothing_answered_is_lost(program, folder):
 
 
 TESTS = [
-    test_words_that_are_no_numbers_are_refused,
     test_a_port_is_told_and_taken,
     test_messages_are_answered_as_a_script_is,
     test_curl_is_answered,

@@ -1,11 +1,9 @@
 //! Desks, and their calls without clauses, so that a test's proof need not carry them.
 
-use crate::scripts::{Row, lines_of, replies_of};
 use desk::{CallFault, Desk, OpenFault, Run, ScriptFault, script};
 use keep::Keep;
 use std::alloc::Global;
 use std::io::{Read, Write};
-use std::process::Abort;
 use std::test::Fail;
 use words::{Item, Reply, Request, read_item};
 
@@ -28,8 +26,21 @@ pub(crate) fn run<K: Keep>(alloc: Global, desk: &mut Desk<K>, requests: &[Reques
     desk.run(alloc, requests)
 }
 
+/// The requests are answered from this number on: the call without its clauses, where there is such a number.
+pub(crate) fn resume<K: Keep>(
+    alloc: Global,
+    desk: &mut Desk<K>,
+    requests: &[Request],
+    first: usize,
+) -> Result<Run, Fail> {
+    if first < 1 || first > requests.len() + 1 {
+        Err("no such number")?;
+    }
+    Ok(desk.resume(alloc, requests, first))
+}
+
 /// What a script on these streams ends with, likewise.
-pub(crate) fn answer_stream<K: Keep, R: Read, W: Write>(
+pub(crate) fn answer<K: Keep, R: Read, W: Write>(
     alloc: Global,
     reader: &mut R,
     writer: &mut W,
@@ -38,42 +49,33 @@ pub(crate) fn answer_stream<K: Keep, R: Read, W: Write>(
     script(alloc, reader, writer, desk)
 }
 
-/// What a script of these bytes ends with.
-pub(crate) fn answer_script<K: Keep>(
-    alloc: Global,
-    text: &[u8],
-    out: &mut Vec<u8>,
-    desk: &mut Desk<K>,
-) -> Result<(), ScriptFault> {
-    let mut reader = text;
-    answer_stream(alloc, &mut reader, out, desk)
-}
-
 /// The desk whose rows the keeper holds.
-pub(crate) fn opened<R: AllocGlobal, K: Keep + Drop>(rt: &R, keep: K) -> Result<Desk<K>, Fail> {
-    match open(rt.alloc(), keep) {
+pub(crate) fn opened<K: Keep + Drop>(alloc: Global, keep: K) -> Result<Desk<K>, Fail> {
+    match open(alloc, keep) {
         Ok(desk) => Ok(desk),
         Err((fault, _)) => Err(fault)?,
     }
 }
 
-/// The request that a line says.
-pub(crate) fn request<R: AllocGlobal>(rt: &R, line: &str) -> Result<Request, Fail> {
-    match read_item(rt.alloc(), line.as_bytes())? {
-        Item::Request(request) => Ok(request),
-        _ => Err("no request")?,
-    }
+/// What the desk answers to a script.
+pub(crate) fn answers<K: Keep>(
+    alloc: Global,
+    desk: &mut Desk<K>,
+    script: &str,
+) -> Result<Vec<u8>, Fail> {
+    let mut out: Vec<u8> = Vec::new(alloc);
+    answer(alloc, &mut script.as_bytes(), &mut out, desk)?;
+    Ok(out)
 }
 
-/// Plays the rows as a script: each line is answered by what stands beside it.
-pub(crate) fn play<R: Abort + AllocGlobal, K: Keep>(
-    rt: &R,
-    desk: &mut Desk<K>,
-    rows: &[Row],
-) -> Result<(), Fail> {
-    let text = lines_of(rt.alloc(), rows)?;
-    let mut out = Vec::new(rt.alloc());
-    assert_eq!(rt; answer_script(rt.alloc(), &text, &mut out, desk), Ok(()));
-    assert!(rt; out.as_slice() == replies_of(rt.alloc(), rows)?.as_slice());
-    Ok(())
+/// The requests of these lines.
+pub(crate) fn requests(alloc: Global, lines: &[&str]) -> Result<Vec<Request>, Fail> {
+    let mut requests = Vec::new(alloc);
+    for line in lines {
+        match read_item(alloc, line.as_bytes())? {
+            Item::Request(request) => requests.push(request)?,
+            _ => Err("no request")?,
+        }
+    }
+    Ok(requests)
 }

@@ -50,13 +50,13 @@ pub(crate) fn connection_of<S: Alter>(keep: SqlKeep<S>) -> Connection<S> {
 }
 
 /// A keeper of a new desk in memory, over SQLite.
-pub(crate) fn sql_keeper<R: AllocGlobal>(rt: &R) -> Result<SqlKeep<MemStore>, Fail> {
-    let mut conn = Connection::open_in_memory(rt.alloc())?;
+pub(crate) fn sql_keeper(alloc: Global) -> Result<SqlKeep<MemStore>, Fail> {
+    let mut conn = Connection::open_in_memory(alloc)?;
     create(&mut conn)?;
     keeper(conn)
 }
 
 /// A keeper of a new desk that never fails.
-pub(crate) fn plain_keeper<R: AllocGlobal>(rt: &R) -> PlainKeep {
-    PlainKeep::start(rt.alloc(), None, false)
+pub(crate) fn plain_keeper(alloc: Global) -> PlainKeep {
+    PlainKeep::start(alloc, None, false)
 }

@@ -10,6 +10,8 @@ mod of_desk;
 #[cfg(test)]
 mod of_keep;
 #[cfg(test)]
+mod of_streams;
+#[cfg(test)]
 mod of_web;
 #[cfg(test)]
 mod scripts;

@@ -3,7 +3,7 @@
 ghost use Rattle.std.specs.Prelude.{IsTrue, IfOk};
 ghost use Rattle.sqlite_disk.specs.Memory.{memory_is_usable};
 
-use crate::desks::{answer_script, open, opened};
+use crate::desks::{answers, open, opened, requests, resume};
 use crate::keepers::{connection_of, keeper, sql_keeper};
 use crate::of_keep::disks::{self, CUTS, calls_to, desk_files, files_of, left_by};
 use desk::{Desk, Ending, OpenFault, Run};
@@ -12,7 +12,7 @@ use sqlite::{Alter, Connection, Files};
 use sqlite_disk::{Disk, Fuse, Memory};
 use std::alloc::Global;
 use std::test::Fail;
-use words::{Item, Refusal, Reply, Request, read_item};
+use words::{Refusal, Reply};
 
 /// The list of requests.
 const LIST: [&str; 6] = [
@@ -52,38 +52,13 @@ fn states() -> [&'static str; 7] {
     ]
 }
 
-/// Which of the states the desk is in: as behind so many requests of the list.
+/// Whether the desk is in that state: as behind so many requests of the list.
 fn stands<K: Keep>(alloc: Global, desk: &mut Desk<K>, done: usize) -> Result<bool, Fail> {
-    let mut out: Vec<u8> = Vec::new(alloc);
-    answer_script(alloc, ASKS.as_bytes(), &mut out, desk)?;
+    let shown = answers(alloc, desk, ASKS)?;
     match states().get(done) {
-        Some(state) => Ok(state.as_bytes() == out.as_slice()),
+        Some(state) => Ok(state.as_bytes() == shown.as_slice()),
         None => Ok(false),
     }
-}
-
-fn requests(alloc: Global) -> Result<Vec<Request>, Fail> {
-    let mut requests = Vec::new(alloc);
-    for line in LIST {
-        match read_item(alloc, line.as_bytes())? {
-            Item::Request(request) => requests.push(request)?,
-            _ => Err("no request")?,
-        }
-    }
-    Ok(requests)
-}
-
-/// The requests are answered from this number on: the call without its clauses, where there is such a number.
-pub(crate) fn resume<K: Keep>(
-    alloc: Global,
-    desk: &mut Desk<K>,
-    requests: &[Request],
-    first: usize,
-) -> Result<Run, Fail> {
-    if first < 1 || first > requests.len() + 1 {
-        Err("no such number")?;
-    }
-    Ok(desk.resume(alloc, requests, first))
 }
 
 /// The replies are those of the table behind so many, and they are all of these exactly where the run ended with all.
@@ -106,7 +81,7 @@ fn answer_rest<K: Keep>(alloc: Global, desk: &mut Desk<K>, before: usize) -> Res
     if !stands(alloc, desk, before)? && !stands(alloc, desk, next)? {
         Err("another ledger than before that request or behind it")?;
     }
-    let run = resume(alloc, desk, &requests(alloc)?, next)?;
+    let run = resume(alloc, desk, &requests(alloc, &LIST)?, next)?;
     expect_run(before, &run)?;
     if desk.is_stopped() != (run.ending == Ending::Stopped) {
         Err("stopped and not told, or told and not stopped")?;
@@ -259,8 +234,8 @@ fn a_list_is_resumed_where_memory_was_refused(rt: HostRuntime) -> Result<(), Fai
 
 #[test]
 fn a_whole_list_again_is_decided_anew(rt: HostRuntime) -> Result<(), Fail> {
-    let requests = requests(rt.alloc())?;
-    let mut desk = opened(&rt, sql_keeper(&rt)?)?;
+    let requests = requests(rt.alloc(), &LIST)?;
+    let mut desk = opened(rt.alloc(), sql_keeper(rt.alloc())?)?;
     expect_run(0, &resume(rt.alloc(), &mut desk, &requests, 1)?)?;
     let again = resume(rt.alloc(), &mut desk, &requests, 1)?;
     let mut want = replies();

@@ -1,42 +1,123 @@
 //! What a stop leaves for the next open.
 
 ghost use Rattle.std.specs.Prelude.{IsTrue};
+ghost use Rattle.sqlite_disk.specs.Memory.{memory_is_usable};
 
-use super::disks::{CUTS, Task, calls_to, desk_files, open, visit_cut};
-use super::rows::{order, shown};
-use crate::keepers::{commit, keeper};
-use book::{Change, Tables};
-use keep::{SqlKeep, open_path, reopen, reopen_and_load};
-use sqlite::{Alter, Connection, FileStore, Files, Options, Unknown};
-use sqlite_disk::{Crash, Disk};
+use super::disks::{CUTS, calls_to, desk_files, files_of, left_by, new_files, open};
+use super::{order, shown};
+use crate::keepers::{commit, connection_of, create, keeper, load};
+use book::Change;
+use keep::{Keep, KeepFault, SqlKeep, reopen, reopen_and_load};
+use sqlite::{Alter, Connection, FileStore, Files, Options};
+use sqlite_disk::{Crash, Disk, Fuse, Memory};
 use std::alloc::Global;
-use std::fs;
 use std::test::Fail;
 
-const BEFORE: &str = "desk 1 1 0 0\n";
+/// What is found before a new desk is made and behind it, and behind each of two commits.
+const FOUND: [&str; 4] = [
+    "",
+    "Tables { desk: DeskRow { one: 1, version: 1, clock: 0, places: 0 }, fields: Rows { rows: [] }, moves: Rows { rows: [] }, orders: Rows { rows: [] }, lines: Rows { rows: [] }, kept: Rows { rows: [] } }",
+    "Tables { desk: DeskRow { one: 1, version: 1, clock: 0, places: 0 }, fields: Rows { rows: [] }, moves: Rows { rows: [] }, orders: Rows { rows: [OrderRow { number: 1, kind: 1, until: 900, state: 0 }, OrderRow { number: 2, kind: 1, until: 900, state: 0 }] }, lines: Rows { rows: [] }, kept: Rows { rows: [] } }",
+    "Tables { desk: DeskRow { one: 1, version: 1, clock: 0, places: 0 }, fields: Rows { rows: [] }, moves: Rows { rows: [] }, orders: Rows { rows: [OrderRow { number: 1, kind: 1, until: 900, state: 0 }, OrderRow { number: 2, kind: 1, until: 900, state: 1 }, OrderRow { number: 3, kind: 1, until: 900, state: 0 }] }, lines: Rows { rows: [] }, kept: Rows { rows: [] } }",
+];
 
-const FIRST: &str = "desk 1 1 0 0\norders 1 1 900 0\norders 2 1 900 0\n";
+/// Commits two orders, then one of them again and a third: how many commits were acknowledged, and the answer to the last.
+fn commit_twice<K: Keep>(keep: &mut K) -> (usize, Result<(), KeepFault>) {
+    match commit(
+        keep,
+        &[Change::Order(order(1, 0)), Change::Order(order(2, 0))],
+    ) {
+        Ok(()) => {}
+        Err(fault) => return (0, Err(fault)),
+    }
+    match commit(
+        keep,
+        &[Change::Order(order(2, 1)), Change::Order(order(3, 0))],
+    ) {
+        Ok(()) => (2, Ok(())),
+        Err(fault) => (1, Err(fault)),
+    }
+}
 
-const SECOND: &str = "desk 1 1 0 0\norders 1 1 900 0\norders 2 1 900 1\norders 3 1 900 0\n";
+/// A commit that fails is told as the store, and leaves the keeper stopped.
+fn is_told<K: Keep>(keep: &K, last: Result<(), KeepFault>) -> bool {
+    match last {
+        Ok(()) => !keep.is_stopped(),
+        Err(fault) => fault == KeepFault::Store && keep.is_stopped(),
+    }
+}
 
-/// All that was acknowledged is found, and no part of a commit.
-fn is_whole(done: u8, rows: &str) -> bool {
-    match done {
-        0 => rows == BEFORE || rows == FIRST,
-        1 => rows == FIRST || rows == SECOND,
-        _ => rows == SECOND,
+/// Makes a new desk and commits twice: how much of that was acknowledged. What fails is told as the store.
+fn make_and_commit<S: Alter + Drop>(
+    mut conn: Connection<S>,
+) -> Result<(Connection<S>, usize), Fail> {
+    match create(&mut conn) {
+        Ok(()) => {}
+        Err(KeepFault::Store) => return Ok((conn, 0)),
+        Err(_) => Err("the store is told as something else")?,
+    }
+    let mut keep = keeper(conn)?;
+    let (done, last) = commit_twice(&mut keep);
+    if !is_told(&keep, last) {
+        Err("the store is told as something else, or has not stopped its keeper")?;
+    }
+    Ok((connection_of(keep), done.saturating_add(1)))
+}
+
+/// The rows that are there, nothing where there is no table.
+fn found<S: Alter + Drop>(alloc: Global, conn: Connection<S>) -> Result<String, Fail> {
+    if conn.schema().tables.is_empty() {
+        return Ok(String::new(alloc));
+    }
+    let mut keep = keeper(conn)?;
+    Ok(shown(alloc, &load(&mut keep, alloc)?)?)
+}
+
+/// The same over files, which can be opened.
+fn found_in(alloc: Global, files: Files<Memory>) -> Result<String, Fail>
+    requires { IsTrue (memory_is_usable files.log) × IsTrue (memory_is_usable files.db) }
+{
+    match open(alloc, files) {
+        Ok(conn) => found(alloc, conn),
+        Err(_) => Err("not opened again")?,
+    }
+}
+
+/// Makes a desk and commits twice where the files can be opened: how much was acknowledged.
+fn visit<D: Disk + Drop>(alloc: Global, files: Files<D>) -> Result<(Files<D>, usize), Fail>
+    requires { IsTrue (D.Disk.is_usable files.log) × IsTrue (D.Disk.is_usable files.db) }
+{
+    match open(alloc, files) {
+        Err(files) => Ok((files, 0)),
+        Ok(conn) => {
+            let (conn, done) = make_and_commit(conn)?;
+            Ok((files_of(conn), done))
+        }
+    }
+}
+
+/// The same where one of the files fails after so many calls, with a power cut at the end or not: then all that was acknowledged
+/// is found, or one step more, and no part of a step.
+fn visit_cut(alloc: Global, calls: (u64, u64), is_cut: bool) -> Result<usize, Fail> {
+    let files = new_files(alloc);
+    let fused = Files {
+        log: Fuse::new(files.log, calls.0),
+        db: Fuse::new(files.db, calls.1),
+    };
+    let (fused, done) = visit(alloc, fused)?;
+    let rows = found_in(alloc, left_by(alloc, fused, is_cut)?)?;
+    let place = FOUND.iter().position(|want| *want == rows.as_str());
+    if place == Some(done) || place == done.checked_add(1) {
+        Ok(done)
+    } else {
+        Err("a part of a step, or less than was acknowledged")?
     }
 }
 
 /// Fails at each call in turn, up to the first run that is acknowledged whole, and says how many calls that took.
-fn calls_to_commit(alloc: Global, on_log: bool, is_cut: bool) -> Result<u64, Fail> {
-    for calls in 0..100u64 {
-        let calls_each = calls_to(on_log, calls);
-        let (done, found) = visit_cut(alloc, desk_files(alloc)?, Task::Commit, calls_each, is_cut)?;
-        if !is_whole(done, found.ok_or("no desk")?.as_str()) {
-            Err("a part of a commit, or less than was acknowledged")?;
-        }
-        if done == 2 {
+fn calls_needed(alloc: Global, on_log: bool, is_cut: bool) -> Result<u64, Fail> {
+    for calls in 0..200u64 {
+        if visit_cut(alloc, calls_to(on_log, calls), is_cut)? == 3 {
             return Ok(calls);
         }
     }
@@ -44,9 +125,9 @@ fn calls_to_commit(alloc: Global, on_log: bool, is_cut: bool) -> Result<u64, Fai
 }
 
 #[test]
-fn a_commit_is_whole_where_a_file_fails(rt: HostRuntime) -> Result<(), Fail> {
+fn each_step_is_whole_where_a_file_fails(rt: HostRuntime) -> Result<(), Fail> {
     for (on_log, is_cut) in CUTS {
-        assert!(rt; calls_to_commit(rt.alloc(), on_log, is_cut)? > 0);
+        assert!(rt; calls_needed(rt.alloc(), on_log, is_cut)? > 0);
     }
     Ok(())
 }
@@ -58,59 +139,26 @@ fn with_order<S: Alter + Drop>(conn: Connection<S>) -> Result<SqlKeep<S>, Fail> 
     Ok(keep)
 }
 
-/// What is reopened: the call without its clauses, so that a test's proof need not carry them.
-fn reopened<D: Crash + Drop>(
+/// What is found after two power cuts.
+fn left_by_cuts<D: Crash + Drop>(
     alloc: Global,
     keep: SqlKeep<FileStore<D>>,
-) -> Result<SqlKeep<FileStore<D>>, Fail> {
-    Ok(reopen(alloc, keep, Options::new(2)).ok_or("not reopened")?)
-}
-
-/// What is reopened and loaded, likewise.
-fn reloaded<D: Crash + Drop>(alloc: Global, keep: SqlKeep<FileStore<D>>) -> Result<Tables, Fail> {
-    match reopen_and_load(alloc, keep, Options::new(3)) {
-        Some((_, loaded)) => Ok(loaded?),
+) -> Result<String, Fail> {
+    let again = reopen(alloc, keep, Options::new(2)).ok_or("not reopened")?;
+    match reopen_and_load(alloc, again, Options::new(3)) {
+        Some((_, loaded)) => Ok(shown(alloc, &loaded?)?),
         None => Err("not reopened")?,
     }
 }
 
-/// A keeper over the files, after one commit.
-fn opened_with_order<D: Disk + Drop>(
-    alloc: Global,
-    files: Files<D>,
-) -> Result<SqlKeep<FileStore<D>>, Fail>
-    requires { IsTrue (D.Disk.is_usable files.log) × IsTrue (D.Disk.is_usable files.db) }
-{
-    match open(alloc, files) {
-        Ok(conn) => with_order(conn),
-        Err(_) => Err("not opened")?,
-    }
-}
-
-/// What is loaded after one commit and two power cuts.
-fn left_by_cuts<D: Crash + Drop>(alloc: Global, files: Files<D>) -> Result<String, Fail>
-    requires { IsTrue (D.Disk.is_usable files.log) × IsTrue (D.Disk.is_usable files.db) }
-{
-    let keep = opened_with_order(alloc, files)?;
-    let tables = reloaded(alloc, reopened(alloc, keep)?)?;
-    Ok(shown(alloc, &tables)?)
-}
-
 #[test]
 fn a_cut_leaves_what_was_committed(rt: HostRuntime) -> Result<(), Fail> {
-    let rows = left_by_cuts(rt.alloc(), desk_files(rt.alloc())?)?;
-    assert!(rt; rows.as_str() == "desk 1 1 0 0\norders 4 1 900 1\n");
-    Ok(())
-}
-
-#[test]
-fn a_file_that_is_not_there_is_made(rt: HostRuntime) -> Result<(), Fail> {
-    let _ = fs::remove_dir_all(&rt, "keep_test");
-    fs::create_dir(&rt, "keep_test")?;
-    for _ in 0..2 {
-        drop(open_path(&rt, "keep_test/desk.db", Unknown)?);
-        assert!(rt; fs::exists(&rt, "keep_test/desk.db")?);
-    }
-    fs::remove_dir_all(&rt, "keep_test")?;
+    let Ok(conn) = open(rt.alloc(), desk_files(rt.alloc())?) else {
+        return Err(Fail::from("not opened"));
+    };
+    let rows = left_by_cuts(rt.alloc(), with_order(conn)?)?;
+    let want =
+        "Tables { desk: DeskRow { one: 1, version: 1, clock: 0, places: 0 }, fields: Rows { rows: [] }, moves: Rows { rows: [] }, orders: Rows { rows: [OrderRow { number: 4, kind: 1, until: 900, state: 1 }] }, lines: Rows { rows: [] }, kept: Rows { rows: [] } }";
+    assert!(rt; rows.as_str() == want);
     Ok(())
 }

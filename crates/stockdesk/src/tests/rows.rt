@@ -203,71 +203,21 @@ Z1 done 1
 ",
 );
 
-/// What a desk without fields and orders answers.
-const NOTHING_THERE: (&str, &str) = (
-    "K1 open 7 120 take N1 A-1 35
-K2 more 7 take N1 A-1 5
-K3 use 7 N1 A-1 5
-K4 release 7 N1 A-1 5
-K5 commit 7
-K6 abort 7
-? order 7
-? field N1 A-1
-K1 transfer 8 120 A-1 N1 N2 5
-K2 expire 120
-K2 expire 121
-",
-    "K1 refused 4 NoField 1
-K2 refused 7 NoOrder 0
-K3 refused 7 NoOrder 0
-K4 refused 7 NoOrder 0
-K5 refused 7 NoOrder 0
-K6 refused 7 NoOrder 0
-? none
-? none
-K1 refused 4 NoField 1
-K2 done 1
-K2 refused 1 KeyReused 0
-",
-);
+/// Lines that are no request, and the greatest quantity.
+pub const SPELLING: &str =
+    "\nK1  commit 7\nK1 deliver N1 A-1 05\nK1 deliver N1 A-1 0\nK1 deliver N1 A-1 1000001\nK1 deliver n1 A-1 5\nK1 deliver N1 -A 5\nK1 commit 7\r\nK1 deliver N1 A-1 1000000\n";
 
-/// Refusals that change nothing.
-const REFUSED: (&str, &str) = (
-    "R1 field N1 A-1 0 100 40
-R2 field N2 A-1 0 10 5
-R3 open 7 120 take N1 A-1 10
-R4 open 7 120 take N1 A-1 10
-R5 more 7 take N1 A-1 31
-R6 more 7 add N2 A-1 6
-R7 use 7 N1 A-1 11
-R8 release 7 N2 A-1 1
-R9 transfer 8 120 A-1 N1 N3 1
-R10 transfer 8 120 A-1 N1 N2 6
-R11 open 8 120 take N1 A-1 1 take N1 A-1 1
-R12 commit 7
-R13 commit 7
-R14 abort 7
-? order 7
-? order 8
-",
-    "R1 done 1
-R2 done 2
-R3 done 3
-R4 refused 6 OrderThere 0
-R5 refused 13 TooLittle 0
-R6 refused 14 TooMuch 0
-R7 refused 16 OverUse 0
-R8 refused 15 NotHeld 0
-R9 refused 4 NoField 2
-R10 refused 14 TooMuch 2
-R11 refused 10 SameField 2
-R12 done 4
-R13 refused 8 Ended 0
-R14 refused 8 Ended 0
-? order 7 plain 120 committed take N1 A-1 10 0
-? none
-",
-);
+/// What these are answered.
+pub const SPELLING_REPLIES: &str = "- refused 20 BadCommand 0
+- refused 20 BadCommand 0
+- refused 20 BadCommand 0
+- refused 20 BadCommand 0
+- refused 20 BadCommand 0
+- refused 20 BadCommand 0
+- refused 20 BadCommand 0
+- refused 20 BadCommand 0
+K1 refused 4 NoField 0
+";
 
 /// A last line without its newline is bad, whatever stood before.
 const UNENDED: (&str, &str) = (
@@ -280,7 +230,7 @@ pub fn rows() -> &'static [(&'static str, &'static str)] {
     &ROWS
 }
 
-const ROWS: [(&str, &str); 11] = [
+const ROWS: [(&str, &str); 9] = [
     ("", ""),
     ("K1 field N1 A-1 0 100 40\n? field N1 A-1\n", FIRST),
     (LONG, LONG_REPLIES),
@@ -288,29 +238,6 @@ const ROWS: [(&str, &str); 11] = [
     RELEASE,
     MOVES,
     TIGHT,
-    NOTHING_THERE,
-    REFUSED,
     UNENDED,
-    ("K1 deliver N1 A-1 1000000\n", "K1 refused 4 NoField 0\n"),
-];
-
-/// Lines that are no request.
-pub const BAD: [&str; 17] = [
-    "\n",
-    "K1  commit 7\n",
-    "K1 deliver N1 A-1 05\n",
-    "K1 deliver N1 A-1 0\n",
-    "K1 deliver N1 A-1 1000001\n",
-    "K1 deliver n1 A-1 5\n",
-    "K1 deliver N1 -A 5\n",
-    "K1 commit 7\r\n",
-    "K9 use 7 N1 A-1 5",
-    "K1 deliver N1 A-1 +5\n",
-    "K1 deliver N1 A-1 5 \n",
-    "K1 field N1 A-1 00 100 40\n",
-    "K1 field N1 A-1 0 1000000001 40\n",
-    "? field  N1 A-1\n",
-    "? order 07\n",
-    "K1 expire 4000000001\n",
-    "\0\n",
+    (SPELLING, SPELLING_REPLIES),
 ];

@@ -1,0 +1,121 @@
+"""Tests of the built program by what another SQLite than its own reads in its file, and writes into it: codes and keys byte for
+byte, tables and rows that are no desk, rows that are damaged and mended again, and a desk that is full."""
+
+import contextlib
+
+from programs import bytes_of, done, expect, expect_end, new_desk, rows_of, say, sqlite3
+
+NOT_A_DESK = (3, b"", b"stockdesk: not a desk\n")
+DAMAGED = (3, b"", b"stockdesk: damaged\n")
+STORE = (1, b"", b"stockdesk: store\n")
+
+# codes and keys that have every byte of their alphabets, each as long as it may be or shorter
+CODES = [
+    ("ABCDEFGH", "A-BCDEFGHIJKLMNO"),
+    ("IJKLMNOP", "PQRSTUVWXYZ-0123"),
+    ("QRSTUVWX", "456789"),
+    ("YZ012345", "Z"),
+    ("6789", "Z-"),
+]
+KEYS = ["abcdefghijklmnopqrstuvwxyz-012345678", "9ABCDEFGHIJKLMNOPQRSTUVWXYZ", "K10", "K1", "K"]
+
+# what makes a desk no desk, and how a run on it ends
+NO_DESK = [
+    ("DROP TABLE kept", NOT_A_DESK),
+    ("DROP TABLE desk", NOT_A_DESK),
+    ("DELETE FROM desk", NOT_A_DESK),
+    ("UPDATE desk SET version = 2", NOT_A_DESK),
+    ("INSERT INTO desk (one, version, clock, places) VALUES (2, 1, 0, 0)", NOT_A_DESK),
+    ("CREATE TABLE seventh (n INTEGER) STRICT", STORE),
+    ("UPDATE desk SET one = 3", DAMAGED),
+]
+
+# what damages a desk, and what mends it
+DAMAGES = [
+    ("UPDATE field SET inf = 41", "UPDATE field SET inf = 40"),
+    ("UPDATE field SET value = 41, inf = 41, sup = 41", "UPDATE field SET value = 40, inf = 40, sup = 40"),
+    ("UPDATE desk SET places = 2", "UPDATE desk SET places = 1"),
+    ("UPDATE kept SET words = '''); DROP TABLE kept; --'", "UPDATE kept SET words = 'field N1 A-1 0 100 40'"),
+    ("INSERT INTO orders VALUES (7, 0, 120, 0)", "DELETE FROM orders"),
+]
+
+FIELD = "K1 field N1 A-1 0 100 40\n"
+
+
+def changed(path, *statements):
+    """Carries the statements out on the file."""
+    with contextlib.closing(sqlite3.connect(path)) as database, database:
+        for statement in statements:
+            database.execute(statement)
+
+
+def with_field(program, folder, name):
+    path = new_desk(program, folder, name)
+    done(program, ["run", path], FIELD)
+    return path
+
+
+def expect_left_alone(program, path, want, of):
+    """A run ends like this, and leaves the file as it was."""
+    found = bytes_of(path)
+    expect_end(program, ["run", path], want)
+    expect(bytes_of(path) == found, f"{of}: the file was changed")
+
+
+def test_codes_and_keys_are_stored_byte_for_byte(program, folder):
+    """In the order of their bytes."""
+    path = new_desk(program, folder)
+    script = [f"{key} field {branch} {article} 0 9 5" for key, (branch, article) in zip(KEYS, CODES, strict=True)]
+    replies = [f"{key} done {place}" for place, key in enumerate(KEYS, 1)]
+    expect(done(program, ["run", path], "\n".join(script) + "\n") == replies, "another reply")
+    rows = ["desk|1|1|0|5", *(f"field|{branch}|{article}|0|9|5|5|5|5" for branch, article in sorted(CODES))]
+    kept = [(key, place, line.split(" ", 1)[1]) for place, (key, line) in enumerate(zip(KEYS, script, strict=True), 1)]
+    rows += [f"kept|{key}|{place}|{words}" for key, place, words in sorted(kept)]
+    expect(rows_of(path) == rows, f"{rows_of(path)} and not {rows}")
+
+
+def test_tables_and_rows_that_are_no_desk_are_left_alone(program, folder):
+    for number, (statement, want) in enumerate(NO_DESK):
+        path = with_field(program, folder, f"{number}.db")
+        changed(path, statement)
+        expect_left_alone(program, path, want, statement)
+
+
+def test_a_damaged_desk_is_left_alone_and_goes_on_once_it_is_mended(program, folder):
+    path = with_field(program, folder, "desk.db")
+    for damage, mend in DAMAGES:
+        changed(path, damage)
+        expect_left_alone(program, path, DAMAGED, damage)
+        changed(path, mend)
+        expect(done(program, ["run", path], FIELD) == ["K1 done 1"], f"{damage}: not mended")
+    expect(done(program, ["run", path], "K2 deliver N1 A-1 60\n") == ["K2 done 2"], "it does not go on")
+
+
+def test_a_full_desk_still_ends_its_order(program, folder):
+    """199,999 places are taken, and the last one is set aside for the end of an open order."""
+    path = new_desk(program, folder)
+    with contextlib.closing(sqlite3.connect(path)) as database, database:
+        database.execute("UPDATE desk SET places = 199999")
+        database.execute("INSERT INTO field VALUES ('N1', 'A-1', 0, 100, 40, 40, 35, 40)")
+        database.execute("INSERT INTO orders VALUES (7, 0, 120, 0)")
+        database.execute("INSERT INTO line VALUES (7, 1, 'N1', 'A-1', 0, 5, 0)")
+        kept = [(f"C{place:06}", place, "expire 0") for place in range(1, 200_000)]
+        database.executemany("INSERT INTO kept VALUES (?, ?, ?)", kept)
+    script = "K1 deliver N1 A-1 1\nK2 expire 120\nK3 commit 7\nK4 deliver N1 A-1 1\n? field N1 A-1\n"
+    replies = ["K1 refused 2 Full 0", "K2 refused 2 Full 0", "K3 done 200000", "K4 refused 2 Full 0"]
+    shown = "? field N1 A-1 lo 0 hi 100 value 40 inf 40 sup 40"
+    expect(done(program, ["run", path], script) == [*replies, shown], "another reply")
+
+
+def unread(_program, _folder):
+    say("  not tried: no other SQLite with strict tables is here")
+
+
+TESTS = [
+    test_codes_and_keys_are_stored_byte_for_byte,
+    test_tables_and_rows_that_are_no_desk_are_left_alone,
+    test_a_damaged_desk_is_left_alone_and_goes_on_once_it_is_mended,
+    test_a_full_desk_still_ends_its_order,
+]
+if sqlite3 is None or sqlite3.sqlite_version_info < (3, 37):
+    TESTS = [unread]
