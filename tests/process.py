@@ -15,9 +15,12 @@ import threading
 # no folder of compiled modules beside the sources
 sys.dont_write_bytecode = True
 
+import damages
 import hostile
+import records
 import resumed
 import service
+import spelling
 from programs import (
     COLUMNS,
     FILES,
@@ -370,6 +373,9 @@ def main():
         *hostile.TESTS,
         *resumed.TESTS,
         *service.TESTS,
+        *spelling.TESTS,
+        *records.TESTS,
+        *damages.TESTS,
     ]:
         say(f"process {test.__name__}")
         folder = tempfile.mkdtemp()
