@@ -15,11 +15,14 @@ import threading
 # no folder of compiled modules beside the sources
 sys.dont_write_bytecode = True
 
+import damages
 import hostile
 import messages
+import records
 import resumed
 import scripts
 import service
+import spelling
 import stored
 from programs import (
     COLUMNS,
@@ -388,7 +391,10 @@ def main():
         *resumed.TESTS,
         *scripts.TESTS,
         *service.TESTS,
+        *spelling.TESTS,
         *stored.TESTS,
+        *records.TESTS,
+        *damages.TESTS,
     ]:
         say(f"process {test.__name__}")
         folder = tempfile.mkdtemp()

@@ -1,31 +1,15 @@
 //! Books: what is planned and carried out, and what is shown.
 
-mod rows;
+mod steps;
 mod tables;
 
-use crate::scripts::{book_after, carry_out, planned};
-use book::{Book, Kind, OrderView, Planned, State};
-use escrow::{Article, Branch, OrderNo};
+use crate::scripts::{book_after, request};
+use book::{Book, FieldView, Kind, OrderView, Planned, State};
+use escrow::{Article, Branch, OrderNo, Way};
 use std::alloc::Global;
 use std::process::Abort;
 use std::test::Fail;
-use words::Refusal;
-
-/// No field and no order is shown.
-fn expect_nothing<R: Abort>(rt: &R, book: &Book) -> Result<(), Fail> {
-    let branch = Branch::read(b"NORTH")?;
-    let article = Article::read(b"NAILS-8")?;
-    assert_eq!(rt; book.field_count(), 0);
-    assert_eq!(rt; book.field(branch, article), None);
-    assert_eq!(rt; book.field_at(0), None);
-    assert!(rt; order(book, 1).is_none());
-    Ok(())
-}
-
-#[test]
-fn a_new_book_shows_nothing(rt: HostRuntime) -> Result<(), Fail> {
-    expect_nothing(&rt, &Book::new(rt.alloc()))
-}
+use words::{Refusal, Reply};
 
 /// The laws hold of every ledger; a call of one costs nothing.
 #[test]
@@ -45,109 +29,117 @@ fn laws_can_be_called() {
     book::limits_are_those_of_the_rules();
 }
 
-/// Two fields, and an order on the second of them, which is used.
-fn used() -> &'static [(&'static str, &'static str)] {
-    &USED
+/// The order of that number: the call without its clauses, so that a test's proof need not carry them.
+fn order(book: &Book, number: u64) -> Option<OrderView<'_>> {
+    book.order(OrderNo::new(number)?)
 }
 
-const USED: [(&str, &str); 4] = [
-    ("K1", "field N2 A-1 0 100 40"),
-    ("K2", "field N1 A-1 0 50 5"),
-    ("K3", "open 7 120 take N2 A-1 35"),
-    ("K4", "use 7 N2 A-1 20"),
+/// The field of that branch, likewise.
+fn field(book: &Book, branch: &str) -> Option<FieldView> {
+    let branch = Branch::read(branch.as_bytes()).ok()?;
+    book.field(branch, Article::read(b"A-1").ok()?)
+}
+
+/// The field at that index, likewise.
+fn field_at(book: &Book, index: usize) -> Option<FieldView> {
+    book.field_at(index)
+}
+
+#[test]
+fn a_new_book_shows_nothing(rt: HostRuntime) {
+    let book = Book::new(rt.alloc());
+    assert!(rt; book.field_count() == 0 && field_at(&book, 0) == None);
+    assert!(rt; field(&book, "N1") == None && order(&book, 7).is_none());
+}
+
+/// The settled value, the infimum and the supremum.
+fn numbers(view: Option<FieldView>) -> Option<[u64; 3]> {
+    let field = view?;
+    Some([field.value.get(), field.inf.get(), field.sup.get()])
+}
+
+/// It shows two fields, in the order of their branches.
+fn shows_two_fields(book: &Book) -> bool {
+    book.field_count() == 2
+        && field_at(book, 0) == field(book, "N1")
+        && numbers(field_at(book, 0)) == Some([40, 39, 40])
+        && field_at(book, 1) == field(book, "S1")
+        && numbers(field_at(book, 1)) == Some([10, 10, 10])
+        && field_at(book, 2) == None
+}
+
+/// Its one line held 10 to take, of which 4 were used.
+fn is_shown(order: &OrderView<'_>) -> bool {
+    match order.lines {
+        [line] => line.way == Way::Take && [line.held.get(), line.used.get()] == [10, 4],
+        _ => false,
+    }
+}
+
+/// It shows an order of that kind that is aborted.
+fn shows_an_order(book: &Book) -> bool {
+    match order(book, 9) {
+        Some(order) => {
+            order.kind == Kind::Plain
+                && order.state == State::Aborted
+                && order.until.get() == 50
+                && is_shown(&order)
+        }
+        None => false,
+    }
+}
+
+/// What is planned for a command under a key.
+fn answers() -> &'static [(&'static str, &'static str, Reply)] {
+    &ANSWERS
+}
+
+const ANSWERS: [(&str, &str, Reply); 4] = [
+    ("K5", "use 9 N1 A-1 4", Reply::Done(5)),
+    (
+        "K5",
+        "use 9 N1 A-1 3",
+        Reply::Refused(Refusal::KeyReused, 0),
+    ),
+    (
+        "L1",
+        "open 8 120 take N1 A-1 1 add N1 B-1 1",
+        Reply::Refused(Refusal::NoField, 2),
+    ),
+    ("L1", "commit 2", Reply::Done(10)),
 ];
 
-/// The order of that number: the call without its clauses, so that a test's proof need not carry them.
-pub(super) fn order(book: &Book, number: u64) -> Option<OrderView<'_>> {
-    match OrderNo::new(number) {
-        Some(number) => book.order(number),
-        None => None,
+fn answer(alloc: Global, book: &Book, key: &str, command: &str) -> Result<Reply, Fail> {
+    let request = request(alloc, key, command)?;
+    Ok(match book.plan(alloc, &request)? {
+        Planned::Again(place) => Reply::Done(place),
+        Planned::Refused(refusal, line) => Reply::Refused(refusal, line),
+        Planned::Accept(plan) => Reply::Done(plan.place()),
+    })
+}
+
+fn expect_answers<R: Abort + AllocGlobal>(rt: &R, book: &Book) -> Result<(), Fail> {
+    for (key, command, want) in answers() {
+        assert!(rt;
+            answer(rt.alloc(), book, key, command)? == *want,
+            "{command}"
+        );
     }
+    Ok(())
 }
 
-/// How much each of the lines holds and how much of it is used.
-pub(super) fn expect_lines<R: Abort>(rt: &R, order: &OrderView<'_>, want: &[(u64, u64)]) {
-    assert_eq!(rt; order.lines.len(), want.len());
-    for (line, (held, used)) in order.lines.iter().zip(want) {
-        assert_eq!(rt; line.held.get(), *held);
-        assert_eq!(rt; line.used.get(), *used);
+#[test]
+fn commands_change_their_rows(rt: HostRuntime) -> Result<(), Fail> {
+    for script in steps::scripts() {
+        let book = book_after(&rt, script)?;
+        assert!(rt; book.field_count() >= 2);
     }
-}
-
-/// The settled value, the infimum and the supremum of a field, likewise.
-pub(super) fn numbers(book: &Book, branch: &str) -> Result<(u64, u64, u64), Fail> {
-    let branch = Branch::read(branch.as_bytes())?;
-    let field = book
-        .field(branch, Article::read(b"A-1")?)
-        .ok_or("no field")?;
-    Ok((field.value.get(), field.inf.get(), field.sup.get()))
-}
-
-/// The branch of the field at that index, likewise.
-fn branch_at(book: &Book, index: usize) -> Result<Branch, Fail> {
-    let view = book.field_at(index).ok_or("no field")?;
-    Ok(view.branch)
-}
-
-#[test]
-fn an_order_is_shown(rt: HostRuntime) -> Result<(), Fail> {
-    let book = book_after(rt.alloc(), used())?;
-    let Some(order) = order(&book, 7) else {
-        return Err(Fail::from("no order"));
-    };
-    assert_eq!(rt; order.kind, Kind::Plain);
-    assert_eq!(rt; order.state, State::Open);
-    assert_eq!(rt; order.until.get(), 120);
-    expect_lines(&rt, &order, &[(35, 20)]);
-    Ok(())
-}
-
-/// The book shows two fields, one after the other.
-fn expect_two_fields<R: Abort>(rt: &R, book: &Book) -> Result<(), Fail> {
-    assert_eq!(rt; book.field_count(), 2);
-    assert!(rt; branch_at(book, 0)? < branch_at(book, 1)?);
-    assert_eq!(rt; book.field_at(2), None);
-    let last = book.field_at(1).ok_or("no field")?;
-    assert_eq!(rt; book.field(last.branch, last.article), Some(last));
     Ok(())
 }
 
 #[test]
-fn fields_are_shown_in_order(rt: HostRuntime) -> Result<(), Fail> {
-    expect_two_fields(&rt, &book_after(rt.alloc(), used())?)
-}
-
-#[test]
-fn a_commit_settles_what_was_used(rt: HostRuntime) -> Result<(), Fail> {
-    let mut book = book_after(rt.alloc(), used())?;
-    assert_eq!(rt; numbers(&book, "N2")?, (40, 5, 40));
-    assert_eq!(rt; carry_out(rt.alloc(), &mut book, "K5", "commit 7")?, 5);
-    assert_eq!(rt; numbers(&book, "N2")?, (20, 20, 20));
-    Ok(())
-}
-
-/// A field and a delivery.
-fn delivered() -> &'static [(&'static str, &'static str)] {
-    &DELIVERED
-}
-
-const DELIVERED: [(&str, &str); 2] = [("K1", "field N1 A-1 0 100 40"), ("K2", "deliver N1 A-1 60")];
-
-#[test]
-fn a_key_is_kept(rt: HostRuntime) -> Result<(), Fail> {
-    let book = book_after(rt.alloc(), delivered())?;
-    let again = planned(rt.alloc(), &book, "K2", "deliver N1 A-1 60")?;
-    assert!(rt; matches!(again, Planned::Again(2)));
-    let reused = planned(rt.alloc(), &book, "K2", "deliver N1 A-1 59")?;
-    assert!(rt; matches!(reused, Planned::Refused(Refusal::KeyReused, 0)));
-    Ok(())
-}
-
-#[test]
-fn a_refusal_names_the_line_at_fault(rt: HostRuntime) -> Result<(), Fail> {
-    let book = book_after(rt.alloc(), delivered())?;
-    let command = "open 7 120 take N1 A-1 1 add N1 B-1 1";
-    let refused = planned(rt.alloc(), &book, "K3", command)?;
-    assert!(rt; matches!(refused, Planned::Refused(Refusal::NoField, 2)));
-    Ok(())
+fn what_commands_leave_is_shown(rt: HostRuntime) -> Result<(), Fail> {
+    let book = book_after(&rt, steps::expired())?;
+    assert!(rt; shows_two_fields(&book) && shows_an_order(&book));
+    expect_answers(&rt, &book)
 }

@@ -1,155 +1,94 @@
 //! Codes, numbers and quantities.
 
-ghost use Rattle.std.specs.Prelude.{◌≡◌, ◌-◌, IfOk};
+ghost use Rattle.std.specs.Prelude.{◌≡◌, ◌-◌, IfSome};
 
 use escrow::{
     Article, BadBounds, BadCode, Bound, Branch, Key, Level, Moment, OrderNo, Qty, Quantity, Way,
 };
-use std::process::Abort;
 use std::test::Fail;
 
-fn level(amount: u64) -> Result<Level, Fail>
-    ensures { IfOk result (λ level. level ≡ amount) }
-{
-    Ok(Level::new(amount).ok_or("a level")?)
+/// The first two texts are read, and compared by their bytes; the third is no branch.
+fn are_branches(first: &[u8], second: &[u8], none: &[u8]) -> Result<bool, BadCode> {
+    let (one, two) = (Branch::read(first)?, Branch::read(second)?);
+    let as_given = one.as_bytes() == first && two.as_bytes() == second;
+    Ok(as_given && one < two && one != two && Branch::read(none) == Err(BadCode))
 }
 
-fn qty(pieces: u64) -> Result<Qty, Fail>
-    ensures { IfOk result (λ qty. qty ≡ pieces) }
-{
-    Ok(Qty::new(pieces).ok_or("a quantity")?)
+/// The same of articles.
+fn are_articles(first: &[u8], second: &[u8], none: &[u8]) -> Result<bool, BadCode> {
+    let (one, two) = (Article::read(first)?, Article::read(second)?);
+    let as_given = one.as_bytes() == first && two.as_bytes() == second;
+    Ok(as_given && one < two && one != two && Article::read(none) == Err(BadCode))
 }
 
-fn start(lo: u64, hi: u64, value: u64) -> Result<Quantity, Fail>
-    ensures { IfOk result (λ q. q ≡ record { lo = lo; hi = hi; value = value; held_to_take = 0; held_to_add = 0 }) }
-{
-    Ok(Quantity::start(level(lo)?, level(hi)?, level(value)?)?)
-}
-
-fn restore(lo: u64, hi: u64, value: u64, inf: u64, sup: u64) -> Result<Quantity, Fail>
-    ensures { IfOk result (λ q. q ≡ record { lo = lo; hi = hi; value = value; held_to_take = value - inf; held_to_add = sup - value }) }
-{
-    let (lo, hi, value) = (level(lo)?, level(hi)?, level(value)?);
-    Ok(Quantity::restore(lo, hi, value, level(inf)?, level(sup)?)?)
-}
-
-/// The call without its clauses, so that a test's proof need not carry them.
-fn started(lo: u64, hi: u64, value: u64) -> Result<Result<Quantity, BadBounds>, Fail> {
-    Ok(Quantity::start(level(lo)?, level(hi)?, level(value)?))
-}
-
-/// The call without its clauses, likewise.
-fn restored(
-    lo: u64,
-    hi: u64,
-    value: u64,
-    inf: u64,
-    sup: u64,
-) -> Result<Result<Quantity, BadBounds>, Fail> {
-    let (lo, hi, value) = (level(lo)?, level(hi)?, level(value)?);
-    Ok(Quantity::restore(lo, hi, value, level(inf)?, level(sup)?))
-}
-
-/// Compares the value, the infimum and the supremum.
-fn shows<R: Abort>(rt: &R, stock: &Quantity, value: u64, inf: u64, sup: u64) {
-    assert_eq!(rt; stock.value().get(), value);
-    assert_eq!(rt; stock.inf().get(), inf);
-    assert_eq!(rt; stock.sup().get(), sup);
+/// The same of keys.
+fn are_keys(first: &[u8], second: &[u8], none: &[u8]) -> Result<bool, BadCode> {
+    let (one, two) = (Key::read(first)?, Key::read(second)?);
+    let as_given = one.as_bytes() == first && two.as_bytes() == second;
+    Ok(as_given && one < two && one != two && Key::read(none) == Err(BadCode))
 }
 
 #[test]
-fn branches_are_read_by_their_form(rt: HostRuntime) -> Result<(), Fail> {
-    for text in ["N", "N1", "0", "ABCDEFG8"] {
-        let branch = Branch::read(text.as_bytes())?;
-        assert!(rt; branch.as_bytes() == text.as_bytes(), "{text}");
-    }
-    for text in ["", "n1", "N 1", "N-1", "ABCDEFGH9", "Ä"] {
-        assert!(rt; Branch::read(text.as_bytes()) == Err(BadCode), "{text}");
-    }
+fn codes_are_read_and_ordered_by_their_bytes(rt: HostRuntime) -> Result<(), Fail> {
+    assert!(rt; are_branches(b"9", b"ABCDEFG8", b"ABCDEFGH9")?);
+    assert!(rt; are_articles(b"A-1", b"A1", b"-A")?);
+    assert!(rt; are_keys(b"K1", b"k1", b"K_1")?);
     Ok(())
 }
 
-#[test]
-fn articles_are_read_by_their_form(rt: HostRuntime) -> Result<(), Fail> {
-    for text in ["A", "A-1", "1-", "ABCDEFGHIJKLMNO6"] {
-        let article = Article::read(text.as_bytes())?;
-        assert!(rt; article.as_bytes() == text.as_bytes(), "{text}");
-    }
-    for text in ["", "-A", "a-1", "A_1", "ABCDEFGHIJKLMNOP7"] {
-        assert!(rt; Article::read(text.as_bytes()) == Err(BadCode), "{text}");
-    }
-    Ok(())
+fn level(number: u64) -> Option<u64> {
+    Some(Level::new(number)?.get())
 }
 
-#[test]
-fn keys_are_read_by_their_form(rt: HostRuntime) -> Result<(), Fail> {
-    for text in ["K1", "-", "a-Z", "0123456789ABCDEFabcdef-0123456789ABC"] {
-        let key = Key::read(text.as_bytes())?;
-        assert!(rt; key.as_bytes() == text.as_bytes(), "{text}");
-    }
-    for text in [
-        "",
-        "?",
-        "K 1",
-        "K1\r",
-        "0123456789ABCDEFabcdef-0123456789ABC7",
-    ] {
-        assert!(rt; Key::read(text.as_bytes()) == Err(BadCode), "{text}");
-    }
-    Ok(())
+fn qty(number: u64) -> Option<u64> {
+    Some(Qty::new(number)?.get())
 }
 
-#[test]
-fn codes_are_ordered_by_their_bytes(rt: HostRuntime) -> Result<(), Fail> {
-    let (nine, a, ab) = (
-        Branch::read(b"9")?,
-        Branch::read(b"A")?,
-        Branch::read(b"AB")?,
-    );
-    assert!(rt; nine < a && a < ab && ab == ab && a != ab);
-    let (hyphen, plain) = (Article::read(b"A-1")?, Article::read(b"A1")?);
-    assert!(rt; hyphen < plain && plain <= plain && hyphen != plain);
-    let (upper, lower) = (Key::read(b"K1")?, Key::read(b"k1")?);
-    assert!(rt; upper < lower && lower > upper && upper != lower);
-    Ok(())
+fn moment(number: u64) -> Option<u64> {
+    Some(Moment::new(number)?.get())
+}
+
+fn order_no(number: u64) -> Option<u64> {
+    Some(OrderNo::new(number)?.get())
+}
+
+/// A number, and whether it is a level, a quantity, a moment and the number of an order.
+fn numbers() -> &'static [(u64, [bool; 4])] {
+    &NUMBERS
+}
+
+const NUMBERS: [(u64, [bool; 4]); 10] = [
+    (0, [true, false, true, false]),
+    (1, [true, true, true, true]),
+    (1_000_000, [true, true, true, true]),
+    (1_000_001, [true, false, true, true]),
+    (999_999_999, [true, false, true, true]),
+    (1_000_000_000, [true, false, true, false]),
+    (1_000_000_001, [false, false, true, false]),
+    (4_000_000_000, [false, false, true, false]),
+    (4_000_000_001, [false, false, false, false]),
+    (u64::MAX, [false, false, false, false]),
+];
+
+/// The number, where it is one.
+fn is_made(made: Option<u64>, number: u64, is_one: bool) -> bool {
+    made == if is_one { Some(number) } else { None }
 }
 
 #[test]
 fn numbers_are_in_their_ranges(rt: HostRuntime) {
-    for (number, is_level, is_qty, is_moment, is_order_no) in [
-        (0, true, false, true, false),
-        (1, true, true, true, true),
-        (1_000_000, true, true, true, true),
-        (1_000_001, true, false, true, true),
-        (999_999_999, true, false, true, true),
-        (1_000_000_000, true, false, true, false),
-        (1_000_000_001, false, false, true, false),
-        (4_000_000_000, false, false, true, false),
-        (4_000_000_001, false, false, false, false),
-        (u64::MAX, false, false, false, false),
-    ] {
-        let of = |is_there: bool| if is_there { Some(number) } else { None };
-        assert_eq!(rt;
-            Level::new(number).map(|x| x.get()),
-            of(is_level),
-            "{number}"
-        );
-        assert_eq!(rt; Qty::new(number).map(|x| x.get()), of(is_qty), "{number}");
-        assert_eq!(rt;
-            Moment::new(number).map(|x| x.get()),
-            of(is_moment),
-            "{number}"
-        );
-        assert_eq!(rt;
-            OrderNo::new(number).map(|x| x.get()),
-            of(is_order_no),
-            "{number}"
-        );
+    for (number, are) in numbers() {
+        let number = *number;
+        let [is_level, is_qty, is_moment, is_order_no] = *are;
+        assert!(rt; is_made(level(number), number, is_level), "{number}");
+        assert!(rt; is_made(qty(number), number, is_qty), "{number}");
+        assert!(rt; is_made(moment(number), number, is_moment), "{number}");
+        assert!(rt; is_made(order_no(number), number, is_order_no), "{number}");
     }
 }
 
 /// A request, to be held or to be done at once; what is answered; then the value, the infimum and the supremum.
-type Row = (When, Way, u64, Result<(), Bound>, u64, u64, u64);
+type Row = (When, Way, u64, Result<(), Bound>, [u64; 3]);
 
 #[derive(Clone, Copy)]
 enum When {
@@ -157,122 +96,89 @@ enum When {
     AtOnce,
 }
 
+fn requests() -> &'static [Row] {
+    &REQUESTS
+}
+
 const REQUESTS: [Row; 9] = [
-    (When::Held, Way::Take, 35, Ok(()), 40, 5, 40),
-    (When::Held, Way::Take, 6, Err(Bound::TooLittle), 40, 5, 40),
-    (When::Held, Way::Take, 5, Ok(()), 40, 0, 40),
-    (When::AtOnce, Way::Add, 60, Ok(()), 100, 60, 100),
-    (When::AtOnce, Way::Add, 1, Err(Bound::TooMuch), 100, 60, 100),
-    (When::Held, Way::Add, 1, Err(Bound::TooMuch), 100, 60, 100),
+    (When::Held, Way::Take, 35, Ok(()), [40, 5, 40]),
+    (When::Held, Way::Take, 6, Err(Bound::TooLittle), [40, 5, 40]),
+    (When::Held, Way::Take, 5, Ok(()), [40, 0, 40]),
+    (When::AtOnce, Way::Add, 60, Ok(()), [100, 60, 100]),
+    (
+        When::AtOnce,
+        Way::Add,
+        1,
+        Err(Bound::TooMuch),
+        [100, 60, 100],
+    ),
+    (When::Held, Way::Add, 1, Err(Bound::TooMuch), [100, 60, 100]),
     (
         When::AtOnce,
         Way::Take,
         61,
         Err(Bound::TooLittle),
-        100,
-        60,
-        100,
+        [100, 60, 100],
     ),
-    (When::AtOnce, Way::Take, 60, Ok(()), 40, 0, 40),
-    (When::Held, Way::Add, 60, Ok(()), 40, 0, 100),
+    (When::AtOnce, Way::Take, 60, Ok(()), [40, 0, 40]),
+    (When::Held, Way::Add, 60, Ok(()), [40, 0, 100]),
 ];
 
-fn request(stock: &mut Quantity, when: When, way: Way, qty: Qty) -> Result<(), Bound> {
-    match when {
+/// What is answered, where the amount is a quantity.
+fn request(stock: &mut Quantity, when: When, way: Way, pieces: u64) -> Option<Result<(), Bound>> {
+    let qty = Qty::new(pieces)?;
+    Some(match when {
         When::Held => stock.ask(way, qty),
         When::AtOnce => stock.at_once(way, qty),
-    }
+    })
+}
+
+/// The value, the infimum and the supremum.
+fn shown(stock: &Quantity) -> [u64; 3] {
+    [stock.value().get(), stock.inf().get(), stock.sup().get()]
+}
+
+fn start(lo: u64, hi: u64, value: u64) -> Option<Result<Quantity, BadBounds>> {
+    Some(Quantity::start(Level::new(lo)?, Level::new(hi)?, Level::new(value)?))
 }
 
 #[test]
 fn requests_are_tested_against_the_worst_outcome(rt: HostRuntime) -> Result<(), Fail> {
-    let mut stock = start(0, 100, 40)?;
-    assert!(rt; stock.lo() == level(0)? && stock.hi() == level(100)?);
-    shows(&rt, &stock, 40, 40, 40);
-    for (when, way, pieces, answer, value, inf, sup) in REQUESTS {
-        assert_eq!(rt; request(&mut stock, when, way, qty(pieces)?), answer);
-        shows(&rt, &stock, value, inf, sup);
+    let mut stock = start(0, 100, 40).ok_or("levels")??;
+    assert!(rt; stock.lo().get() == 0 && stock.hi().get() == 100);
+    assert!(rt; shown(&stock) == [40, 40, 40]);
+    for (when, way, pieces, answer, numbers) in requests() {
+        assert!(rt;
+            request(&mut stock, *when, *way, *pieces) == Some(*answer),
+            "{pieces}"
+        );
+        assert!(rt; shown(&stock) == *numbers, "{pieces}");
     }
+    assert!(rt; start(5, 9, 4) == Some(Err(BadBounds)));
     Ok(())
 }
 
-#[test]
-fn bounds_may_leave_no_room(rt: HostRuntime) -> Result<(), Fail> {
-    let mut stock = start(5, 5, 5)?;
-    for (way, bound) in [(Way::Take, Bound::TooLittle), (Way::Add, Bound::TooMuch)] {
-        assert_eq!(rt; request(&mut stock, When::Held, way, qty(1)?), Err(bound));
-    }
-    shows(&rt, &stock, 5, 5, 5);
-    Ok(())
+/// Between 0 and 100, with these as its value, its infimum and its supremum.
+fn restored(value: u64, inf: u64, sup: u64) -> Option<Quantity>
+    ensures { IfSome result (λ q. q ≡ record { lo = 0; hi = 100; value = value; held_to_take = value - inf; held_to_add = sup - value }) }
+{
+    let (lo, hi) = (Level::new(0)?, Level::new(100)?);
+    let (value, inf, sup) = (Level::new(value)?, Level::new(inf)?, Level::new(sup)?);
+    Quantity::restore(lo, hi, value, inf, sup).ok()
 }
 
 #[test]
-fn a_quantity_starts_within_its_bounds(rt: HostRuntime) -> Result<(), Fail> {
-    for (lo, hi, value) in [(5, 4, 5), (5, 9, 4), (0, 4, 5)] {
-        assert_eq!(rt; started(lo, hi, value)?, Err(BadBounds));
-    }
-    Ok(())
-}
-
-#[test]
-fn what_is_held_is_given_back(rt: HostRuntime) -> Result<(), Fail> {
-    let mut stock = restore(0, 100, 40, 5, 90)?;
-    assert!(rt; stock.lo() == level(0)? && stock.hi() == level(100)?);
-    shows(&rt, &stock, 40, 5, 90);
-    stock.give_back(Way::Add, 20);
-    shows(&rt, &stock, 40, 5, 70);
-    stock.give_back(Way::Take, 35);
-    shows(&rt, &stock, 40, 40, 70);
-    stock.give_back(Way::Add, 30);
-    assert!(rt; stock == start(0, 100, 40)?);
-    stock.ask(Way::Take, qty(35)?)?;
-    stock.give_back(Way::Take, 35);
-    assert!(rt; stock == start(0, 100, 40)?);
-    Ok(())
-}
-
-#[test]
-fn what_is_held_is_settled_by_what_was_used(rt: HostRuntime) -> Result<(), Fail> {
-    let mut stock = restore(0, 100, 40, 5, 40)?;
-    stock.settle(Way::Take, 35, 20);
-    assert!(rt; stock == start(0, 100, 20)?);
-    stock.ask(Way::Add, qty(80)?)?;
-    shows(&rt, &stock, 20, 20, 100);
-    stock.settle(Way::Add, 50, 0);
-    shows(&rt, &stock, 20, 20, 50);
-    stock.settle(Way::Add, 30, 30);
-    assert!(rt; stock == start(0, 100, 50)?);
-
-    let mut stock = restore(0, 100, 40, 5, 90)?;
+fn what_is_held_is_given_back_or_settled(rt: HostRuntime) -> Result<(), Fail> {
+    let mut stock = restored(40, 5, 90).ok_or("no quantity")?;
+    assert!(rt; shown(&stock) == [40, 5, 90]);
+    stock.give_back(Way::Add, 10);
+    assert!(rt; shown(&stock) == [40, 5, 80]);
+    stock.give_back(Way::Take, 10);
+    assert!(rt; shown(&stock) == [40, 15, 80]);
     stock.settle(Way::Take, 25, 20);
-    shows(&rt, &stock, 20, 10, 70);
+    assert!(rt; shown(&stock) == [20, 20, 60]);
     stock.settle(Way::Add, 40, 15);
-    shows(&rt, &stock, 35, 25, 45);
-    Ok(())
-}
-
-#[test]
-fn quantities_are_restored_in_their_order(rt: HostRuntime) -> Result<(), Fail> {
-    for (lo, hi, value, inf, sup) in [
-        (0, 100, 40, 5, 40),
-        (0, 0, 0, 0, 0),
-        (0, 1_000_000_000, 500_000_000, 0, 1_000_000_000),
-    ] {
-        let stock = restore(lo, hi, value, inf, sup)?;
-        shows(&rt, &stock, value, inf, sup);
-    }
-    Ok(())
-}
-
-#[test]
-fn quantities_out_of_order_are_not_restored(rt: HostRuntime) -> Result<(), Fail> {
-    for (lo, hi, value, inf, sup) in [
-        (6, 100, 40, 5, 40),
-        (0, 100, 40, 41, 41),
-        (0, 100, 40, 5, 39),
-        (0, 100, 40, 5, 101),
-    ] {
-        assert_eq!(rt; restored(lo, hi, value, inf, sup)?, Err(BadBounds));
-    }
+    assert!(rt; shown(&stock) == [35, 35, 35]);
+    assert!(rt; restored(40, 41, 90) == None && restored(40, 5, 101) == None);
     Ok(())
 }

@@ -1,10 +1,70 @@
-//! Books that have carried a script out.
+//! Books that carry commands out, and the rows that these change.
 
-use book::{Book, Planned};
+use book::{Book, Change, FieldRow, KeptRow, LineRow, MoveRow, Planned};
 use escrow::Key;
 use std::alloc::Global;
+use std::process::Abort;
 use std::test::Fail;
-use words::{Reply, Request, read_command};
+use words::{Request, read_command};
+
+/// A row of each table: its texts, and then its numbers, in the order of their columns.
+pub(crate) enum Row {
+    Desk([i64; 4]),
+    Field(&'static str, &'static str, [i64; 6]),
+    Move(&'static str, &'static str, [i64; 2]),
+    Order([i64; 4]),
+    Line(&'static str, &'static str, [i64; 5]),
+    Kept(&'static str, &'static str, i64),
+}
+
+/// A key, a command, and the rows that it changes.
+pub(crate) type Step = (&'static str, &'static str, &'static [Row]);
+
+fn is_field(is: &FieldRow, branch: &str, article: &str, want: &[i64; 6]) -> bool {
+    let numbers = [is.lo, is.hi, is.start, is.value, is.inf, is.sup];
+    is.branch.as_str() == branch && is.article.as_str() == article && numbers == *want
+}
+
+fn is_move(is: &MoveRow, branch: &str, article: &str, want: &[i64; 2]) -> bool {
+    let numbers = [is.place, is.qty];
+    is.branch.as_str() == branch && is.article.as_str() == article && numbers == *want
+}
+
+fn is_line(is: &LineRow, branch: &str, article: &str, want: &[i64; 5]) -> bool {
+    let numbers = [is.number, is.nr, is.way, is.held, is.used];
+    is.branch.as_str() == branch && is.article.as_str() == article && numbers == *want
+}
+
+fn is_kept(is: &KeptRow, key: &str, words: &str, place: i64) -> bool {
+    is.reqkey.as_str() == key && is.words.as_str() == words && is.place == place
+}
+
+fn is_row(change: &Change, row: &Row) -> bool {
+    match (change, row) {
+        (Change::Desk(is), Row::Desk(want)) => {
+            [is.one, is.version, is.clock, is.places] == *want
+        }
+        (Change::Field(is), Row::Field(branch, article, want)) => {
+            is_field(is, branch, article, want)
+        }
+        (Change::Move(is), Row::Move(branch, article, want)) => is_move(is, branch, article, want),
+        (Change::Order(is), Row::Order(want)) => {
+            [is.number, is.kind, is.until, is.state] == *want
+        }
+        (Change::Line(is), Row::Line(branch, article, want)) => is_line(is, branch, article, want),
+        (Change::Kept(is), Row::Kept(key, words, place)) => is_kept(is, key, words, *place),
+        _ => false,
+    }
+}
+
+fn are_rows(changes: &[Change], rows: &[Row]) -> bool {
+    for (change, row) in changes.iter().zip(rows) {
+        if !is_row(change, row) {
+            return false;
+        }
+    }
+    changes.len() == rows.len()
+}
 
 pub(crate) fn request(alloc: Global, key: &str, command: &str) -> Result<Request, Fail> {
     let key = Key::read(key.as_bytes())?;
@@ -12,50 +72,23 @@ pub(crate) fn request(alloc: Global, key: &str, command: &str) -> Result<Request
     Ok(Request { key, command })
 }
 
-/// What is planned for the command under the key.
-pub(crate) fn planned(
-    alloc: Global,
-    book: &Book,
-    key: &str,
-    command: &str,
-) -> Result<Planned, Fail> {
-    let request = request(alloc, key, command)?;
-    Ok(book.plan(alloc, &request)?)
+/// Carries the command out, and tells whether these are the rows that it changes.
+fn changes_rows(alloc: Global, book: &mut Book, step: &Step) -> Result<bool, Fail> {
+    let request = request(alloc, step.0, step.1)?;
+    let Planned::Accept(plan) = book.plan(alloc, &request)? else {
+        return Ok(false);
+    };
+    let is_so = are_rows(plan.changes(), step.2);
+    book.make_room(&plan)?;
+    book.adopt(plan);
+    Ok(is_so)
 }
 
-/// What is answered to the request, which is carried out where it is accepted.
-pub(crate) fn answered(alloc: Global, book: &mut Book, request: &Request) -> Result<Reply, Fail> {
-    match book.plan(alloc, request)? {
-        Planned::Again(place) => Ok(Reply::Done(place)),
-        Planned::Refused(refusal, line) => Ok(Reply::Refused(refusal, line)),
-        Planned::Accept(plan) => {
-            let place = plan.place();
-            book.make_room(&plan)?;
-            book.adopt(plan);
-            Ok(Reply::Done(place))
-        }
-    }
-}
-
-/// Carries the command out. Its place.
-pub(crate) fn carry_out(
-    alloc: Global,
-    book: &mut Book,
-    key: &str,
-    command: &str,
-) -> Result<u64, Fail> {
-    let request = request(alloc, key, command)?;
-    match answered(alloc, book, &request)? {
-        Reply::Done(place) => Ok(place),
-        Reply::Refused(_, _) => Err(Fail::from("refused")),
-    }
-}
-
-/// A book that has carried these out, one after the other, each under its key.
-pub(crate) fn book_after(alloc: Global, script: &[(&str, &str)]) -> Result<Book, Fail> {
-    let mut book = Book::new(alloc);
-    for (key, command) in script {
-        carry_out(alloc, &mut book, key, command)?;
+/// A book that has carried these out, one after the other, each with the rows that it changes.
+pub(crate) fn book_after<R: Abort + AllocGlobal>(rt: &R, steps: &[Step]) -> Result<Book, Fail> {
+    let mut book = Book::new(rt.alloc());
+    for step in steps {
+        assert!(rt; changes_rows(rt.alloc(), &mut book, step)?, "{}", step.1);
     }
     Ok(book)
 }
