@@ -5,14 +5,18 @@ mod reopening;
 
 use crate::keepers::{commit, connection_of, keeper, load, load_fault, plain_keeper, sql_keeper};
 use book::{Change, DeskRow, FieldRow, KeptRow, LineRow, MoveRow, OrderRow, Tables};
-use keep::{Keep, KeepFault};
-use sqlite::Connection;
+use keep::{Keep, KeepFault, SqlKeep};
+use sqlite::{Connection, MemStore};
 use std::alloc::{AllocError, Global};
-use std::process::Abort;
 use std::test::Fail;
 
-fn field(alloc: Global, article: &str, value: i64) -> Result<FieldRow, AllocError> {
-    Ok(FieldRow {
+fn commit_field<K: Keep>(
+    alloc: Global,
+    keep: &mut K,
+    article: &str,
+    value: i64,
+) -> Result<(), Fail> {
+    let row = FieldRow {
         branch: String::from_str(alloc, "N1")?,
         article: String::from_str(alloc, article)?,
         lo: 1,
@@ -21,16 +25,45 @@ fn field(alloc: Global, article: &str, value: i64) -> Result<FieldRow, AllocErro
         value,
         inf: 30,
         sup: 70,
-    })
+    };
+    commit(keep, &[Change::Field(row)])?;
+    Ok(())
 }
 
-fn delivery(alloc: Global) -> Result<MoveRow, AllocError> {
-    Ok(MoveRow {
+fn commit_delivery<K: Keep>(alloc: Global, keep: &mut K) -> Result<(), Fail> {
+    let row = MoveRow {
         place: 9,
         branch: String::from_str(alloc, "N1")?,
         article: String::from_str(alloc, "A-1")?,
         qty: -8,
-    })
+    };
+    commit(keep, &[Change::Move(row)])?;
+    Ok(())
+}
+
+fn commit_line<K: Keep>(alloc: Global, keep: &mut K) -> Result<(), Fail> {
+    let row = LineRow {
+        number: 7,
+        nr: 2,
+        branch: String::from_str(alloc, "N2")?,
+        article: String::from_str(alloc, "A-3")?,
+        way: 1,
+        held: 6,
+        used: 5,
+    };
+    commit(keep, &[Change::Line(row)])?;
+    Ok(())
+}
+
+/// A text that SQL would read as the end of a string and a statement is a text like any other.
+fn commit_kept<K: Keep>(alloc: Global, keep: &mut K) -> Result<(), Fail> {
+    let row = KeptRow {
+        reqkey: String::from_str(alloc, "K2")?,
+        place: 4,
+        words: String::from_str(alloc, "'); DROP TABLE kept; --")?,
+    };
+    commit(keep, &[Change::Kept(row)])?;
+    Ok(())
 }
 
 pub(crate) fn order(number: i64, state: i64) -> OrderRow {
@@ -40,27 +73,6 @@ pub(crate) fn order(number: i64, state: i64) -> OrderRow {
         until: 900,
         state,
     }
-}
-
-fn line(alloc: Global) -> Result<LineRow, AllocError> {
-    Ok(LineRow {
-        number: 7,
-        nr: 2,
-        branch: String::from_str(alloc, "N2")?,
-        article: String::from_str(alloc, "A-3")?,
-        way: 1,
-        held: 6,
-        used: 5,
-    })
-}
-
-/// A text that SQL would read as the end of a string and a statement is a text like any other.
-fn kept(alloc: Global) -> Result<KeptRow, AllocError> {
-    Ok(KeptRow {
-        reqkey: String::from_str(alloc, "K2")?,
-        place: 4,
-        words: String::from_str(alloc, "'); DROP TABLE kept; --")?,
-    })
 }
 
 const DESK: DeskRow = DeskRow {
@@ -75,78 +87,77 @@ pub(crate) fn shown(alloc: Global, tables: &Tables) -> Result<String, AllocError
     format!(in alloc; "{tables:?}")
 }
 
-/// Commits new rows of all tables but that of the desk, out of their order.
-fn commit_new<K: Keep>(alloc: Global, keep: &mut K) -> Result<(), Fail> {
-    let changes = [
-        Change::Field(field(alloc, "A-2", 41)?),
-        Change::Order(order(20, 0)),
-        Change::Move(delivery(alloc)?),
-        Change::Line(line(alloc)?),
-        Change::Kept(kept(alloc)?),
-        Change::Order(order(7, 0)),
-        Change::Field(field(alloc, "A-1", 42)?),
-    ];
-    commit(keep, &changes)?;
-    Ok(())
+/// Commits two orders, out of their order.
+fn commit_orders<K: Keep>(keep: &mut K) -> Result<(), KeepFault> {
+    commit(
+        keep,
+        &[Change::Order(order(20, 0)), Change::Order(order(7, 0))],
+    )
 }
 
-/// Commits some of these anew, and the desk's own row.
-fn commit_again<K: Keep>(alloc: Global, keep: &mut K) -> Result<(), Fail> {
-    let field = field(alloc, "A-1", 43)?;
-    let changes = [
-        Change::Desk(DESK),
-        Change::Order(order(20, 1)),
-        Change::Field(field),
-    ];
-    commit(keep, &changes)?;
-    Ok(())
+/// Commits new rows of all tables, out of their order, and some of these anew.
+fn commit_rows<K: Keep>(alloc: Global, keep: &mut K) -> Result<(), Fail> {
+    commit_orders(keep)?;
+    commit_field(alloc, keep, "A-2", 41)?;
+    commit_delivery(alloc, keep)?;
+    commit_line(alloc, keep)?;
+    commit_kept(alloc, keep)?;
+    commit_field(alloc, keep, "A-1", 42)?;
+    commit(keep, &[Change::Desk(DESK), Change::Order(order(20, 1))])?;
+    commit_field(alloc, keep, "A-1", 43)
 }
 
-/// What is loaded behind both.
-fn committed<K: Keep>(alloc: Global, keep: &mut K) -> Result<String, Fail> {
-    commit_new(alloc, keep)?;
-    commit_again(alloc, keep)?;
-    Ok(shown(alloc, &load(keep, alloc)?)?)
+/// What the keeper loads, as text.
+pub(crate) fn loaded<K: Keep>(alloc: Global, keep: &mut K) -> Result<String, Fail> {
+    let tables = load(keep, alloc)?;
+    Ok(shown(alloc, &tables)?)
 }
 
 const COMMITTED: &str =
     "Tables { desk: DeskRow { one: 1, version: 1, clock: 30, places: 12 }, fields: Rows { rows: [FieldRow { branch: \"N1\", article: \"A-1\", lo: 1, hi: 90, start: 50, value: 43, inf: 30, sup: 70 }, FieldRow { branch: \"N1\", article: \"A-2\", lo: 1, hi: 90, start: 50, value: 41, inf: 30, sup: 70 }] }, moves: Rows { rows: [MoveRow { place: 9, branch: \"N1\", article: \"A-1\", qty: -8 }] }, orders: Rows { rows: [OrderRow { number: 7, kind: 1, until: 900, state: 0 }, OrderRow { number: 20, kind: 1, until: 900, state: 1 }] }, lines: Rows { rows: [LineRow { number: 7, nr: 2, branch: \"N2\", article: \"A-3\", way: 1, held: 6, used: 5 }] }, kept: Rows { rows: [KeptRow { reqkey: \"K2\", place: 4, words: \"'); DROP TABLE kept; --\" }] } }";
 
+/// Whether what is committed comes back.
+fn comes_back<K: Keep>(alloc: Global, keep: &mut K) -> Result<bool, Fail> {
+    commit_rows(alloc, keep)?;
+    Ok(loaded(alloc, keep)?.as_str() == COMMITTED)
+}
+
 #[test]
 fn rows_come_back_by_their_keys(rt: HostRuntime) -> Result<(), Fail> {
-    let mut keep = sql_keeper(rt.alloc())?;
-    assert!(rt; committed(rt.alloc(), &mut keep)?.as_str() == COMMITTED);
-    let mut keep = plain_keeper(rt.alloc());
-    assert!(rt; committed(rt.alloc(), &mut keep)?.as_str() == COMMITTED);
+    let over_sql = comes_back(rt.alloc(), &mut sql_keeper(rt.alloc())?)?;
+    let in_memory = comes_back(rt.alloc(), &mut plain_keeper(rt.alloc()))?;
+    assert!(rt; over_sql && in_memory);
     Ok(())
 }
 
-/// The keeper does not load by this fault, and is stopped by it.
-fn expect_fault<R: Abort + AllocGlobal, K: Keep>(rt: &R, keep: &mut K, want: KeepFault) {
-    assert_eq!(rt; load_fault(keep, rt.alloc()), Some(want));
-    assert_eq!(rt; load_fault(keep, rt.alloc()), Some(KeepFault::Stopped));
-    assert_eq!(rt; commit(keep, &[]), Err(KeepFault::Stopped));
-    assert!(rt; keep.is_stopped());
+/// Whether the keeper fails to load by this fault, and is stopped by it.
+fn fails_by<K: Keep>(alloc: Global, keep: &mut K, want: KeepFault) -> bool {
+    load_fault(keep, alloc) == Some(want)
+        && load_fault(keep, alloc) == Some(KeepFault::Stopped)
+        && commit(keep, &[]) == Err(KeepFault::Stopped)
+        && keep.is_stopped()
 }
 
 #[test]
 fn a_store_without_tables_is_no_desk(rt: HostRuntime) -> Result<(), Fail> {
     let mut keep = keeper(Connection::open_in_memory(rt.alloc())?)?;
-    expect_fault(&rt, &mut keep, KeepFault::NotADesk);
+    assert!(rt; fails_by(rt.alloc(), &mut keep, KeepFault::NotADesk));
     Ok(())
+}
+
+/// A keeper with two orders over a store that takes one step a statement.
+fn limited(alloc: Global) -> Result<SqlKeep<MemStore>, Fail> {
+    let mut keep = sql_keeper(alloc)?;
+    commit_orders(&mut keep)?;
+    let mut conn = connection_of(keep);
+    conn.set_step_limit(Some(1));
+    keeper(conn)
 }
 
 /// A store that refuses a statement has failed: it wants no memory, and may well hold a desk.
 #[test]
 fn a_load_that_the_store_refuses_is_its_failure(rt: HostRuntime) -> Result<(), Fail> {
-    let mut keep = sql_keeper(rt.alloc())?;
-    commit(
-        &mut keep,
-        &[Change::Order(order(7, 0)), Change::Order(order(20, 0))],
-    )?;
-    let mut conn = connection_of(keep);
-    conn.set_step_limit(Some(1));
-    let mut keep = keeper(conn)?;
-    expect_fault(&rt, &mut keep, KeepFault::Store);
+    let mut keep = limited(rt.alloc())?;
+    assert!(rt; fails_by(rt.alloc(), &mut keep, KeepFault::Store));
     Ok(())
 }

@@ -7,7 +7,6 @@ use desk::Desk;
 use keep::Keep;
 use std::alloc::Global;
 use std::io::{Read, Write};
-use std::process::Abort;
 use std::test::Fail;
 use web::{Ending, Served, WebFault, serve};
 
@@ -76,25 +75,28 @@ pub(crate) fn serve_on<K: Keep, R: Read, W: Write>(
     serve(alloc, reader, writer, desk)
 }
 
-/// The messages in pieces of that length are answered so.
-fn expect_answers<R: Abort + AllocGlobal>(
-    rt: &R,
+/// How serving the messages in pieces of that length ends, on a new desk.
+fn serve_pieces(
+    alloc: Global,
     piece: usize,
     messages: &[u8],
-    answers: &[u8],
-) -> Result<(), Fail> {
+    out: &mut Vec<u8>,
+) -> Result<Served, Fail> {
     let mut reader = Drip {
         bytes: messages,
         piece,
         before_fault: usize::MAX,
         is_interrupted: false,
     };
-    let mut out: Vec<u8> = Vec::new(rt.alloc());
-    let mut desk = opened(rt.alloc(), plain_keeper(rt.alloc()))?;
-    let served = serve_on(rt.alloc(), &mut reader, &mut out, &mut desk)?;
-    assert_eq!(rt; (served.answered, served.ending), (14, Ending::BadMessage));
-    assert!(rt; out.as_slice() == answers, "{piece}");
-    Ok(())
+    let mut desk = opened(alloc, plain_keeper(alloc))?;
+    Ok(serve_on(alloc, &mut reader, out, &mut desk)?)
+}
+
+/// Whether they are answered so.
+fn answers_so(alloc: Global, piece: usize, messages: &[u8], answers: &[u8]) -> Result<bool, Fail> {
+    let mut out: Vec<u8> = Vec::new(alloc);
+    let served = serve_pieces(alloc, piece, messages, &mut out)?;
+    Ok(served.answered == 14 && served.ending == Ending::BadMessage && out.as_slice() == answers)
 }
 
 #[test]
@@ -102,7 +104,10 @@ fn messages_are_answered_in_any_pieces(rt: HostRuntime) -> Result<(), Fail> {
     let messages = messages(rt.alloc())?;
     let answers = message_answers(rt.alloc())?;
     for piece in 1..=20 {
-        expect_answers(&rt, piece, &messages, &answers)?;
+        assert!(rt;
+            answers_so(rt.alloc(), piece, &messages, &answers)?,
+            "{piece}"
+        );
     }
     Ok(())
 }

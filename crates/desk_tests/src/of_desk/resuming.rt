@@ -12,7 +12,7 @@ use sqlite::{Alter, Connection, Files};
 use sqlite_disk::{Disk, Fuse, Memory};
 use std::alloc::Global;
 use std::test::Fail;
-use words::{Refusal, Reply};
+use words::{Refusal, Reply, Request};
 
 /// The list of requests.
 const LIST: [&str; 6] = [
@@ -75,25 +75,68 @@ fn expect_run(before: usize, run: &Run) -> Result<(), Fail> {
     Ok(())
 }
 
-/// A desk that stands behind so many requests, or one more, answers the rest: how many replies it gave.
-fn answer_rest<K: Keep>(alloc: Global, desk: &mut Desk<K>, before: usize) -> Result<usize, Fail> {
-    let next = before.checked_add(1).ok_or("no such number")?;
+/// The desk stands behind so many requests, or one more.
+fn expect_state<K: Keep>(
+    alloc: Global,
+    desk: &mut Desk<K>,
+    before: usize,
+    next: usize,
+) -> Result<(), Fail> {
     if !stands(alloc, desk, before)? && !stands(alloc, desk, next)? {
         Err("another ledger than before that request or behind it")?;
     }
-    let run = resume(alloc, desk, &requests(alloc, &LIST)?, next)?;
-    expect_run(before, &run)?;
-    if desk.is_stopped() != (run.ending == Ending::Stopped) {
+    Ok(())
+}
+
+/// The desk is stopped where it was told so, and stands behind the whole list where all was answered.
+fn expect_end<K: Keep>(alloc: Global, desk: &mut Desk<K>, ending: Ending) -> Result<(), Fail> {
+    if desk.is_stopped() != (ending == Ending::Stopped) {
         Err("stopped and not told, or told and not stopped")?;
     }
-    if run.ending == Ending::All && !stands(alloc, desk, LIST.len())? {
+    if ending == Ending::All && !stands(alloc, desk, LIST.len())? {
         Err("another ledger than behind the whole list")?;
     }
+    Ok(())
+}
+
+/// A desk that stands there answers the rest: how many replies it gave.
+fn answer_rest<K: Keep>(
+    alloc: Global,
+    desk: &mut Desk<K>,
+    requests: &[Request],
+    before: usize,
+) -> Result<usize, Fail> {
+    let next = before.checked_add(1).ok_or("no such number")?;
+    expect_state(alloc, desk, before, next)?;
+    let run = resume(alloc, desk, requests, next)?;
+    expect_run(before, &run)?;
+    expect_end(alloc, desk, run.ending)?;
     Ok(run.replies.len())
 }
 
-/// A session over the connection behind so many replies: how many it gave, none where no desk was opened. It goes on where it can,
-/// at the end of the list too.
+/// It goes on where it can, at the end of the list too.
+fn answer_on<K: Keep>(
+    alloc: Global,
+    desk: &mut Desk<K>,
+    requests: &[Request],
+    before: usize,
+) -> Result<usize, Fail> {
+    let count = answer_rest(alloc, desk, requests, before)?;
+    if desk.is_stopped() {
+        return Ok(count);
+    }
+    let next = before.checked_add(count).ok_or("no such number")?;
+    let more = answer_rest(alloc, desk, requests, next)?;
+    Ok(count.checked_add(more).ok_or("too many")?)
+}
+
+/// A session on the desk behind so many replies: how many it gave.
+fn go_on<K: Keep>(alloc: Global, desk: &mut Desk<K>, before: usize) -> Result<usize, Fail> {
+    let requests = requests(alloc, &LIST)?;
+    answer_on(alloc, desk, &requests, before)
+}
+
+/// A session over the connection: how many replies it gave, none where no desk was opened.
 fn session<S: Alter + Drop>(
     alloc: Global,
     conn: Connection<S>,
@@ -103,12 +146,7 @@ fn session<S: Alter + Drop>(
         Err((OpenFault::Store | OpenFault::Memory, keep)) => Ok((connection_of(keep), 0)),
         Err(_) => Err("the store is told as something else")?,
         Ok(mut desk) => {
-            let mut count = answer_rest(alloc, &mut desk, before)?;
-            if !desk.is_stopped() {
-                let next = before.checked_add(count).ok_or("no such number")?;
-                let more = answer_rest(alloc, &mut desk, next)?;
-                count = count.checked_add(more).ok_or("too many")?;
-            }
+            let count = go_on(alloc, &mut desk, before)?;
             Ok((connection_of(desk.into_keep()), count))
         }
     }
@@ -232,14 +270,33 @@ fn a_list_is_resumed_where_memory_was_refused(rt: HostRuntime) -> Result<(), Fai
     Ok(())
 }
 
+/// Whether the whole list is answered so.
+fn are_answered<K: Keep>(
+    alloc: Global,
+    desk: &mut Desk<K>,
+    requests: &[Request],
+    want: &[Reply],
+) -> Result<bool, Fail> {
+    let run = resume(alloc, desk, requests, 1)?;
+    Ok(run.ending == Ending::All && run.replies.as_slice() == want)
+}
+
+/// Whether the whole list again is decided anew.
+fn is_decided_anew<K: Keep>(
+    alloc: Global,
+    desk: &mut Desk<K>,
+    requests: &[Request],
+) -> Result<bool, Fail> {
+    let mut want = replies();
+    let first = are_answered(alloc, desk, requests, &want)?;
+    want[2] = Reply::Refused(Refusal::OrderThere, 0);
+    Ok(first && are_answered(alloc, desk, requests, &want)?)
+}
+
 #[test]
 fn a_whole_list_again_is_decided_anew(rt: HostRuntime) -> Result<(), Fail> {
     let requests = requests(rt.alloc(), &LIST)?;
     let mut desk = opened(rt.alloc(), sql_keeper(rt.alloc())?)?;
-    expect_run(0, &resume(rt.alloc(), &mut desk, &requests, 1)?)?;
-    let again = resume(rt.alloc(), &mut desk, &requests, 1)?;
-    let mut want = replies();
-    want[2] = Reply::Refused(Refusal::OrderThere, 0);
-    assert!(rt; again.replies.as_slice() == want.as_slice());
+    assert!(rt; is_decided_anew(rt.alloc(), &mut desk, &requests)?);
     Ok(())
 }

@@ -4,9 +4,9 @@ ghost use Rattle.std.specs.Prelude.{IsTrue};
 ghost use Rattle.sqlite_disk.specs.Memory.{memory_is_usable};
 
 use super::disks::{CUTS, calls_to, desk_files, files_of, left_by, new_files, open};
-use super::{order, shown};
-use crate::keepers::{commit, connection_of, create, keeper, load};
-use book::Change;
+use super::{loaded, order, shown};
+use crate::keepers::{commit, connection_of, create, keeper};
+use book::{Change, Tables};
 use keep::{Keep, KeepFault, SqlKeep, reopen, reopen_and_load};
 use sqlite::{Alter, Connection, FileStore, Files, Options};
 use sqlite_disk::{Crash, Disk, Fuse, Memory};
@@ -69,8 +69,7 @@ fn found<S: Alter + Drop>(alloc: Global, conn: Connection<S>) -> Result<String, 
     if conn.schema().tables.is_empty() {
         return Ok(String::new(alloc));
     }
-    let mut keep = keeper(conn)?;
-    Ok(shown(alloc, &load(&mut keep, alloc)?)?)
+    loaded(alloc, &mut keeper(conn)?)
 }
 
 /// The same over files, which can be opened.
@@ -139,26 +138,38 @@ fn with_order<S: Alter + Drop>(conn: Connection<S>) -> Result<SqlKeep<S>, Fail> 
     Ok(keep)
 }
 
-/// What is found after two power cuts.
-fn left_by_cuts<D: Crash + Drop>(
+/// A keeper behind a power cut.
+fn reopened<D: Crash + Drop>(
     alloc: Global,
     keep: SqlKeep<FileStore<D>>,
-) -> Result<String, Fail> {
-    let again = reopen(alloc, keep, Options::new(2)).ok_or("not reopened")?;
-    match reopen_and_load(alloc, again, Options::new(3)) {
-        Some((_, loaded)) => Ok(shown(alloc, &loaded?)?),
+) -> Result<SqlKeep<FileStore<D>>, Fail> {
+    Ok(reopen(alloc, keep, Options::new(2)).ok_or("not reopened")?)
+}
+
+/// What is found behind a power cut.
+fn reloaded<D: Crash + Drop>(alloc: Global, keep: SqlKeep<FileStore<D>>) -> Result<Tables, Fail> {
+    match reopen_and_load(alloc, keep, Options::new(3)) {
+        Some((_, found)) => Ok(found?),
         None => Err("not reopened")?,
     }
 }
 
+/// What is found behind a commit to a new desk and two power cuts.
+fn left_by_cuts<D: Crash + Drop>(alloc: Global, files: Files<D>) -> Result<Tables, Fail>
+    requires { IsTrue (D.Disk.is_usable files.log) × IsTrue (D.Disk.is_usable files.db) }
+{
+    match open(alloc, files) {
+        Ok(conn) => reloaded(alloc, reopened(alloc, with_order(conn)?)?),
+        Err(_) => Err("not opened")?,
+    }
+}
+
+const LEFT: &str =
+    "Tables { desk: DeskRow { one: 1, version: 1, clock: 0, places: 0 }, fields: Rows { rows: [] }, moves: Rows { rows: [] }, orders: Rows { rows: [OrderRow { number: 4, kind: 1, until: 900, state: 1 }] }, lines: Rows { rows: [] }, kept: Rows { rows: [] } }";
+
 #[test]
 fn a_cut_leaves_what_was_committed(rt: HostRuntime) -> Result<(), Fail> {
-    let Ok(conn) = open(rt.alloc(), desk_files(rt.alloc())?) else {
-        return Err(Fail::from("not opened"));
-    };
-    let rows = left_by_cuts(rt.alloc(), with_order(conn)?)?;
-    let want =
-        "Tables { desk: DeskRow { one: 1, version: 1, clock: 0, places: 0 }, fields: Rows { rows: [] }, moves: Rows { rows: [] }, orders: Rows { rows: [OrderRow { number: 4, kind: 1, until: 900, state: 1 }] }, lines: Rows { rows: [] }, kept: Rows { rows: [] } }";
-    assert!(rt; rows.as_str() == want);
+    let tables = left_by_cuts(rt.alloc(), desk_files(rt.alloc())?)?;
+    assert!(rt; shown(rt.alloc(), &tables)?.as_str() == LEFT);
     Ok(())
 }
