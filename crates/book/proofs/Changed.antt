@@ -7,6 +7,9 @@ use Rattle.book.proofs.Bounds.{takes, adds, none-total, inf_is, sup_is, inf_uniq
 use Rattle.book.proofs.Closing.{all_pass, at_number, name_is, sounds_from_good, changed}
 use Rattle.book.proofs.Asked.{same_self, total-push, settled-order, held_take-order, held_add-order}
 use Rattle.book.proofs.Goodness.{good_accept}
+use Rattle.book.specs.Next.{with_bounds}
+use Rattle.book.proofs.Growing.{other_way}
+use Rattle.book.proofs.Rebounding.{bounding, bounding_name}
 use Rattle.book.proofs.Puts.{Follows, put_all, follows-same, follows-before, follows-join, follows-map, follows-insert, follows-push}
 use Rattle.book.proofs.InOrder.{fields_sorted, kept_sorted, lines_sorted, moves_sorted, orders_sorted}
 use Rattle.book.proofs.Transfers.{was_open}
@@ -226,6 +229,7 @@ same_field : (A : Ledger) (key : List ℕ) (c : Command) → Good A → FirstFai
 same_field A key (command.Field b a lo hi start) g h f e = (refl, refl, refl)
 same_field A key (command.Deliver b a q) g h f e = let m = other_move A (name_of b a) (pos q) f _ refl e in ((omega (arith, ints)), refl, refl)
 same_field A key (command.Writeoff b a q) g h f e = let m = other_move A (name_of b a) (neg_ℤ (pos q)) f _ refl e in ((omega (arith, ints)), refl, refl)
+same_field A key (command.Rebound b a lo hi) g h f e = (refl, refl, refl)
 same_field A key (command.Open n until lines) g h f e = other_order A n Plain until lines f e
 same_field A key (command.Transfer n until a from to q) g h f e = other_order A n Transfer until (transfer_lines a from to q) f (grind arith)
 same_field A key (command.More n way b a q) g h f e = let p = all_pass (checks A (command.More n way b a q)) h in
@@ -265,22 +269,39 @@ same_field_row A B f x y g k s h j =
 abbrev RowChosen : (Name → Bool) → FieldCells → Bool
 RowChosen chosen row = chosen (name_of row.branch row.article)
 
-field_step : (A B : Ledger) (chosen : Name → Bool) (f : Field) (x y : FieldCells) → Good A → Good B → (chosen f.name ≡ false → SameNumbers A B f) → IsFieldRow A f x → IsFieldRow B f y → (field_cmp y x ≡ Equal) × (RowChosen chosen y ≡ false → x ≡ y)
-field_step A B chosen f x y g k s h j = (same_key, λ e. same_field_row A B f x y g k (s (subst (λ n. chosen n ≡ false) named e)) h j)
+-- a field that is another one under its name, where that is chosen
+record Goes (chosen : Name → Bool) (f new : Field) : Type 0 where
+  name : new.name ≡ f.name
+  same : chosen f.name ≡ false → new ≡ f
+
+field_step : (A B : Ledger) (chosen : Name → Bool) (f new : Field) (x y : FieldCells) → Good A → Good B → Goes chosen f new → (chosen f.name ≡ false → SameNumbers A B f) → IsFieldRow A f x → IsFieldRow B new y → (field_cmp y x ≡ Equal) × (RowChosen chosen y ≡ false → x ≡ y)
+field_step A B chosen f new x y g k goes s h j = (same_key, λ e. let left = subst (λ n. chosen n ≡ false) named e in same_field_row A B f x y g k (s left) h (subst (λ f. IsFieldRow B f y) (goes.same left) j))
   where
     named : name_of y.branch y.article ≡ f.name
-    named = λ i. record { branch = j.branch i; article = j.article i }
+    named = (λ i. record { branch = j.branch i; article = j.article i }) ∙ goes.name
 
     same_key : field_cmp y x ≡ Equal
-    same_key = rw (j.branch, j.article, h.branch, h.article, tied_itself nat_list_cmp_total f.name.branch) (tied_itself nat_list_cmp_total f.name.article)
+    same_key = rw (j.branch, j.article, h.branch, h.article, goes.name, tied_itself nat_list_cmp_total f.name.branch) (tied_itself nat_list_cmp_total f.name.article)
+
+fields_map : (A B : Ledger) (chosen : Name → Bool) (change : Field → Field) (fs : List Field) (xs ys : List FieldCells) → Good A → Good B → ((f : Field) → Goes chosen f (change f)) → ((f : Field) → chosen f.name ≡ false → SameNumbers A B f)
+    → AllZip (IsFieldRow A) fs xs → AllZip (IsFieldRow B) (map change fs) ys → Follows field_cmp (RowChosen chosen) xs ys
+fields_map A B chosen change [] [] [] g k goes s h j = refl
+fields_map A B chosen change [] (x ∷ xs) ys g k goes s h j = absurd h
+fields_map A B chosen change [] [] (y ∷ ys) g k goes s h j = absurd j
+fields_map A B chosen change (f ∷ fs) [] ys g k goes s h j = absurd h
+fields_map A B chosen change (f ∷ fs) (x ∷ xs) [] g k goes s h j = absurd j
+fields_map A B chosen change (f ∷ fs) (x ∷ xs) (y ∷ ys) g k goes s h j = let t = field_step A B chosen f (change f) x y g k (goes f) (s f) h.0 j.0 in inr (x, xs, refl, t.0, t.1, fields_map A B chosen change fs xs ys g k goes s h.1 j.1)
+
+map-same : (fs : List Field) → map (λ f. f) fs ≡ fs
+map-same [] = refl
+map-same (f ∷ fs) = λ i. f ∷ map-same fs i
 
 fields_zip : (A B : Ledger) (chosen : Name → Bool) (fs : List Field) (xs ys : List FieldCells) → Good A → Good B → ((f : Field) → chosen f.name ≡ false → SameNumbers A B f) → AllZip (IsFieldRow A) fs xs → AllZip (IsFieldRow B) fs ys → Follows field_cmp (RowChosen chosen) xs ys
-fields_zip A B chosen [] [] [] g k s h j = refl
-fields_zip A B chosen [] (x ∷ xs) ys g k s h j = absurd h
-fields_zip A B chosen [] [] (y ∷ ys) g k s h j = absurd j
-fields_zip A B chosen (f ∷ fs) [] ys g k s h j = absurd h
-fields_zip A B chosen (f ∷ fs) (x ∷ xs) [] g k s h j = absurd j
-fields_zip A B chosen (f ∷ fs) (x ∷ xs) (y ∷ ys) g k s h j = let t = field_step A B chosen f x y g k (s f) h.0 j.0 in inr (x, xs, refl, t.0, t.1, fields_zip A B chosen fs xs ys g k s h.1 j.1)
+fields_zip A B chosen fs xs ys g k s h j = fields_map A B chosen (λ f. f) fs xs ys g k (λ f. record { name = refl; same = λ _. refl }) s h (subst (λ fs. AllZip (IsFieldRow B) fs ys) (sym (map-same fs)) j)
+
+-- other bounds
+bounds_go : (n : Name) (lo hi : ℕ) (f : Field) → Goes (λ m. same_name m n) f (bounding n lo hi f)
+bounds_go n lo hi f = record { name = bounding_name n lo hi f; same = λ e. ap (λ b. if b then with_bounds lo hi f else f) (other_way f.name n e) }
 
 fields_insert : (A B : Ledger) (chosen : Name → Bool) (p : Field → Field → Bool) (n : Field) (fs : List Field) (xs ys : List FieldCells) → Good A → Good B → ((f : Field) → chosen f.name ≡ false → SameNumbers A B f) → chosen n.name ≡ true
     → AllZip (IsFieldRow A) fs xs → AllZip (IsFieldRow B) (insert_in_order p n fs) ys → Follows field_cmp (RowChosen chosen) xs ys
@@ -295,11 +316,13 @@ fields_insert A B chosen p n (f ∷ fs) (x ∷ xs) ys g k s e h j = step (p n f)
     step true [] j more = absurd j
     step true (y ∷ ys) j more = inl (subst (λ m. chosen m ≡ true) (λ i. record { branch = sym j.0.branch i; article = sym j.0.article i }) e, fields_zip A B chosen (f ∷ fs) (x ∷ xs) ys g k s h j.1)
     step false [] j more = absurd j
-    step false (y ∷ ys) j more = let t = field_step A B chosen f x y g k (s f) h.0 j.0 in inr (x, xs, refl, t.0, t.1, more ys j.1)
+    step false (y ∷ ys) j more = let t = field_step A B chosen f f x y g k (record { name = refl; same = λ _. refl }) (s f) h.0 j.0 in inr (x, xs, refl, t.0, t.1, more ys j.1)
 
 fields_follow : (A : Ledger) (key : List ℕ) (c : Command) (xs ys : List FieldCells) → Good A → Good (accept A (record { key = key; command = c })) → FirstFailure (checks A c) None → AllZip (IsFieldRow A) A.fields xs → AllZip (IsFieldRow (accept A (record { key = key; command = c }))) (accept A (record { key = key; command = c })).fields ys
     → Follows field_cmp (RowChosen (changes_field A c)) xs ys
 fields_follow A key (command.Field b a lo hi start) xs ys g k h x y = fields_insert A _ (changes_field A (command.Field b a lo hi start)) (λ f g. is_lt (name_cmp f.name g.name)) _ A.fields xs ys g k (same_field A key (command.Field b a lo hi start) g h) (same_self (name_of b a)) x y
+fields_follow A key (command.Rebound b a lo hi) xs ys g k h x y =
+    fields_map A _ (changes_field A (command.Rebound b a lo hi)) (bounding (name_of b a) lo hi) A.fields xs ys g k (bounds_go (name_of b a) lo hi) (same_field A key (command.Rebound b a lo hi) g h) x y
 fields_follow A key c xs ys g k h x y = fields_zip A _ (changes_field A c) A.fields xs ys g k (same_field A key c g h) x y
 
 -- the rows of a good ledger stand in the order of their keys

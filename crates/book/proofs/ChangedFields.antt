@@ -8,7 +8,6 @@ use Rattle.book.proofs.Closing.{name_is}
 use Rattle.book.proofs.Growing.{other_way}
 use Rattle.book.proofs.Keyed.{equal_field}
 use Rattle.book.proofs.Made.{each-found, made_there, no_number}
-use Rattle.book.proofs.Running.{contains_each, stay}
 use Rattle.book.proofs.Staying.{name_cmp_total}
 use Rattle.book.proofs.Sums.{each-both, each-imp}
 use Rattle.book.proofs.Viewed.{Contains-of_find}
@@ -206,7 +205,3 @@ lines_step A r lines ls i x C D same within is each all changed left = subst (λ
               (λ c. subst (λ (E : List (Name × FieldEntry)). HasEntry E (line_name x)) (sym new) (put_self C (line_name x) put.entry)),
         )
     by false e within is = grind (arith, ints, common_steps, each-imp, each-next)
-
--- a field that is there is one of the next ledger
-pub found_stays : (A : Ledger) (r : Request) (n : Name) (f : Field) → field_named A n ≡ Some f → Contains (accept A r).fields f
-found_stays A r n f there = let c = Contains-of_find (λ g. same_name n g.name) A.fields f there in each-at (λ f. Contains (accept A r).fields f) A.fields c.0 f c.1 (sym c.2) (stay (λ f. Contains (accept A r).fields f) A r.command (contains_each (accept A r).fields))

@@ -1,5 +1,5 @@
 -- What the comparisons of a program say of the checks of a command.
-use Rattle.book.proofs.Prelude.{[], ◌++◌, ◌↔◌, ◌∙◌, ◌∷◌, ◌≡◌, ◌≢◌, ◌≤◌, Add, Bool, BreaksBound, Check, Command, Deliver, Field, FirstFailure, Good, IsFalse, IsNone, IsSome, IsTrue, Ledger, List, MAX_ORDER_LINES, More, Name, None, OpenLine, Option, Order, Refusal, Some, Take, Way, Writeoff, ap, arith, bound, checks, false, field_named, full, inl, inr, is_open, is_some, is_transfer, length, line_on, name_of, next, no_field, order_numbered, refl, stock_checks, subst, sym, true, true≢false, ℕ}
+use Rattle.book.proofs.Prelude.{[], ◌++◌, ◌↔◌, ◌∙◌, ◌∷◌, ◌≡◌, ◌≢◌, ◌≤◌, ◌<ℤ◌, ◌+ℤ◌, ◌-ℤ◌, Add, Bool, BreaksBound, Check, Command, Deliver, FallsBelow, Field, FieldCells, FieldEntry, FirstFailure, Good, IsFalse, IsNone, IsSome, IsSomeAnd, IsTrue, IsUpToDate, Ledger, List, MAX_ORDER_LINES, More, Name, None, OpenLine, Option, Order, Refusal, RisesAbove, Some, Take, Way, Writeoff, ap, arith, bound, checks, false, field_named, field_of, full, held_to_add, held_to_take, inl, inr, is_open, is_some, is_transfer, length, line_on, name_of, next, no_field, order_numbered, pos, refl, settled, stock_checks, subst, sym, true, true≢false, ℕ}
 use Rattle.words.specs.declared.reply.Refusal.TheVariants.{Full, OtherWay, TooManyLines, TransferFixed}
 use Rattle.book.specs.After.{moved_at_once}
 use Rattle.book.specs.Answers.{OfLine, OfOrder, check, open_checks}
@@ -8,6 +8,8 @@ use Rattle.book.proofs.Asked.{delivery_test, write_off_test}
 use Rattle.book.proofs.Chosen.{some_is}
 use Rattle.book.proofs.Closing.{sounds_from_good}
 use Rattle.book.proofs.Compared.{more_test}
+use Rattle.book.proofs.Rebounding.{high_test, low_test}
+use Rattle.words.specs.declared.command.Command.TheVariants.{Rebound}
 
 -- ---- lists of checks
 
@@ -98,3 +100,18 @@ more_decides A n w f q o e fault found good room ordered numbered opened plain t
 
     more : FirstFailure (of_bound A n w f q) found
     more = has_bound A (next A (More n w f.branch f.article q)) w f q 0 found (more_test A n asked 0 good (rw numbered (grind arith))) bounded
+
+-- ---- other bounds
+
+-- where the lower is not above the upper, each bound is one comparison with the field
+pub bounds_decide : (A : Ledger) (n : Name) (e : FieldEntry) (lo hi : ℕ) → Good A → IsUpToDate A (n, e) → field_named A n ≡ Some (field_of (n, e))
+    → (FallsBelow (next A (Rebound n.branch n.article lo hi)) n ↔ (pos e.quantity.value -ℤ pos e.quantity.held_to_take) <ℤ pos lo) × (RisesAbove (next A (Rebound n.branch n.article lo hi)) n ↔ pos hi <ℤ (pos e.quantity.value +ℤ pos e.quantity.held_to_add))
+bounds_decide A n e lo hi good up there =
+    let sound = sounds_from_good A good in
+    let low = subst (λ (o : Option Field). FallsBelow (next A (Rebound n.branch n.article lo hi)) n ↔ IsSomeAnd o (λ f. (settled A f -ℤ held_to_take A f.name) <ℤ pos lo)) there (low_test A n lo hi sound) in
+    let high = subst (λ (o : Option Field). RisesAbove (next A (Rebound n.branch n.article lo hi)) n ↔ IsSomeAnd o (λ f. pos hi <ℤ (settled A f +ℤ held_to_add A f.name))) there (high_test A n lo hi sound) in
+    let inf = ap (λ (r : FieldCells). r.inf) up in
+    let sup = ap (λ (r : FieldCells). r.sup) up in (
+      subst (λ z. FallsBelow (next A (Rebound n.branch n.article lo hi)) n ↔ (z <ℤ pos lo)) (sym inf) low,
+      subst (λ z. RisesAbove (next A (Rebound n.branch n.article lo hi)) n ↔ (pos hi <ℤ z)) (sym sup) high,
+    )

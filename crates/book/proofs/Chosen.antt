@@ -61,6 +61,6 @@ pub some_is : {X : Type 0} (x y : X) → Some x ≡ Some y → x ≡ y
 some_is x y e = cc
 
 -- what is found of an insertion, where it was not there
-pub find-new : (n : ℕ) (p : Order → Order → Bool) (o : Order) (os : List Order) → (o.number == n) ≡ true → Each (λ m. (m.number == n) ≡ false) os → find (λ m. m.number == n) (insert_in_order p o os) ≡ Some o
-find-new n p o [] e h = rw e refl
-find-new n p o (m ∷ ms) e h = let more = find-new n p o ms e h.1 in grind arith
+pub find-new : {X : Type 0} (t : X → Bool) (p : X → X → Bool) (x : X) (xs : List X) → t x ≡ true → Each (λ y. t y ≡ false) xs → find t (insert_in_order p x xs) ≡ Some x
+find-new t p x [] e h = rw e refl
+find-new t p x (y ∷ ys) e h = let more = find-new t p x ys e h.1 in grind arith

@@ -1,34 +1,36 @@
 -- The rows of the fields that a request makes or changes, for each kind of command.
-use Rattle.book.proofs.Prelude.{[], ◌&&◌, ◌++◌, ◌+ℤ◌, ◌-ℤ◌, ◌||◌, ◌∙◌, ◌∷◌, ◌≡◌, Accepts, Bool, Command, Each, Field, FieldCells, FieldEntry, FirstFailure, GivenBack, GivesBack, Good, HasEntry, IsChangedField, IsNone, IsSome, IsStrictlySortedBy, Ledger, Line, List, Name, None, OpenLine, Option, Order, Puts, Request, Some, Way, accept, add_hold, added_part, ap, append-nil, arith, change_lines, changed_fields, changes_field, checks, committed_state, common_steps, entry_row, expired_lines, expires, false, field_named, field_of, field_row, field_rows, find, flat_map, has_line_on, held_to_add, held_to_take, if_add, if_take, if◌then◌else◌, insert_entry, ints, is_committed, is_open, is_some, is_transfer, keys_of, line_name, list_any, list_any-append, lower_held, map, moved_by_command, moved_part, name_cmp, name_of, new_field_rows, new_line, next, on, option_map, order_after, order_is, order_numbered, pos, raise_held, refl, same_name, settled, signed, some_has_line, subst, sym, taken_part, total, true, true≢false, ℕ, ℤ}
+use Rattle.book.proofs.Prelude.{[], ◌&&◌, ◌++◌, ◌+ℤ◌, ◌-ℤ◌, ◌||◌, ◌∙◌, ◌∷◌, ◌≡◌, Accepts, Bool, Command, Each, Field, FieldCells, FieldEntry, FirstFailure, GivenBack, GivesBack, Good, HasEntry, IsChangedField, IsNone, IsSome, IsUpToDate, Stock, is_lt, IsStrictlySortedBy, Ledger, Line, List, Name, None, OpenLine, Option, Order, Puts, Request, Some, Way, accept, add_hold, added_part, ap, append-nil, arith, change_lines, changes_field, checks, committed_state, common_steps, entry_row, expired_lines, expires, false, field_named, field_of, field_row, field_rows, find, flat_map, has_line_on, held_to_add, held_to_take, if_add, if_take, if◌then◌else◌, insert_entry, ints, is_committed, is_open, is_some, is_transfer, keys_of, line_name, list_any, list_any-append, lower_held, map, moved_by_command, moved_part, name_cmp, name_of, new_line, next, on, option_map, order_after, order_is, order_numbered, pos, raise_held, refl, same_name, settled, signed, some_has_line, subst, sym, taken_part, total, true, true≢false, ℕ, ℤ}
 use Rattle.words.specs.declared.command.Command.TheVariants as command
 use Rattle.book.specs.After.{changes_own_stock, moved_at_once}
 use Rattle.book.specs.Running.{HasLines, MovesField, lines_add, lines_take}
 use Rattle.book.proofs.Asked.{none_found, same_self}
 use Rattle.book.proofs.ChangedFields.{all_rows, put_self, self_eq}
-use Rattle.book.proofs.Chosen.{any-map, some_is}
+use Rattle.book.proofs.Checked.{bounds_decide}
+use Rattle.book.proofs.Chosen.{any-map, find-new, some_is}
 use Rattle.book.proofs.Closing.{all_pass, name_is}
 use Rattle.book.proofs.GivingBack.{any-append, total-flat}
-use Rattle.book.proofs.Growing.{none_if_not_some, other_way}
+use Rattle.book.proofs.Growing.{none_if_not_some, not_less, other_way}
 use Rattle.book.proofs.Made.{any_one, left_out, lined, released_on, total-next}
+use Rattle.book.proofs.Rebounding.{bounding, found_bounded}
 use Rattle.book.proofs.Running.{new_field}
+use Rattle.escrow.specs.Choices.{IsSafe}
+use Rattle.escrow.specs.Escrow.{bounded}
+use Rattle.book.specs.Next.{with_bounds}
 use Rattle.book.proofs.StockChanges.{entry_is, settled_moved, state_is}
 use Rattle.book.proofs.Sums.{each, each-both, each-imp, total-eq}
 
 -- ---- the rows, from the entries
 
-no_new : (A : Ledger) (r : Request) (rows : List FieldCells) → new_field_rows (accept A r) r.command ≡ [] → rows ≡ changed_fields A r A.fields → rows ≡ field_rows A r
-no_new A r rows none is = is ∙ sym (append-nil (changed_fields A r A.fields)) ∙ ap (λ (more : List FieldCells). changed_fields A r A.fields ++ more) (sym none)
-
-changed_rows : (A : Ledger) (r : Request) (D : List (Name × FieldEntry)) → Good A → IsStrictlySortedBy name_cmp (keys_of D) → Each (IsChangedField A r) D → ((f : Field) → changes_field A r.command f.name ≡ true → HasEntry D f.name) → new_field_rows (accept A r) r.command ≡ [] → map entry_row D ≡ field_rows A r
-changed_rows A r D good rising changed all none = grind (arith, (all_rows (changes_field A r.command) (field_row (accept A r)) A.fields D good.fields_in_order rising changed (each all A.fields)), each, no_new)
+changed_rows : (A : Ledger) (r : Request) (D : List (Name × FieldEntry)) → Good (accept A r) → IsStrictlySortedBy name_cmp (keys_of D) → Each (IsChangedField A r) D → ((f : Field) → changes_field A r.command f.name ≡ true → HasEntry D f.name) → map entry_row D ≡ field_rows A r
+changed_rows A r D good rising changed all = all_rows (changes_field A r.command) (field_row (accept A r)) (accept A r).fields D good.fields_in_order rising changed (each all (accept A r).fields)
 
 -- ---- one field
 
-one_row : (A : Ledger) (r : Request) (n : Name) (old D : List (Name × FieldEntry)) → Good A → old ≡ [] → IsStrictlySortedBy name_cmp (keys_of D) → Puts A r n old D → ((f : Name) → changes_field A r.command f ≡ true → f ≡ n) → new_field_rows (accept A r) r.command ≡ [] → map entry_row D ≡ field_rows A r
-one_row A r n old D good empty rising puts only none =
+pub one_row : (A : Ledger) (r : Request) (n : Name) (old D : List (Name × FieldEntry)) → Good (accept A r) → old ≡ [] → IsStrictlySortedBy name_cmp (keys_of D) → Puts A r n old D → ((f : Name) → changes_field A r.command f ≡ same_name f n) → map entry_row D ≡ field_rows A r
+one_row A r n old D good empty rising puts only =
     let is = puts.put ∙ ap (λ (C : List (Name × FieldEntry)). insert_entry name_cmp C n puts.entry) empty in
     changed_rows A r D good rising (subst (Each (IsChangedField A r)) (sym is) (puts.changed, tt))
-    (λ f changes. subst (λ (k : Name). HasEntry D k) (sym (only f.name changes)) (subst (λ (C : List (Name × FieldEntry)). HasEntry C n) (sym is) (put_self [] n puts.entry))) none
+    (λ f changes. subst (λ (k : Name). HasEntry D k) (sym (name_is f.name n (sym (only f.name) ∙ changes))) (subst (λ (C : List (Name × FieldEntry)). HasEntry C n) (sym is) (put_self [] n puts.entry)))
 
 some_there : {X : Type 0} (o : Option X) → (IsNone o → ⊥) → IsSome o
 some_there b h = grind arith
@@ -39,13 +41,13 @@ record MovesAtOnce (A : Ledger) (c : Command) (n : Name) (w : Way) (q : ℕ) : T
   names : (f : Name) → changes_field A c f ≡ same_name f n
   moves : (f : Name) → moved_by_command f c ≡ (if same_name f n then signed w q else pos 0)
   orders : (next A c).orders ≡ A.orders
-  fields : (B : Ledger) → new_field_rows B c ≡ []
+  fields : (next A c).fields ≡ A.fields
 
 moves_at_once : (A : Ledger) (c : Command) (n : Name) (w : Way) (q : ℕ) → FirstFailure (checks A c) None → moved_at_once c ≡ Some (n, w, q) → MovesAtOnce A c n w q
 moves_at_once A (command.Deliver b a p) n w q h e = subst (λ (m : Name × Way × ℕ). MovesAtOnce A (command.Deliver b a p) m.0 m.1 m.2) (some_is _ (n, w, q) e)
-    (record { there = some_there (field_named A (name_of b a)) (all_pass (checks A (command.Deliver b a p)) h).1.0; names = λ f. refl; moves = λ f. refl; orders = refl; fields = λ B. refl })
+    (record { there = some_there (field_named A (name_of b a)) (all_pass (checks A (command.Deliver b a p)) h).1.0; names = λ f. refl; moves = λ f. refl; orders = refl; fields = refl })
 moves_at_once A (command.Writeoff b a p) n w q h e = subst (λ (m : Name × Way × ℕ). MovesAtOnce A (command.Writeoff b a p) m.0 m.1 m.2) (some_is _ (n, w, q) e)
-    (record { there = some_there (field_named A (name_of b a)) (all_pass (checks A (command.Writeoff b a p)) h).1.0; names = λ f. refl; moves = λ f. refl; orders = refl; fields = λ B. refl })
+    (record { there = some_there (field_named A (name_of b a)) (all_pass (checks A (command.Writeoff b a p)) h).1.0; names = λ f. refl; moves = λ f. refl; orders = refl; fields = refl })
 moves_at_once A c n w q h e = absurd (true≢false (sym (ap is_some e)))
 
 pub moving : (A : Ledger) (r : Request) (n : Name) (w : Way) (q : ℕ) → Accepts A r → moved_at_once r.command ≡ Some (n, w, q) → MovesField A r n w q
@@ -53,6 +55,7 @@ moving A r n w q accepts is =
     let m = moves_at_once A r.command n w q accepts.accepted.1 is in record {
       accepts = accepts;
       there = m.there;
+      fields = m.fields;
       changes = m.names n ∙ same_self n;
       value = λ f e. settled_moved A f r.command w q (m.moves f.name ∙ ap (λ (k : Name). if same_name k n then signed w q else pos 0) e ∙ ap (λ b. if b then signed w q else pos 0) (same_self n)) m.orders;
       takes = ap (total (taken_part n)) m.orders;
@@ -62,22 +65,61 @@ moving A r n w q accepts is =
 pub moving_rows : (A : Ledger) (r : Request) (n : Name) (w : Way) (q : ℕ) (old D : List (Name × FieldEntry)) → Accepts A r → moved_at_once r.command ≡ Some (n, w, q) → old ≡ [] → IsStrictlySortedBy name_cmp (keys_of D) → Puts A r n old D → map entry_row D ≡ field_rows A r
 moving_rows A r n w q old D accepts is empty rising puts =
     let m = moves_at_once A r.command n w q accepts.accepted.1 is in
-    one_row A r n old D accepts.before empty rising puts (λ f changes. name_is f n (sym (m.names f) ∙ changes)) (m.fields (accept A r))
+    one_row A r n old D accepts.after empty rising puts m.names
 
 -- ---- a new field
 
-flat_none : (t : Field → Bool) (row : Field → FieldCells) (fs : List Field) → Each (λ f. t f ≡ false) fs → flat_map (λ f. if t f then row f ∷ [] else []) fs ≡ []
-flat_none t row [] all = refl
-flat_none t row (f ∷ fs) all = rw all.0 (flat_none t row fs all.1)
-
-pub new_rows : (A : Ledger) (r : Request) (b a : List ℕ) (lo hi start : ℕ) (old D : List (Name × FieldEntry)) (e : FieldEntry) → Accepts A r → r.command ≡ command.Field b a lo hi start → old ≡ [] → D ≡ insert_entry name_cmp old (name_of b a) e
+pub new_rows : (A : Ledger) (r : Request) (b a : List ℕ) (lo hi start : ℕ) (old D : List (Name × FieldEntry)) (e : FieldEntry) → Accepts A r → r.command ≡ command.Field b a lo hi start → old ≡ [] → IsStrictlySortedBy name_cmp (keys_of D) → D ≡ insert_entry name_cmp old (name_of b a) e
     → e ≡ record { start = start; quantity = record { lo = lo; hi = hi; value = start; held_to_take = 0; held_to_add = 0 } } → map entry_row D ≡ field_rows A r
-new_rows A r b a lo hi start old D e accepts is empty put entry =
-    let n : Name = name_of b a in
-    let passed = all_pass (checks A (command.Field b a lo hi start)) (subst (λ (c : Command). FirstFailure (checks A c) None) is accepts.accepted.1) in
-    let none = none_found (λ f. same_name n f.name) A.fields (none_if_not_some (field_named A n) passed.1.1.0) in
-    let before : changed_fields A r A.fields ≡ [] = flat_none (λ f. changes_field A r.command f.name) (field_row (accept A r)) A.fields (each-imp (λ f other. ap (λ (c : Command). changes_field A c f.name) is ∙ other_way n f.name other) A.fields none) in
-    ap (map entry_row) (put ∙ (λ i. insert_entry name_cmp (empty i) n (entry i))) ∙ new_field A r b a lo hi start is accepts.before accepts.accepted.1 ∙ ap (λ (rows : List FieldCells). rows ++ new_field_rows (accept A r) r.command) (sym before)
+new_rows A r b a lo hi start old D e accepts is empty rising put entry =
+    one_row A r n old D accepts.after empty rising (record { entry = e; changed = changed; put = put }) (λ f. ap (λ (c : Command). changes_field A c f) is)
+  where
+    n : Name
+    n = name_of b a
+
+    new : Field
+    new = record { name = n; lo = lo; hi = hi; start = start }
+
+    none : field_named A n ≡ None
+    none = none_if_not_some (field_named A n) (all_pass (checks A (command.Field b a lo hi start)) (subst (λ (c : Command). FirstFailure (checks A c) None) is accepts.accepted.1)).1.1.0
+
+    B : Command → Ledger
+    B c = accept A (record { key = r.key; command = c })
+
+    changed : IsChangedField A r (n, e)
+    changed = record {
+      field = new;
+      there = ap (λ (c : Command). field_named (B c) n) is ∙ find-new (λ g. same_name n g.name) (λ f g. is_lt (name_cmp f.name g.name)) new A.fields (same_self n) (none_found (λ g. same_name n g.name) A.fields none);
+      passes = ap (λ (c : Command). changes_field A c n) is ∙ same_self n;
+      has_row = ap (λ (v : FieldEntry). entry_row (n, v)) entry ∙ new_field A (accept A r) n lo hi start accepts.before none (ap (λ (c : Command). (B c).moves) is) (ap (λ (c : Command). (B c).orders) is);
+    }
+
+-- ---- other bounds
+
+-- every outcome lies within them
+pub bounds_safe : (A : Ledger) (r : Request) (n : Name) (lo hi : ℕ) (e : FieldEntry) → Accepts A r → r.command ≡ command.Rebound n.branch n.article lo hi → IsUpToDate A (n, e) → field_named A n ≡ Some (field_of (n, e)) → IsSafe (bounded e.quantity lo hi)
+bounds_safe A r n lo hi e accepts is up there taken added t a =
+    let d = bounds_decide A n e lo hi accepts.before up there in
+    let p = all_pass (checks A (command.Rebound n.branch n.article lo hi)) (subst (λ (c : Command). FirstFailure (checks A c) None) is accepts.accepted.1) in
+    let low = not_less (pos e.quantity.value -ℤ pos e.quantity.held_to_take) (pos lo) (λ k. p.1.1.1.0 (d.0.1 k)) in
+    let high = not_less (pos hi) (pos e.quantity.value +ℤ pos e.quantity.held_to_add) (λ k. p.1.1.1.1.0 (d.1.1 k)) in
+    (omega (arith, ints), omega (arith, ints))
+
+-- the field that gets other bounds, as it is then
+pub bounds_changed : (A : Ledger) (r : Request) (n : Name) (lo hi : ℕ) (e : FieldEntry) (new : Stock) → Accepts A r → r.command ≡ command.Rebound n.branch n.article lo hi → IsUpToDate A (n, e) → field_named A n ≡ Some (field_of (n, e)) → new ≡ bounded e.quantity lo hi
+    → IsChangedField A r (n, record { start = e.start; quantity = new })
+bounds_changed A r n lo hi e new accepts is up there bounds = record {
+  field = record { name = n; lo = lo; hi = hi; start = e.start };
+  there = ap (λ (c : Command). field_named (B c) n) is ∙ found_bounded n n lo hi A.fields ∙ ap (option_map (bounding n lo hi)) there ∙ ap (λ b. Some (if b then with_bounds lo hi (field_of (n, e)) else field_of (n, e))) (same_self n);
+  passes = ap (λ (c : Command). changes_field A c n) is ∙ same_self n;
+  has_row = ap (λ (q : Stock). entry_row (n, record { start = e.start; quantity = q })) bounds ∙ row ∙ ap (λ (c : Command). field_row (B c) (record { name = n; lo = lo; hi = hi; start = e.start })) (sym is);
+}
+  where
+    B : Command → Ledger
+    B c = accept A (record { key = r.key; command = c })
+
+    row : entry_row (n, record { start = e.start; quantity = bounded e.quantity lo hi }) ≡ field_row A (record { name = n; lo = lo; hi = hi; start = e.start })
+    row = ap (λ (c : FieldCells). record c { lo = pos lo; hi = pos hi }) up
 
 -- ---- the lines of an order
 
@@ -123,6 +165,7 @@ changed_has_line A (command.Use n b a q) f o good h made e = absurd (true≢fals
 changed_has_line A (command.Field b a lo hi start) f o good h made e = absurd (true≢false (sym (ap is_some made)))
 changed_has_line A (command.Deliver b a q) f o good h made e = absurd (true≢false (sym (ap is_some made)))
 changed_has_line A (command.Writeoff b a q) f o good h made e = absurd (true≢false (sym (ap is_some made)))
+changed_has_line A (command.Rebound b a lo hi) f o good h made e = absurd (true≢false (sym (ap is_some made)))
 changed_has_line A (command.Expire now) f o good h made e = absurd (true≢false (sym (ap is_some made)))
 changed_has_line A c f o good h made e = ap (some_has_line f) (sym made) ∙ lined A c f good refl ∙ e
 
@@ -155,16 +198,18 @@ own_stock A c o l good h made there = by c made
     by (command.Field b a lo hi start) made = absurd (true≢false (sym (ap is_some made)))
     by (command.Deliver b a q) made = absurd (true≢false (sym (ap is_some made)))
     by (command.Writeoff b a q) made = absurd (true≢false (sym (ap is_some made)))
+    by (command.Rebound b a lo hi) made = absurd (true≢false (sym (ap is_some made)))
     by (command.Expire now) made = absurd (true≢false (sym (ap is_some made)))
     by c made = sym has ∙ ap (some_has_line f) (sym made) ∙ lined A c f good refl
 
-no_field_made : (B A : Ledger) (c : Command) (o : Order) → order_after A c ≡ Some o → new_field_rows B c ≡ []
-no_field_made b x c o made = grind arith
+-- it makes no field and changes no bounds
+pub made_keeps : (A : Ledger) (c : Command) (o : Order) → order_after A c ≡ Some o → (next A c).fields ≡ A.fields
+made_keeps x c o made = grind arith
 
 pub lines_rows : (A : Ledger) (r : Request) (o : Order) (D : List (Name × FieldEntry)) → Accepts A r → order_after A r.command ≡ Some o → IsStrictlySortedBy name_cmp (keys_of D) → HasLines A r o.lines D → map entry_row D ≡ field_rows A r
 lines_rows A r o D accepts made rising has =
-    changed_rows A r D accepts.before rising has.each
-    (λ f changes. any_line (λ n. changes_field A r.command n ≡ true → HasEntry D n) f.name o.lines has.all (changed_has_line A r.command f.name o accepts.before accepts.accepted.1 made changes) changes) (no_field_made (accept A r) A r.command o made)
+    changed_rows A r D accepts.after rising has.each
+    (λ f changes. any_line (λ n. changes_field A r.command n ≡ true → HasEntry D n) f.name o.lines has.all (changed_has_line A r.command f.name o accepts.before accepts.accepted.1 made changes) changes)
 
 -- ---- an expiry
 
@@ -217,11 +262,11 @@ given_row A B now e given left = entry_is B e.0 e.1 e.1.quantity refl refl (give
 pub expired_rows : (A : Ledger) (r : Request) (now : ℕ) (D : List (Name × FieldEntry)) → Accepts A r → r.command ≡ command.Expire now → IsStrictlySortedBy name_cmp (keys_of D) → GivesBack A (expired_lines now A.orders) D → map entry_row D ≡ field_rows A r
 expired_rows A r now D accepts is rising gives =
     let passed = subst (λ (c : Command). FirstFailure (checks A c) None) is accepts.accepted.1 in
-    changed_rows A r D accepts.before rising
+    changed_rows A r D accepts.after rising
     (each-both (λ e given has. record {
       field = field_of e;
-      there = given.there;
+      there = ap (λ (c : Command). find (λ g. same_name e.0 g.name) (next A c).fields) is ∙ given.there;
       passes = ap (λ (c : Command). changes_field A c e.0) is ∙ sym (any_expired now e.0 A.orders) ∙ sym (gives.all e.0) ∙ has;
       has_row = given_row A (accept A r) now e given (subst (λ (c : Command). Left A (next A c) now (field_of e)) (sym is) (expired_sums A now (field_of e) accepts.before passed));
     }) D gives.each (entry_itself D))
-    (λ f changes. gives.all f.name ∙ any_expired now f.name A.orders ∙ ap (λ (c : Command). changes_field A c f.name) (sym is) ∙ changes) (ap (λ (c : Command). new_field_rows (accept A r) c) is)
+    (λ f changes. gives.all f.name ∙ any_expired now f.name A.orders ∙ ap (λ (c : Command). changes_field A c f.name) (sym is) ∙ changes)

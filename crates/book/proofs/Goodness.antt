@@ -1,5 +1,5 @@
 -- From a good ledger every accepted command leaves a good one.
-use Rattle.book.proofs.Prelude.{[], ◌++◌, ◌+ℤ◌, ◌+◌, ◌-ℤ◌, ◌<◌, ◌==◌, ◌∙◌, ◌∷◌, ◌≡◌, ◌≤ℤ◌, ◌≤◌, Aborted, Answers, AnswersNew, Bool, Command, Committed, Done, Each, Field, FirstFailure, Good, IsGoodField, IsGoodKept, IsGoodLine, IsGoodOrder, IsInRange, IsKey, IsLevel, IsMoment, IsNone, IsOpenLine, IsQty, IsSafe, IsSome, IsTransferPair, IsTrue, Kept, KeyReused, Kind, Ledger, Line, List, MatchOption, MayHoldMore, Name, None, OpenLine, Option, Order, Plain, Refusal, Refused, Reply, Request, Some, Transfer, Way, accept, add_hold, append-nil, append_assoc, arith, bytes_eq, change_order, checks, false, field_named, find, held_to_add, held_to_take, hold_more, if_add, if_take, if◌then◌else◌, insert_in_order, ints, is_lt, is_open, is_some, is_transfer, kept_under, length, line_checks, line_name, line_on, lower_held, map, name_cmp, nat_abs, nat_cmp, nat_cmp_total, nat_list_cmp_total, nat_lt, neg_ℤ, new_line, new_order, on, open_orders, order_numbered, places, pos, raise_held, raise_used, recursion_from_All, refl, same_command, same_name, slice_cmp, subst, sym, total, transfer_lines, true, true≢false, with_move, with_order, ℕ, ℤ}
+use Rattle.book.proofs.Prelude.{[], ◌++◌, ◌+ℤ◌, ◌+◌, ◌-ℤ◌, ◌<◌, ◌==◌, ◌∙◌, ◌∷◌, ◌≡◌, ◌≤ℤ◌, ◌≤◌, Aborted, Answers, AnswersNew, Bool, Command, Committed, Done, Each, Field, FirstFailure, Good, IsGoodField, IsGoodKept, IsGoodLine, IsGoodOrder, IsInRange, IsKey, IsLevel, IsMoment, IsNone, IsOpenLine, IsQty, IsSafe, IsSome, IsStrictlySortedBy, IsTransferPair, IsTrue, Kept, KeyReused, Kind, Ledger, Line, List, MatchOption, MayHoldMore, Name, None, OpenLine, Option, Order, Plain, Refusal, Refused, Reply, Request, Some, Transfer, Way, accept, add_hold, append-nil, append_assoc, arith, bytes_eq, change_order, checks, false, field_named, find, held_to_add, held_to_take, hold_more, if_add, if_take, if◌then◌else◌, insert_in_order, ints, is_lt, is_open, is_some, is_transfer, kept_under, length, line_checks, line_name, line_on, lower_held, map, name_cmp, nat_abs, nat_cmp, nat_cmp_total, nat_list_cmp_total, nat_lt, neg_ℤ, new_line, new_order, on, open_orders, order_numbered, places, pos, raise_held, raise_used, recursion_from_All, refl, same_command, same_name, slice_cmp, subst, sym, total, transfer_lines, true, true≢false, with_move, with_order, ℕ, ℤ}
 use Rattle.escrow.specs.Ranges.{IsOrderNo}
 use Rattle.words.specs.declared.command.Command.TheVariants as command
 use Rattle.words.specs.OpenLines.{AreOpenLines}
@@ -11,6 +11,8 @@ use Rattle.book.proofs.Asked.{each-insert, none_found, same_self, fresh-push}
 use Rattle.book.proofs.Growing.{Room, none_if_not_some, room-order}
 use Rattle.book.proofs.Raising.{sound-more, raised}
 use Rattle.book.proofs.Safety.{safe_after, takes_more, not_false}
+use Rattle.book.specs.Next.{with_bounds}
+use Rattle.book.proofs.Rebounding.{bounding, bounding_names, still_bounded}
 use Rattle.book.proofs.Lists.{each-unmap, each-two, each-all, sorted-insert, sorted-push, distinct-insert, length-insert, length-of-map, length-of-push, count-insert, count-map, find-insert, total-has}
 
 -- what is held on a field that is there is a level
@@ -71,6 +73,28 @@ fielding A f kept g good more new few room =
       few_orders = g.few_orders;
       room = omega arith;
     }
+
+-- other bounds
+rebounding : (A : Ledger) (n : Name) (lo hi : ℕ) (kept : List Kept) → Good A → IsLevel lo → IsLevel hi → length kept ≡ places A + 1 → places A + open_orders A + 1 ≤ 200000 → Parts (record A { fields = map (bounding n lo hi) A.fields; kept = kept })
+rebounding A n lo hi kept g low high more room =
+    let B : Ledger = record A { fields = map (bounding n lo hi) A.fields; kept = kept } in
+    let still : StillThere A B = still_bounded A B n lo hi refl in
+    record {
+      clock = g.clock;
+      fields = each-map IsGoodField (bounding n lo hi) A.fields (each-imp (λ f x. by (same_name n f.name) f x) A.fields g.fields);
+      fields_in_order = subst (IsStrictlySortedBy name_cmp) (sym (bounding_names n lo hi A.fields)) g.fields_in_order;
+      few_fields = (let e = length-of-map (bounding n lo hi) A.fields in let d = g.few_fields in omega arith);
+      moves = each-imp (move_kept A B still (omega arith)) A.moves g.moves;
+      moves_in_order = g.moves_in_order;
+      orders = each-imp (order_kept A B still) A.orders g.orders;
+      orders_in_order = g.orders_in_order;
+      few_orders = g.few_orders;
+      room = omega arith;
+    }
+  where
+    by : (b : Bool) (f : Field) → IsGoodField f → IsGoodField (if b then with_bounds lo hi f else f)
+    by true f x = record { branch = x.branch; article = x.article; lo = low; hi = high; start = x.start }
+    by false f x = x
 
 -- a new order
 fields_there : (A : Ledger) (order : List OpenLine → Order) (before ls : List OpenLine) → AllPass (line_checks A order before ls) → Each (λ l. IsSome (field_named A (line_name (new_line l)))) ls
@@ -174,6 +198,7 @@ parts_accept A key (command.Deliver b a q) g i h = let p = all_pass (checks A (c
     moving A (record { branch = b; article = a }) (pos q) _ g (kept_more A _) (not_false _ p.1.0) i.2 (omega arith)
 parts_accept A key (command.Writeoff b a q) g i h = let p = all_pass (checks A (command.Writeoff b a q)) h in
     moving A (record { branch = b; article = a }) (neg_ℤ (pos q)) _ g (kept_more A _) (not_false _ p.1.0) (subst IsQty (sym (grind arith)) i.2) (omega arith)
+parts_accept A key (command.Rebound b a lo hi) g i h = let p = all_pass (checks A (command.Rebound b a lo hi)) h in rebounding A (record { branch = b; article = a }) lo hi _ g i.2 i.3 (kept_more A _) (omega arith)
 parts_accept A key (command.Open n until lines) g i h = let p = all_pass (checks A (command.Open n until lines)) h in
     let r = room-order A n Plain until lines (sounds_from_good A g) g.fields_in_order (fit_from_good A g).room p.1.1.1.1 in
     opening A n Plain until lines _ g (kept_more A _) i.0 i.1 i.2.some i.2.fits (quantities lines i.2) (λ e. absurd (true≢false (sym e))) p.1.1.1.1 p.1.1.0 p.1.0 (omega arith) r.1 (one_lines A n Plain until [] lines (λ _. tt) p.1.1.1.1)

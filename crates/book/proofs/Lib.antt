@@ -7,6 +7,7 @@ pub mod Asked
 pub mod Growing
 pub mod Raising
 pub mod Safety
+pub mod Rebounding
 pub mod Total
 pub mod Lists
 pub mod Staying

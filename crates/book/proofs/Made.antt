@@ -58,7 +58,7 @@ pub none_opened : (A : Ledger) (c : Command) (n : ℕ) → FirstFailure (checks 
 none_opened b c n h e is = grind arith
 
 opened_there : (n : ℕ) (o : Order) (A : Ledger) → (o.number == n) ≡ true → order_numbered A n ≡ None → find (λ m. m.number == n) (insert_in_order (λ a b. nat_lt a.number b.number) o A.orders) ≡ Some o
-opened_there n o A e none = find-new n (λ a b. nat_lt a.number b.number) o A.orders e (none_found (λ m. m.number == n) A.orders none)
+opened_there n o A e none = find-new (λ m. m.number == n) (λ a b. nat_lt a.number b.number) o A.orders e (none_found (λ m. m.number == n) A.orders none)
 
 changed_there : (A : Ledger) (n m : ℕ) (change : Order → Order) → ((o : Order) → (change o).number ≡ o.number) → Some n ≡ Some m
     → find (λ o. o.number == m) (map (λ o. if o.number == n then change o else o) A.orders) ≡ option_map change (order_numbered A n)

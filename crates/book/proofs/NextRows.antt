@@ -1,6 +1,6 @@
 -- The rows of the next ledger that an accepted request changes, table by table.
 use Rattle.std.proofs.lemmas.Bool.Decides.{Decides-int_eq}
-use Rattle.book.proofs.Prelude.{[], ◌&&◌, ◌++◌, ◌+◌, ◌==◌, ◌||◌, ◌∙◌, ◌∷◌, ◌≡◌, ◌≤◌, Aborted, BookView, Bool, ChangesTo, Command, Content, DeskCells, Each, Field, FieldCells, FirstFailure, Good, IfSome, Inside, IsAccepted, IsInRange, IsKey, IsRowsOf, IsStrictlySortedBy, Ledger, Line, LineCells, List, MAX_PLACES, Move, MoveEntry, Name, None, Option, Order, OrderCells, Request, Some, Way, aborted_rows, accept, ap, append-nil, arith, bytes_decides, bytes_eq, change_lines, changed_fields, changed_orders, changed_rows, changes_field, changes_line, changes_move, changes_order, changes_state, checks, desk_row, entry_row, expired_numbers, expires, false, field_named, field_row, field_rows, filter, find, flat_map, if◌then◌else◌, int_eq, is_lt, is_some, is_transfer, kept_of, kept_row, ledger_of, length, line_name, line_row, line_rows, lines_from, list_any, lower_held, map, move_of, move_row, name_cmp, name_of, nat_cmp, new_field_rows, next, of_numbered, option_map, option_map_or, order_after, order_is, order_lines, order_number, order_numbered, order_of, order_row, places, pos, put_content, raise_used, refl, same_name, set_state, signed, slice_cmp, subst, sym, transfer_kind, true, true≢false, view_of, with_fields, with_kept, with_lines, with_moves, with_orders, ℕ}
+use Rattle.book.proofs.Prelude.{[], ◌&&◌, ◌++◌, ◌+◌, ◌==◌, ◌||◌, ◌∙◌, ◌∷◌, ◌≡◌, ◌≤◌, Aborted, BookView, Bool, ChangesTo, Command, Content, DeskCells, Each, Field, FieldCells, FirstFailure, Good, IfSome, Inside, IsAccepted, IsInRange, IsKey, IsRowsOf, IsStrictlySortedBy, Ledger, Line, LineCells, List, MAX_PLACES, Move, MoveEntry, Name, None, Option, Order, OrderCells, Request, Some, Way, aborted_rows, accept, ap, append-nil, arith, bytes_decides, bytes_eq, change_lines, changed_orders, changed_rows, changes_field, changes_line, changes_move, changes_order, changes_state, checks, desk_row, entry_row, expired_numbers, expires, false, field_named, field_row, field_rows, filter, find, flat_map, if◌then◌else◌, int_eq, is_lt, is_some, is_transfer, kept_of, kept_row, ledger_of, length, line_name, line_row, line_rows, lines_from, list_any, lower_held, map, move_of, move_row, name_cmp, name_of, nat_cmp, next, of_numbered, option_map, option_map_or, order_after, order_is, order_lines, order_number, order_numbered, order_of, order_row, places, pos, put_content, raise_used, refl, same_name, set_state, signed, slice_cmp, subst, sym, transfer_kind, true, true≢false, view_of, with_fields, with_kept, with_lines, with_moves, with_orders, ℕ}
 use Rattle.std.proofs.lemmas.List.Elements.{filter-append}
 use Rattle.words.specs.declared.command.Command.TheVariants as command
 use Rattle.book.specs.After.{expired_rows, move_made, move_rows, moved_at_once, own_line_rows, own_order_rows}
@@ -48,25 +48,9 @@ kept_changed A r ok same = filter-insert (λ row. bytes_eq row.reqkey r.key) kep
 
 -- ---- fields
 
-all_fields : (A : Ledger) (r : Request) (fs : List Field) → changed_fields A r fs ≡ filter (λ row. changes_field A r.command (name_of row.branch row.article)) (map (field_row (accept A r)) fs)
-all_fields A r fs = filter-each (λ (row : FieldCells). changes_field A r.command (name_of row.branch row.article)) (field_row (accept A r)) (field_row (accept A r)) (λ f. changes_field A r.command f.name) fs (each (λ f. refl) fs) (each (λ f e. refl) fs)
-
-no_more : {X : Type 0} (xs ys : List X) → xs ≡ ys → ys ≡ xs ++ []
-no_more xs ys e = sym e ∙ sym (append-nil xs)
-
-fields_changed : (A : Ledger) (key : List ℕ) (c : Command) → FirstFailure (checks A c) None
-    → filter (λ (row : FieldCells). changes_field A c (name_of row.branch row.article)) (map (field_row (accept A (record { key = key; command = c }))) (accept A (record { key = key; command = c })).fields)
-    ≡ changed_fields A (record { key = key; command = c }) A.fields ++ new_field_rows (accept A (record { key = key; command = c })) c
-fields_changed A key (command.Field b a lo hi start) h =
-    let r : Request = record { key = key; command = command.Field b a lo hi start } in
-    let B : Ledger = accept A r in
-    let chosen : FieldCells → Bool = λ row. same_name (name_of row.branch row.article) (name_of b a) in
-    let new : Field = record { name = name_of b a; lo = lo; hi = hi; start = start } in
-    let k = all_pass (checks A (command.Field b a lo hi start)) h in
-    let none : Each (λ f. chosen (field_row B f) ≡ false) A.fields = each-imp (λ f e. other_way (name_of b a) f.name e) A.fields (none_found (λ e. same_name (name_of b a) e.name) A.fields (none_if_not_some (field_named A (name_of b a)) k.1.1.0)) in
-    let before : changed_fields A r A.fields ≡ [] = all_fields A r A.fields ∙ filter-none chosen (field_row B) A.fields none in
-    filter-insert chosen (field_row B) (λ f g. is_lt (name_cmp f.name g.name)) new A.fields (same_self (name_of b a)) none ∙ ap (λ (rows : List FieldCells). rows ++ field_row B new ∷ []) (sym before)
-fields_changed A key c h = no_more _ _ (all_fields A (record { key = key; command = c }) A.fields)
+fields_changed : (A : Ledger) (r : Request) → filter (λ (row : FieldCells). changes_field A r.command (name_of row.branch row.article)) (map (field_row (accept A r)) (accept A r).fields) ≡ field_rows A r
+fields_changed A r = sym (filter-each (λ (row : FieldCells). changes_field A r.command (name_of row.branch row.article)) (field_row (accept A r)) (field_row (accept A r)) (λ f. changes_field A r.command f.name) (accept A r).fields
+    (each (λ f. refl) (accept A r).fields) (each (λ f e. refl) (accept A r).fields))
 
 -- ---- rows of one order
 
@@ -227,7 +211,7 @@ rows_made A r = record {
 }
 
 made_changed : (A : Ledger) (r : Request) → Good A → Good (accept A r) → IsAccepted A r → changed_rows A r (rows_of (accept A r)) ≡ rows_made A r
-made_changed A r g k ok = cc ((fields_changed A r.key r.command ok.1), (moves_changed A r.key r.command g), (orders_changed A r.key r.command g k ok.1), (lines_changed A r.key r.command g k ok.1), (kept_changed A r ok (λ key. (bytes_decides key key).1 refl)))
+made_changed A r g k ok = cc ((fields_changed A r), (moves_changed A r.key r.command g), (orders_changed A r.key r.command g k ok.1), (lines_changed A r.key r.command g k ok.1), (kept_changed A r ok (λ key. (bytes_decides key key).1 refl)))
 
 -- they are those that change
 pub changes_to : (A : Ledger) (r : Request) (rows : Content) → Good A → IsKey r.key → IsInRange r.command → IsAccepted A r → rows ≡ rows_made A r → ChangesTo A r rows

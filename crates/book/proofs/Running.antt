@@ -1,5 +1,5 @@
 -- Running numbers: what the entries of fields say of a ledger, and what becomes of them.
-use Rattle.book.proofs.Prelude.{[], ◌+ℤ◌, ◌+◌, ◌-ℤ◌, ◌<ℤ◌, ◌∙◌, ◌∷◌, ◌≡◌, ◌≤ℤ◌, ◌≤◌, Add, Bool, BreaksBound, Command, Contains, Content, Each, Equal, Field, FieldCells, FieldEntry, FirstFailure, Global, Good, Greater, IsSafeMoved, IsSome, IsSomeAnd, IsUpToDate, Ledger, Less, List, Name, None, Option, Ordering, Request, Some, Stock, String, Take, Way, accept, ap, arith, checks, common_steps, entry_row, false, field_cells, field_cmp, field_named, field_of, field_row, held_to_add, held_to_take, holding, if_add, if_take, if◌then◌else◌, insert_entry, insert_in_order, ints, is_committed, is_eq, is_lt, is_open, is_some, map, match_ordering, moved, name_cmp, name_of, new_field_rows, next, pos, put_row, put_rows, refl, same_name, settled, signed, string_bytes, subst, suc, sym, total, true≢false, with_entries, ℕ, ℤ}
+use Rattle.book.proofs.Prelude.{[], ◌+ℤ◌, ◌+◌, ◌-ℤ◌, ◌<ℤ◌, ◌∙◌, ◌∷◌, ◌≡◌, ◌≤ℤ◌, ◌≤◌, Add, Bool, BreaksBound, Command, Contains, Content, Each, Equal, Field, FieldCells, FieldEntry, FirstFailure, Global, Good, Greater, IsSafeMoved, IsSome, IsSomeAnd, IsUpToDate, Ledger, Less, List, Name, None, Option, Ordering, Request, Some, Stock, String, Take, Way, accept, ap, arith, checks, common_steps, entry_row, false, field_cells, field_cmp, field_named, field_of, field_row, held_to_add, held_to_take, holding, if_add, if_take, if◌then◌else◌, insert_entry, insert_in_order, ints, is_committed, is_eq, is_lt, is_open, is_some, map, match_ordering, moved, name_cmp, name_of, next, pos, put_row, put_rows, refl, same_name, settled, signed, string_bytes, subst, suc, sym, total, true≢false, with_entries, ℕ, ℤ}
 use Rattle.escrow.specs.Choices.{IsInfimum as IsLeastOf, IsSafe as IsSafeStock, IsSupremum as IsGreatestOf}
 use Rattle.words.specs.declared.command.Command.TheVariants as command
 use Rattle.book.specs.Plans.{Fits, PlanView}
@@ -148,16 +148,10 @@ pub off : (b : Bool) (z : ℤ) → b ≡ false → (if b then z else pos 0) ≡ 
 off b z e = cc
 
 -- its value is its start, and nothing is held on it
-pub new_field : (A : Ledger) (r : Request) (b a : List ℕ) (lo hi start : ℕ) → r.command ≡ command.Field b a lo hi start → Good A → FirstFailure (checks A r.command) None
-    → entry_row (name_of b a, record { start = start; quantity = record { lo = lo; hi = hi; value = start; held_to_take = 0; held_to_add = 0 } }) ∷ [] ≡ new_field_rows (accept A r) r.command
-new_field A r b a lo hi start is good passed = rw is (ap (λ (row : FieldCells). row ∷ []) row)
+pub new_field : (A B : Ledger) (n : Name) (lo hi start : ℕ) → Good A → field_named A n ≡ None → B.moves ≡ A.moves → B.orders ≡ A.orders
+    → entry_row (n, record { start = start; quantity = record { lo = lo; hi = hi; value = start; held_to_take = 0; held_to_add = 0 } }) ≡ field_row B (record { name = n; lo = lo; hi = hi; start = start })
+new_field A B n lo hi start good none same_moves same_orders = grind (arith, adds, moves, used, takes, value, same_moves, same_orders)
   where
-    n : Name
-    n = name_of b a
-
-    none : field_named A n ≡ None
-    none = none_if_not_some _ (all_pass (checks A (command.Field b a lo hi start)) (subst (λ c. FirstFailure (checks A c) None) is passed)).1.1.0
-
     not : IsSome (field_named A n) → ⊥
     not some = true≢false (sym some ∙ ap is_some none)
 
@@ -176,25 +170,7 @@ new_field A r b a lo hi start is good passed = rw is (ap (λ (row : FieldCells).
     value : pos start ≡ (pos start +ℤ total (λ m. if same_name n m.field then m.amount else pos 0) A.moves) +ℤ total (λ o. if is_committed o then moved n (λ l. l.used) o else pos 0) A.orders
     value = let m = moves in let u = used in omega (arith, ints)
 
-    row : entry_row (n, record { start = start; quantity = record { lo = lo; hi = hi; value = start; held_to_take = 0; held_to_add = 0 } })
-        ≡ field_row (accept A (record { key = r.key; command = command.Field b a lo hi start })) (record { name = n; lo = lo; hi = hi; start = start })
-    row = grind (arith, adds, moves, n, takes, used, value)
-
--- ---- fields stay
-
-pub contains_each : {X : Type 0} (xs : List X) → Each (λ x. Contains xs x) xs
-contains_each [] = tt
-contains_each (x ∷ xs) = ((0, omega arith, refl), each-imp (λ y c. (suc c.0, omega arith, c.2)) xs (contains_each xs))
-
-each_inserted : {X : Type 0} (P : X → Type 0) (p : X → X → Bool) (x : X) (xs : List X) → Each P (insert_in_order p x xs) → Each P xs
-each_inserted P p x [] all = tt
-each_inserted P p x (y ∷ ys) all = by (p x y) all (λ k. each_inserted P p x ys k)
-  where
-    by : (b : Bool) → Each P (if b then x ∷ y ∷ ys else y ∷ insert_in_order p x ys) → (Each P (insert_in_order p x ys) → Each P ys) → Each P (y ∷ ys)
-    by b all more = grind arith
-
-pub stay : (P : Field → Type 0) (A : Ledger) (c : Command) → Each P (next A c).fields → Each P A.fields
-stay x y c all = grind (arith, each_inserted)
+-- ---- what a good ledger's field keeps to
 
 pub bounds_at : (A : Ledger) (f : Field) → Good A → Contains A.fields f
     → (pos f.lo ≤ℤ (settled A f -ℤ held_to_take A f.name)) × ((settled A f -ℤ held_to_take A f.name) ≤ℤ settled A f) × (settled A f ≤ℤ (settled A f +ℤ held_to_add A f.name)) × ((settled A f +ℤ held_to_add A f.name) ≤ℤ pos f.hi) × (f.hi ≤ 1000000000)

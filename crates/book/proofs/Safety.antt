@@ -7,6 +7,7 @@ use Rattle.book.proofs.Closing.{fit_from_good, fit-accept, all_pass, name_is, so
 use Rattle.book.proofs.Asked.{each-insert}
 use Rattle.book.proofs.Growing.{Room, room-delivery, room-write_off, room-order, line_passes}
 use Rattle.book.proofs.Raising.{room-more}
+use Rattle.book.proofs.Rebounding.{room-bounds}
 
 pub not_true : (b : Bool) → (b ≡ true → ⊥) → b ≡ false
 not_true b h = grind arith
@@ -51,6 +52,8 @@ room-accept A key (command.Field b a lo hi start) g h = let p = all_pass (checks
         high k = elim (dec_le start hi) [ yes h ↦ h | no h ↦ absurd (k (λ p. h p.1)) ]
 room-accept A key (command.Deliver b a q) g h = grind (arith, (sounds_from_good A g), (fit_from_good A g), (all_pass (checks A (command.Deliver b a q)) h), room-delivery)
 room-accept A key (command.Writeoff b a q) g h = grind (arith, (sounds_from_good A g), (fit_from_good A g), (all_pass (checks A (command.Writeoff b a q)) h), room-write_off)
+room-accept A key (command.Rebound b a lo hi) g h = let p = all_pass (checks A (command.Rebound b a lo hi)) h in
+    room-bounds A (record { branch = b; article = a }) lo hi (sounds_from_good A g) g.fields_in_order (fit_from_good A g).room p.1.1.1.0 p.1.1.1.1.0
 room-accept A key (command.Open n until lines) g h = grind (arith, (sounds_from_good A g), (fit_from_good A g), (all_pass (checks A (command.Open n until lines)) h), room-order)
 room-accept A key (command.Transfer n until a from to q) g h = let p = all_pass (checks A (command.Transfer n until a from to q)) h in
     (room-order A n Transfer until (transfer_lines a from to q) (sounds_from_good A g) g.fields_in_order (fit_from_good A g).room p.1.1.1.1).0

@@ -220,6 +220,8 @@ tested A (command.Deliver b a q) = let f : Name = record { branch = b; article =
     (if_full A 1, (if_is (is_some (field_named A f)) false, (if_bound Add (next A (command.Deliver b a q)) f 0, tt)))
 tested A (command.Writeoff b a q) = let f : Name = record { branch = b; article = a } in
     (if_full A 1, (if_is (is_some (field_named A f)) false, (if_bound Take (next A (command.Writeoff b a q)) f 0, tt)))
+tested A (command.Rebound b a lo hi) = let f : Name = record { branch = b; article = a } in let B : Ledger = next A (command.Rebound b a lo hi) in
+    (if_full A 1, (if_is (is_some (field_named A f)) false, (if_less hi lo, (if_bound Take B f 0, (if_bound Add B f 0, tt)))))
 tested A (command.Open n until lines) = order_tested A n until (new_order n Plain until) lines
 tested A (command.Transfer n until a from to q) = order_tested A n until (new_order n Transfer until) (transfer_lines a from to q)
 tested A (command.More n w b a q) = more_tested A n w (record { branch = b; article = a }) q

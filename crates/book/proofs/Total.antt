@@ -58,6 +58,8 @@ found : (A : Ledger) (c : Command) → Good A → InTurn (checks A c)
 found A (command.Field b a lo hi start) g = ((dec_less _ _), λ _. ((dec_upto _ _), λ _. ((grind arith), λ _. ((grind arith), λ _. tt))))
 found A (command.Deliver b a q) g = ((dec_less _ _), λ _. ((grind arith), λ _. ((dec_bound Add (next A (command.Deliver b a q)) (record { branch = b; article = a }) 0 (sounds_from_good A g)), λ _. tt)))
 found A (command.Writeoff b a q) g = ((dec_less _ _), λ _. ((grind arith), λ _. ((dec_bound Take (next A (command.Writeoff b a q)) (record { branch = b; article = a }) 0 (sounds_from_good A g)), λ _. tt)))
+found A (command.Rebound b a lo hi) g = let B : Ledger = next A (command.Rebound b a lo hi) in let f : Name = record { branch = b; article = a } in let s = sounds_from_good A g in
+    ((dec_less _ _), λ _. ((grind arith), λ _. ((dec_less _ _), λ _. ((dec_bound Take B f 0 s), λ _. ((dec_bound Add B f 0 s), λ _. tt)))))
 found A (command.Open n until lines) g = ((dec_less _ _), λ _. ((dec_upto _ _), λ _. ((grind arith), λ _. ((dec_upto _ _), λ _. found_lines A n Plain until [] lines (sounds_from_good A g) (λ _. tt)))))
 found A (command.Transfer n until a from to q) g = ((dec_less _ _), λ _. ((dec_upto _ _), λ _. ((grind arith), λ _. ((dec_upto _ _), λ _. found_lines A n Transfer until [] (transfer_lines a from to q) (sounds_from_good A g) (λ _. tt)))))
 found A (command.More n way b a q) g = let f : Name = record { branch = b; article = a } in let l : OpenLine = record { way = way; branch = b; article = a; qty = q } in (

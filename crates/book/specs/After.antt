@@ -5,7 +5,7 @@ use Rattle.escrow.specs.declared.quantity.Way.{Way}
 use Rattle.escrow.specs.declared.quantity.Way.TheVariants.{Add, Take}
 use Rattle.words.specs.declared.command.Command.{Command}
 use Rattle.words.specs.declared.command.Request.{Request}
-use Rattle.words.specs.declared.command.Command.TheVariants.{Abort, Commit, Deliver, Expire, Field, More, Open, Release, Transfer, Use, Writeoff}
+use Rattle.words.specs.declared.command.Command.TheVariants.{Abort, Commit, Deliver, Expire, Field, More, Open, Rebound, Release, Transfer, Use, Writeoff}
 use Rattle.words.specs.declared.limits.TheConstants.{MAX_ORDER_LINES}
 use Rattle.book.specs.declared.order.Line.{Line}
 use Rattle.book.specs.Changes.{changes_field, has_line_on}
@@ -31,6 +31,7 @@ order_after A (Abort n) = option_map (set_state state.Aborted) (order_numbered A
 order_after A (Field b a lo hi start) = None
 order_after A (Deliver b a q) = None
 order_after A (Writeoff b a q) = None
+order_after A (Rebound b a lo hi) = None
 order_after A (Expire now) = None
 
 -- the command changes the order, or opens one under its number
@@ -46,6 +47,7 @@ is_touched (Expire now) o = expires now o
 is_touched (Field b a lo hi start) o = false
 is_touched (Deliver b a q) o = false
 is_touched (Writeoff b a q) o = false
+is_touched (Rebound b a lo hi) o = false
 
 -- what the command itself moves on the field
 abbrev pub moved_by_command : Name → Command → ℤ
@@ -196,15 +198,6 @@ abbrev pub move_rows : Option Move → List MoveCells
 move_rows None = []
 move_rows (Some m) = move_row m ∷ []
 
--- the row of the field that the command adds to the ledger
-abbrev pub new_field_rows : Ledger → Command → List FieldCells
-new_field_rows B (Field b a lo hi start) = field_row B (record { name = name_of b a; lo = lo; hi = hi; start = start }) ∷ []
-new_field_rows B c = []
-
--- the rows of those of the fields that the request changes
-abbrev pub changed_fields : Ledger → Request → List FieldOf → List FieldCells
-changed_fields A r fs = flat_map (λ f. if changes_field A r.command f.name then field_row (accept A r) f ∷ [] else []) fs
-
 -- the rows of the orders whose states the command makes
 abbrev pub changed_orders : Ledger → Command → List OrderCells
 changed_orders A (Expire now) = expired_rows now A.orders
@@ -212,4 +205,4 @@ changed_orders A c = own_order_rows c (order_after A c)
 
 -- the rows of all fields that the request makes or changes
 abbrev pub field_rows : Ledger → Request → List FieldCells
-field_rows A r = changed_fields A r A.fields ++ new_field_rows (accept A r) r.command
+field_rows A r = flat_map (λ f. if changes_field A r.command f.name then field_row (accept A r) f ∷ [] else []) (accept A r).fields

@@ -6,7 +6,7 @@ use Rattle.escrow.specs.declared.quantity.Way.{Way}
 use Rattle.escrow.specs.declared.quantity.Way.TheVariants as way
 use Rattle.words.specs.declared.open_line.OpenLine.{OpenLine}
 use Rattle.words.specs.declared.command.Command.{Command}
-use Rattle.words.specs.declared.command.Command.TheVariants.{Field, Deliver, Writeoff, Open, Transfer, More, Use, Release, Commit, Abort, Expire}
+use Rattle.words.specs.declared.command.Command.TheVariants.{Field, Deliver, Writeoff, Rebound, Open, Transfer, More, Use, Release, Commit, Abort, Expire}
 use Rattle.words.specs.declared.command.Request.{Request}
 use Rattle.words.specs.declared.reply.Refusal.{Refusal}
 use Rattle.words.specs.declared.reply.Refusal.TheVariants as refusal
@@ -90,6 +90,11 @@ abbrev pub order_checks : Ledger → ℕ → ℕ → List Check
 order_checks A n until = full A 2 ∷ check (MAX_ORDERS ≤ length A.orders) refusal.Full
     ∷ check (IsSome (order_numbered A n)) refusal.OrderThere ∷ check (until ≤ A.clock) refusal.Past ∷ []
 
+-- the checks of other bounds of a field that is there: tested with them, the ledger is within them
+abbrev pub bounds_checks : Ledger → Name → ℕ → ℕ → List Check
+bounds_checks A f lo hi = let B = next A (Rebound f.branch f.article lo hi) in
+    check (hi < lo) refusal.BadBounds ∷ bound way.Take B f 0 ∷ bound way.Add B f 0 ∷ []
+
 -- the checks of a use and of a release, both of a part of what the order's line holds
 abbrev pub part_checks : Ledger → ℕ → Name → ℕ → List Check
 part_checks A n f q = full A 1 ∷ no_order A n ∷ ended A n ∷ not_held A n f ∷ over_use A n f q ∷ []
@@ -107,6 +112,7 @@ checks A (Deliver b a q) = let f = name_of b a in
     full A 1 ∷ no_field A f 0 ∷ bound way.Add (next A (Deliver b a q)) f 0 ∷ []
 checks A (Writeoff b a q) = let f = name_of b a in
     full A 1 ∷ no_field A f 0 ∷ bound way.Take (next A (Writeoff b a q)) f 0 ∷ []
+checks A (Rebound b a lo hi) = let f = name_of b a in full A 1 ∷ no_field A f 0 ∷ bounds_checks A f lo hi
 checks A (Open n until lines) = order_checks A n until ++ line_checks A (new_order n kind.Plain until) [] lines
 checks A (Transfer n until a from to q) = order_checks A n until
     ++ line_checks A (new_order n kind.Transfer until) [] (transfer_lines a from to q)

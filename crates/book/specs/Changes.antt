@@ -6,7 +6,7 @@ use Rattle.std.specs.Ordering.{int_eq, is_eq, is_lt}
 use Rattle.std.specs.Str.{bytes_eq}
 use Rattle.std.specs.List.{list_any, filter, fold}
 use Rattle.words.specs.declared.command.Command.{Command}
-use Rattle.words.specs.declared.command.Command.TheVariants.{Field, Deliver, Writeoff, Open, Transfer, More, Use, Release, Commit, Abort, Expire}
+use Rattle.words.specs.declared.command.Command.TheVariants.{Field, Deliver, Writeoff, Rebound, Open, Transfer, More, Use, Release, Commit, Abort, Expire}
 use Rattle.words.specs.declared.command.Request.{Request}
 use Rattle.book.specs.Ledger.{Name, Order, Ledger, same_name, on, is_transfer, places, name_of}
 use Rattle.book.specs.Next.{expires}
@@ -25,6 +25,7 @@ abbrev pub changes_field : Ledger → Command → Name → Bool
 changes_field A (Field b a lo hi start) f = same_name f (name_of b a)
 changes_field A (Deliver b a q) f = same_name f (name_of b a)
 changes_field A (Writeoff b a q) f = same_name f (name_of b a)
+changes_field A (Rebound b a lo hi) f = same_name f (name_of b a)
 changes_field A (Open n until lines) f = list_any (λ l. same_name f (name_of l.branch l.article)) lines
 changes_field A (Transfer n until a from to q) f = same_name f (name_of from a) || same_name f (name_of to a)
 changes_field A (More n way b a q) f = same_name f (name_of b a)
@@ -39,6 +40,7 @@ abbrev pub changes_move : Ledger → Command → ℤ → Bool
 changes_move A (Deliver b a q) place = int_eq place (pos (places A + 1))
 changes_move A (Writeoff b a q) place = int_eq place (pos (places A + 1))
 changes_move A (Field b a lo hi start) place = false
+changes_move A (Rebound b a lo hi) place = false
 changes_move A (Open n until lines) place = false
 changes_move A (Transfer n until a from to q) place = false
 changes_move A (More n way b a q) place = false
@@ -58,6 +60,7 @@ changes_order A (Expire now) number = list_any (λ o. expires now o && int_eq nu
 changes_order A (Field b a lo hi start) number = false
 changes_order A (Deliver b a q) number = false
 changes_order A (Writeoff b a q) number = false
+changes_order A (Rebound b a lo hi) number = false
 changes_order A (More n way b a q) number = false
 changes_order A (Use n b a q) number = false
 changes_order A (Release n b a q) number = false
@@ -72,6 +75,7 @@ changes_line A (Release n b a q) number f = int_eq number (pos n) && (order_is A
 changes_line A (Field b a lo hi start) number f = false
 changes_line A (Deliver b a q) number f = false
 changes_line A (Writeoff b a q) number f = false
+changes_line A (Rebound b a lo hi) number f = false
 changes_line A (Commit n) number f = false
 changes_line A (Abort n) number f = false
 changes_line A (Expire now) number f = false

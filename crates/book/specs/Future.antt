@@ -3,7 +3,7 @@
 use Rattle.std.specs.Prelude.{ℕ, ◌+◌, List, IsTrue, IsNone}
 use Rattle.std.specs.List.{AllByRecursion as Each}
 use Rattle.words.specs.declared.command.Command.{Command}
-use Rattle.words.specs.declared.command.Command.TheVariants.{Field, Deliver, Writeoff, Open, Transfer, More, Use, Release, Commit, Abort, Expire}
+use Rattle.words.specs.declared.command.Command.TheVariants.{Field, Deliver, Writeoff, Rebound, Open, Transfer, More, Use, Release, Commit, Abort, Expire}
 use Rattle.words.specs.declared.command.Request.{Request}
 use Rattle.words.specs.declared.reply.Reply.{Reply}
 use Rattle.words.specs.declared.reply.Reply.TheVariants.{Done}
@@ -16,6 +16,7 @@ abbrev pub AsksNoStock : Command → Type 0
 AsksNoStock (Field b a lo hi start) = ⊥
 AsksNoStock (Deliver b a q) = ⊥
 AsksNoStock (Writeoff b a q) = ⊥
+AsksNoStock (Rebound b a lo hi) = ⊥
 AsksNoStock (Open n until lines) = ⊥
 AsksNoStock (Transfer n until a from to q) = ⊥
 AsksNoStock (More n way b a q) = ⊥

@@ -22,6 +22,7 @@ range-prop : (c : Command) → IsProp (IsInRange c)
 range-prop (command.Field b a lo hi start) = hlevel props
 range-prop (command.Deliver b a q) = hlevel props
 range-prop (command.Writeoff b a q) = hlevel props
+range-prop (command.Rebound b a lo hi) = hlevel props
 range-prop (command.Open n until lines) = hlevel (props, lines-prop)
 range-prop (command.Transfer n until a from to q) = hlevel props
 range-prop (command.More n way b a q) = hlevel props

@@ -6,17 +6,21 @@ use Rattle.escrow.specs.declared.quantity.Way.TheVariants as way
 use Rattle.words.specs.declared.open_line.OpenLine.{OpenLine}
 use Rattle.words.specs.declared.command.Command.{Command}
 use Rattle.words.specs.declared.command.Request.{Request}
-use Rattle.words.specs.declared.command.Command.TheVariants.{Field, Deliver, Writeoff, Open, Transfer, More, Use, Release, Commit, Abort, Expire}
+use Rattle.words.specs.declared.command.Command.TheVariants.{Field, Deliver, Writeoff, Rebound, Open, Transfer, More, Use, Release, Commit, Abort, Expire}
 use Rattle.book.specs.declared.order.Kind.{Kind}
 use Rattle.book.specs.declared.order.Kind.TheVariants as kind
 use Rattle.book.specs.declared.order.State.{State}
 use Rattle.book.specs.declared.order.State.TheVariants as state
 use Rattle.book.specs.declared.order.Line.{Line}
-use Rattle.book.specs.Ledger.{Name, Order, Ledger, places, name_cmp, on, is_open, is_transfer, line_on, insert_in_order, name_of}
+use Rattle.book.specs.Ledger.{Name, Field as FieldOf, Order, Ledger, places, name_cmp, on, is_open, is_transfer, line_on, insert_in_order, name_of, same_name}
 
 -- one move more, at the next place
 abbrev pub with_move : Name → ℤ → Ledger → Ledger
 with_move f amount A = record A { moves = A.moves ++ record { place = places A + 1; field = f; amount = amount } ∷ [] }
+
+-- the field with other bounds; its start stays, and may then lie outside them
+abbrev pub with_bounds : ℕ → ℕ → FieldOf → FieldOf
+with_bounds lo hi f = record f { lo = lo; hi = hi }
 
 -- one order more
 abbrev pub with_order : Order → Ledger → Ledger
@@ -76,6 +80,7 @@ next A (Field b a lo hi start) = record A {
 }
 next A (Deliver b a q) = with_move (name_of b a) (pos q) A
 next A (Writeoff b a q) = with_move (name_of b a) (neg_ℤ (pos q)) A
+next A (Rebound b a lo hi) = record A { fields = map (λ f. if same_name (name_of b a) f.name then with_bounds lo hi f else f) A.fields }
 next A (Open n until lines) = with_order (new_order n kind.Plain until lines) A
 next A (Transfer n until a from to q) = with_order (new_order n kind.Transfer until (transfer_lines a from to q)) A
 next A (More n way b a q) = change_order n (add_hold (record { way = way; branch = b; article = a; qty = q })) A

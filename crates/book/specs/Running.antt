@@ -107,7 +107,7 @@ pub record IsOneOf (t : Name → Bool) (row : Field → FieldCells) (fs : List F
 
 -- the entry is that of a field that the request changes, as the next ledger has it
 abbrev pub IsChangedField : Ledger → Request → Name × FieldEntry → Type 0
-IsChangedField A r e = IsOneOf (changes_field A r.command) (field_row (accept A r)) A.fields e
+IsChangedField A r e = IsOneOf (changes_field A r.command) (field_row (accept A r)) (accept A r).fields e
 
 -- there is an entry of that name
 abbrev pub HasEntry : List (Name × FieldEntry) → Name → Type 0
@@ -123,6 +123,7 @@ pub record Puts (A : Ledger) (r : Request) (n : Name) (old new : List (Name × F
 pub record MovesField (A : Ledger) (r : Request) (n : Name) (w : Way) (q : ℕ) : Type 0 where
   pub accepts : Accepts A r
   pub there : IsSome (field_named A n)
+  pub fields : (accept A r).fields ≡ A.fields
   pub changes : changes_field A r.command n ≡ true
   pub value : (f : Field) → f.name ≡ n → settled (accept A r) f ≡ moved w q (settled A f)
   pub takes : held_to_take (accept A r) n ≡ held_to_take A n

@@ -23,6 +23,12 @@ four (x ∷ y ∷ []) a b c d h p q r s = absurd (cc)
 four (x ∷ y ∷ z ∷ []) a b c d h p q r s = absurd (cc)
 four (x ∷ y ∷ z ∷ w ∷ v ∷ more) a b c d h p q r s = absurd (omega arith)
 
+-- five fields
+pub five : (row : List (List ℕ)) (a b c d e : List ℕ) → length row ≡ 5 → Some a ≡ field_at row 0 → Some b ≡ field_at row 1 → Some c ≡ field_at row 2 → Some d ≡ field_at row 3 → Some e ≡ field_at row 4 → row ≡ a ∷ b ∷ c ∷ d ∷ e ∷ []
+unfolding field_at
+five [] a b c d e h p q r s t = absurd (cc)
+five (x ∷ rest) a b c d e h p q r s t = let tail : rest ≡ b ∷ c ∷ d ∷ e ∷ [] = four rest b c d e (omega arith) q r s t in cc
+
 -- the first field, and those behind it
 front : (row : List (List ℕ)) (a : List ℕ) → Some a ≡ field_at row 0 → (rest : List (List ℕ)) × (row ≡ a ∷ rest)
 unfolding field_at

@@ -1,13 +1,14 @@
--- What delivery files and order files say is one list, and their records in front of others say something.
+-- What files say is one list, and their records in front of others say something.
 use Rattle.std.proofs.Common.{◌≡◌, ◌≢◌, ◌⊎◌, ◌∙◌, ◌+◌, ◌<◌, ◌≤◌, ◌^◌, ℕ, zero, suc, List, [], ◌∷◌, ◌++◌, All, length, map, ap, append_assoc, arith, decimal, inl, inr, length-append, refl, subst, sym}
 use Rattle.std.specs.List.{AllZip, AllByRecursion as Each}
 use Rattle.std.proofs.lemmas.Fmt.{decimal_injective}
 use Rattle.std.proofs.lemmas.List.Elements.{All-from_recursion, recursion_from_All}
 use Rattle.words.specs.OpenLines.{AreOpenLines, IsOpenLine}
 use Rattle.words.specs.declared.command.Command.{Command}
-use Rattle.words.specs.declared.command.Command.TheVariants.{Deliver, Open}
+use Rattle.words.specs.declared.command.Command.TheVariants.{Deliver, Open, Rebound}
 use Rattle.words.specs.declared.command.Request.{Request}
 use Rattle.words.specs.declared.open_line.OpenLine.{OpenLine}
+use Rattle.files.specs.Bounds.{IsRebound, SayBounds}
 use Rattle.files.specs.Deliveries.{IsDelivery, SayDeliveries}
 use Rattle.files.specs.Files.{Record}
 use Rattle.files.specs.Orders.{IsOrder, IsOtherKey, SayOrders, order_row}
@@ -39,21 +40,45 @@ delivery_one row x y h k =
     let command : ◌≡◌ {A = Command} (Deliver h.branch h.article h.qty) (Deliver k.branch k.article k.qty) = cc in
     request_same x y key (h.command ∙ command ∙ sym k.command)
 
-deliveries_one : (rows : List Record) (xs ys : List Request) → SayDeliveries rows xs → SayDeliveries rows ys → xs ≡ ys
-deliveries_one [] [] [] h k = refl
-deliveries_one [] [] (y ∷ ys) h k = absurd k
-deliveries_one [] (x ∷ xs) ys h k = absurd h
-deliveries_one (r ∷ rs) [] ys h k = absurd h
-deliveries_one (r ∷ rs) (x ∷ xs) [] h k = absurd k
-deliveries_one (r ∷ rs) (x ∷ xs) (y ∷ ys) h k = ap (λ z. z ∷ xs) (delivery_one r x y h.0 k.0) ∙ ap (λ l. y ∷ l) (deliveries_one rs xs ys h.1 k.1)
+-- ---- files of which each record is a request
 
-deliveries_front : (rows behind : List Record) (xs : List Request) → SayDeliveries (rows ++ behind) xs → (ys : List Request) × SayDeliveries rows ys
-deliveries_front [] behind xs h = ([], tt)
-deliveries_front (r ∷ rs) behind [] h = absurd h
-deliveries_front (r ∷ rs) behind (x ∷ xs) h = let (ys, said) = deliveries_front rs behind xs h.1 in (x ∷ ys, (h.0, said))
+module _ (Says : Record → Request → Type 0) (one : (row : Record) (x y : Request) → Says row x → Says row y → x ≡ y) where
+  all_one : (rows : List Record) (xs ys : List Request) → AllZip Says rows xs → AllZip Says rows ys → xs ≡ ys
+  all_one [] [] [] h k = refl
+  all_one [] [] (y ∷ ys) h k = absurd k
+  all_one [] (x ∷ xs) ys h k = absurd h
+  all_one (r ∷ rs) [] ys h k = absurd h
+  all_one (r ∷ rs) (x ∷ xs) [] h k = absurd k
+  all_one (r ∷ rs) (x ∷ xs) (y ∷ ys) h k = ap (λ z. z ∷ xs) (one r x y h.0 k.0) ∙ ap (λ l. y ∷ l) (all_one rs xs ys h.1 k.1)
+
+  all_front : (rows behind : List Record) (xs : List Request) → AllZip Says (rows ++ behind) xs → (ys : List Request) × AllZip Says rows ys
+  all_front [] behind xs h = ([], tt)
+  all_front (r ∷ rs) behind [] h = absurd h
+  all_front (r ∷ rs) behind (x ∷ xs) h = let (ys, said) = all_front rs behind xs h.1 in (x ∷ ys, (h.0, said))
+
+  singles_say_one : SaysOne (AllZip Says)
+  singles_say_one = record { one = all_one; front = all_front }
 
 pub deliveries_say_one : SaysOne SayDeliveries
-deliveries_say_one = record { one = deliveries_one; front = deliveries_front }
+deliveries_say_one = singles_say_one IsDelivery delivery_one
+
+-- ---- other bounds
+
+rebound_one : (row : Record) (x y : Request) → IsRebound row x → IsRebound row y → x ≡ y
+rebound_one row x y h k =
+    let e : x.key ∷ h.branch ∷ h.article ∷ decimal h.lo ∷ decimal h.hi ∷ [] ≡ y.key ∷ k.branch ∷ k.article ∷ decimal k.lo ∷ decimal k.hi ∷ [] = sym h.fields ∙ k.fields in
+    let key : x.key ≡ y.key = cc in
+    let branch : h.branch ≡ k.branch = cc in
+    let article : h.article ≡ k.article = cc in
+    let low : decimal h.lo ≡ decimal k.lo = cc in
+    let high : decimal h.hi ≡ decimal k.hi = cc in
+    let lo = decimal_injective h.lo k.lo (let a = h.lo_range in omega arith) (let a = k.lo_range in omega arith) low in
+    let hi = decimal_injective h.hi k.hi (let a = h.hi_range in omega arith) (let a = k.hi_range in omega arith) high in
+    let command : ◌≡◌ {A = Command} (Rebound h.branch h.article h.lo h.hi) (Rebound k.branch k.article k.lo k.hi) = cc in
+    request_same x y key (h.command ∙ command ∙ sym k.command)
+
+pub bounds_say_one : SaysOne SayBounds
+bounds_say_one = singles_say_one IsRebound rebound_one
 
 -- ---- orders
 

@@ -7,14 +7,14 @@ ghost use Rattle.files.specs.Files.{IsFile, NamesFirst};
 ghost use Rattle.words.specs.declared.command.Request.{Request};
 
 use crate::fault::FileFault;
-use crate::intake::{Intake, read_file};
 use crate::record::four_fields;
+use crate::single::{Single, read_singles};
 use crate::word::read_qty;
 use csv::ByteRecord;
 use escrow::{Article, Branch, Key};
 use std::alloc::Global;
 use std::io::Read;
-use words::{Command, Memory, Request};
+use words::{Command, Request};
 
 /// The delivery that a record says.
 fn delivery_of(row: &ByteRecord) -> Option<Request>
@@ -34,20 +34,16 @@ fn delivery_of(row: &ByteRecord) -> Option<Request>
     Some(Request { key, command })
 }
 
-/// The deliveries of a file so far.
+/// The kind of a delivery file.
 #[derive(Drop)]
-struct Deliveries {
-    requests: Vec<Request>,
-}
+struct Deliveries;
 
-impl Intake for Deliveries {
-    ghost use Rattle.files.specs.Deliveries.{SayDeliveries, delivery_header};
+impl Single for Deliveries {
+    ghost use Rattle.files.specs.Deliveries.{IsDelivery, delivery_header};
 
     ghost header = { delivery_header };
 
-    ghost says = { SayDeliveries };
-
-    ghost took = { λ s rows. SayDeliveries rows s.requests.items };
+    ghost says = { IsDelivery };
 
     fn is_header(row: &ByteRecord) -> bool {
         match four_fields(row) {
@@ -61,14 +57,8 @@ impl Intake for Deliveries {
         }
     }
 
-    fn take(&mut self, row: &ByteRecord) -> Result<bool, Memory> {
-        let Some(request) = delivery_of(row) else {
-            return Ok(false);
-        };
-        match self.requests.push(request) {
-            Ok(()) => Ok(true),
-            Err(_) => Err(Memory),
-        }
+    fn request_of(row: &ByteRecord) -> Option<Request> {
+        delivery_of(row)
     }
 }
 
@@ -79,11 +69,5 @@ pub fn read_deliveries<R: Read + Drop>(alloc: Global, reader: R) -> Result<Vec<R
     ensures ok { IfOk result (λ requests. IfSome (R.remaining reader) (λ bytes. IsFile delivery_header SayDeliveries bytes requests.items)) }
     ensures bad { IfErr result (λ fault. IfSome (R.remaining reader) (λ bytes. NamesFirst delivery_header SayDeliveries bytes fault)) }
 {
-    let none = Deliveries {
-        requests: Vec::new(alloc),
-    };
-    match read_file(alloc, reader, none) {
-        Ok(taken) => Ok(taken.requests),
-        Err(fault) => Err(fault),
-    }
+    read_singles(alloc, reader, Deliveries)
 }

@@ -20,6 +20,22 @@ pub fn four_fields(row: &ByteRecord) -> Option<(&[u8], &[u8], &[u8], &[u8])>
     Some((first, second, third, fourth))
 }
 
+/// The fields of a record that has five, or `None` exactly where it has not.
+pub fn five_fields(row: &ByteRecord) -> Option<(&[u8], &[u8], &[u8], &[u8], &[u8])>
+    ensures some { IfSome result (λ f. fields_of row.now ≡ f.0.now ∷ f.1.now ∷ f.2.now ∷ f.3.now ∷ f.4.now ∷ []) }
+    ensures none { IfNone result (length (fields_of row.now) ≢ 5) }
+{
+    if row.len() != 5 {
+        return None;
+    }
+    let first = row.get(0)?;
+    let second = row.get(1)?;
+    let third = row.get(2)?;
+    let fourth = row.get(3)?;
+    let fifth = row.get(4)?;
+    Some((first, second, third, fourth, fifth))
+}
+
 /// The fields of a record that has seven.
 #[derive(Clone, Copy)]
 pub struct Seven<'a> {

@@ -1,9 +1,9 @@
 //! The numbers that stand in a field by itself, in the spelling of commands.
 
 ghost use Rattle.std.specs.Prelude.{◌≡◌, ◌≢◌, ℕ, IfNone, IfSome, decimal};
-ghost use Rattle.escrow.specs.Ranges.{IsMoment, IsOrderNo, IsQty};
+ghost use Rattle.escrow.specs.Ranges.{IsLevel, IsMoment, IsOrderNo, IsQty};
 
-use escrow::{Moment, OrderNo, Qty};
+use escrow::{Level, Moment, OrderNo, Qty};
 use words::read_number;
 
 /// The quantity that the bytes write.
@@ -14,6 +14,16 @@ pub fn read_qty(bytes: &[u8]) -> Option<Qty>
 {
     let number = read_number(bytes)?;
     Qty::new(number)
+}
+
+/// The level that the bytes write.
+pub fn read_level(bytes: &[u8]) -> Option<Level>
+    ensures form { IfSome result IsLevel }
+    ensures found { IfSome result (λ n. bytes.now ≡ decimal n) }
+    ensures none { IfNone result ((n : ℕ) → IsLevel n → bytes.now ≢ decimal n) }
+{
+    let number = read_number(bytes)?;
+    Level::new(number)
 }
 
 /// The moment that the bytes write.

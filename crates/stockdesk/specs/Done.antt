@@ -14,7 +14,7 @@ use Rattle.stockdesk.specs.Sheets.{SheetBegun, SheetWritten}
 use Rattle.stockdesk.specs.Tasks.{Asks, stockdesk}
 use Rattle.stockdesk.specs.declared.sheet.Shown.{Shown}
 use Rattle.stockdesk.specs.declared.tasks.Task.{Task}
-use Rattle.stockdesk.specs.declared.tasks.Task.TheVariants.{Deliveries, Init, Orders, Run, Serve, Sheet}
+use Rattle.stockdesk.specs.declared.tasks.Task.TheVariants.{Bounds, Deliveries, Init, Orders, Run, Serve, Sheet}
 
 -- ---- replies to requests
 
@@ -55,6 +55,7 @@ Does (Run None) reader_old reader_new writer_old writer_new = RunsWhole reader_o
 Does (Run (Some path)) reader_old reader_new writer_old writer_new = PlaysWhole reader_old reader_new writer_old writer_new
 Does (Orders path csv) reader_old reader_new writer_old writer_new = Keeps reader_old reader_new × PrintsReplies writer_old writer_new
 Does (Deliveries path csv) reader_old reader_new writer_old writer_new = Keeps reader_old reader_new × PrintsReplies writer_old writer_new
+Does (Bounds path csv) reader_old reader_new writer_old writer_new = Keeps reader_old reader_new × PrintsReplies writer_old writer_new
 Does (Sheet path shown) reader_old reader_new writer_old writer_new = Keeps reader_old reader_new × PrintsSheet shown writer_old writer_new
 Does (Serve path service) reader_old reader_new writer_old writer_new = Keeps reader_old reader_new × PortTold writer_old writer_new
 
@@ -65,6 +66,7 @@ DoesInPart (Run None) reader_old reader_new writer_old writer_new = BeginsText n
 DoesInPart (Run (Some path)) reader_old reader_new writer_old writer_new = PlaysInPart reader_old reader_new writer_old writer_new
 DoesInPart (Orders path csv) reader_old reader_new writer_old writer_new = Keeps reader_old reader_new × PrintsRepliesInPart writer_old writer_new
 DoesInPart (Deliveries path csv) reader_old reader_new writer_old writer_new = Keeps reader_old reader_new × PrintsRepliesInPart writer_old writer_new
+DoesInPart (Bounds path csv) reader_old reader_new writer_old writer_new = Keeps reader_old reader_new × PrintsRepliesInPart writer_old writer_new
 DoesInPart (Sheet path shown) reader_old reader_new writer_old writer_new = Keeps reader_old reader_new × PrintsSheetInPart shown writer_old writer_new
 DoesInPart (Serve path service) reader_old reader_new writer_old writer_new = Keeps reader_old reader_new × PortBegun writer_old writer_new
 

@@ -8,6 +8,7 @@ use Rattle.words.specs.declared.item.Item.{Item}
 use Rattle.words.specs.declared.item.Item.TheVariants as item
 use Rattle.desk.specs.Script.{AnswersAll, AnswersCut}
 use Rattle.desk.specs.declared.fault.ScriptFault.{ScriptFault}
+use Rattle.files.specs.Bounds.{SayBounds, bounds_header}
 use Rattle.files.specs.Deliveries.{SayDeliveries, delivery_header}
 use Rattle.files.specs.Files.{IsFile, NamesFirst}
 use Rattle.files.specs.Orders.{SayOrders, order_header}
@@ -15,7 +16,7 @@ use Rattle.files.specs.declared.fault.FileFault.{FileFault}
 use Rattle.keep.specs.declared.keep.Keep.{Ghosts}
 use Rattle.stockdesk.specs.Sessions.{IsBadFile, IsToldAs, SessionInPart, SessionWhole}
 use Rattle.stockdesk.specs.declared.requests.Kind.{Kind}
-use Rattle.stockdesk.specs.declared.requests.Kind.TheVariants.{Deliveries, Orders}
+use Rattle.stockdesk.specs.declared.requests.Kind.TheVariants.{Bounds, Deliveries, Orders}
 use Rattle.stockdesk.specs.declared.session.Fault.{Fault}
 
 -- ---- the file
@@ -24,11 +25,13 @@ use Rattle.stockdesk.specs.declared.session.Fault.{Fault}
 abbrev pub IsFileOf : Kind → List ℕ → List Request → Type 0
 IsFileOf Orders bytes requests = IsFile order_header SayOrders bytes requests
 IsFileOf Deliveries bytes requests = IsFile delivery_header SayDeliveries bytes requests
+IsFileOf Bounds bytes requests = IsFile bounds_header SayBounds bytes requests
 
 -- a fault that names a record names the first one at fault in a file of that kind
 abbrev pub NamesFirstOf : Kind → List ℕ → FileFault → Type 0
 NamesFirstOf Orders bytes fault = NamesFirst order_header SayOrders bytes fault
 NamesFirstOf Deliveries bytes fault = NamesFirst delivery_header SayDeliveries bytes fault
+NamesFirstOf Bounds bytes fault = NamesFirst bounds_header SayBounds bytes fault
 
 -- a fault of the file is told as the program's
 pub record IsFileFault (cause : FileFault) (fault : Fault) : Type 0 where

@@ -5,7 +5,7 @@ use Rattle.clap.specs.declared.builder.action.ArgAction.TheVariants.{Set}
 use Rattle.stockdesk.specs.declared.loopback.Service.{Service}
 use Rattle.stockdesk.specs.declared.sheet.Shown.TheVariants.{OfArticle, OfBranch}
 use Rattle.stockdesk.specs.declared.tasks.Task.{Task}
-use Rattle.stockdesk.specs.declared.tasks.Task.TheVariants.{Deliveries, Init, Orders, Run, Serve, Sheet}
+use Rattle.stockdesk.specs.declared.tasks.Task.TheVariants.{Bounds, Deliveries, Init, Orders, Run, Serve, Sheet}
 
 -- a word of that name
 abbrev pub word : Text → Rule
@@ -39,6 +39,10 @@ orders = on_file (codes "orders") (codes "CSV")
 abbrev pub deliveries : App
 deliveries = on_file (codes "deliveries") (codes "CSV")
 
+-- `bounds FILE CSV`
+abbrev pub bounds : App
+bounds = on_file (codes "bounds") (codes "CSV")
+
 -- `sheet FILE BRANCH`
 abbrev pub sheet : App
 sheet = on_file (codes "sheet") (codes "BRANCH")
@@ -59,9 +63,9 @@ with_both app first second = with_subcommand (with_subcommand app first.top) sec
 abbrev pub scripts : App
 scripts = let named = new_app (codes "stockdesk") in with_both (record named { top = record named.top { subcommand_required = true } }) init run
 
--- one of the seven
+-- one of the eight
 abbrev pub stockdesk : App
-stockdesk = with_subcommand (with_both (with_both scripts orders deliveries) sheet article) serve.top
+stockdesk = with_subcommand (with_both (with_subcommand (with_both scripts orders deliveries) bounds.top) sheet article) serve.top
 
 -- the words are the numbers of that service, which are in their ranges
 pub record IsService (port connections : Text) (service : Service) : Type 0 where
@@ -77,6 +81,7 @@ AsksFor name rows (Init path) = (name ≡ codes "init") × (first_of (codes "FIL
 AsksFor name rows (Run path) = (name ≡ codes "run") × (first_of (codes "FILE") rows ≡ option_map (λ p. p.now) path)
 AsksFor name rows (Orders path csv) = (name ≡ codes "orders") × (first_of (codes "FILE") rows ≡ Some path.now) × (first_of (codes "CSV") rows ≡ Some csv.now)
 AsksFor name rows (Deliveries path csv) = (name ≡ codes "deliveries") × (first_of (codes "FILE") rows ≡ Some path.now) × (first_of (codes "CSV") rows ≡ Some csv.now)
+AsksFor name rows (Bounds path csv) = (name ≡ codes "bounds") × (first_of (codes "FILE") rows ≡ Some path.now) × (first_of (codes "CSV") rows ≡ Some csv.now)
 AsksFor name rows (Sheet path (OfBranch branch)) = (name ≡ codes "sheet") × (first_of (codes "FILE") rows ≡ Some path.now) × (first_of (codes "BRANCH") rows ≡ Some branch)
 AsksFor name rows (Sheet path (OfArticle article)) = (name ≡ codes "article") × (first_of (codes "FILE") rows ≡ Some path.now) × (first_of (codes "ARTICLE") rows ≡ Some article)
 AsksFor name rows (Serve path service) = (name ≡ codes "serve") × (first_of (codes "FILE") rows ≡ Some path.now)

@@ -107,6 +107,7 @@ pub fn perform<R: Read, W: Write>(
         Task::Run(None) => memory::run(rt.alloc(), reader, writer),
         Task::Orders(path, csv) => answer_file(rt, *path, Kind::Orders, *csv, writer),
         Task::Deliveries(path, csv) => answer_file(rt, *path, Kind::Deliveries, *csv, writer),
+        Task::Bounds(path, csv) => answer_file(rt, *path, Kind::Bounds, *csv, writer),
         Task::Sheet(path, shown) => show_file(rt, *path, shown, writer),
         Task::Serve(path, service) => serve_file(rt, *path, service, writer),
     }

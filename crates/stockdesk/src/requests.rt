@@ -9,7 +9,7 @@ ghost use Rattle.files.specs.declared.fault.FileFault.{FileFault};
 
 use crate::session::{Fault, open_desk, script_fault};
 use desk::{Desk, answer_all};
-use files::{FileFault, read_deliveries, read_orders};
+use files::{FileFault, read_bounds, read_deliveries, read_orders};
 use keep::Keep;
 use std::alloc::Global;
 use std::fs::File;
@@ -21,6 +21,7 @@ use words::{Item, Request};
 pub enum Kind {
     Orders,
     Deliveries,
+    Bounds,
 }
 
 /// The requests of a file.
@@ -31,6 +32,7 @@ fn read<R: Read + Drop>(alloc: Global, kind: Kind, reader: R) -> Result<Vec<Requ
     match kind {
         Kind::Orders => read_orders(alloc, reader),
         Kind::Deliveries => read_deliveries(alloc, reader),
+        Kind::Bounds => read_bounds(alloc, reader),
     }
 }
 

@@ -3,7 +3,7 @@
 ghost use Rattle.std.specs.Prelude.{◌≡◌, ◌≤◌, Some, None, codes, [], false, true, decimal, map, IfErr, IfOk, IfSome};
 ghost use Rattle.clap.specs.Words.{app_of, found_of, kind_of, rows_of, rule_of, subcommand_of, subcommand_rows_of, takes, with_subcommand};
 ghost use Rattle.clap.specs.declared.builder.command.Command.TheViews.{out-Command as fields_of};
-ghost use Rattle.stockdesk.specs.Tasks.{Asks, AsksFor, IsPlainRun, IsService, article, deliveries, init, on_file, option, orders, run, scripts, serve, sheet, stockdesk, with_both};
+ghost use Rattle.stockdesk.specs.Tasks.{Asks, AsksFor, IsPlainRun, IsService, article, bounds, deliveries, init, on_file, option, orders, run, scripts, serve, sheet, stockdesk, with_both};
 
 use crate::loopback::Service;
 use crate::sheet::Shown;
@@ -27,6 +27,8 @@ pub enum Task<'a> {
     Orders(&'a str, &'a str),
     /// On the desk in the first file, the deliveries in the second.
     Deliveries(&'a str, &'a str),
+    /// On the desk in the first file, the other bounds in the second.
+    Bounds(&'a str, &'a str),
     /// A sheet of the desk in this file.
     Sheet(&'a str, Shown),
     /// The desk in this file, served.
@@ -109,6 +111,16 @@ fn with_files<'a>(alloc: Global, command: Command<'a>) -> Result<Command<'a>, Al
     command.subcommand(orders)?.subcommand(deliveries)
 }
 
+/// Adds the command that reads a file of bounds.
+fn with_bounds<'a>(alloc: Global, command: Command<'a>) -> Result<Command<'a>, AllocError>
+    ensures { IfOk result (λ more. app_of more ≡ with_subcommand (app_of command.entry) bounds.top) }
+{
+    let about = "Gives fields the bounds of a file, each answered by a line on standard output";
+    let help = "A CSV file: key,branch,article,lo,hi";
+    let bounds = file_command(alloc, "bounds", about, "CSV", help)?;
+    command.subcommand(bounds)
+}
+
 /// Adds the commands that write sheets.
 fn with_sheets<'a>(alloc: Global, command: Command<'a>) -> Result<Command<'a>, AllocError>
     ensures { IfOk result (λ both. app_of both ≡ with_both (app_of command.entry) sheet article) }
@@ -169,6 +181,7 @@ fn command<'a>(alloc: Global) -> Result<Command<'a>, AllocError>
 {
     let command = with_scripts(alloc)?;
     let command = with_files(alloc, command)?;
+    let command = with_bounds(alloc, command)?;
     let command = with_sheets(alloc, command)?;
     with_service(alloc, command)
 }
@@ -229,6 +242,7 @@ fn task_named<'a>(name: &str, found: &ArgMatches<'a>) -> Option<Task<'a>>
         "run" => Some(Task::Run(found.get_str("FILE"))),
         "orders" => Some(Task::Orders(found.get_str("FILE")?, found.get_str("CSV")?)),
         "deliveries" => Some(Task::Deliveries(found.get_str("FILE")?, found.get_str("CSV")?)),
+        "bounds" => Some(Task::Bounds(found.get_str("FILE")?, found.get_str("CSV")?)),
         "sheet" => Some(Task::Sheet(
             found.get_str("FILE")?,
             branch_named(found.get_str("BRANCH")?)?,

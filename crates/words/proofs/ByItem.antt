@@ -7,7 +7,7 @@ use Rattle.words.specs.OpenLines.{line_words, way_word}
 use Rattle.words.specs.Spelling.{IsOpening, Spells, command_words}
 use Rattle.words.specs.Words.{spaced, words_of}
 use Rattle.words.specs.declared.command.Command.{Command}
-use Rattle.words.specs.declared.command.Command.TheVariants.{Abort, Commit, Deliver, Expire, Field, More, Open, Release, Transfer, Use, Writeoff}
+use Rattle.words.specs.declared.command.Command.TheVariants.{Abort, Commit, Deliver, Expire, Field, More, Open, Rebound, Release, Transfer, Use, Writeoff}
 use Rattle.words.specs.declared.command.Request.{Request as RequestOf}
 use Rattle.words.specs.declared.item.Item.{Item}
 use Rattle.words.specs.declared.item.Item.TheVariants.{AskField, AskOrder, Bad, Request}
@@ -20,6 +20,7 @@ command_first : (c : Command) → (verb : List ℕ) × (words : List (List ℕ))
 command_first (Field b a lo hi start) = (codes "field", b ∷ a ∷ decimal lo ∷ decimal hi ∷ decimal start ∷ [], refl)
 command_first (Deliver b a qty) = (codes "deliver", b ∷ a ∷ decimal qty ∷ [], refl)
 command_first (Writeoff b a qty) = (codes "writeoff", b ∷ a ∷ decimal qty ∷ [], refl)
+command_first (Rebound b a lo hi) = (codes "rebound", b ∷ a ∷ decimal lo ∷ decimal hi ∷ [], refl)
 command_first (Open n until lines) = (codes "open", decimal n ∷ decimal until ∷ line_words lines, refl)
 command_first (Transfer n until a from to qty) = (codes "transfer", decimal n ∷ decimal until ∷ a ∷ from ∷ to ∷ decimal qty ∷ [], refl)
 command_first (More n way b a qty) = (codes "more", decimal n ∷ way_word way ∷ b ∷ a ∷ decimal qty ∷ [], refl)

@@ -3,11 +3,11 @@ use Rattle.std.proofs.Common.{◌≡◌, ℕ, List, [], ◌∷◌, Result, Ok, E
 use Rattle.std.specs.Str.{bytes_eq}
 use Rattle.std.proofs.lemmas.Slice.Eq.{bytes_eq-Decides}
 use Rattle.std.specs.Result.{IfOk, IsErrOf}
-use Rattle.words.specs.Kinds.{AreNot, NoAbort, NoCommit, NoDeliver, NoExpire, NoField, NoMore, NoOpen, NoRelease, NoTransfer, NoUse, NoWriteoff}
+use Rattle.words.specs.Kinds.{AreNot, NoAbort, NoCommit, NoDeliver, NoExpire, NoField, NoMore, NoOpen, NoRebound, NoRelease, NoTransfer, NoUse, NoWriteoff}
 use Rattle.words.specs.Spelling.{IsInRange, IsOpening, Spells, command_words}
 use Rattle.words.specs.Words.{spaced, words_of}
 use Rattle.words.specs.declared.command.Command.{Command}
-use Rattle.words.specs.declared.command.Command.TheVariants.{Abort, Commit, Deliver, Expire, Field, More, Open, Release, Transfer, Use, Writeoff}
+use Rattle.words.specs.declared.command.Command.TheVariants.{Abort, Commit, Deliver, Expire, Field, More, Open, Rebound, Release, Transfer, Use, Writeoff}
 use Rattle.words.specs.declared.read.WordsFault.{WordsFault}
 use Rattle.words.specs.declared.read.WordsFault.TheVariants.{BadCommand}
 use Rattle.words.proofs.Cuts.{parts_some}
@@ -15,19 +15,20 @@ use Rattle.words.proofs.Spaced.{line_of, words-command}
 
 -- no command of any kind but `open`, and the verb is no `open`
 pub none_plain : (verb : List ℕ) (ws : List (List ℕ)) → (verb ≡ codes "open" → ⊥)
-    → NoField (verb ∷ ws) → NoDeliver (verb ∷ ws) → NoWriteoff (verb ∷ ws) → NoTransfer (verb ∷ ws) → NoMore (verb ∷ ws) → NoUse (verb ∷ ws) → NoRelease (verb ∷ ws)
+    → NoField (verb ∷ ws) → NoDeliver (verb ∷ ws) → NoWriteoff (verb ∷ ws) → NoRebound (verb ∷ ws) → NoTransfer (verb ∷ ws) → NoMore (verb ∷ ws) → NoUse (verb ∷ ws) → NoRelease (verb ∷ ws)
     → NoCommit (verb ∷ ws) → NoAbort (verb ∷ ws) → NoExpire (verb ∷ ws) → (c : Command) → AreNot (verb ∷ ws) c
-none_plain verb ws other field deliver writeoff transfer more uses release commit abort expire (Field b a lo hi start) = field b a lo hi start
-none_plain verb ws other field deliver writeoff transfer more uses release commit abort expire (Deliver b a qty) = deliver b a qty
-none_plain verb ws other field deliver writeoff transfer more uses release commit abort expire (Writeoff b a qty) = writeoff b a qty
-none_plain verb ws other field deliver writeoff transfer more uses release commit abort expire (Open n until lines) = λ h e. other (cc e)
-none_plain verb ws other field deliver writeoff transfer more uses release commit abort expire (Transfer n until a from to qty) = transfer n until a from to qty
-none_plain verb ws other field deliver writeoff transfer more uses release commit abort expire (More n way b a qty) = more n way b a qty
-none_plain verb ws other field deliver writeoff transfer more uses release commit abort expire (Use n b a qty) = uses n b a qty
-none_plain verb ws other field deliver writeoff transfer more uses release commit abort expire (Release n b a qty) = release n b a qty
-none_plain verb ws other field deliver writeoff transfer more uses release commit abort expire (Commit n) = commit n
-none_plain verb ws other field deliver writeoff transfer more uses release commit abort expire (Abort n) = abort n
-none_plain verb ws other field deliver writeoff transfer more uses release commit abort expire (Expire now) = expire now
+none_plain verb ws other field deliver writeoff rebound transfer more uses release commit abort expire (Field b a lo hi start) = field b a lo hi start
+none_plain verb ws other field deliver writeoff rebound transfer more uses release commit abort expire (Deliver b a qty) = deliver b a qty
+none_plain verb ws other field deliver writeoff rebound transfer more uses release commit abort expire (Writeoff b a qty) = writeoff b a qty
+none_plain verb ws other field deliver writeoff rebound transfer more uses release commit abort expire (Rebound b a lo hi) = rebound b a lo hi
+none_plain verb ws other field deliver writeoff rebound transfer more uses release commit abort expire (Open n until lines) = λ h e. other (cc e)
+none_plain verb ws other field deliver writeoff rebound transfer more uses release commit abort expire (Transfer n until a from to qty) = transfer n until a from to qty
+none_plain verb ws other field deliver writeoff rebound transfer more uses release commit abort expire (More n way b a qty) = more n way b a qty
+none_plain verb ws other field deliver writeoff rebound transfer more uses release commit abort expire (Use n b a qty) = uses n b a qty
+none_plain verb ws other field deliver writeoff rebound transfer more uses release commit abort expire (Release n b a qty) = release n b a qty
+none_plain verb ws other field deliver writeoff rebound transfer more uses release commit abort expire (Commit n) = commit n
+none_plain verb ws other field deliver writeoff rebound transfer more uses release commit abort expire (Abort n) = abort n
+none_plain verb ws other field deliver writeoff rebound transfer more uses release commit abort expire (Expire now) = expire now
 
 -- two words that differ
 differ : (v w : List ℕ) (vs ws : List (List ℕ)) → bytes_eq v w ≡ false → v ∷ vs ≡ w ∷ ws → ⊥
@@ -38,6 +39,7 @@ none_open : (ws : List (List ℕ)) → NoOpen (codes "open" ∷ ws) → (c : Com
 none_open ws no_open (Field b a lo hi start) h e = differ (codes "open") (codes "field") _ _ refl e
 none_open ws no_open (Deliver b a qty) h e = differ (codes "open") (codes "deliver") _ _ refl e
 none_open ws no_open (Writeoff b a qty) h e = differ (codes "open") (codes "writeoff") _ _ refl e
+none_open ws no_open (Rebound b a lo hi) h e = differ (codes "open") (codes "rebound") _ _ refl e
 none_open ws no_open (Open n until lines) h e = no_open n until lines h e
 none_open ws no_open (Transfer n until a from to qty) h e = differ (codes "open") (codes "transfer") _ _ refl e
 none_open ws no_open (More n way b a qty) h e = differ (codes "open") (codes "more") _ _ refl e

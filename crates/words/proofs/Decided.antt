@@ -9,7 +9,7 @@ use Rattle.escrow.specs.declared.limits.TheConstants.{MAX_ARTICLE_LEN, MAX_BRANC
 use Rattle.words.specs.OpenLines.{AreOpenLines, IsOpenLine, most_lines}
 use Rattle.words.specs.Spelling.{IsInRange}
 use Rattle.words.specs.declared.command.Command.{Command}
-use Rattle.words.specs.declared.command.Command.TheVariants.{Abort, Commit, Deliver, Expire, Field, More, Open, Release, Transfer, Use, Writeoff}
+use Rattle.words.specs.declared.command.Command.TheVariants.{Abort, Commit, Deliver, Expire, Field, More, Open, Rebound, Release, Transfer, Use, Writeoff}
 use Rattle.words.specs.declared.open_line.OpenLine.{OpenLine}
 
 abbrev pub Decided : Type 0 → Type 0
@@ -125,6 +125,9 @@ decided_in_range (Field b a lo hi start) =
     (decided_both (decided_both (decided_branch b) (decided_article a)) (decided_both (decided_level lo) (decided_both (decided_level hi) (decided_level start))))
 decided_in_range (Deliver b a qty) = decided_by {Q = IsInRange (Deliver b a qty)} (λ h. (h.0.0, h.0.1, h.1)) (λ h. ((h.0, h.1), h.2)) (decided_move b a qty)
 decided_in_range (Writeoff b a qty) = decided_by {Q = IsInRange (Writeoff b a qty)} (λ h. (h.0.0, h.0.1, h.1)) (λ h. ((h.0, h.1), h.2)) (decided_move b a qty)
+decided_in_range (Rebound b a lo hi) =
+    decided_by {Q = IsInRange (Rebound b a lo hi)} (λ h. (h.0.0, h.0.1, h.1.0, h.1.1)) (λ h. ((h.0, h.1), (h.2, h.3)))
+    (decided_both (decided_both (decided_branch b) (decided_article a)) (decided_both (decided_level lo) (decided_level hi)))
 decided_in_range (Open n until lines) =
     decided_by {Q = IsInRange (Open n until lines)} (λ h. (h.0.0, h.0.1, h.1)) (λ h. ((h.0, h.1), h.2))
     (decided_both (decided_both (decided_order_no n) (decided_moment until)) (decided_open_lines lines))

@@ -11,7 +11,7 @@ use Rattle.words.specs.OpenLines.{IsOpenLine, line_words, way_word}
 use Rattle.words.specs.Spelling.{IsInRange, command_words}
 use Rattle.words.specs.Words.{after_space, spaced}
 use Rattle.words.specs.declared.command.Command.{Command}
-use Rattle.words.specs.declared.command.Command.TheVariants.{Abort, Commit, Deliver, Expire, Field, More, Open, Release, Transfer, Use, Writeoff}
+use Rattle.words.specs.declared.command.Command.TheVariants.{Abort, Commit, Deliver, Expire, Field, More, Open, Rebound, Release, Transfer, Use, Writeoff}
 use Rattle.words.specs.declared.command.Request.{Request}
 use Rattle.words.specs.declared.open_line.OpenLine.{OpenLine}
 use Rattle.words.proofs.Written.{spaced-after}
@@ -59,6 +59,7 @@ command_le : (c : Command) → IsInRange c → 36 + spaces_and (command_words c)
 command_le (Field b a lo hi start) h = omega (arith, h.0.fits, h.1.fits, level_le lo h.2, level_le hi h.3, level_le start h.4)
 command_le (Deliver b a qty) h = omega (arith, h.0.fits, h.1.fits, qty_le qty h.2)
 command_le (Writeoff b a qty) h = omega (arith, h.0.fits, h.1.fits, qty_le qty h.2)
+command_le (Rebound b a lo hi) h = omega (arith, h.0.fits, h.1.fits, level_le lo h.2, level_le hi h.3)
 command_le (Open n until lines) h =
     omega (arith, number_of_order_le n h.0, moment_le until h.1, h.2.fits, lines_le lines (recursion_from_All IsOpenLine lines h.2.each))
 command_le (Transfer n until a from to qty) h =

@@ -13,7 +13,7 @@ use Rattle.words.specs.OpenLines.{IsOpenLine, line_words, way_word}
 use Rattle.words.specs.Spelling.{IsInRange, command_words, spelling}
 use Rattle.words.specs.Words.{words_of}
 use Rattle.words.specs.declared.command.Command.{Command}
-use Rattle.words.specs.declared.command.Command.TheVariants.{Abort, Commit, Deliver, Expire, Field, More, Open, Release, Transfer, Use, Writeoff}
+use Rattle.words.specs.declared.command.Command.TheVariants.{Abort, Commit, Deliver, Expire, Field, More, Open, Rebound, Release, Transfer, Use, Writeoff}
 use Rattle.words.specs.declared.command.Request.{Request as RequestOf}
 use Rattle.words.specs.declared.item.Item.{Item}
 use Rattle.words.specs.declared.item.Item.TheVariants.{AskField, AskOrder, Bad, Request}
@@ -62,6 +62,7 @@ command_of [] = Expire 0
 command_of (w ∷ ws) = if bytes_eq w (codes "field") then of_5 (λ b a lo hi start. Field b a (value lo) (value hi) (value start)) ws
     else (if bytes_eq w (codes "deliver") then of_3 (λ b a q. Deliver b a (value q)) ws
     else (if bytes_eq w (codes "writeoff") then of_3 (λ b a q. Writeoff b a (value q)) ws
+    else (if bytes_eq w (codes "rebound") then of_4 (λ b a lo hi. Rebound b a (value lo) (value hi)) ws
     else (if bytes_eq w (codes "open") then open_of ws
     else (if bytes_eq w (codes "transfer") then of_6 (λ n u a from to q. Transfer (value n) (value u) a from to (value q)) ws
     else (if bytes_eq w (codes "more") then of_5 (λ n way b a q. More (value n) (way_of way) b a (value q)) ws
@@ -69,7 +70,7 @@ command_of (w ∷ ws) = if bytes_eq w (codes "field") then of_5 (λ b a lo hi st
     else (if bytes_eq w (codes "release") then of_4 (λ n b a q. Release (value n) b a (value q)) ws
     else (if bytes_eq w (codes "commit") then of_1 (λ n. Commit (value n)) ws
     else (if bytes_eq w (codes "abort") then of_1 (λ n. Abort (value n)) ws
-    else of_1 (λ n. Expire (value n)) ws)))))))))
+    else of_1 (λ n. Expire (value n)) ws))))))))))
 
 -- ---- it is the one
 
@@ -97,6 +98,8 @@ command_of-command_words (Field b a lo hi start) h =
     let x = value-decimal lo (let q = h.2 in omega arith) in let y = value-decimal hi (let q = h.3 in omega arith) in let z = value-decimal start (let q = h.4 in omega arith) in λ i. Field b a (x i) (y i) (z i)
 command_of-command_words (Deliver b a q) h = let x = value-decimal q (let y = h.2.1 in omega arith) in λ i. Deliver b a (x i)
 command_of-command_words (Writeoff b a q) h = let x = value-decimal q (let y = h.2.1 in omega arith) in λ i. Writeoff b a (x i)
+command_of-command_words (Rebound b a lo hi) h =
+    let x = value-decimal lo (let q = h.2 in omega arith) in let y = value-decimal hi (let q = h.3 in omega arith) in λ i. Rebound b a (x i) (y i)
 command_of-command_words (Open n until lines) h =
     let x = value-decimal n (let y = h.0.1 in omega arith) in let u = value-decimal until (let y = h.1 in omega arith) in
     let r = lines_of-line_words lines (recursion_from_All IsOpenLine lines h.2.each) in λ i. Open (x i) (u i) (r i)

@@ -16,7 +16,7 @@ use Rattle.words.specs.OpenLines.{IsOpenLine, line_words, way_word}
 use Rattle.words.specs.Spelling.{IsInRange, command_words}
 use Rattle.words.specs.Words.{spaced, words_of}
 use Rattle.words.specs.declared.command.Command.{Command}
-use Rattle.words.specs.declared.command.Command.TheVariants.{Abort, Commit, Deliver, Expire, Field, More, Open, Release, Transfer, Use, Writeoff}
+use Rattle.words.specs.declared.command.Command.TheVariants.{Abort, Commit, Deliver, Expire, Field, More, Open, Rebound, Release, Transfer, Use, Writeoff}
 use Rattle.words.specs.declared.open_line.OpenLine.{OpenLine}
 
 -- no byte is a space
@@ -96,6 +96,7 @@ command_is_words (Field b a lo hi start) h =
     (text_word (codes "field") refl, (branch_word b h.0, (article_word a h.1, (level_word lo h.2, (level_word hi h.3, (level_word start h.4, tt))))))
 command_is_words (Deliver b a qty) h = (text_word (codes "deliver") refl, (branch_word b h.0, (article_word a h.1, (qty_word qty h.2, tt))))
 command_is_words (Writeoff b a qty) h = (text_word (codes "writeoff") refl, (branch_word b h.0, (article_word a h.1, (qty_word qty h.2, tt))))
+command_is_words (Rebound b a lo hi) h = (text_word (codes "rebound") refl, (branch_word b h.0, (article_word a h.1, (level_word lo h.2, (level_word hi h.3, tt)))))
 command_is_words (Open n until lines) h =
     (text_word (codes "open") refl, (number_of_order_word n h.0, (number_word until h.1, lines_are_words lines (recursion_from_All IsOpenLine lines h.2.each))))
 command_is_words (Transfer n until a from to qty) h =
@@ -119,6 +120,7 @@ command_some : (c : Command) → command_words c ≡ [] → ⊥
 command_some (Field b a lo hi start) e = cc e
 command_some (Deliver b a qty) e = cc e
 command_some (Writeoff b a qty) e = cc e
+command_some (Rebound b a lo hi) e = cc e
 command_some (Open n until lines) e = cc e
 command_some (Transfer n until a from to qty) e = cc e
 command_some (More n way b a qty) e = cc e

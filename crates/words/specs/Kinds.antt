@@ -3,16 +3,17 @@ use Rattle.std.specs.Prelude.{◌≡◌, ℕ, Bool, true, false, List}
 use Rattle.escrow.specs.declared.quantity.Way.{Way}
 use Rattle.words.specs.Spelling.{IsInRange, command_words}
 use Rattle.words.specs.declared.command.Command.{Command}
-use Rattle.words.specs.declared.command.Command.TheVariants.{Abort, Commit, Deliver, Expire, Field, More, Open, Release, Transfer, Use, Writeoff}
+use Rattle.words.specs.declared.command.Command.TheVariants.{Abort, Commit, Deliver, Expire, Field, More, Open, Rebound, Release, Transfer, Use, Writeoff}
 use Rattle.words.specs.declared.open_line.OpenLine.{OpenLine}
 
 -- ---- groups of kinds
 
--- a command about stock: a field, a delivery or a write-off
+-- a command about stock: a field, a delivery, a write-off or other bounds
 abbrev pub is_stock : Command → Bool
 is_stock (Field b a lo hi start) = true
 is_stock (Deliver b a qty) = true
 is_stock (Writeoff b a qty) = true
+is_stock (Rebound b a lo hi) = true
 is_stock c = false
 
 -- a command that opens an order
@@ -42,6 +43,9 @@ NoDeliver words = (b a : List ℕ) (qty : ℕ) → AreNot words (Deliver b a qty
 
 abbrev pub NoWriteoff : List (List ℕ) → Type 0
 NoWriteoff words = (b a : List ℕ) (qty : ℕ) → AreNot words (Writeoff b a qty)
+
+abbrev pub NoRebound : List (List ℕ) → Type 0
+NoRebound words = (b a : List ℕ) (lo hi : ℕ) → AreNot words (Rebound b a lo hi)
 
 abbrev pub NoOpen : List (List ℕ) → Type 0
 NoOpen words = (n until : ℕ) (lines : List OpenLine) → AreNot words (Open n until lines)

@@ -31,6 +31,13 @@ pub enum Command {
         article: Article,
         qty: Qty,
     },
+    /// Gives a field other bounds.
+    Rebound {
+        branch: Branch,
+        article: Article,
+        lo: Level,
+        hi: Level,
+    },
     /// Opens an order, which holds the amounts of its lines until it ends.
     Open {
         number: OrderNo,
@@ -106,7 +113,10 @@ impl Command {
         ensures { IsInRange self.now }
     {
         match self {
-            Command::Field { .. } | Command::Deliver { .. } | Command::Writeoff { .. } => {
+            Command::Field { .. }
+            | Command::Deliver { .. }
+            | Command::Writeoff { .. }
+            | Command::Rebound { .. } => {
                 self.stock_in_range();
             }
             Command::Open { .. } | Command::Transfer { .. } => {
@@ -155,6 +165,17 @@ impl Command {
                 branch.as_bytes();
                 article.as_bytes();
                 qty.get();
+            }
+            Command::Rebound {
+                branch,
+                article,
+                lo,
+                hi,
+            } => {
+                branch.as_bytes();
+                article.as_bytes();
+                lo.get();
+                hi.get();
             }
             _ => {}
         }

@@ -3,7 +3,7 @@
 ghost use Rattle.std.specs.Prelude.{◌≡◌, ◌≢◌, ◌<◌, ◌↔◌, ◌++◌, ◌∷◌, [], List, ℕ, IfErr, IfNone, IfOk, IfSome, IsErrOf, codes, decimal, length};
 ghost use Rattle.escrow.specs.Codes.{IsArticle, IsBranch};
 ghost use Rattle.escrow.specs.Ranges.{IsLevel, IsMoment, IsOrderNo, IsQty};
-ghost use Rattle.words.specs.Kinds.{AreNot, NoAbort, NoCommit, NoDeliver, NoExpire, NoField, NoMore, NoOpen, NoRelease, NoTransfer, NoUse, NoWriteoff};
+ghost use Rattle.words.specs.Kinds.{AreNot, NoAbort, NoCommit, NoDeliver, NoExpire, NoField, NoMore, NoOpen, NoRebound, NoRelease, NoTransfer, NoUse, NoWriteoff};
 ghost use Rattle.words.specs.OpenLines.{IsOpenLine, AreOpenLines, line_words, way_word};
 ghost use Rattle.words.specs.Spelling.{IsInRange, IsOpening, Spells, command_words};
 ghost use Rattle.words.specs.Words.{words_of};
@@ -69,6 +69,30 @@ fn read_field(bytes: &[u8]) -> Option<Command>
         lo,
         hi,
         start,
+    })
+}
+
+/// A field with other bounds.
+fn read_rebound(bytes: &[u8]) -> Option<Command>
+    ensures form { IfSome result IsInRange }
+    ensures found { IfSome result (λ c. codes "rebound" ∷ words_of bytes.now ≡ command_words c) }
+    ensures none { IfNone result (NoRebound (codes "rebound" ∷ words_of bytes.now)) }
+{
+    let Some((branch, rest)) = word_then::<Branch>(bytes) else {
+        return None;
+    };
+    let Some((article, rest)) = word_then::<Article>(rest) else {
+        return None;
+    };
+    let Some((lo, rest)) = word_then::<Level>(rest) else {
+        return None;
+    };
+    let hi = last_word::<Level>(rest)?;
+    Some(Command::Rebound {
+        branch,
+        article,
+        lo,
+        hi,
     })
 }
 
@@ -263,13 +287,14 @@ fn read_open(alloc: Global, bytes: &[u8]) -> Result<Command, WordsFault>
     }
 }
 
-/// A command about stock: a field, a delivery or a write-off.
+/// A command about stock: a field, a delivery, a write-off or other bounds.
 fn read_stock(verb: &[u8], rest: &[u8]) -> Option<Command>
     ensures form { IfSome result IsInRange }
     ensures found { IfSome result (λ c. verb.now ∷ words_of rest.now ≡ command_words c) }
     ensures field { IfNone result (NoField (verb.now ∷ words_of rest.now)) }
     ensures deliver { IfNone result (NoDeliver (verb.now ∷ words_of rest.now)) }
     ensures writeoff { IfNone result (NoWriteoff (verb.now ∷ words_of rest.now)) }
+    ensures rebound { IfNone result (NoRebound (verb.now ∷ words_of rest.now)) }
 {
     if verb == b"field".as_slice() {
         return read_field(rest);
@@ -289,6 +314,9 @@ fn read_stock(verb: &[u8], rest: &[u8]) -> Option<Command>
             article,
             qty,
         });
+    }
+    if verb == b"rebound".as_slice() {
+        return read_rebound(rest);
     }
     None
 }

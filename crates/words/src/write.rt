@@ -153,6 +153,18 @@ fn push_stock(out: &mut Vec<u8>, command: &Command) -> Result<(), AllocError>
             article,
             qty,
         } => push_stock_move(out, b"writeoff", *branch, *article, *qty),
+        Command::Rebound {
+            branch,
+            article,
+            lo,
+            hi,
+        } => {
+            out.extend_from_slice(b"rebound")?;
+            push_word(out, branch.as_bytes())?;
+            push_word(out, article.as_bytes())?;
+            push_number(out, lo.get())?;
+            push_number(out, hi.get())
+        }
         _ => Ok(()),
     }
 }
@@ -238,9 +250,10 @@ fn push_command(out: &mut Vec<u8>, command: &Command) -> Result<(), AllocError>
     ensures { OnOk result (out.new.items ≡ out.old.items ++ spelling command.now) }
 {
     match command {
-        Command::Field { .. } | Command::Deliver { .. } | Command::Writeoff { .. } => {
-            push_stock(out, command)
-        }
+        Command::Field { .. }
+        | Command::Deliver { .. }
+        | Command::Writeoff { .. }
+        | Command::Rebound { .. } => push_stock(out, command),
         Command::Open { .. } | Command::Transfer { .. } => push_opening(out, command),
         Command::More { .. } | Command::Use { .. } | Command::Release { .. } => {
             push_change(out, command)

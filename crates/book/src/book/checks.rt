@@ -4,8 +4,9 @@ ghost use Rattle.std.specs.Bool.{OnTrue};
 ghost use Rattle.std.specs.Prelude.{◌≡◌, ℕ, None, Some, IfOk, IsSome, IsTrue, MatchResult, [], find, is_some, map, ◌++◌, ◌+◌, ◌≤◌, ◌<◌, ◌↔◌};
 ghost use Rattle.words.specs.Kinds.{is_change, is_opening};
 ghost use Rattle.words.specs.declared.command.Command.TheVariants.{Expire, Field, More};
+ghost use Rattle.words.specs.declared.command.Command.TheVariants as command;
 ghost use Rattle.book.specs.After.{moved_at_once};
-ghost use Rattle.book.specs.Answers.{FirstFailure, checks, open_checks, order_checks, part_checks, line_checks};
+ghost use Rattle.book.specs.Answers.{FirstFailure, bounds_checks, checks, open_checks, order_checks, part_checks, line_checks};
 ghost use Rattle.book.specs.Checking.{hold_checks, bound_checks, refusal_of, stock_checks};
 ghost use Rattle.book.specs.Ledger.{is_open, order_numbered, name_of, Ledger, field_named, on, open_orders, places};
 ghost use Rattle.book.specs.View.{order_of, field_of};
@@ -19,7 +20,7 @@ use super::plan::{moved_at_once, transfer_lines};
 use super::{Book, FieldEntry};
 use crate::limits::{MAX_FIELDS, MAX_ORDERS, MAX_PLACES};
 use crate::order::{Kind, OrderEntry, State, line_in};
-use escrow::{Article, Bound, Branch, FieldName, Level, Moment, OrderNo, Qty, Way};
+use escrow::{Article, Bound, Branch, FieldName, Level, Moment, OrderNo, Qty, Rebound, Way};
 use words::{Command, MAX_ORDER_LINES, OpenLine, Refusal};
 
 impl Book {
@@ -44,6 +45,12 @@ impl Book {
                 start,
             } => self.check_field(*branch, *article, *lo, *hi, *start),
             Command::Deliver { .. } | Command::Writeoff { .. } => self.check_moving(command),
+            Command::Rebound {
+                branch,
+                article,
+                lo,
+                hi,
+            } => self.check_rebound(*branch, *article, *lo, *hi),
             Command::Open { .. } | Command::Transfer { .. } => self.check_opening(command),
             Command::More { .. } => self.check_change(command),
             Command::Use { .. } | Command::Release { .. } => self.check_change(command),
@@ -138,6 +145,24 @@ impl Book {
             return Some((Refusal::BadBounds, 0));
         }
         None
+    }
+
+    fn check_rebound(
+        &self,
+        branch: Branch,
+        article: Article,
+        lo: Level,
+        hi: Level,
+    ) -> Option<(Refusal, u64)>
+        ensures { FirstFailure (checks self.now.ledger (command.Rebound branch article lo hi)) result }
+    {
+        if self.is_full(1) {
+            return Some((Refusal::Full, 0));
+        }
+        match self.field_entry(branch, article) {
+            None => Some((Refusal::NoField, 0)),
+            Some(field) => check_bounds(FieldName { branch, article }, field, lo, hi),
+        }
     }
 
     /// A new order of these lines, whatever its kind.
@@ -365,6 +390,19 @@ fn check_moved(name: FieldName, field: &FieldEntry, way: Way, qty: Qty) -> Optio
     match moved.at_once(way, qty) {
         Ok(()) => None,
         Err(bound) => Some((refusal_of(bound), 0)),
+    }
+}
+
+/// Every outcome of the field lies within these bounds.
+fn check_bounds(name: FieldName, field: &FieldEntry, lo: Level, hi: Level) -> Option<(Refusal, u64)>
+    ensures { (A : Ledger) → Good A → IsUpToDate A (name, field.now) → field_named A name ≡ Some (field_of (name, field.now)) → FirstFailure (bounds_checks A name lo hi) result }
+{
+    let mut bounded = field.quantity;
+    match bounded.rebound(lo, hi) {
+        Ok(()) => None,
+        Err(Rebound::BadBounds) => Some((Refusal::BadBounds, 0)),
+        Err(Rebound::TooLittle) => Some((Refusal::TooLittle, 0)),
+        Err(Rebound::TooMuch) => Some((Refusal::TooMuch, 0)),
     }
 }
 

@@ -11,6 +11,7 @@ ghost use Rattle.book.specs.Ledger.{field_named, line_name, name_cmp, on, order_
 ghost use Rattle.book.specs.Running.{Accepts, GivenBack, GivesBack, HasLines, MayGiveBack, MovesField, Puts, amount_held, entry_row, line_before, Becomes, HoldsInstead, MayBecome};
 ghost use Rattle.book.specs.View.{order_of};
 ghost use Rattle.book.specs.declared.order.Line.{Line};
+ghost use Rattle.words.specs.declared.command.Command.TheVariants.{Rebound};
 ghost use Rattle.words.specs.declared.command.Request.{Request};
 ghost use Rattle.escrow.specs.Choices.{IsSafe};
 ghost use Rattle.escrow.specs.Escrow.{held_of, holding, IsSafeMoved, MovesValue};
@@ -20,7 +21,7 @@ use super::plan::moved_at_once;
 use super::{Book, FieldEntry};
 use crate::in_order::InOrder;
 use crate::order::{Line, Order, State, line_in};
-use escrow::{Article, Branch, FieldName, OrderNo, Qty, Quantity, Way};
+use escrow::{Article, Branch, FieldName, Level, OrderNo, Qty, Quantity, Way};
 use std::alloc::Global;
 use words::{Command, Memory, Request};
 
@@ -166,6 +167,29 @@ impl Book {
         put(fields, name, entry)
     }
 
+    /// Puts in the field that gets other bounds.
+    fn put_bounds(
+        &self,
+        fields: &mut Fields,
+        request: &Request,
+        name: FieldName,
+        lo: Level,
+        hi: Level,
+    ) -> Result<(), Memory>
+        requires accepts { Accepts self.now.ledger request.now }
+        requires command { request.now.command ≡ Rebound name.branch name.article lo hi }
+        ensures { OnOk result (Puts self.now.ledger request.now name fields.old.entries fields.new.entries) }
+    {
+        let Some(entry) = self.field_entry(name.branch, name.article) else {
+            unreachable!()
+        };
+        let mut entry = *entry;
+        let Ok(()) = entry.quantity.rebound(lo, hi) else {
+            unreachable!()
+        };
+        put(fields, name, entry)
+    }
+
     /// The field of the line, as the lines so far leave it that give back what they hold.
     fn field_so_far(&self, fields: &Fields, line: &Line) -> FieldEntry
         requires { IsSome (field_named self.now.ledger (line_name line.now)) }
@@ -262,6 +286,18 @@ impl Book {
                     article: *article,
                 };
                 put(fields, name, FieldEntry { start, quantity })
+            }
+            Command::Rebound {
+                branch,
+                article,
+                lo,
+                hi,
+            } => {
+                let name = FieldName {
+                    branch: *branch,
+                    article: *article,
+                };
+                self.put_bounds(fields, request, name, *lo, *hi)
             }
             Command::Expire { .. } => self.put_expired(fields, expired),
             _ => match made {

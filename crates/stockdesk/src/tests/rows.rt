@@ -203,6 +203,30 @@ Z1 done 1
 ",
 );
 
+/// Other bounds, while an order is open.
+const BOUNDS: (&str, &str) = (
+    "B1 field N1 A-1 0 100 40
+B2 open 7 500 take N1 A-1 35
+B3 rebound N1 A-1 6 39
+B4 rebound N1 A-1 5 39
+B5 rebound N1 A-1 41 40
+B6 rebound N1 Q-9 0 1
+B7 rebound N1 A-1 5 40
+? field N1 A-1
+B8 deliver N1 A-1 1
+",
+    "B1 done 1
+B2 done 2
+B3 refused 13 TooLittle 0
+B4 refused 14 TooMuch 0
+B5 refused 5 BadBounds 0
+B6 refused 4 NoField 0
+B7 done 3
+? field N1 A-1 lo 5 hi 40 value 40 inf 5 sup 40
+B8 refused 14 TooMuch 0
+",
+);
+
 /// Lines that are no request, and the greatest quantity.
 pub const SPELLING: &str =
     "\nK1  commit 7\nK1 deliver N1 A-1 05\nK1 deliver N1 A-1 0\nK1 deliver N1 A-1 1000001\nK1 deliver n1 A-1 5\nK1 deliver N1 -A 5\nK1 commit 7\r\nK1 deliver N1 A-1 1000000\n";
@@ -230,7 +254,7 @@ pub fn rows() -> &'static [(&'static str, &'static str)] {
     &ROWS
 }
 
-const ROWS: [(&str, &str); 9] = [
+const ROWS: [(&str, &str); 10] = [
     ("", ""),
     ("K1 field N1 A-1 0 100 40\n? field N1 A-1\n", FIRST),
     (LONG, LONG_REPLIES),
@@ -238,6 +262,7 @@ const ROWS: [(&str, &str); 9] = [
     RELEASE,
     MOVES,
     TIGHT,
+    BOUNDS,
     UNENDED,
     (SPELLING, SPELLING_REPLIES),
 ];

@@ -27,12 +27,14 @@ const FIELD: &str = "K1 field N1 A-1 0 100 40\n";
 
 const DELIVERY_FILE: &str = "key,branch,article,qty\nD1,N1,A-1,10\nD2,N1,A-1,51\n";
 
+const BOUNDS_FILE: &str = "key,branch,article,lo,hi\nB3,N1,A-1,6,39\nB7,N1,A-1,5,40\n";
+
 const THREE_ORDERS: &str =
     "key,order,until,way,branch,article,qty\nF1,31,500,take,N1,A-1,10\nF2,32,500,take,N1,A-1,10\nF3,33,500,take,N1,A-1,10\n";
 
 const THREE_REPLIES: &str = "F1 done 2\nF2 done 3\nF3 done 4\n";
 
-const STEPS: [Step; 37] = [
+const STEPS: [Step; 44] = [
     // one field, over several runs
     ("files_test/a.db", "run", "K1 expire 1\n", 3, "", NOT_A_DESK),
     ("files_test/a.db", "init", "", 0, "", ""),
@@ -125,6 +127,56 @@ const STEPS: [Step; 37] = [
         0,
         "N1                        0        100        100        100        100\ntotal                       100\n",
         "",
+    ),
+    // a file of bounds that comes twice, the start outside of them; at fault
+    ("files_test/g.db", "init", "", 0, "", ""),
+    (
+        "files_test/g.db",
+        "run",
+        "B1 field N1 A-1 0 100 40\nB2 open 7 500 take N1 A-1 35\n",
+        0,
+        "B1 done 1\nB2 done 2\n",
+        "",
+    ),
+    (
+        "files_test/g.db",
+        "bounds",
+        BOUNDS_FILE,
+        0,
+        "B3 refused 13 TooLittle 0\nB7 done 3\n",
+        "",
+    ),
+    (
+        "files_test/g.db",
+        "bounds",
+        BOUNDS_FILE,
+        0,
+        "B3 refused 13 TooLittle 0\nB7 done 3\n",
+        "",
+    ),
+    (
+        "files_test/g.db",
+        "run",
+        "C1 abort 7\nC2 writeoff N1 A-1 10\nC3 rebound N1 A-1 5 30\n? field N1 A-1\n",
+        0,
+        "C1 done 4\nC2 done 5\nC3 done 6\n? field N1 A-1 lo 5 hi 30 value 30 inf 30 sup 30\n",
+        "",
+    ),
+    (
+        "files_test/g.db",
+        "run",
+        "? field N1 A-1\nC4 deliver N1 A-1 1\n",
+        0,
+        "? field N1 A-1 lo 5 hi 30 value 30 inf 30 sup 30\nC4 refused 14 TooMuch 0\n",
+        "",
+    ),
+    (
+        "files_test/g.db",
+        "bounds",
+        "key,branch,article,lo,hi\nD1,N1,A-1,0,40\nD2,N1,A-1,05,40\n",
+        4,
+        "",
+        "stockdesk: record 2\n",
     ),
     // order files, whole and at fault
     ("files_test/e.db", "init", "", 0, "", ""),

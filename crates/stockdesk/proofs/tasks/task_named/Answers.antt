@@ -27,6 +27,13 @@ returns-in_ok-get_str-in-deliveries-2-clause-asked c = (
   sym (first_value-rows (found_of c.args.found.now) (codes "CSV")) ∙ sym c.get_str-in-deliveries-2.ensures ∙ ap (option_map (λ s. s.now)) c.in_ok-get_str-in-deliveries-2.was,
 )
 
+pub returns-in_ok-get_str-in-bounds-2-clause-asked : goal.returns-in_ok-get_str-in-bounds-2-clause-asked
+returns-in_ok-get_str-in-bounds-2-clause-asked c = (
+  c.in-bounds.is,
+  sym (first_value-rows (found_of c.args.found.now) (codes "FILE")) ∙ sym c.get_str-in-bounds.ensures ∙ ap (option_map (λ s. s.now)) c.in_ok-get_str-in-bounds.was,
+  sym (first_value-rows (found_of c.args.found.now) (codes "CSV")) ∙ sym c.get_str-in-bounds-2.ensures ∙ ap (option_map (λ s. s.now)) c.in_ok-get_str-in-bounds-2.was,
+)
+
 pub returns-in_ok-branch_named-in-sheet-clause-asked : goal.returns-in_ok-branch_named-in-sheet-clause-asked
 returns-in_ok-branch_named-in-sheet-clause-asked c =
     subst (λ (shown : Shown). AsksFor c.args.name.now (rows_of (found_of c.args.found.now)) (Sheet c.in_ok-get_str-in-sheet.field-0 shown)) (sym c.in_ok-branch_named-in-sheet.ensures) (

@@ -1,8 +1,8 @@
-use Rattle.book.proofs.Prelude.{◌∙◌, ◌≡◌, Command, GivesBack, Good, Ledger, Line, List, MayGiveBack, ap, arith, expired_lines, expired_numbers, expires, flat_map, of_numbered, subst, sym, ℕ}
+use Rattle.book.proofs.Prelude.{◌∙◌, ◌≡◌, Command, GivesBack, Good, Ledger, Line, List, MayGiveBack, ap, arith, changes_field, expired_lines, expired_numbers, expires, flat_map, name_of, of_numbered, subst, sym, ℕ}
 use Rattle.words.specs.declared.command.Command.TheVariants as command
 use Rattle.book.proofs.ChangedFields.{on_ok}
 use Rattle.book.proofs.Expiring.{numbered_flat}
-use Rattle.book.proofs.FieldRows.{expired_rows, lines_rows, moving, moving_rows, new_rows}
+use Rattle.book.proofs.FieldRows.{expired_rows, lines_rows, moving, moving_rows, new_rows, one_row}
 use Rattle.book.proofs.GivingBack.{may_all}
 use Rattle.book.proofs.book.Book.put_changed.Goals as goal
 
@@ -39,3 +39,9 @@ returns-in-Expire c = on_ok c.put_expired.result (λ gives rising.
 
 pub returns-in-Some-made : goal.returns-in-Some-made
 returns-in-Some-made c = grind (arith, lines_rows, on_ok)
+
+pub returns-in-Rebound : goal.returns-in-Rebound
+returns-in-Rebound c = on_ok c.put_bounds.result (λ puts rising.
+    let A : Ledger = c.args.self.now.ledger in
+    let r = c.args.request.now in
+    one_row A r (name_of c.in-Rebound.branch c.in-Rebound.article) c.args.fields.now.entries c.put_bounds.new.fields.entries c.requires.accepts.after c.requires.none rising puts (λ f. ap (λ (c : Command). changes_field A c f) c.in-Rebound.is)) c.put_bounds.ensures

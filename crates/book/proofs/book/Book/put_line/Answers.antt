@@ -1,6 +1,8 @@
-use Rattle.book.proofs.Prelude.{◌∙◌, Becomes, Ledger, MayBecome, Name, Order, ap, field_of, insert_entry, is_some, line_name, name_cmp, order_of, subst, sym, true≢false}
-use Rattle.book.proofs.ChangedFields.{found_stays, line_there, number_of_made, on_ok}
+use Rattle.book.proofs.Prelude.{◌∙◌, Becomes, Contains, Ledger, MayBecome, Name, Order, ap, field_of, find, insert_entry, is_some, line_name, name_cmp, order_of, same_name, subst, sym, true≢false}
+use Rattle.book.proofs.ChangedFields.{line_there, number_of_made, on_ok}
+use Rattle.book.proofs.FieldRows.{made_keeps}
 use Rattle.book.proofs.StockChanges.{stock_changed, stock_may}
+use Rattle.book.proofs.Viewed.{Contains-of_find}
 use Rattle.book.proofs.book.Book.put_line.Goals as goal
 
 pub unreachable-requires : goal.unreachable-requires
@@ -21,7 +23,7 @@ change_stock-requires c =
     let a = c.requires.accepts in
     subst (λ h. MayBecome e.quantity h l o.state) (sym c.held_before-held.ensures)
     (stock_may A r c.args.order.now.0 o f e l a.before a.after a.accepted a.range (number_of_made A r.command o a.accepted.1 made) made c.in-Some.ensures.up_to_date
-    (found_stays A r f (field_of (f, e)) c.in-Some.ensures.found) c.requires.line)
+    (subst (λ fs. Contains fs (field_of (f, e))) (sym (made_keeps A r.command o made)) (Contains-of_find (λ g. same_name f g.name) A.fields (field_of (f, e)) c.in-Some.ensures.found)) c.requires.line)
 
 pub returns-clause-changed : goal.returns-clause-changed
 returns-clause-changed c = on_ok c.put.result (λ put changes.
@@ -38,7 +40,7 @@ returns-clause-changed c = on_ok c.put.result (λ put changes.
       entry = record { start = e.start; quantity = c.change_stock.new.quantity };
       changed = record {
         field = field_of (f, e);
-        there = c.in-Some.ensures.found;
+        there = ap (find (λ g. same_name f g.name)) (made_keeps A r.command o made) ∙ c.in-Some.ensures.found;
         passes = changes;
         has_row = stock_changed A r c.args.order.now.0 o f e l c.change_stock.new.quantity a.before a.after a.accepted a.range (number_of_made A r.command o a.accepted.1 made) made c.in-Some.ensures.up_to_date c.requires.line becomes;
       };

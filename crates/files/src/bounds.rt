@@ -1,0 +1,76 @@
+//! Files of other bounds.
+
+ghost use Rattle.std.specs.Prelude.{IfErr, IfNone, IfOk, IfSome};
+ghost use Rattle.csv.specs.Records.{fields_of};
+ghost use Rattle.files.specs.Bounds.{IsRebound, SayBounds, bounds_header};
+ghost use Rattle.files.specs.Files.{IsFile, NamesFirst};
+ghost use Rattle.words.specs.declared.command.Request.{Request};
+
+use crate::fault::FileFault;
+use crate::record::five_fields;
+use crate::single::{Single, read_singles};
+use crate::word::read_level;
+use csv::ByteRecord;
+use escrow::{Article, Branch, Key};
+use std::alloc::Global;
+use std::io::Read;
+use words::{Command, Request};
+
+/// The command that a record says, other bounds of a field.
+fn rebound_of(row: &ByteRecord) -> Option<Request>
+    ensures some { IfSome result (IsRebound (fields_of row.now)) }
+    ensures none { IfNone result ((request : Request) → IsRebound (fields_of row.now) request → ⊥) }
+{
+    let (key, branch, article, lo, hi) = five_fields(row)?;
+    let key = Key::read(key).ok()?;
+    let branch = Branch::read(branch).ok()?;
+    let article = Article::read(article).ok()?;
+    let lo = read_level(lo)?;
+    let hi = read_level(hi)?;
+    let command = Command::Rebound {
+        branch,
+        article,
+        lo,
+        hi,
+    };
+    Some(Request { key, command })
+}
+
+/// The kind of a file of bounds.
+#[derive(Drop)]
+struct Bounds;
+
+impl Single for Bounds {
+    ghost use Rattle.files.specs.Bounds.{IsRebound, bounds_header};
+
+    ghost header = { bounds_header };
+
+    ghost says = { IsRebound };
+
+    fn is_header(row: &ByteRecord) -> bool {
+        match five_fields(row) {
+            Some((key, branch, article, lo, hi)) => {
+                key == b"key".as_slice()
+                    && branch == b"branch".as_slice()
+                    && article == b"article".as_slice()
+                    && lo == b"lo".as_slice()
+                    && hi == b"hi".as_slice()
+            }
+            None => false,
+        }
+    }
+
+    fn request_of(row: &ByteRecord) -> Option<Request> {
+        rebound_of(row)
+    }
+}
+
+/// The other bounds that a file gives to fields, each under its key. Its first record is exactly `key,branch,article,lo,hi`, and each
+/// further one a `rebound` in the spelling of commands. `BadRecord` names the first record at fault: 0 is the header, also where there is none, and
+/// those behind it count from 1. Records are those of the crate `csv`: blank lines are none, and no field is trimmed.
+pub fn read_bounds<R: Read + Drop>(alloc: Global, reader: R) -> Result<Vec<Request>, FileFault>
+    ensures ok { IfOk result (λ requests. IfSome (R.remaining reader) (λ bytes. IsFile bounds_header SayBounds bytes requests.items)) }
+    ensures bad { IfErr result (λ fault. IfSome (R.remaining reader) (λ bytes. NamesFirst bounds_header SayBounds bytes fault)) }
+{
+    read_singles(alloc, reader, Bounds)
+}

@@ -1,0 +1,82 @@
+//! Files of which each record is a request by itself.
+
+ghost use Rattle.std.specs.Prelude.{◌≡◌, ◌↔◌, IfErr, IfNone, IfOk, IfSome, IsTrue};
+ghost use Rattle.std.specs.List.{AllZip};
+ghost use Rattle.csv.specs.Records.{fields_of};
+ghost use Rattle.files.specs.Files.{IsFile, NamesFirst, Record};
+ghost use Rattle.words.specs.declared.command.Request.{Request};
+
+use crate::fault::FileFault;
+use crate::intake::{Intake, read_file};
+use csv::ByteRecord;
+use std::alloc::Global;
+use std::io::Read;
+use words::{Memory, Request};
+
+/// A kind of file of which each record behind the header is one request.
+pub trait Single: Sized + Drop {
+    /// The header.
+    ghost header: { Record };
+
+    /// The record says the request.
+    ghost says: { Record → Request → Type 0 };
+
+    /// Whether the record is the header.
+    fn is_header(row: &ByteRecord) -> bool
+        ensures { IsTrue result ↔ (fields_of row.now ≡ header) };
+
+    /// The request that a record says.
+    fn request_of(row: &ByteRecord) -> Option<Request>
+        ensures some { IfSome result (says (fields_of row.now)) }
+        ensures none { IfNone result ((request : Request) → says (fields_of row.now) request → ⊥) };
+}
+
+/// The requests of a file of that kind so far.
+#[derive(Drop)]
+struct Singles<S: Single> {
+    kind: S,
+    requests: Vec<Request>,
+}
+
+impl<S: Single> Intake for Singles<S> {
+    ghost use Rattle.std.specs.List.{AllZip};
+
+    ghost header = { S.header };
+
+    ghost says = { AllZip S.says };
+
+    ghost took = { λ s rows. AllZip S.says rows s.requests.items };
+
+    fn is_header(row: &ByteRecord) -> bool {
+        S::is_header(row)
+    }
+
+    fn take(&mut self, row: &ByteRecord) -> Result<bool, Memory> {
+        let Some(request) = S::request_of(row) else {
+            return Ok(false);
+        };
+        match self.requests.push(request) {
+            Ok(()) => Ok(true),
+            Err(_) => Err(Memory),
+        }
+    }
+}
+
+/// The requests of a file of that kind, or its first record at fault.
+pub fn read_singles<S: Single, R: Read + Drop>(
+    alloc: Global,
+    reader: R,
+    kind: S,
+) -> Result<Vec<Request>, FileFault>
+    ensures ok { IfOk result (λ requests. IfSome (R.remaining reader) (λ bytes. IsFile S.header (AllZip S.says) bytes requests.items)) }
+    ensures bad { IfErr result (λ fault. IfSome (R.remaining reader) (λ bytes. NamesFirst S.header (AllZip S.says) bytes fault)) }
+{
+    let none = Singles {
+        kind,
+        requests: Vec::new(alloc),
+    };
+    match read_file(alloc, reader, none) {
+        Ok(taken) => Ok(taken.requests),
+        Err(fault) => Err(fault),
+    }
+}
