@@ -7,7 +7,7 @@ from math import isqrt
 
 from model import ADD, PLAIN, TAKE, Desk
 
-KINDS = ["ask", "deliver", "open", "use", "release", "commit", "abort", "expire"]
+KINDS = ["ask", "deliver", "open", "use", "release", "commit", "abort", "rebound", "expire"]
 
 # how often each of the other commands comes while a desk is made
 OTHERS = {"deliver": 4, "writeoff": 3, "use": 4, "release": 2, "more": 2}
@@ -195,6 +195,8 @@ class Maker:
             return self.desk.ask(self.field())
         if kind == "open":
             return self.open_order(self.names.moment())
+        if kind == "rebound":
+            return self.desk.rebound(self.key(), self.field(), HI - self.quantity())
         if kind in ("commit", "abort"):
             return self.desk.end(self.key(), kind, self.take_out(has_four_lines))
         if kind == "expire":

@@ -154,6 +154,11 @@ class Desk:
         self.moves.append(row)
         return self.keep(key, f"{verb} {field.name()} {quantity}", [field], [row])
 
+    def rebound(self, key, field, hi):
+        """Another upper bound, above all that may come."""
+        field.hi = hi
+        return self.keep(key, f"rebound {field.name()} 0 {hi}", [field])
+
     def begin(self, key, words, order):
         """An order more, whose lines hold their amounts."""
         self.orders.append(order)

@@ -22,6 +22,7 @@ NAMES = {
     "ask": "ask",
     "all": "ask, each field once",
     "deliver": "delivery",
+    "rebound": "other bounds",
     "open": "order of four lines",
     "use": "use",
     "release": "release",

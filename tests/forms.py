@@ -17,6 +17,7 @@ HELD = f"(?:take|add) {FIELD}"
 COMMANDS = [
     f"field {FIELD} {LEVEL} {LEVEL} {LEVEL}",
     f"(?:deliver|writeoff) {FIELD} {QUANTITY}",
+    f"rebound {FIELD} {LEVEL} {LEVEL}",
     f"open {ORDER} {MOMENT}(?: {HELD} {QUANTITY}){{1,64}}",
     f"transfer {ORDER} {MOMENT} {ARTICLE} {BRANCH} {BRANCH} {QUANTITY}",
     f"more {ORDER} {HELD} {QUANTITY}",

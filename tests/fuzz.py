@@ -26,8 +26,11 @@ LINES = 50
 STREAMS = 10
 
 RECORD = re.compile(rb"stockdesk: record (0|[1-9][0-9]*)\n")
-ORDER_FILE = ["key", "order", "until", "way", "branch", "article", "qty"]
-DELIVERY_FILE = ["key", "branch", "article", "qty"]
+FILES = [
+    ("orders", ["key", "order", "until", "way", "branch", "article", "qty"]),
+    ("deliveries", ["key", "branch", "article", "qty"]),
+    ("bounds", ["key", "branch", "article", "lo", "hi"]),
+]
 
 # how a run ends on a file that is opened, and on one that is not
 OPENED = [(0, b""), (1, b"stockdesk: store\n")]
@@ -91,7 +94,7 @@ class Block:
         """Files of requests, each twice: what is done is done once."""
         file = os.path.join(self.folder, "requests.csv")
         for _ in range(BLOCK):
-            command, columns = self.inputs.random.choice([("orders", ORDER_FILE), ("deliveries", DELIVERY_FILE)])
+            command, columns = self.inputs.random.choice(FILES)
             text, before = self.inputs.records(columns), bytes_of(path)
             with open(file, "wb") as out:
                 out.write(text)

@@ -3,7 +3,7 @@
 import json
 import random
 
-VERBS = ["field", "deliver", "writeoff", "open", "open", "transfer", "more", "use", "use", "release", "commit", "abort"]
+VERBS = ["field", "deliver", "writeoff", "rebound", "open", "open", "transfer", "more", "use", "use", "release", "commit", "abort"]
 # numbers at an edge of some range, and words that are no numbers
 EDGES = "0 1 64 1000000 1000001 999999999 1000000000 1000000001 4000000000 4000000001 9223372036854775808".split()
 NO_NUMBERS = ["", "01", "-1", "+1", "1.0", "1e3", " 1", "one", "\u0661"]
@@ -64,6 +64,8 @@ class Inputs:
         field, quantity = f"{self.branch()} {self.article()}", self.number(40)
         if verb == "field":
             return f"field {field} {self.number(9)} {self.number(1000)} {self.number(200)}"
+        if verb == "rebound":
+            return f"rebound {field} {self.number(9)} {self.number(1000)}"
         if verb in ("deliver", "writeoff"):
             return f"{verb} {field} {quantity}"
         if verb in ("open", "transfer"):
@@ -94,7 +96,7 @@ class Inputs:
             self.orders += 1
             head = [self.key(), str(self.orders), self.until()] if "order" in columns else [self.key()]
             for line in self.lines():
-                words = line.split(" ")
+                words = line.split(" ") + ([self.number(1000)] if "hi" in columns else [])
                 records.append(",".join(head + (words if "way" in columns else words[1:])))
         end = self.random.choice(["\n", "\r\n"])
         text = (end.join(records) + end * self.chance(0.8)).encode()

@@ -57,6 +57,7 @@ NO_TASK = [
     ["init", "usage.db", "more"],
     ["orders", "usage.db"],
     ["deliveries", "usage.db", "file.csv", "more"],
+    ["bounds", "usage.db"],
     ["sheet", "usage.db"],
     ["article", "usage.db"],
     ["serve", "usage.db"],
@@ -72,11 +73,12 @@ NO_TASK = [
 
 # of what each help tells in a line
 HELP = [
-    (["--help"], ["init", "run", "orders", "deliveries", "sheet", "article", "serve"]),
+    (["--help"], ["init", "run", "orders", "deliveries", "bounds", "sheet", "article", "serve"]),
     (["init", "--help"], ["FILE"]),
     (["run", "--help"], ["FILE"]),
     (["orders", "--help"], ["FILE", "CSV"]),
     (["deliveries", "--help"], ["FILE", "CSV"]),
+    (["bounds", "--help"], ["FILE", "CSV"]),
     (["sheet", "--help"], ["FILE", "BRANCH"]),
     (["article", "--help"], ["FILE", "ARTICLE"]),
     (["serve", "--help"], ["FILE", "--port", "--connections"]),
@@ -180,7 +182,7 @@ def test_no_other_file_is_touched(program, folder):
 def test_a_file_of_requests_is_judged_last(program, folder):
     """First the words, then the desk, then the file of requests; what cannot be read changes nothing."""
     path, records = os.path.join(folder, "desk.db"), os.path.join(folder, "records.csv")
-    for command in ["orders", "deliveries"]:
+    for command in ["orders", "deliveries", "bounds"]:
         expect_end(program, [command, path, records], NOT_A_DESK)
     for words in [["sheet", path, "n1"], ["article", path, "a-1"]]:
         expect_end(program, words, (2, b"", b"stockdesk: usage\n"))
@@ -325,6 +327,22 @@ def test_older_files_are_read(program, folder):
             expect(rows_of(path) == lines_of(f"{name}.rows"), f"{name}: other rows")
 
 
+def test_an_older_file_takes_other_bounds(program, folder):
+    """A field of each: its numbers stay, and it is shown with its new bounds by this run and by the next."""
+    for name in ["long", "transfer", "many"]:
+        path = os.path.join(folder, f"{name}.db")
+        shutil.copyfile(os.path.join(FILES, f"{name}.db"), path)
+        sheet = done(program, ["article", path, "A-1"])[0].split()
+        branch, lo, hi, value, inf, sup = sheet
+        ask = f"? field {branch} A-1"
+        shown = f"{ask} lo {inf} hi {sup} value {value} inf {inf} sup {sup}"
+        first, *found = done(program, ["run", path], f"Z1 rebound {branch} A-1 {inf} {sup}\n{ask}\n")
+        expect(first.startswith("Z1 done ") and found == [shown], f"{name}: {first}, {found}")
+        expect(done(program, ["run", path], f"{ask}\n") == [shown], f"{name}: other bounds behind it")
+        tighter = done(program, ["run", path], f"Z2 rebound {branch} A-1 {int(inf) + 1} {hi}\n{ask}\n")
+        expect(tighter == ["Z2 refused 13 TooLittle 0", shown], f"{name}: {tighter}")
+
+
 def killed(program, path, first, seconds):
     """Delivers one piece after another, from that place on, until it is killed after so many seconds: how many replies came."""
     session = Session(program, path)
@@ -385,6 +403,7 @@ def main():
         test_another_database_is_no_desk,
         test_an_empty_script_changes_nothing,
         test_older_files_are_read,
+    test_an_older_file_takes_other_bounds,
         test_nothing_acknowledged_is_lost,
         *hostile.TESTS,
         *messages.TESTS,

@@ -8,6 +8,7 @@ from programs import bytes_of, done, ended, expect, new_desk, rows_of, sqlite3
 
 ORDERS = b"key,order,until,way,branch,article,qty"
 DELIVERIES = b"key,branch,article,qty"
+BOUNDS = b"key,branch,article,lo,hi"
 
 FIELDS = "K1 field N1 A-1 0 100 40\nK2 field N1 B-2 0 10 0\n"
 
@@ -38,6 +39,8 @@ GOOD = [
     (DELIVERIES + b"\rD1,N1,A-1,10\r", "D1 deliver N1 A-1 10\n"),
     # a quote that is open at the end, and text behind a closing one
     (DELIVERIES + b'\n"D"1,N1,A-1,"10', "D1 deliver N1 A-1 10\n"),
+    (BOUNDS, ""),
+    (BOUNDS + b"\nB1,N1,A-1,5,40\nB2,N1,A-1,41,40\nB3,N1,C-3,0,1\n", "B1 rebound N1 A-1 5 40\nB2 rebound N1 A-1 41 40\nB3 rebound N1 C-3 0 1\n"),
     # 64 lines, of which the second is on the field of the first
     (ORDERS + b"\n" + b"G1,1,9,take,N1,A-1,1\n" * 64, "G1 open 1 9" + " take N1 A-1 1" * 64 + "\n"),
 ]
@@ -89,6 +92,16 @@ BAD_DELIVERIES = [
     (b'""\n', 1),
     # a record at fault behind good ones, with a worse one behind it
     (b'D1,N1,A-1,10\nD2,N1,A-1,10\nD3,n1,A-1,10\n"\xff', 3),
+]
+
+BAD_BOUNDS = [
+    (b"B1,N1,A-1,5\n", 1),
+    (b"B1,N1,A-1,5,40,\n", 1),
+    (b"B1,N1,A-1,5,40\nB2,N1,A-1,05,40\n", 2),
+    (b"B1,N1,A-1,5,1000000001\n", 1),
+    (b"B1,N1,A-1,-5,40\n", 1),
+    (b"B1,N1,A-1,,40\n", 1),
+    (b"B1,N1,A\xff,5,40\n", 1),
 ]
 
 # order files in which the first key comes back: it is taken where the first was done
@@ -145,7 +158,7 @@ class Desk:
         """How the program ends with a file of requests of these bytes."""
         with open(self.file, "wb") as records:
             records.write(file)
-        command = "orders" if b"until" in file else "deliveries"
+        command = "orders" if b"until" in file else "bounds" if BOUNDS in file else "deliveries"
         return ended(self.program, [command, path, self.file])
 
 
@@ -175,6 +188,7 @@ def test_the_first_record_at_fault_is_named(program, folder):
     for command, header, headers, records in [
         ("orders", ORDERS, BAD_HEADERS[0], BAD_ORDERS),
         ("deliveries", DELIVERIES, BAD_HEADERS[1], BAD_DELIVERIES),
+        ("bounds", BOUNDS, BAD_HEADERS[1], BAD_BOUNDS),
     ]:
         for file in headers:
             expect_fault(desk, command, file, 0)

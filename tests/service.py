@@ -21,7 +21,7 @@ COMMANDS = 2_000
 ROUNDS = 20
 KILLED_IN = 500
 
-VERBS = ["deliver", "writeoff", "open", "open", "transfer", "more", "use", "use", "release", "commit", "abort"]
+VERBS = ["deliver", "writeoff", "rebound", "open", "open", "transfer", "more", "use", "use", "release", "commit", "abort"]
 FIRST = ("K1", "field N1 A-1 0 100 40")
 JSON = "application/json"
 
@@ -127,6 +127,8 @@ def steps():
             made.append((generator.choice(made)[0], f"deliver {field} {quantity}", f"field {field}"))
         elif len(made) % 100 == 50:
             made.append((key, f"expire {len(made)}", order))
+        elif verb == "rebound":
+            made.append((key, f"rebound {field} {quantity} {1000 - quantity}", f"field {field}"))
         elif verb in ("deliver", "writeoff"):
             made.append((key, f"{verb} {field} {quantity}", f"field {field}"))
         elif verb in ("open", "transfer"):

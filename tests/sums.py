@@ -22,7 +22,7 @@ NEVER = {
         WHERE sup <> value + {LINES.format(amount="held", state=0, ways="1")}""",
     "a field beyond its bounds": """SELECT * FROM field
         WHERE NOT (0 <= lo AND lo <= inf AND inf <= value AND value <= sup AND sup <= hi AND hi <= 1000000000)""",
-    "a start beyond the bounds": "SELECT * FROM field WHERE NOT (lo <= start AND start <= hi)",
+    "a start that is no level": "SELECT * FROM field WHERE NOT (0 <= start AND start <= 1000000000)",
     "other places than 1 to their number": """SELECT * FROM desk
         WHERE (SELECT count(*) FROM kept) <> places OR (SELECT count(DISTINCT place) FROM kept) <> places
         OR EXISTS (SELECT * FROM kept WHERE place NOT BETWEEN 1 AND places)""",

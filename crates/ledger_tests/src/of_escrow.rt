@@ -3,7 +3,8 @@
 ghost use Rattle.std.specs.Prelude.{◌≡◌, ◌-◌, IfSome};
 
 use escrow::{
-    Article, BadBounds, BadCode, Bound, Branch, Key, Level, Moment, OrderNo, Qty, Quantity, Way,
+    Article, BadBounds, BadCode, Bound, Branch, Key, Level, Moment, OrderNo, Qty, Quantity,
+    Rebound, Way,
 };
 use std::test::Fail;
 
@@ -180,5 +181,33 @@ fn what_is_held_is_given_back_or_settled(rt: HostRuntime) -> Result<(), Fail> {
     stock.settle(Way::Add, 40, 15);
     assert!(rt; shown(&stock) == [35, 35, 35]);
     assert!(rt; restored(40, 41, 90) == None && restored(40, 5, 101) == None);
+    Ok(())
+}
+
+/// Bounds that are asked for, one after the other; what is answered, and the bounds that the quantity has then.
+fn rebounds() -> &'static [(u64, u64, Result<(), Rebound>, (u64, u64))] {
+    &REBOUNDS
+}
+
+static REBOUNDS: [(u64, u64, Result<(), Rebound>, (u64, u64)); 5] = [
+    (6, 89, Err(Rebound::TooLittle), (0, 100)),
+    (5, 89, Err(Rebound::TooMuch), (0, 100)),
+    (41, 40, Err(Rebound::BadBounds), (0, 100)),
+    (5, 90, Ok(()), (5, 90)),
+    (0, 1_000_000_000, Ok(()), (0, 1_000_000_000)),
+];
+
+fn rebound(stock: &mut Quantity, lo: u64, hi: u64) -> Option<Result<(), Rebound>> {
+    Some(stock.rebound(Level::new(lo)?, Level::new(hi)?))
+}
+
+#[test]
+fn other_bounds_are_tested_against_every_outcome(rt: HostRuntime) -> Result<(), Fail> {
+    let mut stock = restored(40, 5, 90).ok_or("no quantity")?;
+    for (lo, hi, answer, bounds) in rebounds() {
+        assert!(rt; rebound(&mut stock, *lo, *hi) == Some(*answer), "{lo}");
+        assert!(rt; (stock.lo().get(), stock.hi().get()) == *bounds, "{lo}");
+        assert!(rt; shown(&stock) == [40, 5, 90], "{lo}");
+    }
     Ok(())
 }

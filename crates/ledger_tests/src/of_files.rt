@@ -4,7 +4,9 @@ use crate::scripts::{Row, Step, book_after};
 use crate::streams::{Drip, Sink};
 use book::Book;
 use escrow::{Article, Branch};
-use files::{FileFault, SheetFault, article_sheet, branch_sheet, read_deliveries, read_orders};
+use files::{
+    FileFault, SheetFault, article_sheet, branch_sheet, read_bounds, read_deliveries, read_orders,
+};
 use std::alloc::Global;
 use std::process::Abort;
 use std::test::Fail;
@@ -15,6 +17,7 @@ use words::{Request, write_command};
 fn laws_can_be_called() {
     files::an_order_file_says_one_thing();
     files::a_delivery_file_says_one_thing();
+    files::a_bounds_file_says_one_thing();
     files::exactly_one_sheet();
     files::sheets_keep_their_columns();
 }
@@ -23,6 +26,8 @@ const ORDERS: &[u8] =
     b"key,order,until,way,branch,article,qty\nG1,50,500,take,N1,A-1,5\nG1,50,500,add,N1,B-2,1\n";
 
 const DELIVERIES: &[u8] = b"key,branch,article,qty\nD1,N1,A-1,10\n";
+
+const BOUNDS: &[u8] = b"key,branch,article,lo,hi\nB1,N1,A-1,5,40\n";
 
 /// There is one request, of this key and this command.
 fn is_one(alloc: Global, requests: &[Request], key: &[u8], command: &[u8]) -> Result<bool, Fail> {
@@ -41,6 +46,8 @@ fn files_say_their_requests(rt: HostRuntime) -> Result<(), Fail> {
     assert!(rt; is_one(rt.alloc(), &orders, b"G1", open)?);
     let deliveries = read_deliveries(rt.alloc(), DELIVERIES)?;
     assert!(rt; is_one(rt.alloc(), &deliveries, b"D1", b"deliver N1 A-1 10")?);
+    let bounds = read_bounds(rt.alloc(), BOUNDS)?;
+    assert!(rt; is_one(rt.alloc(), &bounds, b"B1", b"rebound N1 A-1 5 40")?);
     Ok(())
 }
 

@@ -66,6 +66,16 @@ const STOCK: &[Step] = &[
             Row::Kept("k-5", "writeoff S1 A-1 3", 5),
         ],
     ),
+    // the start, 40, lies outside the new bounds
+    (
+        "K6",
+        "rebound N1 A-1 44 45",
+        &[
+            Row::Desk([1, 1, 0, 6]),
+            Row::Field("N1", "A-1", [44, 45, 40, 45, 45, 45]),
+            Row::Kept("K6", "rebound N1 A-1 44 45", 6),
+        ],
+    ),
 ];
 
 const ORDER: &[Step] = &[
