@@ -26,7 +26,7 @@ LINES = 50
 STREAMS = 10
 
 RECORD = re.compile(rb"stockdesk: record (0|[1-9][0-9]*)\n")
-FILES = [
+REQUEST_FILES = [
     ("orders", ["key", "order", "until", "way", "branch", "article", "qty"]),
     ("deliveries", ["key", "branch", "article", "qty"]),
     ("bounds", ["key", "branch", "article", "lo", "hi"]),
@@ -94,7 +94,7 @@ class Block:
         """Files of requests, each twice: what is done is done once."""
         file = os.path.join(self.folder, "requests.csv")
         for _ in range(BLOCK):
-            command, columns = self.inputs.random.choice(FILES)
+            command, columns = self.inputs.random.choice(REQUEST_FILES)
             text, before = self.inputs.records(columns), bytes_of(path)
             with open(file, "wb") as out:
                 out.write(text)
