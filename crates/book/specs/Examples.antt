@@ -7,7 +7,7 @@ use Rattle.escrow.specs.declared.quantity.Way.{Way}
 use Rattle.escrow.specs.declared.quantity.Way.TheVariants.{Take, Add}
 use Rattle.words.specs.declared.open_line.OpenLine.{OpenLine}
 use Rattle.words.specs.declared.command.Command.{Command}
-use Rattle.words.specs.declared.command.Command.TheVariants.{Field, Deliver, Open, Transfer, More, Use, Release, Commit, Abort, Expire}
+use Rattle.words.specs.declared.command.Command.TheVariants.{Abort, Commit, Deliver, Expire, Field, More, Open, Rebound, Release, Transfer, Use}
 use Rattle.words.specs.declared.command.Request.{Request}
 use Rattle.words.specs.declared.reply.Refusal.TheVariants.{KeyReused, NoField, BadBounds, Ended, Past, SameField, OtherWay, TooLittle, TooMuch, NotHeld, OverUse, TransferFixed, ClockBack}
 use Rattle.words.specs.declared.reply.Reply.{Reply}
@@ -133,4 +133,16 @@ release_and_abort = step "P1" (Field N1 A1 0 100 40) (Done 1) []
     ∷ step "P11" (Deliver N1 B2 1) (Refused TooMuch 0) []
     ∷ step "P12" (Abort 5) (Done 8) (numbers N1 A1 40 40 40 ∷ numbers N1 B2 0 0 0 ∷ [])
     ∷ step "P13" (Use 5 N1 A1 1) (Refused Ended 0) []
+    ∷ []
+
+-- A field gets other bounds while an order is open.
+abbrev pub other_bounds : List Step
+other_bounds = step "B1" (Field N1 A1 0 100 40) (Done 1) []
+    ∷ step "B2" (Open 7 500 (line Take N1 A1 35 ∷ [])) (Done 2) (numbers N1 A1 40 5 40 ∷ [])
+    ∷ step "B3" (Rebound N1 A1 6 39) (Refused TooLittle 0) []
+    ∷ step "B4" (Rebound N1 A1 5 39) (Refused TooMuch 0) []
+    ∷ step "B5" (Rebound N1 A1 41 40) (Refused BadBounds 0) []
+    ∷ step "B6" (Rebound N1 B9 0 1) (Refused NoField 0) []
+    ∷ step "B7" (Rebound N1 A1 5 40) (Done 3) (numbers N1 A1 40 5 40 ∷ [])
+    ∷ step "B8" (Deliver N1 A1 1) (Refused TooMuch 0) []
     ∷ []

@@ -2,7 +2,7 @@
 
 ghost use Rattle.book.specs.Answers.{After, Answers, IsAccepted, Runs, bound, same_command};
 ghost use Rattle.book.specs.Changes.{changed_rows, put_content};
-ghost use Rattle.book.specs.Examples.{Plays, long_script, release_and_abort, tight_bounds, transfer};
+ghost use Rattle.book.specs.Examples.{Plays, long_script, other_bounds, release_and_abort, tight_bounds, transfer};
 ghost use Rattle.book.specs.Future.{Honours, HonoursAlways};
 ghost use Rattle.book.specs.Good.{Good};
 ghost use Rattle.book.specs.Held.{MayHoldMore, BreaksBound, held_to_add, held_to_take};
@@ -109,4 +109,5 @@ pub fn worked_examples_hold()
     ensures tight_bounds { Plays new_ledger tight_bounds }
     ensures transfer { Plays new_ledger transfer }
     ensures release_and_abort { Plays new_ledger release_and_abort }
+    ensures other_bounds { Plays new_ledger other_bounds }
 {}

@@ -1,5 +1,5 @@
 use Rattle.std.specs.Fmt.{digits}
-use Rattle.book.specs.Examples.{long_script, release_and_abort, tight_bounds, transfer}
+use Rattle.book.specs.Examples.{long_script, other_bounds, release_and_abort, tight_bounds, transfer}
 use Rattle.book.proofs.Prelude.{new_ledger, refl}
 use Rattle.book.proofs.Played.{plays}
 use Rattle.book.proofs.laws.worked_examples_hold.Goals as goal
@@ -16,3 +16,7 @@ returns-clause-transfer c = plays transfer new_ledger refl
 
 pub returns-clause-release_and_abort : goal.returns-clause-release_and_abort
 returns-clause-release_and_abort c = plays release_and_abort new_ledger refl
+
+pub returns-clause-other_bounds : goal.returns-clause-other_bounds
+unfolding digits
+returns-clause-other_bounds c = plays other_bounds new_ledger refl
