@@ -90,7 +90,7 @@ abbrev pub order_checks : Ledger → ℕ → ℕ → List Check
 order_checks A n until = full A 2 ∷ check (MAX_ORDERS ≤ length A.orders) refusal.Full
     ∷ check (IsSome (order_numbered A n)) refusal.OrderThere ∷ check (until ≤ A.clock) refusal.Past ∷ []
 
--- the checks of other bounds of a field that is there: tested with them, the ledger is within them
+-- the checks of other bounds of a field that is there; the ledger tested has these bounds
 abbrev pub bounds_checks : Ledger → Name → ℕ → ℕ → List Check
 bounds_checks A f lo hi = let B = next A (Rebound f.branch f.article lo hi) in
     check (hi < lo) refusal.BadBounds ∷ bound way.Take B f 0 ∷ bound way.Add B f 0 ∷ []

@@ -1,4 +1,4 @@
-//! Files of other bounds.
+//! Files of bounds.
 
 ghost use Rattle.std.specs.Prelude.{IfErr, IfNone, IfOk, IfSome};
 ghost use Rattle.csv.specs.Records.{fields_of};
