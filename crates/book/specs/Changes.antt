@@ -10,7 +10,7 @@ use Rattle.words.specs.declared.command.Command.TheVariants.{Field, Deliver, Wri
 use Rattle.words.specs.declared.command.Request.{Request}
 use Rattle.book.specs.Ledger.{Name, Order, Ledger, same_name, on, is_transfer, places, name_of}
 use Rattle.book.specs.Next.{expires}
-use Rattle.book.specs.Rows.{Content, desk_cmp, field_cmp, move_cmp, order_cmp, line_cmp, kept_cmp}
+use Rattle.book.specs.Rows.{Content, desk_cmp, field_cmp, move_cmp, order_cmp, line_cmp, kept_cmp, firm_cmp}
 
 -- some line of the order is on the field
 abbrev pub has_line_on : Name → Order → Bool
@@ -89,6 +89,7 @@ changed_rows A r next = record {
   orders = filter (λ row. changes_order A r.command row.number) next.orders;
   lines = filter (λ row. changes_line A r.command row.number (name_of row.branch row.article)) next.lines;
   kept = filter (λ row. bytes_eq row.reqkey r.key) next.kept;
+  firms = next.firms;
 }
 
 -- ---- rows put in
@@ -111,4 +112,5 @@ put_content new C = record {
   orders = put_rows order_cmp new.orders C.orders;
   lines = put_rows line_cmp new.lines C.lines;
   kept = put_rows kept_cmp new.kept C.kept;
+  firms = put_rows firm_cmp new.firms C.firms;
 }

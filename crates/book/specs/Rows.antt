@@ -1,4 +1,4 @@
--- The rows of a ledger: what the six tables hold for it, each in the order of its key. Texts are seen as their bytes.
+-- The rows of a ledger: what the seven tables hold for it, each in the order of its key. Texts are seen as their bytes.
 use Rattle.std.specs.Prelude.{ℕ, ◌+◌, ◌≡◌, ℤ, pos, List, [], ◌∷◌, map, flat_map}
 use Rattle.std.specs.declared.cmp.Ordering.{Ordering}
 use Rattle.std.specs.Ordering.{nat_cmp, int_cmp, ordering_then}
@@ -60,7 +60,10 @@ pub record KeptCells : Type 0 where
   pub place : ℤ
   pub words : List ℕ
 
--- what the six tables hold, each in the order of its key
+pub record FirmCells : Type 0 where
+  pub number : ℤ
+
+-- what the seven tables hold, each in the order of its key
 pub record Content : Type 0 where
   pub desk : List DeskCells
   pub fields : List FieldCells
@@ -68,6 +71,7 @@ pub record Content : Type 0 where
   pub orders : List OrderCells
   pub lines : List LineCells
   pub kept : List KeptCells
+  pub firms : List FirmCells
 
 abbrev pub kind_code : Kind → ℤ
 kind_code Plain = pos 0
@@ -113,7 +117,7 @@ abbrev pub kept_row : Kept → KeptCells
 kept_row k = record { reqkey = k.key; place = pos k.place; words = spelling k.command }
 
 abbrev pub desk_row : Ledger → DeskCells
-desk_row A = record { one = pos 1; version = pos 1; clock = pos A.clock; places = pos (places A) }
+desk_row A = record { one = pos 1; version = pos 2; clock = pos A.clock; places = pos (places A) }
 
 -- the content is the ledger's rows
 pub record IsRowsOf (A : Ledger) (C : Content) : Type 0 where
@@ -123,6 +127,7 @@ pub record IsRowsOf (A : Ledger) (C : Content) : Type 0 where
   pub orders : C.orders ≡ map order_row A.orders
   pub lines : C.lines ≡ flat_map order_lines A.orders
   pub kept : C.kept ≡ map kept_row A.kept
+  pub firms : C.firms ≡ []
 
 -- ---- keys
 
@@ -148,6 +153,9 @@ line_cmp a b = ordering_then (int_cmp a.number b.number) (int_cmp a.nr b.nr)
 abbrev pub kept_cmp : KeptCells → KeptCells → Ordering
 kept_cmp a b = text_cmp a.reqkey b.reqkey
 
+abbrev pub firm_cmp : FirmCells → FirmCells → Ordering
+firm_cmp a b = int_cmp a.number b.number
+
 -- the rows of each table stand strictly in the order of their keys
 pub record IsInKeyOrder (C : Content) : Type 0 where
   pub fields : IsStrictlySortedBy field_cmp C.fields
@@ -155,6 +163,7 @@ pub record IsInKeyOrder (C : Content) : Type 0 where
   pub orders : IsStrictlySortedBy order_cmp C.orders
   pub lines : IsStrictlySortedBy line_cmp C.lines
   pub kept : IsStrictlySortedBy kept_cmp C.kept
+  pub firms : IsStrictlySortedBy firm_cmp C.firms
 
 -- the content is the rows of no good ledger
 abbrev pub IsDamaged : Content → Type 0

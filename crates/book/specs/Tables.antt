@@ -6,10 +6,11 @@ use Rattle.book.specs.declared.rows.MoveRow.{MoveRow}
 use Rattle.book.specs.declared.rows.OrderRow.{OrderRow}
 use Rattle.book.specs.declared.rows.LineRow.{LineRow}
 use Rattle.book.specs.declared.rows.KeptRow.{KeptRow}
+use Rattle.book.specs.declared.rows.FirmRow.{FirmRow}
 use Rattle.book.specs.declared.rows.Tables.{Tables}
 use Rattle.book.specs.declared.rows.Change.{Change}
 use Rattle.book.specs.declared.rows.Change.TheVariants as change
-use Rattle.book.specs.Rows.{Content, DeskCells, FieldCells, KeptCells, LineCells, MoveCells, OrderCells}
+use Rattle.book.specs.Rows.{Content, DeskCells, FieldCells, FirmCells, KeptCells, LineCells, MoveCells, OrderCells}
 
 abbrev pub desk_cells : DeskRow → DeskCells
 desk_cells r = record { one = r.one; version = r.version; clock = r.clock; places = r.places }
@@ -29,6 +30,9 @@ line_cells r = record { number = r.number; nr = r.nr; branch = string_bytes r.br
 abbrev pub kept_cells : KeptRow → KeptCells
 kept_cells r = record { reqkey = string_bytes r.reqkey; place = r.place; words = string_bytes r.words }
 
+abbrev pub firm_cells : FirmRow → FirmCells
+firm_cells r = record { number = r.number }
+
 -- what the tables hold
 abbrev pub content_of : Tables → Content
 content_of t = record {
@@ -38,10 +42,11 @@ content_of t = record {
   orders = map order_cells t.orders;
   lines = map line_cells t.lines;
   kept = map kept_cells t.kept;
+  firms = map firm_cells t.firms;
 }
 
 abbrev pub no_content : Content
-no_content = record { desk = []; fields = []; moves = []; orders = []; lines = []; kept = [] }
+no_content = record { desk = []; fields = []; moves = []; orders = []; lines = []; kept = []; firms = [] }
 
 -- a row more, before those of its table
 abbrev pub with_change : Change → Content → Content
@@ -51,6 +56,7 @@ with_change (change.Move r) C = record C { moves = move_cells r ∷ C.moves }
 with_change (change.Order r) C = record C { orders = order_cells r ∷ C.orders }
 with_change (change.Line r) C = record C { lines = line_cells r ∷ C.lines }
 with_change (change.Kept r) C = record C { kept = kept_cells r ∷ C.kept }
+with_change (change.Firm r) C = record C { firms = firm_cells r ∷ C.firms }
 
 -- the rows among the changes, table by table, in their order
 abbrev pub rows_among : List Change → Content

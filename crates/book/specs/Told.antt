@@ -139,6 +139,7 @@ pub record TellsLedger (A : Ledger) (C : Content) : Type 0 where
   pub orders : C.orders ≡ map order_row A.orders
   pub lines : C.lines ≡ flat_map order_lines A.orders
   pub kept : C.kept ≡ map kept_row A.kept
+  pub firms : C.firms ≡ []
 
 -- what its clock, its fields and its kept keys are by themselves
 pub record IsInForm (A : Ledger) : Type 0 where

@@ -1,4 +1,4 @@
-//! The rows of the six tables, and changes of them. A column of whole numbers is an `i64`, one of texts a
+//! The rows of the seven tables, and changes of them. A column of whole numbers is an `i64`, one of texts a
 //! `String`.
 
 use std::marker::Model;
@@ -74,6 +74,13 @@ pub struct KeptRow {
     pub words: String,
 }
 
+/// A row of the table `firm`, by number.
+#[derive(Clone, Copy, Debug)]
+pub struct FirmRow {
+    /// The number of an order that is firm, open or committed.
+    pub number: i64,
+}
+
 /// The rows of a table, in their order.
 #[derive(Debug, Drop)]
 pub struct Rows<R> {
@@ -114,7 +121,7 @@ impl<R> Rows<R> {
     }
 }
 
-/// The rows of all six tables.
+/// The rows of all seven tables.
 #[derive(Debug, Drop)]
 pub struct Tables {
     pub desk: DeskRow,
@@ -123,6 +130,7 @@ pub struct Tables {
     pub orders: Rows<OrderRow>,
     pub lines: Rows<LineRow>,
     pub kept: Rows<KeptRow>,
+    pub firms: Rows<FirmRow>,
 }
 
 /// A row to put into its table: it replaces the row with its key, or is added where there is none.
@@ -134,4 +142,5 @@ pub enum Change {
     Order(OrderRow),
     Line(LineRow),
     Kept(KeptRow),
+    Firm(FirmRow),
 }

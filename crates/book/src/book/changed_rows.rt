@@ -155,11 +155,11 @@ fn kept_row(alloc: Global, key: Key, place: u64, words: &KeptWords) -> Result<Ke
 /// The row of a desk.
 fn desk_row(clock: Moment, places: u64) -> DeskRow
     requires { places ≤ MAX_PLACES }
-    ensures { desk_cells result ≡ record { one = pos 1; version = pos 1; clock = pos clock; places = pos places } }
+    ensures { desk_cells result ≡ record { one = pos 1; version = pos 2; clock = pos clock; places = pos places } }
 {
     DeskRow {
         one: 1,
-        version: 1,
+        version: 2,
         clock: clock.get() as i64,
         places: places as i64,
     }

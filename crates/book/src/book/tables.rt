@@ -55,11 +55,11 @@ struct Entries {
 
 /// The clock, where the row has it and these places.
 fn read_desk(row: &DeskRow, places: usize) -> Option<Moment>
-    ensures { MatchOption result ((clock : ℕ) → IsMoment clock → desk_cells row.now ≡ record { one = pos 1; version = pos 1; clock = pos clock; places = pos places } → ⊥)
-        (λ clock. IsMoment clock × (desk_cells row.now ≡ record { one = pos 1; version = pos 1; clock = pos clock; places = pos places })) }
+    ensures { MatchOption result ((clock : ℕ) → IsMoment clock → desk_cells row.now ≡ record { one = pos 1; version = pos 2; clock = pos clock; places = pos places } → ⊥)
+        (λ clock. IsMoment clock × (desk_cells row.now ≡ record { one = pos 1; version = pos 2; clock = pos clock; places = pos places })) }
 {
     let known = natural(row.places)?;
-    if row.one != 1 || row.version != 1 || known != places as u64 {
+    if row.one != 1 || row.version != 2 || known != places as u64 {
         return None;
     }
     moment(row.clock)
@@ -81,6 +81,9 @@ fn read_tables(alloc: Global, tables: Tables) -> Result<Entries, TablesFault>
     drop(lines);
     drop(tables.lines);
     let kept = read_all(alloc, tables.kept.as_slice())?;
+    if !tables.firms.as_slice().is_empty() {
+        return Err(TablesFault::Damaged);
+    }
     let Some(clock) = read_desk(&tables.desk, kept.len()) else {
         return Err(TablesFault::Damaged);
     };
