@@ -7,7 +7,7 @@ use Rattle.words.specs.OpenLines.{line_words, way_word}
 use Rattle.words.specs.Spelling.{IsOpening, Spells, command_words}
 use Rattle.words.specs.Words.{spaced, words_of}
 use Rattle.words.specs.declared.command.Command.{Command}
-use Rattle.words.specs.declared.command.Command.TheVariants.{Abort, Commit, Deliver, Expire, Field, More, Open, Rebound, Release, Transfer, Use, Writeoff}
+use Rattle.words.specs.declared.command.Command.TheVariants.{Abort, Commit, Deliver, Expire, Field, Firm, More, Open, Rebound, Release, Transfer, Use, Writeoff}
 use Rattle.words.specs.declared.command.Request.{Request as RequestOf}
 use Rattle.words.specs.declared.item.Item.{Item}
 use Rattle.words.specs.declared.item.Item.TheVariants.{AskField, AskOrder, Bad, Request}
@@ -28,6 +28,7 @@ command_first (Use n b a qty) = (codes "use", decimal n ∷ b ∷ a ∷ decimal 
 command_first (Release n b a qty) = (codes "release", decimal n ∷ b ∷ a ∷ decimal qty ∷ [], refl)
 command_first (Commit n) = (codes "commit", decimal n ∷ [], refl)
 command_first (Abort n) = (codes "abort", decimal n ∷ [], refl)
+command_first (Firm n) = (codes "firm", decimal n ∷ [], refl)
 command_first (Expire now) = (codes "expire", decimal now ∷ [], refl)
 
 -- the words of a line that is a request

@@ -3,11 +3,11 @@ use Rattle.std.proofs.Common.{◌≡◌, ℕ, List, [], ◌∷◌, Result, Ok, E
 use Rattle.std.specs.Str.{bytes_eq}
 use Rattle.std.proofs.lemmas.Slice.Eq.{bytes_eq-Decides}
 use Rattle.std.specs.Result.{IfOk, IsErrOf}
-use Rattle.words.specs.Kinds.{AreNot, NoAbort, NoCommit, NoDeliver, NoExpire, NoField, NoMore, NoOpen, NoRebound, NoRelease, NoTransfer, NoUse, NoWriteoff}
+use Rattle.words.specs.Kinds.{AreNot, NoAbort, NoCommit, NoDeliver, NoExpire, NoField, NoFirm, NoMore, NoOpen, NoRebound, NoRelease, NoTransfer, NoUse, NoWriteoff}
 use Rattle.words.specs.Spelling.{IsInRange, IsOpening, Spells, command_words}
 use Rattle.words.specs.Words.{spaced, words_of}
 use Rattle.words.specs.declared.command.Command.{Command}
-use Rattle.words.specs.declared.command.Command.TheVariants.{Abort, Commit, Deliver, Expire, Field, More, Open, Rebound, Release, Transfer, Use, Writeoff}
+use Rattle.words.specs.declared.command.Command.TheVariants.{Abort, Commit, Deliver, Expire, Field, Firm, More, Open, Rebound, Release, Transfer, Use, Writeoff}
 use Rattle.words.specs.declared.read.WordsFault.{WordsFault}
 use Rattle.words.specs.declared.read.WordsFault.TheVariants.{BadCommand}
 use Rattle.words.proofs.Cuts.{parts_some}
@@ -16,19 +16,20 @@ use Rattle.words.proofs.Spaced.{line_of, words-command}
 -- no command of any kind but `open`, and the verb is no `open`
 pub none_plain : (verb : List ℕ) (ws : List (List ℕ)) → (verb ≡ codes "open" → ⊥)
     → NoField (verb ∷ ws) → NoDeliver (verb ∷ ws) → NoWriteoff (verb ∷ ws) → NoRebound (verb ∷ ws) → NoTransfer (verb ∷ ws) → NoMore (verb ∷ ws) → NoUse (verb ∷ ws) → NoRelease (verb ∷ ws)
-    → NoCommit (verb ∷ ws) → NoAbort (verb ∷ ws) → NoExpire (verb ∷ ws) → (c : Command) → AreNot (verb ∷ ws) c
-none_plain verb ws other field deliver writeoff rebound transfer more uses release commit abort expire (Field b a lo hi start) = field b a lo hi start
-none_plain verb ws other field deliver writeoff rebound transfer more uses release commit abort expire (Deliver b a qty) = deliver b a qty
-none_plain verb ws other field deliver writeoff rebound transfer more uses release commit abort expire (Writeoff b a qty) = writeoff b a qty
-none_plain verb ws other field deliver writeoff rebound transfer more uses release commit abort expire (Rebound b a lo hi) = rebound b a lo hi
-none_plain verb ws other field deliver writeoff rebound transfer more uses release commit abort expire (Open n until lines) = λ h e. other (cc e)
-none_plain verb ws other field deliver writeoff rebound transfer more uses release commit abort expire (Transfer n until a from to qty) = transfer n until a from to qty
-none_plain verb ws other field deliver writeoff rebound transfer more uses release commit abort expire (More n way b a qty) = more n way b a qty
-none_plain verb ws other field deliver writeoff rebound transfer more uses release commit abort expire (Use n b a qty) = uses n b a qty
-none_plain verb ws other field deliver writeoff rebound transfer more uses release commit abort expire (Release n b a qty) = release n b a qty
-none_plain verb ws other field deliver writeoff rebound transfer more uses release commit abort expire (Commit n) = commit n
-none_plain verb ws other field deliver writeoff rebound transfer more uses release commit abort expire (Abort n) = abort n
-none_plain verb ws other field deliver writeoff rebound transfer more uses release commit abort expire (Expire now) = expire now
+    → NoCommit (verb ∷ ws) → NoAbort (verb ∷ ws) → NoFirm (verb ∷ ws) → NoExpire (verb ∷ ws) → (c : Command) → AreNot (verb ∷ ws) c
+none_plain verb ws other field deliver writeoff rebound transfer more uses release commit abort firm expire (Field b a lo hi start) = field b a lo hi start
+none_plain verb ws other field deliver writeoff rebound transfer more uses release commit abort firm expire (Deliver b a qty) = deliver b a qty
+none_plain verb ws other field deliver writeoff rebound transfer more uses release commit abort firm expire (Writeoff b a qty) = writeoff b a qty
+none_plain verb ws other field deliver writeoff rebound transfer more uses release commit abort firm expire (Rebound b a lo hi) = rebound b a lo hi
+none_plain verb ws other field deliver writeoff rebound transfer more uses release commit abort firm expire (Open n until lines) = λ h e. other (cc e)
+none_plain verb ws other field deliver writeoff rebound transfer more uses release commit abort firm expire (Transfer n until a from to qty) = transfer n until a from to qty
+none_plain verb ws other field deliver writeoff rebound transfer more uses release commit abort firm expire (More n way b a qty) = more n way b a qty
+none_plain verb ws other field deliver writeoff rebound transfer more uses release commit abort firm expire (Use n b a qty) = uses n b a qty
+none_plain verb ws other field deliver writeoff rebound transfer more uses release commit abort firm expire (Release n b a qty) = release n b a qty
+none_plain verb ws other field deliver writeoff rebound transfer more uses release commit abort firm expire (Commit n) = commit n
+none_plain verb ws other field deliver writeoff rebound transfer more uses release commit abort firm expire (Abort n) = abort n
+none_plain verb ws other field deliver writeoff rebound transfer more uses release commit abort firm expire (Firm n) = firm n
+none_plain verb ws other field deliver writeoff rebound transfer more uses release commit abort firm expire (Expire now) = expire now
 
 -- two words that differ
 differ : (v w : List ℕ) (vs ws : List (List ℕ)) → bytes_eq v w ≡ false → v ∷ vs ≡ w ∷ ws → ⊥
@@ -47,6 +48,7 @@ none_open ws no_open (Use n b a qty) h e = differ (codes "open") (codes "use") _
 none_open ws no_open (Release n b a qty) h e = differ (codes "open") (codes "release") _ _ refl e
 none_open ws no_open (Commit n) h e = differ (codes "open") (codes "commit") _ _ refl e
 none_open ws no_open (Abort n) h e = differ (codes "open") (codes "abort") _ _ refl e
+none_open ws no_open (Firm n) h e = differ (codes "open") (codes "firm") _ _ refl e
 none_open ws no_open (Expire now) h e = differ (codes "open") (codes "expire") _ _ refl e
 
 -- bytes whose words no command has are no spelling

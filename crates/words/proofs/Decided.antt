@@ -9,7 +9,7 @@ use Rattle.escrow.specs.declared.limits.TheConstants.{MAX_ARTICLE_LEN, MAX_BRANC
 use Rattle.words.specs.OpenLines.{AreOpenLines, IsOpenLine, most_lines}
 use Rattle.words.specs.Spelling.{IsInRange}
 use Rattle.words.specs.declared.command.Command.{Command}
-use Rattle.words.specs.declared.command.Command.TheVariants.{Abort, Commit, Deliver, Expire, Field, More, Open, Rebound, Release, Transfer, Use, Writeoff}
+use Rattle.words.specs.declared.command.Command.TheVariants.{Abort, Commit, Deliver, Expire, Field, Firm, More, Open, Rebound, Release, Transfer, Use, Writeoff}
 use Rattle.words.specs.declared.open_line.OpenLine.{OpenLine}
 
 abbrev pub Decided : Type 0 → Type 0
@@ -139,4 +139,5 @@ decided_in_range (Use n b a qty) = decided_part n b a qty
 decided_in_range (Release n b a qty) = decided_part n b a qty
 decided_in_range (Commit n) = decided_order_no n
 decided_in_range (Abort n) = decided_order_no n
+decided_in_range (Firm n) = decided_order_no n
 decided_in_range (Expire now) = decided_moment now

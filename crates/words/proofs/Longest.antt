@@ -11,7 +11,7 @@ use Rattle.words.specs.OpenLines.{IsOpenLine, line_words, way_word}
 use Rattle.words.specs.Spelling.{IsInRange, command_words}
 use Rattle.words.specs.Words.{after_space, spaced}
 use Rattle.words.specs.declared.command.Command.{Command}
-use Rattle.words.specs.declared.command.Command.TheVariants.{Abort, Commit, Deliver, Expire, Field, More, Open, Rebound, Release, Transfer, Use, Writeoff}
+use Rattle.words.specs.declared.command.Command.TheVariants.{Abort, Commit, Deliver, Expire, Field, Firm, More, Open, Rebound, Release, Transfer, Use, Writeoff}
 use Rattle.words.specs.declared.command.Request.{Request}
 use Rattle.words.specs.declared.open_line.OpenLine.{OpenLine}
 use Rattle.words.proofs.Written.{spaced-after}
@@ -69,6 +69,7 @@ command_le (Use n b a qty) h = omega (arith, number_of_order_le n h.0, h.1.fits,
 command_le (Release n b a qty) h = omega (arith, number_of_order_le n h.0, h.1.fits, h.2.fits, qty_le qty h.3)
 command_le (Commit n) h = omega (arith, number_of_order_le n h)
 command_le (Abort n) h = omega (arith, number_of_order_le n h)
+command_le (Firm n) h = omega (arith, number_of_order_le n h)
 command_le (Expire now) h = omega (arith, moment_le now h)
 
 pub request_le : (line : List ℕ) (r : Request) → IsRequest line r → length line ≤ 2558

@@ -13,7 +13,7 @@ use Rattle.words.specs.OpenLines.{IsOpenLine, line_words, way_word}
 use Rattle.words.specs.Spelling.{IsInRange, command_words, spelling}
 use Rattle.words.specs.Words.{words_of}
 use Rattle.words.specs.declared.command.Command.{Command}
-use Rattle.words.specs.declared.command.Command.TheVariants.{Abort, Commit, Deliver, Expire, Field, More, Open, Rebound, Release, Transfer, Use, Writeoff}
+use Rattle.words.specs.declared.command.Command.TheVariants.{Abort, Commit, Deliver, Expire, Field, Firm, More, Open, Rebound, Release, Transfer, Use, Writeoff}
 use Rattle.words.specs.declared.command.Request.{Request as RequestOf}
 use Rattle.words.specs.declared.item.Item.{Item}
 use Rattle.words.specs.declared.item.Item.TheVariants.{AskField, AskOrder, Bad, Request}
@@ -70,7 +70,8 @@ command_of (w ∷ ws) = if bytes_eq w (codes "field") then of_5 (λ b a lo hi st
     else (if bytes_eq w (codes "release") then of_4 (λ n b a q. Release (value n) b a (value q)) ws
     else (if bytes_eq w (codes "commit") then of_1 (λ n. Commit (value n)) ws
     else (if bytes_eq w (codes "abort") then of_1 (λ n. Abort (value n)) ws
-    else of_1 (λ n. Expire (value n)) ws))))))))))
+    else (if bytes_eq w (codes "firm") then of_1 (λ n. Firm (value n)) ws
+    else of_1 (λ n. Expire (value n)) ws)))))))))))
 
 -- ---- it is the one
 
@@ -113,6 +114,7 @@ command_of-command_words (Release n b a q) h =
     let x = value-decimal n (let y = h.0.1 in omega arith) in let z = value-decimal q (let y = h.3.1 in omega arith) in λ i. Release (x i) b a (z i)
 command_of-command_words (Commit n) h = let x = value-decimal n (let y = h.1 in omega arith) in λ i. Commit (x i)
 command_of-command_words (Abort n) h = let x = value-decimal n (let y = h.1 in omega arith) in λ i. Abort (x i)
+command_of-command_words (Firm n) h = let x = value-decimal n (let y = h.1 in omega arith) in λ i. Firm (x i)
 command_of-command_words (Expire now) h = let x = value-decimal now (let y = h in omega arith) in λ i. Expire (x i)
 
 -- commands of the same words are one

@@ -16,7 +16,7 @@ use Rattle.words.specs.OpenLines.{IsOpenLine, line_words, way_word}
 use Rattle.words.specs.Spelling.{IsInRange, command_words}
 use Rattle.words.specs.Words.{spaced, words_of}
 use Rattle.words.specs.declared.command.Command.{Command}
-use Rattle.words.specs.declared.command.Command.TheVariants.{Abort, Commit, Deliver, Expire, Field, More, Open, Rebound, Release, Transfer, Use, Writeoff}
+use Rattle.words.specs.declared.command.Command.TheVariants.{Abort, Commit, Deliver, Expire, Field, Firm, More, Open, Rebound, Release, Transfer, Use, Writeoff}
 use Rattle.words.specs.declared.open_line.OpenLine.{OpenLine}
 
 -- no byte is a space
@@ -109,6 +109,7 @@ command_is_words (Release n b a qty) h =
     (text_word (codes "release") refl, (number_of_order_word n h.0, (branch_word b h.1, (article_word a h.2, (qty_word qty h.3, tt)))))
 command_is_words (Commit n) h = (text_word (codes "commit") refl, (number_of_order_word n h, tt))
 command_is_words (Abort n) h = (text_word (codes "abort") refl, (number_of_order_word n h, tt))
+command_is_words (Firm n) h = (text_word (codes "firm") refl, (number_of_order_word n h, tt))
 command_is_words (Expire now) h = (text_word (codes "expire") refl, (number_word now h, tt))
 
 -- a command has a first word
@@ -128,6 +129,7 @@ command_some (Use n b a qty) e = cc e
 command_some (Release n b a qty) e = cc e
 command_some (Commit n) e = cc e
 command_some (Abort n) e = cc e
+command_some (Firm n) e = cc e
 command_some (Expire now) e = cc e
 
 pub words-command : (c : Command) → IsInRange c → words_of (spaced (command_words c)) ≡ command_words c

@@ -3,7 +3,7 @@ use Rattle.std.specs.Prelude.{◌≡◌, ℕ, Bool, true, false, List}
 use Rattle.escrow.specs.declared.quantity.Way.{Way}
 use Rattle.words.specs.Spelling.{IsInRange, command_words}
 use Rattle.words.specs.declared.command.Command.{Command}
-use Rattle.words.specs.declared.command.Command.TheVariants.{Abort, Commit, Deliver, Expire, Field, More, Open, Rebound, Release, Transfer, Use, Writeoff}
+use Rattle.words.specs.declared.command.Command.TheVariants.{Abort, Commit, Deliver, Expire, Field, Firm, More, Open, Rebound, Release, Transfer, Use, Writeoff}
 use Rattle.words.specs.declared.open_line.OpenLine.{OpenLine}
 
 -- ---- groups of kinds
@@ -67,6 +67,9 @@ NoCommit words = (n : ℕ) → AreNot words (Commit n)
 
 abbrev pub NoAbort : List (List ℕ) → Type 0
 NoAbort words = (n : ℕ) → AreNot words (Abort n)
+
+abbrev pub NoFirm : List (List ℕ) → Type 0
+NoFirm words = (n : ℕ) → AreNot words (Firm n)
 
 abbrev pub NoExpire : List (List ℕ) → Type 0
 NoExpire words = (now : ℕ) → AreNot words (Expire now)

@@ -1,12 +1,12 @@
 -- The text of a reply.
 use Rattle.std.specs.Prelude.{ℕ, List, [], ◌∷◌, codes, decimal}
 use Rattle.words.specs.declared.reply.Refusal.{Refusal}
-use Rattle.words.specs.declared.reply.Refusal.TheVariants.{KeyReused, Full, FieldThere, NoField, BadBounds, OrderThere, NoOrder, Ended, Past, SameField, OtherWay, TooManyLines, TooLittle, TooMuch, NotHeld, OverUse, TransferFixed, ClockBack, BadCommand}
+use Rattle.words.specs.declared.reply.Refusal.TheVariants.{KeyReused, Full, FieldThere, NoField, BadBounds, OrderThere, NoOrder, Ended, Past, SameField, OtherWay, TooManyLines, TooLittle, TooMuch, NotHeld, OverUse, TransferFixed, ClockBack, Firm, BadCommand}
 use Rattle.words.specs.declared.reply.Reply.{Reply}
 use Rattle.words.specs.declared.reply.Reply.TheVariants.{Done, Refused}
 use Rattle.words.specs.Words.{spaced}
 
--- the number of a refusal; 19 is not used
+-- the number of a refusal
 abbrev pub refusal_code : Refusal → ℕ
 refusal_code KeyReused = 1
 refusal_code Full = 2
@@ -26,6 +26,7 @@ refusal_code NotHeld = 15
 refusal_code OverUse = 16
 refusal_code TransferFixed = 17
 refusal_code ClockBack = 18
+refusal_code Firm = 19
 refusal_code BadCommand = 20
 
 -- its name
@@ -48,6 +49,7 @@ refusal_name NotHeld = codes "NotHeld"
 refusal_name OverUse = codes "OverUse"
 refusal_name TransferFixed = codes "TransferFixed"
 refusal_name ClockBack = codes "ClockBack"
+refusal_name Firm = codes "Firm"
 refusal_name BadCommand = codes "BadCommand"
 
 -- a reply: the place of a command that is done, or a refusal with the line at fault

@@ -5,7 +5,7 @@ use Rattle.escrow.specs.Ranges.{IsLevel, IsMoment, IsOrderNo, IsQty}
 use Rattle.words.specs.OpenLines.{AreOpenLines, line_words, way_word}
 use Rattle.words.specs.Words.{spaced}
 use Rattle.words.specs.declared.command.Command.{Command}
-use Rattle.words.specs.declared.command.Command.TheVariants.{Abort, Commit, Deliver, Expire, Field, More, Open, Rebound, Release, Transfer, Use, Writeoff}
+use Rattle.words.specs.declared.command.Command.TheVariants.{Abort, Commit, Deliver, Expire, Field, Firm, More, Open, Rebound, Release, Transfer, Use, Writeoff}
 
 -- the words of a command; numbers are in decimal, with no zero in front
 abbrev pub command_words : Command → List (List ℕ)
@@ -20,6 +20,7 @@ command_words (Use n b a qty) = codes "use" ∷ decimal n ∷ b ∷ a ∷ decima
 command_words (Release n b a qty) = codes "release" ∷ decimal n ∷ b ∷ a ∷ decimal qty ∷ []
 command_words (Commit n) = codes "commit" ∷ decimal n ∷ []
 command_words (Abort n) = codes "abort" ∷ decimal n ∷ []
+command_words (Firm n) = codes "firm" ∷ decimal n ∷ []
 command_words (Expire now) = codes "expire" ∷ decimal now ∷ []
 
 -- its codes are codes, its numbers are in their ranges, and its lines are 1 to 64
@@ -35,6 +36,7 @@ IsInRange (Use n b a qty) = IsOrderNo n × IsBranch b × IsArticle a × IsQty qt
 IsInRange (Release n b a qty) = IsOrderNo n × IsBranch b × IsArticle a × IsQty qty
 IsInRange (Commit n) = IsOrderNo n
 IsInRange (Abort n) = IsOrderNo n
+IsInRange (Firm n) = IsOrderNo n
 IsInRange (Expire now) = IsMoment now
 
 -- the words in a row

@@ -83,7 +83,11 @@ pub enum Command {
     Abort {
         number: OrderNo,
     },
-    /// Moves the clock on, and aborts each open order whose time has come.
+    /// Makes an order firm: it is no longer to be aborted, and what it uses is settled at once.
+    Firm {
+        number: OrderNo,
+    },
+    /// Moves the clock on, and aborts each open order whose time has come and that is not firm.
     Expire {
         now: Moment,
     },
@@ -125,7 +129,7 @@ impl Command {
             Command::More { .. } | Command::Use { .. } | Command::Release { .. } => {
                 self.change_in_range();
             }
-            Command::Commit { number } | Command::Abort { number } => {
+            Command::Commit { number } | Command::Abort { number } | Command::Firm { number } => {
                 number.get();
             }
             Command::Expire { now } => {

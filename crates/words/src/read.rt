@@ -3,7 +3,7 @@
 ghost use Rattle.std.specs.Prelude.{◌≡◌, ◌≢◌, ◌<◌, ◌↔◌, ◌++◌, ◌∷◌, [], List, ℕ, IfErr, IfNone, IfOk, IfSome, IsErrOf, codes, decimal, length};
 ghost use Rattle.escrow.specs.Codes.{IsArticle, IsBranch};
 ghost use Rattle.escrow.specs.Ranges.{IsLevel, IsMoment, IsOrderNo, IsQty};
-ghost use Rattle.words.specs.Kinds.{AreNot, NoAbort, NoCommit, NoDeliver, NoExpire, NoField, NoMore, NoOpen, NoRebound, NoRelease, NoTransfer, NoUse, NoWriteoff};
+ghost use Rattle.words.specs.Kinds.{AreNot, NoAbort, NoCommit, NoDeliver, NoExpire, NoField, NoFirm, NoMore, NoOpen, NoRebound, NoRelease, NoTransfer, NoUse, NoWriteoff};
 ghost use Rattle.words.specs.OpenLines.{IsOpenLine, AreOpenLines, line_words, way_word};
 ghost use Rattle.words.specs.Spelling.{IsInRange, IsOpening, Spells, command_words};
 ghost use Rattle.words.specs.Words.{words_of};
@@ -356,12 +356,13 @@ fn read_order(verb: &[u8], rest: &[u8]) -> Option<Command>
     None
 }
 
-/// A command that ends an order, or moves the clock on.
+/// A command that ends an order or makes it firm, or moves the clock on.
 fn read_end(verb: &[u8], rest: &[u8]) -> Option<Command>
     ensures form { IfSome result IsInRange }
     ensures found { IfSome result (λ c. verb.now ∷ words_of rest.now ≡ command_words c) }
     ensures commit { IfNone result (NoCommit (verb.now ∷ words_of rest.now)) }
     ensures abort { IfNone result (NoAbort (verb.now ∷ words_of rest.now)) }
+    ensures firm { IfNone result (NoFirm (verb.now ∷ words_of rest.now)) }
     ensures expire { IfNone result (NoExpire (verb.now ∷ words_of rest.now)) }
 {
     if verb == b"commit".as_slice() {
@@ -371,6 +372,10 @@ fn read_end(verb: &[u8], rest: &[u8]) -> Option<Command>
     if verb == b"abort".as_slice() {
         let number = last_word::<OrderNo>(rest)?;
         return Some(Command::Abort { number });
+    }
+    if verb == b"firm".as_slice() {
+        let number = last_word::<OrderNo>(rest)?;
+        return Some(Command::Firm { number });
     }
     if verb == b"expire".as_slice() {
         let now = last_word::<Moment>(rest)?;

@@ -52,6 +52,8 @@ pub enum Refusal {
     TransferFixed,
     /// The moment is before the clock.
     ClockBack,
+    /// The order is firm.
+    Firm,
     /// The bytes are no spelling of a command.
     BadCommand,
 }
@@ -80,6 +82,7 @@ impl Refusal {
             Refusal::OverUse => 16,
             Refusal::TransferFixed => 17,
             Refusal::ClockBack => 18,
+            Refusal::Firm => 19,
             Refusal::BadCommand => 20,
         }
     }
@@ -107,6 +110,7 @@ impl Refusal {
             Refusal::OverUse => "OverUse",
             Refusal::TransferFixed => "TransferFixed",
             Refusal::ClockBack => "ClockBack",
+            Refusal::Firm => "Firm",
             Refusal::BadCommand => "BadCommand",
         }
     }

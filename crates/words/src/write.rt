@@ -260,6 +260,7 @@ fn push_command(out: &mut Vec<u8>, command: &Command) -> Result<(), AllocError>
         }
         Command::Commit { number } => push_end(out, b"commit", number.get()),
         Command::Abort { number } => push_end(out, b"abort", number.get()),
+        Command::Firm { number } => push_end(out, b"firm", number.get()),
         Command::Expire { now } => push_end(out, b"expire", now.get()),
     }
 }

@@ -8,4 +8,4 @@ returns-clause-none c =
     let order = c.in_default-read_order.ensures in
     let end = c.in_default-read_end.ensures in
     none_plain c.args.verb.now (words_of c.args.rest.now) c.requires stock.field stock.deliver stock.writeoff stock.rebound
-    order.transfer order.more order.part.0 order.part.1 end.commit end.abort end.expire
+    order.transfer order.more order.part.0 order.part.1 end.commit end.abort end.firm end.expire
