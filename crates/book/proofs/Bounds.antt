@@ -1,6 +1,6 @@
 -- The least and the greatest result over all outcomes, by what is held.
-use Rattle.book.proofs.Prelude.{[], ◌&&◌, ◌+ℤ◌, ◌-ℤ◌, ◌<ℤ◌, ◌||◌, ◌↔◌, ◌∙◌, ◌∷◌, ◌≡◌, ◌≤ℤ◌, ◌≤◌, Add, Bool, Each, FallsBelow, Field, IsInfimum, IsSafe, IsSomeAnd, IsSupremum, IsTrue, IsWithin, Ledger, Line, List, Name, None, Option, Order, RisesAbove, Some, Take, Way, ap, arith, false, field_named, held_to_add, held_to_take, if_add, if_take, if◌then◌else◌, ints, is_open, list_any, moved, neg_ℤ, on, pos, refl, settled, signed, subst, sym, total, true, true≢false, ℕ, ℤ}
-use Rattle.book.specs.Outcomes.{Outcome, IsOutcome, outcome_result}
+use Rattle.book.proofs.Prelude.{[], ◌&&◌, ◌+ℤ◌, ◌-ℤ◌, ◌-◌, ◌<ℤ◌, ◌||◌, ◌↔◌, ◌∙◌, ◌∷◌, ◌≡◌, ◌≤ℤ◌, ◌≤◌, Add, Bool, Each, FallsBelow, Field, IsInfimum, IsSafe, IsSomeAnd, IsSupremum, IsTrue, IsWithin, Ledger, Line, List, Name, None, Option, Order, RisesAbove, Some, Take, Way, ap, arith, false, field_named, held_to_add, held_to_take, if_add, if_take, if◌then◌else◌, ints, is_open, list_any, moved, neg_ℤ, on, pos, refl, settled, signed, subst, sym, total, true, true≢false, unsettled, ℕ, ℤ}
+use Rattle.book.specs.Outcomes.{Outcome, IsOutcome, commits_in, outcome_result}
 use Rattle.book.proofs.Sums.{each-imp}
 
 -- at most one line is on the field
@@ -33,34 +33,44 @@ abbrev toward : Way → ℤ → ℤ
 toward Take z = neg_ℤ z
 toward Add z = z
 
-abbrev pub takes : Name → Line → ℤ
-takes f l = if on f l then pos (if_take l.way l.held) else pos 0
+-- what a line holds beyond what is settled, in an order that is firm or not
+abbrev pub takes : Bool → Name → Line → ℤ
+takes m f l = if on f l then pos (if_take l.way (unsettled m l l.held)) else pos 0
 
-abbrev pub adds : Name → Line → ℤ
-adds f l = if on f l then pos (if_add l.way l.held) else pos 0
+abbrev pub adds : Bool → Name → Line → ℤ
+adds m f l = if on f l then pos (if_add l.way (unsettled m l l.held)) else pos 0
 
 has : (Way → Bool) → Name → List Line → Bool
 has w f ls = list_any (λ l. on f l && w l.way) ls
 
--- one line, at any amount up to what is held
+-- one line, at any amount from what is used to what is held
 
-pub takes-not_negative : (f : Name) (ls : List Line) → pos 0 ≤ℤ total (takes f) ls
-takes-not_negative f [] = omega (arith, ints)
-takes-not_negative f (l ∷ ls) = let more = takes-not_negative f ls in grind arith
+when-not_negative : (b : Bool) (n : ℕ) → pos 0 ≤ℤ (if b then pos n else pos 0)
+when-not_negative b n = grind arith
 
-pub adds-not_negative : (f : Name) (ls : List Line) → pos 0 ≤ℤ total (adds f) ls
-adds-not_negative f [] = omega (arith, ints)
-adds-not_negative f (l ∷ ls) = let more = adds-not_negative f ls in grind arith
+one_low : (b m : Bool) (w : Way) (used amount held : ℕ) → used ≤ amount → amount ≤ held → neg_ℤ (if b then pos (if_take w (if m then held - used else held)) else pos 0) ≤ℤ (if b then signed w (if m then amount - used else amount) else pos 0)
+one_low b m w used amount held p q = grind (arith, ints)
 
-pub moved-low : (f : Name) (amount : Line → ℕ) (ls : List Line) → Each (λ l. (l.used ≤ amount l) × (amount l ≤ l.held)) ls
-    → neg_ℤ (total (takes f) ls) ≤ℤ total (λ l. if on f l then signed l.way (amount l) else pos 0) ls
-moved-low f amount [] h = omega (arith, ints)
-moved-low f amount (l ∷ ls) h = let more = moved-low f amount ls h.1 in grind (arith, ints)
+one_high : (b m : Bool) (w : Way) (used amount held : ℕ) → used ≤ amount → amount ≤ held → (if b then signed w (if m then amount - used else amount) else pos 0) ≤ℤ (if b then pos (if_add w (if m then held - used else held)) else pos 0)
+one_high b m w used amount held p q = grind (arith, ints)
 
-pub moved-high : (f : Name) (amount : Line → ℕ) (ls : List Line) → Each (λ l. (l.used ≤ amount l) × (amount l ≤ l.held)) ls
-    → total (λ l. if on f l then signed l.way (amount l) else pos 0) ls ≤ℤ total (adds f) ls
-moved-high f amount [] h = omega (arith, ints)
-moved-high f amount (l ∷ ls) h = let more = moved-high f amount ls h.1 in grind (arith, ints)
+pub takes-not_negative : (m : Bool) (f : Name) (ls : List Line) → pos 0 ≤ℤ total (takes m f) ls
+takes-not_negative m f [] = omega (arith, ints)
+takes-not_negative m f (l ∷ ls) = let more = takes-not_negative m f ls in let one = when-not_negative (on f l) (if_take l.way (unsettled m l l.held)) in omega (arith, ints)
+
+pub adds-not_negative : (m : Bool) (f : Name) (ls : List Line) → pos 0 ≤ℤ total (adds m f) ls
+adds-not_negative m f [] = omega (arith, ints)
+adds-not_negative m f (l ∷ ls) = let more = adds-not_negative m f ls in let one = when-not_negative (on f l) (if_add l.way (unsettled m l l.held)) in omega (arith, ints)
+
+pub moved-low : (m : Bool) (f : Name) (amount : Line → ℕ) (ls : List Line) → Each (λ l. (l.used ≤ amount l) × (amount l ≤ l.held)) ls
+    → neg_ℤ (total (takes m f) ls) ≤ℤ total (λ l. if on f l then signed l.way (unsettled m l (amount l)) else pos 0) ls
+moved-low m f amount [] h = omega (arith, ints)
+moved-low m f amount (l ∷ ls) h = let more = moved-low m f amount ls h.1 in let one = one_low (on f l) m l.way l.used (amount l) l.held h.0.0 h.0.1 in omega (arith, ints)
+
+pub moved-high : (m : Bool) (f : Name) (amount : Line → ℕ) (ls : List Line) → Each (λ l. (l.used ≤ amount l) × (amount l ≤ l.held)) ls
+    → total (λ l. if on f l then signed l.way (unsettled m l (amount l)) else pos 0) ls ≤ℤ total (adds m f) ls
+moved-high m f amount [] h = omega (arith, ints)
+moved-high m f amount (l ∷ ls) h = let more = moved-high m f amount ls h.1 in let one = one_high (on f l) m l.way l.used (amount l) l.held h.0.0 h.0.1 in omega (arith, ints)
 
 -- one order: it is open or not, and commits or not
 
@@ -73,26 +83,26 @@ order_high b c held m p q = grind arith
 -- every outcome is within what is held
 
 least : (A : Ledger) (f : Field) (X : Outcome) → IsOutcome A X → (settled A f -ℤ held_to_take A f.name) ≤ℤ outcome_result A X f
-least A f X h = let below : neg_ℤ (held_to_take A f.name) ≤ℤ total (λ o. if is_open o && X.commits o then moved f.name (X.amount o) o else pos 0) A.orders = go A.orders h in omega (arith, ints)
+least A f X h = let below : neg_ℤ (held_to_take A f.name) ≤ℤ total (λ o. if commits_in X o then moved f.name (λ l. unsettled o.firm l (X.amount o l)) o else pos 0) A.orders = go A.orders h in omega (arith, ints)
   where
-    go : (os : List Order) → Each (λ o. IsTrue (is_open o && X.commits o) → Each (λ l. (l.used ≤ X.amount o l) × (X.amount o l ≤ l.held)) o.lines) os
-        → neg_ℤ (total (λ o. if is_open o then total (takes f.name) o.lines else pos 0) os) ≤ℤ total (λ o. if is_open o && X.commits o then moved f.name (X.amount o) o else pos 0) os
+    go : (os : List Order) → Each (λ o. IsTrue (commits_in X o) → Each (λ l. (l.used ≤ X.amount o l) × (X.amount o l ≤ l.held)) o.lines) os
+        → neg_ℤ (total (λ o. if is_open o then total (takes o.firm f.name) o.lines else pos 0) os) ≤ℤ total (λ o. if commits_in X o then moved f.name (λ l. unsettled o.firm l (X.amount o l)) o else pos 0) os
     go [] h = omega (arith, ints)
     go (o ∷ os) h =
-        let a : neg_ℤ (if is_open o then total (takes f.name) o.lines else pos 0) ≤ℤ (if is_open o && X.commits o then moved f.name (X.amount o) o else pos 0)
-        = order_low (is_open o) (X.commits o) (total (takes f.name) o.lines) (moved f.name (X.amount o) o) (takes-not_negative f.name o.lines) (λ c. moved-low f.name (X.amount o) o.lines (h.0 c)) in
+        let a : neg_ℤ (if is_open o then total (takes o.firm f.name) o.lines else pos 0) ≤ℤ (if commits_in X o then moved f.name (λ l. unsettled o.firm l (X.amount o l)) o else pos 0)
+        = order_low (is_open o) (o.firm || X.commits o) (total (takes o.firm f.name) o.lines) (moved f.name (λ l. unsettled o.firm l (X.amount o l)) o) (takes-not_negative o.firm f.name o.lines) (λ c. moved-low o.firm f.name (X.amount o) o.lines (h.0 c)) in
         let b = go os h.1 in
         omega (arith, ints)
 
 greatest : (A : Ledger) (f : Field) (X : Outcome) → IsOutcome A X → outcome_result A X f ≤ℤ (settled A f +ℤ held_to_add A f.name)
-greatest A f X h = let above : total (λ o. if is_open o && X.commits o then moved f.name (X.amount o) o else pos 0) A.orders ≤ℤ held_to_add A f.name = go A.orders h in omega (arith, ints)
+greatest A f X h = let above : total (λ o. if commits_in X o then moved f.name (λ l. unsettled o.firm l (X.amount o l)) o else pos 0) A.orders ≤ℤ held_to_add A f.name = go A.orders h in omega (arith, ints)
   where
-    go : (os : List Order) → Each (λ o. IsTrue (is_open o && X.commits o) → Each (λ l. (l.used ≤ X.amount o l) × (X.amount o l ≤ l.held)) o.lines) os
-        → total (λ o. if is_open o && X.commits o then moved f.name (X.amount o) o else pos 0) os ≤ℤ total (λ o. if is_open o then total (adds f.name) o.lines else pos 0) os
+    go : (os : List Order) → Each (λ o. IsTrue (commits_in X o) → Each (λ l. (l.used ≤ X.amount o l) × (X.amount o l ≤ l.held)) o.lines) os
+        → total (λ o. if commits_in X o then moved f.name (λ l. unsettled o.firm l (X.amount o l)) o else pos 0) os ≤ℤ total (λ o. if is_open o then total (adds o.firm f.name) o.lines else pos 0) os
     go [] h = omega (arith, ints)
     go (o ∷ os) h =
-        let a : (if is_open o && X.commits o then moved f.name (X.amount o) o else pos 0) ≤ℤ (if is_open o then total (adds f.name) o.lines else pos 0)
-        = order_high (is_open o) (X.commits o) (total (adds f.name) o.lines) (moved f.name (X.amount o) o) (adds-not_negative f.name o.lines) (λ c. moved-high f.name (X.amount o) o.lines (h.0 c)) in
+        let a : (if commits_in X o then moved f.name (λ l. unsettled o.firm l (X.amount o l)) o else pos 0) ≤ℤ (if is_open o then total (adds o.firm f.name) o.lines else pos 0)
+        = order_high (is_open o) (o.firm || X.commits o) (total (adds o.firm f.name) o.lines) (moved f.name (λ l. unsettled o.firm l (X.amount o l)) o) (adds-not_negative o.firm f.name o.lines) (λ c. moved-high o.firm f.name (X.amount o) o.lines (h.0 c)) in
         let b = go os h.1 in
         omega (arith, ints)
 
@@ -108,21 +118,45 @@ unfolding has
 none-has w f [] h = refl
 none-has w f (l ∷ ls) h = rw h.0 (none-has w f ls h.1)
 
--- what a line holds that way on the field
-abbrev held : Way → Name → Line → ℤ
-held w f l = if on f l then pos (if_way w l.way l.held) else pos 0
+-- what a line holds that way on the field beyond what is settled, in an order that is firm or not
+abbrev pub held : Way → Bool → Name → Line → ℤ
+held w m f l = if on f l then pos (if_way w l.way (unsettled m l l.held)) else pos 0
 
-full_step : (w : Way) (b : Bool) (v : Way) (h : ℕ) (r s : ℤ) (any : Bool) → (b ≡ true → (r ≡ pos 0) × (s ≡ pos 0) × (any ≡ false)) → (any ≡ true → r ≡ toward w s)
-    → (b && is_way w v || any) ≡ true → (if b then signed v h else pos 0) +ℤ r ≡ toward w ((if b then pos (if_way w v h) else pos 0) +ℤ s)
+-- the amount of a line in that outcome: all that is held that way, and no more than is used the other way
+abbrev reaching : Way → Line → ℕ
+reaching w l = if is_way w l.way then l.held else l.used
+
+-- what a line moves then, of a firm order, whichever way it has
+firm_step : (w : Way) (b : Bool) (v : Way) (used held : ℕ) → used ≤ held → (if b then signed v ((if is_way w v then held else used) - used) else pos 0) ≡ toward w (if b then pos (if_way w v (held - used)) else pos 0)
 unfolding is_way
-full_step Take b v h r s any p q e = grind arith
-full_step Add b v h r s any p q e = grind arith
+firm_step Take b v used held h = grind (arith, ints)
+firm_step Add b v used held h = grind (arith, ints)
 
-in_full : (w : Way) (f : Name) (ls : List Line) → OneOn f ls → has (is_way w) f ls ≡ true → total (λ l. if on f l then signed l.way l.held else pos 0) ls ≡ toward w (total (held w f) ls)
+both_toward : (w : Way) (y z : ℤ) → toward w (y +ℤ z) ≡ toward w y +ℤ toward w z
+both_toward Take y z = omega (arith, ints)
+both_toward Add y z = refl
+
+nothing_toward : (w : Way) → pos 0 ≡ toward w (pos 0)
+nothing_toward Take = refl
+nothing_toward Add = refl
+
+in_firm : (w : Way) (f : Name) (ls : List Line) → Each (λ l. l.used ≤ l.held) ls → total (λ l. if on f l then signed l.way (unsettled true l (reaching w l)) else pos 0) ls ≡ toward w (total (held w true f) ls)
+in_firm w f [] h = nothing_toward w
+in_firm w f (l ∷ ls) h = let a = firm_step w (on f l) l.way l.used l.held h.0 in let b = in_firm w f ls h.1 in (λ i. a i +ℤ b i) ∙ sym (both_toward w (held w true f l) (total (held w true f) ls))
+
+-- of one that is not firm, where it commits only with a line that way on the field, which is its one line there
+
+full_step : (w : Way) (b : Bool) (v : Way) (used h : ℕ) (r s : ℤ) (any : Bool) → (b ≡ true → (r ≡ pos 0) × (s ≡ pos 0) × (any ≡ false)) → (any ≡ true → r ≡ toward w s)
+    → (b && is_way w v || any) ≡ true → (if b then signed v (if is_way w v then h else used) else pos 0) +ℤ r ≡ toward w ((if b then pos (if_way w v h) else pos 0) +ℤ s)
+unfolding is_way
+full_step Take b v used h r s any p q e = grind arith
+full_step Add b v used h r s any p q e = grind arith
+
+in_full : (w : Way) (f : Name) (ls : List Line) → OneOn f ls → has (is_way w) f ls ≡ true → total (λ l. if on f l then signed l.way (unsettled false l (reaching w l)) else pos 0) ls ≡ toward w (total (held w false f) ls)
 unfolding has
 in_full w f [] one e = absurd (true≢false (sym e))
-in_full w f (l ∷ ls) one e = full_step w (on f l) l.way l.held (total (λ l. if on f l then signed l.way l.held else pos 0) ls) (total (held w f) ls) (has (is_way w) f ls)
-    (λ b. (none-total f (λ l. signed l.way l.held) ls (one.0 b), none-total f (λ l. pos (if_way w l.way l.held)) ls (one.0 b), none-has (is_way w) f ls (one.0 b)))
+in_full w f (l ∷ ls) one e = full_step w (on f l) l.way l.used l.held (total (λ l. if on f l then signed l.way (reaching w l) else pos 0) ls) (total (held w false f) ls) (has (is_way w) f ls)
+    (λ b. (none-total f (λ l. signed l.way (reaching w l)) ls (one.0 b), none-total f (λ l. pos (if_way w l.way l.held)) ls (one.0 b), none-has (is_way w) f ls (one.0 b)))
     (λ h. in_full w f ls one.1 h) e
 
 none_step : (w : Way) (b : Bool) (v : Way) (h : ℕ) (s : ℤ) (any : Bool) → (any ≡ false → s ≡ pos 0) → (b && is_way w v || any) ≡ false → (if b then pos (if_way w v h) else pos 0) +ℤ s ≡ pos 0
@@ -130,41 +164,42 @@ unfolding is_way
 none_step Take b v h s any q e = grind arith
 none_step Add b v h s any q e = grind arith
 
-none_held : (w : Way) (f : Name) (ls : List Line) → has (is_way w) f ls ≡ false → total (held w f) ls ≡ pos 0
+none_held : (w : Way) (f : Name) (ls : List Line) → has (is_way w) f ls ≡ false → total (held w false f) ls ≡ pos 0
 unfolding has
 none_held w f [] e = refl
-none_held w f (l ∷ ls) e = none_step w (on f l) l.way l.held (total (held w f) ls) (has (is_way w) f ls) (λ h. none_held w f ls h) e
+none_held w f (l ∷ ls) e = none_step w (on f l) l.way l.held (total (held w false f) ls) (has (is_way w) f ls) (λ h. none_held w f ls h) e
 
--- every open order with such a line on the field commits in full, and no other
+-- every open order with such a line on the field commits, and beside it the firm ones alone
 extreme : Way → Name → Outcome
-extreme w f = record { commits = λ o. has (is_way w) f o.lines; amount = λ o l. l.held }
+extreme w f = record { commits = λ o. has (is_way w) f o.lines; amount = λ o l. reaching w l }
+
+reaches : (b : Bool) (used held : ℕ) → used ≤ held → (used ≤ (if b then held else used)) × ((if b then held else used) ≤ held)
+reaches b used held h = grind arith
 
 extreme-outcome : (w : Way) (f : Name) (A : Ledger) → Each Sound A.orders → IsOutcome A (extreme w f)
 unfolding extreme
-extreme-outcome w f A h = each-imp (λ o s c. each-imp (λ l u. (u, omega arith)) o.lines s.used) A.orders h
+extreme-outcome w f A h = each-imp (λ o s c. each-imp (λ l u. reaches (is_way w l.way) l.used l.held u) o.lines s.used) A.orders h
 
 extreme_order : (w : Way) (b c : Bool) (m z : ℤ) → (c ≡ true → m ≡ toward w z) → (c ≡ false → z ≡ pos 0) → (if b && c then m else pos 0) ≡ toward w (if b then z else pos 0)
 extreme_order Take b c m z p q = grind arith
 extreme_order Add b c m z p q = grind arith
 
-both_toward : (w : Way) (y z : ℤ) → toward w (y +ℤ z) ≡ toward w y +ℤ toward w z
-both_toward Take y z = omega (arith, ints)
-both_toward Add y z = refl
+-- one order, firm or not
+one_order : (w : Way) (f : Name) (b m : Bool) (ls : List Line) → OneOn f ls → Each (λ l. l.used ≤ l.held) ls
+    → (if b && (m || has (is_way w) f ls) then total (λ l. if on f l then signed l.way (unsettled m l (reaching w l)) else pos 0) ls else pos 0) ≡ toward w (if b then total (held w m f) ls else pos 0)
+one_order w f b true ls one used = extreme_order w b true (total (λ l. if on f l then signed l.way (unsettled true l (reaching w l)) else pos 0) ls) (total (held w true f) ls) (λ _. in_firm w f ls used) (λ e. absurd (true≢false e))
+one_order w f b false ls one used = extreme_order w b (has (is_way w) f ls) (total (λ l. if on f l then signed l.way (unsettled false l (reaching w l)) else pos 0) ls) (total (held w false f) ls) (in_full w f ls one) (none_held w f ls)
 
-extreme-result : (w : Way) (f : Field) (A : Ledger) → Each Sound A.orders → outcome_result A (extreme w f.name) f ≡ settled A f +ℤ toward w (total (λ o. if is_open o then total (held w f.name) o.lines else pos 0) A.orders)
+extreme-result : (w : Way) (f : Field) (A : Ledger) → Each Sound A.orders → outcome_result A (extreme w f.name) f ≡ settled A f +ℤ toward w (total (λ o. if is_open o then total (held w o.firm f.name) o.lines else pos 0) A.orders)
 unfolding extreme
 extreme-result w f A h = ap (λ z. settled A f +ℤ z) (go A.orders h)
   where
-    go : (os : List Order) → Each Sound os → total (λ o. if is_open o && has (is_way w) f.name o.lines then moved f.name (λ l. l.held) o else pos 0) os ≡ toward w (total (λ o. if is_open o then total (held w f.name) o.lines else pos 0) os)
-    go [] h = none w
-      where
-        none : (w : Way) → pos 0 ≡ toward w (pos 0)
-        none Take = refl
-        none Add = refl
+    go : (os : List Order) → Each Sound os → total (λ o. if commits_in (extreme w f.name) o then moved f.name (λ l. unsettled o.firm l (reaching w l)) o else pos 0) os ≡ toward w (total (λ o. if is_open o then total (held w o.firm f.name) o.lines else pos 0) os)
+    go [] h = nothing_toward w
     go (o ∷ os) h =
-        let a = extreme_order w (is_open o) (has (is_way w) f.name o.lines) (moved f.name (λ l. l.held) o) (total (held w f.name) o.lines) (in_full w f.name o.lines (h.0.one f.name)) (none_held w f.name o.lines) in
+        let a = one_order w f.name (is_open o) o.firm o.lines (h.0.one f.name) h.0.used in
         let b = go os h.1 in
-        (λ i. a i +ℤ b i) ∙ sym (both_toward w (if is_open o then total (held w f.name) o.lines else pos 0) (total (λ o. if is_open o then total (held w f.name) o.lines else pos 0) os))
+        (λ i. a i +ℤ b i) ∙ sym (both_toward w (if is_open o then total (held w o.firm f.name) o.lines else pos 0) (total (λ o. if is_open o then total (held w o.firm f.name) o.lines else pos 0) os))
 
 least-result : (f : Field) (A : Ledger) → Each Sound A.orders → outcome_result A (extreme Take f.name) f ≡ settled A f -ℤ held_to_take A f.name
 least-result f A h = let e = extreme-result Take f A h in omega (arith, ints)

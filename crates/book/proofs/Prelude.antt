@@ -1,22 +1,22 @@
 -- The words that lemmas and answers speak in: definitions and lemmas from elsewhere that several files name.
-pub use Rattle.book.specs.After.{IsShort, aborted_rows, added_part, changed_orders, changes_own_line, changes_state, expired_numbers, field_row, field_rows, is_touched, line_rows, moved_by_command, moved_part, of_numbered, order_after, order_number, some_has_line, some_part, taken_part, with_fields, with_kept, with_lines, with_moves, with_orders}
-pub use Rattle.book.specs.Answers.{Answers, AnswersNew, Check, FirstFailure, IsAccepted, Runs, bound, checks, full, line_checks, no_field, order_checks, same_command}
-pub use Rattle.book.specs.Changes.{changed_rows, changes_field, changes_line, changes_move, changes_order, has_line_on, order_is, put_content, put_row, put_rows}
+pub use Rattle.book.specs.After.{IsShort, aborted_rows, added_part, changed_orders, changes_own_line, changes_state, expired_numbers, field_row, field_rows, is_touched, line_rows, moved_by_command, moved_part, of_numbered, order_after, order_number, some_has_line, some_part, taken_part, with_fields, with_firms, with_kept, with_lines, with_moves, with_orders}
+pub use Rattle.book.specs.Answers.{Answers, AnswersNew, Check, FirstFailure, IsAccepted, Runs, bound, checks, full, line_checks, loose_checks, no_field, order_checks, same_command}
+pub use Rattle.book.specs.Changes.{changed_rows, changes_field, changes_firm, changes_line, changes_move, changes_order, has_line_on, order_is, put_content, put_row, put_rows}
 pub use Rattle.book.specs.Checking.{stock_checks}
 pub use Rattle.book.specs.Future.{AsksNoStock, IsFuture, Stands}
 pub use Rattle.book.specs.Good.{Good, IsGoodField, IsGoodKept, IsGoodLine, IsGoodMove, IsGoodOrder, IsTransferPair}
 pub use Rattle.book.specs.Held.{BreaksBound, MayHoldMore, held_to_add, held_to_take, if_add, if_take}
 pub use Rattle.book.specs.InOrder.{IsGap, at_indexes, compare_at, room_left}
 pub use Rattle.book.specs.InPlace.{MayChangeOrder, abort_all, abort_one, changed_line, changed_order}
-pub use Rattle.book.specs.Ledger.{Field, Kept, Ledger, Move, Name, Order, committed_state, field_named, insert_in_order, is_committed, is_open, is_transfer, kept_under, line_name, line_on, name_cmp, name_of, new_ledger, on, open_orders, open_state, order_numbered, places, same_name, transfer_kind}
-pub use Rattle.book.specs.Next.{accept, add_hold, change_lines, change_order, expires, hold_more, lower_held, new_line, new_order, next, raise_held, raise_used, set_state, transfer_lines, with_move, with_order}
+pub use Rattle.book.specs.Ledger.{Field, Kept, Ledger, Move, Name, Order, field_named, insert_in_order, is_open, is_settled, is_transfer, kept_under, line_name, line_on, name_cmp, name_of, new_ledger, on, open_orders, open_state, order_numbered, places, same_name, settled_state, shown_state, transfer_kind, unsettled}
+pub use Rattle.book.specs.Next.{accept, add_hold, change_lines, change_order, expires, hold_more, lower_held, new_line, new_order, next, raise_held, raise_used, set_firm, set_state, transfer_lines, with_move, with_order}
 pub use Rattle.book.specs.Outcomes.{FallsBelow, IsInfimum, IsSafe, IsSupremum, IsWithin, RisesAbove, article_total, moved, settled, signed, total}
 pub use Rattle.book.specs.Plans.{ChangesTo}
-pub use Rattle.book.specs.Rows.{Content, DeskCells, FieldCells, IsFieldRow, IsRowsOf, KeptCells, LineCells, OrderCells, desk_row, field_cmp, kept_cmp, kept_row, line_cmp, line_row, lines_from, move_cmp, move_row, order_cmp, order_lines, order_row}
-pub use Rattle.book.specs.Running.{Accepts, Becomes, GivenBack, GivesBack, HasEntry, IsChangedField, IsUpToDate, MayBecome, MayGiveBack, Puts, entry_row, expired_lines, with_entries}
+pub use Rattle.book.specs.Rows.{Content, DeskCells, FieldCells, FirmCells, IsFieldRow, IsRowsOf, KeptCells, LineCells, OrderCells, desk_row, field_cmp, firm_cmp, firm_row, firm_rows, kept_cmp, kept_row, line_cmp, line_row, lines_from, move_cmp, move_row, order_cmp, order_lines, order_row}
+pub use Rattle.book.specs.Running.{Accepts, Becomes, GivenBack, GivesBack, HasEntry, IsChangedField, IsUpToDate, MayBecome, MayGiveBack, Puts, entry_row, expired_lines, share_numbers, share_of, share_on, with_entries}
 pub use Rattle.book.specs.Sums.{AreLinesOnFields, AreMovesOnFields, AreOnFields, AreOrdersOnFields, IsField, added, entry_name, lines_numbers, numbers_on, only_on, part_of_line}
-pub use Rattle.book.specs.Tables.{field_cells, kept_cells, line_cells, move_cells, order_cells, rows_among}
-pub use Rattle.book.specs.Told.{AreNumbered, AreOthers, BeginsOther, HasNumbers, HaveNumbers, IsBounded, IsFieldTold, IsKeptTold, IsLineTold, IsMoveByItself, IsMoveTold, IsOrderByItself, IsWhole, TellOrders, TellsField, head_of, told_ledger}
+pub use Rattle.book.specs.Tables.{field_cells, firm_cells, kept_cells, line_cells, move_cells, order_cells, rows_among}
+pub use Rattle.book.specs.Told.{AreNumbered, AreOthers, BeginsOther, HasNumbers, HaveNumbers, IsBounded, IsFieldTold, IsKeptTold, IsLineTold, IsMoveByItself, IsMoveTold, IsOrderByItself, IsWhole, TellOrders, TellsField, head_of, head_row, mark_rows, told_ledger}
 pub use Rattle.book.specs.View.{BookView, field_of, kept_of, ledger_of, move_of, order_of, view_of}
 pub use Rattle.book.specs.Walk.{IsSmall, most_of_all, most_of_line, most_of_lines, most_of_move, most_of_moves, moved_by_move, moved_by_order, nothing, plus}
 pub use Rattle.book.specs.declared.book.Book.TheInside.{Inside}
@@ -30,10 +30,12 @@ pub use Rattle.book.specs.declared.limits.TheConstants.{MAX_PLACES}
 pub use Rattle.book.specs.declared.order.Kind.TheVariants.{Plain, Transfer}
 pub use Rattle.book.specs.declared.order.Kind.{Kind}
 pub use Rattle.book.specs.declared.order.Line.{Line}
+pub use Rattle.book.specs.declared.order.Share.{Share}
 pub use Rattle.book.specs.declared.order.State.TheVariants.{Aborted, Committed, Open}
 pub use Rattle.book.specs.declared.order.State.{State}
 pub use Rattle.book.specs.declared.rows.Change.{Change}
 pub use Rattle.book.specs.declared.rows.FieldRow.{FieldRow}
+pub use Rattle.book.specs.declared.rows.FirmRow.{FirmRow}
 pub use Rattle.book.specs.declared.rows.KeptRow.{KeptRow}
 pub use Rattle.book.specs.declared.rows.LineRow.{LineRow}
 pub use Rattle.book.specs.declared.rows.MoveRow.{MoveRow}
@@ -44,7 +46,7 @@ pub use Rattle.escrow.specs.Ranges.{IsLevel, IsMoment, IsQty}
 pub use Rattle.escrow.specs.Stock.{Stock}
 pub use Rattle.escrow.specs.declared.quantity.Way.TheVariants.{Add, Take}
 pub use Rattle.escrow.specs.declared.quantity.Way.{Way}
-pub use Rattle.std.proofs.Common.{[], ◌&&◌, ◌*◌, ◌++◌, ◌+ℤ◌, ◌+◌, ◌-ℤ◌, ◌-◌, ◌<ℤ◌, ◌<◌, ◌==◌, ◌^◌, ◌||◌, ◌↔◌, ◌∙◌, ◌∷◌, ◌≡◌, ◌≢◌, ◌≤ℤ◌, ◌≤◌, ◌⊎◌, Bool, Bor, Err, Global, IfErr, IfOk, IfSome, IsFalse, IsNone, IsSome, IsSomeAnd, IsTrue, List, MatchOption, MatchResult, None, Ok, OnOk, Option, Result, Some, String, add-one, add-zero, ap, arith, codes, cond, count_by, decimal, drop, drop-drop, eqb, false, find, flat_map, get_or, if◌then◌else◌, inl, inr, is_some, length, length-append, length-drop, length-set, length-take, map, nat_abs, nat_eq, nat_le, nat_lt, neg_ℤ, negsuc, of_calls, pos, refl, rules, set, slice_get, slice_index_or, string_bytes, subst, suc, sym, take, true, true≢false, zero, zero-add, ℕ, ℤ}
+pub use Rattle.std.proofs.Common.{[], ◌&&◌, ◌*◌, ◌++◌, ◌+ℤ◌, ◌+◌, ◌-ℤ◌, ◌-◌, ◌<ℤ◌, ◌<◌, ◌==◌, ◌^◌, ◌||◌, ◌↔◌, ◌∙◌, ◌∷◌, ◌≡◌, ◌≢◌, ◌≤ℤ◌, ◌≤◌, ◌⊎◌, Bool, Bor, Err, Global, IfErr, IfOk, IfSome, IsFalse, IsNone, IsSome, IsSomeAnd, IsTrue, List, MatchOption, MatchResult, None, Ok, OnOk, Option, Result, Some, String, add-one, add-zero, ap, arith, codes, cond, count_by, decimal, drop, drop-drop, eqb, false, find, flat_map, get_or, if◌then◌else◌, inl, inr, is_some, length, length-append, length-drop, length-set, length-take, map, nat_abs, nat_eq, nat_le, nat_lt, neg_ℤ, negsuc, not, of_calls, pos, refl, rules, set, slice_get, slice_index_or, string_bytes, subst, suc, sym, take, true, true≢false, zero, zero-add, ℕ, ℤ}
 pub use Rattle.std.proofs.lemmas.Bool.Decides.{nat_tests}
 pub use Rattle.std.proofs.lemmas.Bool.{cases_lt}
 pub use Rattle.std.proofs.lemmas.Cmp.{int_cmp_total, nat_cmp_total, nat_list_cmp_total, on_total, then_total, tied_itself}

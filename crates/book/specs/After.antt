@@ -1,21 +1,21 @@
 -- What an accepted command leaves of the orders, and the rows of a ledger as sums over its entries give them.
-use Rattle.std.specs.Prelude.{ℕ, ◌+◌, ◌≤◌, ℤ, pos, neg_ℤ, ◌+ℤ◌, ◌-ℤ◌, Bool, true, false, ◌||◌, ◌==◌, ◌++◌, List, [], ◌∷◌, filter, flat_map, map, Option, None, Some, option_map, MatchOption, length, if◌then◌else◌}
+use Rattle.std.specs.Prelude.{ℕ, ◌+◌, ◌≤◌, ℤ, pos, neg_ℤ, ◌+ℤ◌, ◌-ℤ◌, Bool, true, false, ◌&&◌, ◌||◌, ◌==◌, ◌++◌, List, [], ◌∷◌, filter, flat_map, map, Option, None, Some, option_map, MatchOption, length, if◌then◌else◌}
 use Rattle.std.specs.Option.{option_map_or}
 use Rattle.escrow.specs.declared.quantity.Way.{Way}
 use Rattle.escrow.specs.declared.quantity.Way.TheVariants.{Add, Take}
 use Rattle.words.specs.declared.command.Command.{Command}
 use Rattle.words.specs.declared.command.Request.{Request}
-use Rattle.words.specs.declared.command.Command.TheVariants.{Abort, Commit, Deliver, Expire, Field, More, Open, Rebound, Release, Transfer, Use, Writeoff}
+use Rattle.words.specs.declared.command.Command.TheVariants.{Abort, Commit, Deliver, Expire, Field, Firm, More, Open, Rebound, Release, Transfer, Use, Writeoff}
 use Rattle.words.specs.declared.limits.TheConstants.{MAX_ORDER_LINES}
 use Rattle.book.specs.declared.order.Line.{Line}
 use Rattle.book.specs.Changes.{changes_field, has_line_on}
 use Rattle.book.specs.declared.order.Kind.TheVariants as kind
 use Rattle.book.specs.declared.order.State.TheVariants as state
 use Rattle.book.specs.Held.{held_to_add, held_to_take, if_add, if_take}
-use Rattle.book.specs.Ledger.{Field as FieldOf, Ledger, Move, Name, Order, is_committed, is_open, is_transfer, line_name, name_of, on, order_numbered, same_name}
-use Rattle.book.specs.Next.{accept, add_hold, change_lines, expires, lower_held, new_order, raise_used, set_state, transfer_lines}
+use Rattle.book.specs.Ledger.{Field as FieldOf, Ledger, Move, Name, Order, is_open, is_settled, is_transfer, line_name, name_of, on, order_numbered, same_name, unsettled}
+use Rattle.book.specs.Next.{accept, add_hold, change_lines, expires, lower_held, new_order, raise_used, set_firm, set_state, transfer_lines}
 use Rattle.book.specs.Outcomes.{moved, settled, signed, total}
-use Rattle.book.specs.Rows.{Content, FieldCells, KeptCells, LineCells, MoveCells, OrderCells, line_row, move_row, order_row}
+use Rattle.book.specs.Rows.{Content, FieldCells, FirmCells, KeptCells, LineCells, MoveCells, OrderCells, firm_row, line_row, move_row, order_row}
 
 -- ---- orders
 
@@ -28,6 +28,7 @@ order_after A (Use n b a q) = option_map (change_lines (name_of b a) (raise_used
 order_after A (Release n b a q) = option_map (change_lines (name_of b a) (lower_held q)) (order_numbered A n)
 order_after A (Commit n) = option_map (set_state state.Committed) (order_numbered A n)
 order_after A (Abort n) = option_map (set_state state.Aborted) (order_numbered A n)
+order_after A (Firm n) = option_map set_firm (order_numbered A n)
 order_after A (Field b a lo hi start) = None
 order_after A (Deliver b a q) = None
 order_after A (Writeoff b a q) = None
@@ -43,6 +44,7 @@ is_touched (Use n b a q) o = o.number == n
 is_touched (Release n b a q) o = o.number == n
 is_touched (Commit n) o = o.number == n
 is_touched (Abort n) o = o.number == n
+is_touched (Firm n) o = o.number == n
 is_touched (Expire now) o = expires now o
 is_touched (Field b a lo hi start) o = false
 is_touched (Deliver b a q) o = false
@@ -79,17 +81,17 @@ some_part part (Some o) = part o
 abbrev pub IsShort : Option Order → Type 0
 IsShort o = MatchOption o (Unit {0}) (λ o. length o.lines ≤ MAX_ORDER_LINES)
 
--- what an order has moved on the field, if it is committed
+-- what an order has moved on the field, if that is settled
 abbrev pub moved_part : Name → Order → ℤ
-moved_part f o = if is_committed o then moved f (λ l. l.used) o else pos 0
+moved_part f o = if is_settled o then moved f (λ l. l.used) o else pos 0
 
--- what it holds there to take, if it is open
+-- what it holds there to take beyond what is settled, if it is open
 abbrev pub taken_part : Name → Order → ℤ
-taken_part f o = if is_open o then total (λ l. if on f l then pos (if_take l.way l.held) else pos 0) o.lines else pos 0
+taken_part f o = if is_open o then total (λ l. if on f l then pos (if_take l.way (unsettled o.firm l l.held)) else pos 0) o.lines else pos 0
 
 -- what it holds there to add
 abbrev pub added_part : Name → Order → ℤ
-added_part f o = if is_open o then total (λ l. if on f l then pos (if_add l.way l.held) else pos 0) o.lines else pos 0
+added_part f o = if is_open o then total (λ l. if on f l then pos (if_add l.way (unsettled o.firm l l.held)) else pos 0) o.lines else pos 0
 
 -- the number of the order that the command opens or changes
 abbrev pub order_number : Command → Option ℕ
@@ -100,6 +102,7 @@ order_number (Use n b a q) = Some n
 order_number (Release n b a q) = Some n
 order_number (Commit n) = Some n
 order_number (Abort n) = Some n
+order_number (Firm n) = Some n
 order_number c = None
 
 -- ---- rows
@@ -125,6 +128,9 @@ with_lines rows C = record C { lines = C.lines ++ rows }
 
 abbrev pub with_kept : List KeptCells → Content → Content
 with_kept rows C = record C { kept = C.kept ++ rows }
+
+abbrev pub with_firms : List FirmCells → Content → Content
+with_firms rows C = record C { firms = C.firms ++ rows }
 
 -- ---- tests of single entries
 
@@ -155,12 +161,13 @@ changes_own_line transfer (Use n b a q) l = transfer || same_name (line_name l) 
 changes_own_line transfer (Release n b a q) l = transfer || same_name (line_name l) (name_of b a)
 changes_own_line transfer c l = false
 
--- the stock of the line's field changes
-abbrev pub changes_own_stock : Bool → Command → Line → Bool
-changes_own_stock transfer (Use n b a q) l = false
-changes_own_stock transfer (Commit n) l = true
-changes_own_stock transfer (Abort n) l = true
-changes_own_stock transfer c l = changes_own_line transfer c l
+-- the stock of the line's field changes, of an order that is firm or not
+abbrev pub changes_own_stock : Bool → Bool → Command → Line → Bool
+changes_own_stock firm transfer (Use n b a q) l = firm && changes_own_line transfer (Use n b a q) l
+changes_own_stock firm transfer (Commit n) l = true
+changes_own_stock firm transfer (Abort n) l = true
+changes_own_stock firm transfer (Firm n) l = true
+changes_own_stock firm transfer c l = changes_own_line transfer c l
 
 -- the rows of the lines of an order that pass a test
 abbrev pub line_rows : (Line → Bool) → ℕ → ℕ → List Line → List LineCells
@@ -192,6 +199,11 @@ changes_state c = false
 abbrev pub own_order_rows : Command → Option Order → List OrderCells
 own_order_rows c None = []
 own_order_rows c (Some o) = if changes_state c then order_row o ∷ [] else []
+
+-- the row that marks the order as firm, where the command does that
+abbrev pub own_firm_rows : Command → List FirmCells
+own_firm_rows (Firm n) = firm_row n ∷ []
+own_firm_rows c = []
 
 -- the row of the move, if there is one
 abbrev pub move_rows : Option Move → List MoveCells

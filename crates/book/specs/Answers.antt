@@ -6,7 +6,7 @@ use Rattle.escrow.specs.declared.quantity.Way.{Way}
 use Rattle.escrow.specs.declared.quantity.Way.TheVariants as way
 use Rattle.words.specs.declared.open_line.OpenLine.{OpenLine}
 use Rattle.words.specs.declared.command.Command.{Command}
-use Rattle.words.specs.declared.command.Command.TheVariants.{Field, Deliver, Writeoff, Rebound, Open, Transfer, More, Use, Release, Commit, Abort, Expire}
+use Rattle.words.specs.declared.command.Command.TheVariants.{Field, Deliver, Writeoff, Rebound, Open, Transfer, More, Use, Release, Commit, Abort, Firm, Expire}
 use Rattle.words.specs.declared.command.Request.{Request}
 use Rattle.words.specs.declared.reply.Refusal.{Refusal}
 use Rattle.words.specs.declared.reply.Refusal.TheVariants as refusal
@@ -62,6 +62,10 @@ OfOrder A n P = IsSomeAnd (order_numbered A n) P
 abbrev pub ended : Ledger → ℕ → Check
 ended A n = check (OfOrder A n (λ o. IsFalse (is_open o))) refusal.Ended
 
+-- the order is firm
+abbrev pub firm : Ledger → ℕ → Check
+firm A n = check (OfOrder A n (λ o. IsTrue o.firm)) refusal.Firm
+
 -- the line of the order under that number on that field
 abbrev pub OfLine : Ledger → ℕ → Name → (Line → Type 0) → Type 0
 OfLine A n f P = OfOrder A n (λ o. IsSomeAnd (line_on o f) P)
@@ -99,9 +103,13 @@ bounds_checks A f lo hi = let B = next A (Rebound f.branch f.article lo hi) in
 abbrev pub part_checks : Ledger → ℕ → Name → ℕ → List Check
 part_checks A n f q = full A 1 ∷ no_order A n ∷ ended A n ∷ not_held A n f ∷ over_use A n f q ∷ []
 
--- the checks of a commit and of an abort: there is an open order under that number
+-- the checks of a commit: there is an open order under that number
 abbrev pub open_checks : Ledger → ℕ → List Check
 open_checks A n = no_order A n ∷ ended A n ∷ []
+
+-- the checks of an abort: it is not firm either
+abbrev pub loose_checks : Ledger → ℕ → List Check
+loose_checks A n = no_order A n ∷ ended A n ∷ firm A n ∷ []
 
 -- the checks of a command, in their order
 abbrev pub checks : Ledger → Command → List Check
@@ -117,7 +125,7 @@ checks A (Open n until lines) = order_checks A n until ++ line_checks A (new_ord
 checks A (Transfer n until a from to q) = order_checks A n until
     ++ line_checks A (new_order n kind.Transfer until) [] (transfer_lines a from to q)
 checks A (More n way b a q) = let f = name_of b a in
-    full A 1 ∷ no_order A n ∷ ended A n
+    full A 1 ∷ no_order A n ∷ ended A n ∷ firm A n
     ∷ check (OfOrder A n (λ o. IsTrue (is_transfer o))) refusal.TransferFixed
     ∷ no_field A f 0
     ∷ check (OfLine A n f (λ l. l.way ≢ way)) refusal.OtherWay
@@ -126,7 +134,8 @@ checks A (More n way b a q) = let f = name_of b a in
 checks A (Use n b a q) = part_checks A n (name_of b a) q
 checks A (Release n b a q) = part_checks A n (name_of b a) q
 checks A (Commit n) = open_checks A n
-checks A (Abort n) = open_checks A n
+checks A (Abort n) = loose_checks A n
+checks A (Firm n) = full A 1 ∷ loose_checks A n
 checks A (Expire now) = full A 1 ∷ check (now < A.clock) refusal.ClockBack ∷ []
 
 -- two commands are the same if their spellings are; for commands in range that is equality, by a law

@@ -6,7 +6,7 @@ use Rattle.std.specs.Ordering.{int_eq, is_eq, is_lt}
 use Rattle.std.specs.Str.{bytes_eq}
 use Rattle.std.specs.List.{list_any, filter, fold}
 use Rattle.words.specs.declared.command.Command.{Command}
-use Rattle.words.specs.declared.command.Command.TheVariants.{Field, Deliver, Writeoff, Rebound, Open, Transfer, More, Use, Release, Commit, Abort, Expire}
+use Rattle.words.specs.declared.command.Command.TheVariants.{Field, Deliver, Writeoff, Rebound, Open, Transfer, More, Use, Release, Commit, Abort, Firm, Expire}
 use Rattle.words.specs.declared.command.Request.{Request}
 use Rattle.book.specs.Ledger.{Name, Order, Ledger, same_name, on, is_transfer, places, name_of}
 use Rattle.book.specs.Next.{expires}
@@ -29,10 +29,11 @@ changes_field A (Rebound b a lo hi) f = same_name f (name_of b a)
 changes_field A (Open n until lines) f = list_any (λ l. same_name f (name_of l.branch l.article)) lines
 changes_field A (Transfer n until a from to q) f = same_name f (name_of from a) || same_name f (name_of to a)
 changes_field A (More n way b a q) f = same_name f (name_of b a)
-changes_field A (Use n b a q) f = false
+changes_field A (Use n b a q) f = order_is A n (λ o. o.firm && (same_name f (name_of b a) || (is_transfer o && has_line_on f o)))
 changes_field A (Release n b a q) f = same_name f (name_of b a) || order_is A n (λ o. is_transfer o && has_line_on f o)
 changes_field A (Commit n) f = order_is A n (has_line_on f)
 changes_field A (Abort n) f = order_is A n (has_line_on f)
+changes_field A (Firm n) f = order_is A n (has_line_on f)
 changes_field A (Expire now) f = list_any (λ o. expires now o && has_line_on f o) A.orders
 
 -- the row of the move is new
@@ -48,6 +49,7 @@ changes_move A (Use n b a q) place = false
 changes_move A (Release n b a q) place = false
 changes_move A (Commit n) place = false
 changes_move A (Abort n) place = false
+changes_move A (Firm n) place = false
 changes_move A (Expire now) place = false
 
 -- the row of the order is new, or its state changes
@@ -64,6 +66,7 @@ changes_order A (Rebound b a lo hi) number = false
 changes_order A (More n way b a q) number = false
 changes_order A (Use n b a q) number = false
 changes_order A (Release n b a q) number = false
+changes_order A (Firm n) number = false
 
 -- the row of the order's line on the field is new, or its amounts change
 abbrev pub changes_line : Ledger → Command → ℤ → Name → Bool
@@ -78,7 +81,13 @@ changes_line A (Writeoff b a q) number f = false
 changes_line A (Rebound b a lo hi) number f = false
 changes_line A (Commit n) number f = false
 changes_line A (Abort n) number f = false
+changes_line A (Firm n) number f = false
 changes_line A (Expire now) number f = false
+
+-- the row that marks the order as firm is new
+abbrev pub changes_firm : Command → ℤ → Bool
+changes_firm (Firm n) number = int_eq number (pos n)
+changes_firm c number = false
 
 -- of the next ledger's rows, those that the request changes
 abbrev pub changed_rows : Ledger → Request → Content → Content
@@ -89,7 +98,7 @@ changed_rows A r next = record {
   orders = filter (λ row. changes_order A r.command row.number) next.orders;
   lines = filter (λ row. changes_line A r.command row.number (name_of row.branch row.article)) next.lines;
   kept = filter (λ row. bytes_eq row.reqkey r.key) next.kept;
-  firms = next.firms;
+  firms = filter (λ row. changes_firm r.command row.number) next.firms;
 }
 
 -- ---- rows put in

@@ -3,7 +3,7 @@
 use Rattle.std.specs.Prelude.{ℕ, ◌+◌, List, IsTrue, IsNone}
 use Rattle.std.specs.List.{AllByRecursion as Each}
 use Rattle.words.specs.declared.command.Command.{Command}
-use Rattle.words.specs.declared.command.Command.TheVariants.{Field, Deliver, Writeoff, Rebound, Open, Transfer, More, Use, Release, Commit, Abort, Expire}
+use Rattle.words.specs.declared.command.Command.TheVariants.{Field, Deliver, Writeoff, Rebound, Open, Transfer, More, Use, Release, Commit, Abort, Firm, Expire}
 use Rattle.words.specs.declared.command.Request.{Request}
 use Rattle.words.specs.declared.reply.Reply.{Reply}
 use Rattle.words.specs.declared.reply.Reply.TheVariants.{Done}
@@ -11,7 +11,7 @@ use Rattle.book.specs.Ledger.{Ledger, places, is_open, kept_under}
 use Rattle.book.specs.Outcomes.{settled, IsWithin}
 use Rattle.book.specs.Answers.{Answers, Runs}
 
--- a use, a release, a commit, an abort or an expiry
+-- a use, a release, a commit, an abort, a `firm` or an expiry
 abbrev pub AsksNoStock : Command → Type 0
 AsksNoStock (Field b a lo hi start) = ⊥
 AsksNoStock (Deliver b a q) = ⊥
@@ -24,9 +24,10 @@ AsksNoStock (Use n b a q) = Unit {0}
 AsksNoStock (Release n b a q) = Unit {0}
 AsksNoStock (Commit n) = Unit {0}
 AsksNoStock (Abort n) = Unit {0}
+AsksNoStock (Firm n) = Unit {0}
 AsksNoStock (Expire now) = Unit {0}
 
--- only uses, releases, commits, aborts and expiries
+-- only uses, releases, commits, aborts, `firm` and expiries
 abbrev pub IsFuture : List Request → Type 0
 IsFuture requests = Each (λ r. AsksNoStock r.command) requests
 

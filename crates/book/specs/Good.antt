@@ -1,6 +1,6 @@
 -- The good ledgers: codes and numbers are in range, all that an entry names is there, the limits are kept, and every
 -- field is safe. Whether the kept commands would lead to it is not asked.
-use Rattle.std.specs.Prelude.{◌+◌, ◌≤◌, ◌≡◌, List, [], ◌∷◌, length, map, nat_abs, IsTrue, IsSome, nat_eq}
+use Rattle.std.specs.Prelude.{◌+◌, ◌≤◌, ◌≡◌, ◌≢◌, List, [], ◌∷◌, length, map, nat_abs, IsTrue, IsSome, nat_eq}
 use Rattle.std.specs.Ordering.{nat_cmp}
 use Rattle.std.specs.Cmp.Lexicographic.{slice_cmp}
 use Rattle.std.specs.List.{AllByRecursion as Each, IsDistinct}
@@ -11,6 +11,7 @@ use Rattle.escrow.specs.Ranges.{IsLevel, IsMoment, IsOrderNo, IsQty}
 use Rattle.words.specs.Spelling.{IsInRange}
 use Rattle.words.specs.declared.limits.TheConstants.{MAX_ORDER_LINES}
 use Rattle.book.specs.declared.limits.TheConstants.{MAX_FIELDS, MAX_ORDERS, MAX_PLACES}
+use Rattle.book.specs.declared.order.State.TheVariants.{Aborted}
 use Rattle.book.specs.declared.order.Line.{Line}
 use Rattle.book.specs.Ledger.{Field, Move, Order, Kept, Ledger, places, name_cmp, same_name, line_name, is_transfer, open_orders, field_named}
 use Rattle.book.specs.Outcomes.{IsSafe}
@@ -41,7 +42,7 @@ abbrev pub IsTransferPair : List Line → Type 0
 IsTransferPair (l ∷ m ∷ []) = (l.way ≡ Take) × (m.way ≡ Add) × (l.article ≡ m.article) × (l.held ≡ m.held) × (l.used ≡ m.used)
 IsTransferPair ls = ⊥
 
--- 1 to 64 good lines on different fields, and on a transfer exactly its pair
+-- 1 to 64 good lines on different fields, and on a transfer exactly its pair; where it is firm it was not aborted
 pub record IsGoodOrder (A : Ledger) (o : Order) : Type 0 where
   pub number : IsOrderNo o.number
   pub until : IsMoment o.until
@@ -51,6 +52,8 @@ pub record IsGoodOrder (A : Ledger) (o : Order) : Type 0 where
   -- no two lines are on one field
   pub apart : IsDistinct same_name (map line_name o.lines)
   pub transfer : IsTrue (is_transfer o) → IsTransferPair o.lines
+  -- only an open or a committed order is firm
+  pub firm : IsTrue o.firm → o.state ≢ Aborted
 
 -- its key is a key, and its command is in range
 pub record IsGoodKept (k : Kept) : Type 0 where

@@ -9,12 +9,12 @@ use Rattle.words.specs.declared.open_line.OpenLine.{OpenLine}
 use Rattle.book.specs.declared.book.made.LineChange.{LineChange}
 use Rattle.book.specs.declared.book.made.LineChange.TheVariants.{Hold, Release, Use}
 use Rattle.book.specs.declared.book.made.OrderChange.{OrderChange}
-use Rattle.book.specs.declared.book.made.OrderChange.TheVariants.{ChangeLines, End, HoldMore}
+use Rattle.book.specs.declared.book.made.OrderChange.TheVariants.{ChangeLines, End, HoldMore, MakeFirm}
 use Rattle.book.specs.declared.order.OrderEntry.{OrderEntry}
 use Rattle.book.specs.declared.order.Line.{Line}
 use Rattle.book.specs.declared.order.State.TheVariants.{Aborted, Committed}
 use Rattle.book.specs.Ledger.{Order, line_name, name_of, on, transfer_kind}
-use Rattle.book.specs.Next.{add_hold, change_lines, lower_held, new_line, raise_held, raise_used, set_state}
+use Rattle.book.specs.Next.{add_hold, change_lines, lower_held, new_line, raise_held, raise_used, set_firm, set_state}
 
 abbrev pub changed_line : LineChange → Line → Line
 changed_line (Hold q) l = raise_held q l
@@ -31,6 +31,7 @@ abbrev pub changed_order : OrderChange → Order → Order
 changed_order (HoldMore l) o = add_hold l o
 changed_order (ChangeLines b a change) o = change_lines (name_of b a) (changed_line change) o
 changed_order (End state) o = set_state state o
+changed_order MakeFirm o = set_firm o
 
 -- the lines of an order, of which the one on the field holds more, or with one more at the end
 abbrev pub held_lines : OpenLine → List Line → List Line
@@ -43,6 +44,7 @@ MayChangeOrder (HoldMore l) o = MatchOption (find (on (line_name (new_line l))) 
     (λ found. Each (λ m. on (line_name (new_line l)) m ≡ true → MayChange (Hold l.qty) m) o.lines.items)
 MayChangeOrder (ChangeLines b a change) o = Each (λ l. (transfer_kind o.kind || on (name_of b a) l) ≡ true → MayChange change l) o.lines.items
 MayChangeOrder (End state) o = Unit {0}
+MayChangeOrder MakeFirm o = Unit {0}
 
 -- the order that a command changes, and how; none for a command that changes no one order
 abbrev pub order_change_of : Command → Option (ℕ × OrderChange)
@@ -51,6 +53,7 @@ order_change_of (command.Use n b a q) = Some (n, ChangeLines b a (Use q))
 order_change_of (command.Release n b a q) = Some (n, ChangeLines b a (Release q))
 order_change_of (command.Commit n) = Some (n, End Committed)
 order_change_of (command.Abort n) = Some (n, End Aborted)
+order_change_of (command.Firm n) = Some (n, MakeFirm)
 order_change_of c = None
 
 -- the order under the number aborted, and all others as they were

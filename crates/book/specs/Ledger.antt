@@ -1,6 +1,6 @@
 -- A ledger: the clock, all fields, and all that was ever moved, ordered and accepted. It holds no value, no infimum and no
 -- supremum.
-use Rattle.std.specs.Prelude.{ℕ, ℤ, Bool, true, false, ◌&&◌, List, [], ◌∷◌, length, Option, find, ◌==◌, if◌then◌else◌, count_by}
+use Rattle.std.specs.Prelude.{ℕ, ◌-◌, ℤ, Bool, true, false, ◌&&◌, List, [], ◌∷◌, length, Option, find, ◌==◌, if◌then◌else◌, count_by}
 use Rattle.std.specs.Str.{bytes_eq}
 use Rattle.std.specs.declared.cmp.Ordering.{Ordering}
 use Rattle.std.specs.Ordering.{nat_cmp, ordering_then}
@@ -11,6 +11,8 @@ use Rattle.book.specs.declared.order.Kind.{Kind}
 use Rattle.book.specs.declared.order.Kind.TheVariants.{Plain, Transfer}
 use Rattle.book.specs.declared.order.State.{State}
 use Rattle.book.specs.declared.order.State.TheVariants.{Open, Committed, Aborted}
+use Rattle.book.specs.declared.order.Standing.{Standing}
+use Rattle.book.specs.declared.order.Standing.TheVariants as standing
 use Rattle.book.specs.declared.order.Line.{Line}
 
 -- which field: the stock of one article at one branch
@@ -37,6 +39,8 @@ pub record Order : Type 0 where
   pub kind : Kind
   pub until : ℕ
   pub state : State
+  -- it is no longer to be aborted, and what it uses is settled at once; the mark stays, also after the commit
+  pub firm : Bool
   pub lines : List Line
 
 -- an accepted key, kept for good with its place and its command
@@ -90,10 +94,17 @@ open_state Open = true
 open_state Committed = false
 open_state Aborted = false
 
-abbrev pub committed_state : State → Bool
-committed_state Open = false
-committed_state Committed = true
-committed_state Aborted = false
+-- what an order in that state uses is settled: it is committed, or open and firm
+abbrev pub settled_state : State → Bool → Bool
+settled_state Open firm = firm
+settled_state Committed firm = true
+settled_state Aborted firm = false
+
+-- how an order in that state is shown
+abbrev pub shown_state : State → Bool → Standing
+shown_state Open firm = if firm then standing.Firm else standing.Open
+shown_state Committed firm = standing.Committed
+shown_state Aborted firm = standing.Aborted
 
 abbrev pub transfer_kind : Kind → Bool
 transfer_kind Plain = false
@@ -102,11 +113,15 @@ transfer_kind Transfer = true
 abbrev pub is_open : Order → Bool
 is_open o = open_state o.state
 
-abbrev pub is_committed : Order → Bool
-is_committed o = committed_state o.state
+abbrev pub is_settled : Order → Bool
+is_settled o = settled_state o.state o.firm
 
 abbrev pub is_transfer : Order → Bool
 is_transfer o = transfer_kind o.kind
+
+-- what of an amount on the line is not settled yet: of a firm order what is beyond its use
+abbrev pub unsettled : Bool → Line → ℕ → ℕ
+unsettled firm l amount = if firm then amount - l.used else amount
 
 abbrev pub open_orders : Ledger → ℕ
 open_orders A = count_by is_open A.orders

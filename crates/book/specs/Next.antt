@@ -1,12 +1,12 @@
 -- The ledger after an accepted command: the entries that it adds or changes. It looks at no stock.
-use Rattle.std.specs.Prelude.{ℕ, ◌+◌, ◌-◌, ℤ, Bool, pos, neg_ℤ, ◌&&◌, ◌||◌, ◌==◌, nat_lt, nat_le, List, [], ◌∷◌, ◌++◌, map, is_some, if◌then◌else◌}
+use Rattle.std.specs.Prelude.{ℕ, ◌+◌, ◌-◌, ℤ, Bool, pos, neg_ℤ, ◌&&◌, ◌||◌, not, false, true, ◌==◌, nat_lt, nat_le, List, [], ◌∷◌, ◌++◌, map, is_some, if◌then◌else◌}
 use Rattle.std.specs.Ordering.{is_lt, nat_cmp}
 use Rattle.std.specs.Cmp.Lexicographic.{slice_cmp}
 use Rattle.escrow.specs.declared.quantity.Way.TheVariants as way
 use Rattle.words.specs.declared.open_line.OpenLine.{OpenLine}
 use Rattle.words.specs.declared.command.Command.{Command}
 use Rattle.words.specs.declared.command.Request.{Request}
-use Rattle.words.specs.declared.command.Command.TheVariants.{Field, Deliver, Writeoff, Rebound, Open, Transfer, More, Use, Release, Commit, Abort, Expire}
+use Rattle.words.specs.declared.command.Command.TheVariants.{Field, Deliver, Writeoff, Rebound, Open, Transfer, More, Use, Release, Commit, Abort, Firm, Expire}
 use Rattle.book.specs.declared.order.Kind.{Kind}
 use Rattle.book.specs.declared.order.Kind.TheVariants as kind
 use Rattle.book.specs.declared.order.State.{State}
@@ -36,7 +36,7 @@ new_line l = record { way = l.way; branch = l.branch; article = l.article; held 
 
 -- an open order of these lines
 abbrev pub new_order : ℕ → Kind → ℕ → List OpenLine → Order
-new_order n kind until lines = record { number = n; kind = kind; until = until; state = state.Open; lines = map new_line lines }
+new_order n kind until lines = record { number = n; kind = kind; until = until; state = state.Open; firm = false; lines = map new_line lines }
 
 -- the lines of a transfer: the first takes at the one branch, the second adds at the other
 abbrev pub transfer_lines : List ℕ → List ℕ → List ℕ → ℕ → List OpenLine
@@ -68,9 +68,13 @@ add_hold l o = let f = name_of l.branch l.article in
 abbrev pub set_state : State → Order → Order
 set_state state o = record o { state = state }
 
--- the expiry aborts the order: it is open, and its moment has come
+-- the order may no longer be aborted
+abbrev pub set_firm : Order → Order
+set_firm o = record o { firm = true }
+
+-- the expiry aborts the order: it is open and not firm, and its moment has come
 abbrev pub expires : ℕ → Order → Bool
-expires now o = is_open o && nat_le o.until now
+expires now o = is_open o && not o.firm && nat_le o.until now
 
 -- the ledger that a command makes of another
 abbrev pub next : Ledger → Command → Ledger
@@ -88,6 +92,7 @@ next A (Use n b a q) = change_order n (change_lines (name_of b a) (raise_used q)
 next A (Release n b a q) = change_order n (change_lines (name_of b a) (lower_held q)) A
 next A (Commit n) = change_order n (set_state state.Committed) A
 next A (Abort n) = change_order n (set_state state.Aborted) A
+next A (Firm n) = change_order n set_firm A
 next A (Expire now) = record A {
   clock = now;
   orders = map (λ o. if expires now o then set_state state.Aborted o else o) A.orders;

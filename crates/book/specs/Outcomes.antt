@@ -1,12 +1,12 @@
 -- What a field's stock can come to: its settled value, and its results over all outcomes of the open orders (O'Neil,
 -- The Escrow Transactional Method). Sums are whole numbers with a sign and without limit.
-use Rattle.std.specs.Prelude.{ℕ, ◌≤◌, ℤ, pos, ◌+ℤ◌, neg_ℤ, ◌≤ℤ◌, ◌<ℤ◌, ◌≡◌, Bool, ◌&&◌, List, [], ◌∷◌, if◌then◌else◌, IsTrue, IsSomeAnd}
+use Rattle.std.specs.Prelude.{ℕ, ◌≤◌, ℤ, pos, ◌+ℤ◌, neg_ℤ, ◌≤ℤ◌, ◌<ℤ◌, ◌≡◌, Bool, ◌&&◌, ◌||◌, List, [], ◌∷◌, if◌then◌else◌, IsTrue, IsSomeAnd}
 use Rattle.std.specs.Str.{bytes_eq}
 use Rattle.std.specs.List.{AllByRecursion as Each}
 use Rattle.escrow.specs.declared.quantity.Way.{Way}
 use Rattle.escrow.specs.declared.quantity.Way.TheVariants.{Take, Add}
 use Rattle.book.specs.declared.order.Line.{Line}
-use Rattle.book.specs.Ledger.{Name, Field, Order, Ledger, same_name, on, is_open, is_committed, field_named}
+use Rattle.book.specs.Ledger.{Name, Field, Order, Ledger, same_name, on, is_open, is_settled, unsettled, field_named}
 
 -- f over the elements, added up
 abbrev pub total : {X : Type 0} → (X → ℤ) → List X → ℤ
@@ -22,24 +22,29 @@ signed Take n = neg_ℤ (pos n)
 abbrev pub moved : Name → (Line → ℕ) → Order → ℤ
 moved f amount o = total (λ l. if on f l then signed l.way (amount l) else pos 0) o.lines
 
--- The settled value: the start, all deliveries and write-offs, and what committed orders used.
+-- The settled value: the start, all deliveries and write-offs, and what committed and open firm orders used.
 abbrev pub settled : Ledger → Field → ℤ
 settled A f = pos f.start
     +ℤ total (λ m. if same_name f.name m.field then m.amount else pos 0) A.moves
-    +ℤ total (λ o. if is_committed o then moved f.name (λ l. l.used) o else pos 0) A.orders
+    +ℤ total (λ o. if is_settled o then moved f.name (λ l. l.used) o else pos 0) A.orders
 
--- An outcome: the orders that commit, and the amount of each of their lines. The other open orders abort.
+-- An outcome: the orders that commit, and the amount of each of their lines. A firm order commits in every outcome; the
+-- other open orders abort.
 pub record Outcome : Type 0 where
   pub commits : Order → Bool
   pub amount : Order → Line → ℕ
 
+-- the order is open, and commits in the outcome
+abbrev pub commits_in : Outcome → Order → Bool
+commits_in X o = is_open o && (o.firm || X.commits o)
+
 -- Each line of each open order that commits has an amount from what is used now to what is held now.
 abbrev pub IsOutcome : Ledger → Outcome → Type 0
-IsOutcome A X = Each (λ o. IsTrue (is_open o && X.commits o) → Each (λ l. (l.used ≤ X.amount o l) × (X.amount o l ≤ l.held)) o.lines) A.orders
+IsOutcome A X = Each (λ o. IsTrue (commits_in X o) → Each (λ l. (l.used ≤ X.amount o l) × (X.amount o l ≤ l.held)) o.lines) A.orders
 
--- its result: the settled value, and what the open orders move that commit
+-- its result: the settled value, and what the open orders that commit move and is not settled yet
 abbrev pub outcome_result : Ledger → Outcome → Field → ℤ
-outcome_result A X f = settled A f +ℤ total (λ o. if is_open o && X.commits o then moved f.name (X.amount o) o else pos 0) A.orders
+outcome_result A X f = settled A f +ℤ total (λ o. if commits_in X o then moved f.name (λ l. unsettled o.firm l (X.amount o l)) o else pos 0) A.orders
 
 -- between the field's bounds
 abbrev pub IsWithin : Field → ℤ → Type 0

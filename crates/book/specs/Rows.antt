@@ -1,5 +1,5 @@
 -- The rows of a ledger: what the seven tables hold for it, each in the order of its key. Texts are seen as their bytes.
-use Rattle.std.specs.Prelude.{ℕ, ◌+◌, ◌≡◌, ℤ, pos, List, [], ◌∷◌, map, flat_map}
+use Rattle.std.specs.Prelude.{ℕ, ◌+◌, ◌≡◌, ℤ, pos, List, [], ◌∷◌, map, flat_map, if◌then◌else◌}
 use Rattle.std.specs.declared.cmp.Ordering.{Ordering}
 use Rattle.std.specs.Ordering.{nat_cmp, int_cmp, ordering_then}
 use Rattle.std.specs.Cmp.Lexicographic.{slice_cmp}
@@ -116,6 +116,13 @@ order_lines o = lines_from o.number 1 o.lines
 abbrev pub kept_row : Kept → KeptCells
 kept_row k = record { reqkey = k.key; place = pos k.place; words = spelling k.command }
 
+-- the row that marks a firm order
+abbrev pub firm_row : ℕ → FirmCells
+firm_row number = record { number = pos number }
+
+abbrev pub firm_rows : Order → List FirmCells
+firm_rows o = if o.firm then firm_row o.number ∷ [] else []
+
 abbrev pub desk_row : Ledger → DeskCells
 desk_row A = record { one = pos 1; version = pos 2; clock = pos A.clock; places = pos (places A) }
 
@@ -127,7 +134,7 @@ pub record IsRowsOf (A : Ledger) (C : Content) : Type 0 where
   pub orders : C.orders ≡ map order_row A.orders
   pub lines : C.lines ≡ flat_map order_lines A.orders
   pub kept : C.kept ≡ map kept_row A.kept
-  pub firms : C.firms ≡ []
+  pub firms : C.firms ≡ flat_map firm_rows A.orders
 
 -- ---- keys
 

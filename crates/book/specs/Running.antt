@@ -1,7 +1,8 @@
 -- Running numbers: the entry of each field keeps its quantity, whose numbers are those of the ledger.
-use Rattle.std.specs.Prelude.{◌≡◌, ℕ, ◌-◌, ◌<◌, ◌≤◌, ℤ, pos, ◌-ℤ◌, ◌+ℤ◌, ◌≤ℤ◌, Bool, true, List, [], Option, None, Some, IsSome, find, flat_map, if◌then◌else◌, is_some}
+use Rattle.std.specs.Prelude.{◌≡◌, ℕ, ◌+◌, ◌-◌, ◌<◌, ◌≤◌, ℤ, pos, ◌-ℤ◌, ◌+ℤ◌, ◌≤ℤ◌, Bool, true, List, [], Option, None, Some, IsSome, find, flat_map, if◌then◌else◌, is_some}
 use Rattle.std.specs.BTreeMap.{insert_entry, is_at}
 use Rattle.std.specs.Map.{lookup}
+use Rattle.std.specs.Option.{option_map_or}
 use Rattle.std.specs.List.{AllByRecursion as Each, fold, list_any}
 use Rattle.escrow.specs.Choices.{IsSafe}
 use Rattle.escrow.specs.Codes.{IsKey}
@@ -16,17 +17,17 @@ use Rattle.book.specs.Answers.{IsAccepted}
 use Rattle.book.specs.Changes.{changes_field}
 use Rattle.book.specs.Good.{Good}
 use Rattle.book.specs.Held.{held_to_add, held_to_take, if_add, if_take}
-use Rattle.book.specs.Ledger.{Field, Ledger, Name, Order, field_named, line_name, line_on, name_cmp, on, open_orders, same_name}
+use Rattle.book.specs.Ledger.{Field, Ledger, Name, Order, field_named, line_name, line_on, name_cmp, on, open_orders, open_state, same_name, settled_state, unsettled}
 use Rattle.book.specs.Next.{accept, expires}
-use Rattle.book.specs.Outcomes.{settled, total}
+use Rattle.book.specs.Outcomes.{settled, signed, total}
 use Rattle.book.specs.Rows.{FieldCells}
-use Rattle.book.specs.Sums.{part_of_line}
 use Rattle.book.specs.View.{field_of, ledger_of}
 use Rattle.book.specs.declared.book.Book.TheInside.{Inside}
 use Rattle.book.specs.declared.book.FieldEntry.{FieldEntry}
+use Rattle.book.specs.declared.book.tables.sums.Numbers.{Numbers}
 use Rattle.book.specs.declared.order.Line.{Line}
+use Rattle.book.specs.declared.order.Share.{Share}
 use Rattle.book.specs.declared.order.State.{State}
-use Rattle.book.specs.declared.order.State.TheVariants.{Committed, Open}
 
 -- the row that the entry of a field gives
 abbrev pub entry_row : Name × FieldEntry → FieldCells
@@ -55,38 +56,36 @@ with_entries new old = fold (λ entries e. insert_entry name_cmp entries e.0 e.1
 
 -- ---- a field's stock, as a line on it changes
 
--- what the line holds, if there is one
-abbrev pub amount_held : Option Line → ℕ
-amount_held None = 0
-amount_held (Some l) = l.held
+-- what a line counts for in the stock of its field, where its order has the state, and is firm or not
+abbrev pub share_of : State → Bool → Line → Share
+share_of s firm l = record { settled = if settled_state s firm then l.used else 0; held = if open_state s then unsettled firm l l.held else 0 }
 
--- the order's line on the field, if there is an order
-abbrev pub line_before : Option Order → Name → Option Line
-line_before None f = None
-line_before (Some o) f = line_on o f
+-- what the share of a line that way adds up to
+abbrev pub share_numbers : Way → Share → Numbers
+share_numbers w s = record { moved = signed w s.settled; takes = pos (if_take w s.held); adds = pos (if_add w s.held) }
 
--- The stock once a line, of which so much was held in an open order, is as it is then in an order of that state.
-pub record Becomes (old : Stock) (held : ℕ) (l : Line) (state : State) (new : Stock) : Type 0 where
+-- the share of the order's line on the field, if there are such an order and such a line
+abbrev pub share_on : Option Order → Name → Share
+share_on None f = record { settled = 0; held = 0 }
+share_on (Some o) f = option_map_or (share_of o.state o.firm) (line_on o f) (record { settled = 0; held = 0 })
+
+-- The stock once a line that added up to the one adds up to the other.
+pub record Becomes (old : Stock) (before after : Numbers) (new : Stock) : Type 0 where
   pub lo : new.lo ≡ old.lo
   pub hi : new.hi ≡ old.hi
-  pub value : pos new.value ≡ (pos old.value +ℤ (part_of_line state l).moved)
-  pub takes : pos new.held_to_take ≡ ((pos old.held_to_take -ℤ pos (if_take l.way held)) +ℤ (part_of_line state l).takes)
-  pub adds : pos new.held_to_add ≡ ((pos old.held_to_add -ℤ pos (if_add l.way held)) +ℤ (part_of_line state l).adds)
+  pub value : pos new.value ≡ ((pos old.value -ℤ before.moved) +ℤ after.moved)
+  pub takes : pos new.held_to_take ≡ ((pos old.held_to_take -ℤ before.takes) +ℤ after.takes)
+  pub adds : pos new.held_to_add ≡ ((pos old.held_to_add -ℤ before.adds) +ℤ after.adds)
 
--- the stock with so much held that way in place of so much
-pub record HoldsInstead (old : Stock) (way : Way) (before after : ℕ) (new : Stock) : Type 0 where
-  pub lo : new.lo ≡ old.lo
-  pub hi : new.hi ≡ old.hi
-  pub value : new.value ≡ old.value
-  pub takes : pos new.held_to_take ≡ ((pos old.held_to_take -ℤ pos (if_take way before)) +ℤ pos (if_take way after))
-  pub adds : pos new.held_to_add ≡ ((pos old.held_to_add -ℤ pos (if_add way before)) +ℤ pos (if_add way after))
-
--- So much is held; what is more is a quantity that may be held; and what is settled is no more than was held.
-pub record MayBecome (old : Stock) (held : ℕ) (l : Line) (state : State) : Type 0 where
-  pub there : held ≤ held_of old l.way
-  pub used : state ≡ Committed → l.used ≤ held
-  pub qty : state ≡ Open → held < l.held → IsQty (l.held - held)
-  pub safe : state ≡ Open → held < l.held → IsSafe (holding old l.way (l.held - held))
+-- So much is held; where more is held then, it is a quantity that may be held, and as much is settled; else what is settled
+-- then was settled or held.
+pub record MayBecome (old : Stock) (way : Way) (before after : Share) : Type 0 where
+  pub there : before.held ≤ held_of old way
+  pub settled : before.settled ≤ after.settled
+  pub used : after.held ≤ before.held → after.settled + after.held ≤ before.settled + before.held
+  pub same : before.held < after.held → after.settled ≡ before.settled
+  pub qty : before.held < after.held → IsQty (after.held - before.held)
+  pub safe : before.held < after.held → IsSafe (holding old way (after.held - before.held))
 
 -- ---- the fields that a request changes
 

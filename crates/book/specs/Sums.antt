@@ -1,5 +1,5 @@
 -- What all moves and orders add up to on each of the fields.
-use Rattle.std.specs.Prelude.{◌≡◌, ℕ, ◌<◌, pos, ◌+ℤ◌, List, [], ◌∷◌, length, map, Option, find, if◌then◌else◌, IsSome}
+use Rattle.std.specs.Prelude.{◌≡◌, ℕ, ◌<◌, Bool, pos, ◌+ℤ◌, List, [], ◌∷◌, length, map, Option, find, if◌then◌else◌, IsSome}
 use Rattle.std.specs.List.{AllByRecursion as Each, HoldsAt}
 use Rattle.std.specs.List.Sorted.{IsStrictlySortedBy}
 use Rattle.book.specs.declared.book.tables.sums.Numbers.{Numbers}
@@ -8,7 +8,7 @@ use Rattle.book.specs.declared.book.MoveEntry.{MoveEntry}
 use Rattle.book.specs.declared.order.OrderEntry.{OrderEntry}
 use Rattle.book.specs.declared.order.Line.{Line}
 use Rattle.book.specs.declared.order.State.{State}
-use Rattle.book.specs.Ledger.{Field, Name, committed_state, line_name, name_cmp, open_state, same_name}
+use Rattle.book.specs.Ledger.{Field, Name, line_name, name_cmp, open_state, same_name, settled_state, unsettled}
 use Rattle.book.specs.Outcomes.{signed, total}
 use Rattle.book.specs.Held.{if_add, if_take}
 use Rattle.book.specs.View.{field_of, move_of}
@@ -73,18 +73,18 @@ added part [] ns = ns
 added part (f ∷ fs) [] = []
 added part (f ∷ fs) (n ∷ ns) = plus n (part (entry_name f)) ∷ added part fs ns
 
--- what a line adds to its field, where its order has the state
-abbrev pub part_of_line : State → Line → Numbers
-part_of_line s l = record {
-  moved = if committed_state s then signed l.way l.used else pos 0;
-  takes = if open_state s then pos (if_take l.way l.held) else pos 0;
-  adds = if open_state s then pos (if_add l.way l.held) else pos 0;
+-- what a line adds to its field, where its order has the state, and is firm or not
+abbrev pub part_of_line : State → Bool → Line → Numbers
+part_of_line s firm l = record {
+  moved = if settled_state s firm then signed l.way l.used else pos 0;
+  takes = if open_state s then pos (if_take l.way (unsettled firm l l.held)) else pos 0;
+  adds = if open_state s then pos (if_add l.way (unsettled firm l l.held)) else pos 0;
 }
 
 -- what the lines of an order in that state add up to on the field
-abbrev pub lines_numbers : State → List Line → Name → Numbers
-lines_numbers s ls f = record {
-  moved = if committed_state s then total (moved_by_line f) ls else pos 0;
-  takes = if open_state s then total (taken_by_line f) ls else pos 0;
-  adds = if open_state s then total (added_by_line f) ls else pos 0;
+abbrev pub lines_numbers : State → Bool → List Line → Name → Numbers
+lines_numbers s firm ls f = record {
+  moved = if settled_state s firm then total (moved_by_line f) ls else pos 0;
+  takes = if open_state s then total (taken_by_line firm f) ls else pos 0;
+  adds = if open_state s then total (added_by_line firm f) ls else pos 0;
 }

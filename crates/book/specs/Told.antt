@@ -1,5 +1,5 @@
 -- What the rows of tables tell: each row an entry, and rows of orders and lines together the orders.
-use Rattle.std.specs.Prelude.{ℕ, ◌+◌, ◌+ℤ◌, ◌-ℤ◌, ◌≤◌, ◌≡◌, pos, nat_abs, nat_eq, List, [], ◌∷◌, length, map, flat_map, string_bytes, IsTrue}
+use Rattle.std.specs.Prelude.{ℕ, ◌+◌, ◌+ℤ◌, ◌-ℤ◌, ◌≤◌, ◌≡◌, ◌≢◌, pos, nat_abs, nat_eq, List, [], ◌∷◌, length, map, flat_map, if◌then◌else◌, string_bytes, IsSomeAnd, IsTrue, Option}
 use Rattle.std.specs.Ordering.{nat_cmp}
 use Rattle.std.specs.Cmp.Lexicographic.{slice_cmp}
 use Rattle.std.specs.List.Sorted.{IsStrictlySortedBy}
@@ -16,15 +16,17 @@ use Rattle.book.specs.declared.book.tables.sums.Numbers.{Numbers}
 use Rattle.book.specs.declared.book.FieldEntry.{FieldEntry}
 use Rattle.book.specs.declared.book.KeptEntry.{KeptEntry}
 use Rattle.book.specs.declared.book.MoveEntry.{MoveEntry}
+use Rattle.book.specs.declared.order.State.TheVariants.{Aborted}
 use Rattle.book.specs.declared.order.Line.{Line}
 use Rattle.book.specs.declared.rows.FieldRow.{FieldRow}
+use Rattle.book.specs.declared.rows.FirmRow.{FirmRow}
 use Rattle.book.specs.declared.rows.KeptRow.{KeptRow}
 use Rattle.book.specs.declared.rows.LineRow.{LineRow}
 use Rattle.book.specs.declared.rows.MoveRow.{MoveRow}
 use Rattle.book.specs.declared.rows.OrderRow.{OrderRow}
 use Rattle.book.specs.Good.{Good, IsGoodField, IsGoodKept, IsTransferPair}
 use Rattle.book.specs.Ledger.{Field, Ledger, Move, Name, Order, is_transfer, line_name, name_cmp, open_orders, places, same_name}
-use Rattle.book.specs.Rows.{Content, FieldCells, LineCells, OrderCells, desk_row, kind_code, kept_row, move_row, order_lines, order_row, state_code, way_code}
+use Rattle.book.specs.Rows.{Content, FieldCells, FirmCells, LineCells, OrderCells, desk_row, firm_row, firm_rows, kind_code, kept_row, move_row, order_lines, order_row, state_code, way_code}
 use Rattle.book.specs.Running.{IsUpToDate}
 use Rattle.book.specs.Tables.{kept_cells, line_cells, move_cells, order_cells}
 use Rattle.book.specs.View.{field_of, kept_of, move_of, order_of}
@@ -99,7 +101,15 @@ pub record IsKeptTold (e : List ℕ × KeptEntry) (row : KeptRow) : Type 0 where
 -- ---- orders from rows
 
 abbrev pub head_of : Order → Head
-head_of o = record { number = o.number; kind = o.kind; until = o.until; state = o.state }
+head_of o = record { number = o.number; kind = o.kind; until = o.until; state = o.state; firm = o.firm }
+
+-- the row that marks it, if it is firm
+abbrev pub mark_rows : Head → List FirmCells
+mark_rows h = if h.firm then firm_row h.number ∷ [] else []
+
+-- there is a row, and it marks the order of that number
+abbrev pub Marks : Option FirmRow → ℕ → Type 0
+Marks row number = IsSomeAnd row (λ r. r.number ≡ pos number)
 
 -- the rows count from this number
 abbrev pub AreNumbered : ℕ → List LineRow → Type 0
@@ -139,7 +149,7 @@ pub record TellsLedger (A : Ledger) (C : Content) : Type 0 where
   pub orders : C.orders ≡ map order_row A.orders
   pub lines : C.lines ≡ flat_map order_lines A.orders
   pub kept : C.kept ≡ map kept_row A.kept
-  pub firms : C.firms ≡ []
+  pub firms : C.firms ≡ flat_map firm_rows A.orders
 
 -- what its clock, its fields and its kept keys are by themselves
 pub record IsInForm (A : Ledger) : Type 0 where
@@ -162,6 +172,7 @@ pub record IsOrderByItself (o : Order) : Type 0 where
   pub lines : Each (λ l. IsLevel l.held × (l.used ≤ l.held)) o.lines
   pub apart : IsDistinct same_name (map line_name o.lines)
   pub transfer : IsTrue (is_transfer o) → IsTransferPair o.lines
+  pub firm : IsTrue o.firm → o.state ≢ Aborted
 
 -- each list is in the order of its keys
 pub record AreInOrder (A : Ledger) : Type 0 where

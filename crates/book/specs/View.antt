@@ -27,7 +27,7 @@ abbrev pub move_of : MoveEntry → Move
 move_of e = record { place = e.place; field = name_of e.branch e.article; amount = e.amount }
 
 abbrev pub order_of : ℕ × OrderEntry → Order
-order_of e = record { number = e.0; kind = e.1.kind; until = e.1.until; state = e.1.state; lines = e.1.lines.items }
+order_of e = record { number = e.0; kind = e.1.kind; until = e.1.until; state = e.1.state; firm = e.1.firm; lines = e.1.lines.items }
 
 abbrev pub kept_of : List ℕ × KeptEntry → Kept
 kept_of e = record { key = e.0; place = e.1.place; command = e.1.words }

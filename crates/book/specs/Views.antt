@@ -2,7 +2,7 @@
 use Rattle.std.specs.Prelude.{pos, ◌≡◌}
 use Rattle.book.specs.declared.book.views.FieldView.{FieldView}
 use Rattle.book.specs.declared.book.views.OrderView.{OrderView}
-use Rattle.book.specs.Ledger.{Field, Ledger, Order, name_of}
+use Rattle.book.specs.Ledger.{Field, Ledger, Order, name_of, shown_state}
 use Rattle.book.specs.Outcomes.{IsInfimum, IsSupremum, settled}
 
 -- the field's name and bounds, its settled value, and its infimum and supremum over the outcomes of the open orders
@@ -19,5 +19,5 @@ pub record ShowsOrder (o : Order) (view : OrderView) : Type 0 where
   pub number : view.number ≡ o.number
   pub kind : view.kind ≡ o.kind
   pub until : view.until ≡ o.until
-  pub state : view.state ≡ o.state
+  pub state : view.state ≡ shown_state o.state o.firm
   pub lines : view.lines.now ≡ o.lines

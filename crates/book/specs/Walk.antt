@@ -1,5 +1,5 @@
 -- What a walk over the entries adds up on a field, and how much that can be.
-use Rattle.std.specs.Prelude.{ℕ, ◌+◌, ◌*◌, ℤ, pos, neg_ℤ, ◌+ℤ◌, ◌≤ℤ◌, if◌then◌else◌}
+use Rattle.std.specs.Prelude.{ℕ, ◌+◌, ◌*◌, Bool, ℤ, pos, neg_ℤ, ◌+ℤ◌, ◌≤ℤ◌, if◌then◌else◌}
 use Rattle.escrow.specs.declared.limits.TheConstants.{MAX_LEVEL, MAX_QTY}
 use Rattle.words.specs.declared.limits.TheConstants.{MAX_ORDER_LINES}
 use Rattle.book.specs.declared.limits.TheConstants.{MAX_ORDERS, MAX_PLACES}
@@ -7,7 +7,7 @@ use Rattle.book.specs.declared.book.tables.sums.Numbers.{Numbers}
 use Rattle.book.specs.declared.book.MoveEntry.{MoveEntry}
 use Rattle.book.specs.declared.order.OrderEntry.{OrderEntry}
 use Rattle.book.specs.declared.order.Line.{Line}
-use Rattle.book.specs.Ledger.{Name, committed_state, on, open_state, same_name}
+use Rattle.book.specs.Ledger.{Name, on, open_state, same_name, settled_state, unsettled}
 use Rattle.book.specs.Outcomes.{signed, total}
 use Rattle.book.specs.Held.{if_add, if_take}
 use Rattle.book.specs.View.{move_of}
@@ -20,25 +20,25 @@ moved_by_move f e = if same_name f (move_of e).field then e.amount else pos 0
 abbrev pub moved_by_line : Name → Line → ℤ
 moved_by_line f l = if on f l then signed l.way l.used else pos 0
 
--- what a line holds to take on the field
-abbrev pub taken_by_line : Name → Line → ℤ
-taken_by_line f l = if on f l then pos (if_take l.way l.held) else pos 0
+-- what a line of an order that is firm or not holds to take on the field, beyond what is settled
+abbrev pub taken_by_line : Bool → Name → Line → ℤ
+taken_by_line firm f l = if on f l then pos (if_take l.way (unsettled firm l l.held)) else pos 0
 
 -- what it holds to add
-abbrev pub added_by_line : Name → Line → ℤ
-added_by_line f l = if on f l then pos (if_add l.way l.held) else pos 0
+abbrev pub added_by_line : Bool → Name → Line → ℤ
+added_by_line firm f l = if on f l then pos (if_add l.way (unsettled firm l l.held)) else pos 0
 
--- what an order has moved, if it is committed
+-- what an order has moved, if that is settled
 abbrev pub moved_by_order : Name → ℕ × OrderEntry → ℤ
-moved_by_order f o = if committed_state o.1.state then total (moved_by_line f) o.1.lines.items else pos 0
+moved_by_order f o = if settled_state o.1.state o.1.firm then total (moved_by_line f) o.1.lines.items else pos 0
 
 -- what an order holds to take, if it is open
 abbrev pub taken_by_order : Name → ℕ × OrderEntry → ℤ
-taken_by_order f o = if open_state o.1.state then total (taken_by_line f) o.1.lines.items else pos 0
+taken_by_order f o = if open_state o.1.state then total (taken_by_line o.1.firm f) o.1.lines.items else pos 0
 
 -- what it holds to add, if it is open
 abbrev pub added_by_order : Name → ℕ × OrderEntry → ℤ
-added_by_order f o = if open_state o.1.state then total (added_by_line f) o.1.lines.items else pos 0
+added_by_order f o = if open_state o.1.state then total (added_by_line o.1.firm f) o.1.lines.items else pos 0
 
 -- ---- numbers together
 

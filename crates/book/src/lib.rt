@@ -16,5 +16,7 @@ pub use laws::{
     transfers_even_out, worked_examples_hold,
 };
 pub use limits::{MAX_FIELDS, MAX_ORDERS, MAX_PLACES, limits_are_those_of_the_rules};
-pub use order::{Kind, Line, State};
-pub use rows::{Change, DeskRow, FieldRow, FirmRow, KeptRow, LineRow, MoveRow, OrderRow, Rows, Tables};
+pub use order::{Kind, Line, Standing};
+pub use rows::{
+    Change, DeskRow, FieldRow, FirmRow, KeptRow, LineRow, MoveRow, OrderRow, Rows, Tables,
+};

@@ -2,6 +2,7 @@
 
 ghost use Rattle.std.specs.Prelude.{◌≡◌, MatchOption, find};
 ghost use Rattle.book.specs.Ledger.{name_of, on};
+ghost use Rattle.book.specs.Running.{share_of};
 
 use escrow::{Article, Branch, Level, Moment, OrderNo, Way};
 
@@ -25,6 +26,19 @@ pub enum State {
     Aborted,
 }
 
+/// Where an order stands, as it is shown.
+#[derive(Clone, Copy, Debug, PartialEq, Eq)]
+pub enum Standing {
+    /// It holds what its lines hold.
+    Open,
+    /// It is open and may no longer be aborted: what it uses is settled at once.
+    Firm,
+    /// It has ended, and what it used is settled.
+    Committed,
+    /// It has ended, and all that it held went back.
+    Aborted,
+}
+
 /// A line of an order: what it holds on a field, one way, and how much of that it has used.
 #[derive(Clone, Copy, Debug)]
 pub struct Line {
@@ -41,7 +55,38 @@ pub struct OrderEntry {
     pub kind: Kind,
     pub until: Moment,
     pub state: State,
+    /// Whether it may no longer be aborted; the mark stays, also after the commit.
+    pub firm: bool,
     pub lines: Vec<Line>,
+}
+
+/// What a line counts for in the stock of its field: how much of it is settled, and how much is held beyond that.
+#[derive(Clone, Copy, Debug)]
+pub struct Share {
+    pub settled: u64,
+    pub held: u64,
+}
+
+/// The share of a line whose order has the state, and is firm or not.
+pub(crate) fn share_of(line: &Line, state: State, firm: bool) -> Share
+    ensures { result ≡ share_of state firm line.now }
+{
+    let (held, used) = (line.held.get(), line.used.get());
+    match state {
+        State::Open if firm => Share {
+            settled: used,
+            held: held.saturating_sub(used),
+        },
+        State::Open => Share { settled: 0, held },
+        State::Committed => Share {
+            settled: used,
+            held: 0,
+        },
+        State::Aborted => Share {
+            settled: 0,
+            held: 0,
+        },
+    }
 }
 
 /// An order under its number.

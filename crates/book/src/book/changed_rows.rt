@@ -9,7 +9,7 @@ ghost use Rattle.book.specs.Rows.{kept_row, kind_code, line_row, move_row, order
 ghost use Rattle.book.specs.Running.{Accepts, entry_row};
 ghost use Rattle.book.specs.Tables.{desk_cells, field_cells, kept_cells, line_cells, move_cells, order_cells, rows_among};
 ghost use Rattle.book.specs.View.{move_of, order_of};
-ghost use Rattle.book.specs.After.{aborted_rows, changes_own_line, line_rows, move_rows, of_numbered, order_after, own_line_rows, own_order_rows, with_fields, with_kept, with_lines, with_moves, with_orders, IsShort};
+ghost use Rattle.book.specs.After.{aborted_rows, changes_own_line, line_rows, move_rows, of_numbered, order_after, own_firm_rows, own_line_rows, own_order_rows, with_fields, with_firms, with_kept, with_lines, with_moves, with_orders, IsShort};
 ghost use Rattle.book.specs.Plans.{ChangesTo, Makes};
 
 use super::made::{changes_line, changes_state, is_transfer};
@@ -19,7 +19,7 @@ use crate::in_order::InOrder;
 use crate::kept_words::KeptWords;
 use crate::limits::MAX_PLACES;
 use crate::order::{Kind, Line, Order, OrderEntry, State};
-use crate::rows::{Change, DeskRow, FieldRow, KeptRow, LineRow, MoveRow, OrderRow};
+use crate::rows::{Change, DeskRow, FieldRow, FirmRow, KeptRow, LineRow, MoveRow, OrderRow};
 use escrow::{Article, Branch, FieldName, Key, Moment, OrderNo, Way};
 use std::alloc::Global;
 use words::{Command, Memory, Request};
@@ -282,6 +282,19 @@ fn push_kept(alloc: Global, changes: &mut Vec<Change>, parts: &PlanParts) -> Res
     push(changes, Change::Kept(row))
 }
 
+/// Appends the row that marks the order as firm, where the command does that.
+fn push_firm(changes: &mut Vec<Change>, command: &Command) -> Result<(), Memory>
+    ensures { OnOk result (rows_among changes.new.items ≡ with_firms (own_firm_rows command.now) (rows_among changes.old.items)) }
+{
+    let Command::Firm { number } = command else {
+        return Ok(());
+    };
+    let row = FirmRow {
+        number: number.get() as i64,
+    };
+    push(changes, Change::Firm(row))
+}
+
 impl Book {
     /// The clock once the command is carried out.
     pub(super) fn clock_after(&self, command: &Command) -> Moment
@@ -337,6 +350,7 @@ impl Book {
         self.push_all_aborted(&mut changes, &parts.expired)?;
         push_own_lines(alloc, &mut changes, command, &parts.made)?;
         push_kept(alloc, &mut changes, parts)?;
+        push_firm(&mut changes, command)?;
         Ok(changes)
     }
 }

@@ -1,12 +1,12 @@
 //! Which check of a command fails first.
 
 ghost use Rattle.std.specs.Bool.{OnTrue};
-ghost use Rattle.std.specs.Prelude.{◌≡◌, ℕ, None, Some, IfOk, IsSome, IsTrue, MatchResult, [], find, is_some, map, ◌++◌, ◌+◌, ◌≤◌, ◌<◌, ◌↔◌};
+ghost use Rattle.std.specs.Prelude.{◌≡◌, ℕ, None, Some, IfOk, IsFalse, IsSome, IsTrue, MatchResult, [], find, is_some, map, ◌++◌, ◌+◌, ◌≤◌, ◌<◌, ◌↔◌};
 ghost use Rattle.words.specs.Kinds.{is_change, is_opening};
 ghost use Rattle.words.specs.declared.command.Command.TheVariants.{Expire, Field, More};
 ghost use Rattle.words.specs.declared.command.Command.TheVariants as command;
 ghost use Rattle.book.specs.After.{moved_at_once};
-ghost use Rattle.book.specs.Answers.{FirstFailure, bounds_checks, checks, open_checks, order_checks, part_checks, line_checks};
+ghost use Rattle.book.specs.Answers.{FirstFailure, bounds_checks, checks, loose_checks, open_checks, order_checks, part_checks, line_checks};
 ghost use Rattle.book.specs.Checking.{hold_checks, bound_checks, refusal_of, stock_checks};
 ghost use Rattle.book.specs.Ledger.{is_open, order_numbered, name_of, Ledger, field_named, on, open_orders, places};
 ghost use Rattle.book.specs.View.{order_of, field_of};
@@ -54,7 +54,9 @@ impl Book {
             Command::Open { .. } | Command::Transfer { .. } => self.check_opening(command),
             Command::More { .. } => self.check_change(command),
             Command::Use { .. } | Command::Release { .. } => self.check_change(command),
-            Command::Commit { number } | Command::Abort { number } => self.check_end(*number),
+            Command::Commit { number } => self.check_end(*number),
+            Command::Abort { number } => self.check_loose(*number),
+            Command::Firm { number } => self.check_firm(*number),
             Command::Expire { now } => self.check_expire(*now),
         }
     }
@@ -194,7 +196,7 @@ impl Book {
         if self.is_full(1) {
             return Some((Refusal::Full, 0));
         }
-        let order = match self.open_order(number) {
+        let order = match self.loose_order(number) {
             Ok(order) => order,
             Err(refusal) => return Some((refusal, 0)),
         };
@@ -251,7 +253,7 @@ impl Book {
         }
     }
 
-    /// A commit or an abort.
+    /// A commit.
     fn check_end(&self, number: OrderNo) -> Option<(Refusal, u64)>
         ensures { FirstFailure (open_checks self.now.ledger number) result }
     {
@@ -259,6 +261,25 @@ impl Book {
             Ok(_) => None,
             Err(refusal) => Some((refusal, 0)),
         }
+    }
+
+    /// An abort.
+    fn check_loose(&self, number: OrderNo) -> Option<(Refusal, u64)>
+        ensures { FirstFailure (loose_checks self.now.ledger number) result }
+    {
+        match self.loose_order(number) {
+            Ok(_) => None,
+            Err(refusal) => Some((refusal, 0)),
+        }
+    }
+
+    fn check_firm(&self, number: OrderNo) -> Option<(Refusal, u64)>
+        ensures { FirstFailure (checks self.now.ledger (command.Firm number)) result }
+    {
+        if self.is_full(1) {
+            return Some((Refusal::Full, 0));
+        }
+        self.check_loose(number)
     }
 
     /// A new order, apart from its lines.
@@ -292,6 +313,25 @@ impl Book {
                 Ok(order)
             }
         }
+    }
+}
+
+impl Book {
+    /// The open order of that number that is not firm, or why there is none.
+    fn loose_order(&self, number: OrderNo) -> Result<&OrderEntry, Refusal>
+        ensures found { MatchResult result (λ order. FirstFailure (loose_checks self.now.ledger number) None) (λ refusal. FirstFailure (loose_checks self.now.ledger number) (Some (refusal, 0))) }
+        ensures order { IfOk result (λ order. order_numbered self.now.ledger number ≡ Some (order_of (number, order.now))) }
+        ensures open { IfOk result (λ order. IsTrue (is_open (order_of (number, order.now)))) }
+        ensures loose { IfOk result (λ order. IsFalse order.now.firm) }
+    {
+        let order = match self.open_order(number) {
+            Ok(order) => order,
+            Err(refusal) => return Err(refusal),
+        };
+        if order.firm {
+            return Err(Refusal::Firm);
+        }
+        Ok(order)
     }
 }
 

@@ -1,6 +1,6 @@
 //! The fields that an accepted command makes or changes, as they are then.
 
-ghost use Rattle.std.specs.Prelude.{◌≡◌, ◌∷◌, ◌++◌, [], List, Some, IsSome, IfOk, OnOk, false, find, flat_map, map, option_map, true, ◌-◌, ◌<◌, ◌≤◌};
+ghost use Rattle.std.specs.Prelude.{◌≡◌, ℕ, ◌∷◌, ◌++◌, [], List, Some, IsSome, IfOk, OnOk, false, find, flat_map, map, option_map, true, ◌-◌, ◌<◌, ◌≤◌};
 ghost use Rattle.std.specs.BTreeMap.{insert_entry};
 ghost use Rattle.std.specs.List.{AllByRecursion as Each};
 ghost use Rattle.std.specs.List.Sorted.{IsStrictlySortedBy};
@@ -8,7 +8,7 @@ ghost use Rattle.std.specs.Map.{keys_of};
 ghost use Rattle.book.specs.After.{expired_numbers, field_rows, of_numbered, order_after};
 ghost use Rattle.book.specs.Changes.{changes_field};
 ghost use Rattle.book.specs.Ledger.{field_named, line_name, name_cmp, on, order_numbered, name_of};
-ghost use Rattle.book.specs.Running.{Accepts, GivenBack, GivesBack, HasLines, MayGiveBack, MovesField, Puts, amount_held, entry_row, line_before, Becomes, HoldsInstead, MayBecome};
+ghost use Rattle.book.specs.Running.{Accepts, GivenBack, GivesBack, HasLines, MayGiveBack, MovesField, Puts, entry_row, share_numbers, share_on, Becomes, MayBecome};
 ghost use Rattle.book.specs.View.{order_of};
 ghost use Rattle.book.specs.declared.order.Line.{Line};
 ghost use Rattle.words.specs.declared.command.Command.TheVariants.{Rebound};
@@ -20,7 +20,7 @@ ghost use Rattle.escrow.specs.Ranges.{IsQty};
 use super::plan::moved_at_once;
 use super::{Book, FieldEntry};
 use crate::in_order::InOrder;
-use crate::order::{Line, Order, State, line_in};
+use crate::order::{Line, Order, OrderEntry, Share, line_in, share_of};
 use escrow::{Article, Branch, FieldName, Level, OrderNo, Qty, Quantity, Way};
 use std::alloc::Global;
 use words::{Command, Memory, Request};
@@ -36,41 +36,37 @@ fn move_value(quantity: &mut Quantity, way: Way, qty: Qty)
     }
 }
 
-/// A line of which so much was held, in an open order, is as it is now, in an order of that state.
-fn change_stock(quantity: &mut Quantity, held: u64, line: &Line, state: State)
-    requires { MayBecome quantity.old held line.now state }
-    ensures { Becomes quantity.old held line.now state quantity.new }
+/// What a line counts for changes from the one to the other.
+fn change_stock(quantity: &mut Quantity, way: Way, before: Share, after: Share)
+    requires { MayBecome quantity.old way before after }
+    ensures { Becomes quantity.old (share_numbers way before) (share_numbers way after) quantity.new }
 {
-    match state {
-        State::Open => change_hold(quantity, line.way, held, line.held.get()),
-        State::Committed => quantity.settle(line.way, held, line.used.get()),
-        State::Aborted => quantity.give_back(line.way, held),
-    }
-}
-
-/// So much is held the one way in place of what was held.
-fn change_hold(quantity: &mut Quantity, way: Way, before: u64, after: u64)
-    requires there { before ≤ held_of quantity.old way }
-    requires qty { before < after → IsQty (after - before) }
-    requires safe { before < after → IsSafe (holding quantity.old way (after - before)) }
-    ensures { HoldsInstead quantity.old way before after quantity.new }
-{
-    match Qty::new(after.saturating_sub(before)) {
+    match Qty::new(after.held.saturating_sub(before.held)) {
         Some(more) => match quantity.ask(way, more) {
             Ok(()) => {}
             Err(_) => unreachable!(),
         },
-        None => quantity.give_back(way, before.saturating_sub(after)),
+        None => quantity.settle(
+            way,
+            before.held.saturating_sub(after.held),
+            after.settled.saturating_sub(before.settled),
+        ),
     }
 }
 
-/// What is held on the field by the one of these lines that is on it.
-fn held_on(lines: &[Line], branch: Branch, article: Article) -> u64
-    ensures { result ≡ amount_held (find (on (name_of branch article)) lines.now) }
+/// What no line counts for.
+const NO_SHARE: Share = Share {
+    settled: 0,
+    held: 0,
+};
+
+/// What the order's line on that field counts for, if there is one.
+fn share_in(order: &OrderEntry, branch: Branch, article: Article) -> Share
+    ensures { (n : ℕ) → result ≡ share_on (Some (order_of (n, order.now))) (name_of branch article) }
 {
-    match line_in(lines, branch, article) {
-        Some(line) => line.held.get(),
-        None => 0,
+    match line_in(&order.lines, branch, article) {
+        Some(line) => share_of(line, order.state, order.firm),
+        None => NO_SHARE,
     }
 }
 
@@ -98,13 +94,13 @@ fn name_of(line: &Line) -> FieldName
 }
 
 impl Book {
-    /// What the order of that number holds so far on the field of the line.
-    fn held_before(&self, number: OrderNo, line: &Line) -> u64
-        ensures { result ≡ amount_held (line_before (order_numbered self.now.ledger number) (line_name line.now)) }
+    /// What the line on that field of the order of that number counts for so far.
+    fn share_before(&self, number: OrderNo, line: &Line) -> Share
+        ensures { result ≡ share_on (order_numbered self.now.ledger number) (line_name line.now) }
     {
         match self.order_entry(number) {
-            Some(order) => held_on(&order.lines, line.branch, line.article),
-            None => 0,
+            Some(order) => share_in(order, line.branch, line.article),
+            None => NO_SHARE,
         }
     }
 
@@ -126,12 +122,13 @@ impl Book {
         if !self.changes_field(request, order, line) {
             return Ok(());
         }
-        let held = self.held_before(order.0, line);
+        let before = self.share_before(order.0, line);
+        let after = share_of(line, order.1.state, order.1.firm);
         let Some(entry) = self.field_entry(line.branch, line.article) else {
             unreachable!()
         };
         let mut entry = *entry;
-        change_stock(&mut entry.quantity, held, line, order.1.state);
+        change_stock(&mut entry.quantity, line.way, before, after);
         put(fields, name_of(line), entry)
     }
 

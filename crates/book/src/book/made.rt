@@ -11,7 +11,7 @@ ghost use Rattle.book.specs.declared.book.made.LineChange.TheVariants as LineCha
 ghost use Rattle.book.specs.declared.order.State.TheVariants as State;
 ghost use Rattle.escrow.specs.Ranges.{IsLevel};
 ghost use Rattle.std.specs.List.{AllByRecursion as Each, filter};
-ghost use Rattle.std.specs.Prelude.{◌≡◌, ℕ, ◌<◌, ◌||◌, true, MatchOption, find, if◌then◌else◌, map, option_map, IfOk, Some, ◌∷◌, ◌++◌, [], ◌&&◌, nat_le, OnOk};
+ghost use Rattle.std.specs.Prelude.{◌≡◌, ℕ, ◌<◌, ◌||◌, true, MatchOption, find, if◌then◌else◌, map, option_map, IfOk, Some, ◌∷◌, ◌++◌, [], ◌&&◌, not, nat_le, OnOk};
 ghost use Rattle.std.specs.Vec.{vec_capacity, vec_len};
 
 use super::Book;
@@ -42,6 +42,8 @@ pub enum OrderChange {
     ChangeLines(Branch, Article, LineChange),
     /// It ends.
     End(State),
+    /// It is made firm.
+    MakeFirm,
 }
 
 /// A level that is known to be one.
@@ -145,17 +147,19 @@ fn change_order(order: &mut OrderEntry, change: &OrderChange)
             change_lines(&mut order.lines, is_transfer, *branch, *article, change);
         }
         OrderChange::End(state) => order.state = *state,
+        OrderChange::MakeFirm => order.firm = true,
     }
 }
 
 /// An open order of these lines.
 pub(super) fn opened(number: OrderNo, kind: Kind, until: Moment, lines: Vec<Line>) -> Order
-    ensures { order_of result ≡ record { number = number; kind = kind; until = until; state = State.Open; lines = lines.items } }
+    ensures { order_of result ≡ record { number = number; kind = kind; until = until; state = State.Open; firm = false; lines = lines.items } }
 {
     let entry = OrderEntry {
         kind,
         until,
         state: State::Open,
+        firm: false,
         lines,
     };
     (number, entry)
@@ -201,6 +205,7 @@ fn order_change(command: &Command) -> Option<(OrderNo, OrderChange)>
         }
         Command::Commit { number } => Some((*number, OrderChange::End(State::Committed))),
         Command::Abort { number } => Some((*number, OrderChange::End(State::Aborted))),
+        Command::Firm { number } => Some((*number, OrderChange::MakeFirm)),
         _ => None,
     }
 }
@@ -216,6 +221,7 @@ fn copy_of_order(alloc: Global, entry: &OrderEntry) -> Result<OrderEntry, Memory
         kind: entry.kind,
         until: entry.until,
         state: entry.state,
+        firm: entry.firm,
         lines,
     })
 }
@@ -318,13 +324,13 @@ pub(super) fn changes_line(command: &Command, is_transfer: bool, line: &Line) ->
     }
 }
 
-/// Whether the command changes the stock of the field of a line of the order that it makes.
-fn changes_stock(command: &Command, is_transfer: bool, line: &Line) -> bool
-    ensures { result ≡ changes_own_stock is_transfer command.now line.now }
+/// Whether the command changes the stock of the field of a line of the order that it makes, which is firm or not.
+fn changes_stock(command: &Command, is_firm: bool, is_transfer: bool, line: &Line) -> bool
+    ensures { result ≡ changes_own_stock is_firm is_transfer command.now line.now }
 {
     match command {
-        Command::Use { .. } => false,
-        Command::Commit { .. } | Command::Abort { .. } => true,
+        Command::Use { .. } => is_firm && changes_line(command, is_transfer, line),
+        Command::Commit { .. } | Command::Abort { .. } | Command::Firm { .. } => true,
         _ => changes_line(command, is_transfer, line),
     }
 }
@@ -337,16 +343,16 @@ impl Book {
         requires line { find (on (line_name line.now)) order.now.1.lines.items ≡ Some line.now }
         ensures { result ≡ changes_field self.now.ledger request.now.command (line_name line.now) }
     {
-        changes_stock(&request.command, is_transfer(order), line)
+        changes_stock(&request.command, order.1.firm, is_transfer(order), line)
     }
 }
 
 /// Whether the expiry aborts the order.
 fn expires(order: &OrderEntry, now: Moment) -> bool
-    ensures { result ≡ open_state order.now.state && nat_le order.now.until now }
+    ensures { result ≡ open_state order.now.state && not order.now.firm && nat_le order.now.until now }
 {
     // the moment first: few have come, so a processor guesses this test, while an order is as likely open as not
-    order.until <= now && matches!(order.state, State::Open)
+    order.until <= now && !order.firm && matches!(order.state, State::Open)
 }
 
 /// Appends the order's number, where it expires.

@@ -12,6 +12,7 @@ ghost use Rattle.book.specs.declared.book.tables.TablesFault.TheVariants as Tabl
 
 mod good;
 mod group;
+mod marks;
 mod sums;
 mod told;
 
@@ -20,6 +21,7 @@ use self::good::{
     are_orders_in_order, are_places_good,
 };
 use self::group::{Head, group};
+use self::marks::mark;
 use self::sums::are_up_to_date;
 use self::told::{moment, natural, read_all};
 use crate::book::{Book, FieldEntry, KeptEntry, MoveEntry};
@@ -75,15 +77,15 @@ fn read_tables(alloc: Global, tables: Tables) -> Result<Entries, TablesFault>
 {
     let fields = read_all(alloc, tables.fields.as_slice())?;
     let moves = read_all(alloc, tables.moves.as_slice())?;
-    let heads: Vec<Head> = read_all(alloc, tables.orders.as_slice())?;
+    let mut heads: Vec<Head> = read_all(alloc, tables.orders.as_slice())?;
+    if !mark(&mut heads, tables.firms.as_slice()) {
+        return Err(TablesFault::Damaged);
+    }
     let lines: Vec<Line> = read_all(alloc, tables.lines.as_slice())?;
     let orders = group(alloc, &heads, tables.lines.as_slice(), &lines)?;
     drop(lines);
     drop(tables.lines);
     let kept = read_all(alloc, tables.kept.as_slice())?;
-    if !tables.firms.as_slice().is_empty() {
-        return Err(TablesFault::Damaged);
-    }
     let Some(clock) = read_desk(&tables.desk, kept.len()) else {
         return Err(TablesFault::Damaged);
     };

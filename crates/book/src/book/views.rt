@@ -3,13 +3,13 @@
 ghost use Rattle.std.specs.Prelude.{◌≡◌, length, map, slice_get, IsSomeAnd, MatchOption};
 ghost use Rattle.std.specs.List.Sorted.{IsStrictlySortedBy};
 ghost use Rattle.book.specs.Good.{Good};
-ghost use Rattle.book.specs.Ledger.{Ledger, field_named, name_cmp, order_numbered, name_of};
+ghost use Rattle.book.specs.Ledger.{Ledger, field_named, name_cmp, order_numbered, name_of, shown_state};
 ghost use Rattle.book.specs.Running.{IsUpToDate};
 ghost use Rattle.book.specs.View.{field_of};
 ghost use Rattle.book.specs.Views.{ShowsField, ShowsOrder};
 
 use super::{Book, FieldEntry};
-use crate::order::{Kind, Line, State};
+use crate::order::{Kind, Line, Standing, State};
 use escrow::{Article, Branch, FieldName, Level, Moment, OrderNo};
 
 /// A field as it stands: its bounds, its settled value, and the least and the greatest value that the open
@@ -31,7 +31,7 @@ pub struct OrderView<'a> {
     pub number: OrderNo,
     pub kind: Kind,
     pub until: Moment,
-    pub state: State,
+    pub state: Standing,
     pub lines: &'a [Line],
 }
 
@@ -70,9 +70,21 @@ impl Book {
             number,
             kind: entry.kind,
             until: entry.until,
-            state: entry.state,
+            state: shown_state(entry.state, entry.firm),
             lines: &entry.lines,
         })
+    }
+}
+
+/// Where an order in that state stands, which is firm or not.
+fn shown_state(state: State, firm: bool) -> Standing
+    ensures { result ≡ shown_state state firm }
+{
+    match state {
+        State::Open if firm => Standing::Firm,
+        State::Open => Standing::Open,
+        State::Committed => Standing::Committed,
+        State::Aborted => Standing::Aborted,
     }
 }
 

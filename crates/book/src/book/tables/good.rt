@@ -12,7 +12,7 @@ ghost use Rattle.std.specs.Ordering.{nat_cmp, is_lt};
 ghost use Rattle.std.specs.Prelude.{◌≡◌, ◌≤◌, ◌↔◌, IsTrue, map, nat_lt, ◌<◌, IfOk, false, length, nat_eq, slice_index_or, true};
 
 use crate::book::{FieldEntry, KeptEntry, MoveEntry};
-use crate::order::{Kind, Line, Order, line_in};
+use crate::order::{Kind, Line, Order, State, line_in};
 use escrow::{FieldName, Key, Qty, Way};
 use std::alloc::Global;
 use words::{MAX_ORDER_LINES, Memory};
@@ -141,6 +141,9 @@ fn is_order_good(order: &Order) -> bool
         return false;
     }
     if !are_lines_good(&entry.lines) || !are_apart(&entry.lines) {
+        return false;
+    }
+    if entry.firm && matches!(entry.state, State::Aborted) {
         return false;
     }
     match entry.kind {

@@ -25,6 +25,8 @@ pub(super) struct Head {
     pub kind: Kind,
     pub until: Moment,
     pub state: State,
+    /// Whether it is marked as firm.
+    pub firm: bool,
 }
 
 /// How many rows at the front are of that order.
@@ -114,12 +116,13 @@ fn behind<T>(items: &[T], start: usize) -> &[T]
 }
 
 fn with_lines(head: &Head, lines: Vec<Line>) -> Order
-    ensures { order_of result ≡ record { number = head.now.number; kind = head.now.kind; until = head.now.until; state = head.now.state; lines = lines.items } }
+    ensures { order_of result ≡ record { number = head.now.number; kind = head.now.kind; until = head.now.until; state = head.now.state; firm = head.now.firm; lines = lines.items } }
 {
     let entry = OrderEntry {
         kind: head.kind,
         until: head.until,
         state: head.state,
+        firm: head.firm,
         lines,
     };
     (head.number, entry)

@@ -7,7 +7,6 @@ ghost use Rattle.book.specs.View.{field_of, move_of};
 ghost use Rattle.book.specs.Walk.{most_of_all, plus, IsSmall, most_of_line, most_of_lines, most_of_move, most_of_moves, nothing};
 ghost use Rattle.book.specs.declared.book.tables.sums.Numbers.{Numbers};
 ghost use Rattle.book.specs.declared.limits.TheConstants.{MAX_ORDERS, MAX_PLACES};
-ghost use Rattle.book.specs.declared.order.State.TheVariants as State;
 ghost use Rattle.escrow.specs.Ranges.{IsQty};
 ghost use Rattle.std.specs.List.Sorted.{IsStrictlySortedBy};
 ghost use Rattle.std.specs.List.{AllByRecursion as Each};
@@ -16,7 +15,7 @@ ghost use Rattle.words.specs.declared.limits.TheConstants.{MAX_ORDER_LINES};
 
 use crate::book::{FieldEntry, MoveEntry};
 use crate::limits::MAX_PLACES;
-use crate::order::{Line, Order, State};
+use crate::order::{Line, Order, State, share_of};
 use escrow::{Article, Branch, FieldName, Way};
 use std::alloc::Global;
 use std::cmp::Ordering;
@@ -220,30 +219,31 @@ fn add_orders(fields: &[(FieldName, FieldEntry)], sums: &mut [Numbers], orders: 
     ensures small { IsTrue result → Each (IsSmall most_of_all) sums.new }
 {
     for entry in orders {
-        if !add_lines(fields, sums, &entry.1.lines, &entry.1.state) {
+        if !add_lines(fields, sums, &entry.1.lines, entry.1.state, entry.1.firm) {
             return false;
         }
     }
     true
 }
 
-/// Adds the lines of an order in that state, each to the sum of its field. Whether all of them are on fields.
+/// Adds the lines of an order in that state, which is firm or not, each to the sum of its field. Whether all of them are on fields.
 fn add_lines(
     fields: &[(FieldName, FieldEntry)],
     sums: &mut [Numbers],
     lines: &[Line],
-    state: &State,
+    state: State,
+    firm: bool,
 ) -> bool
     requires sorted { AreFieldsInOrder fields.now }
     requires long { length sums.old ≡ length fields.now }
     requires room { Each (IsSmall most_of_all) sums.old }
     requires short { length lines.now ≤ MAX_ORDER_LINES }
     ensures there { IsTrue result ↔ AreLinesOnFields fields.now lines.now }
-    ensures sums { IsTrue result → sums.new ≡ added (lines_numbers state.now lines.now) fields.now sums.old }
+    ensures sums { IsTrue result → sums.new ≡ added (lines_numbers state firm lines.now) fields.now sums.old }
     ensures small { IsTrue result → (k : ℕ) → Each (IsSmall k) sums.old → Each (IsSmall (k + most_of_lines)) sums.new }
 {
     for line in lines {
-        if !add_line(fields, sums, line, state) {
+        if !add_line(fields, sums, line, state, firm) {
             return false;
         }
     }
@@ -255,60 +255,39 @@ fn add_line(
     fields: &[(FieldName, FieldEntry)],
     sums: &mut [Numbers],
     line: &Line,
-    state: &State,
+    state: State,
+    firm: bool,
 ) -> bool
     requires sorted { AreFieldsInOrder fields.now }
     requires long { length sums.old ≡ length fields.now }
     requires room { Each (IsSmall (most_of_all + most_of_all)) sums.old }
     ensures there { IsTrue result ↔ IsField fields.now (line_name line.now) }
-    ensures sums { sums.new ≡ added (lines_numbers state.now (line.now ∷ [])) fields.now sums.old }
+    ensures sums { sums.new ≡ added (lines_numbers state firm (line.now ∷ [])) fields.now sums.old }
     ensures small { (k : ℕ) → Each (IsSmall k) sums.old → Each (IsSmall (k + most_of_line)) sums.new }
 {
-    let part = part_of(line, state);
+    let part = part_of(line, state, firm);
     add_on(fields, sums, line.branch, line.article, &part)
 }
 
-/// What the line adds to its field, where its order has the state.
-fn part_of(line: &Line, state: &State) -> Numbers
-    ensures part { result ≡ part_of_line state.now line.now }
+/// What the line adds to its field, where its order has the state, and is firm or not.
+fn part_of(line: &Line, state: State, firm: bool) -> Numbers
+    ensures part { result ≡ part_of_line state firm line.now }
     ensures small { IsSmall most_of_line result }
 {
-    match state {
-        State::Open => held_part(line),
-        State::Committed => used_part(line),
-        State::Aborted => NOTHING,
-    }
-}
-
-/// What it adds in an open order: what it holds.
-fn held_part(line: &Line) -> Numbers
-    ensures part { result ≡ part_of_line State.Open line.now }
-    ensures small { IsSmall most_of_line result }
-{
-    let held = line.held.get() as i64;
+    let share = share_of(line, state, firm);
+    let (settled, held) = (share.settled as i64, share.held as i64);
     match line.way {
         Way::Take => Numbers {
+            moved: -settled,
             takes: held,
-            ..NOTHING
+            adds: 0,
         },
         Way::Add => Numbers {
+            moved: settled,
+            takes: 0,
             adds: held,
-            ..NOTHING
         },
     }
-}
-
-/// What it adds in a committed order: what it has used.
-fn used_part(line: &Line) -> Numbers
-    ensures part { result ≡ part_of_line State.Committed line.now }
-    ensures small { IsSmall most_of_line result }
-{
-    let used = line.used.get() as i64;
-    let moved = match line.way {
-        Way::Take => -used,
-        Way::Add => used,
-    };
-    Numbers { moved, ..NOTHING }
 }
 
 /// What must have moved its value, and what is held on it, where the field's quantity is right.

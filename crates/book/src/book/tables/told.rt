@@ -176,6 +176,7 @@ fn head(row: &OrderRow) -> Option<Head>
         kind: kind(row.kind)?,
         until: moment(row.until)?,
         state: state(row.state)?,
+        firm: false,
     })
 }
 
