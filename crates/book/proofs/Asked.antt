@@ -1,5 +1,5 @@
 -- The model's tests of a request, over all outcomes, as the comparisons that a program makes.
-use Rattle.book.proofs.Prelude.{[], ◌++◌, ◌+ℤ◌, ◌-ℤ◌, ◌<ℤ◌, ◌↔◌, ◌∙◌, ◌∷◌, ◌≡◌, ◌≤◌, Add, Bool, BreaksBound, Each, FallsBelow, Field, IsSomeAnd, Kind, Ledger, Line, List, Move, Name, None, OpenLine, Order, RisesAbove, Some, Take, Way, ap, arith, bytes_decides, common_steps, false, field_named, find, held_to_add, held_to_take, if_add, if_take, if◌then◌else◌, insert_in_order, ints, is_committed, is_open, line_name, map, moved, nat_lt, neg_ℤ, new_line, new_order, on, pos, refl, same_name, settled, subst, sym, total, true, true≢false, with_move, with_order, ℕ, ℤ}
+use Rattle.book.proofs.Prelude.{[], ◌++◌, ◌+ℤ◌, ◌-ℤ◌, ◌<ℤ◌, ◌↔◌, ◌∙◌, ◌∷◌, ◌≡◌, ◌≤◌, Add, Bool, BreaksBound, Each, FallsBelow, Field, IsSomeAnd, Kind, Ledger, Line, List, Move, Name, None, OpenLine, Order, RisesAbove, Some, Take, Way, ap, arith, bytes_decides, common_steps, false, field_named, find, held_to_add, held_to_take, if_add, if_take, if◌then◌else◌, insert_in_order, ints, is_open, is_settled, line_name, map, moved, nat_lt, neg_ℤ, new_line, new_order, on, pos, refl, same_name, settled, subst, sym, total, true, true≢false, with_move, with_order, ℕ, ℤ}
 use Rattle.book.proofs.Bounds.{OneOn, Sound, takes, adds, none-total, falls_below_iff, rises_above_iff}
 use Rattle.book.proofs.Closing.{name_is}
 use Rattle.book.proofs.Sums.{each-of-push}
@@ -73,13 +73,13 @@ named (f ∷ fs) name P Q h k = step (same_name name f.name) refl k (λ x. named
     step false e k x = x k
 
 pub settled-order : (A : Ledger) (n : ℕ) (k : Kind) (u : ℕ) (ls : List OpenLine) (f : Field) → settled (with_order (new_order n k u ls) A) f ≡ settled A f
-settled-order A n k u ls f = let e = total-insert (λ o. if is_committed o then moved f.name (λ l. l.used) o else pos 0) (λ a b. nat_lt a.number b.number) (new_order n k u ls) A.orders in omega (arith, ints)
+settled-order A n k u ls f = let e = total-insert (λ o. if is_settled o then moved f.name (λ l. l.used) o else pos 0) (λ a b. nat_lt a.number b.number) (new_order n k u ls) A.orders in omega (arith, ints)
 
-pub held_take-order : (A : Ledger) (n : ℕ) (k : Kind) (u : ℕ) (ls : List OpenLine) (f : Name) → held_to_take (with_order (new_order n k u ls) A) f ≡ total (takes f) (map new_line ls) +ℤ held_to_take A f
-held_take-order A n k u ls f = total-insert (λ o. if is_open o then total (takes f) o.lines else pos 0) (λ a b. nat_lt a.number b.number) (new_order n k u ls) A.orders
+pub held_take-order : (A : Ledger) (n : ℕ) (k : Kind) (u : ℕ) (ls : List OpenLine) (f : Name) → held_to_take (with_order (new_order n k u ls) A) f ≡ total (takes false f) (map new_line ls) +ℤ held_to_take A f
+held_take-order A n k u ls f = total-insert (λ o. if is_open o then total (takes o.firm f) o.lines else pos 0) (λ a b. nat_lt a.number b.number) (new_order n k u ls) A.orders
 
-pub held_add-order : (A : Ledger) (n : ℕ) (k : Kind) (u : ℕ) (ls : List OpenLine) (f : Name) → held_to_add (with_order (new_order n k u ls) A) f ≡ total (adds f) (map new_line ls) +ℤ held_to_add A f
-held_add-order A n k u ls f = total-insert (λ o. if is_open o then total (adds f) o.lines else pos 0) (λ a b. nat_lt a.number b.number) (new_order n k u ls) A.orders
+pub held_add-order : (A : Ledger) (n : ℕ) (k : Kind) (u : ℕ) (ls : List OpenLine) (f : Name) → held_to_add (with_order (new_order n k u ls) A) f ≡ total (adds false f) (map new_line ls) +ℤ held_to_add A f
+held_add-order A n k u ls f = total-insert (λ o. if is_open o then total (adds o.firm f) o.lines else pos 0) (λ a b. nat_lt a.number b.number) (new_order n k u ls) A.orders
 
 -- ---- The test by all outcomes is one comparison in the ledger before.
 

@@ -1,9 +1,9 @@
 -- From a good ledger every future keeps the bounds and the commits.
-use Rattle.book.proofs.Prelude.{[], ◌&&◌, ◌+ℤ◌, ◌+◌, ◌-ℤ◌, ◌-◌, ◌<◌, ◌==◌, ◌||◌, ◌∷◌, ◌≡◌, ◌≤ℤ◌, ◌≤◌, Aborted, Answers, AnswersNew, AsksNoStock, Bool, Check, Command, Committed, Done, Each, Field, FirstFailure, Good, IsDistinct, IsFalse, IsFuture, IsGoodOrder, IsNone, IsSomeAnd, IsStrictlySortedBy, IsTransferPair, IsTrue, IsWithin, Kept, KeyReused, Ledger, Less, Line, List, MatchOption, MatchOrdering, Name, None, Option, Order, Refusal, Refused, Reply, Request, Runs, Some, Stands, State, accept, ap, arith, bytes_decides, change_lines, checks, committed_state, common_steps, false, find, held_to_add, held_to_take, if◌then◌else◌, inl, inr, ints, is_committed, is_open, is_some, is_transfer, kept_under, line_name, line_on, lower_held, map, moved, nat_cmp, nat_le, neg_ℤ, on, open_state, order_numbered, places, pos, raise_used, ranks, refl, same_command, same_name, set_state, settled, signed, subst, sym, total, true, true≢false, ℕ, ℤ}
+use Rattle.book.proofs.Prelude.{[], ◌&&◌, ◌+ℤ◌, ◌+◌, ◌-ℤ◌, ◌-◌, ◌<◌, ◌==◌, ◌||◌, ◌∷◌, ◌≡◌, ◌≤ℤ◌, ◌≤◌, Aborted, Answers, AnswersNew, AsksNoStock, Bool, Check, Command, Committed, Done, Each, Field, FirstFailure, Good, IsDistinct, IsFalse, IsFuture, IsGoodOrder, IsNone, IsSomeAnd, IsStrictlySortedBy, IsTransferPair, IsTrue, IsWithin, Kept, KeyReused, Ledger, Less, Line, List, MatchOption, MatchOrdering, Name, None, Option, Order, Refusal, Refused, Reply, Request, Runs, Some, Stands, State, Way, accept, ap, arith, bytes_decides, change_lines, checks, common_steps, expires, false, find, held_to_add, held_to_take, if_add, if_take, if◌then◌else◌, inl, inr, ints, is_open, is_settled, is_some, is_transfer, kept_under, line_name, line_on, lower_held, map, moved, nat_cmp, nat_le, not, on, open_state, order_numbered, places, pos, raise_used, ranks, refl, same_command, same_name, set_firm, set_state, settled, settled_state, signed, subst, sym, total, true, true≢false, ℕ, ℤ}
 use Rattle.words.specs.declared.command.Command.TheVariants as command
 use Rattle.book.specs.Future.{HonoursAlways}
-use Rattle.book.proofs.Sums.{each-imp, each-both, each-map}
-use Rattle.book.proofs.Bounds.{OneOn, Sound, takes, adds, takes-not_negative, adds-not_negative, moved-low, moved-high, room_from_safe, HasRoom}
+use Rattle.book.proofs.Sums.{each-imp, each-both, each-map, least_if, total-le, total-map}
+use Rattle.book.proofs.Bounds.{OneOn, Sound, takes, adds, takes-not_negative, adds-not_negative, room_from_safe, HasRoom}
 
 -- a good order is sound
 
@@ -34,10 +34,10 @@ pub record Fine (o : Order) : Type 0 where
   pub pair : IsTrue (is_transfer o) → IsTransferPair o.lines
 
 abbrev pub low : Name → Order → ℤ
-low f o = (if is_committed o then moved f (λ l. l.used) o else pos 0) -ℤ (if is_open o then total (takes f) o.lines else pos 0)
+low f o = (if is_settled o then moved f (λ l. l.used) o else pos 0) -ℤ (if is_open o then total (takes o.firm f) o.lines else pos 0)
 
 abbrev pub high : Name → Order → ℤ
-high f o = (if is_committed o then moved f (λ l. l.used) o else pos 0) +ℤ (if is_open o then total (adds f) o.lines else pos 0)
+high f o = (if is_settled o then moved f (λ l. l.used) o else pos 0) +ℤ (if is_open o then total (adds o.firm f) o.lines else pos 0)
 
 -- the order after a step keeps its number, and has no lower and no higher result than before
 pub record Better (o new : Order) : Type 0 where
@@ -55,24 +55,24 @@ same_numbers : (h : Order → Order) (os : List Order) → Each (λ o. Better o 
 same_numbers h [] b = refl
 same_numbers h (o ∷ os) b = λ i. b.0.number i ∷ same_numbers h os b.1 i
 
-committed_part : Name → List Order → ℤ
-committed_part f os = total (λ o. if is_committed o then moved f (λ l. l.used) o else pos 0) os
+settled_part : Name → List Order → ℤ
+settled_part f os = total (λ o. if is_settled o then moved f (λ l. l.used) o else pos 0) os
 
 takes_part : Name → List Order → ℤ
-takes_part f os = total (λ o. if is_open o then total (takes f) o.lines else pos 0) os
+takes_part f os = total (λ o. if is_open o then total (takes o.firm f) o.lines else pos 0) os
 
 adds_part : Name → List Order → ℤ
-adds_part f os = total (λ o. if is_open o then total (adds f) o.lines else pos 0) os
+adds_part f os = total (λ o. if is_open o then total (adds o.firm f) o.lines else pos 0) os
 
 lower : (f : Name) (h : Order → Order) (os : List Order) → Each (λ o. Better o (h o)) os
-    → (committed_part f os -ℤ takes_part f os) ≤ℤ (committed_part f (map h os) -ℤ takes_part f (map h os))
-unfolding committed_part takes_part
+    → (settled_part f os -ℤ takes_part f os) ≤ℤ (settled_part f (map h os) -ℤ takes_part f (map h os))
+unfolding settled_part takes_part
 lower f h [] b = omega (arith, ints)
 lower f h (o ∷ os) b = let x = b.0.low_is f in let y = lower f h os b.1 in omega (arith, ints)
 
 higher : (f : Name) (h : Order → Order) (os : List Order) → Each (λ o. Better o (h o)) os
-    → (committed_part f (map h os) +ℤ adds_part f (map h os)) ≤ℤ (committed_part f os +ℤ adds_part f os)
-unfolding committed_part adds_part
+    → (settled_part f (map h os) +ℤ adds_part f (map h os)) ≤ℤ (settled_part f os +ℤ adds_part f os)
+unfolding settled_part adds_part
 higher f h [] b = omega (arith, ints)
 higher f h (o ∷ os) b = let x = b.0.high_is f in let y = higher f h os b.1 in omega (arith, ints)
 
@@ -81,11 +81,11 @@ abbrev pub changed : (Order → Order) → ℕ → List Kept → Ledger → Ledg
 changed h clock kept A = record { clock = clock; fields = A.fields; moves = A.moves; orders = map h A.orders; kept = kept }
 
 room-changed : (A : Ledger) (h : Order → Order) (clock : ℕ) (kept : List Kept) → Each (λ o. Better o (h o)) A.orders → (f : Field) → HasRoom A f → HasRoom (changed h clock kept A) f
-unfolding committed_part takes_part adds_part
+unfolding settled_part takes_part adds_part
 room-changed A h clock kept b f r =
     let p : (pos f.lo) ≤ℤ (settled A f -ℤ held_to_take A f.name) = r.0 in let q : (settled A f +ℤ held_to_add A f.name) ≤ℤ pos f.hi = r.1 in
-    let x : (committed_part f.name A.orders -ℤ takes_part f.name A.orders) ≤ℤ (committed_part f.name (map h A.orders) -ℤ takes_part f.name (map h A.orders)) = lower f.name h A.orders b in
-    let y : (committed_part f.name (map h A.orders) +ℤ adds_part f.name (map h A.orders)) ≤ℤ (committed_part f.name A.orders +ℤ adds_part f.name A.orders) = higher f.name h A.orders b in
+    let x : (settled_part f.name A.orders -ℤ takes_part f.name A.orders) ≤ℤ (settled_part f.name (map h A.orders) -ℤ takes_part f.name (map h A.orders)) = lower f.name h A.orders b in
+    let y : (settled_part f.name (map h A.orders) +ℤ adds_part f.name (map h A.orders)) ≤ℤ (settled_part f.name A.orders +ℤ adds_part f.name A.orders) = higher f.name h A.orders b in
     (omega (arith, ints), omega (arith, ints))
 
 fit-changed : (A : Ledger) (h : Order → Order) (clock : ℕ) (kept : List Kept) → Fit A → Each (λ o. Better o (h o)) A.orders → Fit (changed h clock kept A)
@@ -100,36 +100,73 @@ fit-changed A h clock kept fit b = record {
 better_if : (b : Bool) (o new : Order) → Fine o → (b ≡ true → Better o new) → Better o (if b then new else o)
 better_if b o new fine h = grind arith
 
-used_in_held : (ls : List Line) → Each (λ l. l.used ≤ l.held) ls → Each (λ l. (l.used ≤ l.used) × (l.used ≤ l.held)) ls
-used_in_held [] h = tt
-used_in_held (l ∷ ls) h = ((omega arith, h.0), used_in_held ls h.1)
+-- what a line of an open order comes to at least on the field, and at most
+line_low : Bool → Name → Line → ℤ
+line_low m f l = (if m then (if on f l then signed l.way l.used else pos 0) else pos 0) -ℤ takes m f l
 
-commit_low : (s : State) (u t : ℤ) → open_state s ≡ true → neg_ℤ t ≤ℤ u → ((if committed_state s then u else pos 0) -ℤ (if open_state s then t else pos 0)) ≤ℤ (u -ℤ pos 0)
-commit_low c u t e h = grind arith
+line_high : Bool → Name → Line → ℤ
+line_high m f l = (if m then (if on f l then signed l.way l.used else pos 0) else pos 0) +ℤ adds m f l
 
-commit_high : (s : State) (u t : ℤ) → open_state s ≡ true → u ≤ℤ t → (u +ℤ pos 0) ≤ℤ ((if committed_state s then u else pos 0) +ℤ (if open_state s then t else pos 0))
-commit_high c u t e h = grind arith
+settled_open : (s : State) (m : Bool) → open_state s ≡ true → settled_state s m ≡ m
+settled_open s m e = grind arith
+
+lows : (m : Bool) (f : Name) (ls : List Line) → (if m then total (λ l. if on f l then signed l.way l.used else pos 0) ls else pos 0) -ℤ total (takes m f) ls ≡ total (line_low m f) ls
+unfolding line_low
+lows true f [] = refl
+lows false f [] = refl
+lows true f (l ∷ ls) = let more = lows true f ls in omega (arith, ints)
+lows false f (l ∷ ls) = let more = lows false f ls in omega (arith, ints)
+
+highs : (m : Bool) (f : Name) (ls : List Line) → (if m then total (λ l. if on f l then signed l.way l.used else pos 0) ls else pos 0) +ℤ total (adds m f) ls ≡ total (line_high m f) ls
+unfolding line_high
+highs true f [] = refl
+highs false f [] = refl
+highs true f (l ∷ ls) = let more = highs true f ls in omega (arith, ints)
+highs false f (l ∷ ls) = let more = highs false f ls in omega (arith, ints)
+
+open_low : (f : Name) (o : Order) → is_open o ≡ true → low f o ≡ total (line_low o.firm f) o.lines
+open_low f o e = rw (settled_open o.state o.firm e, e) (lows o.firm f o.lines)
+
+open_high : (f : Name) (o : Order) → is_open o ≡ true → high f o ≡ total (line_high o.firm f) o.lines
+open_high f o e = rw (settled_open o.state o.firm e, e) (highs o.firm f o.lines)
+
+-- a commit
+
+used_low : (m b : Bool) (w : Way) (used held : ℕ) → used ≤ held → ((if m then (if b then signed w used else pos 0) else pos 0) -ℤ (if b then pos (if_take w (if m then held - used else held)) else pos 0)) ≤ℤ (if b then signed w used else pos 0)
+used_low m b w used held h = grind (arith, ints)
+
+used_high : (m b : Bool) (w : Way) (used held : ℕ) → used ≤ held → (if b then signed w used else pos 0) ≤ℤ ((if m then (if b then signed w used else pos 0) else pos 0) +ℤ (if b then pos (if_add w (if m then held - used else held)) else pos 0))
+used_high m b w used held h = grind (arith, ints)
 
 better-commit : (o : Order) → Fine o → is_open o ≡ true → Better o (set_state Committed o)
-better-commit o fine e = grind (arith, (used_in_held o.lines fine.sound.used), adds, commit_high, commit_low, moved-high, moved-low, takes)
+unfolding line_low line_high
+better-commit o fine e = record {
+  number = refl;
+  fine = record { sound = record { used = fine.sound.used; one = fine.sound.one }; pair = fine.pair };
+  low_is = λ f. rw (open_low f o e) (let a = total-le (line_low o.firm f) (λ l. if on f l then signed l.way l.used else pos 0) o.lines (each-imp (λ l u. used_low o.firm (on f l) l.way l.used l.held u) o.lines fine.sound.used) in omega (arith, ints));
+  high_is = λ f. rw (open_high f o e) (let a = total-le (λ l. if on f l then signed l.way l.used else pos 0) (line_high o.firm f) o.lines (each-imp (λ l u. used_high o.firm (on f l) l.way l.used l.held u) o.lines fine.sound.used) in omega (arith, ints));
+}
 
-abort_low : (s : State) (u t : ℤ) → open_state s ≡ true → pos 0 ≤ℤ t → ((if committed_state s then u else pos 0) -ℤ (if open_state s then t else pos 0)) ≤ℤ (pos 0 -ℤ pos 0)
-abort_low c u t e h = grind arith
+-- an abort, of an order that is not firm
 
-abort_high : (s : State) (u t : ℤ) → open_state s ≡ true → pos 0 ≤ℤ t → (pos 0 +ℤ pos 0) ≤ℤ ((if committed_state s then u else pos 0) +ℤ (if open_state s then t else pos 0))
-abort_high c u t e h = grind arith
+better-abort : (o : Order) → Fine o → is_open o ≡ true → o.firm ≡ false → Better o (set_state Aborted o)
+unfolding line_low line_high
+better-abort o fine e loose = record {
+  number = refl;
+  fine = record { sound = record { used = fine.sound.used; one = fine.sound.one }; pair = fine.pair };
+  low_is = λ f. rw (open_low f o e, loose) (let a = lows false f o.lines in let b = takes-not_negative false f o.lines in omega (arith, ints));
+  high_is = λ f. rw (open_high f o e, loose) (let a = highs false f o.lines in let b = adds-not_negative false f o.lines in omega (arith, ints));
+}
 
-better-abort : (o : Order) → Fine o → is_open o ≡ true → Better o (set_state Aborted o)
-better-abort o fine e = grind (arith, abort_high, abort_low, adds, adds-not_negative, takes, takes-not_negative)
+-- a use, a release or a `firm`, on an open order
 
--- a use or a release, on an open order
-
--- the line after it: the same line, which holds no more, and uses no more than it holds
+-- the line after it: the same line, which holds no more, and uses no less, and no more than it holds
 pub record LineStep (l new : Line) : Type 0 where
   pub name : line_name new ≡ line_name l
   pub way : new.way ≡ l.way
   pub held : new.held ≤ l.held
   pub used : new.used ≤ new.held
+  pub more : l.used ≤ new.used
 
 pub one_on-map : (f : Name) (h : Line → Line) (ls : List Line) → Each (λ l. line_name (h l) ≡ line_name l) ls → OneOn f ls → OneOn f (map h ls)
 one_on-map f h [] s one = tt
@@ -139,38 +176,42 @@ one_on-map f h (l ∷ ls) s one = (λ e. none ls s.1 (one.0 (subst (λ g. same_n
     none [] t e = tt
     none (m ∷ ms) t e = (subst (λ g. same_name f g ≡ false) (sym t.0) e.0, none ms t.1 e.1)
 
-takes-step : (f : Name) (l new : Line) → LineStep l new → takes f new ≤ℤ takes f l
-takes-step f l new s = grind arith
+step_low : (m k b c : Bool) (w v : Way) (used held used' held' : ℕ) → c ≡ b → v ≡ w → (m ≡ true → k ≡ true) → used ≤ used' → used' ≤ held' → held' ≤ held
+    → ((if m then (if b then signed w used else pos 0) else pos 0) -ℤ (if b then pos (if_take w (if m then held - used else held)) else pos 0)) ≤ℤ ((if k then (if c then signed v used' else pos 0) else pos 0) -ℤ (if c then pos (if_take v (if k then held' - used' else held')) else pos 0))
+step_low m k b c w v used held used' held' e d i p q r = rw (e, d) (grind (arith, ints))
 
-adds-step : (f : Name) (l new : Line) → LineStep l new → adds f new ≤ℤ adds f l
-adds-step f l new s = grind arith
+step_high : (m k b c : Bool) (w v : Way) (used held used' held' : ℕ) → c ≡ b → v ≡ w → (m ≡ true → k ≡ true) → used ≤ used' → used' ≤ held' → held' ≤ held
+    → ((if k then (if c then signed v used' else pos 0) else pos 0) +ℤ (if c then pos (if_add v (if k then held' - used' else held')) else pos 0)) ≤ℤ ((if m then (if b then signed w used else pos 0) else pos 0) +ℤ (if b then pos (if_add w (if m then held - used else held)) else pos 0))
+step_high m k b c w v used held used' held' e d i p q r = rw (e, d) (grind (arith, ints))
 
-takes-map : (f : Name) (h : Line → Line) (ls : List Line) → Each (λ l. LineStep l (h l)) ls → total (takes f) (map h ls) ≤ℤ total (takes f) ls
-takes-map f h [] s = omega (arith, ints)
-takes-map f h (l ∷ ls) s = let a : takes f (h l) ≤ℤ takes f l = takes-step f l (h l) s.0 in let b : total (takes f) (map h ls) ≤ℤ total (takes f) ls = takes-map f h ls s.1 in omega (arith, ints)
+line_lower : (m k : Bool) (f : Name) (l new : Line) → (m ≡ true → k ≡ true) → LineStep l new → line_low m f l ≤ℤ line_low k f new
+unfolding line_low
+line_lower m k f l new i s = step_low m k (on f l) (on f new) l.way new.way l.used l.held new.used new.held (ap (same_name f) s.name) s.way i s.more s.used s.held
 
-adds-map : (f : Name) (h : Line → Line) (ls : List Line) → Each (λ l. LineStep l (h l)) ls → total (adds f) (map h ls) ≤ℤ total (adds f) ls
-adds-map f h [] s = omega (arith, ints)
-adds-map f h (l ∷ ls) s = let a : adds f (h l) ≤ℤ adds f l = adds-step f l (h l) s.0 in let b : total (adds f) (map h ls) ≤ℤ total (adds f) ls = adds-map f h ls s.1 in omega (arith, ints)
-
-held_low : (s : State) (u v t n : ℤ) → open_state s ≡ true → n ≤ℤ t → ((if committed_state s then u else pos 0) -ℤ (if open_state s then t else pos 0)) ≤ℤ ((if committed_state s then v else pos 0) -ℤ (if open_state s then n else pos 0))
-held_low c u v t n e h = grind arith
-
-held_high : (s : State) (u v t n : ℤ) → open_state s ≡ true → n ≤ℤ t → ((if committed_state s then v else pos 0) +ℤ (if open_state s then n else pos 0)) ≤ℤ ((if committed_state s then u else pos 0) +ℤ (if open_state s then t else pos 0))
-held_high c u v t n e h = grind arith
+line_higher : (m k : Bool) (f : Name) (l new : Line) → (m ≡ true → k ≡ true) → LineStep l new → line_high k f new ≤ℤ line_high m f l
+unfolding line_high
+line_higher m k f l new i s = step_high m k (on f l) (on f new) l.way new.way l.used l.held new.used new.held (ap (same_name f) s.name) s.way i s.more s.used s.held
 
 used-map : (h : Line → Line) (ls : List Line) → Each (λ l. LineStep l (h l)) ls → Each (λ l. l.used ≤ l.held) (map h ls)
 used-map h [] s = tt
 used-map h (l ∷ ls) s = (s.0.used, used-map h ls s.1)
 
-better-lines : (o : Order) (h : Line → Line) → Fine o → is_open o ≡ true → Each (λ l. LineStep l (h l)) o.lines → (IsTrue (is_transfer o) → IsTransferPair (map h o.lines))
-    → Better o (record o { lines = map h o.lines })
-better-lines o h fine e s pair = record {
+better-lines : (o : Order) (h : Line → Line) (k : Bool) → (o.firm ≡ true → k ≡ true) → Fine o → is_open o ≡ true → Each (λ l. LineStep l (h l)) o.lines → (IsTrue (is_transfer o) → IsTransferPair (map h o.lines))
+    → Better o (record o { firm = k; lines = map h o.lines })
+better-lines o h k i fine e s pair = record {
   number = refl;
   fine = record { sound = record { used = used-map h o.lines s; one = λ f. one_on-map f h o.lines (each-imp (λ l x. x.name) o.lines s) (fine.sound.one f) }; pair = pair };
-  low_is = λ f. held_low o.state (moved f (λ l. l.used) o) (total (λ l. if on f l then signed l.way l.used else pos 0) (map h o.lines)) (total (takes f) o.lines) (total (takes f) (map h o.lines)) e (takes-map f h o.lines s);
-  high_is = λ f. held_high o.state (moved f (λ l. l.used) o) (total (λ l. if on f l then signed l.way l.used else pos 0) (map h o.lines)) (total (adds f) o.lines) (total (adds f) (map h o.lines)) e (adds-map f h o.lines s);
+  low_is = λ f. rw (open_low f o e, open_low f (record o { firm = k; lines = map h o.lines }) e, total-map (line_low k f) h o.lines) (total-le (line_low o.firm f) (λ l. line_low k f (h l)) o.lines (each-imp (λ l x. line_lower o.firm k f l (h l) i x) o.lines s));
+  high_is = λ f. rw (open_high f o e, open_high f (record o { firm = k; lines = map h o.lines }) e, total-map (line_high k f) h o.lines) (total-le (λ l. line_high k f (h l)) (line_high o.firm f) o.lines (each-imp (λ l x. line_higher o.firm k f l (h l) i x) o.lines s));
 }
+
+same_lines : (ls : List Line) → map (λ l. l) ls ≡ ls
+same_lines [] = refl
+same_lines (l ∷ ls) = ap (λ ms. l ∷ ms) (same_lines ls)
+
+better-firm : (o : Order) → Fine o → is_open o ≡ true → Better o (set_firm o)
+better-firm o fine e = subst (λ ls. Better o (record o { firm = true; lines = ls })) (same_lines o.lines)
+    (better-lines o (λ l. l) true (λ _. refl) fine e (each-imp (λ l u. record { name = refl; way = refl; held = omega arith; used = u; more = omega arith }) o.lines fine.sound.used) (λ t. subst IsTransferPair (sym (same_lines o.lines)) (fine.pair t)))
 
 -- what passing the checks says
 
@@ -229,7 +270,8 @@ left_on f q o fine u = step (is_transfer o) refl
     step false e = at_line (λ l. l.used + q ≤ l.held) f o.lines (fine.sound.one f) u.1
 
 pub line_step : (b : Bool) (l new : Line) → l.used ≤ l.held → (b ≡ true → LineStep l new) → LineStep l (if b then new else l)
-line_step b l new h s = grind arith
+line_step true l new h s = s refl
+line_step false l new h s = record { name = refl; way = refl; held = omega arith; used = h; more = omega arith }
 
 -- what a use and a release do to a line
 pub record IsClosingChange (q : ℕ) (change : Line → Line) : Type 0 where
@@ -237,10 +279,10 @@ pub record IsClosingChange (q : ℕ) (change : Line → Line) : Type 0 where
   pub pair : (l m : Line) → l.held ≡ m.held → l.used ≡ m.used → ((change l).held ≡ (change m).held) × ((change l).used ≡ (change m).used)
 
 use_change : (q : ℕ) → IsClosingChange q (raise_used q)
-use_change q = record { step = λ l h. record { name = refl; way = refl; held = omega arith; used = h }; pair = λ l m a b. (a, ap (λ n. n + q) b) }
+use_change q = record { step = λ l h. record { name = refl; way = refl; held = omega arith; used = h; more = omega arith }; pair = λ l m a b. (a, ap (λ n. n + q) b) }
 
 release_change : (q : ℕ) → IsClosingChange q (lower_held q)
-release_change q = record { step = λ l h. record { name = refl; way = refl; held = omega arith; used = omega arith }; pair = λ l m a b. (ap (λ n. n - q) a, b) }
+release_change q = record { step = λ l h. record { name = refl; way = refl; held = omega arith; used = omega arith; more = omega arith }; pair = λ l m a b. (ap (λ n. n - q) a, b) }
 
 steps : (f : Name) (q : ℕ) (change : Line → Line) (t : Bool) (ls : List Line) → IsClosingChange q change → Each (λ l. l.used ≤ l.held) ls → Each (λ l. (t || on f l) ≡ true → l.used + q ≤ l.held) ls
     → Each (λ l. LineStep l (if t || on f l then change l else l)) ls
@@ -252,39 +294,47 @@ pair-map f q change t ls c pair s e = grind arith
 
 better-change : (f : Name) (q : ℕ) (change : Line → Line) (o : Order) → IsClosingChange q change → Fine o → Usable f q o → Better o (change_lines f change o)
 better-change f q change o c fine u = let s = steps f q change (is_transfer o) o.lines c fine.sound.used (left_on f q o fine u) in
-    better-lines o (λ l. if is_transfer o || on f l then change l else l) fine u.0 s (pair-map f q change (is_transfer o) o.lines c fine.pair (λ _. s))
+    better-lines o (λ l. if is_transfer o || on f l then change l else l) o.firm (λ m. m) fine u.0 s (pair-map f q change (is_transfer o) o.lines c fine.pair (λ _. s))
 
 -- each command of a future
 
-fit-end : (A : Ledger) (n : ℕ) (s : State) (kept : List Kept) → ((o : Order) → Fine o → is_open o ≡ true → Better o (set_state s o)) → Fit A → IsSomeAnd (order_numbered A n) (λ o. is_open o ≡ true) → Fit (changed (λ o. if o.number == n then set_state s o else o) A.clock kept A)
-fit-end A n s kept better fit there = fit-changed A (λ o. if o.number == n then set_state s o else o) _ _ fit
-    (each-both (λ o fine e. better_if (o.number == n) o (set_state s o) fine (λ y. better o fine (e y))) A.orders fit.orders (at_number (λ o. is_open o ≡ true) n A.orders fit.numbers there))
+-- the one order under the number, of which there is some fact
+fit-one : (A : Ledger) (n : ℕ) (h : Order → Order) (kept : List Kept) (P : Order → Type 0) → ((o : Order) → Fine o → P o → Better o (h o)) → Fit A → IsSomeAnd (order_numbered A n) P
+    → Fit (changed (λ o. if o.number == n then h o else o) A.clock kept A)
+fit-one A n h kept P better fit there = fit-changed A (λ o. if o.number == n then h o else o) _ _ fit
+    (each-both (λ o fine e. better_if (o.number == n) o (h o) fine (λ y. better o fine (e y))) A.orders fit.orders (at_number P n A.orders fit.numbers there))
 
-expired_open : (b c : Bool) → (b && c) ≡ true → b ≡ true
-expired_open b c e = (same_parts b c e).0
+expiring : (b m c : Bool) → (b && not m && c) ≡ true → (b ≡ true) × (m ≡ false)
+expiring b m c e = grind arith
 
 fit-expire : (A : Ledger) (key : List ℕ) (now : ℕ) → Fit A → Fit (accept A (record { key = key; command = command.Expire now }))
-fit-expire A key now fit = fit-changed A (λ o. if is_open o && nat_le o.until now then set_state Aborted o else o) _ _ fit
-    (each-imp (λ o fine. better_if (is_open o && nat_le o.until now) o (set_state Aborted o) fine (λ y. better-abort o fine (expired_open (is_open o) (nat_le o.until now) y))) A.orders fit.orders)
+fit-expire A key now fit = fit-changed A (λ o. if expires now o then set_state Aborted o else o) _ _ fit
+    (each-imp (λ o fine. better_if (expires now o) o (set_state Aborted o) fine (λ y. let x = expiring (is_open o) o.firm (nat_le o.until now) y in better-abort o fine x.0 x.1)) A.orders fit.orders)
 
-fit-change : (A : Ledger) (n : ℕ) (f : Name) (q : ℕ) (change : Line → Line) (kept : List Kept) → IsClosingChange q change → Fit A → IsSomeAnd (order_numbered A n) (Usable f q)
-    → Fit (changed (λ o. if o.number == n then change_lines f change o else o) A.clock kept A)
-fit-change A n f q change kept c fit u = let there = at_number (Usable f q) n A.orders fit.numbers u in
-    fit-changed A (λ o. if o.number == n then change_lines f change o else o) _ _ fit (each-both (λ o fine e. better_if (o.number == n) o (change_lines f change o) fine (λ y. better-change f q change o c fine (e y))) A.orders fit.orders there)
+-- The order is open and not firm.
+abbrev Loose : Order → Type 0
+Loose o = (is_open o ≡ true) × (o.firm ≡ false)
+
+pub loose_there : (o : Option Order) → (IsNone o → ⊥) → (IsSomeAnd o (λ o. IsFalse (is_open o)) → ⊥) → (IsSomeAnd o (λ o. IsTrue o.firm) → ⊥) → IsSomeAnd o (λ o. (is_open o ≡ true) × (o.firm ≡ false))
+loose_there x a b c = grind arith
+
+pub open_there : (o : Option Order) → (IsNone o → ⊥) → (IsSomeAnd o (λ o. IsFalse (is_open o)) → ⊥) → IsSomeAnd o (λ o. is_open o ≡ true)
+open_there x a b = grind arith
 
 fit-use : (A : Ledger) (key : List ℕ) (n : ℕ) (br ar : List ℕ) (q : ℕ) → Fit A → FirstFailure (checks A (command.Use n br ar q)) None → Fit (accept A (record { key = key; command = command.Use n br ar q }))
 fit-use A key n br ar q fit h = let f : Name = record { branch = br; article = ar } in let p = all_pass (checks A (command.Use n br ar q)) h in
-    fit-change A n f q (raise_used q) _ (use_change q) fit (usable_there f q (order_numbered A n) p.1.0 p.1.1.0 p.1.1.1.0 p.1.1.1.1.0)
+    fit-one A n (change_lines f (raise_used q)) _ (Usable f q) (λ o fine u. better-change f q (raise_used q) o (use_change q) fine u) fit (usable_there f q (order_numbered A n) p.1.0 p.1.1.0 p.1.1.1.0 p.1.1.1.1.0)
 
 fit-release : (A : Ledger) (key : List ℕ) (n : ℕ) (br ar : List ℕ) (q : ℕ) → Fit A → FirstFailure (checks A (command.Release n br ar q)) None → Fit (accept A (record { key = key; command = command.Release n br ar q }))
 fit-release A key n br ar q fit h = let f : Name = record { branch = br; article = ar } in let p = all_pass (checks A (command.Release n br ar q)) h in
-    fit-change A n f q (lower_held q) _ (release_change q) fit (usable_there f q (order_numbered A n) p.1.0 p.1.1.0 p.1.1.1.0 p.1.1.1.1.0)
+    fit-one A n (change_lines f (lower_held q)) _ (Usable f q) (λ o fine u. better-change f q (lower_held q) o (release_change q) fine u) fit (usable_there f q (order_numbered A n) p.1.0 p.1.1.0 p.1.1.1.0 p.1.1.1.1.0)
 
 pub fit-accept : (A : Ledger) (key : List ℕ) (c : Command) → AsksNoStock c → Fit A → FirstFailure (checks A c) None → Fit (accept A (record { key = key; command = c }))
 fit-accept A key (command.Use n b a q) w fit h = fit-use A key n b a q fit h
 fit-accept A key (command.Release n b a q) w fit h = fit-release A key n b a q fit h
-fit-accept A key (command.Commit n) w fit h = let p = all_pass (checks A (command.Commit n)) h in fit-end A n Committed _ better-commit fit (grind arith)
-fit-accept A key (command.Abort n) w fit h = let p = all_pass (checks A (command.Abort n)) h in fit-end A n Aborted _ better-abort fit (grind arith)
+fit-accept A key (command.Commit n) w fit h = let p = all_pass (checks A (command.Commit n)) h in fit-one A n (set_state Committed) _ (λ o. is_open o ≡ true) better-commit fit (open_there (order_numbered A n) p.0 p.1.0)
+fit-accept A key (command.Abort n) w fit h = let p = all_pass (checks A (command.Abort n)) h in fit-one A n (set_state Aborted) _ Loose (λ o fine x. better-abort o fine x.0 x.1) fit (loose_there (order_numbered A n) p.0 p.1.0 p.1.1.0)
+fit-accept A key (command.Firm n) w fit h = let p = all_pass (checks A (command.Firm n)) h in fit-one A n set_firm _ Loose (λ o fine x. better-firm o fine x.0) fit (loose_there (order_numbered A n) p.1.0 p.1.1.0 p.1.1.1.0)
 fit-accept A key (command.Expire now) w fit h = fit-expire A key now fit
 fit-accept A key c w fit h = absurd w
 
@@ -316,12 +366,12 @@ fit_from_good A g = let s = each-imp (λ o x. sound_from_good A o x) A.orders g.
 held_take-not_negative : (f : Name) (os : List Order) → pos 0 ≤ℤ takes_part f os
 unfolding takes_part
 held_take-not_negative f [] = omega (arith, ints)
-held_take-not_negative f (o ∷ os) = let more = held_take-not_negative f os in grind (arith, (takes f), (takes-not_negative f o.lines))
+held_take-not_negative f (o ∷ os) = let more = held_take-not_negative f os in let one = least_if (is_open o) (total (takes o.firm f) o.lines) (takes-not_negative o.firm f o.lines) in omega (arith, ints)
 
 held_add-not_negative : (f : Name) (os : List Order) → pos 0 ≤ℤ adds_part f os
 unfolding adds_part
 held_add-not_negative f [] = omega (arith, ints)
-held_add-not_negative f (o ∷ os) = let more = held_add-not_negative f os in grind (arith, (adds f), (adds-not_negative f o.lines))
+held_add-not_negative f (o ∷ os) = let more = held_add-not_negative f os in let one = least_if (is_open o) (total (adds o.firm f) o.lines) (adds-not_negative o.firm f o.lines) in omega (arith, ints)
 
 settled_within : (A : Ledger) (f : Field) → HasRoom A f → IsWithin f (settled A f)
 unfolding takes_part adds_part

@@ -1,9 +1,9 @@
 -- Each test of a check by all outcomes is one comparison with the numbers of the ledger as it is.
-use Rattle.book.proofs.Prelude.{[], ◌++◌, ◌+ℤ◌, ◌+◌, ◌==◌, ◌↔◌, ◌∙◌, ◌∷◌, ◌≡◌, Add, Bool, BreaksBound, Each, Field, Good, IsDistinct, IsNone, IsSomeAnd, IsStrictlySortedBy, Kind, Ledger, Line, List, MatchOption, MayHoldMore, Name, None, OpenLine, Option, Order, Some, Take, Way, add_hold, ap, arith, bound, change_order, common_steps, false, find, held_to_add, held_to_take, if_add, if_take, if◌then◌else◌, ints, is_open, line_name, line_on, map, nat_cmp, new_line, new_order, on, option_map, order_numbered, pos, raise_held, refl, same_name, some_part, subst, sym, total, true, with_order, ℕ, ℤ}
+use Rattle.book.proofs.Prelude.{[], ◌++◌, ◌+ℤ◌, ◌+◌, ◌==◌, ◌↔◌, ◌∙◌, ◌∷◌, ◌≡◌, Add, Bool, BreaksBound, Each, Field, Good, IsDistinct, IsNone, IsSomeAnd, IsStrictlySortedBy, Kind, Ledger, Line, List, MatchOption, MayHoldMore, Name, None, OpenLine, Option, Order, Some, State, Take, Way, add_hold, ap, arith, bound, change_order, common_steps, false, find, held_to_add, held_to_take, if_add, if_take, if◌then◌else◌, ints, is_open, line_name, line_on, map, nat_cmp, new_line, new_order, on, open_state, option_map, order_numbered, pos, raise_held, refl, same_name, some_part, subst, sym, total, true, with_order, ℕ, ℤ}
 use Rattle.book.proofs.Asked.{HasMore, Passes, compared, line_compared, same_self, total-push}
 use Rattle.book.proofs.Bounds.{OneOn, Sound}
 use Rattle.book.proofs.Closing.{at_number, one_on, sounds_from_good}
-use Rattle.book.proofs.Raising.{Rising, part, raised, same_settled, sound-more}
+use Rattle.book.proofs.Raising.{Rising, held_part, part, raised, same_settled, sound-more}
 use Rattle.book.proofs.Sums.{each-both}
 use Rattle.book.proofs.Transfers.{found_is}
 use Rattle.book.proofs.Made.{total-changed, total_parts}
@@ -55,7 +55,7 @@ part_raised p sum name w q (m ∷ ms) one found = step (on name m) refl found (�
 
 part_more : (p : Way → ℕ → ℕ) → IsSum p → (l : OpenLine) (o : Order) → Sound o → MayHoldMore (line_name (new_line l)) l.way o
     → total (part p (line_name (new_line l))) (add_hold l o).lines ≡ total (part p (line_name (new_line l))) o.lines +ℤ pos (p l.way l.qty)
-part_more p sum l o sound may = by (line_on o name) refl may.2
+part_more p sum l o sound may = by (line_on o name) refl may.3
   where
     name : Name
     name = line_name (new_line l)
@@ -77,11 +77,26 @@ total_changed g h n z os sorted found =
     by None k = absurd k
     by (Some o) k = k
 
+more_if : (p : Way → ℕ → ℕ) (g : Name) (s t : State) (m k : Bool) (xs ys : List Line) (z : ℤ) → s ≡ t → open_state t ≡ true → m ≡ k → k ≡ false → total (part p g) xs ≡ total (part p g) ys +ℤ z
+    → (if open_state s then total (held_part m p g) xs else pos 0) ≡ (if open_state t then total (held_part k p g) ys else pos 0) +ℤ z
+more_if p g s t m k xs ys z e o d f h = rw (e, o, d, f) h
+
 -- what open orders hold on the field, with that much more
 held_more : (p : Way → ℕ → ℕ) → IsSum p → (A : Ledger) (n : ℕ) (l : OpenLine) → Good A → IsSomeAnd (order_numbered A n) (MayHoldMore (line_name (new_line l)) l.way)
-    → total (λ o. if is_open o then total (part p (line_name (new_line l))) o.lines else pos 0) (change_order n (add_hold l) A).orders
-    ≡ total (λ o. if is_open o then total (part p (line_name (new_line l))) o.lines else pos 0) A.orders +ℤ pos (p l.way l.qty)
-held_more p sum A n l good may = grind (arith, (sounds_from_good A good), Sound, found_is, part, part_more, raised, total_changed)
+    → total (λ o. if is_open o then total (held_part o.firm p (line_name (new_line l))) o.lines else pos 0) (change_order n (add_hold l) A).orders
+    ≡ total (λ o. if is_open o then total (held_part o.firm p (line_name (new_line l))) o.lines else pos 0) A.orders +ℤ pos (p l.way l.qty)
+held_more p sum A n l good may = total_changed (λ o. if is_open o then total (held_part o.firm p name) o.lines else pos 0) (add_hold l) n (pos (p l.way l.qty)) A.orders good.orders_in_order (by (order_numbered A n) refl may)
+  where
+    name : Name
+    name = line_name (new_line l)
+
+    by : (x : Option Order) → order_numbered A n ≡ x → IsSomeAnd x (MayHoldMore name l.way)
+        → IsSomeAnd x (λ o. (if is_open (add_hold l o) then total (held_part (add_hold l o).firm p name) (add_hold l o).lines else pos 0) ≡ (if is_open o then total (held_part o.firm p name) o.lines else pos 0) +ℤ pos (p l.way l.qty))
+    by None e h = h
+    by (Some o) e h =
+        let sound = found_is Sound n A.orders o (sounds_from_good A good) e in
+        let x = raised l o sound h in
+        more_if p name (add_hold l o).state o.state (add_hold l o).firm o.firm (add_hold l o).lines o.lines (pos (p l.way l.qty)) x.state h.0 x.firm h.1 (part_more p sum l o sound h)
 
 pub more_test : (A : Ledger) (n : ℕ) (l : OpenLine) (i : ℕ) → Good A → IsSomeAnd (order_numbered A n) (MayHoldMore (line_name (new_line l)) l.way)
     → (bound l.way (change_order n (add_hold l) A) (line_name (new_line l)) i).fails ↔ BreaksBound l.way A (line_name (new_line l)) l.qty
@@ -97,7 +112,7 @@ more_test A n l i good may = fails_so l.way B name i (compared l.way A A.moves B
     sound = sounds_from_good A good
 
     rising : Each (Rising n l) A.orders
-    rising = each-both (λ o s k e. ((k e).0, raised l o s (k e))) A.orders sound (at_number (MayHoldMore name l.way) n A.orders good.orders_in_order may)
+    rising = each-both (λ o s k e. ((k e).0, (k e).1, raised l o s (k e))) A.orders sound (at_number (MayHoldMore name l.way) n A.orders good.orders_in_order may)
 
     takes : l.way ≡ Take → held_to_take B name ≡ held_to_take A name +ℤ pos l.qty
     takes e = held_more if_take take_sum A n l good may ∙ ap (λ w. held_to_take A name +ℤ pos (if_take w l.qty)) e

@@ -1,12 +1,12 @@
 -- From a good ledger every accepted command leaves a good one.
-use Rattle.book.proofs.Prelude.{[], ◌++◌, ◌+ℤ◌, ◌+◌, ◌-ℤ◌, ◌<◌, ◌==◌, ◌∙◌, ◌∷◌, ◌≡◌, ◌≤ℤ◌, ◌≤◌, Aborted, Answers, AnswersNew, Bool, Command, Committed, Done, Each, Field, FirstFailure, Good, IsGoodField, IsGoodKept, IsGoodLine, IsGoodOrder, IsInRange, IsKey, IsLevel, IsMoment, IsNone, IsOpenLine, IsQty, IsSafe, IsSome, IsStrictlySortedBy, IsTransferPair, IsTrue, Kept, KeyReused, Kind, Ledger, Line, List, MatchOption, MayHoldMore, Name, None, OpenLine, Option, Order, Plain, Refusal, Refused, Reply, Request, Some, Transfer, Way, accept, add_hold, append-nil, append_assoc, arith, bytes_eq, change_order, checks, false, field_named, find, held_to_add, held_to_take, hold_more, if_add, if_take, if◌then◌else◌, insert_in_order, ints, is_lt, is_open, is_some, is_transfer, kept_under, length, line_checks, line_name, line_on, lower_held, map, name_cmp, nat_abs, nat_cmp, nat_cmp_total, nat_list_cmp_total, nat_lt, neg_ℤ, new_line, new_order, on, open_orders, order_numbered, places, pos, raise_held, raise_used, recursion_from_All, refl, same_command, same_name, slice_cmp, subst, sym, total, transfer_lines, true, true≢false, with_move, with_order, ℕ, ℤ}
+use Rattle.book.proofs.Prelude.{[], ◌++◌, ◌+ℤ◌, ◌+◌, ◌-ℤ◌, ◌<◌, ◌==◌, ◌∙◌, ◌∷◌, ◌≡◌, ◌≢◌, ◌≤ℤ◌, ◌≤◌, Aborted, Answers, AnswersNew, Bool, Command, Committed, Done, Each, Field, FirstFailure, Good, IsGoodField, IsGoodKept, IsGoodLine, IsGoodOrder, IsInRange, IsKey, IsLevel, IsMoment, IsNone, IsOpenLine, IsQty, IsSafe, IsSome, IsSomeAnd, IsStrictlySortedBy, IsTransferPair, IsTrue, Kept, KeyReused, Kind, Ledger, Line, List, MatchOption, MayHoldMore, Name, None, OpenLine, Option, Order, Plain, Refusal, Refused, Reply, Request, Some, Transfer, Way, accept, add_hold, append-nil, append_assoc, arith, bytes_eq, change_order, checks, false, field_named, find, held_to_add, held_to_take, hold_more, if_add, if_take, if◌then◌else◌, insert_in_order, ints, is_lt, is_open, is_some, is_transfer, kept_under, length, line_checks, line_name, line_on, lower_held, map, name_cmp, nat_abs, nat_cmp, nat_cmp_total, nat_list_cmp_total, nat_lt, neg_ℤ, new_line, new_order, on, open_orders, order_numbered, places, pos, raise_held, raise_used, recursion_from_All, refl, same_command, same_name, slice_cmp, subst, sym, total, transfer_lines, true, true≢false, with_move, with_order, ℕ, ℤ}
 use Rattle.escrow.specs.Ranges.{IsOrderNo}
 use Rattle.words.specs.declared.command.Command.TheVariants as command
 use Rattle.words.specs.OpenLines.{AreOpenLines}
 use Rattle.book.proofs.Sums.{each, each-imp, each-both, each-map, each-of-push, least_if}
-use Rattle.book.proofs.Staying.{name_cmp_total, equal_name, other_number, other_key, lt_is, StillThere, line_kept, order_kept, same_number, move_kept, apart_lines, Parts, not_many, changing, stating, expiring, using}
+use Rattle.book.proofs.Staying.{name_cmp_total, equal_name, other_number, other_key, lt_is, StillThere, line_kept, order_kept, same_number, move_kept, apart_lines, Parts, not_many, changing, stating, expiring, firming, using}
 use Rattle.book.proofs.Bounds.{OneOn, Sound, takes, adds, takes-not_negative, adds-not_negative, room_from_safe, HasRoom}
-use Rattle.book.proofs.Closing.{fit_from_good, fit-accept, all_pass, AllPass, name_is, sounds_from_good, at_number, changed}
+use Rattle.book.proofs.Closing.{fit_from_good, fit-accept, all_pass, AllPass, name_is, sounds_from_good, at_number, changed, open_there}
 use Rattle.book.proofs.Asked.{each-insert, none_found, same_self, fresh-push}
 use Rattle.book.proofs.Growing.{Room, none_if_not_some, room-order}
 use Rattle.book.proofs.Raising.{sound-more, raised}
@@ -34,19 +34,19 @@ part_not_negative b n = grind arith
 when_open : (b : Bool) (z t : ℤ) → b ≡ true → (if b then z else pos 0) ≤ℤ t → z ≤ℤ t
 when_open b z t e h = grind arith
 
-pub held_levels : (B : Ledger) → Each IsGoodField B.fields → Room B → Each (λ o. is_open o ≡ true → Each (λ l. IsSome (field_named B (line_name l)) → IsLevel l.held) o.lines) B.orders
-held_levels B good room = each-imp (λ o p e. of_order o e p.0 p.1) B.orders
+pub held_levels : (B : Ledger) → Each IsGoodField B.fields → Room B → Each (λ o. is_open o ≡ true → o.firm ≡ false → Each (λ l. IsSome (field_named B (line_name l)) → IsLevel l.held) o.lines) B.orders
+held_levels B good room = each-imp (λ o p e m. of_order o e (λ f. subst (λ k. (if is_open o then total (takes k f) o.lines else pos 0) ≤ℤ held_to_take B f) m (p.0 f)) (λ f. subst (λ k. (if is_open o then total (adds k f) o.lines else pos 0) ≤ℤ held_to_add B f) m (p.1 f))) B.orders
     (each-two _ _ B.orders
-    (each-all (λ f o. (if is_open o then total (takes f) o.lines else pos 0) ≤ℤ held_to_take B f) B.orders (λ f. total-has (λ o. if is_open o then total (takes f) o.lines else pos 0) (λ o. least_if (is_open o) (total (takes f) o.lines) (takes-not_negative f o.lines)) B.orders))
-    (each-all (λ f o. (if is_open o then total (adds f) o.lines else pos 0) ≤ℤ held_to_add B f) B.orders (λ f. total-has (λ o. if is_open o then total (adds f) o.lines else pos 0) (λ o. least_if (is_open o) (total (adds f) o.lines) (adds-not_negative f o.lines)) B.orders)))
+    (each-all (λ f o. (if is_open o then total (takes o.firm f) o.lines else pos 0) ≤ℤ held_to_take B f) B.orders (λ f. total-has (λ o. if is_open o then total (takes o.firm f) o.lines else pos 0) (λ o. least_if (is_open o) (total (takes o.firm f) o.lines) (takes-not_negative o.firm f o.lines)) B.orders))
+    (each-all (λ f o. (if is_open o then total (adds o.firm f) o.lines else pos 0) ≤ℤ held_to_add B f) B.orders (λ f. total-has (λ o. if is_open o then total (adds o.firm f) o.lines else pos 0) (λ o. least_if (is_open o) (total (adds o.firm f) o.lines) (adds-not_negative o.firm f o.lines)) B.orders)))
   where
-    of_line : (o : Order) → is_open o ≡ true → ((f : Name) → (if is_open o then total (takes f) o.lines else pos 0) ≤ℤ held_to_take B f) → ((f : Name) → (if is_open o then total (adds f) o.lines else pos 0) ≤ℤ held_to_add B f)
-        → (l : Line) → ((f : Name) → takes f l ≤ℤ total (takes f) o.lines) → ((f : Name) → adds f l ≤ℤ total (adds f) o.lines) → IsSome (field_named B (line_name l)) → IsLevel l.held
+    of_line : (o : Order) → is_open o ≡ true → ((f : Name) → (if is_open o then total (takes false f) o.lines else pos 0) ≤ℤ held_to_take B f) → ((f : Name) → (if is_open o then total (adds false f) o.lines else pos 0) ≤ℤ held_to_add B f)
+        → (l : Line) → ((f : Name) → takes false f l ≤ℤ total (takes false f) o.lines) → ((f : Name) → adds false f l ≤ℤ total (adds false f) o.lines) → IsSome (field_named B (line_name l)) → IsLevel l.held
     of_line o e t a l p q some = grind (arith, ints, (each-two IsGoodField (HasRoom B) B.fields good room), HasRoom, adds, find_named, level, same_self, takes, when_open)
 
-    of_order : (o : Order) → is_open o ≡ true → ((f : Name) → (if is_open o then total (takes f) o.lines else pos 0) ≤ℤ held_to_take B f) → ((f : Name) → (if is_open o then total (adds f) o.lines else pos 0) ≤ℤ held_to_add B f)
+    of_order : (o : Order) → is_open o ≡ true → ((f : Name) → (if is_open o then total (takes false f) o.lines else pos 0) ≤ℤ held_to_take B f) → ((f : Name) → (if is_open o then total (adds false f) o.lines else pos 0) ≤ℤ held_to_add B f)
         → Each (λ l. IsSome (field_named B (line_name l)) → IsLevel l.held) o.lines
-    of_order o e t a = grind (arith, (each-all (λ f l. takes f l ≤ℤ total (takes f) o.lines) o.lines (λ f. total-has (takes f) (λ l. part_not_negative (on f l) (if_take l.way l.held)) o.lines)), (each-all (λ f l. adds f l ≤ℤ total (adds f) o.lines) o.lines (λ f. total-has (adds f) (λ l. part_not_negative (on f l) (if_add l.way l.held)) o.lines)), adds, each-both, of_line, part_not_negative, takes, total-has)
+    of_order o e t a = grind (arith, (each-all (λ f l. takes false f l ≤ℤ total (takes false f) o.lines) o.lines (λ f. total-has (takes false f) (λ l. part_not_negative (on f l) (if_take l.way l.held)) o.lines)), (each-all (λ f l. adds false f l ≤ℤ total (adds false f) o.lines) o.lines (λ f. total-has (adds false f) (λ l. part_not_negative (on f l) (if_add l.way l.held)) o.lines)), adds, each-both, of_line, part_not_negative, takes, total-has)
 
 -- a delivery and a write-off
 moving : (A : Ledger) (f : Name) (z : ℤ) (kept : List Kept) → Good A → length kept ≡ places A + 1 → IsSome (field_named A f) → IsQty (nat_abs z) → places A + open_orders A + 1 ≤ 200000
@@ -122,7 +122,7 @@ opening A n k u ls kept g more number until some few quantities pair pass new ma
       moves = each-imp (move_kept A B (λ f x. x) (omega arith)) A.moves g.moves;
       moves_in_order = g.moves_in_order;
       orders = each-insert (IsGoodOrder B) precedes o A.orders
-          (record { number = number; until = until; some = omega arith; few = omega arith; lines = new_lines B ls (fields_there A (new_order n k u) [] ls pass) quantities; apart = apart_lines (map new_line ls) one; transfer = pair })
+          (record { number = number; until = until; some = omega arith; few = omega arith; lines = new_lines B ls (fields_there A (new_order n k u) [] ls pass) quantities; apart = apart_lines (map new_line ls) one; transfer = pair; firm = λ e. absurd (true≢false (sym e)) })
           (each-imp (order_kept A B (λ f x. x)) A.orders g.orders);
       orders_in_order = sorted-insert nat_cmp nat_cmp_total (λ o. o.number) precedes (λ a b. lt_is a.number b.number) o A.orders
           (each-imp (λ e x y. other_number n e.number x y) A.orders (none_found (λ o. o.number == n) A.orders (none_if_not_some (find (λ o. o.number == n) A.orders) new))) g.orders_in_order;
@@ -137,7 +137,7 @@ adding : (A : Ledger) (n : ℕ) (l : OpenLine) (kept : List Kept) → Good A →
 adding A n l kept g more full there qty takes_it fits sound room =
     let h : Order → Order = λ o. if o.number == n then add_hold l o else o in
     let B : Ledger = changed h A.clock kept A in
-    let levels = each-unmap (λ o. is_open o ≡ true → Each (λ m. IsSome (field_named B (line_name m)) → IsLevel m.held) o.lines) h A.orders (held_levels B g.fields room) in
+    let levels = each-unmap (λ o. is_open o ≡ true → o.firm ≡ false → Each (λ m. IsSome (field_named B (line_name m)) → IsLevel m.held) o.lines) h A.orders (held_levels B g.fields room) in
     changing A h A.clock kept g g.clock more (λ o. same_number (o.number == n) o (add_hold l o) (number_as o (is_some (line_on o name))))
     (each-both (λ o x y. by B o (o.number == n) (λ f z. z) x y.0.0 y.0.1 y.1.0 y.1.1) A.orders g.orders (each-two _ _ A.orders (each-two _ _ A.orders takes_it fits) (each-two _ _ A.orders (each-unmap Sound h A.orders sound) levels)))
     (let c = count-map is_open h A.orders (each (λ o. open_as o (o.number == n) (is_some (line_on o name))) A.orders) in omega arith)
@@ -157,7 +157,7 @@ adding A n l kept g more full there qty takes_it fits sound room =
 
     held_more : (B : Ledger) (o : Order) → StillThere A B → IsGoodOrder A o → MayHoldMore name l.way o → (c : Bool) → ((c ≡ false) → length o.lines ≤ 63)
         → Sound (if c then hold_more name l.qty o else record o { lines = o.lines ++ new_line l ∷ [] })
-        → (is_open (if c then hold_more name l.qty o else record o { lines = o.lines ++ new_line l ∷ [] }) ≡ true → Each (λ m. IsSome (field_named B (line_name m)) → IsLevel m.held) (if c then hold_more name l.qty o else record o { lines = o.lines ++ new_line l ∷ [] }).lines)
+        → (is_open (if c then hold_more name l.qty o else record o { lines = o.lines ++ new_line l ∷ [] }) ≡ true → (if c then hold_more name l.qty o else record o { lines = o.lines ++ new_line l ∷ [] }).firm ≡ false → Each (λ m. IsSome (field_named B (line_name m)) → IsLevel m.held) (if c then hold_more name l.qty o else record o { lines = o.lines ++ new_line l ∷ [] }).lines)
         → IsGoodOrder B (if c then hold_more name l.qty o else record o { lines = o.lines ++ new_line l ∷ [] })
     held_more B o still x t true fit s v =
         let c : Line → Line = λ m. if on name m then raise_held l.qty m else m in
@@ -168,14 +168,15 @@ adding A n l kept g more full there qty takes_it fits sound room =
           some = omega arith;
           few = omega arith;
           lines = each-map (IsGoodLine B) c o.lines (each-both (λ m p u. raised_good B still (on name m) m p u.0 u.1) o.lines x.lines
-              (each-two _ _ o.lines (each-unmap (λ m. m.used ≤ m.held) c o.lines s.used) (each-unmap (λ m. IsSome (field_named B (line_name m)) → IsLevel m.held) c o.lines (v t.0))));
+              (each-two _ _ o.lines (each-unmap (λ m. m.used ≤ m.held) c o.lines s.used) (each-unmap (λ m. IsSome (field_named B (line_name m)) → IsLevel m.held) c o.lines (v t.0 t.1))));
           apart = apart_lines (map c o.lines) s.one;
-          transfer = λ e. absurd (true≢false (sym e ∙ t.1));
+          transfer = λ e. absurd (true≢false (sym e ∙ t.2));
+          firm = λ e. absurd (true≢false (sym e ∙ t.1));
         }
     held_more B o still x t false fit s v = grind (arith, (each-imp (line_kept A B still) o.lines x.lines), (length-of-push o.lines (new_line l)), apart_lines, each-of-push, line_kept, name)
 
     by : (B : Ledger) (o : Order) (b : Bool) → StillThere A B → IsGoodOrder A o → (b ≡ true → MayHoldMore name l.way o) → (b ≡ true → IsNone (line_on o name) → length o.lines ≤ 63) → Sound (if b then add_hold l o else o)
-        → (is_open (if b then add_hold l o else o) ≡ true → Each (λ m. IsSome (field_named B (line_name m)) → IsLevel m.held) (if b then add_hold l o else o).lines) → IsGoodOrder B (if b then add_hold l o else o)
+        → (is_open (if b then add_hold l o else o) ≡ true → (if b then add_hold l o else o).firm ≡ false → Each (λ m. IsSome (field_named B (line_name m)) → IsLevel m.held) (if b then add_hold l o else o).lines) → IsGoodOrder B (if b then add_hold l o else o)
     by B o true still x t fit s v = held_more B o still x (t refl) (is_some (line_on o name)) (fit refl) s v
     by B o false still x t fit s v = order_kept A B still o x
 
@@ -190,6 +191,14 @@ kept_more A k = length-insert (λ a b. is_lt (slice_cmp nat_cmp a.key b.key)) k 
 -- the quantities of the lines of an `open`
 pub quantities : (ls : List OpenLine) → AreOpenLines ls → Each (λ l. IsQty l.qty) ls
 quantities ls h = each-imp (λ (l : OpenLine) (x : IsOpenLine l). x.qty) ls (recursion_from_All IsOpenLine ls h.each)
+
+some_all : {P : Order → Type 0} (o : Option Order) → (IsNone o → ⊥) → ((o : Order) → P o) → IsSomeAnd o P
+some_all None some all = absurd (some refl)
+some_all (Some o) some all = all o
+
+none_firm : (o : Option Order) → (IsNone o → ⊥) → (IsSomeAnd o (λ o. IsTrue o.firm) → ⊥) → IsSomeAnd o (λ o. IsTrue o.firm → Aborted ≢ Aborted)
+none_firm None some none = absurd (some refl)
+none_firm (Some o) some none = λ m e. none m
 
 parts_accept : (A : Ledger) (key : List ℕ) (c : Command) → Good A → IsInRange c → FirstFailure (checks A c) None → Parts (accept A (record { key = key; command = c }))
 parts_accept A key (command.Field b a lo hi start) g i h = let p = all_pass (checks A (command.Field b a lo hi start)) h in
@@ -209,18 +218,19 @@ parts_accept A key (command.Transfer n until a from to q) g i h = let p = all_pa
 parts_accept A key (command.More n way b a q) g i h = let p = all_pass (checks A (command.More n way b a q)) h in
     let f : Name = record { branch = b; article = a } in
     let l : OpenLine = record { way = way; branch = b; article = a; qty = q } in
-    let t = at_number (MayHoldMore f way) n A.orders g.orders_in_order (takes_more f way (order_numbered A n) p.1.0 p.1.1.0 p.1.1.1.0 p.1.1.1.1.1.0) in
+    let t = at_number (MayHoldMore f way) n A.orders g.orders_in_order (takes_more f way (order_numbered A n) p.1.0 p.1.1.0 p.1.1.1.0 p.1.1.1.1.0 p.1.1.1.1.1.1.0) in
     let few = at_number (λ o. IsNone (line_on o f) → length o.lines ≤ 63) n A.orders g.orders_in_order (grind arith) in
     let sounds = sounds_from_good A g in
-    let sound : Each Sound (change_order n (add_hold l) A).orders = sound-more A n l sounds (each-both (λ o s k e. ((k e).0, raised l o s (k e))) A.orders sounds t) in
-    adding A n l _ g (kept_more A _) (omega arith) (not_false _ p.1.1.1.1.0) i.3 t few sound
+    let sound : Each Sound (change_order n (add_hold l) A).orders = sound-more A n l sounds (each-both (λ o s k e. ((k e).0, (k e).1, raised l o s (k e))) A.orders sounds t) in
+    adding A n l _ g (kept_more A _) (omega arith) (not_false _ p.1.1.1.1.1.0) i.3 t few sound
     (room_from_safe (accept A (record { key = key; command = command.More n way b a q })) sound (safe_after A (record { key = key; command = command.More n way b a q }) g h))
 parts_accept A key (command.Use n b a q) g i h = let p = all_pass (checks A (command.Use n b a q)) h in
     using A n (record { branch = b; article = a }) (raise_used q) _ (λ l. (refl, omega arith)) g (kept_more A _) (omega arith) (fit-accept A key (command.Use n b a q) tt (fit_from_good A g) h)
 parts_accept A key (command.Release n b a q) g i h = let p = all_pass (checks A (command.Release n b a q)) h in
     using A n (record { branch = b; article = a }) (lower_held q) _ (λ l. (refl, omega arith)) g (kept_more A _) (omega arith) (fit-accept A key (command.Release n b a q) tt (fit_from_good A g) h)
-parts_accept A key (command.Commit n) g i h = let p = all_pass (checks A (command.Commit n)) h in stating A n Committed _ refl g (kept_more A _) p.0 p.1.0
-parts_accept A key (command.Abort n) g i h = let p = all_pass (checks A (command.Abort n)) h in stating A n Aborted _ refl g (kept_more A _) p.0 p.1.0
+parts_accept A key (command.Commit n) g i h = let p = all_pass (checks A (command.Commit n)) h in stating A n Committed _ refl g (kept_more A _) p.0 p.1.0 (some_all (order_numbered A n) p.0 (λ o m e. cc e))
+parts_accept A key (command.Abort n) g i h = let p = all_pass (checks A (command.Abort n)) h in stating A n Aborted _ refl g (kept_more A _) p.0 p.1.0 (none_firm (order_numbered A n) p.0 p.1.1.0)
+parts_accept A key (command.Firm n) g i h = let p = all_pass (checks A (command.Firm n)) h in firming A n _ g (kept_more A _) (omega arith) (open_there (order_numbered A n) p.1.0 p.1.1.0)
 parts_accept A key (command.Expire now) g i h = let p = all_pass (checks A (command.Expire now)) h in expiring A now _ g i (kept_more A _) (omega arith)
 
 keeping : (A : Ledger) (r : Request) → Good A → IsKey r.key → IsInRange r.command → kept_under A r.key ≡ None → Parts (accept A r) → IsSafe (accept A r) → Good (accept A r)

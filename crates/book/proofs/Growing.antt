@@ -68,11 +68,11 @@ room-write_off A name q sound sorted room check = each-both (λ f r n. one f r (
 -- a new order, line by line
 
 -- what one more line adds to what is held
-takes-more : (f : Name) (ls : List OpenLine) (l : OpenLine) → total (takes f) (map new_line (ls ++ l ∷ [])) ≡ total (takes f) (map new_line ls) +ℤ takes f (new_line l)
-takes-more f ls l = rw (map-push ls l) (total-push (takes f) (map new_line ls) (new_line l))
+takes-more : (f : Name) (ls : List OpenLine) (l : OpenLine) → total (takes false f) (map new_line (ls ++ l ∷ [])) ≡ total (takes false f) (map new_line ls) +ℤ takes false f (new_line l)
+takes-more f ls l = rw (map-push ls l) (total-push (takes false f) (map new_line ls) (new_line l))
 
-adds-more : (f : Name) (ls : List OpenLine) (l : OpenLine) → total (adds f) (map new_line (ls ++ l ∷ [])) ≡ total (adds f) (map new_line ls) +ℤ adds f (new_line l)
-adds-more f ls l = rw (map-push ls l) (total-push (adds f) (map new_line ls) (new_line l))
+adds-more : (f : Name) (ls : List OpenLine) (l : OpenLine) → total (adds false f) (map new_line (ls ++ l ∷ [])) ≡ total (adds false f) (map new_line ls) +ℤ adds false f (new_line l)
+adds-more f ls l = rw (map-push ls l) (total-push (adds false f) (map new_line ls) (new_line l))
 
 no_add : (b : Bool) (w : Way) (q : ℕ) → w ≡ Take → (if b then pos (if_add w q) else pos 0) ≡ pos 0
 no_add b w q e = grind arith

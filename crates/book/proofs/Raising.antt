@@ -1,5 +1,5 @@
 -- More held on an order that is open leaves every field its room, if it passes its check.
-use Rattle.book.proofs.Prelude.{[], ◌++◌, ◌+ℤ◌, ◌-ℤ◌, ◌<ℤ◌, ◌==◌, ◌∷◌, ◌≡◌, ◌≤◌, Add, Bool, Each, Field, IsSomeAnd, IsStrictlySortedBy, Ledger, Line, List, MatchOption, MayHoldMore, Name, None, OpenLine, Option, Order, Some, Take, Way, add_hold, ap, arith, change_order, common_steps, false, held_to_add, held_to_take, if_add, if_take, if◌then◌else◌, ints, is_committed, is_open, line_name, line_on, map, moved, nat_cmp, new_line, on, order_numbered, pos, raise_held, refl, same_name, settled, subst, sym, total, true, ℕ, ℤ}
+use Rattle.book.proofs.Prelude.{[], ◌++◌, ◌+ℤ◌, ◌-ℤ◌, ◌<ℤ◌, ◌==◌, ◌∙◌, ◌∷◌, ◌≡◌, ◌≤◌, Add, Bool, Each, Field, IsSomeAnd, IsStrictlySortedBy, Ledger, Line, List, MatchOption, MayHoldMore, Name, None, OpenLine, Option, Order, Some, State, Take, Way, add_hold, ap, arith, change_order, common_steps, false, held_to_add, held_to_take, if_add, if_take, if◌then◌else◌, ints, is_open, is_settled, line_name, line_on, map, moved, nat_cmp, new_line, on, open_state, order_numbered, pos, raise_held, refl, same_name, settled, settled_state, subst, sym, total, true, unsettled, ℕ, ℤ}
 use Rattle.book.proofs.Sums.{each-imp, each-both, each-map, each-of-push, total-kept, each}
 use Rattle.book.proofs.Bounds.{Sound, falls_below_iff, rises_above_iff, HasRoom}
 use Rattle.book.proofs.Closing.{name_is, at_line, at_number, one_on-map}
@@ -9,6 +9,10 @@ use Rattle.book.proofs.Growing.{InOrder, Room, LinePasses, none_bad, other_way, 
 -- a part of what is held on a field
 abbrev pub part : (Way → ℕ → ℕ) → Name → Line → ℤ
 part p g l = if on g l then pos (p l.way l.held) else pos 0
+
+-- likewise beyond what is settled, in an order that is firm or not
+abbrev pub held_part : Bool → (Way → ℕ → ℕ) → Name → Line → ℤ
+held_part m p g l = if on g l then pos (p l.way (unsettled m l l.held)) else pos 0
 
 raised_line : Name → ℕ → Line → Line
 raised_line name q m = if on name m then raise_held q m else m
@@ -29,6 +33,7 @@ part-side p w none g q m e = grind arith
 pub record Raised (name : Name) (w : Way) (o new : Order) : Type 0 where
   number : new.number ≡ o.number
   pub state : new.state ≡ o.state
+  pub firm : new.firm ≡ o.firm
   sound : Sound new
   others : (p : Way → ℕ → ℕ) (g : Name) → same_name name g ≡ false → total (part p g) new.lines ≡ total (part p g) o.lines
   side : (p : Way → ℕ → ℕ) → ((h : ℕ) → p w h ≡ 0) → (g : Name) → total (part p g) new.lines ≡ total (part p g) o.lines
@@ -47,6 +52,7 @@ raised_there : (name : Name) (w : Way) (q : ℕ) (o : Order) → Sound o → Eac
 raised_there name w q o sound ways = record {
   number = refl;
   state = refl;
+  firm = refl;
   sound = record { used = raised-used name q o.lines sound.used; one = λ f. one_on-map f (raised_line name q) o.lines (each (raised-name name q) o.lines) (sound.one f) };
   others = λ p g e. part-map p g name q o.lines (each-imp (λ m _ t. part-other p g name q e m t) o.lines ways);
   side = λ p none g. part-map p g name q o.lines (each-imp (λ m k t. part-side p w none g q m (k t)) o.lines ways);
@@ -57,6 +63,7 @@ raised_new : (l : OpenLine) (o : Order) → Sound o → Each (λ m. on (line_nam
 raised_new l o sound none = record {
   number = refl;
   state = refl;
+  firm = refl;
   sound = record { used = each-of-push (λ m. m.used ≤ m.held) o.lines (new_line l) sound.used (omega arith); one = λ f. one_on-push f o.lines (new_line l) (sound.one f) none };
   others = λ p g e. let a = total-push (part p g) o.lines (new_line l) in let b : part p g (new_line l) ≡ pos 0 = rw (other_way (line_name (new_line l)) g e) refl in omega (arith, ints);
   side = λ p zero_at g. let a = total-push (part p g) o.lines (new_line l) in let b : part p g (new_line l) ≡ pos 0 = at (on g (new_line l)) p (zero_at l.qty) in omega (arith, ints);
@@ -67,7 +74,7 @@ raised_new l o sound none = record {
 
 pub raised : (l : OpenLine) (o : Order) → Sound o → MayHoldMore (line_name (new_line l)) l.way o → Raised (line_name (new_line l)) l.way o (add_hold l o)
 unfolding raised_line
-raised l o sound t = by (line_on o (line_name (new_line l))) refl t.2
+raised l o sound t = by (line_on o (line_name (new_line l))) refl t.3
   where
     name : Name
     name = line_name (new_line l)
@@ -80,20 +87,34 @@ raised l o sound t = by (line_on o (line_name (new_line l))) refl t.2
 
 -- what is said of each order of that number, and of the order as it becomes
 abbrev pub Rising : ℕ → OpenLine → Order → Type 0
-Rising n l o = (o.number == n) ≡ true → (is_open o ≡ true) × Raised (line_name (new_line l)) l.way o (add_hold l o)
+Rising n l o = (o.number == n) ≡ true → (is_open o ≡ true) × (o.firm ≡ false) × Raised (line_name (new_line l)) l.way o (add_hold l o)
+
+-- nothing is settled of an open order that is not firm
+not_settled : (s : State) (m : Bool) (z : ℤ) → open_state s ≡ true → m ≡ false → (if settled_state s m then z else pos 0) ≡ pos 0
+not_settled s m z e d = grind arith
 
 pub same_settled : (A : Ledger) (n : ℕ) (l : OpenLine) → Each (Rising n l) A.orders → (f : Field) → settled (change_order n (add_hold l) A) f ≡ settled A f
-same_settled A n l r f = let e = total-kept (λ o. if is_committed o then moved f.name (λ l. l.used) o else pos 0) (λ o. if o.number == n then add_hold l o else o) A.orders (each-imp (λ o t. step o (o.number == n) t) A.orders r) in omega (arith, ints)
+same_settled A n l r f = let e = total-kept (λ o. if is_settled o then moved f.name (λ l. l.used) o else pos 0) (λ o. if o.number == n then add_hold l o else o) A.orders (each-imp (λ o t. step o (o.number == n) t) A.orders r) in omega (arith, ints)
   where
-    step : (o : Order) (b : Bool) → (b ≡ true → (is_open o ≡ true) × Raised (line_name (new_line l)) l.way o (add_hold l o))
-        → (if is_committed (if b then add_hold l o else o) then moved f.name (λ l. l.used) (if b then add_hold l o else o) else pos 0) ≡ (if is_committed o then moved f.name (λ l. l.used) o else pos 0)
-    step o b t = grind arith
+    step : (o : Order) (b : Bool) → (b ≡ true → (is_open o ≡ true) × (o.firm ≡ false) × Raised (line_name (new_line l)) l.way o (add_hold l o))
+        → (if is_settled (if b then add_hold l o else o) then moved f.name (λ l. l.used) (if b then add_hold l o else o) else pos 0) ≡ (if is_settled o then moved f.name (λ l. l.used) o else pos 0)
+    step o true t = let x = t refl in not_settled (add_hold l o).state (add_hold l o).firm (moved f.name (λ l. l.used) (add_hold l o)) (ap open_state x.2.state ∙ x.0) (x.2.firm ∙ x.1) ∙ sym (not_settled o.state o.firm (moved f.name (λ l. l.used) o) x.0 x.1)
+    step o false t = refl
+
+same_if : (p : Way → ℕ → ℕ) (g : Name) (s t : State) (m k : Bool) (xs ys : List Line) → s ≡ t → m ≡ k → k ≡ false → total (part p g) xs ≡ total (part p g) ys
+    → (if open_state s then total (held_part m p g) xs else pos 0) ≡ (if open_state t then total (held_part k p g) ys else pos 0)
+same_if p g s t m k xs ys e d f h = rw (e, d, f) (ap (λ z. if open_state t then z else pos 0) h)
 
 -- a part of what is held, where it stays on each order of that number
 same_part : (p : Way → ℕ → ℕ) (g : Name) (A : Ledger) (n : ℕ) (l : OpenLine) → Each (Rising n l) A.orders
     → ((o : Order) → Raised (line_name (new_line l)) l.way o (add_hold l o) → total (part p g) (add_hold l o).lines ≡ total (part p g) o.lines)
-    → total (λ o. if is_open o then total (part p g) o.lines else pos 0) (change_order n (add_hold l) A).orders ≡ total (λ o. if is_open o then total (part p g) o.lines else pos 0) A.orders
-same_part p g A n l r stays = grind (arith, each-imp, total-kept)
+    → total (λ o. if is_open o then total (held_part o.firm p g) o.lines else pos 0) (change_order n (add_hold l) A).orders ≡ total (λ o. if is_open o then total (held_part o.firm p g) o.lines else pos 0) A.orders
+same_part p g A n l r stays = total-kept (λ o. if is_open o then total (held_part o.firm p g) o.lines else pos 0) (λ o. if o.number == n then add_hold l o else o) A.orders (each-imp (λ o t. step o (o.number == n) t) A.orders r)
+  where
+    step : (o : Order) (b : Bool) → (b ≡ true → (is_open o ≡ true) × (o.firm ≡ false) × Raised (line_name (new_line l)) l.way o (add_hold l o))
+        → (if is_open (if b then add_hold l o else o) then total (held_part (if b then add_hold l o else o).firm p g) (if b then add_hold l o else o).lines else pos 0) ≡ (if is_open o then total (held_part o.firm p g) o.lines else pos 0)
+    step o true t = let x = t refl in same_if p g (add_hold l o).state o.state (add_hold l o).firm o.firm (add_hold l o).lines o.lines x.2.state x.2.firm x.1 (stays o x.2)
+    step o false t = refl
 
 pub sound-more : (A : Ledger) (n : ℕ) (l : OpenLine) → Each Sound A.orders → Each (Rising n l) A.orders → Each Sound (change_order n (add_hold l) A).orders
 sound-more A n l sound r = grind (arith, Sound, each-both, each-map)
@@ -129,4 +150,4 @@ pub room-more : (A : Ledger) (n : ℕ) (l : OpenLine) → Each Sound A.orders �
     → IsSomeAnd (order_numbered A n) (MayHoldMore (line_name (new_line l)) l.way) → LinePasses (change_order n (add_hold l) A) (line_name (new_line l)) l.way
     → Room (change_order n (add_hold l) A)
 room-more A n l sound numbers sorted room t check = room-rising A n l l.way refl sound sorted room
-    (each-both (λ o s k e. ((k e).0, raised l o s (k e))) A.orders sound (at_number (MayHoldMore (line_name (new_line l)) l.way) n A.orders numbers t)) check
+    (each-both (λ o s k e. ((k e).0, (k e).1, raised l o s (k e))) A.orders sound (at_number (MayHoldMore (line_name (new_line l)) l.way) n A.orders numbers t)) check

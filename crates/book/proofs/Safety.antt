@@ -1,5 +1,5 @@
 -- Every accepted command leaves a good ledger safe.
-use Rattle.book.proofs.Prelude.{◌≡◌, ◌≢◌, ◌≤◌, Bool, Command, Each, Field, FirstFailure, Good, IsFalse, IsGoodLine, IsGoodOrder, IsNone, IsSafe, IsSome, IsSomeAnd, IsTrue, Ledger, Line, List, MayHoldMore, Name, None, OpenLine, Option, Order, Request, Transfer, Way, accept, arith, checks, common_steps, dec_le, false, field_named, if_add, if_take, if◌then◌else◌, is_committed, is_lt, is_open, is_transfer, line_name, line_on, name_cmp, next, on, order_numbered, pos, refl, same_name, signed, subst, sym, total, transfer_lines, true, ℕ, ℤ}
+use Rattle.book.proofs.Prelude.{◌≡◌, ◌≢◌, ◌≤◌, Bool, Command, Each, Field, FirstFailure, Good, IsFalse, IsGoodLine, IsGoodOrder, IsNone, IsSafe, IsSome, IsSomeAnd, IsTrue, Ledger, Line, List, MayHoldMore, Name, None, OpenLine, Option, Order, Request, Transfer, Way, accept, arith, checks, common_steps, dec_le, false, field_named, if_add, if_take, if◌then◌else◌, is_lt, is_open, is_settled, is_transfer, line_name, line_on, name_cmp, next, on, order_numbered, pos, refl, same_name, signed, subst, sym, total, transfer_lines, true, unsettled, ℕ, ℤ}
 use Rattle.words.specs.declared.command.Command.TheVariants as command
 use Rattle.book.proofs.Sums.{each-imp, total-zero}
 use Rattle.book.proofs.Bounds.{safe_from_room, HasRoom}
@@ -31,11 +31,11 @@ no_orders A name test g none os h = total-zero _ os (each-imp (λ o good. zero (
     zero b z e = grind arith
 
 room-field : (A : Ledger) (f : Field) → Good A → (IsSome (field_named A f.name) → ⊥) → (f.lo ≤ f.start) × (f.start ≤ f.hi) → HasRoom A f
-room-field A f g none h = grind (arith, common_steps, (no_orders A f.name is_committed (λ o l. signed l.way l.used) none A.orders g.orders), (no_orders A f.name is_open (λ o l. pos (if_take l.way l.held)) none A.orders g.orders), (no_orders A f.name is_open (λ o l. pos (if_add l.way l.held)) none A.orders g.orders), each-imp, not_there, total-zero, f.name, A.moves, g.moves, A.orders, g.orders, h.0, h.1)
+room-field A f g none h = grind (arith, common_steps, (no_orders A f.name is_settled (λ o l. signed l.way l.used) none A.orders g.orders), (no_orders A f.name is_open (λ o l. pos (if_take l.way (unsettled o.firm l l.held))) none A.orders g.orders), (no_orders A f.name is_open (λ o l. pos (if_add l.way (unsettled o.firm l l.held))) none A.orders g.orders), each-imp, not_there, total-zero, f.name, A.moves, g.moves, A.orders, g.orders, h.0, h.1)
 
-pub takes_more : (f : Name) (w : Way) (o : Option Order) → (IsNone o → ⊥) → (IsSomeAnd o (λ o. IsFalse (is_open o)) → ⊥) → (IsSomeAnd o (λ o. IsTrue (is_transfer o)) → ⊥)
+pub takes_more : (f : Name) (w : Way) (o : Option Order) → (IsNone o → ⊥) → (IsSomeAnd o (λ o. IsFalse (is_open o)) → ⊥) → (IsSomeAnd o (λ o. IsTrue o.firm) → ⊥) → (IsSomeAnd o (λ o. IsTrue (is_transfer o)) → ⊥)
     → (IsSomeAnd o (λ o. IsSomeAnd (line_on o f) (λ l. l.way ≢ w)) → ⊥) → IsSomeAnd o (MayHoldMore f w)
-takes_more f w x a b c d = grind arith
+takes_more f w x a b m c d = grind arith
 
 room-accept : (A : Ledger) (key : List ℕ) (c : Command) → Good A → FirstFailure (checks A c) None → Room (accept A (record { key = key; command = c }))
 room-accept A key (command.Field b a lo hi start) g h = let p = all_pass (checks A (command.Field b a lo hi start)) h in
@@ -60,8 +60,8 @@ room-accept A key (command.Transfer n until a from to q) g h = let p = all_pass 
 room-accept A key (command.More n way b a q) g h = let p = all_pass (checks A (command.More n way b a q)) h in
     let l : OpenLine = record { way = way; branch = b; article = a; qty = q } in
     room-more A n l (sounds_from_good A g) g.orders_in_order g.fields_in_order (fit_from_good A g).room
-    (takes_more (record { branch = b; article = a }) way (order_numbered A n) p.1.0 p.1.1.0 p.1.1.1.0 p.1.1.1.1.1.0)
-    (line_passes way (next A (command.More n way b a q)) (record { branch = b; article = a }) 0 p.1.1.1.1.1.1.1.0)
+    (takes_more (record { branch = b; article = a }) way (order_numbered A n) p.1.0 p.1.1.0 p.1.1.1.0 p.1.1.1.1.0 p.1.1.1.1.1.1.0)
+    (line_passes way (next A (command.More n way b a q)) (record { branch = b; article = a }) 0 p.1.1.1.1.1.1.1.1.0)
 room-accept A key c g h = (fit-accept A key c tt (fit_from_good A g) h).room
 
 -- whatever is accepted, the ledger stays safe

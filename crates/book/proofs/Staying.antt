@@ -1,8 +1,8 @@
 -- All that makes a ledger good but its kept keys and its safety, and where it stays though orders change.
-use Rattle.book.proofs.Prelude.{[], ◌&&◌, ◌+◌, ◌<◌, ◌==◌, ◌||◌, ◌∙◌, ◌∷◌, ◌≡◌, ◌≤◌, Aborted, Bool, Each, Equal, Good, IsDistinct, IsFalse, IsGoodField, IsGoodLine, IsGoodMove, IsGoodOrder, IsMoment, IsNone, IsSome, IsSomeAnd, IsStrictlySortedBy, IsTotalOrder, Kept, Ledger, Line, List, MatchOrdering, Move, Name, Order, Ordering, State, ap, arith, bytes_decides, bytes_eq, change_lines, count_by, false, field_named, if◌then◌else◌, is_eq, is_eq-slice_cmp, is_lt, is_open, is_transfer, length, line_name, map, name_cmp, nat_cmp, nat_le, nat_list_cmp_total, nat_lt, on, on_total, open_orders, open_state, order_numbered, ordering_then, places, ranks, refl, same_name, set_state, slice_cmp, subst, sym, then_total, true, true≢false, ℕ}
+use Rattle.book.proofs.Prelude.{[], ◌&&◌, ◌+◌, ◌<◌, ◌==◌, ◌||◌, ◌∙◌, ◌∷◌, ◌≡◌, ◌≢◌, ◌≤◌, Aborted, Bool, Each, Equal, Good, IsDistinct, IsFalse, IsGoodField, IsGoodLine, IsGoodMove, IsGoodOrder, IsMoment, IsNone, IsSome, IsSomeAnd, IsStrictlySortedBy, IsTotalOrder, IsTrue, Kept, Ledger, Line, List, MatchOrdering, Move, Name, Order, Ordering, State, ap, arith, bytes_decides, bytes_eq, change_lines, count_by, expires, false, field_named, if◌then◌else◌, is_eq, is_eq-slice_cmp, is_lt, is_open, is_transfer, length, line_name, map, name_cmp, nat_cmp, nat_le, nat_list_cmp_total, nat_lt, not, on, on_total, open_orders, open_state, order_numbered, ordering_then, places, ranks, refl, same_name, set_firm, set_state, slice_cmp, subst, sym, then_total, true, true≢false, ℕ}
 use Rattle.book.proofs.Sums.{each, each-imp, each-both, each-map}
 use Rattle.book.proofs.Bounds.{OneOn}
-use Rattle.book.proofs.Closing.{Fit, Fine, changed}
+use Rattle.book.proofs.Closing.{Fit, Fine, at_number, changed}
 use Rattle.book.proofs.Asked.{same_self}
 use Rattle.book.proofs.Lists.{each-unmap, length-of-map, count-map, count-fewer}
 
@@ -44,10 +44,10 @@ pub line_kept : (A B : Ledger) → StillThere A B → (l : Line) → IsGoodLine 
 line_kept A B still l x = record { field = still (line_name l) x.field; held = x.held; used = x.used }
 
 pub order_kept : (A B : Ledger) → StillThere A B → (o : Order) → IsGoodOrder A o → IsGoodOrder B o
-order_kept A B still o x = record { number = x.number; until = x.until; some = x.some; few = x.few; lines = each-imp (line_kept A B still) o.lines x.lines; apart = x.apart; transfer = x.transfer }
+order_kept A B still o x = record { number = x.number; until = x.until; some = x.some; few = x.few; lines = each-imp (line_kept A B still) o.lines x.lines; apart = x.apart; transfer = x.transfer; firm = x.firm }
 
-order_stated : (A B : Ledger) → StillThere A B → (s : State) (o : Order) → IsGoodOrder A o → IsGoodOrder B (set_state s o)
-order_stated A B still s o x = record { number = x.number; until = x.until; some = x.some; few = x.few; lines = each-imp (line_kept A B still) o.lines x.lines; apart = x.apart; transfer = x.transfer }
+order_stated : (A B : Ledger) → StillThere A B → (s : State) (o : Order) → (IsTrue o.firm → s ≢ Aborted) → IsGoodOrder A o → IsGoodOrder B (set_state s o)
+order_stated A B still s o firm x = record { number = x.number; until = x.until; some = x.some; few = x.few; lines = each-imp (line_kept A B still) o.lines x.lines; apart = x.apart; transfer = x.transfer; firm = firm }
 
 either : (P : Order → Type 0) (b : Bool) (o new : Order) → P o → (b ≡ true → P new) → P (if b then new else o)
 either b z o new x y = grind arith
@@ -89,26 +89,48 @@ pub changing : (A : Ledger) (h : Order → Order) (clock : ℕ) (kept : List Kep
 changing A h clock kept g moment more number orders room = grind (arith, (same_numbers h number A.orders), (length-of-map h A.orders), each-imp, each-map, move_kept)
 
 -- a commit and an abort
-pub stating : (A : Ledger) (n : ℕ) (s : State) (kept : List Kept) → open_state s ≡ false → Good A → length kept ≡ places A + 1 → (IsNone (order_numbered A n) → ⊥) → (IsSomeAnd (order_numbered A n) (λ o. IsFalse (is_open o)) → ⊥)
+pub stating : (A : Ledger) (n : ℕ) (s : State) (kept : List Kept) → open_state s ≡ false → Good A → length kept ≡ places A + 1 → (IsNone (order_numbered A n) → ⊥) → (IsSomeAnd (order_numbered A n) (λ o. IsFalse (is_open o)) → ⊥) → IsSomeAnd (order_numbered A n) (λ o. IsTrue o.firm → s ≢ Aborted)
     → Parts (changed (λ o. if o.number == n then set_state s o else o) A.clock kept A)
-stating A n s kept closed g more there open_is =
+stating A n s kept closed g more there open_is firm =
     let h : Order → Order = λ o. if o.number == n then set_state s o else o in
     let B : Ledger = changed h A.clock kept A in
     changing A h A.clock kept g g.clock more (λ o. same_number (o.number == n) o (set_state s o) refl)
-    (each-imp (λ o x. either (IsGoodOrder B) (o.number == n) o (set_state s o) (order_kept A B (λ f y. y) o x) (λ _. order_stated A B (λ f y. y) s o x)) A.orders g.orders)
+    (each-both (λ o x m. either (IsGoodOrder B) (o.number == n) o (set_state s o) (order_kept A B (λ f y. y) o x) (λ e. order_stated A B (λ f y. y) s o (m e) x)) A.orders g.orders (at_number (λ o. IsTrue o.firm → s ≢ Aborted) n A.orders g.orders_in_order firm))
     (let c = count-fewer is_open (λ o. o.number == n) (set_state s) A.orders (λ _. closed) (grind arith) in let r = g.places_fit in omega arith)
 
 pub expiring : (A : Ledger) (now : ℕ) (kept : List Kept) → Good A → IsMoment now → length kept ≡ places A + 1 → places A + open_orders A + 1 ≤ 200000
-    → Parts (changed (λ o. if is_open o && nat_le o.until now then set_state Aborted o else o) now kept A)
+    → Parts (changed (λ o. if expires now o then set_state Aborted o else o) now kept A)
 expiring A now kept g moment more room =
-    let h : Order → Order = λ o. if is_open o && nat_le o.until now then set_state Aborted o else o in
+    let h : Order → Order = λ o. if expires now o then set_state Aborted o else o in
     let B : Ledger = changed h now kept A in
-    changing A h now kept g moment more (λ o. same_number (is_open o && nat_le o.until now) o (set_state Aborted o) refl)
-    (each-imp (λ o x. either (IsGoodOrder B) (is_open o && nat_le o.until now) o (set_state Aborted o) (order_kept A B (λ f y. y) o x) (λ _. order_stated A B (λ f y. y) Aborted o x)) A.orders g.orders)
-    (let c = count-map is_open h A.orders (each (λ o. closes o (is_open o && nat_le o.until now)) A.orders) in omega arith)
+    changing A h now kept g moment more (λ o. same_number (expires now o) o (set_state Aborted o) refl)
+    (each-imp (λ o x. either (IsGoodOrder B) (expires now o) o (set_state Aborted o) (order_kept A B (λ f y. y) o x) (λ e. order_stated A B (λ f y. y) Aborted o (λ m. absurd (true≢false (sym m ∙ loose (is_open o) o.firm (nat_le o.until now) e))) x)) A.orders g.orders)
+    (let c = count-map is_open h A.orders (each (λ o. closes o (expires now o)) A.orders) in omega arith)
   where
+    loose : (b m c : Bool) → (b && not m && c) ≡ true → m ≡ false
+    loose b m c e = grind arith
+
     closes : (o : Order) (b : Bool) → is_open (if b then set_state Aborted o else o) ≡ true → is_open o ≡ true
     closes o b e = grind arith
+
+-- an order that is made firm
+pub firming : (A : Ledger) (n : ℕ) (kept : List Kept) → Good A → length kept ≡ places A + 1 → places A + open_orders A + 1 ≤ 200000 → IsSomeAnd (order_numbered A n) (λ o. is_open o ≡ true)
+    → Parts (changed (λ o. if o.number == n then set_firm o else o) A.clock kept A)
+firming A n kept g more room there =
+    let h : Order → Order = λ o. if o.number == n then set_firm o else o in
+    let B : Ledger = changed h A.clock kept A in
+    changing A h A.clock kept g g.clock more (λ o. same_number (o.number == n) o (set_firm o) refl)
+    (each-both (λ o x t. either (IsGoodOrder B) (o.number == n) o (set_firm o) (order_kept A B (λ f y. y) o x) (λ e. firm_order B (λ f y. y) o (t e) x)) A.orders g.orders (at_number (λ o. is_open o ≡ true) n A.orders g.orders_in_order there))
+    (let c = count-map is_open h A.orders (each (λ o. open_as o (o.number == n)) A.orders) in omega arith)
+  where
+    open_as : (o : Order) (b : Bool) → is_open (if b then set_firm o else o) ≡ true → is_open o ≡ true
+    open_as o b e = grind arith
+
+    not_aborted : (s : State) → open_state s ≡ true → s ≢ Aborted
+    not_aborted s e d = true≢false (sym e ∙ ap open_state d)
+
+    firm_order : (B : Ledger) → StillThere A B → (o : Order) → is_open o ≡ true → IsGoodOrder A o → IsGoodOrder B (set_firm o)
+    firm_order B still o e x = record { number = x.number; until = x.until; some = x.some; few = x.few; lines = each-imp (line_kept A B still) o.lines x.lines; apart = x.apart; transfer = x.transfer; firm = λ _. not_aborted o.state e }
 
 -- a use and a release
 abbrev pub Lessens : (Line → Line) → Type 0
@@ -142,4 +164,5 @@ using A n f change kept less g more room fit =
           lines = each-map (IsGoodLine B) c o.lines (each-both (λ l p u. less_line B still (is_transfer o || on f l) l p u) o.lines x.lines (each-unmap (λ l. l.used ≤ l.held) c o.lines y.sound.used));
           apart = apart_lines (map c o.lines) y.sound.one;
           transfer = y.pair;
+          firm = x.firm;
         }
