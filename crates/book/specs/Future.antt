@@ -1,6 +1,6 @@
 -- What may still come to the open orders, and that they can all be honoured. Every beginning of a future is a future, so
 -- what is said of its end is said of each step.
-use Rattle.std.specs.Prelude.{ℕ, ◌+◌, List, IsTrue, IsNone}
+use Rattle.std.specs.Prelude.{ℕ, ◌+◌, ◌≡◌, List, IsTrue, IsNone}
 use Rattle.std.specs.List.{AllByRecursion as Each}
 use Rattle.words.specs.declared.command.Command.{Command}
 use Rattle.words.specs.declared.command.Command.TheVariants.{Field, Deliver, Writeoff, Rebound, Open, Transfer, More, Use, Release, Commit, Abort, Firm, Expire}
@@ -26,6 +26,13 @@ AsksNoStock (Commit n) = Unit {0}
 AsksNoStock (Abort n) = Unit {0}
 AsksNoStock (Firm n) = Unit {0}
 AsksNoStock (Expire now) = Unit {0}
+
+-- it settles what that order uses, if it does: a commit, a `firm`, or a use
+abbrev pub Settles : Command → ℕ → Type 0
+Settles (Commit m) n = m ≡ n
+Settles (Firm m) n = m ≡ n
+Settles (Use m b a q) n = m ≡ n
+Settles c n = ⊥
 
 -- only uses, releases, commits, aborts, `firm` and expiries
 abbrev pub IsFuture : List Request → Type 0
