@@ -134,8 +134,8 @@ module _ (A : Ledger) (good : Good A) (n : ℕ) (h : Order → Order) (kept : Li
       let a = evens A article o good.fields_in_order pair there in
       let b = evens A article (h o) good.fields_in_order new_pair new_there in
       let c = total-eq (λ f. (if bytes_eq f.name.article article then settled after f else pos 0) +ℤ (if bytes_eq f.name.article article then settled_part f.name o else pos 0))
-          (λ f. (if bytes_eq f.name.article article then settled A f else pos 0) +ℤ (if bytes_eq f.name.article article then settled_part f.name (h o) else pos 0)) A.fields
-          (each (λ f. at f (bytes_eq f.name.article article)) A.fields) in
+      (λ f. (if bytes_eq f.name.article article then settled A f else pos 0) +ℤ (if bytes_eq f.name.article article then settled_part f.name (h o) else pos 0)) A.fields
+      (each (λ f. at f (bytes_eq f.name.article article)) A.fields) in
       let d = total-sum (λ f. if bytes_eq f.name.article article then settled after f else pos 0) (λ f. if bytes_eq f.name.article article then settled_part f.name o else pos 0) A.fields in
       let e = total-sum (λ f. if bytes_eq f.name.article article then settled A f else pos 0) (λ f. if bytes_eq f.name.article article then settled_part f.name (h o) else pos 0) A.fields in
       omega (arith, ints)

@@ -2,8 +2,8 @@
 
 ghost use Rattle.book.specs.Answers.{After, Answers, IsAccepted, Runs, bound, same_command};
 ghost use Rattle.book.specs.Changes.{changed_rows, put_content};
-ghost use Rattle.book.specs.Examples.{Plays, long_script, other_bounds, release_and_abort, tight_bounds, transfer};
-ghost use Rattle.book.specs.Future.{Honours, HonoursAlways, Settles};
+ghost use Rattle.book.specs.Examples.{Plays, firm_order, firm_transfer, long_script, other_bounds, release_and_abort, tight_bounds, transfer};
+ghost use Rattle.book.specs.Future.{Honours, HonoursAlways, Settles, StaysFirm};
 ghost use Rattle.book.specs.Good.{Good};
 ghost use Rattle.book.specs.Held.{MayHoldMore, BreaksBound, held_to_add, held_to_take};
 ghost use Rattle.book.specs.Ledger.{Field, Ledger, Name, is_transfer, line_name, line_on, order_numbered, places, same_name, new_ledger};
@@ -80,6 +80,11 @@ pub fn transfers_even_out()
         → IsSomeAnd (order_numbered A n) (λ o. IsTrue (is_transfer o)) → article_total B article ≡ article_total A article }
 {}
 
+/// An order that is firm is firm after any run, and is not aborted: it leaves the open ones by its commit alone.
+pub fn firm_orders_stay()
+    ensures { (A : Ledger) (rs : List Request) (replies : List Reply) (B : Ledger) (n : ℕ) → Good A → Runs A rs replies B → IsSomeAnd (order_numbered A n) (λ o. IsTrue o.firm) → IsSomeAnd (order_numbered B n) StaysFirm }
+{}
+
 /// Commands in range are the same exactly where their spellings are.
 pub fn spellings_tell_commands()
     ensures { (c d : Command) → IsInRange c → IsInRange d → IsTrue (same_command c d) ↔ (c ≡ d) }
@@ -110,4 +115,6 @@ pub fn worked_examples_hold()
     ensures transfer { Plays new_ledger transfer }
     ensures release_and_abort { Plays new_ledger release_and_abort }
     ensures other_bounds { Plays new_ledger other_bounds }
+    ensures firm_order { Plays new_ledger firm_order }
+    ensures firm_transfer { Plays new_ledger firm_transfer }
 {}
