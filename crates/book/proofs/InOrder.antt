@@ -1,12 +1,12 @@
 -- A good ledger has one content, and its rows stand in the order of their keys.
-use Rattle.book.proofs.Prelude.{[], ◌++◌, ◌+◌, ◌<◌, ◌∷◌, ◌≡◌, AllZip, Content, Each, Field, FieldCells, Good, IsFieldRow, IsRowsOf, IsStrictlySortedBy, Ledger, Less, Line, List, Order, Ordering, arith, desk_row, field_cmp, field_row, flat_map, int_cmp_total, ints, kept_cmp, kept_row, line_cmp, line_row, lines_from, map, move_cmp, move_row, name_cmp, nat_cmp, order_cmp, order_lines, order_row, pos, refl, slice_cmp, tied_itself, ℕ}
+use Rattle.book.proofs.Prelude.{[], ◌++◌, ◌+◌, ◌<◌, ◌∷◌, ◌≡◌, AllZip, Bool, Content, Each, Field, FieldCells, Good, IsFieldRow, IsRowsOf, IsStrictlySortedBy, Ledger, Less, Line, List, Order, Ordering, arith, desk_row, false, field_cmp, field_row, firm_cmp, firm_row, firm_rows, flat_map, if◌then◌else◌, int_cmp_total, ints, kept_cmp, kept_row, line_cmp, line_row, lines_from, map, move_cmp, move_row, name_cmp, nat_cmp, order_cmp, order_lines, order_row, pos, refl, slice_cmp, tied_itself, true, ℕ}
 use Rattle.std.specs.Ordering.{int_cmp}
 use Rattle.book.specs.Rows.{IsInKeyOrder}
 use Rattle.book.proofs.Sums.{each-imp, each-map}
 use Rattle.book.proofs.Bounds.{inf_is, inf_unique, sup_is, sup_unique}
 use Rattle.book.proofs.Closing.{less_is, sounds_from_good}
 use Rattle.book.proofs.Lists.{each-unmap}
-use Rattle.book.proofs.Told.{each-join}
+use Rattle.book.proofs.Told.{after, each-join}
 
 pub pos_less : (a b : ℕ) → a < b → int_cmp (pos a) (pos b) ≡ Less
 pos_less a b h = grind (arith, ints)
@@ -55,6 +55,23 @@ unfolding IsStrictlySortedBy
 lines_sorted_from n nr [] os h s = s
 lines_sorted_from n nr (l ∷ ls) os h s = (each-join _ (lines_from n (nr + 1) ls) (flat_map order_lines os) (lines_after n nr (nr + 1) l ls (omega arith)) (later_orders n nr l os h), lines_sorted_from n (nr + 1) ls os h s)
 
+later_marks : (n : ℕ) (os : List Order) → Each (λ o. n < o.number) os → Each (λ row. firm_cmp (firm_row n) row ≡ Less) (flat_map firm_rows os)
+later_marks n [] h = tt
+later_marks n (o ∷ os) h = each-join _ (firm_rows o) (flat_map firm_rows os) (one o.firm) (later_marks n os h.1)
+  where
+    one : (b : Bool) → Each (λ row. firm_cmp (firm_row n) row ≡ Less) (if b then firm_row o.number ∷ [] else [])
+    one true = (pos_less n o.number h.0, tt)
+    one false = tt
+
+pub firms_sorted : (os : List Order) → IsStrictlySortedBy nat_cmp (map (λ o. o.number) os) → IsStrictlySortedBy firm_cmp (flat_map firm_rows os)
+unfolding IsStrictlySortedBy
+firms_sorted [] s = tt
+firms_sorted (o ∷ os) s = by o.firm (later_marks o.number os (after o os s.0)) (firms_sorted os s.1)
+  where
+    by : (b : Bool) → Each (λ row. firm_cmp (firm_row o.number) row ≡ Less) (flat_map firm_rows os) → IsStrictlySortedBy firm_cmp (flat_map firm_rows os) → IsStrictlySortedBy firm_cmp ((if b then firm_row o.number ∷ [] else []) ++ flat_map firm_rows os)
+    by true later more = (later, more)
+    by false later more = more
+
 pub lines_sorted : (os : List Order) → IsStrictlySortedBy nat_cmp (map (λ o. o.number) os) → IsStrictlySortedBy line_cmp (flat_map order_lines os)
 unfolding IsStrictlySortedBy
 lines_sorted [] s = tt
@@ -80,13 +97,13 @@ field_rows A (f ∷ fs) g = (record { branch = refl; article = refl; lo = refl; 
 
 -- the rows of a good ledger
 abbrev pub rows_of : Ledger → Content
-rows_of A = record { desk = desk_row A ∷ []; fields = map (field_row A) A.fields; moves = map move_row A.moves; orders = map order_row A.orders; lines = flat_map order_lines A.orders; kept = map kept_row A.kept }
+rows_of A = record { desk = desk_row A ∷ []; fields = map (field_row A) A.fields; moves = map move_row A.moves; orders = map order_row A.orders; lines = flat_map order_lines A.orders; kept = map kept_row A.kept; firms = flat_map firm_rows A.orders }
 
 pub rows_are : (A : Ledger) → Good A → IsRowsOf A (rows_of A)
-rows_are A g = record { desk = refl; fields = field_rows A A.fields g; moves = refl; orders = refl; lines = refl; kept = refl }
+rows_are A g = record { desk = refl; fields = field_rows A A.fields g; moves = refl; orders = refl; lines = refl; kept = refl; firms = refl }
 
 pub a_content : (A : Ledger) → Good A → (C : Content) × IsRowsOf A C
 a_content A g = (rows_of A, rows_are A g)
 
 pub rows_in_order : (A : Ledger) (C : Content) → Good A → IsRowsOf A C → IsInKeyOrder C
-rows_in_order A C g x = grind (arith, (moves_sorted A g), (orders_sorted A g), (lines_sorted A.orders g.orders_in_order), (kept_sorted A g), fields_sorted)
+rows_in_order A C g x = grind (arith, (moves_sorted A g), (orders_sorted A g), (lines_sorted A.orders g.orders_in_order), (kept_sorted A g), (firms_sorted A.orders g.orders_in_order), fields_sorted)

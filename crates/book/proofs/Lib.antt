@@ -34,6 +34,7 @@ pub mod Viewed
 pub mod Checked
 pub mod LineChecks
 pub mod Told
+pub mod Marks
 pub mod InOrder
 pub mod Indexes
 pub mod KeyPlaces

@@ -1,5 +1,5 @@
 -- Two good ledgers with equal rows are equal, and so is whatever the same rows tell.
-use Rattle.book.proofs.Prelude.{[], ◌++◌, ◌+◌, ◌<◌, ◌∙◌, ◌∷◌, ◌≡◌, AllZip, AreOthers, Content, Each, Field, FieldCells, Good, IsFieldRow, IsGoodKept, IsRowsOf, IsStrictlySortedBy, Kept, Kind, Ledger, Less, Line, LineCells, List, Move, Order, State, TellsField, ap, arith, desk_row, flat_map, ints, kept_row, line_row, lines_from, map, move_row, nat_cmp, order_lines, order_row, pos, refl, spelling_one, subst, sym, ℕ}
+use Rattle.book.proofs.Prelude.{[], ◌++◌, ◌+◌, ◌<◌, ◌∙◌, ◌∷◌, ◌≡◌, AllZip, AreOthers, Bool, Content, Each, Field, FieldCells, FirmCells, Good, IsFieldRow, IsGoodKept, IsRowsOf, IsStrictlySortedBy, Kept, Kind, Ledger, Less, Line, LineCells, List, Move, Order, State, TellsField, ap, arith, desk_row, false, firm_row, firm_rows, flat_map, if◌then◌else◌, ints, kept_row, line_row, lines_from, map, move_row, nat_cmp, order_lines, order_row, pos, refl, spelling_one, subst, sym, true, ℕ}
 use Rattle.book.specs.Told.{TellsLedger}
 use Rattle.book.specs.Rows.{kind_code, state_code}
 use Rattle.book.proofs.Sums.{each-imp}
@@ -79,15 +79,38 @@ pub others_after : (n : ℕ) (os : List Order) → Each (λ o. n < o.number) os 
 others_after n [] h = tt
 others_after n (o ∷ os) h = each-join _ (order_lines o) (flat_map order_lines os) (lines_number n o.number 1 o.lines h.0) (others_after n os h.1)
 
+-- none marks the order of that number
+abbrev pub MarkOthers : ℕ → List FirmCells → Type 0
+MarkOthers number rows = Each (λ row. row.number ≡ pos number → ⊥) rows
+
+-- whatever it is that has the numbers, and is firm or not
+pub later_marks : {X : Type 0} (number : X → ℕ) (firm : X → Bool) (n : ℕ) (xs : List X) → Each (λ x. n < number x) xs → MarkOthers n (flat_map (λ x. if firm x then firm_row (number x) ∷ [] else []) xs)
+later_marks number firm n [] h = tt
+later_marks number firm n (x ∷ xs) h = each-join _ (if firm x then firm_row (number x) ∷ [] else []) (flat_map (λ x. if firm x then firm_row (number x) ∷ [] else []) xs) (one (firm x) (number x) h.0) (later_marks number firm n xs h.1)
+  where
+    one : (b : Bool) (m : ℕ) → n < m → MarkOthers n (if b then firm_row m ∷ [] else [])
+    one true m less = ((λ e. omega (arith, ints)), tt)
+    one false m less = tt
+
+same_mark : (n : ℕ) (a b : Bool) (rest others : List FirmCells) → MarkOthers n rest → MarkOthers n others → (if a then firm_row n ∷ [] else []) ++ rest ≡ (if b then firm_row n ∷ [] else []) ++ others → (a ≡ b) × (rest ≡ others)
+same_mark n true true rest others p q e = (refl, same_rest _ _ _ _ e)
+same_mark n true false rest others p q e = absurd ((subst (MarkOthers n) (sym e) q).0 refl)
+same_mark n false true rest others p q e = absurd ((subst (MarkOthers n) e p).0 refl)
+same_mark n false false rest others p q e = (refl, e)
+
 pub after : (o : Order) (os : List Order) → Each (λ n. nat_cmp o.number n ≡ Less) (map (λ o. o.number) os) → Each (λ m. o.number < m.number) os
 after o os h = each-imp (λ m e. less_is o.number m.number e) os (each-unmap (λ n. nat_cmp o.number n ≡ Less) (λ o. o.number) os h)
 
-same_orders : (os ps : List Order) → IsStrictlySortedBy nat_cmp (map (λ o. o.number) os) → IsStrictlySortedBy nat_cmp (map (λ o. o.number) ps) → map order_row os ≡ map order_row ps → flat_map order_lines os ≡ flat_map order_lines ps → os ≡ ps
+marks_after : (o : Order) (os : List Order) → Each (λ m. o.number < m.number) os → MarkOthers o.number (flat_map firm_rows os)
+marks_after o os h = later_marks (λ (m : Order). m.number) (λ m. m.firm) o.number os h
+
+same_orders : (os ps : List Order) → IsStrictlySortedBy nat_cmp (map (λ o. o.number) os) → IsStrictlySortedBy nat_cmp (map (λ o. o.number) ps) → map order_row os ≡ map order_row ps → flat_map order_lines os ≡ flat_map order_lines ps
+    → flat_map firm_rows os ≡ flat_map firm_rows ps → os ≡ ps
 unfolding IsStrictlySortedBy
-same_orders [] [] h k e d = refl
-same_orders [] (p ∷ ps) h k e d = absurd (cc)
-same_orders (o ∷ os) [] h k e d = absurd (cc)
-same_orders (o ∷ os) (p ∷ ps) h k e d =
+same_orders [] [] h k e d m = refl
+same_orders [] (p ∷ ps) h k e d m = absurd (cc)
+same_orders (o ∷ os) [] h k e d m = absurd (cc)
+same_orders (o ∷ os) (p ∷ ps) h k e d m =
     let row = same_first (order_row o) (order_row p) (map order_row os) (map order_row ps) e in
     let n = same_pos o.number p.number (ap (λ r. r.number) row) in
     let ki = same_kind o.kind p.kind (ap (λ r. r.kind) row) in
@@ -96,8 +119,11 @@ same_orders (o ∷ os) (p ∷ ps) h k e d =
     let ls = same_lines o.number 1 o.lines p.lines (flat_map order_lines os) (flat_map order_lines ps) (others_after o.number os (after o os h.0))
     (subst (λ n. AreOthers n (flat_map order_lines ps)) (sym n) (others_after p.number ps (after p ps k.0)))
     (d ∙ ap (λ n. lines_from n 1 p.lines ++ flat_map order_lines ps) (sym n)) in
-    let more = same_orders os ps h.1 k.1 (same_rest (order_row o) (order_row p) (map order_row os) (map order_row ps) e) ls.1 in
-    λ i. record { number = n i; kind = ki i; until = u i; state = s i; lines = ls.0 i } ∷ more i
+    let marked = same_mark o.number o.firm p.firm (flat_map firm_rows os) (flat_map firm_rows ps) (marks_after o os (after o os h.0))
+    (subst (λ n. MarkOthers n (flat_map firm_rows ps)) (sym n) (marks_after p ps (after p ps k.0)))
+    (m ∙ ap (λ n. (if p.firm then firm_row n ∷ [] else []) ++ flat_map firm_rows ps) (sym n)) in
+    let more = same_orders os ps h.1 k.1 (same_rest (order_row o) (order_row p) (map order_row os) (map order_row ps) e) ls.1 marked.1 in
+    λ i. record { number = n i; kind = ki i; until = u i; state = s i; firm = marked.0 i; lines = ls.0 i } ∷ more i
 
 same_kept : (k j : Kept) → IsGoodKept k → IsGoodKept j → kept_row k ≡ kept_row j → k ≡ j
 same_kept k j g h e = grind (arith, (same_pos k.place j.place (ap (λ r. r.place) e)), (spelling_one k.command j.command g.command h.command (ap (λ r. r.words) e)))
@@ -113,7 +139,7 @@ same_numbers (o ∷ os) [] e = absurd (cc)
 same_numbers (o ∷ os) (p ∷ ps) e = let more = same_numbers os ps (same_rest (order_row o) (order_row p) (map order_row os) (map order_row ps) e) in grind arith
 
 pub rows_tell : (A : Ledger) (C : Content) → IsRowsOf A C → TellsLedger A C
-rows_tell A C r = record { desk = r.desk; fields = fields_tell A A.fields C.fields r.fields; moves = r.moves; orders = r.orders; lines = r.lines; kept = r.kept }
+rows_tell A C r = record { desk = r.desk; fields = fields_tell A A.fields C.fields r.fields; moves = r.moves; orders = r.orders; lines = r.lines; kept = r.kept; firms = r.firms }
 
 -- a good ledger, and another of the same rows whose kept keys are in form
 pub told_once : (A B : Ledger) (C : Content) → Good A → Each IsGoodKept B.kept → TellsLedger A C → TellsLedger B C → A ≡ B
@@ -122,7 +148,7 @@ told_once A B C g h r s =
     let t = same_pos A.clock B.clock (ap (λ d. d.clock) (same_first (desk_row A) (desk_row B) [] [] (sym r.desk ∙ s.desk))) in
     let f = same_fields A.fields B.fields C.fields r.fields s.fields in
     let m = map_tells (λ _. Unit {0}) move_row (λ a b _ _ e. same_move a b e) A.moves B.moves (any A.moves) (any B.moves) (sym r.moves ∙ s.moves) in
-    let o = same_orders A.orders B.orders g.orders_in_order (subst (IsStrictlySortedBy nat_cmp) (same_numbers A.orders B.orders rows) g.orders_in_order) rows (sym r.lines ∙ s.lines) in
+    let o = same_orders A.orders B.orders g.orders_in_order (subst (IsStrictlySortedBy nat_cmp) (same_numbers A.orders B.orders rows) g.orders_in_order) rows (sym r.lines ∙ s.lines) (sym r.firms ∙ s.firms) in
     let k = map_tells IsGoodKept kept_row same_kept A.kept B.kept g.kept h (sym r.kept ∙ s.kept) in
     λ i. record { clock = t i; fields = f i; moves = m i; orders = o i; kept = k i }
 

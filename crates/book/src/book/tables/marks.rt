@@ -1,8 +1,7 @@
 //! The marks of firm orders, from their rows.
 
-ghost use Rattle.std.specs.Prelude.{◌≡◌, ◌↔◌, false, flat_map, map, IsTrue, List};
+ghost use Rattle.std.specs.Prelude.{◌≡◌, ◌↔◌, false, flat_map, map, slice_get, IsTrue, List};
 ghost use Rattle.std.specs.List.{AllByRecursion as Each};
-ghost use Rattle.std.specs.Option.{option_copied};
 ghost use Rattle.std.specs.List.Sorted.{IsStrictlySortedBy};
 ghost use Rattle.std.specs.Ordering.{nat_cmp};
 ghost use Rattle.book.specs.Tables.{firm_cells};
@@ -13,11 +12,11 @@ use super::group::Head;
 use crate::rows::FirmRow;
 use escrow::OrderNo;
 
-/// Whether the row marks the order of that number.
-fn is_of(row: Option<&FirmRow>, number: OrderNo) -> bool
-    ensures { IsTrue result ↔ Marks (option_copied row) number }
+/// Whether there is a row at that place, and it marks the order of that number.
+fn is_of(rows: &[FirmRow], place: usize, number: OrderNo) -> bool
+    ensures { IsTrue result ↔ Marks (slice_get rows.now place) number }
 {
-    match row {
+    match rows.get(place) {
         Some(row) => row.number == number.get() as i64,
         None => false,
     }
@@ -32,7 +31,7 @@ pub(super) fn mark(heads: &mut [Head], rows: &[FirmRow]) -> bool
 {
     let mut next = 0;
     for head in heads.iter_mut() {
-        let is_named = is_of(rows.get(next), head.number);
+        let is_named = is_of(rows, next, head.number);
         head.firm = is_named;
         if is_named {
             next += 1;
