@@ -30,6 +30,7 @@ range-prop (command.Use n b a q) = hlevel props
 range-prop (command.Release n b a q) = hlevel props
 range-prop (command.Commit n) = hlevel props
 range-prop (command.Abort n) = hlevel props
+range-prop (command.Firm n) = hlevel props
 range-prop (command.Expire now) = hlevel props
 
 -- they spell one
