@@ -1,5 +1,5 @@
 -- The fields that a request makes or changes, put in one after the other by their names.
-use Rattle.book.proofs.Prelude.{[], ◌++◌, ◌+◌, ◌<◌, ◌==◌, ◌||◌, ◌∙◌, ◌∷◌, ◌≡◌, Accepts, Bool, Command, Contains, Each, Equal, Field, FieldCells, FieldEntry, FirstFailure, Greater, HasEntry, IsChangedField, IsGoodOrder, IsSome, IsStrictlySortedBy, Ledger, Less, Line, List, Name, None, OnOk, Option, Order, Ordering, Puts, Request, Result, Some, accept, ap, arith, changes_field, checks, common_steps, cond, entry_row, false, field_named, find, flat_map, get_or, if◌then◌else◌, insert_entry, ints, is_at, is_eq, is_some, keys_of, length, line_name, lookup, map, match_ordering, name_cmp, next, on, order_after, order_number, ordering_reverse, refl, same_name, subst, sym, take, tied_itself, true, true≢false, ℕ}
+use Rattle.book.proofs.Prelude.{[], ◌++◌, ◌+◌, ◌<◌, ◌==◌, ◌||◌, ◌∙◌, ◌∷◌, ◌≡◌, Accepts, Bool, Command, Contains, Each, Equal, Field, FieldCells, FieldEntry, FirstFailure, Greater, HasEntry, IsChangedField, IsGoodLine, IsGoodOrder, IsSome, IsStrictlySortedBy, Ledger, Less, Line, List, Name, None, OnOk, Option, Order, Ordering, Puts, Request, Result, Some, accept, ap, arith, changes_field, checks, common_steps, cond, entry_row, false, field_named, find, flat_map, get_or, if◌then◌else◌, insert_entry, ints, is_at, is_eq, is_some, keys_of, length, line_name, lookup, map, match_ordering, name_cmp, next, on, order_after, order_number, ordering_reverse, refl, same_name, subst, sym, take, tied_itself, true, true≢false, ℕ}
 use Rattle.book.specs.Running.{IsOneOf}
 use Rattle.book.proofs.Asked.{same_self}
 use Rattle.book.proofs.Bounds.{OneOn}
@@ -184,9 +184,13 @@ number_of_made A c o passed made = by (order_number c) refl
 pub made_good : (A : Ledger) (r : Request) (o : Order) → Accepts A r → order_after A r.command ≡ Some o → IsGoodOrder (accept A r) o
 made_good A r o a made = each-found (IsGoodOrder (accept A r)) (λ m. m.number == o.number) o (accept A r).orders a.after.orders (made_there A r.command o.number a.accepted.1 (number_of_made A r.command o a.accepted.1 made) ∙ made)
 
+-- it makes no field and changes no bounds
+pub made_keeps : (A : Ledger) (c : Command) (o : Order) → order_after A c ≡ Some o → (next A c).fields ≡ A.fields
+made_keeps x c o made = grind arith
+
 -- the field of one of its lines is there
 pub line_there : (A : Ledger) (r : Request) (o : Order) (l : Line) → Accepts A r → order_after A r.command ≡ Some o → find (on (line_name l)) o.lines ≡ Some l → IsSome (field_named A (line_name l))
-line_there A r o l a made found = grind (arith, (made_good A r o a made), each-found, number_of_made)
+line_there A r o l a made found = subst (λ fs. IsSome (find (λ e. same_name (line_name l) e.name) fs)) (made_keeps A r.command o made) (each-found (IsGoodLine (accept A r)) (on (line_name l)) l o.lines (made_good A r o a made).lines found).field
 
 -- one line more
 pub lines_step : (A : Ledger) (r : Request) (lines ls : List Line) (i : ℕ) (x : Line) (C D : List (Name × FieldEntry)) → lines ≡ ls → i < length ls → x ≡ get_or ls i x → Each (IsChangedField A r) C

@@ -1,8 +1,8 @@
 -- What the comparisons of a program say of the checks of a command.
-use Rattle.book.proofs.Prelude.{[], ◌++◌, ◌↔◌, ◌∙◌, ◌∷◌, ◌≡◌, ◌≢◌, ◌≤◌, ◌<ℤ◌, ◌+ℤ◌, ◌-ℤ◌, Add, Bool, BreaksBound, Check, Command, Deliver, FallsBelow, Field, FieldCells, FieldEntry, FirstFailure, Good, IsFalse, IsNone, IsSome, IsSomeAnd, IsTrue, IsUpToDate, Ledger, List, MAX_ORDER_LINES, More, Name, None, OpenLine, Option, Order, Refusal, RisesAbove, Some, Take, Way, Writeoff, ap, arith, bound, checks, false, field_named, field_of, full, held_to_add, held_to_take, inl, inr, is_open, is_some, is_transfer, length, line_on, name_of, next, no_field, order_numbered, pos, refl, settled, stock_checks, subst, sym, true, true≢false, ℕ}
+use Rattle.book.proofs.Prelude.{[], ◌++◌, ◌↔◌, ◌∙◌, ◌∷◌, ◌≡◌, ◌≢◌, ◌≤◌, ◌<ℤ◌, ◌+ℤ◌, ◌-ℤ◌, Add, Bool, BreaksBound, Check, Command, Deliver, FallsBelow, Field, FieldCells, FieldEntry, FirstFailure, Good, IsFalse, IsNone, IsSome, IsSomeAnd, IsTrue, IsUpToDate, Ledger, List, MAX_ORDER_LINES, More, Name, None, OpenLine, Option, Order, Refusal, RisesAbove, Some, Take, Way, Writeoff, ap, arith, bound, checks, false, field_named, field_of, full, held_to_add, held_to_take, inl, inr, is_open, is_some, is_transfer, length, line_on, loose_checks, name_of, next, no_field, order_numbered, pos, refl, settled, stock_checks, subst, sym, true, true≢false, ℕ}
 use Rattle.words.specs.declared.reply.Refusal.TheVariants.{Full, OtherWay, TooManyLines, TransferFixed}
 use Rattle.book.specs.After.{moved_at_once}
-use Rattle.book.specs.Answers.{OfLine, OfOrder, check, open_checks}
+use Rattle.book.specs.Answers.{OfLine, OfOrder, check}
 use Rattle.book.specs.Checking.{bound_checks, hold_checks}
 use Rattle.book.proofs.Asked.{delivery_test, write_off_test}
 use Rattle.book.proofs.Chosen.{some_is}
@@ -77,12 +77,12 @@ of_bound A n w f q = bound w (next A (More n w f.branch f.article q)) f 0 ∷ []
 
 -- The check of the bound decides.
 pub more_decides : (A : Ledger) (n : ℕ) (w : Way) (f : Name) (q : ℕ) (o : Order) (e : Field) (fault found : Option (Refusal × ℕ)) → Good A
-    → ((full A 1).fails → ⊥) → FirstFailure (open_checks A n) None → order_numbered A n ≡ Some o → IsTrue (is_open o) → IsFalse (is_transfer o) → field_named A f ≡ Some e
+    → ((full A 1).fails → ⊥) → FirstFailure (loose_checks A n) None → order_numbered A n ≡ Some o → IsTrue (is_open o) → IsFalse o.firm → IsFalse (is_transfer o) → field_named A f ≡ Some e
     → FirstFailure (hold_checks o w f) fault → is_some fault ≡ false → FirstFailure (bound_checks w A f q 0) found → FirstFailure (checks A (More n w f.branch f.article q)) found
-more_decides A n w f q o e fault found good room ordered numbered opened plain there held none bounded =
+more_decides A n w f q o e fault found good room ordered numbered opened loose plain there held none bounded =
     inr (
       room,
-      go_on (open_checks A n) (check (OfOrder A n (λ o. IsTrue (is_transfer o))) TransferFixed ∷ no_field A f 0 ∷ of_line A n w f ++ of_bound A n w f q) None found ordered refl
+      go_on (loose_checks A n) (check (OfOrder A n (λ o. IsTrue (is_transfer o))) TransferFixed ∷ no_field A f 0 ∷ of_line A n w f ++ of_bound A n w f q) None found ordered refl
           (inr (no_transfer, inr (field, go_on (of_line A n w f) (of_bound A n w f q) fault found holds none more))),
     )
   where

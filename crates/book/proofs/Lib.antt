@@ -13,6 +13,7 @@ pub mod Lists
 pub mod Staying
 pub mod Goodness
 pub mod Transfers
+pub mod Firm
 pub mod Runs
 pub mod Compared
 pub mod Tests

@@ -52,7 +52,7 @@ pub in_order : (A : Ledger) → Good A → Each (λ f. (pos f.lo ≤ℤ (settled
 in_order A g = each-both (λ f r x. one f r x) A.fields (room_from_safe A (sounds_from_good A g) g.safe) g.fields
   where
     one : (f : Field) → HasRoom A f → IsGoodField f → (pos f.lo ≤ℤ (settled A f -ℤ held_to_take A f.name)) × ((settled A f -ℤ held_to_take A f.name) ≤ℤ settled A f) × (settled A f ≤ℤ (settled A f +ℤ held_to_add A f.name)) × ((settled A f +ℤ held_to_add A f.name) ≤ℤ pos f.hi) × (f.hi ≤ 1000000000)
-    one f r x = grind (arith, ints, (total-not_negative (λ o. if is_open o then total (takes f.name) o.lines else pos 0) (λ o. least_if (is_open o) (total (takes f.name) o.lines) (takes-not_negative f.name o.lines)) A.orders), (total-not_negative (λ o. if is_open o then total (adds f.name) o.lines else pos 0) (λ o. least_if (is_open o) (total (adds f.name) o.lines) (adds-not_negative f.name o.lines)) A.orders), adds, adds-not_negative, least_if, takes, takes-not_negative)
+    one f r x = grind (arith, ints, (total-not_negative (λ o. if is_open o then total (takes o.firm f.name) o.lines else pos 0) (λ o. least_if (is_open o) (total (takes o.firm f.name) o.lines) (takes-not_negative o.firm f.name o.lines)) A.orders), (total-not_negative (λ o. if is_open o then total (adds o.firm f.name) o.lines else pos 0) (λ o. least_if (is_open o) (total (adds o.firm f.name) o.lines) (adds-not_negative o.firm f.name o.lines)) A.orders), adds, adds-not_negative, least_if, takes, takes-not_negative)
 
 -- the ledger of a new desk is good
 pub good_new : Good new_ledger

@@ -151,6 +151,9 @@ if_no_order A n = if_is (is_some (order_numbered A n)) false
 abbrev pub if_ended : (A : Ledger) (n : ℕ) → Tested (IsSomeAnd (order_numbered A n) (λ o. IsFalse (is_open o)))
 if_ended A n = if_order A n (λ o. IsFalse (is_open o)) (λ o. if_is (is_open o) false)
 
+abbrev pub if_firm : (A : Ledger) (n : ℕ) → Tested (IsSomeAnd (order_numbered A n) (λ o. IsTrue o.firm))
+if_firm A n = if_order A n (λ o. IsTrue o.firm) (λ o. if_is o.firm true)
+
 -- the order's line on the field has some fact
 abbrev pub if_line : (A : Ledger) (n : ℕ) (f : Name) (P : Line → Type 0) → ((l : Line) → Tested (P l)) → Tested (IsSomeAnd (order_numbered A n) (λ o. IsSomeAnd (line_on o f) P))
 if_line A n f P t = if_order A n (λ o. IsSomeAnd (line_on o f) P) (λ o. if_some_and P (line_on o f) t)
@@ -192,14 +195,17 @@ more_tested A n w f q = (
     (
       if_ended A n,
       (
-        if_order A n (λ o. IsTrue (is_transfer o)) (λ o. if_is (is_transfer o) true),
+        if_firm A n,
         (
-          if_is (is_some (field_named A f)) false,
+          if_order A n (λ o. IsTrue (is_transfer o)) (λ o. if_is (is_transfer o) true),
           (
-            if_line A n f (λ l. l.way ≢ w) (λ l. if_ways_differ l.way w),
+            if_is (is_some (field_named A f)) false,
             (
-              if_order A n (λ o. IsNone (line_on o f) × (MAX_ORDER_LINES ≤ length o.lines)) (λ o. if_both (if_is (is_some (line_on o f)) false) (if_upto MAX_ORDER_LINES (length o.lines))),
-              (if_bound w (next A (command.More n w f.branch f.article q)) f 0, tt),
+              if_line A n f (λ l. l.way ≢ w) (λ l. if_ways_differ l.way w),
+              (
+                if_order A n (λ o. IsNone (line_on o f) × (MAX_ORDER_LINES ≤ length o.lines)) (λ o. if_both (if_is (is_some (line_on o f)) false) (if_upto MAX_ORDER_LINES (length o.lines))),
+                (if_bound w (next A (command.More n w f.branch f.article q)) f 0, tt),
+              ),
             ),
           ),
         ),
@@ -228,5 +234,6 @@ tested A (command.More n w b a q) = more_tested A n w (record { branch = b; arti
 tested A (command.Use n b a q) = part_tested A n (record { branch = b; article = a }) q
 tested A (command.Release n b a q) = part_tested A n (record { branch = b; article = a }) q
 tested A (command.Commit n) = (if_no_order A n, (if_ended A n, tt))
-tested A (command.Abort n) = (if_no_order A n, (if_ended A n, tt))
+tested A (command.Abort n) = (if_no_order A n, (if_ended A n, (if_firm A n, tt)))
+tested A (command.Firm n) = (if_full A 1, (if_no_order A n, (if_ended A n, (if_firm A n, tt))))
 tested A (command.Expire now) = (if_full A 1, (if_less now A.clock, tt))

@@ -70,14 +70,17 @@ found A (command.More n way b a q) g = let f : Name = record { branch = b; artic
       (grind arith),
       λ p2. (
         (grind arith),
-        λ p3. (
+        λ loose. (
           (grind arith),
-          λ _. (
+          λ p3. (
             (grind arith),
-            λ p5. (
+            λ _. (
               (grind arith),
-              λ _.
-                  ((dec_bound way (next A (command.More n way b a q)) f 0 (more_sound l (takes_more f way (order_numbered A n) p1 p2 p3 p5))), λ _. tt),
+              λ p5. (
+                (grind arith),
+                λ _.
+                    ((dec_bound way (next A (command.More n way b a q)) f 0 (more_sound l (takes_more f way (order_numbered A n) p1 p2 loose p3 p5))), λ _. tt),
+              ),
             ),
           ),
         ),
@@ -87,11 +90,12 @@ found A (command.More n way b a q) g = let f : Name = record { branch = b; artic
 )
   where
     more_sound : (l : OpenLine) → IsSomeAnd (order_numbered A n) (MayHoldMore (line_name (new_line l)) l.way) → Each Sound (change_order n (add_hold l) A).orders
-    more_sound l t = sound-more A n l (sounds_from_good A g) (each-both (λ o s k e. ((k e).0, raised l o s (k e))) A.orders (sounds_from_good A g) (at_number (MayHoldMore (line_name (new_line l)) l.way) n A.orders g.orders_in_order t))
+    more_sound l t = sound-more A n l (sounds_from_good A g) (each-both (λ o s k e. ((k e).0, (k e).1, raised l o s (k e))) A.orders (sounds_from_good A g) (at_number (MayHoldMore (line_name (new_line l)) l.way) n A.orders g.orders_in_order t))
 found A (command.Use n b a q) g = grind arith
 found A (command.Release n b a q) g = grind arith
 found A (command.Commit n) g = ((grind arith), λ _. ((grind arith), λ _. tt))
-found A (command.Abort n) g = ((grind arith), λ _. ((grind arith), λ _. tt))
+found A (command.Abort n) g = ((grind arith), λ _. ((grind arith), λ _. ((grind arith), λ _. tt)))
+found A (command.Firm n) g = ((dec_less _ _), λ _. ((grind arith), λ _. ((grind arith), λ _. ((grind arith), λ _. tt))))
 found A (command.Expire now) g = ((dec_less _ _), λ _. ((dec_less _ _), λ _. tt))
 
 pub answered_if_good : (A : Ledger) (r : Request) → Good A → (reply : Reply) × (B : Ledger) × Answers A r reply B

@@ -7,9 +7,10 @@ use Rattle.escrow.specs.declared.quantity.Way.{Way}
 use Rattle.escrow.specs.declared.quantity.Way.TheVariants.{Take, Add}
 use Rattle.words.specs.declared.open_line.OpenLine.{OpenLine}
 use Rattle.words.specs.declared.command.Command.{Command}
-use Rattle.words.specs.declared.command.Command.TheVariants.{Abort, Commit, Deliver, Expire, Field, More, Open, Rebound, Release, Transfer, Use}
+use Rattle.words.specs.declared.command.Command.TheVariants.{Abort, Commit, Deliver, Expire, Field, Firm, More, Open, Rebound, Release, Transfer, Use}
 use Rattle.words.specs.declared.command.Request.{Request}
-use Rattle.words.specs.declared.reply.Refusal.TheVariants.{KeyReused, NoField, BadBounds, Ended, Past, SameField, OtherWay, TooLittle, TooMuch, NotHeld, OverUse, TransferFixed, ClockBack}
+use Rattle.words.specs.declared.reply.Refusal.TheVariants as refusal
+use Rattle.words.specs.declared.reply.Refusal.TheVariants.{KeyReused, NoOrder, NoField, BadBounds, Ended, Past, SameField, OtherWay, TooLittle, TooMuch, NotHeld, OverUse, TransferFixed, ClockBack}
 use Rattle.words.specs.declared.reply.Reply.{Reply}
 use Rattle.words.specs.declared.reply.Reply.TheVariants.{Done, Refused}
 use Rattle.book.specs.Ledger.{Ledger, field_named, name_of}
@@ -145,4 +146,35 @@ other_bounds = step "B1" (Field N1 A1 0 100 40) (Done 1) []
     ∷ step "B6" (Rebound N1 B9 0 1) (Refused NoField 0) []
     ∷ step "B7" (Rebound N1 A1 5 40) (Done 3) (numbers N1 A1 40 5 40 ∷ [])
     ∷ step "B8" (Deliver N1 A1 1) (Refused TooMuch 0) []
+    ∷ []
+
+-- What a firm order has used is settled at once; it is neither aborted nor expired.
+abbrev pub firm_order : List Step
+firm_order = step "H1" (Field N1 A1 0 50 40) (Done 1) []
+    ∷ step "H2" (Open 7 120 (line Take N1 A1 15 ∷ [])) (Done 2) (numbers N1 A1 40 25 40 ∷ [])
+    ∷ step "H3" (Use 7 N1 A1 10) (Done 3) (numbers N1 A1 40 25 40 ∷ [])
+    ∷ step "H4" (Deliver N1 A1 20) (Refused TooMuch 0) []
+    ∷ step "H5" (Firm 7) (Done 4) (numbers N1 A1 30 25 30 ∷ [])
+    ∷ step "H6" (Firm 7) (Refused refusal.Firm 0) []
+    ∷ step "H7" (Abort 7) (Refused refusal.Firm 0) []
+    ∷ step "H8" (More 7 Take N1 A1 1) (Refused refusal.Firm 0) []
+    ∷ step "H4" (Deliver N1 A1 20) (Done 5) (numbers N1 A1 50 45 50 ∷ [])
+    ∷ step "H9" (Expire 120) (Done 6) (numbers N1 A1 50 45 50 ∷ [])
+    ∷ step "H10" (Use 7 N1 A1 2) (Done 7) (numbers N1 A1 48 45 48 ∷ [])
+    ∷ step "H11" (Commit 7) (Done 8) (numbers N1 A1 48 48 48 ∷ [])
+    ∷ step "H12" (Firm 7) (Refused Ended 0) []
+    ∷ step "H13" (Firm 8) (Refused NoOrder 0) []
+    ∷ []
+
+-- A transfer that is made firm, used, not expired, and commits: the article's total stays.
+abbrev pub firm_transfer : List Step
+firm_transfer = step "T1" (Field N1 A1 0 100 40) (Done 1) []
+    ∷ step "T2" (Field N2 A1 0 50 5) (Done 2) (total A1 45 ∷ [])
+    ∷ step "T3" (Transfer 20 900 A1 N1 N2 10) (Done 3) (numbers N1 A1 40 30 40 ∷ numbers N2 A1 5 5 15 ∷ [])
+    ∷ step "T4" (Use 20 N2 A1 4) (Done 4) (numbers N1 A1 40 30 40 ∷ numbers N2 A1 5 5 15 ∷ [])
+    ∷ step "T5" (Firm 20) (Done 5) (numbers N1 A1 36 30 36 ∷ numbers N2 A1 9 9 15 ∷ total A1 45 ∷ [])
+    ∷ step "T6" (Use 20 N1 A1 3) (Done 6) (numbers N1 A1 33 30 33 ∷ numbers N2 A1 12 12 15 ∷ total A1 45 ∷ [])
+    ∷ step "T7" (Expire 900) (Done 7) (numbers N1 A1 33 30 33 ∷ numbers N2 A1 12 12 15 ∷ total A1 45 ∷ [])
+    ∷ step "T8" (Release 20 N2 A1 1) (Done 8) (numbers N1 A1 33 31 33 ∷ numbers N2 A1 12 12 14 ∷ [])
+    ∷ step "T9" (Commit 20) (Done 9) (numbers N1 A1 33 33 33 ∷ numbers N2 A1 12 12 12 ∷ total A1 45 ∷ [])
     ∷ []

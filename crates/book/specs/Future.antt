@@ -1,13 +1,14 @@
 -- What may still come to the open orders, and that they can all be honoured. Every beginning of a future is a future, so
 -- what is said of its end is said of each step.
-use Rattle.std.specs.Prelude.{ℕ, ◌+◌, List, IsTrue, IsNone}
+use Rattle.std.specs.Prelude.{ℕ, ◌+◌, ◌≡◌, ◌≢◌, List, IsTrue, IsNone}
 use Rattle.std.specs.List.{AllByRecursion as Each}
 use Rattle.words.specs.declared.command.Command.{Command}
 use Rattle.words.specs.declared.command.Command.TheVariants.{Field, Deliver, Writeoff, Rebound, Open, Transfer, More, Use, Release, Commit, Abort, Firm, Expire}
 use Rattle.words.specs.declared.command.Request.{Request}
 use Rattle.words.specs.declared.reply.Reply.{Reply}
 use Rattle.words.specs.declared.reply.Reply.TheVariants.{Done}
-use Rattle.book.specs.Ledger.{Ledger, places, is_open, kept_under}
+use Rattle.book.specs.declared.order.State.TheVariants.{Aborted}
+use Rattle.book.specs.Ledger.{Ledger, Order, places, is_open, kept_under}
 use Rattle.book.specs.Outcomes.{settled, IsWithin}
 use Rattle.book.specs.Answers.{Answers, Runs}
 
@@ -26,6 +27,17 @@ AsksNoStock (Commit n) = Unit {0}
 AsksNoStock (Abort n) = Unit {0}
 AsksNoStock (Firm n) = Unit {0}
 AsksNoStock (Expire now) = Unit {0}
+
+-- the order is firm, and was not aborted
+abbrev pub StaysFirm : Order → Type 0
+StaysFirm o = IsTrue o.firm × (o.state ≢ Aborted)
+
+-- it settles what that order uses, if it does: a commit, a `firm`, or a use
+abbrev pub Settles : Command → ℕ → Type 0
+Settles (Commit m) n = m ≡ n
+Settles (Firm m) n = m ≡ n
+Settles (Use m b a q) n = m ≡ n
+Settles c n = ⊥
 
 -- only uses, releases, commits, aborts, `firm` and expiries
 abbrev pub IsFuture : List Request → Type 0

@@ -1,7 +1,7 @@
 //! The ledger in memory.
 
 ghost use Rattle.book.specs.After.{move_made, open_among};
-ghost use Rattle.book.specs.Future.{Honours, HonoursAlways};
+ghost use Rattle.book.specs.Future.{Honours, HonoursAlways, Settles};
 ghost use Rattle.book.specs.Good.{Good};
 ghost use Rattle.book.specs.Ledger.{new_ledger, field_named, kept_under, name_of, order_numbered, Ledger, is_transfer, open_state, places, insert_in_order, open_orders};
 ghost use Rattle.book.specs.Next.{accept, next};
@@ -15,7 +15,6 @@ ghost use Rattle.std.specs.Ordering.{nat_cmp, is_lt};
 ghost use Rattle.std.specs.Prelude.{◌≡◌, IfSome, MatchOption, find, OnErr, OnOk, ◌<◌, ◌≤◌, ◌+◌, None, ℕ, List, IsSomeAnd, IsTrue, if◌then◌else◌, length, map, option_map};
 ghost use Rattle.std.specs.Str.{bytes_eq};
 ghost use Rattle.std.specs.Vec.{vec_capacity, vec_len};
-ghost use Rattle.words.specs.declared.command.Command.TheVariants.{Commit};
 ghost use Rattle.words.specs.declared.command.Command.{Command};
 
 mod changed_rows;
@@ -238,14 +237,14 @@ impl Book {
     }
 
     /// Carries the plan out. Takes no memory, and always succeeds. The ledger stays good, and honours its open
-    /// orders; the commit of a transfer leaves the total of every article as it was.
+    /// orders; a commit of a transfer, a `firm` on it and a use leave the total of every article as it was.
     pub fn adopt(&mut self, plan: Plan)
         requires fits { Fits self.old.ledger plan }
         requires room { HasRoomFor self.old plan }
         ensures next { self.new.ledger ≡ accept self.old.ledger plan.request }
         ensures good { Good self.new.ledger }
         ensures honours { Honours self.new.ledger × HonoursAlways self.new.ledger }
-        ensures even { (n : ℕ) (article : List ℕ) → plan.request.command ≡ Commit n → IsSomeAnd (order_numbered self.old.ledger n) (λ o. IsTrue (is_transfer o)) → article_total self.new.ledger article ≡ article_total self.old.ledger article }
+        ensures even { (n : ℕ) (article : List ℕ) → Settles plan.request.command n → IsSomeAnd (order_numbered self.old.ledger n) (λ o. IsTrue (is_transfer o)) → article_total self.new.ledger article ≡ article_total self.old.ledger article }
     {
         let parts = plan.into_parts();
         let (key, place, words) = (parts.key, parts.place, parts.words);

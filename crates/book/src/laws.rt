@@ -2,8 +2,8 @@
 
 ghost use Rattle.book.specs.Answers.{After, Answers, IsAccepted, Runs, bound, same_command};
 ghost use Rattle.book.specs.Changes.{changed_rows, put_content};
-ghost use Rattle.book.specs.Examples.{Plays, long_script, other_bounds, release_and_abort, tight_bounds, transfer};
-ghost use Rattle.book.specs.Future.{Honours, HonoursAlways};
+ghost use Rattle.book.specs.Examples.{Plays, firm_order, firm_transfer, long_script, other_bounds, release_and_abort, tight_bounds, transfer};
+ghost use Rattle.book.specs.Future.{Honours, HonoursAlways, Settles, StaysFirm};
 ghost use Rattle.book.specs.Good.{Good};
 ghost use Rattle.book.specs.Held.{MayHoldMore, BreaksBound, held_to_add, held_to_take};
 ghost use Rattle.book.specs.Ledger.{Field, Ledger, Name, is_transfer, line_name, line_on, order_numbered, places, same_name, new_ledger};
@@ -16,7 +16,7 @@ ghost use Rattle.escrow.specs.declared.quantity.Way.TheVariants.{Add, Take};
 ghost use Rattle.std.specs.List.{AllByRecursion as Each, IsDistinct};
 ghost use Rattle.std.specs.Prelude.{◌≡◌, ◌+◌, ◌↔◌, ◌∷◌, ◌++◌, [], ◌+ℤ◌, ◌-ℤ◌, ℕ, List, IsNone, IsSomeAnd, IsTrue, map};
 ghost use Rattle.words.specs.Spelling.{IsInRange};
-ghost use Rattle.words.specs.declared.command.Command.TheVariants.{Commit, Deliver, More, Writeoff};
+ghost use Rattle.words.specs.declared.command.Command.TheVariants.{Deliver, More, Writeoff};
 ghost use Rattle.words.specs.declared.command.Command.{Command};
 ghost use Rattle.words.specs.declared.command.Request.{Request};
 ghost use Rattle.words.specs.declared.open_line.OpenLine.{OpenLine};
@@ -67,17 +67,22 @@ pub fn tests_are_comparisons()
         → (bound l.way (with_order (new_order n kind until (before ++ l ∷ [])) A) (line_name (new_line l)) i).fails ↔ BreaksBound l.way A (line_name (new_line l)) l.qty }
 {}
 
-/// Whatever uses, releases, commits, aborts and expiries come to a good ledger, every field stays within its
+/// Whatever uses, releases, commits, aborts, `firm` and expiries come to a good ledger, every field stays within its
 /// bounds and no open order is refused its commit.
 pub fn good_ledgers_honour()
     ensures answered { (A : Ledger) → Good A → Honours A }
     ensures always { (A : Ledger) → Good A → HonoursAlways A }
 {}
 
-/// The commit of a transfer leaves the total of every article as it was.
+/// The commit of a transfer, a `firm` on it and a use leave the total of every article as it was.
 pub fn transfers_even_out()
-    ensures { (A : Ledger) (r : Request) (n : ℕ) (reply : Reply) (B : Ledger) (article : List ℕ) → Good A → r.command ≡ Commit n → Answers A r reply B
+    ensures { (A : Ledger) (r : Request) (n : ℕ) (reply : Reply) (B : Ledger) (article : List ℕ) → Good A → Settles r.command n → Answers A r reply B
         → IsSomeAnd (order_numbered A n) (λ o. IsTrue (is_transfer o)) → article_total B article ≡ article_total A article }
+{}
+
+/// An order that is firm is firm after any run, and is not aborted: it leaves the open ones by its commit alone.
+pub fn firm_orders_stay()
+    ensures { (A : Ledger) (rs : List Request) (replies : List Reply) (B : Ledger) (n : ℕ) → Good A → Runs A rs replies B → IsSomeAnd (order_numbered A n) (λ o. IsTrue o.firm) → IsSomeAnd (order_numbered B n) StaysFirm }
 {}
 
 /// Commands in range are the same exactly where their spellings are.
@@ -110,4 +115,6 @@ pub fn worked_examples_hold()
     ensures transfer { Plays new_ledger transfer }
     ensures release_and_abort { Plays new_ledger release_and_abort }
     ensures other_bounds { Plays new_ledger other_bounds }
+    ensures firm_order { Plays new_ledger firm_order }
+    ensures firm_transfer { Plays new_ledger firm_transfer }
 {}

@@ -4,14 +4,14 @@ use Rattle.words.specs.OpenLines.{way_word}
 use Rattle.words.specs.Replies.{reply_text}
 use Rattle.words.specs.Words.{after_space}
 use Rattle.words.specs.declared.reply.Reply.{Reply}
-use Rattle.book.specs.Ledger.{Field, Ledger, Order, field_named, order_numbered, name_of}
+use Rattle.book.specs.Ledger.{Field, Ledger, Order, field_named, order_numbered, name_of, shown_state}
 use Rattle.book.specs.Views.{ShowsField}
 use Rattle.book.specs.declared.book.views.FieldView.{FieldView}
 use Rattle.book.specs.declared.order.Kind.{Kind}
 use Rattle.book.specs.declared.order.Kind.TheVariants.{Plain, Transfer}
 use Rattle.book.specs.declared.order.Line.{Line}
-use Rattle.book.specs.declared.order.State.{State}
-use Rattle.book.specs.declared.order.State.TheVariants.{Aborted, Committed, Open}
+use Rattle.book.specs.declared.order.Standing.{Standing}
+use Rattle.book.specs.declared.order.Standing.TheVariants.{Aborted, Committed, Firm, Open}
 
 -- a line that is bad
 abbrev pub bad_line : List ℕ
@@ -49,8 +49,9 @@ abbrev pub kind_word : Kind → List ℕ
 kind_word Plain = codes "plain"
 kind_word Transfer = codes "transfer"
 
-abbrev pub state_word : State → List ℕ
+abbrev pub state_word : Standing → List ℕ
 state_word Open = codes "open"
+state_word Firm = codes "firm"
 state_word Committed = codes "committed"
 state_word Aborted = codes "aborted"
 
@@ -59,9 +60,13 @@ abbrev pub held_words : List Line → List (List ℕ)
 held_words [] = []
 held_words (l ∷ ls) = way_word l.way ∷ l.branch ∷ l.article ∷ decimal l.held ∷ decimal l.used ∷ held_words ls
 
+-- the line of an order of which this is shown
+abbrev pub shown_line : ℕ → Kind → ℕ → Standing → List Line → List ℕ
+shown_line number kind until state lines = codes "? order"
+    ++ (after_space (decimal number ∷ kind_word kind ∷ decimal until ∷ state_word state ∷ held_words lines) ++ codes "\n")
+
 abbrev pub order_line : Order → List ℕ
-order_line o = codes "? order"
-    ++ (after_space (decimal o.number ∷ kind_word o.kind ∷ decimal o.until ∷ state_word o.state ∷ held_words o.lines) ++ codes "\n")
+order_line o = shown_line o.number o.kind o.until (shown_state o.state o.firm) o.lines
 
 -- the answer to an ask for an order
 abbrev pub AnswersOrderAsk : Ledger → ℕ → List ℕ → Type 0

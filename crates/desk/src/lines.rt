@@ -4,10 +4,10 @@ ghost use Rattle.std.specs.Prelude.{◌≡◌, ◌++◌, ◌∷◌, [], IfOk, On
 ghost use Rattle.words.specs.Words.{after_space};
 ghost use Rattle.book.specs.View.{order_of};
 ghost use Rattle.book.specs.Ledger.{Order};
-ghost use Rattle.desk.specs.Replies.{field_line, held_words, kind_word, number_words, order_line, state_word};
+ghost use Rattle.desk.specs.Replies.{field_line, held_words, kind_word, number_words, shown_line, state_word};
 ghost use Rattle.words.specs.OpenLines.{way_word};
 
-use book::{FieldView, Kind, Line, OrderView, State};
+use book::{FieldView, Kind, Line, OrderView, Standing};
 use escrow::{Level, Way};
 use itoa::Buffer;
 use std::alloc::Global;
@@ -82,13 +82,14 @@ fn kind_text(kind: Kind) -> &'static [u8]
     }
 }
 
-fn state_text(state: State) -> &'static [u8]
+fn state_text(state: Standing) -> &'static [u8]
     ensures { result.now ≡ state_word state }
 {
     match state {
-        State::Open => b"open",
-        State::Committed => b"committed",
-        State::Aborted => b"aborted",
+        Standing::Open => b"open",
+        Standing::Firm => b"firm",
+        Standing::Committed => b"committed",
+        Standing::Aborted => b"aborted",
     }
 }
 
@@ -124,7 +125,7 @@ fn push_lines(out: &mut Vec<u8>, lines: &[Line]) -> Result<(), Memory>
 
 /// The line of an order.
 pub fn order_text(alloc: Global, view: &OrderView) -> Result<Vec<u8>, Memory>
-    ensures { IfOk result (λ out. out.items ≡ order_line (record { number = view.now.number; kind = view.now.kind; until = view.now.until; state = view.now.state; lines = view.now.lines.now })) }
+    ensures { IfOk result (λ out. out.items ≡ shown_line view.now.number view.now.kind view.now.until view.now.state view.now.lines.now) }
 {
     let mut out = text(alloc, b"? order")?;
     push_number(&mut out, view.number.get())?;

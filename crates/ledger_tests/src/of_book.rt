@@ -4,7 +4,7 @@ mod steps;
 mod tables;
 
 use crate::scripts::{book_after, request};
-use book::{Book, FieldView, Kind, OrderView, Planned, State};
+use book::{Book, FieldView, Kind, OrderView, Planned, Standing};
 use escrow::{Article, Branch, OrderNo, Way};
 use std::alloc::Global;
 use std::process::Abort;
@@ -81,7 +81,7 @@ fn shows_an_order(book: &Book) -> bool {
     match order(book, 9) {
         Some(order) => {
             order.kind == Kind::Plain
-                && order.state == State::Aborted
+                && order.state == Standing::Aborted
                 && order.until.get() == 50
                 && is_shown(&order)
         }

@@ -15,6 +15,7 @@ pub(crate) enum Row {
     Order([i64; 4]),
     Line(&'static str, &'static str, [i64; 5]),
     Kept(&'static str, &'static str, i64),
+    Firm(i64),
 }
 
 /// A key, a command, and the rows that it changes.
@@ -53,6 +54,7 @@ fn is_row(change: &Change, row: &Row) -> bool {
         }
         (Change::Line(is), Row::Line(branch, article, want)) => is_line(is, branch, article, want),
         (Change::Kept(is), Row::Kept(key, words, place)) => is_kept(is, key, words, *place),
+        (Change::Firm(is), Row::Firm(number)) => is.number == *number,
         _ => false,
     }
 }

@@ -1,26 +1,28 @@
 -- The object of an order that is shown.
-use Rattle.std.proofs.Common.{◌≡◌, ◌∙◌, false, List, [], ◌∷◌, ap, map, refl}
+use Rattle.std.proofs.Common.{◌≡◌, ◌∙◌, ℕ, false, List, [], ◌∷◌, ap, map, refl}
 use Rattle.serde_json.specs.Data.{Data}
 use Rattle.serde_json.specs.View.{items_of}
 use Rattle.serde_json.specs.Written.{compact_text, has_float, items_have_float}
 use Rattle.book.specs.Ledger.{Order}
 use Rattle.book.specs.Views.{ShowsOrder}
 use Rattle.book.specs.declared.book.views.OrderView.{OrderView}
+use Rattle.book.specs.declared.order.Kind.{Kind}
 use Rattle.book.specs.declared.order.Line.{Line}
-use Rattle.web.specs.Objects.{line_object, order_object, order_shown}
+use Rattle.book.specs.declared.order.Standing.{Standing}
+use Rattle.web.specs.Objects.{line_object, order_object, shown_object, view_object}
 
 lines_have_no_float : (lines : List Line) → items_have_float (items_of (map line_object lines)) ≡ false
 lines_have_no_float [] = refl
 lines_have_no_float (l ∷ ls) = lines_have_no_float ls
 
-order_has_no_float : (o : Order) → has_float (order_object o) ≡ false
-order_has_no_float o = rw (lines_have_no_float o.lines)
+shown_has_no_float_in : (number : ℕ) (kind : Kind) (until : ℕ) (state : Standing) (lines : List Line) → has_float (shown_object number kind until state lines) ≡ false
+shown_has_no_float_in number kind until state lines = rw (lines_have_no_float lines)
 
-shown_one : (o : Order) (view : OrderView) → ShowsOrder o view → order_shown view ≡ o
-shown_one o view h = λ i. record { number = h.number i; kind = h.kind i; until = h.until i; state = h.state i; lines = h.lines i }
+shown_one : (o : Order) (view : OrderView) → ShowsOrder o view → view_object view ≡ order_object o
+shown_one o view h = λ i. shown_object (h.number i) (h.kind i) (h.until i) (h.state i) (h.lines i)
 
-pub shown_has_no_float : (view : OrderView) (value : Data) → value ≡ order_object (order_shown view) → has_float value ≡ false
-shown_has_no_float view value e = ap has_float e ∙ order_has_no_float (order_shown view)
+pub shown_has_no_float : (view : OrderView) (value : Data) → value ≡ view_object view → has_float value ≡ false
+shown_has_no_float view value e = ap has_float e ∙ shown_has_no_float_in view.number view.kind view.until view.state view.lines.now
 
-pub shown_text : (o : Order) (view : OrderView) (value : Data) → value ≡ order_object (order_shown view) → ShowsOrder o view → compact_text value ≡ compact_text (order_object o)
-shown_text o view value e h = ap compact_text (e ∙ ap order_object (shown_one o view h))
+pub shown_text : (o : Order) (view : OrderView) (value : Data) → value ≡ view_object view → ShowsOrder o view → compact_text value ≡ compact_text (order_object o)
+shown_text o view value e h = ap compact_text (e ∙ shown_one o view h)

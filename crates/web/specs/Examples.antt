@@ -1,5 +1,5 @@
 -- Worked examples: answers as bytes.
-use Rattle.std.specs.Prelude.{◌≡◌, ℕ, List, [], ◌∷◌, ◌++◌, codes}
+use Rattle.std.specs.Prelude.{◌≡◌, ℕ, false, true, List, [], ◌∷◌, ◌++◌, codes}
 use Rattle.escrow.specs.declared.quantity.Way.{Way}
 use Rattle.escrow.specs.declared.quantity.Way.TheVariants.{Add, Take}
 use Rattle.words.specs.declared.reply.Refusal.TheVariants.{TooLittle}
@@ -28,18 +28,22 @@ abbrev pub taken : Line
 taken = record { way = Take; branch = codes "N1"; article = codes "A-1"; held = 35; used = 0 }
 
 abbrev pub opened : Order
-opened = record { number = 7; kind = Plain; until = 120; state = Open; lines = taken ∷ [] }
+opened = record { number = 7; kind = Plain; until = 120; state = Open; firm = false; lines = taken ∷ [] }
+
+-- the same order, used in part and firm
+abbrev pub promised : Order
+promised = record { number = 7; kind = Plain; until = 120; state = Open; firm = true; lines = record { way = Take; branch = codes "N1"; article = codes "A-1"; held = 15; used = 10 } ∷ [] }
 
 -- a transfer that has ended
 abbrev pub moved : Order
-moved = record { number = 8; kind = Transfer; until = 60; state = Committed; lines = line Take (codes "N1") ∷ line Add (codes "N2") ∷ [] }
+moved = record { number = 8; kind = Transfer; until = 60; state = Committed; firm = false; lines = line Take (codes "N1") ∷ line Add (codes "N2") ∷ [] }
   where
     line : Way → List ℕ → Line
     line way branch = record { way = way; branch = branch; article = codes "A-1"; held = 5; used = 5 }
 
 -- an order with no line
 abbrev pub bare : Order
-bare = record { number = 9; kind = Plain; until = 0; state = Aborted; lines = [] }
+bare = record { number = 9; kind = Plain; until = 0; state = Aborted; firm = false; lines = [] }
 
 pub record WorkedAnswers : Type 0 where
   pub none : IsBytes none_answer (codes "HTTP/1.1 404 Not Found") (codes "16") (codes "{\"error\":\"none\"}")
@@ -53,6 +57,8 @@ pub record WorkedAnswers : Type 0 where
       (codes "{\"article\":\"A-1\",\"branch\":\"N1\",\"hi\":100,\"inf\":40,\"lo\":0,\"sup\":40,\"value\":40}")
   pub order : IsBytes (json_answer 200 (order_object opened)) (codes "HTTP/1.1 200 OK") (codes "128")
       (codes "{\"kind\":\"plain\",\"lines\":[{\"article\":\"A-1\",\"branch\":\"N1\",\"held\":35,\"used\":0,\"way\":\"take\"}],\"number\":7,\"state\":\"open\",\"until\":120}")
+  pub promised : IsBytes (json_answer 200 (order_object promised)) (codes "HTTP/1.1 200 OK") (codes "129")
+      (codes "{\"kind\":\"plain\",\"lines\":[{\"article\":\"A-1\",\"branch\":\"N1\",\"held\":15,\"used\":10,\"way\":\"take\"}],\"number\":7,\"state\":\"firm\",\"until\":120}")
   pub moved : IsBytes (json_answer 200 (order_object moved)) (codes "HTTP/1.1 200 OK") (codes "196")
       (codes "{\"kind\":\"transfer\",\"lines\":[{\"article\":\"A-1\",\"branch\":\"N1\",\"held\":5,\"used\":5,\"way\":\"take\"},{\"article\":\"A-1\",\"branch\":\"N2\",\"held\":5,\"used\":5,\"way\":\"add\"}],\"number\":8,\"state\":\"committed\",\"until\":60}")
   pub bare : IsBytes (json_answer 200 (order_object bare)) (codes "HTTP/1.1 200 OK") (codes "66")

@@ -5,10 +5,12 @@ use Rattle.serde_json.specs.View.{items_of}
 use Rattle.words.specs.OpenLines.{way_word}
 use Rattle.words.specs.Replies.{refusal_code, refusal_name}
 use Rattle.words.specs.declared.reply.Refusal.{Refusal}
-use Rattle.book.specs.Ledger.{Order}
+use Rattle.book.specs.Ledger.{Order, shown_state}
 use Rattle.book.specs.declared.book.views.FieldView.{FieldView}
 use Rattle.book.specs.declared.book.views.OrderView.{OrderView}
+use Rattle.book.specs.declared.order.Kind.{Kind}
 use Rattle.book.specs.declared.order.Line.{Line}
+use Rattle.book.specs.declared.order.Standing.{Standing}
 use Rattle.desk.specs.Replies.{kind_word, state_word}
 
 -- a name and its value
@@ -57,10 +59,13 @@ abbrev pub line_objects : List Line → Data
 line_objects lines = array (items_of (map line_object lines))
 
 -- {"kind":"KIND","lines":[LINE,..],"number":N,"state":"STATE","until":UNTIL}
-abbrev pub order_object : Order → Data
-order_object o = object_of ((codes "kind", string (kind_word o.kind)) ∷ (codes "lines", line_objects o.lines) ∷ (codes "number", natural o.number)
-    ∷ (codes "state", string (state_word o.state)) ∷ (codes "until", natural o.until) ∷ [])
+abbrev pub shown_object : ℕ → Kind → ℕ → Standing → List Line → Data
+shown_object number kind until state lines = object_of ((codes "kind", string (kind_word kind)) ∷ (codes "lines", line_objects lines) ∷ (codes "number", natural number)
+    ∷ (codes "state", string (state_word state)) ∷ (codes "until", natural until) ∷ [])
 
--- the order that the view shows
-abbrev pub order_shown : OrderView → Order
-order_shown v = record { number = v.number; kind = v.kind; until = v.until; state = v.state; lines = v.lines.now }
+abbrev pub order_object : Order → Data
+order_object o = shown_object o.number o.kind o.until (shown_state o.state o.firm) o.lines
+
+-- what the view shows
+abbrev pub view_object : OrderView → Data
+view_object v = shown_object v.number v.kind v.until v.state v.lines.now

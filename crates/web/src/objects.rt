@@ -5,7 +5,7 @@ ghost use Rattle.serde_json.specs.View.{view as data_of};
 ghost use Rattle.serde_json.specs.Written.{compact_text};
 ghost use Rattle.book.specs.Ledger.{Order};
 ghost use Rattle.book.specs.Views.{ShowsOrder};
-ghost use Rattle.web.specs.Objects.{field_object, line_object, line_objects, order_object, order_shown, place_object, refused_object};
+ghost use Rattle.web.specs.Objects.{field_object, line_object, line_objects, order_object, view_object, place_object, refused_object};
 
 use crate::word::{article_text, branch_text, kind_text, state_text, way_text};
 use book::{FieldView, Line, OrderView};
@@ -89,7 +89,7 @@ fn line_values(alloc: Global, lines: &[Line]) -> Result<Value, AllocError>
 
 /// The object of the order that is shown.
 fn order_value(alloc: Global, view: &OrderView) -> Result<Value, AllocError>
-    ensures { IfOk result (λ value. data_of value ≡ order_object (order_shown view.now)) }
+    ensures { IfOk result (λ value. data_of value ≡ view_object view.now) }
 {
     let lines = line_values(alloc, view.lines)?;
     json!(in alloc; {

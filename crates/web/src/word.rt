@@ -5,7 +5,7 @@ ghost use Rattle.std.specs.Str.{IsAscii};
 ghost use Rattle.words.specs.OpenLines.{way_word};
 ghost use Rattle.desk.specs.Replies.{kind_word, state_word};
 
-use book::{Kind, State};
+use book::{Kind, Standing};
 use escrow::{Article, Branch, Way};
 use std::str;
 
@@ -41,13 +41,14 @@ pub fn kind_text(kind: Kind) -> &'static str
     }
 }
 
-pub fn state_text(state: State) -> &'static str
+pub fn state_text(state: Standing) -> &'static str
     ensures { result.now ≡ state_word state }
 {
     match state {
-        State::Open => "open",
-        State::Committed => "committed",
-        State::Aborted => "aborted",
+        Standing::Open => "open",
+        Standing::Firm => "firm",
+        Standing::Committed => "committed",
+        Standing::Aborted => "aborted",
     }
 }
 

@@ -2,13 +2,14 @@
 
 use super::{field_at, numbers};
 use book::{
-    Book, DeskRow, FieldRow, KeptRow, LineRow, MoveRow, OrderRow, Rows, Tables, TablesFault,
+    Book, DeskRow, FieldRow, FirmRow, KeptRow, LineRow, MoveRow, OrderRow, Rows, Tables,
+    TablesFault,
 };
 use std::alloc::Global;
 use std::test::Fail;
 
-/// The row of `desk` by its first two columns, and the numbers of the fields, moves, orders, lines and kept commands, as their rows
-/// come. The number of a line is ten times that of its order, and its own.
+/// The row of `desk` by its first two columns, and the numbers of the fields, moves, orders, lines, kept commands and firm orders, as
+/// their rows come. The number of a line is ten times that of its order, and its own.
 type Numbers = (
     i64,
     i64,
@@ -17,36 +18,232 @@ type Numbers = (
     &'static [i64],
     &'static [i64],
     &'static [i64],
+    &'static [i64],
 );
 
-/// Two fields, moves, orders and kept commands, and three lines.
+/// Two fields, moves, orders and kept commands, three lines, and the second order firm.
 fn good() -> &'static Numbers {
     &GOOD
 }
 
-static GOOD: Numbers = (1, 1, &[1, 2], &[1, 2], &[1, 2], &[11, 12, 21], &[1, 2]);
+static GOOD: Numbers = (
+    1,
+    2,
+    &[1, 2],
+    &[1, 2],
+    &[1, 2],
+    &[11, 12, 21],
+    &[1, 2],
+    &[2],
+);
 
-/// Another `desk`; rows out of the order of their keys, and keys that come twice.
+/// Another `desk`; rows out of the order of their keys, and keys that come twice; firm orders that were aborted, that are not there, and that
+/// come twice.
 fn damaged() -> &'static [Numbers] {
     &DAMAGED
 }
 
-static DAMAGED: [Numbers; 15] = [
-    (0, 1, &[1, 2], &[1, 2], &[1, 2], &[11, 12, 21], &[1, 2]),
-    (2, 1, &[1, 2], &[1, 2], &[1, 2], &[11, 12, 21], &[1, 2]),
-    (1, 0, &[1, 2], &[1, 2], &[1, 2], &[11, 12, 21], &[1, 2]),
-    (1, 2, &[1, 2], &[1, 2], &[1, 2], &[11, 12, 21], &[1, 2]),
-    (1, 1, &[2, 1], &[1, 2], &[1, 2], &[11, 12, 21], &[1, 2]),
-    (1, 1, &[1, 2, 2], &[1, 2], &[1, 2], &[11, 12, 21], &[1, 2]),
-    (1, 1, &[1, 2], &[2, 1], &[1, 2], &[11, 12, 21], &[1, 2]),
-    (1, 1, &[1, 2], &[2, 2], &[1, 2], &[11, 12, 21], &[1, 2]),
-    (1, 1, &[1, 2], &[1, 2], &[2, 1], &[11, 12, 21], &[1, 2]),
-    (1, 1, &[1, 2], &[1, 2], &[1, 2, 2], &[11, 12, 21], &[1, 2]),
-    (1, 1, &[1, 2], &[1, 2], &[1, 2], &[12, 11, 21], &[1, 2]),
-    (1, 1, &[1, 2], &[1, 2], &[1, 2], &[11, 21, 12], &[1, 2]),
-    (1, 1, &[1, 2], &[1, 2], &[1, 2], &[11, 12, 12, 21], &[1, 2]),
-    (1, 1, &[1, 2], &[1, 2], &[1, 2], &[11, 12, 21], &[2, 1]),
-    (1, 1, &[1, 2], &[1, 2], &[1, 2], &[11, 12, 21], &[2, 2]),
+static DAMAGED: [Numbers; 20] = [
+    (
+        0,
+        2,
+        &[1, 2],
+        &[1, 2],
+        &[1, 2],
+        &[11, 12, 21],
+        &[1, 2],
+        &[2],
+    ),
+    (
+        2,
+        2,
+        &[1, 2],
+        &[1, 2],
+        &[1, 2],
+        &[11, 12, 21],
+        &[1, 2],
+        &[2],
+    ),
+    (
+        1,
+        0,
+        &[1, 2],
+        &[1, 2],
+        &[1, 2],
+        &[11, 12, 21],
+        &[1, 2],
+        &[2],
+    ),
+    (
+        1,
+        3,
+        &[1, 2],
+        &[1, 2],
+        &[1, 2],
+        &[11, 12, 21],
+        &[1, 2],
+        &[2],
+    ),
+    (
+        1,
+        2,
+        &[2, 1],
+        &[1, 2],
+        &[1, 2],
+        &[11, 12, 21],
+        &[1, 2],
+        &[2],
+    ),
+    (
+        1,
+        2,
+        &[1, 2, 2],
+        &[1, 2],
+        &[1, 2],
+        &[11, 12, 21],
+        &[1, 2],
+        &[2],
+    ),
+    (
+        1,
+        2,
+        &[1, 2],
+        &[2, 1],
+        &[1, 2],
+        &[11, 12, 21],
+        &[1, 2],
+        &[2],
+    ),
+    (
+        1,
+        2,
+        &[1, 2],
+        &[2, 2],
+        &[1, 2],
+        &[11, 12, 21],
+        &[1, 2],
+        &[2],
+    ),
+    (
+        1,
+        2,
+        &[1, 2],
+        &[1, 2],
+        &[2, 1],
+        &[11, 12, 21],
+        &[1, 2],
+        &[2],
+    ),
+    (
+        1,
+        2,
+        &[1, 2],
+        &[1, 2],
+        &[1, 2, 2],
+        &[11, 12, 21],
+        &[1, 2],
+        &[2],
+    ),
+    (
+        1,
+        2,
+        &[1, 2],
+        &[1, 2],
+        &[1, 2],
+        &[12, 11, 21],
+        &[1, 2],
+        &[2],
+    ),
+    (
+        1,
+        2,
+        &[1, 2],
+        &[1, 2],
+        &[1, 2],
+        &[11, 21, 12],
+        &[1, 2],
+        &[2],
+    ),
+    (
+        1,
+        2,
+        &[1, 2],
+        &[1, 2],
+        &[1, 2],
+        &[11, 12, 12, 21],
+        &[1, 2],
+        &[2],
+    ),
+    (
+        1,
+        2,
+        &[1, 2],
+        &[1, 2],
+        &[1, 2],
+        &[11, 12, 21],
+        &[2, 1],
+        &[2],
+    ),
+    (
+        1,
+        2,
+        &[1, 2],
+        &[1, 2],
+        &[1, 2],
+        &[11, 12, 21],
+        &[2, 2],
+        &[2],
+    ),
+    (
+        1,
+        2,
+        &[1, 2],
+        &[1, 2],
+        &[1, 2],
+        &[11, 12, 21],
+        &[1, 2],
+        &[1],
+    ),
+    (
+        1,
+        2,
+        &[1, 2],
+        &[1, 2],
+        &[1, 2],
+        &[11, 12, 21],
+        &[1, 2],
+        &[1, 2],
+    ),
+    (
+        1,
+        2,
+        &[1, 2],
+        &[1, 2],
+        &[1, 2],
+        &[11, 12, 21],
+        &[1, 2],
+        &[2, 3],
+    ),
+    (
+        1,
+        2,
+        &[1, 2],
+        &[1, 2],
+        &[1, 2],
+        &[11, 12, 21],
+        &[1, 2],
+        &[2, 2],
+    ),
+    (
+        1,
+        2,
+        &[1, 2],
+        &[1, 2],
+        &[1, 2],
+        &[11, 12, 21],
+        &[1, 2],
+        &[0],
+    ),
 ];
 
 fn name(alloc: Global, number: i64) -> Result<String, Fail> {
@@ -93,7 +290,7 @@ fn moves(alloc: Global, places: &[i64]) -> Result<Vec<MoveRow>, Fail> {
     Ok(rows)
 }
 
-/// Orders that are aborted.
+/// Orders of which the first is aborted, and the others are committed.
 fn orders(alloc: Global, numbers: &[i64]) -> Result<Vec<OrderRow>, Fail> {
     let mut rows = Vec::new(alloc);
     for number in numbers {
@@ -101,7 +298,7 @@ fn orders(alloc: Global, numbers: &[i64]) -> Result<Vec<OrderRow>, Fail> {
             number: *number,
             kind: 0,
             until: 0,
-            state: 2,
+            state: if *number == 1 { 2 } else { 1 },
         })?;
     }
     Ok(rows)
@@ -124,6 +321,14 @@ fn lines(alloc: Global, numbers: &[i64]) -> Result<Vec<LineRow>, Fail> {
     Ok(rows)
 }
 
+fn firms(alloc: Global, numbers: &[i64]) -> Result<Vec<FirmRow>, Fail> {
+    let mut rows = Vec::new(alloc);
+    for number in numbers {
+        rows.push(FirmRow { number: *number })?;
+    }
+    Ok(rows)
+}
+
 /// Two commands, at the places 1 and 2.
 fn kept(alloc: Global, numbers: &[i64]) -> Result<Vec<KeptRow>, Fail> {
     let mut rows = Vec::new(alloc);
@@ -140,7 +345,7 @@ fn kept(alloc: Global, numbers: &[i64]) -> Result<Vec<KeptRow>, Fail> {
 }
 
 fn tables_of(alloc: Global, numbers: &Numbers) -> Result<Tables, Fail> {
-    let (one, version, of_fields, of_moves, of_orders, of_lines, of_kept) = *numbers;
+    let (one, version, of_fields, of_moves, of_orders, of_lines, of_kept, of_firms) = *numbers;
     Ok(Tables {
         desk: DeskRow {
             one,
@@ -153,6 +358,7 @@ fn tables_of(alloc: Global, numbers: &Numbers) -> Result<Tables, Fail> {
         orders: Rows::new(orders(alloc, of_orders)?),
         lines: Rows::new(lines(alloc, of_lines)?),
         kept: Rows::new(kept(alloc, of_kept)?),
+        firms: Rows::new(firms(alloc, of_firms)?),
     })
 }
 

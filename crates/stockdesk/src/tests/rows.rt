@@ -227,6 +227,92 @@ B8 refused 14 TooMuch 0
 ",
 );
 
+/// What a firm order has used is settled at once; it is neither aborted nor expired.
+const FIRM: (&str, &str) = (
+    "H1 field N1 A-1 0 50 40
+H2 open 7 120 take N1 A-1 15
+? field N1 A-1
+H3 use 7 N1 A-1 10
+H4 deliver N1 A-1 20
+H5 firm 7
+? field N1 A-1
+H6 firm 7
+H7 abort 7
+H8 more 7 take N1 A-1 1
+H4 deliver N1 A-1 20
+? field N1 A-1
+H9 expire 120
+? order 7
+H10 use 7 N1 A-1 2
+? field N1 A-1
+H11 commit 7
+? field N1 A-1
+? order 7
+H12 firm 7
+H13 firm 8
+",
+    "H1 done 1
+H2 done 2
+? field N1 A-1 lo 0 hi 50 value 40 inf 25 sup 40
+H3 done 3
+H4 refused 14 TooMuch 0
+H5 done 4
+? field N1 A-1 lo 0 hi 50 value 30 inf 25 sup 30
+H6 refused 19 Firm 0
+H7 refused 19 Firm 0
+H8 refused 19 Firm 0
+H4 done 5
+? field N1 A-1 lo 0 hi 50 value 50 inf 45 sup 50
+H9 done 6
+? order 7 plain 120 firm take N1 A-1 15 10
+H10 done 7
+? field N1 A-1 lo 0 hi 50 value 48 inf 45 sup 48
+H11 done 8
+? field N1 A-1 lo 0 hi 50 value 48 inf 48 sup 48
+? order 7 plain 120 committed take N1 A-1 15 12
+H12 refused 8 Ended 0
+H13 refused 7 NoOrder 0
+",
+);
+
+/// A transfer that is made firm, used, not expired, and commits.
+const FIRM_TRANSFER: (&str, &str) = (
+    "T1 field N1 A-1 0 100 40
+T2 field N2 A-1 0 50 5
+T3 transfer 20 900 A-1 N1 N2 10
+T4 use 20 N2 A-1 4
+T5 firm 20
+? field N1 A-1
+? field N2 A-1
+T6 use 20 N1 A-1 3
+T7 expire 900
+? order 20
+? field N1 A-1
+? field N2 A-1
+T8 more 20 take N1 A-1 1
+T9 commit 20
+? field N1 A-1
+? field N2 A-1
+",
+    "T1 done 1
+T2 done 2
+T3 done 3
+T4 done 4
+T5 done 5
+? field N1 A-1 lo 0 hi 100 value 36 inf 30 sup 36
+? field N2 A-1 lo 0 hi 50 value 9 inf 9 sup 15
+T6 done 6
+T7 done 7
+? order 20 transfer 900 firm take N1 A-1 10 7 add N2 A-1 10 7
+? field N1 A-1 lo 0 hi 100 value 33 inf 30 sup 33
+? field N2 A-1 lo 0 hi 50 value 12 inf 12 sup 15
+T8 refused 19 Firm 0
+T9 done 8
+? field N1 A-1 lo 0 hi 100 value 33 inf 33 sup 33
+? field N2 A-1 lo 0 hi 50 value 12 inf 12 sup 12
+",
+);
+
 /// Lines that are no request, and the greatest quantity.
 pub const SPELLING: &str =
     "\nK1  commit 7\nK1 deliver N1 A-1 05\nK1 deliver N1 A-1 0\nK1 deliver N1 A-1 1000001\nK1 deliver n1 A-1 5\nK1 deliver N1 -A 5\nK1 commit 7\r\nK1 deliver N1 A-1 1000000\n";
@@ -254,7 +340,7 @@ pub fn rows() -> &'static [(&'static str, &'static str)] {
     &ROWS
 }
 
-const ROWS: [(&str, &str); 10] = [
+const ROWS: [(&str, &str); 12] = [
     ("", ""),
     ("K1 field N1 A-1 0 100 40\n? field N1 A-1\n", FIRST),
     (LONG, LONG_REPLIES),
@@ -263,6 +349,8 @@ const ROWS: [(&str, &str); 10] = [
     MOVES,
     TIGHT,
     BOUNDS,
+    FIRM,
+    FIRM_TRANSFER,
     UNENDED,
     (SPELLING, SPELLING_REPLIES),
 ];

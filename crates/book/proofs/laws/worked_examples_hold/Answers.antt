@@ -1,5 +1,5 @@
 use Rattle.std.specs.Fmt.{digits}
-use Rattle.book.specs.Examples.{long_script, other_bounds, release_and_abort, tight_bounds, transfer}
+use Rattle.book.specs.Examples.{firm_order, firm_transfer, long_script, other_bounds, release_and_abort, tight_bounds, transfer}
 use Rattle.book.proofs.Prelude.{new_ledger, refl}
 use Rattle.book.proofs.Played.{plays}
 use Rattle.book.proofs.laws.worked_examples_hold.Goals as goal
@@ -20,3 +20,10 @@ returns-clause-release_and_abort c = plays release_and_abort new_ledger refl
 pub returns-clause-other_bounds : goal.returns-clause-other_bounds
 unfolding digits
 returns-clause-other_bounds c = plays other_bounds new_ledger refl
+
+pub returns-clause-firm_order : goal.returns-clause-firm_order
+unfolding digits
+returns-clause-firm_order c = plays firm_order new_ledger refl
+
+pub returns-clause-firm_transfer : goal.returns-clause-firm_transfer
+returns-clause-firm_transfer c = plays firm_transfer new_ledger refl

@@ -15,6 +15,7 @@ returns c = record {
   refused = refl;
   field = refl;
   order = refl;
+  promised = refl;
   moved = refl;
   bare = refl;
   text = refl;

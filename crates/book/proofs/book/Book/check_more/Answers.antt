@@ -4,5 +4,5 @@ use Rattle.book.proofs.book.Book.check_more.Goals as goal
 
 pub returns : goal.returns
 returns c = more_decides c.args.self.now.ledger c.args.number c.args.way (name_of c.args.branch c.args.article) c.args.qty (order_of (c.args.number, c.in-Ok.order.now)) (field_of (name_of c.args.branch c.args.article, c.in-Some.field.now)) c.check_hold-fault.result c.check_bound.result
-    c.in-Some.ensures.good (no c.is_full.ensures c.if-is_full.false) c.in-Ok.ensures.found c.in-Ok.ensures.order c.in-Ok.ensures.open (grind arith)
+    c.in-Some.ensures.good (no c.is_full.ensures c.if-is_full.false) c.in-Ok.ensures.found c.in-Ok.ensures.order c.in-Ok.ensures.open c.in-Ok.ensures.loose (grind arith)
     c.in-Some.ensures.found c.check_hold-fault.ensures (sym c.is_some.ensures ∙ c.if-is_some.false) (c.check_bound.ensures c.args.self.now.ledger c.in-Some.ensures.good c.in-Some.ensures.up_to_date c.in-Some.ensures.found)
