@@ -1,7 +1,7 @@
 -- The rows that an accepted command names, put into the ledger's rows, give the rows of the next ledger.
 use Rattle.book.proofs.Prelude.{[], ◌&&◌, ◌++◌, ◌+◌, ◌==◌, ◌||◌, ◌∙◌, ◌∷◌, ◌≡◌, Aborted, AllZip, Bool, Command, Committed, Content, DeskCells, Each, Equal, Field, FieldCells, FirstFailure, Good, IsFalse, IsFieldRow, IsInRange, IsKey, IsNone, IsRowsOf, IsSomeAnd, IsStrictlySortedBy, IsTotalOrder, Kept, Ledger, Line, LineCells, List, Move, Name, None, OpenLine, Order, OrderCells, Ordering, Plain, Request, State, Transfer, Way, accept, add_hold, ap, arith, bytes_decides, bytes_eq, change_lines, changed_rows, changes_field, changes_line, changes_move, changes_order, checks, committed_state, desk_row, expires, false, field_cmp, filter, flat_map, has_line_on, held_to_add, held_to_take, hold_more, if_add, if_take, if◌then◌else◌, inl, inr, insert_in_order, int_cmp_total, int_eq, ints, is_committed, is_eq, is_lt, is_open, is_some, is_transfer, kept_cmp, kept_row, kept_under, line_cmp, line_name, line_on, line_row, lines_from, list_any, lower_held, map, move_cmp, move_row, moved, name_cmp, name_of, nat_cmp, nat_list_cmp_total, nat_lt, neg_ℤ, new_line, new_order, on, on_total, open_state, order_cmp, order_is, order_lines, order_numbered, order_row, places, pos, put_content, put_rows, raise_held, raise_used, refl, same_name, set_state, settled, signed, slice_cmp, subst, sym, then_total, tied_itself, total, transfer_lines, true, true≢false, with_order, ℕ, ℤ}
 use Rattle.words.specs.declared.command.Command.TheVariants as command
-use Rattle.book.specs.Rows.{desk_cmp}
+use Rattle.book.specs.Rows.{FirmCells, desk_cmp, firm_cmp}
 use Rattle.book.proofs.Sums.{each, each-imp, each-both, each-map, total-kept}
 use Rattle.book.proofs.Bounds.{takes, adds, none-total, inf_is, sup_is, inf_unique, sup_unique}
 use Rattle.book.proofs.Closing.{all_pass, at_number, name_is, sounds_from_good, changed}
@@ -335,6 +335,9 @@ two_tables cmp o chosen xs ys us vs e d s f = (λ i. put_rows cmp (filter chosen
 desk_put : (a b : DeskCells) (us vs : List DeskCells) → a.one ≡ pos 1 → b.one ≡ pos 1 → us ≡ a ∷ [] → vs ≡ b ∷ [] → put_rows desk_cmp vs us ≡ vs
 desk_put a b us vs p q e d = cc
 
+no_firms : (us vs : List FirmCells) → us ≡ [] → vs ≡ [] → put_rows firm_cmp vs us ≡ vs
+no_firms us vs e d = cc
+
 pub changes_suffice : (A : Ledger) (r : Request) (C D : Content) → Good A → IsKey r.key → IsInRange r.command → kept_under A r.key ≡ None → FirstFailure (checks A r.command) None
     → IsRowsOf A C → IsRowsOf (accept A r) D → put_content (changed_rows A r D) C ≡ D
 changes_suffice A r C D g key range none h x y =
@@ -348,4 +351,5 @@ changes_suffice A r C D g key range none h x y =
     (lines_follow A r.key r.command (λ n l e. plain_there A n l.way l.branch l.article l.qty g (subst (λ c. FirstFailure (checks A c) None) e h))) in
     let kept = two_tables kept_cmp kept_cmp_total (λ row. bytes_eq row.reqkey r.key) (map kept_row A.kept) (map kept_row B.kept) C.kept D.kept x.kept y.kept (kept_sorted B k)
     (follows-insert kept_cmp kept_cmp_total (λ row. bytes_eq row.reqkey r.key) kept_row (λ a b. is_lt (slice_cmp nat_cmp a.key b.key)) (record { key = r.key; place = places A + 1; command = r.command }) A.kept ((bytes_decides r.key r.key).1 refl)) in
-    λ i. record { desk = desk i; fields = fields i; moves = moves i; orders = orders i; lines = lines i; kept = kept i }
+    let firms : put_rows firm_cmp D.firms C.firms ≡ D.firms = no_firms C.firms D.firms x.firms y.firms in
+    λ i. record { desk = desk i; fields = fields i; moves = moves i; orders = orders i; lines = lines i; kept = kept i; firms = firms i }

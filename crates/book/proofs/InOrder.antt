@@ -1,7 +1,7 @@
 -- A good ledger has one content, and its rows stand in the order of their keys.
 use Rattle.book.proofs.Prelude.{[], ◌++◌, ◌+◌, ◌<◌, ◌∷◌, ◌≡◌, AllZip, Content, Each, Field, FieldCells, Good, IsFieldRow, IsRowsOf, IsStrictlySortedBy, Ledger, Less, Line, List, Order, Ordering, arith, desk_row, field_cmp, field_row, flat_map, int_cmp_total, ints, kept_cmp, kept_row, line_cmp, line_row, lines_from, map, move_cmp, move_row, name_cmp, nat_cmp, order_cmp, order_lines, order_row, pos, refl, slice_cmp, tied_itself, ℕ}
 use Rattle.std.specs.Ordering.{int_cmp}
-use Rattle.book.specs.Rows.{IsInKeyOrder}
+use Rattle.book.specs.Rows.{IsInKeyOrder, firm_cmp}
 use Rattle.book.proofs.Sums.{each-imp, each-map}
 use Rattle.book.proofs.Bounds.{inf_is, inf_unique, sup_is, sup_unique}
 use Rattle.book.proofs.Closing.{less_is, sounds_from_good}
@@ -80,13 +80,17 @@ field_rows A (f ∷ fs) g = (record { branch = refl; article = refl; lo = refl; 
 
 -- the rows of a good ledger
 abbrev pub rows_of : Ledger → Content
-rows_of A = record { desk = desk_row A ∷ []; fields = map (field_row A) A.fields; moves = map move_row A.moves; orders = map order_row A.orders; lines = flat_map order_lines A.orders; kept = map kept_row A.kept }
+rows_of A = record { desk = desk_row A ∷ []; fields = map (field_row A) A.fields; moves = map move_row A.moves; orders = map order_row A.orders; lines = flat_map order_lines A.orders; kept = map kept_row A.kept; firms = [] }
 
 pub rows_are : (A : Ledger) → Good A → IsRowsOf A (rows_of A)
-rows_are A g = record { desk = refl; fields = field_rows A A.fields g; moves = refl; orders = refl; lines = refl; kept = refl }
+rows_are A g = record { desk = refl; fields = field_rows A A.fields g; moves = refl; orders = refl; lines = refl; kept = refl; firms = refl }
 
 pub a_content : (A : Ledger) → Good A → (C : Content) × IsRowsOf A C
 a_content A g = (rows_of A, rows_are A g)
 
+firms_sorted : IsStrictlySortedBy firm_cmp []
+unfolding IsStrictlySortedBy
+firms_sorted = tt
+
 pub rows_in_order : (A : Ledger) (C : Content) → Good A → IsRowsOf A C → IsInKeyOrder C
-rows_in_order A C g x = grind (arith, (moves_sorted A g), (orders_sorted A g), (lines_sorted A.orders g.orders_in_order), (kept_sorted A g), fields_sorted)
+rows_in_order A C g x = grind (arith, (moves_sorted A g), (orders_sorted A g), (lines_sorted A.orders g.orders_in_order), (kept_sorted A g), firms_sorted, fields_sorted)

@@ -1,19 +1,18 @@
 -- The rows of the next ledger that an accepted request changes, table by table.
 use Rattle.std.proofs.lemmas.Bool.Decides.{Decides-int_eq}
-use Rattle.book.proofs.Prelude.{[], ◌&&◌, ◌++◌, ◌+◌, ◌==◌, ◌||◌, ◌∙◌, ◌∷◌, ◌≡◌, ◌≤◌, Aborted, BookView, Bool, ChangesTo, Command, Content, DeskCells, Each, Field, FieldCells, FirstFailure, Good, IfSome, Inside, IsAccepted, IsInRange, IsKey, IsRowsOf, IsStrictlySortedBy, Ledger, Line, LineCells, List, MAX_PLACES, Move, MoveEntry, Name, None, Option, Order, OrderCells, Request, Some, Way, aborted_rows, accept, ap, append-nil, arith, bytes_decides, bytes_eq, change_lines, changed_orders, changed_rows, changes_field, changes_line, changes_move, changes_order, changes_state, checks, desk_row, entry_row, expired_numbers, expires, false, field_named, field_row, field_rows, filter, find, flat_map, if◌then◌else◌, int_eq, is_lt, is_some, is_transfer, kept_of, kept_row, ledger_of, length, line_name, line_row, line_rows, lines_from, list_any, lower_held, map, move_of, move_row, name_cmp, name_of, nat_cmp, next, of_numbered, option_map, option_map_or, order_after, order_is, order_lines, order_number, order_numbered, order_of, order_row, places, pos, put_content, raise_used, refl, same_name, set_state, signed, slice_cmp, subst, sym, transfer_kind, true, true≢false, view_of, with_fields, with_kept, with_lines, with_moves, with_orders, ℕ}
+use Rattle.book.proofs.Prelude.{[], ◌&&◌, ◌++◌, ◌+◌, ◌==◌, ◌||◌, ◌∙◌, ◌∷◌, ◌≡◌, ◌≤◌, Aborted, BookView, Bool, ChangesTo, Command, Content, DeskCells, Each, FieldCells, FirstFailure, Good, IfSome, Inside, IsAccepted, IsInRange, IsKey, IsRowsOf, IsStrictlySortedBy, Ledger, Line, LineCells, List, MAX_PLACES, Move, MoveEntry, Name, None, Option, Order, OrderCells, Request, Some, Way, aborted_rows, accept, ap, append-nil, arith, bytes_decides, bytes_eq, change_lines, changed_orders, changed_rows, changes_field, changes_line, changes_move, changes_order, changes_state, checks, desk_row, entry_row, expired_numbers, expires, false, field_row, field_rows, filter, find, flat_map, if◌then◌else◌, int_eq, is_lt, is_some, is_transfer, kept_of, kept_row, ledger_of, length, line_name, line_row, line_rows, lines_from, list_any, lower_held, map, move_of, move_row, name_of, nat_cmp, next, of_numbered, option_map, option_map_or, order_after, order_is, order_lines, order_number, order_numbered, order_of, order_row, places, pos, put_content, raise_used, refl, same_name, set_state, signed, slice_cmp, subst, sym, transfer_kind, true, true≢false, view_of, with_fields, with_kept, with_lines, with_moves, with_orders, ℕ}
 use Rattle.std.proofs.lemmas.List.Elements.{filter-append}
 use Rattle.words.specs.declared.command.Command.TheVariants as command
 use Rattle.book.specs.After.{expired_rows, move_made, move_rows, moved_at_once, own_line_rows, own_order_rows}
 use Rattle.book.specs.Plans.{Makes}
 use Rattle.book.specs.Tables.{no_content}
 use Rattle.book.specs.declared.book.plan.PlanParts.{PlanParts}
-use Rattle.book.proofs.Asked.{none_found, same_self}
+use Rattle.book.proofs.Asked.{none_found}
 use Rattle.book.proofs.Changed.{changes_suffice}
-use Rattle.book.proofs.Chosen.{filter-each, filter-insert, filter-none, filter-push, none_after, number_is, some_is, same_number}
-use Rattle.book.proofs.Closing.{all_pass, find_self}
+use Rattle.book.proofs.Chosen.{filter-each, filter-insert, filter-push, none_after, number_is, some_is, same_number}
+use Rattle.book.proofs.Closing.{find_self}
 use Rattle.book.proofs.Goodness.{good_accept}
 use Rattle.book.proofs.InOrder.{one_content, rows_are, rows_of}
-use Rattle.book.proofs.Growing.{none_if_not_some, other_way}
 use Rattle.book.proofs.Lists.{length-insert, length-of-map}
 use Rattle.book.proofs.Made.{any_one, made_there}
 use Rattle.book.proofs.Once.{no_key}
@@ -208,6 +207,7 @@ rows_made A r = record {
   orders = changed_orders A r.command;
   lines = own_line_rows r.command (order_after A r.command);
   kept = kept_row (record { key = r.key; place = places A + 1; command = r.command }) ∷ [];
+  firms = [];
 }
 
 made_changed : (A : Ledger) (r : Request) → Good A → Good (accept A r) → IsAccepted A r → changed_rows A r (rows_of (accept A r)) ≡ rows_made A r
@@ -261,7 +261,7 @@ orders_made A c good = append-nil (own_order_rows c (order_after A c))
 
 -- the rows as they are made one after the other
 pub rows_in_turn : (A : Ledger) (r : Request) (p : PlanParts) (cells : DeskCells) (desk fields moves orders aborted lines kept : Content) → Good A → Makes A r p
-    → cells ≡ record { one = pos 1; version = pos 1; clock = pos p.clock; places = pos p.place } → desk ≡ record no_content { desk = cells ∷ [] } → fields ≡ with_fields (map entry_row p.fields.entries) desk
+    → cells ≡ record { one = pos 1; version = pos 2; clock = pos p.clock; places = pos p.place } → desk ≡ record no_content { desk = cells ∷ [] } → fields ≡ with_fields (map entry_row p.fields.entries) desk
     → moves ≡ with_moves (move_rows (option_map move_of p.moved)) fields → orders ≡ with_orders (own_order_rows r.command (option_map order_of p.made)) moves → aborted ≡ with_orders (flat_map (of_numbered A aborted_rows) p.expired.items) orders
     → lines ≡ with_lines (own_line_rows r.command (option_map order_of p.made)) aborted
     → kept ≡ with_kept (kept_row (record { key = p.key; place = p.place; command = p.words }) ∷ []) lines → kept ≡ rows_made A r
@@ -270,7 +270,7 @@ rows_in_turn A r p cells desk fields moves orders aborted lines kept good m is a
     let count = m.place ∙ sym more in
     let moved = m.moved ∙ ap (λ n. move_made n r.command) m.place in
     let states = (λ i. own_order_rows r.command (m.made i) ++ flat_map (of_numbered A aborted_rows) (m.expired i)) ∙ orders_made A r.command good in
-    let row : cells ≡ desk_row (accept A r) = is ∙ (λ i. record { one = pos 1; version = pos 1; clock = pos (m.clock i); places = pos (count i) }) in
+    let row : cells ≡ desk_row (accept A r) = is ∙ (λ i. record { one = pos 1; version = pos 2; clock = pos (m.clock i); places = pos (count i) }) in
     h ∙ ap (with_kept (kept_row (record { key = p.key; place = p.place; command = p.words }) ∷ [])) (g ∙ ap (with_lines (own_line_rows r.command (option_map order_of p.made))) (e ∙ ap (with_orders (flat_map (of_numbered A aborted_rows) p.expired.items)) (f ∙ ap (with_orders (own_order_rows r.command (option_map order_of p.made))) (d
     ∙ ap (with_moves (move_rows (option_map move_of p.moved))) (b ∙ ap (with_fields (map entry_row p.fields.entries)) a)))))
     ∙ (λ i. record {
@@ -280,4 +280,5 @@ rows_in_turn A r p cells desk fields moves orders aborted lines kept good m is a
       orders = states i;
       lines = own_line_rows r.command (m.made i);
       kept = kept_row (record { key = m.key i; place = m.place i; command = m.command i }) ∷ [];
+      firms = [];
     })

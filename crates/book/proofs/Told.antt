@@ -113,7 +113,7 @@ same_numbers (o ∷ os) [] e = absurd (cc)
 same_numbers (o ∷ os) (p ∷ ps) e = let more = same_numbers os ps (same_rest (order_row o) (order_row p) (map order_row os) (map order_row ps) e) in grind arith
 
 pub rows_tell : (A : Ledger) (C : Content) → IsRowsOf A C → TellsLedger A C
-rows_tell A C r = record { desk = r.desk; fields = fields_tell A A.fields C.fields r.fields; moves = r.moves; orders = r.orders; lines = r.lines; kept = r.kept }
+rows_tell A C r = record { desk = r.desk; fields = fields_tell A A.fields C.fields r.fields; moves = r.moves; orders = r.orders; lines = r.lines; kept = r.kept; firms = r.firms }
 
 -- a good ledger, and another of the same rows whose kept keys are in form
 pub told_once : (A B : Ledger) (C : Content) → Good A → Each IsGoodKept B.kept → TellsLedger A C → TellsLedger B C → A ≡ B

@@ -17,4 +17,6 @@ pub use laws::{
 };
 pub use limits::{MAX_FIELDS, MAX_ORDERS, MAX_PLACES, limits_are_those_of_the_rules};
 pub use order::{Kind, Line, State};
-pub use rows::{Change, DeskRow, FieldRow, FirmRow, KeptRow, LineRow, MoveRow, OrderRow, Rows, Tables};
+pub use rows::{
+    Change, DeskRow, FieldRow, FirmRow, KeptRow, LineRow, MoveRow, OrderRow, Rows, Tables,
+};

@@ -1,10 +1,10 @@
 //! A ledger from the rows of its tables.
 
-ghost use Rattle.std.specs.Prelude.{◌≡◌, ◌↔◌, pos, ℕ, count_by, IfErr, IfOk, IsTrue, MatchOption};
+ghost use Rattle.std.specs.Prelude.{◌≡◌, ◌↔◌, [], pos, ℕ, count_by, map, IfErr, IfOk, IsTrue, MatchOption};
 ghost use Rattle.std.specs.List.{AllByRecursion as Each, AllZip};
 ghost use Rattle.book.specs.Good.{Good};
 ghost use Rattle.book.specs.Ledger.{open_state};
-ghost use Rattle.book.specs.Tables.{content_of, desk_cells};
+ghost use Rattle.book.specs.Tables.{content_of, desk_cells, firm_cells};
 ghost use Rattle.book.specs.Told.{AreGood, AreInOrder, IsBounded, IsFieldTold, IsInForm, IsWhole, KeepsLimits, TellsLedger, told_ledger};
 ghost use Rattle.escrow.specs.Ranges.{IsMoment};
 ghost use Rattle.book.specs.Rows.{IsDamaged, IsRowsOf};
@@ -26,7 +26,7 @@ use crate::book::{Book, FieldEntry, KeptEntry, MoveEntry};
 use crate::in_order::InOrder;
 use crate::limits::{MAX_FIELDS, MAX_ORDERS, MAX_PLACES};
 use crate::order::{Line, Order, State};
-use crate::rows::{DeskRow, Tables};
+use crate::rows::{DeskRow, FirmRow, Tables};
 use escrow::{FieldName, Key, Moment};
 use std::alloc::Global;
 use thiserror::Error;
@@ -65,6 +65,13 @@ fn read_desk(row: &DeskRow, places: usize) -> Option<Moment>
     moment(row.clock)
 }
 
+/// Whether there is no such row.
+fn is_none(firms: &[FirmRow]) -> bool
+    ensures { IsTrue result ↔ (map firm_cells firms.now ≡ []) }
+{
+    firms.is_empty()
+}
+
 /// What the rows tell, where they tell a ledger, good or not. The rows of each table are let go as soon as they are
 /// read.
 fn read_tables(alloc: Global, tables: Tables) -> Result<Entries, TablesFault>
@@ -81,7 +88,7 @@ fn read_tables(alloc: Global, tables: Tables) -> Result<Entries, TablesFault>
     drop(lines);
     drop(tables.lines);
     let kept = read_all(alloc, tables.kept.as_slice())?;
-    if !tables.firms.as_slice().is_empty() {
+    if !is_none(tables.firms.as_slice()) {
         return Err(TablesFault::Damaged);
     }
     let Some(clock) = read_desk(&tables.desk, kept.len()) else {

@@ -1,4 +1,5 @@
 use Rattle.book.proofs.Prelude.{[], ◌∙◌, ◌∷◌, ◌≡◌, AllZip, DeskCells, Each, FieldEntry, FieldRow, IsFieldRow, IsFieldTold, IsGoodField, IsGoodKept, IsKeptTold, KeptCells, KeptEntry, KeptRow, List, Name, TellsField, ap, arith, field_cells, field_of, kept_cells, kept_of, kept_row, length, line_cells, map, move_cells, order_cells, places, pos, subst, sym, ℕ}
+use Rattle.book.specs.Tables.{firm_cells}
 use Rattle.book.proofs.RowsTold.{fields_told, good_field, heads_same, heads_told, kept_told, lines_told, moves_told, orders_rows, rows_of, tells_field}
 use Rattle.book.proofs.Lists.{length-of-map}
 use Rattle.book.proofs.Told.{same_first}
@@ -7,7 +8,7 @@ use Rattle.book.proofs.Zipped.{zip-length, zip-map}
 use Rattle.book.proofs.book.tables.read_tables.Goals as goal
 
 abbrev desk_at : ℕ → ℕ → DeskCells
-desk_at clock places = record { one = pos 1; version = pos 1; clock = pos clock; places = pos places }
+desk_at clock places = record { one = pos 1; version = pos 2; clock = pos clock; places = pos places }
 
 pub returns-in_err-fields-clause-damaged : goal.returns-in_err-fields-clause-damaged
 returns-in_err-fields-clause-damaged c = passed_up c.from_residual.result c.in_err-fields.field-0.0 _ c.from_residual.ensures.1
@@ -45,7 +46,9 @@ returns-in_default-clause-damaged c _ A g rows =
     c.in_default.ensures A.clock g.clock (same_first _ _ _ _ rows.desk ∙ ap (desk_at A.clock) places)
 
 pub returns-clause-told : goal.returns-clause-told
-returns-clause-told c = grind (arith, (zip-map IsFieldTold TellsField field_of field_cells tells_field c.in_ok-fields.fields.items c.as_slice.result.now c.in_ok-fields.ensures.told), (length-of-map kept_of c.in_ok-kept.kept.items), orders_rows, rows_of, tells_field)
+returns-clause-told c =
+    let firms : map firm_cells c.args.tables.firms ≡ [] = rw c.as_slice-7.ensures at (c.is_none.ensures.0 c.if-not-is_none.false) in
+    grind (arith, firms, (zip-map IsFieldTold TellsField field_of field_cells tells_field c.in_ok-fields.fields.items c.as_slice.result.now c.in_ok-fields.ensures.told), (length-of-map kept_of c.in_ok-kept.kept.items), orders_rows, rows_of, tells_field)
 
 good_fields : (es : List (Name × FieldEntry)) (rows : List FieldRow) → AllZip IsFieldTold es rows → Each IsGoodField (map field_of es)
 good_fields [] [] told = tt
