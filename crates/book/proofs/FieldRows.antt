@@ -1,5 +1,5 @@
 -- The rows of the fields that a request makes or changes, for each kind of command.
-use Rattle.book.proofs.Prelude.{[], ◌&&◌, ◌++◌, ◌+ℤ◌, ◌-ℤ◌, ◌||◌, ◌∙◌, ◌∷◌, ◌≡◌, Accepts, Bool, Command, Each, Field, FieldCells, FieldEntry, FirstFailure, GivenBack, GivesBack, Good, HasEntry, IsChangedField, IsNone, IsSome, IsSomeAnd, IsUpToDate, Stock, is_lt, IsStrictlySortedBy, Ledger, Line, List, Name, None, OpenLine, Option, Order, Puts, Request, Some, State, Way, accept, add_hold, added_part, ap, append-nil, arith, change_lines, changes_field, checks, common_steps, entry_row, expired_lines, expires, false, field_named, field_of, field_row, field_rows, find, flat_map, has_line_on, held_to_add, held_to_take, if◌then◌else◌, insert_entry, ints, is_open, is_some, is_transfer, keys_of, line_name, line_on, list_any, list_any-append, lower_held, map, moved, moved_by_command, moved_part, name_cmp, name_of, nat_le, new_line, next, not, on, open_state, option_map, order_after, order_is, order_numbered, pos, raise_held, raise_used, refl, same_name, settled, settled_state, signed, some_has_line, subst, sym, taken_part, total, true, true≢false, ℕ, ℤ}
+use Rattle.book.proofs.Prelude.{[], ◌&&◌, ◌+ℤ◌, ◌-ℤ◌, ◌||◌, ◌∙◌, ◌∷◌, ◌≡◌, Accepts, Bool, Command, Each, Field, FieldCells, FieldEntry, FirstFailure, GivenBack, GivesBack, Good, HasEntry, IsChangedField, IsNone, IsSome, IsSomeAnd, IsUpToDate, Stock, is_lt, IsStrictlySortedBy, Ledger, Line, List, Name, None, OpenLine, Option, Order, Puts, Request, Some, State, Way, accept, add_hold, added_part, ap, arith, change_lines, changes_field, checks, common_steps, entry_row, expired_lines, expires, false, field_named, field_of, field_row, field_rows, find, has_line_on, held_to_add, held_to_take, if◌then◌else◌, insert_entry, ints, is_open, is_some, is_transfer, keys_of, line_name, line_on, list_any, list_any-append, lower_held, map, moved, moved_by_command, moved_part, name_cmp, name_of, nat_le, new_line, next, not, on, open_state, option_map, order_after, order_is, order_numbered, pos, raise_held, raise_used, refl, same_name, settled, settled_state, signed, some_has_line, subst, sym, taken_part, total, true, true≢false, ℕ, ℤ}
 use Rattle.words.specs.declared.command.Command.TheVariants as command
 use Rattle.book.specs.After.{changes_own_stock, moved_at_once}
 use Rattle.book.specs.Running.{HasLines, MovesField, lines_add, lines_take}
@@ -10,7 +10,7 @@ use Rattle.book.proofs.Checked.{bounds_decide}
 use Rattle.book.proofs.Chosen.{any-map, find-new, some_is}
 use Rattle.book.proofs.Closing.{all_pass, name_is}
 use Rattle.book.proofs.GivingBack.{any-append, total-flat}
-use Rattle.book.proofs.Growing.{none_if_not_some, not_less, other_way}
+use Rattle.book.proofs.Growing.{none_if_not_some, not_less}
 use Rattle.book.proofs.Made.{any_one, changed_on, left_out, lined, lined_firm, total-next}
 use Rattle.book.proofs.Rebounding.{bounding, found_bounded}
 use Rattle.book.proofs.Running.{new_field}

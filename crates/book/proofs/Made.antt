@@ -2,7 +2,7 @@
 use Rattle.book.proofs.Prelude.{[], ◌&&◌, ◌+ℤ◌, ◌==◌, ◌||◌, ◌∙◌, ◌∷◌, ◌≡◌, Aborted, Bool, Command, Committed, Each, FirstFailure, Good, IsAccepted, IsShort, IsSomeAnd, IsStrictlySortedBy, Ledger, Line, List, Name, None, OpenLine, Option, Order, Request, Some, accept, add_hold, ap, arith, change_lines, changes_field, changes_state, checks, common_steps, expires, false, find, has_line_on, if◌then◌else◌, insert_in_order, ints, is_opening, is_some, is_touched, is_transfer, list_any, lower_held, map, name_of, nat_cmp, nat_lt, new_line, next, on, option_map, order_after, order_is, order_number, order_numbered, pos, raise_used, refl, same_name, set_firm, set_state, some_has_line, some_part, subst, sym, total, true, true≢false, ℕ, ℤ}
 use Rattle.words.specs.declared.command.Command.TheVariants as command
 use Rattle.book.proofs.Asked.{none_found, total-insert}
-use Rattle.book.proofs.Chosen.{any-map, find-new, none_after, none_any, some_is}
+use Rattle.book.proofs.Chosen.{any-map, any_same, find-new, none_after, none_any, some_is}
 use Rattle.book.proofs.Closing.{at_number}
 use Rattle.book.proofs.Sums.{each, each-imp, total-eq, total-map}
 
@@ -43,10 +43,6 @@ lined b c f g e = grind (arith, ended_on, opened_lines_on)
 -- so does one that makes an order firm
 pub lined_firm : (A : Ledger) (n : ℕ) (f : Name) → Good A → some_has_line f (order_after A (command.Firm n)) ≡ changes_field A (command.Firm n) f
 lined_firm A n f g = ended_on A n f set_firm g (λ o. refl)
-
-any_same : {X : Type 0} (s t : X → Bool) (xs : List X) → Each (λ x. s x ≡ t x) xs → list_any s xs ≡ list_any t xs
-any_same s t [] h = refl
-any_same s t (x ∷ xs) h = λ i. h.0 i || any_same s t xs h.1 i
 
 -- lines that change stay on their fields
 pub changed_on : (f h : Name) (change : Line → Line) (o : Order) → ((l : Line) → on f (change l) ≡ on f l) → has_line_on f (change_lines h change o) ≡ has_line_on f o

@@ -1,19 +1,18 @@
 -- The rows of the next ledger that an accepted request changes, table by table.
 use Rattle.std.proofs.lemmas.Bool.Decides.{Decides-int_eq}
-use Rattle.book.proofs.Prelude.{[], ◌&&◌, ◌++◌, ◌+◌, ◌==◌, ◌||◌, ◌∙◌, ◌∷◌, ◌≡◌, ◌≤◌, Aborted, BookView, Bool, ChangesTo, Command, Content, DeskCells, Each, Field, FieldCells, FirstFailure, Good, IfSome, Inside, IsAccepted, IsInRange, IsKey, IsNone, IsRowsOf, IsStrictlySortedBy, Ledger, Line, LineCells, List, MAX_PLACES, Move, MoveEntry, Name, None, Option, Order, OrderCells, Request, Some, Way, aborted_rows, accept, ap, append-nil, arith, bytes_decides, bytes_eq, change_lines, changed_orders, changed_rows, changes_field, changes_firm, changes_line, changes_move, changes_order, changes_state, checks, desk_row, entry_row, expired_numbers, expires, false, field_named, field_row, field_rows, filter, find, firm_row, firm_rows, flat_map, if◌then◌else◌, int_eq, is_lt, is_some, is_transfer, kept_of, kept_row, ledger_of, length, line_name, line_row, line_rows, lines_from, list_any, lower_held, map, move_of, move_row, name_cmp, name_of, nat_cmp, next, of_numbered, option_map, option_map_or, order_after, order_is, order_lines, order_number, order_numbered, order_of, order_row, places, pos, put_content, raise_used, refl, same_name, set_firm, set_state, signed, slice_cmp, subst, sym, transfer_kind, true, true≢false, view_of, with_fields, with_firms, with_kept, with_lines, with_moves, with_orders, ℕ}
+use Rattle.book.proofs.Prelude.{[], ◌&&◌, ◌++◌, ◌+◌, ◌==◌, ◌||◌, ◌∙◌, ◌∷◌, ◌≡◌, ◌≤◌, Aborted, BookView, Bool, ChangesTo, Command, Content, DeskCells, Each, FieldCells, FirstFailure, Good, IfSome, Inside, IsAccepted, IsInRange, IsKey, IsNone, IsRowsOf, IsStrictlySortedBy, Ledger, Line, LineCells, List, MAX_PLACES, Move, MoveEntry, Name, None, Option, Order, OrderCells, Request, Some, Way, aborted_rows, accept, ap, append-nil, arith, bytes_decides, bytes_eq, change_lines, changed_orders, changed_rows, changes_field, changes_firm, changes_line, changes_move, changes_order, changes_state, checks, desk_row, entry_row, expired_numbers, expires, false, field_row, field_rows, filter, find, firm_row, firm_rows, flat_map, if◌then◌else◌, int_eq, is_lt, is_some, is_transfer, kept_of, kept_row, ledger_of, length, line_name, line_row, line_rows, lines_from, list_any, lower_held, map, move_of, move_row, name_of, nat_cmp, next, of_numbered, option_map, option_map_or, order_after, order_is, order_lines, order_number, order_numbered, order_of, order_row, places, pos, put_content, raise_used, refl, same_name, set_firm, set_state, signed, slice_cmp, subst, sym, transfer_kind, true, true≢false, view_of, with_fields, with_firms, with_kept, with_lines, with_moves, with_orders, ℕ}
 use Rattle.std.proofs.lemmas.List.Elements.{filter-append}
 use Rattle.words.specs.declared.command.Command.TheVariants as command
 use Rattle.book.specs.After.{expired_rows, move_made, move_rows, moved_at_once, own_firm_rows, own_line_rows, own_order_rows}
 use Rattle.book.specs.Plans.{Makes}
 use Rattle.book.specs.Tables.{no_content}
 use Rattle.book.specs.declared.book.plan.PlanParts.{PlanParts}
-use Rattle.book.proofs.Asked.{none_found, same_self}
+use Rattle.book.proofs.Asked.{none_found}
 use Rattle.book.proofs.Changed.{changes_suffice}
-use Rattle.book.proofs.Chosen.{filter-each, filter-insert, filter-none, filter-push, none_after, number_is, some_is, same_number}
+use Rattle.book.proofs.Chosen.{any_same, filter-each, filter-insert, filter-push, found_passes, none_after, number_is, some_is, same_number}
 use Rattle.book.proofs.Closing.{all_pass, find_self}
 use Rattle.book.proofs.Goodness.{good_accept}
 use Rattle.book.proofs.InOrder.{one_content, rows_are, rows_of}
-use Rattle.book.proofs.Growing.{none_if_not_some, other_way}
 use Rattle.book.proofs.Lists.{length-insert, length-of-map}
 use Rattle.book.proofs.Made.{any_one, made_there}
 use Rattle.book.proofs.Once.{no_key}
@@ -76,10 +75,6 @@ rows_of_one {R = R} t rows made n (o ∷ os) sorted other own = filter-append t 
 rows_by_one : (os : List Order) → map order_row os ≡ flat_map (λ o. order_row o ∷ []) os
 rows_by_one [] = refl
 rows_by_one (o ∷ os) = ap (λ (rows : List OrderCells). order_row o ∷ rows) (rows_by_one os)
-
-any_same : {X : Type 0} (s t : X → Bool) (xs : List X) → Each (λ x. s x ≡ t x) xs → list_any s xs ≡ list_any t xs
-any_same s t [] h = refl
-any_same s t (x ∷ xs) h = λ i. h.0 i || any_same s t xs h.1 i
 
 -- a test and an equal number, the other way round
 turned : (m n : ℕ) (b : Bool) → (b && int_eq (pos m) (pos n)) ≡ ((n == m) && b)
@@ -210,14 +205,6 @@ number_found : (n : ℕ) (x : Option Order) → ((o : Order) → x ≡ Some o �
 number_found n None own there = absurd (there refl)
 number_found n (Some o) own there = ap (λ k. firm_row k ∷ []) (number_is o.number n (own o refl))
 
-found_number : (n : ℕ) (os : List Order) (o : Order) → find (λ m. m.number == n) os ≡ Some o → (o.number == n) ≡ true
-found_number n [] o there = absurd (true≢false (sym (ap is_some there)))
-found_number n (m ∷ ms) o there = by (m.number == n) refl there (found_number n ms o)
-  where
-    by : (b : Bool) → (m.number == n) ≡ b → (if b then Some m else find (λ m. m.number == n) ms) ≡ Some o → (find (λ m. m.number == n) ms ≡ Some o → (o.number == n) ≡ true) → (o.number == n) ≡ true
-    by true e k more = ap (λ (o : Order). o.number == n) (sym (some_is m o k)) ∙ e
-    by false e k more = more k
-
 -- the row of the order that is made firm
 own_firm : (A : Ledger) (key : List ℕ) (n : ℕ) → Good (accept A (record { key = key; command = command.Firm n })) → FirstFailure (checks A (command.Firm n)) None
     → filter (λ row. int_eq row.number (pos n)) (flat_map firm_rows (accept A (record { key = key; command = command.Firm n })).orders) ≡ firm_row n ∷ []
@@ -225,7 +212,7 @@ own_firm A key n k h =
     rows_of_one (λ row. int_eq row.number (pos n)) firm_rows firm_rows n (next A (command.Firm n)).orders k.orders_in_order (λ o e. other o o.firm e) (λ o e. own o o.firm e)
     ∙ ap (λ (x : Option Order). option_map_or firm_rows x []) (made_there A (command.Firm n) n h refl)
     ∙ made (order_numbered A n)
-    ∙ number_found n (order_numbered A n) (found_number n A.orders) (all_pass (checks A (command.Firm n)) h).1.0
+    ∙ number_found n (order_numbered A n) (λ o there. found_passes (λ m. m.number == n) o A.orders there) (all_pass (checks A (command.Firm n)) h).1.0
   where
     other : (o : Order) (m : Bool) → (o.number == n) ≡ false → filter (λ row. int_eq row.number (pos n)) (if m then firm_row o.number ∷ [] else []) ≡ []
     other o true e = ap (λ b. if b then firm_row o.number ∷ [] else []) (pos_other o.number n e)
