@@ -1,5 +1,5 @@
 -- Heads of orders that the rows of firm orders mark.
-use Rattle.book.proofs.Prelude.{[], ◌++◌, ◌+◌, ◌<◌, ◌∙◌, ◌∷◌, ◌≡◌, ◌≤◌, Bool, Each, FirmCells, FirmRow, Head, IsStrictlySortedBy, Less, List, Option, OrderCells, None, Some, ap, append-nil, arith, common_steps, drop, false, firm_cells, firm_row, flat_map, flat_map-append, get_or, get_or_from_slice_get, head_row, if◌then◌else◌, length, length-drop, map, map-append, mark_rows, nat_cmp, pos, refl, set, slice_get, slice_get_within, subst, suc, sym, take, take_all, true, zero, ℕ}
+use Rattle.book.proofs.Prelude.{[], ◌++◌, ◌+◌, ◌<◌, ◌∙◌, ◌∷◌, ◌≡◌, ◌≤◌, Bool, FirmCells, FirmRow, Head, IsStrictlySortedBy, Less, List, Option, OrderCells, None, Some, ap, append-nil, arith, drop, false, firm_cells, firm_row, flat_map, flat_map-append, get_or, get_or_from_slice_get, head_row, if◌then◌else◌, length, length-drop, map, map-append, mark_rows, nat_cmp, pos, refl, set, slice_get, slice_get_within, subst, suc, sym, take, take_all, true, zero, ℕ}
 use Rattle.std.proofs.Math.ListN.{drop_of_length-le}
 use Rattle.std.proofs.Math.Seq.{map-set_same}
 use Rattle.std.proofs.lemmas.List.{take_more_set}
