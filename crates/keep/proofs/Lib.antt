@@ -27,3 +27,4 @@ pub mod Making
 pub mod MakingRow
 pub mod PlainRows
 pub mod PlainChanges
+pub mod Raised

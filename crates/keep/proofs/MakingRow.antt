@@ -95,7 +95,7 @@ module _ (limit : Option ℕ) (mode : Mode) where
       (ap (λ (d : Database). d.schema) now, subst (PutsRow db.trees) (sym (ap (λ (d : Database). d.trees) now)) (inserts db.trees done.0 bare.no_rows.0 done.1))
 
 -- of a table with no rows
-none : {X : Type 0} (cmp : X → X → Ordering) (stored : Row → Row) (columns : X → Row) (rows : List Row) → rows ≡ [] → AreRows cmp stored columns rows []
+pub none : {X : Type 0} (cmp : X → X → Ordering) (stored : Row → Row) (columns : X → Row) (rows : List Row) → rows ≡ [] → AreRows cmp stored columns rows []
 unfolding IsStrictlySortedBy
 none cmp stored columns rows is = record { same = IsPermutation-same _ _ (ap (map stored) is); sorted = tt; numbers = subst HaveNumbers (sym is) tt }
 

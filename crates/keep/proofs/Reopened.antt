@@ -21,13 +21,17 @@ use Rattle.sqlite.proofs.Theorems.{next_run}
 use Rattle.book.specs.declared.rows.Tables.{Tables}
 use Rattle.book.specs.Rows.{Content}
 use Rattle.book.specs.Tables.{content_of}
-use Rattle.keep.specs.Schema.{desk_schema}
+use Rattle.keep.specs.Old.{HoldsOld, IsOldContent}
+use Rattle.keep.specs.Schema.{desk_schema, old_schema}
 use Rattle.keep.specs.declared.keep.KeepFault.{KeepFault}
 use Rattle.keep.specs.Content.{Holds, IsAmong, IsContent, IsDesk, LeavesOnly}
 
 -- a sound database over trees that have a content holds it
 pub holds_content : (db : Database) (x : Content) → IsSound db.schema db.trees → IsContent db.trees x → Holds db x
 holds_content db x sound has = record { schema_is = lists_once (db.trees catalog_tree) db.schema desk_schema sound.lists has.lists; content = has }
+
+pub holds_old : (db : Database) (x : Content) → IsSound db.schema db.trees → IsOldContent db.trees x → HoldsOld db x
+holds_old db x sound has = record { schema_is = lists_once (db.trees catalog_tree) db.schema old_schema sound.lists has.lists; content = has }
 
 -- The files hold what a stop could leave of this store. Then an open finds one of the contents that it could leave.
 pub found_again : {D : Type 0} {g : Ghosts D} (it : FileStore D g) → IsTrue (view it).is_numbered → AreDatabases (recovers it)

@@ -1,19 +1,17 @@
 -- The tables in a schema: each has its name there, and in that of a desk as it is made `desk` lies where it says.
-use Rattle.std.proofs.Common.{◌≡◌, ◌≢◌, inl, inr, ℕ, suc, List, [], ◌∷◌, ap, arith, get_or, refl, subst, sym}
+use Rattle.std.proofs.Common.{◌≡◌, ◌≢◌, ◌<◌, inl, inr, ℕ, zero, suc, pos, List, [], ◌∷◌, ap, arith, get_or, length, refl, subst, sym}
 use Rattle.std.specs.List.{AllByRecursion, Any}
 use Rattle.sqlite.specs.Effect.{Database}
 use Rattle.sqlite_schema.specs.declared.schema.Table.{Table}
 use Rattle.sqlite_schema.specs.declared.schema.Schema.{Schema}
-use Rattle.book.specs.Rows.{Content, desk_cmp}
-use Rattle.keep.specs.Schema.{desk_table, field_table, move_table, orders_table, line_table, kept_table, firm_table, desk_schema}
+use Rattle.std.specs.Prelude.{⊤}
+use Rattle.book.specs.Rows.{Content, DeskCells, desk_cmp}
+use Rattle.keep.specs.Schema.{desk_table, field_table, move_table, orders_table, line_table, kept_table, firm_table, desk_schema, old_schema}
 use Rattle.keep.specs.Columns.{desk_stored, desk_columns}
-use Rattle.keep.specs.Content.{AreRows, HasTables, IsAmong}
+use Rattle.keep.specs.Content.{AreRows, HasTable, HasTables, IsAmong}
+use Rattle.keep.specs.Laws.{named}
 use Rattle.keep.specs.Names.{HasNames}
-
-named : (tables : List Table) (t : Table) → IsAmong tables t → Any (λ u. u.name ≡ t.name) tables
-named [] t h = absurd h
-named (u ∷ us) t (inl e) = (0, u, omega arith, refl, sym (ap (λ v. v.name) e))
-named (u ∷ us) t (inr h) = let more = named us t h in (suc more.0, more.1, omega (arith, more.2), more.3, more.4)
+use Rattle.keep.specs.Old.{IsOld}
 
 have_names : (db : Database) (x : Content) → HasTables db x → HasNames db.schema
 have_names db x h = record {
@@ -27,6 +25,45 @@ have_names db x h = record {
 
 pub nameless : (db : Database) (x : Content) → ¬ HasNames db.schema → HasTables db x → ⊥
 nameless db x none h = none (have_names db x h)
+
+-- each version has the six names
+pub old_names : (db : Database) → IsOld db → HasNames db.schema
+old_names db h = record {
+  desk = named _ _ h.desk.1.1;
+  field = named _ _ h.field.1;
+  move = named _ _ h.move.1;
+  orders = named _ _ h.orders.1;
+  line = named _ _ h.line.1;
+  kept = named _ _ h.kept.1;
+}
+
+-- ---- the table `firm`
+
+abbrev third : Table → ℕ
+third t = get_or t.name 2 0
+
+old_letters : AllByRecursion (λ t. third t ≢ 114) old_schema.tables
+old_letters = (λ e. omega (arith, e), (λ e. omega (arith, e), (λ e. omega (arith, e), (λ e. omega (arith, e), (λ e. omega (arith, e), (λ e. omega (arith, e), tt))))))
+
+no_other : (tables : List Table) (tree : ℕ) → AllByRecursion (λ t. third t ≢ 114) tables → IsAmong tables (record firm_table { tree = tree }) → ⊥
+no_other [] tree other none = none
+no_other (t ∷ tables) tree other (inl is) = other.0 (sym (ap third is))
+no_other (t ∷ tables) tree other (inr more) = no_other tables tree other.1 more
+
+not_named : (tables : List Table) → AllByRecursion (λ t. third t ≢ 114) tables → (k : ℕ) (u : Table) → k < length tables → get_or tables k u ≡ u → third u ≢ 114
+not_named [] other k u few is = absurd (omega arith)
+not_named (t ∷ tables) other zero u few is = subst (λ t. third t ≢ 114) is other.0
+not_named (t ∷ tables) other (suc k) u few is = not_named tables other.1 k u (omega arith) is
+
+-- the schema of version 1 has none
+pub no_firm : (db : Database) (x : Content) → db.schema ≡ old_schema → HasTables db x → ⊥
+no_firm db x is has =
+    no_other old_schema.tables has.firms.0 old_letters
+    (subst (λ (s : Schema). IsAmong s.tables (record firm_table { tree = has.firms.0 })) is has.firms.1)
+
+-- that of a desk as it is made has one
+pub has_firm : (db : Database) → db.schema ≡ desk_schema → IsOld db → ⊥
+has_firm db is old = old.no_firm (subst (λ (s : Schema). Any (λ u. u.name ≡ firm_table.name) s.tables) (sym is) (6, firm_table, omega arith, refl, refl))
 
 -- ---- the table `desk`
 
@@ -51,3 +88,31 @@ pub desk_rows : (db : Database) (x : Content) → db.schema ≡ desk_schema → 
 desk_rows db x is has =
     let among : IsAmong desk_schema.tables (record desk_table { tree = has.desk.0 }) = subst (λ (s : Schema). IsAmong s.tables (record desk_table { tree = has.desk.0 })) is has.desk.1 in
     subst (λ (tree : ℕ). AreRows desk_cmp desk_stored desk_columns (db.trees tree) x.desk) (in_desk has.desk.0 among) has.desk.2
+
+in_old : (tree : ℕ) → IsAmong old_schema.tables (record desk_table { tree = tree }) → tree ≡ desk_table.tree
+in_old tree = desk_lies (field_table ∷ move_table ∷ orders_table ∷ line_table ∷ kept_table ∷ []) tree (λ e. omega (arith, e), (λ e. omega (arith, e), (λ e. omega (arith, e), (λ e. omega (arith, e), (λ e. omega (arith, e), tt)))))
+
+-- in a store of version 1 the one row lies there too
+pub old_rows : (db : Database) → db.schema ≡ old_schema → (old : IsOld db) → AreRows desk_cmp desk_stored desk_columns (db.trees desk_table.tree) (old.desk.0 ∷ [])
+old_rows db is old =
+    let tree = old.desk.1.0 in
+    let among : IsAmong old_schema.tables (record desk_table { tree = tree }) = subst (λ (s : Schema). IsAmong s.tables (record desk_table { tree = tree })) is old.desk.1.1 in
+    subst (λ (tree : ℕ). AreRows desk_cmp desk_stored desk_columns (db.trees tree) (old.desk.0 ∷ [])) (in_old tree among) old.desk.1.2
+
+there : (db : Database) (table : Table) → db.schema ≡ old_schema → IsAmong old_schema.tables table → HasTable db.schema db.trees table (λ _. ⊤)
+there db table is among = (table.tree, subst (λ (s : Schema). IsAmong s.tables table) (sym is) among, tt)
+
+-- a store with the schema of version 1 and one row of that version is of it
+pub is_old : (db : Database) (row : DeskCells) → db.schema ≡ old_schema → AreRows desk_cmp desk_stored desk_columns (db.trees desk_table.tree) (row ∷ []) → row.version ≡ pos 1 → IsOld db
+is_old db row is are version = record {
+  desk = (row, (desk_table.tree, subst (λ (s : Schema). IsAmong s.tables desk_table) (sym is) (inl refl), are), version);
+  field = there db field_table is (inr (inl refl));
+  move = there db move_table is (inr (inr (inl refl)));
+  orders = there db orders_table is (inr (inr (inr (inl refl))));
+  line = there db line_table is (inr (inr (inr (inr (inl refl)))));
+  kept = there db kept_table is (inr (inr (inr (inr (inr (inl refl))))));
+  no_firm = λ named. none_named (subst (λ (s : Schema). Any (λ u. u.name ≡ firm_table.name) s.tables) is named);
+}
+  where
+    none_named : Any (λ u. u.name ≡ firm_table.name) old_schema.tables → ⊥
+    none_named found = not_named old_schema.tables old_letters found.0 found.1 found.2 found.3 (ap (λ (name : List ℕ). get_or name 2 0) found.4)

@@ -1,5 +1,6 @@
 -- What is true of every keeper.
-use Rattle.std.proofs.Common.{◌≡◌, inl, inr, [], List, refl, subst, sym}
+use Rattle.std.proofs.Common.{◌≡◌, inl, inr, suc, [], ◌∷◌, List, ap, arith, refl, subst, sym}
+use Rattle.std.specs.List.{Any}
 use Rattle.std.proofs.Math.Logic.{∥∥₁_elim, ∥∥₁_map}
 use Rattle.sqlite.specs.Order.{Row}
 use Rattle.sqlite.specs.Table.{Table}
@@ -10,6 +11,7 @@ use Rattle.book.specs.Rows.{Content, desk_cmp, field_cmp, move_cmp, order_cmp, l
 use Rattle.keep.specs.Schema.{desk_table, field_table, move_table, orders_table, line_table, kept_table, firm_table, desk_schema}
 use Rattle.keep.specs.Columns.{desk_stored, field_stored, move_stored, order_stored, line_stored, kept_stored, firm_stored, desk_columns, field_columns, move_columns, order_columns, line_columns, kept_columns, firm_columns}
 use Rattle.keep.specs.Content.{AreRows, HasTable, HasTables, Holds, IsAmong, LeavesOnly, MayLeave}
+use Rattle.keep.specs.Old.{IsOld}
 use Rattle.keep.specs.OneContent.{only_content}
 
 -- a stop leaves something, so it is not bounded by nothing
@@ -33,6 +35,16 @@ is_it content these x among is = subst (IsAmong these) is among
 
 pub holds_one : (content : Content) → ∥ ((x : Content) × (content ≡ x)) ∥₁
 holds_one content = ∣ (content, refl) ∣₁
+
+-- a table that is declared has its name there
+pub named : (tables : List Table) (t : Table) → IsAmong tables t → Any (λ u. u.name ≡ t.name) tables
+named [] t h = absurd h
+named (u ∷ us) t (inl e) = (0, u, omega arith, refl, sym (ap (λ v. v.name) e))
+named (u ∷ us) t (inr h) = let more = named us t h in (suc more.0, more.1, omega (arith, more.2), more.3, more.4)
+
+-- a store of version 1 has no table `firm`
+pub old_is_apart : (db : Database) (x : Content) → IsOld db → HasTables db x → ⊥
+old_is_apart db x old has = old.no_firm (named _ _ has.firms.1)
 
 declared : (db : Database) (table : Table) (Are : List Row → Type 0) → db.schema ≡ desk_schema → IsAmong desk_schema.tables table → Are (db.trees table.tree) → HasTable db.schema db.trees table Are
 declared db table Are is among are = (table.tree, subst (λ (s : Schema). IsAmong s.tables table) (sym is) among, are)

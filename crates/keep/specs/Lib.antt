@@ -2,8 +2,10 @@ pub mod Schema
 pub mod Columns
 pub mod Content
 pub mod Transactions
-pub mod Loading
 pub mod Names
+pub mod Old
+pub mod Raising
+pub mod Loading
 pub mod Keeper
 pub mod Stages
 pub mod Plain

@@ -72,10 +72,14 @@ kept_of c = record { reqkey = bytes (column c 0); place = id_in (column c 1); wo
 abbrev firm_of : Row → FirmCells
 firm_of c = record { number = id_in (column c 0) }
 
+-- rows of the table `desk` are one list
+pub desk_once : (rows : List Row) (xs ys : List DeskCells) → AreRows desk_cmp desk_stored desk_columns rows xs → AreRows desk_cmp desk_stored desk_columns rows ys → ys ≡ xs
+desk_once = one_content desk_cmp desk_cmp_total desk_stored desk_columns desk_of (λ _. refl)
+
 -- trees have one content
 pub only_content : (trees : Trees) (x y : Content) → IsContent trees x → IsContent trees y → y ≡ x
 only_content trees x y p q =
-    let desk_same : y.desk ≡ x.desk = one_content desk_cmp desk_cmp_total desk_stored desk_columns desk_of (λ _. refl) (trees 0) x.desk y.desk p.desk q.desk in
+    let desk_same : y.desk ≡ x.desk = desk_once (trees 0) x.desk y.desk p.desk q.desk in
     let field_same : y.fields ≡ x.fields = one_content field_cmp field_cmp_total field_stored field_columns field_of (λ _. refl) (trees 1) x.fields y.fields p.fields q.fields in
     let move_same : y.moves ≡ x.moves = one_content move_cmp move_cmp_total move_stored move_columns move_of (λ _. refl) (trees 3) x.moves y.moves p.moves q.moves in
     let order_same : y.orders ≡ x.orders = one_content order_cmp order_cmp_total order_stored order_columns order_of (λ _. refl) (trees 4) x.orders y.orders p.orders q.orders in

@@ -4,7 +4,9 @@ ghost use Rattle.std.specs.Prelude.{◌≡◌, ◌⊎◌, false, [], ◌∷◌, 
 ghost use Rattle.sqlite.specs.Held.{state};
 ghost use Rattle.sqlite.specs.State.{HasCleanDisk, Survives};
 ghost use Rattle.sqlite_trees.specs.Tree.{Trees};
+ghost use Rattle.book.specs.Rows.{Content};
 ghost use Rattle.keep.specs.Content.{Holds, IsContent, LeavesOnly, new_content};
+ghost use Rattle.keep.specs.Old.{HoldsOld};
 ghost use Rattle.keep.specs.Schema.{desk_schema, no_schema, old_schema};
 ghost use Rattle.keep.specs.Stages.{IsBare, with_desk, with_field, with_line, with_move, with_orders};
 ghost use Rattle.keep.specs.Transactions.{IsSettled, Makes};
@@ -94,11 +96,13 @@ fn create_kept<S: Alter>(tx: &mut Transaction<'_, S>) -> Result<usize, Error>
     )
 }
 
-/// Makes the table of the firm orders.
-fn create_firm<S: Alter>(tx: &mut Transaction<'_, S>) -> Result<usize, Error>
+/// Makes the table of the firm orders, beside the others.
+pub(crate) fn create_firm<S: Alter>(tx: &mut Transaction<'_, S>) -> Result<usize, Error>
     ensures same_reference { tx.new.conn.ghost_name ≡ tx.old.conn.ghost_name }
     ensures made { HasCleanDisk (state S.Store tx.new.conn.now) → IsTrue (state S.Store tx.old.conn.now).in_transaction → IsBare old_schema (state S.Store tx.old.conn.now).now
         → OnOk result (Makes (IsBare desk_schema) (state S.Store tx.old.conn.now) (state S.Store tx.new.conn.now)) }
+    ensures added { HasCleanDisk (state S.Store tx.new.conn.now) → IsTrue (state S.Store tx.old.conn.now).in_transaction
+        → OnOk result (Makes (λ db. (x : Content) → HoldsOld (state S.Store tx.old.conn.now).now x → Holds db x) (state S.Store tx.old.conn.now) (state S.Store tx.new.conn.now)) }
     ensures survives { Survives (state S.Store tx.old.conn.now) (state S.Store tx.new.conn.now) (λ _. ⊥) }
 {
     tx.execute(

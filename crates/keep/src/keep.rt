@@ -1,6 +1,6 @@
 //! What a keeper promises.
 
-ghost use Rattle.std.specs.Prelude.{◌≡◌, ◌≢◌};
+ghost use Rattle.std.specs.Prelude.{◌≡◌, ◌≢◌, ◌⊎◌};
 
 use book::{Change, Tables};
 use sqlite::{Error as SqlError, ErrorCode};
@@ -16,9 +16,12 @@ pub enum KeepFault {
     /// The store failed, or is not one that is written here.
     #[error("the store failed")]
     Store,
-    /// The store has no seven tables with one row of `desk` of version 2.
+    /// The store has no tables of a desk with one row of `desk` of their version.
     #[error("not a desk")]
     NotADesk,
+    /// The store is of version 1: it has the six tables without `firm`, and one row of `desk` of version 1.
+    #[error("old version")]
+    OldVersion,
     /// An earlier call failed, and the keeper takes no more.
     #[error("the keeper is stopped")]
     Stopped,
@@ -27,7 +30,7 @@ pub enum KeepFault {
 /// Keeps the seven tables, so that a stop at any moment leaves what was before a commit or the whole of it. An error
 /// leaves a keeper stopped, and a stopped one touches nothing more: its store is opened anew.
 pub trait Keep {
-    ghost use Rattle.std.specs.Prelude.{◌≡◌, ◌≢◌, Bool, false, List, [], ◌∷◌, IsTrue, IfOk, OnOk, OnErr, Err, All};
+    ghost use Rattle.std.specs.Prelude.{◌≡◌, ◌≢◌, ◌⊎◌, Bool, false, List, [], ◌∷◌, IsTrue, IfOk, OnOk, OnErr, Err, All};
     ghost use Rattle.book.specs.Rows.{Content, IsInKeyOrder};
     ghost use Rattle.book.specs.Tables.{content_of, rows_among};
     ghost use Rattle.keep.specs.Content.{IsAmong, IsDesk, IsTheRow};
@@ -41,6 +44,10 @@ pub trait Keep {
 
     // The seven tables are there, beside whatever else, and this is what they hold.
     ghost has_tables: { Self → Content → Type 0 };
+
+    // The store is of version 1: the six tables are there, beside whatever else but no `firm`, and one row of `desk` of
+    // version 1.
+    ghost is_old: { Self → Type 0 };
 
     // Whatever a stop leaves now, it is the seven tables, and their content is one of these.
     ghost leaves: { Self → List Content → Type 0 };
@@ -61,8 +68,9 @@ pub trait Keep {
     /// The content, each table in the order of its key. Changes nothing, and a stop then leaves that content alone. Whatever
     /// is answered, nothing is added to what a stop may leave, and the keeper is set as it was.
     ///
-    /// `Stopped` on a stopped keeper; `NotADesk` only where the store does not hold the seven tables with one row of `desk`
-    /// of version 2; `Memory` and `Store` where that is refused or fails.
+    /// `Stopped` on a stopped keeper; `OldVersion` only where the store is of version 1, and there nothing else but `Memory`
+    /// and `Store`; `NotADesk` only where it does not hold the seven tables with one row of `desk` of version 2; `Memory` and
+    /// `Store` where that is refused or fails.
     fn load(&mut self, alloc: Global) -> Result<Tables, KeepFault>
         ensures refused { IsTrue (stopped self.old) → (result ≡ Err KeepFault.Stopped) × (self.new ≡ self.old) }
         ensures going { stopped self.old ≡ false → result ≢ Err KeepFault.Stopped }
@@ -76,6 +84,8 @@ pub trait Keep {
         ensures order { IfOk result (λ tables. IsInKeyOrder (content_of tables)) }
         ensures version { IfOk result (λ tables. IsDesk (content_of tables)) }
         ensures desk { is_honest self.new → result ≡ Err KeepFault.NotADesk → (x : Content) → has_tables self.old x → ¬ IsDesk x }
+        ensures old_version { is_honest self.new → result ≡ Err KeepFault.OldVersion → is_old self.old }
+        ensures only_old { is_honest self.new → stopped self.old ≡ false → is_old self.old → (result ≡ Err KeepFault.OldVersion) ⊎ ((result ≡ Err KeepFault.Memory) ⊎ (result ≡ Err KeepFault.Store)) }
         ensures alone { is_honest self.new → OnOk result ((x : Content) → holds self.new x → leaves self.new (x ∷ [])) }
         // nothing is added to what a stop may leave
         ensures adds_nothing { is_honest self.new → (these : List Content) → leaves self.old these → leaves self.new these }
@@ -90,7 +100,7 @@ pub trait Keep {
         requires { All IsTheRow (rows_among changes.now).desk }
         ensures refused { IsTrue (stopped self.old) → (result ≡ Err KeepFault.Stopped) × (self.new ≡ self.old) }
         ensures going { stopped self.old ≡ false → result ≢ Err KeepFault.Stopped }
-        ensures desk { result ≢ Err KeepFault.NotADesk }
+        ensures desk { (result ≢ Err KeepFault.NotADesk) × (result ≢ Err KeepFault.OldVersion) }
         ensures settings { same_settings self.old self.new }
         ensures honest { is_honest self.new → is_honest self.old }
         ensures ok { OnOk result (stopped self.new ≡ false) }
@@ -100,8 +110,11 @@ pub trait Keep {
         ensures either { is_honest self.new → stopped self.old ≡ false → (x : Content) → holds self.old x → leaves self.old (x ∷ [])
             → leaves self.new (x ∷ with_changes changes.now x ∷ []) };
 
-    // What is held stands in the six tables.
+    // What is held stands in the seven tables.
     ghost in_tables: { (k : Self) (x : Content) → holds k x → has_tables k x };
+
+    // A store of version 1 is none of version 2.
+    ghost apart: { (k : Self) (x : Content) → is_old k → has_tables k x → ⊥ };
 
     // A stop leaves something.
     ghost something: { (k : Self) → is_honest k → leaves k [] → ⊥ };
@@ -115,6 +128,7 @@ pub trait Keep {
 
 /// The fault that an error of the store is told as.
 pub(crate) fn fault_of(error: SqlError) -> KeepFault
+    ensures either { (result ≡ KeepFault.Memory) ⊎ (result ≡ KeepFault.Store) }
     ensures memory { error ≡ SqlError.SqliteFailure ErrorCode.OutOfMemory → result ≡ KeepFault.Memory }
     ensures store { error ≢ SqlError.SqliteFailure ErrorCode.OutOfMemory → result ≡ KeepFault.Store }
 {

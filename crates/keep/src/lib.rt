@@ -13,6 +13,7 @@ mod schema;
 mod sql;
 mod stored;
 mod tables;
+mod upgrade;
 
 pub use keep::{Keep, KeepFault};
 pub use laws::{a_fuse_tells_no_lie, keepers_in_memory_are_honest};

@@ -72,6 +72,8 @@ impl Keep for PlainKeep {
 
     ghost has_tables = { λ k x. k.content ≡ x };
 
+    ghost is_old = { λ _. ⊥ };
+
     ghost leaves = { λ k these. IsAmong these k.content };
 
     ghost may_leave = { λ k x. k.content ≡ x };
@@ -90,7 +92,7 @@ impl Keep for PlainKeep {
         ensures refused { IsTrue self.old.stopped → (result ≡ Err KeepFault.Stopped) × (self.new ≡ self.old) }
         ensures going { self.old.stopped ≡ false → result ≢ Err KeepFault.Stopped }
         ensures store { result ≢ Err KeepFault.Store }
-        ensures desk { result ≢ Err KeepFault.NotADesk }
+        ensures desk { (result ≢ Err KeepFault.NotADesk) × (result ≢ Err KeepFault.OldVersion) }
         ensures ok { OnOk result ((self.new ≡ self.old) × (self.new.stopped ≡ false)) }
         ensures err { OnErr result (self.new ≡ after_error self.old) }
         ensures same { (self.new.content ≡ self.old.content) × (self.new.fails_in ≡ self.old.fails_in) × (self.new.lands ≡ self.old.lands) }
@@ -116,7 +118,7 @@ impl Keep for PlainKeep {
         requires { All IsTheRow (rows_among changes.now).desk }
         ensures refused { IsTrue self.old.stopped → (result ≡ Err KeepFault.Stopped) × (self.new ≡ self.old) }
         ensures going { self.old.stopped ≡ false → result ≢ Err KeepFault.Stopped }
-        ensures desk { result ≢ Err KeepFault.NotADesk }
+        ensures desk { (result ≢ Err KeepFault.NotADesk) × (result ≢ Err KeepFault.OldVersion) }
         ensures fails { IsToFail self.old → OnOk result ⊥ }
         ensures at_once { IsToFail self.old → self.old.lands ≡ false → result ≡ Err KeepFault.Store }
         ensures ok { OnOk result ((self.new ≡ after_commit changes.now self.old) × (self.new.stopped ≡ false)) }
@@ -144,6 +146,8 @@ impl Keep for PlainKeep {
     }
 
     ghost in_tables = { λ _ _ held. held };
+
+    ghost apart = { λ _ _ old _. old };
 
     ghost something = { λ _ _ none. none };
 

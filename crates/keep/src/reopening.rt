@@ -9,6 +9,7 @@ ghost use Rattle.sqlite_trees.specs.Tree.{Trees};
 ghost use Rattle.book.specs.Rows.{Content};
 ghost use Rattle.book.specs.Tables.{content_of};
 ghost use Rattle.keep.specs.Content.{Holds, IsAmong, IsContent, IsDesk, LeavesOnly};
+ghost use Rattle.keep.specs.Old.{HoldsOld, IsOldContent};
 
 use crate::keep::{Keep, KeepFault};
 use crate::sql::SqlKeep;
@@ -85,6 +86,7 @@ pub fn open_path<S: Start>(
 ) -> Result<SqlKeep<FileStore<FileFrom<S>>>, Error>
     ensures going { IfOk result (λ keep. keep.stopped ≡ false) }
     ensures found { IfOk result (λ keep. HasCleanDisk (file_state keep.connection) → (trees : Trees) (x : Content) → HoldsDatabase (image_at S.Start) trees → IsContent trees x → Holds (file_state keep.connection).now x) }
+    ensures old { IfOk result (λ keep. HasCleanDisk (file_state keep.connection) → (trees : Trees) (x : Content) → HoldsDatabase (image_at S.Start) trees → IsOldContent trees x → HoldsOld (file_state keep.connection).now x) }
     ensures alone { IfOk result (λ keep. HasCleanDisk (file_state keep.connection) → (x : Content) → Holds (file_state keep.connection).now x → LeavesOnly (file_state keep.connection).may_leave (x ∷ [])) }
 {
     match Connection::open_from(rt, path, false, start) {

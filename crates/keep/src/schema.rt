@@ -292,6 +292,15 @@ fn are_desk_tables(tables: &[Table]) -> bool
     are_old_tables(old_tables) && is_firm_table(firm)
 }
 
+/// Whether it has the six tables of a desk of version 1 as it was made, and nothing else. Takes no memory.
+fn is_old_schema(found: &Schema) -> bool
+    ensures { IsTrue result ↔ (found.now ≡ old_schema) }
+{
+    are_old_tables(found.tables.as_slice())
+        && are_key_indexes(found.indexes.as_slice())
+        && found.views.is_empty()
+}
+
 /// Whether it has the seven tables of a desk as it is made, and nothing else. Takes no memory.
 pub(crate) fn is_desk_schema(found: &Schema) -> bool
     ensures { IsTrue result ↔ (found.now ≡ desk_schema) }
@@ -325,7 +334,7 @@ fn has_table(found: &Schema, name: &[u8]) -> bool
 }
 
 /// Whether each of the six names is the name of a table. Takes no memory.
-pub(crate) fn has_names(found: &Schema) -> bool
+fn has_names(found: &Schema) -> bool
     ensures { IsTrue result ↔ HasNames found.now }
 {
     has_table(found, b"desk")
@@ -334,4 +343,35 @@ pub(crate) fn has_names(found: &Schema) -> bool
         && has_table(found, b"orders")
         && has_table(found, b"line")
         && has_table(found, b"kept")
+}
+
+/// Which schema of a desk it is.
+#[derive(Clone, Copy)]
+pub(crate) enum Layout {
+    /// That of version 2, as it is made.
+    Current,
+    /// That of version 1, as it was made.
+    Old,
+    /// Another one, in which each of the six names is a table's.
+    Other,
+    /// One in which they are not.
+    Nameless,
+}
+
+/// Which schema of a desk it is. Takes no memory.
+pub(crate) fn layout_of(found: &Schema) -> Layout
+    ensures current { result ≡ Layout.Current → HasNames found.now × (found.now ≡ desk_schema) }
+    ensures old { result ≡ Layout.Old → HasNames found.now × (found.now ≡ old_schema) }
+    ensures other { result ≡ Layout.Other → HasNames found.now × (¬ (found.now ≡ desk_schema)) × (¬ (found.now ≡ old_schema)) }
+    ensures nameless { result ≡ Layout.Nameless → ¬ HasNames found.now }
+{
+    if !has_names(found) {
+        Layout::Nameless
+    } else if is_desk_schema(found) {
+        Layout::Current
+    } else if is_old_schema(found) {
+        Layout::Old
+    } else {
+        Layout::Other
+    }
 }

@@ -1,19 +1,21 @@
 //! The keeper over SQLite.
 
 ghost use Rattle.std.specs.Prelude.{◌≡◌, ◌≢◌, ◌⊎◌, false, true, List, [], ◌∷◌, All, IsTrue, IfOk, IfErr, OnOk, OnErr, Err};
-ghost use Rattle.sqlite.specs.State.{HasCleanDisk, IsUnchanged, Survives};
+ghost use Rattle.sqlite.specs.State.{HasCleanDisk, IsLive, IsUnchanged, Survives};
 ghost use Rattle.sqlite.specs.Held.{state};
 ghost use Rattle.book.specs.Rows.{Content, IsInKeyOrder};
 ghost use Rattle.book.specs.Tables.{content_of, rows_among};
 ghost use Rattle.keep.specs.Content.{HasTables, Holds, IsDesk, IsTheRow, LeavesOnly, MayLeave};
 ghost use Rattle.keep.specs.Names.{HasNames};
 ghost use Rattle.keep.specs.Transactions.{Committed, AreChanged, with_changes};
-ghost use Rattle.keep.specs.Schema.{desk_schema};
+ghost use Rattle.keep.specs.Old.{IsOld};
+ghost use Rattle.keep.specs.Schema.{desk_schema, old_schema};
 
 use crate::commit::commit_all;
 use crate::keep::{Keep, KeepFault, fault_of};
 use crate::load::load_all;
-use crate::schema::{has_names, is_desk_schema};
+use crate::schema::{Layout, is_desk_schema, layout_of};
+use crate::tables::desk;
 use book::{Change, Tables};
 use sqlite::{Alter, Connection};
 use std::alloc::Global;
@@ -76,6 +78,47 @@ impl<S: Alter> SqlKeep<S> {
     }
 }
 
+/// The content of a store with the schema of a desk as it is made.
+fn load_current<S: Alter>(alloc: Global, conn: &mut Connection<S>) -> Result<Tables, KeepFault>
+    requires idle { conn.old.in_transaction ≡ false }
+    requires schema { (state S.Store conn.old).now.schema ≡ desk_schema }
+    requires live { IsLive (state S.Store conn.old) }
+    ensures idle { conn.new.in_transaction ≡ false }
+    ensures going { (result ≢ Err KeepFault.Stopped) × (result ≢ Err KeepFault.OldVersion) }
+    ensures order { IfOk result (λ tables. IsInKeyOrder (content_of tables)) }
+    ensures version { IfOk result (λ tables. IsDesk (content_of tables)) }
+    ensures content { HasCleanDisk (state S.Store conn.new) → IfOk result (λ tables. Holds (state S.Store conn.old).now (content_of tables) × IsUnchanged (state S.Store conn.old) (state S.Store conn.new)) }
+    ensures one { HasCleanDisk (state S.Store conn.new) → IfOk result (λ tables. (x : Content) → Holds (state S.Store conn.old).now x → content_of tables ≡ x) }
+    ensures settled { HasCleanDisk (state S.Store conn.new) → OnOk result (IsTrue (state S.Store conn.new).is_open × ((state S.Store conn.new).committed ≡ (state S.Store conn.new).now)) }
+    ensures desk { HasCleanDisk (state S.Store conn.new) → result ≡ Err KeepFault.NotADesk → (x : Content) → HasTables (state S.Store conn.old).now x → ¬ IsDesk x }
+    ensures survives { Survives (state S.Store conn.old) (state S.Store conn.new) (λ _. ⊥) }
+{
+    // between transactions an open store shows what is committed
+    let _settled = conn.is_autocommit();
+    match load_all(alloc, conn) {
+        Ok(Some(tables)) => Ok(tables),
+        Ok(None) => Err(KeepFault::NotADesk),
+        Err(error) => Err(fault_of(error)),
+    }
+}
+
+/// Why a store with the schema of version 1 is not loaded.
+fn old_fault<S: Alter>(conn: &mut Connection<S>) -> KeepFault
+    requires idle { conn.old.in_transaction ≡ false }
+    requires schema { (state S.Store conn.old).now.schema ≡ old_schema }
+    ensures idle { conn.new.in_transaction ≡ false }
+    ensures going { result ≢ KeepFault.Stopped }
+    ensures old { HasCleanDisk (state S.Store conn.new) → result ≡ KeepFault.OldVersion → IsOld (state S.Store conn.old).now }
+    ensures only { HasCleanDisk (state S.Store conn.new) → IsOld (state S.Store conn.old).now → result ≢ KeepFault.NotADesk }
+    ensures survives { Survives (state S.Store conn.old) (state S.Store conn.new) (λ _. ⊥) }
+{
+    match desk::load(conn, desk::OLD_VERSION) {
+        Ok(Some(_)) => KeepFault::OldVersion,
+        Ok(None) => KeepFault::NotADesk,
+        Err(error) => fault_of(error),
+    }
+}
+
 /// The content of a store that is a desk, read by a connection in no transaction.
 fn load_from<S: Alter>(alloc: Global, conn: &mut Connection<S>) -> Result<Tables, KeepFault>
     requires { conn.old.in_transaction ≡ false }
@@ -87,22 +130,18 @@ fn load_from<S: Alter>(alloc: Global, conn: &mut Connection<S>) -> Result<Tables
     ensures one { HasCleanDisk (state S.Store conn.new) → IfOk result (λ tables. (x : Content) → Holds (state S.Store conn.old).now x → content_of tables ≡ x) }
     ensures settled { HasCleanDisk (state S.Store conn.new) → OnOk result (IsTrue (state S.Store conn.new).is_open × ((state S.Store conn.new).committed ≡ (state S.Store conn.new).now)) }
     ensures desk { HasCleanDisk (state S.Store conn.new) → result ≡ Err KeepFault.NotADesk → (x : Content) → HasTables (state S.Store conn.old).now x → ¬ IsDesk x }
+    ensures old_version { HasCleanDisk (state S.Store conn.new) → result ≡ Err KeepFault.OldVersion → IsOld (state S.Store conn.old).now }
+    ensures only_old { HasCleanDisk (state S.Store conn.new) → IsOld (state S.Store conn.old).now → (result ≡ Err KeepFault.OldVersion) ⊎ ((result ≡ Err KeepFault.Memory) ⊎ (result ≡ Err KeepFault.Store)) }
     ensures nameless { ¬ HasNames (state S.Store conn.old).now.schema → (result ≡ Err KeepFault.NotADesk) × (conn.new ≡ conn.old) }
-    ensures other { HasNames (state S.Store conn.old).now.schema → ¬ ((state S.Store conn.old).now.schema ≡ desk_schema) → (result ≡ Err KeepFault.Store) × (conn.new ≡ conn.old) }
+    ensures other { HasNames (state S.Store conn.old).now.schema → ¬ ((state S.Store conn.old).now.schema ≡ desk_schema) → ¬ ((state S.Store conn.old).now.schema ≡ old_schema)
+        → (result ≡ Err KeepFault.Store) × (conn.new ≡ conn.old) }
     ensures survives { Survives (state S.Store conn.old) (state S.Store conn.new) (λ _. ⊥) }
 {
-    if !has_names(conn.schema()) {
-        return Err(KeepFault::NotADesk);
-    }
-    if !is_desk_schema(conn.schema()) {
-        return Err(KeepFault::Store);
-    }
-    // between transactions an open store shows what is committed
-    let _settled = conn.is_autocommit();
-    match load_all(alloc, conn) {
-        Ok(Some(tables)) => Ok(tables),
-        Ok(None) => Err(KeepFault::NotADesk),
-        Err(error) => Err(fault_of(error)),
+    match layout_of(conn.schema()) {
+        Layout::Current => load_current(alloc, conn),
+        Layout::Old => Err(old_fault(conn)),
+        Layout::Other => Err(KeepFault::Store),
+        Layout::Nameless => Err(KeepFault::NotADesk),
     }
 }
 
@@ -122,13 +161,15 @@ fn commit_to<S: Alter>(conn: &mut Connection<S>, changes: &[Change]) -> Result<(
 }
 
 impl<S: Alter> Keep for SqlKeep<S> {
-    ghost use Rattle.keep.specs.Laws.{holds_tables, is_in_these, leaves_a_content, leaves_something};
+    ghost use Rattle.keep.specs.Laws.{holds_tables, is_in_these, old_is_apart, leaves_a_content, leaves_something};
 
     ghost is_honest = { λ k. HasCleanDisk (state S.Store k.connection) };
 
     ghost holds = { λ k. Holds (state S.Store k.connection).now };
 
     ghost has_tables = { λ k. HasTables (state S.Store k.connection).now };
+
+    ghost is_old = { λ k. IsOld (state S.Store k.connection).now };
 
     ghost leaves = { λ k. LeavesOnly (state S.Store k.connection).may_leave };
 
@@ -144,7 +185,8 @@ impl<S: Alter> Keep for SqlKeep<S> {
     }
 
     /// As every keeper's. A store whose tables are not those of a desk as it is made is left as it is, and named: `NotADesk`
-    /// where one of the six names is no table's, and else `Store`.
+    /// where one of the six names that each version has is no table's, and else `Store`; unless they are those of version 1 as
+    /// it was made.
     fn load(&mut self, alloc: Global) -> Result<Tables, KeepFault>
         ensures refused { IsTrue self.old.stopped → (result ≡ Err KeepFault.Stopped) × (self.new ≡ self.old) }
         ensures going { self.old.stopped ≡ false → result ≢ Err KeepFault.Stopped }
@@ -159,12 +201,15 @@ impl<S: Alter> Keep for SqlKeep<S> {
         ensures order { IfOk result (λ tables. IsInKeyOrder (content_of tables)) }
         ensures version { IfOk result (λ tables. IsDesk (content_of tables)) }
         ensures desk { HasCleanDisk (state S.Store self.new.connection) → result ≡ Err KeepFault.NotADesk → (x : Content) → HasTables (state S.Store self.old.connection).now x → ¬ IsDesk x }
+        ensures old_version { HasCleanDisk (state S.Store self.new.connection) → result ≡ Err KeepFault.OldVersion → IsOld (state S.Store self.old.connection).now }
+        ensures only_old { HasCleanDisk (state S.Store self.new.connection) → self.old.stopped ≡ false → IsOld (state S.Store self.old.connection).now
+            → (result ≡ Err KeepFault.OldVersion) ⊎ ((result ≡ Err KeepFault.Memory) ⊎ (result ≡ Err KeepFault.Store)) }
         ensures alone { HasCleanDisk (state S.Store self.new.connection) → OnOk result ((x : Content) → Holds (state S.Store self.new.connection).now x → LeavesOnly (state S.Store self.new.connection).may_leave (x ∷ [])) }
         ensures adds_nothing { HasCleanDisk (state S.Store self.new.connection) → (these : List Content) → LeavesOnly (state S.Store self.old.connection).may_leave these → LeavesOnly (state S.Store self.new.connection).may_leave these }
         ensures no_more { HasCleanDisk (state S.Store self.new.connection) → (x : Content) → MayLeave (state S.Store self.new.connection).may_leave x → MayLeave (state S.Store self.old.connection).may_leave x }
         ensures nameless { self.old.stopped ≡ false → ¬ HasNames (state S.Store self.old.connection).now.schema → (result ≡ Err KeepFault.NotADesk) × (self.new ≡ record self.old { stopped = true }) }
         ensures other { self.old.stopped ≡ false → HasNames (state S.Store self.old.connection).now.schema → ¬ ((state S.Store self.old.connection).now.schema ≡ desk_schema)
-            → (result ≡ Err KeepFault.Store) × (self.new ≡ record self.old { stopped = true }) }
+            → ¬ ((state S.Store self.old.connection).now.schema ≡ old_schema) → (result ≡ Err KeepFault.Store) × (self.new ≡ record self.old { stopped = true }) }
     {
         self.expect_going()?;
         let loaded = load_from(alloc, &mut self.conn);
@@ -177,7 +222,7 @@ impl<S: Alter> Keep for SqlKeep<S> {
         requires { All IsTheRow (rows_among changes.now).desk }
         ensures refused { IsTrue self.old.stopped → (result ≡ Err KeepFault.Stopped) × (self.new ≡ self.old) }
         ensures going { self.old.stopped ≡ false → result ≢ Err KeepFault.Stopped }
-        ensures desk { result ≢ Err KeepFault.NotADesk }
+        ensures desk { (result ≢ Err KeepFault.NotADesk) × (result ≢ Err KeepFault.OldVersion) }
         ensures settings { self.new.connection.step_limit ≡ self.old.connection.step_limit }
         ensures honest { HasCleanDisk (state S.Store self.new.connection) → HasCleanDisk (state S.Store self.old.connection) }
         ensures ok { OnOk result (self.new.stopped ≡ false) }
@@ -195,6 +240,8 @@ impl<S: Alter> Keep for SqlKeep<S> {
     }
 
     ghost in_tables = { λ k. holds_tables _ };
+
+    ghost apart = { λ k. old_is_apart _ };
 
     ghost something = { λ k clean. leaves_something _ (S.survives k.connection.store clean) };
 

@@ -18,6 +18,9 @@ use sqlite::{Alter, Connection, Error, Row, Transaction, params};
 /// The version of the schema.
 pub(crate) const VERSION: i64 = 2;
 
+/// The version before it, whose schema lacks `firm`.
+pub(crate) const OLD_VERSION: i64 = 1;
+
 /// Puts a row in by its key.
 pub(crate) fn upsert<S: Alter>(tx: &mut Transaction<'_, S>, row: &DeskRow) -> Result<usize, Error>
     ensures same_reference { tx.new.conn.ghost_name ≡ tx.old.conn.ghost_name }

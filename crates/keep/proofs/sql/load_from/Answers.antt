@@ -1,27 +1,30 @@
+use Rattle.std.proofs.Common.{refl}
 use Rattle.sqlite.specs.Held.{state}
-use Rattle.keep.proofs.Schemas.{nameless}
-use Rattle.book.proofs.Tested.{true_not_false}
+use Rattle.keep.proofs.Schemas.{has_firm, nameless, old_names}
 use Rattle.keep.proofs.sql.load_from.Goals as goal
 
-pub returns-then-not-has_names-clause-desk : goal.returns-then-not-has_names-clause-desk
-returns-then-not-has_names-clause-desk g c clean fault x held one =
-    nameless (state g.S.Store c.args.conn.now).now x (λ names. true_not_false (c.has_names.ensures.1 (rw c.schema.ensures.value names)) c.if-not-has_names.true) held
+pub returns-in-Current-clause-only_old : goal.returns-in-Current-clause-only_old
+returns-in-Current-clause-only_old g c clean old =
+    let is = rw c.schema.ensures.value at (c.in-Current.ensures.current refl) in absurd (has_firm (state g.S.Store c.args.conn.now).now is.1 old)
 
-pub returns-in-Ok-Some-clause-content : goal.returns-in-Ok-Some-clause-content
-returns-in-Ok-Some-clause-content g c = rw c.in-Ok-Some.field-0-is at c.in-Ok-Some.ensures.content
+-- in each layout but the last the six names are there
+pub returns-in-Current-clause-nameless : goal.returns-in-Current-clause-nameless
+returns-in-Current-clause-nameless g c none = absurd (none (rw c.schema.ensures.value at (c.in-Current.ensures.current refl).0))
 
-pub returns-in-Ok-Some-clause-one : goal.returns-in-Ok-Some-clause-one
-returns-in-Ok-Some-clause-one g c = rw c.in-Ok-Some.field-0-is at c.in-Ok-Some.ensures.one
+pub returns-in-Old-clause-nameless : goal.returns-in-Old-clause-nameless
+returns-in-Old-clause-nameless g c none = absurd (none (rw c.schema.ensures.value at (c.in-Old.ensures.old refl).0))
 
-pub returns-in-Ok-None-clause-desk : goal.returns-in-Ok-None-clause-desk
-returns-in-Ok-None-clause-desk g c clean fault = c.in-Ok-None.ensures.none clean c.in-Ok-None.field-0-is
+pub returns-in-Other-clause-nameless : goal.returns-in-Other-clause-nameless
+returns-in-Other-clause-nameless g c none = absurd (none (rw c.schema.ensures.value at (c.in-Other.ensures.other refl).0))
 
--- past the test each of the six names is there
-pub returns-in-Ok-Some-clause-nameless : goal.returns-in-Ok-Some-clause-nameless
-returns-in-Ok-Some-clause-nameless g c none = absurd (none (rw c.schema.ensures.value at (c.has_names.ensures.0 c.if-not-has_names.false)))
+pub returns-in-Nameless-clause-desk : goal.returns-in-Nameless-clause-desk
+returns-in-Nameless-clause-desk g c clean fault x has one =
+    nameless (state g.S.Store c.args.conn.now).now x (rw c.schema.ensures.value at (c.in-Nameless.ensures.nameless refl)) has
 
-pub returns-in-Ok-None-clause-nameless : goal.returns-in-Ok-None-clause-nameless
-returns-in-Ok-None-clause-nameless g c none = absurd (none (rw c.schema.ensures.value at (c.has_names.ensures.0 c.if-not-has_names.false)))
+pub returns-in-Nameless-clause-only_old : goal.returns-in-Nameless-clause-only_old
+returns-in-Nameless-clause-only_old g c clean old =
+    let none = rw c.schema.ensures.value at (c.in-Nameless.ensures.nameless refl) in absurd (none (old_names (state g.S.Store c.args.conn.now).now old))
 
-pub returns-in-Err-clause-nameless : goal.returns-in-Err-clause-nameless
-returns-in-Err-clause-nameless g c none = absurd (none (rw c.schema.ensures.value at (c.has_names.ensures.0 c.if-not-has_names.false)))
+pub returns-in-Nameless-clause-other : goal.returns-in-Nameless-clause-other
+returns-in-Nameless-clause-other g c names differ other =
+    let none = rw c.schema.ensures.value at (c.in-Nameless.ensures.nameless refl) in absurd (none names)

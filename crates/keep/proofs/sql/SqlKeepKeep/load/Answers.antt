@@ -25,7 +25,7 @@ returns-clause-nameless g c going none =
     (told.0, stopped_over c.load_from-loaded.result _ _ _ _ c.is_err-self-inside.ensures.value told.0 told.1)
 
 pub returns-clause-other : goal.returns-clause-other
-returns-clause-other g c going names differ =
+returns-clause-other g c going names differ other =
     let same : c.self.inside.conn ≡ c.args.self.now.connection = ap (λ k. k.connection) c.self.view_is in
-    let told = (rw same at c.load_from-loaded.ensures.other) names differ in
+    let told = (rw same at c.load_from-loaded.ensures.other) names differ other in
     (told.0, stopped_over c.load_from-loaded.result _ _ _ _ c.is_err-self-inside.ensures.value told.0 told.1)
