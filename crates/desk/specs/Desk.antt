@@ -4,7 +4,7 @@ use Rattle.book.specs.Good.{Good}
 use Rattle.book.specs.Ledger.{Ledger}
 use Rattle.book.specs.Rows.{Content, IsRowsOf}
 use Rattle.desk.specs.declared.fault.OpenFault.{OpenFault}
-use Rattle.desk.specs.declared.fault.OpenFault.TheVariants.{Memory, Store}
+use Rattle.desk.specs.declared.fault.OpenFault.TheVariants.{Memory, OldVersion, Store}
 
 -- a desk as it is seen: its ledger, and the keeper of its rows
 pub record DeskView (K : Type 0) : Type 0 where
@@ -35,6 +35,11 @@ pub record LeavesEither (leaves : List Content → Type 0) (A B : Ledger) : Type
 abbrev pub OpensAt : {K : Type 0} → Ledger → Result (DeskView K) (OpenFault × K) → Type 0
 OpensAt A (Ok desk) = desk.ledger ≡ A
 OpensAt A (Err e) = (e.0 ≡ Memory) ⊎ (e.0 ≡ Store)
+
+-- refused as of an old version, for memory or by the store, and nothing else
+abbrev pub IsRefusedAsOld : {K : Type 0} → Result (DeskView K) (OpenFault × K) → Type 0
+IsRefusedAsOld (Ok desk) = ⊥
+IsRefusedAsOld (Err e) = (e.0 ≡ OldVersion) ⊎ ((e.0 ≡ Memory) ⊎ (e.0 ≡ Store))
 
 -- the keeper after an opening: the desk's, or the one that is given back
 abbrev pub keeper_after : {K E : Type 0} → Result (DeskView K) (E × K) → K

@@ -13,7 +13,7 @@ ghost use Rattle.book.specs.Plans.{Fits};
 ghost use Rattle.book.specs.Rows.{Content, IsDamaged, IsRowsOf};
 ghost use Rattle.book.specs.Views.{ShowsField, ShowsOrder};
 ghost use Rattle.keep.specs.Content.{IsDesk};
-ghost use Rattle.desk.specs.Desk.{Keeps, LeavesEither, OpensAt, keeper_after};
+ghost use Rattle.desk.specs.Desk.{IsRefusedAsOld, Keeps, LeavesEither, OpensAt, keeper_after};
 
 use crate::fault::{CallFault, OpenFault, load_fault};
 use book::{Book, FieldView, OrderView, Plan, Planned, TablesFault};
@@ -44,8 +44,9 @@ impl<K: Keep> Model for Desk<K> {
 impl<K: Keep> Desk<K> {
     /// Opens the desk whose rows the keeper holds. An error gives the keeper back.
     ///
-    /// `NotADesk` only where the keeper does not hold the six tables with one row of `desk` of version 1, `Damaged` only
-    /// where they are the rows of no good ledger; `Store` where the store fails or the keeper is stopped, `Memory` where
+    /// `NotADesk` only where the keeper does not hold the seven tables with one row of `desk` of version 2, `OldVersion` only
+    /// where what it holds is of version 1, and there nothing else but `Memory` and `Store`; `Damaged` only where the rows are
+    /// those of no good ledger; `Store` where the store fails or the keeper is stopped, `Memory` where
     /// memory is refused.
     pub fn open(alloc: Global, keep: K) -> Result<Desk<K>, (OpenFault, K)>
         ensures refused { IsTrue (K.stopped keep) → result ≡ Err (OpenFault.Store, keep) }
@@ -58,7 +59,9 @@ impl<K: Keep> Desk<K> {
         ensures damaged { IfErr result (λ e. e.0 ≡ OpenFault.Damaged → K.is_honest e.1 → (x : Content) → K.holds keep x → IsDamaged x) }
         ensures loaded { IfErr result (λ e. e.0 ≡ OpenFault.Damaged → K.stopped e.1 ≡ false) }
         ensures not_a_desk { IfErr result (λ e. e.0 ≡ OpenFault.NotADesk → K.is_honest e.1 → (x : Content) → K.has_tables keep x → ¬ IsDesk x) }
-        ensures stopped { IfErr result (λ e. (e.0 ≡ OpenFault.Store) ⊎ (e.0 ≡ OpenFault.NotADesk) → IsTrue (K.stopped e.1)) }
+        ensures old_version { IfErr result (λ e. e.0 ≡ OpenFault.OldVersion → K.is_honest e.1 → K.is_old keep) }
+        ensures only_old { K.is_honest (keeper_after result) → K.stopped keep ≡ false → K.is_old keep → IsRefusedAsOld result }
+        ensures stopped { IfErr result (λ e. (e.0 ≡ OpenFault.Store) ⊎ ((e.0 ≡ OpenFault.NotADesk) ⊎ (e.0 ≡ OpenFault.OldVersion)) → IsTrue (K.stopped e.1)) }
         ensures same { K.is_honest (keeper_after result) → K.stopped (keeper_after result) ≡ false → (x : Content)
             → (K.holds keep x → K.holds (keeper_after result) x) × (K.holds (keeper_after result) x → K.holds keep x) }
         // nothing is added to what a stop may leave

@@ -11,9 +11,12 @@ pub enum OpenFault {
     /// The tables are the rows of no good ledger.
     #[error("damaged")]
     Damaged,
-    /// The keeper does not hold the six tables with one row of `desk` of version 1.
+    /// The keeper does not hold the seven tables with one row of `desk` of version 2, and is not of version 1.
     #[error("not a desk")]
     NotADesk,
+    /// What the keeper holds is of version 1: the tables without `firm`, and one row of `desk` of version 1.
+    #[error("old version")]
+    OldVersion,
     /// There is no memory for it.
     #[error("out of memory")]
     Memory,
@@ -54,12 +57,14 @@ pub enum ScriptFault {
 pub(crate) fn load_fault(fault: KeepFault) -> OpenFault
     ensures memory { fault ≡ KeepFault.Memory → result ≡ OpenFault.Memory }
     ensures desk { result ≡ OpenFault.NotADesk ↔ fault ≡ KeepFault.NotADesk }
+    ensures old { result ≡ OpenFault.OldVersion ↔ fault ≡ KeepFault.OldVersion }
     ensures store { (fault ≡ KeepFault.Store) ⊎ (fault ≡ KeepFault.Stopped) → result ≡ OpenFault.Store }
     ensures damaged { result ≢ OpenFault.Damaged }
 {
     match fault {
         KeepFault::Memory => OpenFault::Memory,
         KeepFault::NotADesk => OpenFault::NotADesk,
+        KeepFault::OldVersion => OpenFault::OldVersion,
         KeepFault::Store | KeepFault::Stopped => OpenFault::Store,
     }
 }
