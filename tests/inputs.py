@@ -3,7 +3,7 @@
 import json
 import random
 
-VERBS = ["field", "deliver", "writeoff", "rebound", "open", "open", "transfer", "more", "use", "use", "release", "commit", "abort"]
+VERBS = "field deliver writeoff rebound open open transfer more use use release firm commit abort".split()
 # numbers at an edge of some range, and words that are no numbers
 EDGES = "0 1 64 1000000 1000001 999999999 1000000000 1000000001 4000000000 4000000001 9223372036854775808".split()
 NO_NUMBERS = ["", "01", "-1", "+1", "1.0", "1e3", " 1", "one", "\u0661"]
@@ -72,7 +72,7 @@ class Inputs:
             self.orders += 1
             pair = f"{self.article()} {self.branch()} {self.branch()} {quantity}"
             return f"{verb} {self.orders} {self.until()} {' '.join(self.lines()) if verb == 'open' else pair}"
-        if verb in ("commit", "abort"):
+        if verb in ("firm", "commit", "abort"):
             return f"{verb} {self.order()}"
         way = f"{self.way()} " if verb == "more" else ""
         return f"{verb} {self.order()} {way}{field} {quantity}"

@@ -21,7 +21,7 @@ COMMANDS = 2_000
 ROUNDS = 20
 KILLED_IN = 500
 
-VERBS = ["deliver", "writeoff", "rebound", "open", "open", "transfer", "more", "use", "use", "release", "commit", "abort"]
+VERBS = "deliver writeoff rebound open open transfer more use use release firm commit abort".split()
 FIRST = ("K1", "field N1 A-1 0 100 40")
 JSON = "application/json"
 
@@ -137,7 +137,7 @@ def steps():
             lines = " ".join(f"{generator.choice(['take', 'add'])} {f} {quantity}" for f in generator.sample(fields, 3))
             pair = f"{article} {branch} N{generator.randrange(5)} {quantity}"
             made.append((key, f"{verb} {orders} {until} {lines if verb == 'open' else pair}", f"order {orders}"))
-        elif verb in ("commit", "abort"):
+        elif verb in ("firm", "commit", "abort"):
             made.append((key, f"{verb} {order.split()[1]}", order))
         else:
             way = "take " if verb == "more" else ""
