@@ -53,15 +53,15 @@ NO_TASK = [
     ["Run"],
     ["walk"],
     ["init"],
-    ["upgrade"],
     ["run", "usage.db", "more"],
     ["init", "usage.db", "more"],
-    ["upgrade", "usage.db", "more"],
     ["orders", "usage.db"],
     ["deliveries", "usage.db", "file.csv", "more"],
     ["bounds", "usage.db"],
     ["sheet", "usage.db"],
     ["article", "usage.db"],
+    ["upgrade"],
+    ["upgrade", "usage.db", "more"],
     ["serve", "usage.db"],
     ["serve", "usage.db", "--port", "0"],
     ["serve", "usage.db", "--connections", "1"],
@@ -75,9 +75,8 @@ NO_TASK = [
 
 # of what each help tells in a line
 HELP = [
-    (["--help"], ["init", "upgrade", "run", "orders", "deliveries", "bounds", "sheet", "article", "serve"]),
+    (["--help"], ["init", "run", "orders", "deliveries", "bounds", "sheet", "article", "serve", "upgrade"]),
     (["init", "--help"], ["FILE"]),
-    (["upgrade", "--help"], ["FILE"]),
     (["run", "--help"], ["FILE"]),
     (["orders", "--help"], ["FILE", "CSV"]),
     (["deliveries", "--help"], ["FILE", "CSV"]),
@@ -85,6 +84,7 @@ HELP = [
     (["sheet", "--help"], ["FILE", "BRANCH"]),
     (["article", "--help"], ["FILE", "ARTICLE"]),
     (["serve", "--help"], ["FILE", "--port", "--connections"]),
+    (["upgrade", "--help"], ["FILE"]),
 ]
 
 # files with bytes that are no desk, and what a run on them ends with

@@ -109,10 +109,13 @@ def new_desk(program, folder, name="desk.db"):
 
 
 def rows_of(path):
-    """The rows of all tables in the order of their keys, each as a line that begins with its table."""
+    """The rows of all tables in the order of their keys, each as a line that begins with its table. A desk of version 1 has all
+    tables but the last."""
     database = sqlite3.connect(path)
     rows = []
     for table, columns in COLUMNS.items():
+        if table == "firm" and rows and rows[0].split("|")[2] == "1":
+            break
         order = ", ".join(columns[: KEYS[table]])
         for row in database.execute(f"SELECT {', '.join(columns)} FROM {table} ORDER BY {order}"):
             rows.append("|".join([table, *map(str, row)]))
