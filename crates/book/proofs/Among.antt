@@ -1,5 +1,5 @@
 -- Rows among changes, as changes are appended.
-use Rattle.book.proofs.Prelude.{[], ◌++◌, ◌+◌, ◌<◌, ◌∙◌, ◌∷◌, ◌≡◌, Bool, Change, Content, FieldCells, FieldRow, KeptCells, KeptRow, Line, LineCells, LineRow, List, MoveRow, OrderCells, OrderRow, ap, append_assoc, arith, field_cells, get_or, kept_cells, length, length-take-le, line_cells, line_rows, move_cells, order_cells, refl, rows_among, sym, take, with_fields, with_kept, with_lines, with_moves, with_orders, ℕ}
+use Rattle.book.proofs.Prelude.{[], ◌++◌, ◌+◌, ◌<◌, ◌∙◌, ◌∷◌, ◌≡◌, Bool, Change, Content, FieldCells, FieldRow, FirmRow, KeptCells, KeptRow, Line, LineCells, LineRow, List, MoveRow, OrderCells, OrderRow, ap, append_assoc, arith, field_cells, firm_cells, firm_row, get_or, kept_cells, length, length-take-le, line_cells, line_rows, move_cells, order_cells, pos, refl, rows_among, sym, take, with_fields, with_firms, with_kept, with_lines, with_moves, with_orders, ℕ}
 use Rattle.book.specs.Rows.{MoveCells}
 use Rattle.book.specs.declared.rows.Change.TheVariants as change
 use Rattle.book.proofs.Walked.{take-step}
@@ -49,6 +49,14 @@ kept_last (c ∷ cs) r = let more = kept_last cs r in grind arith
 -- one row more in that table
 pub kept_pushed : (old new : List Change) (r : KeptRow) (cells : KeptCells) → new ≡ old ++ change.Kept r ∷ [] → kept_cells r ≡ cells → rows_among new ≡ with_kept (cells ∷ []) (rows_among old)
 kept_pushed old new r cells e is = ap rows_among e ∙ kept_last old r ∙ ap (λ (x : KeptCells). with_kept (x ∷ []) (rows_among old)) is
+
+firm_last : (cs : List Change) (r : FirmRow) → rows_among (cs ++ change.Firm r ∷ []) ≡ with_firms (firm_cells r ∷ []) (rows_among cs)
+firm_last [] r = refl
+firm_last (c ∷ cs) r = let more = firm_last cs r in grind arith
+
+-- one row more in that table
+pub firm_pushed : (old new : List Change) (r : FirmRow) (n : ℕ) → new ≡ old ++ change.Firm r ∷ [] → r.number ≡ pos n → rows_among new ≡ with_firms (firm_row n ∷ []) (rows_among old)
+firm_pushed old new r n e is = ap rows_among e ∙ firm_last old r ∙ ap (λ z. with_firms (record { number = z } ∷ []) (rows_among old)) is
 
 -- ---- rows of lines, one more at a time
 

@@ -1,17 +1,16 @@
 -- The fields that a request makes or changes, put in one after the other by their names.
-use Rattle.book.proofs.Prelude.{[], ◌++◌, ◌+◌, ◌<◌, ◌==◌, ◌||◌, ◌∙◌, ◌∷◌, ◌≡◌, Accepts, Bool, Command, Contains, Each, Equal, Field, FieldCells, FieldEntry, FirstFailure, Greater, HasEntry, IsChangedField, IsGoodOrder, IsSome, IsStrictlySortedBy, Ledger, Less, Line, List, Name, None, OnOk, Option, Order, Ordering, Puts, Request, Result, Some, accept, ap, arith, changes_field, checks, common_steps, cond, entry_row, false, field_named, find, flat_map, get_or, if◌then◌else◌, insert_entry, ints, is_at, is_eq, is_some, keys_of, length, line_name, lookup, map, match_ordering, name_cmp, next, on, order_after, order_number, ordering_reverse, refl, same_name, subst, sym, take, tied_itself, true, true≢false, ℕ}
+use Rattle.book.proofs.Prelude.{[], ◌++◌, ◌+◌, ◌<◌, ◌==◌, ◌||◌, ◌∙◌, ◌∷◌, ◌≡◌, Accepts, Bool, Command, Each, Equal, Field, FieldCells, FieldEntry, FirstFailure, Greater, HasEntry, IsChangedField, IsGoodLine, IsGoodOrder, IsSome, IsStrictlySortedBy, Ledger, Less, Line, List, Name, None, OnOk, Option, Order, Ordering, Puts, Request, Result, Some, accept, ap, arith, changes_field, checks, common_steps, cond, entry_row, false, field_named, find, flat_map, get_or, if◌then◌else◌, insert_entry, ints, is_at, is_eq, is_some, keys_of, length, line_name, lookup, map, match_ordering, name_cmp, next, on, order_after, order_number, ordering_reverse, refl, same_name, subst, sym, take, tied_itself, true, true≢false, ℕ}
 use Rattle.book.specs.Running.{IsOneOf}
 use Rattle.book.proofs.Asked.{same_self}
 use Rattle.book.proofs.Bounds.{OneOn}
-use Rattle.book.proofs.Chosen.{number_is, some_is, or_right}
+use Rattle.book.proofs.Chosen.{found_passes, number_is, or_right, some_is}
 use Rattle.book.proofs.Closing.{name_is}
 use Rattle.book.proofs.Growing.{other_way}
 use Rattle.book.proofs.Keyed.{equal_field}
 use Rattle.book.proofs.Made.{each-found, made_there, no_number}
 use Rattle.book.proofs.Staying.{name_cmp_total}
 use Rattle.book.proofs.Sums.{each-both, each-imp}
-use Rattle.book.proofs.Viewed.{Contains-of_find}
-use Rattle.book.proofs.Walked.{each-at, each-next}
+use Rattle.book.proofs.Walked.{each-next}
 
 -- ---- what is put in
 
@@ -169,24 +168,21 @@ found_itself (l ∷ ls) one = (
 pub number_of_made : (A : Ledger) (c : Command) (o : Order) → FirstFailure (checks A c) None → order_after A c ≡ Some o → order_number c ≡ Some o.number
 number_of_made A c o passed made = by (order_number c) refl
   where
-    numbered : (n : ℕ) (os : List Order) → find (λ m. m.number == n) os ≡ Some o → (o.number == n) ≡ true
-    numbered n [] there = absurd (true≢false (sym (ap is_some there)))
-    numbered n (m ∷ ms) there = step (m.number == n) refl there (λ k. numbered n ms k)
-      where
-        step : (b : Bool) → (m.number == n) ≡ b → (if b then Some m else find (λ m. m.number == n) ms) ≡ Some o → (find (λ m. m.number == n) ms ≡ Some o → (o.number == n) ≡ true) → (o.number == n) ≡ true
-        step b e k more = grind arith
-
     by : (x : Option ℕ) → order_number c ≡ x → x ≡ Some o.number
     by None e = absurd (true≢false (sym (sym (ap is_some (no_number A c e)) ∙ ap is_some made)))
-    by (Some n) e = ap (λ k. Some k) (sym (number_is o.number n (numbered n (next A c).orders (made_there A c n passed e ∙ made))))
+    by (Some n) e = ap (λ k. Some k) (sym (number_is o.number n (found_passes (λ m. m.number == n) o (next A c).orders (made_there A c n passed e ∙ made))))
 
 -- the order that is made is a good one of the next ledger
 pub made_good : (A : Ledger) (r : Request) (o : Order) → Accepts A r → order_after A r.command ≡ Some o → IsGoodOrder (accept A r) o
 made_good A r o a made = each-found (IsGoodOrder (accept A r)) (λ m. m.number == o.number) o (accept A r).orders a.after.orders (made_there A r.command o.number a.accepted.1 (number_of_made A r.command o a.accepted.1 made) ∙ made)
 
+-- it makes no field and changes no bounds
+pub made_keeps : (A : Ledger) (c : Command) (o : Order) → order_after A c ≡ Some o → (next A c).fields ≡ A.fields
+made_keeps x c o made = grind arith
+
 -- the field of one of its lines is there
 pub line_there : (A : Ledger) (r : Request) (o : Order) (l : Line) → Accepts A r → order_after A r.command ≡ Some o → find (on (line_name l)) o.lines ≡ Some l → IsSome (field_named A (line_name l))
-line_there A r o l a made found = grind (arith, (made_good A r o a made), each-found, number_of_made)
+line_there A r o l a made found = subst (λ fs. IsSome (find (λ e. same_name (line_name l) e.name) fs)) (made_keeps A r.command o made) (each-found (IsGoodLine (accept A r)) (on (line_name l)) l o.lines (made_good A r o a made).lines found).field
 
 -- one line more
 pub lines_step : (A : Ledger) (r : Request) (lines ls : List Line) (i : ℕ) (x : Line) (C D : List (Name × FieldEntry)) → lines ≡ ls → i < length ls → x ≡ get_or ls i x → Each (IsChangedField A r) C

@@ -42,6 +42,7 @@ copy_may_change A r p o good after ok e there room = by r.command refl p e there
         left_on f q (order_of (n, o)) w.0 w.1) there
     by (command.Commit n) is p e there = subst (λ (x : ℕ × OrderChange). MayChangeOrder x.1 o) (same_Some _ p e) tt
     by (command.Abort n) is p e there = subst (λ (x : ℕ × OrderChange). MayChangeOrder x.1 o) (same_Some _ p e) tt
+    by (command.Firm n) is p e there = subst (λ (x : ℕ × OrderChange). MayChangeOrder x.1 o) (same_Some _ p e) tt
     by c is p e there = absurd (true≢false (sym (ap is_some e)))
 
 -- the order that is changed is what the command makes

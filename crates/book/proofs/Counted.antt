@@ -67,6 +67,7 @@ none_made A (command.Use n b a q) good passed none = absurd (there _ (order_numb
 none_made A (command.Release n b a q) good passed none = absurd (there _ (order_numbered A n) (all_pass (checks A (command.Release n b a q)) passed).1.0 none)
 none_made A (command.Commit n) good passed none = absurd (there _ (order_numbered A n) (all_pass (checks A (command.Commit n)) passed).0 none)
 none_made A (command.Abort n) good passed none = absurd (there _ (order_numbered A n) (all_pass (checks A (command.Abort n)) passed).0 none)
+none_made A (command.Firm n) good passed none = absurd (there _ (order_numbered A n) (all_pass (checks A (command.Firm n)) passed).1.0 none)
 none_made A c good passed none = (refl, add-zero _)
 
 -- ---- as the book knows it

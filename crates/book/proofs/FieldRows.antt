@@ -1,22 +1,23 @@
 -- The rows of the fields that a request makes or changes, for each kind of command.
-use Rattle.book.proofs.Prelude.{[], ◌&&◌, ◌++◌, ◌+ℤ◌, ◌-ℤ◌, ◌||◌, ◌∙◌, ◌∷◌, ◌≡◌, Accepts, Bool, Command, Each, Field, FieldCells, FieldEntry, FirstFailure, GivenBack, GivesBack, Good, HasEntry, IsChangedField, IsNone, IsSome, IsUpToDate, Stock, is_lt, IsStrictlySortedBy, Ledger, Line, List, Name, None, OpenLine, Option, Order, Puts, Request, Some, Way, accept, add_hold, added_part, ap, append-nil, arith, change_lines, changes_field, checks, committed_state, common_steps, entry_row, expired_lines, expires, false, field_named, field_of, field_row, field_rows, find, flat_map, has_line_on, held_to_add, held_to_take, if_add, if_take, if◌then◌else◌, insert_entry, ints, is_committed, is_open, is_some, is_transfer, keys_of, line_name, list_any, list_any-append, lower_held, map, moved_by_command, moved_part, name_cmp, name_of, new_line, next, on, option_map, order_after, order_is, order_numbered, pos, raise_held, refl, same_name, settled, signed, some_has_line, subst, sym, taken_part, total, true, true≢false, ℕ, ℤ}
+use Rattle.book.proofs.Prelude.{[], ◌&&◌, ◌+ℤ◌, ◌-ℤ◌, ◌||◌, ◌∙◌, ◌∷◌, ◌≡◌, Accepts, Bool, Command, Each, Field, FieldCells, FieldEntry, FirstFailure, GivenBack, GivesBack, Good, HasEntry, IsChangedField, IsNone, IsSome, IsSomeAnd, IsUpToDate, Stock, is_lt, IsStrictlySortedBy, Ledger, Line, List, Name, None, OpenLine, Option, Order, Puts, Request, Some, State, Way, accept, add_hold, added_part, ap, arith, change_lines, changes_field, checks, common_steps, entry_row, expired_lines, expires, false, field_named, field_of, field_row, field_rows, find, has_line_on, held_to_add, held_to_take, if◌then◌else◌, insert_entry, ints, is_open, is_some, is_transfer, keys_of, line_name, line_on, list_any, list_any-append, lower_held, map, moved, moved_by_command, moved_part, name_cmp, name_of, nat_le, new_line, next, not, on, open_state, option_map, order_after, order_is, order_numbered, pos, raise_held, raise_used, refl, same_name, settled, settled_state, signed, some_has_line, subst, sym, taken_part, total, true, true≢false, ℕ, ℤ}
 use Rattle.words.specs.declared.command.Command.TheVariants as command
 use Rattle.book.specs.After.{changes_own_stock, moved_at_once}
 use Rattle.book.specs.Running.{HasLines, MovesField, lines_add, lines_take}
 use Rattle.book.proofs.Asked.{none_found, same_self}
+use Rattle.book.proofs.Bounds.{adds, takes}
 use Rattle.book.proofs.ChangedFields.{all_rows, put_self, self_eq}
 use Rattle.book.proofs.Checked.{bounds_decide}
 use Rattle.book.proofs.Chosen.{any-map, find-new, some_is}
 use Rattle.book.proofs.Closing.{all_pass, name_is}
 use Rattle.book.proofs.GivingBack.{any-append, total-flat}
-use Rattle.book.proofs.Growing.{none_if_not_some, not_less, other_way}
-use Rattle.book.proofs.Made.{any_one, left_out, lined, released_on, total-next}
+use Rattle.book.proofs.Growing.{none_if_not_some, not_less}
+use Rattle.book.proofs.Made.{any_one, changed_on, left_out, lined, lined_firm, total-next}
 use Rattle.book.proofs.Rebounding.{bounding, found_bounded}
 use Rattle.book.proofs.Running.{new_field}
 use Rattle.escrow.specs.Choices.{IsSafe}
 use Rattle.escrow.specs.Escrow.{bounded}
 use Rattle.book.specs.Next.{with_bounds}
-use Rattle.book.proofs.StockChanges.{entry_is, settled_moved, state_is}
+use Rattle.book.proofs.StockChanges.{entry_is, settled_moved}
 use Rattle.book.proofs.Sums.{each, each-both, each-imp, total-eq}
 
 -- ---- the rows, from the entries
@@ -143,6 +144,14 @@ held_on f ol o is = grind (arith, (each (λ m. raised_on (on (line_name (new_lin
 second_true : (a b : Bool) → (a && b) ≡ true → b ≡ true
 second_true x b e = grind arith
 
+-- the order of a use or of a release has a line on the field, and a field that changes is that one or on a transfer
+part_has_line : (A : Ledger) (n : ℕ) (f g : Name) (p : Order) → (IsSomeAnd (order_numbered A n) (λ o. IsNone (line_on o g)) → ⊥) → order_numbered A n ≡ Some p → (same_name f g || (is_transfer p && has_line_on f p)) ≡ true → has_line_on f p ≡ true
+part_has_line A n f g p held there e = by (same_name f g) refl e
+  where
+    by : (b : Bool) → same_name f g ≡ b → (b || (is_transfer p && has_line_on f p)) ≡ true → has_line_on f p ≡ true
+    by true is e = subst (λ (k : Name). has_line_on k p ≡ true) (sym (name_is f g is)) (sym (any_there g p.lines) ∙ some_there (line_on p g) (λ none. held (subst (λ (x : Option Order). IsSomeAnd x (λ o. IsNone (line_on o g))) (sym there) none)))
+    by false is e = second_true (is_transfer p) (has_line_on f p) e
+
 -- a field that the request changes has a line of the order that it makes
 changed_has_line : (A : Ledger) (c : Command) (f : Name) (o : Order) → Good A → FirstFailure (checks A c) None → order_after A c ≡ Some o → changes_field A c f ≡ true → list_any (on f) o.lines ≡ true
 changed_has_line A (command.More n way b a q) f o good h made e = by (order_numbered A n) made
@@ -155,23 +164,30 @@ changed_has_line A (command.Release n b a q) f o good h made e = by (order_numbe
     g : Name
     g = name_of b a
 
-    here : (p : Order) → order_numbered A n ≡ Some p → (t : Bool) → same_name f g ≡ t → (t || order_is A n (λ o. is_transfer o && has_line_on f o)) ≡ true → has_line_on f p ≡ true
-    here p there true is k = grind (arith, (name_is f g is), (any_there g p.lines), ((all_pass (checks A (command.Release n b a q)) h).1.1.1.0), g, some_there)
-    here p there false is k = second_true (is_transfer p) (has_line_on f p) (sym (any_one n (λ o. is_transfer o && has_line_on f o) p A.orders good.orders_in_order there) ∙ k)
-
     by : (x : Option Order) → order_numbered A n ≡ x → option_map (change_lines g (lower_held q)) x ≡ Some o → list_any (on f) o.lines ≡ true
-    by b there k = grind (arith, released_on, some_is, g, here)
-changed_has_line A (command.Use n b a q) f o good h made e = absurd (true≢false (sym e))
+    by None there k = absurd (true≢false (sym (ap is_some k)))
+    by (Some p) there k = subst (λ (m : Order). has_line_on f m ≡ true) (some_is _ o k) (changed_on f g (lower_held q) p (λ l. refl)
+        ∙ part_has_line A n f g p (all_pass (checks A (command.Release n b a q)) h).1.1.1.0 there (ap (λ t. same_name f g || t) (sym (any_one n (λ o. is_transfer o && has_line_on f o) p A.orders good.orders_in_order there)) ∙ e))
+changed_has_line A (command.Use n b a q) f o good h made e = by (order_numbered A n) refl made
+  where
+    g : Name
+    g = name_of b a
+
+    by : (x : Option Order) → order_numbered A n ≡ x → option_map (change_lines g (raise_used q)) x ≡ Some o → list_any (on f) o.lines ≡ true
+    by None there k = absurd (true≢false (sym (ap is_some k)))
+    by (Some p) there k = subst (λ (m : Order). has_line_on f m ≡ true) (some_is _ o k) (changed_on f g (raise_used q) p (λ l. refl)
+        ∙ part_has_line A n f g p (all_pass (checks A (command.Use n b a q)) h).1.1.1.0 there (second_true p.firm (same_name f g || (is_transfer p && has_line_on f p)) (sym (any_one n (λ o. o.firm && (same_name f g || (is_transfer o && has_line_on f o))) p A.orders good.orders_in_order there) ∙ e)))
 changed_has_line A (command.Field b a lo hi start) f o good h made e = absurd (true≢false (sym (ap is_some made)))
 changed_has_line A (command.Deliver b a q) f o good h made e = absurd (true≢false (sym (ap is_some made)))
 changed_has_line A (command.Writeoff b a q) f o good h made e = absurd (true≢false (sym (ap is_some made)))
 changed_has_line A (command.Rebound b a lo hi) f o good h made e = absurd (true≢false (sym (ap is_some made)))
 changed_has_line A (command.Expire now) f o good h made e = absurd (true≢false (sym (ap is_some made)))
+changed_has_line A (command.Firm n) f o good h made e = ap (some_has_line f) (sym made) ∙ lined_firm A n f good ∙ e
 changed_has_line A c f o good h made e = ap (some_has_line f) (sym made) ∙ lined A c f good refl ∙ e
 
 -- a command changes the field of a line of the order that it makes exactly where it changes the line's stock
-pub own_stock : (A : Ledger) (c : Command) (o : Order) (l : Line) → Good A → FirstFailure (checks A c) None → order_after A c ≡ Some o → find (on (line_name l)) o.lines ≡ Some l → changes_own_stock (is_transfer o) c l ≡ changes_field A c (line_name l)
-own_stock A c o l good h made there = by c made
+pub own_stock : (A : Ledger) (c : Command) (o : Order) (l : Line) → Good A → order_after A c ≡ Some o → find (on (line_name l)) o.lines ≡ Some l → changes_own_stock o.firm (is_transfer o) c l ≡ changes_field A c (line_name l)
+own_stock A c o l good made there = by c made
   where
     f : Name
     f = line_name l
@@ -182,29 +198,37 @@ own_stock A c o l good h made there = by c made
     both : (t s k : Bool) → k ≡ true → (t || s) ≡ (s || (t && k))
     both t s k e = grind arith
 
-    one : (n : ℕ) (b a : List ℕ) (q : ℕ) (x : Option Order) → order_numbered A n ≡ x → option_map (change_lines (name_of b a) (lower_held q)) x ≡ Some o
+    -- a use or a release, by what it changes of the order before
+    own : (h : Name) (change : Line → Line) (p : Order) → ((k : Line) → on f (change k) ≡ on f k) → change_lines h change p ≡ o → (is_transfer p || same_name f h) ≡ (same_name f h || (is_transfer p && has_line_on f p))
+    own h change p keeps same = both (is_transfer p) (same_name f h) (has_line_on f p) (sym (changed_on f h change p keeps) ∙ ap (has_line_on f) same ∙ has)
+
+    released : (n : ℕ) (b a : List ℕ) (q : ℕ) (x : Option Order) → order_numbered A n ≡ x → option_map (change_lines (name_of b a) (lower_held q)) x ≡ Some o
         → (is_transfer o || same_name f (name_of b a)) ≡ (same_name f (name_of b a) || order_is A n (λ o. is_transfer o && has_line_on f o))
-    one n b a q None e k = absurd (true≢false (sym (ap is_some k)))
-    one n b a q (Some p) e k =
+    released n b a q None e k = absurd (true≢false (sym (ap is_some k)))
+    released n b a q (Some p) e k =
         let same = some_is _ o k in
-        ap (λ (m : Order). is_transfer m || same_name f (name_of b a)) (sym same)
-        ∙ both (is_transfer p) (same_name f (name_of b a)) (has_line_on f p) (sym (released_on f (name_of b a) q p) ∙ ap (has_line_on f) same ∙ has)
+        ap (λ (m : Order). is_transfer m || same_name f (name_of b a)) (sym same) ∙ own (name_of b a) (lower_held q) p (λ k. refl) same
         ∙ ap (λ t. same_name f (name_of b a) || t) (sym (any_one n (λ o. is_transfer o && has_line_on f o) p A.orders good.orders_in_order e))
 
-    by : (c : Command) → order_after A c ≡ Some o → changes_own_stock (is_transfer o) c l ≡ changes_field A c f
+    used : (n : ℕ) (b a : List ℕ) (q : ℕ) (x : Option Order) → order_numbered A n ≡ x → option_map (change_lines (name_of b a) (raise_used q)) x ≡ Some o
+        → (o.firm && (is_transfer o || same_name f (name_of b a))) ≡ order_is A n (λ o. o.firm && (same_name f (name_of b a) || (is_transfer o && has_line_on f o)))
+    used n b a q None e k = absurd (true≢false (sym (ap is_some k)))
+    used n b a q (Some p) e k =
+        let same = some_is _ o k in
+        ap (λ (m : Order). m.firm && (is_transfer m || same_name f (name_of b a))) (sym same) ∙ ap (λ t. p.firm && t) (own (name_of b a) (raise_used q) p (λ k. refl) same)
+        ∙ sym (any_one n (λ o. o.firm && (same_name f (name_of b a) || (is_transfer o && has_line_on f o))) p A.orders good.orders_in_order e)
+
+    by : (c : Command) → order_after A c ≡ Some o → changes_own_stock o.firm (is_transfer o) c l ≡ changes_field A c f
     by (command.More n way b a q) made = refl
-    by (command.Use n b a q) made = refl
-    by (command.Release n b a q) made = one n b a q (order_numbered A n) refl made
+    by (command.Use n b a q) made = used n b a q (order_numbered A n) refl made
+    by (command.Release n b a q) made = released n b a q (order_numbered A n) refl made
     by (command.Field b a lo hi start) made = absurd (true≢false (sym (ap is_some made)))
     by (command.Deliver b a q) made = absurd (true≢false (sym (ap is_some made)))
     by (command.Writeoff b a q) made = absurd (true≢false (sym (ap is_some made)))
     by (command.Rebound b a lo hi) made = absurd (true≢false (sym (ap is_some made)))
     by (command.Expire now) made = absurd (true≢false (sym (ap is_some made)))
+    by (command.Firm n) made = sym has ∙ ap (some_has_line f) (sym made) ∙ lined_firm A n f good
     by c made = sym has ∙ ap (some_has_line f) (sym made) ∙ lined A c f good refl
-
--- it makes no field and changes no bounds
-pub made_keeps : (A : Ledger) (c : Command) (o : Order) → order_after A c ≡ Some o → (next A c).fields ≡ A.fields
-made_keeps x c o made = grind arith
 
 pub lines_rows : (A : Ledger) (r : Request) (o : Order) (D : List (Name × FieldEntry)) → Accepts A r → order_after A r.command ≡ Some o → IsStrictlySortedBy name_cmp (keys_of D) → HasLines A r o.lines D → map entry_row D ≡ field_rows A r
 lines_rows A r o D accepts made rising has =
@@ -232,12 +256,17 @@ parted p g (o ∷ os) = by (p o) (parted p g os)
         → g o +ℤ total g os ≡ ((if b then pos 0 else g o) +ℤ total (λ o. if p o then pos 0 else g o) os) +ℤ ((if b then g o else pos 0) +ℤ total (λ o. if p o then g o else pos 0) os)
     by b e = grind (arith, ints, common_steps)
 
--- what the orders that expire hold on a field
-expired_part : (now : ℕ) (g : Line → ℤ) (os : List Order) → total g (expired_lines now os) ≡ total (λ o. if expires now o then (if is_open o then total g o.lines else pos 0) else pos 0) os
-expired_part now g os = grind (arith, each, total-eq, total-flat)
+-- an order that expires is not firm
+held_loose : (a m t : Bool) (g : Bool → Line → ℤ) (ls : List Line) → total (g false) (if a && not m && t then ls else []) ≡ (if a && not m && t then (if a then total (g m) ls else pos 0) else pos 0)
+held_loose a m t g ls = grind arith
 
-not_committed : (a b c : Bool) (z : ℤ) → (a ≡ true → c ≡ false) → (if a && b then pos 0 else (if c then z else pos 0)) ≡ (if c then z else pos 0)
-not_committed x b c z h = grind arith
+-- what the orders that expire hold on a field
+expired_part : (now : ℕ) (g : Bool → Line → ℤ) (os : List Order) → total (g false) (expired_lines now os) ≡ total (λ o. if expires now o then (if is_open o then total (g o.firm) o.lines else pos 0) else pos 0) os
+expired_part now g os = total-flat (g false) (λ (o : Order). if expires now o then o.lines else []) os ∙ total-eq _ _ os (each (λ o. held_loose (is_open o) o.firm (nat_le o.until now) g o.lines) os)
+
+-- nothing of it is settled
+not_settled : (s : State) (m t : Bool) (z : ℤ) → (if open_state s && not m && t then pos 0 else (if settled_state s m then z else pos 0)) ≡ (if settled_state s m then z else pos 0)
+not_settled s m t z = grind arith
 
 -- what the expiry leaves
 abbrev Left : Ledger → Ledger → ℕ → Field → Type 0
@@ -247,13 +276,13 @@ expired_sums : (A : Ledger) (now : ℕ) (f : Field) → Good A → FirstFailure 
 expired_sums A now f good h =
     let used = total-next (moved_part f.name) (λ o. refl) A (command.Expire now) good h in
     let used_same = total-eq (left_out (moved_part f.name) (command.Expire now)) (moved_part f.name) A.orders
-    (each (λ o. not_committed (is_open o) _ (is_committed o) _ (λ unended. ap committed_state (sym (state_is o.state unended)))) A.orders) in
-    let takes = total-next (taken_part f.name) (λ o. refl) A (command.Expire now) good h in
+    (each (λ o. not_settled o.state o.firm (nat_le o.until now) (moved f.name (λ l. l.used) o)) A.orders) in
+    let takes_next = total-next (taken_part f.name) (λ o. refl) A (command.Expire now) good h in
     let takes_parted = parted (expires now) (taken_part f.name) A.orders in
-    let takes_given = expired_part now (λ l. if on f.name l then pos (if_take l.way l.held) else pos 0) A.orders in
-    let adds = total-next (added_part f.name) (λ o. refl) A (command.Expire now) good h in
+    let takes_given = expired_part now (λ m. takes m f.name) A.orders in
+    let adds_next = total-next (added_part f.name) (λ o. refl) A (command.Expire now) good h in
     let adds_parted = parted (expires now) (added_part f.name) A.orders in
-    let adds_given = expired_part now (λ l. if on f.name l then pos (if_add l.way l.held) else pos 0) A.orders in
+    let adds_given = expired_part now (λ m. adds m f.name) A.orders in
     (omega (arith, ints), omega (arith, ints), omega (arith, ints))
 
 given_row : (A B : Ledger) (now : ℕ) (e : Name × FieldEntry) → GivenBack A (expired_lines now A.orders) e → Left A B now (field_of e) → entry_row e ≡ field_row B (field_of e)

@@ -1,7 +1,7 @@
 -- What lines give back, as the orders end that hold it.
-use Rattle.book.proofs.Prelude.{[], ◌++◌, ◌+ℤ◌, ◌+◌, ◌<◌, ◌==◌, ◌||◌, ◌∙◌, ◌∷◌, ◌≡◌, ◌≤ℤ◌, ◌≤◌, Add, Bool, Each, Equal, FieldCells, FieldEntry, GivenBack, GivesBack, Good, Greater, IsGoodOrder, IsSome, IsStrictlySortedBy, IsUpToDate, Ledger, Less, Line, List, MayGiveBack, Name, None, Order, Ordering, Some, Stock, Take, Way, ap, arith, common_steps, drop, expired_lines, expires, false, field_named, field_of, flat_map, get_or, giving_back, held_of, if_add, if_take, if◌then◌else◌, insert_entry, ints, is_at, is_eq, is_open, is_some, keys_of, length, line_name, list_any, lookup, match_ordering, name_cmp, on, order_numbered, pos, refl, same_name, subst, sym, take, total, ℕ, ℤ}
+use Rattle.book.proofs.Prelude.{[], ◌&&◌, ◌++◌, ◌+ℤ◌, ◌+◌, ◌<◌, ◌==◌, ◌||◌, ◌∙◌, ◌∷◌, ◌≡◌, ◌≤ℤ◌, ◌≤◌, Add, Bool, Each, Equal, FieldCells, FieldEntry, GivenBack, GivesBack, Good, Greater, IsGoodOrder, IsSome, IsStrictlySortedBy, IsUpToDate, Ledger, Less, Line, List, MayGiveBack, Name, None, Order, Ordering, Some, Stock, Take, Way, ap, arith, common_steps, drop, expired_lines, expires, false, field_named, field_of, flat_map, get_or, giving_back, held_of, if_add, if_take, if◌then◌else◌, insert_entry, ints, is_at, is_eq, is_open, is_some, keys_of, length, line_name, list_any, lookup, match_ordering, name_cmp, nat_le, not, on, order_numbered, pos, refl, same_name, subst, sym, take, total, ℕ, ℤ}
 use Rattle.book.proofs.Asked.{same_self, total-push}
-use Rattle.book.proofs.Bounds.{adds-not_negative, takes-not_negative}
+use Rattle.book.proofs.Bounds.{adds, adds-not_negative, takes, takes-not_negative}
 use Rattle.book.proofs.ChangedFields.{each_at_name, less_other, put_has}
 use Rattle.book.proofs.Growing.{other_way}
 use Rattle.book.proofs.Keyed.{equal_field, same_field}
@@ -112,13 +112,19 @@ line_given A ls l v new C D sorted gives may given is put =
 -- ---- all lines of an order, and of all orders that expire
 
 pub may_prefix : (A : Ledger) (ls ms ns : List Line) → MayGiveBack A (ls ++ (ms ++ ns)) → MayGiveBack A (ls ++ ms)
-may_prefix A ls ms ns may n = grind (arith, ints, (total-append (λ l. if on n l then pos (if_take l.way l.held) else pos 0) ls (ms ++ ns)), (total-append (λ l. if on n l then pos (if_take l.way l.held) else pos 0) ms ns), (total-append (λ l. if on n l then pos (if_take l.way l.held) else pos 0) ls ms), (takes-not_negative n ns), (total-append (λ l. if on n l then pos (if_add l.way l.held) else pos 0) ls (ms ++ ns)), (total-append (λ l. if on n l then pos (if_add l.way l.held) else pos 0) ms ns), (total-append (λ l. if on n l then pos (if_add l.way l.held) else pos 0) ls ms), (adds-not_negative n ns))
+may_prefix A ls ms ns may n = grind (arith, ints, (total-append (λ l. if on n l then pos (if_take l.way l.held) else pos 0) ls (ms ++ ns)), (total-append (λ l. if on n l then pos (if_take l.way l.held) else pos 0) ms ns), (total-append (λ l. if on n l then pos (if_take l.way l.held) else pos 0) ls ms), (takes-not_negative false n ns), (total-append (λ l. if on n l then pos (if_add l.way l.held) else pos 0) ls (ms ++ ns)), (total-append (λ l. if on n l then pos (if_add l.way l.held) else pos 0) ms ns), (total-append (λ l. if on n l then pos (if_add l.way l.held) else pos 0) ls ms), (adds-not_negative false n ns))
 
-expired_most : (now : ℕ) (g : Line → ℤ) → ((ls : List Line) → pos 0 ≤ℤ total g ls) → (os : List Order) → total g (expired_lines now os) ≤ℤ total (λ o. if is_open o then total g o.lines else pos 0) os
-expired_most now g least os = grind (arith, (total-flat g (λ (o : Order). if expires now o then o.lines else []) os), each, total-le)
+-- an order that expires is not firm, and holds all that its lines hold
+order_most : (a m t : Bool) (g : Bool → Line → ℤ) → ((m : Bool) (ls : List Line) → pos 0 ≤ℤ total (g m) ls) → (ls : List Line) → total (g false) (if a && not m && t then ls else []) ≤ℤ (if a then total (g m) ls else pos 0)
+order_most a m t g least ls = let some = least m ls in grind (arith, ints)
+
+expired_most : (now : ℕ) (g : Bool → Line → ℤ) → ((m : Bool) (ls : List Line) → pos 0 ≤ℤ total (g m) ls) → (os : List Order) → total (g false) (expired_lines now os) ≤ℤ total (λ o. if is_open o then total (g o.firm) o.lines else pos 0) os
+expired_most now g least os =
+    subst (λ z. z ≤ℤ total (λ o. if is_open o then total (g o.firm) o.lines else pos 0) os) (sym (total-flat (g false) (λ (o : Order). if expires now o then o.lines else []) os))
+    (total-le _ _ os (each (λ o. order_most (is_open o) o.firm (nat_le o.until now) g least o.lines) os))
 
 pub may_all : (A : Ledger) (now : ℕ) → MayGiveBack A (expired_lines now A.orders)
-may_all A now n = (expired_most now (λ l. if on n l then pos (if_take l.way l.held) else pos 0) (takes-not_negative n) A.orders, expired_most now (λ l. if on n l then pos (if_add l.way l.held) else pos 0) (adds-not_negative n) A.orders)
+may_all A now n = (expired_most now (λ m. takes m n) (λ m. takes-not_negative m n) A.orders, expired_most now (λ m. adds m n) (λ m. adds-not_negative m n) A.orders)
 
 pub may_step : (A : Ledger) (ls lines : List Line) (i : ℕ) (x : Line) → i < length lines → x ≡ get_or lines i x → MayGiveBack A (ls ++ lines) → MayGiveBack A ((ls ++ take i lines) ++ x ∷ [])
 may_step A ls lines i x within is may = grind (arith, common_steps, (may_prefix A ls (take i lines ++ x ∷ []) (drop (i + 1) lines) (subst (λ (ms : List Line). MayGiveBack A (ls ++ ms)) (cut_at lines i x within is) may)), cut_at)

@@ -1,8 +1,8 @@
 -- The order that a command opens or changes.
-use Rattle.book.proofs.Prelude.{[], ◌&&◌, ◌+ℤ◌, ◌==◌, ◌||◌, ◌∙◌, ◌∷◌, ◌≡◌, Aborted, Bool, Command, Committed, Each, FirstFailure, Good, IsAccepted, IsShort, IsSomeAnd, IsStrictlySortedBy, Ledger, Line, List, Name, None, OpenLine, Option, Order, Request, Some, accept, add_hold, ap, arith, change_lines, changes_field, changes_state, checks, common_steps, expires, false, find, has_line_on, if◌then◌else◌, insert_in_order, ints, is_opening, is_some, is_touched, is_transfer, list_any, lower_held, map, name_of, nat_cmp, nat_lt, new_line, next, on, option_map, order_after, order_is, order_number, order_numbered, pos, raise_used, refl, same_name, set_state, some_has_line, some_part, subst, sym, total, true, true≢false, ℕ, ℤ}
+use Rattle.book.proofs.Prelude.{[], ◌&&◌, ◌+ℤ◌, ◌==◌, ◌||◌, ◌∙◌, ◌∷◌, ◌≡◌, Aborted, Bool, Command, Committed, Each, FirstFailure, Good, IsAccepted, IsShort, IsSomeAnd, IsStrictlySortedBy, Ledger, Line, List, Name, None, OpenLine, Option, Order, Request, Some, accept, add_hold, ap, arith, change_lines, changes_field, changes_state, checks, common_steps, expires, false, find, has_line_on, if◌then◌else◌, insert_in_order, ints, is_opening, is_some, is_touched, is_transfer, list_any, lower_held, map, name_of, nat_cmp, nat_lt, new_line, next, on, option_map, order_after, order_is, order_number, order_numbered, pos, raise_used, refl, same_name, set_firm, set_state, some_has_line, some_part, subst, sym, total, true, true≢false, ℕ, ℤ}
 use Rattle.words.specs.declared.command.Command.TheVariants as command
 use Rattle.book.proofs.Asked.{none_found, total-insert}
-use Rattle.book.proofs.Chosen.{any-map, find-new, none_after, none_any, some_is}
+use Rattle.book.proofs.Chosen.{any-map, any_same, find-new, none_after, none_any, some_is}
 use Rattle.book.proofs.Closing.{at_number}
 use Rattle.book.proofs.Sums.{each, each-imp, total-eq, total-map}
 
@@ -40,11 +40,16 @@ ended_on A n f change g same = grind (arith, any_none_there, any_one)
 pub lined : (A : Ledger) (c : Command) (f : Name) → Good A → changes_state c ≡ true → some_has_line f (order_after A c) ≡ changes_field A c f
 lined b c f g e = grind (arith, ended_on, opened_lines_on)
 
-lowered_on : (b : Bool) (f : Name) (q : ℕ) (l : Line) → on f (if b then lower_held q l else l) ≡ on f l
-lowered_on b f q l = grind arith
+-- so does one that makes an order firm
+pub lined_firm : (A : Ledger) (n : ℕ) (f : Name) → Good A → some_has_line f (order_after A (command.Firm n)) ≡ changes_field A (command.Firm n) f
+lined_firm A n f g = ended_on A n f set_firm g (λ o. refl)
 
-pub released_on : (f h : Name) (q : ℕ) (o : Order) → has_line_on f (change_lines h (lower_held q) o) ≡ has_line_on f o
-released_on f h q o = grind (arith, (each (λ l. lowered_on (is_transfer o || on h l) f q l) o.lines), any-map, lowered_on)
+-- lines that change stay on their fields
+pub changed_on : (f h : Name) (change : Line → Line) (o : Order) → ((l : Line) → on f (change l) ≡ on f l) → has_line_on f (change_lines h change o) ≡ has_line_on f o
+changed_on f h change o keeps = any-map (on f) (λ l. if is_transfer o || on h l then change l else l) o.lines ∙ any_same _ (on f) o.lines (each (λ l. by (is_transfer o || on h l) l (keeps l)) o.lines)
+  where
+    by : (b : Bool) (l : Line) → on f (change l) ≡ on f l → on f (if b then change l else l) ≡ on f l
+    by b l e = grind arith
 
 -- ---- the order under that number in the next ledger
 
@@ -133,5 +138,6 @@ total-next g ends A (command.Use n b a q) good h = total-changed g (change_lines
 total-next g ends A (command.Release n b a q) good h = total-changed g (change_lines (name_of b a) (lower_held q)) n A.orders good.orders_in_order
 total-next g ends A (command.Commit n) good h = total-changed g (set_state Committed) n A.orders good.orders_in_order
 total-next g ends A (command.Abort n) good h = total-changed g (set_state Aborted) n A.orders good.orders_in_order
+total-next g ends A (command.Firm n) good h = total-changed g set_firm n A.orders good.orders_in_order
 total-next g ends A (command.Expire now) good h = grind (arith, (each (λ o. expired_part g ends (expires now o) o) A.orders), (total-map g (λ o. if expires now o then set_state Aborted o else o) A.orders), expired_part, total-eq)
 total-next g ends A c good h = omega (arith, ints)

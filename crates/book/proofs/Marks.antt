@@ -8,7 +8,7 @@ use Rattle.book.proofs.Closing.{less_is}
 use Rattle.book.proofs.Grouped.{drop-step}
 use Rattle.book.proofs.Lists.{each-unmap, length-of-map}
 use Rattle.book.proofs.Sums.{each-imp}
-use Rattle.book.proofs.Told.{MarkOthers, later_marks, same_first, same_rest}
+use Rattle.book.proofs.Told.{MarkOthers, later_marks, same_first, same_kind, same_mark, same_pos, same_rest, same_state}
 use Rattle.book.proofs.Walked.{read-step}
 use Rattle.book.proofs.Zipped.{get-of-map}
 
@@ -22,6 +22,42 @@ pub record Marked (cells : List OrderCells) (marks : List FirmCells) : Type 0 wh
 marks_after : (h : Head) (hs : List Head) → IsStrictlySortedBy nat_cmp (map (λ h. h.number) (h ∷ hs)) → MarkOthers h.number (flat_map mark_rows hs)
 unfolding IsStrictlySortedBy
 marks_after h hs sorted = later_marks (λ (m : Head). m.number) (λ m. m.firm) h.number hs (each-imp (λ m e. less_is h.number m.number e) hs (each-unmap (λ n. nat_cmp h.number n ≡ Less) (λ m. m.number) hs sorted.0))
+
+same_numbers : (hs ks : List Head) → map head_row hs ≡ map head_row ks → map (λ h. h.number) hs ≡ map (λ h. h.number) ks
+same_numbers [] [] e = refl
+same_numbers [] (k ∷ ks) e = absurd (cc)
+same_numbers (h ∷ hs) [] e = absurd (cc)
+same_numbers (h ∷ hs) (k ∷ ks) e =
+    let first = same_pos h.number k.number (ap (λ (r : OrderCells). r.number) (same_first (head_row h) (head_row k) (map head_row hs) (map head_row ks) e)) in
+    let more = same_numbers hs ks (same_rest (head_row h) (head_row k) (map head_row hs) (map head_row ks) e) in
+    λ i. first i ∷ more i
+
+same_head : (h k : Head) → head_row h ≡ head_row k → h.firm ≡ k.firm → h ≡ k
+same_head h k e firm =
+    let number = same_pos h.number k.number (ap (λ r. r.number) e) in
+    let kind = same_kind h.kind k.kind (ap (λ r. r.kind) e) in
+    let until = same_pos h.until k.until (ap (λ r. r.until) e) in
+    let state = same_state h.state k.state (ap (λ r. r.state) e) in
+    λ i. record { number = number i; kind = kind i; until = until i; state = state i; firm = firm i }
+
+-- heads with the same rows of orders, marked by the same rows, are the same
+heads_once : (hs ks : List Head) → IsStrictlySortedBy nat_cmp (map (λ h. h.number) hs) → IsStrictlySortedBy nat_cmp (map (λ h. h.number) ks) → map head_row hs ≡ map head_row ks → flat_map mark_rows hs ≡ flat_map mark_rows ks → hs ≡ ks
+unfolding IsStrictlySortedBy
+heads_once [] [] s t e m = refl
+heads_once [] (k ∷ ks) s t e m = absurd (cc)
+heads_once (h ∷ hs) [] s t e m = absurd (cc)
+heads_once (h ∷ hs) (k ∷ ks) s t e m =
+    let row = same_first (head_row h) (head_row k) (map head_row hs) (map head_row ks) e in
+    let number = same_pos h.number k.number (ap (λ (r : OrderCells). r.number) row) in
+    let marks = same_mark h.number h.firm k.firm (flat_map mark_rows hs) (flat_map mark_rows ks) (marks_after h hs s)
+    (subst (λ n. MarkOthers n (flat_map mark_rows ks)) (sym number) (marks_after k ks t))
+    (m ∙ ap (λ n. (if k.firm then firm_row n ∷ [] else []) ++ flat_map mark_rows ks) (sym number)) in
+    let first = same_head h k row marks.0 in
+    let more = heads_once hs ks s.1 t.1 (same_rest (head_row h) (head_row k) (map head_row hs) (map head_row ks) e) marks.1 in
+    λ i. first i ∷ more i
+
+pub same_heads : (hs ks : List Head) → IsStrictlySortedBy nat_cmp (map (λ h. h.number) hs) → map head_row hs ≡ map head_row ks → flat_map mark_rows hs ≡ flat_map mark_rows ks → hs ≡ ks
+same_heads hs ks s e m = heads_once hs ks s (subst (IsStrictlySortedBy nat_cmp) (same_numbers hs ks e) s) e m
 
 -- what is behind the first of the heads, where the rows that are left tell whether it is marked
 behind : (c : OrderCells) (cells : List OrderCells) (marks rest : List FirmCells) → ((h : Head) (hs : List Head) → c.number ≡ pos h.number → MarkOthers h.number (flat_map mark_rows hs) → mark_rows h ++ flat_map mark_rows hs ≡ marks → flat_map mark_rows hs ≡ rest)

@@ -1,19 +1,18 @@
 -- The rows of the next ledger that an accepted request changes, table by table.
 use Rattle.std.proofs.lemmas.Bool.Decides.{Decides-int_eq}
-use Rattle.book.proofs.Prelude.{[], ◌&&◌, ◌++◌, ◌+◌, ◌==◌, ◌||◌, ◌∙◌, ◌∷◌, ◌≡◌, ◌≤◌, Aborted, BookView, Bool, ChangesTo, Command, Content, DeskCells, Each, Field, FieldCells, FirstFailure, Good, IfSome, Inside, IsAccepted, IsInRange, IsKey, IsRowsOf, IsStrictlySortedBy, Ledger, Line, LineCells, List, MAX_PLACES, Move, MoveEntry, Name, None, Option, Order, OrderCells, Request, Some, Way, aborted_rows, accept, ap, append-nil, arith, bytes_decides, bytes_eq, change_lines, changed_orders, changed_rows, changes_field, changes_line, changes_move, changes_order, changes_state, checks, desk_row, entry_row, expired_numbers, expires, false, field_named, field_row, field_rows, filter, find, flat_map, if◌then◌else◌, int_eq, is_lt, is_some, is_transfer, kept_of, kept_row, ledger_of, length, line_name, line_row, line_rows, lines_from, list_any, lower_held, map, move_of, move_row, name_cmp, name_of, nat_cmp, next, of_numbered, option_map, option_map_or, order_after, order_is, order_lines, order_number, order_numbered, order_of, order_row, places, pos, put_content, raise_used, refl, same_name, set_state, signed, slice_cmp, subst, sym, transfer_kind, true, true≢false, view_of, with_fields, with_kept, with_lines, with_moves, with_orders, ℕ}
+use Rattle.book.proofs.Prelude.{[], ◌&&◌, ◌++◌, ◌+◌, ◌==◌, ◌||◌, ◌∙◌, ◌∷◌, ◌≡◌, ◌≤◌, Aborted, BookView, Bool, ChangesTo, Command, Content, DeskCells, Each, FieldCells, FirstFailure, Good, IfSome, Inside, IsAccepted, IsInRange, IsKey, IsNone, IsRowsOf, IsStrictlySortedBy, Ledger, Line, LineCells, List, MAX_PLACES, Move, MoveEntry, Name, None, Option, Order, OrderCells, Request, Some, Way, aborted_rows, accept, ap, append-nil, arith, bytes_decides, bytes_eq, change_lines, changed_orders, changed_rows, changes_field, changes_firm, changes_line, changes_move, changes_order, changes_state, checks, desk_row, entry_row, expired_numbers, expires, false, field_row, field_rows, filter, find, firm_row, firm_rows, flat_map, if◌then◌else◌, int_eq, is_lt, is_some, is_transfer, kept_of, kept_row, ledger_of, length, line_name, line_row, line_rows, lines_from, list_any, lower_held, map, move_of, move_row, name_of, nat_cmp, next, of_numbered, option_map, option_map_or, order_after, order_is, order_lines, order_number, order_numbered, order_of, order_row, places, pos, put_content, raise_used, refl, same_name, set_firm, set_state, signed, slice_cmp, subst, sym, transfer_kind, true, true≢false, view_of, with_fields, with_firms, with_kept, with_lines, with_moves, with_orders, ℕ}
 use Rattle.std.proofs.lemmas.List.Elements.{filter-append}
 use Rattle.words.specs.declared.command.Command.TheVariants as command
-use Rattle.book.specs.After.{expired_rows, move_made, move_rows, moved_at_once, own_line_rows, own_order_rows}
+use Rattle.book.specs.After.{expired_rows, move_made, move_rows, moved_at_once, own_firm_rows, own_line_rows, own_order_rows}
 use Rattle.book.specs.Plans.{Makes}
 use Rattle.book.specs.Tables.{no_content}
 use Rattle.book.specs.declared.book.plan.PlanParts.{PlanParts}
-use Rattle.book.proofs.Asked.{none_found, same_self}
+use Rattle.book.proofs.Asked.{none_found}
 use Rattle.book.proofs.Changed.{changes_suffice}
-use Rattle.book.proofs.Chosen.{filter-each, filter-insert, filter-none, filter-push, none_after, number_is, some_is, same_number}
+use Rattle.book.proofs.Chosen.{any_same, filter-each, filter-insert, filter-push, found_passes, none_after, number_is, some_is, same_number}
 use Rattle.book.proofs.Closing.{all_pass, find_self}
 use Rattle.book.proofs.Goodness.{good_accept}
 use Rattle.book.proofs.InOrder.{one_content, rows_are, rows_of}
-use Rattle.book.proofs.Growing.{none_if_not_some, other_way}
 use Rattle.book.proofs.Lists.{length-insert, length-of-map}
 use Rattle.book.proofs.Made.{any_one, made_there}
 use Rattle.book.proofs.Once.{no_key}
@@ -77,10 +76,6 @@ rows_by_one : (os : List Order) → map order_row os ≡ flat_map (λ o. order_r
 rows_by_one [] = refl
 rows_by_one (o ∷ os) = ap (λ (rows : List OrderCells). order_row o ∷ rows) (rows_by_one os)
 
-any_same : {X : Type 0} (s t : X → Bool) (xs : List X) → Each (λ x. s x ≡ t x) xs → list_any s xs ≡ list_any t xs
-any_same s t [] h = refl
-any_same s t (x ∷ xs) h = λ i. h.0 i || any_same s t xs h.1 i
-
 -- a test and an equal number, the other way round
 turned : (m n : ℕ) (b : Bool) → (b && int_eq (pos m) (pos n)) ≡ ((n == m) && b)
 turned m n b = by (n == m) refl
@@ -127,6 +122,7 @@ orders_changed A key (command.Expire now) g k h = orders_expired A now g
 orders_changed A key (command.More n way b a q) g k h = filter-false (map order_row (next A (command.More n way b a q)).orders) ∙ sym (grind arith)
 orders_changed A key (command.Use n b a q) g k h = filter-false (map order_row (next A (command.Use n b a q)).orders) ∙ sym (grind arith)
 orders_changed A key (command.Release n b a q) g k h = filter-false (map order_row (next A (command.Release n b a q)).orders) ∙ sym (grind arith)
+orders_changed A key (command.Firm n) g k h = filter-false (map order_row (next A (command.Firm n)).orders) ∙ sym (grind arith)
 orders_changed A key c g k h = filter-false (map order_row A.orders)
 
 -- ---- lines
@@ -185,6 +181,10 @@ abort_lines : (n : ℕ) (x : Option Order) → own_line_rows (command.Abort n) x
 abort_lines n None = refl
 abort_lines n (Some o) = rows_false o.number 1 o.lines
 
+firm_lines : (n : ℕ) (x : Option Order) → own_line_rows (command.Firm n) x ≡ []
+firm_lines n None = refl
+firm_lines n (Some o) = rows_false o.number 1 o.lines
+
 lines_changed : (A : Ledger) (key : List ℕ) (c : Command) → Good A → Good (accept A (record { key = key; command = c })) → FirstFailure (checks A c) None
     → filter (λ (row : LineCells). changes_line A c row.number (name_of row.branch row.article)) (flat_map order_lines (accept A (record { key = key; command = c })).orders) ≡ own_line_rows c (order_after A c)
 lines_changed A key (command.Open n until lines) g k h = all_lines A key (command.Open n until lines) n k h refl
@@ -194,8 +194,46 @@ lines_changed A key (command.Use n b a q) g k h = own_lines A key (command.Use n
 lines_changed A key (command.Release n b a q) g k h = own_lines A key (command.Release n b a q) n (λ f. order_is A n is_transfer || same_name f (name_of b a)) k h refl ∙ part_lines A (command.Release n b a q) n b a (change_lines (name_of b a) (lower_held q)) g (λ o. refl) (λ o. refl)
 lines_changed A key (command.Commit n) g k h = filter-false (flat_map order_lines (next A (command.Commit n)).orders) ∙ sym (commit_lines n (order_after A (command.Commit n)))
 lines_changed A key (command.Abort n) g k h = filter-false (flat_map order_lines (next A (command.Abort n)).orders) ∙ sym (abort_lines n (order_after A (command.Abort n)))
+lines_changed A key (command.Firm n) g k h = filter-false (flat_map order_lines (next A (command.Firm n)).orders) ∙ sym (firm_lines n (order_after A (command.Firm n)))
 lines_changed A key (command.Expire now) g k h = filter-false (flat_map order_lines (next A (command.Expire now)).orders)
 lines_changed A key c g k h = filter-false (flat_map order_lines A.orders)
+
+-- ---- marks of firm orders
+
+-- the order that is found has the number
+number_found : (n : ℕ) (x : Option Order) → ((o : Order) → x ≡ Some o → (o.number == n) ≡ true) → (IsNone x → ⊥) → option_map_or (λ o. firm_row o.number ∷ []) (option_map set_firm x) [] ≡ firm_row n ∷ []
+number_found n None own there = absurd (there refl)
+number_found n (Some o) own there = ap (λ k. firm_row k ∷ []) (number_is o.number n (own o refl))
+
+-- the row of the order that is made firm
+own_firm : (A : Ledger) (key : List ℕ) (n : ℕ) → Good (accept A (record { key = key; command = command.Firm n })) → FirstFailure (checks A (command.Firm n)) None
+    → filter (λ row. int_eq row.number (pos n)) (flat_map firm_rows (accept A (record { key = key; command = command.Firm n })).orders) ≡ firm_row n ∷ []
+own_firm A key n k h =
+    rows_of_one (λ row. int_eq row.number (pos n)) firm_rows firm_rows n (next A (command.Firm n)).orders k.orders_in_order (λ o e. other o o.firm e) (λ o e. own o o.firm e)
+    ∙ ap (λ (x : Option Order). option_map_or firm_rows x []) (made_there A (command.Firm n) n h refl)
+    ∙ made (order_numbered A n)
+    ∙ number_found n (order_numbered A n) (λ o there. found_passes (λ m. m.number == n) o A.orders there) (all_pass (checks A (command.Firm n)) h).1.0
+  where
+    other : (o : Order) (m : Bool) → (o.number == n) ≡ false → filter (λ row. int_eq row.number (pos n)) (if m then firm_row o.number ∷ [] else []) ≡ []
+    other o true e = ap (λ b. if b then firm_row o.number ∷ [] else []) (pos_other o.number n e)
+    other o false e = refl
+
+    own : (o : Order) (m : Bool) → (o.number == n) ≡ true → filter (λ row. int_eq row.number (pos n)) (if m then firm_row o.number ∷ [] else []) ≡ (if m then firm_row o.number ∷ [] else [])
+    own o true e = ap (λ b. if b then firm_row o.number ∷ [] else []) (pos_same o.number n e)
+    own o false e = refl
+
+    made : (x : Option Order) → option_map_or firm_rows (option_map set_firm x) [] ≡ option_map_or (λ o. firm_row o.number ∷ []) (option_map set_firm x) []
+    made None = refl
+    made (Some o) = refl
+
+firms_changed : (A : Ledger) (key : List ℕ) (c : Command) → Good (accept A (record { key = key; command = c })) → FirstFailure (checks A c) None
+    → filter (λ row. changes_firm c row.number) (flat_map firm_rows (accept A (record { key = key; command = c })).orders) ≡ own_firm_rows c
+firms_changed A key (command.Firm n) k h = own_firm A key n k h
+firms_changed A key (command.Field b a lo hi start) k h = filter-false (flat_map firm_rows A.orders)
+firms_changed A key (command.Deliver b a q) k h = filter-false (flat_map firm_rows A.orders)
+firms_changed A key (command.Writeoff b a q) k h = filter-false (flat_map firm_rows A.orders)
+firms_changed A key (command.Rebound b a lo hi) k h = filter-false (flat_map firm_rows A.orders)
+firms_changed A key c k h = filter-false (flat_map firm_rows (next A c).orders)
 
 -- ---- all tables
 
@@ -208,10 +246,11 @@ rows_made A r = record {
   orders = changed_orders A r.command;
   lines = own_line_rows r.command (order_after A r.command);
   kept = kept_row (record { key = r.key; place = places A + 1; command = r.command }) ∷ [];
+  firms = own_firm_rows r.command;
 }
 
 made_changed : (A : Ledger) (r : Request) → Good A → Good (accept A r) → IsAccepted A r → changed_rows A r (rows_of (accept A r)) ≡ rows_made A r
-made_changed A r g k ok = cc ((fields_changed A r), (moves_changed A r.key r.command g), (orders_changed A r.key r.command g k ok.1), (lines_changed A r.key r.command g k ok.1), (kept_changed A r ok (λ key. (bytes_decides key key).1 refl)))
+made_changed A r g k ok = cc ((fields_changed A r), (moves_changed A r.key r.command g), (orders_changed A r.key r.command g k ok.1), (lines_changed A r.key r.command g k ok.1), (kept_changed A r ok (λ key. (bytes_decides key key).1 refl)), (firms_changed A r.key r.command k ok.1))
 
 -- they are those that change
 pub changes_to : (A : Ledger) (r : Request) (rows : Content) → Good A → IsKey r.key → IsInRange r.command → IsAccepted A r → rows ≡ rows_made A r → ChangesTo A r rows
@@ -260,19 +299,19 @@ orders_made A (command.Expire now) good = numbered_flat (expires now) A aborted_
 orders_made A c good = append-nil (own_order_rows c (order_after A c))
 
 -- the rows as they are made one after the other
-pub rows_in_turn : (A : Ledger) (r : Request) (p : PlanParts) (cells : DeskCells) (desk fields moves orders aborted lines kept : Content) → Good A → Makes A r p
-    → cells ≡ record { one = pos 1; version = pos 1; clock = pos p.clock; places = pos p.place } → desk ≡ record no_content { desk = cells ∷ [] } → fields ≡ with_fields (map entry_row p.fields.entries) desk
+pub rows_in_turn : (A : Ledger) (r : Request) (p : PlanParts) (cells : DeskCells) (desk fields moves orders aborted lines kept firms : Content) → Good A → Makes A r p
+    → cells ≡ record { one = pos 1; version = pos 2; clock = pos p.clock; places = pos p.place } → desk ≡ record no_content { desk = cells ∷ [] } → fields ≡ with_fields (map entry_row p.fields.entries) desk
     → moves ≡ with_moves (move_rows (option_map move_of p.moved)) fields → orders ≡ with_orders (own_order_rows r.command (option_map order_of p.made)) moves → aborted ≡ with_orders (flat_map (of_numbered A aborted_rows) p.expired.items) orders
     → lines ≡ with_lines (own_line_rows r.command (option_map order_of p.made)) aborted
-    → kept ≡ with_kept (kept_row (record { key = p.key; place = p.place; command = p.words }) ∷ []) lines → kept ≡ rows_made A r
-rows_in_turn A r p cells desk fields moves orders aborted lines kept good m is a b d f e g h =
+    → kept ≡ with_kept (kept_row (record { key = p.key; place = p.place; command = p.words }) ∷ []) lines → firms ≡ with_firms (own_firm_rows r.command) kept → firms ≡ rows_made A r
+rows_in_turn A r p cells desk fields moves orders aborted lines kept firms good m is a b d f e g h j =
     let more : places (accept A r) ≡ places A + 1 = length-insert (λ a b. is_lt (slice_cmp nat_cmp a.key b.key)) (record { key = r.key; place = places A + 1; command = r.command }) A.kept in
     let count = m.place ∙ sym more in
     let moved = m.moved ∙ ap (λ n. move_made n r.command) m.place in
     let states = (λ i. own_order_rows r.command (m.made i) ++ flat_map (of_numbered A aborted_rows) (m.expired i)) ∙ orders_made A r.command good in
-    let row : cells ≡ desk_row (accept A r) = is ∙ (λ i. record { one = pos 1; version = pos 1; clock = pos (m.clock i); places = pos (count i) }) in
-    h ∙ ap (with_kept (kept_row (record { key = p.key; place = p.place; command = p.words }) ∷ [])) (g ∙ ap (with_lines (own_line_rows r.command (option_map order_of p.made))) (e ∙ ap (with_orders (flat_map (of_numbered A aborted_rows) p.expired.items)) (f ∙ ap (with_orders (own_order_rows r.command (option_map order_of p.made))) (d
-    ∙ ap (with_moves (move_rows (option_map move_of p.moved))) (b ∙ ap (with_fields (map entry_row p.fields.entries)) a)))))
+    let row : cells ≡ desk_row (accept A r) = is ∙ (λ i. record { one = pos 1; version = pos 2; clock = pos (m.clock i); places = pos (count i) }) in
+    j ∙ ap (with_firms (own_firm_rows r.command)) (h ∙ ap (with_kept (kept_row (record { key = p.key; place = p.place; command = p.words }) ∷ [])) (g ∙ ap (with_lines (own_line_rows r.command (option_map order_of p.made))) (e ∙ ap (with_orders (flat_map (of_numbered A aborted_rows) p.expired.items)) (f ∙ ap (with_orders (own_order_rows r.command (option_map order_of p.made))) (d
+    ∙ ap (with_moves (move_rows (option_map move_of p.moved))) (b ∙ ap (with_fields (map entry_row p.fields.entries)) a))))))
     ∙ (λ i. record {
       desk = row i ∷ [];
       fields = m.fields i;
@@ -280,4 +319,5 @@ rows_in_turn A r p cells desk fields moves orders aborted lines kept good m is a
       orders = states i;
       lines = own_line_rows r.command (m.made i);
       kept = kept_row (record { key = m.key i; place = m.place i; command = m.command i }) ∷ [];
+      firms = own_firm_rows r.command;
     })

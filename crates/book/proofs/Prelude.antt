@@ -16,7 +16,7 @@ pub use Rattle.book.specs.Rows.{Content, DeskCells, FieldCells, FirmCells, IsFie
 pub use Rattle.book.specs.Running.{Accepts, Becomes, GivenBack, GivesBack, HasEntry, IsChangedField, IsUpToDate, MayBecome, MayGiveBack, Puts, entry_row, expired_lines, share_numbers, share_of, share_on, with_entries}
 pub use Rattle.book.specs.Sums.{AreLinesOnFields, AreMovesOnFields, AreOnFields, AreOrdersOnFields, IsField, added, entry_name, lines_numbers, numbers_on, only_on, part_of_line}
 pub use Rattle.book.specs.Tables.{field_cells, firm_cells, kept_cells, line_cells, move_cells, order_cells, rows_among}
-pub use Rattle.book.specs.Told.{AreNumbered, AreOthers, BeginsOther, HasNumbers, HaveNumbers, IsBounded, IsFieldTold, IsKeptTold, IsLineTold, IsMoveByItself, IsMoveTold, IsOrderByItself, IsWhole, TellOrders, TellsField, head_of, head_row, mark_rows, told_ledger}
+pub use Rattle.book.specs.Told.{AreNumbered, AreOthers, BeginsOther, HasNumbers, HaveNumbers, IsBounded, IsFieldTold, IsKeptTold, IsLineTold, IsMoveByItself, IsMoveTold, IsOrderByItself, IsWhole, TellHeads, TellOrders, TellsField, head_of, head_row, mark_rows, told_ledger}
 pub use Rattle.book.specs.View.{BookView, field_of, kept_of, ledger_of, move_of, order_of, view_of}
 pub use Rattle.book.specs.Walk.{IsSmall, most_of_all, most_of_line, most_of_lines, most_of_move, most_of_moves, moved_by_move, moved_by_order, nothing, plus}
 pub use Rattle.book.specs.declared.book.Book.TheInside.{Inside}

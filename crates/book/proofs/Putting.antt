@@ -1,5 +1,5 @@
 -- The order that a command makes, put in by its number.
-use Rattle.book.proofs.Prelude.{[], ◌==◌, ◌∙◌, ◌∷◌, ◌≡◌, Aborted, Bool, Command, Committed, Each, FirstFailure, Good, IsNone, IsStrictlySortedBy, Ledger, Less, List, None, Option, Order, OrderEntry, Ordering, Some, abort_one, ap, arith, change_lines, checks, cond, false, find, if◌then◌else◌, insert_entry, insert_in_order, is_at, is_eq, is_some, keys_of, lookup, lower_held, map, name_of, nat_cmp, nat_cmp_total, nat_lt, next, none-some, option_map, order_after, order_numbered, order_of, put_row, raise_used, refl, same_Some, set_state, set_value, subst, sym, tied_itself, true, true≢false, ℕ}
+use Rattle.book.proofs.Prelude.{[], ◌==◌, ◌∙◌, ◌∷◌, ◌≡◌, Aborted, Bool, Command, Committed, Each, FirstFailure, Good, IsNone, IsStrictlySortedBy, Ledger, Less, List, None, Option, Order, OrderEntry, Ordering, Some, abort_one, ap, arith, change_lines, checks, cond, false, find, if◌then◌else◌, insert_entry, insert_in_order, is_at, is_eq, is_some, keys_of, lookup, lower_held, map, name_of, nat_cmp, nat_cmp_total, nat_lt, next, none-some, option_map, order_after, order_numbered, order_of, put_row, raise_used, refl, same_Some, set_firm, set_state, set_value, subst, sym, tied_itself, true, true≢false, ℕ}
 use Rattle.words.specs.declared.command.Command.TheVariants as command
 use Rattle.book.proofs.Chosen.{none_after}
 use Rattle.book.proofs.Keyed.{same_number}
@@ -51,6 +51,7 @@ module _ (A : Ledger) (good : Good A) (o : Order) where
   made_put (command.Release n b a q) h made = changed n (change_lines (name_of b a) (lower_held q)) (λ o. refl) (order_numbered A n) refl made
   made_put (command.Commit n) h made = changed n (set_state Committed) (λ o. refl) (order_numbered A n) refl made
   made_put (command.Abort n) h made = changed n (set_state Aborted) (λ o. refl) (order_numbered A n) refl made
+  made_put (command.Firm n) h made = changed n set_firm (λ o. refl) (order_numbered A n) refl made
   made_put c h made = absurd (true≢false (sym (ap is_some made)))
 
 pub orders_put : (A : Ledger) (c : Command) (n : ℕ) (v : OrderEntry) (l : List (ℕ × OrderEntry)) → Good A → FirstFailure (checks A c) None → map order_of l ≡ A.orders → order_after A c ≡ Some (order_of (n, v)) → map order_of (insert_entry nat_cmp l n v) ≡ (next A c).orders

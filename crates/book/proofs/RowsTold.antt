@@ -1,9 +1,10 @@
 -- Rows of a good ledger each tell something in range, and rows that each tell something tell a ledger.
-use Rattle.book.proofs.Prelude.{[], ◌+ℤ◌, ◌+◌, ◌-ℤ◌, ◌∙◌, ◌∷◌, ◌≡◌, ◌≤ℤ◌, ◌≤◌, AllZip, Bool, Each, Field, FieldEntry, FieldRow, Good, Head, IsArticle, IsBounded, IsBranch, IsFieldRow, IsFieldTold, IsGoodField, IsGoodKept, IsGoodLine, IsGoodMove, IsGoodOrder, IsKeptTold, IsLevel, IsLineTold, IsMoveTold, IsSome, KeptEntry, KeptRow, Ledger, Line, LineCells, LineRow, List, MoveEntry, MoveRow, Name, Order, OrderRow, Some, TellsField, ap, arith, entry_row, false, field_cells, field_of, find, flat_map, head_of, held_to_add, held_to_take, if◌then◌else◌, ints, kept_cells, kept_row, line_cells, line_name, lines_from, map, move_cells, move_row, nat_abs, order_cells, order_lines, order_row, pos, refl, same_name, settled, subst, sym, true, true≢false, ℕ, ℤ}
+use Rattle.book.proofs.Prelude.{[], ◌++◌, ◌+ℤ◌, ◌+◌, ◌-ℤ◌, ◌∙◌, ◌∷◌, ◌≡◌, ◌≤ℤ◌, ◌≤◌, AllZip, Bool, Each, Field, FieldEntry, FieldRow, Good, Head, IsArticle, IsBounded, IsBranch, IsFieldRow, IsFieldTold, IsGoodField, IsGoodKept, IsGoodLine, IsGoodMove, IsGoodOrder, IsKeptTold, IsLevel, IsLineTold, IsMoveTold, IsSome, IsStrictlySortedBy, KeptEntry, KeptRow, Ledger, Line, LineCells, LineRow, List, MoveEntry, MoveRow, Name, Order, OrderRow, Some, TellHeads, TellsField, ap, arith, entry_row, false, field_cells, field_of, find, firm_rows, flat_map, head_of, held_to_add, held_to_take, if◌then◌else◌, ints, kept_cells, kept_row, line_cells, line_name, lines_from, map, mark_rows, move_cells, move_row, nat_abs, nat_cmp, order_cells, order_lines, order_row, pos, refl, same_name, settled, subst, sym, true, true≢false, ℕ, ℤ}
 use Rattle.book.specs.Told.{IsHeadTold, TellsLine, head_row}
 use Rattle.book.proofs.Bounds.{inf_is, inf_unique, sup_is, sup_unique}
 use Rattle.book.proofs.Closing.{name_is, sounds_from_good}
 use Rattle.book.proofs.Lists.{each-two, each-unmap}
+use Rattle.book.proofs.Marks.{Marked, same_heads}
 use Rattle.book.proofs.Runs.{in_order}
 use Rattle.book.proofs.Sums.{each-imp}
 use Rattle.book.proofs.Told.{each-join, same_first, same_rest}
@@ -130,15 +131,6 @@ lines_told A rows g e =
     each-imp (λ row told. (told.line, record { branch = told.branch; article = told.article; held = told.held; used = told.used; cells = told.tells })) rows
     (each-unmap Line_told line_cells rows (subst (Each Line_told) (sym e) (orders_each A A.orders g g.orders)))
 
--- the heads that the rows tell are those of the orders
-pub heads_same : (hs : List Head) (rows : List OrderRow) (os : List Order) → AllZip IsHeadTold hs rows → map order_cells rows ≡ map order_row os → map head_of os ≡ hs
-heads_same [] [] [] z e = refl
-heads_same [] [] (o ∷ os) z e = absurd (cc)
-heads_same [] (r ∷ rows) os z e = absurd z
-heads_same (h ∷ hs) [] os z e = absurd z
-heads_same (h ∷ hs) (r ∷ rows) [] z e = absurd (cc)
-heads_same (h ∷ hs) (r ∷ rows) (o ∷ os) z e = let more = heads_same hs rows os z.1 (same_rest (order_cells r) (order_row o) (map order_cells rows) (map order_row os) e) in grind arith
-
 -- ---- rows, all together
 
 pub rows_of : {E Y X V : Type 0} (P : E → Y → Type 0) (view : E → X) (row : X → V) (cells : Y → V) → ((e : E) (y : Y) → P e y → cells y ≡ row (view e)) → (es : List E) (ys : List Y) → AllZip P es ys → map cells ys ≡ map row (map view es)
@@ -151,11 +143,33 @@ heads_rows : (os : List Order) → map head_row (map head_of os) ≡ map order_r
 heads_rows [] = refl
 heads_rows (o ∷ os) = ap (λ rows. order_row o ∷ rows) (heads_rows os)
 
-pub orders_rows : (hs : List Head) (rows : List OrderRow) (os : List Order) → AllZip IsHeadTold hs rows → map head_of os ≡ hs → map order_cells rows ≡ map order_row os
-orders_rows hs rows os z e = by hs rows z ∙ ap (map head_row) (sym e) ∙ heads_rows os
-  where
-    by : (hs : List Head) (rows : List OrderRow) → AllZip IsHeadTold hs rows → map order_cells rows ≡ map head_row hs
-    by [] [] z = refl
-    by [] (r ∷ rows) z = absurd z
-    by (h ∷ hs) [] z = absurd z
-    by (h ∷ hs) (r ∷ rows) z = let a = z.0.cells in let b = by hs rows z.1 in λ i. a i ∷ b i
+marks_rows : (os : List Order) → flat_map mark_rows (map head_of os) ≡ flat_map firm_rows os
+marks_rows [] = refl
+marks_rows (o ∷ os) = ap (λ rows. firm_rows o ++ rows) (marks_rows os)
+
+pub heads_cells : (hs : List Head) (rows : List OrderRow) → AllZip IsHeadTold hs rows → map order_cells rows ≡ map head_row hs
+heads_cells [] [] z = refl
+heads_cells [] (r ∷ rows) z = absurd z
+heads_cells (h ∷ hs) [] z = absurd z
+heads_cells (h ∷ hs) (r ∷ rows) z = let a = z.0.cells in let b = heads_cells hs rows z.1 in λ i. a i ∷ b i
+
+head_numbers : (os : List Order) → map (λ h. h.number) (map head_of os) ≡ map (λ o. o.number) os
+head_numbers [] = refl
+head_numbers (o ∷ os) = ap (λ ns. o.number ∷ ns) (head_numbers os)
+
+-- The heads that the rows of orders in the order of their numbers tell are those of the orders.
+pub heads_same : (hs : List Head) (os : List Order) → IsStrictlySortedBy nat_cmp (map (λ o. o.number) os) → TellHeads hs (map order_row os) (flat_map firm_rows os) → map head_of os ≡ hs
+heads_same hs os sorted told = same_heads (map head_of os) hs (subst (IsStrictlySortedBy nat_cmp) (sym (head_numbers os)) sorted) (heads_rows os ∙ sym told.orders_are) (marks_rows os ∙ sym told.firms_are)
+
+-- orders with these heads have their rows
+pub orders_rows : (hs : List Head) (os : List Order) → map head_of os ≡ hs → TellHeads hs (map order_row os) (flat_map firm_rows os)
+orders_rows hs os e = record { orders_are = ap (map head_row) (sym e) ∙ heads_rows os; firms_are = ap (flat_map mark_rows) (sym e) ∙ marks_rows os }
+
+-- the heads that a good ledger's rows of orders tell are marked by those of its firm orders
+pub marked_by : (A : Ledger) (hs : List Head) (rows : List OrderRow) → Good A → AllZip IsHeadTold hs rows → map order_cells rows ≡ map order_row A.orders → Marked (map head_row hs) (flat_map firm_rows A.orders)
+marked_by A hs rows g told e = record {
+  heads = map head_of A.orders;
+  sorted = subst (IsStrictlySortedBy nat_cmp) (sym (head_numbers A.orders)) g.orders_in_order;
+  same = heads_rows A.orders ∙ sym e ∙ heads_cells hs rows told;
+  rows = marks_rows A.orders;
+}

@@ -1,10 +1,8 @@
 -- Running numbers: what the entries of fields say of a ledger, and what becomes of them.
-use Rattle.book.proofs.Prelude.{[], ◌+ℤ◌, ◌+◌, ◌-ℤ◌, ◌<ℤ◌, ◌∙◌, ◌∷◌, ◌≡◌, ◌≤ℤ◌, ◌≤◌, Add, Bool, BreaksBound, Command, Contains, Content, Each, Equal, Field, FieldCells, FieldEntry, FirstFailure, Global, Good, Greater, IsSafeMoved, IsSome, IsSomeAnd, IsUpToDate, Ledger, Less, List, Name, None, Option, Ordering, Request, Some, Stock, String, Take, Way, accept, ap, arith, checks, common_steps, entry_row, false, field_cells, field_cmp, field_named, field_of, field_row, held_to_add, held_to_take, holding, if_add, if_take, if◌then◌else◌, insert_entry, insert_in_order, ints, is_committed, is_eq, is_lt, is_open, is_some, map, match_ordering, moved, name_cmp, name_of, next, pos, put_row, put_rows, refl, same_name, settled, signed, string_bytes, subst, suc, sym, total, true≢false, with_entries, ℕ, ℤ}
+use Rattle.book.proofs.Prelude.{[], ◌+ℤ◌, ◌+◌, ◌-ℤ◌, ◌<ℤ◌, ◌∙◌, ◌∷◌, ◌≡◌, ◌≤ℤ◌, ◌≤◌, Add, Bool, BreaksBound, Contains, Content, Each, Equal, Field, FieldCells, FieldEntry, Global, Good, Greater, IsSafeMoved, IsSome, IsSomeAnd, IsUpToDate, Ledger, Less, List, Name, None, Option, Ordering, Some, Stock, String, Take, Way, accept, ap, arith, common_steps, entry_row, false, field_cells, field_cmp, field_named, field_of, field_row, held_to_add, held_to_take, holding, if_add, if_take, if◌then◌else◌, insert_entry, ints, is_settled, is_eq, is_lt, is_open, is_some, map, match_ordering, moved, name_cmp, next, pos, put_row, put_rows, refl, same_name, settled, signed, string_bytes, subst, sym, total, true≢false, unsettled, with_entries, ℕ, ℤ}
 use Rattle.escrow.specs.Choices.{IsInfimum as IsLeastOf, IsSafe as IsSafeStock, IsSupremum as IsGreatestOf}
 use Rattle.words.specs.declared.command.Command.TheVariants as command
 use Rattle.book.specs.Plans.{Fits, PlanView}
-use Rattle.book.proofs.Closing.{all_pass}
-use Rattle.book.proofs.Growing.{none_if_not_some}
 use Rattle.book.proofs.InOrder.{rows_are, rows_of}
 use Rattle.book.proofs.Keyed.{equal_field}
 use Rattle.book.proofs.Runs.{in_order}
@@ -158,16 +156,16 @@ new_field A B n lo hi start good none same_moves same_orders = grind (arith, add
     moves : total (λ m. if same_name n m.field then m.amount else pos 0) A.moves ≡ pos 0
     moves = total-zero (λ m. if same_name n m.field then m.amount else pos 0) A.moves (each-imp (λ m x. off (same_name n m.field) m.amount (not_there A n m.field not x.field)) A.moves good.moves)
 
-    used : total (λ o. if is_committed o then moved n (λ l. l.used) o else pos 0) A.orders ≡ pos 0
-    used = no_orders A n is_committed (λ o l. signed l.way l.used) not A.orders good.orders
+    used : total (λ o. if is_settled o then moved n (λ l. l.used) o else pos 0) A.orders ≡ pos 0
+    used = no_orders A n is_settled (λ o l. signed l.way l.used) not A.orders good.orders
 
     takes : held_to_take A n ≡ pos 0
-    takes = no_orders A n is_open (λ o l. pos (if_take l.way l.held)) not A.orders good.orders
+    takes = no_orders A n is_open (λ o l. pos (if_take l.way (unsettled o.firm l l.held))) not A.orders good.orders
 
     adds : held_to_add A n ≡ pos 0
-    adds = no_orders A n is_open (λ o l. pos (if_add l.way l.held)) not A.orders good.orders
+    adds = no_orders A n is_open (λ o l. pos (if_add l.way (unsettled o.firm l l.held))) not A.orders good.orders
 
-    value : pos start ≡ (pos start +ℤ total (λ m. if same_name n m.field then m.amount else pos 0) A.moves) +ℤ total (λ o. if is_committed o then moved n (λ l. l.used) o else pos 0) A.orders
+    value : pos start ≡ (pos start +ℤ total (λ m. if same_name n m.field then m.amount else pos 0) A.moves) +ℤ total (λ o. if is_settled o then moved n (λ l. l.used) o else pos 0) A.orders
     value = let m = moves in let u = used in omega (arith, ints)
 
 -- ---- what a good ledger's field keeps to

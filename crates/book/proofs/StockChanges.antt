@@ -1,9 +1,8 @@
 -- What becomes of a field's stock, as an accepted command changes an order's line on it.
-use Rattle.book.proofs.Prelude.{[], ◌++◌, ◌+ℤ◌, ◌-ℤ◌, ◌-◌, ◌<◌, ◌==◌, ◌||◌, ◌∙◌, ◌∷◌, ◌≡◌, ◌≤ℤ◌, ◌≤◌, Aborted, Add, Becomes, Bool, Command, Committed, Contains, Each, Field, FieldCells, FieldEntry, FirstFailure, Good, IsAccepted, IsFalse, IsGoodOrder, IsInRange, IsQty, IsSafeMoved, IsSomeAnd, IsUpToDate, Ledger, Line, List, MatchOption, MayBecome, Move, Name, None, Open, OpenLine, Option, Order, Request, Some, State, Stock, Take, Way, accept, add_hold, added_part, ap, arith, change_lines, checks, committed_state, common_steps, entry_row, false, field_of, field_row, find, held_of, held_to_add, held_to_take, hold_more, holding, if_add, if_take, if◌then◌else◌, ints, is_open, is_some, is_touched, is_transfer, line_name, line_on, lower_held, map, moved_by_command, moved_part, name_of, new_line, next, on, open_state, option_map, order_after, order_number, order_numbered, part_of_line, pos, raise_held, raise_used, refl, same_name, set_state, settled, signed, some_part, subst, sym, taken_part, total, true, true≢false, ℕ, ℤ}
+use Rattle.book.proofs.Prelude.{[], ◌++◌, ◌+ℤ◌, ◌+◌, ◌-ℤ◌, ◌-◌, ◌<◌, ◌==◌, ◌||◌, ◌∙◌, ◌∷◌, ◌≡◌, ◌≤ℤ◌, ◌≤◌, Aborted, Add, Becomes, Bool, Command, Committed, Contains, Each, Field, FieldCells, FieldEntry, FirstFailure, Good, IsAccepted, IsFalse, IsGoodLine, IsGoodOrder, IsInRange, IsQty, IsSafeMoved, IsSomeAnd, IsTrue, IsUpToDate, Ledger, Line, List, MatchOption, MayBecome, Move, Name, None, Numbers, Open, OpenLine, Option, Order, Request, Share, Some, State, Stock, Take, Way, accept, add_hold, added_part, ap, arith, change_lines, checks, common_steps, entry_row, false, field_of, field_row, find, held_of, held_to_add, held_to_take, hold_more, holding, if_add, if_take, if◌then◌else◌, ints, is_open, is_settled, is_some, is_touched, is_transfer, line_name, line_on, lower_held, map, moved_by_command, moved_part, name_of, new_line, next, on, open_state, option_map, option_map_or, order_after, order_number, order_numbered, pos, raise_held, raise_used, refl, same_name, set_firm, set_state, settled, settled_state, share_numbers, share_of, share_on, signed, some_part, subst, sym, taken_part, total, transfer_lines, true, true≢false, unsettled, ℕ, ℤ}
 use Rattle.escrow.specs.Choices.{IsSafe}
 use Rattle.escrow.specs.Escrow.{moved, MovesValue}
 use Rattle.words.specs.declared.command.Command.TheVariants as command
-use Rattle.book.specs.Running.{amount_held, line_before}
 use Rattle.book.proofs.Bounds.{OneOn, adds-not_negative, takes-not_negative}
 use Rattle.book.proofs.Chosen.{some_is}
 use Rattle.book.proofs.Closing.{all_pass, one_on}
@@ -74,147 +73,261 @@ before_of A n f good ended = grind (arith, each-found, one_on)
 pub before : (A : Ledger) (c : Command) (n : ℕ) (f : Name) → Good A → FirstFailure (checks A c) None → order_number c ≡ Some n → IsBefore f (order_numbered A n)
 before x c n f good h e = grind (arith, all_pass, before_of, none_opened, some_is)
 
--- ---- the line before and after
+-- its line on the field, if there is one
+abbrev line_before : Option Order → Name → Option Line
+line_before None f = None
+line_before (Some o) f = line_on o f
 
--- Its way stays; what is settled was held; what is more is a quantity.
-pub record LineGoes (x : Option Line) (l : Line) (s : State) : Type 0 where
-  pub way : MatchOption x (Unit {0}) (λ k. k.way ≡ l.way)
-  pub used : s ≡ Committed → l.used ≤ amount_held x
-  pub qty : s ≡ Open → amount_held x < l.held → IsQty (l.held - amount_held x)
+-- ---- what a line counts for before and after
 
--- a line of a new order
-new_goes : (f : Name) (ls : List OpenLine) (l : Line) (x : Option Line) → x ≡ None → Each (λ l. IsQty l.qty) ls → find (on f) (map new_line ls) ≡ Some l → LineGoes x l Open
-new_goes f ls l x none range there = grind (arith, (each-found (λ l. IsQty l.held) (on f) l (map new_line ls) (each-map (λ l. IsQty l.held) new_line ls range) there), each-map)
+abbrev no_share : Share
+no_share = record { settled = 0; held = 0 }
 
--- a line that stays on its field, its way the same
-kept_goes : (f : Name) (g : Line → Line) (ls : List Line) (s : State) (l : Line) → ((k : Line) → on f (g k) ≡ on f k) → ((k : Line) → LineGoes (Some k) (g k) s) → find (on f) (map g ls) ≡ Some l → LineGoes (find (on f) ls) l s
-kept_goes f g ls s l keeps goes there = grind (arith, (find_map f g keeps ls), some_is)
+-- the share of a line, if there is one, in an order that has the state, and is firm or not
+abbrev some_share : State → Bool → Option Line → Share
+some_share s m x = option_map_or (share_of s m) x no_share
 
-lowered : (b : Bool) (q : ℕ) (k : Line) → LineGoes (Some k) (if b then lower_held q k else k) Open
-lowered b q k = grind arith
-
-used_more : (b : Bool) (q : ℕ) (k : Line) → LineGoes (Some k) (if b then raise_used q k else k) Open
-used_more b q k = grind arith
-
-raised : (b : Bool) (q : ℕ) (k : Line) → IsQty q → LineGoes (Some k) (if b then raise_held q k else k) Open
-raised b q k range = grind arith
-
-on_kept : (f : Name) (b : Bool) (g : Line → Line) (k : Line) → on f (g k) ≡ on f k → on f (if b then g k else k) ≡ on f k
-on_kept f b g k e = grind arith
-
--- one line more at the end
-pushed_goes : (f : Name) (ol : OpenLine) (ls : List Line) (l : Line) → IsQty ol.qty → find (on f) (ls ++ new_line ol ∷ []) ≡ Some l → LineGoes (find (on f) ls) l Open
-pushed_goes f ol [] l range there = grind arith
-pushed_goes f ol (k ∷ ls) l range there = by (on f k) there (λ h. pushed_goes f ol ls l range h)
-  where
-    by : (b : Bool) → (if b then Some k else find (on f) (ls ++ new_line ol ∷ [])) ≡ Some l → (find (on f) (ls ++ new_line ol ∷ []) ≡ Some l → LineGoes (find (on f) ls) l Open) → LineGoes (if b then Some k else find (on f) ls) l Open
-    by b e more = grind arith
-
-pub state_is : (s : State) → open_state s ≡ true → Open ≡ s
-state_is c e = grind arith
-
-held_goes : (f : Name) (ol : OpenLine) (o : Order) (l : Line) → IsQty ol.qty → is_open o ≡ true → find (on f) (add_hold ol o).lines ≡ Some l → LineGoes (line_on o f) l (add_hold ol o).state
-held_goes f ol o l range unended there = by (is_some (line_on o (line_name (new_line ol)))) there
-  where
-    by : (b : Bool) → find (on f) (if b then hold_more (line_name (new_line ol)) ol.qty o else record o { lines = o.lines ++ new_line ol ∷ [] }).lines ≡ Some l
-        → LineGoes (line_on o f) l (if b then hold_more (line_name (new_line ol)) ol.qty o else record o { lines = o.lines ++ new_line ol ∷ [] }).state
-    by true h = subst (LineGoes (line_on o f) l) (state_is o.state unended)
-        (kept_goes f (λ m. if on (line_name (new_line ol)) m then raise_held ol.qty m else m) o.lines Open l (λ k. on_kept f (on (line_name (new_line ol)) k) (raise_held ol.qty) k refl) (λ k. raised (on (line_name (new_line ol)) k) ol.qty k range) h)
-    by false h = subst (LineGoes (line_on o f) l) (state_is o.state unended) (pushed_goes f ol o.lines l range h)
-
--- what an order under the number becomes
-changed_goes : (A : Ledger) (n : ℕ) (f : Name) (change : Order → Order) (o : Order) (l : Line) → Good A → IsBefore f (order_numbered A n)
-    → ((m : Order) → IsGoodOrder A m → is_open m ≡ true → find (on f) (change m).lines ≡ Some l → LineGoes (line_on m f) l (change m).state)
-    → option_map change (order_numbered A n) ≡ Some o → find (on f) o.lines ≡ Some l → LineGoes (line_before (order_numbered A n) f) l o.state
-changed_goes A n f change o l good is goes e there = by (order_numbered A n) refl is e
-  where
-    by : (x : Option Order) → order_numbered A n ≡ x → IsBefore f x → option_map change x ≡ Some o → LineGoes (line_before x f) l o.state
-    by None k is e = absurd (true≢false (sym (ap is_some e)))
-    by (Some m) k is e = grind (arith, (each-found (IsGoodOrder A) (λ o. o.number == n) m A.orders good.orders k), (some_is (change m) o e))
-
-opened_goes : (f : Name) (new o : Order) (ls : List OpenLine) (l : Line) (x : Option Order) → x ≡ None → new.lines ≡ map new_line ls → new.state ≡ Open → Each (λ l. IsQty l.qty) ls → Some new ≡ Some o → find (on f) o.lines ≡ Some l → LineGoes (line_before x f) l o.state
-opened_goes f new o ls l x none lines state range e there =
-    let same = some_is new o e in
-    subst (LineGoes (line_before x f) l) (sym state ∙ ap (λ (p : Order). p.state) same)
-    (new_goes f ls l (line_before x f) (ap (λ (x : Option Order). line_before x f) none) range (subst (λ (ls : List Line). find (on f) ls ≡ Some l) (ap (λ (p : Order). p.lines) (sym same) ∙ lines) there))
-
-pub line_goes : (A : Ledger) (c : Command) (n : ℕ) (f : Name) (o : Order) (l : Line) → Good A → IsInRange c → FirstFailure (checks A c) None → order_number c ≡ Some n → IsBefore f (order_numbered A n) → order_after A c ≡ Some o → find (on f) o.lines ≡ Some l
-    → LineGoes (line_before (order_numbered A n) f) l o.state
-line_goes A (command.Open m until lines) n f o l good range h e is made there = opened_goes f _ o lines l (order_numbered A n) (none_opened A (command.Open m until lines) n h e refl) refl refl (quantities lines range.2) made there
-line_goes A (command.Transfer m until a from to q) n f o l good range h e is made there = grind arith
-line_goes A (command.More m way b a q) n f o l good range h e is made there =
-    changed_goes A n f (add_hold (record { way = way; branch = b; article = a; qty = q })) o l good is (λ p g unended k. held_goes f (record { way = way; branch = b; article = a; qty = q }) p l range.3 unended k) (subst (λ k. option_map (add_hold (record { way = way; branch = b; article = a; qty = q })) (order_numbered A k) ≡ Some o) (some_is m n e) made) there
-line_goes A (command.Use m b a q) n f o l good range h e is made there =
-    changed_goes A n f (change_lines (name_of b a) (raise_used q)) o l good is
-    (λ p g unended k. subst (LineGoes (line_on p f) l) (state_is p.state unended) (kept_goes f (λ x. if is_transfer p || on (name_of b a) x then raise_used q x else x) p.lines Open l (λ x. on_kept f (is_transfer p || on (name_of b a) x) (raise_used q) x refl) (λ x. used_more (is_transfer p || on (name_of b a) x) q x) k))
-    (subst (λ k. option_map (change_lines (name_of b a) (raise_used q)) (order_numbered A k) ≡ Some o) (some_is m n e) made) there
-line_goes A (command.Release m b a q) n f o l good range h e is made there =
-    changed_goes A n f (change_lines (name_of b a) (lower_held q)) o l good is
-    (λ p g unended k. subst (LineGoes (line_on p f) l) (state_is p.state unended) (kept_goes f (λ x. if is_transfer p || on (name_of b a) x then lower_held q x else x) p.lines Open l (λ x. on_kept f (is_transfer p || on (name_of b a) x) (lower_held q) x refl) (λ x. lowered (is_transfer p || on (name_of b a) x) q x) k))
-    (subst (λ k. option_map (change_lines (name_of b a) (lower_held q)) (order_numbered A k) ≡ Some o) (some_is m n e) made) there
-line_goes A (command.Commit m) n f o l good range h e is made there = grind (arith, common_steps, (some_is m n e), changed_goes, each-found)
-line_goes A (command.Abort m) n f o l good range h e is made there = grind arith
-line_goes A c n f o l good range h e is made there = absurd (true≢false (sym (ap is_some e)))
-
--- ---- what the order adds before and after
-
-none_held : (w : Way) → pos 0 ≡ pos (if_take w 0)
-none_held b = grind arith
-
-none_added : (w : Way) → pos 0 ≡ pos (if_add w 0)
-none_added b = grind arith
+-- What is settled stays settled. Where more is held then, that is a quantity, and as much is settled; else what is settled
+-- then was settled or held.
+pub record Goes (before after : Share) : Type 0 where
+  pub settled : before.settled ≤ after.settled
+  pub used : after.held ≤ before.held → after.settled + after.held ≤ before.settled + before.held
+  pub same : before.held < after.held → after.settled ≡ before.settled
+  pub qty : before.held < after.held → IsQty (after.held - before.held)
 
 -- the line before, if there is one, has the way
 abbrev HasWay : Way → Option Line → Type 0
 HasWay w x = MatchOption x (Unit {0}) (λ k. k.way ≡ w)
 
-takes_of : (w : Way) (x : Option Line) → HasWay w x → of_line (λ l. pos (if_take l.way l.held)) x ≡ pos (if_take w (amount_held x))
-takes_of w b way = grind arith
+-- the way of the line stays, and its share goes from the one to the other
+pub record LineGoes (x : Option Line) (before : Share) (l : Line) (after : Share) : Type 0 where
+  pub way : HasWay l.way x
+  pub goes : Goes before after
 
-adds_of : (w : Way) (x : Option Line) → HasWay w x → of_line (λ l. pos (if_add l.way l.held)) x ≡ pos (if_add w (amount_held x))
-adds_of w b way = grind arith
+-- a line that is new
+fresh : (l : Line) → IsQty l.held → Goes no_share (share_of Open false l)
+fresh l range = record { settled = omega arith; used = λ h. omega arith; same = λ h. refl; qty = λ h. (omega arith, omega arith) }
 
-takes_before : (f : Name) (w : Way) (x : Option Order) → IsBefore f x → HasWay w (line_before x f) → some_part (taken_part f) x ≡ pos (if_take w (amount_held (line_before x f)))
-takes_before f w None is way = none_held w
-takes_before f w (Some o) is way =
-    ap (λ b. if b then total (λ l. if on f l then pos (if_take l.way l.held) else pos 0) o.lines else pos 0) is.0 ∙ total_found f (λ l. pos (if_take l.way l.held)) o.lines is.1 ∙ takes_of w (line_on o f) way
+-- one that stays as it was
+stays : (s : Share) → Goes s s
+stays s = record { settled = omega arith; used = λ h. omega arith; same = λ h. refl; qty = λ h. absurd (omega arith) }
 
-adds_before : (f : Name) (w : Way) (x : Option Order) → IsBefore f x → HasWay w (line_before x f) → some_part (added_part f) x ≡ pos (if_add w (amount_held (line_before x f)))
-adds_before f w None is way = none_added w
-adds_before f w (Some o) is way =
-    ap (λ b. if b then total (λ l. if on f l then pos (if_add l.way l.held) else pos 0) o.lines else pos 0) is.0 ∙ total_found f (λ l. pos (if_add l.way l.held)) o.lines is.1 ∙ adds_of w (line_on o f) way
+-- one of which more is held
+raised : (m b : Bool) (q : ℕ) (k : Line) → IsQty q → Goes (share_of Open m k) (share_of Open m (if b then raise_held q k else k))
+raised m b q k range = grind arith
 
-moved_before : (f : Name) (x : Option Order) → IsBefore f x → some_part (moved_part f) x ≡ pos 0
-moved_before f b is = grind arith
+-- one of which less is held
+lowered : (m b : Bool) (q : ℕ) (k : Line) → Goes (share_of Open m k) (share_of Open m (if b then lower_held q k else k))
+lowered m b q k = grind arith
+
+-- one of which more is used
+used_more : (m b : Bool) (q : ℕ) (k : Line) → (if b then raise_used q k else k).used ≤ (if b then raise_used q k else k).held → Goes (share_of Open m k) (share_of Open m (if b then raise_used q k else k))
+used_more m b q k within = grind arith
+
+committed : (m : Bool) (k : Line) → k.used ≤ k.held → Goes (share_of Open m k) (share_of Committed m k)
+committed m k within = grind arith
+
+aborted : (k : Line) → Goes (share_of Open false k) (share_of Aborted false k)
+aborted k = grind arith
+
+made_firm : (m : Bool) (k : Line) → k.used ≤ k.held → Goes (share_of Open m k) (share_of Open true k)
+made_firm m k within = grind arith
+
+-- a line of a new order
+new_goes : (f : Name) (ls : List OpenLine) (l : Line) → Each (λ l. IsQty l.qty) ls → find (on f) (map new_line ls) ≡ Some l → LineGoes None no_share l (share_of Open false l)
+new_goes f ls l range there = record { way = tt; goes = fresh l (each-found (λ l. IsQty l.held) (on f) l (map new_line ls) (each-map (λ l. IsQty l.held) new_line ls range) there) }
+
+-- a line that stays on its field, its way the same
+kept_goes : (f : Name) (g : Line → Line) (ls : List Line) (m n : Bool) (s : State) (l : Line) → ((k : Line) → on f (g k) ≡ on f k) → ((k : Line) → (g k).way ≡ k.way) → ((k : Line) → (g k).used ≤ (g k).held → Goes (share_of Open m k) (share_of s n (g k)))
+    → find (on f) (map g ls) ≡ Some l → l.used ≤ l.held → LineGoes (find (on f) ls) (some_share Open m (find (on f) ls)) l (share_of s n l)
+kept_goes f g ls m n s l keeps ways goes there within = by (find (on f) ls) (sym (find_map f g keeps ls) ∙ there)
+  where
+    by : (x : Option Line) → option_map g x ≡ Some l → LineGoes x (some_share Open m x) l (share_of s n l)
+    by None e = absurd (true≢false (sym (ap is_some e)))
+    by (Some k) e = let is = some_is (g k) l e in record {
+      way = sym (ways k) ∙ ap (λ (l : Line). l.way) is;
+      goes = subst (λ (x : Line). Goes (share_of Open m k) (share_of s n x)) is (goes k (subst (λ (x : Line). x.used ≤ x.held) (sym is) within));
+    }
+
+on_kept : (f : Name) (b : Bool) (g : Line → Line) (k : Line) → on f (g k) ≡ on f k → on f (if b then g k else k) ≡ on f k
+on_kept f b g k e = grind arith
+
+way_kept : (b : Bool) (g : Line → Line) (k : Line) → (g k).way ≡ k.way → (if b then g k else k).way ≡ k.way
+way_kept b g k e = grind arith
+
+-- one line more at the end
+pushed_goes : (f : Name) (ol : OpenLine) (ls : List Line) (l : Line) → IsQty ol.qty → find (on f) (ls ++ new_line ol ∷ []) ≡ Some l → LineGoes (find (on f) ls) (some_share Open false (find (on f) ls)) l (share_of Open false l)
+pushed_goes f ol [] l range there = new_goes f (ol ∷ []) l (range, tt) there
+pushed_goes f ol (k ∷ ls) l range there = by (on f k) there (λ h. pushed_goes f ol ls l range h)
+  where
+    by : (b : Bool) → (if b then Some k else find (on f) (ls ++ new_line ol ∷ [])) ≡ Some l → (find (on f) (ls ++ new_line ol ∷ []) ≡ Some l → LineGoes (find (on f) ls) (some_share Open false (find (on f) ls)) l (share_of Open false l))
+        → LineGoes (if b then Some k else find (on f) ls) (some_share Open false (if b then Some k else find (on f) ls)) l (share_of Open false l)
+    by true e more = let is = some_is k l e in record { way = ap (λ (l : Line). l.way) is; goes = subst (λ (x : Line). Goes (share_of Open false k) (share_of Open false x)) is (stays (share_of Open false k)) }
+    by false e more = more e
+
+pub state_is : (s : State) → open_state s ≡ true → Open ≡ s
+state_is c e = grind arith
+
+-- ---- the order that the command changes
+
+-- what becomes of a line of the order on the field, where the order is open
+abbrev ChangeGoes : Name → (Order → Order) → Order → Line → Type 0
+ChangeGoes f change p l = find (on f) (change p).lines ≡ Some l → LineGoes (line_on p f) (some_share Open p.firm (line_on p f)) l (share_of (change p).state (change p).firm l)
+
+-- each line on its field changes so, and the state and the mark stay
+each_goes : (f : Name) (g : Line → Line) (new p : Order) (l : Line) → ((k : Line) → on f (g k) ≡ on f k) → ((k : Line) → (g k).way ≡ k.way) → ((k : Line) → (g k).used ≤ (g k).held → Goes (share_of Open p.firm k) (share_of Open p.firm (g k))) → is_open p ≡ true → l.used ≤ l.held
+    → find (on f) (map g p.lines) ≡ Some l → LineGoes (line_on p f) (some_share Open p.firm (line_on p f)) l (share_of p.state p.firm l)
+each_goes f g new p l keeps ways goes unended within there = subst (λ s. LineGoes (line_on p f) (some_share Open p.firm (line_on p f)) l (share_of s p.firm l)) (state_is p.state unended) (kept_goes f g p.lines p.firm p.firm Open l keeps ways goes there within)
+
+-- the lines stay, and the state and the mark change
+ended_goes : (f : Name) (p : Order) (s : State) (m : Bool) (l : Line) → ((k : Line) → k.used ≤ k.held → Goes (share_of Open p.firm k) (share_of s m k)) → l.used ≤ l.held → find (on f) p.lines ≡ Some l → LineGoes (line_on p f) (some_share Open p.firm (line_on p f)) l (share_of s m l)
+ended_goes f p s m l goes within there = subst (λ (x : Option Line). LineGoes x (some_share Open p.firm x) l (share_of s m l)) (sym there) (record { way = refl; goes = goes l within })
+
+held_goes : (f : Name) (ol : OpenLine) (p : Order) (l : Line) → IsQty ol.qty → is_open p ≡ true → p.firm ≡ false → l.used ≤ l.held → ChangeGoes f (add_hold ol) p l
+held_goes f ol p l range unended loose within there = by (is_some (line_on p (line_name (new_line ol)))) there
+  where
+    by : (b : Bool) → find (on f) (if b then hold_more (line_name (new_line ol)) ol.qty p else record p { lines = p.lines ++ new_line ol ∷ [] }).lines ≡ Some l
+        → LineGoes (line_on p f) (some_share Open p.firm (line_on p f)) l (share_of (if b then hold_more (line_name (new_line ol)) ol.qty p else record p { lines = p.lines ++ new_line ol ∷ [] }).state (if b then hold_more (line_name (new_line ol)) ol.qty p else record p { lines = p.lines ++ new_line ol ∷ [] }).firm l)
+    by true h = each_goes f (λ x. if on (line_name (new_line ol)) x then raise_held ol.qty x else x) p p l (λ k. on_kept f (on (line_name (new_line ol)) k) (raise_held ol.qty) k refl) (λ k. way_kept (on (line_name (new_line ol)) k) (raise_held ol.qty) k refl)
+        (λ k within. raised p.firm (on (line_name (new_line ol)) k) ol.qty k range) unended within h
+    by false h = subst (λ m. LineGoes (line_on p f) (some_share Open m (line_on p f)) l (share_of p.state m l)) (sym loose) (subst (λ s. LineGoes (line_on p f) (some_share Open false (line_on p f)) l (share_of s false l)) (state_is p.state unended) (pushed_goes f ol p.lines l range h))
+
+-- what an order under the number becomes
+changed_goes : (A : Ledger) (n : ℕ) (f : Name) (change : Order → Order) (o : Order) (l : Line) → IsBefore f (order_numbered A n) → ((p : Order) → order_numbered A n ≡ Some p → is_open p ≡ true → ChangeGoes f change p l)
+    → option_map change (order_numbered A n) ≡ Some o → find (on f) o.lines ≡ Some l → LineGoes (line_before (order_numbered A n) f) (share_on (order_numbered A n) f) l (share_of o.state o.firm l)
+changed_goes A n f change o l is goes e there = by (order_numbered A n) refl is e
+  where
+    by : (x : Option Order) → order_numbered A n ≡ x → IsBefore f x → option_map change x ≡ Some o → LineGoes (line_before x f) (share_on x f) l (share_of o.state o.firm l)
+    by None k is e = absurd (true≢false (sym (ap is_some e)))
+    by (Some p) k is e =
+        let same = some_is (change p) o e in
+        subst (λ (o : Order). LineGoes (line_on p f) (share_on (Some p) f) l (share_of o.state o.firm l)) same
+        (subst (λ s. LineGoes (line_on p f) (some_share s p.firm (line_on p f)) l (share_of (change p).state (change p).firm l)) (state_is p.state is.0)
+        (goes p k is.0 (subst (λ (o : Order). find (on f) o.lines ≡ Some l) (sym same) there)))
+
+opened_goes : (f : Name) (new o : Order) (ls : List OpenLine) (l : Line) (x : Option Order) → x ≡ None → new.lines ≡ map new_line ls → new.state ≡ Open → new.firm ≡ false → Each (λ l. IsQty l.qty) ls → Some new ≡ Some o → find (on f) o.lines ≡ Some l
+    → LineGoes (line_before x f) (share_on x f) l (share_of o.state o.firm l)
+opened_goes f new o ls l x none lines state firm range e there =
+    let same = some_is new o e in
+    subst (λ (x : Option Order). LineGoes (line_before x f) (share_on x f) l (share_of o.state o.firm l)) (sym none)
+    (subst (λ (o : Order). LineGoes None no_share l (share_of o.state o.firm l)) same
+    (subst (λ s. LineGoes None no_share l (share_of s new.firm l)) (sym state) (subst (λ m. LineGoes None no_share l (share_of Open m l)) (sym firm) (new_goes f ls l range (subst (λ (ls : List Line). find (on f) ls ≡ Some l) (ap (λ (p : Order). p.lines) (sym same) ∙ lines) there)))))
+
+-- the order that is found is not firm
+loose : (x : Option Order) (p : Order) → (IsSomeAnd x (λ o. IsTrue o.firm) → ⊥) → x ≡ Some p → p.firm ≡ false
+loose x p not is = grind arith
+
+pub line_goes : (A : Ledger) (c : Command) (n : ℕ) (f : Name) (o : Order) (l : Line) → IsInRange c → FirstFailure (checks A c) None → order_number c ≡ Some n → IsBefore f (order_numbered A n) → order_after A c ≡ Some o → find (on f) o.lines ≡ Some l → l.used ≤ l.held
+    → LineGoes (line_before (order_numbered A n) f) (share_on (order_numbered A n) f) l (share_of o.state o.firm l)
+line_goes A (command.Open m until lines) n f o l range h e is made there within = opened_goes f _ o lines l (order_numbered A n) (none_opened A (command.Open m until lines) n h e refl) refl refl refl (quantities lines range.2) made there
+line_goes A (command.Transfer m until a from to q) n f o l range h e is made there within = opened_goes f _ o (transfer_lines a from to q) l (order_numbered A n) (none_opened A (command.Transfer m until a from to q) n h e refl) refl refl refl (range.5, (range.5, tt)) made there
+line_goes A (command.More m way b a q) n f o l range h e is made there within = at m (some_is m n e) (all_pass (checks A (command.More m way b a q)) h).1.1.1.0 made
+  where
+    ol : OpenLine
+    ol = record { way = way; branch = b; article = a; qty = q }
+
+    at : (m : ℕ) → m ≡ n → (IsSomeAnd (order_numbered A m) (λ o. IsTrue o.firm) → ⊥) → option_map (add_hold ol) (order_numbered A m) ≡ Some o → LineGoes (line_before (order_numbered A n) f) (share_on (order_numbered A n) f) l (share_of o.state o.firm l)
+    at m e not made = changed_goes A n f (add_hold ol) o l is (λ p k unended. held_goes f ol p l range.3 unended (loose (order_numbered A n) p (subst (λ m. IsSomeAnd (order_numbered A m) (λ o. IsTrue o.firm) → ⊥) e not) k) within) (subst (λ k. option_map (add_hold ol) (order_numbered A k) ≡ Some o) e made) there
+line_goes A (command.Use m b a q) n f o l range h e is made there within =
+    changed_goes A n f (change_lines (name_of b a) (raise_used q)) o l is
+    (λ p k unended. each_goes f (λ x. if is_transfer p || on (name_of b a) x then raise_used q x else x) p p l (λ x. on_kept f (is_transfer p || on (name_of b a) x) (raise_used q) x refl) (λ x. way_kept (is_transfer p || on (name_of b a) x) (raise_used q) x refl)
+    (λ x within. used_more p.firm (is_transfer p || on (name_of b a) x) q x within) unended within)
+    (subst (λ k. option_map (change_lines (name_of b a) (raise_used q)) (order_numbered A k) ≡ Some o) (some_is m n e) made) there
+line_goes A (command.Release m b a q) n f o l range h e is made there within =
+    changed_goes A n f (change_lines (name_of b a) (lower_held q)) o l is
+    (λ p k unended. each_goes f (λ x. if is_transfer p || on (name_of b a) x then lower_held q x else x) p p l (λ x. on_kept f (is_transfer p || on (name_of b a) x) (lower_held q) x refl) (λ x. way_kept (is_transfer p || on (name_of b a) x) (lower_held q) x refl)
+    (λ x within. lowered p.firm (is_transfer p || on (name_of b a) x) q x) unended within)
+    (subst (λ k. option_map (change_lines (name_of b a) (lower_held q)) (order_numbered A k) ≡ Some o) (some_is m n e) made) there
+line_goes A (command.Commit m) n f o l range h e is made there within =
+    changed_goes A n f (set_state Committed) o l is (λ p k unended. ended_goes f p Committed p.firm l (committed p.firm) within) (subst (λ k. option_map (set_state Committed) (order_numbered A k) ≡ Some o) (some_is m n e) made) there
+line_goes A (command.Abort m) n f o l range h e is made there within = at m (some_is m n e) (all_pass (checks A (command.Abort m)) h).1.1.0 made
+  where
+    at : (m : ℕ) → m ≡ n → (IsSomeAnd (order_numbered A m) (λ o. IsTrue o.firm) → ⊥) → option_map (set_state Aborted) (order_numbered A m) ≡ Some o → LineGoes (line_before (order_numbered A n) f) (share_on (order_numbered A n) f) l (share_of o.state o.firm l)
+    at m e not made = changed_goes A n f (set_state Aborted) o l is (λ p k unended. let not_firm = loose (order_numbered A n) p (subst (λ m. IsSomeAnd (order_numbered A m) (λ o. IsTrue o.firm) → ⊥) e not) k in
+        ended_goes f p Aborted p.firm l (λ x within. subst (λ m. Goes (share_of Open m x) (share_of Aborted m x)) (sym not_firm) (aborted x)) within)
+        (subst (λ k. option_map (set_state Aborted) (order_numbered A k) ≡ Some o) e made) there
+line_goes A (command.Firm m) n f o l range h e is made there within =
+    changed_goes A n f set_firm o l is (λ p k unended there. subst (λ s. LineGoes (line_on p f) (some_share Open p.firm (line_on p f)) l (share_of s true l)) (state_is p.state unended) (ended_goes f p Open true l (made_firm p.firm) within there)) (subst (λ k. option_map set_firm (order_numbered A k) ≡ Some o) (some_is m n e) made) there
+line_goes A c n f o l range h e is made there within = absurd (true≢false (sym (ap is_some e)))
+
+-- ---- what the order adds before and after
+
+moved_some : (s : State) (m : Bool) (w : Way) (x : Option Line) → HasWay w x → (if settled_state s m then of_line (λ l. signed l.way l.used) x else pos 0) ≡ signed w (some_share s m x).settled
+moved_some s m w None way = grind arith
+moved_some s m w (Some k) way = grind arith
+
+takes_some : (s : State) (m : Bool) (w : Way) (x : Option Line) → HasWay w x → (if open_state s then of_line (λ l. pos (if_take l.way (unsettled m l l.held))) x else pos 0) ≡ pos (if_take w (some_share s m x).held)
+takes_some s m w None way = grind arith
+takes_some s m w (Some k) way = grind arith
+
+adds_some : (s : State) (m : Bool) (w : Way) (x : Option Line) → HasWay w x → (if open_state s then of_line (λ l. pos (if_add l.way (unsettled m l l.held))) x else pos 0) ≡ pos (if_add w (some_share s m x).held)
+adds_some s m w None way = grind arith
+adds_some s m w (Some k) way = grind arith
+
+-- what an order adds up to on the field, if there is one
+record PartsAre (f : Name) (x : Option Order) (n : Numbers) : Type 0 where
+  moved : some_part (moved_part f) x ≡ n.moved
+  takes : some_part (taken_part f) x ≡ n.takes
+  adds : some_part (added_part f) x ≡ n.adds
+
+none_parts : (f : Name) (w : Way) → PartsAre f None (share_numbers w no_share)
+none_parts f Take = record { moved = refl; takes = refl; adds = refl }
+none_parts f Add = record { moved = refl; takes = refl; adds = refl }
+
+-- as much as its line on the field counts for
+order_parts : (f : Name) (w : Way) (o : Order) → OneOn f o.lines → HasWay w (line_on o f) → PartsAre f (Some o) (share_numbers w (share_on (Some o) f))
+order_parts f w o one way = record {
+  moved = ap (λ z. if is_settled o then z else pos 0) (total_found f (λ l. signed l.way l.used) o.lines one) ∙ moved_some o.state o.firm w (line_on o f) way;
+  takes = ap (λ z. if is_open o then z else pos 0) (total_found f (λ l. pos (if_take l.way (unsettled o.firm l l.held))) o.lines one) ∙ takes_some o.state o.firm w (line_on o f) way;
+  adds = ap (λ z. if is_open o then z else pos 0) (total_found f (λ l. pos (if_add l.way (unsettled o.firm l l.held))) o.lines one) ∙ adds_some o.state o.firm w (line_on o f) way;
+}
+
+parts_before : (f : Name) (w : Way) (x : Option Order) → IsBefore f x → HasWay w (line_before x f) → PartsAre f x (share_numbers w (share_on x f))
+parts_before f w None is way = none_parts f w
+parts_before f w (Some o) is way = order_parts f w o is.1 way
+
+parts_after : (f : Name) (o : Order) (l : Line) → OneOn f o.lines → find (on f) o.lines ≡ Some l → PartsAre f (Some o) (share_numbers l.way (share_of o.state o.firm l))
+parts_after f o l one there = subst (λ (x : Option Line). PartsAre f (Some o) (share_numbers l.way (some_share o.state o.firm x))) there (order_parts f l.way o one (subst (HasWay l.way) (sym there) refl))
 
 not_moved : (f : Name) (A : Ledger) (c : Command) (n : ℕ) → order_number c ≡ Some n → total (λ m. if same_name f m.field then m.amount else pos 0) (next A c).moves ≡ total (λ m. if same_name f m.field then m.amount else pos 0) A.moves
 not_moved f b c n e = grind arith
 
 -- the numbers of the next ledger on the field
-record Changes (A B : Ledger) (fld : Field) (held : ℕ) (l : Line) (s : State) : Type 0 where
-  value : settled B fld ≡ settled A fld +ℤ (part_of_line s l).moved
-  takes : held_to_take B fld.name ≡ (held_to_take A fld.name -ℤ pos (if_take l.way held)) +ℤ (part_of_line s l).takes
-  adds : held_to_add B fld.name ≡ (held_to_add A fld.name -ℤ pos (if_add l.way held)) +ℤ (part_of_line s l).adds
+record Changes (A B : Ledger) (fld : Field) (before after : Numbers) : Type 0 where
+  value : settled B fld ≡ ((settled A fld -ℤ before.moved) +ℤ after.moved)
+  takes : held_to_take B fld.name ≡ ((held_to_take A fld.name -ℤ before.takes) +ℤ after.takes)
+  adds : held_to_add B fld.name ≡ ((held_to_add A fld.name -ℤ before.adds) +ℤ after.adds)
+
+-- the order that is made, as a good ledger has it
+made_line : (A : Ledger) (r : Request) (n : ℕ) (o : Order) → Good (accept A r) → IsAccepted A r → order_number r.command ≡ Some n → order_after A r.command ≡ Some o → IsGoodOrder (accept A r) o
+made_line A r n o after ok number made = each-found (IsGoodOrder (accept A r)) (λ o. o.number == n) o (accept A r).orders after.orders (made_there A r.command n ok.1 number ∙ made)
+
+goes_of : (A : Ledger) (r : Request) (n : ℕ) (o : Order) (f : Name) (l : Line) → Good A → Good (accept A r) → IsAccepted A r → IsInRange r.command → order_number r.command ≡ Some n → order_after A r.command ≡ Some o → find (on f) o.lines ≡ Some l
+    → LineGoes (line_before (order_numbered A n) f) (share_on (order_numbered A n) f) l (share_of o.state o.firm l)
+goes_of A r n o f l good after ok range number made there =
+    let line = each-found (IsGoodLine (accept A r)) (on f) l o.lines (made_line A r n o after ok number made).lines there in
+    line_goes A r.command n f o l range ok.1 number (before A r.command n f good ok.1 number) made there line.used
 
 changes : (A : Ledger) (r : Request) (n : ℕ) (o : Order) (fld : Field) (l : Line) → Good A → Good (accept A r) → IsAccepted A r → IsInRange r.command → order_number r.command ≡ Some n → order_after A r.command ≡ Some o → find (on fld.name) o.lines ≡ Some l
-    → Changes A (accept A r) fld (amount_held (line_before (order_numbered A n) fld.name)) l o.state
+    → Changes A (accept A r) fld (share_numbers l.way (share_on (order_numbered A n) fld.name)) (share_numbers l.way (share_of o.state o.firm l))
 changes A r n o fld l good after ok range number made there =
     let f = fld.name in
     let c = r.command in
     let x = order_numbered A n in
-    let is = before A c n f good ok.1 number in
-    let goes = line_goes A c n f o l good range ok.1 number is made there in
-    let one = one_on f o.lines (each-found (IsGoodOrder (accept A r)) (λ o. o.number == n) o (accept A r).orders after.orders (made_there A c n ok.1 number ∙ made)).apart in
+    let goes = goes_of A r n o f l good after ok range number made there in
+    let was = parts_before f l.way x (before A c n f good ok.1 number) goes.way in
+    let one = one_on f o.lines (made_line A r n o after ok number made).apart in
+    let is = subst (λ (y : Option Order). PartsAre f y (share_numbers l.way (share_of o.state o.firm l))) (sym made) (parts_after f o l one there) in
     let moves = not_moved f A c n number in
-    let used = total_moved (moved_part f) (λ o. refl) A c n good ok.1 number in
-    let used_before = moved_before f x is in
-    let used_after : some_part (moved_part f) (order_after A c) ≡ (part_of_line o.state l).moved = ap (some_part (moved_part f)) made ∙ ap (λ z. if committed_state o.state then z else pos 0) (total_found f (λ l. signed l.way l.used) o.lines one ∙ ap (of_line (λ l. signed l.way l.used)) there) in
+    let moved = total_moved (moved_part f) (λ o. refl) A c n good ok.1 number in
+    let moved_was = was.moved in
+    let moved_is = is.moved in
     let takes = total_moved (taken_part f) (λ o. refl) A c n good ok.1 number in
-    let takes_was = takes_before f l.way x is goes.way in
-    let takes_after : some_part (taken_part f) (order_after A c) ≡ (part_of_line o.state l).takes = ap (some_part (taken_part f)) made ∙ ap (λ z. if open_state o.state then z else pos 0) (total_found f (λ l. pos (if_take l.way l.held)) o.lines one ∙ ap (of_line (λ l. pos (if_take l.way l.held))) there) in
+    let takes_was = was.takes in
+    let takes_is = is.takes in
     let adds = total_moved (added_part f) (λ o. refl) A c n good ok.1 number in
-    let adds_was = adds_before f l.way x is goes.way in
-    let adds_after : some_part (added_part f) (order_after A c) ≡ (part_of_line o.state l).adds = ap (some_part (added_part f)) made ∙ ap (λ z. if open_state o.state then z else pos 0) (total_found f (λ l. pos (if_add l.way l.held)) o.lines one ∙ ap (of_line (λ l. pos (if_add l.way l.held))) there) in
+    let adds_was = was.adds in
+    let adds_is = is.adds in
     record { value = omega (arith, ints); takes = omega (arith, ints); adds = omega (arith, ints) }
 
 -- ---- the field's entry
@@ -225,26 +338,44 @@ entry_is B f e new lo hi value takes adds = cc
 
 -- with its line changed, the field is that of the next ledger
 pub stock_changed : (A : Ledger) (r : Request) (n : ℕ) (o : Order) (f : Name) (e : FieldEntry) (l : Line) (new : Stock) → Good A → Good (accept A r) → IsAccepted A r → IsInRange r.command → order_number r.command ≡ Some n → order_after A r.command ≡ Some o
-    → IsUpToDate A (f, e) → find (on f) o.lines ≡ Some l → Becomes e.quantity (amount_held (line_before (order_numbered A n) f)) l o.state new → entry_row (f, record { start = e.start; quantity = new }) ≡ field_row (accept A r) (field_of (f, e))
+    → IsUpToDate A (f, e) → find (on f) o.lines ≡ Some l → Becomes e.quantity (share_numbers l.way (share_on (order_numbered A n) f)) (share_numbers l.way (share_of o.state o.firm l)) new → entry_row (f, record { start = e.start; quantity = new }) ≡ field_row (accept A r) (field_of (f, e))
 stock_changed A r n o f e l new good after ok range number made up there becomes =
     let sums = changes A r n o (field_of (f, e)) l good after ok range number made there in
+    stock_row A (accept A r) f e new (share_numbers l.way (share_on (order_numbered A n) f)) (share_numbers l.way (share_of o.state o.firm l)) up sums becomes
+  where
+    stock_row : (A B : Ledger) (f : Name) (e : FieldEntry) (new : Stock) (was is : Numbers) → IsUpToDate A (f, e) → Changes A B (field_of (f, e)) was is → Becomes e.quantity was is new → entry_row (f, record { start = e.start; quantity = new }) ≡ field_row B (field_of (f, e))
+    stock_row A B f e new was is up sums becomes =
+        let value = ap (λ (row : FieldCells). row.value) up in
+        let inf = ap (λ (row : FieldCells). row.inf) up in
+        let sup = ap (λ (row : FieldCells). row.sup) up in
+        let value_sum = sums.value in
+        let takes_sum = sums.takes in
+        let adds_sum = sums.adds in
+        let value_is = becomes.value in
+        let takes_is = becomes.takes in
+        let adds_is = becomes.adds in
+        entry_is B f e new becomes.lo becomes.hi (omega (arith, ints)) (omega (arith, ints)) (omega (arith, ints))
+
+-- what a field holds is at least what a line holds of it
+held_within : (A : Ledger) (f : Name) (e : FieldEntry) (w : Way) (held : ℕ) → IsUpToDate A (f, e) → pos (if_take w held) ≤ℤ held_to_take A f → pos (if_add w held) ≤ℤ held_to_add A f → held ≤ held_of e.quantity w
+held_within A f e Take held up takes adds =
     let value = ap (λ (row : FieldCells). row.value) up in
     let inf = ap (λ (row : FieldCells). row.inf) up in
+    omega (arith, ints)
+held_within A f e Add held up takes adds =
+    let value = ap (λ (row : FieldCells). row.value) up in
     let sup = ap (λ (row : FieldCells). row.sup) up in
-    let value_sum = sums.value in
-    let takes_sum = sums.takes in
-    let adds_sum = sums.adds in
-    let value_is = becomes.value in
-    let takes_is = becomes.takes in
-    let adds_is = becomes.adds in
-    entry_is (accept A r) f e new becomes.lo becomes.hi (omega (arith, ints)) (omega (arith, ints)) (omega (arith, ints))
+    omega (arith, ints)
 
-held_there : (A : Ledger) (f : Name) (x : Option Order) (e : FieldEntry) (w : Way) → IsUpToDate A (f, e) → some_part (taken_part f) x ≤ℤ held_to_take A f → some_part (added_part f) x ≤ℤ held_to_add A f → IsBefore f x → HasWay w (line_before x f) → amount_held (line_before x f) ≤ held_of e.quantity w
-held_there b f x e y up takes adds is way = grind (arith, ints, common_steps, adds_before, takes_before)
+held_there : (A : Ledger) (n : ℕ) (f : Name) (e : FieldEntry) (w : Way) → Good A → IsUpToDate A (f, e) → PartsAre f (order_numbered A n) (share_numbers w (share_on (order_numbered A n) f)) → (share_on (order_numbered A n) f).held ≤ held_of e.quantity w
+held_there A n f e w good up parts =
+    let takes = total_most (taken_part f) (λ o. least_if (is_open o) _ (takes-not_negative o.firm f o.lines)) A n good in
+    let adds = total_most (added_part f) (λ o. least_if (is_open o) _ (adds-not_negative o.firm f o.lines)) A n good in
+    held_within A f e w (share_on (order_numbered A n) f).held up (subst (λ z. z ≤ℤ held_to_take A f) parts.takes takes) (subst (λ z. z ≤ℤ held_to_add A f) parts.adds adds)
 
 -- what is held more is safe, since the next ledger is
-more_safe : (A B : Ledger) (f : Name) (e : FieldEntry) (held : ℕ) (l : Line) (w : Way) → l.way ≡ w → Good B → Contains B.fields (field_of (f, e)) → IsUpToDate A (f, e) → Changes A B (field_of (f, e)) held l Open → held < l.held → held ≤ held_of e.quantity w → IsSafe (holding e.quantity w (l.held - held))
-more_safe A B f e held l Take is good there up sums more within taken added t a =
+more_safe : (A B : Ledger) (f : Name) (e : FieldEntry) (w : Way) (was is : Share) → Good B → Contains B.fields (field_of (f, e)) → IsUpToDate A (f, e) → Changes A B (field_of (f, e)) (share_numbers w was) (share_numbers w is) → is.settled ≡ was.settled → was.held < is.held → was.held ≤ held_of e.quantity w → IsSafe (holding e.quantity w (is.held - was.held))
+more_safe A B f e Take was is good there up sums same more within taken added t a =
     let bounds = bounds_at B (field_of (f, e)) good there in
     let low = bounds.0 in
     let high = bounds.3 in
@@ -252,27 +383,36 @@ more_safe A B f e held l Take is good there up sums more within taken added t a 
     let inf = ap (λ (row : FieldCells). row.inf) up in
     let sup = ap (λ (row : FieldCells). row.sup) up in
     let value_sum = sums.value in
-    let takes_sum = sums.takes ∙ ap (λ w. (held_to_take A f -ℤ pos (if_take w held)) +ℤ pos (if_take w l.held)) is in
-    let adds_sum = sums.adds ∙ ap (λ w. (held_to_add A f -ℤ pos (if_add w held)) +ℤ pos (if_add w l.held)) is in
+    let takes_sum = sums.takes in
+    let adds_sum = sums.adds in
     (omega (arith, ints), omega (arith, ints))
-more_safe A B f e held l Add is good there up sums more within taken added t a = grind (arith, ints, common_steps, (bounds_at B (field_of (f, e)) good there), sums.value, sums.takes, l.held, sums.adds)
+more_safe A B f e Add was is good there up sums same more within taken added t a =
+    let bounds = bounds_at B (field_of (f, e)) good there in
+    let low = bounds.0 in
+    let high = bounds.3 in
+    let value = ap (λ (row : FieldCells). row.value) up in
+    let inf = ap (λ (row : FieldCells). row.inf) up in
+    let sup = ap (λ (row : FieldCells). row.sup) up in
+    let value_sum = sums.value in
+    let takes_sum = sums.takes in
+    let adds_sum = sums.adds in
+    (omega (arith, ints), omega (arith, ints))
 
 -- the line of the field may change so
 pub stock_may : (A : Ledger) (r : Request) (n : ℕ) (o : Order) (f : Name) (e : FieldEntry) (l : Line) → Good A → Good (accept A r) → IsAccepted A r → IsInRange r.command → order_number r.command ≡ Some n → order_after A r.command ≡ Some o
-    → IsUpToDate A (f, e) → Contains (accept A r).fields (field_of (f, e)) → find (on f) o.lines ≡ Some l → MayBecome e.quantity (amount_held (line_before (order_numbered A n) f)) l o.state
+    → IsUpToDate A (f, e) → Contains (accept A r).fields (field_of (f, e)) → find (on f) o.lines ≡ Some l → MayBecome e.quantity l.way (share_on (order_numbered A n) f) (share_of o.state o.firm l)
 stock_may A r n o f e l good after ok range number made up there found =
-    let x = order_numbered A n in
-    let is = before A r.command n f good ok.1 number in
-    let goes = line_goes A r.command n f o l good range ok.1 number is made found in
+    let line = goes_of A r n o f l good after ok range number made found in
+    let goes = line.goes in
     let sums = changes A r n o (field_of (f, e)) l good after ok range number made found in
-    let takes = total_most (taken_part f) (λ o. least_if (is_open o) _ (takes-not_negative f o.lines)) A n good in
-    let adds = total_most (added_part f) (λ o. least_if (is_open o) _ (adds-not_negative f o.lines)) A n good in
-    let within = held_there A f x e l.way up takes adds is goes.way in
+    let within = held_there A n f e l.way good up (parts_before f l.way (order_numbered A n) (before A r.command n f good ok.1 number) line.way) in
     record {
       there = within;
+      settled = goes.settled;
       used = goes.used;
-      qty = λ unended more. goes.qty unended more;
-      safe = λ unended more. more_safe A (accept A r) f e (amount_held (line_before x f)) l l.way refl after there up (subst (λ s. Changes A (accept A r) (field_of (f, e)) (amount_held (line_before x f)) l s) unended sums) more within;
+      same = goes.same;
+      qty = goes.qty;
+      safe = λ more. more_safe A (accept A r) f e l.way (share_on (order_numbered A n) f) (share_of o.state o.firm l) after there up sums (goes.same more) more within;
     }
 
 -- ---- a delivery or a write-off

@@ -180,11 +180,11 @@ pub move-step : (ms : List MoveEntry) (i : ℕ) (m : MoveEntry) → i < length m
 move-step ms i m h e f = grind (arith, (total-step (moved_by_move f) ms i m h e), same-numbers)
 
 -- one line more
-pub line-step : (s : State) (ls : List Line) (i : ℕ) (l : Line) → i < length ls → l ≡ get_or ls i l → (f : Name) → plus (lines_numbers s (take i ls) f) (lines_numbers s (l ∷ []) f) ≡ lines_numbers s (take (i + 1) ls) f
-line-step s ls i l h e f = grind (arith, common_steps, (total-step (taken_by_line f) ls i l h e), (total-step (added_by_line f) ls i l h e), (total-step (moved_by_line f) ls i l h e), same-numbers)
+pub line-step : (s : State) (firm : Bool) (ls : List Line) (i : ℕ) (l : Line) → i < length ls → l ≡ get_or ls i l → (f : Name) → plus (lines_numbers s firm (take i ls) f) (lines_numbers s firm (l ∷ []) f) ≡ lines_numbers s firm (take (i + 1) ls) f
+line-step s firm ls i l h e f = grind (arith, common_steps, (total-step (taken_by_line firm f) ls i l h e), (total-step (added_by_line firm f) ls i l h e), (total-step (moved_by_line f) ls i l h e), same-numbers)
 
 -- one order more
-pub order-step : (os : List (ℕ × OrderEntry)) (i : ℕ) (o : ℕ × OrderEntry) → i < length os → o ≡ get_or os i o → (f : Name) → plus (numbers_on [] (take i os) f) (lines_numbers o.1.state o.1.lines.items f) ≡ numbers_on [] (take (i + 1) os) f
+pub order-step : (os : List (ℕ × OrderEntry)) (i : ℕ) (o : ℕ × OrderEntry) → i < length os → o ≡ get_or os i o → (f : Name) → plus (numbers_on [] (take i os) f) (lines_numbers o.1.state o.1.firm o.1.lines.items f) ≡ numbers_on [] (take (i + 1) os) f
 order-step os i o h e f = grind (arith, (total-step (moved_by_order f) os i o h e), (total-step (taken_by_order f) os i o h e), (total-step (added_by_order f) os i o h e), same-numbers)
 
 -- the moves' sums, and then the orders', from nothing

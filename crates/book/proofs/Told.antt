@@ -92,7 +92,7 @@ later_marks number firm n (x ∷ xs) h = each-join _ (if firm x then firm_row (n
     one true m less = ((λ e. omega (arith, ints)), tt)
     one false m less = tt
 
-same_mark : (n : ℕ) (a b : Bool) (rest others : List FirmCells) → MarkOthers n rest → MarkOthers n others → (if a then firm_row n ∷ [] else []) ++ rest ≡ (if b then firm_row n ∷ [] else []) ++ others → (a ≡ b) × (rest ≡ others)
+pub same_mark : (n : ℕ) (a b : Bool) (rest others : List FirmCells) → MarkOthers n rest → MarkOthers n others → (if a then firm_row n ∷ [] else []) ++ rest ≡ (if b then firm_row n ∷ [] else []) ++ others → (a ≡ b) × (rest ≡ others)
 same_mark n true true rest others p q e = (refl, same_rest _ _ _ _ e)
 same_mark n true false rest others p q e = absurd ((subst (MarkOthers n) (sym e) q).0 refl)
 same_mark n false true rest others p q e = absurd ((subst (MarkOthers n) e p).0 refl)

@@ -21,7 +21,7 @@ good_lines : (e : Entries) (o : Order) → IsOrderByItself o → Each (λ l. IsF
 good_lines e o x there = each-imp (λ l y. record { field = y.1; held = y.0.0; used = y.0.1 }) o.lines (each-two _ _ o.lines x.lines there)
 
 good_order : (e : Entries) (o : Order) → IsOrderByItself o × Each (λ l. IsField e.fields.items (line_name l)) o.lines → IsGoodOrder (told_ledger e) o
-good_order e o x = record { number = x.0.number; until = x.0.until; some = x.0.some; few = x.0.few; lines = good_lines e o x.0 x.1; apart = x.0.apart; transfer = x.0.transfer }
+good_order e o x = record { number = x.0.number; until = x.0.until; some = x.0.some; few = x.0.few; lines = good_lines e o x.0 x.1; apart = x.0.apart; transfer = x.0.transfer; firm = x.0.firm }
 
 moves_good : (e : Entries) → IsWhole (told_ledger e) → AreMovesOnFields e.fields.items e.moves.items → Each (IsGoodMove (told_ledger e)) (told_ledger e).moves
 moves_good e w there = let ms = e.moves.items in

@@ -107,6 +107,11 @@ head_of o = record { number = o.number; kind = o.kind; until = o.until; state = 
 abbrev pub mark_rows : Head → List FirmCells
 mark_rows h = if h.firm then firm_row h.number ∷ [] else []
 
+-- the rows of orders, and those of firm ones, tell these heads
+pub record TellHeads (heads : List Head) (orders : List OrderCells) (firms : List FirmCells) : Type 0 where
+  pub orders_are : map head_row heads ≡ orders
+  pub firms_are : flat_map mark_rows heads ≡ firms
+
 -- there is a row, and it marks the order of that number
 abbrev pub Marks : Option FirmRow → ℕ → Type 0
 Marks row number = IsSomeAnd row (λ r. r.number ≡ pos number)

@@ -1,7 +1,9 @@
 pub mod Keyed
 pub mod Values
 pub mod Upserted
+pub mod OneRow
 pub mod Upsert
+pub mod Insert
 pub mod UpsertRows
 pub mod Texts
 pub mod Meanings
@@ -11,6 +13,7 @@ pub mod MovePut
 pub mod OrderPut
 pub mod LinePut
 pub mod KeptPut
+pub mod FirmPut
 pub mod Puts
 pub mod Selects
 pub mod Steps

@@ -37,7 +37,7 @@ use Rattle.keep.proofs.MakingTexts.{row_is, row_plain, row_terms, row_text}
 
 -- the row as it is stored, its rowid first
 abbrev stored_row : Row
-stored_row = Int (pos 1) ∷ Null ∷ Int (pos 1) ∷ Int (pos 0) ∷ Int (pos 0) ∷ []
+stored_row = Int (pos 1) ∷ Null ∷ Int (pos 2) ∷ Int (pos 0) ∷ Int (pos 0) ∷ []
 
 either : (b : Bool) (x : Value) → cond b x x ≡ x
 either true x = refl
@@ -52,7 +52,7 @@ unfolding unary
 cast_null = either _ Null
 
 steady : cast_row desk_table stored_row ≡ stored_row
-steady = rw (cast_int (pos 1), cast_int (pos 0), cast_null) refl
+steady = rw (cast_int (pos 1), cast_int (pos 2), cast_int (pos 0), cast_null) refl
 
 -- what stands in the tree, where these rows are put in beside those
 abbrev put_beside : List Row → List Row → List Row
@@ -115,6 +115,7 @@ holds_new old new bare sound put = record {
     orders = none _ _ _ _ (put.1.others.1.1.1.0 (λ e. omega (arith, e)) ∙ bare.no_rows.1.1.1.0);
     lines = none _ _ _ _ (put.1.others.1.1.1.1.0 (λ e. omega (arith, e)) ∙ bare.no_rows.1.1.1.1.0);
     kept = none _ _ _ _ (put.1.others.1.1.1.1.1.0 (λ e. omega (arith, e)) ∙ bare.no_rows.1.1.1.1.1.0);
+    firms = none _ _ _ _ (put.1.others.1.1.1.1.1.1.0 (λ e. omega (arith, e)) ∙ bare.no_rows.1.1.1.1.1.1.0);
   };
 }
 

@@ -12,7 +12,7 @@ use Rattle.sqlite_schema.specs.declared.schema.Schema.{Schema}
 use Rattle.sqlite_tied.specs.Compute.{everything}
 use Rattle.sqlite.specs.Listing.{understood}
 use Rattle.sqlite.proofs.Callers.{IsPlain, command_of, statement_of}
-use Rattle.keep.specs.Schema.{desk_table, field_table, move_table, orders_table, line_table, kept_table, no_schema, desk_schema}
+use Rattle.keep.specs.Schema.{desk_table, field_table, move_table, orders_table, line_table, kept_table, firm_table, no_schema, old_schema, desk_schema}
 use Rattle.keep.specs.Stages.{with_desk, with_field, with_move, with_orders, with_line}
 
 abbrev pub desk_text : List ℕ
@@ -32,6 +32,9 @@ line_text = codes "CREATE TABLE line (number INTEGER NOT NULL, nr INTEGER NOT NU
 
 abbrev pub kept_text : List ℕ
 kept_text = codes "CREATE TABLE kept (reqkey TEXT NOT NULL, place INTEGER NOT NULL, words TEXT NOT NULL, PRIMARY KEY (reqkey)) STRICT"
+
+abbrev pub firm_text : List ℕ
+firm_text = codes "CREATE TABLE firm (number INTEGER NOT NULL PRIMARY KEY) STRICT"
 
 abbrev pub row_text : List ℕ
 row_text = codes "INSERT INTO desk (one, version, clock, places) VALUES (?1, ?2, ?3, ?4)"
@@ -68,9 +71,13 @@ pub line_means : MeansTable line_text with_orders with_line (record line_table {
 unfolding understood everything
 line_means = record { command = refl; whole = refl; plain = (refl, refl); defined = refl; next = refl }
 
-pub kept_means : MeansTable kept_text with_line desk_schema (record kept_table { tree = 0 })
+pub kept_means : MeansTable kept_text with_line old_schema (record kept_table { tree = 0 })
 unfolding understood everything
 kept_means = record { command = refl; whole = refl; plain = (refl, refl); defined = refl; next = refl }
+
+pub firm_means : MeansTable firm_text old_schema desk_schema (record firm_table { tree = 0 })
+unfolding understood everything
+firm_means = record { command = refl; whole = refl; plain = (refl, refl); defined = refl; next = refl }
 
 pub row_is : command_of (understood desk_schema row_text) ≡ Insert 0 (Values row_terms 5)
 unfolding understood everything

@@ -15,7 +15,7 @@ use Rattle.sqlite_value.specs.declared.keys.Key.{Key}
 use Rattle.sqlite_tied.specs.Compute.{everything}
 use Rattle.sqlite.specs.Listing.{understood, reads_listing}
 use Rattle.sqlite.proofs.Callers.{IsPlain, command_of}
-use Rattle.keep.specs.Schema.{desk_schema}
+use Rattle.keep.specs.Schema.{desk_schema, old_schema}
 use Rattle.keep.proofs.Texts as t
 
 -- the rows that an upsert updates, and what it makes of them
@@ -166,3 +166,35 @@ kept_select_is = (refl, refl)
 pub kept_select_plain : IsPlain (understood desk_schema t.kept_select)
 unfolding understood everything
 kept_select_plain = (refl, refl)
+
+abbrev pub firm_terms : List Term
+firm_terms = col 0 0 ∷ lit Null ∷ []
+
+pub firm_upsert_is : command_of (understood desk_schema t.firm_upsert) ≡ InsertOr 6 Abort (Values firm_terms 2) (record { target = Some (0 ∷ []); update = None } ∷ [])
+unfolding understood everything
+firm_upsert_is = refl
+
+pub firm_upsert_plain : IsPlain (understood desk_schema t.firm_upsert)
+unfolding understood everything
+firm_upsert_plain = (refl, refl)
+
+abbrev pub firm_query : Query
+firm_query = listing 9 (col 1 0 ∷ []) (by 0 ∷ [])
+
+pub firm_select_is : (command_of (understood desk_schema t.firm_select) ≡ Select (record { lets = []; body = firm_query }) (codes "number" ∷ [])) × (reads_listing desk_schema t.firm_select ≡ false)
+unfolding understood everything
+firm_select_is = (refl, refl)
+
+pub firm_select_plain : IsPlain (understood desk_schema t.firm_select)
+unfolding understood everything
+firm_select_plain = (refl, refl)
+
+-- `desk` in a store of version 1
+
+pub old_select_is : (command_of (understood old_schema t.desk_select) ≡ Select (record { lets = []; body = desk_query }) (codes "one" ∷ codes "version" ∷ codes "clock" ∷ codes "places" ∷ [])) × (reads_listing old_schema t.desk_select ≡ false)
+unfolding understood everything
+old_select_is = (refl, refl)
+
+pub old_select_plain : IsPlain (understood old_schema t.desk_select)
+unfolding understood everything
+old_select_plain = (refl, refl)

@@ -6,10 +6,10 @@ use Rattle.std.specs.List.Sorted.{IsStrictlySortedBy}
 use Rattle.book.specs.declared.rows.Change.{Change}
 use Rattle.book.specs.declared.rows.Change.TheVariants as change
 use Rattle.book.specs.Changes.{put_content, put_row}
-use Rattle.book.specs.Rows.{Content, DeskCells, IsInKeyOrder, desk_cmp, field_cmp, kept_cmp, line_cmp, move_cmp, order_cmp}
-use Rattle.book.specs.Tables.{desk_cells, field_cells, kept_cells, line_cells, move_cells, order_cells, rows_among, with_change}
+use Rattle.book.specs.Rows.{Content, DeskCells, IsInKeyOrder, desk_cmp, field_cmp, firm_cmp, kept_cmp, line_cmp, move_cmp, order_cmp}
+use Rattle.book.specs.Tables.{desk_cells, field_cells, firm_cells, kept_cells, line_cells, move_cells, order_cells, rows_among, with_change}
 use Rattle.keep.specs.Content.{IsTheRow, new_content}
-use Rattle.keep.specs.KeyOrders.{field_cmp_total, kept_cmp_total, line_cmp_total, move_cmp_total, order_cmp_total}
+use Rattle.keep.specs.KeyOrders.{field_cmp_total, firm_cmp_total, kept_cmp_total, line_cmp_total, move_cmp_total, order_cmp_total}
 use Rattle.keep.specs.Plain.{IsCopy, IsInOrder, row_of, shelf_content}
 use Rattle.keep.specs.declared.plain.shelf.Shelf.{Shelf}
 use Rattle.keep.proofs.PlainRows.{put_sorted}
@@ -29,6 +29,7 @@ put_first (change.Move r) cs x = refl
 put_first (change.Order r) cs x = refl
 put_first (change.Line r) cs x = refl
 put_first (change.Kept r) cs x = refl
+put_first (change.Firm r) cs x = refl
 
 -- ---- the row of `desk`
 
@@ -43,6 +44,7 @@ one_first (change.Move r) cs h = All-nil IsTheRow
 one_first (change.Order r) cs h = All-nil IsTheRow
 one_first (change.Line r) cs h = All-nil IsTheRow
 one_first (change.Kept r) cs h = All-nil IsTheRow
+one_first (change.Firm r) cs h = All-nil IsTheRow
 
 pub one_later : (c : Change) (cs : List Change) → All IsTheRow (rows_among (c ∷ cs)).desk → All IsTheRow (rows_among cs).desk
 one_later (change.Desk r) cs h = All-tail IsTheRow (desk_cells r) (rows_among cs).desk h
@@ -51,16 +53,18 @@ one_later (change.Move r) cs h = h
 one_later (change.Order r) cs h = h
 one_later (change.Line r) cs h = h
 one_later (change.Kept r) cs h = h
+one_later (change.Firm r) cs h = h
 
 -- ---- the rows stay in the order of their keys
 
 rows_stay : (c : Change) (x : Content) → IsInKeyOrder x → IsInKeyOrder (put_content (row_of c) x)
-rows_stay (change.Desk r) x h = record { fields = h.fields; moves = h.moves; orders = h.orders; lines = h.lines; kept = h.kept }
-rows_stay (change.Field r) x h = record { fields = put_sorted field_cmp field_cmp_total (field_cells r) x.fields h.fields; moves = h.moves; orders = h.orders; lines = h.lines; kept = h.kept }
-rows_stay (change.Move r) x h = record { fields = h.fields; moves = put_sorted move_cmp move_cmp_total (move_cells r) x.moves h.moves; orders = h.orders; lines = h.lines; kept = h.kept }
-rows_stay (change.Order r) x h = record { fields = h.fields; moves = h.moves; orders = put_sorted order_cmp order_cmp_total (order_cells r) x.orders h.orders; lines = h.lines; kept = h.kept }
-rows_stay (change.Line r) x h = record { fields = h.fields; moves = h.moves; orders = h.orders; lines = put_sorted line_cmp line_cmp_total (line_cells r) x.lines h.lines; kept = h.kept }
-rows_stay (change.Kept r) x h = record { fields = h.fields; moves = h.moves; orders = h.orders; lines = h.lines; kept = put_sorted kept_cmp kept_cmp_total (kept_cells r) x.kept h.kept }
+rows_stay (change.Desk r) x h = record { fields = h.fields; moves = h.moves; orders = h.orders; lines = h.lines; kept = h.kept; firms = h.firms }
+rows_stay (change.Field r) x h = record { fields = put_sorted field_cmp field_cmp_total (field_cells r) x.fields h.fields; moves = h.moves; orders = h.orders; lines = h.lines; kept = h.kept; firms = h.firms }
+rows_stay (change.Move r) x h = record { fields = h.fields; moves = put_sorted move_cmp move_cmp_total (move_cells r) x.moves h.moves; orders = h.orders; lines = h.lines; kept = h.kept; firms = h.firms }
+rows_stay (change.Order r) x h = record { fields = h.fields; moves = h.moves; orders = put_sorted order_cmp order_cmp_total (order_cells r) x.orders h.orders; lines = h.lines; kept = h.kept; firms = h.firms }
+rows_stay (change.Line r) x h = record { fields = h.fields; moves = h.moves; orders = h.orders; lines = put_sorted line_cmp line_cmp_total (line_cells r) x.lines h.lines; kept = h.kept; firms = h.firms }
+rows_stay (change.Kept r) x h = record { fields = h.fields; moves = h.moves; orders = h.orders; lines = h.lines; kept = put_sorted kept_cmp kept_cmp_total (kept_cells r) x.kept h.kept; firms = h.firms }
+rows_stay (change.Firm r) x h = record { fields = h.fields; moves = h.moves; orders = h.orders; lines = h.lines; kept = h.kept; firms = put_sorted firm_cmp firm_cmp_total (firm_cells r) x.firms h.firms }
 
 abbrev first_row : List DeskCells → DeskCells → DeskCells
 first_row [] d = d
@@ -76,6 +80,7 @@ desk_stays (change.Move r) x old e was h new is = subst IsTheRow (ap (λ (rows :
 desk_stays (change.Order r) x old e was h new is = subst IsTheRow (ap (λ (rows : List DeskCells). first_row rows new) (sym e ∙ is)) was
 desk_stays (change.Line r) x old e was h new is = subst IsTheRow (ap (λ (rows : List DeskCells). first_row rows new) (sym e ∙ is)) was
 desk_stays (change.Kept r) x old e was h new is = subst IsTheRow (ap (λ (rows : List DeskCells). first_row rows new) (sym e ∙ is)) was
+desk_stays (change.Firm r) x old e was h new is = subst IsTheRow (ap (λ (rows : List DeskCells). first_row rows new) (sym e ∙ is)) was
 
 pub stays_in_order : (c : Change) (old new : Shelf) → All IsTheRow (row_of c).desk → shelf_content new ≡ put_content (row_of c) (shelf_content old) → IsInOrder old → IsInOrder new
 stays_in_order c old new one e h = record {
@@ -85,4 +90,4 @@ stays_in_order c old new one e h = record {
 
 pub new_in_order : IsInKeyOrder new_content
 unfolding IsStrictlySortedBy
-new_in_order = record { fields = tt; moves = tt; orders = tt; lines = tt; kept = tt }
+new_in_order = record { fields = tt; moves = tt; orders = tt; lines = tt; kept = tt; firms = tt }

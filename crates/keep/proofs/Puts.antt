@@ -5,15 +5,16 @@ use Rattle.sqlite.specs.declared.error.Error.{Error}
 use Rattle.sqlite.specs.State.{State, Executes, ExecutesInside}
 use Rattle.book.specs.declared.rows.Change.{Change}
 use Rattle.book.specs.declared.rows.Change.TheVariants as change
-use Rattle.book.specs.Rows.{Content, desk_cmp, field_cmp, move_cmp, order_cmp, line_cmp, kept_cmp}
+use Rattle.book.specs.Rows.{Content, desk_cmp, field_cmp, move_cmp, order_cmp, line_cmp, kept_cmp, firm_cmp}
 use Rattle.book.specs.declared.rows.DeskRow.{DeskRow}
 use Rattle.book.specs.declared.rows.FieldRow.{FieldRow}
 use Rattle.book.specs.declared.rows.MoveRow.{MoveRow}
 use Rattle.book.specs.declared.rows.OrderRow.{OrderRow}
 use Rattle.book.specs.declared.rows.LineRow.{LineRow}
 use Rattle.book.specs.declared.rows.KeptRow.{KeptRow}
-use Rattle.book.specs.Tables.{desk_cells, field_cells, move_cells, order_cells, line_cells, kept_cells}
-use Rattle.keep.specs.Columns.{desk_stored, field_stored, move_stored, order_stored, line_stored, kept_stored, desk_columns, field_columns, move_columns, order_columns, line_columns, kept_columns}
+use Rattle.book.specs.declared.rows.FirmRow.{FirmRow}
+use Rattle.book.specs.Tables.{desk_cells, field_cells, move_cells, order_cells, line_cells, kept_cells, firm_cells}
+use Rattle.keep.specs.Columns.{desk_stored, field_stored, move_stored, order_stored, line_stored, kept_stored, firm_stored, desk_columns, field_columns, move_columns, order_columns, line_columns, kept_columns, firm_columns}
 use Rattle.keep.specs.Content.{AreRows, Holds}
 use Rattle.keep.specs.Transactions.{PutsIn, with_changes}
 use Rattle.keep.proofs.Texts as t
@@ -23,6 +24,7 @@ use Rattle.keep.proofs.MovePut.{move_put, move_step}
 use Rattle.keep.proofs.OrderPut.{order_put, order_step}
 use Rattle.keep.proofs.LinePut.{line_put, line_step}
 use Rattle.keep.proofs.KeptPut.{kept_put, kept_step}
+use Rattle.keep.proofs.FirmPut.{firm_put, firm_step}
 
 desk_holds : (old new : State) (row : DeskRow) (count : ℕ) → Executes t.desk_upsert (desk_columns (desk_cells row)) old new (Ok count)
     → (x : Content) → Holds old.now x → Holds new.now (with_changes (change.Desk row ∷ []) x)
@@ -38,6 +40,7 @@ desk_holds old new row count h x held =
         orders = subst (λ rows. AreRows order_cmp order_stored order_columns rows x.orders) (sym (s.2.others.1.1.1.0 (λ e. omega (arith, e)))) was.orders;
         lines = subst (λ rows. AreRows line_cmp line_stored line_columns rows x.lines) (sym (s.2.others.1.1.1.1.0 (λ e. omega (arith, e)))) was.lines;
         kept = subst (λ rows. AreRows kept_cmp kept_stored kept_columns rows x.kept) (sym (s.2.others.1.1.1.1.1.0 (λ e. omega (arith, e)))) was.kept;
+        firms = subst (λ rows. AreRows firm_cmp firm_stored firm_columns rows x.firms) (sym (s.2.others.1.1.1.1.1.1.0 (λ e. omega (arith, e)))) was.firms;
       };
     }
 
@@ -63,6 +66,7 @@ field_holds old new row count h x held =
         orders = subst (λ rows. AreRows order_cmp order_stored order_columns rows x.orders) (sym (s.2.others.1.1.1.0 (λ e. omega (arith, e)))) was.orders;
         lines = subst (λ rows. AreRows line_cmp line_stored line_columns rows x.lines) (sym (s.2.others.1.1.1.1.0 (λ e. omega (arith, e)))) was.lines;
         kept = subst (λ rows. AreRows kept_cmp kept_stored kept_columns rows x.kept) (sym (s.2.others.1.1.1.1.1.0 (λ e. omega (arith, e)))) was.kept;
+        firms = subst (λ rows. AreRows firm_cmp firm_stored firm_columns rows x.firms) (sym (s.2.others.1.1.1.1.1.1.0 (λ e. omega (arith, e)))) was.firms;
       };
     }
 
@@ -88,6 +92,7 @@ move_holds old new row count h x held =
         orders = subst (λ rows. AreRows order_cmp order_stored order_columns rows x.orders) (sym (s.2.others.1.1.1.0 (λ e. omega (arith, e)))) was.orders;
         lines = subst (λ rows. AreRows line_cmp line_stored line_columns rows x.lines) (sym (s.2.others.1.1.1.1.0 (λ e. omega (arith, e)))) was.lines;
         kept = subst (λ rows. AreRows kept_cmp kept_stored kept_columns rows x.kept) (sym (s.2.others.1.1.1.1.1.0 (λ e. omega (arith, e)))) was.kept;
+        firms = subst (λ rows. AreRows firm_cmp firm_stored firm_columns rows x.firms) (sym (s.2.others.1.1.1.1.1.1.0 (λ e. omega (arith, e)))) was.firms;
       };
     }
 
@@ -113,6 +118,7 @@ order_holds old new row count h x held =
         orders = order_put old.now.trees new.now.trees (order_cells row) x.orders s.2 was.orders;
         lines = subst (λ rows. AreRows line_cmp line_stored line_columns rows x.lines) (sym (s.2.others.1.1.1.1.0 (λ e. omega (arith, e)))) was.lines;
         kept = subst (λ rows. AreRows kept_cmp kept_stored kept_columns rows x.kept) (sym (s.2.others.1.1.1.1.1.0 (λ e. omega (arith, e)))) was.kept;
+        firms = subst (λ rows. AreRows firm_cmp firm_stored firm_columns rows x.firms) (sym (s.2.others.1.1.1.1.1.1.0 (λ e. omega (arith, e)))) was.firms;
       };
     }
 
@@ -138,6 +144,7 @@ line_holds old new row count h x held =
         orders = subst (λ rows. AreRows order_cmp order_stored order_columns rows x.orders) (sym (s.2.others.1.1.1.0 (λ e. omega (arith, e)))) was.orders;
         lines = line_put old.now.trees new.now.trees (line_cells row) x.lines s.2 was.lines;
         kept = subst (λ rows. AreRows kept_cmp kept_stored kept_columns rows x.kept) (sym (s.2.others.1.1.1.1.1.0 (λ e. omega (arith, e)))) was.kept;
+        firms = subst (λ rows. AreRows firm_cmp firm_stored firm_columns rows x.firms) (sym (s.2.others.1.1.1.1.1.1.0 (λ e. omega (arith, e)))) was.firms;
       };
     }
 
@@ -163,6 +170,7 @@ kept_holds old new row count h x held =
         orders = subst (λ rows. AreRows order_cmp order_stored order_columns rows x.orders) (sym (s.2.others.1.1.1.0 (λ e. omega (arith, e)))) was.orders;
         lines = subst (λ rows. AreRows line_cmp line_stored line_columns rows x.lines) (sym (s.2.others.1.1.1.1.0 (λ e. omega (arith, e)))) was.lines;
         kept = kept_put old.now.trees new.now.trees (kept_cells row) x.kept s.2 was.kept;
+        firms = subst (λ rows. AreRows firm_cmp firm_stored firm_columns rows x.firms) (sym (s.2.others.1.1.1.1.1.1.0 (λ e. omega (arith, e)))) was.firms;
       };
     }
 
@@ -174,6 +182,32 @@ kept_upserted old new row (Ok count) h = record {
 }
 kept_upserted old new row (Err e) h = tt
 
+firm_holds : (old new : State) (row : FirmRow) (count : ℕ) → Executes t.firm_upsert (firm_columns (firm_cells row)) old new (Ok count)
+    → (x : Content) → Holds old.now x → Holds new.now (with_changes (change.Firm row ∷ []) x)
+firm_holds old new row count h x held =
+    let was = held.content in
+    let s = firm_step old new (firm_cells row) count held.schema_is h in record {
+      schema_is = s.0;
+      content = record {
+        lists = s.1;
+        desk = subst (λ rows. AreRows desk_cmp desk_stored desk_columns rows x.desk) (sym (s.2.others.0 (λ e. omega (arith, e)))) was.desk;
+        fields = subst (λ rows. AreRows field_cmp field_stored field_columns rows x.fields) (sym (s.2.others.1.0 (λ e. omega (arith, e)))) was.fields;
+        moves = subst (λ rows. AreRows move_cmp move_stored move_columns rows x.moves) (sym (s.2.others.1.1.0 (λ e. omega (arith, e)))) was.moves;
+        orders = subst (λ rows. AreRows order_cmp order_stored order_columns rows x.orders) (sym (s.2.others.1.1.1.0 (λ e. omega (arith, e)))) was.orders;
+        lines = subst (λ rows. AreRows line_cmp line_stored line_columns rows x.lines) (sym (s.2.others.1.1.1.1.0 (λ e. omega (arith, e)))) was.lines;
+        kept = subst (λ rows. AreRows kept_cmp kept_stored kept_columns rows x.kept) (sym (s.2.others.1.1.1.1.1.0 (λ e. omega (arith, e)))) was.kept;
+        firms = firm_put old.now.trees new.now.trees (firm_cells row) x.firms s.2 was.firms;
+      };
+    }
+
+pub firm_upserted : (old new : State) (row : FirmRow) (r : Result ℕ Error) → ExecutesInside 0 t.firm_upsert (firm_columns (firm_cells row)) old new r → OnOk r (PutsIn old new (change.Firm row ∷ []))
+firm_upserted old new row (Ok count) h = record {
+  mode = h.1.mode;
+  committed = h.1.committed_is;
+  put_in = firm_holds old new row count h.0;
+}
+firm_upserted old new row (Err e) h = tt
+
 -- ---- rows put in one after another
 
 first : (c : Change) (cs : List Change) (x : Content) → with_changes (c ∷ cs) x ≡ with_changes cs (with_changes (c ∷ []) x)
@@ -183,6 +217,7 @@ first (change.Move r) cs x = refl
 first (change.Order r) cs x = refl
 first (change.Line r) cs x = refl
 first (change.Kept r) cs x = refl
+first (change.Firm r) cs x = refl
 
 one_more : (cs : List Change) (c : Change) (x : Content) → with_changes (cs ++ c ∷ []) x ≡ with_changes (c ∷ []) (with_changes cs x)
 one_more [] c x = refl

@@ -36,3 +36,9 @@ kept_upsert = codes "INSERT INTO kept (reqkey, place, words) VALUES (?1, ?2, ?3)
 
 abbrev pub kept_select : List ℕ
 kept_select = codes "SELECT reqkey, place, words, rowid FROM kept ORDER BY reqkey"
+
+abbrev pub firm_upsert : List ℕ
+firm_upsert = codes "INSERT INTO firm (number) VALUES (?1) ON CONFLICT (number) DO NOTHING"
+
+abbrev pub firm_select : List ℕ
+firm_select = codes "SELECT number FROM firm ORDER BY number"

@@ -1,5 +1,5 @@
 -- What a statement INSERT .. VALUES of one row ON CONFLICT (key) DO UPDATE does, for a table with no reference and no counter.
-use Rattle.std.proofs.Common.{◌≡◌, ◌⊎◌, inl, inr, ℕ, ℤ, pos, negsuc, List, [], ◌∷◌, ◌++◌, map, filter, flat_map, cond, Bool, true, false, not, Some, None, Option, Ok, Err, Result, refl, sym, ap, subst, ◌∙◌, ◌/◌, length, slice_get, ◌&&◌, IsTrue, IsPermutation, true≢false, arith, drop}
+use Rattle.std.proofs.Common.{◌≡◌, inl, inr, ℕ, ℤ, pos, negsuc, List, [], ◌∷◌, ◌++◌, map, filter, flat_map, cond, Bool, true, false, not, Some, None, Option, Ok, refl, sym, ap, subst, ◌∙◌, ◌/◌, length, slice_get, ◌&&◌, IsTrue, IsPermutation, true≢false, arith, drop}
 use Rattle.std.specs.List.{list_all}
 use Rattle.std.specs.Ordering.{is_eq}
 use Rattle.std.proofs.lemmas.Cmp.{tied_itself}
@@ -24,7 +24,6 @@ use Rattle.sqlite_schema.specs.declared.command.Source.TheVariants.{Values}
 use Rattle.sqlite_schema.specs.declared.command.Command.TheVariants.{InsertOr}
 use Rattle.sqlite_schema.specs.declared.command.Conflict.TheVariants.{Abort}
 use Rattle.sqlite_schema.specs.declared.command.Upsert.{Upsert}
-use Rattle.sqlite_rules.specs.declared.error.Rowids.{Rowids}
 use Rattle.sqlite_rules.specs.declared.error.Rowids.TheVariants.{Chosen, Given}
 use Rattle.sqlite_rules.specs.declared.error.Refusal.{Refusal}
 use Rattle.sqlite_trees.specs.Tree.{Trees, put_row, rowid, has_rowid}
@@ -41,24 +40,15 @@ use Rattle.sqlite_rules.proofs.TableLemmas.{int_is, has_put}
 use Rattle.sqlite_keyed.proofs.ListLemmas.{IsPermutation-same, filter_same}
 use Rattle.sqlite.specs.declared.run.Mode.{Mode}
 use Rattle.sqlite.specs.Effect.{Database, Answers, value_rows}
-use Rattle.sqlite.specs.Rows.{Written, Task, Meets, Judged, TriesEach, Counts, InsertsOr, rowids_for, stamped, shown, Clears, Puts, Tries, Upserts, Updates, nothing}
-use Rattle.sqlite.specs.Does.{Tally, Does, AtPlace, OnRows}
+use Rattle.sqlite.specs.Rows.{Written, Task, Meets, Judged, stamped, shown, Clears, Puts, Tries, Upserts, Updates}
+use Rattle.sqlite.specs.Does.{Tally, Does}
 use Rattle.sqlite.proofs.Callers.{one_step, one_permutation}
 use Rattle.std.proofs.lemmas.List.{length-map}
 use Rattle.keep.specs.Content.{HaveNumbers}
 use Rattle.keep.proofs.Values.{equal_int, cast_int, same_number}
+use Rattle.keep.proofs.Making.{same_value, went}
+use Rattle.keep.proofs.OneRow.{added, freed, puts_one}
 use Rattle.keep.proofs.Upserted.{Upserted}
-
-went : {B E R : Type 0} {b : B} {Stops : E → Type 0} → ((stop : E) × Stops stop × (Ok b ≡ Err stop)) ⊎ R → R
-went (inl stopped) = absurd (let e = stopped.2 in cc)
-went (inr on) = on
-
-same_value : {B E : Type 0} {a b : B} → ◌≡◌ {A = Result B E} (Ok a) (Ok b) → a ≡ b
-same_value e = cc
-
-freed : (b c : Bool) → (not b && c) ≡ true → b ≡ false
-freed true c h = sym h
-freed false c h = refl
 
 later_freed : (b c : Bool) → (not b && c) ≡ true → c ≡ true
 later_freed true c h = absurd (true≢false (sym h))
@@ -108,9 +98,6 @@ module _ (limit : Option ℕ) (mode : Mode) (params : Row) (schema : Schema) (at
   abbrev pub new_in : Trees → Row
   new_in db = with_rowid Chosen (db table.tree) (cast_row table source)
 
-  abbrev new_by : Trees → Rowids → Row
-  new_by db rowids = with_rowid rowids (db table.tree) (cast_row table source)
-
   abbrev query : Query
   query = record {
     from = inner table.tree end;
@@ -137,16 +124,6 @@ module _ (limit : Option ℕ) (mode : Mode) (params : Row) (schema : Schema) (at
   -- the row that it makes of a row
   abbrev pub set_row : Row → Row → Row → Row
   set_row new there r = eval_all (col 1 0 ∷ sets) (given new there ∷ r ∷ [])
-
-  puts : (new : Row) (steady : cast_row table new ≡ new) (db : Trees) (w : Written) → ((r : Row) → Has (db table.tree) r → conflicts (Some target) schema.indexes table new r ≡ false)
-      → Puts task new db (Ok w) → (cells : Row) → Upserted schema table target new db w.trees cells
-  puts new steady db w none h cells =
-      let wrote = went h in
-      let same : w ≡ _ = same_value wrote.2 in
-      let edit = edit_of db table [] Given 0 (new ∷ []) in
-      let a : Applies schema mode.keys db edit w.trees = rw same (one_step schema mode.keys db wrote.0 edit (idle (taken_by db edit) edit.news) wrote.1) in
-      let b = subst (λ n. Applies schema mode.keys db (record { table = table; gone = []; news = n ∷ [] }) w.trees) steady a in
-      record { made = inl (record { none = none; fresh = freed _ _ b.fresh; rows = b.rows }); others = b.tables }
 
   passes : (new there r : Row) (id : ℤ) → rowid there ≡ Int id → list_all (holds (given new there ∷ r ∷ [])) query.filter ≡ has_rowid id r
   passes new there r id known =
@@ -218,10 +195,14 @@ module _ (limit : Option ℕ) (mode : Mode) (params : Row) (schema : Schema) (at
   Remakes db new cells = (was : Row) → Has (db table.tree) was → conflicts (Some target) schema.indexes table new was ≡ true → cast_row table (set_row new (rowid was ∷ []) was) ≡ rowid was ∷ cells
 
   module _ (db : Trees) (keyed : HaveNumbers (db table.tree)) (cells : Row) where
+    puts : (new : Row) (steady : cast_row table new ≡ new) (w : Written) → ((r : Row) → Has (db table.tree) r → conflicts (Some target) schema.indexes table new r ≡ false)
+        → Puts task new db (Ok w) → Upserted schema table target new db w.trees cells
+    puts new steady w none h = let made = added limit mode params schema at table is uncounted idle target new steady db w none h in record { made = inl made.added; others = made.others }
+
     clears : (new : Row) (steady : cast_row table new ≡ new) (w : Written) → ((r : Row) → Has (db table.tree) r → conflicts (Some target) schema.indexes table new r ≡ false)
         → (found : List Row) → Clears task Abort new db found (Ok w) → Upserted schema table target new db w.trees cells
-    clears new steady w none [] h = puts new steady db w none h cells
-    clears new steady w none (x ∷ more) h = puts new steady db w none h cells
+    clears new steady w none [] h = puts new steady w none h
+    clears new steady w none (x ∷ more) h = puts new steady w none h
 
     tries : (new : Row) (steady : cast_row table new ≡ new) (remakes : Remakes db new cells) (w : Written) → Tries task Abort clauses new db (Ok w) → Upserted schema table target new db w.trees cells
     tries new steady remakes w (inl refused) = absurd (let e = refused.1 in cc)
@@ -238,35 +219,9 @@ module _ (limit : Option ℕ) (mode : Mode) (params : Row) (schema : Schema) (at
         judged None h = meets h.0 h.1 h.2
         judged (Some why) h = absurd (let e = h in cc)
 
-    -- the one row that VALUES gives
-    each : (steady : cast_row table (new_in db) ≡ new_in db) (remakes : Remakes db (new_in db) cells) (all : List Row) → all ≡ source ∷ [] → (top : ℤ) (out : Written × ℤ) → TriesEach task Abort clauses all top (nothing db) (Ok out)
-        → Upserted schema table target (new_in db) db out.0.trees cells
-    each steady remakes all is_one top out h =
-        let first = went (subst (λ rows. TriesEach task Abort clauses rows top (nothing db) (Ok out)) is_one h) in
-        let plain : rowids_for table top ≡ Chosen = rw uncounted refl in
-        let ran = subst (λ r. Tries task Abort clauses (new_by db r) db (Ok first.0)) plain first.1 in
-        let same = ap (λ (o : Written × ℤ). o.0.trees) (same_value first.2) in
-        subst (λ next. Upserted schema table target (new_in db) db next cells) (sym same) (tries (new_in db) steady remakes first.0 ran)
-
-    counts : (next after : Trees) (counter : Option Row) (top : ℤ) → Counts task next counter top (Ok after) → after ≡ next
-    counts next after counter top h = let plain = rw uncounted at h in same_value plain
-
-    inserts : (steady : cast_row table (new_in db) ≡ new_in db) (remakes : Remakes db (new_in db) cells) (w : Written) → InsertsOr task Abort clauses (Values terms width) db (Ok w) → Upserted schema table target (new_in db) db w.trees cells
-    inserts steady remakes w h =
-        let rows = went h in
-        let counter = went rows.2 in
-        let tried = went counter.2 in
-        let counted = went tried.2 in
-        let same : w.trees ≡ tried.0.0.trees = ap (λ (it : Written). it.trees) (same_value counted.2) ∙ counts tried.0.0.trees counted.0 counter.0 tried.0.1 counted.1 in
-        subst (λ next. Upserted schema table target (new_in db) db next cells) (sym same) (each steady remakes rows.0 (rows.1.1 ∙ reads) _ tried.0 tried.1)
-
   pub upserts : (text : List ℕ) (db : Database) (has : db.schema ≡ schema) (tally : Tally) (after : Database) (keyed : HaveNumbers (db.trees table.tree)) (cells : Row)
       → cast_row table (new_in db.trees) ≡ new_in db.trees → Remakes db.trees (new_in db.trees) cells → Does limit mode params db text None (InsertOr at Abort (Values terms width) clauses) (Ok (tally, after))
       → (after.schema ≡ schema) × Upserted schema table target (new_in db.trees) db.trees after.trees cells
   upserts text db has tally after keyed cells steady remakes h =
-      let own : AtPlace (λ t. OnRows (record { limit = limit; keys = mode.keys; schema = schema; table = t; params = params }) mode None (InsertOr at Abort (Values terms width) clauses) db.trees) (slice_get schema.tables at) (Ok (tally, after)) =
-      subst (λ s. Does limit mode params (record db { schema = s }) text None (InsertOr at Abort (Values terms width) clauses) (Ok (tally, after))) has h in
-      let ran : OnRows task mode None (InsertOr at Abort (Values terms width) clauses) db.trees (Ok (tally, after)) = rw is at own in
-      let done = went ran in
-      let now = ap (λ (p : Tally × Database). p.1) (same_value (went (went done.2).2).2) in
-      (ap (λ (d : Database). d.schema) now, subst (λ next. Upserted schema table target (new_in db.trees) db.trees next cells) (sym (ap (λ (d : Database). d.trees) now)) (inserts db.trees keyed cells steady remakes done.0 done.1))
+      puts_one limit mode params schema at table is uncounted terms width source reads clauses (λ next. Upserted schema table target (new_in db.trees) db.trees next cells) text db has tally after
+      (tries db.trees keyed cells (new_in db.trees) steady remakes) h

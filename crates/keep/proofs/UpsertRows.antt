@@ -34,7 +34,7 @@ put_fresh new (r ∷ rows) free = go (value_cmp (rowid r) (rowid new)) free (put
     go Equal h more = absurd (true≢false h)
     go Greater h more = IsPermutation-refl _
 
-has_permuted : (xs ys : List Row) (x : Row) → IsPermutation xs ys → Has ys x → Has xs x
+pub has_permuted : (xs ys : List Row) (x : Row) → IsPermutation xs ys → Has ys x → Has xs x
 has_permuted xs ys x same h = all_has (Has xs) ys x (recursion_from_All (Has xs) ys (All-permutation (Has xs) xs ys same (All-from_recursion (Has xs) xs (all_from (Has xs) xs (λ e k. k))))) h
 
 filter_like : (p q : Row → Bool) (rows : List Row) → ((r : Row) → Has rows r → p r ≡ q r) → filter p rows ≡ filter q rows

@@ -9,8 +9,9 @@ use Rattle.book.specs.declared.rows.MoveRow.{MoveRow}
 use Rattle.book.specs.declared.rows.OrderRow.{OrderRow}
 use Rattle.book.specs.declared.rows.LineRow.{LineRow}
 use Rattle.book.specs.declared.rows.KeptRow.{KeptRow}
-use Rattle.book.specs.Tables.{desk_cells, field_cells, move_cells, order_cells, line_cells, kept_cells}
-use Rattle.book.specs.Rows.{DeskCells, FieldCells, MoveCells, OrderCells, LineCells, KeptCells}
+use Rattle.book.specs.declared.rows.FirmRow.{FirmRow}
+use Rattle.book.specs.Tables.{desk_cells, field_cells, move_cells, order_cells, line_cells, kept_cells, firm_cells}
+use Rattle.book.specs.Rows.{DeskCells, FieldCells, MoveCells, OrderCells, LineCells, KeptCells, FirmCells}
 
 -- the columns of a stored row
 abbrev pub desk_stored : Row → Row
@@ -31,6 +32,9 @@ line_stored r = column r 1 ∷ column r 2 ∷ column r 3 ∷ column r 4 ∷ colu
 abbrev pub kept_stored : Row → Row
 kept_stored r = column r 1 ∷ column r 2 ∷ column r 3 ∷ []
 
+abbrev pub firm_stored : Row → Row
+firm_stored r = column r 0 ∷ []
+
 -- the columns of a row, as values of SQL
 abbrev pub desk_columns : DeskCells → Row
 desk_columns x = Int x.one ∷ Int x.version ∷ Int x.clock ∷ Int x.places ∷ []
@@ -49,6 +53,9 @@ line_columns x = Int x.number ∷ Int x.nr ∷ Text x.branch ∷ Text x.article 
 
 abbrev pub kept_columns : KeptCells → Row
 kept_columns x = Text x.reqkey ∷ Int x.place ∷ Text x.words ∷ []
+
+abbrev pub firm_columns : FirmCells → Row
+firm_columns x = Int x.number ∷ []
 
 -- the columns that a SELECT shows of a stored row: those of the table, and last the rowid where the key is not the rowid
 abbrev pub desk_selected : Row → Row
@@ -69,6 +76,9 @@ line_selected r = column r 1 ∷ column r 2 ∷ column r 3 ∷ column r 4 ∷ co
 abbrev pub kept_selected : Row → Row
 kept_selected r = column r 1 ∷ column r 2 ∷ column r 3 ∷ column r 0 ∷ []
 
+abbrev pub firm_selected : Row → Row
+firm_selected r = column r 0 ∷ []
+
 -- an answer of a SELECT shows this row, and its rowid is a whole number
 abbrev pub desk_shown : Row → DeskRow → Type 0
 desk_shown answer row = (column answer 0 ∷ column answer 1 ∷ column answer 2 ∷ column answer 3 ∷ [] ≡ desk_columns (desk_cells row)) × IsTrue (is_int (column answer 0))
@@ -87,3 +97,6 @@ line_shown answer row = (column answer 0 ∷ column answer 1 ∷ column answer 2
 
 abbrev pub kept_shown : Row → KeptRow → Type 0
 kept_shown answer row = (column answer 0 ∷ column answer 1 ∷ column answer 2 ∷ [] ≡ kept_columns (kept_cells row)) × IsTrue (is_int (column answer 3))
+
+abbrev pub firm_shown : Row → FirmRow → Type 0
+firm_shown answer row = (column answer 0 ∷ [] ≡ firm_columns (firm_cells row)) × IsTrue (is_int (column answer 0))

@@ -6,9 +6,9 @@ use Rattle.sqlite.specs.Table.{Table}
 use Rattle.sqlite.specs.Schema.{Schema}
 use Rattle.sqlite.specs.Effect.{Database}
 use Rattle.sqlite_trees.specs.Tree.{Trees}
-use Rattle.book.specs.Rows.{Content, desk_cmp, field_cmp, move_cmp, order_cmp, line_cmp, kept_cmp}
-use Rattle.keep.specs.Schema.{desk_table, field_table, move_table, orders_table, line_table, kept_table, desk_schema}
-use Rattle.keep.specs.Columns.{desk_stored, field_stored, move_stored, order_stored, line_stored, kept_stored, desk_columns, field_columns, move_columns, order_columns, line_columns, kept_columns}
+use Rattle.book.specs.Rows.{Content, desk_cmp, field_cmp, move_cmp, order_cmp, line_cmp, kept_cmp, firm_cmp}
+use Rattle.keep.specs.Schema.{desk_table, field_table, move_table, orders_table, line_table, kept_table, firm_table, desk_schema}
+use Rattle.keep.specs.Columns.{desk_stored, field_stored, move_stored, order_stored, line_stored, kept_stored, firm_stored, desk_columns, field_columns, move_columns, order_columns, line_columns, kept_columns, firm_columns}
 use Rattle.keep.specs.Content.{AreRows, HasTable, HasTables, Holds, IsAmong, LeavesOnly, MayLeave}
 use Rattle.keep.specs.OneContent.{only_content}
 
@@ -37,7 +37,7 @@ holds_one content = ∣ (content, refl) ∣₁
 declared : (db : Database) (table : Table) (Are : List Row → Type 0) → db.schema ≡ desk_schema → IsAmong desk_schema.tables table → Are (db.trees table.tree) → HasTable db.schema db.trees table Are
 declared db table Are is among are = (table.tree, subst (λ (s : Schema). IsAmong s.tables table) (sym is) among, are)
 
--- what is held stands in the six tables
+-- what is held stands in the seven tables
 pub holds_tables : (db : Database) (x : Content) → Holds db x → HasTables db x
 holds_tables db x held = record {
   desk = declared db desk_table (λ rows. AreRows desk_cmp desk_stored desk_columns rows x.desk) held.schema_is (inl refl) held.content.desk;
@@ -46,4 +46,5 @@ holds_tables db x held = record {
   orders = declared db orders_table (λ rows. AreRows order_cmp order_stored order_columns rows x.orders) held.schema_is (inr (inr (inr (inl refl)))) held.content.orders;
   lines = declared db line_table (λ rows. AreRows line_cmp line_stored line_columns rows x.lines) held.schema_is (inr (inr (inr (inr (inl refl))))) held.content.lines;
   kept = declared db kept_table (λ rows. AreRows kept_cmp kept_stored kept_columns rows x.kept) held.schema_is (inr (inr (inr (inr (inr (inl refl)))))) held.content.kept;
+  firms = declared db firm_table (λ rows. AreRows firm_cmp firm_stored firm_columns rows x.firms) held.schema_is (inr (inr (inr (inr (inr (inr (inl refl))))))) held.content.firms;
 }

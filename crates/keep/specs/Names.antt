@@ -1,4 +1,4 @@
--- The names of the six tables among those of a schema.
+-- The names of the six tables that each version has, among those of a schema.
 use Rattle.std.specs.Prelude.{◌≡◌, ℕ, List, Any}
 use Rattle.sqlite.specs.Schema.{Schema}
 use Rattle.keep.specs.Schema.{desk_table, field_table, move_table, orders_table, line_table, kept_table}

@@ -12,10 +12,10 @@ use Rattle.sqlite_rules.specs.Edit.{id_in}
 use Rattle.sqlite_rules.specs.Lists.{Has}
 use Rattle.sqlite_rules.proofs.ListLemmas.{all_has, all_from}
 use Rattle.sqlite_trees.specs.Tree.{Trees}
-use Rattle.book.specs.Rows.{Content, DeskCells, FieldCells, MoveCells, OrderCells, LineCells, KeptCells, desk_cmp, field_cmp, move_cmp, order_cmp, line_cmp, kept_cmp}
-use Rattle.keep.specs.Columns.{desk_stored, field_stored, move_stored, order_stored, line_stored, kept_stored, desk_columns, field_columns, move_columns, order_columns, line_columns, kept_columns}
+use Rattle.book.specs.Rows.{Content, DeskCells, FieldCells, MoveCells, OrderCells, LineCells, KeptCells, FirmCells, desk_cmp, field_cmp, move_cmp, order_cmp, line_cmp, kept_cmp, firm_cmp}
+use Rattle.keep.specs.Columns.{desk_stored, field_stored, move_stored, order_stored, line_stored, kept_stored, firm_stored, desk_columns, field_columns, move_columns, order_columns, line_columns, kept_columns, firm_columns}
 use Rattle.keep.specs.Content.{AreRows, IsContent}
-use Rattle.keep.specs.KeyOrders.{desk_cmp_total, field_cmp_total, kept_cmp_total, line_cmp_total, move_cmp_total, order_cmp_total}
+use Rattle.keep.specs.KeyOrders.{desk_cmp_total, field_cmp_total, firm_cmp_total, kept_cmp_total, line_cmp_total, move_cmp_total, order_cmp_total}
 
 module _ {X : Type 0} (cmp : X → X → Ordering) (total : IsTotalOrder cmp) where
   never_both : (a b : X) → cmp a b ≡ Less → cmp b a ≡ Less → ⊥
@@ -69,6 +69,9 @@ line_of c = record { number = id_in (column c 0); nr = id_in (column c 1); branc
 abbrev kept_of : Row → KeptCells
 kept_of c = record { reqkey = bytes (column c 0); place = id_in (column c 1); words = bytes (column c 2) }
 
+abbrev firm_of : Row → FirmCells
+firm_of c = record { number = id_in (column c 0) }
+
 -- trees have one content
 pub only_content : (trees : Trees) (x y : Content) → IsContent trees x → IsContent trees y → y ≡ x
 only_content trees x y p q =
@@ -78,4 +81,5 @@ only_content trees x y p q =
     let order_same : y.orders ≡ x.orders = one_content order_cmp order_cmp_total order_stored order_columns order_of (λ _. refl) (trees 4) x.orders y.orders p.orders q.orders in
     let line_same : y.lines ≡ x.lines = one_content line_cmp line_cmp_total line_stored line_columns line_of (λ _. refl) (trees 5) x.lines y.lines p.lines q.lines in
     let kept_same : y.kept ≡ x.kept = one_content kept_cmp kept_cmp_total kept_stored kept_columns kept_of (λ _. refl) (trees 7) x.kept y.kept p.kept q.kept in
-    λ i. record { desk = desk_same i; fields = field_same i; moves = move_same i; orders = order_same i; lines = line_same i; kept = kept_same i }
+    let firm_same : y.firms ≡ x.firms = one_content firm_cmp firm_cmp_total firm_stored firm_columns firm_of (λ _. refl) (trees 9) x.firms y.firms p.firms q.firms in
+    λ i. record { desk = desk_same i; fields = field_same i; moves = move_same i; orders = order_same i; lines = line_same i; kept = kept_same i; firms = firm_same i }

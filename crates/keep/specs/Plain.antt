@@ -3,7 +3,7 @@ use Rattle.std.specs.Prelude.{◌≡◌, ◌+◌, ◌-◌, ◌≤◌, ℕ, Bool,
 use Rattle.std.specs.Vec.{vec_capacity, vec_len}
 use Rattle.book.specs.declared.rows.Change.{Change}
 use Rattle.book.specs.Rows.{Content, IsInKeyOrder}
-use Rattle.book.specs.Tables.{desk_cells, field_cells, kept_cells, line_cells, move_cells, no_content, order_cells, with_change}
+use Rattle.book.specs.Tables.{desk_cells, field_cells, firm_cells, kept_cells, line_cells, move_cells, no_content, order_cells, with_change}
 use Rattle.keep.specs.Content.{IsTheRow}
 use Rattle.keep.specs.Transactions.{with_changes}
 use Rattle.keep.specs.declared.plain.shelf.Shelf.{Shelf}
@@ -17,6 +17,7 @@ shelf_content s = record {
   orders = map order_cells s.orders.items;
   lines = map line_cells s.lines.items;
   kept = map kept_cells s.kept.items;
+  firms = map firm_cells s.firms.items;
 }
 
 -- the rows stand in the order of their keys, and the one of `desk` is of the version that is written here
@@ -31,6 +32,7 @@ pub record HasRoom (more : ℕ) (s : Shelf) : Type 0 where
   pub orders : vec_len s.orders + more ≤ vec_capacity s.orders
   pub lines : vec_len s.lines + more ≤ vec_capacity s.lines
   pub kept : vec_len s.kept + more ≤ vec_capacity s.kept
+  pub firms : vec_len s.firms + more ≤ vec_capacity s.firms
 
 -- the content that is this row alone
 abbrev pub row_of : Change → Content

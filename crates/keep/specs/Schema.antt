@@ -1,5 +1,5 @@
--- The six tables as SQL declares them, in the order in which they are made. All are STRICT, and each column is NOT NULL.
-use Rattle.std.specs.Prelude.{true, false, [], ◌∷◌, Some, None, codes, List, ℕ}
+-- The seven tables as SQL declares them, in the order in which they are made. All are STRICT, and each column is NOT NULL.
+use Rattle.std.specs.Prelude.{true, false, [], ◌∷◌, ◌++◌, Some, None, codes, List, ℕ}
 use Rattle.sqlite.specs.declared.types.Value.TheVariants.{Null}
 use Rattle.sqlite.specs.Collation.TheVariants.{Binary}
 use Rattle.sqlite.specs.Table.{Table}
@@ -93,13 +93,20 @@ kept_table = keyed_table (codes "kept") 7 (text (codes "reqkey") ∷ whole_numbe
 abbrev pub kept_index : Index
 kept_index = key_index (codes "sqlite_autoindex_kept_1") 8 7 (1 ∷ [])
 
+abbrev pub firm_table : Table
+firm_table = numbered_table (codes "firm") 9 (whole_number (codes "number") ∷ [])
+
 abbrev pub no_schema : Schema
 no_schema = record { tables = []; indexes = []; views = [] }
 
--- the schema of a desk, as it is made
-abbrev pub desk_schema : Schema
-desk_schema = record {
+-- the schema of a desk of version 1, as it was made
+abbrev pub old_schema : Schema
+old_schema = record {
   tables = desk_table ∷ field_table ∷ move_table ∷ orders_table ∷ line_table ∷ kept_table ∷ [];
   indexes = field_index ∷ line_index ∷ kept_index ∷ [];
   views = [];
 }
+
+-- the schema of a desk, as it is made: that of version 1, and `firm` last
+abbrev pub desk_schema : Schema
+desk_schema = record old_schema { tables = old_schema.tables ++ firm_table ∷ [] }

@@ -1,4 +1,4 @@
--- The schema while the six tables are made, one after the other.
+-- The schema while the first five tables are made, one after the other.
 use Rattle.std.specs.Prelude.{◌≡◌, [], ◌∷◌}
 use Rattle.std.specs.List.{AllByRecursion}
 use Rattle.sqlite.specs.Schema.{Schema}

@@ -5,7 +5,7 @@ ghost use Rattle.sqlite.specs.State.{HasCleanDisk, Survives};
 ghost use Rattle.sqlite.specs.Held.{state};
 ghost use Rattle.keep.specs.Transactions.{PutsIn, Committed, AreChanged};
 
-use crate::tables::{desk, field, kept, line, moves, orders};
+use crate::tables::{desk, field, firm, kept, line, moves, orders};
 use book::Change;
 use sqlite::{Alter, Connection, Error, Transaction};
 
@@ -23,6 +23,7 @@ fn put<S: Alter>(tx: &mut Transaction<'_, S>, change: &Change) -> Result<usize, 
         Change::Order(row) => orders::upsert(tx, row),
         Change::Line(row) => line::upsert(tx, row),
         Change::Kept(row) => kept::upsert(tx, row),
+        Change::Firm(row) => firm::upsert(tx, row),
     }
 }
 

@@ -5,7 +5,7 @@ ghost use Rattle.sqlite.specs.Held.{state};
 ghost use Rattle.sqlite.specs.State.{HasCleanDisk, Survives};
 ghost use Rattle.sqlite_trees.specs.Tree.{Trees};
 ghost use Rattle.keep.specs.Content.{Holds, IsContent, LeavesOnly, new_content};
-ghost use Rattle.keep.specs.Schema.{desk_schema, no_schema};
+ghost use Rattle.keep.specs.Schema.{desk_schema, no_schema, old_schema};
 ghost use Rattle.keep.specs.Stages.{IsBare, with_desk, with_field, with_line, with_move, with_orders};
 ghost use Rattle.keep.specs.Transactions.{IsSettled, Makes};
 
@@ -85,11 +85,24 @@ fn create_line<S: Alter>(tx: &mut Transaction<'_, S>) -> Result<usize, Error>
 fn create_kept<S: Alter>(tx: &mut Transaction<'_, S>) -> Result<usize, Error>
     ensures same_reference { tx.new.conn.ghost_name ≡ tx.old.conn.ghost_name }
     ensures made { HasCleanDisk (state S.Store tx.new.conn.now) → IsTrue (state S.Store tx.old.conn.now).in_transaction → IsBare with_line (state S.Store tx.old.conn.now).now
-        → OnOk result (Makes (IsBare desk_schema) (state S.Store tx.old.conn.now) (state S.Store tx.new.conn.now)) }
+        → OnOk result (Makes (IsBare old_schema) (state S.Store tx.old.conn.now) (state S.Store tx.new.conn.now)) }
     ensures survives { Survives (state S.Store tx.old.conn.now) (state S.Store tx.new.conn.now) (λ _. ⊥) }
 {
     tx.execute(
         "CREATE TABLE kept (reqkey TEXT NOT NULL, place INTEGER NOT NULL, words TEXT NOT NULL, PRIMARY KEY (reqkey)) STRICT",
+        &[],
+    )
+}
+
+/// Makes the table of the firm orders.
+fn create_firm<S: Alter>(tx: &mut Transaction<'_, S>) -> Result<usize, Error>
+    ensures same_reference { tx.new.conn.ghost_name ≡ tx.old.conn.ghost_name }
+    ensures made { HasCleanDisk (state S.Store tx.new.conn.now) → IsTrue (state S.Store tx.old.conn.now).in_transaction → IsBare old_schema (state S.Store tx.old.conn.now).now
+        → OnOk result (Makes (IsBare desk_schema) (state S.Store tx.old.conn.now) (state S.Store tx.new.conn.now)) }
+    ensures survives { Survives (state S.Store tx.old.conn.now) (state S.Store tx.new.conn.now) (λ _. ⊥) }
+{
+    tx.execute(
+        "CREATE TABLE firm (number INTEGER NOT NULL PRIMARY KEY) STRICT",
         &[],
     )
 }
@@ -112,7 +125,7 @@ fn start<S: Alter>(tx: &mut Transaction<'_, S>) -> Result<usize, Error>
     )
 }
 
-/// Makes the six tables, in the order of the schema.
+/// Makes the seven tables, in the order of the schema.
 fn create_tables<S: Alter>(tx: &mut Transaction<'_, S>) -> Result<(), Error>
     ensures same_reference { tx.new.conn.ghost_name ≡ tx.old.conn.ghost_name }
     ensures made { HasCleanDisk (state S.Store tx.new.conn.now) → IsTrue (state S.Store tx.old.conn.now).in_transaction → IsBare no_schema (state S.Store tx.old.conn.now).now
@@ -125,6 +138,7 @@ fn create_tables<S: Alter>(tx: &mut Transaction<'_, S>) -> Result<(), Error>
     create_orders(tx)?;
     create_line(tx)?;
     create_kept(tx)?;
+    create_firm(tx)?;
     Ok(())
 }
 
@@ -143,7 +157,7 @@ fn create<S: Alter>(conn: &mut Connection<S>) -> Result<(), Error>
 }
 
 impl<S: Alter> SqlKeep<S> {
-    /// Makes the six tables and the one row of `desk` in one transaction. A store in which a table or anything else is
+    /// Makes the seven tables and the one row of `desk` in one transaction. A store in which a table or anything else is
     /// declared already is refused with `Store` and left as it is. A stop leaves what was before or the whole new desk.
     pub fn create_over(conn: &mut Connection<S>) -> Result<(), KeepFault>
         requires { conn.old.in_transaction ≡ false }

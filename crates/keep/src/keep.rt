@@ -16,7 +16,7 @@ pub enum KeepFault {
     /// The store failed, or is not one that is written here.
     #[error("the store failed")]
     Store,
-    /// The store has no six tables with one row of `desk` of version 1.
+    /// The store has no seven tables with one row of `desk` of version 2.
     #[error("not a desk")]
     NotADesk,
     /// An earlier call failed, and the keeper takes no more.
@@ -24,7 +24,7 @@ pub enum KeepFault {
     Stopped,
 }
 
-/// Keeps the six tables, so that a stop at any moment leaves what was before a commit or the whole of it. An error
+/// Keeps the seven tables, so that a stop at any moment leaves what was before a commit or the whole of it. An error
 /// leaves a keeper stopped, and a stopped one touches nothing more: its store is opened anew.
 pub trait Keep {
     ghost use Rattle.std.specs.Prelude.{◌≡◌, ◌≢◌, Bool, false, List, [], ◌∷◌, IsTrue, IfOk, OnOk, OnErr, Err, All};
@@ -36,13 +36,13 @@ pub trait Keep {
     // The disk has returned what was written so far.
     ghost is_honest: { Self → Type 0 };
 
-    // The content: what the six tables hold, and there is nothing beside them.
+    // The content: what the seven tables hold, and there is nothing beside them.
     ghost holds: { Self → Content → Type 0 };
 
-    // The six tables are there, beside whatever else, and this is what they hold.
+    // The seven tables are there, beside whatever else, and this is what they hold.
     ghost has_tables: { Self → Content → Type 0 };
 
-    // Whatever a stop leaves now, it is the six tables, and their content is one of these.
+    // Whatever a stop leaves now, it is the seven tables, and their content is one of these.
     ghost leaves: { Self → List Content → Type 0 };
 
     // A stop may leave this content now.
@@ -61,8 +61,8 @@ pub trait Keep {
     /// The content, each table in the order of its key. Changes nothing, and a stop then leaves that content alone. Whatever
     /// is answered, nothing is added to what a stop may leave, and the keeper is set as it was.
     ///
-    /// `Stopped` on a stopped keeper; `NotADesk` only where the store does not hold the six tables with one row of `desk`
-    /// of version 1; `Memory` and `Store` where that is refused or fails.
+    /// `Stopped` on a stopped keeper; `NotADesk` only where the store does not hold the seven tables with one row of `desk`
+    /// of version 2; `Memory` and `Store` where that is refused or fails.
     fn load(&mut self, alloc: Global) -> Result<Tables, KeepFault>
         ensures refused { IsTrue (stopped self.old) → (result ≡ Err KeepFault.Stopped) × (self.new ≡ self.old) }
         ensures going { stopped self.old ≡ false → result ≢ Err KeepFault.Stopped }

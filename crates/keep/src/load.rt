@@ -1,18 +1,18 @@
-//! A load is six selects over the schema of a desk.
+//! A load is seven selects over the schema of a desk.
 
 ghost use Rattle.std.specs.Prelude.{◌≡◌, false, [], ◌∷◌, None, IfOk, IfSome, map};
 ghost use Rattle.std.specs.List.Sorted.{IsStrictlySortedBy};
 ghost use Rattle.sqlite.specs.State.{HasCleanDisk, IsLive, IsUnchanged, Survives};
 ghost use Rattle.sqlite.specs.Held.{state};
-ghost use Rattle.book.specs.Rows.{Content, IsInKeyOrder, field_cmp, move_cmp, order_cmp, line_cmp};
-ghost use Rattle.book.specs.Tables.{content_of, field_cells, move_cells, order_cells, line_cells};
+ghost use Rattle.book.specs.Rows.{Content, IsInKeyOrder, field_cmp, move_cmp, order_cmp, line_cmp, firm_cmp};
+ghost use Rattle.book.specs.Tables.{content_of, field_cells, move_cells, order_cells, line_cells, firm_cells};
 ghost use Rattle.keep.specs.Schema.{desk_schema};
-ghost use Rattle.keep.specs.Columns.{field_stored, move_stored, order_stored, line_stored, field_columns, move_columns, order_columns, line_columns};
+ghost use Rattle.keep.specs.Columns.{field_stored, move_stored, order_stored, line_stored, firm_stored, field_columns, move_columns, order_columns, line_columns, firm_columns};
 ghost use Rattle.keep.specs.Content.{AreRows, HasTables, Holds, IsDesk};
 ghost use Rattle.keep.specs.Loading.{Finds};
 
-use crate::tables::{desk, field, kept, line, moves, orders};
-use book::{FieldRow, LineRow, MoveRow, OrderRow, Rows, Tables};
+use crate::tables::{desk, field, firm, kept, line, moves, orders};
+use book::{FieldRow, FirmRow, LineRow, MoveRow, OrderRow, Rows, Tables};
 use sqlite::{Alter, Connection, Error};
 use std::alloc::Global;
 
@@ -32,20 +32,22 @@ fn load_stock<S: Alter>(
     Ok((fields, moves))
 }
 
-/// The orders, and their lines.
+/// The orders, their lines, and which of them are firm.
 fn load_orders<S: Alter>(
     alloc: Global,
     conn: &mut Connection<S>,
-) -> Result<(Vec<OrderRow>, Vec<LineRow>), Error>
+) -> Result<(Vec<OrderRow>, Vec<LineRow>, Vec<FirmRow>), Error>
     ensures mode { conn.old.in_transaction ≡ false → conn.new.in_transaction ≡ false }
-    ensures order { IfOk result (λ orders. IsStrictlySortedBy order_cmp (map order_cells orders.0.items) × IsStrictlySortedBy line_cmp (map line_cells orders.1.items)) }
-    ensures found { IfOk result (λ orders. Finds (state S.Store conn.old) (state S.Store conn.new) (λ trees. AreRows order_cmp order_stored order_columns (trees 4) (map order_cells orders.0.items)
-        × AreRows line_cmp line_stored line_columns (trees 5) (map line_cells orders.1.items))) }
+    ensures order { IfOk result (λ orders. IsStrictlySortedBy order_cmp (map order_cells orders.0.items) × IsStrictlySortedBy line_cmp (map line_cells orders.1.items)
+        × IsStrictlySortedBy firm_cmp (map firm_cells orders.2.items)) }
+    ensures found { IfOk result (λ orders. Finds (state S.Store conn.old) (state S.Store conn.new) (λ trees. (AreRows order_cmp order_stored order_columns (trees 4) (map order_cells orders.0.items)
+        × AreRows line_cmp line_stored line_columns (trees 5) (map line_cells orders.1.items)) × AreRows firm_cmp firm_stored firm_columns (trees 9) (map firm_cells orders.2.items))) }
     ensures survives { Survives (state S.Store conn.old) (state S.Store conn.new) (λ _. ¬ ((state S.Store conn.old).now.schema ≡ desk_schema)) }
 {
     let orders = orders::load(alloc, conn)?;
     let lines = line::load(alloc, conn)?;
-    Ok((orders, lines))
+    let firms = firm::load(alloc, conn)?;
+    Ok((orders, lines, firms))
 }
 
 /// The content of a store with the schema of a desk, or None where `desk` has no one row of this version.
@@ -64,11 +66,11 @@ pub(crate) fn load_all<S: Alter>(
     ensures none { HasCleanDisk (state S.Store conn.new) → IfOk result (λ found. found ≡ None → (x : Content) → HasTables (state S.Store conn.old).now x → ¬ IsDesk x) }
     ensures survives { Survives (state S.Store conn.old) (state S.Store conn.new) (λ _. ⊥) }
 {
-    let Some(desk) = desk::load(conn)? else {
+    let Some(desk) = desk::load(conn, desk::VERSION)? else {
         return Ok(None);
     };
     let (fields, moves) = load_stock(alloc, conn)?;
-    let (orders, lines) = load_orders(alloc, conn)?;
+    let (orders, lines, firms) = load_orders(alloc, conn)?;
     let kept = kept::load(alloc, conn)?;
     Ok(Some(Tables {
         desk,
@@ -77,5 +79,6 @@ pub(crate) fn load_all<S: Alter>(
         orders: Rows::new(orders),
         lines: Rows::new(lines),
         kept: Rows::new(kept),
+        firms: Rows::new(firms),
     }))
 }

@@ -2,7 +2,7 @@
 
 ghost use Rattle.std.specs.Prelude.{◌≡◌, IfOk};
 
-use book::{FieldRow, KeptRow, LineRow, MoveRow, OrderRow};
+use book::{FieldRow, FirmRow, KeptRow, LineRow, MoveRow, OrderRow};
 use std::alloc::{AllocError, Global};
 use std::cmp::Ordering;
 
@@ -161,5 +161,26 @@ impl TableRow for KeptRow {
             place: self.place,
             words: String::from_str(alloc, &self.words)?,
         })
+    }
+}
+
+impl TableRow for FirmRow {
+    ghost use Rattle.std.specs.Prelude.{◌≡◌};
+    ghost use Rattle.std.specs.Cmp.{int_cmp_total, on_total};
+    ghost use Rattle.book.specs.Rows.{firm_cmp};
+    ghost use Rattle.book.specs.Tables.{firm_cells};
+
+    ghost cmp = { λ a b. firm_cmp (firm_cells a) (firm_cells b) };
+
+    ghost is_copy = { λ a b. firm_cells b ≡ firm_cells a };
+
+    ghost total = { on_total firm_cells (on_total (λ x. x.number) int_cmp_total) };
+
+    fn compare(&self, other: &Self) -> Ordering {
+        self.number.cmp(&other.number)
+    }
+
+    fn copy(&self, _alloc: Global) -> Result<Self, AllocError> {
+        Ok(*self)
     }
 }

@@ -3,7 +3,7 @@
 ghost use Rattle.std.specs.Prelude.{◌≡◌, ◌↔◌, IsTrue, None, Some, false, [], ◌∷◌, codes};
 ghost use Rattle.sqlite.specs.Kind.TheVariants.{Integer, Text};
 ghost use Rattle.keep.specs.Names.{HasNames, HasTableNamed};
-ghost use Rattle.keep.specs.Schema.{column, desk_schema, desk_table, field_table, key_index, kept_table, keyed_table, line_table, move_table, no_schema, numbered_table, orders_table, plain_order, text, whole_number};
+ghost use Rattle.keep.specs.Schema.{column, desk_schema, desk_table, field_table, firm_table, key_index, kept_table, keyed_table, line_table, move_table, no_schema, numbered_table, old_schema, orders_table, plain_order, text, whole_number};
 
 use sqlite_items::Items;
 use sqlite_schema::code::Terms;
@@ -252,21 +252,47 @@ fn are_key_indexes(indexes: &[Index]) -> bool
         && is_key_index(kept, b"sqlite_autoindex_kept_1", 8, 7, [1].as_slice())
 }
 
-fn are_desk_tables(tables: &[Table]) -> bool
-    ensures { IsTrue result ↔ (tables.now ≡ desk_schema.tables) }
+fn is_firm_table(table: &Table) -> bool
+    ensures { IsTrue result ↔ (table.now ≡ firm_table) }
 {
-    let [desk, field, moves, orders, line, kept] = tables else {
+    let [number] = table.columns.as_slice() else {
+        return false;
+    };
+    is_numbered_table(table, b"firm", 9) && is_whole_number(number, b"number")
+}
+
+/// The tables of orders, of their lines and of the kept keys.
+fn are_order_tables(tables: &[Table]) -> bool
+    ensures { IsTrue result ↔ (tables.now ≡ orders_table ∷ line_table ∷ kept_table ∷ []) }
+{
+    let [orders, line, kept] = tables else {
+        return false;
+    };
+    is_orders_table(orders) && is_line_table(line) && is_kept_table(kept)
+}
+
+fn are_old_tables(tables: &[Table]) -> bool
+    ensures { IsTrue result ↔ (tables.now ≡ old_schema.tables) }
+{
+    let [desk, field, moves, order_tables @ ..] = tables else {
         return false;
     };
     is_desk_table(desk)
         && is_field_table(field)
         && is_move_table(moves)
-        && is_orders_table(orders)
-        && is_line_table(line)
-        && is_kept_table(kept)
+        && are_order_tables(order_tables)
 }
 
-/// Whether it has the six tables of a desk as it is made, and nothing else. Takes no memory.
+fn are_desk_tables(tables: &[Table]) -> bool
+    ensures { IsTrue result ↔ (tables.now ≡ desk_schema.tables) }
+{
+    let [old_tables @ .., firm] = tables else {
+        return false;
+    };
+    are_old_tables(old_tables) && is_firm_table(firm)
+}
+
+/// Whether it has the seven tables of a desk as it is made, and nothing else. Takes no memory.
 pub(crate) fn is_desk_schema(found: &Schema) -> bool
     ensures { IsTrue result ↔ (found.now ≡ desk_schema) }
 {

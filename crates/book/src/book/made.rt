@@ -11,7 +11,7 @@ ghost use Rattle.book.specs.declared.book.made.LineChange.TheVariants as LineCha
 ghost use Rattle.book.specs.declared.order.State.TheVariants as State;
 ghost use Rattle.escrow.specs.Ranges.{IsLevel};
 ghost use Rattle.std.specs.List.{AllByRecursion as Each, filter};
-ghost use Rattle.std.specs.Prelude.{◌≡◌, ℕ, ◌<◌, ◌||◌, true, MatchOption, find, if◌then◌else◌, map, option_map, IfOk, Some, ◌∷◌, ◌++◌, [], ◌&&◌, not, nat_le, OnOk};
+ghost use Rattle.std.specs.Prelude.{◌≡◌, ℕ, ◌<◌, ◌||◌, false, true, MatchOption, find, if◌then◌else◌, map, option_map, IfOk, Some, ◌∷◌, ◌++◌, [], ◌&&◌, not, nat_le, OnOk};
 ghost use Rattle.std.specs.Vec.{vec_capacity, vec_len};
 
 use super::Book;

@@ -20,8 +20,8 @@ use self::good::{
     are_fields_in_order, are_keys_in_order, are_moves_good, are_moves_in_order, are_orders_good,
     are_orders_in_order, are_places_good,
 };
-use self::group::{Head, group};
-use self::marks::mark;
+use self::group::group;
+use self::marks::read_heads;
 use self::sums::are_up_to_date;
 use self::told::{moment, natural, read_all};
 use crate::book::{Book, FieldEntry, KeptEntry, MoveEntry};
@@ -77,10 +77,7 @@ fn read_tables(alloc: Global, tables: Tables) -> Result<Entries, TablesFault>
 {
     let fields = read_all(alloc, tables.fields.as_slice())?;
     let moves = read_all(alloc, tables.moves.as_slice())?;
-    let mut heads: Vec<Head> = read_all(alloc, tables.orders.as_slice())?;
-    if !mark(&mut heads, tables.firms.as_slice()) {
-        return Err(TablesFault::Damaged);
-    }
+    let heads = read_heads(alloc, tables.orders.as_slice(), tables.firms.as_slice())?;
     let lines: Vec<Line> = read_all(alloc, tables.lines.as_slice())?;
     let orders = group(alloc, &heads, tables.lines.as_slice(), &lines)?;
     drop(lines);

@@ -14,34 +14,39 @@ use std::alloc::Global;
 use std::test::Fail;
 use words::{Refusal, Reply, Request};
 
-/// The list of requests.
-const LIST: [&str; 6] = [
-    "S1 field N1 A-1 0 100 40",
-    "S2 open 7 500 take N1 A-1 30",
-    "S3 open 8 500 take N1 A-1 11",
-    "S4 use 7 N1 A-1 20",
-    "S5 commit 7",
-    "S6 open 8 500 take N1 A-1 20",
-];
+/// A list of requests, the replies to them, what is asked of the desk, and what is answered to that before the list and behind
+/// each of its requests.
+struct List {
+    lines: &'static [&'static str],
+    replies: &'static [Reply],
+    asks: &'static str,
+    states: &'static [&'static str],
+}
 
-/// The replies to them.
-fn replies() -> [Reply; 6] {
-    [
+/// Two orders, of which the second is refused at first.
+fn two_orders() -> &'static List {
+    &TWO_ORDERS
+}
+
+static TWO_ORDERS: List = List {
+    lines: &[
+        "S1 field N1 A-1 0 100 40",
+        "S2 open 7 500 take N1 A-1 30",
+        "S3 open 8 500 take N1 A-1 11",
+        "S4 use 7 N1 A-1 20",
+        "S5 commit 7",
+        "S6 open 8 500 take N1 A-1 20",
+    ],
+    replies: &[
         Reply::Done(1),
         Reply::Done(2),
         Reply::Refused(Refusal::TooLittle, 1),
         Reply::Done(3),
         Reply::Done(4),
         Reply::Done(5),
-    ]
-}
-
-/// What is asked of a desk.
-const ASKS: &str = "? field N1 A-1\n? order 7\n? order 8\n";
-
-/// What is answered before the list, and behind each of its requests.
-fn states() -> [&'static str; 7] {
-    [
+    ],
+    asks: "? field N1 A-1\n? order 7\n? order 8\n",
+    states: &[
         "? none\n? none\n? none\n",
         "? field N1 A-1 lo 0 hi 100 value 40 inf 40 sup 40\n? none\n? none\n",
         "? field N1 A-1 lo 0 hi 100 value 40 inf 10 sup 40\n? order 7 plain 500 open take N1 A-1 30 0\n? none\n",
@@ -49,22 +54,69 @@ fn states() -> [&'static str; 7] {
         "? field N1 A-1 lo 0 hi 100 value 40 inf 10 sup 40\n? order 7 plain 500 open take N1 A-1 30 20\n? none\n",
         "? field N1 A-1 lo 0 hi 100 value 20 inf 20 sup 20\n? order 7 plain 500 committed take N1 A-1 30 20\n? none\n",
         "? field N1 A-1 lo 0 hi 100 value 20 inf 0 sup 20\n? order 7 plain 500 committed take N1 A-1 30 20\n? order 8 plain 500 open take N1 A-1 20 0\n",
-    ]
+    ],
+};
+
+/// An order that is made firm.
+fn firm_order() -> &'static List {
+    &FIRM_ORDER
 }
 
+static FIRM_ORDER: List = List {
+    lines: &[
+        "F1 field N1 A-1 0 100 40",
+        "F2 open 7 500 take N1 A-1 30",
+        "F3 use 7 N1 A-1 20",
+        "F4 firm 7",
+        "F5 abort 7",
+        "F6 deliver N1 A-1 80",
+        "F7 use 7 N1 A-1 5",
+        "F8 expire 500",
+        "F9 commit 7",
+    ],
+    replies: &[
+        Reply::Done(1),
+        Reply::Done(2),
+        Reply::Done(3),
+        Reply::Done(4),
+        Reply::Refused(Refusal::Firm, 0),
+        Reply::Done(5),
+        Reply::Done(6),
+        Reply::Done(7),
+        Reply::Done(8),
+    ],
+    asks: "? field N1 A-1\n? order 7\n",
+    states: &[
+        "? none\n? none\n",
+        "? field N1 A-1 lo 0 hi 100 value 40 inf 40 sup 40\n? none\n",
+        "? field N1 A-1 lo 0 hi 100 value 40 inf 10 sup 40\n? order 7 plain 500 open take N1 A-1 30 0\n",
+        "? field N1 A-1 lo 0 hi 100 value 40 inf 10 sup 40\n? order 7 plain 500 open take N1 A-1 30 20\n",
+        "? field N1 A-1 lo 0 hi 100 value 20 inf 10 sup 20\n? order 7 plain 500 firm take N1 A-1 30 20\n",
+        "? field N1 A-1 lo 0 hi 100 value 20 inf 10 sup 20\n? order 7 plain 500 firm take N1 A-1 30 20\n",
+        "? field N1 A-1 lo 0 hi 100 value 100 inf 90 sup 100\n? order 7 plain 500 firm take N1 A-1 30 20\n",
+        "? field N1 A-1 lo 0 hi 100 value 95 inf 90 sup 95\n? order 7 plain 500 firm take N1 A-1 30 25\n",
+        "? field N1 A-1 lo 0 hi 100 value 95 inf 90 sup 95\n? order 7 plain 500 firm take N1 A-1 30 25\n",
+        "? field N1 A-1 lo 0 hi 100 value 95 inf 95 sup 95\n? order 7 plain 500 committed take N1 A-1 30 25\n",
+    ],
+};
+
 /// Whether the desk is in that state: as behind so many requests of the list.
-fn stands<K: Keep>(alloc: Global, desk: &mut Desk<K>, done: usize) -> Result<bool, Fail> {
-    let shown = answers(alloc, desk, ASKS)?;
-    match states().get(done) {
+fn stands<K: Keep>(
+    alloc: Global,
+    desk: &mut Desk<K>,
+    list: &List,
+    done: usize,
+) -> Result<bool, Fail> {
+    let shown = answers(alloc, desk, list.asks)?;
+    match list.states.get(done) {
         Some(state) => Ok(state.as_bytes() == shown.as_slice()),
         None => Ok(false),
     }
 }
 
 /// The replies are those of the table behind so many, and they are all of these exactly where the run ended with all.
-fn expect_run(before: usize, run: &Run) -> Result<(), Fail> {
-    let want = replies();
-    let rest = want.get(before..).ok_or("no such number")?;
+fn expect_run(list: &List, before: usize, run: &Run) -> Result<(), Fail> {
+    let rest = list.replies.get(before..).ok_or("no such number")?;
     let count = run.replies.len();
     if rest.get(..count).ok_or("too many")? != run.replies.as_slice() {
         Err("another reply")?;
@@ -79,21 +131,27 @@ fn expect_run(before: usize, run: &Run) -> Result<(), Fail> {
 fn expect_state<K: Keep>(
     alloc: Global,
     desk: &mut Desk<K>,
+    list: &List,
     before: usize,
     next: usize,
 ) -> Result<(), Fail> {
-    if !stands(alloc, desk, before)? && !stands(alloc, desk, next)? {
+    if !stands(alloc, desk, list, before)? && !stands(alloc, desk, list, next)? {
         Err("another ledger than before that request or behind it")?;
     }
     Ok(())
 }
 
 /// The desk is stopped where it was told so, and stands behind the whole list where all was answered.
-fn expect_end<K: Keep>(alloc: Global, desk: &mut Desk<K>, ending: Ending) -> Result<(), Fail> {
+fn expect_end<K: Keep>(
+    alloc: Global,
+    desk: &mut Desk<K>,
+    list: &List,
+    ending: Ending,
+) -> Result<(), Fail> {
     if desk.is_stopped() != (ending == Ending::Stopped) {
         Err("stopped and not told, or told and not stopped")?;
     }
-    if ending == Ending::All && !stands(alloc, desk, LIST.len())? {
+    if ending == Ending::All && !stands(alloc, desk, list, list.lines.len())? {
         Err("another ledger than behind the whole list")?;
     }
     Ok(())
@@ -103,14 +161,15 @@ fn expect_end<K: Keep>(alloc: Global, desk: &mut Desk<K>, ending: Ending) -> Res
 fn answer_rest<K: Keep>(
     alloc: Global,
     desk: &mut Desk<K>,
+    list: &List,
     requests: &[Request],
     before: usize,
 ) -> Result<usize, Fail> {
     let next = before.checked_add(1).ok_or("no such number")?;
-    expect_state(alloc, desk, before, next)?;
+    expect_state(alloc, desk, list, before, next)?;
     let run = resume(alloc, desk, requests, next)?;
-    expect_run(before, &run)?;
-    expect_end(alloc, desk, run.ending)?;
+    expect_run(list, before, &run)?;
+    expect_end(alloc, desk, list, run.ending)?;
     Ok(run.replies.len())
 }
 
@@ -118,35 +177,42 @@ fn answer_rest<K: Keep>(
 fn answer_on<K: Keep>(
     alloc: Global,
     desk: &mut Desk<K>,
+    list: &List,
     requests: &[Request],
     before: usize,
 ) -> Result<usize, Fail> {
-    let count = answer_rest(alloc, desk, requests, before)?;
+    let count = answer_rest(alloc, desk, list, requests, before)?;
     if desk.is_stopped() {
         return Ok(count);
     }
     let next = before.checked_add(count).ok_or("no such number")?;
-    let more = answer_rest(alloc, desk, requests, next)?;
+    let more = answer_rest(alloc, desk, list, requests, next)?;
     Ok(count.checked_add(more).ok_or("too many")?)
 }
 
 /// A session on the desk behind so many replies: how many it gave.
-fn go_on<K: Keep>(alloc: Global, desk: &mut Desk<K>, before: usize) -> Result<usize, Fail> {
-    let requests = requests(alloc, &LIST)?;
-    answer_on(alloc, desk, &requests, before)
+fn go_on<K: Keep>(
+    alloc: Global,
+    desk: &mut Desk<K>,
+    list: &List,
+    before: usize,
+) -> Result<usize, Fail> {
+    let requests = requests(alloc, list.lines)?;
+    answer_on(alloc, desk, list, &requests, before)
 }
 
 /// A session over the connection: how many replies it gave, none where no desk was opened.
 fn session<S: Alter + Drop>(
     alloc: Global,
     conn: Connection<S>,
+    list: &List,
     before: usize,
 ) -> Result<(Connection<S>, usize), Fail> {
     match open(alloc, keeper(conn)?) {
         Err((OpenFault::Store | OpenFault::Memory, keep)) => Ok((connection_of(keep), 0)),
         Err(_) => Err("the store is told as something else")?,
         Ok(mut desk) => {
-            let count = go_on(alloc, &mut desk, before)?;
+            let count = go_on(alloc, &mut desk, list, before)?;
             Ok((connection_of(desk.into_keep()), count))
         }
     }
@@ -156,6 +222,7 @@ fn session<S: Alter + Drop>(
 fn visit<D: Disk + Drop>(
     alloc: Global,
     files: Files<D>,
+    list: &List,
     before: usize,
 ) -> Result<(Files<D>, usize), Fail>
     requires { IsTrue (D.Disk.is_usable files.log) × IsTrue (D.Disk.is_usable files.db) }
@@ -163,7 +230,7 @@ fn visit<D: Disk + Drop>(
     match disks::open(alloc, files) {
         Err(files) => Ok((files, 0)),
         Ok(conn) => {
-            let (conn, count) = session(alloc, conn, before)?;
+            let (conn, count) = session(alloc, conn, list, before)?;
             Ok((files_of(conn), count))
         }
     }
@@ -174,6 +241,7 @@ fn visit<D: Disk + Drop>(
 fn visit_cut(
     alloc: Global,
     files: Files<Memory>,
+    list: &List,
     before: usize,
     calls: (u64, u64),
     is_cut: bool,
@@ -185,7 +253,7 @@ fn visit_cut(
         log: Fuse::new(files.log, calls.0),
         db: Fuse::new(files.db, calls.1),
     };
-    let (fused, count) = visit(alloc, fused, before)?;
+    let (fused, count) = visit(alloc, fused, list, before)?;
     Ok((left_by(alloc, fused, is_cut)?, count))
 }
 
@@ -193,15 +261,16 @@ fn visit_cut(
 /// first.
 fn cut_twice(
     alloc: Global,
+    list: &List,
     first: (u64, u64),
     second: (u64, u64),
     is_cut: bool,
 ) -> Result<usize, Fail> {
-    let (left, begun) = visit_cut(alloc, desk_files(alloc)?, 0, first, is_cut)?;
-    let (left, more) = visit_cut(alloc, left, begun, second, is_cut)?;
+    let (left, begun) = visit_cut(alloc, desk_files(alloc)?, list, 0, first, is_cut)?;
+    let (left, more) = visit_cut(alloc, left, list, begun, second, is_cut)?;
     let before = begun.checked_add(more).ok_or("no such number")?;
-    let (_, rest) = visit(alloc, left, before)?;
-    if before.checked_add(rest) != Some(LIST.len()) {
+    let (_, rest) = visit(alloc, left, list, before)?;
+    if before.checked_add(rest) != Some(list.lines.len()) {
         Err("not resumed to its end")?;
     }
     Ok(begun)
@@ -209,10 +278,16 @@ fn cut_twice(
 
 /// Fails at each call of one of the files in turn, up to the first run that is not cut: each is resumed, and that is cut
 /// after so many calls too. How many were tried.
-fn cut_at_each_call(alloc: Global, on_log: bool, is_cut: bool, second: u64) -> Result<u64, Fail> {
+fn cut_at_each_call(
+    alloc: Global,
+    list: &List,
+    on_log: bool,
+    is_cut: bool,
+    second: u64,
+) -> Result<u64, Fail> {
     for calls in 0..400u64 {
         let (first, second) = (calls_to(on_log, calls), calls_to(on_log, second));
-        if cut_twice(alloc, first, second, is_cut)? == LIST.len() {
+        if cut_twice(alloc, list, first, second, is_cut)? == list.lines.len() {
             return Ok(calls);
         }
     }
@@ -222,7 +297,9 @@ fn cut_at_each_call(alloc: Global, on_log: bool, is_cut: bool, second: u64) -> R
 #[test]
 fn a_list_is_resumed_after_a_failure_at_any_call(rt: HostRuntime) -> Result<(), Fail> {
     for (on_log, is_cut) in CUTS {
-        assert!(rt; cut_at_each_call(rt.alloc(), on_log, is_cut, u64::MAX)? > 0);
+        for list in [two_orders(), firm_order()] {
+            assert!(rt; cut_at_each_call(rt.alloc(), list, on_log, is_cut, u64::MAX)? > 0);
+        }
     }
     Ok(())
 }
@@ -230,7 +307,7 @@ fn a_list_is_resumed_after_a_failure_at_any_call(rt: HostRuntime) -> Result<(), 
 /// The same with a second failure, after up to 19 calls.
 fn cut_twice_at_each_call(alloc: Global, on_log: bool, is_cut: bool) -> Result<(), Fail> {
     for second in 0..20 {
-        if cut_at_each_call(alloc, on_log, is_cut, second)? == 0 {
+        if cut_at_each_call(alloc, two_orders(), on_log, is_cut, second)? == 0 {
             Err("none was tried")?;
         }
     }
@@ -266,7 +343,7 @@ fn a_list_is_resumed_after_two_failures_of_the_database_and_a_power_cut(
 #[test]
 fn a_list_is_resumed_where_memory_was_refused(rt: HostRuntime) -> Result<(), Fail> {
     let uncut = calls_to(true, u64::MAX);
-    cut_twice(rt.alloc(), uncut, uncut, false)?;
+    cut_twice(rt.alloc(), firm_order(), uncut, uncut, false)?;
     Ok(())
 }
 
@@ -287,7 +364,7 @@ fn is_decided_anew<K: Keep>(
     desk: &mut Desk<K>,
     requests: &[Request],
 ) -> Result<bool, Fail> {
-    let mut want = replies();
+    let mut want = Vec::from_slice(alloc, two_orders().replies)?;
     let first = are_answered(alloc, desk, requests, &want)?;
     want[2] = Reply::Refused(Refusal::OrderThere, 0);
     Ok(first && are_answered(alloc, desk, requests, &want)?)
@@ -295,7 +372,7 @@ fn is_decided_anew<K: Keep>(
 
 #[test]
 fn a_whole_list_again_is_decided_anew(rt: HostRuntime) -> Result<(), Fail> {
-    let requests = requests(rt.alloc(), &LIST)?;
+    let requests = requests(rt.alloc(), two_orders().lines)?;
     let mut desk = opened(rt.alloc(), sql_keeper(rt.alloc())?)?;
     assert!(rt; is_decided_anew(rt.alloc(), &mut desk, &requests)?);
     Ok(())

@@ -1,4 +1,4 @@
-//! The rows of the six tables, in vectors.
+//! The rows of the seven tables, in vectors.
 
 ghost use Rattle.std.specs.Prelude.{◌≡◌, ◌+◌, ◌<◌, ◌≤◌, IfErr, IfOk, OnErr, OnOk, ℕ, length, slice_set};
 ghost use Rattle.std.specs.List.{All, AllZip, insert};
@@ -12,10 +12,10 @@ ghost use Rattle.keep.specs.Transactions.{with_changes};
 
 use crate::row::TableRow;
 use crate::tables::desk::VERSION;
-use book::{Change, DeskRow, FieldRow, KeptRow, LineRow, MoveRow, OrderRow, Rows, Tables};
+use book::{Change, DeskRow, FieldRow, FirmRow, KeptRow, LineRow, MoveRow, OrderRow, Rows, Tables};
 use std::alloc::{AllocError, Global};
 
-/// The rows of the six tables, each table in the order of its key.
+/// The rows of the seven tables, each table in the order of its key.
 #[derive(Drop)]
 pub(super) struct Shelf {
     pub desk: DeskRow,
@@ -24,6 +24,7 @@ pub(super) struct Shelf {
     pub orders: Vec<OrderRow>,
     pub lines: Vec<LineRow>,
     pub kept: Vec<KeptRow>,
+    pub firms: Vec<FirmRow>,
 }
 
 /// Where the row with that key stands, or the place for it among the others.
@@ -73,6 +74,7 @@ fn copy_change(alloc: Global, change: &Change) -> Result<Change, AllocError>
         Change::Order(row) => Change::Order(row.copy(alloc)?),
         Change::Line(row) => Change::Line(row.copy(alloc)?),
         Change::Kept(row) => Change::Kept(row.copy(alloc)?),
+        Change::Firm(row) => Change::Firm(*row),
     })
 }
 
@@ -106,6 +108,7 @@ impl Shelf {
             orders: Vec::new(alloc),
             lines: Vec::new(alloc),
             kept: Vec::new(alloc),
+            firms: Vec::new(alloc),
         }
     }
 
@@ -120,6 +123,7 @@ impl Shelf {
             orders: Rows::new(copy_rows(alloc, &self.orders)?),
             lines: Rows::new(copy_rows(alloc, &self.lines)?),
             kept: Rows::new(copy_rows(alloc, &self.kept)?),
+            firms: Rows::new(copy_rows(alloc, &self.firms)?),
         })
     }
 
@@ -134,7 +138,8 @@ impl Shelf {
         self.moves.reserve(more)?;
         self.orders.reserve(more)?;
         self.lines.reserve(more)?;
-        self.kept.reserve(more)
+        self.kept.reserve(more)?;
+        self.firms.reserve(more)
     }
 
     /// Puts the row in by its key, where there is room for one.
@@ -152,6 +157,7 @@ impl Shelf {
             Change::Order(row) => put_row(&mut self.orders, row),
             Change::Line(row) => put_row(&mut self.lines, row),
             Change::Kept(row) => put_row(&mut self.kept, row),
+            Change::Firm(row) => put_row(&mut self.firms, row),
         }
     }
 

@@ -1,15 +1,14 @@
 //! The statements of the table `desk`.
 
-ghost use Rattle.std.specs.Prelude.{◌≡◌, List, [], ◌∷◌, false, IsTrue, None, IfOk, IfSome, MatchOption, OnOk, IsPermutation, map};
+ghost use Rattle.std.specs.Prelude.{◌≡◌, ℤ, List, [], ◌∷◌, false, IsTrue, None, IfOk, IfSome, MatchOption, OnOk, IsPermutation, map};
 ghost use Rattle.sqlite.specs.State.{HasCleanDisk, IsUnchanged, Survives};
 ghost use Rattle.sqlite.specs.Held.{state};
 ghost use Rattle.book.specs.declared.rows.Change.TheVariants as change;
-ghost use Rattle.keep.specs.Schema.{desk_schema};
 ghost use Rattle.book.specs.Rows.{DeskCells, desk_cmp};
 ghost use Rattle.book.specs.Tables.{desk_cells};
 ghost use Rattle.keep.specs.Columns.{desk_selected, desk_stored, desk_columns};
 ghost use Rattle.keep.specs.Content.{AreRows, IsOneRow, IsVersion};
-ghost use Rattle.keep.specs.Loading.{Finds, IsOneAnswer};
+ghost use Rattle.keep.specs.Loading.{FindsOver, IsOfAVersion, IsOneAnswer};
 ghost use Rattle.keep.specs.Transactions.{PutsIn};
 
 use crate::stored::Stored;
@@ -17,7 +16,7 @@ use book::DeskRow;
 use sqlite::{Alter, Connection, Error, Row, Transaction, params};
 
 /// The version of the schema.
-pub(crate) const VERSION: i64 = 1;
+pub(crate) const VERSION: i64 = 2;
 
 /// Puts a row in by its key.
 pub(crate) fn upsert<S: Alter>(tx: &mut Transaction<'_, S>, row: &DeskRow) -> Result<usize, Error>
@@ -35,11 +34,11 @@ pub(crate) fn upsert<S: Alter>(tx: &mut Transaction<'_, S>, row: &DeskRow) -> Re
 /// The rows of `desk`.
 pub(crate) fn select<S: Alter>(conn: &mut Connection<S>) -> Result<Vec<Row>, Error>
     ensures mode { conn.old.in_transaction ≡ false → conn.new.in_transaction ≡ false }
-    ensures rows { HasCleanDisk (state S.Store conn.new) → (state S.Store conn.old).now.schema ≡ desk_schema
+    ensures rows { HasCleanDisk (state S.Store conn.new) → IsOfAVersion (state S.Store conn.old).now.schema
         → IfOk result (λ rows. IsPermutation (map desk_selected ((state S.Store conn.old).now.trees 0)) rows.items) }
-    ensures same { HasCleanDisk (state S.Store conn.new) → (state S.Store conn.old).now.schema ≡ desk_schema
+    ensures same { HasCleanDisk (state S.Store conn.new) → IsOfAVersion (state S.Store conn.old).now.schema
         → OnOk result (IsUnchanged (state S.Store conn.old) (state S.Store conn.new)) }
-    ensures survives { Survives (state S.Store conn.old) (state S.Store conn.new) (λ _. ¬ ((state S.Store conn.old).now.schema ≡ desk_schema)) }
+    ensures survives { Survives (state S.Store conn.old) (state S.Store conn.new) (λ _. ¬ IsOfAVersion (state S.Store conn.old).now.schema) }
 {
     conn.query_all(
         "SELECT one, version, clock, places FROM desk ORDER BY one",
@@ -48,14 +47,14 @@ pub(crate) fn select<S: Alter>(conn: &mut Connection<S>) -> Result<Vec<Row>, Err
 }
 
 /// The one row that the answers show, or None where there is another number of rows or one of another version.
-fn one_row(answers: &[Row]) -> Result<Option<DeskRow>, Error>
-    ensures { IfOk result (λ found. MatchOption found (¬ ((row : DeskCells) × IsOneAnswer answers.now row)) (λ row. IsOneAnswer answers.now (desk_cells row))) }
+fn one_row(answers: &[Row], version: i64) -> Result<Option<DeskRow>, Error>
+    ensures { IfOk result (λ found. MatchOption found (¬ ((row : DeskCells) × IsOneAnswer version answers.now row)) (λ row. IsOneAnswer version answers.now (desk_cells row))) }
 {
     let [answer] = answers else {
         return Ok(None);
     };
     let row = DeskRow::read(answer)?;
-    if row.version == VERSION {
+    if row.version == version {
         Ok(Some(row))
     } else {
         Ok(None)
@@ -63,15 +62,18 @@ fn one_row(answers: &[Row]) -> Result<Option<DeskRow>, Error>
 }
 
 /// The one row of `desk`, or None where there is another number of rows or one of another version.
-pub(crate) fn load<S: Alter>(conn: &mut Connection<S>) -> Result<Option<DeskRow>, Error>
+pub(crate) fn load<S: Alter>(
+    conn: &mut Connection<S>,
+    version: i64,
+) -> Result<Option<DeskRow>, Error>
     ensures mode { conn.old.in_transaction ≡ false → conn.new.in_transaction ≡ false }
-    ensures version { IfOk result (λ found. IfSome found (λ row. IsVersion (desk_cells row))) }
-    ensures found { IfOk result (λ found. IfSome found (λ row. Finds (state S.Store conn.old) (state S.Store conn.new) (λ trees. AreRows desk_cmp desk_stored desk_columns (trees 0) (desk_cells row ∷ [])))) }
-    ensures none { IfOk result (λ found. found ≡ None → Finds (state S.Store conn.old) (state S.Store conn.new) (λ trees. (rows : List DeskCells) → AreRows desk_cmp desk_stored desk_columns (trees 0) rows → ¬ IsOneRow rows)) }
-    ensures survives { Survives (state S.Store conn.old) (state S.Store conn.new) (λ _. ¬ ((state S.Store conn.old).now.schema ≡ desk_schema)) }
+    ensures version { IfOk result (λ found. IfSome found (λ row. IsVersion version (desk_cells row))) }
+    ensures found { IfOk result (λ found. IfSome found (λ row. FindsOver IsOfAVersion (state S.Store conn.old) (state S.Store conn.new) (λ trees. AreRows desk_cmp desk_stored desk_columns (trees 0) (desk_cells row ∷ [])))) }
+    ensures none { IfOk result (λ found. found ≡ None → FindsOver IsOfAVersion (state S.Store conn.old) (state S.Store conn.new) (λ trees. (rows : List DeskCells) → AreRows desk_cmp desk_stored desk_columns (trees 0) rows → ¬ IsOneRow version rows)) }
+    ensures survives { Survives (state S.Store conn.old) (state S.Store conn.new) (λ _. ¬ IsOfAVersion (state S.Store conn.old).now.schema) }
 {
     let answers = select(conn)?;
-    one_row(answers.as_slice())
+    one_row(answers.as_slice(), version)
 }
 
 impl Stored for DeskRow {

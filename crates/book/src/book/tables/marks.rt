@@ -1,16 +1,39 @@
-//! The marks of firm orders, from their rows.
+//! Heads of orders, with their marks from the rows of firm orders.
 
-ghost use Rattle.std.specs.Prelude.{◌≡◌, ◌↔◌, false, flat_map, map, slice_get, IsTrue, List};
-ghost use Rattle.std.specs.List.{AllByRecursion as Each};
+ghost use Rattle.std.specs.Prelude.{◌≡◌, ◌↔◌, false, flat_map, map, slice_get, IfErr, IfOk, IsTrue, List};
 ghost use Rattle.std.specs.List.Sorted.{IsStrictlySortedBy};
 ghost use Rattle.std.specs.Ordering.{nat_cmp};
-ghost use Rattle.book.specs.Tables.{firm_cells};
-ghost use Rattle.book.specs.Told.{head_row, mark_rows, Marks};
+ghost use Rattle.book.specs.Good.{Good};
+ghost use Rattle.book.specs.Ledger.{Ledger};
+ghost use Rattle.book.specs.Rows.{firm_rows, order_row};
+ghost use Rattle.book.specs.Tables.{firm_cells, order_cells};
+ghost use Rattle.book.specs.Told.{head_row, mark_rows, Marks, TellHeads};
+ghost use Rattle.book.specs.declared.book.tables.TablesFault.TheVariants as TablesFault;
 ghost use Rattle.book.specs.declared.book.tables.group.Head.{Head};
 
+use super::TablesFault;
 use super::group::Head;
-use crate::rows::FirmRow;
+use super::told::read_all;
+use crate::rows::{FirmRow, OrderRow};
 use escrow::OrderNo;
+use std::alloc::Global;
+
+/// The heads that the rows of orders tell, marked as the rows of firm orders say.
+pub(super) fn read_heads(
+    alloc: Global,
+    orders: &[OrderRow],
+    firms: &[FirmRow],
+) -> Result<Vec<Head>, TablesFault>
+    ensures told { IfOk result (λ heads. TellHeads heads.items (map order_cells orders.now) (map firm_cells firms.now)) }
+    ensures damaged { IfErr result (λ fault. fault ≡ TablesFault.Damaged → (A : Ledger) → Good A → map order_cells orders.now ≡ map order_row A.orders → map firm_cells firms.now ≡ flat_map firm_rows A.orders → ⊥) }
+{
+    let mut heads: Vec<Head> = read_all(alloc, orders)?;
+    if mark(&mut heads, firms) {
+        Ok(heads)
+    } else {
+        Err(TablesFault::Damaged)
+    }
+}
 
 /// Whether there is a row at that place, and it marks the order of that number.
 fn is_of(rows: &[FirmRow], place: usize, number: OrderNo) -> bool
@@ -23,8 +46,7 @@ fn is_of(rows: &[FirmRow], place: usize, number: OrderNo) -> bool
 }
 
 /// Marks those that the rows name. Whether each row names one, in their order.
-pub(super) fn mark(heads: &mut [Head], rows: &[FirmRow]) -> bool
-    requires { Each (λ h. h.firm ≡ false) heads.old }
+fn mark(heads: &mut [Head], rows: &[FirmRow]) -> bool
     ensures same { map head_row heads.new ≡ map head_row heads.old }
     ensures marked { IsTrue result → flat_map mark_rows heads.new ≡ map firm_cells rows.now }
     ensures damaged { result ≡ false → (hs : List Head) → IsStrictlySortedBy nat_cmp (map (λ h. h.number) hs) → map head_row hs ≡ map head_row heads.old → flat_map mark_rows hs ≡ map firm_cells rows.now → ⊥ }

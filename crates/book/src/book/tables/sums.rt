@@ -226,7 +226,8 @@ fn add_orders(fields: &[(FieldName, FieldEntry)], sums: &mut [Numbers], orders: 
     true
 }
 
-/// Adds the lines of an order in that state, which is firm or not, each to the sum of its field. Whether all of them are on fields.
+/// Adds the lines of an order in that state, which is firm or not, each to the sum of its field. Whether all of them
+/// are on fields.
 fn add_lines(
     fields: &[(FieldName, FieldEntry)],
     sums: &mut [Numbers],
@@ -274,6 +275,9 @@ fn part_of(line: &Line, state: State, firm: bool) -> Numbers
     ensures part { result ≡ part_of_line state firm line.now }
     ensures small { IsSmall most_of_line result }
 {
+    // so that the proof has their ranges
+    line.held.get();
+    line.used.get();
     let share = share_of(line, state, firm);
     let (settled, held) = (share.settled as i64, share.held as i64);
     match line.way {

@@ -17,3 +17,6 @@ returns-in-Line-clause-put g c = rw c.in-Line.is c.upsert-in-Line.ensures.put
 
 pub returns-in-Kept-clause-put : goal.returns-in-Kept-clause-put
 returns-in-Kept-clause-put g c = rw c.in-Kept.is c.upsert-in-Kept.ensures.put
+
+pub returns-in-Firm-clause-put : goal.returns-in-Firm-clause-put
+returns-in-Firm-clause-put g c = rw c.in-Firm.is c.upsert-in-Firm.ensures.put

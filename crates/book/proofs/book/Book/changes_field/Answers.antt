@@ -6,5 +6,5 @@ use Rattle.book.proofs.book.Book.changes_field.Goals as goal
 pub returns : goal.returns
 returns c =
     let a = c.requires.accepts in
-    c.changes_stock.ensures ∙ ap (λ t. changes_own_stock t c.args.request.now.command c.args.line.now) c.is_transfer.ensures
-    ∙ own_stock c.args.self.now.ledger c.args.request.now.command (order_of c.args.order.now) c.args.line.now a.before a.accepted.1 c.requires.made c.requires.line
+    c.changes_stock.ensures ∙ ap (λ t. changes_own_stock c.args.order.now.1.firm t c.args.request.now.command c.args.line.now) c.is_transfer.ensures
+    ∙ own_stock c.args.self.now.ledger c.args.request.now.command (order_of c.args.order.now) c.args.line.now a.before c.requires.made c.requires.line

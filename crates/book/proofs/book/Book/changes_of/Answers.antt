@@ -22,7 +22,7 @@ returns-clause-changes c =
     let a = c.requires.accepts in
     let first = c.in_ok-push.ensures ∙ ap (λ (cs : List Change). cs ++ Desk c.desk_row-desk.result ∷ []) c.new-changes.ensures.items in
     let aborted = c.in_ok-push_all_aborted.ensures ∙ ap (λ (ns : List ℕ). with_orders (flat_map (of_numbered c.args.self.now.ledger aborted_rows) ns) (rows_among c.push_order.new.changes.items)) c.deref.ensures.value in
-    changes_to c.args.self.now.ledger c.args.request.now (rows_among c.push_kept.new.changes.items) a.before a.key a.range a.accepted
+    changes_to c.args.self.now.ledger c.args.request.now (rows_among c.push_firm.new.changes.items) a.before a.key a.range a.accepted
     (rows_in_turn c.args.self.now.ledger c.args.request.now c.args.parts.now (desk_cells c.desk_row-desk.result) (rows_among c.push.new.changes.items) (rows_among c.push_fields.new.changes.items) (rows_among c.push_move.new.changes.items)
-    (rows_among c.push_order.new.changes.items) (rows_among c.push_all_aborted.new.changes.items) (rows_among c.push_own_lines.new.changes.items) (rows_among c.push_kept.new.changes.items) a.before c.requires.makes c.desk_row-desk.ensures (ap rows_among first)
-    c.in_ok-push_fields.ensures c.in_ok-push_move.ensures c.in_ok-push_order.ensures aborted c.in_ok-push_own_lines.ensures c.in_ok-push_kept.ensures)
+    (rows_among c.push_order.new.changes.items) (rows_among c.push_all_aborted.new.changes.items) (rows_among c.push_own_lines.new.changes.items) (rows_among c.push_kept.new.changes.items) (rows_among c.push_firm.new.changes.items) a.before c.requires.makes c.desk_row-desk.ensures (ap rows_among first)
+    c.in_ok-push_fields.ensures c.in_ok-push_move.ensures c.in_ok-push_order.ensures aborted c.in_ok-push_own_lines.ensures c.in_ok-push_kept.ensures c.in_ok-push_firm.ensures)

@@ -52,6 +52,7 @@ returns-clause-ok c =
         orders = told.orders;
         lines = told.lines;
         kept = told.kept;
+        firms = told.firms;
       },
     )
 

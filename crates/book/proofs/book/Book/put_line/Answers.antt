@@ -1,6 +1,5 @@
-use Rattle.book.proofs.Prelude.{◌∙◌, Becomes, Contains, Ledger, MayBecome, Name, Order, ap, field_of, find, insert_entry, is_some, line_name, name_cmp, order_of, same_name, subst, sym, true≢false}
-use Rattle.book.proofs.ChangedFields.{line_there, number_of_made, on_ok}
-use Rattle.book.proofs.FieldRows.{made_keeps}
+use Rattle.book.proofs.Prelude.{◌∙◌, Contains, Ledger, Name, Order, ap, field_of, find, insert_entry, is_some, line_name, name_cmp, order_of, same_name, subst, sym, true≢false}
+use Rattle.book.proofs.ChangedFields.{line_there, made_keeps, number_of_made, on_ok}
 use Rattle.book.proofs.StockChanges.{stock_changed, stock_may}
 use Rattle.book.proofs.Viewed.{Contains-of_find}
 use Rattle.book.proofs.book.Book.put_line.Goals as goal
@@ -21,7 +20,7 @@ change_stock-requires c =
     let f : Name = line_name l in
     let e = c.in-Some.entry.now in
     let a = c.requires.accepts in
-    subst (λ h. MayBecome e.quantity h l o.state) (sym c.held_before-held.ensures)
+    rw (c.share_before-before.ensures, c.share_of-after.ensures)
     (stock_may A r c.args.order.now.0 o f e l a.before a.after a.accepted a.range (number_of_made A r.command o a.accepted.1 made) made c.in-Some.ensures.up_to_date
     (subst (λ fs. Contains fs (field_of (f, e))) (sym (made_keeps A r.command o made)) (Contains-of_find (λ g. same_name f g.name) A.fields (field_of (f, e)) c.in-Some.ensures.found)) c.requires.line)
 
@@ -35,7 +34,7 @@ returns-clause-changed c = on_ok c.put.result (λ put changes.
     let f : Name = line_name l in
     let e = c.in-Some.entry.now in
     let a = c.requires.accepts in
-    let becomes = subst (λ h. Becomes e.quantity h l o.state c.change_stock.new.quantity) c.held_before-held.ensures c.change_stock.ensures in
+    let becomes = rw (c.share_before-before.ensures, c.share_of-after.ensures) at c.change_stock.ensures in
     record {
       entry = record { start = e.start; quantity = c.change_stock.new.quantity };
       changed = record {

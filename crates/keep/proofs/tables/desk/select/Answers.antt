@@ -1,11 +1,8 @@
-use Rattle.std.proofs.Common.{sym, subst}
 use Rattle.sqlite.specs.Held.{state}
 use Rattle.sqlite.proofs.StateLemmas.{survives_weaker}
-use Rattle.sqlite.proofs.Callers.{IsPlain, never_commits}
-use Rattle.sqlite.specs.Listing.{understood}
+use Rattle.sqlite.proofs.Callers.{never_commits}
 use Rattle.keep.proofs.Texts.{desk_select}
-use Rattle.keep.proofs.Meanings.{desk_select_plain}
-use Rattle.keep.proofs.Selects.{desk_rows, desk_same}
+use Rattle.keep.proofs.Selects.{desk_plain, desk_rows, desk_same}
 use Rattle.keep.proofs.tables.desk.select.Goals as goal
 
 pub returns-clause-rows : goal.returns-clause-rows
@@ -17,4 +14,4 @@ returns-clause-same g c clean has = desk_same (state g.S.Store c.args.conn.now) 
 pub returns-clause-survives : goal.returns-clause-survives
 returns-clause-survives g c =
     survives_weaker (state g.S.Store c.args.conn.now) (state g.S.Store c.query_all.new.self) _ _
-    (λ _ db commits has. never_commits desk_select _ (state g.S.Store c.args.conn.now) db (subst (λ s. IsPlain (understood s desk_select)) (sym has) desk_select_plain) commits) c.query_all.ensures.survives
+    (λ _ db commits has. never_commits desk_select _ (state g.S.Store c.args.conn.now) db (desk_plain _ has) commits) c.query_all.ensures.survives

@@ -1,7 +1,7 @@
 use Rattle.std.proofs.Common.{All, [], refl, subst}
 use Rattle.std.proofs.lemmas.List.Elements.{All-head}
-use Rattle.book.specs.Rows.{field_cmp, kept_cmp, line_cmp, move_cmp, order_cmp}
-use Rattle.book.specs.Tables.{desk_cells, field_cells, kept_cells, line_cells, move_cells, order_cells}
+use Rattle.book.specs.Rows.{field_cmp, firm_cmp, kept_cmp, line_cmp, move_cmp, order_cmp}
+use Rattle.book.specs.Tables.{desk_cells, field_cells, firm_cells, kept_cells, line_cells, move_cells, order_cells}
 use Rattle.book.specs.declared.rows.Change.{Change}
 use Rattle.keep.specs.Content.{IsTheRow}
 use Rattle.keep.specs.Plain.{row_of}
@@ -43,3 +43,9 @@ put_row-requires-in-Kept-clause-sorted c = sorted_rows kept_cells kept_cmp c.arg
 
 pub returns-in-Kept-clause-put : goal.returns-in-Kept-clause-put
 returns-in-Kept-clause-put c = rw (c.in-Kept.is, c.put_row-in-Kept.ensures.put, put_cells kept_cells kept_cmp c.in-Kept.row c.args.self.now.kept.items) refl
+
+pub put_row-requires-in-Firm-clause-sorted : goal.put_row-requires-in-Firm-clause-sorted
+put_row-requires-in-Firm-clause-sorted c = sorted_rows firm_cells firm_cmp c.args.self.now.firms.items c.requires.order.rows.firms
+
+pub returns-in-Firm-clause-put : goal.returns-in-Firm-clause-put
+returns-in-Firm-clause-put c = rw (c.in-Firm.is, c.put_row-in-Firm.ensures.put, put_cells firm_cells firm_cmp c.in-Firm.row c.args.self.now.firms.items) refl
