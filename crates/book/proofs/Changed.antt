@@ -1,5 +1,5 @@
 -- The rows that an accepted command names, put into the ledger's rows, give the rows of the next ledger.
-use Rattle.book.proofs.Prelude.{[], ◌&&◌, ◌++◌, ◌+◌, ◌==◌, ◌||◌, ◌∙◌, ◌∷◌, ◌≡◌, Aborted, AllZip, Bool, Command, Committed, Content, DeskCells, Each, Equal, Field, FieldCells, FirstFailure, Good, IsFalse, IsFieldRow, IsInRange, IsKey, IsNone, IsRowsOf, IsSomeAnd, IsStrictlySortedBy, IsTotalOrder, Kept, Ledger, Line, LineCells, List, Move, Name, None, OpenLine, Order, OrderCells, Ordering, Plain, Request, State, Transfer, Way, accept, add_hold, ap, arith, bytes_decides, bytes_eq, change_lines, changed_rows, changes_field, changes_line, changes_move, changes_order, checks, committed_state, desk_row, expires, false, field_cmp, filter, flat_map, has_line_on, held_to_add, held_to_take, hold_more, if_add, if_take, if◌then◌else◌, inl, inr, insert_in_order, int_cmp_total, int_eq, ints, is_committed, is_eq, is_lt, is_open, is_some, is_transfer, kept_cmp, kept_row, kept_under, line_cmp, line_name, line_on, line_row, lines_from, list_any, lower_held, map, move_cmp, move_row, moved, name_cmp, name_of, nat_cmp, nat_list_cmp_total, nat_lt, neg_ℤ, new_line, new_order, on, on_total, open_state, order_cmp, order_is, order_lines, order_numbered, order_row, places, pos, put_content, put_rows, raise_held, raise_used, refl, same_name, set_state, settled, signed, slice_cmp, subst, sym, then_total, tied_itself, total, transfer_lines, true, true≢false, with_order, ℕ, ℤ}
+use Rattle.book.proofs.Prelude.{[], ◌&&◌, ◌++◌, ◌+◌, ◌==◌, ◌||◌, ◌∙◌, ◌∷◌, ◌≡◌, Aborted, AllZip, Bool, Command, Committed, Content, DeskCells, Each, Equal, Field, FieldCells, FirmCells, FirstFailure, Good, IsFalse, IsFieldRow, IsInRange, IsKey, IsNone, IsRowsOf, IsSomeAnd, IsStrictlySortedBy, IsTotalOrder, Kept, Ledger, Line, LineCells, List, Move, Name, None, OpenLine, Order, OrderCells, Ordering, Plain, Request, State, Transfer, Way, accept, add_hold, ap, arith, bytes_decides, bytes_eq, change_lines, changed_rows, changes_field, changes_firm, changes_line, changes_move, changes_order, checks, desk_row, expires, false, field_cmp, filter, firm_cmp, firm_row, firm_rows, flat_map, has_line_on, held_to_add, held_to_take, hold_more, if_add, if_take, if◌then◌else◌, inl, inr, insert_in_order, int_cmp_total, int_eq, ints, is_eq, is_lt, is_open, is_settled, is_some, is_transfer, kept_cmp, kept_row, kept_under, line_cmp, line_name, line_on, line_row, lines_from, list_any, lower_held, map, move_cmp, move_row, moved, name_cmp, name_of, nat_cmp, nat_list_cmp_total, nat_lt, neg_ℤ, new_line, new_order, on, on_total, open_state, order_cmp, order_is, order_lines, order_numbered, order_row, places, pos, put_content, put_rows, raise_held, raise_used, refl, same_name, set_firm, set_state, settled, settled_state, signed, slice_cmp, subst, sym, then_total, tied_itself, total, transfer_lines, true, true≢false, unsettled, with_order, ℕ, ℤ}
 use Rattle.words.specs.declared.command.Command.TheVariants as command
 use Rattle.book.specs.Rows.{desk_cmp}
 use Rattle.book.proofs.Sums.{each, each-imp, each-both, each-map, total-kept}
@@ -10,13 +10,12 @@ use Rattle.book.proofs.Goodness.{good_accept}
 use Rattle.book.specs.Next.{with_bounds}
 use Rattle.book.proofs.Growing.{other_way}
 use Rattle.book.proofs.Rebounding.{bounding, bounding_name}
-use Rattle.book.proofs.Puts.{Follows, put_all, follows-same, follows-before, follows-join, follows-map, follows-insert, follows-push}
-use Rattle.book.proofs.InOrder.{fields_sorted, kept_sorted, lines_sorted, moves_sorted, orders_sorted}
-use Rattle.book.proofs.Transfers.{was_open}
+use Rattle.book.proofs.Puts.{Follows, put_all, follows-flat, follows-same, follows-before, follows-join, follows-map, follows-insert, follows-push}
+use Rattle.book.proofs.InOrder.{fields_sorted, firms_sorted, kept_sorted, lines_sorted, moves_sorted, orders_sorted}
 use Rattle.book.proofs.Chosen.{any_none, or_false, or_right}
 use Rattle.book.proofs.Staying.{both_true}
 
--- orders of the six tables
+-- orders of the seven tables
 
 int_same : (z : ℤ) → int_eq z z ≡ true
 int_same z = ap is_eq (tied_itself int_cmp_total z)
@@ -35,6 +34,9 @@ line_cmp_total = then_total (on_total (λ r. r.number) int_cmp_total) (on_total 
 
 kept_cmp_total : IsTotalOrder kept_cmp
 kept_cmp_total = on_total (λ r. r.reqkey) nat_list_cmp_total
+
+firm_cmp_total : IsTotalOrder firm_cmp
+firm_cmp_total = on_total (λ r. r.number) int_cmp_total
 
 -- tests over lists
 
@@ -76,16 +78,13 @@ orders_follow A key (command.Use n b a q) = follows-map order_cmp (λ row. false
 orders_follow A key (command.Release n b a q) = follows-map order_cmp (λ row. false) order_row _ A.orders (each (λ o. as_was order_cmp order_cmp_total (λ row. false) (order_row o) _ (same_order_row (o.number == n) o (change_lines (name_of b a) (lower_held q) o) refl)) A.orders)
 orders_follow A key (command.Commit n) = follows-map order_cmp (λ row. int_eq row.number (pos n)) order_row _ A.orders (each (λ o. order_if (λ row. int_eq row.number (pos n)) (o.number == n) o (set_state Committed o) (λ e. order_chosen (λ row. int_eq row.number (pos n)) Committed o (numbered n o e))) A.orders)
 orders_follow A key (command.Abort n) = follows-map order_cmp (λ row. int_eq row.number (pos n)) order_row _ A.orders (each (λ o. order_if (λ row. int_eq row.number (pos n)) (o.number == n) o (set_state Aborted o) (λ e. order_chosen (λ row. int_eq row.number (pos n)) Aborted o (numbered n o e))) A.orders)
+orders_follow A key (command.Firm n) = follows-map order_cmp (λ row. false) order_row _ A.orders (each (λ o. as_was order_cmp order_cmp_total (λ row. false) (order_row o) _ (same_order_row (o.number == n) o (set_firm o) refl)) A.orders)
 orders_follow A key (command.Expire now) = follows-map order_cmp (λ row. changes_order A (command.Expire now) row.number) order_row _ A.orders
     (each-imp (λ o k. order_if (λ row. changes_order A (command.Expire now) row.number) (expires now o) o (set_state Aborted o) (λ e. order_chosen (λ row. changes_order A (command.Expire now) row.number) Aborted o (k e))) A.orders
     (any_has (λ o. expires now o ≡ true) (λ o p. expires now p && int_eq (pos o.number) (pos p.number)) (λ o e. both_true _ _ e (int_same (pos o.number))) A.orders))
 orders_follow A key c = follows-same order_cmp order_cmp_total _ (map order_row A.orders)
 
 -- lines
-
-follows-flat : (chosen : LineCells → Bool) (h : Order → Order) (os : List Order) → Each (λ o. Follows line_cmp chosen (order_lines o) (order_lines (h o))) os → Follows line_cmp chosen (flat_map order_lines os) (flat_map order_lines (map h os))
-follows-flat chosen h [] f = refl
-follows-flat chosen h (o ∷ os) f = follows-join line_cmp chosen (order_lines o) (order_lines (h o)) (flat_map order_lines os) (flat_map order_lines (map h os)) f.0 (follows-flat chosen h os f.1)
 
 follows-flat_insert : (chosen : LineCells → Bool) (p : Order → Order → Bool) (o : Order) (os : List Order) → Each (λ r. chosen r ≡ true) (order_lines o) → Follows line_cmp chosen (flat_map order_lines os) (flat_map order_lines (insert_in_order p o os))
 follows-flat_insert chosen p o [] h = follows-before line_cmp chosen [] (order_lines o) [] h refl
@@ -124,7 +123,7 @@ keeps_line f change t l same x y e k h = by t (on f l) refl k h
 
 changed_lines : (A : Ledger) (n : ℕ) (f : Name) (change : Line → Line) → ((l : Line) → line_name (change l) ≡ line_name l)
     → Follows line_cmp (λ row. int_eq row.number (pos n) && (order_is A n is_transfer || same_name (name_of row.branch row.article) f)) (flat_map order_lines A.orders) (flat_map order_lines (map (λ o. if o.number == n then change_lines f change o else o) A.orders))
-changed_lines A n f change same = follows-flat _ _ A.orders (each-imp (λ o k. same_lines_if _ (o.number == n) o (change_lines f change o)
+changed_lines A n f change same = follows-flat line_cmp _ order_lines _ A.orders (each-imp (λ o k. same_lines_if _ (o.number == n) o (change_lines f change o)
     (λ e. lines_step _ o.number 1 (λ l. if is_transfer o || on f l then change l else l) o.lines
     (each (λ l nr h. keeps_line f change (is_transfer o) l (same l) (int_eq (pos o.number) (pos n)) (order_is A n is_transfer) (numbered n o e) (λ t. k (e, t)) h) o.lines))) A.orders
     (any_has (λ o. ((o.number == n) ≡ true) × (is_transfer o ≡ true)) (λ o p. p.number == n && is_transfer p) (λ o e. both_true _ _ e.0 e.1) A.orders))
@@ -133,7 +132,7 @@ lines_follow : (A : Ledger) (key : List ℕ) (c : Command) → ((n : ℕ) (l : O
     → Follows line_cmp (λ row. changes_line A c row.number (name_of row.branch row.article)) (flat_map order_lines A.orders) (flat_map order_lines (accept A (record { key = key; command = c })).orders)
 lines_follow A key (command.Open n until lines) m = follows-flat_insert (λ row. int_eq row.number (pos n)) (λ a b. nat_lt a.number b.number) (new_order n Plain until lines) A.orders (new_lines_chosen n 1 (map new_line lines))
 lines_follow A key (command.Transfer n until a from to q) m = follows-flat_insert (λ row. int_eq row.number (pos n)) (λ a b. nat_lt a.number b.number) (new_order n Transfer until (transfer_lines a from to q)) A.orders (new_lines_chosen n 1 (map new_line (transfer_lines a from to q)))
-lines_follow A key (command.More n way b a q) m = follows-flat _ _ A.orders (each-imp (λ o plain. same_lines_if _ (o.number == n) o (add_hold l o) (λ e. held_more o e (plain e) (is_some (line_on o f)))) A.orders (m n l refl))
+lines_follow A key (command.More n way b a q) m = follows-flat line_cmp _ order_lines _ A.orders (each-imp (λ o plain. same_lines_if _ (o.number == n) o (add_hold l o) (λ e. held_more o e (plain e) (is_some (line_on o f)))) A.orders (m n l refl))
   where
     f : Name
     f = name_of b a
@@ -150,10 +149,63 @@ lines_follow A key (command.More n way b a q) m = follows-flat _ _ A.orders (eac
     held_more o e plain false = lines_push _ o.number 1 (new_line l) o.lines (λ nr. both_true _ _ (numbered n o e) (same_self f))
 lines_follow A key (command.Use n b a q) m = changed_lines A n (name_of b a) (raise_used q) (λ l. refl)
 lines_follow A key (command.Release n b a q) m = changed_lines A n (name_of b a) (lower_held q) (λ l. refl)
-lines_follow A key (command.Commit n) m = follows-flat _ _ A.orders (each (λ o. same_lines_if _ (o.number == n) o (set_state Committed o) (λ _. follows-same line_cmp line_cmp_total _ (order_lines o))) A.orders)
-lines_follow A key (command.Abort n) m = follows-flat _ _ A.orders (each (λ o. same_lines_if _ (o.number == n) o (set_state Aborted o) (λ _. follows-same line_cmp line_cmp_total _ (order_lines o))) A.orders)
-lines_follow A key (command.Expire now) m = follows-flat _ _ A.orders (each (λ o. same_lines_if _ (expires now o) o (set_state Aborted o) (λ _. follows-same line_cmp line_cmp_total _ (order_lines o))) A.orders)
+lines_follow A key (command.Commit n) m = follows-flat line_cmp _ order_lines _ A.orders (each (λ o. same_lines_if _ (o.number == n) o (set_state Committed o) (λ _. follows-same line_cmp line_cmp_total _ (order_lines o))) A.orders)
+lines_follow A key (command.Abort n) m = follows-flat line_cmp _ order_lines _ A.orders (each (λ o. same_lines_if _ (o.number == n) o (set_state Aborted o) (λ _. follows-same line_cmp line_cmp_total _ (order_lines o))) A.orders)
+lines_follow A key (command.Firm n) m = follows-flat line_cmp _ order_lines _ A.orders (each (λ o. same_lines_if _ (o.number == n) o (set_firm o) (λ _. follows-same line_cmp line_cmp_total _ (order_lines o))) A.orders)
+lines_follow A key (command.Expire now) m = follows-flat line_cmp _ order_lines _ A.orders (each (λ o. same_lines_if _ (expires now o) o (set_state Aborted o) (λ _. follows-same line_cmp line_cmp_total _ (order_lines o))) A.orders)
 lines_follow A key c m = follows-same line_cmp line_cmp_total _ (flat_map order_lines A.orders)
+
+-- firm orders
+
+marks_insert : (p : Order → Order → Bool) (o : Order) (os : List Order) → o.firm ≡ false → flat_map firm_rows (insert_in_order p o os) ≡ flat_map firm_rows os
+marks_insert p o [] e = rw e refl
+marks_insert p o (m ∷ ms) e = by (p o m) (marks_insert p o ms e)
+  where
+    by : (b : Bool) → flat_map firm_rows (insert_in_order p o ms) ≡ flat_map firm_rows ms → flat_map firm_rows (if b then o ∷ m ∷ ms else m ∷ insert_in_order p o ms) ≡ flat_map firm_rows (m ∷ ms)
+    by true more = rw e refl
+    by false more = ap (λ rows. firm_rows m ++ rows) more
+
+marks_kept : (test : Order → Bool) (change : Order → Order) (os : List Order) → ((o : Order) → firm_rows (change o) ≡ firm_rows o) → flat_map firm_rows (map (λ o. if test o then change o else o) os) ≡ flat_map firm_rows os
+marks_kept test change [] same = refl
+marks_kept test change (o ∷ os) same = ap (λ rows. rows ++ flat_map firm_rows (map (λ o. if test o then change o else o) os)) (by (test o)) ∙ ap (λ rows. firm_rows o ++ rows) (marks_kept test change os same)
+  where
+    by : (b : Bool) → firm_rows (if b then change o else o) ≡ firm_rows o
+    by true = same o
+    by false = refl
+
+held_mark : (l : OpenLine) (o : Order) → firm_rows (add_hold l o) ≡ firm_rows o
+held_mark l o = by (is_some (line_on o (name_of l.branch l.article)))
+  where
+    by : (b : Bool) → firm_rows (if b then hold_more (name_of l.branch l.article) l.qty o else record o { lines = o.lines ++ new_line l ∷ [] }) ≡ firm_rows o
+    by true = refl
+    by false = refl
+
+-- the new row of an order that was not firm; one that was has its row
+marked_follows : (n : ℕ) (o : Order) → (o.number == n) ≡ true → Follows firm_cmp (λ row. int_eq row.number (pos n)) (firm_rows o) (firm_rows (set_firm o))
+marked_follows n o e = by o.firm
+  where
+    by : (b : Bool) → Follows firm_cmp (λ row. int_eq row.number (pos n)) (if b then firm_row o.number ∷ [] else []) (firm_row o.number ∷ [])
+    by true = follows-same firm_cmp firm_cmp_total (λ row. int_eq row.number (pos n)) (firm_row o.number ∷ [])
+    by false = inl (numbered n o e, refl)
+
+follows-if : (chosen : FirmCells → Bool) (b : Bool) (o new : Order) → (b ≡ true → Follows firm_cmp chosen (firm_rows o) (firm_rows new)) → Follows firm_cmp chosen (firm_rows o) (firm_rows (if b then new else o))
+follows-if chosen true o new h = h refl
+follows-if chosen false o new h = follows-same firm_cmp firm_cmp_total chosen (firm_rows o)
+
+marks_follow : (chosen : FirmCells → Bool) (xs ys : List FirmCells) → ys ≡ xs → Follows firm_cmp chosen xs ys
+marks_follow chosen xs ys e = subst (Follows firm_cmp chosen xs) (sym e) (follows-same firm_cmp firm_cmp_total chosen xs)
+
+firms_follow : (A : Ledger) (key : List ℕ) (c : Command) → Follows firm_cmp (λ row. changes_firm c row.number) (flat_map firm_rows A.orders) (flat_map firm_rows (accept A (record { key = key; command = c })).orders)
+firms_follow A key (command.Open n until lines) = marks_follow _ _ _ (marks_insert (λ a b. nat_lt a.number b.number) (new_order n Plain until lines) A.orders refl)
+firms_follow A key (command.Transfer n until a from to q) = marks_follow _ _ _ (marks_insert (λ a b. nat_lt a.number b.number) (new_order n Transfer until (transfer_lines a from to q)) A.orders refl)
+firms_follow A key (command.More n way b a q) = marks_follow _ _ _ (marks_kept (λ o. o.number == n) _ A.orders (held_mark (record { way = way; branch = b; article = a; qty = q })))
+firms_follow A key (command.Use n b a q) = marks_follow _ _ _ (marks_kept (λ o. o.number == n) (change_lines (name_of b a) (raise_used q)) A.orders (λ o. refl))
+firms_follow A key (command.Release n b a q) = marks_follow _ _ _ (marks_kept (λ o. o.number == n) (change_lines (name_of b a) (lower_held q)) A.orders (λ o. refl))
+firms_follow A key (command.Commit n) = marks_follow _ _ _ (marks_kept (λ o. o.number == n) (set_state Committed) A.orders (λ o. refl))
+firms_follow A key (command.Abort n) = marks_follow _ _ _ (marks_kept (λ o. o.number == n) (set_state Aborted) A.orders (λ o. refl))
+firms_follow A key (command.Expire now) = marks_follow _ _ _ (marks_kept (expires now) (set_state Aborted) A.orders (λ o. refl))
+firms_follow A key (command.Firm n) = follows-flat firm_cmp _ firm_rows _ A.orders (each (λ o. follows-if _ (o.number == n) o (set_firm o) (marked_follows n o)) A.orders)
+firms_follow A key c = follows-same firm_cmp firm_cmp_total _ (flat_map firm_rows A.orders)
 
 -- fields
 
@@ -161,40 +213,66 @@ abbrev SameNumbers : Ledger → Ledger → Field → Type 0
 SameNumbers A B f = (settled B f ≡ settled A f) × (held_to_take B f.name ≡ held_to_take A f.name) × (held_to_add B f.name ≡ held_to_add A f.name)
 
 abbrev SameParts : Name → Order → Order → Type 0
-SameParts f o p = ((if is_committed p then moved f (λ l. l.used) p else pos 0) ≡ (if is_committed o then moved f (λ l. l.used) o else pos 0))
-    × ((if is_open p then total (takes f) p.lines else pos 0) ≡ (if is_open o then total (takes f) o.lines else pos 0))
-    × ((if is_open p then total (adds f) p.lines else pos 0) ≡ (if is_open o then total (adds f) o.lines else pos 0))
+SameParts f o p = ((if is_settled p then moved f (λ l. l.used) p else pos 0) ≡ (if is_settled o then moved f (λ l. l.used) o else pos 0))
+    × ((if is_open p then total (takes p.firm f) p.lines else pos 0) ≡ (if is_open o then total (takes o.firm f) o.lines else pos 0))
+    × ((if is_open p then total (adds p.firm f) p.lines else pos 0) ≡ (if is_open o then total (adds o.firm f) o.lines else pos 0))
 
 same_numbers : (A : Ledger) (h : Order → Order) (clock : ℕ) (kept : List Kept) (f : Field) → Each (λ o. SameParts f.name o (h o)) A.orders → SameNumbers A (changed h clock kept A) f
 same_numbers A h clock kept f e =
-    let a = total-kept (λ o. if is_committed o then moved f.name (λ l. l.used) o else pos 0) h A.orders (each-imp (λ o x. x.0) A.orders e) in (
+    let a = total-kept (λ o. if is_settled o then moved f.name (λ l. l.used) o else pos 0) h A.orders (each-imp (λ o x. x.0) A.orders e) in (
       (omega (arith, ints)),
-      total-kept (λ o. if is_open o then total (takes f.name) o.lines else pos 0) h A.orders (each-imp (λ o x. x.1) A.orders e),
-      total-kept (λ o. if is_open o then total (adds f.name) o.lines else pos 0) h A.orders (each-imp (λ o x. x.2) A.orders e),
+      total-kept (λ o. if is_open o then total (takes o.firm f.name) o.lines else pos 0) h A.orders (each-imp (λ o x. x.1) A.orders e),
+      total-kept (λ o. if is_open o then total (adds o.firm f.name) o.lines else pos 0) h A.orders (each-imp (λ o x. x.2) A.orders e),
     )
 
 parts_if : (f : Name) (b : Bool) (o new : Order) → (b ≡ true → SameParts f o new) → SameParts f o (if b then new else o)
 parts_if f b o new h = grind arith
 
-zero_if : (b c : Bool) (z : ℤ) → z ≡ pos 0 → (if b then z else pos 0) ≡ (if c then z else pos 0)
-zero_if b x z e = grind arith
+zero_if : (b c : Bool) (y z : ℤ) → y ≡ pos 0 → z ≡ pos 0 → (if b then y else pos 0) ≡ (if c then z else pos 0)
+zero_if b x y z d e = grind arith
 
-parts_state : (f : Name) (s : State) (o : Order) → has_line_on f o ≡ false → SameParts f o (set_state s o)
-parts_state f s o e = let k = any_none (on f) o.lines e in (
-  zero_if (committed_state s) (is_committed o) _ (none-total f (λ l. signed l.way l.used) o.lines k),
-  zero_if (open_state s) (is_open o) _ (none-total f (λ l. pos (if_take l.way l.held)) o.lines k),
-  zero_if (open_state s) (is_open o) _ (none-total f (λ l. pos (if_add l.way l.held)) o.lines k),
-)
+-- an order without a line on the field has no part in its numbers, whatever its state and its mark
+parts_none : (f : Name) (s : State) (m : Bool) (o : Order) → has_line_on f o ≡ false → SameParts f o (record o { state = s; firm = m })
+parts_none f s m o e =
+    let k = any_none (on f) o.lines e in
+    let used = none-total f (λ l. signed l.way l.used) o.lines k in (
+      zero_if (settled_state s m) (is_settled o) _ _ used used,
+      zero_if (open_state s) (is_open o) _ _ (none-total f (λ l. pos (if_take l.way (unsettled m l l.held))) o.lines k) (none-total f (λ l. pos (if_take l.way (unsettled o.firm l l.held))) o.lines k),
+      zero_if (open_state s) (is_open o) _ _ (none-total f (λ l. pos (if_add l.way (unsettled m l l.held))) o.lines k) (none-total f (λ l. pos (if_add l.way (unsettled o.firm l l.held))) o.lines k),
+    )
 
-parts_lines : (f : Name) (o : Order) (ls : List Line) → is_open o ≡ true → total (takes f) ls ≡ total (takes f) o.lines → total (adds f) ls ≡ total (adds f) o.lines → SameParts f o (record o { lines = ls })
-parts_lines f o ls e t a = (rw (was_open o.state e) refl, ap (λ z. if is_open o then z else pos 0) t, ap (λ z. if is_open o then z else pos 0) a)
+-- what the lines of an open order hold stays, and, where it is firm, what they have moved
+record SameLines (f : Name) (o : Order) (ls : List Line) : Type 0 where
+  open_is : is_open o ≡ true
+  used : o.firm ≡ true → moved f (λ l. l.used) (record o { lines = ls }) ≡ moved f (λ l. l.used) o
+  take : total (takes o.firm f) ls ≡ total (takes o.firm f) o.lines
+  add : total (adds o.firm f) ls ≡ total (adds o.firm f) o.lines
+
+parts_lines : (f : Name) (o : Order) (ls : List Line) → SameLines f o ls → SameParts f o (record o { lines = ls })
+parts_lines f o ls same = (used (is_settled o) (settled_if_firm o.state o.firm same.open_is), ap (λ z. if is_open o then z else pos 0) same.take, ap (λ z. if is_open o then z else pos 0) same.add)
+  where
+    settled_if_firm : (s : State) (firm : Bool) → open_state s ≡ true → settled_state s firm ≡ true → firm ≡ true
+    settled_if_firm s firm e d = grind arith
+
+    used : (b : Bool) → (b ≡ true → o.firm ≡ true) → (if b then moved f (λ l. l.used) (record o { lines = ls }) else pos 0) ≡ (if b then moved f (λ l. l.used) o else pos 0)
+    used true e = same.used (e refl)
+    used false e = refl
 
 -- a line that is not on f holds nothing on it, and still does not once its amounts are changed
 off : (f : Name) (change : Line → Line) (part : Line → ℤ) → ((l : Line) → line_name (change l) ≡ line_name l) → ((l : Line) → on f l ≡ false → part l ≡ pos 0) → (b : Bool) (l : Line) → (b ≡ true → on f l ≡ false) → part (if b then change l else l) ≡ part l
 off f change part same zero_off b l h = grind arith
 
+-- where each part that lines on f alone have stays
+off_lines : (f : Name) (o : Order) (ls : List Line) → is_open o ≡ true → ((part : Line → ℤ) → ((l : Line) → on f l ≡ false → part l ≡ pos 0) → total part ls ≡ total part o.lines) → SameParts f o (record o { lines = ls })
+off_lines f o ls open_is same = parts_lines f o ls (record {
+  open_is = open_is;
+  used = λ _. same (λ l. if on f l then signed l.way l.used else pos 0) (λ l e. rw e refl);
+  take = same (takes o.firm f) (λ l e. rw e refl);
+  add = same (adds o.firm f) (λ l e. rw e refl);
+})
+
 parts_off : (f g : Name) (change : Line → Line) (o : Order) → ((l : Line) → line_name (change l) ≡ line_name l) → is_open o ≡ true → Each (λ l. (is_transfer o || on g l) ≡ true → on f l ≡ false) o.lines → SameParts f o (change_lines g change o)
-parts_off f g change o same open_is h = grind (arith, (total-kept (takes f) (λ l. if is_transfer o || on g l then change l else l) o.lines (each-imp (λ l k. off f change (takes f) same (grind arith) (is_transfer o || on g l) l k) o.lines h)), (total-kept (adds f) (λ l. if is_transfer o || on g l then change l else l) o.lines (each-imp (λ l k. off f change (adds f) same (grind arith) (is_transfer o || on g l) l k) o.lines h)), adds, each-imp, off, parts_lines, takes)
+parts_off f g change o same open_is h = off_lines f o _ open_is (λ part zero. total-kept part (λ l. if is_transfer o || on g l then change l else l) o.lines (each-imp (λ l k. off f change part same zero (is_transfer o || on g l) l k) o.lines h))
 
 apart : (f g : Name) (l : Line) → same_name f g ≡ false → on g l ≡ true → on f l ≡ false
 apart f g l e h = subst (λ n. same_name f n ≡ false) (name_is g (line_name l) h) e
@@ -203,8 +281,20 @@ off_each : (f g : Name) (t : Bool) (ls : List Line) → same_name f g ≡ false 
 off_each f g true ls e h = each-imp (λ l k _. k) ls (any_none (on f) ls h)
 off_each f g false ls e h = each (λ l k. apart f g l e k) ls
 
-use_if : (f g : Name) (q : ℕ) (part : Line → ℤ) → ((l : Line) → part (raise_used q l) ≡ part l) → (b : Bool) (l : Line) → part (if b then raise_used q l else l) ≡ part l
-use_if f g q part h b l = grind arith
+-- a use changes what is held of a firm order alone
+use_parts : (f g : Name) (q : ℕ) (o : Order) → is_open o ≡ true → (o.firm && (same_name f g || (is_transfer o && has_line_on f o))) ≡ false → SameParts f o (change_lines g (raise_used q) o)
+use_parts f g q o open_is h = by o.firm refl h
+  where
+    one : (part : Line → ℤ) → ((l : Line) → part (raise_used q l) ≡ part l) → (b : Bool) (l : Line) → part (if b then raise_used q l else l) ≡ part l
+    one part same true l = same l
+    one part same false l = refl
+
+    kept : (part : Line → ℤ) → ((l : Line) → part (raise_used q l) ≡ part l) → total part (map (λ l. if is_transfer o || on g l then raise_used q l else l) o.lines) ≡ total part o.lines
+    kept part same = total-kept part (λ l. if is_transfer o || on g l then raise_used q l else l) o.lines (each (λ l. one part same (is_transfer o || on g l) l) o.lines)
+
+    by : (m : Bool) → o.firm ≡ m → (m && (same_name f g || (is_transfer o && has_line_on f o))) ≡ false → SameParts f o (change_lines g (raise_used q) o)
+    by true e k = let off_both = or_false _ _ k in parts_off f g (raise_used q) o (λ l. refl) open_is (off_each f g (is_transfer o) o.lines off_both.0 off_both.1)
+    by false e k = parts_lines f o _ (record { open_is = open_is; used = λ t. absurd (true≢false (sym t ∙ e)); take = kept (takes o.firm f) (λ l. rw e refl); add = kept (adds o.firm f) (λ l. rw e refl) })
 
 opened : (A : Ledger) (n : ℕ) → Good A → (IsNone (order_numbered A n) → ⊥) → (IsSomeAnd (order_numbered A n) (λ o. IsFalse (is_open o)) → ⊥) → Each (λ o. (o.number == n) ≡ true → is_open o ≡ true) A.orders
 opened A n g p q = at_number (λ o. is_open o ≡ true) n A.orders g.orders_in_order (grind arith)
@@ -222,8 +312,12 @@ other_move : (A : Ledger) (g : Name) (z : ℤ) (f : Field) (ms : List Move) → 
     → total (λ m. if same_name f.name m.field then m.amount else pos 0) ms ≡ total (λ m. if same_name f.name m.field then m.amount else pos 0) A.moves
 other_move A g z f ms e h = grind (arith, total-push)
 
-hold_parts : (f g : Name) (l : OpenLine) (o : Order) → line_name (new_line l) ≡ g → same_name f g ≡ false → is_open o ≡ true → is_transfer o ≡ false → (b : Bool) → SameParts f o (if b then hold_more g l.qty o else record o { lines = o.lines ++ new_line l ∷ [] })
-hold_parts f g l o i e open_is plain b = grind (arith, adds, apart, each, total-kept, off, parts_lines, takes, total-push)
+hold_parts : (f g : Name) (l : OpenLine) (o : Order) → line_name (new_line l) ≡ g → same_name f g ≡ false → is_open o ≡ true → (b : Bool) → SameParts f o (if b then hold_more g l.qty o else record o { lines = o.lines ++ new_line l ∷ [] })
+hold_parts f g l o i e open_is true = off_lines f o _ open_is (λ part zero. total-kept part (λ m. if on g m then raise_held l.qty m else m) o.lines (each (λ m. off f (raise_held l.qty) part (λ _. refl) zero (on g m) m (λ k. apart f g m e k)) o.lines))
+hold_parts f g l o i e open_is false = off_lines f o _ open_is (λ part zero.
+    let none : part (new_line l) ≡ pos 0 = zero (new_line l) (subst (λ n. same_name f n ≡ false) (sym i) e) in
+    let pushed = total-push part o.lines (new_line l) in
+    omega (arith, ints))
 
 same_field : (A : Ledger) (key : List ℕ) (c : Command) → Good A → FirstFailure (checks A c) None → (f : Field) → changes_field A c f.name ≡ false → SameNumbers A (accept A (record { key = key; command = c })) f
 same_field A key (command.Field b a lo hi start) g h f e = (refl, refl, refl)
@@ -234,27 +328,28 @@ same_field A key (command.Open n until lines) g h f e = other_order A n Plain un
 same_field A key (command.Transfer n until a from to q) g h f e = other_order A n Transfer until (transfer_lines a from to q) f (grind arith)
 same_field A key (command.More n way b a q) g h f e = let p = all_pass (checks A (command.More n way b a q)) h in
     same_numbers A (λ o. if o.number == n then add_hold (record { way = way; branch = b; article = a; qty = q }) o else o) A.clock A.kept f
-    (each-both (λ o x y. parts_if f.name (o.number == n) o (add_hold (record { way = way; branch = b; article = a; qty = q }) o) (λ t. hold_parts f.name (name_of b a) (record { way = way; branch = b; article = a; qty = q }) o refl e (x t) (y t) (is_some (line_on o (name_of b a)))))
-    A.orders (opened A n g p.1.0 p.1.1.0) (plain_there A n way b a q g h))
+    (each-imp (λ o x. parts_if f.name (o.number == n) o (add_hold (record { way = way; branch = b; article = a; qty = q }) o) (λ t. hold_parts f.name (name_of b a) (record { way = way; branch = b; article = a; qty = q }) o refl e (x t) (is_some (line_on o (name_of b a)))))
+    A.orders (opened A n g p.1.0 p.1.1.0))
 same_field A key (command.Use n b a q) g h f e = let p = all_pass (checks A (command.Use n b a q)) h in
     same_numbers A (λ o. if o.number == n then change_lines (name_of b a) (raise_used q) o else o) A.clock A.kept f
-    (each-imp (λ o x. parts_if f.name (o.number == n) o (change_lines (name_of b a) (raise_used q) o) (λ t. parts_lines f.name o _ (x t)
-    (total-kept (takes f.name) (λ l. if is_transfer o || on (name_of b a) l then raise_used q l else l) o.lines (each (λ l. use_if f.name (name_of b a) q (takes f.name) (λ m. refl) (is_transfer o || on (name_of b a) l) l) o.lines))
-    (total-kept (adds f.name) (λ l. if is_transfer o || on (name_of b a) l then raise_used q l else l) o.lines (each (λ l. use_if f.name (name_of b a) q (adds f.name) (λ m. refl) (is_transfer o || on (name_of b a) l) l) o.lines))))
-    A.orders (opened A n g p.1.0 p.1.1.0))
+    (each-both (λ o x y. parts_if f.name (o.number == n) o (change_lines (name_of b a) (raise_used q) o) (λ t. use_parts f.name (name_of b a) q o (x t) (cc)))
+    A.orders (opened A n g p.1.0 p.1.1.0) (any_none (λ o. o.number == n && (o.firm && (same_name f.name (name_of b a) || (is_transfer o && has_line_on f.name o)))) A.orders e))
 same_field A key (command.Release n b a q) g h f e = let p = all_pass (checks A (command.Release n b a q)) h in let k = or_false _ _ e in
     same_numbers A (λ o. if o.number == n then change_lines (name_of b a) (lower_held q) o else o) A.clock A.kept f
     (each-both (λ o x y. parts_if f.name (o.number == n) o (change_lines (name_of b a) (lower_held q) o) (λ t. parts_off f.name (name_of b a) (lower_held q) o (λ m. refl) (x t) (off_each f.name (name_of b a) (is_transfer o) o.lines k.0 (cc))))
     A.orders (opened A n g p.1.0 p.1.1.0) (any_none (λ o. o.number == n && (is_transfer o && has_line_on f.name o)) A.orders k.1))
 same_field A key (command.Commit n) g h f e =
     same_numbers A (λ o. if o.number == n then set_state Committed o else o) A.clock A.kept f
-    (each-imp (λ o y. parts_if f.name (o.number == n) o (set_state Committed o) (λ t. parts_state f.name Committed o (cc))) A.orders (any_none (λ o. o.number == n && has_line_on f.name o) A.orders e))
+    (each-imp (λ o y. parts_if f.name (o.number == n) o (set_state Committed o) (λ t. parts_none f.name Committed o.firm o (cc))) A.orders (any_none (λ o. o.number == n && has_line_on f.name o) A.orders e))
 same_field A key (command.Abort n) g h f e =
     same_numbers A (λ o. if o.number == n then set_state Aborted o else o) A.clock A.kept f
-    (each-imp (λ o y. parts_if f.name (o.number == n) o (set_state Aborted o) (λ t. parts_state f.name Aborted o (cc))) A.orders (any_none (λ o. o.number == n && has_line_on f.name o) A.orders e))
+    (each-imp (λ o y. parts_if f.name (o.number == n) o (set_state Aborted o) (λ t. parts_none f.name Aborted o.firm o (cc))) A.orders (any_none (λ o. o.number == n && has_line_on f.name o) A.orders e))
+same_field A key (command.Firm n) g h f e =
+    same_numbers A (λ o. if o.number == n then set_firm o else o) A.clock A.kept f
+    (each-imp (λ o y. parts_if f.name (o.number == n) o (set_firm o) (λ t. parts_none f.name o.state true o (cc))) A.orders (any_none (λ o. o.number == n && has_line_on f.name o) A.orders e))
 same_field A key (command.Expire now) g h f e =
     same_numbers A (λ o. if expires now o then set_state Aborted o else o) now A.kept f
-    (each-imp (λ o y. parts_if f.name (expires now o) o (set_state Aborted o) (λ t. parts_state f.name Aborted o (cc))) A.orders (any_none (λ o. expires now o && has_line_on f.name o) A.orders e))
+    (each-imp (λ o y. parts_if f.name (expires now o) o (set_state Aborted o) (λ t. parts_none f.name Aborted o.firm o (cc))) A.orders (any_none (λ o. expires now o && has_line_on f.name o) A.orders e))
 
 pub same_field_row : (A B : Ledger) (f : Field) (x y : FieldCells) → Good A → Good B → SameNumbers A B f → IsFieldRow A f x → IsFieldRow B f y → x ≡ y
 same_field_row A B f x y g k s h j =
@@ -348,4 +443,5 @@ changes_suffice A r C D g key range none h x y =
     (lines_follow A r.key r.command (λ n l e. plain_there A n l.way l.branch l.article l.qty g (subst (λ c. FirstFailure (checks A c) None) e h))) in
     let kept = two_tables kept_cmp kept_cmp_total (λ row. bytes_eq row.reqkey r.key) (map kept_row A.kept) (map kept_row B.kept) C.kept D.kept x.kept y.kept (kept_sorted B k)
     (follows-insert kept_cmp kept_cmp_total (λ row. bytes_eq row.reqkey r.key) kept_row (λ a b. is_lt (slice_cmp nat_cmp a.key b.key)) (record { key = r.key; place = places A + 1; command = r.command }) A.kept ((bytes_decides r.key r.key).1 refl)) in
-    λ i. record { desk = desk i; fields = fields i; moves = moves i; orders = orders i; lines = lines i; kept = kept i }
+    let firms = two_tables firm_cmp firm_cmp_total (λ row. changes_firm r.command row.number) (flat_map firm_rows A.orders) (flat_map firm_rows B.orders) C.firms D.firms x.firms y.firms (firms_sorted B.orders k.orders_in_order) (firms_follow A r.key r.command) in
+    λ i. record { desk = desk i; fields = fields i; moves = moves i; orders = orders i; lines = lines i; kept = kept i; firms = firms i }

@@ -1,5 +1,5 @@
 -- Rows that are put in by their keys.
-use Rattle.book.proofs.Prelude.{[], ◌++◌, ◌∙◌, ◌∷◌, ◌≡◌, ◌⊎◌, Bool, Each, Equal, Greater, IsStrictlySortedBy, IsTotalOrder, Less, List, Ordering, ap, arith, false, filter, if◌then◌else◌, inl, inr, insert_in_order, map, ordering_reverse, put_row, put_rows, refl, subst, sym, tied_itself, true}
+use Rattle.book.proofs.Prelude.{[], ◌++◌, ◌∙◌, ◌∷◌, ◌≡◌, ◌⊎◌, Bool, Each, Equal, Greater, IsStrictlySortedBy, IsTotalOrder, Less, List, Ordering, ap, arith, false, filter, flat_map, if◌then◌else◌, inl, inr, insert_in_order, map, ordering_reverse, put_row, put_rows, refl, subst, sym, tied_itself, true}
 use Rattle.book.proofs.Sums.{each-imp}
 
 -- Row by row, the second list has the first one's rows, with new ones between; what is not chosen is as it was.
@@ -70,3 +70,8 @@ follows-insert cmp o chosen row p x (y ∷ ys) e = let more = follows-insert cmp
 pub follows-push : {X R : Type 0} (cmp : R → R → Ordering) → IsTotalOrder cmp → (chosen : R → Bool) (row : X → R) (x : X) (xs : List X) → chosen (row x) ≡ true → Follows cmp chosen (map row xs) (map row (xs ++ x ∷ []))
 follows-push cmp o chosen row x [] e = inl (e, refl)
 follows-push cmp o chosen row x (y ∷ ys) e = inr (row y, map row ys, refl, tied_itself o (row y), (λ _. refl), follows-push cmp o chosen row x ys e)
+
+-- some rows for each element
+pub follows-flat : {X R : Type 0} (cmp : R → R → Ordering) (chosen : R → Bool) (rows : X → List R) (h : X → X) (xs : List X) → Each (λ x. Follows cmp chosen (rows x) (rows (h x))) xs → Follows cmp chosen (flat_map rows xs) (flat_map rows (map h xs))
+follows-flat cmp chosen rows h [] f = refl
+follows-flat cmp chosen rows h (x ∷ xs) f = follows-join cmp chosen (rows x) (rows (h x)) (flat_map rows xs) (flat_map rows (map h xs)) f.0 (follows-flat cmp chosen rows h xs f.1)
