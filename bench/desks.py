@@ -7,10 +7,10 @@ from math import isqrt
 
 from model import ADD, PLAIN, TAKE, Desk
 
-KINDS = ["ask", "deliver", "open", "use", "release", "commit", "abort", "rebound", "expire"]
+KINDS = ["ask", "deliver", "open", "use", "release", "commit", "abort", "firm", "rebound", "expire"]
 
 # how often each of the other commands comes while a desk is made
-OTHERS = {"deliver": 4, "writeoff": 3, "use": 4, "release": 2, "more": 2}
+OTHERS = {"deliver": 4, "writeoff": 3, "use": 4, "release": 2, "more": 2, "firm": 3}
 
 # the sizes: places that are taken, and one set aside for each open order
 SMALLEST = 1_000
@@ -144,19 +144,23 @@ class Maker:
         return step
 
     def end(self):
-        """Of five endings three are commits."""
-        verb = "commit" if self.random.random() < 0.6 else "abort"
-        return self.desk.end(self.key(), verb, self.take_out(lambda order: True))
+        """Of five endings of orders that are not firm three are commits."""
+        order = self.take_out(lambda order: True)
+        verb = "commit" if order.is_firm or self.random.random() < 0.6 else "abort"
+        return self.desk.end(self.key(), verb, order)
 
     def other(self):
         [verb] = self.random.choices(list(OTHERS), OTHERS.values())
-        if verb == "more":
+        if verb == "firm" and any(map(is_soft, self.pool)):
+            return self.desk.firm(self.key(), self.pick(is_soft))
+        if verb == "more" and any(map(may_hold_more, self.pool)):
             return self.more()
-        return self.small(verb, lambda order: True)
+        # where no order fits it is a delivery
+        return self.small("deliver" if verb in ("firm", "more") else verb, lambda order: True)
 
     def more(self):
         """Of four, three hold more on a line that is there."""
-        order = self.pick(lambda order: order.kind == PLAIN)
+        order = self.pick(may_hold_more)
         if self.random.random() < 0.75:
             line = self.random.choice(order.lines)
             return self.desk.more(self.key(), order, line.way, line.field, self.quantity())
@@ -190,7 +194,7 @@ class Maker:
         return self.pool.pop()
 
     def timed(self, kind):
-        """One more command of a kind. Those on an order are on plain ones of four lines."""
+        """One more command of a kind. Those on an order are on plain ones of four lines that are not firm."""
         if kind == "ask":
             return self.desk.ask(self.field())
         if kind == "open":
@@ -199,13 +203,24 @@ class Maker:
             return self.desk.rebound(self.key(), self.field(), HI - self.quantity())
         if kind in ("commit", "abort"):
             return self.desk.end(self.key(), kind, self.take_out(has_four_lines))
+        if kind == "firm":
+            return self.desk.firm(self.key(), self.pick(has_four_lines))
         if kind == "expire":
             return self.desk.expire(self.key(), self.soon.pop(0).until)
         return self.small(kind, has_four_lines)
 
 
+def is_soft(order):
+    """Whether it may still be aborted."""
+    return not order.is_firm
+
+
+def may_hold_more(order):
+    return order.kind == PLAIN and is_soft(order)
+
+
 def has_four_lines(order):
-    return order.kind == PLAIN and len(order.lines) == 4
+    return may_hold_more(order) and len(order.lines) == 4
 
 
 @dataclass
@@ -226,7 +241,8 @@ def answers_of(kept):
 
 
 def count(desk):
-    places = {"places": len(desk.kept), "open": len(desk.open), "fields": len(desk.fields)}
+    firms = sum(order.is_firm for order in desk.orders)
+    places = {"places": len(desk.kept), "open": len(desk.open), "firm": firms, "fields": len(desk.fields)}
     return {**places, "orders": len(desk.orders), "lines": len(desk.lines), "moves": len(desk.moves)}
 
 

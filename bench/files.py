@@ -12,10 +12,18 @@ try:
 except ImportError:
     sqlite3 = None
 
-KEYS = {"desk": "one", "field": "branch, article", "move": "place", "orders": "number", "line": "number, nr", "kept": "reqkey"}
+KEYS = {
+    "desk": "one",
+    "field": "branch, article",
+    "move": "place",
+    "orders": "number",
+    "line": "number, nr",
+    "kept": "reqkey",
+    "firm": "number",
+}
 
 # a desk of another version is told by the table that is read first
-OTHER_VERSION = ["UPDATE desk SET version = 2"]
+OTHER_VERSION = ["UPDATE desk SET version = 3"]
 
 # no good rows, in the first of the tables that the ledger looks at, whichever that is
 NO_GOOD_ROWS = [

@@ -9,7 +9,7 @@ OPEN, COMMITTED, ABORTED = range(3)
 TAKE, ADD = range(2)
 WAYS = ["take", "add"]
 ENDINGS = {"commit": COMMITTED, "abort": ABORTED}
-TABLES = ["desk", "field", "move", "orders", "line", "kept"]
+TABLES = ["desk", "field", "move", "orders", "line", "kept", "firm"]
 
 
 @dataclass(slots=True, eq=False)
@@ -65,11 +65,16 @@ class Line:
         self.held += quantity
         self.field.hold(self.way, quantity)
 
-    def end(self, state):
-        """Gives back what is held; at a commit, what was used moves the field."""
-        self.field.hold(self.way, -self.held)
-        if state == COMMITTED:
-            self.field.move(self.used if self.way == ADD else -self.used)
+    def settle(self, quantity):
+        """That much of what was used no longer comes back: it moves the field, and is held no more."""
+        self.field.hold(self.way, -quantity)
+        self.field.move(quantity if self.way == ADD else -quantity)
+
+    def end(self, state, is_firm):
+        """Gives back what is held, at a commit but for what was used, which a firm order has settled before."""
+        if state == COMMITTED and not is_firm:
+            self.settle(self.used)
+        self.field.hold(self.way, -(self.spare() if state == COMMITTED else self.held))
 
 
 @dataclass(slots=True, eq=False)
@@ -81,6 +86,7 @@ class Order:
     until: int
     state: int
     lines: list
+    is_firm: bool = False
 
     def row(self):
         return ("orders", self.number, self.kind, self.until, self.state)
@@ -95,7 +101,7 @@ class Order:
     def end(self, state):
         self.state = state
         for line in self.lines:
-            line.end(state)
+            line.end(state, self.is_firm)
 
 
 @dataclass(slots=True)
@@ -120,20 +126,21 @@ class Desk:
         self.open = {}
 
     def row(self):
-        return ("desk", 1, 1, self.clock, len(self.kept))
+        return ("desk", 1, 2, self.clock, len(self.kept))
 
     def rows(self):
         """All rows by their table, those of each in the order in which they came."""
         entries = [self.fields, self.orders, self.lines]
         fields, orders, lines = [[entry.row() for entry in these] for these in entries]
-        return dict(zip(TABLES, [[self.row()], fields, self.moves, orders, lines, self.kept]))
+        firms = [("firm", order.number) for order in self.orders if order.is_firm]
+        return dict(zip(TABLES, [[self.row()], fields, self.moves, orders, lines, self.kept, firms]))
 
-    def keep(self, key, words, fields=(), others=()):
+    def keep(self, key, words, fields=(), others=(), last=()):
         """Keeps the command under its key. Its rows are in the order in which the program puts them in."""
         place = len(self.kept) + 1
         kept = ("kept", key, place, words)
         self.kept.append(kept)
-        rows = [self.row(), *sorted(field.row() for field in fields), *others, kept]
+        rows = [self.row(), *sorted(field.row() for field in fields), *others, kept, *last]
         return Step(f"{key} {words}", f"{key} done {place}", rows)
 
     def ask(self, field):
@@ -193,8 +200,11 @@ class Desk:
         lines = order.together(line)
         for each in lines:
             each.used += quantity
+            if order.is_firm:
+                each.settle(quantity)
         words = f"use {order.number} {line.field.name()} {quantity}"
-        return self.keep(key, words, [], [each.row() for each in lines])
+        fields = [each.field for each in lines] if order.is_firm else []
+        return self.keep(key, words, fields, [each.row() for each in lines])
 
     def release(self, key, order, line, quantity):
         lines = order.together(line)
@@ -202,6 +212,13 @@ class Desk:
             each.hold(-quantity)
         words = f"release {order.number} {line.field.name()} {quantity}"
         return self.keep(key, words, [each.field for each in lines], [each.row() for each in lines])
+
+    def firm(self, key, order):
+        """An order is no longer to be aborted: what it has used is settled."""
+        order.is_firm = True
+        for line in order.lines:
+            line.settle(line.used)
+        return self.keep(key, f"firm {order.number}", order.fields(), last=[("firm", order.number)])
 
     def end(self, key, verb, order):
         """A commit or an abort."""
@@ -211,7 +228,8 @@ class Desk:
 
     def expire(self, key, now):
         self.clock = now
-        ended = sorted((order for order in self.open.values() if order.until <= now), key=lambda order: order.number)
+        late = [order for order in self.open.values() if order.until <= now and not order.is_firm]
+        ended = sorted(late, key=lambda order: order.number)
         for order in ended:
             order.end(ABORTED)
             del self.open[order.number]

@@ -28,6 +28,7 @@ NAMES = {
     "release": "release",
     "commit": "commit of four lines",
     "abort": "abort of four lines",
+    "firm": "four lines made firm",
     "expire": "expiry of one order",
 }
 
@@ -121,7 +122,7 @@ def head(program, file_system, library, rounds, batch):
 
 
 def desks(found):
-    heads = ["size", "places taken", "open orders", "fields", "orders", "lines", "moves", "file, MiB"]
+    heads = ["size", "places taken", "open orders", "firm ones", "fields", "orders", "lines", "moves", "file, MiB"]
     rows = [
         [f"{size:,}", *(f"{value:,}" for value in found.counts[size].values()), mebibytes(found.bytes[size])]
         for size in found.sizes

@@ -22,18 +22,18 @@ COMMANDS = [
     f"transfer {ORDER} {MOMENT} {ARTICLE} {BRANCH} {BRANCH} {QUANTITY}",
     f"more {ORDER} {HELD} {QUANTITY}",
     f"(?:use|release) {ORDER} {FIELD} {QUANTITY}",
-    f"(?:commit|abort) {ORDER}",
+    f"(?:commit|abort|firm) {ORDER}",
     f"expire {MOMENT}",
 ]
 
 # a refusal's name stands at its code
 REFUSALS = """- KeyReused Full FieldThere NoField BadBounds OrderThere NoOrder Ended Past SameField OtherWay TooManyLines
-    TooLittle TooMuch NotHeld OverUse TransferFixed ClockBack - BadCommand""".split()
+    TooLittle TooMuch NotHeld OverUse TransferFixed ClockBack Firm BadCommand""".split()
 REFUSED = "|".join(f"{code} {name}" for code, name in enumerate(REFUSALS) if name not in ("-", "BadCommand"))
 OUTCOME = f"(?:done {PLACE}|refused (?:{REFUSED}) (?:[0-9]|[1-5][0-9]|6[0-4]))"
 VIEWS = [
     rf"\? field {FIELD} lo {LEVEL} hi {LEVEL} value {LEVEL} inf {LEVEL} sup {LEVEL}",
-    rf"\? order {ORDER} (?:plain|transfer) {MOMENT} (?:open|committed|aborted)(?: {HELD} {LEVEL} {LEVEL}){{1,64}}",
+    rf"\? order {ORDER} (?:plain|transfer) {MOMENT} (?:open|firm|committed|aborted)(?: {HELD} {LEVEL} {LEVEL}){{1,64}}",
 ]
 
 

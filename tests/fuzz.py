@@ -2,7 +2,8 @@
 script of 50 lines, a file of requests, ten streams of HTTP messages and a damaged database file. It holds what the rules say
 of any input: the program ends by itself, as its table of statuses says; each line, record and message is answered in its
 form; a stream in pieces is answered as the whole stream is; a file that was not opened stays as it was, but that its log may
-be copied into it; and every file that was has the sums of a desk. Rounds are played in blocks of 100, each on new desks and from a seed of its own."""
+be copied into it; an upgrade leaves all rows but the version; and every file that was opened has the sums of a desk. Rounds are
+played in blocks of 100, each on new desks and from a seed of its own."""
 
 import contextlib
 import os
@@ -32,9 +33,11 @@ REQUEST_FILES = [
     ("bounds", ["key", "branch", "article", "lo", "hi"]),
 ]
 
-# how a run ends on a file that is opened, and on one that is not
+# how a run ends on a file that is opened, how an upgrade ends that is none, and how a run ends on a file that is not opened
 OPENED = [(0, b""), (1, b"stockdesk: store\n")]
-NOT_OPENED = [(1, b"stockdesk: store\n"), (3, b"stockdesk: not a desk\n"), (3, b"stockdesk: damaged\n")]
+NOT_UPGRADED = [(1, b"stockdesk: store\n"), (3, b"stockdesk: not a desk\n")]
+OLD_VERSION = (3, b"stockdesk: old version\n")
+NOT_OPENED = [*NOT_UPGRADED, OLD_VERSION, (3, b"stockdesk: damaged\n")]
 
 
 def played(program, words, text):
@@ -67,6 +70,32 @@ def read(path):
         return rows_of(path)
     except sqlite3.Error as fault:
         return str(fault)
+
+
+def copied(file, copy):
+    """Copies the file, and its log where one lies beside it."""
+    for end in ["", "-wal"]:
+        if os.path.exists(file + end):
+            shutil.copyfile(file + end, copy + end)
+
+
+def expect_same(file, copy):
+    """The file is as its copy, but that its log may be copied into it."""
+    same = bytes_of(file) == bytes_of(copy) or os.path.exists(f"{copy}-wal") and read(file) == read(copy)
+    expect(same, f"{file} was changed")
+
+
+def others_of(path):
+    """The rows of the file but for that of the desk, or how another SQLite fails to read them."""
+    rows = read(path)
+    return rows if isinstance(rows, str) else [row for row in rows if not row.startswith("desk|")]
+
+
+def removed(*paths):
+    for path in paths:
+        for end in ["", "-wal"]:
+            with contextlib.suppress(FileNotFoundError):
+                os.remove(path + end)
 
 
 class Block:
@@ -151,9 +180,11 @@ class Block:
     def row_changed(self, path):
         """One row of the file is taken out, or one of its columns has another value."""
         draw = self.inputs.random
-        table = draw.choice(list(COLUMNS))
-        column = draw.choice(COLUMNS[table])
         with contextlib.closing(sqlite3.connect(path)) as database:
+            tables = {name for (name,) in database.execute("SELECT name FROM sqlite_schema WHERE type = 'table'")}
+            # one of version 1 lacks the last
+            table = draw.choice([name for name in COLUMNS if name in tables])
+            column = draw.choice(COLUMNS[table])
             rows = database.execute(f"SELECT rowid, {column} FROM {table}").fetchall()
             if not rows:
                 return
@@ -181,16 +212,34 @@ class Block:
             with open(f"{path}-wal", "wb") as file:
                 file.write(self.inputs.damaged(log) if kind >= 0.5 else log)
 
+    def upgraded(self, base):
+        path = shutil.copy(base, self.folder)
+        expect(played(self.program, ["upgrade", path], b"") == (0, b"", b""), f"{base} was not upgraded")
+        return path
+
+    def upgrade(self, file, copy):
+        """Upgrades a damaged file: whether that was done."""
+        copied(file, copy)
+        status, out, errors = played(self.program, ["upgrade", file], b"")
+        if status == 0:
+            expect((out, errors) == (b"", b""), f"{file}: {out}, {errors}")
+            expect(others_of(file) == others_of(copy), f"{file}: other rows")
+        else:
+            expect(out == b"" and (status, errors) in NOT_UPGRADED, f"{file}: status {status}, {out}, {errors}")
+            expect_same(file, copy)
+        removed(copy)
+        return status == 0
+
     def databases(self, path):
         """Counts how many of the damaged files were opened."""
-        bases = [path, self.session_killed(path), *(os.path.join(FILES, f"{name}.db") for name in ["long", "transfer", "many"])]
+        older = [os.path.join(FILES, f"{name}.db") for name in ["long", "transfer", "many"]]
+        bases = [path, self.session_killed(path), *older, *(self.upgraded(base) for base in older)]
         opened = 0
         for number in range(BLOCK):
             file, copy = (os.path.join(self.folder, f"{name}{number}.db") for name in ["damaged", "copy"])
             self.damage(file, bases)
-            for end in ["", "-wal"]:
-                if os.path.exists(file + end):
-                    shutil.copyfile(file + end, copy + end)
+            is_new = self.inputs.chance(0.3) and self.upgrade(file, copy)
+            copied(file, copy)
             script = b"? order 1\n" + self.inputs.script(LINES // 5)
             status, out, errors = played(self.program, ["run", file], script)
             if out:
@@ -201,11 +250,9 @@ class Block:
                 expect_sums(file, file)
             else:
                 expect((status, errors) in NOT_OPENED, f"{file}: status {status}, {errors}")
-                same = bytes_of(file) == bytes_of(copy) or os.path.exists(f"{copy}-wal") and read(file) == read(copy)
-                expect(same, f"{file} was changed")
-            for left in [file, copy, f"{file}-wal", f"{copy}-wal"]:
-                with contextlib.suppress(FileNotFoundError):
-                    os.remove(left)
+                expect(not is_new or (status, errors) != OLD_VERSION, f"{file}: old behind its upgrade")
+                expect_same(file, copy)
+            removed(file, copy)
         return opened
 
     def play(self):

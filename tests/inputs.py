@@ -3,7 +3,7 @@
 import json
 import random
 
-VERBS = ["field", "deliver", "writeoff", "rebound", "open", "open", "transfer", "more", "use", "use", "release", "commit", "abort"]
+VERBS = "field deliver writeoff rebound open open transfer more use use release firm commit abort".split()
 # numbers at an edge of some range, and words that are no numbers
 EDGES = "0 1 64 1000000 1000001 999999999 1000000000 1000000001 4000000000 4000000001 9223372036854775808".split()
 NO_NUMBERS = ["", "01", "-1", "+1", "1.0", "1e3", " 1", "one", "\u0661"]
@@ -20,6 +20,7 @@ class Inputs:
     def __init__(self, seed):
         self.random = random.Random(seed)
         self.orders = 0
+        self.held = {}
         self.now = 0
 
     def chance(self, share):
@@ -46,6 +47,9 @@ class Inputs:
         return str(max(1, self.orders - int(self.random.expovariate(0.1)))) if self.chance(0.98) else self.number(100)
 
     def until(self):
+        """Soon, or so late that it has not come where a changed line has moved the clock far."""
+        if self.chance(0.3):
+            return str(self.random.randint(3_000_000_000, 4_000_000_000))
         return str(self.now + self.random.randint(1, 100)) if self.chance(0.9) else self.number(1000)
 
     def way(self):
@@ -70,12 +74,18 @@ class Inputs:
             return f"{verb} {field} {quantity}"
         if verb in ("open", "transfer"):
             self.orders += 1
-            pair = f"{self.article()} {self.branch()} {self.branch()} {quantity}"
-            return f"{verb} {self.orders} {self.until()} {' '.join(self.lines()) if verb == 'open' else pair}"
-        if verb in ("commit", "abort"):
+            branch, article = field.split(" ")
+            lines, pair = self.lines(), f"{article} {branch} {self.branch()} {quantity}"
+            fields = [line.split(" ", 1)[1].rsplit(" ", 1)[0] for line in lines]
+            self.held[str(self.orders)] = fields if verb == "open" else [field]
+            return f"{verb} {self.orders} {self.until()} {' '.join(lines) if verb == 'open' else pair}"
+        if verb in ("firm", "commit", "abort"):
             return f"{verb} {self.order()}"
-        way = f"{self.way()} " if verb == "more" else ""
-        return f"{verb} {self.order()} {way}{field} {quantity}"
+        way, number = f"{self.way()} " if verb == "more" else "", self.order()
+        if number in self.held and self.chance(0.7):
+            # one that the order holds something of
+            field, quantity = self.random.choice(self.held[number]), self.number(10)
+        return f"{verb} {number} {way}{field} {quantity}"
 
     def view(self):
         return f"field {self.branch()} {self.article()}" if self.chance(0.5) else f"order {self.order()}"

@@ -13,6 +13,7 @@ FIRST = '{"command":"field N1 A-1 0 100 40","key":"K1"}'
 NONE = '{"error":"none"}'
 STOPPED = '{"error":"stopped"}'
 UNREADABLE = '{"error":"message"}'
+FIRM = '{"code":19,"line":0,"refused":"Firm"}'
 BAD_COMMAND = '{"code":20,"line":0,"refused":"BadCommand"}'
 
 REASONS = {
@@ -57,12 +58,26 @@ WORKED = [
         '{"kind":"plain","lines":[{"article":"A-1","branch":"N1","held":35,"used":0,"way":"take"}],'
         '"number":8,"state":"open","until":120}',
     ),
+    # an order that is firm is shown so, and is not aborted
+    (COMMANDS, '{"command":"firm 8","key":"K5"}', 200, '{"place":3}'),
+    (
+        "GET /v1/orders/8",
+        "",
+        200,
+        '{"kind":"plain","lines":[{"article":"A-1","branch":"N1","held":35,"used":0,"way":"take"}],'
+        '"number":8,"state":"firm","until":120}',
+    ),
+    (COMMANDS, '{"command":"abort 8","key":"K6"}', 409, FIRM),
+    (COMMANDS, '{"command":"firm 8","key":"K6"}', 409, FIRM),
+    (COMMANDS, '{"command":"more 8 take N1 A-1 1","key":"K6"}', 409, FIRM),
+    (COMMANDS, '{"command":"firm 08","key":"K6"}', 400, BAD_COMMAND),
+    (COMMANDS, '{"command":"use 8 N1 A-1 12","key":"K6"}', 200, '{"place":4}'),
     # the body of a view is not looked at
     (
         "GET /v1/fields/N1/A-1",
         FIRST,
         200,
-        '{"article":"A-1","branch":"N1","hi":100,"inf":5,"lo":0,"sup":40,"value":40}',
+        '{"article":"A-1","branch":"N1","hi":100,"inf":5,"lo":0,"sup":28,"value":28}',
     ),
     # targets that lead nowhere, and other methods
     ("GET /v1/sheets/n1", "", 404, NONE),
@@ -80,7 +95,14 @@ WORKED = [
     (COMMANDS, "", 400, BAD_COMMAND),
     (COMMANDS, '{"command":"field N1 A-1 0 100 40","key":"K1","more":1}', 400, BAD_COMMAND),
     # the last of two members counts, and an escape stands for its character
-    (COMMANDS, '{"command":"no","command":"commit\\u00208","key":"K5"}', 200, '{"place":3}'),
+    (COMMANDS, '{"command":"no","command":"commit\\u00208","key":"K7"}', 200, '{"place":5}'),
+    (
+        "GET /v1/orders/8",
+        "",
+        200,
+        '{"kind":"plain","lines":[{"article":"A-1","branch":"N1","held":35,"used":12,"way":"take"}],'
+        '"number":8,"state":"committed","until":120}',
+    ),
     (COMMANDS, '{"command":"commit 8","key":5}', 400, BAD_COMMAND),
 ]
 

@@ -60,6 +60,8 @@ NO_TASK = [
     ["bounds", "usage.db"],
     ["sheet", "usage.db"],
     ["article", "usage.db"],
+    ["upgrade"],
+    ["upgrade", "usage.db", "more"],
     ["serve", "usage.db"],
     ["serve", "usage.db", "--port", "0"],
     ["serve", "usage.db", "--connections", "1"],
@@ -73,7 +75,7 @@ NO_TASK = [
 
 # of what each help tells in a line
 HELP = [
-    (["--help"], ["init", "run", "orders", "deliveries", "bounds", "sheet", "article", "serve"]),
+    (["--help"], ["init", "run", "orders", "deliveries", "bounds", "sheet", "article", "serve", "upgrade"]),
     (["init", "--help"], ["FILE"]),
     (["run", "--help"], ["FILE"]),
     (["orders", "--help"], ["FILE", "CSV"]),
@@ -82,6 +84,7 @@ HELP = [
     (["sheet", "--help"], ["FILE", "BRANCH"]),
     (["article", "--help"], ["FILE", "ARTICLE"]),
     (["serve", "--help"], ["FILE", "--port", "--connections"]),
+    (["upgrade", "--help"], ["FILE"]),
 ]
 
 # files with bytes that are no desk, and what a run on them ends with
@@ -92,25 +95,28 @@ T2 field N2 A-1 0 50 5
 T3 transfer 20 900 A-1 N1 N2 10
 T4 use 20 N2 A-1 4
 T5 more 20 take N1 A-1 1
+F1 firm 20
 T6 commit 20
 D1 deliver N1 A-1 3
 """
 
 # what the rules say that each table holds after that script
 ROWS = {
-    "desk": [(1, 1, 0, 6)],
+    "desk": [(1, 2, 0, 7)],
     "field": [("N1", "A-1", 0, 100, 40, 39, 39, 39), ("N2", "A-1", 0, 50, 5, 9, 9, 9)],
-    "move": [(6, "N1", "A-1", 3)],
+    "move": [(7, "N1", "A-1", 3)],
     "orders": [(20, 1, 900, 1)],
     "line": [(20, 1, "N1", "A-1", 0, 10, 4), (20, 2, "N2", "A-1", 1, 10, 4)],
     "kept": [
-        ("D1", 6, "deliver N1 A-1 3"),
+        ("D1", 7, "deliver N1 A-1 3"),
+        ("F1", 5, "firm 20"),
         ("T1", 1, "field N1 A-1 0 100 40"),
         ("T2", 2, "field N2 A-1 0 50 5"),
         ("T3", 3, "transfer 20 900 A-1 N1 N2 10"),
         ("T4", 4, "use 20 N2 A-1 4"),
-        ("T6", 5, "commit 20"),
+        ("T6", 6, "commit 20"),
     ],
+    "firm": [(20,)],
 }
 
 
@@ -312,7 +318,7 @@ def test_an_empty_script_changes_nothing(program, folder):
     path = new_desk(program, folder)
     expect_end(program, ["run", path], (0, b"", b""), text="")
     if sqlite3 is not None:
-        expect(rows_of(path) == ["desk|1|1|0|0"], "other rows")
+        expect(rows_of(path) == ["desk|1|2|0|0"], "other rows")
 
 
 def test_older_files_are_read(program, folder):

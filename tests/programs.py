@@ -23,10 +23,11 @@ COLUMNS = {
     "orders": ["number", "kind", "until", "state"],
     "line": ["number", "nr", "branch", "article", "way", "held", "used"],
     "kept": ["reqkey", "place", "words"],
+    "firm": ["number"],
 }
 
 # how many columns of each table are its key
-KEYS = {"desk": 1, "field": 2, "move": 1, "orders": 1, "line": 2, "kept": 1}
+KEYS = {"desk": 1, "field": 2, "move": 1, "orders": 1, "line": 2, "kept": 1, "firm": 1}
 
 
 def say(text):
@@ -108,10 +109,13 @@ def new_desk(program, folder, name="desk.db"):
 
 
 def rows_of(path):
-    """The rows of all tables in the order of their keys, each as a line that begins with its table."""
+    """The rows of all tables in the order of their keys, each as a line that begins with its table. A desk of version 1 has all
+    tables but the last."""
     database = sqlite3.connect(path)
     rows = []
     for table, columns in COLUMNS.items():
+        if table == "firm" and rows and rows[0].split("|")[2] == "1":
+            break
         order = ", ".join(columns[: KEYS[table]])
         for row in database.execute(f"SELECT {', '.join(columns)} FROM {table} ORDER BY {order}"):
             rows.append("|".join([table, *map(str, row)]))

@@ -85,6 +85,105 @@ RELEASE = [
     ("P13 use 5 N1 A-1 1", "P13 refused 8 Ended 0"),
 ]
 
+# an order that is firm from some moment on: what it has used is settled, and it only ends by its commit
+FIRM = [
+    ("H1 field N1 A-1 0 50 40", "H1 done 1"),
+    ("H2 open 7 120 take N1 A-1 15", "H2 done 2"),
+    ("? field N1 A-1", "? field N1 A-1 lo 0 hi 50 value 40 inf 25 sup 40"),
+    ("H3 use 7 N1 A-1 10", "H3 done 3"),
+    ("? field N1 A-1", "? field N1 A-1 lo 0 hi 50 value 40 inf 25 sup 40"),
+    ("H4 deliver N1 A-1 20", "H4 refused 14 TooMuch 0"),
+    ("H5 firm 7", "H5 done 4"),
+    ("? field N1 A-1", "? field N1 A-1 lo 0 hi 50 value 30 inf 25 sup 30"),
+    ("H6 firm 7", "H6 refused 19 Firm 0"),
+    ("H7 abort 7", "H7 refused 19 Firm 0"),
+    ("H8 more 7 take N1 A-1 1", "H8 refused 19 Firm 0"),
+    # whatever else is wrong with it
+    ("H8 more 7 add N1 B-9 1", "H8 refused 19 Firm 0"),
+    ("H4 deliver N1 A-1 20", "H4 done 5"),
+    ("? field N1 A-1", "? field N1 A-1 lo 0 hi 50 value 50 inf 45 sup 50"),
+    ("H9 expire 120", "H9 done 6"),
+    ("? order 7", "? order 7 plain 120 firm take N1 A-1 15 10"),
+    ("H10 use 7 N1 A-1 2", "H10 done 7"),
+    ("? field N1 A-1", "? field N1 A-1 lo 0 hi 50 value 48 inf 45 sup 48"),
+    ("H11 use 7 N1 A-1 4", "H11 refused 16 OverUse 0"),
+    ("H11 commit 7", "H11 done 8"),
+    ("? field N1 A-1", "? field N1 A-1 lo 0 hi 50 value 48 inf 48 sup 48"),
+    ("? order 7", "? order 7 plain 120 committed take N1 A-1 15 12"),
+    ("H12 firm 7", "H12 refused 8 Ended 0"),
+    ("H12 abort 7", "H12 refused 8 Ended 0"),
+    ("H12 more 7 take N1 A-1 1", "H12 refused 8 Ended 0"),
+    ("H13 firm 8", "H13 refused 7 NoOrder 0"),
+    ("H5 firm 7", "H5 done 4"),
+    ("H5 firm 8", "H5 refused 1 KeyReused 0"),
+]
+
+# one that takes and adds, with bounds that its uses bring nearer or farther, beside one that is not firm
+FIRM_LINES = [
+    ("L1 field N1 A-1 10 100 50", "L1 done 1"),
+    ("L2 field N1 B-2 10 100 50", "L2 done 2"),
+    ("L3 open 5 120 take N1 A-1 30 add N1 B-2 40", "L3 done 3"),
+    ("L4 open 6 120 add N1 A-1 20 take N1 B-2 10", "L4 done 4"),
+    ("L5 use 5 N1 B-2 25", "L5 done 5"),
+    ("L6 use 6 N1 B-2 5", "L6 done 6"),
+    ("? field N1 A-1", "? field N1 A-1 lo 10 hi 100 value 50 inf 20 sup 70"),
+    ("? field N1 B-2", "? field N1 B-2 lo 10 hi 100 value 50 inf 40 sup 90"),
+    ("L7 firm 5", "L7 done 7"),
+    # the line that has used nothing leaves its field as it was
+    ("? field N1 A-1", "? field N1 A-1 lo 10 hi 100 value 50 inf 20 sup 70"),
+    ("? field N1 B-2", "? field N1 B-2 lo 10 hi 100 value 75 inf 65 sup 90"),
+    ("L8 writeoff N1 B-2 56", "L8 refused 13 TooLittle 0"),
+    ("L8 writeoff N1 B-2 55", "L8 done 8"),
+    ("? field N1 B-2", "? field N1 B-2 lo 10 hi 100 value 20 inf 10 sup 35"),
+    ("L9 use 5 N1 A-1 30", "L9 done 9"),
+    ("? field N1 A-1", "? field N1 A-1 lo 10 hi 100 value 20 inf 20 sup 40"),
+    ("L10 deliver N1 A-1 61", "L10 refused 14 TooMuch 0"),
+    ("L10 rebound N1 A-1 20 39", "L10 refused 14 TooMuch 0"),
+    ("L10 rebound N1 A-1 20 40", "L10 done 10"),
+    ("L11 release 5 N1 A-1 1", "L11 refused 16 OverUse 0"),
+    ("L11 release 5 N1 B-2 10", "L11 done 11"),
+    ("? field N1 B-2", "? field N1 B-2 lo 10 hi 100 value 20 inf 10 sup 25"),
+    ("L12 use 5 N1 C-3 1", "L12 refused 15 NotHeld 0"),
+    # the other one expires, and this one does not
+    ("L13 expire 4000000000", "L13 done 12"),
+    ("? field N1 A-1", "? field N1 A-1 lo 20 hi 40 value 20 inf 20 sup 20"),
+    ("? field N1 B-2", "? field N1 B-2 lo 10 hi 100 value 20 inf 20 sup 25"),
+    ("? order 5", "? order 5 plain 120 firm take N1 A-1 30 30 add N1 B-2 30 25"),
+    ("? order 6", "? order 6 plain 120 aborted add N1 A-1 20 0 take N1 B-2 10 5"),
+    ("L14 firm 6", "L14 refused 8 Ended 0"),
+    ("L14 commit 5", "L14 done 13"),
+    ("? field N1 A-1", "? field N1 A-1 lo 20 hi 40 value 20 inf 20 sup 20"),
+    ("? field N1 B-2", "? field N1 B-2 lo 10 hi 100 value 20 inf 20 sup 20"),
+]
+
+# a transfer that is made firm, used, released, not expired and committed
+FIRM_TRANSFER = [
+    ("T1 field N1 A-1 0 100 40", "T1 done 1"),
+    ("T2 field N2 A-1 0 50 5", "T2 done 2"),
+    ("T3 transfer 20 900 A-1 N1 N2 10", "T3 done 3"),
+    ("T4 use 20 N2 A-1 4", "T4 done 4"),
+    ("? field N1 A-1", "? field N1 A-1 lo 0 hi 100 value 40 inf 30 sup 40"),
+    ("? field N2 A-1", "? field N2 A-1 lo 0 hi 50 value 5 inf 5 sup 15"),
+    ("T5 firm 20", "T5 done 5"),
+    ("? field N1 A-1", "? field N1 A-1 lo 0 hi 100 value 36 inf 30 sup 36"),
+    ("? field N2 A-1", "? field N2 A-1 lo 0 hi 50 value 9 inf 9 sup 15"),
+    ("T6 use 20 N1 A-1 3", "T6 done 6"),
+    ("? field N1 A-1", "? field N1 A-1 lo 0 hi 100 value 33 inf 30 sup 33"),
+    ("? field N2 A-1", "? field N2 A-1 lo 0 hi 50 value 12 inf 12 sup 15"),
+    ("T7 release 20 N2 A-1 2", "T7 done 7"),
+    ("? field N1 A-1", "? field N1 A-1 lo 0 hi 100 value 33 inf 32 sup 33"),
+    ("? field N2 A-1", "? field N2 A-1 lo 0 hi 50 value 12 inf 12 sup 13"),
+    ("T8 expire 900", "T8 done 8"),
+    ("? order 20", "? order 20 transfer 900 firm take N1 A-1 8 7 add N2 A-1 8 7"),
+    ("T9 abort 20", "T9 refused 19 Firm 0"),
+    ("T9 firm 20", "T9 refused 19 Firm 0"),
+    ("T9 more 20 take N1 A-1 1", "T9 refused 19 Firm 0"),
+    ("T10 commit 20", "T10 done 9"),
+    ("? order 20", "? order 20 transfer 900 committed take N1 A-1 8 7 add N2 A-1 8 7"),
+    ("? field N1 A-1", "? field N1 A-1 lo 0 hi 100 value 33 inf 33 sup 33"),
+    ("? field N2 A-1", "? field N2 A-1 lo 0 hi 50 value 12 inf 12 sup 12"),
+]
+
 # open orders, one of them a transfer that is used
 OPEN_ORDERS = [
     ("K1 field N1 A-1 0 100 40", "K1 done 1"),
@@ -129,6 +228,7 @@ NOTHING_THERE = [
     ("K4 release 7 N1 A-1 5", "K4 refused 7 NoOrder 0"),
     ("K5 commit 7", "K5 refused 7 NoOrder 0"),
     ("K6 abort 7", "K6 refused 7 NoOrder 0"),
+    ("K7 firm 7", "K7 refused 7 NoOrder 0"),
     ("? order 7", "? none"),
     ("? field N1 A-1", "? none"),
     ("K1 transfer 8 120 A-1 N1 N2 5", "K1 refused 4 NoField 1"),
@@ -178,7 +278,8 @@ NO_REQUESTS = [
 
 SPELLING = [*((line, BAD) for line in NO_REQUESTS), ("K1 deliver N1 A-1 1000000", "K1 refused 4 NoField 0")]
 
-SCRIPTS = [LONG, TRANSFER, RELEASE, OPEN_ORDERS, ENDED_ORDERS, NOTHING_THERE, REFUSED, SPELLING]
+FIRMS = [FIRM, FIRM_LINES, FIRM_TRANSFER]
+SCRIPTS = [LONG, TRANSFER, RELEASE, *FIRMS, OPEN_ORDERS, ENDED_ORDERS, NOTHING_THERE, REFUSED, SPELLING]
 
 # so many bytes without a newline, what stands behind them, and what is answered to both
 FLOODS = [
@@ -207,11 +308,21 @@ def test_each_script_is_answered(program, folder):
 
 def test_an_opening_changes_no_answer(program, folder):
     """Each line on a desk that was opened for it."""
-    for number, rows in enumerate([TRANSFER, RELEASE, OPEN_ORDERS, ENDED_ORDERS, REFUSED]):
+    for number, rows in enumerate([TRANSFER, RELEASE, *FIRMS, OPEN_ORDERS, ENDED_ORDERS, REFUSED]):
         path = new_desk(program, folder, f"{number}.db")
         for line, reply in rows:
             found = done(program, ["run", path], line + "\n")
             expect(found == [reply], f"script {number}, {line}: {found}")
+
+
+def test_a_firm_transfer_keeps_its_articles_total(program, folder):
+    """From its making to its commit, the article's total is 40 + 5 behind each line."""
+    path = new_desk(program, folder)
+    for number, (line, reply) in enumerate(FIRM_TRANSFER, 1):
+        expect(done(program, ["run", path], line + "\n") == [reply], f"{line}: another reply")
+        if number > 1:
+            total = done(program, ["article", path, "A-1"])[-1].split()
+            expect(total == ["total", "45"], f"{line}: {total}")
 
 
 def test_a_line_that_is_none_is_one_bad_line(program, folder):
@@ -266,6 +377,7 @@ def test_a_write_that_fails_ends_a_script(program, folder):
 TESTS = [
     test_each_script_is_answered,
     test_an_opening_changes_no_answer,
+    test_a_firm_transfer_keeps_its_articles_total,
     test_a_line_that_is_none_is_one_bad_line,
     test_a_read_that_fails_ends_a_script,
     test_a_write_that_fails_ends_a_script,

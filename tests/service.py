@@ -21,7 +21,7 @@ COMMANDS = 2_000
 ROUNDS = 20
 KILLED_IN = 500
 
-VERBS = ["deliver", "writeoff", "rebound", "open", "open", "transfer", "more", "use", "use", "release", "commit", "abort"]
+VERBS = "deliver writeoff rebound open open transfer more use use release firm commit abort".split()
 FIRST = ("K1", "field N1 A-1 0 100 40")
 JSON = "application/json"
 
@@ -114,7 +114,7 @@ def steps():
     generator = random.Random(1986)
     fields = [f"N{n % 5} A{n // 5:02}" for n in range(50)]
     made = [(f"F{n}", f"field {field} 0 1000 500", f"field {field}") for n, field in enumerate(fields)]
-    orders = 0
+    orders, held = 0, {}
     while len(made) < COMMANDS:
         verb = generator.choice(VERBS)
         field, quantity, key = generator.choice(fields), generator.randint(1, 60), f"K{len(made)}"
@@ -134,13 +134,16 @@ def steps():
         elif verb in ("open", "transfer"):
             orders += 1
             until = len(made) + generator.randint(1, 1000)
-            lines = " ".join(f"{generator.choice(['take', 'add'])} {f} {quantity}" for f in generator.sample(fields, 3))
+            held[orders] = [field] if verb == "transfer" else generator.sample(fields, 3)
+            lines = " ".join(f"{generator.choice(['take', 'add'])} {f} {quantity}" for f in held[orders])
             pair = f"{article} {branch} N{generator.randrange(5)} {quantity}"
             made.append((key, f"{verb} {orders} {until} {lines if verb == 'open' else pair}", f"order {orders}"))
-        elif verb in ("commit", "abort"):
+        elif verb in ("firm", "commit", "abort"):
             made.append((key, f"{verb} {order.split()[1]}", order))
         else:
             way = "take " if verb == "more" else ""
+            field = generator.choice(held.get(max(1, number), fields))
+            quantity = generator.randint(1, 20)
             made.append((key, f"{verb} {order.split()[1]} {way}{field} {quantity}", order))
     return made
 

@@ -52,6 +52,15 @@ BAD_LINES = [
     "K1 Commit 7",
     "K1 commits 7",
     "K1 rollback 7",
+    "K1 firm",
+    "K1 firm ",
+    "K1 firm 07",
+    "K1 firm 7 8",
+    "K1 firm 7 take N1 A-1 1",
+    "K1 firms 7",
+    "K1 FIRM 7",
+    "K1 firm7",
+    "firm 7",
     "K1 field N1 A-1 0 100",
     "K1 field N1 A-1 00 100 40",
     "K1 deliver N1 5",
@@ -94,8 +103,10 @@ EACH_KIND = [
     "more 7 add N2 A-1 1",
     "use 7 N1 A-1 5",
     "release 7 N1 A-1 5",
+    "firm 7",
     "commit 7",
     "abort 999999999",
+    "firm 8",
     "expire 4000000000",
 ]
 
@@ -126,11 +137,17 @@ REFUSALS = [
     ("K3 field N2 A-1 0 100 5", "K3 done 3"),
     ("K4 transfer 9 200 A-1 N1 N2 5", "K4 done 4"),
     ("K5 more 9 take N1 A-1 1", "K5 refused 17 TransferFixed 0"),
-    ("K5 expire 110", "K5 done 5"),
-    ("K6 expire 109", "K6 refused 18 ClockBack 0"),
-    ("K6 commit 7", "K6 done 6"),
-    ("K7 abort 7", "K7 refused 8 Ended 0"),
-    ("K7 abort 07", BAD),
+    ("K5 firm 8", "K5 refused 7 NoOrder 0"),
+    ("K5 firm 9", "K5 done 5"),
+    ("K6 firm 9", "K6 refused 19 Firm 0"),
+    ("K6 abort 9", "K6 refused 19 Firm 0"),
+    ("K6 more 9 take N1 A-1 1", "K6 refused 19 Firm 0"),
+    ("K6 expire 110", "K6 done 6"),
+    ("K7 expire 109", "K7 refused 18 ClockBack 0"),
+    ("K7 commit 7", "K7 done 7"),
+    ("K8 abort 7", "K8 refused 8 Ended 0"),
+    ("K8 firm 7", "K8 refused 8 Ended 0"),
+    ("K8 firm 07", BAD),
 ]
 
 # codes in the order of their bytes, branches and articles
@@ -178,6 +195,7 @@ def test_numbers_are_in_their_ranges(program, _):
             # the clock stands at 0
             (f"open 7 {number} take N2 A-1 1", is_moment, "9 Past 0" if number == "0" else "4 NoField 1"),
             (f"commit {number}", is_order, "7 NoOrder 0"),
+            (f"firm {number}", is_order, "7 NoOrder 0"),
         ]:
             steps.append((f"K1 {line}", f"K1 refused {want}" if is_one else BAD))
         steps.append((f"? order {number}", "? none" if is_order else BAD))

@@ -1,5 +1,5 @@
 """Tests of the built program by what another SQLite than its own reads in its file, and writes into it: codes and keys byte for
-byte, tables and rows that are no desk, rows that are damaged and mended again, and a desk that is full."""
+byte, tables and rows that are no desk of this version, rows that are damaged and mended again, and a desk that is full."""
 
 import contextlib
 
@@ -7,6 +7,7 @@ from programs import bytes_of, done, expect, expect_end, new_desk, rows_of, say,
 
 NOT_A_DESK = (3, b"", b"stockdesk: not a desk\n")
 DAMAGED = (3, b"", b"stockdesk: damaged\n")
+OLD_VERSION = (3, b"", b"stockdesk: old version\n")
 STORE = (1, b"", b"stockdesk: store\n")
 
 # codes and keys that have every byte of their alphabets, each as long as it may be or shorter
@@ -19,15 +20,27 @@ CODES = [
 ]
 KEYS = ["abcdefghijklmnopqrstuvwxyz-012345678", "9ABCDEFGHIJKLMNOPQRSTUVWXYZ", "K10", "K1", "K"]
 
-# what makes a desk no desk, and how a run on it ends
+# what makes a desk no desk, or one of the version before, and how a run on it ends
 NO_DESK = [
-    ("DROP TABLE kept", NOT_A_DESK),
-    ("DROP TABLE desk", NOT_A_DESK),
-    ("DELETE FROM desk", NOT_A_DESK),
-    ("UPDATE desk SET version = 2", NOT_A_DESK),
-    ("INSERT INTO desk (one, version, clock, places) VALUES (2, 1, 0, 0)", NOT_A_DESK),
-    ("CREATE TABLE seventh (n INTEGER) STRICT", STORE),
-    ("UPDATE desk SET one = 3", DAMAGED),
+    (["DROP TABLE kept"], NOT_A_DESK),
+    (["DROP TABLE desk"], NOT_A_DESK),
+    (["DELETE FROM desk"], NOT_A_DESK),
+    (["UPDATE desk SET version = 0"], NOT_A_DESK),
+    (["UPDATE desk SET version = 3"], NOT_A_DESK),
+    (["INSERT INTO desk (one, version, clock, places) VALUES (2, 2, 0, 0)"], NOT_A_DESK),
+    (["CREATE TABLE eighth (n INTEGER) STRICT"], STORE),
+    (["UPDATE desk SET one = 3"], DAMAGED),
+    # a version has its number and its tables, the first all but the last of them
+    (["UPDATE desk SET version = 1", "DROP TABLE firm"], OLD_VERSION),
+    (["UPDATE desk SET version = 1", "DROP TABLE firm", "UPDATE desk SET one = 3"], OLD_VERSION),
+    (["UPDATE desk SET version = 1", "DROP TABLE firm", "UPDATE field SET inf = 41"], OLD_VERSION),
+    (["UPDATE desk SET version = 1"], NOT_A_DESK),
+    (["DROP TABLE firm"], NOT_A_DESK),
+    (["UPDATE desk SET version = 0", "DROP TABLE firm"], NOT_A_DESK),
+    (["UPDATE desk SET version = 1", "DROP TABLE firm", "DELETE FROM desk"], NOT_A_DESK),
+    (["UPDATE desk SET version = 1", "DROP TABLE firm", "DROP TABLE kept"], NOT_A_DESK),
+    (["UPDATE desk SET version = 1", "DROP TABLE firm", "INSERT INTO desk VALUES (2, 1, 0, 0)"], NOT_A_DESK),
+    (["UPDATE desk SET version = 1", "DROP TABLE firm", "INSERT INTO desk VALUES (2, 2, 0, 0)"], NOT_A_DESK),
 ]
 
 # what damages a desk, and what mends it
@@ -37,6 +50,7 @@ DAMAGES = [
     ("UPDATE desk SET places = 2", "UPDATE desk SET places = 1"),
     ("UPDATE kept SET words = '''); DROP TABLE kept; --'", "UPDATE kept SET words = 'field N1 A-1 0 100 40'"),
     ("INSERT INTO orders VALUES (7, 0, 120, 0)", "DELETE FROM orders"),
+    ("INSERT INTO firm VALUES (7)", "DELETE FROM firm"),
 ]
 
 FIELD = "K1 field N1 A-1 0 100 40\n"
@@ -68,17 +82,20 @@ def test_codes_and_keys_are_stored_byte_for_byte(program, folder):
     script = [f"{key} field {branch} {article} 0 9 5" for key, (branch, article) in zip(KEYS, CODES, strict=True)]
     replies = [f"{key} done {place}" for place, key in enumerate(KEYS, 1)]
     expect(done(program, ["run", path], "\n".join(script) + "\n") == replies, "another reply")
-    rows = ["desk|1|1|0|5", *(f"field|{branch}|{article}|0|9|5|5|5|5" for branch, article in sorted(CODES))]
+    rows = ["desk|1|2|0|5", *(f"field|{branch}|{article}|0|9|5|5|5|5" for branch, article in sorted(CODES))]
     kept = [(key, place, line.split(" ", 1)[1]) for place, (key, line) in enumerate(zip(KEYS, script, strict=True), 1)]
     rows += [f"kept|{key}|{place}|{words}" for key, place, words in sorted(kept)]
     expect(rows_of(path) == rows, f"{rows_of(path)} and not {rows}")
 
 
 def test_tables_and_rows_that_are_no_desk_are_left_alone(program, folder):
-    for number, (statement, want) in enumerate(NO_DESK):
+    for number, (statements, want) in enumerate(NO_DESK):
         path = with_field(program, folder, f"{number}.db")
-        changed(path, statement)
-        expect_left_alone(program, path, want, statement)
+        changed(path, *statements)
+        try:
+            expect_left_alone(program, path, want, "a run")
+        except AssertionError as fault:
+            raise AssertionError(f"{statements}: {fault}") from fault
 
 
 def test_a_damaged_desk_is_left_alone_and_goes_on_once_it_is_mended(program, folder):
@@ -101,8 +118,9 @@ def test_a_full_desk_still_ends_its_order(program, folder):
         database.execute("INSERT INTO line VALUES (7, 1, 'N1', 'A-1', 0, 5, 0)")
         kept = [(f"C{place:06}", place, "expire 0") for place in range(1, 200_000)]
         database.executemany("INSERT INTO kept VALUES (?, ?, ?)", kept)
-    script = "K1 deliver N1 A-1 1\nK2 expire 120\nK3 commit 7\nK4 deliver N1 A-1 1\n? field N1 A-1\n"
-    replies = ["K1 refused 2 Full 0", "K2 refused 2 Full 0", "K3 done 200000", "K4 refused 2 Full 0"]
+    script = "K1 deliver N1 A-1 1\nK1 firm 7\nK2 expire 120\nK3 commit 7\nK4 deliver N1 A-1 1\n? field N1 A-1\n"
+    full = [f"{key} refused 2 Full 0" for key in ["K1", "K1", "K2", "K4"]]
+    replies = [*full[:3], "K3 done 200000", *full[3:]]
     shown = "? field N1 A-1 lo 0 hi 100 value 40 inf 40 sup 40"
     expect(done(program, ["run", path], script) == [*replies, shown], "another reply")
 
