@@ -1,7 +1,6 @@
 -- Running numbers: what the entries of fields say of a ledger, and what becomes of them.
 use Rattle.book.proofs.Prelude.{[], ◌+ℤ◌, ◌+◌, ◌-ℤ◌, ◌<ℤ◌, ◌∙◌, ◌∷◌, ◌≡◌, ◌≤ℤ◌, ◌≤◌, Add, Bool, BreaksBound, Contains, Content, Each, Equal, Field, FieldCells, FieldEntry, Global, Good, Greater, IsSafeMoved, IsSome, IsSomeAnd, IsUpToDate, Ledger, Less, List, Name, None, Option, Ordering, Some, Stock, String, Take, Way, accept, ap, arith, common_steps, entry_row, false, field_cells, field_cmp, field_named, field_of, field_row, held_to_add, held_to_take, holding, if_add, if_take, if◌then◌else◌, insert_entry, ints, is_settled, is_eq, is_lt, is_open, is_some, map, match_ordering, moved, name_cmp, next, pos, put_row, put_rows, refl, same_name, settled, signed, string_bytes, subst, sym, total, true≢false, unsettled, with_entries, ℕ, ℤ}
 use Rattle.escrow.specs.Choices.{IsInfimum as IsLeastOf, IsSafe as IsSafeStock, IsSupremum as IsGreatestOf}
-use Rattle.words.specs.declared.command.Command.TheVariants as command
 use Rattle.book.specs.Plans.{Fits, PlanView}
 use Rattle.book.proofs.InOrder.{rows_are, rows_of}
 use Rattle.book.proofs.Keyed.{equal_field}

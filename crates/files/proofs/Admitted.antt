@@ -1,9 +1,7 @@
 -- A record more of a file that has begun: the header, or a row behind it.
-use Rattle.std.proofs.Common.{◌≡◌, ◌≢◌, ◌⊎◌, ◌∙◌, ◌+◌, ◌≤◌, ℕ, zero, suc, List, [], ◌∷◌, ◌++◌, length, Option, None, Some, IfSome, ap, append_assoc, arith, inl, inr, refl, subst, sym}
-use Rattle.csv.specs.Reading.{default_config, strip_bom}
-use Rattle.csv.specs.declared.parser.State.TheVariants as st
+use Rattle.std.proofs.Common.{◌≡◌, ◌≢◌, ◌⊎◌, ◌∙◌, ◌≤◌, ℕ, List, [], ◌∷◌, ◌++◌, length, Option, None, Some, IfSome, ap, append_assoc, arith, inl, inr, refl, subst, sym}
 use Rattle.words.specs.declared.command.Request.{Request}
-use Rattle.files.specs.Files.{AreRecordsOf, BeginsFile, Breaks, FaultsAt, IsFile, IsFirstBad, IsFirstBadRow, NamesFirst, Record}
+use Rattle.files.specs.Files.{AreRecordsOf, BeginsFile, Breaks, FaultsAt, IsFile, NamesFirst, Record}
 use Rattle.files.specs.declared.fault.FileFault.{FileFault}
 use Rattle.files.specs.declared.fault.FileFault.TheVariants.{BadRecord, Io, Memory}
 use Rattle.files.proofs.Reading.{some_records_of}

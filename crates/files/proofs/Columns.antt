@@ -1,5 +1,5 @@
 -- The numbers of a good ledger fit into the columns of a sheet.
-use Rattle.std.proofs.Common.{◌≡◌, ◌∙◌, ◌+◌, ◌-◌, ◌*◌, ◌<◌, ◌≤◌, ◌^◌, ◌-ℤ◌, ◌+ℤ◌, ◌≤ℤ◌, All, Bool, true, false, Contains, ℕ, ℤ, pos, List, [], ◌∷◌, ◌++◌, ap, arith, codes, cond, decimal, filter, flat_map, length, length-append, refl, replicate, subst, sum_by, sym}
+use Rattle.std.proofs.Common.{◌≡◌, ◌+◌, ◌-◌, ◌*◌, ◌≤◌, ◌-ℤ◌, ◌+ℤ◌, All, Bool, true, false, Contains, ℕ, pos, List, [], ◌∷◌, ◌++◌, ap, arith, codes, cond, decimal, filter, flat_map, length, length-append, refl, replicate, subst, sum_by, sym}
 use Rattle.std.specs.List.{AllByRecursion as Each, AllZip}
 use Rattle.std.proofs.lemmas.Fmt.{length-decimal-le}
 use Rattle.std.proofs.lemmas.Int.{ints}

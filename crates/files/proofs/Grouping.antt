@@ -1,14 +1,14 @@
 -- The orders of an order file, row by row: how a row more goes on, and where none can.
-use Rattle.std.proofs.Common.{◌≡◌, ◌≢◌, ◌⊎◌, ◌∙◌, ◌+◌, ◌<◌, ◌≤◌, ◌^◌, ℕ, zero, suc, List, [], ◌∷◌, ◌++◌, length, map, All, ap, append_assoc, arith, bytes_eq, codes, decimal, if◌then◌else◌, inl, inr, length-append, refl, subst, sym}
+use Rattle.std.proofs.Common.{◌≡◌, ◌≢◌, ◌⊎◌, ◌∙◌, ◌+◌, ◌≤◌, ℕ, List, [], ◌∷◌, ◌++◌, length, map, All, ap, append_assoc, arith, bytes_eq, codes, decimal, if◌then◌else◌, inl, inr, length-append, refl, subst, sym}
 use Rattle.std.specs.Prelude.{⊤}
 use Rattle.std.specs.List.{AllByRecursion as Each}
 use Rattle.std.proofs.lemmas.Fmt.{decimal_injective}
 use Rattle.std.proofs.lemmas.List.Elements.{All-from_recursion, All-push, recursion_from_All}
 use Rattle.escrow.specs.Codes.{IsKey}
-use Rattle.escrow.specs.Ranges.{IsMoment, IsOrderNo, IsQty}
+use Rattle.escrow.specs.Ranges.{IsMoment, IsOrderNo}
 use Rattle.escrow.specs.declared.quantity.Way.{Way}
 use Rattle.escrow.specs.declared.quantity.Way.TheVariants.{Add, Take}
-use Rattle.words.specs.OpenLines.{AreOpenLines, IsOpenLine, line_words, most_lines, way_word}
+use Rattle.words.specs.OpenLines.{IsOpenLine, line_words, most_lines, way_word}
 use Rattle.words.specs.declared.command.Command.TheVariants.{Open}
 use Rattle.words.specs.declared.command.Request.{Request}
 use Rattle.words.specs.declared.open_line.OpenLine.{OpenLine}

@@ -1,16 +1,11 @@
 -- A file has one reading: its records are one list, and what these say is one list of requests.
-use Rattle.std.proofs.Common.{◌≡◌, ◌≢◌, ◌⊎◌, ◌∙◌, ◌+◌, ◌<◌, ◌≤◌, ◌^◌, ℕ, zero, suc, List, [], ◌∷◌, ◌++◌, Option, None, Some, length, map, ap, append_assoc, arith, decimal, inl, inr, length-append, refl, subst, sym}
-use Rattle.std.specs.List.{AllZip}
-use Rattle.std.proofs.lemmas.Fmt.{decimal_injective}
+use Rattle.std.proofs.Common.{◌≡◌, ◌∙◌, ◌<◌, ℕ, List, [], ◌∷◌, ◌++◌, Option, None, Some, length, ap, append_assoc, arith, inl, inr, refl, subst, sym}
 use Rattle.csv.specs.Machine.{Read, next_record}
 use Rattle.csv.specs.Reading.{AreRecords, Reached, default_config, strip_bom}
 use Rattle.csv.specs.declared.parser.Config.{Config}
 use Rattle.csv.specs.declared.parser.State.{State}
 use Rattle.csv.specs.declared.parser.State.TheVariants as st
-use Rattle.words.specs.declared.command.Command.{Command}
-use Rattle.words.specs.declared.command.Command.TheVariants.{Deliver, Open}
 use Rattle.words.specs.declared.command.Request.{Request}
-use Rattle.words.specs.declared.open_line.OpenLine.{OpenLine}
 use Rattle.files.specs.Files.{AreRecordsOf, Breaks, IsFile, IsFirstBad, IsFirstBadRow, NamesFirst, Record}
 use Rattle.files.specs.declared.fault.FileFault.TheVariants.{BadRecord}
 

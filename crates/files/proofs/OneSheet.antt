@@ -1,5 +1,5 @@
 -- A good ledger has one sheet of each kind: each field has one settled value, one infimum and one supremum.
-use Rattle.std.proofs.Common.{◌≡◌, ◌∙◌, ◌-ℤ◌, ◌+ℤ◌, ◌≤ℤ◌, All, Bool, Contains, ℕ, ℤ, pos, negsuc, List, [], ◌∷◌, ap, arith, filter, refl, subst, sym}
+use Rattle.std.proofs.Common.{◌≡◌, ◌∙◌, ◌-ℤ◌, ◌+ℤ◌, ◌≤ℤ◌, All, Bool, Contains, ℕ, ℤ, pos, negsuc, List, [], ◌∷◌, ap, arith, filter, refl, sym}
 use Rattle.std.specs.List.{AllByRecursion as Each, AllZip}
 use Rattle.std.proofs.lemmas.Int.{ints}
 use Rattle.std.proofs.lemmas.List.Elements.{All-contains_itself, All-filter, recursion_from_All}

@@ -1,9 +1,9 @@
 -- What files say is one list, and their records in front of others say something.
-use Rattle.std.proofs.Common.{◌≡◌, ◌≢◌, ◌⊎◌, ◌∙◌, ◌+◌, ◌<◌, ◌≤◌, ◌^◌, ℕ, zero, suc, List, [], ◌∷◌, ◌++◌, All, length, map, ap, append_assoc, arith, decimal, inl, inr, length-append, refl, subst, sym}
+use Rattle.std.proofs.Common.{◌≡◌, ◌⊎◌, ◌∙◌, ◌≤◌, ℕ, List, [], ◌∷◌, ◌++◌, length, map, ap, arith, decimal, inl, inr, refl, subst, sym}
 use Rattle.std.specs.List.{AllZip, AllByRecursion as Each}
 use Rattle.std.proofs.lemmas.Fmt.{decimal_injective}
 use Rattle.std.proofs.lemmas.List.Elements.{All-from_recursion, recursion_from_All}
-use Rattle.words.specs.OpenLines.{AreOpenLines, IsOpenLine}
+use Rattle.words.specs.OpenLines.{IsOpenLine}
 use Rattle.words.specs.declared.command.Command.{Command}
 use Rattle.words.specs.declared.command.Command.TheVariants.{Deliver, Open, Rebound}
 use Rattle.words.specs.declared.command.Request.{Request}

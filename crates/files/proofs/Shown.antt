@@ -1,9 +1,9 @@
 -- The lines of a sheet, one field after the other.
-use Rattle.std.proofs.Common.{◌≡◌, ◌∙◌, ◌+◌, ◌<◌, Bool, true, false, ℕ, List, [], ◌∷◌, ◌++◌, Some, None, Option, IsSomeAnd, ap, append-nil, cond, filter, flat_map, get_or, length, refl, slice_get, subst, sum_by, sym, take}
+use Rattle.std.proofs.Common.{◌≡◌, ◌∙◌, ◌+◌, ◌<◌, Bool, true, false, ℕ, List, [], ◌∷◌, ◌++◌, Some, None, Option, IsSomeAnd, ap, append-nil, filter, flat_map, get_or, length, refl, slice_get, subst, sum_by, sym, take}
 use Rattle.std.specs.List.{AllZip}
 use Rattle.std.proofs.lemmas.List.{take_all, take-replicate}
 use Rattle.std.proofs.Common.{◌≤◌, ◌-◌, OnOk, Result, Ok, Err, arith, replicate}
-use Rattle.book.specs.Ledger.{Field, Ledger, name_of}
+use Rattle.book.specs.Ledger.{Ledger, name_of}
 use Rattle.book.specs.Views.{ShowsField}
 use Rattle.book.specs.declared.book.views.FieldView.{FieldView}
 use Rattle.files.specs.Sheets.{IsSheet, field_line, is_on, title_of, total_line}

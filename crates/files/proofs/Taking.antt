@@ -1,8 +1,7 @@
 -- What an order file has said so far, by one row more.
-use Rattle.std.proofs.Common.{◌≡◌, ◌≢◌, ◌⊎◌, ◌∙◌, ◌<◌, ◌^◌, ℕ, List, [], ◌∷◌, ◌++◌, Option, None, Some, ap, arith, decimal, inl, inr, refl, subst, sym}
+use Rattle.std.proofs.Common.{◌≡◌, ◌≢◌, ◌⊎◌, ◌∙◌, List, [], ◌∷◌, ◌++◌, Option, None, Some, arith, decimal, inl, inr, subst, sym}
 use Rattle.std.proofs.lemmas.Fmt.{decimal_injective}
 use Rattle.words.specs.declared.command.Request.{Request}
-use Rattle.words.specs.declared.open_line.OpenLine.{OpenLine}
 use Rattle.files.specs.Files.{Breaks, Record}
 use Rattle.files.specs.Orders.{SayOrders, order_row}
 use Rattle.files.specs.Rows.{Continues, IsRow, TookRows, order_of_row, request_of, requests_of, with_line}

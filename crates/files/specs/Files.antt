@@ -1,5 +1,5 @@
 -- A file of requests: a CSV text whose first record is a header. What the records of a text are, `csv` defines.
-use Rattle.std.specs.Prelude.{◌≡◌, ◌≢◌, ◌⊎◌, ℕ, zero, suc, List, [], ◌∷◌, ◌++◌, length}
+use Rattle.std.specs.Prelude.{◌≡◌, ◌≢◌, ◌⊎◌, ℕ, suc, List, [], ◌∷◌, ◌++◌, length}
 use Rattle.csv.specs.Reading.{AreRecords, default_config, strip_bom}
 use Rattle.csv.specs.declared.parser.State.TheVariants.{StartRecord}
 use Rattle.words.specs.declared.command.Request.{Request}

@@ -1,5 +1,5 @@
 -- How an order file is read: row by row, with the last order open for further lines.
-use Rattle.std.specs.Prelude.{◌≡◌, ◌<◌, ℕ, length, List, [], ◌∷◌, ◌++◌, Option, None, Some}
+use Rattle.std.specs.Prelude.{◌≡◌, ◌<◌, length, List, [], ◌∷◌, ◌++◌, Option, None, Some}
 use Rattle.escrow.specs.Codes.{IsKey}
 use Rattle.escrow.specs.Ranges.{IsMoment, IsOrderNo}
 use Rattle.words.specs.OpenLines.{IsOpenLine, most_lines}

@@ -1,5 +1,5 @@
 -- Stock sheets: a line for each field, and the total.
-use Rattle.std.specs.Prelude.{◌≡◌, ◌-◌, Bool, ℕ, List, [], ◌∷◌, ◌++◌, codes, decimal, filter, flat_map, length, replicate, sum_by}
+use Rattle.std.specs.Prelude.{◌≡◌, ◌-◌, Bool, ℕ, List, ◌++◌, codes, decimal, filter, flat_map, length, replicate, sum_by}
 use Rattle.std.specs.List.{AllZip}
 use Rattle.std.specs.Str.{bytes_eq}
 use Rattle.book.specs.Ledger.{Ledger, Name}

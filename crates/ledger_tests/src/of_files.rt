@@ -110,7 +110,7 @@ static STOCK: [Step; 1] = [(
     "K1",
     "field N1 A-1 0 100 80",
     &[
-        Row::Desk([1, 1, 0, 1]),
+        Row::Desk([1, 2, 0, 1]),
         Row::Field("N1", "A-1", [0, 100, 80, 80, 80, 80]),
         Row::Kept("K1", "field N1 A-1 0 100 80", 1),
     ],

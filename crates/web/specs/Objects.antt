@@ -60,7 +60,7 @@ line_objects lines = array (items_of (map line_object lines))
 
 -- {"kind":"KIND","lines":[LINE,..],"number":N,"state":"STATE","until":UNTIL}
 abbrev pub shown_object : ℕ → Kind → ℕ → Standing → List Line → Data
-shown_object number kind until state lines = object_of ((codes "kind", string (kind_word kind)) ∷ (codes "lines", line_objects lines) ∷ (codes "number", natural number)
+shown_object order kind until state lines = object_of ((codes "kind", string (kind_word kind)) ∷ (codes "lines", line_objects lines) ∷ (codes "number", natural order)
     ∷ (codes "state", string (state_word state)) ∷ (codes "until", natural until) ∷ [])
 
 abbrev pub order_object : Order → Data

@@ -1,8 +1,8 @@
-use Rattle.std.proofs.Common.{◌≡◌, ◌∙◌, ◌+◌, ◌≤◌, ◌∷◌, ◌++◌, [], List, IfSome, ap, arith, inl, inr, length, length-append, refl, sym}
+use Rattle.std.proofs.Common.{◌≡◌, ◌∙◌, ◌+◌, ◌≤◌, ◌∷◌, [], IfSome, ap, arith, inr, length, length-append, refl, sym}
 use Rattle.csv.specs.Reading.{source_of}
 use Rattle.csv.specs.Records.{fields_of}
 use Rattle.book.proofs.Tested.{passed_up}
-use Rattle.files.specs.Files.{BeginsFile, FaultsAt, NamesFirst, Record}
+use Rattle.files.specs.Files.{BeginsFile, FaultsAt, NamesFirst}
 use Rattle.files.specs.declared.fault.FileFault.TheVariants.{Io}
 use Rattle.files.proofs.Admitted.{names_given, names_header, names_none, whole_file}
 use Rattle.files.proofs.Reading.{gave_all, gave_front, gave_more, gave_none}

@@ -1,8 +1,8 @@
 -- the records so far are taken in, and those behind them are what the reader has left
-use Rattle.std.proofs.Common.{◌≡◌, List, length}
+use Rattle.std.proofs.Common.{◌≡◌, length}
 use Rattle.csv.specs.Reading.{Ready, default_config, source_of}
 use Rattle.csv.specs.declared.reader.Trim.TheVariants as trim
-use Rattle.files.specs.Files.{BeginsFile, Record}
+use Rattle.files.specs.Files.{BeginsFile}
 use Rattle.files.proofs.Reading.{Gave}
 use Rattle.files.proofs.intake.read_file.Given as goal
 
