@@ -12,10 +12,10 @@ try:
 except ImportError:
     sqlite3 = None
 
-KEYS = {"desk": "one", "field": "branch, article", "move": "place", "orders": "number", "line": "number, nr", "kept": "reqkey"}
+KEYS = {"desk": "one", "field": "branch, article", "move": "place", "orders": "number", "line": "number, nr", "kept": "reqkey", "firm": "number"}
 
 # a desk of another version is told by the table that is read first
-OTHER_VERSION = ["UPDATE desk SET version = 2"]
+OTHER_VERSION = ["UPDATE desk SET version = 3"]
 
 # no good rows, in the first of the tables that the ledger looks at, whichever that is
 NO_GOOD_ROWS = [
@@ -54,8 +54,9 @@ def put_rows(database, rows):
     database.execute("DELETE FROM desk")
     for table in TABLES:
         these = [row[1:] for row in rows[table]]
-        places = ", ".join("?" * len(these[0])) if these else ""
-        database.executemany(f"INSERT INTO {table} VALUES ({places})", these)
+        if these:
+            places = ", ".join("?" * len(these[0]))
+            database.executemany(f"INSERT INTO {table} VALUES ({places})", these)
 
 
 def write(program, path, rows):

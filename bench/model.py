@@ -9,7 +9,7 @@ OPEN, COMMITTED, ABORTED = range(3)
 TAKE, ADD = range(2)
 WAYS = ["take", "add"]
 ENDINGS = {"commit": COMMITTED, "abort": ABORTED}
-TABLES = ["desk", "field", "move", "orders", "line", "kept"]
+TABLES = ["desk", "field", "move", "orders", "line", "kept", "firm"]
 
 
 @dataclass(slots=True, eq=False)
@@ -120,13 +120,13 @@ class Desk:
         self.open = {}
 
     def row(self):
-        return ("desk", 1, 1, self.clock, len(self.kept))
+        return ("desk", 1, 2, self.clock, len(self.kept))
 
     def rows(self):
         """All rows by their table, those of each in the order in which they came."""
         entries = [self.fields, self.orders, self.lines]
         fields, orders, lines = [[entry.row() for entry in these] for these in entries]
-        return dict(zip(TABLES, [[self.row()], fields, self.moves, orders, lines, self.kept]))
+        return dict(zip(TABLES, [[self.row()], fields, self.moves, orders, lines, self.kept, []]))
 
     def keep(self, key, words, fields=(), others=()):
         """Keeps the command under its key. Its rows are in the order in which the program puts them in."""

@@ -8,7 +8,7 @@
    TABLE VALUES       a row to put in
    ask BRANCH ARTICLE a field's numbers to select
    go                 does what was read since the last go, and answers `took MICROSECONDS`
-   all                selects all rows of the six tables in the order of their keys, and answers `read ROWS` */
+   all                selects all rows of the seven tables in the order of their keys, and answers `read ROWS` */
 
 #define _GNU_SOURCE
 #include <sqlite3.h>
@@ -17,7 +17,7 @@
 #include <string.h>
 #include <time.h>
 
-enum { FORMS = 9, TABLES = 6, MOST_VALUES = 8 };
+enum { FORMS = 10, TABLES = 7, MOST_VALUES = 8 };
 
 /* A statement, the word that names it, and its values: t is a text, n a number. */
 struct form {
@@ -47,6 +47,7 @@ static const struct form forms[FORMS] = {
     {"kept", "tnt",
      "INSERT INTO kept (reqkey, place, words) VALUES (?1, ?2, ?3) "
      "ON CONFLICT (reqkey) DO UPDATE SET place = ?2, words = ?3"},
+    {"firm", "n", "INSERT INTO firm (number) VALUES (?1) ON CONFLICT (number) DO NOTHING"},
     {"ask", "tt", "SELECT lo, hi, value, inf, sup FROM field WHERE branch = ?1 AND article = ?2"},
 };
 
@@ -57,6 +58,7 @@ static const char *const selects[TABLES] = {
     "SELECT number, kind, until, state FROM orders ORDER BY number",
     "SELECT number, nr, branch, article, way, held, used, rowid FROM line ORDER BY number, nr",
     "SELECT reqkey, place, words, rowid FROM kept ORDER BY reqkey",
+    "SELECT number FROM firm ORDER BY number",
 };
 
 /* A statement to be done, with its values; the texts lie in the line that it was read from. */

@@ -13,7 +13,7 @@ NOT_A_DESK = (3, b"", b"stockdesk: not a desk\n")
 
 # A ledger with orders of all kinds and states. The settled values are 40 + 10 - 4, where 4 is what a committed order has used,
 # then 5, and 5 - 2 + 4. Of these 35 may be taken, and 15 added.
-GOOD = """desk,1,1,100,15
+GOOD = """desk,1,2,100,15
 field,N1,A-1,0,100,40,46,11,46
 field,N1,B-2,0,20,5,5,5,20
 field,N2,A-1,0,50,5,7,7,7
@@ -65,8 +65,8 @@ SHOWN = [
 
 # a part of the good rows, and what is put in its place: they are still good
 STILL_GOOD = [
-    ("desk,1,1,100,15", "desk,1,1,0,15"),
-    ("desk,1,1,100,15", "desk,1,1,4000000000,15"),
+    ("desk,1,2,100,15", "desk,1,2,0,15"),
+    ("desk,1,2,100,15", "desk,1,2,4000000000,15"),
     ("field,N1,A-1,0,100,40,46,11,46", "field,N1,A-1,11,46,40,46,11,46"),
     ("field,N1,B-2,0,20,5,5,5,20", "field,N1,B-2,5,20,5,5,5,20"),
     ("move,4,", "field,Z1234567,ABCDEFGHIJKLMNOP" + ",0" + ",1000000000" * 5 + "\nmove,4,"),
@@ -82,18 +82,19 @@ STILL_GOOD = [
 
 # likewise: there is no longer one row of `desk` of the version
 NO_DESK = [
-    ("desk,1,1,100,15\n", ""),
-    ("desk,1,1,100,15", "desk,1,1,100,15\ndesk,2,1,100,15"),
-    ("desk,1,1,100,15", "desk,1,0,100,15"),
-    ("desk,1,1,100,15", "desk,1,2,100,15"),
+    ("desk,1,2,100,15\n", ""),
+    ("desk,1,2,100,15", "desk,1,2,100,15\ndesk,2,2,100,15"),
+    ("desk,1,2,100,15", "desk,1,0,100,15"),
+    ("desk,1,2,100,15", "desk,1,1,100,15"),
+    ("desk,1,2,100,15", "desk,1,3,100,15"),
 ]
 
 # likewise: the desk, codes and ranges, moves, orders and kept keys that are none
 BAD_ROWS = [
-    ("desk,1,1,100,15", "desk,0,1,100,15"),
-    ("desk,1,1,100,15", "desk,2,1,100,15"),
-    ("desk,1,1,100,15", "desk,1,1,-1,15"),
-    ("desk,1,1,100,15", "desk,1,1,4000000001,15"),
+    ("desk,1,2,100,15", "desk,0,2,100,15"),
+    ("desk,1,2,100,15", "desk,2,2,100,15"),
+    ("desk,1,2,100,15", "desk,1,2,-1,15"),
+    ("desk,1,2,100,15", "desk,1,2,4000000001,15"),
     # codes of fields
     ("move,4,", "field,,A-1,0,9,0,0,0,0\nmove,4,"),
     ("move,4,", "field,N23456789,A-1,0,9,0,0,0,0\nmove,4,"),
@@ -131,8 +132,8 @@ BAD_ROWS = [
     ("orders,21,0,130,2", "orders,21,0,-1,2"),
     ("orders,21,0,130,2", "orders,21,0,4000000001,2"),
     # kept keys and their places
-    ("desk,1,1,100,15", "desk,1,1,100,14"),
-    ("desk,1,1,100,15", "desk,1,1,100,16"),
+    ("desk,1,2,100,15", "desk,1,2,100,14"),
+    ("desk,1,2,100,15", "desk,1,2,100,16"),
     ("\nkept,K15,15,abort 22", ""),
     ("kept,K15,15,abort 22", "kept,K15,14,abort 22"),
     ("kept,K15,15,abort 22", "kept,K15,16,abort 22"),
@@ -265,7 +266,7 @@ def changed(change):
 def of_desk(places):
     """So many accepted commands."""
     kept = [f"kept,K{number:06},{number},expire 0" for number in range(1, places + 1)]
-    return [f"desk,1,1,0,{places}", *kept]
+    return [f"desk,1,2,0,{places}", *kept]
 
 
 def of_fields(count):

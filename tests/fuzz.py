@@ -34,7 +34,7 @@ REQUEST_FILES = [
 
 # how a run ends on a file that is opened, and on one that is not
 OPENED = [(0, b""), (1, b"stockdesk: store\n")]
-NOT_OPENED = [(1, b"stockdesk: store\n"), (3, b"stockdesk: not a desk\n"), (3, b"stockdesk: damaged\n")]
+NOT_OPENED = [(1, b"stockdesk: store\n"), (3, b"stockdesk: not a desk\n"), (3, b"stockdesk: old version\n"), (3, b"stockdesk: damaged\n")]
 
 
 def played(program, words, text):
@@ -151,9 +151,11 @@ class Block:
     def row_changed(self, path):
         """One row of the file is taken out, or one of its columns has another value."""
         draw = self.inputs.random
-        table = draw.choice(list(COLUMNS))
-        column = draw.choice(COLUMNS[table])
         with contextlib.closing(sqlite3.connect(path)) as database:
+            tables = {name for (name,) in database.execute("SELECT name FROM sqlite_schema WHERE type = 'table'")}
+            # one of version 1 lacks the last
+            table = draw.choice([name for name in COLUMNS if name in tables])
+            column = draw.choice(COLUMNS[table])
             rows = database.execute(f"SELECT rowid, {column} FROM {table}").fetchall()
             if not rows:
                 return
@@ -181,9 +183,15 @@ class Block:
             with open(f"{path}-wal", "wb") as file:
                 file.write(self.inputs.damaged(log) if kind >= 0.5 else log)
 
+    def upgraded(self, base):
+        path = shutil.copy(base, self.folder)
+        expect(played(self.program, ["upgrade", path], b"") == (0, b"", b""), f"{base} was not upgraded")
+        return path
+
     def databases(self, path):
         """Counts how many of the damaged files were opened."""
-        bases = [path, self.session_killed(path), *(os.path.join(FILES, f"{name}.db") for name in ["long", "transfer", "many"])]
+        older = [os.path.join(FILES, f"{name}.db") for name in ["long", "transfer", "many"]]
+        bases = [path, self.session_killed(path), *older, *(self.upgraded(base) for base in older)]
         opened = 0
         for number in range(BLOCK):
             file, copy = (os.path.join(self.folder, f"{name}{number}.db") for name in ["damaged", "copy"])

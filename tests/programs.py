@@ -23,10 +23,11 @@ COLUMNS = {
     "orders": ["number", "kind", "until", "state"],
     "line": ["number", "nr", "branch", "article", "way", "held", "used"],
     "kept": ["reqkey", "place", "words"],
+    "firm": ["number"],
 }
 
 # how many columns of each table are its key
-KEYS = {"desk": 1, "field": 2, "move": 1, "orders": 1, "line": 2, "kept": 1}
+KEYS = {"desk": 1, "field": 2, "move": 1, "orders": 1, "line": 2, "kept": 1, "firm": 1}
 
 
 def say(text):

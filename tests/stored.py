@@ -24,9 +24,11 @@ NO_DESK = [
     ("DROP TABLE kept", NOT_A_DESK),
     ("DROP TABLE desk", NOT_A_DESK),
     ("DELETE FROM desk", NOT_A_DESK),
-    ("UPDATE desk SET version = 2", NOT_A_DESK),
-    ("INSERT INTO desk (one, version, clock, places) VALUES (2, 1, 0, 0)", NOT_A_DESK),
-    ("CREATE TABLE seventh (n INTEGER) STRICT", STORE),
+    ("UPDATE desk SET version = 1", NOT_A_DESK),
+    ("UPDATE desk SET version = 3", NOT_A_DESK),
+    ("INSERT INTO desk (one, version, clock, places) VALUES (2, 2, 0, 0)", NOT_A_DESK),
+    ("DROP TABLE firm", NOT_A_DESK),
+    ("CREATE TABLE eighth (n INTEGER) STRICT", STORE),
     ("UPDATE desk SET one = 3", DAMAGED),
 ]
 
@@ -68,7 +70,7 @@ def test_codes_and_keys_are_stored_byte_for_byte(program, folder):
     script = [f"{key} field {branch} {article} 0 9 5" for key, (branch, article) in zip(KEYS, CODES, strict=True)]
     replies = [f"{key} done {place}" for place, key in enumerate(KEYS, 1)]
     expect(done(program, ["run", path], "\n".join(script) + "\n") == replies, "another reply")
-    rows = ["desk|1|1|0|5", *(f"field|{branch}|{article}|0|9|5|5|5|5" for branch, article in sorted(CODES))]
+    rows = ["desk|1|2|0|5", *(f"field|{branch}|{article}|0|9|5|5|5|5" for branch, article in sorted(CODES))]
     kept = [(key, place, line.split(" ", 1)[1]) for place, (key, line) in enumerate(zip(KEYS, script, strict=True), 1)]
     rows += [f"kept|{key}|{place}|{words}" for key, place, words in sorted(kept)]
     expect(rows_of(path) == rows, f"{rows_of(path)} and not {rows}")
