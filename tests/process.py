@@ -3,14 +3,17 @@ that are refused, scripts a line a run, long ones, files of requests, also kille
 stays open, the file as another SQLite reads it, connections, and sessions that are killed. The one argument is the
 program."""
 
+import contextlib
 import os
 import random
 import resource
 import shutil
 import signal
+import subprocess
 import sys
 import tempfile
 import threading
+import time
 
 # no folder of compiled modules beside the sources
 sys.dont_write_bytecode = True
@@ -44,7 +47,11 @@ from programs import (
 ROUNDS = 50
 LINES = 1000
 
+# files that a program of version 1 wrote, each with the script that made it
+OLDER = ["long", "transfer", "many"]
+
 NOT_A_DESK = (3, b"", b"stockdesk: not a desk\n")
+OLD_VERSION = (3, b"", b"stockdesk: old version\n")
 STORE = (1, b"", b"stockdesk: store\n")
 
 # words that ask for nothing that the program does
@@ -321,23 +328,94 @@ def test_an_empty_script_changes_nothing(program, folder):
         expect(rows_of(path) == ["desk|1|2|0|0"], "other rows")
 
 
-def test_older_files_are_read(program, folder):
-    """Files that an earlier program wrote, with the script that made them: the rest is played on copies of them."""
-    for name in ["long", "transfer", "many"]:
-        path = os.path.join(folder, f"{name}.db")
-        shutil.copyfile(os.path.join(FILES, f"{name}.db"), path)
+def older(folder, name):
+    """A copy of a file that a program of version 1 wrote, with nothing of what lay beside the last one."""
+    path = os.path.join(folder, f"{name}.db")
+    with contextlib.suppress(FileNotFoundError):
+        os.remove(f"{path}-wal")
+    return shutil.copyfile(os.path.join(FILES, f"{name}.db"), path)
+
+
+def upgraded(program, path):
+    expect_end(program, ["upgrade", path], (0, b"", b""))
+    return path
+
+
+def test_an_old_version_is_told_and_left_alone(program, folder):
+    """By every command but `init`, to which it is a file as any other."""
+    records = os.path.join(folder, "records.csv")
+    for name in OLDER:
+        path = older(folder, name)
+        found = bytes_of(path)
+        serve = ["serve", path, "--port", "0", "--connections", "1"]
+        for words in [["run", path], ["sheet", path, "N1"], ["article", path, "A-1"], serve]:
+            expect_end(program, words, OLD_VERSION)
+        for command in ["orders", "deliveries", "bounds"]:
+            expect_end(program, [command, path, records], OLD_VERSION)
+        expect_end(program, ["init", path], NOT_A_DESK)
+        expect(bytes_of(path) == found, f"{name} was changed")
+
+
+def test_an_upgraded_file_goes_on(program, folder):
+    """It has all rows, repeats its answers and answers the rest of its script; to upgrade it again changes nothing."""
+    for name in OLDER:
+        path = upgraded(program, older(folder, name))
+        found = bytes_of(path)
+        upgraded(program, path)
+        expect(bytes_of(path) == found, f"{name}: changed by a second upgrade")
+        again = [line for line in zip(lines_of(f"{name}.script"), lines_of(f"{name}.replies"), strict=True) if " done " in line[1]]
+        replies = done(program, ["run", path], "".join(line + "\n" for line, _ in again))
+        expect(replies == [reply for _, reply in again], f"{name}: another reply to a repeated line")
         rest = "\n".join(lines_of(f"{name}.rest.script")) + "\n"
-        found = done(program, ["run", path], rest)
-        expect(found == lines_of(f"{name}.rest.replies"), f"{name}: another reply")
+        expect(done(program, ["run", path], rest) == lines_of(f"{name}.rest.replies"), f"{name}: another reply")
         if sqlite3 is not None:
-            expect(rows_of(path) == lines_of(f"{name}.rows"), f"{name}: other rows")
+            rows = [row.replace("desk|1|1|", "desk|1|2|", 1) for row in lines_of(f"{name}.rows")]
+            expect(rows_of(path) == rows, f"{name}: other rows")
+
+
+def test_only_a_desk_is_upgraded(program, folder):
+    path = os.path.join(folder, "other.db")
+    expect_end(program, ["upgrade", path], NOT_A_DESK)
+    expect(not os.path.exists(path), "an upgrade made a file")
+    expect_end(program, ["upgrade", folder], STORE)
+    for text, end in NO_DESK:
+        with open(path, "wb") as file:
+            file.write(text)
+        expect_end(program, ["upgrade", path], end)
+        expect(bytes_of(path) == text, f"{text} was changed")
+    new = new_desk(program, folder)
+    found = bytes_of(new)
+    upgraded(program, new)
+    expect(bytes_of(new) == found, "a new desk was changed")
+
+
+def test_a_killed_upgrade_leaves_either_version(program, folder):
+    """All of version 1, which can be upgraded then, or all of version 2."""
+    generator = random.Random(1986)
+    began = time.monotonic()
+    upgraded(program, older(folder, "many"))
+    took = time.monotonic() - began
+    old, new = 0, 0
+    for _ in range(ROUNDS):
+        path = older(folder, "many")
+        process = subprocess.Popen([program, "upgrade", path])
+        time.sleep(generator.uniform(0, 1.2 * took))
+        process.kill()
+        process.wait()
+        end = ended(program, ["run", path], "")
+        expect(end in [(0, b"", b""), OLD_VERSION], f"{end}")
+        old, new = old + (end == OLD_VERSION), new + (end != OLD_VERSION)
+        upgraded(program, path)
+        rest = "\n".join(lines_of("many.rest.script")) + "\n"
+        expect(done(program, ["run", path], rest) == lines_of("many.rest.replies"), "another reply")
+    expect(old > 0, "none was killed in time")
+    say(f"  {ROUNDS} upgrades killed: {old} left version 1, {new} version 2")
 
 
 def test_an_older_file_takes_other_bounds(program, folder):
     """A field of each: its numbers stay, and it is shown with its new bounds by this run and by the next."""
-    for name in ["long", "transfer", "many"]:
-        path = os.path.join(folder, f"{name}.db")
-        shutil.copyfile(os.path.join(FILES, f"{name}.db"), path)
+    for name in OLDER:
+        path = upgraded(program, older(folder, name))
         sheet = done(program, ["article", path, "A-1"])[0].split()
         branch, lo, hi, value, inf, sup = sheet
         ask = f"? field {branch} A-1"
@@ -408,8 +486,11 @@ def main():
         test_another_sqlite_reads_the_file,
         test_another_database_is_no_desk,
         test_an_empty_script_changes_nothing,
-        test_older_files_are_read,
-    test_an_older_file_takes_other_bounds,
+        test_an_old_version_is_told_and_left_alone,
+        test_an_upgraded_file_goes_on,
+        test_only_a_desk_is_upgraded,
+        test_a_killed_upgrade_leaves_either_version,
+        test_an_older_file_takes_other_bounds,
         test_nothing_acknowledged_is_lost,
         *hostile.TESTS,
         *messages.TESTS,
