@@ -1,7 +1,6 @@
 """Tests of the built program as a real process: what its words and its FILE may be, what its help says, a store and memory
 that are refused, scripts a line a run, long ones, files of requests, also killed and called again, replies on a pipe that
-stays open, the file as another SQLite reads it, connections, and sessions that are killed. The one argument is the
-program."""
+stays open, files of an older version, connections, and sessions that are killed. The one argument is the program."""
 
 import contextlib
 import os
@@ -28,7 +27,6 @@ import service
 import spelling
 import stored
 from programs import (
-    COLUMNS,
     FILES,
     Session,
     bytes_of,
@@ -96,35 +94,6 @@ HELP = [
 
 # files with bytes that are no desk, and what a run on them ends with
 NO_DESK = [(b"this is no database, but some text", STORE), (b"S", STORE), (b"", NOT_A_DESK)]
-
-TRANSFER = """T1 field N1 A-1 0 100 40
-T2 field N2 A-1 0 50 5
-T3 transfer 20 900 A-1 N1 N2 10
-T4 use 20 N2 A-1 4
-T5 more 20 take N1 A-1 1
-F1 firm 20
-T6 commit 20
-D1 deliver N1 A-1 3
-"""
-
-# what the rules say that each table holds after that script
-ROWS = {
-    "desk": [(1, 2, 0, 7)],
-    "field": [("N1", "A-1", 0, 100, 40, 39, 39, 39), ("N2", "A-1", 0, 50, 5, 9, 9, 9)],
-    "move": [(7, "N1", "A-1", 3)],
-    "orders": [(20, 1, 900, 1)],
-    "line": [(20, 1, "N1", "A-1", 0, 10, 4), (20, 2, "N2", "A-1", 1, 10, 4)],
-    "kept": [
-        ("D1", 7, "deliver N1 A-1 3"),
-        ("F1", 5, "firm 20"),
-        ("T1", 1, "field N1 A-1 0 100 40"),
-        ("T2", 2, "field N2 A-1 0 50 5"),
-        ("T3", 3, "transfer 20 900 A-1 N1 N2 10"),
-        ("T4", 4, "use 20 N2 A-1 4"),
-        ("T6", 6, "commit 20"),
-    ],
-    "firm": [(20,)],
-}
 
 
 def test_other_words_ask_for_nothing(program, folder):
@@ -281,28 +250,6 @@ def test_replies_come_line_by_line(program, folder):
         expect(session.ask("x") == "- refused 20 BadCommand 0", "no reply to a bad line")
     finally:
         session.end()
-
-
-def test_another_sqlite_reads_the_file(program, folder):
-    path = new_desk(program, folder)
-    done(program, ["run", path], TRANSFER)
-    if sqlite3 is None or sqlite3.sqlite_version_info < (3, 37):
-        say("  not read: no other SQLite with strict tables is here")
-        return
-    database = sqlite3.connect(path)
-    try:
-        expect(database.execute("PRAGMA integrity_check").fetchall() == [("ok",)], "the file is not whole")
-        names = {name for (name,) in database.execute("SELECT name FROM sqlite_schema WHERE type = 'table'")}
-        expect(names == set(ROWS), f"other tables: {names}")
-        for table, rows in ROWS.items():
-            columns = COLUMNS[table]
-            found = [row[1] for row in database.execute(f"PRAGMA table_info({table})")]
-            expect(found == columns, f"{table} has other columns: {found}")
-            order = ", ".join(str(n) for n in range(1, len(columns) + 1))
-            found = database.execute(f"SELECT {', '.join(columns)} FROM {table} ORDER BY {order}").fetchall()
-            expect(found == rows, f"{table} has other rows: {found}")
-    finally:
-        database.close()
 
 
 def test_another_database_is_no_desk(program, folder):
@@ -483,7 +430,6 @@ def main():
         test_a_desk_outlives_each_run,
         test_long_input_is_answered,
         test_replies_come_line_by_line,
-        test_another_sqlite_reads_the_file,
         test_another_database_is_no_desk,
         test_an_empty_script_changes_nothing,
         test_an_old_version_is_told_and_left_alone,
