@@ -24,9 +24,12 @@ import scripts
 import service
 import spelling
 import stored
+import upgrades
 from programs import (
     COLUMNS,
-    FILES,
+    NOT_A_DESK,
+    NO_DESK,
+    STORE,
     Session,
     bytes_of,
     done,
@@ -43,9 +46,6 @@ from programs import (
 
 ROUNDS = 50
 LINES = 1000
-
-NOT_A_DESK = (3, b"", b"stockdesk: not a desk\n")
-STORE = (1, b"", b"stockdesk: store\n")
 
 # words that ask for nothing that the program does
 NO_TASK = [
@@ -86,9 +86,6 @@ HELP = [
     (["serve", "--help"], ["FILE", "--port", "--connections"]),
     (["upgrade", "--help"], ["FILE"]),
 ]
-
-# files with bytes that are no desk, and what a run on them ends with
-NO_DESK = [(b"this is no database, but some text", STORE), (b"S", STORE), (b"", NOT_A_DESK)]
 
 TRANSFER = """T1 field N1 A-1 0 100 40
 T2 field N2 A-1 0 50 5
@@ -321,34 +318,6 @@ def test_an_empty_script_changes_nothing(program, folder):
         expect(rows_of(path) == ["desk|1|2|0|0"], "other rows")
 
 
-def test_older_files_are_read(program, folder):
-    """Files that an earlier program wrote, with the script that made them: the rest is played on copies of them."""
-    for name in ["long", "transfer", "many"]:
-        path = os.path.join(folder, f"{name}.db")
-        shutil.copyfile(os.path.join(FILES, f"{name}.db"), path)
-        rest = "\n".join(lines_of(f"{name}.rest.script")) + "\n"
-        found = done(program, ["run", path], rest)
-        expect(found == lines_of(f"{name}.rest.replies"), f"{name}: another reply")
-        if sqlite3 is not None:
-            expect(rows_of(path) == lines_of(f"{name}.rows"), f"{name}: other rows")
-
-
-def test_an_older_file_takes_other_bounds(program, folder):
-    """A field of each: its numbers stay, and it is shown with its new bounds by this run and by the next."""
-    for name in ["long", "transfer", "many"]:
-        path = os.path.join(folder, f"{name}.db")
-        shutil.copyfile(os.path.join(FILES, f"{name}.db"), path)
-        sheet = done(program, ["article", path, "A-1"])[0].split()
-        branch, lo, hi, value, inf, sup = sheet
-        ask = f"? field {branch} A-1"
-        shown = f"{ask} lo {inf} hi {sup} value {value} inf {inf} sup {sup}"
-        first, *found = done(program, ["run", path], f"Z1 rebound {branch} A-1 {inf} {sup}\n{ask}\n")
-        expect(first.startswith("Z1 done ") and found == [shown], f"{name}: {first}, {found}")
-        expect(done(program, ["run", path], f"{ask}\n") == [shown], f"{name}: other bounds behind it")
-        tighter = done(program, ["run", path], f"Z2 rebound {branch} A-1 {int(inf) + 1} {hi}\n{ask}\n")
-        expect(tighter == ["Z2 refused 13 TooLittle 0", shown], f"{name}: {tighter}")
-
-
 def killed(program, path, first, seconds):
     """Delivers one piece after another, from that place on, until it is killed after so many seconds: how many replies came."""
     session = Session(program, path)
@@ -408,8 +377,6 @@ def main():
         test_another_sqlite_reads_the_file,
         test_another_database_is_no_desk,
         test_an_empty_script_changes_nothing,
-        test_older_files_are_read,
-    test_an_older_file_takes_other_bounds,
         test_nothing_acknowledged_is_lost,
         *hostile.TESTS,
         *messages.TESTS,
@@ -418,6 +385,7 @@ def main():
         *service.TESTS,
         *spelling.TESTS,
         *stored.TESTS,
+        *upgrades.TESTS,
         *records.TESTS,
         *damages.TESTS,
     ]:

@@ -3,12 +3,20 @@ byte, tables and rows that are no desk of this version, rows that are damaged an
 
 import contextlib
 
-from programs import bytes_of, done, expect, expect_end, new_desk, rows_of, say, sqlite3
-
-NOT_A_DESK = (3, b"", b"stockdesk: not a desk\n")
-DAMAGED = (3, b"", b"stockdesk: damaged\n")
-OLD_VERSION = (3, b"", b"stockdesk: old version\n")
-STORE = (1, b"", b"stockdesk: store\n")
+from programs import (
+    DAMAGED,
+    NOT_A_DESK,
+    OLD_VERSION,
+    STORE,
+    bytes_of,
+    done,
+    expect,
+    expect_end,
+    new_desk,
+    rows_of,
+    say,
+    sqlite3,
+)
 
 # codes and keys that have every byte of their alphabets, each as long as it may be or shorter
 CODES = [

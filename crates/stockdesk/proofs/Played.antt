@@ -26,7 +26,7 @@ use Rattle.stockdesk.specs.declared.sheet.Shown.{Shown}
 use Rattle.stockdesk.specs.declared.session.Fault.{Fault}
 
 rows_new : IsRowsOf new_ledger new_content
-rows_new = record { desk = refl; fields = tt; moves = refl; orders = refl; lines = refl; kept = refl }
+rows_new = record { desk = refl; fields = tt; moves = refl; orders = refl; lines = refl; kept = refl; firms = refl }
 
 -- a good ledger whose rows are those of a new desk is that of one
 is_new : (A : Ledger) → Good A → IsRowsOf A new_content → A ≡ new_ledger
@@ -75,6 +75,7 @@ nothing_so_far A R r W w reads writes = record {
 
 abbrev is_unbegun : Fault → Bool
 is_unbegun Fault.NotADesk = true
+is_unbegun Fault.OldVersion = true
 is_unbegun Fault.Damaged = true
 is_unbegun Fault.Memory = false
 is_unbegun Fault.Store = false
@@ -86,7 +87,8 @@ is_unbegun Fault.Csv = true
 
 pub not_unbegun : (fault told : Fault) → fault ≡ told → is_unbegun told ≡ false → IsUnbegun fault → ⊥
 not_unbegun fault told e begun (inl (inl is)) = true≢false (sym (ap is_unbegun is) ∙ ap is_unbegun e ∙ begun)
-not_unbegun fault told e begun (inl (inr is)) = true≢false (sym (ap is_unbegun is) ∙ ap is_unbegun e ∙ begun)
+not_unbegun fault told e begun (inl (inr (inl is))) = true≢false (sym (ap is_unbegun is) ∙ ap is_unbegun e ∙ begun)
+not_unbegun fault told e begun (inl (inr (inr is))) = true≢false (sym (ap is_unbegun is) ∙ ap is_unbegun e ∙ begun)
 not_unbegun fault told e begun (inr (inl is)) = true≢false (sym (ap is_unbegun is) ∙ ap is_unbegun e ∙ begun)
 not_unbegun fault told e begun (inr (inr (number, is))) = true≢false (sym (ap is_unbegun is) ∙ ap is_unbegun e ∙ begun)
 
@@ -197,7 +199,8 @@ module _ {K : Type 0} (g : Ghosts K) (keep : K) (R r W w : Option (List ℕ)) wh
       where
         by : IsNoDesk fault ⊎ ((fault ≡ Fault.Memory) ⊎ (fault ≡ Fault.Store)) → ⊥
         by (inl (inl is)) = s.not_a_desk is honest new_content there (new_row, refl, refl)
-        by (inl (inr is)) = s.damaged is honest new_content new new_ledger good_new rows_new
+        by (inl (inr (inl is))) = s.damaged is honest new_content new new_ledger good_new rows_new
+        by (inl (inr (inr is))) = s.old_version is honest new_content there
         by (inr (inl is)) = not_unbegun fault _ is refl un
         by (inr (inr is)) = not_unbegun fault _ is refl un
     opens_new there (inr s) un = let (cause, told, ends) = s.ends in told_begun cause fault told un
@@ -295,6 +298,7 @@ module _ {K : Type 0} (g : Ghosts K) (keep : K) (was : Content → Type 0) (open
   starts_part in_tables fault Untouched PartDone (inl (s, kept)) = inl (
     record {
       not_a_desk = λ is honest x there. s.not_a_desk is honest x (in_tables x (opens.held (back honest) x there));
+      old_version = λ is honest x there. s.old_version is honest x (in_tables x (opens.held (back honest) x there));
       damaged = λ is honest x there. s.damaged is honest x (opens.held (back honest) x there);
       opening = s.opening;
       stopped = s.stopped;

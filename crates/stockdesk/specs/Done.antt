@@ -14,7 +14,7 @@ use Rattle.stockdesk.specs.Sheets.{SheetBegun, SheetWritten}
 use Rattle.stockdesk.specs.Tasks.{Asks, stockdesk}
 use Rattle.stockdesk.specs.declared.sheet.Shown.{Shown}
 use Rattle.stockdesk.specs.declared.tasks.Task.{Task}
-use Rattle.stockdesk.specs.declared.tasks.Task.TheVariants.{Bounds, Deliveries, Init, Orders, Run, Serve, Sheet}
+use Rattle.stockdesk.specs.declared.tasks.Task.TheVariants.{Bounds, Deliveries, Init, Orders, Run, Serve, Sheet, Upgrade}
 
 -- ---- replies to requests
 
@@ -58,6 +58,7 @@ Does (Deliveries path csv) reader_old reader_new writer_old writer_new = Keeps r
 Does (Bounds path csv) reader_old reader_new writer_old writer_new = Keeps reader_old reader_new × PrintsReplies writer_old writer_new
 Does (Sheet path shown) reader_old reader_new writer_old writer_new = Keeps reader_old reader_new × PrintsSheet shown writer_old writer_new
 Does (Serve path service) reader_old reader_new writer_old writer_new = Keeps reader_old reader_new × PortTold writer_old writer_new
+Does (Upgrade path) reader_old reader_new writer_old writer_new = Keeps reader_old reader_new × Keeps writer_old writer_new
 
 -- the task is done in part: what was written is a beginning
 abbrev pub DoesInPart : Task → (reader_old reader_new writer_old writer_new : Option (List ℕ)) → Type 0
@@ -69,6 +70,7 @@ DoesInPart (Deliveries path csv) reader_old reader_new writer_old writer_new = K
 DoesInPart (Bounds path csv) reader_old reader_new writer_old writer_new = Keeps reader_old reader_new × PrintsRepliesInPart writer_old writer_new
 DoesInPart (Sheet path shown) reader_old reader_new writer_old writer_new = Keeps reader_old reader_new × PrintsSheetInPart shown writer_old writer_new
 DoesInPart (Serve path service) reader_old reader_new writer_old writer_new = Keeps reader_old reader_new × PortBegun writer_old writer_new
+DoesInPart (Upgrade path) reader_old reader_new writer_old writer_new = Keeps reader_old reader_new × Keeps writer_old writer_new
 
 -- the words ask for a task, and it is done
 abbrev pub DoesAsked : List Text → (reader_old reader_new writer_old writer_new : Option (List ℕ)) → Type 0

@@ -46,9 +46,9 @@ pub record IsToldAs (cause : ScriptFault) (fault : Fault) : Type 0 where
   pub read : fault ≡ Fault.Read ↔ cause ≡ ScriptFault.Read
   pub write : fault ≡ Fault.Write ↔ cause ≡ ScriptFault.Write
 
--- the file, or what else is held, is no desk or damaged
+-- the file, or what else is held, is no desk, damaged or of version 1
 abbrev pub IsNoDesk : Fault → Type 0
-IsNoDesk fault = (fault ≡ Fault.NotADesk) ⊎ (fault ≡ Fault.Damaged)
+IsNoDesk fault = (fault ≡ Fault.NotADesk) ⊎ ((fault ≡ Fault.Damaged) ⊎ (fault ≡ Fault.OldVersion))
 
 -- a file of requests cannot be read, or has a record at fault
 abbrev pub IsBadFile : Fault → Type 0
@@ -71,12 +71,14 @@ pub record SessionWhole {K : Type 0} (g : Ghosts K) (keep : K) (held : Content �
   pub going : g.stopped keep ≡ false
   pub kept : g.is_honest keep → KeepsRows (g.holds keep) (g.leaves keep) last
 
--- No desk was opened. If the disk is honest, what is held is no desk or damaged where that is told, and the keeper is left so.
+-- No desk was opened. If the disk is honest, what is held is no desk, of another version or damaged where that is told, and the
+-- keeper is left so.
 pub record SessionRefused {K : Type 0} (g : Ghosts K) (fault : Fault) (keep : K) (held tables : Content → Type 0) (IsLeftSo : Type 0) : Type 0 where
   pub not_a_desk : fault ≡ Fault.NotADesk → g.is_honest keep → (x : Content) → tables x → ¬ IsDesk x
+  pub old_version : fault ≡ Fault.OldVersion → g.is_honest keep → (x : Content) → tables x → ⊥
   pub damaged : fault ≡ Fault.Damaged → g.is_honest keep → (x : Content) → held x → IsDamaged x
   pub opening : IsNoDesk fault ⊎ ((fault ≡ Fault.Memory) ⊎ (fault ≡ Fault.Store))
-  pub stopped : (fault ≡ Fault.Store) ⊎ (fault ≡ Fault.NotADesk) → IsTrue (g.stopped keep)
+  pub stopped : (fault ≡ Fault.Store) ⊎ ((fault ≡ Fault.NotADesk) ⊎ (fault ≡ Fault.OldVersion)) → IsTrue (g.stopped keep)
   pub going : fault ≡ Fault.Damaged → g.stopped keep ≡ false
   pub left : g.is_honest keep → IsLeftSo
 

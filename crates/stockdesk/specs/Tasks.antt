@@ -5,7 +5,7 @@ use Rattle.clap.specs.declared.builder.action.ArgAction.TheVariants.{Set}
 use Rattle.stockdesk.specs.declared.loopback.Service.{Service}
 use Rattle.stockdesk.specs.declared.sheet.Shown.TheVariants.{OfArticle, OfBranch}
 use Rattle.stockdesk.specs.declared.tasks.Task.{Task}
-use Rattle.stockdesk.specs.declared.tasks.Task.TheVariants.{Bounds, Deliveries, Init, Orders, Run, Serve, Sheet}
+use Rattle.stockdesk.specs.declared.tasks.Task.TheVariants.{Bounds, Deliveries, Init, Orders, Run, Serve, Sheet, Upgrade}
 
 -- a word of that name
 abbrev pub word : Text → Rule
@@ -55,6 +55,10 @@ article = on_file (codes "article") (codes "ARTICLE")
 abbrev pub serve : App
 serve = with_rule (with_rule (with_rule (new_app (codes "serve")) (needed (codes "FILE"))) (option (codes "port"))) (option (codes "connections"))
 
+-- `upgrade FILE`
+abbrev pub upgrade : App
+upgrade = with_rule (new_app (codes "upgrade")) (needed (codes "FILE"))
+
 -- two commands more
 abbrev pub with_both : App → App → App → App
 with_both app first second = with_subcommand (with_subcommand app first.top) second.top
@@ -63,9 +67,9 @@ with_both app first second = with_subcommand (with_subcommand app first.top) sec
 abbrev pub scripts : App
 scripts = let named = new_app (codes "stockdesk") in with_both (record named { top = record named.top { subcommand_required = true } }) init run
 
--- one of the eight
+-- one of the nine
 abbrev pub stockdesk : App
-stockdesk = with_subcommand (with_both (with_subcommand (with_both scripts orders deliveries) bounds.top) sheet article) serve.top
+stockdesk = with_subcommand (with_subcommand (with_both (with_subcommand (with_both scripts orders deliveries) bounds.top) sheet article) serve.top) upgrade.top
 
 -- the words are the numbers of that service, which are in their ranges
 pub record IsService (port connections : Text) (service : Service) : Type 0 where
@@ -86,6 +90,7 @@ AsksFor name rows (Sheet path (OfBranch branch)) = (name ≡ codes "sheet") × (
 AsksFor name rows (Sheet path (OfArticle article)) = (name ≡ codes "article") × (first_of (codes "FILE") rows ≡ Some path.now) × (first_of (codes "ARTICLE") rows ≡ Some article)
 AsksFor name rows (Serve path service) = (name ≡ codes "serve") × (first_of (codes "FILE") rows ≡ Some path.now)
     × ((port : Text) × (connections : Text) × (first_of (codes "port") rows ≡ Some port) × (first_of (codes "connections") rows ≡ Some connections) × IsService port connections service)
+AsksFor name rows (Upgrade path) = (name ≡ codes "upgrade") × (first_of (codes "FILE") rows ≡ Some path.now)
 
 -- what was found of the words asks for this task
 abbrev pub Asks : Option (Text × List Row) → Task → Type 0

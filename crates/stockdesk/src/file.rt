@@ -3,7 +3,12 @@
 ghost use Rattle.std.specs.Prelude.{◌≡◌, ◌≢◌, ◌⊎◌, ◌↔◌, false, IfErr, IfOk, OnErr, OnOk};
 ghost use Rattle.std.specs.Io.KnownBytes.{Keeps};
 ghost use Rattle.sqlite.specs.WalFiles.{image_at};
-ghost use Rattle.keep.specs.Starts.{StartsWith};
+ghost use Rattle.sqlite.specs.Files.{file_state};
+ghost use Rattle.sqlite.specs.State.{HasCleanDisk};
+ghost use Rattle.book.specs.Rows.{Content};
+ghost use Rattle.keep.specs.Content.{Holds};
+ghost use Rattle.keep.specs.Old.{HoldsOld, upgraded};
+ghost use Rattle.keep.specs.Starts.{StartsOld, StartsWith};
 ghost use Rattle.stockdesk.specs.Connections.{ServiceInPart, ServiceWhole};
 ghost use Rattle.stockdesk.specs.Requests.{FileInPart, FileWhole};
 ghost use Rattle.stockdesk.specs.Sessions.{IsNewDesk, KeepsOn, OpensWith, ScriptInPart, ScriptWhole};
@@ -14,6 +19,7 @@ use crate::new_desk::new_desk;
 use crate::requests::{self, Kind};
 use crate::session::{Fault, session};
 use crate::sheet::{self, Shown};
+use crate::upgrade;
 use keep::{Keep, SqlKeep, open_path};
 use sqlite::{Connection, Error, ErrorCode, FileFrom, FileStore, Start};
 use sqlite_disk::Disk;
@@ -125,6 +131,7 @@ pub fn open<S: Start>(
     start: S,
 ) -> Result<SqlKeep<FileStore<FileFrom<S>>>, Fault>
     ensures opened { IfOk result (OpensWith ⟦<SqlKeep<FileStore<FileFrom<S>>> as Keep>⟧ (StartsWith (image_at S.Start))) }
+    ensures old { IfOk result (λ keep. HasCleanDisk (file_state keep.connection) → (x : Content) → StartsOld (image_at S.Start) x → HoldsOld (file_state keep.connection).now x) }
     ensures fault { IfErr result (λ fault. (fault ≡ Fault.NotADesk) ⊎ ((fault ≡ Fault.Memory) ⊎ (fault ≡ Fault.Store))) }
 {
     match look(rt, path)? {
@@ -210,4 +217,21 @@ pub fn serve<S: Start, W: Write>(
 {
     let keep = open(rt, path, start)?;
     Ok(loopback::serve(rt, keep, service, writer))
+}
+
+/// Makes version 2 of the desk in the file at the path, whose bytes are named by `start`, where it is of version 1; one of version 2
+/// is left alone. The keeper comes back over what the file holds then, and is still open. A file that is not there or has no
+/// bytes is `NotADesk`, and none is made.
+pub fn upgrade<S: Start>(
+    rt: &HostRuntime,
+    path: &str,
+    start: S,
+) -> Result<(SqlKeep<FileStore<FileFrom<S>>>, Result<(), Fault>), Fault>
+    ensures made { IfOk result (λ r. HasCleanDisk (file_state r.0.connection) → OnOk r.1 ((x : Content) → StartsOld (image_at S.Start) x → Holds (file_state r.0.connection).now (upgraded x))) }
+    ensures same { IfOk result (λ r. HasCleanDisk (file_state r.0.connection) → OnOk r.1 ((x : Content) → StartsWith (image_at S.Start) x → Holds (file_state r.0.connection).now x)) }
+    ensures ended { IfOk result (λ r. IfErr r.1 (λ fault. (fault ≡ Fault.NotADesk) ⊎ ((fault ≡ Fault.Memory) ⊎ (fault ≡ Fault.Store)))) }
+    ensures fault { IfErr result (λ fault. (fault ≡ Fault.NotADesk) ⊎ ((fault ≡ Fault.Memory) ⊎ (fault ≡ Fault.Store))) }
+{
+    let keep = open(rt, path, start)?;
+    Ok(upgrade::upgrade(keep))
 }

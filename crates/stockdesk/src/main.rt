@@ -21,6 +21,7 @@ mod sheet;
 mod tasks;
 #[cfg(test)]
 mod tests;
+mod upgrade;
 
 use crate::perform::perform;
 use crate::session::Fault;
@@ -41,6 +42,7 @@ fn tell_fault<E: Write>(errors: &mut E, fault: Fault) -> u8
 {
     match fault {
         Fault::NotADesk => tell(errors, b"stockdesk: not a desk\n", 3),
+        Fault::OldVersion => tell(errors, b"stockdesk: old version\n", 3),
         Fault::Damaged => tell(errors, b"stockdesk: damaged\n", 3),
         Fault::Memory => tell(errors, b"stockdesk: memory\n", 1),
         Fault::Store => tell(errors, b"stockdesk: store\n", 1),
@@ -62,8 +64,8 @@ fn tell<E: Write>(errors: &mut E, line: &[u8], status: u8) -> u8
 }
 
 /// Does what the words ask for, of which the first is the program's name, and gives the status to end with: 0 where it is
-/// done, 1 after a fault, 2 for words that ask for nothing, 3 where the file is no desk or damaged, 4 where a file of requests
-/// cannot be read or has a record at fault. All but 0 is told on `errors`.
+/// done, 1 after a fault, 2 for words that ask for nothing, 3 where the file is no desk, damaged or of version 1, 4 where a
+/// file of requests cannot be read or has a record at fault. All but 0 is told on `errors`.
 pub fn go<'a, R, W, E>(
     rt: &HostRuntime,
     words: &'a [&'a str],

@@ -89,6 +89,15 @@ fn serve_file<W: Write>(
     ended
 }
 
+/// Makes version 2 of the desk in the file at the path, and closes it.
+fn upgrade_file(rt: &HostRuntime, path: &str) -> Result<(), Fault>
+    ensures { IfErr result (λ fault. (fault ≡ Fault.NotADesk) ⊎ ((fault ≡ Fault.Memory) ⊎ (fault ≡ Fault.Store))) }
+{
+    let (keep, ended) = file::upgrade(rt, path, Unknown)?;
+    file::close(keep);
+    ended
+}
+
 /// Does what is asked for.
 pub fn perform<R: Read, W: Write>(
     rt: &HostRuntime,
@@ -110,5 +119,6 @@ pub fn perform<R: Read, W: Write>(
         Task::Bounds(path, csv) => answer_file(rt, *path, Kind::Bounds, *csv, writer),
         Task::Sheet(path, shown) => show_file(rt, *path, shown, writer),
         Task::Serve(path, service) => serve_file(rt, *path, service, writer),
+        Task::Upgrade(path) => upgrade_file(rt, *path),
     }
 }

@@ -18,6 +18,8 @@ use thiserror::Error;
 pub enum Fault {
     #[error("not a desk")]
     NotADesk,
+    #[error("old version")]
+    OldVersion,
     #[error("damaged")]
     Damaged,
     #[error("out of memory")]
@@ -40,6 +42,7 @@ pub enum Fault {
 /// The fault that one of the opening is told as.
 fn open_fault(fault: OpenFault) -> Fault
     ensures not_a_desk { result ≡ Fault.NotADesk ↔ fault ≡ OpenFault.NotADesk }
+    ensures old_version { result ≡ Fault.OldVersion ↔ fault ≡ OpenFault.OldVersion }
     ensures damaged { result ≡ Fault.Damaged ↔ fault ≡ OpenFault.Damaged }
     ensures memory { result ≡ Fault.Memory ↔ fault ≡ OpenFault.Memory }
     ensures store { result ≡ Fault.Store ↔ fault ≡ OpenFault.Store }
@@ -47,6 +50,7 @@ fn open_fault(fault: OpenFault) -> Fault
 {
     match fault {
         OpenFault::NotADesk => Fault::NotADesk,
+        OpenFault::OldVersion => Fault::OldVersion,
         OpenFault::Damaged => Fault::Damaged,
         OpenFault::Memory => Fault::Memory,
         OpenFault::Store => Fault::Store,
@@ -67,12 +71,16 @@ pub fn script_fault(fault: ScriptFault) -> Fault
 }
 
 /// Opens the desk that a keeper holds. Where none is opened the keeper holds what it held, and nothing is added to what a stop
-/// may leave. A keeper that was stopped comes back as it was.
+/// may leave. A keeper that was stopped comes back as it was. `OldVersion` only where the store is of version 1, and there
+/// nothing else but `Memory` and `Store`.
 pub fn open_desk<K: Keep>(alloc: Global, keep: K) -> Result<Desk<K>, (Fault, K)>
     ensures good { IfOk result (λ desk. Good desk.ledger) }
     ensures rows { IfOk result (λ desk. K.is_honest desk.keep → (x : Content) → K.holds keep x → IsRowsOf desk.ledger x) }
     ensures going { IfOk result (λ desk. K.stopped desk.keep ≡ false) }
     ensures back { IfOk result (λ desk. K.is_honest desk.keep → K.is_honest keep) }
+    ensures old_version { IfErr result (λ e. e.0 ≡ Fault.OldVersion → K.is_honest e.1 → K.is_old keep) }
+    ensures not_old { IfOk result (λ desk. K.is_honest desk.keep → K.stopped keep ≡ false → K.is_old keep → ⊥) }
+    ensures only_old { IfErr result (λ e. K.is_honest e.1 → K.stopped keep ≡ false → K.is_old keep → (e.0 ≡ Fault.OldVersion) ⊎ ((e.0 ≡ Fault.Memory) ⊎ (e.0 ≡ Fault.Store))) }
     ensures held { IfErr result (λ e. SessionRefused K.Keep e.0 e.1 (K.holds keep) (K.has_tables keep) (IsLeft K.Keep keep e.1)) }
     ensures honest { IfErr result (λ e. K.is_honest e.1 → K.is_honest keep) }
     ensures refused { IsTrue (K.stopped keep) → result ≡ Err (Fault.Store, keep) }

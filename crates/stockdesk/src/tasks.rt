@@ -3,7 +3,7 @@
 ghost use Rattle.std.specs.Prelude.{◌≡◌, ◌≤◌, Some, None, codes, [], false, true, decimal, map, IfErr, IfOk, IfSome};
 ghost use Rattle.clap.specs.Words.{app_of, found_of, kind_of, rows_of, rule_of, subcommand_of, subcommand_rows_of, takes, with_subcommand};
 ghost use Rattle.clap.specs.declared.builder.command.Command.TheViews.{out-Command as fields_of};
-ghost use Rattle.stockdesk.specs.Tasks.{Asks, AsksFor, IsPlainRun, IsService, article, bounds, deliveries, init, on_file, option, orders, run, scripts, serve, sheet, stockdesk, with_both};
+ghost use Rattle.stockdesk.specs.Tasks.{Asks, AsksFor, IsPlainRun, IsService, article, bounds, deliveries, init, on_file, option, orders, run, scripts, serve, sheet, stockdesk, upgrade, with_both};
 
 use crate::loopback::Service;
 use crate::sheet::Shown;
@@ -33,6 +33,8 @@ pub enum Task<'a> {
     Sheet(&'a str, Shown),
     /// The desk in this file, served.
     Serve(&'a str, Service),
+    /// The desk in this file, made one of version 2.
+    Upgrade(&'a str),
 }
 
 /// `init`, with its file.
@@ -175,6 +177,28 @@ fn with_service<'a>(alloc: Global, command: Command<'a>) -> Result<Command<'a>, 
     command.subcommand(serve)
 }
 
+/// `upgrade`, with its file.
+fn upgrade_command<'a>(alloc: Global) -> Result<Command<'a>, AllocError>
+    ensures app { IfOk result (λ command. app_of command ≡ upgrade) }
+    ensures local { IfOk result (λ command. (fields_of command).has_globals ≡ false) }
+{
+    let file = Arg::new(alloc, "FILE")
+        .help("The file of a desk of an earlier version; one of this version is left alone")
+        .required(true)
+        .action(ArgAction::Set);
+    Command::new(alloc, "upgrade")
+        .about("Makes a desk of this version of one of an earlier version")
+        .arg(file)
+}
+
+/// Adds the command that upgrades a desk.
+fn with_upgrade<'a>(alloc: Global, command: Command<'a>) -> Result<Command<'a>, AllocError>
+    ensures { IfOk result (λ more. app_of more ≡ with_subcommand (app_of command.entry) upgrade.top) }
+{
+    let upgrade = upgrade_command(alloc)?;
+    command.subcommand(upgrade)
+}
+
 /// The words that the program takes.
 fn command<'a>(alloc: Global) -> Result<Command<'a>, AllocError>
     ensures { IfOk result (λ command. app_of command ≡ stockdesk) }
@@ -183,7 +207,8 @@ fn command<'a>(alloc: Global) -> Result<Command<'a>, AllocError>
     let command = with_files(alloc, command)?;
     let command = with_bounds(alloc, command)?;
     let command = with_sheets(alloc, command)?;
-    with_service(alloc, command)
+    let command = with_service(alloc, command)?;
+    with_upgrade(alloc, command)
 }
 
 /// The sheet of the branch that a word names.
@@ -255,6 +280,7 @@ fn task_named<'a>(name: &str, found: &ArgMatches<'a>) -> Option<Task<'a>>
             found.get_str("FILE")?,
             service_named(found.get_str("port")?, found.get_str("connections")?)?,
         )),
+        "upgrade" => Some(Task::Upgrade(found.get_str("FILE")?)),
         _ => None,
     }
 }

@@ -6,3 +6,6 @@ returns-in-Ok-clause-opened g c = record {
   held = λ clean x there. c.in-Ok.ensures.found clean there.0 x there.1 there.2;
   alone = λ clean x there. c.in-Ok.ensures.alone clean x (c.in-Ok.ensures.found clean there.0 x there.1 there.2);
 }
+
+pub returns-in-Ok-clause-old : goal.returns-in-Ok-clause-old
+returns-in-Ok-clause-old g c clean x there = c.in-Ok.ensures.old clean there.0 x there.1 there.2

@@ -62,3 +62,7 @@ returns-in_ok-service_named-in-serve-clause-asked c = (
     c.in_ok-service_named-in-serve.ensures,
   ),
 )
+
+pub returns-in_ok-get_str-in-upgrade-clause-asked : goal.returns-in_ok-get_str-in-upgrade-clause-asked
+returns-in_ok-get_str-in-upgrade-clause-asked c =
+    (c.in-upgrade.is, sym (first_value-rows (found_of c.args.found.now) (codes "FILE")) ∙ sym c.get_str-in-upgrade.ensures ∙ ap (option_map (λ s. s.now)) c.in_ok-get_str-in-upgrade.was)
