@@ -62,8 +62,9 @@ def put_rows(database, rows):
     database.execute("DELETE FROM desk")
     for table in TABLES:
         these = [row[1:] for row in rows[table]]
-        places = ", ".join("?" * len(these[0])) if these else ""
-        database.executemany(f"INSERT INTO {table} VALUES ({places})", these)
+        if these:
+            places = ", ".join("?" * len(these[0]))
+            database.executemany(f"INSERT INTO {table} VALUES ({places})", these)
 
 
 def write(program, path, rows):
