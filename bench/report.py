@@ -122,7 +122,7 @@ def head(program, file_system, library, rounds, batch):
 
 
 def desks(found):
-    heads = ["size", "places taken", "open orders", "firm ones", "fields", "orders", "lines", "moves", "file, MiB"]
+    heads = ["size", "places taken", "open orders", "made firm", "fields", "orders", "lines", "moves", "file, MiB"]
     rows = [
         [f"{size:,}", *(f"{value:,}" for value in found.counts[size].values()), mebibytes(found.bytes[size])]
         for size in found.sizes
