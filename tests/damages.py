@@ -7,10 +7,7 @@ import random
 import shutil
 
 from ledgers import BAD_FIRMS, BAD_LINES, BAD_ROWS, GOOD, NO_DESK, SHOWN, STILL_GOOD
-from programs import COLUMNS, bytes_of, done, ended, expect, new_desk, rows_of, say, sqlite3
-
-DAMAGED = (3, b"", b"stockdesk: damaged\n")
-NOT_A_DESK = (3, b"", b"stockdesk: not a desk\n")
+from programs import COLUMNS, DAMAGED, NOT_A_DESK, bytes_of, done, ended, expect, new_desk, rows_of, say, sqlite3
 
 # an open order that holds 5 of a field
 OPEN_ORDER = ["field,N1,A-1,0,100,40,40,35,40", "orders,7,0,120,0", "line,7,1,N1,A-1,0,5,0"]

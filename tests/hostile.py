@@ -9,15 +9,13 @@ import socket
 import subprocess
 import time
 
-from programs import SECONDS, Session, bytes_of, done, ended, expect, expect_end, new_desk, say
+from programs import NOT_A_DESK, SECONDS, STORE, Session, bytes_of, done, ended, expect, expect_end, new_desk, say
 from service import Service, answered
 
 CONNECTIONS = 10_000
 NOBODY = 65_534
 BAD = "- refused 20 BadCommand 0"
 FIELD = "K1 field N1 A-1 0 1000000 0\n"
-STORE = (1, b"", b"stockdesk: store\n")
-NOT_A_DESK = (3, b"", b"stockdesk: not a desk\n")
 
 # a field, a sheet and a place, each as the body of an answer
 GET = b"GET /v1/fields/N1/A-1 HTTP/1.1\r\n\r\n"
@@ -217,7 +215,6 @@ def test_a_file_that_vanishes(program, folder):
     os.rename(f"{path}-wal", f"{kept}-wal")
     found = done(program, ["run", kept], "? field N1 A-1\n")
     expect(found == ["? field N1 A-1 lo 0 hi 1000000 value 2 inf 2 sup 2"], f"{found}")
-
 
 TESTS = [
     test_a_line_without_an_end_is_not_kept,

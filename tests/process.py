@@ -1,18 +1,16 @@
 """Tests of the built program as a real process: what its words and its FILE may be, what its help says, a store and memory
 that are refused, scripts a line a run, long ones, files of requests, also killed and called again, replies on a pipe that
-stays open, files of an older version, connections, and sessions that are killed. The one argument is the program."""
+stays open, the file as another SQLite reads it, connections, and sessions that are killed. The one argument is the
+program."""
 
-import contextlib
 import os
 import random
 import resource
 import shutil
 import signal
-import subprocess
 import sys
 import tempfile
 import threading
-import time
 
 # no folder of compiled modules beside the sources
 sys.dont_write_bytecode = True
@@ -26,8 +24,13 @@ import scripts
 import service
 import spelling
 import stored
+import upgrades
 from programs import (
-    FILES,
+    COLUMNS,
+    KEYS,
+    NOT_A_DESK,
+    NO_DESK,
+    STORE,
     Session,
     bytes_of,
     done,
@@ -44,13 +47,6 @@ from programs import (
 
 ROUNDS = 50
 LINES = 1000
-
-# files that a program of version 1 wrote, each with the script that made it
-OLDER = ["long", "transfer", "many"]
-
-NOT_A_DESK = (3, b"", b"stockdesk: not a desk\n")
-OLD_VERSION = (3, b"", b"stockdesk: old version\n")
-STORE = (1, b"", b"stockdesk: store\n")
 
 # words that ask for nothing that the program does
 NO_TASK = [
@@ -92,8 +88,37 @@ HELP = [
     (["upgrade", "--help"], ["FILE"]),
 ]
 
-# files with bytes that are no desk, and what a run on them ends with
-NO_DESK = [(b"this is no database, but some text", STORE), (b"S", STORE), (b"", NOT_A_DESK)]
+# the columns of text; all others are of numbers
+TEXTS = ["branch", "article", "reqkey", "words"]
+
+TRANSFER = """T1 field N1 A-1 0 100 40
+T2 field N2 A-1 0 50 5
+T3 transfer 20 900 A-1 N1 N2 10
+T4 use 20 N2 A-1 4
+T5 more 20 take N1 A-1 1
+F1 firm 20
+T6 commit 20
+D1 deliver N1 A-1 3
+"""
+
+# what the rules say that each table holds after that script, the tables in the order of their making
+ROWS = {
+    "desk": [(1, 2, 0, 7)],
+    "field": [("N1", "A-1", 0, 100, 40, 39, 39, 39), ("N2", "A-1", 0, 50, 5, 9, 9, 9)],
+    "move": [(7, "N1", "A-1", 3)],
+    "orders": [(20, 1, 900, 1)],
+    "line": [(20, 1, "N1", "A-1", 0, 10, 4), (20, 2, "N2", "A-1", 1, 10, 4)],
+    "kept": [
+        ("D1", 7, "deliver N1 A-1 3"),
+        ("F1", 5, "firm 20"),
+        ("T1", 1, "field N1 A-1 0 100 40"),
+        ("T2", 2, "field N2 A-1 0 50 5"),
+        ("T3", 3, "transfer 20 900 A-1 N1 N2 10"),
+        ("T4", 4, "use 20 N2 A-1 4"),
+        ("T6", 6, "commit 20"),
+    ],
+    "firm": [(20,)],
+}
 
 
 def test_other_words_ask_for_nothing(program, folder):
@@ -252,6 +277,32 @@ def test_replies_come_line_by_line(program, folder):
         session.end()
 
 
+def test_another_sqlite_reads_the_file(program, folder):
+    path = new_desk(program, folder)
+    done(program, ["run", path], TRANSFER)
+    if sqlite3 is None or sqlite3.sqlite_version_info < (3, 37):
+        say("  not read: no other SQLite with strict tables is here")
+        return
+    database = sqlite3.connect(path)
+    try:
+        expect(database.execute("PRAGMA integrity_check").fetchall() == [("ok",)], "the file is not whole")
+        names = [name for (name,) in database.execute("SELECT name FROM sqlite_schema WHERE type = 'table' ORDER BY rowid")]
+        expect(names == list(ROWS), f"other tables: {names}")
+        for table, rows in ROWS.items():
+            columns = COLUMNS[table]
+            want = [
+                (name, "TEXT" if name in TEXTS else "INTEGER", 1, place if place <= KEYS[table] else 0)
+                for place, name in enumerate(columns, 1)
+            ]
+            found = database.execute(f"SELECT name, type, \"notnull\", pk FROM pragma_table_info('{table}')").fetchall()
+            expect(found == want, f"{table} has other columns: {found}")
+            order = ", ".join(str(n) for n in range(1, len(columns) + 1))
+            found = database.execute(f"SELECT {', '.join(columns)} FROM {table} ORDER BY {order}").fetchall()
+            expect(found == rows, f"{table} has other rows: {found}")
+    finally:
+        database.close()
+
+
 def test_another_database_is_no_desk(program, folder):
     if sqlite3 is None:
         say("  not tried: no other SQLite is here")
@@ -273,105 +324,6 @@ def test_an_empty_script_changes_nothing(program, folder):
     expect_end(program, ["run", path], (0, b"", b""), text="")
     if sqlite3 is not None:
         expect(rows_of(path) == ["desk|1|2|0|0"], "other rows")
-
-
-def older(folder, name):
-    """A copy of a file that a program of version 1 wrote, with nothing of what lay beside the last one."""
-    path = os.path.join(folder, f"{name}.db")
-    with contextlib.suppress(FileNotFoundError):
-        os.remove(f"{path}-wal")
-    return shutil.copyfile(os.path.join(FILES, f"{name}.db"), path)
-
-
-def upgraded(program, path):
-    expect_end(program, ["upgrade", path], (0, b"", b""))
-    return path
-
-
-def test_an_old_version_is_told_and_left_alone(program, folder):
-    """By every command but `init`, to which it is a file as any other."""
-    records = os.path.join(folder, "records.csv")
-    for name in OLDER:
-        path = older(folder, name)
-        found = bytes_of(path)
-        serve = ["serve", path, "--port", "0", "--connections", "1"]
-        for words in [["run", path], ["sheet", path, "N1"], ["article", path, "A-1"], serve]:
-            expect_end(program, words, OLD_VERSION)
-        for command in ["orders", "deliveries", "bounds"]:
-            expect_end(program, [command, path, records], OLD_VERSION)
-        expect_end(program, ["init", path], NOT_A_DESK)
-        expect(bytes_of(path) == found, f"{name} was changed")
-
-
-def test_an_upgraded_file_goes_on(program, folder):
-    """It has all rows, repeats its answers and answers the rest of its script; to upgrade it again changes nothing."""
-    for name in OLDER:
-        path = upgraded(program, older(folder, name))
-        found = bytes_of(path)
-        upgraded(program, path)
-        expect(bytes_of(path) == found, f"{name}: changed by a second upgrade")
-        again = [line for line in zip(lines_of(f"{name}.script"), lines_of(f"{name}.replies"), strict=True) if " done " in line[1]]
-        replies = done(program, ["run", path], "".join(line + "\n" for line, _ in again))
-        expect(replies == [reply for _, reply in again], f"{name}: another reply to a repeated line")
-        rest = "\n".join(lines_of(f"{name}.rest.script")) + "\n"
-        expect(done(program, ["run", path], rest) == lines_of(f"{name}.rest.replies"), f"{name}: another reply")
-        if sqlite3 is not None:
-            rows = [row.replace("desk|1|1|", "desk|1|2|", 1) for row in lines_of(f"{name}.rows")]
-            expect(rows_of(path) == rows, f"{name}: other rows")
-
-
-def test_only_a_desk_is_upgraded(program, folder):
-    path = os.path.join(folder, "other.db")
-    expect_end(program, ["upgrade", path], NOT_A_DESK)
-    expect(not os.path.exists(path), "an upgrade made a file")
-    expect_end(program, ["upgrade", folder], STORE)
-    for text, end in NO_DESK:
-        with open(path, "wb") as file:
-            file.write(text)
-        expect_end(program, ["upgrade", path], end)
-        expect(bytes_of(path) == text, f"{text} was changed")
-    new = new_desk(program, folder)
-    found = bytes_of(new)
-    upgraded(program, new)
-    expect(bytes_of(new) == found, "a new desk was changed")
-
-
-def test_a_killed_upgrade_leaves_either_version(program, folder):
-    """All of version 1, which can be upgraded then, or all of version 2."""
-    generator = random.Random(1986)
-    began = time.monotonic()
-    upgraded(program, older(folder, "many"))
-    took = time.monotonic() - began
-    old, new = 0, 0
-    for _ in range(ROUNDS):
-        path = older(folder, "many")
-        process = subprocess.Popen([program, "upgrade", path])
-        time.sleep(generator.uniform(0, 1.2 * took))
-        process.kill()
-        process.wait()
-        end = ended(program, ["run", path], "")
-        expect(end in [(0, b"", b""), OLD_VERSION], f"{end}")
-        old, new = old + (end == OLD_VERSION), new + (end != OLD_VERSION)
-        upgraded(program, path)
-        rest = "\n".join(lines_of("many.rest.script")) + "\n"
-        expect(done(program, ["run", path], rest) == lines_of("many.rest.replies"), "another reply")
-    expect(old > 0, "none was killed in time")
-    say(f"  {ROUNDS} upgrades killed: {old} left version 1, {new} version 2")
-
-
-def test_an_older_file_takes_other_bounds(program, folder):
-    """A field of each: its numbers stay, and it is shown with its new bounds by this run and by the next."""
-    for name in OLDER:
-        path = upgraded(program, older(folder, name))
-        sheet = done(program, ["article", path, "A-1"])[0].split()
-        branch, lo, hi, value, inf, sup = sheet
-        ask = f"? field {branch} A-1"
-        shown = f"{ask} lo {inf} hi {sup} value {value} inf {inf} sup {sup}"
-        first, *found = done(program, ["run", path], f"Z1 rebound {branch} A-1 {inf} {sup}\n{ask}\n")
-        expect(first.startswith("Z1 done ") and found == [shown], f"{name}: {first}, {found}")
-        expect(done(program, ["run", path], f"{ask}\n") == [shown], f"{name}: other bounds behind it")
-        tighter = done(program, ["run", path], f"Z2 rebound {branch} A-1 {int(inf) + 1} {hi}\n{ask}\n")
-        expect(tighter == ["Z2 refused 13 TooLittle 0", shown], f"{name}: {tighter}")
 
 
 def killed(program, path, first, seconds):
@@ -430,13 +382,9 @@ def main():
         test_a_desk_outlives_each_run,
         test_long_input_is_answered,
         test_replies_come_line_by_line,
+        test_another_sqlite_reads_the_file,
         test_another_database_is_no_desk,
         test_an_empty_script_changes_nothing,
-        test_an_old_version_is_told_and_left_alone,
-        test_an_upgraded_file_goes_on,
-        test_only_a_desk_is_upgraded,
-        test_a_killed_upgrade_leaves_either_version,
-        test_an_older_file_takes_other_bounds,
         test_nothing_acknowledged_is_lost,
         *hostile.TESTS,
         *messages.TESTS,
@@ -445,6 +393,7 @@ def main():
         *service.TESTS,
         *spelling.TESTS,
         *stored.TESTS,
+        *upgrades.TESTS,
         *records.TESTS,
         *damages.TESTS,
     ]:

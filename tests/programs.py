@@ -29,6 +29,15 @@ COLUMNS = {
 # how many columns of each table are its key
 KEYS = {"desk": 1, "field": 2, "move": 1, "orders": 1, "line": 2, "kept": 1, "firm": 1}
 
+# how a program ends that writes nothing but this
+NOT_A_DESK = (3, b"", b"stockdesk: not a desk\n")
+OLD_VERSION = (3, b"", b"stockdesk: old version\n")
+DAMAGED = (3, b"", b"stockdesk: damaged\n")
+STORE = (1, b"", b"stockdesk: store\n")
+
+# files with bytes that are no desk, and what a run on them ends with
+NO_DESK = [(b"this is no database, but some text", STORE), (b"S", STORE), (b"", NOT_A_DESK)]
+
 
 def say(text):
     print(text, file=sys.stderr, flush=True)

@@ -3,13 +3,20 @@ byte, tables and rows that are no desk of this version, rows that are damaged an
 
 import contextlib
 
-from programs import COLUMNS, bytes_of, done, expect, expect_end, new_desk, rows_of, say, sqlite3
-from programs import KEYS as KEY_COLUMNS
-
-NOT_A_DESK = (3, b"", b"stockdesk: not a desk\n")
-DAMAGED = (3, b"", b"stockdesk: damaged\n")
-OLD_VERSION = (3, b"", b"stockdesk: old version\n")
-STORE = (1, b"", b"stockdesk: store\n")
+from programs import (
+    DAMAGED,
+    NOT_A_DESK,
+    OLD_VERSION,
+    STORE,
+    bytes_of,
+    done,
+    expect,
+    expect_end,
+    new_desk,
+    rows_of,
+    say,
+    sqlite3,
+)
 
 # codes and keys that have every byte of their alphabets, each as long as it may be or shorter
 CODES = [
@@ -20,38 +27,6 @@ CODES = [
     ("6789", "Z-"),
 ]
 KEYS = ["abcdefghijklmnopqrstuvwxyz-012345678", "9ABCDEFGHIJKLMNOPQRSTUVWXYZ", "K10", "K1", "K"]
-
-# the columns of text; all others are of numbers
-TEXTS = ["branch", "article", "reqkey", "words"]
-
-TRANSFER = """T1 field N1 A-1 0 100 40
-T2 field N2 A-1 0 50 5
-T3 transfer 20 900 A-1 N1 N2 10
-T4 use 20 N2 A-1 4
-T5 more 20 take N1 A-1 1
-F1 firm 20
-T6 commit 20
-D1 deliver N1 A-1 3
-"""
-
-# what the rules say that each table holds behind that script
-ROWS = {
-    "desk": [(1, 2, 0, 7)],
-    "field": [("N1", "A-1", 0, 100, 40, 39, 39, 39), ("N2", "A-1", 0, 50, 5, 9, 9, 9)],
-    "move": [(7, "N1", "A-1", 3)],
-    "orders": [(20, 1, 900, 1)],
-    "line": [(20, 1, "N1", "A-1", 0, 10, 4), (20, 2, "N2", "A-1", 1, 10, 4)],
-    "kept": [
-        ("D1", 7, "deliver N1 A-1 3"),
-        ("F1", 5, "firm 20"),
-        ("T1", 1, "field N1 A-1 0 100 40"),
-        ("T2", 2, "field N2 A-1 0 50 5"),
-        ("T3", 3, "transfer 20 900 A-1 N1 N2 10"),
-        ("T4", 4, "use 20 N2 A-1 4"),
-        ("T6", 6, "commit 20"),
-    ],
-    "firm": [(20,)],
-}
 
 # what makes a desk no desk, or one of the version before, and how a run on it ends
 NO_DESK = [
@@ -121,27 +96,6 @@ def test_codes_and_keys_are_stored_byte_for_byte(program, folder):
     expect(rows_of(path) == rows, f"{rows_of(path)} and not {rows}")
 
 
-def test_another_sqlite_reads_the_file(program, folder):
-    """The tables in the order of their making, their columns and their rows."""
-    path = new_desk(program, folder)
-    done(program, ["run", path], TRANSFER)
-    with contextlib.closing(sqlite3.connect(path)) as database:
-        expect(database.execute("PRAGMA integrity_check").fetchall() == [("ok",)], "the file is not whole")
-        names = [name for (name,) in database.execute("SELECT name FROM sqlite_schema WHERE type = 'table' ORDER BY rowid")]
-        expect(names == list(ROWS), f"other tables: {names}")
-        for table, rows in ROWS.items():
-            columns = COLUMNS[table]
-            want = [
-                (name, "TEXT" if name in TEXTS else "INTEGER", 1, place if place <= KEY_COLUMNS[table] else 0)
-                for place, name in enumerate(columns, 1)
-            ]
-            found = database.execute(f"SELECT name, type, \"notnull\", pk FROM pragma_table_info('{table}')").fetchall()
-            expect(found == want, f"{table} has other columns: {found}")
-            order = ", ".join(str(n) for n in range(1, len(columns) + 1))
-            found = database.execute(f"SELECT {', '.join(columns)} FROM {table} ORDER BY {order}").fetchall()
-            expect(found == rows, f"{table} has other rows: {found}")
-
-
 def test_tables_and_rows_that_are_no_desk_are_left_alone(program, folder):
     for number, (statements, want) in enumerate(NO_DESK):
         path = with_field(program, folder, f"{number}.db")
@@ -184,7 +138,6 @@ def unread(_program, _folder):
 
 
 TESTS = [
-    test_another_sqlite_reads_the_file,
     test_codes_and_keys_are_stored_byte_for_byte,
     test_tables_and_rows_that_are_no_desk_are_left_alone,
     test_a_damaged_desk_is_left_alone_and_goes_on_once_it_is_mended,
