@@ -45,6 +45,15 @@ pub(crate) fn create<S: Alter>(conn: &mut Connection<S>) -> Result<(), KeepFault
     }
 }
 
+/// Makes version 2 of what the connection shows, which is in no transaction.
+pub(crate) fn upgrade<S: Alter>(conn: &mut Connection<S>) -> Result<(), KeepFault> {
+    if conn.is_autocommit() {
+        SqlKeep::upgrade_over(conn)
+    } else {
+        Err(KeepFault::Stopped)
+    }
+}
+
 pub(crate) fn connection_of<S: Alter>(keep: SqlKeep<S>) -> Connection<S> {
     keep.into_connection()
 }

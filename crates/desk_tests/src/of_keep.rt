@@ -2,9 +2,10 @@
 
 pub(crate) mod disks;
 mod reopening;
+mod upgrading;
 
 use crate::keepers::{commit, connection_of, keeper, load, load_fault, plain_keeper, sql_keeper};
-use book::{Change, DeskRow, FieldRow, KeptRow, LineRow, MoveRow, OrderRow, Tables};
+use book::{Change, DeskRow, FieldRow, FirmRow, KeptRow, LineRow, MoveRow, OrderRow, Tables};
 use keep::{Keep, KeepFault, SqlKeep};
 use sqlite::{Connection, MemStore};
 use std::alloc::{AllocError, Global};
@@ -77,7 +78,7 @@ pub(crate) fn order(number: i64, state: i64) -> OrderRow {
 
 const DESK: DeskRow = DeskRow {
     one: 1,
-    version: 1,
+    version: 2,
     clock: 30,
     places: 12,
 };
@@ -95,6 +96,18 @@ fn commit_orders<K: Keep>(keep: &mut K) -> Result<(), KeepFault> {
     )
 }
 
+/// Marks two orders as firm, out of their order, and the one of them again.
+fn commit_firms<K: Keep>(keep: &mut K) -> Result<(), KeepFault> {
+    commit(
+        keep,
+        &[
+            Change::Firm(FirmRow { number: 20 }),
+            Change::Firm(FirmRow { number: 7 }),
+        ],
+    )?;
+    commit(keep, &[Change::Firm(FirmRow { number: 20 })])
+}
+
 /// Commits new rows of all tables, out of their order, and some of these anew.
 fn commit_rows<K: Keep>(alloc: Global, keep: &mut K) -> Result<(), Fail> {
     commit_orders(keep)?;
@@ -102,6 +115,7 @@ fn commit_rows<K: Keep>(alloc: Global, keep: &mut K) -> Result<(), Fail> {
     commit_delivery(alloc, keep)?;
     commit_line(alloc, keep)?;
     commit_kept(alloc, keep)?;
+    commit_firms(keep)?;
     commit_field(alloc, keep, "A-1", 42)?;
     commit(keep, &[Change::Desk(DESK), Change::Order(order(20, 1))])?;
     commit_field(alloc, keep, "A-1", 43)
@@ -114,7 +128,7 @@ pub(crate) fn loaded<K: Keep>(alloc: Global, keep: &mut K) -> Result<String, Fai
 }
 
 const COMMITTED: &str =
-    "Tables { desk: DeskRow { one: 1, version: 1, clock: 30, places: 12 }, fields: Rows { rows: [FieldRow { branch: \"N1\", article: \"A-1\", lo: 1, hi: 90, start: 50, value: 43, inf: 30, sup: 70 }, FieldRow { branch: \"N1\", article: \"A-2\", lo: 1, hi: 90, start: 50, value: 41, inf: 30, sup: 70 }] }, moves: Rows { rows: [MoveRow { place: 9, branch: \"N1\", article: \"A-1\", qty: -8 }] }, orders: Rows { rows: [OrderRow { number: 7, kind: 1, until: 900, state: 0 }, OrderRow { number: 20, kind: 1, until: 900, state: 1 }] }, lines: Rows { rows: [LineRow { number: 7, nr: 2, branch: \"N2\", article: \"A-3\", way: 1, held: 6, used: 5 }] }, kept: Rows { rows: [KeptRow { reqkey: \"K2\", place: 4, words: \"'); DROP TABLE kept; --\" }] } }";
+    "Tables { desk: DeskRow { one: 1, version: 2, clock: 30, places: 12 }, fields: Rows { rows: [FieldRow { branch: \"N1\", article: \"A-1\", lo: 1, hi: 90, start: 50, value: 43, inf: 30, sup: 70 }, FieldRow { branch: \"N1\", article: \"A-2\", lo: 1, hi: 90, start: 50, value: 41, inf: 30, sup: 70 }] }, moves: Rows { rows: [MoveRow { place: 9, branch: \"N1\", article: \"A-1\", qty: -8 }] }, orders: Rows { rows: [OrderRow { number: 7, kind: 1, until: 900, state: 0 }, OrderRow { number: 20, kind: 1, until: 900, state: 1 }] }, lines: Rows { rows: [LineRow { number: 7, nr: 2, branch: \"N2\", article: \"A-3\", way: 1, held: 6, used: 5 }] }, kept: Rows { rows: [KeptRow { reqkey: \"K2\", place: 4, words: \"'); DROP TABLE kept; --\" }] }, firms: Rows { rows: [FirmRow { number: 7 }, FirmRow { number: 20 }] } }";
 
 /// Whether what is committed comes back.
 fn comes_back<K: Keep>(alloc: Global, keep: &mut K) -> Result<bool, Fail> {
@@ -131,7 +145,7 @@ fn rows_come_back_by_their_keys(rt: HostRuntime) -> Result<(), Fail> {
 }
 
 /// Whether the keeper fails to load by this fault, and is stopped by it.
-fn fails_by<K: Keep>(alloc: Global, keep: &mut K, want: KeepFault) -> bool {
+pub(crate) fn fails_by<K: Keep>(alloc: Global, keep: &mut K, want: KeepFault) -> bool {
     load_fault(keep, alloc) == Some(want)
         && load_fault(keep, alloc) == Some(KeepFault::Stopped)
         && commit(keep, &[]) == Err(KeepFault::Stopped)

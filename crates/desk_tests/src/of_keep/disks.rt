@@ -48,7 +48,7 @@ pub(crate) fn new_files(alloc: Global) -> Files<Memory>
 }
 
 /// Files of these bytes.
-fn copies(alloc: Global, log: &[u8], db: &[u8]) -> Result<Files<Memory>, Fail>
+pub(crate) fn copies(alloc: Global, log: &[u8], db: &[u8]) -> Result<Files<Memory>, Fail>
     ensures { IfOk result (λ f. IsTrue (memory_is_usable f.log) × IsTrue (memory_is_usable f.db)) }
 {
     let log = copy(alloc, log)?;

@@ -16,9 +16,9 @@ use std::test::Fail;
 /// What is found before a new desk is made and behind it, and behind each of two commits.
 const FOUND: [&str; 4] = [
     "",
-    "Tables { desk: DeskRow { one: 1, version: 1, clock: 0, places: 0 }, fields: Rows { rows: [] }, moves: Rows { rows: [] }, orders: Rows { rows: [] }, lines: Rows { rows: [] }, kept: Rows { rows: [] } }",
-    "Tables { desk: DeskRow { one: 1, version: 1, clock: 0, places: 0 }, fields: Rows { rows: [] }, moves: Rows { rows: [] }, orders: Rows { rows: [OrderRow { number: 1, kind: 1, until: 900, state: 0 }, OrderRow { number: 2, kind: 1, until: 900, state: 0 }] }, lines: Rows { rows: [] }, kept: Rows { rows: [] } }",
-    "Tables { desk: DeskRow { one: 1, version: 1, clock: 0, places: 0 }, fields: Rows { rows: [] }, moves: Rows { rows: [] }, orders: Rows { rows: [OrderRow { number: 1, kind: 1, until: 900, state: 0 }, OrderRow { number: 2, kind: 1, until: 900, state: 1 }, OrderRow { number: 3, kind: 1, until: 900, state: 0 }] }, lines: Rows { rows: [] }, kept: Rows { rows: [] } }",
+    "Tables { desk: DeskRow { one: 1, version: 2, clock: 0, places: 0 }, fields: Rows { rows: [] }, moves: Rows { rows: [] }, orders: Rows { rows: [] }, lines: Rows { rows: [] }, kept: Rows { rows: [] }, firms: Rows { rows: [] } }",
+    "Tables { desk: DeskRow { one: 1, version: 2, clock: 0, places: 0 }, fields: Rows { rows: [] }, moves: Rows { rows: [] }, orders: Rows { rows: [OrderRow { number: 1, kind: 1, until: 900, state: 0 }, OrderRow { number: 2, kind: 1, until: 900, state: 0 }] }, lines: Rows { rows: [] }, kept: Rows { rows: [] }, firms: Rows { rows: [] } }",
+    "Tables { desk: DeskRow { one: 1, version: 2, clock: 0, places: 0 }, fields: Rows { rows: [] }, moves: Rows { rows: [] }, orders: Rows { rows: [OrderRow { number: 1, kind: 1, until: 900, state: 0 }, OrderRow { number: 2, kind: 1, until: 900, state: 1 }, OrderRow { number: 3, kind: 1, until: 900, state: 0 }] }, lines: Rows { rows: [] }, kept: Rows { rows: [] }, firms: Rows { rows: [] } }",
 ];
 
 /// Commits two orders, then one of them again and a third: how many commits were acknowledged, and the answer to the last.
@@ -165,7 +165,7 @@ fn left_by_cuts<D: Crash + Drop>(alloc: Global, files: Files<D>) -> Result<Table
 }
 
 const LEFT: &str =
-    "Tables { desk: DeskRow { one: 1, version: 1, clock: 0, places: 0 }, fields: Rows { rows: [] }, moves: Rows { rows: [] }, orders: Rows { rows: [OrderRow { number: 4, kind: 1, until: 900, state: 1 }] }, lines: Rows { rows: [] }, kept: Rows { rows: [] } }";
+    "Tables { desk: DeskRow { one: 1, version: 2, clock: 0, places: 0 }, fields: Rows { rows: [] }, moves: Rows { rows: [] }, orders: Rows { rows: [OrderRow { number: 4, kind: 1, until: 900, state: 1 }] }, lines: Rows { rows: [] }, kept: Rows { rows: [] }, firms: Rows { rows: [] } }";
 
 #[test]
 fn a_cut_leaves_what_was_committed(rt: HostRuntime) -> Result<(), Fail> {

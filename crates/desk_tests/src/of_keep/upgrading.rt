@@ -1,0 +1,184 @@
+//! What an upgrade makes of a store of version 1, and what a stop within it leaves.
+
+ghost use Rattle.std.specs.Prelude.{IsTrue, IfOk};
+ghost use Rattle.sqlite_disk.specs.Memory.{memory_is_usable};
+
+use super::disks::{CUTS, calls_to, copies, files_of, left_by, new_files, open};
+use super::{fails_by, shown};
+use crate::keepers::{connection_of, keeper, load, load_fault, upgrade};
+use keep::KeepFault;
+use sqlite::{Alter, Connection, Error, FileStore, Files};
+use sqlite_disk::{Disk, Fuse, Memory};
+use std::alloc::Global;
+use std::test::Fail;
+
+/// The tables of version 1 as they were made, with rows.
+const OLD: &str =
+    "CREATE TABLE desk (one INTEGER NOT NULL PRIMARY KEY, version INTEGER NOT NULL, clock INTEGER NOT NULL, places INTEGER NOT NULL) STRICT;
+CREATE TABLE field (branch TEXT NOT NULL, article TEXT NOT NULL, lo INTEGER NOT NULL, hi INTEGER NOT NULL, start INTEGER NOT NULL, value INTEGER NOT NULL, inf INTEGER NOT NULL, sup INTEGER NOT NULL, PRIMARY KEY (branch, article)) STRICT;
+CREATE TABLE move (place INTEGER NOT NULL PRIMARY KEY, branch TEXT NOT NULL, article TEXT NOT NULL, qty INTEGER NOT NULL) STRICT;
+CREATE TABLE orders (number INTEGER NOT NULL PRIMARY KEY, kind INTEGER NOT NULL, until INTEGER NOT NULL, state INTEGER NOT NULL) STRICT;
+CREATE TABLE line (number INTEGER NOT NULL, nr INTEGER NOT NULL, branch TEXT NOT NULL, article TEXT NOT NULL, way INTEGER NOT NULL, held INTEGER NOT NULL, used INTEGER NOT NULL, PRIMARY KEY (number, nr)) STRICT;
+CREATE TABLE kept (reqkey TEXT NOT NULL, place INTEGER NOT NULL, words TEXT NOT NULL, PRIMARY KEY (reqkey)) STRICT;
+INSERT INTO desk VALUES (1, 1, 30, 12);
+INSERT INTO field VALUES ('N1', 'A-1', 1, 90, 50, 43, 30, 70);
+INSERT INTO move VALUES (9, 'N1', 'A-1', -8);
+INSERT INTO orders VALUES (7, 1, 900, 0);
+INSERT INTO line VALUES (7, 2, 'N2', 'A-3', 1, 6, 5);
+INSERT INTO kept VALUES ('K2', 4, 'expire 30')";
+
+/// What is loaded of it once it is upgraded.
+const UPGRADED: &str =
+    "Tables { desk: DeskRow { one: 1, version: 2, clock: 30, places: 12 }, fields: Rows { rows: [FieldRow { branch: \"N1\", article: \"A-1\", lo: 1, hi: 90, start: 50, value: 43, inf: 30, sup: 70 }] }, moves: Rows { rows: [MoveRow { place: 9, branch: \"N1\", article: \"A-1\", qty: -8 }] }, orders: Rows { rows: [OrderRow { number: 7, kind: 1, until: 900, state: 0 }] }, lines: Rows { rows: [LineRow { number: 7, nr: 2, branch: \"N2\", article: \"A-3\", way: 1, held: 6, used: 5 }] }, kept: Rows { rows: [KeptRow { reqkey: \"K2\", place: 4, words: \"expire 30\" }] }, firms: Rows { rows: [] } }";
+
+/// Makes the store of version 1.
+fn make_old<S: Alter>(conn: &mut Connection<S>) -> Result<(), Error> {
+    conn.execute_batch(OLD)
+}
+
+/// The files of that store.
+fn old_files(alloc: Global) -> Result<Files<Memory>, Fail>
+    ensures { IfOk result (λ f. IsTrue (memory_is_usable f.log) × IsTrue (memory_is_usable f.db)) }
+{
+    let files = made(alloc, new_files(alloc))?;
+    copies(alloc, files.log.bytes(), files.db.bytes())
+}
+
+fn made(alloc: Global, files: Files<Memory>) -> Result<Files<Memory>, Fail>
+    requires { IsTrue (memory_is_usable files.log) × IsTrue (memory_is_usable files.db) }
+{
+    match open(alloc, files) {
+        Ok(mut conn) => {
+            make_old(&mut conn)?;
+            Ok(files_of(conn))
+        }
+        Err(_) => Err("not opened")?,
+    }
+}
+
+/// Whether all of version 2 is loaded.
+fn is_upgraded<S: Alter + Drop>(alloc: Global, conn: Connection<S>) -> Result<bool, Fail> {
+    let tables = load(&mut keeper(conn)?, alloc)?;
+    Ok(shown(alloc, &tables)?.as_str() == UPGRADED)
+}
+
+/// The version that is found, 1 or 2, of which all is there: an upgrade of version 1 has each row.
+fn version<S: Alter + Drop>(alloc: Global, conn: Connection<S>) -> Result<u64, Fail> {
+    let mut keep = keeper(conn)?;
+    let fault = load_fault(&mut keep, alloc);
+    let mut conn = connection_of(keep);
+    let found = match fault {
+        None => 2,
+        Some(KeepFault::OldVersion) => {
+            upgrade(&mut conn)?;
+            1
+        }
+        Some(_) => Err("it is of neither version")?,
+    };
+    if is_upgraded(alloc, conn)? {
+        Ok(found)
+    } else {
+        Err("a row is missing")?
+    }
+}
+
+#[test]
+fn an_old_version_is_told_and_upgraded_once(rt: HostRuntime) -> Result<(), Fail> {
+    let mut conn = Connection::open_in_memory(rt.alloc())?;
+    make_old(&mut conn)?;
+    let mut keep = keeper(conn)?;
+    assert!(rt; fails_by(rt.alloc(), &mut keep, KeepFault::OldVersion));
+    let mut conn = connection_of(keep);
+    assert!(rt; upgrade(&mut conn) == Ok(()));
+    assert!(rt; upgrade(&mut conn) == Ok(()));
+    assert!(rt; is_upgraded(rt.alloc(), conn)?);
+    Ok(())
+}
+
+/// What the upgrade answers after a change of the store of version 1.
+fn upgraded_after(alloc: Global, change: &str) -> Result<Result<(), KeepFault>, Fail> {
+    let mut conn = Connection::open_in_memory(alloc)?;
+    make_old(&mut conn)?;
+    conn.execute_batch(change)?;
+    Ok(upgrade(&mut conn))
+}
+
+#[test]
+fn only_the_two_versions_are_upgraded(rt: HostRuntime) -> Result<(), Fail> {
+    for change in [
+        "DROP TABLE kept",
+        "DELETE FROM desk",
+        "UPDATE desk SET version = 2",
+        "UPDATE desk SET version = 0",
+        "INSERT INTO desk VALUES (2, 1, 0, 0)",
+        "CREATE TABLE firm (number INTEGER NOT NULL PRIMARY KEY) STRICT",
+    ] {
+        let answer = upgraded_after(rt.alloc(), change)?;
+        assert!(rt; answer == Err(KeepFault::NotADesk));
+    }
+    let other = upgraded_after(rt.alloc(), "CREATE TABLE note (n INTEGER) STRICT")?;
+    assert!(rt; other == Err(KeepFault::Store));
+    Ok(())
+}
+
+/// Upgrades what the files hold, where they can be opened: the files, and whether that was answered to be done.
+fn visit<D: Disk + Drop>(alloc: Global, files: Files<D>) -> Result<(Files<D>, bool), Fail>
+    requires { IsTrue (D.Disk.is_usable files.log) × IsTrue (D.Disk.is_usable files.db) }
+{
+    match open(alloc, files) {
+        Err(files) => Ok((files, false)),
+        Ok(conn) => upgraded(conn),
+    }
+}
+
+fn upgraded<D: Disk + Drop>(mut conn: Connection<FileStore<D>>) -> Result<(Files<D>, bool), Fail> {
+    match upgrade(&mut conn) {
+        Ok(()) => Ok((files_of(conn), true)),
+        Err(KeepFault::Store) => Ok((files_of(conn), false)),
+        Err(_) => Err("the store is told as something else")?,
+    }
+}
+
+/// The version that the next open finds.
+fn version_in(alloc: Global, files: Files<Memory>) -> Result<u64, Fail>
+    requires { IsTrue (memory_is_usable files.log) × IsTrue (memory_is_usable files.db) }
+{
+    match open(alloc, files) {
+        Ok(conn) => version(alloc, conn),
+        Err(_) => Err("not opened again")?,
+    }
+}
+
+/// Upgrades where one of the files fails after so many calls, with a power cut at the end or not: whether it was done. Then version 2
+/// is found, and else one of the two.
+fn visit_cut(alloc: Global, calls: (u64, u64), is_cut: bool) -> Result<bool, Fail> {
+    let files = old_files(alloc)?;
+    let fused = Files {
+        log: Fuse::new(files.log, calls.0),
+        db: Fuse::new(files.db, calls.1),
+    };
+    let (fused, done) = visit(alloc, fused)?;
+    let found = version_in(alloc, left_by(alloc, fused, is_cut)?)?;
+    if done && found != 2 {
+        Err("an upgrade that was done is lost")?;
+    }
+    Ok(done)
+}
+
+/// Fails at each call in turn, up to the first upgrade that is done, and says how many calls that took.
+fn calls_needed(alloc: Global, on_log: bool, is_cut: bool) -> Result<u64, Fail> {
+    for calls in 0..200u64 {
+        if visit_cut(alloc, calls_to(on_log, calls), is_cut)? {
+            return Ok(calls);
+        }
+    }
+    Err("never done")?
+}
+
+#[test]
+fn an_upgrade_is_whole_where_a_file_fails(rt: HostRuntime) -> Result<(), Fail> {
+    for (on_log, is_cut) in CUTS {
+        assert!(rt; calls_needed(rt.alloc(), on_log, is_cut)? > 0);
+    }
+    Ok(())
+}
