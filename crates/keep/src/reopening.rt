@@ -27,6 +27,7 @@ fn cut_and_open<D: Crash + Drop>(
 ) -> Option<Connection<FileStore<D>>>
     ensures idle { IfSome result (λ again. again.in_transaction ≡ false) }
     ensures open { IfSome result (λ again. HasCleanDisk (file_state again) → IsTrue (file_state again).is_open) }
+    ensures left { IfSome result (λ again. HasCleanDisk (file_state again) → ∥ (file_state conn).may_leave (file_state again).now.trees ∥₁) }
     ensures found { IfSome result (λ again. HasCleanDisk (file_state again) → (these : List Content) → LeavesOnly (file_state conn).may_leave these
         → ∥ ((x : Content) × Holds (file_state again).now x × IsAmong these x) ∥₁) }
 {
@@ -48,6 +49,8 @@ pub fn reopen<D: Crash + Drop>(
     options: Options,
 ) -> Option<SqlKeep<FileStore<D>>>
     ensures going { IfSome result (λ again. again.stopped ≡ false) }
+    // of whatever version, the trees are some that a stop could leave
+    ensures left { IfSome result (λ again. HasCleanDisk (file_state again.connection) → ∥ (file_state keep.connection).may_leave (file_state again.connection).now.trees ∥₁) }
     ensures found { IfSome result (λ again. HasCleanDisk (file_state again.connection) → (these : List Content) → LeavesOnly (file_state keep.connection).may_leave these
         → ∥ ((x : Content) × Holds (file_state again.connection).now x × IsAmong these x) ∥₁) }
     ensures alone { IfSome result (λ again. HasCleanDisk (file_state again.connection) → (x : Content) → Holds (file_state again.connection).now x → LeavesOnly (file_state again.connection).may_leave (x ∷ [])) }

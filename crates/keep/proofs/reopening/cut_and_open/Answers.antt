@@ -5,6 +5,8 @@ use Rattle.sqlite_trees.proofs.Doubt.{no_doubt}
 use Rattle.sqlite_wal.specs.Reads.{AreClean}
 use Rattle.sqlite_pool.proofs.StateLemmas.{clean_is}
 use Rattle.sqlite_store.specs.FileStore.{view}
+use Rattle.std.proofs.Math.Logic.{∥∥₁_map}
+use Rattle.sqlite.proofs.Theorems.{next_run}
 use Rattle.sqlite.specs.Files.{file_state}
 use Rattle.sqlite.specs.Effect.{Database}
 use Rattle.book.specs.Rows.{Content}
@@ -28,3 +30,17 @@ returns-in-Ok-clause-found g c clean these only =
     (found_again it (c.into_store-store.ensures.numbered none) (c.into_store-store.ensures.sound none) _ left these
     (λ trees may_be. only trees (c.into_store-store.ensures.quiet.outcomes trees may_be))
     (file_state c.in-Ok.again) live.1 (record { holds = found.holds; reads = found.reads }))
+
+pub returns-in-Ok-clause-left : goal.returns-in-Ok-clause-left
+returns-in-Ok-clause-left g c clean =
+    let it = c.into_store-store.result in
+    let found = c.in-Ok.ensures.found clean in
+    let opened = c.in-Ok.ensures.opened clean in
+    let parts = and_parts _ _ found.honest in
+    let before : AreClean g.D.Disk c.close-files.result.log c.close-files.result.db = and_from _ _ (c.crash.ensures.clean parts.0) (c.crash-2.ensures.clean parts.1) in
+    let sure_now = subst (λ p. AreClean g.D.Disk p.0 p.1) c.close-files.ensures before in
+    let none : IsClean (view it) = no_doubt _ (clean_is it.pool ∙ sure_now) in
+    let left = may_after it _ _ _ c.close-files.ensures before (c.crash.ensures.left, c.crash-2.ensures.left) in
+    subst (λ (d : Database). ∥ (file_state c.args.conn).may_leave d.trees ∥₁) (sym opened.0.clean)
+    (∥∥₁_map (next_run it (c.into_store-store.ensures.numbered none) (c.into_store-store.ensures.sound none) _ left (file_state c.in-Ok.again) (record { holds = found.holds; reads = found.reads }))
+    (λ may_be. c.into_store-store.ensures.quiet.outcomes (file_state c.in-Ok.again).committed.trees may_be))

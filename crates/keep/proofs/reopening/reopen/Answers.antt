@@ -17,3 +17,10 @@ returns-clause-alone g c clean x held =
     let same : c.over.result.connection ≡ c.in_ok-conn.conn = ap (λ k. k.connection) c.over.ensures.keeper in
     subst (λ h. LeavesOnly (file_state h).may_leave (x ∷ [])) (sym same)
     (c.over.ensures.alone (c.in_ok-conn.ensures.open (subst (λ h. HasCleanDisk (file_state h)) same clean)) x (subst (λ h. Holds (file_state h).now x) same held))
+
+pub returns-clause-left : goal.returns-clause-left
+returns-clause-left g c clean =
+    let same : c.over.result.connection ≡ c.in_ok-conn.conn = ap (λ k. k.connection) c.over.ensures.keeper in
+    let found = c.in_ok-conn.ensures.left (subst (λ h. HasCleanDisk (file_state h)) same clean) in
+    subst (λ h. ∥ (file_state c.args.keep.connection).may_leave (file_state h).now.trees ∥₁) (sym same)
+    (subst (λ h. ∥ (file_state h).may_leave (file_state c.in_ok-conn.conn).now.trees ∥₁) c.into_connection.ensures.connection found)
