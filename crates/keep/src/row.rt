@@ -11,36 +11,45 @@ pub(crate) trait TableRow: Sized {
     ghost use Rattle.std.specs.Prelude.{◌≡◌, IfOk};
     ghost use Rattle.std.specs.Cmp.{IsTotalOrder};
     ghost use Rattle.std.specs.declared.cmp.Ordering.{Ordering};
+    ghost use Rattle.sqlite.specs.Order.{Row};
+
+    // What its cells hold.
+    ghost Cells: { Type 0 };
+
+    ghost cells: { Self → Cells };
+
+    // Its columns, as values of SQL.
+    ghost columns: { Cells → Row };
 
     // By the key alone.
-    ghost cmp: { Self → Self → Ordering };
-
-    // The other has the same cells.
-    ghost is_copy: { Self → Self → Type 0 };
+    ghost cmp: { Cells → Cells → Ordering };
 
     /// How their keys stand to one another.
     fn compare(&self, other: &Self) -> Ordering
-        ensures { result ≡ cmp self.now other.now };
+        ensures { result ≡ cmp (cells self.now) (cells other.now) };
 
     /// A row with the same cells.
     fn copy(&self, alloc: Global) -> Result<Self, AllocError>
-        ensures { IfOk result (λ row. is_copy self.now row) };
+        ensures { IfOk result (λ row. cells row ≡ cells self.now) };
 
     ghost total: { IsTotalOrder cmp };
 }
 
 impl TableRow for FieldRow {
-    ghost use Rattle.std.specs.Prelude.{◌≡◌};
-    ghost use Rattle.std.specs.Cmp.{on_total, then_total};
-    ghost use Rattle.std.specs.Cmp.Lexicographic.{nat_list_cmp_total};
-    ghost use Rattle.book.specs.Rows.{field_cmp};
+    ghost use Rattle.book.specs.Rows.{FieldCells, field_cmp};
     ghost use Rattle.book.specs.Tables.{field_cells};
+    ghost use Rattle.keep.specs.Columns.{field_columns};
+    ghost use Rattle.keep.specs.KeyOrders.{field_cmp_total};
 
-    ghost cmp = { λ a b. field_cmp (field_cells a) (field_cells b) };
+    ghost Cells = { FieldCells };
 
-    ghost is_copy = { λ a b. field_cells b ≡ field_cells a };
+    ghost cells = { field_cells };
 
-    ghost total = { on_total field_cells (then_total (on_total (λ x. x.branch) nat_list_cmp_total) (on_total (λ x. x.article) nat_list_cmp_total)) };
+    ghost columns = { field_columns };
+
+    ghost cmp = { field_cmp };
+
+    ghost total = { field_cmp_total };
 
     fn compare(&self, other: &Self) -> Ordering {
         let by_branch = self.branch.cmp(&other.branch);
@@ -62,16 +71,20 @@ impl TableRow for FieldRow {
 }
 
 impl TableRow for MoveRow {
-    ghost use Rattle.std.specs.Prelude.{◌≡◌};
-    ghost use Rattle.std.specs.Cmp.{int_cmp_total, on_total};
-    ghost use Rattle.book.specs.Rows.{move_cmp};
+    ghost use Rattle.book.specs.Rows.{MoveCells, move_cmp};
     ghost use Rattle.book.specs.Tables.{move_cells};
+    ghost use Rattle.keep.specs.Columns.{move_columns};
+    ghost use Rattle.keep.specs.KeyOrders.{move_cmp_total};
 
-    ghost cmp = { λ a b. move_cmp (move_cells a) (move_cells b) };
+    ghost Cells = { MoveCells };
 
-    ghost is_copy = { λ a b. move_cells b ≡ move_cells a };
+    ghost cells = { move_cells };
 
-    ghost total = { on_total move_cells (on_total (λ x. x.place) int_cmp_total) };
+    ghost columns = { move_columns };
+
+    ghost cmp = { move_cmp };
+
+    ghost total = { move_cmp_total };
 
     fn compare(&self, other: &Self) -> Ordering {
         self.place.cmp(&other.place)
@@ -88,16 +101,20 @@ impl TableRow for MoveRow {
 }
 
 impl TableRow for OrderRow {
-    ghost use Rattle.std.specs.Prelude.{◌≡◌};
-    ghost use Rattle.std.specs.Cmp.{int_cmp_total, on_total};
-    ghost use Rattle.book.specs.Rows.{order_cmp};
+    ghost use Rattle.book.specs.Rows.{OrderCells, order_cmp};
     ghost use Rattle.book.specs.Tables.{order_cells};
+    ghost use Rattle.keep.specs.Columns.{order_columns};
+    ghost use Rattle.keep.specs.KeyOrders.{order_cmp_total};
 
-    ghost cmp = { λ a b. order_cmp (order_cells a) (order_cells b) };
+    ghost Cells = { OrderCells };
 
-    ghost is_copy = { λ a b. order_cells b ≡ order_cells a };
+    ghost cells = { order_cells };
 
-    ghost total = { on_total order_cells (on_total (λ x. x.number) int_cmp_total) };
+    ghost columns = { order_columns };
+
+    ghost cmp = { order_cmp };
+
+    ghost total = { order_cmp_total };
 
     fn compare(&self, other: &Self) -> Ordering {
         self.number.cmp(&other.number)
@@ -109,16 +126,20 @@ impl TableRow for OrderRow {
 }
 
 impl TableRow for LineRow {
-    ghost use Rattle.std.specs.Prelude.{◌≡◌};
-    ghost use Rattle.std.specs.Cmp.{int_cmp_total, on_total, then_total};
-    ghost use Rattle.book.specs.Rows.{line_cmp};
+    ghost use Rattle.book.specs.Rows.{LineCells, line_cmp};
     ghost use Rattle.book.specs.Tables.{line_cells};
+    ghost use Rattle.keep.specs.Columns.{line_columns};
+    ghost use Rattle.keep.specs.KeyOrders.{line_cmp_total};
 
-    ghost cmp = { λ a b. line_cmp (line_cells a) (line_cells b) };
+    ghost Cells = { LineCells };
 
-    ghost is_copy = { λ a b. line_cells b ≡ line_cells a };
+    ghost cells = { line_cells };
 
-    ghost total = { on_total line_cells (then_total (on_total (λ x. x.number) int_cmp_total) (on_total (λ x. x.nr) int_cmp_total)) };
+    ghost columns = { line_columns };
+
+    ghost cmp = { line_cmp };
+
+    ghost total = { line_cmp_total };
 
     fn compare(&self, other: &Self) -> Ordering {
         let by_number = self.number.cmp(&other.number);
@@ -139,17 +160,20 @@ impl TableRow for LineRow {
 }
 
 impl TableRow for KeptRow {
-    ghost use Rattle.std.specs.Prelude.{◌≡◌};
-    ghost use Rattle.std.specs.Cmp.{on_total};
-    ghost use Rattle.std.specs.Cmp.Lexicographic.{nat_list_cmp_total};
-    ghost use Rattle.book.specs.Rows.{kept_cmp};
+    ghost use Rattle.book.specs.Rows.{KeptCells, kept_cmp};
     ghost use Rattle.book.specs.Tables.{kept_cells};
+    ghost use Rattle.keep.specs.Columns.{kept_columns};
+    ghost use Rattle.keep.specs.KeyOrders.{kept_cmp_total};
 
-    ghost cmp = { λ a b. kept_cmp (kept_cells a) (kept_cells b) };
+    ghost Cells = { KeptCells };
 
-    ghost is_copy = { λ a b. kept_cells b ≡ kept_cells a };
+    ghost cells = { kept_cells };
 
-    ghost total = { on_total kept_cells (on_total (λ x. x.reqkey) nat_list_cmp_total) };
+    ghost columns = { kept_columns };
+
+    ghost cmp = { kept_cmp };
+
+    ghost total = { kept_cmp_total };
 
     fn compare(&self, other: &Self) -> Ordering {
         self.reqkey.cmp(&other.reqkey)
@@ -165,16 +189,20 @@ impl TableRow for KeptRow {
 }
 
 impl TableRow for FirmRow {
-    ghost use Rattle.std.specs.Prelude.{◌≡◌};
-    ghost use Rattle.std.specs.Cmp.{int_cmp_total, on_total};
-    ghost use Rattle.book.specs.Rows.{firm_cmp};
+    ghost use Rattle.book.specs.Rows.{FirmCells, firm_cmp};
     ghost use Rattle.book.specs.Tables.{firm_cells};
+    ghost use Rattle.keep.specs.Columns.{firm_columns};
+    ghost use Rattle.keep.specs.KeyOrders.{firm_cmp_total};
 
-    ghost cmp = { λ a b. firm_cmp (firm_cells a) (firm_cells b) };
+    ghost Cells = { FirmCells };
 
-    ghost is_copy = { λ a b. firm_cells b ≡ firm_cells a };
+    ghost cells = { firm_cells };
 
-    ghost total = { on_total firm_cells (on_total (λ x. x.number) int_cmp_total) };
+    ghost columns = { firm_columns };
+
+    ghost cmp = { firm_cmp };
+
+    ghost total = { firm_cmp_total };
 
     fn compare(&self, other: &Self) -> Ordering {
         self.number.cmp(&other.number)
