@@ -5,7 +5,7 @@ ghost use Rattle.sqlite.specs.State.{HasCleanDisk, Survives};
 ghost use Rattle.sqlite.specs.Held.{state};
 ghost use Rattle.keep.specs.Transactions.{PutsIn, Committed, AreChanged};
 
-use crate::stored::Table;
+use crate::table::Table;
 use crate::tables::desk;
 use book::Change;
 use sqlite::{Alter, Connection, Error, Transaction};

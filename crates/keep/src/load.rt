@@ -11,7 +11,7 @@ ghost use Rattle.keep.specs.Columns.{field_stored, move_stored, order_stored, li
 ghost use Rattle.keep.specs.Content.{AreRows, HasTables, Holds, IsDesk};
 ghost use Rattle.keep.specs.Loading.{Finds};
 
-use crate::stored::load;
+use crate::table::load;
 use crate::tables::desk;
 use book::{FieldRow, FirmRow, LineRow, MoveRow, OrderRow, Rows, Tables};
 use sqlite::{Alter, Connection, Error};

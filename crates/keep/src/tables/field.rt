@@ -1,17 +1,30 @@
-//! The statements of the table `field`.
+//! The table `field`.
 
-use crate::stored::Table;
+use crate::table::Table;
 use book::FieldRow;
 use sqlite::{Alter, Connection, Error, Row, Transaction, params};
+use std::alloc::{AllocError, Global};
+use std::cmp::Ordering;
 
 impl Table for FieldRow {
     ghost use Rattle.std.specs.Prelude.{refl};
     ghost use Rattle.book.specs.declared.rows.Change.TheVariants as change;
-    ghost use Rattle.keep.specs.Columns.{field_selected, field_shown, field_stored};
+    ghost use Rattle.book.specs.Rows.{FieldCells, field_cmp};
+    ghost use Rattle.book.specs.Tables.{field_cells};
+    ghost use Rattle.keep.specs.Columns.{field_columns, field_selected, field_shown, field_stored};
+    ghost use Rattle.keep.specs.KeyOrders.{field_cmp_total};
+
+    ghost Cells = { FieldCells };
+
+    ghost cells = { field_cells };
+
+    ghost cmp = { field_cmp };
 
     ghost tree = { 1 };
 
     ghost stored = { field_stored };
+
+    ghost columns = { field_columns };
 
     ghost selected = { field_selected };
 
@@ -21,9 +34,29 @@ impl Table for FieldRow {
 
     ghost change_of = { change.Field };
 
+    ghost total = { field_cmp_total };
+
     ghost shows = { λ _. refl };
 
     ghost number = { λ _. refl };
+
+    fn compare(&self, other: &Self) -> Ordering {
+        let by_branch = self.branch.cmp(&other.branch);
+        by_branch.then(self.article.cmp(&other.article))
+    }
+
+    fn copy(&self, alloc: Global) -> Result<Self, AllocError> {
+        Ok(FieldRow {
+            branch: String::from_str(alloc, &self.branch)?,
+            article: String::from_str(alloc, &self.article)?,
+            lo: self.lo,
+            hi: self.hi,
+            start: self.start,
+            value: self.value,
+            inf: self.inf,
+            sup: self.sup,
+        })
+    }
 
     fn upsert<S: Alter>(&self, tx: &mut Transaction<'_, S>) -> Result<usize, Error> {
         tx.execute(

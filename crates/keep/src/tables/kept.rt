@@ -1,17 +1,30 @@
-//! The statements of the table `kept`.
+//! The table `kept`.
 
-use crate::stored::Table;
+use crate::table::Table;
 use book::KeptRow;
 use sqlite::{Alter, Connection, Error, Row, Transaction, params};
+use std::alloc::{AllocError, Global};
+use std::cmp::Ordering;
 
 impl Table for KeptRow {
     ghost use Rattle.std.specs.Prelude.{refl};
     ghost use Rattle.book.specs.declared.rows.Change.TheVariants as change;
-    ghost use Rattle.keep.specs.Columns.{kept_selected, kept_shown, kept_stored};
+    ghost use Rattle.book.specs.Rows.{KeptCells, kept_cmp};
+    ghost use Rattle.book.specs.Tables.{kept_cells};
+    ghost use Rattle.keep.specs.Columns.{kept_columns, kept_selected, kept_shown, kept_stored};
+    ghost use Rattle.keep.specs.KeyOrders.{kept_cmp_total};
+
+    ghost Cells = { KeptCells };
+
+    ghost cells = { kept_cells };
+
+    ghost cmp = { kept_cmp };
 
     ghost tree = { 7 };
 
     ghost stored = { kept_stored };
+
+    ghost columns = { kept_columns };
 
     ghost selected = { kept_selected };
 
@@ -21,9 +34,23 @@ impl Table for KeptRow {
 
     ghost change_of = { change.Kept };
 
+    ghost total = { kept_cmp_total };
+
     ghost shows = { λ _. refl };
 
     ghost number = { λ _. refl };
+
+    fn compare(&self, other: &Self) -> Ordering {
+        self.reqkey.cmp(&other.reqkey)
+    }
+
+    fn copy(&self, alloc: Global) -> Result<Self, AllocError> {
+        Ok(KeptRow {
+            reqkey: String::from_str(alloc, &self.reqkey)?,
+            place: self.place,
+            words: String::from_str(alloc, &self.words)?,
+        })
+    }
 
     fn upsert<S: Alter>(&self, tx: &mut Transaction<'_, S>) -> Result<usize, Error> {
         tx.execute(

@@ -1,17 +1,30 @@
-//! The statements of the table `line`.
+//! The table `line`.
 
-use crate::stored::Table;
+use crate::table::Table;
 use book::LineRow;
 use sqlite::{Alter, Connection, Error, Row, Transaction, params};
+use std::alloc::{AllocError, Global};
+use std::cmp::Ordering;
 
 impl Table for LineRow {
     ghost use Rattle.std.specs.Prelude.{refl};
     ghost use Rattle.book.specs.declared.rows.Change.TheVariants as change;
-    ghost use Rattle.keep.specs.Columns.{line_selected, line_shown, line_stored};
+    ghost use Rattle.book.specs.Rows.{LineCells, line_cmp};
+    ghost use Rattle.book.specs.Tables.{line_cells};
+    ghost use Rattle.keep.specs.Columns.{line_columns, line_selected, line_shown, line_stored};
+    ghost use Rattle.keep.specs.KeyOrders.{line_cmp_total};
+
+    ghost Cells = { LineCells };
+
+    ghost cells = { line_cells };
+
+    ghost cmp = { line_cmp };
 
     ghost tree = { 5 };
 
     ghost stored = { line_stored };
+
+    ghost columns = { line_columns };
 
     ghost selected = { line_selected };
 
@@ -21,9 +34,28 @@ impl Table for LineRow {
 
     ghost change_of = { change.Line };
 
+    ghost total = { line_cmp_total };
+
     ghost shows = { λ _. refl };
 
     ghost number = { λ _. refl };
+
+    fn compare(&self, other: &Self) -> Ordering {
+        let by_number = self.number.cmp(&other.number);
+        by_number.then(self.nr.cmp(&other.nr))
+    }
+
+    fn copy(&self, alloc: Global) -> Result<Self, AllocError> {
+        Ok(LineRow {
+            number: self.number,
+            nr: self.nr,
+            branch: String::from_str(alloc, &self.branch)?,
+            article: String::from_str(alloc, &self.article)?,
+            way: self.way,
+            held: self.held,
+            used: self.used,
+        })
+    }
 
     fn upsert<S: Alter>(&self, tx: &mut Transaction<'_, S>) -> Result<usize, Error> {
         tx.execute(

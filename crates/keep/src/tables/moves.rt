@@ -1,17 +1,30 @@
-//! The statements of the table `move`.
+//! The table `move`.
 
-use crate::stored::Table;
+use crate::table::Table;
 use book::MoveRow;
 use sqlite::{Alter, Connection, Error, Row, Transaction, params};
+use std::alloc::{AllocError, Global};
+use std::cmp::Ordering;
 
 impl Table for MoveRow {
     ghost use Rattle.std.specs.Prelude.{refl};
     ghost use Rattle.book.specs.declared.rows.Change.TheVariants as change;
-    ghost use Rattle.keep.specs.Columns.{move_selected, move_shown, move_stored};
+    ghost use Rattle.book.specs.Rows.{MoveCells, move_cmp};
+    ghost use Rattle.book.specs.Tables.{move_cells};
+    ghost use Rattle.keep.specs.Columns.{move_columns, move_selected, move_shown, move_stored};
+    ghost use Rattle.keep.specs.KeyOrders.{move_cmp_total};
+
+    ghost Cells = { MoveCells };
+
+    ghost cells = { move_cells };
+
+    ghost cmp = { move_cmp };
 
     ghost tree = { 3 };
 
     ghost stored = { move_stored };
+
+    ghost columns = { move_columns };
 
     ghost selected = { move_selected };
 
@@ -21,9 +34,24 @@ impl Table for MoveRow {
 
     ghost change_of = { change.Move };
 
+    ghost total = { move_cmp_total };
+
     ghost shows = { λ _. refl };
 
     ghost number = { λ _. refl };
+
+    fn compare(&self, other: &Self) -> Ordering {
+        self.place.cmp(&other.place)
+    }
+
+    fn copy(&self, alloc: Global) -> Result<Self, AllocError> {
+        Ok(MoveRow {
+            place: self.place,
+            branch: String::from_str(alloc, &self.branch)?,
+            article: String::from_str(alloc, &self.article)?,
+            qty: self.qty,
+        })
+    }
 
     fn upsert<S: Alter>(&self, tx: &mut Transaction<'_, S>) -> Result<usize, Error> {
         tx.execute(

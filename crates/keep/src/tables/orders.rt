@@ -1,17 +1,30 @@
-//! The statements of the table `orders`.
+//! The table `orders`.
 
-use crate::stored::Table;
+use crate::table::Table;
 use book::OrderRow;
 use sqlite::{Alter, Connection, Error, Row, Transaction, params};
+use std::alloc::{AllocError, Global};
+use std::cmp::Ordering;
 
 impl Table for OrderRow {
     ghost use Rattle.std.specs.Prelude.{refl};
     ghost use Rattle.book.specs.declared.rows.Change.TheVariants as change;
-    ghost use Rattle.keep.specs.Columns.{order_selected, order_shown, order_stored};
+    ghost use Rattle.book.specs.Rows.{OrderCells, order_cmp};
+    ghost use Rattle.book.specs.Tables.{order_cells};
+    ghost use Rattle.keep.specs.Columns.{order_columns, order_selected, order_shown, order_stored};
+    ghost use Rattle.keep.specs.KeyOrders.{order_cmp_total};
+
+    ghost Cells = { OrderCells };
+
+    ghost cells = { order_cells };
+
+    ghost cmp = { order_cmp };
 
     ghost tree = { 4 };
 
     ghost stored = { order_stored };
+
+    ghost columns = { order_columns };
 
     ghost selected = { order_selected };
 
@@ -21,9 +34,19 @@ impl Table for OrderRow {
 
     ghost change_of = { change.Order };
 
+    ghost total = { order_cmp_total };
+
     ghost shows = { λ _. refl };
 
     ghost number = { λ _. refl };
+
+    fn compare(&self, other: &Self) -> Ordering {
+        self.number.cmp(&other.number)
+    }
+
+    fn copy(&self, _alloc: Global) -> Result<Self, AllocError> {
+        Ok(*self)
+    }
 
     fn upsert<S: Alter>(&self, tx: &mut Transaction<'_, S>) -> Result<usize, Error> {
         tx.execute(

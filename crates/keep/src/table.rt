@@ -1,4 +1,4 @@
-//! What the tables that have more than one row have in common: their statements, and their rows as answers show them.
+//! What the tables of many rows have in common: the order and the copies of rows, the statements, and how all rows are read.
 
 ghost use Rattle.std.specs.Prelude.{◌≡◌, ◌↔◌, [], ◌∷◌, false, map, IfOk, IsPermutation, IsTrue, OnOk};
 ghost use Rattle.std.specs.List.{AllZip};
@@ -9,13 +9,15 @@ ghost use Rattle.keep.specs.Content.{AreRows};
 ghost use Rattle.keep.specs.Loading.{Finds, IsShown};
 ghost use Rattle.keep.specs.Schema.{desk_schema};
 
-use crate::row::TableRow;
 use sqlite::{Alter, Connection, Error, ErrorCode, Row, Transaction};
-use std::alloc::Global;
+use std::alloc::{AllocError, Global};
+use std::cmp::Ordering;
 
-/// A table of such rows.
-pub(crate) trait Table: TableRow + Drop {
+/// A row of such a table, and the table.
+pub(crate) trait Table: Sized + Drop {
     ghost use Rattle.std.specs.Prelude.{◌≡◌, [], ◌∷◌, false, map, ℕ, IfOk, IsPermutation, IsTrue, OnOk};
+    ghost use Rattle.std.specs.Cmp.{IsTotalOrder};
+    ghost use Rattle.std.specs.declared.cmp.Ordering.{Ordering};
     ghost use Rattle.sqlite.specs.Held.{state};
     ghost use Rattle.sqlite.specs.Order.{Row, column};
     ghost use Rattle.sqlite.specs.State.{HasCleanDisk, IsUnchanged, Survives};
@@ -25,11 +27,21 @@ pub(crate) trait Table: TableRow + Drop {
     ghost use Rattle.keep.specs.Schema.{desk_schema};
     ghost use Rattle.keep.specs.Transactions.{PutsIn};
 
-    // Where its rows are stored.
+    // What a row holds.
+    ghost Cells: { Type 0 };
+
+    ghost cells: { Self → Cells };
+
+    // By the key alone.
+    ghost cmp: { Cells → Cells → Ordering };
+
+    // Where the rows are stored.
     ghost tree: { ℕ };
 
-    // The columns of a stored row.
+    // The columns of a stored row, and those of cells.
     ghost stored: { Row → Row };
+
+    ghost columns: { Cells → Row };
 
     // What the select shows of a stored row; those columns of it that are of the table, and the one that is the rowid.
     ghost selected: { Row → Row };
@@ -39,6 +51,14 @@ pub(crate) trait Table: TableRow + Drop {
     ghost at: { ℕ };
 
     ghost change_of: { Self → Change };
+
+    /// How their keys stand to one another.
+    fn compare(&self, other: &Self) -> Ordering
+        ensures { result ≡ cmp (cells self.now) (cells other.now) };
+
+    /// A row with the same cells.
+    fn copy(&self, alloc: Global) -> Result<Self, AllocError>
+        ensures { IfOk result (λ row. cells row ≡ cells self.now) };
 
     /// Puts the row in by its key.
     fn upsert<S: Alter>(&self, tx: &mut Transaction<'_, S>) -> Result<usize, Error>
@@ -58,7 +78,9 @@ pub(crate) trait Table: TableRow + Drop {
 
     /// The row that the answer shows.
     fn read(row: &Row) -> Result<Self, Error>
-        ensures { IfOk result (λ found. IsShown shown at row.now (Self.columns (Self.cells found))) };
+        ensures { IfOk result (λ found. IsShown shown at row.now (columns (cells found))) };
+
+    ghost total: { IsTotalOrder cmp };
 
     ghost shows: { (r : Row) → shown (selected r) ≡ stored r };
 
@@ -77,7 +99,7 @@ fn read_all<R: Table>(alloc: Global, answers: &[Row]) -> Result<Vec<R>, Error>
 }
 
 /// Whether the rows stand in the order of their keys, each once.
-fn are_in_order<R: TableRow>(rows: &[R]) -> bool
+fn are_in_order<R: Table>(rows: &[R]) -> bool
     ensures { IsTrue result ↔ IsStrictlySortedBy R.cmp (map R.cells rows.now) }
 {
     rows.is_sorted_by(|one, other| one.compare(other).is_lt())
