@@ -14,12 +14,9 @@ use Rattle.sqlite_trees.specs.View.{is_int}
 use Rattle.book.specs.declared.rows.DeskRow.{DeskRow}
 use Rattle.book.specs.Rows.{DeskCells, desk_cmp}
 use Rattle.book.specs.Tables.{desk_cells}
-use Rattle.keep.specs.Columns.{desk_stored, desk_columns, desk_selected}
+use Rattle.keep.specs.Columns.{desk_columns, desk_selected, desk_shown, desk_stored}
 use Rattle.keep.specs.Content.{AreRows, IsOneRow, IsVersion}
 use Rattle.keep.specs.Loading.{FindsOver, IsOfAVersion, IsOneAnswer}
-
-abbrev firsts : Row → Row
-firsts c = column c 0 ∷ column c 1 ∷ column c 2 ∷ column c 3 ∷ []
 
 alone : (x : DeskCells) → IsStrictlySortedBy desk_cmp (x ∷ [])
 unfolding IsStrictlySortedBy
@@ -28,7 +25,7 @@ alone x = (tt, tt)
 -- the one answer is the one row
 one_row : (version : ℤ) (tree answers : List Row) (row : DeskCells) → IsPermutation (map desk_selected tree) answers → IsOneAnswer version answers row → AreRows desk_cmp desk_stored desk_columns tree (row ∷ [])
 one_row version tree answers row same is =
-    let stored : IsPermutation (map desk_stored tree) (desk_columns row ∷ []) = subst (IsPermutation (map desk_stored tree)) is.same (subst (λ l. IsPermutation l (map firsts answers)) (map-map firsts desk_selected tree) (IsPermutation-map firsts _ _ same)) in
+    let stored : IsPermutation (map desk_stored tree) (desk_columns row ∷ []) = subst (IsPermutation (map desk_stored tree)) is.same (subst (λ l. IsPermutation l (map desk_shown answers)) (map-map desk_shown desk_selected tree) (IsPermutation-map desk_shown _ _ same)) in
     let P = λ (c : Row). IsTrue (is_int (column c 0)) in
     let one : AllByRecursion P (desk_columns row ∷ []) = (refl, tt) in
     record {
@@ -40,7 +37,7 @@ one_row version tree answers row same is =
 -- rows of the tree that are one row of that version are what is answered
 answered : (version : ℤ) (tree answers : List Row) (row : DeskCells) → IsPermutation (map desk_selected tree) answers → AreRows desk_cmp desk_stored desk_columns tree (row ∷ []) → IsVersion version row → IsOneAnswer version answers row
 answered version tree answers row same are is = record {
-  same = ap (map firsts) (one_permutation (desk_columns row) answers (IsPermutation-trans _ _ _ (IsPermutation-sym _ _ are.same) same));
+  same = ap (map desk_shown) (one_permutation (desk_columns row) answers (IsPermutation-trans _ _ _ (IsPermutation-sym _ _ are.same) same));
   is_version = is;
 }
 

@@ -5,7 +5,7 @@ use Rattle.std.proofs.Math.Seq.{take-suc}
 use Rattle.std.proofs.lemmas.List.Elements.{AllZip-push}
 use Rattle.std.specs.declared.cmp.Ordering.{Ordering}
 use Rattle.std.specs.declared.cmp.Ordering.TheVariants.{Greater}
-use Rattle.std.specs.Cmp.{IsTotalOrder}
+use Rattle.std.specs.Cmp.{IsTotalOrder, on_total}
 use Rattle.std.specs.List.{AllByRecursion as Each, AllWithin, AllZip, insert}
 use Rattle.std.specs.List.Sorted.{IsBinarySearchResult, IsNonDecreasingBy, IsSearchInRange, IsStrictlySortedBy}
 use Rattle.std.specs.Ordering.{is_eq, is_lt, ordering_index, ordering_reverse}
@@ -73,7 +73,7 @@ module _ {R : Type 0} (cmp : R → R → Ordering) (o : IsTotalOrder cmp) where
   behind P (x ∷ xs) (suc i) h = behind P xs i (λ k d low high. h (suc k) d (omega arith) (omega arith))
 
   -- where a search by halves ends
-  pub searched : (row : R) (xs : List R) (r : Result ℕ ℕ) → IsStrictlySortedBy cmp xs → IsSearchInRange r (length xs) → IsBinarySearchResult (λ x. cmp x row) xs r
+  searched : (row : R) (xs : List R) (r : Result ℕ ℕ) → IsStrictlySortedBy cmp xs → IsSearchInRange r (length xs) → IsBinarySearchResult (λ x. cmp x row) xs r
       → record { there : IfOk r (λ i. (i < length xs) × (set xs i row ≡ put_row cmp row xs)); between : IfErr r (λ i. (i ≤ length xs) × (insert xs i row ≡ put_row cmp row xs)) }
   searched row xs (Ok i) sorted within is = record { there = (within, put_there row xs i row within sorted (is row)); between = tt }
   searched row xs (Err i) sorted within is =
@@ -107,13 +107,13 @@ same_cells view (x ∷ xs) [] h = absurd h
 same_cells view (x ∷ xs) (y ∷ ys) h = rw (h.0, same_cells view xs ys h.1) refl
 
 -- where the cells are in order, so are the rows
-pub sorted_rows : {X Y : Type 0} (view : X → Y) (cmp : Y → Y → Ordering) (xs : List X) → IsStrictlySortedBy cmp (map view xs) → IsStrictlySortedBy (λ a b. cmp (view a) (view b)) xs
+sorted_rows : {X Y : Type 0} (view : X → Y) (cmp : Y → Y → Ordering) (xs : List X) → IsStrictlySortedBy cmp (map view xs) → IsStrictlySortedBy (λ a b. cmp (view a) (view b)) xs
 unfolding IsStrictlySortedBy
 sorted_rows view cmp [] sorted = tt
 sorted_rows view cmp (x ∷ xs) sorted = (sorted_behind view cmp x xs sorted.0, sorted_rows view cmp xs sorted.1)
 
 -- the cells of a row put are those of its cells put
-pub put_cells : {X Y : Type 0} (view : X → Y) (cmp : Y → Y → Ordering) (row : X) (xs : List X) → map view (put_row (λ a b. cmp (view a) (view b)) row xs) ≡ put_row cmp (view row) (map view xs)
+put_cells : {X Y : Type 0} (view : X → Y) (cmp : Y → Y → Ordering) (row : X) (xs : List X) → map view (put_row (λ a b. cmp (view a) (view b)) row xs) ≡ put_row cmp (view row) (map view xs)
 put_cells view cmp row [] = refl
 put_cells view cmp row (x ∷ xs) = by (is_lt (cmp (view row) (view x))) (is_eq (cmp (view row) (view x))) (put_cells view cmp row xs)
   where
@@ -122,6 +122,16 @@ put_cells view cmp row (x ∷ xs) = by (is_lt (cmp (view row) (view x))) (is_eq 
     by true there e = refl
     by false true e = refl
     by false false e = ap (λ ys. view x ∷ ys) e
+
+-- where a search by halves ends, seen as cells
+pub searched_cells : {X Y : Type 0} (view : X → Y) (cmp : Y → Y → Ordering) → IsTotalOrder cmp → (row : X) (xs : List X) (r : Result ℕ ℕ) → IsStrictlySortedBy cmp (map view xs) → IsSearchInRange r (length xs) → IsBinarySearchResult (λ x. cmp (view x) (view row)) xs r
+    → record { there : IfOk r (λ i. (i < length xs) × (map view (set xs i row) ≡ put_row cmp (view row) (map view xs))); between : IfErr r (λ i. (i ≤ length xs) × (map view (insert xs i row) ≡ put_row cmp (view row) (map view xs))) }
+searched_cells view cmp o row xs (Ok i) sorted within is =
+    let there = (searched (λ a b. cmp (view a) (view b)) (on_total view o) row xs (Ok i) (sorted_rows view cmp xs sorted) within is).there in
+    record { there = (there.0, ap (map view) there.1 ∙ put_cells view cmp row xs); between = tt }
+searched_cells view cmp o row xs (Err i) sorted within is =
+    let between = (searched (λ a b. cmp (view a) (view b)) (on_total view o) row xs (Err i) (sorted_rows view cmp xs sorted) within is).between in
+    record { there = tt; between = (between.0, ap (map view) between.1 ∙ put_cells view cmp row xs) }
 
 -- ---- rows stay in order
 

@@ -2,6 +2,7 @@
 use Rattle.std.proofs.Common.{◌≡◌, ◌∙◌, ℕ, Ok, Err, Result, refl, sym, ap, subst, arith, List, ◌∷◌, ◌++◌, [], IsTrue}
 use Rattle.std.specs.Prelude.{OnOk}
 use Rattle.sqlite.specs.declared.error.Error.{Error}
+use Rattle.sqlite.specs.Order.{Row}
 use Rattle.sqlite.specs.State.{State, Executes, ExecutesInside}
 use Rattle.book.specs.declared.rows.Change.{Change}
 use Rattle.book.specs.declared.rows.Change.TheVariants as change
@@ -26,6 +27,12 @@ use Rattle.keep.proofs.LinePut.{line_put, line_step}
 use Rattle.keep.proofs.KeptPut.{kept_put, kept_step}
 use Rattle.keep.proofs.FirmPut.{firm_put, firm_step}
 
+-- where the statement has put them in, the transaction goes on
+upserted : (text : List ℕ) (columns : Row) (changes : List Change) (old new : State) → ((count : ℕ) → Executes text columns old new (Ok count) → (x : Content) → Holds old.now x → Holds new.now (with_changes changes x))
+    → (r : Result ℕ Error) → ExecutesInside 0 text columns old new r → OnOk r (PutsIn old new changes)
+upserted text columns changes old new holds (Ok count) h = record { mode = h.1.mode; committed = h.1.committed_is; put_in = holds count h.0 }
+upserted text columns changes old new holds (Err e) h = tt
+
 desk_holds : (old new : State) (row : DeskRow) (count : ℕ) → Executes t.desk_upsert (desk_columns (desk_cells row)) old new (Ok count)
     → (x : Content) → Holds old.now x → Holds new.now (with_changes (change.Desk row ∷ []) x)
 desk_holds old new row count h x held =
@@ -45,12 +52,7 @@ desk_holds old new row count h x held =
     }
 
 pub desk_upserted : (old new : State) (row : DeskRow) (r : Result ℕ Error) → ExecutesInside 0 t.desk_upsert (desk_columns (desk_cells row)) old new r → OnOk r (PutsIn old new (change.Desk row ∷ []))
-desk_upserted old new row (Ok count) h = record {
-  mode = h.1.mode;
-  committed = h.1.committed_is;
-  put_in = desk_holds old new row count h.0;
-}
-desk_upserted old new row (Err e) h = tt
+desk_upserted old new row = upserted t.desk_upsert (desk_columns (desk_cells row)) (change.Desk row ∷ []) old new (desk_holds old new row)
 
 field_holds : (old new : State) (row : FieldRow) (count : ℕ) → Executes t.field_upsert (field_columns (field_cells row)) old new (Ok count)
     → (x : Content) → Holds old.now x → Holds new.now (with_changes (change.Field row ∷ []) x)
@@ -71,12 +73,7 @@ field_holds old new row count h x held =
     }
 
 pub field_upserted : (old new : State) (row : FieldRow) (r : Result ℕ Error) → ExecutesInside 0 t.field_upsert (field_columns (field_cells row)) old new r → OnOk r (PutsIn old new (change.Field row ∷ []))
-field_upserted old new row (Ok count) h = record {
-  mode = h.1.mode;
-  committed = h.1.committed_is;
-  put_in = field_holds old new row count h.0;
-}
-field_upserted old new row (Err e) h = tt
+field_upserted old new row = upserted t.field_upsert (field_columns (field_cells row)) (change.Field row ∷ []) old new (field_holds old new row)
 
 move_holds : (old new : State) (row : MoveRow) (count : ℕ) → Executes t.move_upsert (move_columns (move_cells row)) old new (Ok count)
     → (x : Content) → Holds old.now x → Holds new.now (with_changes (change.Move row ∷ []) x)
@@ -97,12 +94,7 @@ move_holds old new row count h x held =
     }
 
 pub move_upserted : (old new : State) (row : MoveRow) (r : Result ℕ Error) → ExecutesInside 0 t.move_upsert (move_columns (move_cells row)) old new r → OnOk r (PutsIn old new (change.Move row ∷ []))
-move_upserted old new row (Ok count) h = record {
-  mode = h.1.mode;
-  committed = h.1.committed_is;
-  put_in = move_holds old new row count h.0;
-}
-move_upserted old new row (Err e) h = tt
+move_upserted old new row = upserted t.move_upsert (move_columns (move_cells row)) (change.Move row ∷ []) old new (move_holds old new row)
 
 order_holds : (old new : State) (row : OrderRow) (count : ℕ) → Executes t.order_upsert (order_columns (order_cells row)) old new (Ok count)
     → (x : Content) → Holds old.now x → Holds new.now (with_changes (change.Order row ∷ []) x)
@@ -123,12 +115,7 @@ order_holds old new row count h x held =
     }
 
 pub order_upserted : (old new : State) (row : OrderRow) (r : Result ℕ Error) → ExecutesInside 0 t.order_upsert (order_columns (order_cells row)) old new r → OnOk r (PutsIn old new (change.Order row ∷ []))
-order_upserted old new row (Ok count) h = record {
-  mode = h.1.mode;
-  committed = h.1.committed_is;
-  put_in = order_holds old new row count h.0;
-}
-order_upserted old new row (Err e) h = tt
+order_upserted old new row = upserted t.order_upsert (order_columns (order_cells row)) (change.Order row ∷ []) old new (order_holds old new row)
 
 line_holds : (old new : State) (row : LineRow) (count : ℕ) → Executes t.line_upsert (line_columns (line_cells row)) old new (Ok count)
     → (x : Content) → Holds old.now x → Holds new.now (with_changes (change.Line row ∷ []) x)
@@ -149,12 +136,7 @@ line_holds old new row count h x held =
     }
 
 pub line_upserted : (old new : State) (row : LineRow) (r : Result ℕ Error) → ExecutesInside 0 t.line_upsert (line_columns (line_cells row)) old new r → OnOk r (PutsIn old new (change.Line row ∷ []))
-line_upserted old new row (Ok count) h = record {
-  mode = h.1.mode;
-  committed = h.1.committed_is;
-  put_in = line_holds old new row count h.0;
-}
-line_upserted old new row (Err e) h = tt
+line_upserted old new row = upserted t.line_upsert (line_columns (line_cells row)) (change.Line row ∷ []) old new (line_holds old new row)
 
 kept_holds : (old new : State) (row : KeptRow) (count : ℕ) → Executes t.kept_upsert (kept_columns (kept_cells row)) old new (Ok count)
     → (x : Content) → Holds old.now x → Holds new.now (with_changes (change.Kept row ∷ []) x)
@@ -175,12 +157,7 @@ kept_holds old new row count h x held =
     }
 
 pub kept_upserted : (old new : State) (row : KeptRow) (r : Result ℕ Error) → ExecutesInside 0 t.kept_upsert (kept_columns (kept_cells row)) old new r → OnOk r (PutsIn old new (change.Kept row ∷ []))
-kept_upserted old new row (Ok count) h = record {
-  mode = h.1.mode;
-  committed = h.1.committed_is;
-  put_in = kept_holds old new row count h.0;
-}
-kept_upserted old new row (Err e) h = tt
+kept_upserted old new row = upserted t.kept_upsert (kept_columns (kept_cells row)) (change.Kept row ∷ []) old new (kept_holds old new row)
 
 firm_holds : (old new : State) (row : FirmRow) (count : ℕ) → Executes t.firm_upsert (firm_columns (firm_cells row)) old new (Ok count)
     → (x : Content) → Holds old.now x → Holds new.now (with_changes (change.Firm row ∷ []) x)
@@ -201,12 +178,7 @@ firm_holds old new row count h x held =
     }
 
 pub firm_upserted : (old new : State) (row : FirmRow) (r : Result ℕ Error) → ExecutesInside 0 t.firm_upsert (firm_columns (firm_cells row)) old new r → OnOk r (PutsIn old new (change.Firm row ∷ []))
-firm_upserted old new row (Ok count) h = record {
-  mode = h.1.mode;
-  committed = h.1.committed_is;
-  put_in = firm_holds old new row count h.0;
-}
-firm_upserted old new row (Err e) h = tt
+firm_upserted old new row = upserted t.firm_upsert (firm_columns (firm_cells row)) (change.Firm row ∷ []) old new (firm_holds old new row)
 
 -- ---- rows put in one after another
 

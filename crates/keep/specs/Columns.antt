@@ -1,16 +1,7 @@
 -- How a row is stored: the rowid, then the columns. An integer key is the rowid, and its own column is stored as NULL.
-use Rattle.std.specs.Prelude.{◌≡◌, [], ◌∷◌, IsTrue}
+use Rattle.std.specs.Prelude.{[], ◌∷◌}
 use Rattle.sqlite.specs.declared.types.Value.TheVariants.{Int, Text}
 use Rattle.sqlite.specs.Order.{Row, column}
-use Rattle.sqlite_trees.specs.View.{is_int}
-use Rattle.book.specs.declared.rows.DeskRow.{DeskRow}
-use Rattle.book.specs.declared.rows.FieldRow.{FieldRow}
-use Rattle.book.specs.declared.rows.MoveRow.{MoveRow}
-use Rattle.book.specs.declared.rows.OrderRow.{OrderRow}
-use Rattle.book.specs.declared.rows.LineRow.{LineRow}
-use Rattle.book.specs.declared.rows.KeptRow.{KeptRow}
-use Rattle.book.specs.declared.rows.FirmRow.{FirmRow}
-use Rattle.book.specs.Tables.{desk_cells, field_cells, move_cells, order_cells, line_cells, kept_cells, firm_cells}
 use Rattle.book.specs.Rows.{DeskCells, FieldCells, MoveCells, OrderCells, LineCells, KeptCells, FirmCells}
 
 -- the columns of a stored row
@@ -79,24 +70,24 @@ kept_selected r = column r 1 ∷ column r 2 ∷ column r 3 ∷ column r 0 ∷ []
 abbrev pub firm_selected : Row → Row
 firm_selected r = column r 0 ∷ []
 
--- an answer of a SELECT shows this row, and its rowid is a whole number
-abbrev pub desk_shown : Row → DeskRow → Type 0
-desk_shown answer row = (column answer 0 ∷ column answer 1 ∷ column answer 2 ∷ column answer 3 ∷ [] ≡ desk_columns (desk_cells row)) × IsTrue (is_int (column answer 0))
+-- those columns of an answer that are of the table
+abbrev pub desk_shown : Row → Row
+desk_shown answer = column answer 0 ∷ column answer 1 ∷ column answer 2 ∷ column answer 3 ∷ []
 
-abbrev pub field_shown : Row → FieldRow → Type 0
-field_shown answer row = (column answer 0 ∷ column answer 1 ∷ column answer 2 ∷ column answer 3 ∷ column answer 4 ∷ column answer 5 ∷ column answer 6 ∷ column answer 7 ∷ [] ≡ field_columns (field_cells row)) × IsTrue (is_int (column answer 8))
+abbrev pub field_shown : Row → Row
+field_shown answer = column answer 0 ∷ column answer 1 ∷ column answer 2 ∷ column answer 3 ∷ column answer 4 ∷ column answer 5 ∷ column answer 6 ∷ column answer 7 ∷ []
 
-abbrev pub move_shown : Row → MoveRow → Type 0
-move_shown answer row = (column answer 0 ∷ column answer 1 ∷ column answer 2 ∷ column answer 3 ∷ [] ≡ move_columns (move_cells row)) × IsTrue (is_int (column answer 0))
+abbrev pub move_shown : Row → Row
+move_shown answer = column answer 0 ∷ column answer 1 ∷ column answer 2 ∷ column answer 3 ∷ []
 
-abbrev pub order_shown : Row → OrderRow → Type 0
-order_shown answer row = (column answer 0 ∷ column answer 1 ∷ column answer 2 ∷ column answer 3 ∷ [] ≡ order_columns (order_cells row)) × IsTrue (is_int (column answer 0))
+abbrev pub order_shown : Row → Row
+order_shown answer = column answer 0 ∷ column answer 1 ∷ column answer 2 ∷ column answer 3 ∷ []
 
-abbrev pub line_shown : Row → LineRow → Type 0
-line_shown answer row = (column answer 0 ∷ column answer 1 ∷ column answer 2 ∷ column answer 3 ∷ column answer 4 ∷ column answer 5 ∷ column answer 6 ∷ [] ≡ line_columns (line_cells row)) × IsTrue (is_int (column answer 7))
+abbrev pub line_shown : Row → Row
+line_shown answer = column answer 0 ∷ column answer 1 ∷ column answer 2 ∷ column answer 3 ∷ column answer 4 ∷ column answer 5 ∷ column answer 6 ∷ []
 
-abbrev pub kept_shown : Row → KeptRow → Type 0
-kept_shown answer row = (column answer 0 ∷ column answer 1 ∷ column answer 2 ∷ [] ≡ kept_columns (kept_cells row)) × IsTrue (is_int (column answer 3))
+abbrev pub kept_shown : Row → Row
+kept_shown answer = column answer 0 ∷ column answer 1 ∷ column answer 2 ∷ []
 
-abbrev pub firm_shown : Row → FirmRow → Type 0
-firm_shown answer row = (column answer 0 ∷ [] ≡ firm_columns (firm_cells row)) × IsTrue (is_int (column answer 0))
+abbrev pub firm_shown : Row → Row
+firm_shown answer = column answer 0 ∷ []

@@ -5,7 +5,8 @@ ghost use Rattle.sqlite.specs.State.{HasCleanDisk, Survives};
 ghost use Rattle.sqlite.specs.Held.{state};
 ghost use Rattle.keep.specs.Transactions.{PutsIn, Committed, AreChanged};
 
-use crate::tables::{desk, field, firm, kept, line, moves, orders};
+use crate::table::Table;
+use crate::tables::desk;
 use book::Change;
 use sqlite::{Alter, Connection, Error, Transaction};
 
@@ -18,12 +19,12 @@ fn put<S: Alter>(tx: &mut Transaction<'_, S>, change: &Change) -> Result<usize, 
 {
     match change {
         Change::Desk(row) => desk::upsert(tx, row),
-        Change::Field(row) => field::upsert(tx, row),
-        Change::Move(row) => moves::upsert(tx, row),
-        Change::Order(row) => orders::upsert(tx, row),
-        Change::Line(row) => line::upsert(tx, row),
-        Change::Kept(row) => kept::upsert(tx, row),
-        Change::Firm(row) => firm::upsert(tx, row),
+        Change::Field(row) => row.upsert(tx),
+        Change::Move(row) => row.upsert(tx),
+        Change::Order(row) => row.upsert(tx),
+        Change::Line(row) => row.upsert(tx),
+        Change::Kept(row) => row.upsert(tx),
+        Change::Firm(row) => row.upsert(tx),
     }
 }
 

@@ -8,10 +8,9 @@ mod laws;
 mod load;
 mod plain;
 mod reopening;
-mod row;
 mod schema;
 mod sql;
-mod stored;
+mod table;
 mod tables;
 mod upgrade;
 

@@ -11,7 +11,8 @@ ghost use Rattle.keep.specs.Columns.{field_stored, move_stored, order_stored, li
 ghost use Rattle.keep.specs.Content.{AreRows, HasTables, Holds, IsDesk};
 ghost use Rattle.keep.specs.Loading.{Finds};
 
-use crate::tables::{desk, field, firm, kept, line, moves, orders};
+use crate::table::load;
+use crate::tables::desk;
 use book::{FieldRow, FirmRow, LineRow, MoveRow, OrderRow, Rows, Tables};
 use sqlite::{Alter, Connection, Error};
 use std::alloc::Global;
@@ -27,8 +28,8 @@ fn load_stock<S: Alter>(
         × AreRows move_cmp move_stored move_columns (trees 3) (map move_cells stock.1.items))) }
     ensures survives { Survives (state S.Store conn.old) (state S.Store conn.new) (λ _. ¬ ((state S.Store conn.old).now.schema ≡ desk_schema)) }
 {
-    let fields = field::load(alloc, conn)?;
-    let moves = moves::load(alloc, conn)?;
+    let fields = load(alloc, conn)?;
+    let moves = load(alloc, conn)?;
     Ok((fields, moves))
 }
 
@@ -44,9 +45,9 @@ fn load_orders<S: Alter>(
         × AreRows line_cmp line_stored line_columns (trees 5) (map line_cells orders.1.items)) × AreRows firm_cmp firm_stored firm_columns (trees 9) (map firm_cells orders.2.items))) }
     ensures survives { Survives (state S.Store conn.old) (state S.Store conn.new) (λ _. ¬ ((state S.Store conn.old).now.schema ≡ desk_schema)) }
 {
-    let orders = orders::load(alloc, conn)?;
-    let lines = line::load(alloc, conn)?;
-    let firms = firm::load(alloc, conn)?;
+    let orders = load(alloc, conn)?;
+    let lines = load(alloc, conn)?;
+    let firms = load(alloc, conn)?;
     Ok((orders, lines, firms))
 }
 
@@ -71,7 +72,7 @@ pub(crate) fn load_all<S: Alter>(
     };
     let (fields, moves) = load_stock(alloc, conn)?;
     let (orders, lines, firms) = load_orders(alloc, conn)?;
-    let kept = kept::load(alloc, conn)?;
+    let kept = load(alloc, conn)?;
     Ok(Some(Tables {
         desk,
         fields: Rows::new(fields),

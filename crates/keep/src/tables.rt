@@ -1,4 +1,4 @@
-//! The statements of the seven tables, a file a table: one puts a row in, one reads all.
+//! The seven tables, a file a table: its rows, and its statements, of which one puts a row in and one reads all.
 
 pub(crate) mod desk;
 pub(crate) mod field;

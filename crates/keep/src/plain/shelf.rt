@@ -1,7 +1,7 @@
 //! The rows of the seven tables, in vectors.
 
-ghost use Rattle.std.specs.Prelude.{◌≡◌, ◌+◌, ◌<◌, ◌≤◌, IfErr, IfOk, OnErr, OnOk, ℕ, length, slice_set};
-ghost use Rattle.std.specs.List.{All, AllZip, insert};
+ghost use Rattle.std.specs.Prelude.{◌≡◌, ◌+◌, ◌<◌, ◌≤◌, IfErr, IfOk, OnErr, OnOk, ℕ, length, map, slice_set};
+ghost use Rattle.std.specs.List.{All, insert};
 ghost use Rattle.std.specs.List.Sorted.{IsStrictlySortedBy};
 ghost use Rattle.std.specs.Vec.{vec_capacity, vec_len};
 ghost use Rattle.book.specs.Changes.{put_content, put_row};
@@ -10,7 +10,7 @@ ghost use Rattle.keep.specs.Content.{IsTheRow, new_content};
 ghost use Rattle.keep.specs.Plain.{HasRoom, IsCopy, IsInOrder, row_of, shelf_content};
 ghost use Rattle.keep.specs.Transactions.{with_changes};
 
-use crate::row::TableRow;
+use crate::table::Table;
 use crate::tables::desk::VERSION;
 use book::{Change, DeskRow, FieldRow, FirmRow, KeptRow, LineRow, MoveRow, OrderRow, Rows, Tables};
 use std::alloc::{AllocError, Global};
@@ -28,19 +28,19 @@ pub(super) struct Shelf {
 }
 
 /// Where the row with that key stands, or the place for it among the others.
-fn place_of<R: TableRow>(rows: &[R], row: &R) -> Result<usize, usize>
-    requires { IsStrictlySortedBy R.cmp rows.now }
-    ensures there { IfOk result (λ i. (i < length rows.now) × (slice_set rows.now i row.now ≡ put_row R.cmp row.now rows.now)) }
-    ensures between { IfErr result (λ i. (i ≤ length rows.now) × (insert rows.now i row.now ≡ put_row R.cmp row.now rows.now)) }
+fn place_of<R: Table>(rows: &[R], row: &R) -> Result<usize, usize>
+    requires { IsStrictlySortedBy R.cmp (map R.cells rows.now) }
+    ensures there { IfOk result (λ i. (i < length rows.now) × (map R.cells (slice_set rows.now i row.now) ≡ put_row R.cmp (R.cells row.now) (map R.cells rows.now))) }
+    ensures between { IfErr result (λ i. (i ≤ length rows.now) × (map R.cells (insert rows.now i row.now) ≡ put_row R.cmp (R.cells row.now) (map R.cells rows.now))) }
 {
     rows.binary_search_by(|other| other.compare(row))
 }
 
 /// Puts the row in by its key: in place of the row that has it, or else between the others.
-fn put_row<R: TableRow + Drop>(rows: &mut Vec<R>, row: R)
-    requires sorted { IsStrictlySortedBy R.cmp rows.old.items }
+fn put_row<R: Table>(rows: &mut Vec<R>, row: R)
+    requires sorted { IsStrictlySortedBy R.cmp (map R.cells rows.old.items) }
     requires room { vec_len rows.old < vec_capacity rows.old }
-    ensures put { rows.new.items ≡ put_row R.cmp row rows.old.items }
+    ensures put { map R.cells rows.new.items ≡ put_row R.cmp (R.cells row) (map R.cells rows.old.items) }
     ensures len { vec_len rows.new ≤ vec_len rows.old + 1 }
     ensures capacity { vec_capacity rows.old ≤ vec_capacity rows.new }
 {
@@ -54,8 +54,8 @@ fn put_row<R: TableRow + Drop>(rows: &mut Vec<R>, row: R)
 }
 
 /// The rows, each copied.
-fn copy_rows<R: TableRow + Drop>(alloc: Global, rows: &[R]) -> Result<Vec<R>, AllocError>
-    ensures { IfOk result (λ copies. AllZip R.is_copy rows.now copies.items) }
+fn copy_rows<R: Table>(alloc: Global, rows: &[R]) -> Result<Vec<R>, AllocError>
+    ensures { IfOk result (λ copies. map R.cells copies.items ≡ map R.cells rows.now) }
 {
     let mut copies = Vec::new(alloc);
     for row in rows {

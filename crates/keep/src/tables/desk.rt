@@ -6,12 +6,11 @@ ghost use Rattle.sqlite.specs.Held.{state};
 ghost use Rattle.book.specs.declared.rows.Change.TheVariants as change;
 ghost use Rattle.book.specs.Rows.{DeskCells, desk_cmp};
 ghost use Rattle.book.specs.Tables.{desk_cells};
-ghost use Rattle.keep.specs.Columns.{desk_selected, desk_stored, desk_columns};
+ghost use Rattle.keep.specs.Columns.{desk_columns, desk_selected, desk_shown, desk_stored};
 ghost use Rattle.keep.specs.Content.{AreRows, IsOneRow, IsVersion};
-ghost use Rattle.keep.specs.Loading.{FindsOver, IsOfAVersion, IsOneAnswer};
+ghost use Rattle.keep.specs.Loading.{FindsOver, IsOfAVersion, IsOneAnswer, IsShown};
 ghost use Rattle.keep.specs.Transactions.{PutsIn};
 
-use crate::stored::Stored;
 use book::DeskRow;
 use sqlite::{Alter, Connection, Error, Row, Transaction, params};
 
@@ -49,6 +48,18 @@ pub(crate) fn select<S: Alter>(conn: &mut Connection<S>) -> Result<Vec<Row>, Err
     )
 }
 
+/// The row that the answer shows.
+fn read(row: &Row) -> Result<DeskRow, Error>
+    ensures { IfOk result (λ found. IsShown desk_shown 0 row.now (desk_columns (desk_cells found))) }
+{
+    Ok(DeskRow {
+        one: row.get(0)?,
+        version: row.get(1)?,
+        clock: row.get(2)?,
+        places: row.get(3)?,
+    })
+}
+
 /// The one row that the answers show, or None where there is another number of rows or one of another version.
 fn one_row(answers: &[Row], version: i64) -> Result<Option<DeskRow>, Error>
     ensures { IfOk result (λ found. MatchOption found (¬ ((row : DeskCells) × IsOneAnswer version answers.now row)) (λ row. IsOneAnswer version answers.now (desk_cells row))) }
@@ -56,7 +67,7 @@ fn one_row(answers: &[Row], version: i64) -> Result<Option<DeskRow>, Error>
     let [answer] = answers else {
         return Ok(None);
     };
-    let row = DeskRow::read(answer)?;
+    let row = read(answer)?;
     if row.version == version {
         Ok(Some(row))
     } else {
@@ -77,19 +88,4 @@ pub(crate) fn load<S: Alter>(
 {
     let answers = select(conn)?;
     one_row(answers.as_slice(), version)
-}
-
-impl Stored for DeskRow {
-    ghost use Rattle.keep.specs.Columns.{desk_shown};
-
-    ghost is_shown = { desk_shown };
-
-    fn read(row: &Row) -> Result<Self, Error> {
-        Ok(DeskRow {
-            one: row.get(0)?,
-            version: row.get(1)?,
-            clock: row.get(2)?,
-            places: row.get(3)?,
-        })
-    }
 }

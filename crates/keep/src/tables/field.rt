@@ -1,78 +1,86 @@
-//! The statements of the table `field`.
+//! The table `field`.
 
-ghost use Rattle.std.specs.Prelude.{◌≡◌, [], ◌∷◌, false, IsTrue, IfOk, OnOk, IsPermutation, map};
-ghost use Rattle.std.specs.List.Sorted.{IsStrictlySortedBy};
-ghost use Rattle.sqlite.specs.State.{HasCleanDisk, IsUnchanged, Survives};
-ghost use Rattle.sqlite.specs.Held.{state};
-ghost use Rattle.book.specs.declared.rows.Change.TheVariants as change;
-ghost use Rattle.keep.specs.Schema.{desk_schema};
-ghost use Rattle.book.specs.Rows.{field_cmp};
-ghost use Rattle.book.specs.Tables.{field_cells};
-ghost use Rattle.keep.specs.Columns.{field_selected, field_stored, field_columns};
-ghost use Rattle.keep.specs.Content.{AreRows};
-ghost use Rattle.keep.specs.Loading.{Finds};
-ghost use Rattle.keep.specs.Transactions.{PutsIn};
-
-use crate::stored::{Stored, read_in_order};
+use crate::table::Table;
 use book::FieldRow;
 use sqlite::{Alter, Connection, Error, Row, Transaction, params};
-use std::alloc::Global;
+use std::alloc::{AllocError, Global};
+use std::cmp::Ordering;
 
-/// Puts a row in by its key.
-pub(crate) fn upsert<S: Alter>(tx: &mut Transaction<'_, S>, row: &FieldRow) -> Result<usize, Error>
-    ensures same_reference { tx.new.conn.ghost_name ≡ tx.old.conn.ghost_name }
-    ensures put { HasCleanDisk (state S.Store tx.new.conn.now) → IsTrue (state S.Store tx.old.conn.now).in_transaction
-        → OnOk result (PutsIn (state S.Store tx.old.conn.now) (state S.Store tx.new.conn.now) (change.Field row.now ∷ [])) }
-    ensures survives { Survives (state S.Store tx.old.conn.now) (state S.Store tx.new.conn.now) (λ _. ⊥) }
-{
-    tx.execute(
-        "INSERT INTO field (branch, article, lo, hi, start, value, inf, sup) VALUES (?1, ?2, ?3, ?4, ?5, ?6, ?7, ?8) ON CONFLICT (branch, article) DO UPDATE SET lo = ?3, hi = ?4, start = ?5, value = ?6, inf = ?7, sup = ?8",
-        params![
-            &row.branch,
-            &row.article,
-            row.lo,
-            row.hi,
-            row.start,
-            row.value,
-            row.inf,
-            row.sup
-        ],
-    )
-}
+impl Table for FieldRow {
+    ghost use Rattle.std.specs.Prelude.{refl};
+    ghost use Rattle.book.specs.declared.rows.Change.TheVariants as change;
+    ghost use Rattle.book.specs.Rows.{FieldCells, field_cmp};
+    ghost use Rattle.book.specs.Tables.{field_cells};
+    ghost use Rattle.keep.specs.Columns.{field_columns, field_selected, field_shown, field_stored};
+    ghost use Rattle.keep.specs.KeyOrders.{field_cmp_total};
 
-/// The rows of `field`, by branch and article, the rowid of each last.
-pub(crate) fn select<S: Alter>(conn: &mut Connection<S>) -> Result<Vec<Row>, Error>
-    ensures mode { conn.old.in_transaction ≡ false → conn.new.in_transaction ≡ false }
-    ensures rows { HasCleanDisk (state S.Store conn.new) → (state S.Store conn.old).now.schema ≡ desk_schema
-        → IfOk result (λ rows. IsPermutation (map field_selected ((state S.Store conn.old).now.trees 1)) rows.items) }
-    ensures same { HasCleanDisk (state S.Store conn.new) → (state S.Store conn.old).now.schema ≡ desk_schema
-        → OnOk result (IsUnchanged (state S.Store conn.old) (state S.Store conn.new)) }
-    ensures survives { Survives (state S.Store conn.old) (state S.Store conn.new) (λ _. ¬ ((state S.Store conn.old).now.schema ≡ desk_schema)) }
-{
-    conn.query_all(
-        "SELECT branch, article, lo, hi, start, value, inf, sup, rowid FROM field ORDER BY branch, article",
-        &[],
-    )
-}
+    ghost Cells = { FieldCells };
 
-/// The rows of `field`, in the order of their keys. Rows out of order are an error.
-pub(crate) fn load<S: Alter>(
-    alloc: Global,
-    conn: &mut Connection<S>,
-) -> Result<Vec<FieldRow>, Error>
-    ensures mode { conn.old.in_transaction ≡ false → conn.new.in_transaction ≡ false }
-    ensures order { IfOk result (λ rows. IsStrictlySortedBy field_cmp (map field_cells rows.items)) }
-    ensures found { IfOk result (λ rows. Finds (state S.Store conn.old) (state S.Store conn.new) (λ trees. AreRows field_cmp field_stored field_columns (trees 1) (map field_cells rows.items))) }
-    ensures survives { Survives (state S.Store conn.old) (state S.Store conn.new) (λ _. ¬ ((state S.Store conn.old).now.schema ≡ desk_schema)) }
-{
-    let answers = select(conn)?;
-    read_in_order(alloc, answers.as_slice())
-}
+    ghost cells = { field_cells };
 
-impl Stored for FieldRow {
-    ghost use Rattle.keep.specs.Columns.{field_shown};
+    ghost cmp = { field_cmp };
 
-    ghost is_shown = { field_shown };
+    ghost tree = { 1 };
+
+    ghost stored = { field_stored };
+
+    ghost columns = { field_columns };
+
+    ghost selected = { field_selected };
+
+    ghost shown = { field_shown };
+
+    ghost at = { 8 };
+
+    ghost change_of = { change.Field };
+
+    ghost total = { field_cmp_total };
+
+    ghost shows = { λ _. refl };
+
+    ghost number = { λ _. refl };
+
+    fn compare(&self, other: &Self) -> Ordering {
+        let by_branch = self.branch.cmp(&other.branch);
+        by_branch.then(self.article.cmp(&other.article))
+    }
+
+    fn copy(&self, alloc: Global) -> Result<Self, AllocError> {
+        Ok(FieldRow {
+            branch: String::from_str(alloc, &self.branch)?,
+            article: String::from_str(alloc, &self.article)?,
+            lo: self.lo,
+            hi: self.hi,
+            start: self.start,
+            value: self.value,
+            inf: self.inf,
+            sup: self.sup,
+        })
+    }
+
+    fn upsert<S: Alter>(&self, tx: &mut Transaction<'_, S>) -> Result<usize, Error> {
+        tx.execute(
+            "INSERT INTO field (branch, article, lo, hi, start, value, inf, sup) VALUES (?1, ?2, ?3, ?4, ?5, ?6, ?7, ?8) ON CONFLICT (branch, article) DO UPDATE SET lo = ?3, hi = ?4, start = ?5, value = ?6, inf = ?7, sup = ?8",
+            params![
+                &self.branch,
+                &self.article,
+                self.lo,
+                self.hi,
+                self.start,
+                self.value,
+                self.inf,
+                self.sup
+            ],
+        )
+    }
+
+    /// The rows of `field`, by branch and article, the rowid of each last.
+    fn select<S: Alter>(conn: &mut Connection<S>) -> Result<Vec<Row>, Error> {
+        conn.query_all(
+            "SELECT branch, article, lo, hi, start, value, inf, sup, rowid FROM field ORDER BY branch, article",
+            &[],
+        )
+    }
 
     fn read(row: &Row) -> Result<Self, Error> {
         let _rowid: i64 = row.get(8)?;

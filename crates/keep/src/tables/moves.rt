@@ -1,66 +1,72 @@
-//! The statements of the table `move`.
+//! The table `move`.
 
-ghost use Rattle.std.specs.Prelude.{◌≡◌, [], ◌∷◌, false, IsTrue, IfOk, OnOk, IsPermutation, map};
-ghost use Rattle.std.specs.List.Sorted.{IsStrictlySortedBy};
-ghost use Rattle.sqlite.specs.State.{HasCleanDisk, IsUnchanged, Survives};
-ghost use Rattle.sqlite.specs.Held.{state};
-ghost use Rattle.book.specs.declared.rows.Change.TheVariants as change;
-ghost use Rattle.keep.specs.Schema.{desk_schema};
-ghost use Rattle.book.specs.Rows.{move_cmp};
-ghost use Rattle.book.specs.Tables.{move_cells};
-ghost use Rattle.keep.specs.Columns.{move_selected, move_stored, move_columns};
-ghost use Rattle.keep.specs.Content.{AreRows};
-ghost use Rattle.keep.specs.Loading.{Finds};
-ghost use Rattle.keep.specs.Transactions.{PutsIn};
-
-use crate::stored::{Stored, read_in_order};
+use crate::table::Table;
 use book::MoveRow;
 use sqlite::{Alter, Connection, Error, Row, Transaction, params};
-use std::alloc::Global;
+use std::alloc::{AllocError, Global};
+use std::cmp::Ordering;
 
-/// Puts a row in by its key.
-pub(crate) fn upsert<S: Alter>(tx: &mut Transaction<'_, S>, row: &MoveRow) -> Result<usize, Error>
-    ensures same_reference { tx.new.conn.ghost_name ≡ tx.old.conn.ghost_name }
-    ensures put { HasCleanDisk (state S.Store tx.new.conn.now) → IsTrue (state S.Store tx.old.conn.now).in_transaction
-        → OnOk result (PutsIn (state S.Store tx.old.conn.now) (state S.Store tx.new.conn.now) (change.Move row.now ∷ [])) }
-    ensures survives { Survives (state S.Store tx.old.conn.now) (state S.Store tx.new.conn.now) (λ _. ⊥) }
-{
-    tx.execute(
-        "INSERT INTO move (place, branch, article, qty) VALUES (?1, ?2, ?3, ?4) ON CONFLICT (place) DO UPDATE SET branch = ?2, article = ?3, qty = ?4",
-        params![row.place, &row.branch, &row.article, row.qty],
-    )
-}
+impl Table for MoveRow {
+    ghost use Rattle.std.specs.Prelude.{refl};
+    ghost use Rattle.book.specs.declared.rows.Change.TheVariants as change;
+    ghost use Rattle.book.specs.Rows.{MoveCells, move_cmp};
+    ghost use Rattle.book.specs.Tables.{move_cells};
+    ghost use Rattle.keep.specs.Columns.{move_columns, move_selected, move_shown, move_stored};
+    ghost use Rattle.keep.specs.KeyOrders.{move_cmp_total};
 
-/// The rows of `move`, by place.
-pub(crate) fn select<S: Alter>(conn: &mut Connection<S>) -> Result<Vec<Row>, Error>
-    ensures mode { conn.old.in_transaction ≡ false → conn.new.in_transaction ≡ false }
-    ensures rows { HasCleanDisk (state S.Store conn.new) → (state S.Store conn.old).now.schema ≡ desk_schema
-        → IfOk result (λ rows. IsPermutation (map move_selected ((state S.Store conn.old).now.trees 3)) rows.items) }
-    ensures same { HasCleanDisk (state S.Store conn.new) → (state S.Store conn.old).now.schema ≡ desk_schema
-        → OnOk result (IsUnchanged (state S.Store conn.old) (state S.Store conn.new)) }
-    ensures survives { Survives (state S.Store conn.old) (state S.Store conn.new) (λ _. ¬ ((state S.Store conn.old).now.schema ≡ desk_schema)) }
-{
-    conn.query_all(
-        "SELECT place, branch, article, qty FROM move ORDER BY place",
-        &[],
-    )
-}
+    ghost Cells = { MoveCells };
 
-/// The rows of `move`, in the order of their keys. Rows out of order are an error.
-pub(crate) fn load<S: Alter>(alloc: Global, conn: &mut Connection<S>) -> Result<Vec<MoveRow>, Error>
-    ensures mode { conn.old.in_transaction ≡ false → conn.new.in_transaction ≡ false }
-    ensures order { IfOk result (λ rows. IsStrictlySortedBy move_cmp (map move_cells rows.items)) }
-    ensures found { IfOk result (λ rows. Finds (state S.Store conn.old) (state S.Store conn.new) (λ trees. AreRows move_cmp move_stored move_columns (trees 3) (map move_cells rows.items))) }
-    ensures survives { Survives (state S.Store conn.old) (state S.Store conn.new) (λ _. ¬ ((state S.Store conn.old).now.schema ≡ desk_schema)) }
-{
-    let answers = select(conn)?;
-    read_in_order(alloc, answers.as_slice())
-}
+    ghost cells = { move_cells };
 
-impl Stored for MoveRow {
-    ghost use Rattle.keep.specs.Columns.{move_shown};
+    ghost cmp = { move_cmp };
 
-    ghost is_shown = { move_shown };
+    ghost tree = { 3 };
+
+    ghost stored = { move_stored };
+
+    ghost columns = { move_columns };
+
+    ghost selected = { move_selected };
+
+    ghost shown = { move_shown };
+
+    ghost at = { 0 };
+
+    ghost change_of = { change.Move };
+
+    ghost total = { move_cmp_total };
+
+    ghost shows = { λ _. refl };
+
+    ghost number = { λ _. refl };
+
+    fn compare(&self, other: &Self) -> Ordering {
+        self.place.cmp(&other.place)
+    }
+
+    fn copy(&self, alloc: Global) -> Result<Self, AllocError> {
+        Ok(MoveRow {
+            place: self.place,
+            branch: String::from_str(alloc, &self.branch)?,
+            article: String::from_str(alloc, &self.article)?,
+            qty: self.qty,
+        })
+    }
+
+    fn upsert<S: Alter>(&self, tx: &mut Transaction<'_, S>) -> Result<usize, Error> {
+        tx.execute(
+            "INSERT INTO move (place, branch, article, qty) VALUES (?1, ?2, ?3, ?4) ON CONFLICT (place) DO UPDATE SET branch = ?2, article = ?3, qty = ?4",
+            params![self.place, &self.branch, &self.article, self.qty],
+        )
+    }
+
+    /// The rows of `move`, by place.
+    fn select<S: Alter>(conn: &mut Connection<S>) -> Result<Vec<Row>, Error> {
+        conn.query_all(
+            "SELECT place, branch, article, qty FROM move ORDER BY place",
+            &[],
+        )
+    }
 
     fn read(row: &Row) -> Result<Self, Error> {
         Ok(MoveRow {

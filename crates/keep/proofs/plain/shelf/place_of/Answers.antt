@@ -1,11 +1,12 @@
 use Rattle.std.proofs.Common.{rules}
 use Rattle.std.proofs.lemmas.Fn.{always_returns_same}
-use Rattle.keep.proofs.PlainRows.{searched}
+use Rattle.keep.proofs.PlainRows.{searched_cells}
 use Rattle.keep.proofs.plain.shelf.place_of.Goals as goal
 
 -- the closure compares an element with the row
 pub returns : goal.returns
 returns g c =
+    let cells = g.R.Table.cells in
     let facts = c.binary_search_by.ensures in
-    let found = facts.position (λ x. g.R.TableRow.cmp x c.args.row.now) (always_returns_same _ _ _ (λ a r f' k. search rules)) in
-    searched g.R.TableRow.cmp g.met.R.TableRow.total c.args.row.now c.args.rows.now c.binary_search_by.result c.requires facts.bound found
+    let found = facts.position (λ x. g.R.Table.cmp (cells x) (cells c.args.row.now)) (always_returns_same _ _ _ (λ a r f' k. search rules)) in
+    searched_cells cells g.R.Table.cmp g.met.R.Table.total c.args.row.now c.args.rows.now c.binary_search_by.result c.requires facts.bound found

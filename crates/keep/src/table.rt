@@ -1,0 +1,125 @@
+//! What the tables of many rows have in common: the order and the copies of rows, the statements, and how all rows are read.
+
+ghost use Rattle.std.specs.Prelude.{◌≡◌, ◌↔◌, [], ◌∷◌, false, map, IfOk, IsPermutation, IsTrue, OnOk};
+ghost use Rattle.std.specs.List.{AllZip};
+ghost use Rattle.std.specs.List.Sorted.{IsStrictlySortedBy};
+ghost use Rattle.sqlite.specs.Held.{state};
+ghost use Rattle.sqlite.specs.State.{HasCleanDisk, IsUnchanged, Survives};
+ghost use Rattle.keep.specs.Content.{AreRows};
+ghost use Rattle.keep.specs.Loading.{Finds, IsShown};
+ghost use Rattle.keep.specs.Schema.{desk_schema};
+
+use sqlite::{Alter, Connection, Error, ErrorCode, Row, Transaction};
+use std::alloc::{AllocError, Global};
+use std::cmp::Ordering;
+
+/// A row of such a table, and the table.
+pub(crate) trait Table: Sized + Drop {
+    ghost use Rattle.std.specs.Prelude.{◌≡◌, [], ◌∷◌, false, map, ℕ, IfOk, IsPermutation, IsTrue, OnOk};
+    ghost use Rattle.std.specs.Cmp.{IsTotalOrder};
+    ghost use Rattle.std.specs.declared.cmp.Ordering.{Ordering};
+    ghost use Rattle.sqlite.specs.Held.{state};
+    ghost use Rattle.sqlite.specs.Order.{Row, column};
+    ghost use Rattle.sqlite.specs.State.{HasCleanDisk, IsUnchanged, Survives};
+    ghost use Rattle.sqlite_trees.specs.Tree.{rowid};
+    ghost use Rattle.book.specs.declared.rows.Change.{Change};
+    ghost use Rattle.keep.specs.Loading.{IsShown};
+    ghost use Rattle.keep.specs.Schema.{desk_schema};
+    ghost use Rattle.keep.specs.Transactions.{PutsIn};
+
+    // What a row holds.
+    ghost Cells: { Type 0 };
+
+    ghost cells: { Self → Cells };
+
+    // By the key alone.
+    ghost cmp: { Cells → Cells → Ordering };
+
+    // Where the rows are stored.
+    ghost tree: { ℕ };
+
+    // The columns of a stored row, and those of cells.
+    ghost stored: { Row → Row };
+
+    ghost columns: { Cells → Row };
+
+    // What the select shows of a stored row; those columns of it that are of the table, and the one that is the rowid.
+    ghost selected: { Row → Row };
+
+    ghost shown: { Row → Row };
+
+    ghost at: { ℕ };
+
+    ghost change_of: { Self → Change };
+
+    /// How their keys stand to one another.
+    fn compare(&self, other: &Self) -> Ordering
+        ensures { result ≡ cmp (cells self.now) (cells other.now) };
+
+    /// A row with the same cells.
+    fn copy(&self, alloc: Global) -> Result<Self, AllocError>
+        ensures { IfOk result (λ row. cells row ≡ cells self.now) };
+
+    /// Puts the row in by its key.
+    fn upsert<S: Alter>(&self, tx: &mut Transaction<'_, S>) -> Result<usize, Error>
+        ensures same_reference { tx.new.conn.ghost_name ≡ tx.old.conn.ghost_name }
+        ensures put { HasCleanDisk (state S.Store tx.new.conn.now) → IsTrue (state S.Store tx.old.conn.now).in_transaction
+            → OnOk result (PutsIn (state S.Store tx.old.conn.now) (state S.Store tx.new.conn.now) (change_of self.now ∷ [])) }
+        ensures survives { Survives (state S.Store tx.old.conn.now) (state S.Store tx.new.conn.now) (λ _. ⊥) };
+
+    /// All rows of the table.
+    fn select<S: Alter>(conn: &mut Connection<S>) -> Result<Vec<Row>, Error>
+        ensures mode { conn.old.in_transaction ≡ false → conn.new.in_transaction ≡ false }
+        ensures rows { HasCleanDisk (state S.Store conn.new) → (state S.Store conn.old).now.schema ≡ desk_schema
+            → IfOk result (λ rows. IsPermutation (map selected ((state S.Store conn.old).now.trees tree)) rows.items) }
+        ensures same { HasCleanDisk (state S.Store conn.new) → (state S.Store conn.old).now.schema ≡ desk_schema
+            → OnOk result (IsUnchanged (state S.Store conn.old) (state S.Store conn.new)) }
+        ensures survives { Survives (state S.Store conn.old) (state S.Store conn.new) (λ _. ¬ ((state S.Store conn.old).now.schema ≡ desk_schema)) };
+
+    /// The row that the answer shows.
+    fn read(row: &Row) -> Result<Self, Error>
+        ensures { IfOk result (λ found. IsShown shown at row.now (columns (cells found))) };
+
+    ghost total: { IsTotalOrder cmp };
+
+    ghost shows: { (r : Row) → shown (selected r) ≡ stored r };
+
+    ghost number: { (r : Row) → column (selected r) at ≡ rowid r };
+}
+
+/// The rows that the answers show.
+fn read_all<R: Table>(alloc: Global, answers: &[Row]) -> Result<Vec<R>, Error>
+    ensures { IfOk result (λ rows. AllZip (λ answer row. IsShown R.shown R.at answer (R.columns (R.cells row))) answers.now rows.items) }
+{
+    let mut rows = Vec::new(alloc);
+    for answer in answers {
+        rows.push(R::read(answer)?)?;
+    }
+    Ok(rows)
+}
+
+/// Whether the rows stand in the order of their keys, each once.
+fn are_in_order<R: Table>(rows: &[R]) -> bool
+    ensures { IsTrue result ↔ IsStrictlySortedBy R.cmp (map R.cells rows.now) }
+{
+    rows.is_sorted_by(|one, other| one.compare(other).is_lt())
+}
+
+/// The rows of the table, in the order of their keys. Rows out of order are an error.
+pub(crate) fn load<R: Table, S: Alter>(
+    alloc: Global,
+    conn: &mut Connection<S>,
+) -> Result<Vec<R>, Error>
+    ensures mode { conn.old.in_transaction ≡ false → conn.new.in_transaction ≡ false }
+    ensures order { IfOk result (λ rows. IsStrictlySortedBy R.cmp (map R.cells rows.items)) }
+    ensures found { IfOk result (λ rows. Finds (state S.Store conn.old) (state S.Store conn.new) (λ trees. AreRows R.cmp R.stored R.columns (trees R.tree) (map R.cells rows.items))) }
+    ensures survives { Survives (state S.Store conn.old) (state S.Store conn.new) (λ _. ¬ ((state S.Store conn.old).now.schema ≡ desk_schema)) }
+{
+    let answers = R::select(conn)?;
+    let rows = read_all(alloc, answers.as_slice())?;
+    if are_in_order(rows.as_slice()) {
+        Ok(rows)
+    } else {
+        Err(Error::SqliteFailure(ErrorCode::DatabaseCorrupt))
+    }
+}
