@@ -366,7 +366,7 @@ fn is_decided_anew<K: Keep>(
 ) -> Result<bool, Fail> {
     let mut want = Vec::from_slice(alloc, two_orders().replies)?;
     let first = are_answered(alloc, desk, requests, &want)?;
-    want[2] = Reply::Refused(Refusal::OrderThere, 0);
+    *want.get_mut(2).ok_or("no such reply")? = Reply::Refused(Refusal::OrderThere, 0);
     Ok(first && are_answered(alloc, desk, requests, &want)?)
 }
 
