@@ -1,5 +1,5 @@
 -- The least and the greatest result over all outcomes, by what is held.
-use Rattle.book.proofs.Prelude.{[], ◌&&◌, ◌+ℤ◌, ◌-ℤ◌, ◌-◌, ◌<ℤ◌, ◌||◌, ◌↔◌, ◌∙◌, ◌∷◌, ◌≡◌, ◌≤ℤ◌, ◌≤◌, Add, Bool, Each, FallsBelow, Field, IsInfimum, IsSafe, IsSomeAnd, IsSupremum, IsTrue, IsWithin, Ledger, Line, List, Name, None, Option, Order, RisesAbove, Some, Take, Way, ap, arith, false, field_named, held_to_add, held_to_take, if_add, if_take, if◌then◌else◌, ints, is_open, list_any, moved, neg_ℤ, on, pos, refl, settled, signed, subst, sym, total, true, true≢false, unsettled, ℕ, ℤ}
+use Rattle.book.proofs.Prelude.{[], ◌&&◌, ◌+ℤ◌, ◌-ℤ◌, ◌-◌, ◌<ℤ◌, ◌||◌, ◌↔◌, ◌∙◌, ◌∷◌, ◌≡◌, ◌≤ℤ◌, ◌≤◌, Add, Bool, Each, FallsBelow, Field, IsInfimum, IsSafe, IsSomeAnd, IsSupremum, IsTrue, IsWithin, Ledger, Line, List, Name, None, Option, Order, RisesAbove, Some, Take, Way, ap, arith, false, field_named, held_to_add, held_to_take, if_add, if_take, if◌then◌else◌, ints, is_open, list_any, moved_by, neg_ℤ, on, pos, refl, settled, signed, subst, sym, total, true, true≢false, unsettled, ℕ, ℤ}
 use Rattle.book.specs.Outcomes.{Outcome, IsOutcome, commits_in, outcome_result}
 use Rattle.book.proofs.Sums.{each-imp}
 
@@ -83,26 +83,26 @@ order_high b c held m p q = grind arith
 -- every outcome is within what is held
 
 least : (A : Ledger) (f : Field) (X : Outcome) → IsOutcome A X → (settled A f -ℤ held_to_take A f.name) ≤ℤ outcome_result A X f
-least A f X h = let below : neg_ℤ (held_to_take A f.name) ≤ℤ total (λ o. if commits_in X o then moved f.name (λ l. unsettled o.firm l (X.amount o l)) o else pos 0) A.orders = go A.orders h in omega (arith, ints)
+least A f X h = let below : neg_ℤ (held_to_take A f.name) ≤ℤ total (λ o. if commits_in X o then moved_by f.name (λ l. unsettled o.firm l (X.amount o l)) o else pos 0) A.orders = go A.orders h in omega (arith, ints)
   where
     go : (os : List Order) → Each (λ o. IsTrue (commits_in X o) → Each (λ l. (l.used ≤ X.amount o l) × (X.amount o l ≤ l.held)) o.lines) os
-        → neg_ℤ (total (λ o. if is_open o then total (takes o.firm f.name) o.lines else pos 0) os) ≤ℤ total (λ o. if commits_in X o then moved f.name (λ l. unsettled o.firm l (X.amount o l)) o else pos 0) os
+        → neg_ℤ (total (λ o. if is_open o then total (takes o.firm f.name) o.lines else pos 0) os) ≤ℤ total (λ o. if commits_in X o then moved_by f.name (λ l. unsettled o.firm l (X.amount o l)) o else pos 0) os
     go [] h = omega (arith, ints)
     go (o ∷ os) h =
-        let a : neg_ℤ (if is_open o then total (takes o.firm f.name) o.lines else pos 0) ≤ℤ (if commits_in X o then moved f.name (λ l. unsettled o.firm l (X.amount o l)) o else pos 0)
-        = order_low (is_open o) (o.firm || X.commits o) (total (takes o.firm f.name) o.lines) (moved f.name (λ l. unsettled o.firm l (X.amount o l)) o) (takes-not_negative o.firm f.name o.lines) (λ c. moved-low o.firm f.name (X.amount o) o.lines (h.0 c)) in
+        let a : neg_ℤ (if is_open o then total (takes o.firm f.name) o.lines else pos 0) ≤ℤ (if commits_in X o then moved_by f.name (λ l. unsettled o.firm l (X.amount o l)) o else pos 0)
+        = order_low (is_open o) (o.firm || X.commits o) (total (takes o.firm f.name) o.lines) (moved_by f.name (λ l. unsettled o.firm l (X.amount o l)) o) (takes-not_negative o.firm f.name o.lines) (λ c. moved-low o.firm f.name (X.amount o) o.lines (h.0 c)) in
         let b = go os h.1 in
         omega (arith, ints)
 
 greatest : (A : Ledger) (f : Field) (X : Outcome) → IsOutcome A X → outcome_result A X f ≤ℤ (settled A f +ℤ held_to_add A f.name)
-greatest A f X h = let above : total (λ o. if commits_in X o then moved f.name (λ l. unsettled o.firm l (X.amount o l)) o else pos 0) A.orders ≤ℤ held_to_add A f.name = go A.orders h in omega (arith, ints)
+greatest A f X h = let above : total (λ o. if commits_in X o then moved_by f.name (λ l. unsettled o.firm l (X.amount o l)) o else pos 0) A.orders ≤ℤ held_to_add A f.name = go A.orders h in omega (arith, ints)
   where
     go : (os : List Order) → Each (λ o. IsTrue (commits_in X o) → Each (λ l. (l.used ≤ X.amount o l) × (X.amount o l ≤ l.held)) o.lines) os
-        → total (λ o. if commits_in X o then moved f.name (λ l. unsettled o.firm l (X.amount o l)) o else pos 0) os ≤ℤ total (λ o. if is_open o then total (adds o.firm f.name) o.lines else pos 0) os
+        → total (λ o. if commits_in X o then moved_by f.name (λ l. unsettled o.firm l (X.amount o l)) o else pos 0) os ≤ℤ total (λ o. if is_open o then total (adds o.firm f.name) o.lines else pos 0) os
     go [] h = omega (arith, ints)
     go (o ∷ os) h =
-        let a : (if commits_in X o then moved f.name (λ l. unsettled o.firm l (X.amount o l)) o else pos 0) ≤ℤ (if is_open o then total (adds o.firm f.name) o.lines else pos 0)
-        = order_high (is_open o) (o.firm || X.commits o) (total (adds o.firm f.name) o.lines) (moved f.name (λ l. unsettled o.firm l (X.amount o l)) o) (adds-not_negative o.firm f.name o.lines) (λ c. moved-high o.firm f.name (X.amount o) o.lines (h.0 c)) in
+        let a : (if commits_in X o then moved_by f.name (λ l. unsettled o.firm l (X.amount o l)) o else pos 0) ≤ℤ (if is_open o then total (adds o.firm f.name) o.lines else pos 0)
+        = order_high (is_open o) (o.firm || X.commits o) (total (adds o.firm f.name) o.lines) (moved_by f.name (λ l. unsettled o.firm l (X.amount o l)) o) (adds-not_negative o.firm f.name o.lines) (λ c. moved-high o.firm f.name (X.amount o) o.lines (h.0 c)) in
         let b = go os h.1 in
         omega (arith, ints)
 
@@ -194,7 +194,7 @@ extreme-result : (w : Way) (f : Field) (A : Ledger) → Each Sound A.orders → 
 unfolding extreme
 extreme-result w f A h = ap (λ z. settled A f +ℤ z) (go A.orders h)
   where
-    go : (os : List Order) → Each Sound os → total (λ o. if commits_in (extreme w f.name) o then moved f.name (λ l. unsettled o.firm l (reaching w l)) o else pos 0) os ≡ toward w (total (λ o. if is_open o then total (held w o.firm f.name) o.lines else pos 0) os)
+    go : (os : List Order) → Each Sound os → total (λ o. if commits_in (extreme w f.name) o then moved_by f.name (λ l. unsettled o.firm l (reaching w l)) o else pos 0) os ≡ toward w (total (λ o. if is_open o then total (held w o.firm f.name) o.lines else pos 0) os)
     go [] h = nothing_toward w
     go (o ∷ os) h =
         let a = one_order w f.name (is_open o) o.firm o.lines (h.0.one f.name) h.0.used in
@@ -220,8 +220,8 @@ sup_unique A f a b h k = grind arith
 
 -- the code's two comparisons are the model's safety
 all_at : (A : Ledger) (P : Field → Type 0) (fs : List Field)
-    → ((X : Outcome) → IsOutcome A X → Each (λ f. IsWithin f (outcome_result A X f)) fs)
-    → ((f : Field) → ((X : Outcome) → IsOutcome A X → IsWithin f (outcome_result A X f)) → P f) → Each P fs
+    → ((X : Outcome) → IsOutcome A X → Each (λ f. IsWithin f.lo f.hi (outcome_result A X f)) fs)
+    → ((f : Field) → ((X : Outcome) → IsOutcome A X → IsWithin f.lo f.hi (outcome_result A X f)) → P f) → Each P fs
 all_at A P [] h p = tt
 all_at A P (f ∷ fs) h p = (p f (λ X o. (h X o).0), all_at A P fs (λ X o. (h X o).1) p)
 
@@ -234,7 +234,7 @@ room_from_safe A s h = all_at A (HasRoom A) A.fields h (λ f w. (
 pub safe_from_room : (A : Ledger) → Each (HasRoom A) A.fields → IsSafe A
 safe_from_room A h X o = each-imp (λ f r. within f r) A.fields h
   where
-    within : (f : Field) → HasRoom A f → IsWithin f (outcome_result A X f)
+    within : (f : Field) → HasRoom A f → IsWithin f.lo f.hi (outcome_result A X f)
     within f r = let a = r.0 in let b = r.1 in let c = least A f X o in let d = greatest A f X o in omega (arith, ints)
 
 -- the test for a take looks at one number, and so does the test for an add

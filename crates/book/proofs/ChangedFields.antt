@@ -1,16 +1,16 @@
 -- The fields that a request makes or changes, put in one after the other by their names.
 use Rattle.book.proofs.Prelude.{[], ◌++◌, ◌+◌, ◌<◌, ◌==◌, ◌||◌, ◌∙◌, ◌∷◌, ◌≡◌, Accepts, Bool, Command, Each, Equal, Field, FieldCells, FieldEntry, FirstFailure, Greater, HasEntry, IsChangedField, IsGoodLine, IsGoodOrder, IsSome, IsStrictlySortedBy, Ledger, Less, Line, List, Name, None, OnOk, Option, Order, Ordering, Puts, Request, Result, Some, accept, ap, arith, changes_field, checks, common_steps, cond, entry_row, false, field_named, find, flat_map, get_or, if◌then◌else◌, insert_entry, ints, is_at, is_eq, is_some, keys_of, length, line_name, lookup, map, match_ordering, name_cmp, next, on, order_after, order_number, ordering_reverse, refl, same_name, subst, sym, take, tied_itself, true, true≢false, ℕ}
-use Rattle.book.specs.Running.{IsOneOf}
-use Rattle.book.proofs.Asked.{same_self}
+use Rattle.book.specs.RunningNumbers.{IsOneOf}
+use Rattle.book.proofs.OutcomeTests.{same_self}
 use Rattle.book.proofs.Bounds.{OneOn}
-use Rattle.book.proofs.Chosen.{found_passes, number_is, or_right, some_is}
-use Rattle.book.proofs.Closing.{name_is}
-use Rattle.book.proofs.Growing.{other_way}
-use Rattle.book.proofs.Keyed.{equal_field}
-use Rattle.book.proofs.Made.{each-found, made_there, no_number}
-use Rattle.book.proofs.Staying.{name_cmp_total}
+use Rattle.book.proofs.RowFilter.{found_passes, number_is, or_right, some_is}
+use Rattle.book.proofs.Futures.{name_is}
+use Rattle.book.proofs.NewAmounts.{other_way}
+use Rattle.book.proofs.KeyEntries.{equal_field}
+use Rattle.book.proofs.CommandOrder.{each-found, made_there, no_number}
+use Rattle.book.proofs.GoodParts.{name_cmp_total}
 use Rattle.book.proofs.Sums.{each-both, each-imp}
-use Rattle.book.proofs.Walked.{each-next}
+use Rattle.book.proofs.Walks.{each-next}
 
 -- ---- what is put in
 

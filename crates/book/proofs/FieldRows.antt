@@ -1,19 +1,19 @@
 -- The rows of the fields that a request makes or changes, for each kind of command.
-use Rattle.book.proofs.Prelude.{[], ◌&&◌, ◌+ℤ◌, ◌-ℤ◌, ◌||◌, ◌∙◌, ◌∷◌, ◌≡◌, Accepts, Bool, Command, Each, Field, FieldCells, FieldEntry, FirstFailure, GivenBack, GivesBack, Good, HasEntry, IsChangedField, IsNone, IsSome, IsSomeAnd, IsUpToDate, Stock, is_lt, IsStrictlySortedBy, Ledger, Line, List, Name, None, OpenLine, Option, Order, Puts, Request, Some, State, Way, accept, add_hold, added_part, ap, arith, change_lines, changes_field, checks, common_steps, entry_row, expired_lines, expires, false, field_named, field_of, field_row, field_rows, find, has_line_on, held_to_add, held_to_take, if◌then◌else◌, insert_entry, ints, is_open, is_some, is_transfer, keys_of, line_name, line_on, list_any, list_any-append, lower_held, map, moved, moved_by_command, moved_part, name_cmp, name_of, nat_le, new_line, next, not, on, open_state, option_map, order_after, order_is, order_numbered, pos, raise_held, raise_used, refl, same_name, settled, settled_state, signed, some_has_line, subst, sym, taken_part, total, true, true≢false, ℕ, ℤ}
+use Rattle.book.proofs.Prelude.{[], ◌&&◌, ◌+ℤ◌, ◌-ℤ◌, ◌||◌, ◌∙◌, ◌∷◌, ◌≡◌, Accepts, Bool, Command, Each, Field, FieldCells, FieldEntry, FirstFailure, GivenBack, GivesBack, Good, HasEntry, IsChangedField, IsNone, IsSome, IsSomeAnd, IsUpToDate, Stock, is_lt, IsStrictlySortedBy, Ledger, Line, List, Name, None, OpenLine, Option, Order, Puts, Request, Some, State, Way, accept, add_hold, added_part, ap, arith, change_lines, changes_field, checks, common_steps, entry_row, expired_lines, expires, false, field_named, field_of, field_row, field_rows, find, has_line_on, held_to_add, held_to_take, if◌then◌else◌, insert_entry, ints, is_open, is_some, is_transfer, keys_of, line_name, line_on, list_any, list_any-append, lower_held, map, moved_by, moved_by_command, moved_part, name_cmp, name_of, nat_le, new_line, next, not, on, open_state, option_map, order_after, order_is, order_numbered, pos, raise_held, raise_used, refl, same_name, settled, settled_state, signed, some_has_line, subst, sym, taken_part, total, true, true≢false, ℕ, ℤ}
 use Rattle.words.specs.declared.command.Command.TheVariants as command
 use Rattle.book.specs.After.{changes_own_stock, moved_at_once}
-use Rattle.book.specs.Running.{HasLines, MovesField, lines_add, lines_take}
-use Rattle.book.proofs.Asked.{none_found, same_self}
+use Rattle.book.specs.RunningNumbers.{HasLines, MovesField, lines_add, lines_take}
+use Rattle.book.proofs.OutcomeTests.{none_found, same_self}
 use Rattle.book.proofs.Bounds.{adds, takes}
 use Rattle.book.proofs.ChangedFields.{all_rows, put_self, self_eq}
-use Rattle.book.proofs.Checked.{bounds_decide}
-use Rattle.book.proofs.Chosen.{any-map, find-new, some_is}
-use Rattle.book.proofs.Closing.{all_pass, name_is}
-use Rattle.book.proofs.GivingBack.{any-append, total-flat}
-use Rattle.book.proofs.Growing.{none_if_not_some, not_less}
-use Rattle.book.proofs.Made.{any_one, changed_on, left_out, lined, lined_firm, total-next}
-use Rattle.book.proofs.Rebounding.{bounding, found_bounded}
-use Rattle.book.proofs.Running.{new_field}
+use Rattle.book.proofs.CheckAnswers.{bounds_decide}
+use Rattle.book.proofs.RowFilter.{any-map, find-new, some_is}
+use Rattle.book.proofs.Futures.{all_pass, name_is}
+use Rattle.book.proofs.Returns.{any-append, total-flat}
+use Rattle.book.proofs.NewAmounts.{none_if_not_some, not_less}
+use Rattle.book.proofs.CommandOrder.{any_one, changed_on, left_out, lined, lined_firm, total-next}
+use Rattle.book.proofs.OtherBounds.{bounding, found_bounded}
+use Rattle.book.proofs.RunningNumbers.{new_field}
 use Rattle.escrow.specs.Choices.{IsSafe}
 use Rattle.escrow.specs.Escrow.{bounded}
 use Rattle.book.specs.Next.{with_bounds}
@@ -276,7 +276,7 @@ expired_sums : (A : Ledger) (now : ℕ) (f : Field) → Good A → FirstFailure 
 expired_sums A now f good h =
     let used = total-next (moved_part f.name) (λ o. refl) A (command.Expire now) good h in
     let used_same = total-eq (left_out (moved_part f.name) (command.Expire now)) (moved_part f.name) A.orders
-    (each (λ o. not_settled o.state o.firm (nat_le o.until now) (moved f.name (λ l. l.used) o)) A.orders) in
+    (each (λ o. not_settled o.state o.firm (nat_le o.until now) (moved_by f.name (λ l. l.used) o)) A.orders) in
     let takes_next = total-next (taken_part f.name) (λ o. refl) A (command.Expire now) good h in
     let takes_parted = parted (expires now) (taken_part f.name) A.orders in
     let takes_given = expired_part now (λ m. takes m f.name) A.orders in

@@ -1,8 +1,8 @@
 -- An order that is firm stays firm, and is not aborted.
 use Rattle.book.proofs.Prelude.{[], ◌&&◌, ◌++◌, ◌+◌, ◌==◌, ◌∙◌, ◌∷◌, ◌≡◌, Aborted, Answers, AnswersNew, Bool, Command, Committed, Done, FirstFailure, Good, IsGoodOrder, IsSome, IsSomeAnd, IsTrue, Kept, KeyReused, Ledger, List, MatchOption, None, OpenLine, Option, Order, Plain, Refusal, Refused, Reply, Request, Runs, Some, Transfer, accept, add_hold, arith, change_lines, checks, expires, false, find, hold_more, if◌then◌else◌, insert_in_order, is_some, kept_under, line_on, lower_held, map, name_of, nat_lt, new_line, new_order, next, not, order_numbered, places, raise_used, refl, same_command, set_firm, set_state, subst, sym, transfer_lines, true, true≢false, ℕ}
 use Rattle.words.specs.declared.command.Command.TheVariants as command
-use Rattle.book.proofs.Chosen.{number_is}
-use Rattle.book.proofs.Closing.{all_pass}
+use Rattle.book.proofs.RowFilter.{number_is}
+use Rattle.book.proofs.Futures.{all_pass}
 use Rattle.book.proofs.Transfers.{found_is}
 use Rattle.book.specs.Future.{StaysFirm}
 

@@ -4,15 +4,15 @@ use Rattle.escrow.specs.Ranges.{IsOrderNo}
 use Rattle.words.specs.declared.command.Command.TheVariants as command
 use Rattle.words.specs.OpenLines.{AreOpenLines}
 use Rattle.book.proofs.Sums.{each, each-imp, each-both, each-map, each-of-push, least_if}
-use Rattle.book.proofs.Staying.{name_cmp_total, equal_name, other_number, other_key, lt_is, StillThere, line_kept, order_kept, same_number, move_kept, apart_lines, Parts, not_many, changing, stating, expiring, firming, using}
+use Rattle.book.proofs.GoodParts.{name_cmp_total, equal_name, other_number, other_key, lt_is, StillThere, line_kept, order_kept, same_number, move_kept, apart_lines, Parts, not_many, changing, stating, expiring, firming, using}
 use Rattle.book.proofs.Bounds.{OneOn, Sound, takes, adds, takes-not_negative, adds-not_negative, room_from_safe, HasRoom}
-use Rattle.book.proofs.Closing.{fit_from_good, fit-accept, all_pass, AllPass, name_is, sounds_from_good, at_number, changed, open_there}
-use Rattle.book.proofs.Asked.{each-insert, none_found, same_self, fresh-push}
-use Rattle.book.proofs.Growing.{Room, none_if_not_some, room-order}
-use Rattle.book.proofs.Raising.{sound-more, raised}
+use Rattle.book.proofs.Futures.{fit_from_good, fit-accept, all_pass, AllPass, name_is, sounds_from_good, at_number, changed, open_there}
+use Rattle.book.proofs.OutcomeTests.{each-insert, none_found, same_self, fresh-push}
+use Rattle.book.proofs.NewAmounts.{Room, none_if_not_some, room-order}
+use Rattle.book.proofs.MoreAmounts.{sound-more, raised}
 use Rattle.book.proofs.Safety.{safe_after, takes_more, not_false}
 use Rattle.book.specs.Next.{with_bounds}
-use Rattle.book.proofs.Rebounding.{bounding, bounding_names, still_bounded}
+use Rattle.book.proofs.OtherBounds.{bounding, bounding_names, still_bounded}
 use Rattle.book.proofs.Lists.{each-unmap, each-two, each-all, sorted-insert, sorted-push, distinct-insert, length-insert, length-of-map, length-of-push, count-insert, count-map, find-insert, total-has}
 
 -- what is held on a field that is there is a level

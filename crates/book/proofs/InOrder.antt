@@ -4,9 +4,9 @@ use Rattle.std.specs.Ordering.{int_cmp}
 use Rattle.book.specs.Rows.{IsInKeyOrder}
 use Rattle.book.proofs.Sums.{each-imp, each-map}
 use Rattle.book.proofs.Bounds.{inf_is, inf_unique, sup_is, sup_unique}
-use Rattle.book.proofs.Closing.{less_is, sounds_from_good}
+use Rattle.book.proofs.Futures.{less_is, sounds_from_good}
 use Rattle.book.proofs.Lists.{each-unmap}
-use Rattle.book.proofs.Told.{after, each-join}
+use Rattle.book.proofs.EqualRows.{after, each-join}
 
 pub pos_less : (a b : ℕ) → a < b → int_cmp (pos a) (pos b) ≡ Less
 pos_less a b h = grind (arith, ints)

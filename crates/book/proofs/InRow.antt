@@ -3,7 +3,7 @@ use Rattle.book.proofs.Prelude.{[], ◌+◌, ◌<◌, ◌↔◌, ◌∙◌, ◌�
 use Rattle.std.specs.List.{AllAdjacentBelow, IsAllAdjacentAnswer}
 use Rattle.std.specs.Prelude.{slice_index_or}
 use Rattle.book.proofs.Sums.{each-imp}
-use Rattle.book.proofs.Tested.{no, yes}
+use Rattle.book.proofs.TestResults.{no, yes}
 
 less_if : (o : Ordering) → is_lt o ≡ true → o ≡ Less
 less_if c e = grind arith

@@ -1,11 +1,11 @@
 -- The checks of the lines of a new order, one line at a time.
 use Rattle.std.proofs.lemmas.List.{drop_more}
 use Rattle.book.proofs.Prelude.{[], ◌++◌, ◌+◌, ◌<◌, ◌∙◌, ◌∷◌, ◌≡◌, Check, Each, FirstFailure, Good, IsDistinct, Kind, Ledger, Line, List, Name, None, OpenLine, Option, Refusal, Some, ap, arith, bound, drop, false, find, get_or, inr, is_some, length, length-take, line_checks, line_name, map, new_line, new_order, no_field, on, same_name, stock_checks, subst, sym, take, true, true≢false, with_order, ℕ}
-use Rattle.book.proofs.Asked.{map-push, none_found}
-use Rattle.book.proofs.Checked.{cut_short, go_on, has_stock}
-use Rattle.book.proofs.Compared.{line_test}
-use Rattle.book.proofs.Growing.{other_way}
-use Rattle.book.proofs.Walked.{take-step}
+use Rattle.book.proofs.OutcomeTests.{map-push, none_found}
+use Rattle.book.proofs.CheckAnswers.{cut_short, go_on, has_stock}
+use Rattle.book.proofs.Comparisons.{line_test}
+use Rattle.book.proofs.NewAmounts.{other_way}
+use Rattle.book.proofs.Walks.{take-step}
 
 -- ---- lines on different fields
 

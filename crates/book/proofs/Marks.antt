@@ -3,14 +3,14 @@ use Rattle.book.proofs.Prelude.{[], ◌++◌, ◌+◌, ◌<◌, ◌∙◌, ◌�
 use Rattle.std.proofs.Math.ListN.{drop_of_length-le}
 use Rattle.std.proofs.Math.Seq.{map-set_same}
 use Rattle.std.proofs.lemmas.List.{take_more_set}
-use Rattle.book.specs.Told.{Marks}
-use Rattle.book.proofs.Closing.{less_is}
-use Rattle.book.proofs.Grouped.{drop-step}
+use Rattle.book.specs.RowEntries.{Marks}
+use Rattle.book.proofs.Futures.{less_is}
+use Rattle.book.proofs.LineGroups.{drop-step}
 use Rattle.book.proofs.Lists.{each-unmap, length-of-map}
 use Rattle.book.proofs.Sums.{each-imp}
-use Rattle.book.proofs.Told.{MarkOthers, later_marks, same_first, same_kind, same_mark, same_pos, same_rest, same_state}
-use Rattle.book.proofs.Walked.{read-step}
-use Rattle.book.proofs.Zipped.{get-of-map}
+use Rattle.book.proofs.EqualRows.{MarkOthers, later_marks, same_first, same_kind, same_mark, same_pos, same_rest, same_state}
+use Rattle.book.proofs.Walks.{read-step}
+use Rattle.book.proofs.Pairs.{get-of-map}
 
 -- there are heads in the order of their numbers with these rows of orders, and these rows mark them
 pub record Marked (cells : List OrderCells) (marks : List FirmCells) : Type 0 where

@@ -7,17 +7,17 @@ use Rattle.book.specs.After.{expired_rows, move_made, move_rows, moved_at_once, 
 use Rattle.book.specs.Plans.{Makes}
 use Rattle.book.specs.Tables.{no_content}
 use Rattle.book.specs.declared.book.plan.PlanParts.{PlanParts}
-use Rattle.book.proofs.Asked.{none_found}
-use Rattle.book.proofs.Changed.{changes_suffice}
-use Rattle.book.proofs.Chosen.{any_same, filter-each, filter-insert, filter-push, found_passes, none_after, number_is, some_is, same_number}
-use Rattle.book.proofs.Closing.{all_pass, find_self}
+use Rattle.book.proofs.OutcomeTests.{none_found}
+use Rattle.book.proofs.NextContent.{changes_suffice}
+use Rattle.book.proofs.RowFilter.{any_same, filter-each, filter-insert, filter-push, found_passes, none_after, number_is, some_is, same_number}
+use Rattle.book.proofs.Futures.{all_pass, find_self}
 use Rattle.book.proofs.Goodness.{good_accept}
 use Rattle.book.proofs.InOrder.{one_content, rows_are, rows_of}
 use Rattle.book.proofs.Lists.{length-insert, length-of-map}
-use Rattle.book.proofs.Made.{any_one, made_there}
+use Rattle.book.proofs.CommandOrder.{any_one, made_there}
 use Rattle.book.proofs.Once.{no_key}
 use Rattle.book.proofs.Sums.{each, each-imp}
-use Rattle.book.proofs.Expiring.{numbered_flat}
+use Rattle.book.proofs.ExpiredOrders.{numbered_flat}
 
 pos_same : (m n : ℕ) → (m == n) ≡ true → int_eq (pos m) (pos n) ≡ true
 pos_same m n e = (Decides-int_eq (pos m) (pos n)).1 (ap pos (number_is m n e))

@@ -1,7 +1,7 @@
 -- Each request has one answer, and each request of a future has an answer.
-use Rattle.book.proofs.Prelude.{[], ◌+◌, ◌∙◌, ◌∷◌, ◌≡◌, ◌⊎◌, Answers, AnswersNew, AsksNoStock, Check, Done, FirstFailure, Good, IsAccepted, IsFuture, IsNone, Kept, KeyReused, Ledger, List, MatchOption, None, Option, Refusal, Refused, Reply, Request, Runs, Some, Stands, accept, arith, checks, if◌then◌else◌, inl, inr, kept_under, places, refl, same_command, sym, ℕ}
+use Rattle.book.proofs.Prelude.{[], ◌+◌, ◌∙◌, ◌∷◌, ◌≡◌, ◌⊎◌, Answers, AnswersNew, AsksNoStock, Check, Done, FirstFailure, Good, IsAccepted, IsFuture, IsNone, Kept, KeyReused, Ledger, List, MatchOption, None, Option, Refusal, Refused, Reply, Request, Runs, Some, IsHonoured, accept, arith, checks, if◌then◌else◌, inl, inr, kept_under, places, refl, same_command, sym, ℕ}
 use Rattle.book.specs.Future.{Honours}
-use Rattle.book.proofs.Closing.{Fit, fit_from_good, fit-answer, stands_if_fit}
+use Rattle.book.proofs.Futures.{Fit, fit_from_good, fit-answer, stands_if_fit}
 
 first_once : (cs : List Check) (a b : Option (Refusal × ℕ)) → FirstFailure cs a → FirstFailure cs b → a ≡ b
 first_once [] a b h k = h ∙ sym k
@@ -59,7 +59,7 @@ answers_found A r first = by_key (kept_under A r.key)
 answered : (A : Ledger) (r : Request) → AsksNoStock r.command → (reply : Reply) × (B : Ledger) × Answers A r reply B
 answered A r w = answers_found A r (first_is (checks A r.command) (grind arith))
 
-honoured : (A : Ledger) (rs : List Request) → IsFuture rs → Fit A → (replies : List Reply) × (B : Ledger) × Runs A rs replies B × Stands B
+honoured : (A : Ledger) (rs : List Request) → IsFuture rs → Fit A → (replies : List Reply) × (B : Ledger) × Runs A rs replies B × IsHonoured B
 honoured A [] w fit = ([], A, refl, stands_if_fit A fit)
 honoured A (r ∷ rs) w fit = let a = answered A r w.0 in let t = honoured a.1 rs w.1 (fit-answer A r a.0 a.1 w.0 fit a.2) in
     (a.0 ∷ t.0, t.1, (a.1, a.2, t.2), t.3)

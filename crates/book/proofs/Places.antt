@@ -2,9 +2,9 @@
 use Rattle.book.proofs.Prelude.{[], ◌++◌, ◌+◌, ◌<◌, ◌∷◌, ◌≡◌, Bool, Each, IsDistinct, List, arith, common_steps, false, get_or, length, list_any, list_any-append, map, nat_eq, refl, set, subst, suc, sym, take, true, zero, ℕ}
 use Rattle.std.proofs.lemmas.List.{get_or-set_same, get_or-set_other}
 use Rattle.book.proofs.Lists.{each-unmap}
-use Rattle.book.proofs.Walked.{take-step}
-use Rattle.book.proofs.Walking.{each_get}
-use Rattle.book.proofs.Chosen.{any_none}
+use Rattle.book.proofs.Walks.{take-step}
+use Rattle.book.proofs.WalksInPlace.{each_get}
+use Rattle.book.proofs.RowFilter.{any_none}
 
 -- the place of one is not among those before it
 pub not_before : {X : Type 0} (key : X → ℕ) (xs : List X) (i : ℕ) (d : X) → i < length xs → IsDistinct nat_eq (map key xs) → list_any (λ x. nat_eq (key x) (key (get_or xs i d))) (take i xs) ≡ false

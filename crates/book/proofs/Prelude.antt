@@ -3,21 +3,23 @@ pub use Rattle.book.specs.After.{IsShort, aborted_rows, added_part, changed_orde
 pub use Rattle.book.specs.Answers.{Answers, AnswersNew, Check, FirstFailure, IsAccepted, Runs, bound, checks, full, line_checks, loose_checks, no_field, order_checks, same_command}
 pub use Rattle.book.specs.Changes.{changed_rows, changes_field, changes_firm, changes_line, changes_move, changes_order, has_line_on, order_is, put_content, put_row, put_rows}
 pub use Rattle.book.specs.Checking.{stock_checks}
-pub use Rattle.book.specs.Future.{AsksNoStock, IsFuture, Stands}
+pub use Rattle.book.specs.Future.{AsksNoStock, IsFuture, IsHonoured}
 pub use Rattle.book.specs.Good.{Good, IsGoodField, IsGoodKept, IsGoodLine, IsGoodMove, IsGoodOrder, IsTransferPair}
 pub use Rattle.book.specs.Held.{BreaksBound, MayHoldMore, held_to_add, held_to_take, if_add, if_take}
 pub use Rattle.book.specs.InOrder.{IsGap, at_indexes, compare_at, room_left}
 pub use Rattle.book.specs.InPlace.{MayChangeOrder, abort_all, abort_one, changed_line, changed_order}
 pub use Rattle.book.specs.Ledger.{Field, Kept, Ledger, Move, Name, Order, field_named, insert_in_order, is_open, is_settled, is_transfer, kept_under, line_name, line_on, name_cmp, name_of, new_ledger, on, open_orders, open_state, order_numbered, places, same_name, settled_state, shown_state, transfer_kind, unsettled}
 pub use Rattle.book.specs.Next.{accept, add_hold, change_lines, change_order, expires, hold_more, lower_held, new_line, new_order, next, raise_held, raise_used, set_firm, set_state, transfer_lines, with_move, with_order}
-pub use Rattle.book.specs.Outcomes.{FallsBelow, IsInfimum, IsSafe, IsSupremum, IsWithin, RisesAbove, article_total, moved, settled, signed, total}
+pub use Rattle.escrow.specs.Choices.{IsWithin}
+pub use Rattle.escrow.specs.Choices.{IsWithin}
+pub use Rattle.book.specs.Outcomes.{FallsBelow, IsInfimum, IsSafe, IsSupremum, RisesAbove, article_total, moved_by, settled, signed, total}
 pub use Rattle.book.specs.Plans.{ChangesTo}
 pub use Rattle.book.specs.Rows.{Content, DeskCells, FieldCells, FirmCells, IsFieldRow, IsRowsOf, KeptCells, LineCells, OrderCells, desk_row, field_cmp, firm_cmp, firm_row, firm_rows, kept_cmp, kept_row, line_cmp, line_row, lines_from, move_cmp, move_row, order_cmp, order_lines, order_row}
-pub use Rattle.book.specs.Running.{Accepts, Becomes, GivenBack, GivesBack, HasEntry, IsChangedField, IsUpToDate, MayBecome, MayGiveBack, Puts, entry_row, expired_lines, share_numbers, share_of, share_on, with_entries}
+pub use Rattle.book.specs.RunningNumbers.{Accepts, Becomes, GivenBack, GivesBack, HasEntry, IsChangedField, IsUpToDate, MayBecome, MayGiveBack, Puts, entry_row, expired_lines, share_numbers, share_of, share_on, with_entries}
 pub use Rattle.book.specs.Sums.{AreLinesOnFields, AreMovesOnFields, AreOnFields, AreOrdersOnFields, IsField, added, entry_name, lines_numbers, numbers_on, only_on, part_of_line}
 pub use Rattle.book.specs.Tables.{field_cells, firm_cells, kept_cells, line_cells, move_cells, order_cells, rows_among}
-pub use Rattle.book.specs.Told.{AreNumbered, AreOthers, BeginsOther, HasNumbers, HaveNumbers, IsBounded, IsFieldTold, IsKeptTold, IsLineTold, IsMoveByItself, IsMoveTold, IsOrderByItself, IsWhole, TellHeads, TellOrders, TellsField, head_of, head_row, mark_rows, told_ledger}
-pub use Rattle.book.specs.View.{BookView, field_of, kept_of, ledger_of, move_of, order_of, view_of}
+pub use Rattle.book.specs.RowEntries.{AreNumbered, AreOthers, BeginsOther, HasNumbers, HaveNumbers, IsBounded, IsFieldTold, IsKeptTold, IsLineTold, IsMoveByItself, IsMoveTold, IsOrderByItself, IsWhole, TellHeads, TellOrders, TellsField, head_of, head_row, mark_rows, told_ledger}
+pub use Rattle.book.specs.Model.{BookView, field_of, kept_of, ledger_of, move_of, order_of, view_of}
 pub use Rattle.book.specs.Walk.{IsSmall, most_of_all, most_of_line, most_of_lines, most_of_move, most_of_moves, moved_by_move, moved_by_order, nothing, plus}
 pub use Rattle.book.specs.declared.book.Book.TheInside.{Inside}
 pub use Rattle.book.specs.declared.book.tables.sums.Numbers.{Numbers}

@@ -3,7 +3,7 @@ use Rattle.book.proofs.Prelude.{[], ◌+ℤ◌, ◌-ℤ◌, ◌↔◌, ◌∙◌
 use Rattle.book.specs.Answers.{After}
 use Rattle.book.proofs.Sums.{each-both, least_if}
 use Rattle.book.proofs.Bounds.{takes, adds, takes-not_negative, adds-not_negative, room_from_safe, HasRoom}
-use Rattle.book.proofs.Closing.{sounds_from_good}
+use Rattle.book.proofs.Futures.{sounds_from_good}
 use Rattle.book.proofs.Once.{answered_once}
 use Rattle.book.proofs.Total.{answered_if_good}
 use Rattle.book.proofs.Lists.{total-not_negative}

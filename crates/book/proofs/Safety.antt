@@ -3,11 +3,11 @@ use Rattle.book.proofs.Prelude.{◌≡◌, ◌≢◌, ◌≤◌, Bool, Command, 
 use Rattle.words.specs.declared.command.Command.TheVariants as command
 use Rattle.book.proofs.Sums.{each-imp, total-zero}
 use Rattle.book.proofs.Bounds.{safe_from_room, HasRoom}
-use Rattle.book.proofs.Closing.{fit_from_good, fit-accept, all_pass, name_is, sounds_from_good}
-use Rattle.book.proofs.Asked.{each-insert}
-use Rattle.book.proofs.Growing.{Room, room-delivery, room-write_off, room-order, line_passes}
-use Rattle.book.proofs.Raising.{room-more}
-use Rattle.book.proofs.Rebounding.{room-bounds}
+use Rattle.book.proofs.Futures.{fit_from_good, fit-accept, all_pass, name_is, sounds_from_good}
+use Rattle.book.proofs.OutcomeTests.{each-insert}
+use Rattle.book.proofs.NewAmounts.{Room, room-delivery, room-write_off, room-order, line_passes}
+use Rattle.book.proofs.MoreAmounts.{room-more}
+use Rattle.book.proofs.OtherBounds.{room-bounds}
 
 pub not_true : (b : Bool) → (b ≡ true → ⊥) → b ≡ false
 not_true b h = grind arith

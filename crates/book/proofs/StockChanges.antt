@@ -4,14 +4,14 @@ use Rattle.escrow.specs.Choices.{IsSafe}
 use Rattle.escrow.specs.Escrow.{moved, MovesValue}
 use Rattle.words.specs.declared.command.Command.TheVariants as command
 use Rattle.book.proofs.Bounds.{OneOn, adds-not_negative, takes-not_negative}
-use Rattle.book.proofs.Chosen.{some_is}
-use Rattle.book.proofs.Closing.{all_pass, one_on}
+use Rattle.book.proofs.RowFilter.{some_is}
+use Rattle.book.proofs.Futures.{all_pass, one_on}
 use Rattle.book.proofs.Goodness.{quantities}
 use Rattle.book.proofs.Lists.{total-not_negative}
-use Rattle.book.proofs.Made.{each-found, left_out, made_there, none_opened, total-next, total_parts}
-use Rattle.book.proofs.Running.{bounds_at, off}
+use Rattle.book.proofs.CommandOrder.{each-found, left_out, made_there, none_opened, total-next, total_parts}
+use Rattle.book.proofs.RunningNumbers.{bounds_at, off}
 use Rattle.book.proofs.Sums.{each, each-imp, each-map, total-eq, total-zero, least_if}
-use Rattle.book.proofs.Asked.{total-push}
+use Rattle.book.proofs.OutcomeTests.{total-push}
 
 -- ---- what the moves add up to
 

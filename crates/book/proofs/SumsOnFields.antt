@@ -3,13 +3,13 @@ use Rattle.book.proofs.Prelude.{[], ◌+◌, ◌<◌, ◌∙◌, ◌∷◌, ◌�
 use Rattle.std.proofs.lemmas.List.Sorted.{searchable_from_sorted}
 use Rattle.book.specs.Walk.{added_by_line, added_by_order, moved_by_line, taken_by_line, taken_by_order}
 use Rattle.book.specs.Sums.{field_among, AreFieldsInOrder, IsFieldAt}
-use Rattle.book.proofs.Asked.{same_self}
-use Rattle.book.proofs.Closing.{name_is}
-use Rattle.book.proofs.Staying.{equal_name, name_cmp_total}
+use Rattle.book.proofs.OutcomeTests.{same_self}
+use Rattle.book.proofs.Futures.{name_is}
+use Rattle.book.proofs.GoodParts.{equal_name, name_cmp_total}
 use Rattle.book.proofs.Lists.{each-unmap}
 use Rattle.book.proofs.Sums.{each, each-imp, each-map}
-use Rattle.book.proofs.Walked.{total-step}
-use Rattle.book.proofs.Walking.{each_get, each_set}
+use Rattle.book.proofs.Walks.{total-step}
+use Rattle.book.proofs.WalksInPlace.{each_get, each_set}
 use Rattle.book.proofs.Safety.{not_true}
 
 -- ---- numbers added to one another, and how great they can be

@@ -7,7 +7,7 @@ use Rattle.book.specs.declared.limits.TheConstants.{MAX_FIELDS, MAX_ORDERS}
 use Rattle.book.specs.Answers.{no_order, ended, not_held, over_use}
 use Rattle.book.proofs.Bounds.{OneOn, Sound, falls_below_iff, rises_above_iff}
 use Rattle.book.proofs.Sums.{each-imp}
-use Rattle.book.proofs.Closing.{name_is}
+use Rattle.book.proofs.Futures.{name_is}
 
 -- what a test finds; a bound is unknown at a ledger whose orders are not seen to be sound
 pub data Tested (P : Type 0) : Type 0 where

@@ -9,7 +9,7 @@ use Rattle.escrow.specs.Codes.{is_article_byte, is_branch_byte, is_key_byte}
 use Rattle.words.specs.OpenLines.{line_words, way_word}
 use Rattle.words.specs.Spelling.{command_words}
 use Rattle.words.specs.Words.{spaced}
-use Rattle.book.proofs.Closing.{same_parts}
+use Rattle.book.proofs.Futures.{same_parts}
 
 ascii_cons : (b : ℕ) (bs : List ℕ) → b < 128 → IsAscii bs → IsAscii (b ∷ bs)
 ascii_cons b bs h k x = grind arith

@@ -4,10 +4,10 @@ use native.Mathlib.Decide.{dec_lt}
 use Rattle.words.specs.declared.command.Command.TheVariants as command
 use Rattle.book.proofs.Sums.{each-both}
 use Rattle.book.proofs.Bounds.{OneOn, Sound, falls_below_iff, rises_above_iff}
-use Rattle.book.proofs.Closing.{sounds_from_good, at_number}
-use Rattle.book.proofs.Asked.{each-insert, fresh-push, fresh-sound}
-use Rattle.book.proofs.Growing.{none_if_not_some}
-use Rattle.book.proofs.Raising.{sound-more, raised}
+use Rattle.book.proofs.Futures.{sounds_from_good, at_number}
+use Rattle.book.proofs.OutcomeTests.{each-insert, fresh-push, fresh-sound}
+use Rattle.book.proofs.NewAmounts.{none_if_not_some}
+use Rattle.book.proofs.MoreAmounts.{sound-more, raised}
 use Rattle.book.proofs.Safety.{takes_more}
 use Rattle.book.proofs.Once.{answers_found}
 

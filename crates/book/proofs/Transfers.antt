@@ -1,11 +1,11 @@
 -- The commit of a transfer, a `firm` on it and a use leave every article's total as it was.
-use Rattle.book.proofs.Prelude.{[], ◌+ℤ◌, ◌+◌, ◌<◌, ◌==◌, ◌||◌, ◌∙◌, ◌∷◌, ◌≡◌, Answers, AnswersNew, Bool, Command, Committed, Done, Each, Field, FirstFailure, Good, IsGoodOrder, IsSome, IsSomeAnd, IsStrictlySortedBy, IsTransferPair, IsTrue, Kept, KeyReused, Ledger, Less, Line, List, MatchOption, Name, None, Option, Order, Refusal, Refused, Reply, Request, Some, accept, ap, arith, article_total, bytes_eq, change_lines, change_order, checks, false, field_named, find, if◌then◌else◌, ints, is_settled, is_some, is_transfer, kept_under, line_name, map, moved, name_cmp, name_of, nat_cmp, on, order_numbered, places, pos, raise_used, refl, same_command, same_name, set_firm, set_state, settled, signed, subst, sym, total, true, true≢false, ℕ, ℤ}
+use Rattle.book.proofs.Prelude.{[], ◌+ℤ◌, ◌+◌, ◌<◌, ◌==◌, ◌||◌, ◌∙◌, ◌∷◌, ◌≡◌, Answers, AnswersNew, Bool, Command, Committed, Done, Each, Field, FirstFailure, Good, IsGoodOrder, IsSome, IsSomeAnd, IsStrictlySortedBy, IsTransferPair, IsTrue, Kept, KeyReused, Ledger, Less, Line, List, MatchOption, Name, None, Option, Order, Refusal, Refused, Reply, Request, Some, accept, ap, arith, article_total, bytes_eq, change_lines, change_order, checks, false, field_named, find, if◌then◌else◌, ints, is_settled, is_some, is_transfer, kept_under, line_name, map, moved_by, name_cmp, name_of, nat_cmp, on, order_numbered, places, pos, raise_used, refl, same_command, same_name, set_firm, set_state, settled, signed, subst, sym, total, true, true≢false, ℕ, ℤ}
 use Rattle.words.specs.declared.command.Command.TheVariants as command
 use Rattle.book.specs.Future.{Settles}
 use Rattle.book.proofs.Sums.{each, each-imp, each-map, total-eq, total-sum, total-zero}
-use Rattle.book.proofs.Closing.{Fine, Fit, fit-accept, fit_from_good, less_is, name_is}
+use Rattle.book.proofs.Futures.{Fine, Fit, fit-accept, fit_from_good, less_is, name_is}
 use Rattle.book.proofs.Lists.{each-unmap}
-use Rattle.book.proofs.Growing.{not_before_itself}
+use Rattle.book.proofs.NewAmounts.{not_before_itself}
 
 -- what is moved on one field, over the article's fields
 one_part : List ℕ → Name → ℤ → Field → ℤ
@@ -60,7 +60,7 @@ pair_evens A article (l ∷ m ∷ []) sorted p g =
 
 -- what is settled of an order on the field
 settled_part : Name → Order → ℤ
-settled_part f o = if is_settled o then moved f (λ l. l.used) o else pos 0
+settled_part f o = if is_settled o then moved_by f (λ l. l.used) o else pos 0
 
 -- on the fields of an article a transfer settles as much in as out, whether what it uses is settled or not
 evens : (A : Ledger) (article : List ℕ) (o : Order) → IsStrictlySortedBy name_cmp (map (λ f. f.name) A.fields) → IsTransferPair o.lines → Each (λ l. IsSome (field_named A (line_name l))) o.lines
@@ -71,7 +71,7 @@ evens A article o sorted pair there = by (is_settled o)
     nothing : (b : Bool) → (if b then pos 0 else pos 0) ≡ pos 0
     nothing b = grind arith
 
-    by : (b : Bool) → total (λ f. if bytes_eq f.name.article article then (if b then moved f.name (λ l. l.used) o else pos 0) else pos 0) A.fields ≡ pos 0
+    by : (b : Bool) → total (λ f. if bytes_eq f.name.article article then (if b then moved_by f.name (λ l. l.used) o else pos 0) else pos 0) A.fields ≡ pos 0
     by true = pair_evens A article o.lines sorted pair there
     by false = total-zero _ A.fields (each (λ f. nothing (bytes_eq f.name.article article)) A.fields)
 
@@ -127,7 +127,7 @@ module _ (A : Ledger) (good : Good A) (n : ℕ) (h : Order → Order) (kept : Li
 
   settled_so : (o : Order) → order_numbered A n ≡ Some o → (f : Field) → settled after f +ℤ settled_part f.name o ≡ settled A f +ℤ settled_part f.name (h o)
   unfolding settled_part
-  settled_so o found f = let e = changes_one (λ o. if is_settled o then moved f.name (λ l. l.used) o else pos 0) h n o A.orders good.orders_in_order found in omega (arith, ints)
+  settled_so o found f = let e = changes_one (λ o. if is_settled o then moved_by f.name (λ l. l.used) o else pos 0) h n o A.orders good.orders_in_order found in omega (arith, ints)
 
   same_total : (o : Order) → order_numbered A n ≡ Some o → IsTransferPair o.lines → IsTransferPair (h o).lines → AreThere A o.lines → AreThere A (h o).lines → article_total after article ≡ article_total A article
   same_total o found pair new_pair there new_there =

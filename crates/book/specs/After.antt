@@ -14,7 +14,7 @@ use Rattle.book.specs.declared.order.State.TheVariants as state
 use Rattle.book.specs.Held.{held_to_add, held_to_take, if_add, if_take}
 use Rattle.book.specs.Ledger.{Field as FieldOf, Ledger, Move, Name, Order, is_open, is_settled, is_transfer, line_name, name_of, on, order_numbered, same_name, unsettled}
 use Rattle.book.specs.Next.{accept, add_hold, change_lines, expires, lower_held, new_order, raise_used, set_firm, set_state, transfer_lines}
-use Rattle.book.specs.Outcomes.{moved, settled, signed, total}
+use Rattle.book.specs.Outcomes.{moved_by, settled, signed, total}
 use Rattle.book.specs.Rows.{Content, FieldCells, FirmCells, KeptCells, LineCells, MoveCells, OrderCells, firm_row, line_row, move_row, order_row}
 
 -- ---- orders
@@ -23,7 +23,8 @@ use Rattle.book.specs.Rows.{Content, FieldCells, FirmCells, KeptCells, LineCells
 abbrev pub order_after : Ledger → Command → Option Order
 order_after A (Open n until lines) = Some (new_order n kind.Plain until lines)
 order_after A (Transfer n until a from to q) = Some (new_order n kind.Transfer until (transfer_lines a from to q))
-order_after A (More n way b a q) = option_map (add_hold (record { way = way; branch = b; article = a; qty = q })) (order_numbered A n)
+order_after A (More n way b a q) =
+    option_map (add_hold (record { way = way; branch = b; article = a; qty = q })) (order_numbered A n)
 order_after A (Use n b a q) = option_map (change_lines (name_of b a) (raise_used q)) (order_numbered A n)
 order_after A (Release n b a q) = option_map (change_lines (name_of b a) (lower_held q)) (order_numbered A n)
 order_after A (Commit n) = option_map (set_state state.Committed) (order_numbered A n)
@@ -83,15 +84,19 @@ IsShort o = MatchOption o (Unit {0}) (λ o. length o.lines ≤ MAX_ORDER_LINES)
 
 -- what an order has moved on the field, if that is settled
 abbrev pub moved_part : Name → Order → ℤ
-moved_part f o = if is_settled o then moved f (λ l. l.used) o else pos 0
+moved_part f o = if is_settled o then moved_by f (λ l. l.used) o else pos 0
 
 -- what it holds there to take beyond what is settled, if it is open
 abbrev pub taken_part : Name → Order → ℤ
-taken_part f o = if is_open o then total (λ l. if on f l then pos (if_take l.way (unsettled o.firm l l.held)) else pos 0) o.lines else pos 0
+taken_part f o =
+    if is_open o then total (λ l. if on f l then pos (if_take l.way (unsettled o.firm l l.held)) else pos 0) o.lines
+    else pos 0
 
 -- what it holds there to add
 abbrev pub added_part : Name → Order → ℤ
-added_part f o = if is_open o then total (λ l. if on f l then pos (if_add l.way (unsettled o.firm l l.held)) else pos 0) o.lines else pos 0
+added_part f o =
+    if is_open o then total (λ l. if on f l then pos (if_add l.way (unsettled o.firm l l.held)) else pos 0) o.lines
+    else pos 0
 
 -- the number of the order that the command opens or changes
 abbrev pub order_number : Command → Option ℕ
@@ -110,7 +115,17 @@ order_number c = None
 -- the row of a field: the infimum is the value less all that is held to take, the supremum the value plus all that is
 -- held to add
 abbrev pub field_row : Ledger → FieldOf → FieldCells
-field_row A f = record { branch = f.name.branch; article = f.name.article; lo = pos f.lo; hi = pos f.hi; start = pos f.start; value = settled A f; inf = settled A f -ℤ held_to_take A f.name; sup = settled A f +ℤ held_to_add A f.name }
+field_row A f =
+    record {
+      branch = f.name.branch;
+      article = f.name.article;
+      lo = pos f.lo;
+      hi = pos f.hi;
+      start = pos f.start;
+      value = settled A f;
+      inf = settled A f -ℤ held_to_take A f.name;
+      sup = settled A f +ℤ held_to_add A f.name;
+    }
 
 -- ---- rows after those that are there
 
@@ -172,7 +187,8 @@ changes_own_stock firm transfer c l = changes_own_line transfer c l
 -- the rows of the lines of an order that pass a test
 abbrev pub line_rows : (Line → Bool) → ℕ → ℕ → List Line → List LineCells
 line_rows chosen number nr [] = []
-line_rows chosen number nr (l ∷ ls) = (if chosen l then line_row number nr l ∷ [] else []) ++ line_rows chosen number (nr + 1) ls
+line_rows chosen number nr (l ∷ ls) =
+    (if chosen l then line_row number nr l ∷ [] else []) ++ line_rows chosen number (nr + 1) ls
 
 -- the row of an order once it is aborted
 abbrev pub aborted_rows : Order → List OrderCells
@@ -217,4 +233,5 @@ changed_orders A c = own_order_rows c (order_after A c)
 
 -- the rows of all fields that the request makes or changes
 abbrev pub field_rows : Ledger → Request → List FieldCells
-field_rows A r = flat_map (λ f. if changes_field A r.command f.name then field_row (accept A r) f ∷ [] else []) (accept A r).fields
+field_rows A r =
+    flat_map (λ f. if changes_field A r.command f.name then field_row (accept A r) f ∷ [] else []) (accept A r).fields

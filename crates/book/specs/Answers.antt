@@ -44,8 +44,8 @@ full A more = check (MAX_PLACES < places A + open_orders A + more) refusal.Full
 abbrev pub no_field : Ledger → Name → ℕ → Check
 no_field A f line = record { fails = IsNone (field_named A f); refusal = refusal.NoField; line = line }
 
--- B has the line or the amount in it: a take fails where some outcome of B is below the field's lower bound, an add where
--- some is above its upper one
+-- B has the line or the amount in it: a take fails where some outcome of B is below the field's lower bound, an add
+-- where some is above its upper one
 abbrev pub bound : Way → Ledger → Name → ℕ → Check
 bound way.Take B f line = record { fails = FallsBelow B f; refusal = refusal.TooLittle; line = line }
 bound way.Add B f line = record { fails = RisesAbove B f; refusal = refusal.TooMuch; line = line }
@@ -88,8 +88,8 @@ line_checks A order before (l ∷ ls) = let f = name_of l.branch l.article in
     ∷ bound l.way (with_order (order (before ++ l ∷ [])) A) f (length before + 1)
     ∷ line_checks A order (before ++ l ∷ []) ls
 
--- The checks of a new order that are not those of its lines. It needs a place for the command, and one set aside for the
--- order's end.
+-- The checks of a new order that are not those of its lines. It needs a place for the command, and one set aside for
+-- the order's end.
 abbrev pub order_checks : Ledger → ℕ → ℕ → List Check
 order_checks A n until = full A 2 ∷ check (MAX_ORDERS ≤ length A.orders) refusal.Full
     ∷ check (IsSome (order_numbered A n)) refusal.OrderThere ∷ check (until ≤ A.clock) refusal.Past ∷ []

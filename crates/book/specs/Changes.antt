@@ -29,7 +29,8 @@ changes_field A (Rebound b a lo hi) f = same_name f (name_of b a)
 changes_field A (Open n until lines) f = list_any (λ l. same_name f (name_of l.branch l.article)) lines
 changes_field A (Transfer n until a from to q) f = same_name f (name_of from a) || same_name f (name_of to a)
 changes_field A (More n way b a q) f = same_name f (name_of b a)
-changes_field A (Use n b a q) f = order_is A n (λ o. o.firm && (same_name f (name_of b a) || (is_transfer o && has_line_on f o)))
+changes_field A (Use n b a q) f =
+    order_is A n (λ o. o.firm && (same_name f (name_of b a) || (is_transfer o && has_line_on f o)))
 changes_field A (Release n b a q) f = same_name f (name_of b a) || order_is A n (λ o. is_transfer o && has_line_on f o)
 changes_field A (Commit n) f = order_is A n (has_line_on f)
 changes_field A (Abort n) f = order_is A n (has_line_on f)
@@ -74,7 +75,8 @@ changes_line A (Open n until lines) number f = int_eq number (pos n)
 changes_line A (Transfer n until a from to q) number f = int_eq number (pos n)
 changes_line A (More n way b a q) number f = int_eq number (pos n) && same_name f (name_of b a)
 changes_line A (Use n b a q) number f = int_eq number (pos n) && (order_is A n is_transfer || same_name f (name_of b a))
-changes_line A (Release n b a q) number f = int_eq number (pos n) && (order_is A n is_transfer || same_name f (name_of b a))
+changes_line A (Release n b a q) number f =
+    int_eq number (pos n) && (order_is A n is_transfer || same_name f (name_of b a))
 changes_line A (Field b a lo hi start) number f = false
 changes_line A (Deliver b a q) number f = false
 changes_line A (Writeoff b a q) number f = false
@@ -106,7 +108,9 @@ changed_rows A r next = record {
 -- a row with the same key is replaced, else the row is added in the order of the keys
 abbrev pub put_row : {R : Type 0} → (R → R → Ordering) → R → List R → List R
 put_row cmp row [] = row ∷ []
-put_row cmp row (old ∷ rows) = if is_lt (cmp row old) then row ∷ old ∷ rows else (if is_eq (cmp row old) then row ∷ rows else old ∷ put_row cmp row rows)
+put_row cmp row (old ∷ rows) =
+    if is_lt (cmp row old) then row ∷ old ∷ rows else (if is_eq (cmp row old) then row ∷ rows
+    else old ∷ put_row cmp row rows)
 
 -- rows put in one after the other
 abbrev pub put_rows : {R : Type 0} → (R → R → Ordering) → List R → List R → List R

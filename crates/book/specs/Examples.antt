@@ -91,7 +91,8 @@ long_script = step "K1" (Field N1 A1 0 100 40) (Done 1) (numbers N1 A1 40 40 40 
     ∷ step "K2" (Open 7 120 (line Take N1 A1 36 ∷ [])) (Refused KeyReused 0) []
     ∷ step "K9" (Expire 120) (Done 7) (numbers N1 A1 80 80 80 ∷ [])
     ∷ step "K10" (Open 9 120 (line Take N1 A1 1 ∷ [])) (Refused Past 0) []
-    ∷ step "K11" (Open 9 500 (line Take N1 A1 5 ∷ line Take N1 B9 1 ∷ [])) (Refused NoField 2) (numbers N1 A1 80 80 80 ∷ [])
+    ∷ step "K11" (Open 9 500 (line Take N1 A1 5 ∷ line Take N1 B9 1 ∷ [])) (Refused NoField 2)
+    (numbers N1 A1 80 80 80 ∷ [])
     ∷ []
 
 -- A field that can neither fall nor rise, and one whose bounds are the wrong way round.

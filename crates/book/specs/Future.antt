@@ -1,5 +1,5 @@
--- What may still come to the open orders, and that they can all be honoured. Every beginning of a future is a future, so
--- what is said of its end is said of each step.
+-- What may still come to the open orders, and that they can all be honoured. Every beginning of a future is a future,
+-- so what is said of its end is said of each step.
 use Rattle.std.specs.Prelude.{ℕ, ◌+◌, ◌≡◌, ◌≢◌, List, IsTrue, IsNone}
 use Rattle.std.specs.List.{AllByRecursion as Each}
 use Rattle.words.specs.declared.command.Command.{Command}
@@ -9,7 +9,8 @@ use Rattle.words.specs.declared.reply.Reply.{Reply}
 use Rattle.words.specs.declared.reply.Reply.TheVariants.{Done}
 use Rattle.book.specs.declared.order.State.TheVariants.{Aborted}
 use Rattle.book.specs.Ledger.{Ledger, Order, places, is_open, kept_under}
-use Rattle.book.specs.Outcomes.{settled, IsWithin}
+use Rattle.escrow.specs.Choices.{IsWithin}
+use Rattle.book.specs.Outcomes.{settled}
 use Rattle.book.specs.Answers.{Answers, Runs}
 
 -- a use, a release, a commit, an abort, a `firm` or an expiry
@@ -44,15 +45,18 @@ abbrev pub IsFuture : List Request → Type 0
 IsFuture requests = Each (λ r. AsksNoStock r.command) requests
 
 -- every field is within its bounds, and no open order is refused its commit
-pub record Stands (B : Ledger) : Type 0 where
-  pub within : Each (λ f. IsWithin f (settled B f)) B.fields
+pub record IsHonoured (B : Ledger) : Type 0 where
+  pub within : Each (λ f. IsWithin f.lo f.hi (settled B f)) B.fields
   pub commits : Each (λ o. IsTrue (is_open o) → (key : List ℕ) → IsNone (kept_under B key)
       → (C : Ledger) × Answers B (record { key = key; command = Commit o.number }) (Done (places B + 1)) C) B.orders
 
 -- every future is answered to its end, and stands there
 abbrev pub Honours : Ledger → Type 0
-Honours A = (requests : List Request) → IsFuture requests → (replies : List Reply) × (B : Ledger) × Runs A requests replies B × Stands B
+Honours A = (requests : List Request) → IsFuture requests → (replies : List Reply) × (B : Ledger)
+    × Runs A requests replies B × IsHonoured B
 
 -- ..and by whatever replies it is answered
 abbrev pub HonoursAlways : Ledger → Type 0
-HonoursAlways A = (requests : List Request) → IsFuture requests → (replies : List Reply) (B : Ledger) → Runs A requests replies B → Stands B
+HonoursAlways A =
+    (requests : List Request) → IsFuture requests → (replies : List Reply) (B : Ledger) → Runs A requests replies B
+    → IsHonoured B

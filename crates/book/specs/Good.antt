@@ -39,7 +39,8 @@ pub record IsGoodLine (A : Ledger) (l : Line) : Type 0 where
 
 -- two lines: a take, then an add of the same article, with equal held and equal used
 abbrev pub IsTransferPair : List Line → Type 0
-IsTransferPair (l ∷ m ∷ []) = (l.way ≡ Take) × (m.way ≡ Add) × (l.article ≡ m.article) × (l.held ≡ m.held) × (l.used ≡ m.used)
+IsTransferPair (l ∷ m ∷ []) =
+    (l.way ≡ Take) × (m.way ≡ Add) × (l.article ≡ m.article) × (l.held ≡ m.held) × (l.used ≡ m.used)
 IsTransferPair ls = ⊥
 
 -- 1 to 64 good lines on different fields, and on a transfer exactly its pair; where it is firm it was not aborted

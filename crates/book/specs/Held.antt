@@ -17,18 +17,26 @@ if_add Add n = n
 
 -- all that open orders hold to take on the field
 abbrev pub held_to_take : Ledger → Name → ℤ
-held_to_take A f = total (λ o. if is_open o then total (λ l. if on f l then pos (if_take l.way (unsettled o.firm l l.held)) else pos 0) o.lines else pos 0) A.orders
+held_to_take A f =
+    total (λ o. if is_open o then total (λ l. if on f l then pos (if_take l.way (unsettled o.firm l l.held))
+    else pos 0) o.lines else pos 0) A.orders
 
 -- all that they hold to add
 abbrev pub held_to_add : Ledger → Name → ℤ
-held_to_add A f = total (λ o. if is_open o then total (λ l. if on f l then pos (if_add l.way (unsettled o.firm l l.held)) else pos 0) o.lines else pos 0) A.orders
+held_to_add A f =
+    total (λ o. if is_open o then total (λ l. if on f l then pos (if_add l.way (unsettled o.firm l l.held))
+    else pos 0) o.lines else pos 0) A.orders
 
--- Said with the ledger as it is: with so much less the infimum would be below the field's lower bound, with so much more
--- the supremum would be above its upper one.
+-- Said with the ledger as it is: with so much less the infimum would be below the field's lower bound, with so much
+-- more the supremum would be above its upper one.
 abbrev pub BreaksBound : Way → Ledger → Name → ℕ → Type 0
-BreaksBound Take A name q = IsSomeAnd (field_named A name) (λ f. ((settled A f -ℤ held_to_take A f.name) -ℤ pos q) <ℤ pos f.lo)
-BreaksBound Add A name q = IsSomeAnd (field_named A name) (λ f. pos f.hi <ℤ ((settled A f +ℤ held_to_add A f.name) +ℤ pos q))
+BreaksBound Take A name q =
+    IsSomeAnd (field_named A name) (λ f. ((settled A f -ℤ held_to_take A f.name) -ℤ pos q) <ℤ pos f.lo)
+BreaksBound Add A name q =
+    IsSomeAnd (field_named A name) (λ f. pos f.hi <ℤ ((settled A f +ℤ held_to_add A f.name) +ℤ pos q))
 
 -- the order is open and not firm, is no transfer, and its line on the field, if there is one, has the way
 abbrev pub MayHoldMore : Name → Way → Order → Type 0
-MayHoldMore f w o = IsTrue (is_open o) × IsFalse o.firm × IsFalse (is_transfer o) × MatchOption (line_on o f) (Unit {0}) (λ m. m.way ≡ w)
+MayHoldMore f w o =
+    IsTrue (is_open o) × IsFalse o.firm × IsFalse (is_transfer o) × MatchOption (line_on o f) (Unit {0})
+    (λ m. m.way ≡ w)

@@ -36,13 +36,16 @@ changed_order MakeFirm o = set_firm o
 -- the lines of an order, of which the one on the field holds more, or with one more at the end
 abbrev pub held_lines : OpenLine → List Line → List Line
 held_lines l lines = let f = line_name (new_line l) in
-    if is_some (find (on f) lines) then map (λ m. if on f m then raise_held l.qty m else m) lines else lines ++ new_line l ∷ []
+    if is_some (find (on f) lines) then map (λ m. if on f m then raise_held l.qty m else m) lines
+    else lines ++ new_line l ∷ []
 
 -- Each line that changes may; a line more at the end fits without memory.
 abbrev pub MayChangeOrder : OrderChange → OrderEntry → Type 0
-MayChangeOrder (HoldMore l) o = MatchOption (find (on (line_name (new_line l))) o.lines.items) (vec_len o.lines < vec_capacity o.lines)
+MayChangeOrder (HoldMore l) o =
+    MatchOption (find (on (line_name (new_line l))) o.lines.items) (vec_len o.lines < vec_capacity o.lines)
     (λ found. Each (λ m. on (line_name (new_line l)) m ≡ true → MayChange (Hold l.qty) m) o.lines.items)
-MayChangeOrder (ChangeLines b a change) o = Each (λ l. (transfer_kind o.kind || on (name_of b a) l) ≡ true → MayChange change l) o.lines.items
+MayChangeOrder (ChangeLines b a change) o =
+    Each (λ l. (transfer_kind o.kind || on (name_of b a) l) ≡ true → MayChange change l) o.lines.items
 MayChangeOrder (End state) o = Unit {0}
 MayChangeOrder MakeFirm o = Unit {0}
 

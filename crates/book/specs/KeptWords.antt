@@ -36,4 +36,5 @@ range-prop (command.Expire now) = hlevel props
 -- they spell one
 pub Spelled-prop : (bytes : List ℕ) → IsProp (Spelled bytes)
 Spelled-prop bytes (c, h) (d, k) =
-    Σ_prop_path (λ c. ×_prop (range-prop c) (Coded-set (coded_list coded_ℕ) _ _)) (spelling_one c d h.0 k.0 (sym h.1 ∙ k.1))
+    Σ_prop_path (λ c. ×_prop (range-prop c) (Coded-set (coded_list coded_ℕ) _ _))
+    (spelling_one c d h.0 k.0 (sym h.1 ∙ k.1))

@@ -1,5 +1,5 @@
--- A ledger: the clock, all fields, and all that was ever moved, ordered and accepted. It holds no value, no infimum and no
--- supremum.
+-- A ledger: the clock, all fields, and all that was ever moved, ordered and accepted. It holds no value, no infimum and
+-- no supremum.
 use Rattle.std.specs.Prelude.{ℕ, ◌-◌, ℤ, Bool, true, false, ◌&&◌, List, [], ◌∷◌, length, Option, find, ◌==◌, if◌then◌else◌, count_by}
 use Rattle.std.specs.Str.{bytes_eq}
 use Rattle.std.specs.declared.cmp.Ordering.{Ordering}
@@ -49,8 +49,8 @@ pub record Kept : Type 0 where
   pub place : ℕ
   pub command : Command
 
--- Fields, orders and kept keys are maps, which stand as lists in the order of their keys, and moves in the order of their
--- places: a good ledger's do.
+-- Fields, orders and kept keys are maps, which stand as lists in the order of their keys, and moves in the order of
+-- their places: a good ledger's do.
 pub record Ledger : Type 0 where
   pub clock : ℕ
   pub fields : List Field

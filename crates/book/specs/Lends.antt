@@ -9,7 +9,8 @@ use Rattle.book.specs.contracts.in_order.InOrder.{the_row}
 module _ (K V : RattleType) (key : OrdMembers K.Denot) where
   -- the type of the entries, as the logic holds it
   abbrev pub entries_row : RattleType
-  entries_row = the_row K V (record { cmp = key.cmp }) (record { eq = key.eq }) (record { partial_cmp = key.partial_cmp })
+  entries_row =
+      the_row K V (record { cmp = key.cmp }) (record { eq = key.eq }) (record { partial_cmp = key.partial_cmp })
 
   module _ (m : MutBor (Entries K.Denot V.Denot)) where
     -- the entry at the place has the last value that is written through r

@@ -5,7 +5,7 @@ pub mod Next
 pub mod Answers
 pub mod Good
 pub mod Future
-pub mod View
+pub mod Model
 pub mod Examples
 pub mod InOrder
 pub mod InPlace
@@ -15,11 +15,11 @@ pub mod Walk
 pub mod Plans
 pub mod Views
 pub mod Checking
-pub mod Planned
+pub mod PlanAnswers
 pub mod Rows
 pub mod Changes
 pub mod Tables
-pub mod Told
+pub mod RowEntries
 pub mod Sums
 pub mod After
-pub mod Running
+pub mod RunningNumbers

@@ -36,7 +36,8 @@ new_line l = record { way = l.way; branch = l.branch; article = l.article; held 
 
 -- an open order of these lines
 abbrev pub new_order : ℕ → Kind → ℕ → List OpenLine → Order
-new_order n kind until lines = record { number = n; kind = kind; until = until; state = state.Open; firm = false; lines = map new_line lines }
+new_order n kind until lines =
+    record { number = n; kind = kind; until = until; state = state.Open; firm = false; lines = map new_line lines }
 
 -- the lines of a transfer: the first takes at the one branch, the second adds at the other
 abbrev pub transfer_lines : List ℕ → List ℕ → List ℕ → ℕ → List OpenLine
@@ -84,7 +85,8 @@ next A (Field b a lo hi start) = record A {
 }
 next A (Deliver b a q) = with_move (name_of b a) (pos q) A
 next A (Writeoff b a q) = with_move (name_of b a) (neg_ℤ (pos q)) A
-next A (Rebound b a lo hi) = record A { fields = map (λ f. if same_name (name_of b a) f.name then with_bounds lo hi f else f) A.fields }
+next A (Rebound b a lo hi) =
+    record A { fields = map (λ f. if same_name (name_of b a) f.name then with_bounds lo hi f else f) A.fields }
 next A (Open n until lines) = with_order (new_order n kind.Plain until lines) A
 next A (Transfer n until a from to q) = with_order (new_order n kind.Transfer until (transfer_lines a from to q)) A
 next A (More n way b a q) = change_order n (add_hold (record { way = way; branch = b; article = a; qty = q })) A

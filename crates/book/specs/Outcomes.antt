@@ -3,6 +3,7 @@
 use Rattle.std.specs.Prelude.{ℕ, ◌≤◌, ℤ, pos, ◌+ℤ◌, neg_ℤ, ◌≤ℤ◌, ◌<ℤ◌, ◌≡◌, Bool, ◌&&◌, ◌||◌, List, [], ◌∷◌, if◌then◌else◌, IsTrue, IsSomeAnd}
 use Rattle.std.specs.Str.{bytes_eq}
 use Rattle.std.specs.List.{AllByRecursion as Each}
+use Rattle.escrow.specs.Choices.{IsWithin}
 use Rattle.escrow.specs.declared.quantity.Way.{Way}
 use Rattle.escrow.specs.declared.quantity.Way.TheVariants.{Take, Add}
 use Rattle.book.specs.declared.order.Line.{Line}
@@ -19,14 +20,14 @@ signed Add n = pos n
 signed Take n = neg_ℤ (pos n)
 
 -- what the order's lines move on the field, where each moves this amount
-abbrev pub moved : Name → (Line → ℕ) → Order → ℤ
-moved f amount o = total (λ l. if on f l then signed l.way (amount l) else pos 0) o.lines
+abbrev pub moved_by : Name → (Line → ℕ) → Order → ℤ
+moved_by f amount o = total (λ l. if on f l then signed l.way (amount l) else pos 0) o.lines
 
 -- The settled value: the start, all deliveries and write-offs, and what committed and open firm orders used.
 abbrev pub settled : Ledger → Field → ℤ
 settled A f = pos f.start
     +ℤ total (λ m. if same_name f.name m.field then m.amount else pos 0) A.moves
-    +ℤ total (λ o. if is_settled o then moved f.name (λ l. l.used) o else pos 0) A.orders
+    +ℤ total (λ o. if is_settled o then moved_by f.name (λ l. l.used) o else pos 0) A.orders
 
 -- An outcome: the orders that commit, and the amount of each of their lines. A firm order commits in every outcome; the
 -- other open orders abort.
@@ -40,19 +41,18 @@ commits_in X o = is_open o && (o.firm || X.commits o)
 
 -- Each line of each open order that commits has an amount from what is used now to what is held now.
 abbrev pub IsOutcome : Ledger → Outcome → Type 0
-IsOutcome A X = Each (λ o. IsTrue (commits_in X o) → Each (λ l. (l.used ≤ X.amount o l) × (X.amount o l ≤ l.held)) o.lines) A.orders
+IsOutcome A X =
+    Each (λ o. IsTrue (commits_in X o) → Each (λ l. (l.used ≤ X.amount o l) × (X.amount o l ≤ l.held)) o.lines) A.orders
 
 -- its result: the settled value, and what the open orders that commit move and is not settled yet
 abbrev pub outcome_result : Ledger → Outcome → Field → ℤ
-outcome_result A X f = settled A f +ℤ total (λ o. if commits_in X o then moved f.name (λ l. unsettled o.firm l (X.amount o l)) o else pos 0) A.orders
-
--- between the field's bounds
-abbrev pub IsWithin : Field → ℤ → Type 0
-IsWithin f z = (pos f.lo ≤ℤ z) × (z ≤ℤ pos f.hi)
+outcome_result A X f =
+    settled A f +ℤ total (λ o. if commits_in X o then moved_by f.name (λ l. unsettled o.firm l (X.amount o l)) o
+    else pos 0) A.orders
 
 -- Whatever the outcome, every field is within its bounds.
 abbrev pub IsSafe : Ledger → Type 0
-IsSafe A = (X : Outcome) → IsOutcome A X → Each (λ f. IsWithin f (outcome_result A X f)) A.fields
+IsSafe A = (X : Outcome) → IsOutcome A X → Each (λ f. IsWithin f.lo f.hi (outcome_result A X f)) A.fields
 
 -- the infimum: the result of some outcome, and no outcome's result is below it
 pub record IsInfimum (A : Ledger) (f : Field) (z : ℤ) : Type 0 where
@@ -66,11 +66,13 @@ pub record IsSupremum (A : Ledger) (f : Field) (z : ℤ) : Type 0 where
 
 -- some outcome is below the field's lower bound
 abbrev pub FallsBelow : Ledger → Name → Type 0
-FallsBelow A name = IsSomeAnd (field_named A name) (λ f. (X : Outcome) × IsOutcome A X × (outcome_result A X f <ℤ pos f.lo))
+FallsBelow A name =
+    IsSomeAnd (field_named A name) (λ f. (X : Outcome) × IsOutcome A X × (outcome_result A X f <ℤ pos f.lo))
 
 -- some outcome is above its upper bound
 abbrev pub RisesAbove : Ledger → Name → Type 0
-RisesAbove A name = IsSomeAnd (field_named A name) (λ f. (X : Outcome) × IsOutcome A X × (pos f.hi <ℤ outcome_result A X f))
+RisesAbove A name =
+    IsSomeAnd (field_named A name) (λ f. (X : Outcome) × IsOutcome A X × (pos f.hi <ℤ outcome_result A X f))
 
 -- the settled values of the article's fields at all branches, added up
 abbrev pub article_total : Ledger → List ℕ → ℤ

@@ -10,8 +10,8 @@ use Rattle.book.specs.Changes.{changed_rows, put_content}
 use Rattle.book.specs.Ledger.{Ledger, Move, Name, Order, open_orders, places}
 use Rattle.book.specs.Next.{accept, next, transfer_lines}
 use Rattle.book.specs.Rows.{Content, IsRowsOf, desk_row}
-use Rattle.book.specs.Running.{entry_row}
-use Rattle.book.specs.View.{BookView, move_of, order_of}
+use Rattle.book.specs.RunningNumbers.{entry_row}
+use Rattle.book.specs.Model.{BookView, move_of, order_of}
 use Rattle.book.specs.declared.book.FieldEntry.{FieldEntry}
 use Rattle.book.specs.declared.book.plan.PlanParts.{PlanParts}
 
@@ -101,5 +101,5 @@ pub record HasRoomFor (book : BookView) (plan : PlanView) : Type 0 where
   pub kept : 1 ≤ book.room.kept
 
 -- The room that there was for any plan is still there.
-abbrev pub KeepsRoom : BookView → BookView → Type 0
-KeepsRoom old new = (plan : PlanView) → HasRoomFor old plan → HasRoomFor new plan
+abbrev pub RoomStays : BookView → BookView → Type 0
+RoomStays old new = (plan : PlanView) → HasRoomFor old plan → HasRoomFor new plan

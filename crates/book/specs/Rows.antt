@@ -104,7 +104,16 @@ abbrev pub order_row : Order → OrderCells
 order_row o = record { number = pos o.number; kind = kind_code o.kind; until = pos o.until; state = state_code o.state }
 
 abbrev pub line_row : ℕ → ℕ → Line → LineCells
-line_row number nr l = record { number = pos number; nr = pos nr; branch = l.branch; article = l.article; way = way_code l.way; held = pos l.held; used = pos l.used }
+line_row number nr l =
+    record {
+      number = pos number;
+      nr = pos nr;
+      branch = l.branch;
+      article = l.article;
+      way = way_code l.way;
+      held = pos l.held;
+      used = pos l.used;
+    }
 
 abbrev pub lines_from : ℕ → ℕ → List Line → List LineCells
 lines_from number nr [] = []

@@ -16,7 +16,17 @@ abbrev pub desk_cells : DeskRow → DeskCells
 desk_cells r = record { one = r.one; version = r.version; clock = r.clock; places = r.places }
 
 abbrev pub field_cells : FieldRow → FieldCells
-field_cells r = record { branch = string_bytes r.branch; article = string_bytes r.article; lo = r.lo; hi = r.hi; start = r.start; value = r.value; inf = r.inf; sup = r.sup }
+field_cells r =
+    record {
+      branch = string_bytes r.branch;
+      article = string_bytes r.article;
+      lo = r.lo;
+      hi = r.hi;
+      start = r.start;
+      value = r.value;
+      inf = r.inf;
+      sup = r.sup;
+    }
 
 abbrev pub move_cells : MoveRow → MoveCells
 move_cells r = record { place = r.place; branch = string_bytes r.branch; article = string_bytes r.article; qty = r.qty }
@@ -25,7 +35,16 @@ abbrev pub order_cells : OrderRow → OrderCells
 order_cells r = record { number = r.number; kind = r.kind; until = r.until; state = r.state }
 
 abbrev pub line_cells : LineRow → LineCells
-line_cells r = record { number = r.number; nr = r.nr; branch = string_bytes r.branch; article = string_bytes r.article; way = r.way; held = r.held; used = r.used }
+line_cells r =
+    record {
+      number = r.number;
+      nr = r.nr;
+      branch = string_bytes r.branch;
+      article = string_bytes r.article;
+      way = r.way;
+      held = r.held;
+      used = r.used;
+    }
 
 abbrev pub kept_cells : KeptRow → KeptCells
 kept_cells r = record { reqkey = string_bytes r.reqkey; place = r.place; words = string_bytes r.words }

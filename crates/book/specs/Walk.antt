@@ -10,7 +10,7 @@ use Rattle.book.specs.declared.order.Line.{Line}
 use Rattle.book.specs.Ledger.{Name, on, open_state, same_name, settled_state, unsettled}
 use Rattle.book.specs.Outcomes.{signed, total}
 use Rattle.book.specs.Held.{if_add, if_take}
-use Rattle.book.specs.View.{move_of}
+use Rattle.book.specs.Model.{move_of}
 
 -- what a delivery or a write-off moves on the field
 abbrev pub moved_by_move : Name → MoveEntry → ℤ

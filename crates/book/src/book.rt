@@ -6,9 +6,9 @@ ghost use Rattle.book.specs.Good.{Good};
 ghost use Rattle.book.specs.Ledger.{new_ledger, field_named, kept_under, name_of, order_numbered, Ledger, is_transfer, open_state, places, insert_in_order, open_orders};
 ghost use Rattle.book.specs.Next.{accept, next};
 ghost use Rattle.book.specs.Outcomes.{article_total};
-ghost use Rattle.book.specs.Plans.{Fits, HasRoomFor, KeepsRoom, Leaves};
-ghost use Rattle.book.specs.Running.{IsUpToDate, with_entries};
-ghost use Rattle.book.specs.View.{field_of, kept_of, order_of, move_of};
+ghost use Rattle.book.specs.Plans.{Fits, HasRoomFor, RoomStays, Leaves};
+ghost use Rattle.book.specs.RunningNumbers.{IsUpToDate, with_entries};
+ghost use Rattle.book.specs.Model.{field_of, kept_of, order_of, move_of};
 ghost use Rattle.std.specs.BTreeMap.{insert_entry};
 ghost use Rattle.std.specs.Cmp.Lexicographic.{slice_cmp};
 ghost use Rattle.std.specs.Ordering.{nat_cmp, is_lt};
@@ -60,8 +60,8 @@ pub struct KeptEntry {
     pub words: KeptWords,
 }
 
-/// A good ledger: all fields, with their stock as it stands, moves, orders and kept keys of the desk. Contracts see it as its ledger and, beside
-/// that, the room that has been made for entries to come.
+/// A good ledger: all fields, with their stock as it stands, moves, orders and kept keys of the desk. Contracts see it
+/// as its ledger and, beside that, the room that has been made for entries to come.
 #[derive(Debug, Drop)]
 pub struct Book {
     clock: Moment,
@@ -74,8 +74,8 @@ pub struct Book {
 }
 
 impl Model for Book {
-    ghost use Rattle.book.specs.Running.{Stands};
-    ghost use Rattle.book.specs.View.{BookView, view_of};
+    ghost use Rattle.book.specs.RunningNumbers.{Stands};
+    ghost use Rattle.book.specs.Model.{BookView, view_of};
 
     ghost Value = { BookView };
 
@@ -104,7 +104,8 @@ impl Book {
     /// The field of that name.
     fn field_entry(&self, branch: Branch, article: Article) -> Option<&FieldEntry>
         ensures good { Good self.now.ledger }
-        ensures found { let found = field_named self.now.ledger (name_of branch article) in MatchOption result (found ≡ None) (λ entry. found ≡ Some (field_of (name_of branch article, entry.now))) }
+        ensures found { let found = field_named self.now.ledger (name_of branch article) in MatchOption result
+            (found ≡ None) (λ entry. found ≡ Some (field_of (name_of branch article, entry.now))) }
         ensures up_to_date { IfSome result (λ entry. IsUpToDate self.now.ledger (name_of branch article, entry.now)) }
     {
         self.fields.get(&FieldName { branch, article })
@@ -112,27 +113,30 @@ impl Book {
 
     /// The order of that number.
     fn order_entry(&self, number: OrderNo) -> Option<&OrderEntry>
-        ensures { let found = order_numbered self.now.ledger number in MatchOption result (found ≡ None) (λ entry. found ≡ Some (order_of (number, entry.now))) }
+        ensures { let found = order_numbered self.now.ledger number in MatchOption result (found ≡ None)
+            (λ entry. found ≡ Some (order_of (number, entry.now))) }
     {
         self.orders.get(&number)
     }
 
     /// What is kept under that key.
     fn kept_entry(&self, key: Key) -> Option<&KeptEntry>
-        ensures { let found = kept_under self.now.ledger key in MatchOption result (found ≡ None) (λ entry. found ≡ Some (kept_of (key, entry.now))) }
+        ensures { let found = kept_under self.now.ledger key in MatchOption result (found ≡ None)
+            (λ entry. found ≡ Some (kept_of (key, entry.now))) }
     {
         self.kept.get(&key)
     }
 }
 
 impl Book {
-    /// Makes room for the plan: for the fields that it changes, and an entry more of each other kind. Room made before stays, and the ledger is as it was,
-    /// also after a refusal. Memory is wanted only where there was no room for the plan.
+    /// Makes room for the plan: for the fields that it changes, and an entry more of each other kind. Room made before
+    /// stays, and the ledger is as it was, also after a refusal. Memory is wanted only where there was no room for the
+    /// plan.
     pub fn make_room(&mut self, plan: &Plan) -> Result<(), Memory>
         requires { Fits self.old.ledger plan.now }
         ensures ok { OnOk result (HasRoomFor self.new plan.now) }
         ensures same { self.new.ledger ≡ self.old.ledger }
-        ensures kept { KeepsRoom self.old self.new }
+        ensures room_stays { RoomStays self.old self.new }
         ensures memory { OnErr result (HasRoomFor self.old plan.now → ⊥) }
     {
         let Ok(()) = self.fields.reserve(plan.field_count()) else {
@@ -151,7 +155,8 @@ impl Book {
 fn insert_kept(kept: &mut InOrder<Key, KeptEntry>, key: Key, entry: KeptEntry)
     requires room { 1 ≤ kept.old.room }
     requires absent { find (λ k. bytes_eq k.key key) (map kept_of kept.old.entries) ≡ None }
-    ensures { map kept_of kept.new.entries ≡ insert_in_order (λ a b. is_lt (slice_cmp nat_cmp a.key b.key)) (kept_of (key, entry)) (map kept_of kept.old.entries) }
+    ensures { map kept_of kept.new.entries ≡ insert_in_order (λ a b. is_lt (slice_cmp nat_cmp a.key b.key))
+        (kept_of (key, entry)) (map kept_of kept.old.entries) }
 {
     kept.insert(key, entry);
 }
@@ -173,7 +178,8 @@ fn adopt_fields(
 /// Puts the move in, if there is one.
 fn adopt_move(moves: &mut Vec<MoveEntry>, moved: Option<MoveEntry>)
     requires { vec_len moves.old < vec_capacity moves.old }
-    ensures { (A : Ledger) (c : Command) → map move_of moves.old.items ≡ A.moves → option_map move_of moved ≡ move_made (places A + 1) c → map move_of moves.new.items ≡ (next A c).moves }
+    ensures { (A : Ledger) (c : Command) → map move_of moves.old.items ≡ A.moves
+        → option_map move_of moved ≡ move_made (places A + 1) c → map move_of moves.new.items ≡ (next A c).moves }
 {
     let Some(entry) = moved else {
         return;
@@ -196,7 +202,8 @@ fn put_order(orders: &mut InOrder<OrderNo, OrderEntry>, order: Order)
 /// Puts the order in that the command makes, or else aborts those that expire.
 fn adopt_orders(orders: &mut InOrder<OrderNo, OrderEntry>, made: Option<Order>, expired: &[OrderNo])
     requires room { 1 ≤ orders.old.room }
-    ensures { (A : Ledger) (c : Command) → Good A → Leaves A c (option_map order_of made) expired.now → map order_of orders.old.entries ≡ A.orders → map order_of orders.new.entries ≡ (next A c).orders }
+    ensures { (A : Ledger) (c : Command) → Good A → Leaves A c (option_map order_of made) expired.now
+        → map order_of orders.old.entries ≡ A.orders → map order_of orders.new.entries ≡ (next A c).orders }
 {
     match made {
         Some(order) => put_order(orders, order),
@@ -228,7 +235,8 @@ impl Book {
     /// How many orders are open once a command is carried out that makes this order, or else aborts these as expired.
     fn open_after(&self, made: &Option<Order>, expired: &[OrderNo]) -> usize
         requires { (c : Command) × Leaves self.now.ledger c (option_map order_of made.now) expired.now }
-        ensures { (c : Command) → Leaves self.now.ledger c (option_map order_of made.now) expired.now → result ≡ open_orders (next self.now.ledger c) }
+        ensures { (c : Command) → Leaves self.now.ledger c (option_map order_of made.now) expired.now
+            → result ≡ open_orders (next self.now.ledger c) }
     {
         match made {
             Some(order) => self.open_count + open_one(order.1.state) - self.open_before(order.0),
@@ -244,7 +252,9 @@ impl Book {
         ensures next { self.new.ledger ≡ accept self.old.ledger plan.request }
         ensures good { Good self.new.ledger }
         ensures honours { Honours self.new.ledger × HonoursAlways self.new.ledger }
-        ensures even { (n : ℕ) (article : List ℕ) → Settles plan.request.command n → IsSomeAnd (order_numbered self.old.ledger n) (λ o. IsTrue (is_transfer o)) → article_total self.new.ledger article ≡ article_total self.old.ledger article }
+        ensures even { (n : ℕ) (article : List ℕ) → Settles plan.request.command n
+            → IsSomeAnd (order_numbered self.old.ledger n) (λ o. IsTrue (is_transfer o))
+            → article_total self.new.ledger article ≡ article_total self.old.ledger article }
     {
         let parts = plan.into_parts();
         let (key, place, words) = (parts.key, parts.place, parts.words);

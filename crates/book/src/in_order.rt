@@ -30,7 +30,10 @@ impl<K: Ord, V> Model for InOrder<K, V> {
 
     ghost Value = { Entries K V };
 
-    ghost view = { λ m. record { entries = at_indexes m.entries.items m.order.items; room = room_left (vec_len m.entries) (vec_capacity m.entries) (vec_capacity m.order) } };
+    ghost view = { λ m. record {
+      entries = at_indexes m.entries.items m.order.items;
+      room = room_left (vec_len m.entries) (vec_capacity m.entries) (vec_capacity m.order);
+    } };
 
     ghost invariant = { λ m. IsKeyOrder K.cmp m.entries.items m.order.items };
 }
@@ -138,7 +141,7 @@ impl<K: Ord, V> InOrder<K, V> {
     pub fn reserve(&mut self, additional: usize) -> Result<(), AllocError>
         ensures ok { OnOk result (additional ≤ self.new.room) }
         ensures same { self.new.entries ≡ self.old.entries }
-        ensures kept { self.old.room ≤ self.new.room }
+        ensures room_stays { self.old.room ≤ self.new.room }
         ensures full { OnErr result (self.old.room < additional) }
     {
         if MAX_LEN.saturating_sub(self.entries.len()) < additional {

@@ -27,24 +27,32 @@ ghost use Rattle.words.specs.declared.reply.Reply.{Reply};
 /// place, and any other leaves the ledger as it was.
 pub fn exactly_one_answer()
     ensures some { (A : Ledger) (r : Request) → Good A → (reply : Reply) × (B : Ledger) × Answers A r reply B }
-    ensures one { (A : Ledger) (r : Request) (p q : Reply) (B C : Ledger) → Answers A r p B → Answers A r q C → (p ≡ q) × (B ≡ C) }
-    ensures accepted { (A : Ledger) (r : Request) (reply : Reply) (B : Ledger) → IsAccepted A r → Answers A r reply B → (reply ≡ Done (places A + 1)) × (B ≡ accept A r) }
-    ensures others { (A : Ledger) (r : Request) (reply : Reply) (B : Ledger) → (IsAccepted A r → ⊥) → Answers A r reply B → B ≡ A }
+    ensures one { (A : Ledger) (r : Request) (p q : Reply) (B C : Ledger) → Answers A r p B → Answers A r q C → (p ≡ q)
+        × (B ≡ C) }
+    ensures accepted { (A : Ledger) (r : Request) (reply : Reply) (B : Ledger) → IsAccepted A r → Answers A r reply B
+        → (reply ≡ Done (places A + 1)) × (B ≡ accept A r) }
+    ensures others { (A : Ledger) (r : Request) (reply : Reply) (B : Ledger) → (IsAccepted A r → ⊥)
+        → Answers A r reply B → B ≡ A }
 {}
 
 /// What a good ledger answers to a request in range leaves a good ledger.
 pub fn answers_stay_good()
-    ensures { (A : Ledger) (r : Request) (reply : Reply) (B : Ledger) → Good A → IsKey r.key → IsInRange r.command → Answers A r reply B → Good B }
+    ensures { (A : Ledger) (r : Request) (reply : Reply) (B : Ledger) → Good A → IsKey r.key → IsInRange r.command
+        → Answers A r reply B → Good B }
 {}
 
 /// A run of requests in range from a good ledger has a course, and ends at a good ledger; no run has two
 /// courses. So after each number of its requests there is exactly one ledger.
 pub fn runs_stay_good()
-    ensures some { (A : Ledger) (rs : List Request) → Good A → Each (λ r. IsKey r.key × IsInRange r.command) rs → (replies : List Reply) × (B : Ledger) × Runs A rs replies B }
-    ensures one { (A : Ledger) (rs : List Request) (ps qs : List Reply) (B C : Ledger) → Runs A rs ps B → Runs A rs qs C → (ps ≡ qs) × (B ≡ C) }
-    ensures reached { (A : Ledger) (rs : List Request) (i : ℕ) → Good A → Each (λ r. IsKey r.key × IsInRange r.command) rs → (B : Ledger) × After A rs i B }
+    ensures some { (A : Ledger) (rs : List Request) → Good A → Each (λ r. IsKey r.key × IsInRange r.command) rs
+        → (replies : List Reply) × (B : Ledger) × Runs A rs replies B }
+    ensures one { (A : Ledger) (rs : List Request) (ps qs : List Reply) (B C : Ledger) → Runs A rs ps B → Runs A rs qs C
+        → (ps ≡ qs) × (B ≡ C) }
+    ensures reached { (A : Ledger) (rs : List Request) (i : ℕ) → Good A
+        → Each (λ r. IsKey r.key × IsInRange r.command) rs → (B : Ledger) × After A rs i B }
     ensures after { (A : Ledger) (rs : List Request) (i : ℕ) (B C : Ledger) → After A rs i B → After A rs i C → B ≡ C }
-    ensures good { (A : Ledger) (rs : List Request) (replies : List Reply) (B : Ledger) → Good A → Each (λ r. IsKey r.key × IsInRange r.command) rs → Runs A rs replies B → Good B }
+    ensures good { (A : Ledger) (rs : List Request) (replies : List Reply) (B : Ledger) → Good A
+        → Each (λ r. IsKey r.key × IsInRange r.command) rs → Runs A rs replies B → Good B }
 {}
 
 /// The infimum is the settled value less all that open orders hold to take, and the supremum the settled value
@@ -58,13 +66,20 @@ pub fn bounds_are_held()
 /// the supremum of the ledger as it is: for a delivery, a write-off, an amount more on an order that may hold it,
 /// and a line of an `open` or a `transfer`, where it and those before it are each on a field of its own.
 pub fn tests_are_comparisons()
-    ensures deliver { (A : Ledger) (f : Name) (q : ℕ) → Good A → RisesAbove (next A (Deliver f.branch f.article q)) f ↔ BreaksBound Add A f q }
-    ensures writeoff { (A : Ledger) (f : Name) (q : ℕ) → Good A → FallsBelow (next A (Writeoff f.branch f.article q)) f ↔ BreaksBound Take A f q }
-    ensures more { (A : Ledger) (n : ℕ) (l : OpenLine) (i : ℕ) → Good A → IsSomeAnd (order_numbered A n) (MayHoldMore (line_name (new_line l)) l.way)
-        → (bound l.way (next A (More n l.way l.branch l.article l.qty)) (line_name (new_line l)) i).fails ↔ BreaksBound l.way A (line_name (new_line l)) l.qty }
-    ensures line { (A : Ledger) (n : ℕ) (kind : Kind) (until : ℕ) (before : List OpenLine) (l : OpenLine) (i : ℕ) → Good A
-        → IsDistinct same_name (map line_name (new_order n kind until before).lines) → IsNone (line_on (new_order n kind until before) (line_name (new_line l)))
-        → (bound l.way (with_order (new_order n kind until (before ++ l ∷ [])) A) (line_name (new_line l)) i).fails ↔ BreaksBound l.way A (line_name (new_line l)) l.qty }
+    ensures deliver { (A : Ledger) (f : Name) (q : ℕ) → Good A → RisesAbove (next A (Deliver f.branch f.article q)) f
+        ↔ BreaksBound Add A f q }
+    ensures writeoff { (A : Ledger) (f : Name) (q : ℕ) → Good A → FallsBelow (next A (Writeoff f.branch f.article q)) f
+        ↔ BreaksBound Take A f q }
+    ensures more { (A : Ledger) (n : ℕ) (l : OpenLine) (i : ℕ) → Good A
+        → IsSomeAnd (order_numbered A n) (MayHoldMore (line_name (new_line l)) l.way)
+        → (bound l.way (next A (More n l.way l.branch l.article l.qty)) (line_name (new_line l)) i).fails
+        ↔ BreaksBound l.way A (line_name (new_line l)) l.qty }
+    ensures line { (A : Ledger) (n : ℕ) (kind : Kind) (until : ℕ) (before : List OpenLine) (l : OpenLine) (i : ℕ)
+        → Good A
+        → IsDistinct same_name (map line_name (new_order n kind until before).lines)
+        → IsNone (line_on (new_order n kind until before) (line_name (new_line l)))
+        → (bound l.way (with_order (new_order n kind until (before ++ l ∷ [])) A) (line_name (new_line l)) i).fails
+        ↔ BreaksBound l.way A (line_name (new_line l)) l.qty }
 {}
 
 /// Whatever uses, releases, commits, aborts, `firm` and expiries come to a good ledger, every field stays within its
@@ -76,13 +91,17 @@ pub fn good_ledgers_honour()
 
 /// The commit of a transfer, a `firm` on it and a use leave the total of every article as it was.
 pub fn transfers_even_out()
-    ensures { (A : Ledger) (r : Request) (n : ℕ) (reply : Reply) (B : Ledger) (article : List ℕ) → Good A → Settles r.command n → Answers A r reply B
-        → IsSomeAnd (order_numbered A n) (λ o. IsTrue (is_transfer o)) → article_total B article ≡ article_total A article }
+    ensures { (A : Ledger) (r : Request) (n : ℕ) (reply : Reply) (B : Ledger) (article : List ℕ) → Good A
+        → Settles r.command n → Answers A r reply B
+        → IsSomeAnd (order_numbered A n) (λ o. IsTrue (is_transfer o))
+        → article_total B article ≡ article_total A article }
 {}
 
 /// An order that is firm is firm after any run, and is not aborted: it leaves the open ones by its commit alone.
 pub fn firm_orders_stay()
-    ensures { (A : Ledger) (rs : List Request) (replies : List Reply) (B : Ledger) (n : ℕ) → Good A → Runs A rs replies B → IsSomeAnd (order_numbered A n) (λ o. IsTrue o.firm) → IsSomeAnd (order_numbered B n) StaysFirm }
+    ensures { (A : Ledger) (rs : List Request) (replies : List Reply) (B : Ledger) (n : ℕ) → Good A
+        → Runs A rs replies B → IsSomeAnd (order_numbered A n) (λ o. IsTrue o.firm)
+        → IsSomeAnd (order_numbered B n) StaysFirm }
 {}
 
 /// Commands in range are the same exactly where their spellings are.
@@ -104,7 +123,8 @@ pub fn rows_are_one()
 
 /// The rows that an accepted request changes, put into the rows of a good ledger, give those of the next one.
 pub fn changes_suffice()
-    ensures { (A : Ledger) (r : Request) (C D : Content) → Good A → IsKey r.key → IsInRange r.command → IsAccepted A r → IsRowsOf A C → IsRowsOf (accept A r) D → put_content (changed_rows A r D) C ≡ D }
+    ensures { (A : Ledger) (r : Request) (C D : Content) → Good A → IsKey r.key → IsInRange r.command → IsAccepted A r
+        → IsRowsOf A C → IsRowsOf (accept A r) D → put_content (changed_rows A r D) C ≡ D }
 {}
 
 /// The worked examples of the desk's rules are theorems over the definitions: each request of a script is answered

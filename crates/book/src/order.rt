@@ -2,7 +2,7 @@
 
 ghost use Rattle.std.specs.Prelude.{◌≡◌, MatchOption, find};
 ghost use Rattle.book.specs.Ledger.{name_of, on};
-ghost use Rattle.book.specs.Running.{share_of};
+ghost use Rattle.book.specs.RunningNumbers.{share_of};
 
 use escrow::{Article, Branch, Level, Moment, OrderNo, Way};
 
@@ -94,7 +94,8 @@ pub type Order = (OrderNo, OrderEntry);
 
 /// The first line on that field.
 pub(crate) fn line_in(lines: &[Line], branch: Branch, article: Article) -> Option<&Line>
-    ensures { let found = find (on (name_of branch article)) lines.now in MatchOption result (found ≡ None) (λ line. found ≡ Some line.now) }
+    ensures { let found = find (on (name_of branch article)) lines.now in MatchOption result (found ≡ None)
+        (λ line. found ≡ Some line.now) }
 {
     for line in lines {
         if is_on(line, branch, article) {

@@ -1,10 +1,10 @@
-pub mod Kept
+pub mod NextRows
 pub mod RunsOn
 pub mod OrderWords
 pub mod Texts
 pub mod SomeText
 pub mod OneText
 pub mod Cuts
-pub mod Standing
-pub mod Repeated
-pub mod Resumed
+pub mod ScriptSteps
+pub mod Repeats
+pub mod Resumption

@@ -1,7 +1,7 @@
 -- The lines of orders, a line at a time.
 use Rattle.std.proofs.Common.{◌≡◌, ◌∙◌, ℕ, ◌+◌, ◌<◌, List, [], ◌∷◌, ◌++◌, ap, append_assoc, get_or, length, refl, sym, take}
 use Rattle.std.proofs.lemmas.List.{take_more}
-use Rattle.words.proofs.Written.{after_space-append}
+use Rattle.words.proofs.WordRows.{after_space-append}
 use Rattle.words.specs.Words.{after_space}
 use Rattle.book.specs.declared.order.Line.{Line}
 use Rattle.desk.specs.Replies.{held_words}

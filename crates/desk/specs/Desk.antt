@@ -3,6 +3,7 @@ use Rattle.std.specs.Prelude.{◌≡◌, ◌⊎◌, Bool, false, List, [], ◌�
 use Rattle.book.specs.Good.{Good}
 use Rattle.book.specs.Ledger.{Ledger}
 use Rattle.book.specs.Rows.{Content, IsRowsOf}
+use Rattle.keep.specs.declared.keep.Keep.{Ghosts}
 use Rattle.desk.specs.declared.fault.OpenFault.{OpenFault}
 use Rattle.desk.specs.declared.fault.OpenFault.TheVariants.{Memory, OldVersion, Store}
 
@@ -12,16 +13,22 @@ pub record DeskView (K : Type 0) : Type 0 where
   pub keep : K
 
 -- the rows of the ledger are held, and a stop leaves these alone
-pub record Keeps (holds : Content → Type 0) (leaves : List Content → Type 0) (A : Ledger) : Type 0 where
+pub record IsStored (holds : Content → Type 0) (leaves : List Content → Type 0) (A : Ledger) : Type 0 where
   pub rows : Content
   pub are_rows : IsRowsOf A rows
   pub held : holds rows
   pub alone : leaves (rows ∷ [])
 
+-- the rows of its ledger are stored, while the keeper is not stopped and the disk is honest
+abbrev pub StaysStored : {K : Type 0} → Ghosts K → DeskView K → Type 0
+StaysStored g desk = g.stopped desk.keep ≡ false → g.is_honest desk.keep
+    → IsStored (g.holds desk.keep) (g.leaves desk.keep) desk.ledger
+
 -- The ledger is good. While the keeper is not stopped, and the disk is honest, it holds the ledger's rows.
-pub record IsInOrder (stopped : Bool) (is_honest : Type 0) (holds : Content → Type 0) (leaves : List Content → Type 0) (A : Ledger) : Type 0 where
+pub record IsInOrder (stopped : Bool) (is_honest : Type 0) (holds : Content → Type 0) (leaves : List Content → Type 0)
+    (A : Ledger) : Type 0 where
   pub good : Good A
-  pub keeps : stopped ≡ false → is_honest → Keeps holds leaves A
+  pub stored : stopped ≡ false → is_honest → IsStored holds leaves A
 
 -- a stop leaves the rows of the one ledger or those of the other
 pub record LeavesEither (leaves : List Content → Type 0) (A B : Ledger) : Type 0 where

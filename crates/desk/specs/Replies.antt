@@ -63,7 +63,8 @@ held_words (l ∷ ls) = way_word l.way ∷ l.branch ∷ l.article ∷ decimal l.
 -- the line of an order of which this is shown
 abbrev pub shown_line : ℕ → Kind → ℕ → Standing → List Line → List ℕ
 shown_line number kind until state lines = codes "? order"
-    ++ (after_space (decimal number ∷ kind_word kind ∷ decimal until ∷ state_word state ∷ held_words lines) ++ codes "\n")
+    ++ (after_space (decimal number ∷ kind_word kind ∷ decimal until ∷ state_word state ∷ held_words lines)
+    ++ codes "\n")
 
 abbrev pub order_line : Order → List ℕ
 order_line o = shown_line o.number o.kind o.until (shown_state o.state o.firm) o.lines

@@ -7,13 +7,13 @@ use Rattle.book.specs.Ledger.{Ledger}
 use Rattle.book.specs.Rows.{Content}
 use Rattle.desk.specs.Desk.{LeavesEither}
 
--- B is the ledger after the requests before number k, counted from 1, or after that one too, if there is one: its reply is
--- not known, and it may be done or not.
+-- B is the ledger after the requests before number k, counted from 1, or after that one too, if there is one: its reply
+-- is not known, and it may be done or not.
 abbrev pub StandsAt : Ledger → List Request → ℕ → Ledger → Type 0
 StandsAt A requests k B = After A requests (k - 1) B ⊎ ((k ≤ length requests) × After A requests k B)
 
--- The replies are those from number k on, as many as there are, of the run of the requests from A; B is where the next is to
--- be resumed.
+-- The replies are those from number k on, as many as there are, of the run of the requests from A; B is where the next
+-- is to be resumed.
 pub record Resumes (A : Ledger) (requests : List Request) (k : ℕ) (replies : List Reply) (B : Ledger) : Type 0 where
   pub before : List Reply
   pub last : Ledger
@@ -22,7 +22,8 @@ pub record Resumes (A : Ledger) (requests : List Request) (k : ℕ) (replies : L
   pub stands : StandsAt A requests (k + length replies) B
 
 -- a stop leaves the rows of ledgers alone at which number k may be resumed
-pub record LeavesResumable (leaves : List Content → Type 0) (A : Ledger) (requests : List Request) (k : ℕ) : Type 0 where
+pub record LeavesResumable (leaves : List Content → Type 0) (A : Ledger) (requests : List Request)
+    (k : ℕ) : Type 0 where
   pub first : Ledger
   pub second : Ledger
   pub first_stands : StandsAt A requests k first
@@ -32,4 +33,5 @@ pub record LeavesResumable (leaves : List Content → Type 0) (A : Ledger) (requ
 -- resumed again and again, each time at the number behind the last reply, and what was answered each time
 abbrev pub ResumesAgain : Ledger → List Request → ℕ → List (List Reply) → Ledger → Type 0
 ResumesAgain A requests k [] B = StandsAt A requests k B
-ResumesAgain A requests k (replies ∷ more) B = (M : Ledger) × Resumes A requests k replies M × ResumesAgain A requests (k + length replies) more B
+ResumesAgain A requests k (replies ∷ more) B =
+    (M : Ledger) × Resumes A requests k replies M × ResumesAgain A requests (k + length replies) more B

@@ -24,7 +24,8 @@ MayAnswer went_on item.Bad = Unit {0}
 -- what was read has a request only where the desk went on
 abbrev pub MayRead : Type 0 → Option (List ℕ) → Option (List ℕ) → Type 0
 MayRead went_on reader_old reader_new =
-    (read : List ℕ) × (items : List Item) × Consumes reader_old reader_new read × AreItems read items × Each (MayAnswer went_on) items
+    (read : List ℕ) × (items : List Item) × Consumes reader_old reader_new read × AreItems read items
+    × Each (MayAnswer went_on) items
 
 -- all that was there was read, and its text was written
 pub record EndsWhole (old new : Ledger) (reader_old reader_new writer_old writer_new : Option (List ℕ)) : Type 0 where
@@ -64,10 +65,12 @@ pub record StopsAt (leaves : List Content → Type 0) (ledger : Ledger) (items :
   pub accepted : IsAccepted ledger request
   pub either : LeavesEither leaves ledger (accept ledger request)
 
--- How far the answers to items have come at a fault. But for a failing write all that is answered is told: the lines of it are
--- written whole. A desk that was stopped before has answered no request, and a stopped desk ends them at a request alone. Where
--- the fault stopped a desk that went on before, over an honest disk, it is known what a stop leaves.
-pub record IsCut (fault : ScriptFault) (went_on is_honest : Type 0) (leaves : List Content → Type 0) (old : Ledger) (items : List Item) (written : List ℕ) (new : Ledger) : Type 0 where
+-- How far the answers to items have come at a fault. But for a failing write all that is answered is told: the lines of
+-- it are written whole. A desk that was stopped before has answered no request, and a stopped desk ends them at a
+-- request alone. Where the fault stopped a desk that went on before, over an honest disk, it is known what a stop
+-- leaves.
+pub record IsCut (fault : ScriptFault) (went_on is_honest : Type 0) (leaves : List Content → Type 0) (old : Ledger)
+    (items : List Item) (written : List ℕ) (new : Ledger) : Type 0 where
   pub answered : List Item
   pub left : List Item
   pub split : items ≡ answered ++ left
@@ -79,12 +82,15 @@ pub record IsCut (fault : ScriptFault) (went_on is_honest : Type 0) (leaves : Li
 
 -- the items are answered, and their lines written
 abbrev pub AnswersAll : Ledger → List Item → Ledger → (writer_old writer_new : Option (List ℕ)) → Type 0
-AnswersAll old items new writer_old writer_new = (lines : List ℕ) × RepliesAll old items lines new × Appends writer_old writer_new lines
+AnswersAll old items new writer_old writer_new =
+    (lines : List ℕ) × RepliesAll old items lines new × Appends writer_old writer_new lines
 
 -- the answers to the items are cut, and what was written is the lines of the first of them
-abbrev pub AnswersCut : ScriptFault → (went_on is_honest : Type 0) → (List Content → Type 0) → Ledger → List Item → Ledger → (writer_old writer_new : Option (List ℕ)) → Type 0
+abbrev pub AnswersCut : ScriptFault → (went_on is_honest : Type 0) → (List Content → Type 0) → Ledger → List Item
+    → Ledger → (writer_old writer_new : Option (List ℕ)) → Type 0
 AnswersCut fault went_on is_honest leaves old items new writer_old writer_new =
-    (written : List ℕ) × Appends writer_old writer_new written × IsCut fault went_on is_honest leaves old items written new
+    (written : List ℕ) × Appends writer_old writer_new written
+    × IsCut fault went_on is_honest leaves old items written new
 
 -- how many bytes a piece of the input has, at the most
 abbrev pub longest_piece : ℕ
@@ -105,9 +111,10 @@ pub record IsPrompt (old : Ledger) (read written : List ℕ) : Type 0 where
   pub feeds : Feeds (Some []) before ended rest
   pub replies : RepliesAll old ended out ledger
 
--- Some of the input was read, and of its items the first are answered. What is written is a beginning of the text for what
--- was read; where a read failed, it is the answer to every line that ended in that.
-pub record EndsCut (fault : ScriptFault) (went_on is_honest : Type 0) (leaves : List Content → Type 0) (old new : Ledger) (reader_old reader_new writer_old writer_new : Option (List ℕ)) : Type 0 where
+-- Some of the input was read, and of its items the first are answered. What is written is a beginning of the text for
+-- what was read; where a read failed, it is the answer to every line that ended in that.
+pub record EndsCut (fault : ScriptFault) (went_on is_honest : Type 0) (leaves : List Content → Type 0)
+    (old new : Ledger) (reader_old reader_new writer_old writer_new : Option (List ℕ)) : Type 0 where
   pub read : List ℕ
   pub written : List ℕ
   pub ended : List Item

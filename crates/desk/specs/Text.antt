@@ -19,7 +19,8 @@ Replies old Bad line new = (line ≡ bad_line) × (new ≡ old)
 abbrev pub RepliesAll : Ledger → List Item → List ℕ → Ledger → Type 0
 RepliesAll old [] out new = (out ≡ []) × (new ≡ old)
 RepliesAll old (item ∷ items) out new =
-    (line : List ℕ) × (mid : Ledger) × (rest : List ℕ) × Replies old item line mid × RepliesAll mid items rest new × (out ≡ line ++ rest)
+    (line : List ℕ) × (mid : Ledger) × (rest : List ℕ) × Replies old item line mid × RepliesAll mid items rest new
+    × (out ≡ line ++ rest)
 
 -- what stands behind the last newline is a bad line more, if it is anything
 abbrev pub unended : Option (List ℕ) → List Item

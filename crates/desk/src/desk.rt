@@ -8,12 +8,12 @@ ghost use Rattle.book.specs.Future.{Honours, HonoursAlways};
 ghost use Rattle.book.specs.Good.{Good};
 ghost use Rattle.book.specs.Ledger.{Ledger, field_named, kept_under, name_of, order_numbered};
 ghost use Rattle.book.specs.Next.{accept};
-ghost use Rattle.book.specs.Planned.{Plans};
+ghost use Rattle.book.specs.PlanAnswers.{Plans};
 ghost use Rattle.book.specs.Plans.{Fits};
 ghost use Rattle.book.specs.Rows.{Content, IsDamaged, IsRowsOf};
 ghost use Rattle.book.specs.Views.{ShowsField, ShowsOrder};
 ghost use Rattle.keep.specs.Content.{IsDesk};
-ghost use Rattle.desk.specs.Desk.{IsRefusedAsOld, Keeps, LeavesEither, OpensAt, keeper_after};
+ghost use Rattle.desk.specs.Desk.{IsRefusedAsOld, IsStored, LeavesEither, OpensAt, StaysStored, keeper_after};
 
 use crate::fault::{CallFault, OpenFault, load_fault};
 use book::{Book, FieldView, OrderView, Plan, Planned, TablesFault};
@@ -38,35 +38,45 @@ impl<K: Keep> Model for Desk<K> {
 
     ghost view = { λ d. record { ledger = d.book.ledger; keep = d.keep } };
 
-    ghost invariant = { λ d. IsInOrder (K.stopped d.keep) (K.is_honest d.keep) (K.holds d.keep) (K.leaves d.keep) d.book.ledger };
+    ghost invariant = { λ d. IsInOrder (K.stopped d.keep) (K.is_honest d.keep) (K.holds d.keep)
+        (K.leaves d.keep) d.book.ledger };
 }
 
 impl<K: Keep> Desk<K> {
     /// Opens the desk whose rows the keeper holds. An error gives the keeper back.
     ///
     /// `NotADesk` only where the keeper does not hold the seven tables with one row of `desk` of version 2, `OldVersion` only
-    /// where what it holds is of version 1, and there nothing else but `Memory` and `Store`; `Damaged` only where the rows are
-    /// those of no good ledger; `Store` where the store fails or the keeper is stopped, `Memory` where
-    /// memory is refused.
+    /// where what it holds is of version 1, and there nothing else but `Memory` and `Store`; `Damaged` only where the
+    /// rows are those of no good ledger; `Store` where the store fails or the keeper is stopped, `Memory` where memory
+    /// is refused.
     pub fn open(alloc: Global, keep: K) -> Result<Desk<K>, (OpenFault, K)>
         ensures refused { IsTrue (K.stopped keep) → result ≡ Err (OpenFault.Store, keep) }
         ensures going { IfOk result (λ desk. K.stopped desk.keep ≡ false) }
         ensures good { IfOk result (λ desk. Good desk.ledger × Honours desk.ledger × HonoursAlways desk.ledger) }
         ensures honest { K.is_honest (keeper_after result) → K.is_honest keep }
-        ensures keeps { IfOk result (λ desk. K.is_honest desk.keep → Keeps (K.holds keep) (K.leaves desk.keep) desk.ledger) }
-        ensures rows { IfOk result (λ desk. K.is_honest desk.keep → (x : Content) → K.holds keep x → IsRowsOf desk.ledger x) }
-        ensures nothing_else { K.is_honest (keeper_after result) → (A : Ledger) (x : Content) → Good A → IsRowsOf A x → K.holds keep x → OpensAt A result }
-        ensures damaged { IfErr result (λ e. e.0 ≡ OpenFault.Damaged → K.is_honest e.1 → (x : Content) → K.holds keep x → IsDamaged x) }
+        ensures stored { IfOk result (λ desk. K.is_honest desk.keep → IsStored (K.holds keep)
+            (K.leaves desk.keep) desk.ledger) }
+        ensures rows { IfOk result (λ desk. K.is_honest desk.keep → (x : Content) → K.holds keep x
+            → IsRowsOf desk.ledger x) }
+        ensures nothing_else { K.is_honest (keeper_after result) → (A : Ledger) (x : Content) → Good A → IsRowsOf A x
+            → K.holds keep x → OpensAt A result }
+        ensures damaged { IfErr result (λ e. e.0 ≡ OpenFault.Damaged → K.is_honest e.1 → (x : Content) → K.holds keep x
+            → IsDamaged x) }
         ensures loaded { IfErr result (λ e. e.0 ≡ OpenFault.Damaged → K.stopped e.1 ≡ false) }
-        ensures not_a_desk { IfErr result (λ e. e.0 ≡ OpenFault.NotADesk → K.is_honest e.1 → (x : Content) → K.has_tables keep x → ¬ IsDesk x) }
+        ensures not_a_desk { IfErr result (λ e. e.0 ≡ OpenFault.NotADesk → K.is_honest e.1 → (x : Content)
+            → K.has_tables keep x → ¬ IsDesk x) }
         ensures old_version { IfErr result (λ e. e.0 ≡ OpenFault.OldVersion → K.is_honest e.1 → K.is_old keep) }
-        ensures only_old { K.is_honest (keeper_after result) → K.stopped keep ≡ false → K.is_old keep → IsRefusedAsOld result }
-        ensures stopped { IfErr result (λ e. (e.0 ≡ OpenFault.Store) ⊎ ((e.0 ≡ OpenFault.NotADesk) ⊎ (e.0 ≡ OpenFault.OldVersion)) → IsTrue (K.stopped e.1)) }
+        ensures only_old { K.is_honest (keeper_after result) → K.stopped keep ≡ false → K.is_old keep
+            → IsRefusedAsOld result }
+        ensures stopped { IfErr result (λ e. (e.0 ≡ OpenFault.Store) ⊎ ((e.0 ≡ OpenFault.NotADesk)
+            ⊎ (e.0 ≡ OpenFault.OldVersion)) → IsTrue (K.stopped e.1)) }
         ensures same { K.is_honest (keeper_after result) → K.stopped (keeper_after result) ≡ false → (x : Content)
             → (K.holds keep x → K.holds (keeper_after result) x) × (K.holds (keeper_after result) x → K.holds keep x) }
         // nothing is added to what a stop may leave
-        ensures adds_nothing { K.is_honest (keeper_after result) → (these : List Content) → K.leaves keep these → K.leaves (keeper_after result) these }
-        ensures no_more { K.is_honest (keeper_after result) → (x : Content) → K.may_leave (keeper_after result) x → K.may_leave keep x }
+        ensures adds_nothing { K.is_honest (keeper_after result) → (these : List Content) → K.leaves keep these
+            → K.leaves (keeper_after result) these }
+        ensures no_more { K.is_honest (keeper_after result) → (x : Content) → K.may_leave (keeper_after result) x
+            → K.may_leave keep x }
     {
         let mut keep = keep;
         let tables = match keep.load(alloc) {
@@ -84,20 +94,24 @@ impl<K: Keep> Desk<K> {
     /// nothing.
     ///
     /// `Memory` where memory is refused, and nothing has changed then; it is wanted only for a repeated key and for a
-    /// request that is accepted. `Stopped` where the keeper is stopped, by a fault in this call or earlier: the ledger is
-    /// as it was, and every later call answers `Stopped`. Where it is this call that stopped it, a stop leaves the ledger's
-    /// rows or those after the request.
+    /// request that is accepted. `Stopped` where the keeper is stopped, by a fault in this call or earlier: the ledger
+    /// is as it was, and every later call answers `Stopped`. Where it is this call that stopped it, a stop leaves the
+    /// ledger's rows or those after the request.
     pub fn call(&mut self, alloc: Global, request: &Request) -> Result<Reply, CallFault>
         ensures refused { IsTrue (K.stopped self.old.keep) → (result ≡ Err CallFault.Stopped) × (self.new ≡ self.old) }
         ensures answer { IfOk result (λ reply. Answers self.old.ledger request.now reply self.new.ledger) }
         ensures going { IfOk result (λ reply. K.stopped self.new.keep ≡ false) }
-        ensures keeps { K.stopped self.new.keep ≡ false → K.is_honest self.new.keep → Keeps (K.holds self.new.keep) (K.leaves self.new.keep) self.new.ledger }
+        ensures stored { StaysStored K.Keep self.new }
         ensures others { (IsAccepted self.old.ledger request.now → ⊥) → self.new ≡ self.old }
         ensures memory { result ≡ Err CallFault.Memory → self.new ≡ self.old }
-        ensures wanted { result ≡ Err CallFault.Memory → IsSome (kept_under self.old.ledger request.now.key) ⊎ IsAccepted self.old.ledger request.now }
-        ensures stopped { result ≡ Err CallFault.Stopped → IsTrue (K.stopped self.new.keep) × (self.new.ledger ≡ self.old.ledger) }
-        ensures accepted { result ≡ Err CallFault.Stopped → K.stopped self.old.keep ≡ false → IsAccepted self.old.ledger request.now }
-        ensures either { result ≡ Err CallFault.Stopped → K.stopped self.old.keep ≡ false → K.is_honest self.new.keep → LeavesEither (K.leaves self.new.keep) self.old.ledger (accept self.old.ledger request.now) }
+        ensures wanted { result ≡ Err CallFault.Memory → IsSome (kept_under self.old.ledger request.now.key)
+            ⊎ IsAccepted self.old.ledger request.now }
+        ensures stopped { result ≡ Err CallFault.Stopped → IsTrue (K.stopped self.new.keep)
+            × (self.new.ledger ≡ self.old.ledger) }
+        ensures accepted { result ≡ Err CallFault.Stopped → K.stopped self.old.keep ≡ false
+            → IsAccepted self.old.ledger request.now }
+        ensures either { result ≡ Err CallFault.Stopped → K.stopped self.old.keep ≡ false → K.is_honest self.new.keep
+            → LeavesEither (K.leaves self.new.keep) self.old.ledger (accept self.old.ledger request.now) }
         ensures honest { K.is_honest self.new.keep → K.is_honest self.old.keep }
     {
         self.in_order();
@@ -109,14 +123,15 @@ impl<K: Keep> Desk<K> {
         }
     }
 
-    /// What is to be answered to a request, of which nothing is done yet: so what tells of it can be made before it is carried
-    /// out. `Memory` and `Stopped` as by `call`; nothing has changed by either.
+    /// What is to be answered to a request, of which nothing is done yet: so what tells of it can be made before it is
+    /// carried out. `Memory` and `Stopped` as by `call`; nothing has changed by either.
     pub fn plan(&self, alloc: Global, request: &Request) -> Result<Planned, CallFault>
         ensures going { IfOk result (λ _. K.stopped self.now.keep ≡ false) }
         ensures planned { IfOk result (λ planned. Plans self.now.ledger request.now planned) }
         ensures key { IsKey request.now.key }
         ensures command { IsInRange request.now.command }
-        ensures wanted { result ≡ Err CallFault.Memory → (K.stopped self.now.keep ≡ false) × (IsSome (kept_under self.now.ledger request.now.key) ⊎ IsAccepted self.now.ledger request.now) }
+        ensures wanted { result ≡ Err CallFault.Memory → (K.stopped self.now.keep ≡ false)
+            × (IsSome (kept_under self.now.ledger request.now.key) ⊎ IsAccepted self.now.ledger request.now) }
         ensures stopped { result ≡ Err CallFault.Stopped → IsTrue (K.stopped self.now.keep) }
         ensures refused { IsTrue (K.stopped self.now.keep) → result ≡ Err CallFault.Stopped }
     {
@@ -129,9 +144,9 @@ impl<K: Keep> Desk<K> {
             .map_err(|_| CallFault::Memory)
     }
 
-    /// Carries out the plan of an accepted request, after its rows are kept: it is done at the plan's place. The plan is one that
-    /// `plan` made at the desk's ledger, and the desk is not stopped. After `Memory` and `Stopped` the ledger is as it was; after
-    /// `Stopped` a stop leaves its rows or those after the request.
+    /// Carries out the plan of an accepted request, after its rows are kept: it is done at the plan's place. The plan
+    /// is one that `plan` made at the desk's ledger, and the desk is not stopped. After `Memory` and `Stopped` the
+    /// ledger is as it was; after `Stopped` a stop leaves its rows or those after the request.
     pub fn carry_out(&mut self, plan: Plan) -> Result<Reply, CallFault>
         requires going { K.stopped self.old.keep ≡ false }
         requires fits { Fits self.old.ledger plan }
@@ -140,11 +155,14 @@ impl<K: Keep> Desk<K> {
         ensures done { IfOk result (λ reply. reply ≡ Reply.Done plan.place) }
         ensures answer { IfOk result (λ reply. Answers self.old.ledger plan.request reply self.new.ledger) }
         ensures going { IfOk result (λ reply. K.stopped self.new.keep ≡ false) }
-        ensures kept { IfOk result (λ reply. K.is_honest self.new.keep → Keeps (K.holds self.new.keep) (K.leaves self.new.keep) self.new.ledger) }
-        ensures keeps { K.stopped self.new.keep ≡ false → K.is_honest self.new.keep → Keeps (K.holds self.new.keep) (K.leaves self.new.keep) self.new.ledger }
+        ensures lasting { IfOk result (λ reply. K.is_honest self.new.keep
+            → IsStored (K.holds self.new.keep) (K.leaves self.new.keep) self.new.ledger) }
+        ensures stored { StaysStored K.Keep self.new }
         ensures memory { result ≡ Err CallFault.Memory → self.new ≡ self.old }
-        ensures stopped { result ≡ Err CallFault.Stopped → IsTrue (K.stopped self.new.keep) × (self.new.ledger ≡ self.old.ledger) }
-        ensures either { result ≡ Err CallFault.Stopped → K.is_honest self.new.keep → LeavesEither (K.leaves self.new.keep) self.old.ledger (accept self.old.ledger plan.request) }
+        ensures stopped { result ≡ Err CallFault.Stopped → IsTrue (K.stopped self.new.keep)
+            × (self.new.ledger ≡ self.old.ledger) }
+        ensures either { result ≡ Err CallFault.Stopped → K.is_honest self.new.keep
+            → LeavesEither (K.leaves self.new.keep) self.old.ledger (accept self.old.ledger plan.request) }
         ensures honest { K.is_honest self.new.keep → K.is_honest self.old.keep }
     {
         let place = plan.place();
@@ -158,10 +176,11 @@ impl<K: Keep> Desk<K> {
         Ok(Reply::Done(place))
     }
 
-    /// The field of that name, or `None` exactly where there is none; on a stopped desk that of the ledger after the last
-    /// request that was answered. Takes no memory.
+    /// The field of that name, or `None` exactly where there is none; on a stopped desk that of the ledger after the
+    /// last request that was answered. Takes no memory.
     pub fn field(&self, branch: Branch, article: Article) -> Option<FieldView>
-        ensures { let found = field_named self.now.ledger (name_of branch article) in MatchOption result (found ≡ None) (λ view. IsSomeAnd found (λ f. ShowsField self.now.ledger f view)) }
+        ensures { let found = field_named self.now.ledger (name_of branch article) in MatchOption result (found ≡ None)
+            (λ view. IsSomeAnd found (λ f. ShowsField self.now.ledger f view)) }
     {
         self.book.field(branch, article)
     }
@@ -169,16 +188,17 @@ impl<K: Keep> Desk<K> {
     /// The order of that number, or `None` exactly where there is none; on a stopped desk that of the ledger after the
     /// last request that was answered. Takes no memory.
     pub fn order(&self, number: OrderNo) -> Option<OrderView<'_>>
-        ensures { let found = order_numbered self.now.ledger number in MatchOption result (found ≡ None) (λ view. IsSomeAnd found (λ o. ShowsOrder o view)) }
+        ensures { let found = order_numbered self.now.ledger number in MatchOption result (found ≡ None)
+            (λ view. IsSomeAnd found (λ o. ShowsOrder o view)) }
     {
         self.book.order(number)
     }
 
-    /// Whether a fault of the keeper has stopped the desk. While none has, the keeper holds the rows of the ledger, and a
-    /// stop leaves these alone. Takes no memory.
+    /// Whether a fault of the keeper has stopped the desk. While none has, the keeper holds the rows of the ledger, and
+    /// a stop leaves these alone. Takes no memory.
     pub fn is_stopped(&self) -> bool
         ensures stopped { result ≡ K.stopped self.now.keep }
-        ensures keeps { K.stopped self.now.keep ≡ false → K.is_honest self.now.keep → Keeps (K.holds self.now.keep) (K.leaves self.now.keep) self.now.ledger }
+        ensures stored { StaysStored K.Keep self.now }
     {
         self.keep.is_stopped()
     }
@@ -191,10 +211,11 @@ impl<K: Keep> Desk<K> {
         &self.book
     }
 
-    /// Its ledger is good; while it is not stopped, the keeper holds the rows of the ledger, and a stop leaves these alone.
+    /// Its ledger is good; while it is not stopped, the keeper holds the rows of the ledger, and a stop leaves these
+    /// alone.
     pub(crate) fn in_order(&self)
         ensures good { Good self.now.ledger }
-        ensures keeps { K.stopped self.now.keep ≡ false → K.is_honest self.now.keep → Keeps (K.holds self.now.keep) (K.leaves self.now.keep) self.now.ledger }
+        ensures stored { StaysStored K.Keep self.now }
     {
         self.book();
         self.is_stopped();

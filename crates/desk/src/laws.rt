@@ -15,15 +15,22 @@ ghost use Rattle.desk.specs.Text.{IsText};
 
 /// At a good ledger there is exactly one text for each input, so that what a script writes is settled by what it reads.
 pub fn exactly_one_text()
-    ensures some { (old : Ledger) (input : List ℕ) → Good old → (out : List ℕ) × (new : Ledger) × IsText old input out new }
-    ensures one { (old : Ledger) (input out other : List ℕ) (new last : Ledger) → IsText old input out new → IsText old input other last → (out ≡ other) × (new ≡ last) }
+    ensures some { (old : Ledger) (input : List ℕ) → Good old → (out : List ℕ) × (new : Ledger)
+        × IsText old input out new }
+    ensures one { (old : Ledger) (input out other : List ℕ) (new last : Ledger) → IsText old input out new
+        → IsText old input other last → (out ≡ other) × (new ≡ last) }
 {}
 
-/// A run that is cut any number of times and resumed each time behind its last reply comes to the same replies and the same
-/// ledger as one that is not; and where it was cut by a stop, an opening finds a ledger at which it may be resumed.
+/// A run that is cut any number of times and resumed each time behind its last reply comes to the same replies and the
+/// same ledger as one that is not; and where it was cut by a stop, an opening finds a ledger at which it may be
+/// resumed.
 pub fn resuming_is_invisible()
-    ensures same { (A : Ledger) (requests : List Request) (k : ℕ) (given : List (List Reply)) (replies : List Reply) (B last : Ledger) → 1 ≤ k → ResumesAgain A requests k given B
-        → k + length (flat_map (λ some. some) given) ≡ length requests + 1 → Runs A requests replies last → (flat_map (λ some. some) given ≡ drop (k - 1) replies) × (B ≡ last) }
-    ensures found { (A B C D : Ledger) (requests : List Request) (k : ℕ) (x y z : Content) → Good A → Each (λ r. IsKey r.key × IsInRange r.command) requests → Good D
-        → StandsAt A requests k B → StandsAt A requests k C → IsRowsOf B y → IsRowsOf C z → (x ≡ y) ⊎ (x ≡ z) → IsRowsOf D x → StandsAt A requests k D }
+    ensures same { (A : Ledger) (requests : List Request) (k : ℕ) (given : List (List Reply)) (replies : List Reply)
+        (B last : Ledger) → 1 ≤ k → ResumesAgain A requests k given B
+        → k + length (flat_map (λ some. some) given) ≡ length requests + 1 → Runs A requests replies last
+        → (flat_map (λ some. some) given ≡ drop (k - 1) replies) × (B ≡ last) }
+    ensures found { (A B C D : Ledger) (requests : List Request) (k : ℕ) (x y z : Content) → Good A
+        → Each (λ r. IsKey r.key × IsInRange r.command) requests → Good D
+        → StandsAt A requests k B → StandsAt A requests k C → IsRowsOf B y → IsRowsOf C z → (x ≡ y) ⊎ (x ≡ z)
+        → IsRowsOf D x → StandsAt A requests k D }
 {}

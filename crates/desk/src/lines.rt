@@ -2,7 +2,7 @@
 
 ghost use Rattle.std.specs.Prelude.{◌≡◌, ◌++◌, ◌∷◌, [], IfOk, OnOk, decimal};
 ghost use Rattle.words.specs.Words.{after_space};
-ghost use Rattle.book.specs.View.{order_of};
+ghost use Rattle.book.specs.Model.{order_of};
 ghost use Rattle.book.specs.Ledger.{Order};
 ghost use Rattle.desk.specs.Replies.{field_line, held_words, kind_word, number_words, shown_line, state_word};
 ghost use Rattle.words.specs.OpenLines.{way_word};
@@ -125,7 +125,8 @@ fn push_lines(out: &mut Vec<u8>, lines: &[Line]) -> Result<(), Memory>
 
 /// The line of an order.
 pub fn order_text(alloc: Global, view: &OrderView) -> Result<Vec<u8>, Memory>
-    ensures { IfOk result (λ out. out.items ≡ shown_line view.now.number view.now.kind view.now.until view.now.state view.now.lines.now) }
+    ensures { IfOk result (λ out. out.items
+        ≡ shown_line view.now.number view.now.kind view.now.until view.now.state view.now.lines.now) }
 {
     let mut out = text(alloc, b"? order")?;
     push_number(&mut out, view.number.get())?;

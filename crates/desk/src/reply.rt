@@ -63,8 +63,8 @@ fn line_told(alloc: Global, key: Key, reply: &Reply) -> Result<Vec<u8>, ScriptFa
     line_of_reply(alloc, key, reply).map_err(|_| ScriptFault::Memory)
 }
 
-/// The line for a request, which is called. The line is made before the request is done, so that nothing is done and not
-/// told.
+/// The line for a request, which is called. The line is made before the request is done, so that nothing is done and
+/// not told.
 fn line_of_request<K: Keep>(
     alloc: Global,
     desk: &mut Desk<K>,
@@ -72,7 +72,8 @@ fn line_of_request<K: Keep>(
 ) -> Result<Vec<u8>, ScriptFault>
     ensures line { IfOk result (λ out. Replies desk.old.ledger (item.Request request.now) out.items desk.new.ledger) }
     ensures went_on { IfOk result (λ _. K.stopped desk.old.keep ≡ false) }
-    ensures cut { IfErr result (λ fault. IsCut fault (K.stopped desk.old.keep ≡ false) (K.is_honest desk.new.keep) (K.leaves desk.new.keep) desk.old.ledger (item.Request request.now ∷ []) [] desk.new.ledger) }
+    ensures cut { IfErr result (λ fault. IsCut fault (K.stopped desk.old.keep ≡ false) (K.is_honest desk.new.keep)
+        (K.leaves desk.new.keep) desk.old.ledger (item.Request request.now ∷ []) [] desk.new.ledger) }
     ensures fault { IfErr result (λ fault. (fault ≡ ScriptFault.Memory) ⊎ (fault ≡ ScriptFault.Stopped)) }
     ensures memory { result ≡ Err ScriptFault.Memory → desk.new ≡ desk.old }
     ensures going { result ≢ Err ScriptFault.Stopped → K.stopped desk.new.keep ≡ K.stopped desk.old.keep }
@@ -106,7 +107,8 @@ pub fn line_of<K: Keep>(
 ) -> Result<Vec<u8>, ScriptFault>
     ensures line { IfOk result (λ out. Replies desk.old.ledger item.now out.items desk.new.ledger) }
     ensures may { IfOk result (λ _. MayAnswer (K.stopped desk.old.keep ≡ false) item.now) }
-    ensures cut { IfErr result (λ fault. IsCut fault (K.stopped desk.old.keep ≡ false) (K.is_honest desk.new.keep) (K.leaves desk.new.keep) desk.old.ledger (item.now ∷ []) [] desk.new.ledger) }
+    ensures cut { IfErr result (λ fault. IsCut fault (K.stopped desk.old.keep ≡ false) (K.is_honest desk.new.keep)
+        (K.leaves desk.new.keep) desk.old.ledger (item.now ∷ []) [] desk.new.ledger) }
     ensures fault { IfErr result (λ fault. (fault ≡ ScriptFault.Memory) ⊎ (fault ≡ ScriptFault.Stopped)) }
     ensures memory { result ≡ Err ScriptFault.Memory → desk.new ≡ desk.old }
     ensures going { result ≢ Err ScriptFault.Stopped → K.stopped desk.new.keep ≡ K.stopped desk.old.keep }

@@ -4,7 +4,7 @@ ghost use Rattle.std.specs.Prelude.{◌≡◌, ◌≢◌, ◌↔◌, ◌+◌, �
 ghost use Rattle.std.specs.Vec.{vec_capacity, vec_len};
 ghost use Rattle.book.specs.Answers.{After, Runs};
 ghost use Rattle.book.specs.Ledger.{Ledger};
-ghost use Rattle.desk.specs.Desk.{Keeps, LeavesEither};
+ghost use Rattle.desk.specs.Desk.{LeavesEither, StaysStored};
 ghost use Rattle.desk.specs.Resuming.{LeavesResumable, Resumes, StandsAt};
 ghost use Rattle.words.specs.declared.reply.Reply.{Reply as ReplyOf};
 
@@ -33,21 +33,23 @@ pub struct Run {
 }
 
 impl<K: Keep> Desk<K> {
-    /// Answers the requests in their order. A refusal does not end a run; a fault does, and the replies are those of the
-    /// requests before it. Room for a reply is made before its request is called, so nothing is done and not told.
+    /// Answers the requests in their order. A refusal does not end a run; a fault does, and the replies are those of
+    /// the requests before it. Room for a reply is made before its request is called, so nothing is done and not told.
     ///
-    /// The ledger is the one after the requests that are answered. Of a desk that was not stopped before, a stop leaves its
-    /// rows alone, or, where the run ended `Stopped`, those or the rows after one request more. A desk that was stopped
-    /// before answers none and changes nothing.
+    /// The ledger is the one after the requests that are answered. Of a desk that was not stopped before, a stop leaves
+    /// its rows alone, or, where the run ended `Stopped`, those or the rows after one request more. A desk that was
+    /// stopped before answers none and changes nothing.
     pub fn run(&mut self, alloc: Global, requests: &[Request]) -> Run
-        ensures replies { Runs self.old.ledger (take (length result.replies.items) requests.now) result.replies.items self.new.ledger }
+        ensures replies { Runs self.old.ledger (take
+            (length result.replies.items) requests.now) result.replies.items self.new.ledger }
         ensures all { result.ending ≡ Ending.All ↔ length result.replies.items ≡ length requests.now }
         ensures refused { IsTrue (K.stopped self.old.keep) → (result.replies.items ≡ []) × (self.new ≡ self.old) }
         ensures stopped { result.ending ≡ Ending.Stopped → IsTrue (K.stopped self.new.keep) }
         ensures going { result.ending ≢ Ending.Stopped → K.stopped self.new.keep ≡ K.stopped self.old.keep }
-        ensures keeps { K.stopped self.new.keep ≡ false → K.is_honest self.new.keep → Keeps (K.holds self.new.keep) (K.leaves self.new.keep) self.new.ledger }
+        ensures stored { StaysStored K.Keep self.new }
         ensures either { K.stopped self.old.keep ≡ false → result.ending ≡ Ending.Stopped → K.is_honest self.new.keep
-            → (next : Ledger) × After self.old.ledger requests.now (length result.replies.items + 1) next × LeavesEither (K.leaves self.new.keep) self.new.ledger next }
+            → (next : Ledger) × After self.old.ledger requests.now (length result.replies.items + 1) next
+            × LeavesEither (K.leaves self.new.keep) self.new.ledger next }
         ensures honest { K.is_honest self.new.keep → K.is_honest self.old.keep }
     {
         self.in_order();
@@ -75,28 +77,32 @@ impl<K: Keep> Desk<K> {
         }
     }
 
-    /// Goes on with a run that a fault has cut: answers the requests from number `first` on, counted from 1, which is the one
-    /// behind the last reply that the caller has. The desk stands, on its way from some ledger through these requests, before
-    /// that one or behind it.
+    /// Goes on with a run that a fault has cut: answers the requests from number `first` on, counted from 1, which is
+    /// the one behind the last reply that the caller has. The desk stands, on its way from some ledger through these
+    /// requests, before that one or behind it.
     ///
-    /// The replies are then those that the whole run from that ledger would give, and with `All` the ledger is the one after
-    /// it. After `Memory` and `Stopped` as after `run`; the next to be resumed is the one behind the replies, at the desk's
-    /// ledger, and after `Stopped` at whatever ledger an opening finds. A desk that was stopped before answers none and
-    /// changes nothing.
+    /// The replies are then those that the whole run from that ledger would give, and with `All` the ledger is the one
+    /// after it. After `Memory` and `Stopped` as after `run`; the next to be resumed is the one behind the replies, at
+    /// the desk's ledger, and after `Stopped` at whatever ledger an opening finds. A desk that was stopped before
+    /// answers none and changes nothing.
     pub fn resume(&mut self, alloc: Global, requests: &[Request], first: usize) -> Run
         requires counted { 1 ≤ first }
         requires within { first ≤ length requests.now + 1 }
-        ensures resumed { (A : Ledger) → StandsAt A requests.now first self.old.ledger → Resumes A requests.now first result.replies.items self.new.ledger }
+        ensures resumed { (A : Ledger) → StandsAt A requests.now first self.old.ledger
+            → Resumes A requests.now first result.replies.items self.new.ledger }
         ensures whole { result.ending ≡ Ending.All → (A : Ledger) → StandsAt A requests.now first self.old.ledger
-            → (before : List ReplyOf) × (length before + 1 ≡ first) × Runs A requests.now (before ++ result.replies.items) self.new.ledger }
-        ensures either { K.stopped self.old.keep ≡ false → result.ending ≡ Ending.Stopped → K.is_honest self.new.keep → (A : Ledger) → StandsAt A requests.now first self.old.ledger
+            → (before : List ReplyOf) × (length before + 1 ≡ first) × Runs A requests.now
+            (before ++ result.replies.items) self.new.ledger }
+        ensures either { K.stopped self.old.keep ≡ false → result.ending ≡ Ending.Stopped → K.is_honest self.new.keep
+            → (A : Ledger) → StandsAt A requests.now first self.old.ledger
             → LeavesResumable (K.leaves self.new.keep) A requests.now (first + length result.replies.items) }
-        ensures replies { Runs self.old.ledger (take (length result.replies.items) (drop (first - 1) requests.now)) result.replies.items self.new.ledger }
+        ensures replies { Runs self.old.ledger (take (length result.replies.items)
+            (drop (first - 1) requests.now)) result.replies.items self.new.ledger }
         ensures all { result.ending ≡ Ending.All ↔ first + length result.replies.items ≡ length requests.now + 1 }
         ensures refused { IsTrue (K.stopped self.old.keep) → (result.replies.items ≡ []) × (self.new ≡ self.old) }
         ensures stopped { result.ending ≡ Ending.Stopped → IsTrue (K.stopped self.new.keep) }
         ensures going { result.ending ≢ Ending.Stopped → K.stopped self.new.keep ≡ K.stopped self.old.keep }
-        ensures keeps { K.stopped self.new.keep ≡ false → K.is_honest self.new.keep → Keeps (K.holds self.new.keep) (K.leaves self.new.keep) self.new.ledger }
+        ensures stored { StaysStored K.Keep self.new }
         ensures honest { K.is_honest self.new.keep → K.is_honest self.old.keep }
     {
         self.run(alloc, &requests[first - 1..])

@@ -4,7 +4,7 @@ ghost use Rattle.std.specs.Prelude.{◌≡◌, ◌≢◌, ◌++◌, ◌∷◌, [
 ghost use Rattle.std.specs.Io.KnownBytes.{Appends};
 ghost use Rattle.std.specs.List.{AllByRecursion as Each};
 ghost use Rattle.words.specs.Stream.{Feeds};
-ghost use Rattle.desk.specs.Desk.{Keeps};
+ghost use Rattle.desk.specs.Desk.{StaysStored};
 ghost use Rattle.desk.specs.Script.{AnswersAll, AnswersCut, EndsCut, EndsWhole, IsCut, MayAnswer, MayRead};
 ghost use Rattle.desk.specs.Text.{Replies, RepliesAll, unended};
 ghost use Rattle.words.specs.declared.item.Item.{Item};
@@ -27,10 +27,13 @@ fn answer<K: Keep, W: Write>(
     desk: &mut Desk<K>,
     item: &Item,
 ) -> Result<(), ScriptFault>
-    ensures whole { OnOk result ((line : List ℕ) × Replies desk.old.ledger item.now line desk.new.ledger × Appends (W.contents writer.old) (W.contents writer.new) line) }
+    ensures whole { OnOk result ((line : List ℕ) × Replies desk.old.ledger item.now line desk.new.ledger
+        × Appends (W.contents writer.old) (W.contents writer.new) line) }
     ensures may { OnOk result (MayAnswer (K.stopped desk.old.keep ≡ false) item.now) }
-    ensures cut { IfErr result (λ fault. (written : List ℕ) × Appends (W.contents writer.old) (W.contents writer.new) written
-        × IsCut fault (K.stopped desk.old.keep ≡ false) (K.is_honest desk.new.keep) (K.leaves desk.new.keep) desk.old.ledger (item.now ∷ []) written desk.new.ledger) }
+    ensures cut { IfErr result (λ fault. (written : List ℕ) × Appends (W.contents writer.old)
+        (W.contents writer.new) written
+        × IsCut fault (K.stopped desk.old.keep ≡ false) (K.is_honest desk.new.keep)
+        (K.leaves desk.new.keep) desk.old.ledger (item.now ∷ []) written desk.new.ledger) }
     ensures read { result ≢ Err ScriptFault.Read }
     ensures going { result ≢ Err ScriptFault.Stopped → K.stopped desk.new.keep ≡ K.stopped desk.old.keep }
     ensures stopped { result ≡ Err ScriptFault.Stopped → IsTrue (K.stopped desk.new.keep) }
@@ -51,9 +54,12 @@ fn answer_items<K: Keep, W: Write>(
     desk: &mut Desk<K>,
     items: &[Item],
 ) -> Result<(), ScriptFault>
-    ensures whole { OnOk result (AnswersAll desk.old.ledger items.now desk.new.ledger (W.contents writer.old) (W.contents writer.new)) }
+    ensures whole { OnOk result (AnswersAll desk.old.ledger items.now desk.new.ledger (W.contents writer.old)
+        (W.contents writer.new)) }
     ensures may { OnOk result (Each (MayAnswer (K.stopped desk.old.keep ≡ false)) items.now) }
-    ensures cut { IfErr result (λ fault. AnswersCut fault (K.stopped desk.old.keep ≡ false) (K.is_honest desk.new.keep) (K.leaves desk.new.keep) desk.old.ledger items.now desk.new.ledger (W.contents writer.old) (W.contents writer.new)) }
+    ensures cut { IfErr result (λ fault. AnswersCut fault (K.stopped desk.old.keep ≡ false) (K.is_honest desk.new.keep)
+        (K.leaves desk.new.keep) desk.old.ledger items.now desk.new.ledger (W.contents writer.old)
+        (W.contents writer.new)) }
     ensures read { result ≢ Err ScriptFault.Read }
     ensures going { result ≢ Err ScriptFault.Stopped → K.stopped desk.new.keep ≡ K.stopped desk.old.keep }
     ensures stopped { result ≡ Err ScriptFault.Stopped → IsTrue (K.stopped desk.new.keep) }
@@ -66,28 +72,31 @@ fn answer_items<K: Keep, W: Write>(
     Ok(())
 }
 
-/// Answers items in their order, and writes the line of each before the next is answered: requests that were read from elsewhere
-/// are answered as those of a script.
+/// Answers items in their order, and writes the line of each before the next is answered: requests that were read from
+/// elsewhere are answered as those of a script.
 ///
-/// After a fault the first of the items are answered, and what is written is their lines, but for an end of the last one after a
-/// failing write. So want of memory leaves nothing done and not told. `Stopped` is answered only where the desk is stopped, and
-/// `Read` never. Of a desk that was not stopped before, a stop then leaves the rows before the request that it is cut at, or after
-/// it, and in every other case the rows of the desk's ledger alone. A desk that was stopped before answers the items up to the
-/// first request, and changes nothing.
+/// After a fault the first of the items are answered, and what is written is their lines, but for an end of the last
+/// one after a failing write. So want of memory leaves nothing done and not told. `Stopped` is answered only where the
+/// desk is stopped, and `Read` never. Of a desk that was not stopped before, a stop then leaves the rows before the
+/// request that it is cut at, or after it, and in every other case the rows of the desk's ledger alone. A desk that was
+/// stopped before answers the items up to the first request, and changes nothing.
 pub fn answer_all<K: Keep, W: Write>(
     alloc: Global,
     items: &[Item],
     writer: &mut W,
     desk: &mut Desk<K>,
 ) -> Result<(), ScriptFault>
-    ensures whole { OnOk result (AnswersAll desk.old.ledger items.now desk.new.ledger (W.contents writer.old) (W.contents writer.new)) }
+    ensures whole { OnOk result (AnswersAll desk.old.ledger items.now desk.new.ledger (W.contents writer.old)
+        (W.contents writer.new)) }
     ensures may { OnOk result (Each (MayAnswer (K.stopped desk.old.keep ≡ false)) items.now) }
-    ensures cut { IfErr result (λ fault. AnswersCut fault (K.stopped desk.old.keep ≡ false) (K.is_honest desk.new.keep) (K.leaves desk.new.keep) desk.old.ledger items.now desk.new.ledger (W.contents writer.old) (W.contents writer.new)) }
+    ensures cut { IfErr result (λ fault. AnswersCut fault (K.stopped desk.old.keep ≡ false) (K.is_honest desk.new.keep)
+        (K.leaves desk.new.keep) desk.old.ledger items.now desk.new.ledger (W.contents writer.old)
+        (W.contents writer.new)) }
     ensures read { result ≢ Err ScriptFault.Read }
     ensures going { result ≢ Err ScriptFault.Stopped → K.stopped desk.new.keep ≡ K.stopped desk.old.keep }
     ensures stopped { result ≡ Err ScriptFault.Stopped → IsTrue (K.stopped desk.new.keep) }
     ensures untouched { IsTrue (K.stopped desk.old.keep) → desk.new ≡ desk.old }
-    ensures keeps { K.stopped desk.new.keep ≡ false → K.is_honest desk.new.keep → Keeps (K.holds desk.new.keep) (K.leaves desk.new.keep) desk.new.ledger }
+    ensures stored { StaysStored K.Keep desk.new }
     ensures honest { K.is_honest desk.new.keep → K.is_honest desk.old.keep }
 {
     let ended = answer_items(alloc, writer, desk, items);
@@ -103,10 +112,14 @@ fn answer_piece<K: Keep, W: Write>(
     desk: &mut Desk<K>,
     piece: &[u8],
 ) -> Result<(), ScriptFault>
-    ensures whole { OnOk result ((items : List Item) × (out : List ℕ) × Feeds lines.old piece.now items lines.new × RepliesAll desk.old.ledger items out desk.new.ledger × Appends (W.contents writer.old) (W.contents writer.new) out
+    ensures whole { OnOk result ((items : List Item) × (out : List ℕ) × Feeds lines.old piece.now items lines.new
+        × RepliesAll desk.old.ledger items out desk.new.ledger × Appends (W.contents writer.old)
+        (W.contents writer.new) out
         × Each (MayAnswer (K.stopped desk.old.keep ≡ false)) items) }
-    ensures cut { IfErr result (λ fault. (items : List Item) × (rest : Option (List ℕ)) × (written : List ℕ) × Feeds lines.old piece.now items rest × Appends (W.contents writer.old) (W.contents writer.new) written
-        × IsCut fault (K.stopped desk.old.keep ≡ false) (K.is_honest desk.new.keep) (K.leaves desk.new.keep) desk.old.ledger items written desk.new.ledger) }
+    ensures cut { IfErr result (λ fault. (items : List Item) × (rest : Option (List ℕ)) × (written : List ℕ)
+        × Feeds lines.old piece.now items rest × Appends (W.contents writer.old) (W.contents writer.new) written
+        × IsCut fault (K.stopped desk.old.keep ≡ false) (K.is_honest desk.new.keep)
+        (K.leaves desk.new.keep) desk.old.ledger items written desk.new.ledger) }
     ensures read { result ≢ Err ScriptFault.Read }
     ensures going { result ≢ Err ScriptFault.Stopped → K.stopped desk.new.keep ≡ K.stopped desk.old.keep }
     ensures stopped { result ≡ Err ScriptFault.Stopped → IsTrue (K.stopped desk.new.keep) }
@@ -126,9 +139,12 @@ fn answer_rest<K: Keep, W: Write>(
     writer: &mut W,
     desk: &mut Desk<K>,
 ) -> Result<(), ScriptFault>
-    ensures whole { OnOk result ((out : List ℕ) × RepliesAll desk.old.ledger (unended lines.old) out desk.new.ledger × Appends (W.contents writer.old) (W.contents writer.new) out) }
-    ensures cut { IfErr result (λ fault. (written : List ℕ) × Appends (W.contents writer.old) (W.contents writer.new) written
-        × IsCut fault (K.stopped desk.old.keep ≡ false) (K.is_honest desk.new.keep) (K.leaves desk.new.keep) desk.old.ledger (unended lines.old) written desk.new.ledger) }
+    ensures whole { OnOk result ((out : List ℕ) × RepliesAll desk.old.ledger (unended lines.old) out desk.new.ledger
+        × Appends (W.contents writer.old) (W.contents writer.new) out) }
+    ensures cut { IfErr result (λ fault. (written : List ℕ) × Appends (W.contents writer.old)
+        (W.contents writer.new) written
+        × IsCut fault (K.stopped desk.old.keep ≡ false) (K.is_honest desk.new.keep)
+        (K.leaves desk.new.keep) desk.old.ledger (unended lines.old) written desk.new.ledger) }
     ensures read { result ≢ Err ScriptFault.Read }
     ensures going { result ≢ Err ScriptFault.Stopped → K.stopped desk.new.keep ≡ K.stopped desk.old.keep }
     ensures stopped { result ≡ Err ScriptFault.Stopped → IsTrue (K.stopped desk.new.keep) }
@@ -141,28 +157,31 @@ fn answer_rest<K: Keep, W: Write>(
     }
 }
 
-/// To each line its reply line, until the input ends. It is read by pieces of at most 512 bytes, and each line is answered
-/// and its reply written before the next is, so that someone who types sees each reply.
+/// To each line its reply line, until the input ends. It is read by pieces of at most 512 bytes, and each line is
+/// answered and its reply written before the next is, so that someone who types sees each reply.
 ///
-/// After a fault what is written is a beginning of the text for what was read: the reply lines to what the desk has done,
-/// but for the last of them after a failing write. So want of memory leaves nothing done and not told. `Stopped` is
-/// answered only where the desk is stopped. Of a desk that was not stopped before, a stop then leaves the rows before the request that it is cut at, or after
-/// it, and in every other case the rows of the desk's ledger alone. A desk that was stopped before answers the lines up to the
-/// first request, and changes nothing.
+/// After a fault what is written is a beginning of the text for what was read: the reply lines to what the desk has
+/// done, but for the last of them after a failing write. So want of memory leaves nothing done and not told. `Stopped`
+/// is answered only where the desk is stopped. Of a desk that was not stopped before, a stop then leaves the rows
+/// before the request that it is cut at, or after it, and in every other case the rows of the desk's ledger alone. A
+/// desk that was stopped before answers the lines up to the first request, and changes nothing.
 pub fn script<K: Keep, R: Read, W: Write>(
     alloc: Global,
     reader: &mut R,
     writer: &mut W,
     desk: &mut Desk<K>,
 ) -> Result<(), ScriptFault>
-    ensures whole { OnOk result (EndsWhole desk.old.ledger desk.new.ledger (R.remaining reader.old) (R.remaining reader.new) (W.contents writer.old) (W.contents writer.new)) }
-    ensures may { OnOk result (MayRead (K.stopped desk.old.keep ≡ false) (R.remaining reader.old) (R.remaining reader.new)) }
-    ensures cut { IfErr result (λ fault. EndsCut fault (K.stopped desk.old.keep ≡ false) (K.is_honest desk.new.keep) (K.leaves desk.new.keep) desk.old.ledger desk.new.ledger
+    ensures whole { OnOk result (EndsWhole desk.old.ledger desk.new.ledger (R.remaining reader.old)
+        (R.remaining reader.new) (W.contents writer.old) (W.contents writer.new)) }
+    ensures may { OnOk result (MayRead (K.stopped desk.old.keep ≡ false) (R.remaining reader.old)
+        (R.remaining reader.new)) }
+    ensures cut { IfErr result (λ fault. EndsCut fault (K.stopped desk.old.keep ≡ false) (K.is_honest desk.new.keep)
+        (K.leaves desk.new.keep) desk.old.ledger desk.new.ledger
         (R.remaining reader.old) (R.remaining reader.new) (W.contents writer.old) (W.contents writer.new)) }
     ensures going { result ≢ Err ScriptFault.Stopped → K.stopped desk.new.keep ≡ K.stopped desk.old.keep }
     ensures stopped { result ≡ Err ScriptFault.Stopped → IsTrue (K.stopped desk.new.keep) }
     ensures untouched { IsTrue (K.stopped desk.old.keep) → desk.new ≡ desk.old }
-    ensures keeps { K.stopped desk.new.keep ≡ false → K.is_honest desk.new.keep → Keeps (K.holds desk.new.keep) (K.leaves desk.new.keep) desk.new.ledger }
+    ensures stored { StaysStored K.Keep desk.new }
     ensures honest { K.is_honest desk.new.keep → K.is_honest desk.old.keep }
 {
     let ended = answer_input(alloc, reader, writer, desk);
@@ -177,9 +196,12 @@ fn answer_input<K: Keep, R: Read, W: Write>(
     writer: &mut W,
     desk: &mut Desk<K>,
 ) -> Result<(), ScriptFault>
-    ensures whole { OnOk result (EndsWhole desk.old.ledger desk.new.ledger (R.remaining reader.old) (R.remaining reader.new) (W.contents writer.old) (W.contents writer.new)) }
-    ensures may { OnOk result (MayRead (K.stopped desk.old.keep ≡ false) (R.remaining reader.old) (R.remaining reader.new)) }
-    ensures cut { IfErr result (λ fault. EndsCut fault (K.stopped desk.old.keep ≡ false) (K.is_honest desk.new.keep) (K.leaves desk.new.keep) desk.old.ledger desk.new.ledger
+    ensures whole { OnOk result (EndsWhole desk.old.ledger desk.new.ledger (R.remaining reader.old)
+        (R.remaining reader.new) (W.contents writer.old) (W.contents writer.new)) }
+    ensures may { OnOk result (MayRead (K.stopped desk.old.keep ≡ false) (R.remaining reader.old)
+        (R.remaining reader.new)) }
+    ensures cut { IfErr result (λ fault. EndsCut fault (K.stopped desk.old.keep ≡ false) (K.is_honest desk.new.keep)
+        (K.leaves desk.new.keep) desk.old.ledger desk.new.ledger
         (R.remaining reader.old) (R.remaining reader.new) (W.contents writer.old) (W.contents writer.new)) }
     ensures going { result ≢ Err ScriptFault.Stopped → K.stopped desk.new.keep ≡ K.stopped desk.old.keep }
     ensures stopped { result ≡ Err ScriptFault.Stopped → IsTrue (K.stopped desk.new.keep) }

@@ -151,7 +151,8 @@ fn writes_needed(
     Err("no end of writes")?
 }
 
-/// As many reads are needed as there are pieces, and one that finds the end; and more writes than answers of that length.
+/// As many reads are needed as there are pieces, and one that finds the end; and more writes than answers of that
+/// length.
 fn expect_faults<R: Abort + AllocGlobal>(rt: &R, played: &Played<'_>) -> Result<(), Fail> {
     for (piece, is_other) in [
         (7, false),

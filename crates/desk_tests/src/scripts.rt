@@ -3,7 +3,8 @@
 /// A script, and its replies.
 pub(crate) type Played = (&'static str, &'static str);
 
-/// The script of all kinds of answers on one field, the one with a transfer, and the one with more held, released and given back.
+/// The script of all kinds of answers on one field, the one with a transfer, and the one with more held, released and
+/// given back.
 pub(crate) fn scripts() -> [Played; 3] {
     [long_script(), TRANSFER, RELEASE]
 }

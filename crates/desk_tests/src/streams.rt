@@ -2,8 +2,8 @@
 
 use std::io::{self, Read, Write};
 
-/// Gives its bytes in pieces, fails once, in the place of the piece with this number, and goes on. The failure is an interrupted
-/// read, which might be tried again, or another.
+/// Gives its bytes in pieces, fails once, in the place of the piece with this number, and goes on. The failure is an
+/// interrupted read, which might be tried again, or another.
 #[derive(Drop)]
 pub(crate) struct Drip<'a> {
     pub bytes: &'a [u8],

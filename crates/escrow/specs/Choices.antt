@@ -13,7 +13,8 @@ EveryChoice q P = (taken added : ℕ) → taken ≤ q.held_to_take → added ≤
 
 -- some choice has this result
 abbrev pub SomeChoice : Stock → ℤ → Type 0
-SomeChoice q z = (taken : ℕ) × (added : ℕ) × (taken ≤ q.held_to_take) × (added ≤ q.held_to_add) × (choice_result q taken added ≡ z)
+SomeChoice q z =
+    (taken : ℕ) × (added : ℕ) × (taken ≤ q.held_to_take) × (added ≤ q.held_to_add) × (choice_result q taken added ≡ z)
 
 -- the least result of a choice
 pub record IsInfimum (q : Stock) (z : ℤ) : Type 0 where
@@ -25,10 +26,10 @@ pub record IsSupremum (q : Stock) (z : ℤ) : Type 0 where
   pub reached : SomeChoice q z
   pub greatest : EveryChoice q (λ other. other ≤ℤ z)
 
--- within the bounds
-abbrev pub IsWithin : Stock → ℤ → Type 0
-IsWithin q z = (pos q.lo ≤ℤ z) × (z ≤ℤ pos q.hi)
+-- between a lower and an upper bound
+abbrev pub IsWithin : ℕ → ℕ → ℤ → Type 0
+IsWithin lo hi z = (pos lo ≤ℤ z) × (z ≤ℤ pos hi)
 
 -- each choice stays within the bounds
 abbrev pub IsSafe : Stock → Type 0
-IsSafe q = EveryChoice q (IsWithin q)
+IsSafe q = EveryChoice q (IsWithin q.lo q.hi)

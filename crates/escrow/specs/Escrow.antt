@@ -1,5 +1,5 @@
--- What can be asked of one quantity: to hold an amount more, to give back what is held, to move the value, and to take other
--- bounds.
+-- What can be asked of one quantity: to hold an amount more, to give back what is held, to move the value, and to take
+-- other bounds.
 use Rattle.std.specs.Prelude.{◌≡◌, ℕ, ◌+◌, ◌-◌, ◌<◌, ◌≤◌, ℤ, pos, ◌+ℤ◌, ◌-ℤ◌, ◌<ℤ◌, ◌≤ℤ◌}
 use Rattle.escrow.specs.Choices.{EveryChoice, IsWithin, SomeChoice}
 use Rattle.escrow.specs.Stock.{Stock}
@@ -32,7 +32,7 @@ moved Add n z = z +ℤ pos n
 
 -- each choice would stay within the bounds, were the value moved by n
 abbrev pub IsSafeMoved : Stock → Way → ℕ → Type 0
-IsSafeMoved q way n = EveryChoice q (λ z. IsWithin q (moved way n z))
+IsSafeMoved q way n = EveryChoice q (λ z. IsWithin q.lo q.hi (moved way n z))
 
 -- the new quantity is the old one with its value moved by n, and all else as it was
 pub record MovesValue (old : Stock) (way : Way) (n : ℕ) (new : Stock) : Type 0 where
@@ -48,9 +48,10 @@ bound_of Add = TooMuch
 abbrev pub bounded : Stock → ℕ → ℕ → Stock
 bounded q lo hi = record q { lo = lo; hi = hi }
 
--- Why other bounds are refused: the lower is above the upper one; or some choice is below the lower one; or none is, and some
--- choice is above the upper one.
+-- Why other bounds are refused: the lower is above the upper one; or some choice is below the lower one; or none is,
+-- and some choice is above the upper one.
 abbrev pub RefusesBounds : Stock → ℕ → ℕ → Rebound → Type 0
 RefusesBounds q lo hi rebound.BadBounds = hi < lo
 RefusesBounds q lo hi rebound.TooLittle = (lo ≤ hi) × ((z : ℤ) × SomeChoice q z × (z <ℤ pos lo))
-RefusesBounds q lo hi rebound.TooMuch = (lo ≤ hi) × EveryChoice q (λ z. pos lo ≤ℤ z) × ((z : ℤ) × SomeChoice q z × (pos hi <ℤ z))
+RefusesBounds q lo hi rebound.TooMuch =
+    (lo ≤ hi) × EveryChoice q (λ z. pos lo ≤ℤ z) × ((z : ℤ) × SomeChoice q z × (pos hi <ℤ z))

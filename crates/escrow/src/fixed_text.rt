@@ -31,7 +31,8 @@ impl<const N: usize> Model for FixedText<N> {
 
     ghost inverse = { λ text. record { cells = text ++ replicate (N - length text) 0; len = length text } };
 
-    ghost inverse_ok = { λ a h. ap (λ (p : List ℕ × ℕ). record { cells = p.0; len = p.1 }) (padded_back N a.len a.cells h) };
+    ghost inverse_ok = { λ a h. ap (λ (p : List ℕ × ℕ). record { cells = p.0; len = p.1 })
+        (padded_back N a.len a.cells h) };
 }
 
 impl<const N: usize> FixedText<N> {

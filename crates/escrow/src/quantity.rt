@@ -65,20 +65,44 @@ impl Model for Quantity {
 
     ghost Value = { Stock };
 
-    ghost view = { λ q. record { lo = q.lo; hi = q.hi; value = q.value; held_to_take = q.value - q.inf; held_to_add = q.sup - q.value } };
+    ghost view = { λ q. record {
+      lo = q.lo;
+      hi = q.hi;
+      value = q.value;
+      held_to_take = q.value - q.inf;
+      held_to_add = q.sup - q.value;
+    } };
 
     ghost invariant = { λ q. (q.lo ≤ q.inf) × (q.inf ≤ q.value) × (q.value ≤ q.sup) × (q.sup ≤ q.hi) × IsLevel q.hi };
 
-    ghost inverse = { λ s. record { lo = s.lo; hi = s.hi; value = s.value; inf = s.value - s.held_to_take; sup = s.value + s.held_to_add } };
+    ghost inverse = { λ s. record {
+      lo = s.lo;
+      hi = s.hi;
+      value = s.value;
+      inf = s.value - s.held_to_take;
+      sup = s.value + s.held_to_add;
+    } };
 
-    ghost inverse_ok = { λ q h. ap (λ (p : ℕ × ℕ). record { lo = q.lo; hi = q.hi; value = q.value; inf = p.0; sup = p.1 }) (numbers_back q.inf q.value q.sup h.1 h.2) };
+    ghost inverse_ok = { λ q h. ap (λ (p : ℕ × ℕ). record {
+      lo = q.lo;
+      hi = q.hi;
+      value = q.value;
+      inf = p.0;
+      sup = p.1;
+    }) (numbers_back q.inf q.value q.sup h.1 h.2) };
 }
 
 impl Quantity {
     /// A quantity of which nothing is held, or `BadBounds` exactly where not `lo <= value <= hi`.
     pub fn start(lo: Level, hi: Level, value: Level) -> Result<Quantity, BadBounds>
         ensures within { IsOk result ↔ ((lo ≤ value) × (value ≤ hi)) }
-        ensures ok { IfOk result (λ q. q ≡ record { lo = lo; hi = hi; value = value; held_to_take = 0; held_to_add = 0 }) }
+        ensures ok { IfOk result (λ q. q ≡ record {
+          lo = lo;
+          hi = hi;
+          value = value;
+          held_to_take = 0;
+          held_to_add = 0;
+        }) }
     {
         if lo > value || value > hi {
             return Err(BadBounds);
@@ -102,7 +126,13 @@ impl Quantity {
         sup: Level,
     ) -> Result<Quantity, BadBounds>
         ensures within { IsOk result ↔ ((lo ≤ inf) × (inf ≤ value) × (value ≤ sup) × (sup ≤ hi)) }
-        ensures ok { IfOk result (λ q. q ≡ record { lo = lo; hi = hi; value = value; held_to_take = value - inf; held_to_add = sup - value }) }
+        ensures ok { IfOk result (λ q. q ≡ record {
+          lo = lo;
+          hi = hi;
+          value = value;
+          held_to_take = value - inf;
+          held_to_add = sup - value;
+        }) }
     {
         if lo > inf || inf > value || value > sup || sup > hi {
             return Err(BadBounds);
@@ -208,9 +238,9 @@ impl Quantity {
         Ok(())
     }
 
-    /// Takes other bounds, where the stock stays within them whatever becomes of what is held. Else the quantity is as it
-    /// was: it is `BadBounds` where `lo > hi`, then `TooLittle` where some outcome is below `lo`, then `TooMuch` where
-    /// some outcome is above `hi`.
+    /// Takes other bounds, where the stock stays within them whatever becomes of what is held. Else the quantity is as
+    /// it was: it is `BadBounds` where `lo > hi`, then `TooLittle` where some outcome is below `lo`, then `TooMuch`
+    /// where some outcome is above `hi`.
     pub fn rebound(&mut self, lo: Level, hi: Level) -> Result<(), Rebound>
         ensures granted { IsOk result ↔ IsSafe (bounded self.old lo hi) }
         ensures ok { OnOk result (self.new ≡ bounded self.old lo hi) }

@@ -14,8 +14,8 @@ use Rattle.book.specs.Outcomes.{settled}
 use Rattle.book.specs.Views.{ShowsField}
 use Rattle.book.specs.declared.book.views.FieldView.{FieldView}
 use Rattle.book.proofs.Bounds.{inf_is, inf_unique, sup_is, sup_unique}
-use Rattle.book.proofs.Closing.{sounds_from_good}
-use Rattle.book.proofs.Viewed.{levels_of}
+use Rattle.book.proofs.Futures.{sounds_from_good}
+use Rattle.book.proofs.ShownNumbers.{levels_of}
 use Rattle.files.specs.Sheets.{IsSheet, field_line, left, level_column, right, sheet_text, total_line}
 
 -- ---- columns

@@ -1,11 +1,11 @@
 pub mod Fields
 pub mod Zips
-pub mod Reading
-pub mod Admitted
-pub mod Grouping
-pub mod Taking
-pub mod Shown
+pub mod RecordsSoFar
+pub mod NextRecord
+pub mod OrderGroups
+pub mod OrdersSoFar
+pub mod SheetLines
 pub mod OneReading
-pub mod SaidOnce
+pub mod OneMeaning
 pub mod OneSheet
 pub mod Columns

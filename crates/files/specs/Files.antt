@@ -15,7 +15,8 @@ abbrev pub AreRecordsOf : List ℕ → List Record → Type 0
 AreRecordsOf bytes records = AreRecords default_config StartRecord (strip_bom bytes) records
 
 -- The text is a file with this header, and the records behind it say these requests.
-pub record IsFile (header : Record) (says : List Record → List Request → Type 0) (bytes : List ℕ) (requests : List Request) : Type 0 where
+pub record IsFile (header : Record) (says : List Record → List Request → Type 0) (bytes : List ℕ)
+    (requests : List Request) : Type 0 where
   pub rows : List Record
   pub records : AreRecordsOf bytes (header ∷ rows)
   pub said : says rows requests
@@ -38,7 +39,8 @@ pub record IsFirstBadRow (says : List Record → List Request → Type 0) (rows 
 -- The first record at fault. The header is 0, also where it is missing, and the records behind it are counted from 1.
 abbrev pub IsFirstBad : Record → (List Record → List Request → Type 0) → List Record → ℕ → Type 0
 IsFirstBad header says [] number = number ≡ 0
-IsFirstBad header says (first ∷ rows) number = ((first ≢ header) × (number ≡ 0)) ⊎ ((first ≡ header) × IsFirstBadRow says rows number)
+IsFirstBad header says (first ∷ rows) number =
+    ((first ≢ header) × (number ≡ 0)) ⊎ ((first ≡ header) × IsFirstBadRow says rows number)
 
 -- the first record at fault among these, if the fault names one
 abbrev pub FaultsAt : Record → (List Record → List Request → Type 0) → List Record → FileFault → Type 0
@@ -48,7 +50,8 @@ FaultsAt header says records Io = Unit {0}
 
 -- a fault that names a record names the first one of the text at fault
 abbrev pub NamesFirst : Record → (List Record → List Request → Type 0) → List ℕ → FileFault → Type 0
-NamesFirst header says bytes fault = (records : List Record) × AreRecordsOf bytes records × FaultsAt header says records fault
+NamesFirst header says bytes fault =
+    (records : List Record) × AreRecordsOf bytes records × FaultsAt header says records fault
 
 -- nothing yet, or the header and rows of which this holds
 abbrev pub BeginsFile : Record → (List Record → Type 0) → List Record → Type 0

@@ -9,7 +9,8 @@ use Rattle.words.specs.declared.open_line.OpenLine.{OpenLine}
 use Rattle.files.specs.Files.{Record}
 
 abbrev pub order_header : Record
-order_header = codes "key" ∷ codes "order" ∷ codes "until" ∷ codes "way" ∷ codes "branch" ∷ codes "article" ∷ codes "qty" ∷ []
+order_header =
+    codes "key" ∷ codes "order" ∷ codes "until" ∷ codes "way" ∷ codes "branch" ∷ codes "article" ∷ codes "qty" ∷ []
 
 -- the record of one line of an order: the key, and the words of an `open` with this line
 abbrev pub order_row : List ℕ → ℕ → ℕ → OpenLine → Record
@@ -36,4 +37,5 @@ IsOtherKey key (next ∷ requests) = next.key ≢ key
 abbrev pub SayOrders : List Record → List Request → Type 0
 SayOrders rows [] = rows ≡ []
 SayOrders rows (request ∷ requests) =
-    (first : List Record) × (rest : List Record) × (rows ≡ first ++ rest) × IsOrder first request × IsOtherKey request.key requests × SayOrders rest requests
+    (first : List Record) × (rest : List Record) × (rows ≡ first ++ rest) × IsOrder first request
+    × IsOtherKey request.key requests × SayOrders rest requests

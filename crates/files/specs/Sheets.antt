@@ -26,7 +26,9 @@ level_column n = codes " " ++ right 10 n
 
 -- a title left in 16, and the field's bounds, value, infimum and supremum
 abbrev pub field_line : List ℕ → FieldView → List ℕ
-field_line title v = left 16 title ++ level_column v.lo ++ level_column v.hi ++ level_column v.value ++ level_column v.inf ++ level_column v.sup ++ codes "\n"
+field_line title v =
+    left 16 title ++ level_column v.lo ++ level_column v.hi ++ level_column v.value ++ level_column v.inf
+    ++ level_column v.sup ++ codes "\n"
 
 -- the word `total` left in 16, a space, and the total right in 14
 abbrev pub total_line : ℕ → List ℕ
@@ -38,8 +40,8 @@ total_line n = left 16 (codes "total") ++ codes " " ++ right 14 n ++ codes "\n"
 abbrev pub sheet_text : (FieldView → List ℕ) → List FieldView → List ℕ
 sheet_text title views = flat_map (λ v. field_line (title v) v) views ++ total_line (sum_by (λ v. v.value) views)
 
--- The text is the sheet of those fields, in the order of their names: each has a line, with its settled value, its infimum and
--- its supremum.
+-- The text is the sheet of those fields, in the order of their names: each has a line, with its settled value, its
+-- infimum and its supremum.
 pub record IsSheet (is_shown : Name → Bool) (title : FieldView → List ℕ) (A : Ledger) (text : List ℕ) : Type 0 where
   pub views : List FieldView
   pub show : AllZip (ShowsField A) (filter (λ f. is_shown f.name) A.fields) views

@@ -65,12 +65,15 @@ impl Single for Bounds {
     }
 }
 
-/// The other bounds that a file gives to fields, each under its key. Its first record is exactly `key,branch,article,lo,hi`, and each
-/// further one a `rebound` in the spelling of commands. `BadRecord` names the first record at fault: 0 is the header, also where there is none, and
-/// those behind it count from 1. Records are those of the crate `csv`: blank lines are none, and no field is trimmed.
+/// The other bounds that a file gives to fields, each under its key. Its first record is exactly
+/// `key,branch,article,lo,hi`, and each further one a `rebound` in the spelling of commands. `BadRecord` names the
+/// first record at fault: 0 is the header, also where there is none, and those behind it count from 1. Records are
+/// those of the crate `csv`: blank lines are none, and no field is trimmed.
 pub fn read_bounds<R: Read + Drop>(alloc: Global, reader: R) -> Result<Vec<Request>, FileFault>
-    ensures ok { IfOk result (λ requests. IfSome (R.remaining reader) (λ bytes. IsFile bounds_header SayBounds bytes requests.items)) }
-    ensures bad { IfErr result (λ fault. IfSome (R.remaining reader) (λ bytes. NamesFirst bounds_header SayBounds bytes fault)) }
+    ensures ok { IfOk result (λ requests. IfSome (R.remaining reader) (λ bytes.
+        IsFile bounds_header SayBounds bytes requests.items)) }
+    ensures bad { IfErr result (λ fault. IfSome (R.remaining reader) (λ bytes.
+        NamesFirst bounds_header SayBounds bytes fault)) }
 {
     read_singles(alloc, reader, Bounds)
 }

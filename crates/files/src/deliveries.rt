@@ -62,12 +62,15 @@ impl Single for Deliveries {
     }
 }
 
-/// The deliveries of a file, each under its key. Its first record is exactly `key,branch,article,qty`, and each further one a
-/// delivery in the spelling of commands. `BadRecord` names the first record at fault: 0 is the header, also where there is none, and
-/// those behind it count from 1. Records are those of the crate `csv`: blank lines are none, and no field is trimmed.
+/// The deliveries of a file, each under its key. Its first record is exactly `key,branch,article,qty`, and each further
+/// one a delivery in the spelling of commands. `BadRecord` names the first record at fault: 0 is the header, also where
+/// there is none, and those behind it count from 1. Records are those of the crate `csv`: blank lines are none, and no
+/// field is trimmed.
 pub fn read_deliveries<R: Read + Drop>(alloc: Global, reader: R) -> Result<Vec<Request>, FileFault>
-    ensures ok { IfOk result (λ requests. IfSome (R.remaining reader) (λ bytes. IsFile delivery_header SayDeliveries bytes requests.items)) }
-    ensures bad { IfErr result (λ fault. IfSome (R.remaining reader) (λ bytes. NamesFirst delivery_header SayDeliveries bytes fault)) }
+    ensures ok { IfOk result (λ requests. IfSome (R.remaining reader) (λ bytes.
+        IsFile delivery_header SayDeliveries bytes requests.items)) }
+    ensures bad { IfErr result (λ fault. IfSome (R.remaining reader) (λ bytes.
+        NamesFirst delivery_header SayDeliveries bytes fault)) }
 {
     read_singles(alloc, reader, Deliveries)
 }

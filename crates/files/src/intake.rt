@@ -28,15 +28,19 @@ pub trait Intake: Sized + Drop {
 
     /// Takes in the next record, or says that it is at fault.
     fn take(&mut self, row: &ByteRecord) -> Result<bool, Memory>
-        ensures good { IfOk result (λ good. IsTrue good → (rows : List Record) → took self.old rows → took self.new (rows ++ fields_of row.now ∷ [])) }
-        ensures fault { IfOk result (λ good. (IsTrue good → ⊥) → (rows : List Record) → took self.old rows → Breaks says rows (fields_of row.now)) };
+        ensures good { IfOk result (λ good. IsTrue good → (rows : List Record) → took self.old rows
+            → took self.new (rows ++ fields_of row.now ∷ [])) }
+        ensures fault { IfOk result (λ good. (IsTrue good → ⊥) → (rows : List Record) → took self.old rows
+            → Breaks says rows (fields_of row.now)) };
 }
 
 /// Takes in the record of that number, or names it where it is at fault.
 fn admit<I: Intake>(intake: &mut I, number: u64, row: &ByteRecord) -> Result<(), FileFault>
-    ensures good { OnOk result ((records : List Record) → length records ≡ number → BeginsFile I.header (I.took intake.old) records
+    ensures good { OnOk result ((records : List Record) → length records ≡ number
+        → BeginsFile I.header (I.took intake.old) records
         → BeginsFile I.header (I.took intake.new) (records ++ fields_of row.now ∷ [])) }
-    ensures bad { IfErr result (λ fault. (records : List Record) → length records ≡ number → BeginsFile I.header (I.took intake.old) records
+    ensures bad { IfErr result (λ fault. (records : List Record) → length records ≡ number
+        → BeginsFile I.header (I.took intake.old) records
         → FaultsAt I.header I.says (records ++ fields_of row.now ∷ []) fault) }
 {
     if number == 0 {
@@ -60,8 +64,10 @@ pub fn read_file<R: Read + Drop, I: Intake>(
     mut intake: I,
 ) -> Result<I, FileFault>
     requires { I.took intake [] }
-    ensures ok { IfOk result (λ taken. IfSome (R.remaining reader) (λ bytes. (rows : List Record) × AreRecordsOf bytes (I.header ∷ rows) × I.took taken rows)) }
-    ensures bad { IfErr result (λ fault. IfSome (R.remaining reader) (λ bytes. NamesFirst I.header I.says bytes fault)) }
+    ensures ok { IfOk result (λ taken. IfSome (R.remaining reader) (λ bytes. (rows : List Record)
+        × AreRecordsOf bytes (I.header ∷ rows) × I.took taken rows)) }
+    ensures bad { IfErr result (λ fault. IfSome (R.remaining reader) (λ bytes.
+        NamesFirst I.header I.says bytes fault)) }
 {
     let mut records = ReaderBuilder::new()
         .has_headers(false)

@@ -14,35 +14,51 @@ ghost use Rattle.files.specs.declared.fault.FileFault.TheVariants.{BadRecord};
 
 /// An order file says one list of requests, or has one first record at fault, and never both.
 pub fn an_order_file_says_one_thing()
-    ensures requests { (bytes : List ℕ) (one other : List Request) → IsFile order_header SayOrders bytes one → IsFile order_header SayOrders bytes other → one ≡ other }
-    ensures number { (bytes : List ℕ) (one other : ℕ) → NamesFirst order_header SayOrders bytes (BadRecord one) → NamesFirst order_header SayOrders bytes (BadRecord other) → one ≡ other }
-    ensures apart { (bytes : List ℕ) (requests : List Request) (number : ℕ) → IsFile order_header SayOrders bytes requests → NamesFirst order_header SayOrders bytes (BadRecord number) → ⊥ }
+    ensures requests { (bytes : List ℕ) (one other : List Request) → IsFile order_header SayOrders bytes one
+        → IsFile order_header SayOrders bytes other → one ≡ other }
+    ensures number { (bytes : List ℕ) (one other : ℕ) → NamesFirst order_header SayOrders bytes (BadRecord one)
+        → NamesFirst order_header SayOrders bytes (BadRecord other) → one ≡ other }
+    ensures apart { (bytes : List ℕ) (requests : List Request) (number : ℕ)
+        → IsFile order_header SayOrders bytes requests → NamesFirst order_header SayOrders bytes (BadRecord number)
+        → ⊥ }
 {}
 
 /// A delivery file says one list of requests, or has one first record at fault, and never both.
 pub fn a_delivery_file_says_one_thing()
-    ensures requests { (bytes : List ℕ) (one other : List Request) → IsFile delivery_header SayDeliveries bytes one → IsFile delivery_header SayDeliveries bytes other → one ≡ other }
-    ensures number { (bytes : List ℕ) (one other : ℕ) → NamesFirst delivery_header SayDeliveries bytes (BadRecord one) → NamesFirst delivery_header SayDeliveries bytes (BadRecord other) → one ≡ other }
-    ensures apart { (bytes : List ℕ) (requests : List Request) (number : ℕ) → IsFile delivery_header SayDeliveries bytes requests → NamesFirst delivery_header SayDeliveries bytes (BadRecord number) → ⊥ }
+    ensures requests { (bytes : List ℕ) (one other : List Request) → IsFile delivery_header SayDeliveries bytes one
+        → IsFile delivery_header SayDeliveries bytes other → one ≡ other }
+    ensures number { (bytes : List ℕ) (one other : ℕ) → NamesFirst delivery_header SayDeliveries bytes (BadRecord one)
+        → NamesFirst delivery_header SayDeliveries bytes (BadRecord other) → one ≡ other }
+    ensures apart { (bytes : List ℕ) (requests : List Request) (number : ℕ)
+        → IsFile delivery_header SayDeliveries bytes requests → NamesFirst delivery_header SayDeliveries bytes
+        (BadRecord number) → ⊥ }
 {}
 
 /// A file of bounds says one list of requests, or has one first record at fault, and never both.
 pub fn a_bounds_file_says_one_thing()
-    ensures requests { (bytes : List ℕ) (one other : List Request) → IsFile bounds_header SayBounds bytes one → IsFile bounds_header SayBounds bytes other → one ≡ other }
-    ensures number { (bytes : List ℕ) (one other : ℕ) → NamesFirst bounds_header SayBounds bytes (BadRecord one) → NamesFirst bounds_header SayBounds bytes (BadRecord other) → one ≡ other }
-    ensures apart { (bytes : List ℕ) (requests : List Request) (number : ℕ) → IsFile bounds_header SayBounds bytes requests → NamesFirst bounds_header SayBounds bytes (BadRecord number) → ⊥ }
+    ensures requests { (bytes : List ℕ) (one other : List Request) → IsFile bounds_header SayBounds bytes one
+        → IsFile bounds_header SayBounds bytes other → one ≡ other }
+    ensures number { (bytes : List ℕ) (one other : ℕ) → NamesFirst bounds_header SayBounds bytes (BadRecord one)
+        → NamesFirst bounds_header SayBounds bytes (BadRecord other) → one ≡ other }
+    ensures apart { (bytes : List ℕ) (requests : List Request) (number : ℕ)
+        → IsFile bounds_header SayBounds bytes requests → NamesFirst bounds_header SayBounds bytes (BadRecord number)
+        → ⊥ }
 {}
 
 /// A good ledger has exactly one sheet for each branch and for each article.
 pub fn exactly_one_sheet()
     ensures branch { (A : Ledger) (branch : List ℕ) → Good A → (text : List ℕ) × IsBranchSheet A branch text }
     ensures article { (A : Ledger) (article : List ℕ) → Good A → (text : List ℕ) × IsArticleSheet A article text }
-    ensures one_of_branch { (A : Ledger) (branch one other : List ℕ) → IsBranchSheet A branch one → IsBranchSheet A branch other → one ≡ other }
-    ensures one_of_article { (A : Ledger) (article one other : List ℕ) → IsArticleSheet A article one → IsArticleSheet A article other → one ≡ other }
+    ensures one_of_branch { (A : Ledger) (branch one other : List ℕ) → IsBranchSheet A branch one
+        → IsBranchSheet A branch other → one ≡ other }
+    ensures one_of_article { (A : Ledger) (article one other : List ℕ) → IsArticleSheet A article one
+        → IsArticleSheet A article other → one ≡ other }
 {}
 
 /// The numbers of a good ledger fit into their columns: a field's line has 72 bytes, and the last one 32.
 pub fn sheets_keep_their_columns()
-    ensures branch { (A : Ledger) (branch text : List ℕ) → Good A → IsBranchSheet A branch text → length text ≡ 72 * length (filter (λ f. bytes_eq f.name.branch branch) A.fields) + 32 }
-    ensures article { (A : Ledger) (article text : List ℕ) → Good A → IsArticleSheet A article text → length text ≡ 72 * length (filter (λ f. bytes_eq f.name.article article) A.fields) + 32 }
+    ensures branch { (A : Ledger) (branch text : List ℕ) → Good A → IsBranchSheet A branch text
+        → length text ≡ 72 * length (filter (λ f. bytes_eq f.name.branch branch) A.fields) + 32 }
+    ensures article { (A : Ledger) (article text : List ℕ) → Good A → IsArticleSheet A article text
+        → length text ≡ 72 * length (filter (λ f. bytes_eq f.name.article article) A.fields) + 32 }
 {}

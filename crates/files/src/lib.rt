@@ -1,5 +1,5 @@
-//! Files of requests in, and stock sheets out. A file is CSV (RFC 4180, as the crate `csv` reads it); a sheet is a text in
-//! columns.
+//! Files of requests in, and stock sheets out. A file is CSV (RFC 4180, as the crate `csv` reads it); a sheet is a text
+//! in columns.
 #![tactic(auto)]
 
 mod bounds;

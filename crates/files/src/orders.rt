@@ -41,7 +41,8 @@ pub struct OpenOrder {
 fn line_of(way: &[u8], branch: &[u8], article: &[u8], qty: &[u8]) -> Option<OpenLine>
     ensures form { IfSome result IsOpenLine }
     ensures found { IfSome result (λ line. way.now ∷ branch.now ∷ article.now ∷ qty.now ∷ [] ≡ line_words (line ∷ [])) }
-    ensures none { IfNone result ((line : OpenLine) → IsOpenLine line → way.now ∷ branch.now ∷ article.now ∷ qty.now ∷ [] ≡ line_words (line ∷ []) → ⊥) }
+    ensures none { IfNone result ((line : OpenLine) → IsOpenLine line → way.now ∷ branch.now ∷ article.now ∷ qty.now
+        ∷ [] ≡ line_words (line ∷ []) → ⊥) }
 {
     let way = read_way(way)?;
     let branch = Branch::read(branch).ok()?;
@@ -102,7 +103,8 @@ impl OpenOrder {
 
     /// The order with a line more, or `None` exactly where it has 64.
     fn with(self, line: OpenLine) -> Result<Option<OpenOrder>, Memory>
-        ensures more { IfOk result (λ found. IfSome found (λ longer. longer ≡ record self { lines = self.lines ++ line ∷ [] })) }
+        ensures more { IfOk result (λ found. IfSome found (λ longer. longer
+            ≡ record self { lines = self.lines ++ line ∷ [] })) }
         ensures fits { IfOk result (λ found. IfSome found (λ _. length self.lines < most_lines)) }
         ensures none { IfOk result (λ found. IfNone found (most_lines ≤ length self.lines)) }
     {
@@ -157,7 +159,8 @@ impl Orders {
     /// Goes on with the order by a row under its key, if that fits.
     fn go_on(&mut self, order: OpenOrder, row: &Row) -> Result<bool, Memory>
         ensures done { self.new.done.items ≡ self.old.done.items }
-        ensures good { IfOk result (λ good. IsTrue good → Continues order row.now × (self.new.last ≡ Some (with_line order row.now.line))) }
+        ensures good { IfOk result (λ good. IsTrue good → Continues order row.now
+            × (self.new.last ≡ Some (with_line order row.now.line))) }
         ensures fault { IfOk result (λ good. (IsTrue good → ⊥) → Continues order row.now → ⊥) }
     {
         if !order.agrees(row) {
@@ -233,13 +236,16 @@ impl Intake for Orders {
     }
 }
 
-/// The orders of a file. Its first record is exactly `key,order,until,way,branch,article,qty`, and each further one is a line of an
-/// order in the spelling of commands. Neighbouring records with one key are one `open`, with their 1 to 64 lines in their order;
-/// order and until are equal in all of them. `BadRecord` names the first record at fault: 0 is the header, also where there is none,
-/// and those behind it count from 1. Records are those of the crate `csv`: blank lines are none, and no field is trimmed.
+/// The orders of a file. Its first record is exactly `key,order,until,way,branch,article,qty`, and each further one is
+/// a line of an order in the spelling of commands. Neighbouring records with one key are one `open`, with their 1 to 64
+/// lines in their order; order and until are equal in all of them. `BadRecord` names the first record at fault: 0 is
+/// the header, also where there is none, and those behind it count from 1. Records are those of the crate `csv`: blank
+/// lines are none, and no field is trimmed.
 pub fn read_orders<R: Read + Drop>(alloc: Global, reader: R) -> Result<Vec<Request>, FileFault>
-    ensures ok { IfOk result (λ requests. IfSome (R.remaining reader) (λ bytes. IsFile order_header SayOrders bytes requests.items)) }
-    ensures bad { IfErr result (λ fault. IfSome (R.remaining reader) (λ bytes. NamesFirst order_header SayOrders bytes fault)) }
+    ensures ok { IfOk result (λ requests. IfSome (R.remaining reader) (λ bytes.
+        IsFile order_header SayOrders bytes requests.items)) }
+    ensures bad { IfErr result (λ fault. IfSome (R.remaining reader) (λ bytes.
+        NamesFirst order_header SayOrders bytes fault)) }
 {
     let none = Orders {
         done: Vec::new(alloc),

@@ -50,7 +50,8 @@ pub struct Seven<'a> {
 
 /// The fields of a record that has seven, or `None` exactly where it has not.
 pub fn seven_fields(row: &ByteRecord) -> Option<Seven<'_>>
-    ensures some { IfSome result (λ f. fields_of row.now ≡ f.first.now ∷ f.second.now ∷ f.third.now ∷ f.fourth.now ∷ f.fifth.now ∷ f.sixth.now ∷ f.seventh.now ∷ []) }
+    ensures some { IfSome result (λ f. fields_of row.now ≡ f.first.now ∷ f.second.now ∷ f.third.now ∷ f.fourth.now
+        ∷ f.fifth.now ∷ f.sixth.now ∷ f.seventh.now ∷ []) }
     ensures none { IfNone result (length (fields_of row.now) ≢ 7) }
 {
     if row.len() != 7 {

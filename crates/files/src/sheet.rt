@@ -26,7 +26,8 @@ pub enum Shown {
 impl Shown {
     /// What a field's line has in front, where the field is on the sheet.
     fn title<'a>(&self, view: &'a FieldView) -> Option<&'a [u8]>
-        ensures { let on = is_on self.now (name_of view.now.branch view.now.article) in MatchOption result (on ≡ false) (λ title. (on ≡ true) × (title.now ≡ title_of self.now view.now)) }
+        ensures { let on = is_on self.now (name_of view.now.branch view.now.article) in MatchOption result (on ≡ false)
+            (λ title. (on ≡ true) × (title.now ≡ title_of self.now view.now)) }
     {
         match self {
             Shown::OfBranch(branch) if view.branch.as_bytes() == branch.as_bytes() => {
@@ -129,8 +130,11 @@ fn write_sheet<W: Write>(
     shown: Shown,
     writer: &mut W,
 ) -> Result<(), SheetFault>
-    ensures whole { OnOk result ((text : List ℕ) × IsSheet (is_on shown) (title_of shown) book.now.ledger text × Appends (W.contents writer.old) (W.contents writer.new) text) }
-    ensures beginning { result ≡ Err SheetFault.Io → (text : List ℕ) × (count : ℕ) × IsSheet (is_on shown) (title_of shown) book.now.ledger text × (count ≤ length text) × Appends (W.contents writer.old) (W.contents writer.new) (take count text) }
+    ensures whole { OnOk result ((text : List ℕ) × IsSheet (is_on shown) (title_of shown) book.now.ledger text
+        × Appends (W.contents writer.old) (W.contents writer.new) text) }
+    ensures beginning { result ≡ Err SheetFault.Io → (text : List ℕ) × (count : ℕ)
+        × IsSheet (is_on shown) (title_of shown) book.now.ledger text × (count ≤ length text)
+        × Appends (W.contents writer.old) (W.contents writer.new) (take count text) }
     ensures nothing { result ≡ Err SheetFault.Memory → Appends (W.contents writer.old) (W.contents writer.new) [] }
 {
     let text = match text_of(alloc, book, shown) {
@@ -143,33 +147,39 @@ fn write_sheet<W: Write>(
     }
 }
 
-/// The sheet of a branch: a line for each of its fields, in the order of articles, and the total of their values. A line has the
-/// article, left in 16, and the bounds, the value, the infimum and the supremum, each after a space and right in 10; the last one
-/// `total`, left in 16, and the total, after a space and right in 14. The whole text is made before any of it is written: after
-/// `Memory` nothing is, and after `Io` a beginning.
+/// The sheet of a branch: a line for each of its fields, in the order of articles, and the total of their values. A
+/// line has the article, left in 16, and the bounds, the value, the infimum and the supremum, each after a space and
+/// right in 10; the last one `total`, left in 16, and the total, after a space and right in 14. The whole text is made
+/// before any of it is written: after `Memory` nothing is, and after `Io` a beginning.
 pub fn branch_sheet<W: Write>(
     alloc: Global,
     book: &Book,
     branch: Branch,
     writer: &mut W,
 ) -> Result<(), SheetFault>
-    ensures whole { OnOk result ((text : List ℕ) × IsBranchSheet book.now.ledger branch text × Appends (W.contents writer.old) (W.contents writer.new) text) }
-    ensures beginning { result ≡ Err SheetFault.Io → (text : List ℕ) × (count : ℕ) × IsBranchSheet book.now.ledger branch text × (count ≤ length text) × Appends (W.contents writer.old) (W.contents writer.new) (take count text) }
+    ensures whole { OnOk result ((text : List ℕ) × IsBranchSheet book.now.ledger branch text
+        × Appends (W.contents writer.old) (W.contents writer.new) text) }
+    ensures beginning { result ≡ Err SheetFault.Io → (text : List ℕ) × (count : ℕ)
+        × IsBranchSheet book.now.ledger branch text × (count ≤ length text)
+        × Appends (W.contents writer.old) (W.contents writer.new) (take count text) }
     ensures nothing { result ≡ Err SheetFault.Memory → Appends (W.contents writer.old) (W.contents writer.new) [] }
 {
     write_sheet(alloc, book, Shown::OfBranch(branch), writer)
 }
 
-/// The sheet of an article: a line for each of its fields, in the order of branches, and the total of their values, laid out as in
-/// the sheet of a branch with the branch in front.
+/// The sheet of an article: a line for each of its fields, in the order of branches, and the total of their values,
+/// laid out as in the sheet of a branch with the branch in front.
 pub fn article_sheet<W: Write>(
     alloc: Global,
     book: &Book,
     article: Article,
     writer: &mut W,
 ) -> Result<(), SheetFault>
-    ensures whole { OnOk result ((text : List ℕ) × IsArticleSheet book.now.ledger article text × Appends (W.contents writer.old) (W.contents writer.new) text) }
-    ensures beginning { result ≡ Err SheetFault.Io → (text : List ℕ) × (count : ℕ) × IsArticleSheet book.now.ledger article text × (count ≤ length text) × Appends (W.contents writer.old) (W.contents writer.new) (take count text) }
+    ensures whole { OnOk result ((text : List ℕ) × IsArticleSheet book.now.ledger article text
+        × Appends (W.contents writer.old) (W.contents writer.new) text) }
+    ensures beginning { result ≡ Err SheetFault.Io → (text : List ℕ) × (count : ℕ)
+        × IsArticleSheet book.now.ledger article text × (count ≤ length text)
+        × Appends (W.contents writer.old) (W.contents writer.new) (take count text) }
     ensures nothing { result ≡ Err SheetFault.Memory → Appends (W.contents writer.old) (W.contents writer.new) [] }
 {
     write_sheet(alloc, book, Shown::OfArticle(article), writer)

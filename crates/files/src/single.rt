@@ -68,8 +68,10 @@ pub fn read_singles<S: Single, R: Read + Drop>(
     reader: R,
     kind: S,
 ) -> Result<Vec<Request>, FileFault>
-    ensures ok { IfOk result (λ requests. IfSome (R.remaining reader) (λ bytes. IsFile S.header (AllZip S.says) bytes requests.items)) }
-    ensures bad { IfErr result (λ fault. IfSome (R.remaining reader) (λ bytes. NamesFirst S.header (AllZip S.says) bytes fault)) }
+    ensures ok { IfOk result (λ requests. IfSome (R.remaining reader) (λ bytes. IsFile S.header
+        (AllZip S.says) bytes requests.items)) }
+    ensures bad { IfErr result (λ fault. IfSome (R.remaining reader) (λ bytes. NamesFirst S.header
+        (AllZip S.says) bytes fault)) }
 {
     let none = Singles {
         kind,

@@ -30,7 +30,7 @@ use Rattle.keep.specs.KeyOrders.{desk_cmp_total}
 use Rattle.keep.proofs.Texts.{desk_upsert}
 use Rattle.keep.proofs.Meanings.{puts, numbered_terms, desk_upsert_is, desk_upsert_plain}
 use Rattle.keep.proofs.Values.{cast_int, cast_null, equal_int, is_equal}
-use Rattle.keep.proofs.Upserted.{Upserted}
+use Rattle.keep.proofs.UpsertTrees.{Upserted}
 use Rattle.keep.proofs.Upsert.{upserts}
 use Rattle.keep.proofs.UpsertRows.{shown_key, rows_kept}
 

@@ -29,7 +29,7 @@ use Rattle.keep.specs.KeyOrders.{field_cmp_total}
 use Rattle.keep.proofs.Texts.{field_upsert}
 use Rattle.keep.proofs.Meanings.{puts, field_terms, field_upsert_is, field_upsert_plain}
 use Rattle.keep.proofs.Values.{cast_int, cast_null, equal_text, is_equal, same_text, both_equal, both_are}
-use Rattle.keep.proofs.Upserted.{Upserted}
+use Rattle.keep.proofs.UpsertTrees.{Upserted}
 use Rattle.keep.proofs.Upsert.{upserts}
 use Rattle.keep.proofs.UpsertRows.{shown_key, rows_kept}
 

@@ -37,7 +37,7 @@ use Rattle.keep.specs.KeyOrders.{firm_cmp_total}
 use Rattle.keep.proofs.Texts.{firm_upsert}
 use Rattle.keep.proofs.Meanings.{firm_terms, firm_upsert_is, firm_upsert_plain}
 use Rattle.keep.proofs.Values.{cast_int, cast_null, equal_int, same_number}
-use Rattle.keep.proofs.Upserted.{Inserted}
+use Rattle.keep.proofs.UpsertTrees.{Inserted}
 use Rattle.keep.proofs.Insert.{inserts}
 use Rattle.keep.proofs.UpsertRows.{has_permuted, rows_kept}
 

@@ -21,9 +21,9 @@ use Rattle.sqlite.specs.declared.run.Mode.{Mode}
 use Rattle.sqlite.specs.Effect.{Database, value_rows}
 use Rattle.sqlite.specs.Rows.{Written, Task, Meets, Judged, stamped, Clears, Puts, Tries, Upserts}
 use Rattle.sqlite.specs.Does.{Tally, Does}
-use Rattle.keep.proofs.Making.{same_value}
+use Rattle.keep.proofs.NewTables.{same_value}
 use Rattle.keep.proofs.OneRow.{added, puts_one}
-use Rattle.keep.proofs.Upserted.{Inserted}
+use Rattle.keep.proofs.UpsertTrees.{Inserted}
 
 false_unless : (b : Bool) → (b ≡ true → ⊥) → b ≡ false
 false_unless true h = absurd (h refl)

@@ -29,7 +29,7 @@ use Rattle.keep.specs.KeyOrders.{kept_cmp_total}
 use Rattle.keep.proofs.Texts.{kept_upsert}
 use Rattle.keep.proofs.Meanings.{puts, kept_terms, kept_upsert_is, kept_upsert_plain}
 use Rattle.keep.proofs.Values.{cast_int, cast_null, equal_text, is_equal, same_text}
-use Rattle.keep.proofs.Upserted.{Upserted}
+use Rattle.keep.proofs.UpsertTrees.{Upserted}
 use Rattle.keep.proofs.Upsert.{upserts}
 use Rattle.keep.proofs.UpsertRows.{shown_key, rows_kept}
 

@@ -30,7 +30,7 @@ use Rattle.keep.specs.KeyOrders.{line_cmp_total}
 use Rattle.keep.proofs.Texts.{line_upsert}
 use Rattle.keep.proofs.Meanings.{puts, line_terms, line_upsert_is, line_upsert_plain}
 use Rattle.keep.proofs.Values.{cast_int, cast_null, equal_int, is_equal, both_equal, both_are}
-use Rattle.keep.proofs.Upserted.{Upserted}
+use Rattle.keep.proofs.UpsertTrees.{Upserted}
 use Rattle.keep.proofs.Upsert.{upserts}
 use Rattle.keep.proofs.UpsertRows.{shown_key, rows_kept}
 

@@ -30,7 +30,7 @@ use Rattle.keep.specs.KeyOrders.{move_cmp_total}
 use Rattle.keep.proofs.Texts.{move_upsert}
 use Rattle.keep.proofs.Meanings.{puts, numbered_terms, move_upsert_is, move_upsert_plain}
 use Rattle.keep.proofs.Values.{cast_int, cast_null, equal_int, is_equal}
-use Rattle.keep.proofs.Upserted.{Upserted}
+use Rattle.keep.proofs.UpsertTrees.{Upserted}
 use Rattle.keep.proofs.Upsert.{upserts}
 use Rattle.keep.proofs.UpsertRows.{shown_key, rows_kept}
 

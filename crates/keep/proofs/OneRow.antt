@@ -21,8 +21,8 @@ use Rattle.sqlite.specs.Effect.{Database, value_rows}
 use Rattle.sqlite.specs.Rows.{Written, Task, TriesEach, Counts, InsertsOr, rowids_for, stamped, Puts, Tries, nothing}
 use Rattle.sqlite.specs.Does.{Tally, Does, AtPlace, OnRows}
 use Rattle.sqlite.proofs.Callers.{one_step}
-use Rattle.keep.proofs.Making.{same_value, went}
-use Rattle.keep.proofs.Upserted.{IsAlone}
+use Rattle.keep.proofs.NewTables.{same_value, went}
+use Rattle.keep.proofs.UpsertTrees.{IsAlone}
 
 pub freed : (b c : Bool) → (not b && c) ≡ true → b ≡ false
 freed true c h = sym h

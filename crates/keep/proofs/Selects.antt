@@ -21,7 +21,7 @@ use Rattle.sqlite_trees.specs.Tree.{Trees}
 use Rattle.sqlite.specs.Schema.{Schema}
 use Rattle.keep.specs.Schema.{desk_schema, old_schema}
 use Rattle.keep.specs.Columns.{desk_selected, field_selected, move_selected, order_selected, line_selected, kept_selected, firm_selected}
-use Rattle.keep.specs.Loading.{IsOfAVersion}
+use Rattle.keep.specs.Loads.{IsOfAVersion}
 use Rattle.keep.proofs.Texts as t
 use Rattle.keep.proofs.Meanings as m
 

@@ -6,7 +6,7 @@ use Rattle.sqlite.proofs.Callers.{unchanged_then}
 use Rattle.sqlite.proofs.StateLemmas.{survives_then}
 use Rattle.sqlite_trees.specs.Tree.{Trees}
 use Rattle.keep.specs.Schema.{desk_schema}
-use Rattle.keep.specs.Loading.{Finds}
+use Rattle.keep.specs.Loads.{Finds}
 
 pub survives_itself : (s : State) (P : Trees → Type 0) → Survives s s P
 survives_itself s P = record { clean = omega arith; shield = λ h. h; counts = omega arith; limit = refl; closes = λ clean h. inl h; crash = λ clean db h. inl h }

@@ -46,9 +46,9 @@ use Rattle.sqlite.proofs.Callers.{one_step, one_permutation}
 use Rattle.std.proofs.lemmas.List.{length-map}
 use Rattle.keep.specs.Content.{HaveNumbers}
 use Rattle.keep.proofs.Values.{equal_int, cast_int, same_number}
-use Rattle.keep.proofs.Making.{same_value, went}
+use Rattle.keep.proofs.NewTables.{same_value, went}
 use Rattle.keep.proofs.OneRow.{added, freed, puts_one}
-use Rattle.keep.proofs.Upserted.{Upserted}
+use Rattle.keep.proofs.UpsertTrees.{Upserted}
 
 later_freed : (b c : Bool) → (not b && c) ≡ true → c ≡ true
 later_freed true c h = absurd (true≢false (sym h))

@@ -20,8 +20,8 @@ use Rattle.sqlite_keyed.proofs.ListLemmas.{all_weaker, all-filter, filter_all, f
 use Rattle.std.specs.List.Sorted.{IsStrictlySortedBy}
 use Rattle.book.specs.Changes.{put_row as put_by_key}
 use Rattle.keep.specs.Content.{AreRows, HaveNumbers}
-use Rattle.keep.proofs.Keyed.{rows_put, put_sorted}
-use Rattle.keep.proofs.Upserted.{Upserted}
+use Rattle.keep.proofs.KeyPuts.{rows_put, put_sorted}
+use Rattle.keep.proofs.UpsertTrees.{Upserted}
 
 -- a row whose rowid is free goes in beside the others
 put_fresh : (new : Row) (rows : List Row) → is_taken rows new ≡ false → IsPermutation (put_row new rows) (new ∷ rows)

@@ -9,7 +9,8 @@ abbrev pub desk_stored : Row → Row
 desk_stored r = column r 0 ∷ column r 2 ∷ column r 3 ∷ column r 4 ∷ []
 
 abbrev pub field_stored : Row → Row
-field_stored r = column r 1 ∷ column r 2 ∷ column r 3 ∷ column r 4 ∷ column r 5 ∷ column r 6 ∷ column r 7 ∷ column r 8 ∷ []
+field_stored r =
+    column r 1 ∷ column r 2 ∷ column r 3 ∷ column r 4 ∷ column r 5 ∷ column r 6 ∷ column r 7 ∷ column r 8 ∷ []
 
 abbrev pub move_stored : Row → Row
 move_stored r = column r 0 ∷ column r 2 ∷ column r 3 ∷ column r 4 ∷ []
@@ -31,7 +32,8 @@ abbrev pub desk_columns : DeskCells → Row
 desk_columns x = Int x.one ∷ Int x.version ∷ Int x.clock ∷ Int x.places ∷ []
 
 abbrev pub field_columns : FieldCells → Row
-field_columns x = Text x.branch ∷ Text x.article ∷ Int x.lo ∷ Int x.hi ∷ Int x.start ∷ Int x.value ∷ Int x.inf ∷ Int x.sup ∷ []
+field_columns x =
+    Text x.branch ∷ Text x.article ∷ Int x.lo ∷ Int x.hi ∷ Int x.start ∷ Int x.value ∷ Int x.inf ∷ Int x.sup ∷ []
 
 abbrev pub move_columns : MoveCells → Row
 move_columns x = Int x.place ∷ Text x.branch ∷ Text x.article ∷ Int x.qty ∷ []
@@ -48,12 +50,15 @@ kept_columns x = Text x.reqkey ∷ Int x.place ∷ Text x.words ∷ []
 abbrev pub firm_columns : FirmCells → Row
 firm_columns x = Int x.number ∷ []
 
--- the columns that a SELECT shows of a stored row: those of the table, and last the rowid where the key is not the rowid
+-- the columns that a SELECT shows of a stored row: those of the table, and last the rowid where the key is not the
+-- rowid
 abbrev pub desk_selected : Row → Row
 desk_selected r = column r 0 ∷ column r 2 ∷ column r 3 ∷ column r 4 ∷ []
 
 abbrev pub field_selected : Row → Row
-field_selected r = column r 1 ∷ column r 2 ∷ column r 3 ∷ column r 4 ∷ column r 5 ∷ column r 6 ∷ column r 7 ∷ column r 8 ∷ column r 0 ∷ []
+field_selected r =
+    column r 1 ∷ column r 2 ∷ column r 3 ∷ column r 4 ∷ column r 5 ∷ column r 6 ∷ column r 7 ∷ column r 8 ∷ column r 0
+    ∷ []
 
 abbrev pub move_selected : Row → Row
 move_selected r = column r 0 ∷ column r 2 ∷ column r 3 ∷ column r 4 ∷ []
@@ -62,7 +67,8 @@ abbrev pub order_selected : Row → Row
 order_selected r = column r 0 ∷ column r 2 ∷ column r 3 ∷ column r 4 ∷ []
 
 abbrev pub line_selected : Row → Row
-line_selected r = column r 1 ∷ column r 2 ∷ column r 3 ∷ column r 4 ∷ column r 5 ∷ column r 6 ∷ column r 7 ∷ column r 0 ∷ []
+line_selected r =
+    column r 1 ∷ column r 2 ∷ column r 3 ∷ column r 4 ∷ column r 5 ∷ column r 6 ∷ column r 7 ∷ column r 0 ∷ []
 
 abbrev pub kept_selected : Row → Row
 kept_selected r = column r 1 ∷ column r 2 ∷ column r 3 ∷ column r 0 ∷ []
@@ -75,7 +81,9 @@ abbrev pub desk_shown : Row → Row
 desk_shown answer = column answer 0 ∷ column answer 1 ∷ column answer 2 ∷ column answer 3 ∷ []
 
 abbrev pub field_shown : Row → Row
-field_shown answer = column answer 0 ∷ column answer 1 ∷ column answer 2 ∷ column answer 3 ∷ column answer 4 ∷ column answer 5 ∷ column answer 6 ∷ column answer 7 ∷ []
+field_shown answer =
+    column answer 0 ∷ column answer 1 ∷ column answer 2 ∷ column answer 3 ∷ column answer 4 ∷ column answer 5
+    ∷ column answer 6 ∷ column answer 7 ∷ []
 
 abbrev pub move_shown : Row → Row
 move_shown answer = column answer 0 ∷ column answer 1 ∷ column answer 2 ∷ column answer 3 ∷ []
@@ -84,7 +92,9 @@ abbrev pub order_shown : Row → Row
 order_shown answer = column answer 0 ∷ column answer 1 ∷ column answer 2 ∷ column answer 3 ∷ []
 
 abbrev pub line_shown : Row → Row
-line_shown answer = column answer 0 ∷ column answer 1 ∷ column answer 2 ∷ column answer 3 ∷ column answer 4 ∷ column answer 5 ∷ column answer 6 ∷ []
+line_shown answer =
+    column answer 0 ∷ column answer 1 ∷ column answer 2 ∷ column answer 3 ∷ column answer 4 ∷ column answer 5
+    ∷ column answer 6 ∷ []
 
 abbrev pub kept_shown : Row → Row
 kept_shown answer = column answer 0 ∷ column answer 1 ∷ column answer 2 ∷ []

@@ -25,7 +25,8 @@ abbrev pub HaveNumbers : List Row → Type 0
 HaveNumbers rows = AllByRecursion (λ r. IsTrue (is_int (rowid r))) rows
 
 -- the stored rows are these, in whatever order they lie, and no key comes twice
-pub record AreRows {X : Type 0} (cmp : X → X → Ordering) (stored : Row → Row) (columns : X → Row) (rows : List Row) (xs : List X) : Type 0 where
+pub record AreRows {X : Type 0} (cmp : X → X → Ordering) (stored : Row → Row) (columns : X → Row) (rows : List Row)
+    (xs : List X) : Type 0 where
   pub same : IsPermutation (map stored rows) (map columns xs)
   pub sorted : IsStrictlySortedBy cmp xs
   pub numbers : HaveNumbers rows
@@ -53,9 +54,11 @@ HasTable schema trees table Are = (tree : ℕ) × IsAmong schema.tables (record 
 -- the seven tables are declared, in whatever order and beside whatever others, and this is what they hold
 pub record HasTables (db : Database) (x : Content) : Type 0 where
   pub desk : HasTable db.schema db.trees desk_table (λ rows. AreRows desk_cmp desk_stored desk_columns rows x.desk)
-  pub fields : HasTable db.schema db.trees field_table (λ rows. AreRows field_cmp field_stored field_columns rows x.fields)
+  pub fields : HasTable db.schema db.trees field_table
+      (λ rows. AreRows field_cmp field_stored field_columns rows x.fields)
   pub moves : HasTable db.schema db.trees move_table (λ rows. AreRows move_cmp move_stored move_columns rows x.moves)
-  pub orders : HasTable db.schema db.trees orders_table (λ rows. AreRows order_cmp order_stored order_columns rows x.orders)
+  pub orders : HasTable db.schema db.trees orders_table
+      (λ rows. AreRows order_cmp order_stored order_columns rows x.orders)
   pub lines : HasTable db.schema db.trees line_table (λ rows. AreRows line_cmp line_stored line_columns rows x.lines)
   pub kept : HasTable db.schema db.trees kept_table (λ rows. AreRows kept_cmp kept_stored kept_columns rows x.kept)
   pub firms : HasTable db.schema db.trees firm_table (λ rows. AreRows firm_cmp firm_stored firm_columns rows x.firms)

@@ -8,4 +8,6 @@ pub record Keeper (S : Type 0) : Type 0 where
   pub stopped : Bool
 
 abbrev pub keeper_code : {S : Type 0} → Coded S → Coded (Keeper S)
-keeper_code {S} store = code_by (Held S × Bool) (coded× (held_code store) coded_bool) (λ k. (k.connection, k.stopped)) (λ p. record { connection = p.0; stopped = p.1 }) (λ _. refl)
+keeper_code {S} store =
+    code_by (Held S × Bool) (coded× (held_code store) coded_bool) (λ k. (k.connection, k.stopped))
+    (λ p. record { connection = p.0; stopped = p.1 }) (λ _. refl)

@@ -7,7 +7,9 @@ pub desk_cmp_total : IsTotalOrder desk_cmp
 desk_cmp_total = on_total (λ (x : DeskCells). x.one) int_cmp_total
 
 pub field_cmp_total : IsTotalOrder field_cmp
-field_cmp_total = then_total (on_total (λ (x : FieldCells). x.branch) nat_list_cmp_total) (on_total (λ (x : FieldCells). x.article) nat_list_cmp_total)
+field_cmp_total =
+    then_total (on_total (λ (x : FieldCells). x.branch) nat_list_cmp_total)
+    (on_total (λ (x : FieldCells). x.article) nat_list_cmp_total)
 
 pub move_cmp_total : IsTotalOrder move_cmp
 move_cmp_total = on_total (λ (x : MoveCells). x.place) int_cmp_total
@@ -16,7 +18,8 @@ pub order_cmp_total : IsTotalOrder order_cmp
 order_cmp_total = on_total (λ (x : OrderCells). x.number) int_cmp_total
 
 pub line_cmp_total : IsTotalOrder line_cmp
-line_cmp_total = then_total (on_total (λ (x : LineCells). x.number) int_cmp_total) (on_total (λ (x : LineCells). x.nr) int_cmp_total)
+line_cmp_total =
+    then_total (on_total (λ (x : LineCells). x.number) int_cmp_total) (on_total (λ (x : LineCells). x.nr) int_cmp_total)
 
 pub kept_cmp_total : IsTotalOrder kept_cmp
 kept_cmp_total = on_total (λ (x : KeptCells). x.reqkey) nat_list_cmp_total

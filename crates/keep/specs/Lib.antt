@@ -4,8 +4,8 @@ pub mod Content
 pub mod Transactions
 pub mod Names
 pub mod Old
-pub mod Raising
-pub mod Loading
+pub mod UpgradeSteps
+pub mod Loads
 pub mod Keeper
 pub mod Stages
 pub mod Plain

@@ -11,10 +11,12 @@ use Rattle.keep.specs.Columns.{desk_stored, field_stored, move_stored, order_sto
 use Rattle.keep.specs.Content.{AreRows, HasTable, Holds, IsContent}
 use Rattle.keep.specs.Names.{HasTableNamed}
 
--- The six tables are declared, in whatever order and beside whatever others, and hold whatever rows; none is named `firm`; and
+-- The six tables are declared, in whatever order and beside whatever others, and hold whatever rows; none is named
+-- `firm`; and
 -- `desk` has one row, of version 1.
 pub record IsOld (db : Database) : Type 0 where
-  pub desk : (row : DeskCells) × HasTable db.schema db.trees desk_table (λ rows. AreRows desk_cmp desk_stored desk_columns rows (row ∷ [])) × (row.version ≡ pos 1)
+  pub desk : (row : DeskCells) × HasTable db.schema db.trees desk_table
+      (λ rows. AreRows desk_cmp desk_stored desk_columns rows (row ∷ [])) × (row.version ≡ pos 1)
   pub field : HasTable db.schema db.trees field_table (λ _. ⊤)
   pub move : HasTable db.schema db.trees move_table (λ _. ⊤)
   pub orders : HasTable db.schema db.trees orders_table (λ _. ⊤)
@@ -25,7 +27,8 @@ pub record IsOld (db : Database) : Type 0 where
 -- the schema is that of a desk as it is made, and `desk` has one row, of version 2
 pub record IsCurrent (db : Database) : Type 0 where
   pub schema_is : db.schema ≡ desk_schema
-  pub desk : (row : DeskCells) × AreRows desk_cmp desk_stored desk_columns (db.trees desk_table.tree) (row ∷ []) × (row.version ≡ pos 2)
+  pub desk : (row : DeskCells) × AreRows desk_cmp desk_stored desk_columns (db.trees desk_table.tree) (row ∷ [])
+      × (row.version ≡ pos 2)
 
 -- trees with the six tables where the schema of version 1 has them, and with these rows, none of them of `firm`
 pub record IsOldContent (trees : Trees) (x : Content) : Type 0 where

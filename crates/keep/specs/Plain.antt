@@ -57,11 +57,13 @@ IsToFail k = (k.stopped ≡ false) × (k.fails_in ≡ Some 1)
 
 -- after a commit that does not fail
 abbrev pub after_commit : List Change → Plain → Plain
-after_commit changes k = record k { content = with_changes changes k.content; fails_in = option_map (λ n. n - 1) k.fails_in }
+after_commit changes k =
+    record k { content = with_changes changes k.content; fails_in = option_map (λ n. n - 1) k.fails_in }
 
 -- after the commit that fails
 abbrev pub after_failure : List Change → Plain → Plain
-after_failure changes k = record k { content = (if k.lands then with_changes changes k.content else k.content); stopped = true }
+after_failure changes k =
+    record k { content = (if k.lands then with_changes changes k.content else k.content); stopped = true }
 
 -- after another error
 abbrev pub after_error : Plain → Plain

@@ -1,4 +1,5 @@
--- The seven tables as SQL declares them, in the order in which they are made. All are STRICT, and each column is NOT NULL.
+-- The seven tables as SQL declares them, in the order in which they are made. All are STRICT, and each column is NOT
+-- NULL.
 use Rattle.std.specs.Prelude.{true, false, [], ◌∷◌, ◌++◌, Some, None, codes, List, ℕ}
 use Rattle.sqlite.specs.declared.types.Value.TheVariants.{Null}
 use Rattle.sqlite.specs.Collation.TheVariants.{Binary}
@@ -11,7 +12,8 @@ use Rattle.sqlite_schema.specs.declared.schema.Index.{Index}
 use Rattle.sqlite_value.specs.declared.keys.Order.{Order}
 
 abbrev pub column : Kind → List ℕ → Column
-column kind name = record { name = name; kind = kind; is_strict = true; not_null = true; default = Null; collation = Binary }
+column kind name =
+    record { name = name; kind = kind; is_strict = true; not_null = true; default = Null; collation = Binary }
 
 abbrev pub whole_number : List ℕ → Column
 whole_number = column Integer
@@ -58,14 +60,17 @@ keyed_table name tree columns places = record {
 
 -- the index that SQLite makes for the key of such a table
 abbrev pub key_index : List ℕ → ℕ → ℕ → List ℕ → Index
-key_index name tree table places = record { name = name; tree = tree; table = table; columns = places; order = plain_order; is_unique = true }
+key_index name tree table places =
+    record { name = name; tree = tree; table = table; columns = places; order = plain_order; is_unique = true }
 
 abbrev pub desk_table : Table
-desk_table = numbered_table (codes "desk") 0 (whole_number (codes "one") ∷ whole_number (codes "version") ∷ whole_number (codes "clock") ∷ whole_number (codes "places") ∷ [])
+desk_table = numbered_table (codes "desk") 0 (whole_number (codes "one") ∷ whole_number (codes "version")
+    ∷ whole_number (codes "clock") ∷ whole_number (codes "places") ∷ [])
 
 abbrev pub field_table : Table
 field_table = keyed_table (codes "field") 1
-    (text (codes "branch") ∷ text (codes "article") ∷ whole_number (codes "lo") ∷ whole_number (codes "hi") ∷ whole_number (codes "start")
+    (text (codes "branch") ∷ text (codes "article") ∷ whole_number (codes "lo") ∷ whole_number (codes "hi")
+    ∷ whole_number (codes "start")
     ∷ whole_number (codes "value") ∷ whole_number (codes "inf") ∷ whole_number (codes "sup") ∷ [])
     (1 ∷ 2 ∷ [])
 
@@ -73,14 +78,18 @@ abbrev pub field_index : Index
 field_index = key_index (codes "sqlite_autoindex_field_1") 2 1 (1 ∷ 2 ∷ [])
 
 abbrev pub move_table : Table
-move_table = numbered_table (codes "move") 3 (whole_number (codes "place") ∷ text (codes "branch") ∷ text (codes "article") ∷ whole_number (codes "qty") ∷ [])
+move_table = numbered_table (codes "move") 3 (whole_number (codes "place") ∷ text (codes "branch")
+    ∷ text (codes "article") ∷ whole_number (codes "qty") ∷ [])
 
 abbrev pub orders_table : Table
-orders_table = numbered_table (codes "orders") 4 (whole_number (codes "number") ∷ whole_number (codes "kind") ∷ whole_number (codes "until") ∷ whole_number (codes "state") ∷ [])
+orders_table =
+    numbered_table (codes "orders") 4 (whole_number (codes "number") ∷ whole_number (codes "kind")
+    ∷ whole_number (codes "until") ∷ whole_number (codes "state") ∷ [])
 
 abbrev pub line_table : Table
 line_table = keyed_table (codes "line") 5
-    (whole_number (codes "number") ∷ whole_number (codes "nr") ∷ text (codes "branch") ∷ text (codes "article") ∷ whole_number (codes "way")
+    (whole_number (codes "number") ∷ whole_number (codes "nr") ∷ text (codes "branch") ∷ text (codes "article")
+    ∷ whole_number (codes "way")
     ∷ whole_number (codes "held") ∷ whole_number (codes "used") ∷ [])
     (1 ∷ 2 ∷ [])
 
@@ -88,7 +97,8 @@ abbrev pub line_index : Index
 line_index = key_index (codes "sqlite_autoindex_line_1") 6 5 (1 ∷ 2 ∷ [])
 
 abbrev pub kept_table : Table
-kept_table = keyed_table (codes "kept") 7 (text (codes "reqkey") ∷ whole_number (codes "place") ∷ text (codes "words") ∷ []) (1 ∷ [])
+kept_table = keyed_table (codes "kept") 7 (text (codes "reqkey") ∷ whole_number (codes "place") ∷ text (codes "words")
+    ∷ []) (1 ∷ [])
 
 abbrev pub kept_index : Index
 kept_index = key_index (codes "sqlite_autoindex_kept_1") 8 7 (1 ∷ [])

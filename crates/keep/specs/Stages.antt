@@ -15,10 +15,19 @@ abbrev pub with_move : Schema
 with_move = record { tables = desk_table ∷ field_table ∷ move_table ∷ []; indexes = field_index ∷ []; views = [] }
 
 abbrev pub with_orders : Schema
-with_orders = record { tables = desk_table ∷ field_table ∷ move_table ∷ orders_table ∷ []; indexes = field_index ∷ []; views = [] }
+with_orders =
+    record {
+      tables = desk_table ∷ field_table ∷ move_table ∷ orders_table ∷ [];
+      indexes = field_index ∷ [];
+      views = [];
+    }
 
 abbrev pub with_line : Schema
-with_line = record { tables = desk_table ∷ field_table ∷ move_table ∷ orders_table ∷ line_table ∷ []; indexes = field_index ∷ line_index ∷ []; views = [] }
+with_line = record {
+  tables = desk_table ∷ field_table ∷ move_table ∷ orders_table ∷ line_table ∷ [];
+  indexes = field_index ∷ line_index ∷ [];
+  views = [];
+}
 
 -- the tables of this schema are there, and have no rows
 pub record IsBare (schema : Schema) (db : Database) : Type 0 where

@@ -48,8 +48,10 @@ pub(crate) fn commit_all<S: Alter>(
 ) -> Result<(), Error>
     requires idle { conn.old.in_transaction ≡ false }
     ensures idle { conn.new.in_transaction ≡ false }
-    ensures put { HasCleanDisk (state S.Store conn.new) → OnOk result (Committed (state S.Store conn.old) (state S.Store conn.new) changes.now) }
-    ensures survives { Survives (state S.Store conn.old) (state S.Store conn.new) (AreChanged (state S.Store conn.old).now changes.now) }
+    ensures put { HasCleanDisk (state S.Store conn.new) → OnOk result (Committed (state S.Store conn.old)
+        (state S.Store conn.new) changes.now) }
+    ensures survives { Survives (state S.Store conn.old) (state S.Store conn.new)
+        (AreChanged (state S.Store conn.old).now changes.now) }
 {
     let mut tx = conn.transaction();
     put_all(&mut tx, changes)?;

@@ -21,7 +21,8 @@ use sqlite::{Alter, Connection, Error, Transaction};
 /// Makes the table of the desk's own state.
 fn create_desk<S: Alter>(tx: &mut Transaction<'_, S>) -> Result<usize, Error>
     ensures same_reference { tx.new.conn.ghost_name ≡ tx.old.conn.ghost_name }
-    ensures made { HasCleanDisk (state S.Store tx.new.conn.now) → IsTrue (state S.Store tx.old.conn.now).in_transaction → IsBare no_schema (state S.Store tx.old.conn.now).now
+    ensures made { HasCleanDisk (state S.Store tx.new.conn.now) → IsTrue (state S.Store tx.old.conn.now).in_transaction
+        → IsBare no_schema (state S.Store tx.old.conn.now).now
         → OnOk result (Makes (IsBare with_desk) (state S.Store tx.old.conn.now) (state S.Store tx.new.conn.now)) }
     ensures survives { Survives (state S.Store tx.old.conn.now) (state S.Store tx.new.conn.now) (λ _. ⊥) }
 {
@@ -34,7 +35,8 @@ fn create_desk<S: Alter>(tx: &mut Transaction<'_, S>) -> Result<usize, Error>
 /// Makes the table of the fields.
 fn create_field<S: Alter>(tx: &mut Transaction<'_, S>) -> Result<usize, Error>
     ensures same_reference { tx.new.conn.ghost_name ≡ tx.old.conn.ghost_name }
-    ensures made { HasCleanDisk (state S.Store tx.new.conn.now) → IsTrue (state S.Store tx.old.conn.now).in_transaction → IsBare with_desk (state S.Store tx.old.conn.now).now
+    ensures made { HasCleanDisk (state S.Store tx.new.conn.now) → IsTrue (state S.Store tx.old.conn.now).in_transaction
+        → IsBare with_desk (state S.Store tx.old.conn.now).now
         → OnOk result (Makes (IsBare with_field) (state S.Store tx.old.conn.now) (state S.Store tx.new.conn.now)) }
     ensures survives { Survives (state S.Store tx.old.conn.now) (state S.Store tx.new.conn.now) (λ _. ⊥) }
 {
@@ -47,7 +49,8 @@ fn create_field<S: Alter>(tx: &mut Transaction<'_, S>) -> Result<usize, Error>
 /// Makes the table of the moves.
 fn create_move<S: Alter>(tx: &mut Transaction<'_, S>) -> Result<usize, Error>
     ensures same_reference { tx.new.conn.ghost_name ≡ tx.old.conn.ghost_name }
-    ensures made { HasCleanDisk (state S.Store tx.new.conn.now) → IsTrue (state S.Store tx.old.conn.now).in_transaction → IsBare with_field (state S.Store tx.old.conn.now).now
+    ensures made { HasCleanDisk (state S.Store tx.new.conn.now) → IsTrue (state S.Store tx.old.conn.now).in_transaction
+        → IsBare with_field (state S.Store tx.old.conn.now).now
         → OnOk result (Makes (IsBare with_move) (state S.Store tx.old.conn.now) (state S.Store tx.new.conn.now)) }
     ensures survives { Survives (state S.Store tx.old.conn.now) (state S.Store tx.new.conn.now) (λ _. ⊥) }
 {
@@ -60,7 +63,8 @@ fn create_move<S: Alter>(tx: &mut Transaction<'_, S>) -> Result<usize, Error>
 /// Makes the table of the orders.
 fn create_orders<S: Alter>(tx: &mut Transaction<'_, S>) -> Result<usize, Error>
     ensures same_reference { tx.new.conn.ghost_name ≡ tx.old.conn.ghost_name }
-    ensures made { HasCleanDisk (state S.Store tx.new.conn.now) → IsTrue (state S.Store tx.old.conn.now).in_transaction → IsBare with_move (state S.Store tx.old.conn.now).now
+    ensures made { HasCleanDisk (state S.Store tx.new.conn.now) → IsTrue (state S.Store tx.old.conn.now).in_transaction
+        → IsBare with_move (state S.Store tx.old.conn.now).now
         → OnOk result (Makes (IsBare with_orders) (state S.Store tx.old.conn.now) (state S.Store tx.new.conn.now)) }
     ensures survives { Survives (state S.Store tx.old.conn.now) (state S.Store tx.new.conn.now) (λ _. ⊥) }
 {
@@ -73,7 +77,8 @@ fn create_orders<S: Alter>(tx: &mut Transaction<'_, S>) -> Result<usize, Error>
 /// Makes the table of the lines of orders.
 fn create_line<S: Alter>(tx: &mut Transaction<'_, S>) -> Result<usize, Error>
     ensures same_reference { tx.new.conn.ghost_name ≡ tx.old.conn.ghost_name }
-    ensures made { HasCleanDisk (state S.Store tx.new.conn.now) → IsTrue (state S.Store tx.old.conn.now).in_transaction → IsBare with_orders (state S.Store tx.old.conn.now).now
+    ensures made { HasCleanDisk (state S.Store tx.new.conn.now) → IsTrue (state S.Store tx.old.conn.now).in_transaction
+        → IsBare with_orders (state S.Store tx.old.conn.now).now
         → OnOk result (Makes (IsBare with_line) (state S.Store tx.old.conn.now) (state S.Store tx.new.conn.now)) }
     ensures survives { Survives (state S.Store tx.old.conn.now) (state S.Store tx.new.conn.now) (λ _. ⊥) }
 {
@@ -86,7 +91,8 @@ fn create_line<S: Alter>(tx: &mut Transaction<'_, S>) -> Result<usize, Error>
 /// Makes the table of the kept keys.
 fn create_kept<S: Alter>(tx: &mut Transaction<'_, S>) -> Result<usize, Error>
     ensures same_reference { tx.new.conn.ghost_name ≡ tx.old.conn.ghost_name }
-    ensures made { HasCleanDisk (state S.Store tx.new.conn.now) → IsTrue (state S.Store tx.old.conn.now).in_transaction → IsBare with_line (state S.Store tx.old.conn.now).now
+    ensures made { HasCleanDisk (state S.Store tx.new.conn.now) → IsTrue (state S.Store tx.old.conn.now).in_transaction
+        → IsBare with_line (state S.Store tx.old.conn.now).now
         → OnOk result (Makes (IsBare old_schema) (state S.Store tx.old.conn.now) (state S.Store tx.new.conn.now)) }
     ensures survives { Survives (state S.Store tx.old.conn.now) (state S.Store tx.new.conn.now) (λ _. ⊥) }
 {
@@ -99,10 +105,12 @@ fn create_kept<S: Alter>(tx: &mut Transaction<'_, S>) -> Result<usize, Error>
 /// Makes the table of the firm orders, beside the others.
 pub(crate) fn create_firm<S: Alter>(tx: &mut Transaction<'_, S>) -> Result<usize, Error>
     ensures same_reference { tx.new.conn.ghost_name ≡ tx.old.conn.ghost_name }
-    ensures made { HasCleanDisk (state S.Store tx.new.conn.now) → IsTrue (state S.Store tx.old.conn.now).in_transaction → IsBare old_schema (state S.Store tx.old.conn.now).now
+    ensures made { HasCleanDisk (state S.Store tx.new.conn.now) → IsTrue (state S.Store tx.old.conn.now).in_transaction
+        → IsBare old_schema (state S.Store tx.old.conn.now).now
         → OnOk result (Makes (IsBare desk_schema) (state S.Store tx.old.conn.now) (state S.Store tx.new.conn.now)) }
     ensures added { HasCleanDisk (state S.Store tx.new.conn.now) → IsTrue (state S.Store tx.old.conn.now).in_transaction
-        → OnOk result (Makes (λ db. (x : Content) → HoldsOld (state S.Store tx.old.conn.now).now x → Holds db x) (state S.Store tx.old.conn.now) (state S.Store tx.new.conn.now)) }
+        → OnOk result (Makes (λ db. (x : Content) → HoldsOld (state S.Store tx.old.conn.now).now x → Holds db x)
+        (state S.Store tx.old.conn.now) (state S.Store tx.new.conn.now)) }
     ensures survives { Survives (state S.Store tx.old.conn.now) (state S.Store tx.new.conn.now) (λ _. ⊥) }
 {
     tx.execute(
@@ -114,8 +122,10 @@ pub(crate) fn create_firm<S: Alter>(tx: &mut Transaction<'_, S>) -> Result<usize
 /// Puts the one row of `desk` in.
 fn start<S: Alter>(tx: &mut Transaction<'_, S>) -> Result<usize, Error>
     ensures same_reference { tx.new.conn.ghost_name ≡ tx.old.conn.ghost_name }
-    ensures made { HasCleanDisk (state S.Store tx.new.conn.now) → IsTrue (state S.Store tx.old.conn.now).in_transaction → IsBare desk_schema (state S.Store tx.old.conn.now).now
-        → OnOk result (Makes (λ db. Holds db new_content) (state S.Store tx.old.conn.now) (state S.Store tx.new.conn.now)) }
+    ensures made { HasCleanDisk (state S.Store tx.new.conn.now) → IsTrue (state S.Store tx.old.conn.now).in_transaction
+        → IsBare desk_schema (state S.Store tx.old.conn.now).now
+        → OnOk result (Makes (λ db. Holds db new_content) (state S.Store tx.old.conn.now)
+        (state S.Store tx.new.conn.now)) }
     ensures survives { Survives (state S.Store tx.old.conn.now) (state S.Store tx.new.conn.now) (λ _. ⊥) }
 {
     tx.execute(
@@ -132,7 +142,8 @@ fn start<S: Alter>(tx: &mut Transaction<'_, S>) -> Result<usize, Error>
 /// Makes the seven tables, in the order of the schema.
 fn create_tables<S: Alter>(tx: &mut Transaction<'_, S>) -> Result<(), Error>
     ensures same_reference { tx.new.conn.ghost_name ≡ tx.old.conn.ghost_name }
-    ensures made { HasCleanDisk (state S.Store tx.new.conn.now) → IsTrue (state S.Store tx.old.conn.now).in_transaction → IsBare no_schema (state S.Store tx.old.conn.now).now
+    ensures made { HasCleanDisk (state S.Store tx.new.conn.now) → IsTrue (state S.Store tx.old.conn.now).in_transaction
+        → IsBare no_schema (state S.Store tx.old.conn.now).now
         → OnOk result (Makes (IsBare desk_schema) (state S.Store tx.old.conn.now) (state S.Store tx.new.conn.now)) }
     ensures survives { Survives (state S.Store tx.old.conn.now) (state S.Store tx.new.conn.now) (λ _. ⊥) }
 {
@@ -151,8 +162,10 @@ fn create<S: Alter>(conn: &mut Connection<S>) -> Result<(), Error>
     requires idle { conn.old.in_transaction ≡ false }
     requires empty { (state S.Store conn.old).now.schema ≡ no_schema }
     ensures idle { conn.new.in_transaction ≡ false }
-    ensures made { HasCleanDisk (state S.Store conn.new) → OnOk result (IsSettled (λ db. Holds db new_content) (state S.Store conn.new)) }
-    ensures survives { Survives (state S.Store conn.old) (state S.Store conn.new) (λ trees. IsContent trees new_content) }
+    ensures made { HasCleanDisk (state S.Store conn.new) → OnOk result
+        (IsSettled (λ db. Holds db new_content) (state S.Store conn.new)) }
+    ensures survives { Survives (state S.Store conn.old) (state S.Store conn.new)
+        (λ trees. IsContent trees new_content) }
 {
     let mut tx = conn.transaction();
     create_tables(&mut tx)?;
@@ -161,17 +174,23 @@ fn create<S: Alter>(conn: &mut Connection<S>) -> Result<(), Error>
 }
 
 impl<S: Alter> SqlKeep<S> {
-    /// Makes the seven tables and the one row of `desk` in one transaction. A store in which a table or anything else is
-    /// declared already is refused with `Store` and left as it is. A stop leaves what was before or the whole new desk.
+    /// Makes the seven tables and the one row of `desk` in one transaction. A store in which a table or anything else
+    /// is declared already is refused with `Store` and left as it is. A stop leaves what was before or the whole new
+    /// desk.
     pub fn create_over(conn: &mut Connection<S>) -> Result<(), KeepFault>
         requires { conn.old.in_transaction ≡ false }
         ensures idle { conn.new.in_transaction ≡ false }
-        ensures taken { ¬ ((state S.Store conn.old).now.schema ≡ no_schema) → (result ≡ Err KeepFault.Store) × (conn.new ≡ conn.old) }
+        ensures taken { ¬ ((state S.Store conn.old).now.schema ≡ no_schema) → (result ≡ Err KeepFault.Store)
+            × (conn.new ≡ conn.old) }
         ensures fault { IfErr result (λ fault. (fault ≡ KeepFault.Memory) ⊎ (fault ≡ KeepFault.Store)) }
         ensures clean { HasCleanDisk (state S.Store conn.new) → HasCleanDisk (state S.Store conn.old) }
-        ensures made { HasCleanDisk (state S.Store conn.new) → OnOk result (IsSettled (λ db. Holds db new_content) (state S.Store conn.new)) }
-        ensures alone { HasCleanDisk (state S.Store conn.new) → OnOk result (LeavesOnly (state S.Store conn.new).may_leave (new_content ∷ [])) }
-        ensures either { HasCleanDisk (state S.Store conn.new) → (trees : Trees) → (state S.Store conn.new).may_leave trees → (state S.Store conn.old).may_leave trees ⊎ IsContent trees new_content }
+        ensures made { HasCleanDisk (state S.Store conn.new) → OnOk result
+            (IsSettled (λ db. Holds db new_content) (state S.Store conn.new)) }
+        ensures alone { HasCleanDisk (state S.Store conn.new) → OnOk result
+            (LeavesOnly (state S.Store conn.new).may_leave (new_content ∷ [])) }
+        ensures either { HasCleanDisk (state S.Store conn.new) → (trees : Trees)
+            → (state S.Store conn.new).may_leave trees → (state S.Store conn.old).may_leave trees
+            ⊎ IsContent trees new_content }
     {
         if !is_empty(conn.schema()) {
             return Err(KeepFault::Store);

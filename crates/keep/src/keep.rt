@@ -65,12 +65,12 @@ pub trait Keep {
     fn is_stopped(&self) -> bool
         ensures { result ≡ stopped self.now };
 
-    /// The content, each table in the order of its key. Changes nothing, and a stop then leaves that content alone. Whatever
-    /// is answered, nothing is added to what a stop may leave, and the keeper is set as it was.
+    /// The content, each table in the order of its key. Changes nothing, and a stop then leaves that content alone.
+    /// Whatever is answered, nothing is added to what a stop may leave, and the keeper is set as it was.
     ///
-    /// `Stopped` on a stopped keeper; `OldVersion` only where the store is of version 1, and there nothing else but `Memory`
-    /// and `Store`; `NotADesk` only where it does not hold the seven tables with one row of `desk` of version 2; `Memory` and
-    /// `Store` where that is refused or fails.
+    /// `Stopped` on a stopped keeper; `OldVersion` only where the store is of version 1, and there nothing else but
+    /// `Memory` and `Store`; `NotADesk` only where it does not hold the seven tables with one row of `desk` of version
+    /// 2; `Memory` and `Store` where that is refused or fails.
     fn load(&mut self, alloc: Global) -> Result<Tables, KeepFault>
         ensures refused { IsTrue (stopped self.old) → (result ≡ Err KeepFault.Stopped) × (self.new ≡ self.old) }
         ensures going { stopped self.old ≡ false → result ≢ Err KeepFault.Stopped }
@@ -79,16 +79,21 @@ pub trait Keep {
         ensures ok { OnOk result (stopped self.new ≡ false) }
         ensures err { OnErr result (IsTrue (stopped self.new)) }
         ensures content { is_honest self.new → IfOk result (λ tables. holds self.new (content_of tables)) }
-        ensures one { is_honest self.new → IfOk result (λ tables. (x : Content) → holds self.old x → content_of tables ≡ x) }
-        ensures same { is_honest self.new → OnOk result ((x : Content) → (holds self.old x → holds self.new x) × (holds self.new x → holds self.old x)) }
+        ensures one { is_honest self.new → IfOk result (λ tables. (x : Content) → holds self.old x
+            → content_of tables ≡ x) }
+        ensures same { is_honest self.new → OnOk result ((x : Content) → (holds self.old x → holds self.new x)
+            × (holds self.new x → holds self.old x)) }
         ensures order { IfOk result (λ tables. IsInKeyOrder (content_of tables)) }
         ensures version { IfOk result (λ tables. IsDesk (content_of tables)) }
-        ensures desk { is_honest self.new → result ≡ Err KeepFault.NotADesk → (x : Content) → has_tables self.old x → ¬ IsDesk x }
+        ensures desk { is_honest self.new → result ≡ Err KeepFault.NotADesk → (x : Content) → has_tables self.old x
+            → ¬ IsDesk x }
         ensures old_version { is_honest self.new → result ≡ Err KeepFault.OldVersion → is_old self.old }
-        ensures only_old { is_honest self.new → stopped self.old ≡ false → is_old self.old → (result ≡ Err KeepFault.OldVersion) ⊎ ((result ≡ Err KeepFault.Memory) ⊎ (result ≡ Err KeepFault.Store)) }
+        ensures only_old { is_honest self.new → stopped self.old ≡ false → is_old self.old
+            → (result ≡ Err KeepFault.OldVersion) ⊎ ((result ≡ Err KeepFault.Memory) ⊎ (result ≡ Err KeepFault.Store)) }
         ensures alone { is_honest self.new → OnOk result ((x : Content) → holds self.new x → leaves self.new (x ∷ [])) }
         // nothing is added to what a stop may leave
-        ensures adds_nothing { is_honest self.new → (these : List Content) → leaves self.old these → leaves self.new these }
+        ensures adds_nothing { is_honest self.new → (these : List Content) → leaves self.old these
+            → leaves self.new these }
         ensures no_more { is_honest self.new → (x : Content) → may_leave self.new x → may_leave self.old x };
 
     /// Puts the rows in by their keys, all or none. Each row of `desk` among them has one = 1 and the version of the
@@ -105,9 +110,11 @@ pub trait Keep {
         ensures honest { is_honest self.new → is_honest self.old }
         ensures ok { OnOk result (stopped self.new ≡ false) }
         ensures err { OnErr result (IsTrue (stopped self.new)) }
-        ensures put { is_honest self.new → OnOk result ((x : Content) → holds self.old x → holds self.new (with_changes changes.now x)) }
+        ensures put { is_honest self.new → OnOk result ((x : Content) → holds self.old x
+            → holds self.new (with_changes changes.now x)) }
         ensures alone { is_honest self.new → OnOk result ((x : Content) → holds self.new x → leaves self.new (x ∷ [])) }
-        ensures either { is_honest self.new → stopped self.old ≡ false → (x : Content) → holds self.old x → leaves self.old (x ∷ [])
+        ensures either { is_honest self.new → stopped self.old ≡ false → (x : Content) → holds self.old x
+            → leaves self.old (x ∷ [])
             → leaves self.new (x ∷ with_changes changes.now x ∷ []) };
 
     // What is held stands in the seven tables.
@@ -123,7 +130,8 @@ pub trait Keep {
     ghost among: { (k : Self) (these : List Content) (x : Content) → leaves k these → may_leave k x → IsAmong these x };
 
     // Where there is such a list, a stop may leave a content.
-    ghost some_content: { (k : Self) (these : List Content) → is_honest k → leaves k these → ∥ ((x : Content) × may_leave k x) ∥₁ };
+    ghost some_content: { (k : Self) (these : List Content) → is_honest k → leaves k these
+        → ∥ ((x : Content) × may_leave k x) ∥₁ };
 }
 
 /// The fault that an error of the store is told as.

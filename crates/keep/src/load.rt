@@ -9,7 +9,7 @@ ghost use Rattle.book.specs.Tables.{content_of, field_cells, move_cells, order_c
 ghost use Rattle.keep.specs.Schema.{desk_schema};
 ghost use Rattle.keep.specs.Columns.{field_stored, move_stored, order_stored, line_stored, firm_stored, field_columns, move_columns, order_columns, line_columns, firm_columns};
 ghost use Rattle.keep.specs.Content.{AreRows, HasTables, Holds, IsDesk};
-ghost use Rattle.keep.specs.Loading.{Finds};
+ghost use Rattle.keep.specs.Loads.{Finds};
 
 use crate::table::load;
 use crate::tables::desk;
@@ -23,10 +23,13 @@ fn load_stock<S: Alter>(
     conn: &mut Connection<S>,
 ) -> Result<(Vec<FieldRow>, Vec<MoveRow>), Error>
     ensures mode { conn.old.in_transaction ≡ false → conn.new.in_transaction ≡ false }
-    ensures order { IfOk result (λ stock. IsStrictlySortedBy field_cmp (map field_cells stock.0.items) × IsStrictlySortedBy move_cmp (map move_cells stock.1.items)) }
-    ensures found { IfOk result (λ stock. Finds (state S.Store conn.old) (state S.Store conn.new) (λ trees. AreRows field_cmp field_stored field_columns (trees 1) (map field_cells stock.0.items)
+    ensures order { IfOk result (λ stock. IsStrictlySortedBy field_cmp (map field_cells stock.0.items)
+        × IsStrictlySortedBy move_cmp (map move_cells stock.1.items)) }
+    ensures found { IfOk result (λ stock. Finds (state S.Store conn.old) (state S.Store conn.new)
+        (λ trees. AreRows field_cmp field_stored field_columns (trees 1) (map field_cells stock.0.items)
         × AreRows move_cmp move_stored move_columns (trees 3) (map move_cells stock.1.items))) }
-    ensures survives { Survives (state S.Store conn.old) (state S.Store conn.new) (λ _. ¬ ((state S.Store conn.old).now.schema ≡ desk_schema)) }
+    ensures survives { Survives (state S.Store conn.old) (state S.Store conn.new)
+        (λ _. ¬ ((state S.Store conn.old).now.schema ≡ desk_schema)) }
 {
     let fields = load(alloc, conn)?;
     let moves = load(alloc, conn)?;
@@ -39,11 +42,15 @@ fn load_orders<S: Alter>(
     conn: &mut Connection<S>,
 ) -> Result<(Vec<OrderRow>, Vec<LineRow>, Vec<FirmRow>), Error>
     ensures mode { conn.old.in_transaction ≡ false → conn.new.in_transaction ≡ false }
-    ensures order { IfOk result (λ orders. IsStrictlySortedBy order_cmp (map order_cells orders.0.items) × IsStrictlySortedBy line_cmp (map line_cells orders.1.items)
+    ensures order { IfOk result (λ orders. IsStrictlySortedBy order_cmp (map order_cells orders.0.items)
+        × IsStrictlySortedBy line_cmp (map line_cells orders.1.items)
         × IsStrictlySortedBy firm_cmp (map firm_cells orders.2.items)) }
-    ensures found { IfOk result (λ orders. Finds (state S.Store conn.old) (state S.Store conn.new) (λ trees. (AreRows order_cmp order_stored order_columns (trees 4) (map order_cells orders.0.items)
-        × AreRows line_cmp line_stored line_columns (trees 5) (map line_cells orders.1.items)) × AreRows firm_cmp firm_stored firm_columns (trees 9) (map firm_cells orders.2.items))) }
-    ensures survives { Survives (state S.Store conn.old) (state S.Store conn.new) (λ _. ¬ ((state S.Store conn.old).now.schema ≡ desk_schema)) }
+    ensures found { IfOk result (λ orders. Finds (state S.Store conn.old) (state S.Store conn.new)
+        (λ trees. (AreRows order_cmp order_stored order_columns (trees 4) (map order_cells orders.0.items)
+        × AreRows line_cmp line_stored line_columns (trees 5) (map line_cells orders.1.items))
+        × AreRows firm_cmp firm_stored firm_columns (trees 9) (map firm_cells orders.2.items))) }
+    ensures survives { Survives (state S.Store conn.old) (state S.Store conn.new)
+        (λ _. ¬ ((state S.Store conn.old).now.schema ≡ desk_schema)) }
 {
     let orders = load(alloc, conn)?;
     let lines = load(alloc, conn)?;
@@ -62,9 +69,13 @@ pub(crate) fn load_all<S: Alter>(
     ensures idle { conn.new.in_transaction ≡ false }
     ensures order { IfOk result (λ found. IfSome found (λ tables. IsInKeyOrder (content_of tables))) }
     ensures version { IfOk result (λ found. IfSome found (λ tables. IsDesk (content_of tables))) }
-    ensures content { HasCleanDisk (state S.Store conn.new) → IfOk result (λ found. IfSome found (λ tables. Holds (state S.Store conn.old).now (content_of tables) × IsUnchanged (state S.Store conn.old) (state S.Store conn.new))) }
-    ensures one { HasCleanDisk (state S.Store conn.new) → IfOk result (λ found. IfSome found (λ tables. (x : Content) → Holds (state S.Store conn.old).now x → content_of tables ≡ x)) }
-    ensures none { HasCleanDisk (state S.Store conn.new) → IfOk result (λ found. found ≡ None → (x : Content) → HasTables (state S.Store conn.old).now x → ¬ IsDesk x) }
+    ensures content { HasCleanDisk (state S.Store conn.new) → IfOk result
+        (λ found. IfSome found (λ tables. Holds (state S.Store conn.old).now (content_of tables)
+        × IsUnchanged (state S.Store conn.old) (state S.Store conn.new))) }
+    ensures one { HasCleanDisk (state S.Store conn.new) → IfOk result (λ found. IfSome found
+        (λ tables. (x : Content) → Holds (state S.Store conn.old).now x → content_of tables ≡ x)) }
+    ensures none { HasCleanDisk (state S.Store conn.new) → IfOk result
+        (λ found. found ≡ None → (x : Content) → HasTables (state S.Store conn.old).now x → ¬ IsDesk x) }
     ensures survives { Survives (state S.Store conn.old) (state S.Store conn.new) (λ _. ⊥) }
 {
     let Some(desk) = desk::load(conn, desk::VERSION)? else {

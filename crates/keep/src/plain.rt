@@ -31,7 +31,12 @@ impl Model for PlainKeep {
 
     ghost Value = { Plain };
 
-    ghost view = { λ k. record { content = shelf_content k.shelf; fails_in = k.fails_in; lands = k.lands; stopped = k.stopped } };
+    ghost view = { λ k. record {
+      content = shelf_content k.shelf;
+      fails_in = k.fails_in;
+      lands = k.lands;
+      stopped = k.stopped;
+    } };
 
     ghost invariant = { λ k. IsInOrder k.shelf };
 }
@@ -95,7 +100,8 @@ impl Keep for PlainKeep {
         ensures desk { (result ≢ Err KeepFault.NotADesk) × (result ≢ Err KeepFault.OldVersion) }
         ensures ok { OnOk result ((self.new ≡ self.old) × (self.new.stopped ≡ false)) }
         ensures err { OnErr result (self.new ≡ after_error self.old) }
-        ensures same { (self.new.content ≡ self.old.content) × (self.new.fails_in ≡ self.old.fails_in) × (self.new.lands ≡ self.old.lands) }
+        ensures same { (self.new.content ≡ self.old.content) × (self.new.fails_in ≡ self.old.fails_in)
+            × (self.new.lands ≡ self.old.lands) }
         ensures content { IfOk result (λ tables. content_of tables ≡ self.old.content) }
         ensures order { IfOk result (λ tables. IsInKeyOrder (content_of tables)) }
         ensures version { IfOk result (λ tables. IsDesk (content_of tables)) }
@@ -122,11 +128,13 @@ impl Keep for PlainKeep {
         ensures fails { IsToFail self.old → OnOk result ⊥ }
         ensures at_once { IsToFail self.old → self.old.lands ≡ false → result ≡ Err KeepFault.Store }
         ensures ok { OnOk result ((self.new ≡ after_commit changes.now self.old) × (self.new.stopped ≡ false)) }
-        ensures store { result ≡ Err KeepFault.Store → IsToFail self.old × (self.new ≡ after_failure changes.now self.old) }
+        ensures store { result ≡ Err KeepFault.Store → IsToFail self.old
+            × (self.new ≡ after_failure changes.now self.old) }
         ensures memory { result ≡ Err KeepFault.Memory → self.new ≡ after_error self.old }
         ensures err { OnErr result (IsTrue self.new.stopped) }
         ensures lands { self.new.lands ≡ self.old.lands }
-        ensures either { (self.new.content ≡ self.old.content) ⊎ (self.new.content ≡ with_changes changes.now self.old.content) }
+        ensures either { (self.new.content ≡ self.old.content) ⊎ (self.new.content
+            ≡ with_changes changes.now self.old.content) }
     {
         if self.stopped {
             return Err(KeepFault::Stopped);

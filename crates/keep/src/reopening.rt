@@ -27,8 +27,10 @@ fn cut_and_open<D: Crash + Drop>(
 ) -> Option<Connection<FileStore<D>>>
     ensures idle { IfSome result (λ again. again.in_transaction ≡ false) }
     ensures open { IfSome result (λ again. HasCleanDisk (file_state again) → IsTrue (file_state again).is_open) }
-    ensures left { IfSome result (λ again. HasCleanDisk (file_state again) → ∥ (file_state conn).may_leave (file_state again).now.trees ∥₁) }
-    ensures found { IfSome result (λ again. HasCleanDisk (file_state again) → (these : List Content) → LeavesOnly (file_state conn).may_leave these
+    ensures left { IfSome result (λ again. HasCleanDisk (file_state again)
+        → ∥ (file_state conn).may_leave (file_state again).now.trees ∥₁) }
+    ensures found { IfSome result (λ again. HasCleanDisk (file_state again) → (these : List Content)
+        → LeavesOnly (file_state conn).may_leave these
         → ∥ ((x : Content) × Holds (file_state again).now x × IsAmong these x) ∥₁) }
 {
     let store = conn.into_store();
@@ -50,10 +52,13 @@ pub fn reopen<D: Crash + Drop>(
 ) -> Option<SqlKeep<FileStore<D>>>
     ensures going { IfSome result (λ again. again.stopped ≡ false) }
     // of whatever version, the trees are some that a stop could leave
-    ensures left { IfSome result (λ again. HasCleanDisk (file_state again.connection) → ∥ (file_state keep.connection).may_leave (file_state again.connection).now.trees ∥₁) }
-    ensures found { IfSome result (λ again. HasCleanDisk (file_state again.connection) → (these : List Content) → LeavesOnly (file_state keep.connection).may_leave these
+    ensures left { IfSome result (λ again. HasCleanDisk (file_state again.connection)
+        → ∥ (file_state keep.connection).may_leave (file_state again.connection).now.trees ∥₁) }
+    ensures found { IfSome result (λ again. HasCleanDisk (file_state again.connection) → (these : List Content)
+        → LeavesOnly (file_state keep.connection).may_leave these
         → ∥ ((x : Content) × Holds (file_state again.connection).now x × IsAmong these x) ∥₁) }
-    ensures alone { IfSome result (λ again. HasCleanDisk (file_state again.connection) → (x : Content) → Holds (file_state again.connection).now x → LeavesOnly (file_state again.connection).may_leave (x ∷ [])) }
+    ensures alone { IfSome result (λ again. HasCleanDisk (file_state again.connection) → (x : Content)
+        → Holds (file_state again.connection).now x → LeavesOnly (file_state again.connection).may_leave (x ∷ [])) }
 {
     let conn = cut_and_open(alloc, keep.into_connection(), options)?;
     Some(SqlKeep::over(conn))
@@ -68,29 +73,36 @@ pub fn reopen_and_load<D: Crash + Drop>(
 ) -> Option<(SqlKeep<FileStore<D>>, Result<Tables, KeepFault>)>
     ensures going { IfSome result (λ r. OnOk r.1 (r.0.stopped ≡ false)) }
     ensures stopped { IfSome result (λ r. OnErr r.1 (IsTrue r.0.stopped)) }
-    ensures held { IfSome result (λ r. HasCleanDisk (file_state r.0.connection) → IfOk r.1 (λ tables. Holds (file_state r.0.connection).now (content_of tables))) }
-    ensures found { IfSome result (λ r. HasCleanDisk (file_state r.0.connection) → (these : List Content) → LeavesOnly (file_state keep.connection).may_leave these
+    ensures held { IfSome result (λ r. HasCleanDisk (file_state r.0.connection)
+        → IfOk r.1 (λ tables. Holds (file_state r.0.connection).now (content_of tables))) }
+    ensures found { IfSome result (λ r. HasCleanDisk (file_state r.0.connection) → (these : List Content)
+        → LeavesOnly (file_state keep.connection).may_leave these
         → IfOk r.1 (λ tables. ∥ IsAmong these (content_of tables) ∥₁)) }
-    ensures desk { IfSome result (λ r. HasCleanDisk (file_state r.0.connection) → (these : List Content) → LeavesOnly (file_state keep.connection).may_leave these → AllByRecursion IsDesk these
+    ensures desk { IfSome result (λ r. HasCleanDisk (file_state r.0.connection) → (these : List Content)
+        → LeavesOnly (file_state keep.connection).may_leave these → AllByRecursion IsDesk these
         → r.1 ≢ Err KeepFault.NotADesk) }
-    ensures alone { IfSome result (λ r. HasCleanDisk (file_state r.0.connection) → IfOk r.1 (λ tables. LeavesOnly (file_state r.0.connection).may_leave (content_of tables ∷ []))) }
+    ensures alone { IfSome result (λ r. HasCleanDisk (file_state r.0.connection)
+        → IfOk r.1 (λ tables. LeavesOnly (file_state r.0.connection).may_leave (content_of tables ∷ []))) }
 {
     let mut again = reopen(alloc, keep, options)?;
     let tables = again.load(alloc);
     Some((again, tables))
 }
 
-/// A keeper over the file of this path, whose bytes at the start are named by `start`: it holds what they hold, and a stop
-/// leaves that alone. A file that is not there is made, without tables. The error is that of the open.
+/// A keeper over the file of this path, whose bytes at the start are named by `start`: it holds what they hold, and a
+/// stop leaves that alone. A file that is not there is made, without tables. The error is that of the open.
 pub fn open_path<S: Start>(
     rt: &HostRuntime,
     path: &str,
     start: S,
 ) -> Result<SqlKeep<FileStore<FileFrom<S>>>, Error>
     ensures going { IfOk result (λ keep. keep.stopped ≡ false) }
-    ensures found { IfOk result (λ keep. HasCleanDisk (file_state keep.connection) → (trees : Trees) (x : Content) → HoldsDatabase (image_at S.Start) trees → IsContent trees x → Holds (file_state keep.connection).now x) }
-    ensures old { IfOk result (λ keep. HasCleanDisk (file_state keep.connection) → (trees : Trees) (x : Content) → HoldsDatabase (image_at S.Start) trees → IsOldContent trees x → HoldsOld (file_state keep.connection).now x) }
-    ensures alone { IfOk result (λ keep. HasCleanDisk (file_state keep.connection) → (x : Content) → Holds (file_state keep.connection).now x → LeavesOnly (file_state keep.connection).may_leave (x ∷ [])) }
+    ensures found { IfOk result (λ keep. HasCleanDisk (file_state keep.connection) → (trees : Trees) (x : Content)
+        → HoldsDatabase (image_at S.Start) trees → IsContent trees x → Holds (file_state keep.connection).now x) }
+    ensures old { IfOk result (λ keep. HasCleanDisk (file_state keep.connection) → (trees : Trees) (x : Content)
+        → HoldsDatabase (image_at S.Start) trees → IsOldContent trees x → HoldsOld (file_state keep.connection).now x) }
+    ensures alone { IfOk result (λ keep. HasCleanDisk (file_state keep.connection) → (x : Content)
+        → Holds (file_state keep.connection).now x → LeavesOnly (file_state keep.connection).may_leave (x ∷ [])) }
 {
     match Connection::open_from(rt, path, false, start) {
         Ok(conn) => Ok(SqlKeep::over(conn)),

@@ -48,7 +48,13 @@ fn is_unstamped(stamps: &Stamps) -> bool
 
 /// The table has no rule but its key and its columns.
 fn is_plain(table: &Table) -> bool
-    ensures { IsTrue result ↔ (table.now ≡ record table.now { checks = []; references = []; computed = []; stamps = record { places = []; terms = []; formats = [] }; is_counted = false }) }
+    ensures { IsTrue result ↔ (table.now ≡ record table.now {
+      checks = [];
+      references = [];
+      computed = [];
+      stamps = record { places = []; terms = []; formats = [] };
+      is_counted = false;
+    }) }
 {
     is_none(&table.checks)
         && table.references.is_empty()
@@ -59,7 +65,12 @@ fn is_plain(table: &Table) -> bool
 
 /// The first column is the key.
 fn has_number(table: &Table) -> bool
-    ensures { IsTrue result ↔ (table.now ≡ record table.now { key = Some 0; primary = 0 ∷ []; uniques = []; orders = [] }) }
+    ensures { IsTrue result ↔ (table.now ≡ record table.now {
+      key = Some 0;
+      primary = 0 ∷ [];
+      uniques = [];
+      orders = [];
+    }) }
 {
     table.key == Some(0)
         && table.primary.as_slice() == [0].as_slice()
@@ -93,7 +104,12 @@ fn is_one_plain_order(orders: &[Order]) -> bool
 
 /// The columns at these places are the key.
 fn has_key(table: &Table, places: &[usize]) -> bool
-    ensures { IsTrue result ↔ (table.now ≡ record table.now { key = None; primary = places.now; uniques = places.now ∷ []; orders = plain_order ∷ [] }) }
+    ensures { IsTrue result ↔ (table.now ≡ record table.now {
+      key = None;
+      primary = places.now;
+      uniques = places.now ∷ [];
+      orders = plain_order ∷ [];
+    }) }
 {
     table.key == None
         && are_places(&table.primary, places)
@@ -139,7 +155,8 @@ fn is_desk_table(table: &Table) -> bool
 
 /// The columns of a field's numbers.
 fn are_number_columns(columns: &[Column]) -> bool
-    ensures { IsTrue result ↔ (columns.now ≡ whole_number (codes "lo") ∷ whole_number (codes "hi") ∷ whole_number (codes "start") ∷ whole_number (codes "value") ∷ whole_number (codes "inf") ∷ whole_number (codes "sup") ∷ []) }
+    ensures { IsTrue result ↔ (columns.now ≡ whole_number (codes "lo") ∷ whole_number (codes "hi") ∷ whole_number
+        (codes "start") ∷ whole_number (codes "value") ∷ whole_number (codes "inf") ∷ whole_number (codes "sup") ∷ []) }
 {
     let [lo, hi, start, value, inf, sup] = columns else {
         return false;
@@ -197,7 +214,8 @@ fn is_orders_table(table: &Table) -> bool
 
 /// The columns of what a line holds: on which field, which way and how much.
 fn are_holding_columns(columns: &[Column]) -> bool
-    ensures { IsTrue result ↔ (columns.now ≡ text (codes "branch") ∷ text (codes "article") ∷ whole_number (codes "way") ∷ whole_number (codes "held") ∷ whole_number (codes "used") ∷ []) }
+    ensures { IsTrue result ↔ (columns.now ≡ text (codes "branch") ∷ text (codes "article") ∷ whole_number (codes "way")
+        ∷ whole_number (codes "held") ∷ whole_number (codes "used") ∷ []) }
 {
     let [branch, article, way, held, used] = columns else {
         return false;
@@ -362,7 +380,8 @@ pub(crate) enum Layout {
 pub(crate) fn layout_of(found: &Schema) -> Layout
     ensures current { result ≡ Layout.Current → HasNames found.now × (found.now ≡ desk_schema) }
     ensures old { result ≡ Layout.Old → HasNames found.now × (found.now ≡ old_schema) }
-    ensures other { result ≡ Layout.Other → HasNames found.now × (¬ (found.now ≡ desk_schema)) × (¬ (found.now ≡ old_schema)) }
+    ensures other { result ≡ Layout.Other → HasNames found.now × (¬ (found.now ≡ desk_schema))
+        × (¬ (found.now ≡ old_schema)) }
     ensures nameless { result ≡ Layout.Nameless → ¬ HasNames found.now }
 {
     if !has_names(found) {

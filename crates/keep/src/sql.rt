@@ -47,7 +47,8 @@ impl<S: Alter> SqlKeep<S> {
         requires { conn.in_transaction ≡ false }
         ensures keeper { result ≡ record { connection = conn; stopped = false } }
         // what a stop leaves of an open store is its content alone
-        ensures alone { IsTrue (state S.Store conn).is_open → (x : Content) → Holds (state S.Store conn).now x → LeavesOnly (state S.Store conn).may_leave (x ∷ []) }
+        ensures alone { IsTrue (state S.Store conn).is_open → (x : Content) → Holds (state S.Store conn).now x
+            → LeavesOnly (state S.Store conn).may_leave (x ∷ []) }
     {
         // between transactions an open store shows what is committed
         let _settled = conn.is_autocommit();
@@ -87,10 +88,16 @@ fn load_current<S: Alter>(alloc: Global, conn: &mut Connection<S>) -> Result<Tab
     ensures going { (result ≢ Err KeepFault.Stopped) × (result ≢ Err KeepFault.OldVersion) }
     ensures order { IfOk result (λ tables. IsInKeyOrder (content_of tables)) }
     ensures version { IfOk result (λ tables. IsDesk (content_of tables)) }
-    ensures content { HasCleanDisk (state S.Store conn.new) → IfOk result (λ tables. Holds (state S.Store conn.old).now (content_of tables) × IsUnchanged (state S.Store conn.old) (state S.Store conn.new)) }
-    ensures one { HasCleanDisk (state S.Store conn.new) → IfOk result (λ tables. (x : Content) → Holds (state S.Store conn.old).now x → content_of tables ≡ x) }
-    ensures settled { HasCleanDisk (state S.Store conn.new) → OnOk result (IsTrue (state S.Store conn.new).is_open × ((state S.Store conn.new).committed ≡ (state S.Store conn.new).now)) }
-    ensures desk { HasCleanDisk (state S.Store conn.new) → result ≡ Err KeepFault.NotADesk → (x : Content) → HasTables (state S.Store conn.old).now x → ¬ IsDesk x }
+    ensures content { HasCleanDisk (state S.Store conn.new) → IfOk result
+        (λ tables. Holds (state S.Store conn.old).now (content_of tables)
+        × IsUnchanged (state S.Store conn.old) (state S.Store conn.new)) }
+    ensures one { HasCleanDisk (state S.Store conn.new) → IfOk result (λ tables. (x : Content)
+        → Holds (state S.Store conn.old).now x → content_of tables ≡ x) }
+    ensures settled { HasCleanDisk (state S.Store conn.new) → OnOk result
+        (IsTrue (state S.Store conn.new).is_open × ((state S.Store conn.new).committed
+        ≡ (state S.Store conn.new).now)) }
+    ensures desk { HasCleanDisk (state S.Store conn.new) → result ≡ Err KeepFault.NotADesk → (x : Content)
+        → HasTables (state S.Store conn.old).now x → ¬ IsDesk x }
     ensures survives { Survives (state S.Store conn.old) (state S.Store conn.new) (λ _. ⊥) }
 {
     // between transactions an open store shows what is committed
@@ -108,8 +115,10 @@ fn old_fault<S: Alter>(conn: &mut Connection<S>) -> KeepFault
     requires schema { (state S.Store conn.old).now.schema ≡ old_schema }
     ensures idle { conn.new.in_transaction ≡ false }
     ensures going { result ≢ KeepFault.Stopped }
-    ensures old { HasCleanDisk (state S.Store conn.new) → result ≡ KeepFault.OldVersion → IsOld (state S.Store conn.old).now }
-    ensures only { HasCleanDisk (state S.Store conn.new) → IsOld (state S.Store conn.old).now → result ≢ KeepFault.NotADesk }
+    ensures old { HasCleanDisk (state S.Store conn.new) → result ≡ KeepFault.OldVersion
+        → IsOld (state S.Store conn.old).now }
+    ensures only { HasCleanDisk (state S.Store conn.new) → IsOld (state S.Store conn.old).now
+        → result ≢ KeepFault.NotADesk }
     ensures survives { Survives (state S.Store conn.old) (state S.Store conn.new) (λ _. ⊥) }
 {
     match desk::load(conn, desk::OLD_VERSION) {
@@ -126,14 +135,24 @@ fn load_from<S: Alter>(alloc: Global, conn: &mut Connection<S>) -> Result<Tables
     ensures going { result ≢ Err KeepFault.Stopped }
     ensures order { IfOk result (λ tables. IsInKeyOrder (content_of tables)) }
     ensures version { IfOk result (λ tables. IsDesk (content_of tables)) }
-    ensures content { HasCleanDisk (state S.Store conn.new) → IfOk result (λ tables. Holds (state S.Store conn.old).now (content_of tables) × IsUnchanged (state S.Store conn.old) (state S.Store conn.new)) }
-    ensures one { HasCleanDisk (state S.Store conn.new) → IfOk result (λ tables. (x : Content) → Holds (state S.Store conn.old).now x → content_of tables ≡ x) }
-    ensures settled { HasCleanDisk (state S.Store conn.new) → OnOk result (IsTrue (state S.Store conn.new).is_open × ((state S.Store conn.new).committed ≡ (state S.Store conn.new).now)) }
-    ensures desk { HasCleanDisk (state S.Store conn.new) → result ≡ Err KeepFault.NotADesk → (x : Content) → HasTables (state S.Store conn.old).now x → ¬ IsDesk x }
-    ensures old_version { HasCleanDisk (state S.Store conn.new) → result ≡ Err KeepFault.OldVersion → IsOld (state S.Store conn.old).now }
-    ensures only_old { HasCleanDisk (state S.Store conn.new) → IsOld (state S.Store conn.old).now → (result ≡ Err KeepFault.OldVersion) ⊎ ((result ≡ Err KeepFault.Memory) ⊎ (result ≡ Err KeepFault.Store)) }
-    ensures nameless { ¬ HasNames (state S.Store conn.old).now.schema → (result ≡ Err KeepFault.NotADesk) × (conn.new ≡ conn.old) }
-    ensures other { HasNames (state S.Store conn.old).now.schema → ¬ ((state S.Store conn.old).now.schema ≡ desk_schema) → ¬ ((state S.Store conn.old).now.schema ≡ old_schema)
+    ensures content { HasCleanDisk (state S.Store conn.new) → IfOk result
+        (λ tables. Holds (state S.Store conn.old).now (content_of tables)
+        × IsUnchanged (state S.Store conn.old) (state S.Store conn.new)) }
+    ensures one { HasCleanDisk (state S.Store conn.new) → IfOk result (λ tables. (x : Content)
+        → Holds (state S.Store conn.old).now x → content_of tables ≡ x) }
+    ensures settled { HasCleanDisk (state S.Store conn.new) → OnOk result
+        (IsTrue (state S.Store conn.new).is_open × ((state S.Store conn.new).committed
+        ≡ (state S.Store conn.new).now)) }
+    ensures desk { HasCleanDisk (state S.Store conn.new) → result ≡ Err KeepFault.NotADesk → (x : Content)
+        → HasTables (state S.Store conn.old).now x → ¬ IsDesk x }
+    ensures old_version { HasCleanDisk (state S.Store conn.new) → result ≡ Err KeepFault.OldVersion
+        → IsOld (state S.Store conn.old).now }
+    ensures only_old { HasCleanDisk (state S.Store conn.new) → IsOld (state S.Store conn.old).now
+        → (result ≡ Err KeepFault.OldVersion) ⊎ ((result ≡ Err KeepFault.Memory) ⊎ (result ≡ Err KeepFault.Store)) }
+    ensures nameless { ¬ HasNames (state S.Store conn.old).now.schema → (result ≡ Err KeepFault.NotADesk)
+        × (conn.new ≡ conn.old) }
+    ensures other { HasNames (state S.Store conn.old).now.schema → ¬ ((state S.Store conn.old).now.schema ≡ desk_schema)
+        → ¬ ((state S.Store conn.old).now.schema ≡ old_schema)
         → (result ≡ Err KeepFault.Store) × (conn.new ≡ conn.old) }
     ensures survives { Survives (state S.Store conn.old) (state S.Store conn.new) (λ _. ⊥) }
 {
@@ -150,9 +169,12 @@ fn commit_to<S: Alter>(conn: &mut Connection<S>, changes: &[Change]) -> Result<(
     requires { conn.old.in_transaction ≡ false }
     ensures idle { conn.new.in_transaction ≡ false }
     ensures fault { IfErr result (λ fault. (fault ≡ KeepFault.Memory) ⊎ (fault ≡ KeepFault.Store)) }
-    ensures other { ¬ ((state S.Store conn.old).now.schema ≡ desk_schema) → (result ≡ Err KeepFault.Store) × (conn.new ≡ conn.old) }
-    ensures put { HasCleanDisk (state S.Store conn.new) → OnOk result (Committed (state S.Store conn.old) (state S.Store conn.new) changes.now) }
-    ensures survives { Survives (state S.Store conn.old) (state S.Store conn.new) (AreChanged (state S.Store conn.old).now changes.now) }
+    ensures other { ¬ ((state S.Store conn.old).now.schema ≡ desk_schema) → (result ≡ Err KeepFault.Store)
+        × (conn.new ≡ conn.old) }
+    ensures put { HasCleanDisk (state S.Store conn.new) → OnOk result (Committed (state S.Store conn.old)
+        (state S.Store conn.new) changes.now) }
+    ensures survives { Survives (state S.Store conn.old) (state S.Store conn.new)
+        (AreChanged (state S.Store conn.old).now changes.now) }
 {
     if !is_desk_schema(conn.schema()) {
         return Err(KeepFault::Store);
@@ -184,32 +206,49 @@ impl<S: Alter> Keep for SqlKeep<S> {
         self.stopped
     }
 
-    /// As every keeper's. A store whose tables are not those of a desk as it is made is left as it is, and named: `NotADesk`
-    /// where one of the six names that each version has is no table's, and else `Store`; unless they are those of version 1 as
-    /// it was made.
+    /// As every keeper's. A store whose tables are not those of a desk as it is made is left as it is, and named:
+    /// `NotADesk` where one of the six names that each version has is no table's, and else `Store`; unless they are
+    /// those of version 1 as it was made.
     fn load(&mut self, alloc: Global) -> Result<Tables, KeepFault>
         ensures refused { IsTrue self.old.stopped → (result ≡ Err KeepFault.Stopped) × (self.new ≡ self.old) }
         ensures going { self.old.stopped ≡ false → result ≢ Err KeepFault.Stopped }
         ensures settings { self.new.connection.step_limit ≡ self.old.connection.step_limit }
-        ensures honest { HasCleanDisk (state S.Store self.new.connection) → HasCleanDisk (state S.Store self.old.connection) }
+        ensures honest { HasCleanDisk (state S.Store self.new.connection)
+            → HasCleanDisk (state S.Store self.old.connection) }
         ensures ok { OnOk result (self.new.stopped ≡ false) }
         ensures err { OnErr result (IsTrue self.new.stopped) }
-        ensures content { HasCleanDisk (state S.Store self.new.connection) → IfOk result (λ tables. Holds (state S.Store self.new.connection).now (content_of tables)) }
-        ensures one { HasCleanDisk (state S.Store self.new.connection) → IfOk result (λ tables. (x : Content) → Holds (state S.Store self.old.connection).now x → content_of tables ≡ x) }
+        ensures content { HasCleanDisk (state S.Store self.new.connection)
+            → IfOk result (λ tables. Holds (state S.Store self.new.connection).now (content_of tables)) }
+        ensures one { HasCleanDisk (state S.Store self.new.connection)
+            → IfOk result (λ tables. (x : Content) → Holds (state S.Store self.old.connection).now x
+            → content_of tables ≡ x) }
         ensures same { HasCleanDisk (state S.Store self.new.connection) → OnOk result ((x : Content)
-            → (Holds (state S.Store self.old.connection).now x → Holds (state S.Store self.new.connection).now x) × (Holds (state S.Store self.new.connection).now x → Holds (state S.Store self.old.connection).now x)) }
+            → (Holds (state S.Store self.old.connection).now x → Holds (state S.Store self.new.connection).now x)
+            × (Holds (state S.Store self.new.connection).now x → Holds (state S.Store self.old.connection).now x)) }
         ensures order { IfOk result (λ tables. IsInKeyOrder (content_of tables)) }
         ensures version { IfOk result (λ tables. IsDesk (content_of tables)) }
-        ensures desk { HasCleanDisk (state S.Store self.new.connection) → result ≡ Err KeepFault.NotADesk → (x : Content) → HasTables (state S.Store self.old.connection).now x → ¬ IsDesk x }
-        ensures old_version { HasCleanDisk (state S.Store self.new.connection) → result ≡ Err KeepFault.OldVersion → IsOld (state S.Store self.old.connection).now }
-        ensures only_old { HasCleanDisk (state S.Store self.new.connection) → self.old.stopped ≡ false → IsOld (state S.Store self.old.connection).now
+        ensures desk { HasCleanDisk (state S.Store self.new.connection) → result ≡ Err KeepFault.NotADesk
+            → (x : Content) → HasTables (state S.Store self.old.connection).now x → ¬ IsDesk x }
+        ensures old_version { HasCleanDisk (state S.Store self.new.connection) → result ≡ Err KeepFault.OldVersion
+            → IsOld (state S.Store self.old.connection).now }
+        ensures only_old { HasCleanDisk (state S.Store self.new.connection) → self.old.stopped ≡ false
+            → IsOld (state S.Store self.old.connection).now
             → (result ≡ Err KeepFault.OldVersion) ⊎ ((result ≡ Err KeepFault.Memory) ⊎ (result ≡ Err KeepFault.Store)) }
-        ensures alone { HasCleanDisk (state S.Store self.new.connection) → OnOk result ((x : Content) → Holds (state S.Store self.new.connection).now x → LeavesOnly (state S.Store self.new.connection).may_leave (x ∷ [])) }
-        ensures adds_nothing { HasCleanDisk (state S.Store self.new.connection) → (these : List Content) → LeavesOnly (state S.Store self.old.connection).may_leave these → LeavesOnly (state S.Store self.new.connection).may_leave these }
-        ensures no_more { HasCleanDisk (state S.Store self.new.connection) → (x : Content) → MayLeave (state S.Store self.new.connection).may_leave x → MayLeave (state S.Store self.old.connection).may_leave x }
-        ensures nameless { self.old.stopped ≡ false → ¬ HasNames (state S.Store self.old.connection).now.schema → (result ≡ Err KeepFault.NotADesk) × (self.new ≡ record self.old { stopped = true }) }
-        ensures other { self.old.stopped ≡ false → HasNames (state S.Store self.old.connection).now.schema → ¬ ((state S.Store self.old.connection).now.schema ≡ desk_schema)
-            → ¬ ((state S.Store self.old.connection).now.schema ≡ old_schema) → (result ≡ Err KeepFault.Store) × (self.new ≡ record self.old { stopped = true }) }
+        ensures alone { HasCleanDisk (state S.Store self.new.connection)
+            → OnOk result ((x : Content) → Holds (state S.Store self.new.connection).now x
+            → LeavesOnly (state S.Store self.new.connection).may_leave (x ∷ [])) }
+        ensures adds_nothing { HasCleanDisk (state S.Store self.new.connection) → (these : List Content)
+            → LeavesOnly (state S.Store self.old.connection).may_leave these
+            → LeavesOnly (state S.Store self.new.connection).may_leave these }
+        ensures no_more { HasCleanDisk (state S.Store self.new.connection) → (x : Content)
+            → MayLeave (state S.Store self.new.connection).may_leave x
+            → MayLeave (state S.Store self.old.connection).may_leave x }
+        ensures nameless { self.old.stopped ≡ false → ¬ HasNames (state S.Store self.old.connection).now.schema
+            → (result ≡ Err KeepFault.NotADesk) × (self.new ≡ record self.old { stopped = true }) }
+        ensures other { self.old.stopped ≡ false → HasNames (state S.Store self.old.connection).now.schema
+            → ¬ ((state S.Store self.old.connection).now.schema ≡ desk_schema)
+            → ¬ ((state S.Store self.old.connection).now.schema ≡ old_schema) → (result ≡ Err KeepFault.Store)
+            × (self.new ≡ record self.old { stopped = true }) }
     {
         self.expect_going()?;
         let loaded = load_from(alloc, &mut self.conn);
@@ -224,14 +263,22 @@ impl<S: Alter> Keep for SqlKeep<S> {
         ensures going { self.old.stopped ≡ false → result ≢ Err KeepFault.Stopped }
         ensures desk { (result ≢ Err KeepFault.NotADesk) × (result ≢ Err KeepFault.OldVersion) }
         ensures settings { self.new.connection.step_limit ≡ self.old.connection.step_limit }
-        ensures honest { HasCleanDisk (state S.Store self.new.connection) → HasCleanDisk (state S.Store self.old.connection) }
+        ensures honest { HasCleanDisk (state S.Store self.new.connection)
+            → HasCleanDisk (state S.Store self.old.connection) }
         ensures ok { OnOk result (self.new.stopped ≡ false) }
         ensures err { OnErr result (IsTrue self.new.stopped) }
-        ensures put { HasCleanDisk (state S.Store self.new.connection) → OnOk result ((x : Content) → Holds (state S.Store self.old.connection).now x → Holds (state S.Store self.new.connection).now (with_changes changes.now x)) }
-        ensures alone { HasCleanDisk (state S.Store self.new.connection) → OnOk result ((x : Content) → Holds (state S.Store self.new.connection).now x → LeavesOnly (state S.Store self.new.connection).may_leave (x ∷ [])) }
-        ensures either { HasCleanDisk (state S.Store self.new.connection) → self.old.stopped ≡ false → (x : Content) → Holds (state S.Store self.old.connection).now x → LeavesOnly (state S.Store self.old.connection).may_leave (x ∷ [])
+        ensures put { HasCleanDisk (state S.Store self.new.connection)
+            → OnOk result ((x : Content) → Holds (state S.Store self.old.connection).now x
+            → Holds (state S.Store self.new.connection).now (with_changes changes.now x)) }
+        ensures alone { HasCleanDisk (state S.Store self.new.connection)
+            → OnOk result ((x : Content) → Holds (state S.Store self.new.connection).now x
+            → LeavesOnly (state S.Store self.new.connection).may_leave (x ∷ [])) }
+        ensures either { HasCleanDisk (state S.Store self.new.connection) → self.old.stopped ≡ false → (x : Content)
+            → Holds (state S.Store self.old.connection).now x → LeavesOnly (state S.Store self.old.connection).may_leave
+            (x ∷ [])
             → LeavesOnly (state S.Store self.new.connection).may_leave (x ∷ with_changes changes.now x ∷ []) }
-        ensures other { self.old.stopped ≡ false → ¬ ((state S.Store self.old.connection).now.schema ≡ desk_schema) → (result ≡ Err KeepFault.Store) × (self.new ≡ record self.old { stopped = true }) }
+        ensures other { self.old.stopped ≡ false → ¬ ((state S.Store self.old.connection).now.schema ≡ desk_schema)
+            → (result ≡ Err KeepFault.Store) × (self.new ≡ record self.old { stopped = true }) }
     {
         self.expect_going()?;
         let done = commit_to(&mut self.conn, changes);

@@ -1,4 +1,5 @@
-//! What the tables of many rows have in common: the order and the copies of rows, the statements, and how all rows are read.
+//! What the tables of many rows have in common: the order and the copies of rows, the statements, and how all rows are
+//! read.
 
 ghost use Rattle.std.specs.Prelude.{◌≡◌, ◌↔◌, [], ◌∷◌, false, map, IfOk, IsPermutation, IsTrue, OnOk};
 ghost use Rattle.std.specs.List.{AllZip};
@@ -6,7 +7,7 @@ ghost use Rattle.std.specs.List.Sorted.{IsStrictlySortedBy};
 ghost use Rattle.sqlite.specs.Held.{state};
 ghost use Rattle.sqlite.specs.State.{HasCleanDisk, IsUnchanged, Survives};
 ghost use Rattle.keep.specs.Content.{AreRows};
-ghost use Rattle.keep.specs.Loading.{Finds, IsShown};
+ghost use Rattle.keep.specs.Loads.{Finds, IsShown};
 ghost use Rattle.keep.specs.Schema.{desk_schema};
 
 use sqlite::{Alter, Connection, Error, ErrorCode, Row, Transaction};
@@ -23,7 +24,7 @@ pub(crate) trait Table: Sized + Drop {
     ghost use Rattle.sqlite.specs.State.{HasCleanDisk, IsUnchanged, Survives};
     ghost use Rattle.sqlite_trees.specs.Tree.{rowid};
     ghost use Rattle.book.specs.declared.rows.Change.{Change};
-    ghost use Rattle.keep.specs.Loading.{IsShown};
+    ghost use Rattle.keep.specs.Loads.{IsShown};
     ghost use Rattle.keep.specs.Schema.{desk_schema};
     ghost use Rattle.keep.specs.Transactions.{PutsIn};
 
@@ -63,8 +64,10 @@ pub(crate) trait Table: Sized + Drop {
     /// Puts the row in by its key.
     fn upsert<S: Alter>(&self, tx: &mut Transaction<'_, S>) -> Result<usize, Error>
         ensures same_reference { tx.new.conn.ghost_name ≡ tx.old.conn.ghost_name }
-        ensures put { HasCleanDisk (state S.Store tx.new.conn.now) → IsTrue (state S.Store tx.old.conn.now).in_transaction
-            → OnOk result (PutsIn (state S.Store tx.old.conn.now) (state S.Store tx.new.conn.now) (change_of self.now ∷ [])) }
+        ensures put { HasCleanDisk (state S.Store tx.new.conn.now) → IsTrue
+            (state S.Store tx.old.conn.now).in_transaction
+            → OnOk result (PutsIn (state S.Store tx.old.conn.now) (state S.Store tx.new.conn.now)
+            (change_of self.now ∷ [])) }
         ensures survives { Survives (state S.Store tx.old.conn.now) (state S.Store tx.new.conn.now) (λ _. ⊥) };
 
     /// All rows of the table.
@@ -74,7 +77,8 @@ pub(crate) trait Table: Sized + Drop {
             → IfOk result (λ rows. IsPermutation (map selected ((state S.Store conn.old).now.trees tree)) rows.items) }
         ensures same { HasCleanDisk (state S.Store conn.new) → (state S.Store conn.old).now.schema ≡ desk_schema
             → OnOk result (IsUnchanged (state S.Store conn.old) (state S.Store conn.new)) }
-        ensures survives { Survives (state S.Store conn.old) (state S.Store conn.new) (λ _. ¬ ((state S.Store conn.old).now.schema ≡ desk_schema)) };
+        ensures survives { Survives (state S.Store conn.old) (state S.Store conn.new)
+            (λ _. ¬ ((state S.Store conn.old).now.schema ≡ desk_schema)) };
 
     /// The row that the answer shows.
     fn read(row: &Row) -> Result<Self, Error>
@@ -89,7 +93,8 @@ pub(crate) trait Table: Sized + Drop {
 
 /// The rows that the answers show.
 fn read_all<R: Table>(alloc: Global, answers: &[Row]) -> Result<Vec<R>, Error>
-    ensures { IfOk result (λ rows. AllZip (λ answer row. IsShown R.shown R.at answer (R.columns (R.cells row))) answers.now rows.items) }
+    ensures { IfOk result (λ rows. AllZip (λ answer row. IsShown R.shown R.at answer
+        (R.columns (R.cells row))) answers.now rows.items) }
 {
     let mut rows = Vec::new(alloc);
     for answer in answers {
@@ -112,8 +117,10 @@ pub(crate) fn load<R: Table, S: Alter>(
 ) -> Result<Vec<R>, Error>
     ensures mode { conn.old.in_transaction ≡ false → conn.new.in_transaction ≡ false }
     ensures order { IfOk result (λ rows. IsStrictlySortedBy R.cmp (map R.cells rows.items)) }
-    ensures found { IfOk result (λ rows. Finds (state S.Store conn.old) (state S.Store conn.new) (λ trees. AreRows R.cmp R.stored R.columns (trees R.tree) (map R.cells rows.items))) }
-    ensures survives { Survives (state S.Store conn.old) (state S.Store conn.new) (λ _. ¬ ((state S.Store conn.old).now.schema ≡ desk_schema)) }
+    ensures found { IfOk result (λ rows. Finds (state S.Store conn.old) (state S.Store conn.new)
+        (λ trees. AreRows R.cmp R.stored R.columns (trees R.tree) (map R.cells rows.items))) }
+    ensures survives { Survives (state S.Store conn.old) (state S.Store conn.new)
+        (λ _. ¬ ((state S.Store conn.old).now.schema ≡ desk_schema)) }
 {
     let answers = R::select(conn)?;
     let rows = read_all(alloc, answers.as_slice())?;

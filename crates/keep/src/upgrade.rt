@@ -9,7 +9,7 @@ ghost use Rattle.book.specs.Tables.{desk_cells};
 ghost use Rattle.keep.specs.Content.{HasTables, Holds, IsDesk, LeavesOnly};
 ghost use Rattle.keep.specs.Names.{HasNames};
 ghost use Rattle.keep.specs.Old.{AreUpgraded, HoldsOld, IsCurrent, IsOld, IsUpgraded, raised, upgraded};
-ghost use Rattle.keep.specs.Raising.{AreRaised, Raised};
+ghost use Rattle.keep.specs.UpgradeSteps.{AreRaised, Raised};
 ghost use Rattle.keep.specs.Schema.{desk_schema, old_schema};
 
 use crate::create::create_firm;
@@ -24,8 +24,10 @@ use sqlite::{Alter, Connection, Error};
 fn raise<S: Alter>(conn: &mut Connection<S>, row: &DeskRow) -> Result<(), Error>
     requires idle { conn.old.in_transaction ≡ false }
     ensures idle { conn.new.in_transaction ≡ false }
-    ensures made { HasCleanDisk (state S.Store conn.new) → OnOk result (Raised (state S.Store conn.old) (state S.Store conn.new) row.now) }
-    ensures survives { Survives (state S.Store conn.old) (state S.Store conn.new) (AreRaised (state S.Store conn.old).now row.now) }
+    ensures made { HasCleanDisk (state S.Store conn.new) → OnOk result
+        (Raised (state S.Store conn.old) (state S.Store conn.new) row.now) }
+    ensures survives { Survives (state S.Store conn.old) (state S.Store conn.new)
+        (AreRaised (state S.Store conn.old).now row.now) }
 {
     let mut tx = conn.transaction();
     create_firm(&mut tx)?;
@@ -50,10 +52,14 @@ fn upgrade<S: Alter>(conn: &mut Connection<S>) -> Result<(), KeepFault>
     requires idle { conn.old.in_transaction ≡ false }
     requires old { (state S.Store conn.old).now.schema ≡ old_schema }
     ensures idle { conn.new.in_transaction ≡ false }
-    ensures fault { IfErr result (λ fault. (fault ≡ KeepFault.NotADesk) ⊎ ((fault ≡ KeepFault.Memory) ⊎ (fault ≡ KeepFault.Store))) }
-    ensures made { HasCleanDisk (state S.Store conn.new) → OnOk result (IsUpgraded (state S.Store conn.old) (state S.Store conn.new)) }
-    ensures desk { HasCleanDisk (state S.Store conn.new) → result ≡ Err KeepFault.NotADesk → (¬ IsOld (state S.Store conn.old).now) × IsUnchanged (state S.Store conn.old) (state S.Store conn.new) }
-    ensures survives { Survives (state S.Store conn.old) (state S.Store conn.new) (AreUpgraded (state S.Store conn.old).now) }
+    ensures fault { IfErr result (λ fault. (fault ≡ KeepFault.NotADesk)
+        ⊎ ((fault ≡ KeepFault.Memory) ⊎ (fault ≡ KeepFault.Store))) }
+    ensures made { HasCleanDisk (state S.Store conn.new) → OnOk result
+        (IsUpgraded (state S.Store conn.old) (state S.Store conn.new)) }
+    ensures desk { HasCleanDisk (state S.Store conn.new) → result ≡ Err KeepFault.NotADesk
+        → (¬ IsOld (state S.Store conn.old).now) × IsUnchanged (state S.Store conn.old) (state S.Store conn.new) }
+    ensures survives { Survives (state S.Store conn.old) (state S.Store conn.new)
+        (AreUpgraded (state S.Store conn.old).now) }
 {
     let row = match desk::load(conn, desk::OLD_VERSION) {
         Ok(Some(row)) => row,
@@ -71,11 +77,17 @@ fn expect_current<S: Alter>(conn: &mut Connection<S>) -> Result<(), KeepFault>
     requires idle { conn.old.in_transaction ≡ false }
     requires desk { (state S.Store conn.old).now.schema ≡ desk_schema }
     ensures idle { conn.new.in_transaction ≡ false }
-    ensures fault { IfErr result (λ fault. (fault ≡ KeepFault.NotADesk) ⊎ ((fault ≡ KeepFault.Memory) ⊎ (fault ≡ KeepFault.Store))) }
+    ensures fault { IfErr result (λ fault. (fault ≡ KeepFault.NotADesk)
+        ⊎ ((fault ≡ KeepFault.Memory) ⊎ (fault ≡ KeepFault.Store))) }
     ensures current { HasCleanDisk (state S.Store conn.new) → OnOk result (IsCurrent (state S.Store conn.old).now) }
-    ensures same { HasCleanDisk (state S.Store conn.new) → OnOk result (IsUnchanged (state S.Store conn.old) (state S.Store conn.new)) }
-    ensures settled { HasCleanDisk (state S.Store conn.new) → OnOk result (IsTrue (state S.Store conn.new).is_open × ((state S.Store conn.new).committed ≡ (state S.Store conn.new).now)) }
-    ensures desk { HasCleanDisk (state S.Store conn.new) → result ≡ Err KeepFault.NotADesk → ((x : Content) → HasTables (state S.Store conn.old).now x → ¬ IsDesk x) × IsUnchanged (state S.Store conn.old) (state S.Store conn.new) }
+    ensures same { HasCleanDisk (state S.Store conn.new) → OnOk result
+        (IsUnchanged (state S.Store conn.old) (state S.Store conn.new)) }
+    ensures settled { HasCleanDisk (state S.Store conn.new) → OnOk result
+        (IsTrue (state S.Store conn.new).is_open × ((state S.Store conn.new).committed
+        ≡ (state S.Store conn.new).now)) }
+    ensures desk { HasCleanDisk (state S.Store conn.new) → result ≡ Err KeepFault.NotADesk
+        → ((x : Content) → HasTables (state S.Store conn.old).now x → ¬ IsDesk x)
+        × IsUnchanged (state S.Store conn.old) (state S.Store conn.new) }
     ensures survives { Survives (state S.Store conn.old) (state S.Store conn.new) (λ _. ⊥) }
 {
     // between transactions an open store shows what is committed
@@ -88,25 +100,39 @@ fn expect_current<S: Alter>(conn: &mut Connection<S>) -> Result<(), KeepFault>
 }
 
 impl<S: Alter> SqlKeep<S> {
-    /// Makes a store of version 2 of one of version 1, in one transaction: the empty table `firm`, and version 2 in the row of
-    /// `desk`. All other rows are as they were, and are not checked. A store of version 2 is left alone. Any other is `NotADesk`
-    /// and left as it is; `Store` where its tables are not laid out as they were made. A stop leaves what was before or
-    /// the whole of version 2.
+    /// Makes a store of version 2 of one of version 1, in one transaction: the empty table `firm`, and version 2 in the
+    /// row of `desk`. All other rows are as they were, and are not checked. A store of version 2 is left alone. Any
+    /// other is `NotADesk` and left as it is; `Store` where its tables are not laid out as they were made. A stop
+    /// leaves what was before or the whole of version 2.
     pub fn upgrade_over(conn: &mut Connection<S>) -> Result<(), KeepFault>
         requires { conn.old.in_transaction ≡ false }
         ensures idle { conn.new.in_transaction ≡ false }
-        ensures fault { IfErr result (λ fault. (fault ≡ KeepFault.NotADesk) ⊎ ((fault ≡ KeepFault.Memory) ⊎ (fault ≡ KeepFault.Store))) }
+        ensures fault { IfErr result (λ fault. (fault ≡ KeepFault.NotADesk)
+            ⊎ ((fault ≡ KeepFault.Memory) ⊎ (fault ≡ KeepFault.Store))) }
         ensures clean { HasCleanDisk (state S.Store conn.new) → HasCleanDisk (state S.Store conn.old) }
-        ensures version { HasCleanDisk (state S.Store conn.new) → OnOk result (IsOld (state S.Store conn.old).now ⊎ IsCurrent (state S.Store conn.old).now) }
-        ensures made { HasCleanDisk (state S.Store conn.new) → OnOk result ((x : Content) → HoldsOld (state S.Store conn.old).now x → Holds (state S.Store conn.new).now (upgraded x)) }
-        ensures same { HasCleanDisk (state S.Store conn.new) → OnOk result ((x : Content) → Holds (state S.Store conn.old).now x → Holds (state S.Store conn.new).now x) }
-        ensures desk { HasCleanDisk (state S.Store conn.new) → result ≡ Err KeepFault.NotADesk → (¬ IsOld (state S.Store conn.old).now) × ((x : Content) → HasTables (state S.Store conn.old).now x → ¬ IsDesk x) }
+        ensures version { HasCleanDisk (state S.Store conn.new) → OnOk result
+            (IsOld (state S.Store conn.old).now ⊎ IsCurrent (state S.Store conn.old).now) }
+        ensures made { HasCleanDisk (state S.Store conn.new) → OnOk result
+            ((x : Content) → HoldsOld (state S.Store conn.old).now x → Holds (state S.Store conn.new).now
+            (upgraded x)) }
+        ensures same { HasCleanDisk (state S.Store conn.new) → OnOk result
+            ((x : Content) → Holds (state S.Store conn.old).now x → Holds (state S.Store conn.new).now x) }
+        ensures desk { HasCleanDisk (state S.Store conn.new) → result ≡ Err KeepFault.NotADesk
+            → (¬ IsOld (state S.Store conn.old).now) × ((x : Content) → HasTables (state S.Store conn.old).now x
+            → ¬ IsDesk x) }
         ensures unchanged { HasCleanDisk (state S.Store conn.new) → result ≡ Err KeepFault.NotADesk
-            → ((state S.Store conn.new).now ≡ (state S.Store conn.old).now) × ((state S.Store conn.new).committed ≡ (state S.Store conn.old).committed) }
-        ensures alone { HasCleanDisk (state S.Store conn.new) → OnOk result ((x : Content) → Holds (state S.Store conn.new).now x → LeavesOnly (state S.Store conn.new).may_leave (x ∷ [])) }
-        ensures either { HasCleanDisk (state S.Store conn.new) → (trees : Trees) → (state S.Store conn.new).may_leave trees → (state S.Store conn.old).may_leave trees ⊎ AreUpgraded (state S.Store conn.old).now trees }
-        ensures nameless { ¬ HasNames (state S.Store conn.old).now.schema → (result ≡ Err KeepFault.NotADesk) × (conn.new ≡ conn.old) }
-        ensures other { HasNames (state S.Store conn.old).now.schema → ¬ ((state S.Store conn.old).now.schema ≡ desk_schema) → ¬ ((state S.Store conn.old).now.schema ≡ old_schema)
+            → ((state S.Store conn.new).now ≡ (state S.Store conn.old).now)
+            × ((state S.Store conn.new).committed ≡ (state S.Store conn.old).committed) }
+        ensures alone { HasCleanDisk (state S.Store conn.new) → OnOk result
+            ((x : Content) → Holds (state S.Store conn.new).now x → LeavesOnly (state S.Store conn.new).may_leave
+            (x ∷ [])) }
+        ensures either { HasCleanDisk (state S.Store conn.new) → (trees : Trees)
+            → (state S.Store conn.new).may_leave trees → (state S.Store conn.old).may_leave trees
+            ⊎ AreUpgraded (state S.Store conn.old).now trees }
+        ensures nameless { ¬ HasNames (state S.Store conn.old).now.schema → (result ≡ Err KeepFault.NotADesk)
+            × (conn.new ≡ conn.old) }
+        ensures other { HasNames (state S.Store conn.old).now.schema → ¬ ((state S.Store conn.old).now.schema
+            ≡ desk_schema) → ¬ ((state S.Store conn.old).now.schema ≡ old_schema)
             → (result ≡ Err KeepFault.Store) × (conn.new ≡ conn.old) }
     {
         match layout_of(conn.schema()) {

@@ -161,7 +161,13 @@ fn requests_are_tested_against_the_worst_outcome(rt: HostRuntime) -> Result<(), 
 
 /// Between 0 and 100, with these as its value, its infimum and its supremum.
 fn restored(value: u64, inf: u64, sup: u64) -> Option<Quantity>
-    ensures { IfSome result (λ q. q ≡ record { lo = 0; hi = 100; value = value; held_to_take = value - inf; held_to_add = sup - value }) }
+    ensures { IfSome result (λ q. q ≡ record {
+      lo = 0;
+      hi = 100;
+      value = value;
+      held_to_take = value - inf;
+      held_to_add = sup - value;
+    }) }
 {
     let (lo, hi) = (Level::new(0)?, Level::new(100)?);
     let (value, inf, sup) = (Level::new(value)?, Level::new(inf)?, Level::new(sup)?);

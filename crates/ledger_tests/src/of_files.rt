@@ -60,7 +60,8 @@ fn the_first_record_at_fault_is_named(rt: HostRuntime) {
     assert!(rt; fault == Some(FileFault::BadRecord(2)));
 }
 
-/// How long the pieces of a reader are, and how many reads of it a file needs: one byte, the rest piece by piece, and the end.
+/// How long the pieces of a reader are, and how many reads of it a file needs: one byte, the rest piece by piece, and
+/// the end.
 const READS: [(usize, usize); 3] = [(1, 87), (16, 8), (512, 3)];
 
 /// What the file is answered where the read with this number fails.
@@ -141,7 +142,8 @@ fn write_sheet(
     })
 }
 
-/// Pieces of this length are written, and the write with this number fails, or takes none: so much of the sheet is written then.
+/// Pieces of this length are written, and the write with this number fails, or takes none: so much of the sheet is
+/// written then.
 fn is_beginning(
     alloc: Global,
     book: &Book,

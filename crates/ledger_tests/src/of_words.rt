@@ -123,7 +123,8 @@ fn a_line_is_an_item(rt: HostRuntime) -> Result<(), Fail> {
     Ok(())
 }
 
-/// A piece gives the item of that mark, or none. It is fed again where memory is refused: nothing of it was taken in then.
+/// A piece gives the item of that mark, or none. It is fed again where memory is refused: nothing of it was taken in
+/// then.
 fn gives(
     alloc: Global,
     lines: &mut Lines,
@@ -206,7 +207,8 @@ fn a_read_is_a_piece_or_a_fault(rt: HostRuntime) {
     assert!(rt; is_read(&mut drip, Some(b"")));
 }
 
-/// How a text is written whose write with this number fails, or takes none; how much of it is then written, where that is a beginning.
+/// How a text is written whose write with this number fails, or takes none; how much of it is then written, where that
+/// is a beginning.
 fn written_until(
     alloc: Global,
     text: &[u8],

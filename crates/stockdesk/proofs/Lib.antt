@@ -1,3 +1,3 @@
-mod Played
-mod Connected
+mod SessionParts
+mod Connections
 mod PlainRun

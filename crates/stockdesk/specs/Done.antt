@@ -20,7 +20,9 @@ use Rattle.stockdesk.specs.declared.tasks.Task.TheVariants.{Bounds, Deliveries, 
 
 -- the replies of the desk of some good ledger to some requests were written
 abbrev pub PrintsReplies : (writer_old writer_new : Option (List ℕ)) → Type 0
-PrintsReplies writer_old writer_new = (first : Ledger) × (last : Ledger) × (requests : List Request) × Good first × RequestsAnswered requests writer_old writer_new first last
+PrintsReplies writer_old writer_new =
+    (first : Ledger) × (last : Ledger) × (requests : List Request) × Good first
+    × RequestsAnswered requests writer_old writer_new first last
 
 -- a beginning of the replies to the first of some requests was written
 pub record PrintsRepliesInPart (writer_old writer_new : Option (List ℕ)) : Type 0 where
@@ -44,7 +46,8 @@ PrintsSheet shown writer_old writer_new = (A : Ledger) × Good A × SheetWritten
 
 -- nothing, or a beginning of the sheet of some good ledger was written
 abbrev pub PrintsSheetInPart : Shown → (writer_old writer_new : Option (List ℕ)) → Type 0
-PrintsSheetInPart shown writer_old writer_new = Appends writer_old writer_new [] ⊎ ((A : Ledger) × Good A × SheetBegun shown A writer_old writer_new)
+PrintsSheetInPart shown writer_old writer_new =
+    Appends writer_old writer_new [] ⊎ ((A : Ledger) × Good A × SheetBegun shown A writer_old writer_new)
 
 -- ---- tasks
 
@@ -52,25 +55,41 @@ PrintsSheetInPart shown writer_old writer_new = Appends writer_old writer_new []
 abbrev pub Does : Task → (reader_old reader_new writer_old writer_new : Option (List ℕ)) → Type 0
 Does (Init path) reader_old reader_new writer_old writer_new = Keeps reader_old reader_new × Keeps writer_old writer_new
 Does (Run None) reader_old reader_new writer_old writer_new = RunsWhole reader_old reader_new writer_old writer_new
-Does (Run (Some path)) reader_old reader_new writer_old writer_new = PlaysWhole reader_old reader_new writer_old writer_new
-Does (Orders path csv) reader_old reader_new writer_old writer_new = Keeps reader_old reader_new × PrintsReplies writer_old writer_new
-Does (Deliveries path csv) reader_old reader_new writer_old writer_new = Keeps reader_old reader_new × PrintsReplies writer_old writer_new
-Does (Bounds path csv) reader_old reader_new writer_old writer_new = Keeps reader_old reader_new × PrintsReplies writer_old writer_new
-Does (Sheet path shown) reader_old reader_new writer_old writer_new = Keeps reader_old reader_new × PrintsSheet shown writer_old writer_new
-Does (Serve path service) reader_old reader_new writer_old writer_new = Keeps reader_old reader_new × PortTold writer_old writer_new
-Does (Upgrade path) reader_old reader_new writer_old writer_new = Keeps reader_old reader_new × Keeps writer_old writer_new
+Does (Run (Some path)) reader_old reader_new writer_old writer_new =
+    PlaysWhole reader_old reader_new writer_old writer_new
+Does (Orders path csv) reader_old reader_new writer_old writer_new =
+    Keeps reader_old reader_new × PrintsReplies writer_old writer_new
+Does (Deliveries path csv) reader_old reader_new writer_old writer_new =
+    Keeps reader_old reader_new × PrintsReplies writer_old writer_new
+Does (Bounds path csv) reader_old reader_new writer_old writer_new =
+    Keeps reader_old reader_new × PrintsReplies writer_old writer_new
+Does (Sheet path shown) reader_old reader_new writer_old writer_new =
+    Keeps reader_old reader_new × PrintsSheet shown writer_old writer_new
+Does (Serve path service) reader_old reader_new writer_old writer_new =
+    Keeps reader_old reader_new × PortTold writer_old writer_new
+Does (Upgrade path) reader_old reader_new writer_old writer_new =
+    Keeps reader_old reader_new × Keeps writer_old writer_new
 
 -- the task is done in part: what was written is a beginning
 abbrev pub DoesInPart : Task → (reader_old reader_new writer_old writer_new : Option (List ℕ)) → Type 0
-DoesInPart (Init path) reader_old reader_new writer_old writer_new = Keeps reader_old reader_new × Keeps writer_old writer_new
-DoesInPart (Run None) reader_old reader_new writer_old writer_new = BeginsText new_ledger reader_old reader_new writer_old writer_new
-DoesInPart (Run (Some path)) reader_old reader_new writer_old writer_new = PlaysInPart reader_old reader_new writer_old writer_new
-DoesInPart (Orders path csv) reader_old reader_new writer_old writer_new = Keeps reader_old reader_new × PrintsRepliesInPart writer_old writer_new
-DoesInPart (Deliveries path csv) reader_old reader_new writer_old writer_new = Keeps reader_old reader_new × PrintsRepliesInPart writer_old writer_new
-DoesInPart (Bounds path csv) reader_old reader_new writer_old writer_new = Keeps reader_old reader_new × PrintsRepliesInPart writer_old writer_new
-DoesInPart (Sheet path shown) reader_old reader_new writer_old writer_new = Keeps reader_old reader_new × PrintsSheetInPart shown writer_old writer_new
-DoesInPart (Serve path service) reader_old reader_new writer_old writer_new = Keeps reader_old reader_new × PortBegun writer_old writer_new
-DoesInPart (Upgrade path) reader_old reader_new writer_old writer_new = Keeps reader_old reader_new × Keeps writer_old writer_new
+DoesInPart (Init path) reader_old reader_new writer_old writer_new =
+    Keeps reader_old reader_new × Keeps writer_old writer_new
+DoesInPart (Run None) reader_old reader_new writer_old writer_new =
+    BeginsText new_ledger reader_old reader_new writer_old writer_new
+DoesInPart (Run (Some path)) reader_old reader_new writer_old writer_new =
+    PlaysInPart reader_old reader_new writer_old writer_new
+DoesInPart (Orders path csv) reader_old reader_new writer_old writer_new =
+    Keeps reader_old reader_new × PrintsRepliesInPart writer_old writer_new
+DoesInPart (Deliveries path csv) reader_old reader_new writer_old writer_new =
+    Keeps reader_old reader_new × PrintsRepliesInPart writer_old writer_new
+DoesInPart (Bounds path csv) reader_old reader_new writer_old writer_new =
+    Keeps reader_old reader_new × PrintsRepliesInPart writer_old writer_new
+DoesInPart (Sheet path shown) reader_old reader_new writer_old writer_new =
+    Keeps reader_old reader_new × PrintsSheetInPart shown writer_old writer_new
+DoesInPart (Serve path service) reader_old reader_new writer_old writer_new =
+    Keeps reader_old reader_new × PortBegun writer_old writer_new
+DoesInPart (Upgrade path) reader_old reader_new writer_old writer_new =
+    Keeps reader_old reader_new × Keeps writer_old writer_new
 
 -- the words ask for a task, and it is done
 abbrev pub DoesAsked : List Text → (reader_old reader_new writer_old writer_new : Option (List ℕ)) → Type 0
@@ -81,4 +100,5 @@ DoesAsked words reader_old reader_new writer_old writer_new =
 abbrev pub DoesAskedInPart : List Text → (reader_old reader_new writer_old writer_new : Option (List ℕ)) → Type 0
 DoesAskedInPart words reader_old reader_new writer_old writer_new =
     (Keeps reader_old reader_new × Keeps writer_old writer_new)
-    ⊎ ((task : Task) × Asks (subcommand_of stockdesk words) task × DoesInPart task reader_old reader_new writer_old writer_new)
+    ⊎ ((task : Task) × Asks (subcommand_of stockdesk words) task
+    × DoesInPart task reader_old reader_new writer_old writer_new)

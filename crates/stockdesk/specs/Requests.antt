@@ -47,19 +47,23 @@ items_of requests = map (λ r. item.Request r) requests
 
 -- the requests are answered in the form of script replies
 abbrev pub RequestsAnswered : List Request → (writer_old writer_new : Option (List ℕ)) → Ledger → Ledger → Type 0
-RequestsAnswered requests writer_old writer_new first last = AnswersAll first (items_of requests) last writer_old writer_new
+RequestsAnswered requests writer_old writer_new first last =
+    AnswersAll first (items_of requests) last writer_old writer_new
 
 -- the answers to the requests are cut, by a fault that is told so
-abbrev pub RequestsCut : List Request → Fault → (is_honest : Type 0) → (List Content → Type 0) → (writer_old writer_new : Option (List ℕ)) → Ledger → Ledger → Type 0
+abbrev pub RequestsCut : List Request → Fault → (is_honest : Type 0) → (List Content → Type 0)
+    → (writer_old writer_new : Option (List ℕ)) → Ledger → Ledger → Type 0
 RequestsCut requests fault is_honest leaves writer_old writer_new first last =
-    (cause : ScriptFault) × IsToldAs cause fault × AnswersCut cause (false ≡ false) is_honest leaves first (items_of requests) last writer_old writer_new
+    (cause : ScriptFault) × IsToldAs cause fault × AnswersCut cause (false ≡ false) is_honest leaves first
+    (items_of requests) last writer_old writer_new
 
 -- nothing is done, and nothing written
 abbrev pub NothingDone : (writer_old writer_new : Option (List ℕ)) → Ledger → Ledger → Type 0
 NothingDone writer_old writer_new first last = (last ≡ first) × Keeps writer_old writer_new
 
 -- the file was not read, and nothing is done; or some requests were read, and the answers to them are cut
-abbrev pub FileCut : Fault → (is_honest : Type 0) → (List Content → Type 0) → (writer_old writer_new : Option (List ℕ)) → Ledger → Ledger → Type 0
+abbrev pub FileCut : Fault → (is_honest : Type 0) → (List Content → Type 0) → (writer_old writer_new : Option (List ℕ))
+    → Ledger → Ledger → Type 0
 FileCut fault is_honest leaves writer_old writer_new first last =
     (((fault ≡ Fault.Memory) ⊎ IsBadFile fault) × NothingDone writer_old writer_new first last)
     ⊎ ((requests : List Request) × RequestsCut requests fault is_honest leaves writer_old writer_new first last)
@@ -67,11 +71,15 @@ FileCut fault is_honest leaves writer_old writer_new first last =
 -- ---- sessions
 
 -- some requests are answered, from the desk's ledger on
-abbrev pub FileWhole : {K : Type 0} → Ghosts K → K → (Content → Type 0) → (writer_old writer_new : Option (List ℕ)) → Type 0
+abbrev pub FileWhole : {K : Type 0} → Ghosts K → K → (Content → Type 0) → (writer_old writer_new : Option (List ℕ))
+    → Type 0
 FileWhole g keep held writer_old writer_new =
-    SessionWhole g keep held (λ first last. (requests : List Request) × RequestsAnswered requests writer_old writer_new first last)
+    SessionWhole g keep held (λ first last. (requests : List Request)
+    × RequestsAnswered requests writer_old writer_new first last)
 
 -- no desk was opened, and nothing written; or one was, and the answers were not begun, or cut
-abbrev pub FileInPart : {K : Type 0} → Ghosts K → Fault → K → (held tables : Content → Type 0) → (IsLeftSo : Type 0) → (writer_old writer_new : Option (List ℕ)) → Type 0
+abbrev pub FileInPart : {K : Type 0} → Ghosts K → Fault → K → (held tables : Content → Type 0) → (IsLeftSo : Type 0)
+    → (writer_old writer_new : Option (List ℕ)) → Type 0
 FileInPart g fault keep held tables IsLeftSo writer_old writer_new =
-    SessionInPart g fault keep held tables IsLeftSo (Keeps writer_old writer_new) (FileCut fault (g.is_honest keep) (g.leaves keep) writer_old writer_new)
+    SessionInPart g fault keep held tables IsLeftSo (Keeps writer_old writer_new)
+    (FileCut fault (g.is_honest keep) (g.leaves keep) writer_old writer_new)

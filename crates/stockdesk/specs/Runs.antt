@@ -8,8 +8,8 @@ use Rattle.book.specs.Ledger.{Ledger, new_ledger}
 use Rattle.desk.specs.Script.{EndsWhole, IsPrompt}
 use Rattle.desk.specs.Text.{IsText, RepliesAll}
 
--- Some of it was read, and a beginning was written of the text for that from this ledger on; the answers to all but the last
--- piece were written whole.
+-- Some of it was read, and a beginning was written of the text for that from this ledger on; the answers to all but the
+-- last piece were written whole.
 pub record BeginsText (first : Ledger) (reader_old reader_new writer_old writer_new : Option (List ℕ)) : Type 0 where
   pub read : List ℕ
   pub written : List ℕ
@@ -34,12 +34,15 @@ pub record RunsSoFar (first : Ledger) (reader_old reader_new writer_old writer_n
 
 -- all that was there was read, and what a new desk answers was written
 abbrev pub RunsWhole : (reader_old reader_new writer_old writer_new : Option (List ℕ)) → Type 0
-RunsWhole reader_old reader_new writer_old writer_new = (last : Ledger) × EndsWhole new_ledger last reader_old reader_new writer_old writer_new
+RunsWhole reader_old reader_new writer_old writer_new =
+    (last : Ledger) × EndsWhole new_ledger last reader_old reader_new writer_old writer_new
 
 -- all that was there was read, and what the desk of some good ledger answers was written
 abbrev pub PlaysWhole : (reader_old reader_new writer_old writer_new : Option (List ℕ)) → Type 0
-PlaysWhole reader_old reader_new writer_old writer_new = (first : Ledger) × (last : Ledger) × Good first × EndsWhole first last reader_old reader_new writer_old writer_new
+PlaysWhole reader_old reader_new writer_old writer_new =
+    (first : Ledger) × (last : Ledger) × Good first × EndsWhole first last reader_old reader_new writer_old writer_new
 
 -- some of it was read, and a beginning was written of what the desk of some good ledger answers
 abbrev pub PlaysInPart : (reader_old reader_new writer_old writer_new : Option (List ℕ)) → Type 0
-PlaysInPart reader_old reader_new writer_old writer_new = (first : Ledger) × Good first × BeginsText first reader_old reader_new writer_old writer_new
+PlaysInPart reader_old reader_new writer_old writer_new =
+    (first : Ledger) × Good first × BeginsText first reader_old reader_new writer_old writer_new

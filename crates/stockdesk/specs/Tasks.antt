@@ -53,7 +53,8 @@ article = on_file (codes "article") (codes "ARTICLE")
 
 -- `serve FILE --port N --connections N`
 abbrev pub serve : App
-serve = with_rule (with_rule (with_rule (new_app (codes "serve")) (needed (codes "FILE"))) (option (codes "port"))) (option (codes "connections"))
+serve = with_rule (with_rule (with_rule (new_app (codes "serve")) (needed (codes "FILE"))) (option (codes "port")))
+    (option (codes "connections"))
 
 -- `upgrade FILE`
 abbrev pub upgrade : App
@@ -65,11 +66,14 @@ with_both app first second = with_subcommand (with_subcommand app first.top) sec
 
 -- the program's name, and one of the commands of scripts
 abbrev pub scripts : App
-scripts = let named = new_app (codes "stockdesk") in with_both (record named { top = record named.top { subcommand_required = true } }) init run
+scripts = let named =
+    new_app (codes "stockdesk") in with_both
+    (record named { top = record named.top { subcommand_required = true } }) init run
 
 -- one of the nine
 abbrev pub stockdesk : App
-stockdesk = with_subcommand (with_subcommand (with_both (with_subcommand (with_both scripts orders deliveries) bounds.top) sheet article) serve.top) upgrade.top
+stockdesk = with_subcommand (with_subcommand
+    (with_both (with_subcommand (with_both scripts orders deliveries) bounds.top) sheet article) serve.top) upgrade.top
 
 -- the words are the numbers of that service, which are in their ranges
 pub record IsService (port connections : Text) (service : Service) : Type 0 where
@@ -83,13 +87,22 @@ pub record IsService (port connections : Text) (service : Service) : Type 0 wher
 abbrev pub AsksFor : Text → List Row → Task → Type 0
 AsksFor name rows (Init path) = (name ≡ codes "init") × (first_of (codes "FILE") rows ≡ Some path.now)
 AsksFor name rows (Run path) = (name ≡ codes "run") × (first_of (codes "FILE") rows ≡ option_map (λ p. p.now) path)
-AsksFor name rows (Orders path csv) = (name ≡ codes "orders") × (first_of (codes "FILE") rows ≡ Some path.now) × (first_of (codes "CSV") rows ≡ Some csv.now)
-AsksFor name rows (Deliveries path csv) = (name ≡ codes "deliveries") × (first_of (codes "FILE") rows ≡ Some path.now) × (first_of (codes "CSV") rows ≡ Some csv.now)
-AsksFor name rows (Bounds path csv) = (name ≡ codes "bounds") × (first_of (codes "FILE") rows ≡ Some path.now) × (first_of (codes "CSV") rows ≡ Some csv.now)
-AsksFor name rows (Sheet path (OfBranch branch)) = (name ≡ codes "sheet") × (first_of (codes "FILE") rows ≡ Some path.now) × (first_of (codes "BRANCH") rows ≡ Some branch)
-AsksFor name rows (Sheet path (OfArticle article)) = (name ≡ codes "article") × (first_of (codes "FILE") rows ≡ Some path.now) × (first_of (codes "ARTICLE") rows ≡ Some article)
+AsksFor name rows (Orders path csv) =
+    (name ≡ codes "orders") × (first_of (codes "FILE") rows ≡ Some path.now)
+    × (first_of (codes "CSV") rows ≡ Some csv.now)
+AsksFor name rows (Deliveries path csv) =
+    (name ≡ codes "deliveries") × (first_of (codes "FILE") rows ≡ Some path.now)
+    × (first_of (codes "CSV") rows ≡ Some csv.now)
+AsksFor name rows (Bounds path csv) =
+    (name ≡ codes "bounds") × (first_of (codes "FILE") rows ≡ Some path.now)
+    × (first_of (codes "CSV") rows ≡ Some csv.now)
+AsksFor name rows (Sheet path (OfBranch branch)) = (name ≡ codes "sheet")
+    × (first_of (codes "FILE") rows ≡ Some path.now) × (first_of (codes "BRANCH") rows ≡ Some branch)
+AsksFor name rows (Sheet path (OfArticle article)) = (name ≡ codes "article")
+    × (first_of (codes "FILE") rows ≡ Some path.now) × (first_of (codes "ARTICLE") rows ≡ Some article)
 AsksFor name rows (Serve path service) = (name ≡ codes "serve") × (first_of (codes "FILE") rows ≡ Some path.now)
-    × ((port : Text) × (connections : Text) × (first_of (codes "port") rows ≡ Some port) × (first_of (codes "connections") rows ≡ Some connections) × IsService port connections service)
+    × ((port : Text) × (connections : Text) × (first_of (codes "port") rows ≡ Some port)
+    × (first_of (codes "connections") rows ≡ Some connections) × IsService port connections service)
 AsksFor name rows (Upgrade path) = (name ≡ codes "upgrade") × (first_of (codes "FILE") rows ≡ Some path.now)
 
 -- what was found of the words asks for this task

@@ -11,7 +11,7 @@ ghost use Rattle.keep.specs.Old.{HoldsOld, upgraded};
 ghost use Rattle.keep.specs.Starts.{StartsOld, StartsWith};
 ghost use Rattle.stockdesk.specs.Connections.{ServiceInPart, ServiceWhole};
 ghost use Rattle.stockdesk.specs.Requests.{FileInPart, FileWhole};
-ghost use Rattle.stockdesk.specs.Sessions.{IsNewDesk, KeepsOn, OpensWith, ScriptInPart, ScriptWhole};
+ghost use Rattle.stockdesk.specs.Sessions.{IsNewDesk, IsNotOpened, OpensWith, ScriptInPart, ScriptWhole, StillHolds};
 ghost use Rattle.stockdesk.specs.Sheets.{SheetInPart, SheetWhole};
 
 use crate::loopback::{self, Service};
@@ -115,7 +115,7 @@ pub fn init<S: Start>(
     start: S,
 ) -> Result<SqlKeep<FileStore<FileFrom<S>>>, Fault>
     ensures made { IfOk result (IsNewDesk ⟦<SqlKeep<FileStore<FileFrom<S>>> as Keep>⟧) }
-    ensures fault { IfErr result (λ fault. (fault ≡ Fault.NotADesk) ⊎ ((fault ≡ Fault.Memory) ⊎ (fault ≡ Fault.Store))) }
+    ensures fault { IfErr result IsNotOpened }
 {
     match look(rt, path)? {
         Found::Nothing => make(rt, path, start),
@@ -123,16 +123,18 @@ pub fn init<S: Start>(
     }
 }
 
-/// The keeper of what the file at the path holds, whose bytes are named by `start`. A file that is not there or has no bytes is
-/// `NotADesk`, and none is made.
+/// The keeper of what the file at the path holds, whose bytes are named by `start`. A file that is not there or has no
+/// bytes is `NotADesk`, and none is made.
 pub fn open<S: Start>(
     rt: &HostRuntime,
     path: &str,
     start: S,
 ) -> Result<SqlKeep<FileStore<FileFrom<S>>>, Fault>
-    ensures opened { IfOk result (OpensWith ⟦<SqlKeep<FileStore<FileFrom<S>>> as Keep>⟧ (StartsWith (image_at S.Start))) }
-    ensures old { IfOk result (λ keep. HasCleanDisk (file_state keep.connection) → (x : Content) → StartsOld (image_at S.Start) x → HoldsOld (file_state keep.connection).now x) }
-    ensures fault { IfErr result (λ fault. (fault ≡ Fault.NotADesk) ⊎ ((fault ≡ Fault.Memory) ⊎ (fault ≡ Fault.Store))) }
+    ensures opened { IfOk result (OpensWith ⟦<SqlKeep<FileStore<FileFrom<S>>> as Keep>⟧
+        (StartsWith (image_at S.Start))) }
+    ensures old { IfOk result (λ keep. HasCleanDisk (file_state keep.connection) → (x : Content)
+        → StartsOld (image_at S.Start) x → HoldsOld (file_state keep.connection).now x) }
+    ensures fault { IfErr result IsNotOpened }
 {
     match look(rt, path)? {
         Found::Nothing => Err(Fault::NotADesk),
@@ -144,9 +146,9 @@ pub fn open<S: Start>(
     }
 }
 
-/// Plays a script on the desk in the file at the path, whose bytes are named by `start`. The keeper comes back as the session
-/// leaves it, and is still open. Where the file was not opened nothing is read from the one or written to the other: a file that
-/// is not there or has no bytes is `NotADesk`, and none is made.
+/// Plays a script on the desk in the file at the path, whose bytes are named by `start`. The keeper comes back as the
+/// session leaves it, and is still open. Where the file was not opened nothing is read from the one or written to the
+/// other: a file that is not there or has no bytes is `NotADesk`, and none is made.
 pub fn run<S: Start, R: Read, W: Write>(
     rt: &HostRuntime,
     path: &str,
@@ -154,11 +156,17 @@ pub fn run<S: Start, R: Read, W: Write>(
     reader: &mut R,
     writer: &mut W,
 ) -> Result<(SqlKeep<FileStore<FileFrom<S>>>, Result<(), Fault>), Fault>
-    ensures whole { IfOk result (λ r. OnOk r.1 (ScriptWhole ⟦<SqlKeep<FileStore<FileFrom<S>>> as Keep>⟧ r.0 (StartsWith (image_at S.Start)) (R.remaining reader.old) (R.remaining reader.new) (W.contents writer.old) (W.contents writer.new))) }
-    ensures cut { IfOk result (λ r. IfErr r.1 (λ fault. ScriptInPart ⟦<SqlKeep<FileStore<FileFrom<S>>> as Keep>⟧ fault r.0 (StartsWith (image_at S.Start)) (StartsWith (image_at S.Start)) (KeepsOn ⟦<SqlKeep<FileStore<FileFrom<S>>> as Keep>⟧ (StartsWith (image_at S.Start)) r.0)
+    ensures whole { IfOk result (λ r. OnOk r.1 (ScriptWhole ⟦<SqlKeep<FileStore<FileFrom<S>>> as Keep>⟧ r.0
+        (StartsWith (image_at S.Start)) (R.remaining reader.old) (R.remaining reader.new) (W.contents writer.old)
+        (W.contents writer.new))) }
+    ensures cut { IfOk result (λ r. IfErr r.1
+        (λ fault. ScriptInPart ⟦<SqlKeep<FileStore<FileFrom<S>>> as Keep>⟧ fault r.0 (StartsWith (image_at S.Start))
+        (StartsWith (image_at S.Start)) (StillHolds ⟦<SqlKeep<FileStore<FileFrom<S>>> as Keep>⟧
+        (StartsWith (image_at S.Start)) r.0)
         (R.remaining reader.old) (R.remaining reader.new) (W.contents writer.old) (W.contents writer.new))) }
-    ensures unopened { OnErr result (Keeps (R.remaining reader.old) (R.remaining reader.new) × Keeps (W.contents writer.old) (W.contents writer.new)) }
-    ensures fault { IfErr result (λ fault. (fault ≡ Fault.NotADesk) ⊎ ((fault ≡ Fault.Memory) ⊎ (fault ≡ Fault.Store))) }
+    ensures unopened { OnErr result (Keeps (R.remaining reader.old) (R.remaining reader.new)
+        × Keeps (W.contents writer.old) (W.contents writer.new)) }
+    ensures fault { IfErr result IsNotOpened }
 {
     let keep = open(rt, path, start)?;
     Ok(session(rt.alloc(), keep, reader, writer))
@@ -173,11 +181,14 @@ pub fn answer<S: Start, W: Write>(
     csv: &str,
     writer: &mut W,
 ) -> Result<(SqlKeep<FileStore<FileFrom<S>>>, Result<(), Fault>), Fault>
-    ensures whole { IfOk result (λ r. OnOk r.1 (FileWhole ⟦<SqlKeep<FileStore<FileFrom<S>>> as Keep>⟧ r.0 (StartsWith (image_at S.Start)) (W.contents writer.old) (W.contents writer.new))) }
-    ensures cut { IfOk result (λ r. IfErr r.1 (λ fault. FileInPart ⟦<SqlKeep<FileStore<FileFrom<S>>> as Keep>⟧ fault r.0 (StartsWith (image_at S.Start)) (StartsWith (image_at S.Start)) (KeepsOn ⟦<SqlKeep<FileStore<FileFrom<S>>> as Keep>⟧ (StartsWith (image_at S.Start)) r.0)
+    ensures whole { IfOk result (λ r. OnOk r.1 (FileWhole ⟦<SqlKeep<FileStore<FileFrom<S>>> as Keep>⟧ r.0
+        (StartsWith (image_at S.Start)) (W.contents writer.old) (W.contents writer.new))) }
+    ensures cut { IfOk result (λ r. IfErr r.1 (λ fault. FileInPart ⟦<SqlKeep<FileStore<FileFrom<S>>> as Keep>⟧ fault r.0
+        (StartsWith (image_at S.Start)) (StartsWith (image_at S.Start))
+        (StillHolds ⟦<SqlKeep<FileStore<FileFrom<S>>> as Keep>⟧ (StartsWith (image_at S.Start)) r.0)
         (W.contents writer.old) (W.contents writer.new))) }
     ensures unopened { OnErr result (Keeps (W.contents writer.old) (W.contents writer.new)) }
-    ensures fault { IfErr result (λ fault. (fault ≡ Fault.NotADesk) ⊎ ((fault ≡ Fault.Memory) ⊎ (fault ≡ Fault.Store))) }
+    ensures fault { IfErr result IsNotOpened }
 {
     let keep = open(rt, path, start)?;
     Ok(requests::answer(rt, keep, kind, csv, writer))
@@ -191,11 +202,15 @@ pub fn show<S: Start, W: Write>(
     shown: &Shown,
     writer: &mut W,
 ) -> Result<(SqlKeep<FileStore<FileFrom<S>>>, Result<(), Fault>), Fault>
-    ensures whole { IfOk result (λ r. OnOk r.1 (SheetWhole ⟦<SqlKeep<FileStore<FileFrom<S>>> as Keep>⟧ r.0 (StartsWith (image_at S.Start)) shown.now (W.contents writer.old) (W.contents writer.new))) }
-    ensures cut { IfOk result (λ r. IfErr r.1 (λ fault. SheetInPart ⟦<SqlKeep<FileStore<FileFrom<S>>> as Keep>⟧ fault r.0 (StartsWith (image_at S.Start)) (StartsWith (image_at S.Start)) (KeepsOn ⟦<SqlKeep<FileStore<FileFrom<S>>> as Keep>⟧ (StartsWith (image_at S.Start)) r.0)
+    ensures whole { IfOk result (λ r. OnOk r.1 (SheetWhole ⟦<SqlKeep<FileStore<FileFrom<S>>> as Keep>⟧ r.0
+        (StartsWith (image_at S.Start)) shown.now (W.contents writer.old) (W.contents writer.new))) }
+    ensures cut { IfOk result (λ r. IfErr r.1
+        (λ fault. SheetInPart ⟦<SqlKeep<FileStore<FileFrom<S>>> as Keep>⟧ fault r.0 (StartsWith (image_at S.Start))
+        (StartsWith (image_at S.Start)) (StillHolds ⟦<SqlKeep<FileStore<FileFrom<S>>> as Keep>⟧
+        (StartsWith (image_at S.Start)) r.0)
         shown.now (W.contents writer.old) (W.contents writer.new))) }
     ensures unopened { OnErr result (Keeps (W.contents writer.old) (W.contents writer.new)) }
-    ensures fault { IfErr result (λ fault. (fault ≡ Fault.NotADesk) ⊎ ((fault ≡ Fault.Memory) ⊎ (fault ≡ Fault.Store))) }
+    ensures fault { IfErr result IsNotOpened }
 {
     let keep = open(rt, path, start)?;
     Ok(sheet::show(rt.alloc(), keep, shown, writer))
@@ -209,28 +224,36 @@ pub fn serve<S: Start, W: Write>(
     service: &Service,
     writer: &mut W,
 ) -> Result<(SqlKeep<FileStore<FileFrom<S>>>, Result<(), Fault>), Fault>
-    ensures whole { IfOk result (λ r. OnOk r.1 (ServiceWhole ⟦<SqlKeep<FileStore<FileFrom<S>>> as Keep>⟧ service.now.connections r.0 (StartsWith (image_at S.Start)) (W.contents writer.old) (W.contents writer.new))) }
-    ensures cut { IfOk result (λ r. IfErr r.1 (λ fault. ServiceInPart ⟦<SqlKeep<FileStore<FileFrom<S>>> as Keep>⟧ service.now.connections fault r.0 (StartsWith (image_at S.Start)) (StartsWith (image_at S.Start)) (KeepsOn ⟦<SqlKeep<FileStore<FileFrom<S>>> as Keep>⟧ (StartsWith (image_at S.Start)) r.0)
+    ensures whole { IfOk result (λ r. OnOk r.1
+        (ServiceWhole ⟦<SqlKeep<FileStore<FileFrom<S>>> as Keep>⟧ service.now.connections r.0
+        (StartsWith (image_at S.Start)) (W.contents writer.old) (W.contents writer.new))) }
+    ensures cut { IfOk result (λ r. IfErr r.1
+        (λ fault. ServiceInPart ⟦<SqlKeep<FileStore<FileFrom<S>>> as Keep>⟧ service.now.connections fault r.0
+        (StartsWith (image_at S.Start)) (StartsWith (image_at S.Start))
+        (StillHolds ⟦<SqlKeep<FileStore<FileFrom<S>>> as Keep>⟧ (StartsWith (image_at S.Start)) r.0)
         (W.contents writer.old) (W.contents writer.new))) }
     ensures unopened { OnErr result (Keeps (W.contents writer.old) (W.contents writer.new)) }
-    ensures fault { IfErr result (λ fault. (fault ≡ Fault.NotADesk) ⊎ ((fault ≡ Fault.Memory) ⊎ (fault ≡ Fault.Store))) }
+    ensures fault { IfErr result IsNotOpened }
 {
     let keep = open(rt, path, start)?;
     Ok(loopback::serve(rt, keep, service, writer))
 }
 
-/// Makes version 2 of the desk in the file at the path, whose bytes are named by `start`, where it is of version 1; one of version 2
-/// is left alone. The keeper comes back over what the file holds then, and is still open. A file that is not there or has no
-/// bytes is `NotADesk`, and none is made.
+/// Makes version 2 of the desk in the file at the path, whose bytes are named by `start`, where it is of version 1; one
+/// of version 2 is left alone. The keeper comes back over what the file holds then, and is still open. A file that is
+/// not there or has no bytes is `NotADesk`, and none is made.
 pub fn upgrade<S: Start>(
     rt: &HostRuntime,
     path: &str,
     start: S,
 ) -> Result<(SqlKeep<FileStore<FileFrom<S>>>, Result<(), Fault>), Fault>
-    ensures made { IfOk result (λ r. HasCleanDisk (file_state r.0.connection) → OnOk r.1 ((x : Content) → StartsOld (image_at S.Start) x → Holds (file_state r.0.connection).now (upgraded x))) }
-    ensures same { IfOk result (λ r. HasCleanDisk (file_state r.0.connection) → OnOk r.1 ((x : Content) → StartsWith (image_at S.Start) x → Holds (file_state r.0.connection).now x)) }
-    ensures ended { IfOk result (λ r. IfErr r.1 (λ fault. (fault ≡ Fault.NotADesk) ⊎ ((fault ≡ Fault.Memory) ⊎ (fault ≡ Fault.Store)))) }
-    ensures fault { IfErr result (λ fault. (fault ≡ Fault.NotADesk) ⊎ ((fault ≡ Fault.Memory) ⊎ (fault ≡ Fault.Store))) }
+    ensures made { IfOk result (λ r. HasCleanDisk (file_state r.0.connection)
+        → OnOk r.1 ((x : Content) → StartsOld (image_at S.Start) x → Holds (file_state r.0.connection).now
+        (upgraded x))) }
+    ensures same { IfOk result (λ r. HasCleanDisk (file_state r.0.connection)
+        → OnOk r.1 ((x : Content) → StartsWith (image_at S.Start) x → Holds (file_state r.0.connection).now x)) }
+    ensures ended { IfOk result (λ r. IfErr r.1 IsNotOpened) }
+    ensures fault { IfErr result IsNotOpened }
 {
     let keep = open(rt, path, start)?;
     Ok(upgrade::upgrade(keep))

@@ -1,7 +1,7 @@
 //! A desk that a keeper holds, served to connections on this machine.
 
 ghost use Rattle.std.specs.Prelude.{◌≡◌, ◌≢◌, ◌≤◌, ◌⊎◌, false, Err, IfErr, IfOk, IsTrue, List, length, OnErr, OnOk};
-ghost use Rattle.desk.specs.Desk.{Keeps as KeepsRows};
+ghost use Rattle.desk.specs.Desk.{StaysStored};
 ghost use Rattle.web.specs.Serving.{stand};
 ghost use Rattle.stockdesk.specs.Connections.{AreServed, Came, IsServed, PortBegun, PortTold, ServesAll, ServiceCut, ServiceInPart, ServiceWhole, Streams, listening_line};
 ghost use Rattle.stockdesk.specs.Sessions.{IsLeft, IsNoDesk};
@@ -58,16 +58,18 @@ fn serve_one<K: Keep, R: Read + Drop, W: Write + Drop>(
     desk: &mut Desk<K>,
     connection: (R, W),
 )
-    ensures served { (s : Streams) × (s.reader_old ≡ R.remaining connection.0) × (s.writer_old ≡ W.contents connection.1)
-        × IsServed (K.is_honest desk.new.keep) (K.leaves desk.new.keep) (stand desk.old.ledger (K.stopped desk.old.keep)) s (stand desk.new.ledger (K.stopped desk.new.keep)) }
+    ensures served { (s : Streams) × (s.reader_old ≡ R.remaining connection.0)
+        × (s.writer_old ≡ W.contents connection.1)
+        × IsServed (K.is_honest desk.new.keep) (K.leaves desk.new.keep)
+        (stand desk.old.ledger (K.stopped desk.old.keep)) s (stand desk.new.ledger (K.stopped desk.new.keep)) }
     ensures honest { K.is_honest desk.new.keep → K.is_honest desk.old.keep }
 {
     let (mut reader, mut writer) = connection;
     let _ = web::serve(alloc, &mut reader, &mut writer, desk);
 }
 
-/// Serves so many connections on a desk that is not stopped, each as it comes, one after the other. Those before a fault are served:
-/// `Socket` where no connection could be had, and `Store` where the last of them stopped the desk.
+/// Serves so many connections on a desk that is not stopped, each as it comes, one after the other. Those before a
+/// fault are served: `Socket` where no connection could be had, and `Store` where the last of them stopped the desk.
 pub fn serve_all<K: Keep, L: Listen>(
     alloc: Global,
     desk: &mut Desk<K>,
@@ -76,10 +78,12 @@ pub fn serve_all<K: Keep, L: Listen>(
 ) -> Result<(), Fault>
     requires going { K.stopped desk.old.keep ≡ false }
     ensures whole { OnOk result ((streams : List Streams) × (length streams ≡ connections)
-        × AreServed (K.is_honest desk.new.keep) (K.leaves desk.new.keep) (stand desk.old.ledger false) streams (stand desk.new.ledger false)
+        × AreServed (K.is_honest desk.new.keep) (K.leaves desk.new.keep) (stand desk.old.ledger false) streams
+        (stand desk.new.ledger false)
         × Came L.comes L.Reader.remaining L.Writer.contents listener.old streams listener.new) }
     ensures cut { OnErr result ((streams : List Streams) × (length streams ≤ connections)
-        × AreServed (K.is_honest desk.new.keep) (K.leaves desk.new.keep) (stand desk.old.ledger false) streams (stand desk.new.ledger (K.stopped desk.new.keep))
+        × AreServed (K.is_honest desk.new.keep) (K.leaves desk.new.keep) (stand desk.old.ledger false) streams
+        (stand desk.new.ledger (K.stopped desk.new.keep))
         × (mid : L) × Came L.comes L.Reader.remaining L.Writer.contents listener.old streams mid) }
     ensures fault { IfErr result (λ fault. (fault ≡ Fault.Socket) ⊎ (fault ≡ Fault.Store)) }
     ensures going { result ≢ Err Fault.Store → K.stopped desk.new.keep ≡ false }
@@ -148,12 +152,16 @@ fn serve_desk<K: Keep, W: Write>(
     writer: &mut W,
 ) -> Result<(), Fault>
     requires going { K.stopped desk.old.keep ≡ false }
-    ensures whole { OnOk result (PortTold (W.contents writer.old) (W.contents writer.new) × ServesAll service.now.connections (K.is_honest desk.new.keep) (K.leaves desk.new.keep) desk.old.ledger desk.new.ledger) }
-    ensures cut { IfErr result (λ fault. ServiceCut fault service.now.connections (K.stopped desk.new.keep) (K.is_honest desk.new.keep) (K.leaves desk.new.keep) (W.contents writer.old) (W.contents writer.new) desk.old.ledger desk.new.ledger) }
+    ensures whole { OnOk result (PortTold (W.contents writer.old) (W.contents writer.new)
+        × ServesAll service.now.connections (K.is_honest desk.new.keep)
+        (K.leaves desk.new.keep) desk.old.ledger desk.new.ledger) }
+    ensures cut { IfErr result (λ fault. ServiceCut fault service.now.connections (K.stopped desk.new.keep)
+        (K.is_honest desk.new.keep) (K.leaves desk.new.keep) (W.contents writer.old)
+        (W.contents writer.new) desk.old.ledger desk.new.ledger) }
     ensures desk { IfErr result (λ fault. ¬ IsNoDesk fault) }
     ensures going { result ≢ Err Fault.Store → K.stopped desk.new.keep ≡ false }
     ensures stopped { result ≡ Err Fault.Store → IsTrue (K.stopped desk.new.keep) }
-    ensures keeps { K.stopped desk.new.keep ≡ false → K.is_honest desk.new.keep → KeepsRows (K.holds desk.new.keep) (K.leaves desk.new.keep) desk.new.ledger }
+    ensures stored { StaysStored K.Keep desk.new }
     ensures honest { K.is_honest desk.new.keep → K.is_honest desk.old.keep }
 {
     let ended = match listen_at(rt, service.port, writer) {
@@ -164,21 +172,24 @@ fn serve_desk<K: Keep, W: Write>(
     ended
 }
 
-/// Opens the desk that a keeper holds, listens, tells the port, and serves connections one after the other. The keeper comes back as
-/// the session leaves it.
+/// Opens the desk that a keeper holds, listens, tells the port, and serves connections one after the other. The keeper
+/// comes back as the session leaves it.
 ///
-/// With Ok so many connections were served, and a stop leaves the rows of the ledger behind them. After `Store` the last connection
-/// stopped the desk, and a stop leaves the rows of its ledger or those after the command that was first answered `stopped`; after any
-/// other fault those of its ledger alone. A fault of a connection ends that one alone. Where no desk was opened nothing is written,
-/// the keeper holds what it held, and nothing is added to what a stop may leave.
+/// With Ok so many connections were served, and a stop leaves the rows of the ledger behind them. After `Store` the
+/// last connection stopped the desk, and a stop leaves the rows of its ledger or those after the command that was first
+/// answered `stopped`; after any other fault those of its ledger alone. A fault of a connection ends that one alone.
+/// Where no desk was opened nothing is written, the keeper holds what it held, and nothing is added to what a stop may
+/// leave.
 pub fn serve<K: Keep, W: Write>(
     rt: &HostRuntime,
     keep: K,
     service: &Service,
     writer: &mut W,
 ) -> (K, Result<(), Fault>)
-    ensures whole { OnOk result.1 (ServiceWhole K.Keep service.now.connections result.0 (K.holds keep) (W.contents writer.old) (W.contents writer.new)) }
-    ensures cut { IfErr result.1 (λ fault. ServiceInPart K.Keep service.now.connections fault result.0 (K.holds keep) (K.has_tables keep) (IsLeft K.Keep keep result.0) (W.contents writer.old) (W.contents writer.new)) }
+    ensures whole { OnOk result.1 (ServiceWhole K.Keep service.now.connections result.0 (K.holds keep)
+        (W.contents writer.old) (W.contents writer.new)) }
+    ensures cut { IfErr result.1 (λ fault. ServiceInPart K.Keep service.now.connections fault result.0 (K.holds keep)
+        (K.has_tables keep) (IsLeft K.Keep keep result.0) (W.contents writer.old) (W.contents writer.new)) }
     ensures honest { K.is_honest result.0 → K.is_honest keep }
 {
     let mut desk = match open_desk(rt.alloc(), keep) {

@@ -63,9 +63,9 @@ fn tell<E: Write>(errors: &mut E, line: &[u8], status: u8) -> u8
     status
 }
 
-/// Does what the words ask for, of which the first is the program's name, and gives the status to end with: 0 where it is
-/// done, 1 after a fault, 2 for words that ask for nothing, 3 where the file is no desk, damaged or of version 1, 4 where a
-/// file of requests cannot be read or has a record at fault. All but 0 is told on `errors`.
+/// Does what the words ask for, of which the first is the program's name, and gives the status to end with: 0 where it
+/// is done, 1 after a fault, 2 for words that ask for nothing, 3 where the file is no desk, damaged or of version 1, 4
+/// where a file of requests cannot be read or has a record at fault. All but 0 is told on `errors`.
 pub fn go<'a, R, W, E>(
     rt: &HostRuntime,
     words: &'a [&'a str],
@@ -78,13 +78,18 @@ where
     W: Write,
     E: Write,
     ensures status { result ≤ 4 }
-    ensures done { result ≡ 0 → DoesAsked (map (λ s. s.now) words.entry.now) (R.remaining reader.old) (R.remaining reader.new) (W.contents writer.old) (W.contents writer.new) }
-    ensures fault { result ≢ 0 → DoesAskedInPart (map (λ s. s.now) words.entry.now) (R.remaining reader.old) (R.remaining reader.new) (W.contents writer.old) (W.contents writer.new) }
-    ensures untouched { (result ≡ 2) ⊎ ((result ≡ 3) ⊎ (result ≡ 4)) → Keeps (R.remaining reader.old) (R.remaining reader.new) × Keeps (W.contents writer.old) (W.contents writer.new) }
+    ensures done { result ≡ 0 → DoesAsked (map (λ s. s.now) words.entry.now) (R.remaining reader.old)
+        (R.remaining reader.new) (W.contents writer.old) (W.contents writer.new) }
+    ensures fault { result ≢ 0 → DoesAskedInPart (map (λ s. s.now) words.entry.now) (R.remaining reader.old)
+        (R.remaining reader.new) (W.contents writer.old) (W.contents writer.new) }
+    ensures untouched { (result ≡ 2) ⊎ ((result ≡ 3) ⊎ (result ≡ 4)) → Keeps (R.remaining reader.old)
+        (R.remaining reader.new) × Keeps (W.contents writer.old) (W.contents writer.new) }
     // the one word `run`: status 0, and all that was there is answered, or status 1 and a beginning of that
     ensures plain { IsPlainRun (map (λ s. s.now) words.entry.now)
-        → ((result ≡ 0) × RunsWhole (R.remaining reader.old) (R.remaining reader.new) (W.contents writer.old) (W.contents writer.new))
-        ⊎ ((result ≡ 1) × BeginsText new_ledger (R.remaining reader.old) (R.remaining reader.new) (W.contents writer.old) (W.contents writer.new)) }
+        → ((result ≡ 0) × RunsWhole (R.remaining reader.old) (R.remaining reader.new) (W.contents writer.old)
+        (W.contents writer.new))
+        ⊎ ((result ≡ 1) × BeginsText new_ledger (R.remaining reader.old) (R.remaining reader.new)
+        (W.contents writer.old) (W.contents writer.new)) }
 {
     let task = match read_task(rt.alloc(), words) {
         Ok(Some(task)) => task,

@@ -26,14 +26,17 @@ fn new_keeper(alloc: Global) -> Result<SqlKeep<MemStore>, Fault>
     }
 }
 
-/// Reads to the end, and writes what a new desk answers, each reply line before the next line is answered. After a fault
-/// what is written is a beginning of the text for what was read, with the whole answer to all of that but the last piece,
-/// of 512 bytes at the most; after a failing read, the answer to each line that was read.
+/// Reads to the end, and writes what a new desk answers, each reply line before the next line is answered. After a
+/// fault what is written is a beginning of the text for what was read, with the whole answer to all of that but the
+/// last piece, of 512 bytes at the most; after a failing read, the answer to each line that was read.
 pub fn run<R: Read, W: Write>(alloc: Global, reader: &mut R, writer: &mut W) -> Result<(), Fault>
-    ensures whole { OnOk result (RunsWhole (R.remaining reader.old) (R.remaining reader.new) (W.contents writer.old) (W.contents writer.new)) }
-    ensures beginning { OnErr result (BeginsText new_ledger (R.remaining reader.old) (R.remaining reader.new) (W.contents writer.old) (W.contents writer.new)) }
+    ensures whole { OnOk result (RunsWhole (R.remaining reader.old) (R.remaining reader.new) (W.contents writer.old)
+        (W.contents writer.new)) }
+    ensures beginning { OnErr result (BeginsText new_ledger (R.remaining reader.old) (R.remaining reader.new)
+        (W.contents writer.old) (W.contents writer.new)) }
     ensures desk { IfErr result (λ fault. ¬ IsUnbegun fault) }
-    ensures prompt { IfErr result (λ fault. fault ≡ Fault.Read → RunsSoFar new_ledger (R.remaining reader.old) (R.remaining reader.new) (W.contents writer.old) (W.contents writer.new)) }
+    ensures prompt { IfErr result (λ fault. fault ≡ Fault.Read → RunsSoFar new_ledger (R.remaining reader.old)
+        (R.remaining reader.new) (W.contents writer.old) (W.contents writer.new)) }
 {
     let keep = new_keeper(alloc)?;
     let (_, ended) = session(alloc, keep, reader, writer);

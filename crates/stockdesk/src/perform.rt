@@ -5,7 +5,7 @@ ghost use Rattle.std.specs.Io.KnownBytes.{Keeps};
 ghost use Rattle.stockdesk.specs.Connections.{PortBegun, PortTold};
 ghost use Rattle.stockdesk.specs.Done.{Does, DoesInPart, PrintsReplies, PrintsRepliesInPart, PrintsSheet, PrintsSheetInPart};
 ghost use Rattle.stockdesk.specs.Runs.{PlaysInPart, PlaysWhole};
-ghost use Rattle.stockdesk.specs.Sessions.{IsUnbegun};
+ghost use Rattle.stockdesk.specs.Sessions.{IsNotOpened, IsUnbegun};
 
 use crate::loopback::Service;
 use crate::requests::Kind;
@@ -18,7 +18,7 @@ use std::io::{Read, Write};
 
 /// Makes a new desk in the file at the path, and closes it.
 fn init_file(rt: &HostRuntime, path: &str) -> Result<(), Fault>
-    ensures { IfErr result (λ fault. (fault ≡ Fault.NotADesk) ⊎ ((fault ≡ Fault.Memory) ⊎ (fault ≡ Fault.Store))) }
+    ensures { IfErr result IsNotOpened }
 {
     file::close(file::init(rt, path, Unknown)?);
     Ok(())
@@ -31,9 +31,12 @@ fn run_file<R: Read, W: Write>(
     reader: &mut R,
     writer: &mut W,
 ) -> Result<(), Fault>
-    ensures whole { OnOk result (PlaysWhole (R.remaining reader.old) (R.remaining reader.new) (W.contents writer.old) (W.contents writer.new)) }
-    ensures beginning { OnErr result (PlaysInPart (R.remaining reader.old) (R.remaining reader.new) (W.contents writer.old) (W.contents writer.new)) }
-    ensures untouched { IfErr result (λ fault. IsUnbegun fault → Keeps (R.remaining reader.old) (R.remaining reader.new) × Keeps (W.contents writer.old) (W.contents writer.new)) }
+    ensures whole { OnOk result (PlaysWhole (R.remaining reader.old) (R.remaining reader.new) (W.contents writer.old)
+        (W.contents writer.new)) }
+    ensures beginning { OnErr result (PlaysInPart (R.remaining reader.old) (R.remaining reader.new)
+        (W.contents writer.old) (W.contents writer.new)) }
+    ensures untouched { IfErr result (λ fault. IsUnbegun fault → Keeps (R.remaining reader.old) (R.remaining reader.new)
+        × Keeps (W.contents writer.old) (W.contents writer.new)) }
 {
     let (keep, ended) = file::run(rt, path, Unknown, reader, writer)?;
     file::close(keep);
@@ -50,7 +53,8 @@ fn answer_file<W: Write>(
 ) -> Result<(), Fault>
     ensures whole { OnOk result (PrintsReplies (W.contents writer.old) (W.contents writer.new)) }
     ensures beginning { OnErr result (PrintsRepliesInPart (W.contents writer.old) (W.contents writer.new)) }
-    ensures untouched { IfErr result (λ fault. IsUnbegun fault → Keeps (W.contents writer.old) (W.contents writer.new)) }
+    ensures untouched { IfErr result (λ fault. IsUnbegun fault → Keeps (W.contents writer.old)
+        (W.contents writer.new)) }
 {
     let (keep, ended) = file::answer(rt, path, Unknown, kind, csv, writer)?;
     file::close(keep);
@@ -66,7 +70,8 @@ fn show_file<W: Write>(
 ) -> Result<(), Fault>
     ensures whole { OnOk result (PrintsSheet shown.now (W.contents writer.old) (W.contents writer.new)) }
     ensures beginning { OnErr result (PrintsSheetInPart shown.now (W.contents writer.old) (W.contents writer.new)) }
-    ensures untouched { IfErr result (λ fault. IsUnbegun fault → Keeps (W.contents writer.old) (W.contents writer.new)) }
+    ensures untouched { IfErr result (λ fault. IsUnbegun fault → Keeps (W.contents writer.old)
+        (W.contents writer.new)) }
 {
     let (keep, ended) = file::show(rt, path, Unknown, shown, writer)?;
     file::close(keep);
@@ -82,7 +87,8 @@ fn serve_file<W: Write>(
 ) -> Result<(), Fault>
     ensures whole { OnOk result (PortTold (W.contents writer.old) (W.contents writer.new)) }
     ensures beginning { OnErr result (PortBegun (W.contents writer.old) (W.contents writer.new)) }
-    ensures untouched { IfErr result (λ fault. IsUnbegun fault → Keeps (W.contents writer.old) (W.contents writer.new)) }
+    ensures untouched { IfErr result (λ fault. IsUnbegun fault → Keeps (W.contents writer.old)
+        (W.contents writer.new)) }
 {
     let (keep, ended) = file::serve(rt, path, Unknown, service, writer)?;
     file::close(keep);
@@ -91,7 +97,7 @@ fn serve_file<W: Write>(
 
 /// Makes version 2 of the desk in the file at the path, and closes it.
 fn upgrade_file(rt: &HostRuntime, path: &str) -> Result<(), Fault>
-    ensures { IfErr result (λ fault. (fault ≡ Fault.NotADesk) ⊎ ((fault ≡ Fault.Memory) ⊎ (fault ≡ Fault.Store))) }
+    ensures { IfErr result IsNotOpened }
 {
     let (keep, ended) = file::upgrade(rt, path, Unknown)?;
     file::close(keep);
@@ -105,9 +111,12 @@ pub fn perform<R: Read, W: Write>(
     reader: &mut R,
     writer: &mut W,
 ) -> Result<(), Fault>
-    ensures whole { OnOk result (Does task.now (R.remaining reader.old) (R.remaining reader.new) (W.contents writer.old) (W.contents writer.new)) }
-    ensures beginning { OnErr result (DoesInPart task.now (R.remaining reader.old) (R.remaining reader.new) (W.contents writer.old) (W.contents writer.new)) }
-    ensures untouched { IfErr result (λ fault. IsUnbegun fault → Keeps (R.remaining reader.old) (R.remaining reader.new) × Keeps (W.contents writer.old) (W.contents writer.new)) }
+    ensures whole { OnOk result (Does task.now (R.remaining reader.old) (R.remaining reader.new) (W.contents writer.old)
+        (W.contents writer.new)) }
+    ensures beginning { OnErr result (DoesInPart task.now (R.remaining reader.old) (R.remaining reader.new)
+        (W.contents writer.old) (W.contents writer.new)) }
+    ensures untouched { IfErr result (λ fault. IsUnbegun fault → Keeps (R.remaining reader.old) (R.remaining reader.new)
+        × Keeps (W.contents writer.old) (W.contents writer.new)) }
     ensures new { task.now ≡ Task.Run None → IfErr result (λ fault. ¬ IsUnbegun fault) }
 {
     match task {

@@ -1,7 +1,7 @@
 //! A file of requests, answered by a desk that a keeper holds.
 
 ghost use Rattle.std.specs.Prelude.{◌≡◌, ◌≢◌, ◌⊎◌, false, Err, IfErr, IfOk, IfSome, IsTrue, List, OnOk};
-ghost use Rattle.desk.specs.Desk.{Keeps};
+ghost use Rattle.desk.specs.Desk.{StaysStored};
 ghost use Rattle.stockdesk.specs.Requests.{FileCut, FileInPart, FileWhole, IsFileFault, IsFileOf, NamesFirstOf, RequestsAnswered, RequestsCut, items_of};
 ghost use Rattle.stockdesk.specs.Sessions.{IsBadFile, IsLeft, IsNoDesk, IsUnbegun};
 ghost use Rattle.words.specs.declared.command.Request.{Request};
@@ -60,8 +60,10 @@ fn open_fault(kind: ErrorKind) -> Fault
 
 /// The requests of a file, as the items of a script.
 fn read_items<R: Read + Drop>(alloc: Global, kind: Kind, reader: R) -> Result<Vec<Item>, Fault>
-    ensures ok { IfOk result (λ items. (requests : List Request) × (items.items ≡ items_of requests) × IfSome (R.remaining reader) (λ bytes. IsFileOf kind bytes requests)) }
-    ensures bad { IfErr result (λ fault. ((cause : FileFault) × IsFileFault cause fault × IfSome (R.remaining reader) (λ bytes. NamesFirstOf kind bytes cause)) ⊎ (fault ≡ Fault.Memory)) }
+    ensures ok { IfOk result (λ items. (requests : List Request) × (items.items ≡ items_of requests)
+        × IfSome (R.remaining reader) (λ bytes. IsFileOf kind bytes requests)) }
+    ensures bad { IfErr result (λ fault. ((cause : FileFault) × IsFileFault cause fault
+        × IfSome (R.remaining reader) (λ bytes. NamesFirstOf kind bytes cause)) ⊎ (fault ≡ Fault.Memory)) }
     ensures file { IfErr result (λ fault. (fault ≡ Fault.Memory) ⊎ IsBadFile fault) }
 {
     let requests = match read(alloc, kind, reader) {
@@ -82,13 +84,17 @@ fn answer_items<K: Keep, W: Write>(
     items: &[Item],
     writer: &mut W,
 ) -> Result<(), Fault>
-    ensures whole { (requests : List Request) → items.now ≡ items_of requests → OnOk result (RequestsAnswered requests (W.contents writer.old) (W.contents writer.new) desk.old.ledger desk.new.ledger) }
-    ensures cut { K.stopped desk.old.keep ≡ false → (requests : List Request) → items.now ≡ items_of requests → IfErr result (λ fault.
-        RequestsCut requests fault (K.is_honest desk.new.keep) (K.leaves desk.new.keep) (W.contents writer.old) (W.contents writer.new) desk.old.ledger desk.new.ledger) }
+    ensures whole { (requests : List Request) → items.now ≡ items_of requests
+        → OnOk result (RequestsAnswered requests (W.contents writer.old)
+        (W.contents writer.new) desk.old.ledger desk.new.ledger) }
+    ensures cut { K.stopped desk.old.keep ≡ false → (requests : List Request) → items.now ≡ items_of requests
+        → IfErr result (λ fault.
+        RequestsCut requests fault (K.is_honest desk.new.keep) (K.leaves desk.new.keep)
+        (W.contents writer.old) (W.contents writer.new) desk.old.ledger desk.new.ledger) }
     ensures begun { IfErr result (λ fault. ¬ IsUnbegun fault) }
     ensures going { result ≢ Err Fault.Store → K.stopped desk.new.keep ≡ K.stopped desk.old.keep }
     ensures stopped { result ≡ Err Fault.Store → IsTrue (K.stopped desk.new.keep) }
-    ensures keeps { K.stopped desk.new.keep ≡ false → K.is_honest desk.new.keep → Keeps (K.holds desk.new.keep) (K.leaves desk.new.keep) desk.new.ledger }
+    ensures stored { StaysStored K.Keep desk.new }
     ensures honest { K.is_honest desk.new.keep → K.is_honest desk.old.keep }
 {
     match answer_all(alloc, items, writer, desk) {
@@ -97,8 +103,8 @@ fn answer_items<K: Keep, W: Write>(
     }
 }
 
-/// Answers the requests of a file on a desk. The whole file is read before the first of them is called; each reply line is written
-/// before the next is.
+/// Answers the requests of a file on a desk. The whole file is read before the first of them is called; each reply line
+/// is written before the next is.
 fn answer_from<K: Keep, R: Read + Drop, W: Write>(
     alloc: Global,
     desk: &mut Desk<K>,
@@ -106,13 +112,17 @@ fn answer_from<K: Keep, R: Read + Drop, W: Write>(
     reader: R,
     writer: &mut W,
 ) -> Result<(), Fault>
-    ensures whole { OnOk result ((requests : List Request) × IfSome (R.remaining reader) (λ bytes. IsFileOf kind bytes requests) × RequestsAnswered requests (W.contents writer.old) (W.contents writer.new) desk.old.ledger desk.new.ledger) }
-    ensures unread { IfErr result (λ fault. IsBadFile fault → IfSome (R.remaining reader) (λ bytes. (cause : FileFault) × IsFileFault cause fault × NamesFirstOf kind bytes cause)) }
-    ensures cut { K.stopped desk.old.keep ≡ false → IfErr result (λ fault. FileCut fault (K.is_honest desk.new.keep) (K.leaves desk.new.keep) (W.contents writer.old) (W.contents writer.new) desk.old.ledger desk.new.ledger) }
+    ensures whole { OnOk result ((requests : List Request) × IfSome (R.remaining reader)
+        (λ bytes. IsFileOf kind bytes requests) × RequestsAnswered requests (W.contents writer.old)
+        (W.contents writer.new) desk.old.ledger desk.new.ledger) }
+    ensures unread { IfErr result (λ fault. IsBadFile fault → IfSome (R.remaining reader)
+        (λ bytes. (cause : FileFault) × IsFileFault cause fault × NamesFirstOf kind bytes cause)) }
+    ensures cut { K.stopped desk.old.keep ≡ false → IfErr result (λ fault. FileCut fault (K.is_honest desk.new.keep)
+        (K.leaves desk.new.keep) (W.contents writer.old) (W.contents writer.new) desk.old.ledger desk.new.ledger) }
     ensures desk { IfErr result (λ fault. ¬ IsNoDesk fault) }
     ensures going { result ≢ Err Fault.Store → K.stopped desk.new.keep ≡ K.stopped desk.old.keep }
     ensures stopped { result ≡ Err Fault.Store → IsTrue (K.stopped desk.new.keep) }
-    ensures keeps { K.stopped desk.new.keep ≡ false → K.is_honest desk.new.keep → Keeps (K.holds desk.new.keep) (K.leaves desk.new.keep) desk.new.ledger }
+    ensures stored { StaysStored K.Keep desk.new }
     ensures honest { K.is_honest desk.new.keep → K.is_honest desk.old.keep }
 {
     desk.is_stopped();
@@ -131,12 +141,14 @@ fn answer_file<K: Keep, W: Write>(
     path: &str,
     writer: &mut W,
 ) -> Result<(), Fault>
-    ensures whole { OnOk result ((requests : List Request) × RequestsAnswered requests (W.contents writer.old) (W.contents writer.new) desk.old.ledger desk.new.ledger) }
-    ensures cut { K.stopped desk.old.keep ≡ false → IfErr result (λ fault. FileCut fault (K.is_honest desk.new.keep) (K.leaves desk.new.keep) (W.contents writer.old) (W.contents writer.new) desk.old.ledger desk.new.ledger) }
+    ensures whole { OnOk result ((requests : List Request) × RequestsAnswered requests (W.contents writer.old)
+        (W.contents writer.new) desk.old.ledger desk.new.ledger) }
+    ensures cut { K.stopped desk.old.keep ≡ false → IfErr result (λ fault. FileCut fault (K.is_honest desk.new.keep)
+        (K.leaves desk.new.keep) (W.contents writer.old) (W.contents writer.new) desk.old.ledger desk.new.ledger) }
     ensures desk { IfErr result (λ fault. ¬ IsNoDesk fault) }
     ensures going { result ≢ Err Fault.Store → K.stopped desk.new.keep ≡ K.stopped desk.old.keep }
     ensures stopped { result ≡ Err Fault.Store → IsTrue (K.stopped desk.new.keep) }
-    ensures keeps { K.stopped desk.new.keep ≡ false → K.is_honest desk.new.keep → Keeps (K.holds desk.new.keep) (K.leaves desk.new.keep) desk.new.ledger }
+    ensures stored { StaysStored K.Keep desk.new }
     ensures honest { K.is_honest desk.new.keep → K.is_honest desk.old.keep }
 {
     desk.is_stopped();
@@ -146,12 +158,13 @@ fn answer_file<K: Keep, W: Write>(
     }
 }
 
-/// Opens the desk that a keeper holds, reads the file of requests at the path, and then answers its requests in their order, each
-/// reply line written before the next request is called. The keeper comes back as the session leaves it.
+/// Opens the desk that a keeper holds, reads the file of requests at the path, and then answers its requests in their
+/// order, each reply line written before the next request is called. The keeper comes back as the session leaves it.
 ///
-/// A file that cannot be read is `Csv`, a record at fault `BadRecord`; then nothing is done, and nothing written. After any other
-/// fault the first of the requests are answered, and a stop leaves the rows of the ledger behind them, or, where the store failed,
-/// those or the rows after one request more. Where no desk was opened the file is not looked at, and the keeper holds what it held.
+/// A file that cannot be read is `Csv`, a record at fault `BadRecord`; then nothing is done, and nothing written. After
+/// any other fault the first of the requests are answered, and a stop leaves the rows of the ledger behind them, or,
+/// where the store failed, those or the rows after one request more. Where no desk was opened the file is not looked
+/// at, and the keeper holds what it held.
 pub fn answer<K: Keep, W: Write>(
     rt: &HostRuntime,
     keep: K,
@@ -159,8 +172,10 @@ pub fn answer<K: Keep, W: Write>(
     path: &str,
     writer: &mut W,
 ) -> (K, Result<(), Fault>)
-    ensures whole { OnOk result.1 (FileWhole K.Keep result.0 (K.holds keep) (W.contents writer.old) (W.contents writer.new)) }
-    ensures cut { IfErr result.1 (λ fault. FileInPart K.Keep fault result.0 (K.holds keep) (K.has_tables keep) (IsLeft K.Keep keep result.0) (W.contents writer.old) (W.contents writer.new)) }
+    ensures whole { OnOk result.1 (FileWhole K.Keep result.0 (K.holds keep) (W.contents writer.old)
+        (W.contents writer.new)) }
+    ensures cut { IfErr result.1 (λ fault. FileInPart K.Keep fault result.0 (K.holds keep) (K.has_tables keep)
+        (IsLeft K.Keep keep result.0) (W.contents writer.old) (W.contents writer.new)) }
     ensures honest { K.is_honest result.0 → K.is_honest keep }
 {
     let mut desk = match open_desk(rt.alloc(), keep) {

@@ -3,7 +3,7 @@
 ghost use Rattle.std.specs.Prelude.{◌≡◌, ◌≢◌, ◌↔◌, ◌⊎◌, false, Err, IfErr, IfOk, IsTrue, List, OnOk};
 ghost use Rattle.book.specs.Good.{Good};
 ghost use Rattle.book.specs.Rows.{Content, IsRowsOf};
-ghost use Rattle.desk.specs.Desk.{Keeps};
+ghost use Rattle.desk.specs.Desk.{StaysStored};
 ghost use Rattle.desk.specs.Script.{EndsWhole};
 ghost use Rattle.stockdesk.specs.Sessions.{IsLeft, IsNoDesk, IsToldAs, IsUnbegun, ScriptCut, ScriptInPart, ScriptWhole, SessionRefused};
 
@@ -70,18 +70,21 @@ pub fn script_fault(fault: ScriptFault) -> Fault
     }
 }
 
-/// Opens the desk that a keeper holds. Where none is opened the keeper holds what it held, and nothing is added to what a stop
-/// may leave. A keeper that was stopped comes back as it was. `OldVersion` only where the store is of version 1, and there
-/// nothing else but `Memory` and `Store`.
+/// Opens the desk that a keeper holds. Where none is opened the keeper holds what it held, and nothing is added to what
+/// a stop may leave. A keeper that was stopped comes back as it was. `OldVersion` only where the store is of version 1,
+/// and there nothing else but `Memory` and `Store`.
 pub fn open_desk<K: Keep>(alloc: Global, keep: K) -> Result<Desk<K>, (Fault, K)>
     ensures good { IfOk result (λ desk. Good desk.ledger) }
-    ensures rows { IfOk result (λ desk. K.is_honest desk.keep → (x : Content) → K.holds keep x → IsRowsOf desk.ledger x) }
+    ensures rows { IfOk result (λ desk. K.is_honest desk.keep → (x : Content) → K.holds keep x
+        → IsRowsOf desk.ledger x) }
     ensures going { IfOk result (λ desk. K.stopped desk.keep ≡ false) }
     ensures back { IfOk result (λ desk. K.is_honest desk.keep → K.is_honest keep) }
     ensures old_version { IfErr result (λ e. e.0 ≡ Fault.OldVersion → K.is_honest e.1 → K.is_old keep) }
     ensures not_old { IfOk result (λ desk. K.is_honest desk.keep → K.stopped keep ≡ false → K.is_old keep → ⊥) }
-    ensures only_old { IfErr result (λ e. K.is_honest e.1 → K.stopped keep ≡ false → K.is_old keep → (e.0 ≡ Fault.OldVersion) ⊎ ((e.0 ≡ Fault.Memory) ⊎ (e.0 ≡ Fault.Store))) }
-    ensures held { IfErr result (λ e. SessionRefused K.Keep e.0 e.1 (K.holds keep) (K.has_tables keep) (IsLeft K.Keep keep e.1)) }
+    ensures only_old { IfErr result (λ e. K.is_honest e.1 → K.stopped keep ≡ false → K.is_old keep
+        → (e.0 ≡ Fault.OldVersion) ⊎ ((e.0 ≡ Fault.Memory) ⊎ (e.0 ≡ Fault.Store))) }
+    ensures held { IfErr result (λ e. SessionRefused K.Keep e.0 e.1 (K.holds keep) (K.has_tables keep)
+        (IsLeft K.Keep keep e.1)) }
     ensures honest { IfErr result (λ e. K.is_honest e.1 → K.is_honest keep) }
     ensures refused { IsTrue (K.stopped keep) → result ≡ Err (Fault.Store, keep) }
 {
@@ -98,13 +101,16 @@ fn play<K: Keep, R: Read, W: Write>(
     reader: &mut R,
     writer: &mut W,
 ) -> Result<(), Fault>
-    ensures whole { OnOk result (EndsWhole desk.old.ledger desk.new.ledger (R.remaining reader.old) (R.remaining reader.new) (W.contents writer.old) (W.contents writer.new)) }
-    ensures cut { K.stopped desk.old.keep ≡ false → IfErr result (λ fault. ScriptCut fault (K.is_honest desk.new.keep) (K.leaves desk.new.keep)
-        (R.remaining reader.old) (R.remaining reader.new) (W.contents writer.old) (W.contents writer.new) desk.old.ledger desk.new.ledger) }
+    ensures whole { OnOk result (EndsWhole desk.old.ledger desk.new.ledger (R.remaining reader.old)
+        (R.remaining reader.new) (W.contents writer.old) (W.contents writer.new)) }
+    ensures cut { K.stopped desk.old.keep ≡ false → IfErr result (λ fault. ScriptCut fault (K.is_honest desk.new.keep)
+        (K.leaves desk.new.keep)
+        (R.remaining reader.old) (R.remaining reader.new) (W.contents writer.old)
+        (W.contents writer.new) desk.old.ledger desk.new.ledger) }
     ensures desk { IfErr result (λ fault. ¬ IsNoDesk fault) }
     ensures going { result ≢ Err Fault.Store → K.stopped desk.new.keep ≡ K.stopped desk.old.keep }
     ensures stopped { result ≡ Err Fault.Store → IsTrue (K.stopped desk.new.keep) }
-    ensures keeps { K.stopped desk.new.keep ≡ false → K.is_honest desk.new.keep → Keeps (K.holds desk.new.keep) (K.leaves desk.new.keep) desk.new.ledger }
+    ensures stored { StaysStored K.Keep desk.new }
     ensures honest { K.is_honest desk.new.keep → K.is_honest desk.old.keep }
 {
     match script(alloc, reader, writer, desk) {
@@ -115,19 +121,22 @@ fn play<K: Keep, R: Read, W: Write>(
 
 /// Opens the desk that a keeper holds, and plays a script on it. The keeper comes back as the session leaves it.
 ///
-/// With Ok all of the input was read, and its text written from the desk's ledger on; a stop leaves the rows of the ledger
-/// behind it. After a fault a beginning of the text is written for what was read, and a stop leaves the rows of the ledger
-/// behind the answers, or, where the store failed, those or the rows after one request more. Where no desk was opened nothing
-/// is read, the keeper holds what it held, and nothing is added to what a stop may leave. A keeper that was stopped comes back
-/// as it was.
+/// With Ok all of the input was read, and its text written from the desk's ledger on; a stop leaves the rows of the
+/// ledger behind it. After a fault a beginning of the text is written for what was read, and a stop leaves the rows of
+/// the ledger behind the answers, or, where the store failed, those or the rows after one request more. Where no desk
+/// was opened nothing is read, the keeper holds what it held, and nothing is added to what a stop may leave. A keeper
+/// that was stopped comes back as it was.
 pub fn session<K: Keep, R: Read, W: Write>(
     alloc: Global,
     keep: K,
     reader: &mut R,
     writer: &mut W,
 ) -> (K, Result<(), Fault>)
-    ensures whole { OnOk result.1 (ScriptWhole K.Keep result.0 (K.holds keep) (R.remaining reader.old) (R.remaining reader.new) (W.contents writer.old) (W.contents writer.new)) }
-    ensures cut { IfErr result.1 (λ fault. ScriptInPart K.Keep fault result.0 (K.holds keep) (K.has_tables keep) (IsLeft K.Keep keep result.0) (R.remaining reader.old) (R.remaining reader.new) (W.contents writer.old) (W.contents writer.new)) }
+    ensures whole { OnOk result.1 (ScriptWhole K.Keep result.0 (K.holds keep) (R.remaining reader.old)
+        (R.remaining reader.new) (W.contents writer.old) (W.contents writer.new)) }
+    ensures cut { IfErr result.1 (λ fault. ScriptInPart K.Keep fault result.0 (K.holds keep) (K.has_tables keep)
+        (IsLeft K.Keep keep result.0) (R.remaining reader.old) (R.remaining reader.new) (W.contents writer.old)
+        (W.contents writer.new)) }
     ensures refused { IsTrue (K.stopped keep) → result ≡ (keep, Err Fault.Store) }
     ensures honest { K.is_honest result.0 → K.is_honest keep }
 {

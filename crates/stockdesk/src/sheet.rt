@@ -26,9 +26,12 @@ fn write<W: Write>(
     shown: &Shown,
     writer: &mut W,
 ) -> Result<(), SheetFault>
-    ensures whole { OnOk result (SheetWritten shown.now book.now.ledger (W.contents writer.old) (W.contents writer.new)) }
-    ensures cut { IfErr result (λ fault. ((fault ≡ SheetFault.Memory) → SheetCut shown.now Fault.Memory book.now.ledger (W.contents writer.old) (W.contents writer.new))
-        × ((fault ≡ SheetFault.Io) → SheetCut shown.now Fault.Write book.now.ledger (W.contents writer.old) (W.contents writer.new))) }
+    ensures whole { OnOk result (SheetWritten shown.now book.now.ledger (W.contents writer.old)
+        (W.contents writer.new)) }
+    ensures cut { IfErr result (λ fault. ((fault ≡ SheetFault.Memory) → SheetCut shown.now Fault.Memory book.now.ledger
+        (W.contents writer.old) (W.contents writer.new))
+        × ((fault ≡ SheetFault.Io) → SheetCut shown.now Fault.Write book.now.ledger (W.contents writer.old)
+        (W.contents writer.new))) }
 {
     match shown {
         Shown::OfBranch(branch) => branch_sheet(alloc, book, *branch, writer),
@@ -43,8 +46,10 @@ fn show_book<W: Write>(
     shown: &Shown,
     writer: &mut W,
 ) -> Result<(), Fault>
-    ensures whole { OnOk result (SheetWritten shown.now book.now.ledger (W.contents writer.old) (W.contents writer.new)) }
-    ensures cut { IfErr result (λ fault. SheetCut shown.now fault book.now.ledger (W.contents writer.old) (W.contents writer.new)) }
+    ensures whole { OnOk result (SheetWritten shown.now book.now.ledger (W.contents writer.old)
+        (W.contents writer.new)) }
+    ensures cut { IfErr result (λ fault. SheetCut shown.now fault book.now.ledger (W.contents writer.old)
+        (W.contents writer.new)) }
     ensures fault { IfErr result (λ fault. (fault ≡ Fault.Memory) ⊎ (fault ≡ Fault.Write)) }
 {
     match write(alloc, book, shown, writer) {
@@ -54,16 +59,18 @@ fn show_book<W: Write>(
     }
 }
 
-/// Opens the desk that a keeper holds, and writes a sheet of it. The desk is as it was, and the keeper holds what it held. Want of
-/// memory leaves nothing written, and a failing write a beginning.
+/// Opens the desk that a keeper holds, and writes a sheet of it. The desk is as it was, and the keeper holds what it
+/// held. Want of memory leaves nothing written, and a failing write a beginning.
 pub fn show<K: Keep, W: Write>(
     alloc: Global,
     keep: K,
     shown: &Shown,
     writer: &mut W,
 ) -> (K, Result<(), Fault>)
-    ensures whole { OnOk result.1 (SheetWhole K.Keep result.0 (K.holds keep) shown.now (W.contents writer.old) (W.contents writer.new)) }
-    ensures cut { IfErr result.1 (λ fault. SheetInPart K.Keep fault result.0 (K.holds keep) (K.has_tables keep) (IsLeft K.Keep keep result.0) shown.now (W.contents writer.old) (W.contents writer.new)) }
+    ensures whole { OnOk result.1 (SheetWhole K.Keep result.0 (K.holds keep) shown.now (W.contents writer.old)
+        (W.contents writer.new)) }
+    ensures cut { IfErr result.1 (λ fault. SheetInPart K.Keep fault result.0 (K.holds keep) (K.has_tables keep)
+        (IsLeft K.Keep keep result.0) shown.now (W.contents writer.old) (W.contents writer.new)) }
     ensures honest { K.is_honest result.0 → K.is_honest keep }
 {
     let desk = match open_desk(alloc, keep) {

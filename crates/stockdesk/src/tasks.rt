@@ -296,12 +296,14 @@ fn task_of<'a>(matches: &ArgMatches<'a>) -> Option<Task<'a>>
     }
 }
 
-/// The task that the words ask for, of which the first is the program's name. Words that the program takes fail only for
-/// want of memory.
+/// The task that the words ask for, of which the first is the program's name. Words that the program takes fail only
+/// for want of memory.
 pub fn read_task<'a>(alloc: Global, words: &'a [&'a str]) -> Result<Option<Task<'a>>, Error>
-    ensures asks { IfOk result (λ task. IfSome task (Asks (subcommand_of stockdesk (map (λ s. s.now) words.entry.now)))) }
+    ensures asks { IfOk result (λ task. IfSome task
+        (Asks (subcommand_of stockdesk (map (λ s. s.now) words.entry.now)))) }
     ensures asked { IsPlainRun (map (λ s. s.now) words.entry.now) → IfOk result (λ task. task ≡ Some (Task.Run None)) }
-    ensures taken { takes stockdesk (map (λ s. s.now) words.entry.now) ≡ true → IfErr result (λ error. kind_of error ≡ ErrorKind.OutOfMemory) }
+    ensures taken { takes stockdesk (map (λ s. s.now) words.entry.now) ≡ true
+        → IfErr result (λ error. kind_of error ≡ ErrorKind.OutOfMemory) }
 {
     let matches = command(alloc)?.try_get_matches_from(words)?;
     Ok(task_of(&matches))

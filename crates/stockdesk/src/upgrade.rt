@@ -1,11 +1,12 @@
 //! A desk of version 2 in place of one of version 1.
 
-ghost use Rattle.std.specs.Prelude.{◌≡◌, ◌⊎◌, false, IfErr, OnOk};
+ghost use Rattle.std.specs.Prelude.{◌≡◌, ◌↔◌, ◌⊎◌, false, IfErr, OnOk};
 ghost use Rattle.sqlite.specs.Held.{state};
 ghost use Rattle.sqlite.specs.State.{HasCleanDisk};
 ghost use Rattle.book.specs.Rows.{Content};
 ghost use Rattle.keep.specs.Content.{Holds};
 ghost use Rattle.keep.specs.Old.{HoldsOld, IsCurrent, IsOld, upgraded};
+ghost use Rattle.stockdesk.specs.Sessions.{IsNotOpened};
 
 use crate::session::Fault;
 use keep::{KeepFault, SqlKeep};
@@ -13,8 +14,9 @@ use sqlite::{Alter, Connection};
 
 /// The fault that one of an upgrade is told as.
 fn upgrade_fault(fault: KeepFault) -> Fault
-    ensures told { (result ≡ Fault.NotADesk) ⊎ ((result ≡ Fault.Memory) ⊎ (result ≡ Fault.Store)) }
-    ensures desk { result ≡ Fault.NotADesk → fault ≡ KeepFault.NotADesk }
+    ensures told { IsNotOpened result }
+    ensures desk { result ≡ Fault.NotADesk ↔ fault ≡ KeepFault.NotADesk }
+    ensures memory { result ≡ Fault.Memory ↔ fault ≡ KeepFault.Memory }
 {
     match fault {
         KeepFault::NotADesk => Fault::NotADesk,
@@ -28,11 +30,15 @@ fn upgrade_over<S: Alter>(conn: &mut Connection<S>) -> Result<(), Fault>
     requires { conn.old.in_transaction ≡ false }
     ensures idle { conn.new.in_transaction ≡ false }
     ensures clean { HasCleanDisk (state S.Store conn.new) → HasCleanDisk (state S.Store conn.old) }
-    ensures version { HasCleanDisk (state S.Store conn.new) → OnOk result (IsOld (state S.Store conn.old).now ⊎ IsCurrent (state S.Store conn.old).now) }
-    ensures made { HasCleanDisk (state S.Store conn.new) → OnOk result ((x : Content) → HoldsOld (state S.Store conn.old).now x → Holds (state S.Store conn.new).now (upgraded x)) }
-    ensures same { HasCleanDisk (state S.Store conn.new) → OnOk result ((x : Content) → Holds (state S.Store conn.old).now x → Holds (state S.Store conn.new).now x) }
-    ensures desk { HasCleanDisk (state S.Store conn.new) → IfErr result (λ fault. fault ≡ Fault.NotADesk → ¬ IsOld (state S.Store conn.old).now) }
-    ensures fault { IfErr result (λ fault. (fault ≡ Fault.NotADesk) ⊎ ((fault ≡ Fault.Memory) ⊎ (fault ≡ Fault.Store))) }
+    ensures version { HasCleanDisk (state S.Store conn.new) → OnOk result
+        (IsOld (state S.Store conn.old).now ⊎ IsCurrent (state S.Store conn.old).now) }
+    ensures made { HasCleanDisk (state S.Store conn.new) → OnOk result
+        ((x : Content) → HoldsOld (state S.Store conn.old).now x → Holds (state S.Store conn.new).now (upgraded x)) }
+    ensures same { HasCleanDisk (state S.Store conn.new) → OnOk result
+        ((x : Content) → Holds (state S.Store conn.old).now x → Holds (state S.Store conn.new).now x) }
+    ensures desk { HasCleanDisk (state S.Store conn.new) → IfErr result
+        (λ fault. fault ≡ Fault.NotADesk → ¬ IsOld (state S.Store conn.old).now) }
+    ensures fault { IfErr result IsNotOpened }
 {
     match SqlKeep::upgrade_over(conn) {
         Ok(()) => Ok(()),
@@ -40,16 +46,22 @@ fn upgrade_over<S: Alter>(conn: &mut Connection<S>) -> Result<(), Fault>
     }
 }
 
-/// Makes version 2 of what a keeper holds, where that is of version 1; version 2 is left alone. The keeper that comes back goes
-/// on, over what is held then.
+/// Makes version 2 of what a keeper holds, where that is of version 1; version 2 is left alone. The keeper that comes
+/// back goes on, over what is held then.
 pub fn upgrade<S: Alter>(keep: SqlKeep<S>) -> (SqlKeep<S>, Result<(), Fault>)
     ensures going { result.0.stopped ≡ false }
     ensures clean { HasCleanDisk (state S.Store result.0.connection) → HasCleanDisk (state S.Store keep.connection) }
-    ensures version { HasCleanDisk (state S.Store result.0.connection) → OnOk result.1 (IsOld (state S.Store keep.connection).now ⊎ IsCurrent (state S.Store keep.connection).now) }
-    ensures made { HasCleanDisk (state S.Store result.0.connection) → OnOk result.1 ((x : Content) → HoldsOld (state S.Store keep.connection).now x → Holds (state S.Store result.0.connection).now (upgraded x)) }
-    ensures same { HasCleanDisk (state S.Store result.0.connection) → OnOk result.1 ((x : Content) → Holds (state S.Store keep.connection).now x → Holds (state S.Store result.0.connection).now x) }
-    ensures desk { HasCleanDisk (state S.Store result.0.connection) → IfErr result.1 (λ fault. fault ≡ Fault.NotADesk → ¬ IsOld (state S.Store keep.connection).now) }
-    ensures fault { IfErr result.1 (λ fault. (fault ≡ Fault.NotADesk) ⊎ ((fault ≡ Fault.Memory) ⊎ (fault ≡ Fault.Store))) }
+    ensures version { HasCleanDisk (state S.Store result.0.connection)
+        → OnOk result.1 (IsOld (state S.Store keep.connection).now ⊎ IsCurrent (state S.Store keep.connection).now) }
+    ensures made { HasCleanDisk (state S.Store result.0.connection) → OnOk result.1
+        ((x : Content) → HoldsOld (state S.Store keep.connection).now x
+        → Holds (state S.Store result.0.connection).now (upgraded x)) }
+    ensures same { HasCleanDisk (state S.Store result.0.connection) → OnOk result.1
+        ((x : Content) → Holds (state S.Store keep.connection).now x → Holds
+        (state S.Store result.0.connection).now x) }
+    ensures desk { HasCleanDisk (state S.Store result.0.connection) → IfErr result.1
+        (λ fault. fault ≡ Fault.NotADesk → ¬ IsOld (state S.Store keep.connection).now) }
+    ensures fault { IfErr result.1 IsNotOpened }
 {
     let mut conn = keep.into_connection();
     let done = upgrade_over(&mut conn);

@@ -6,9 +6,9 @@ use Rattle.serde_json.proofs.OnLiterals.{serde_json_on_literals}
 use Rattle.serde_json.specs.Data.{Data, member, no_members, object, string}
 use Rattle.serde_json.specs.Read.{read}
 use Rattle.escrow.specs.Codes.{IsKey}
-use Rattle.words.proofs.Decided.{Decided, decided_bool, decided_both, decided_by, decided_in_range, decided_key, decided_word}
+use Rattle.words.proofs.Decisions.{Decided, decided_bool, decided_both, decided_by, decided_in_range, decided_key, decided_word}
 use Rattle.words.proofs.OneItem.{command_of, command_of-command_words, spelling_one}
-use Rattle.words.proofs.Spaced.{words-command}
+use Rattle.words.proofs.LineWords.{words-command}
 use Rattle.words.specs.Spelling.{IsInRange, spelling}
 use Rattle.words.specs.Words.{words_of}
 use Rattle.words.specs.declared.command.Command.{Command}

@@ -1,8 +1,8 @@
 mod Turns
-mod Answered
-mod Shown
+mod CommandAnswers
+mod ViewAnswers
 mod Steps
-mod Unread
+mod NoHead
 mod HeaderLines
 mod Heads
 mod OneStream
@@ -12,7 +12,7 @@ mod OneAnswer
 mod SomeParts
 mod SomeAsk
 mod SomeAnswer
-mod Told
+mod Marks
 mod FourRoutes
 mod OnePlace
 mod Ascii
@@ -21,7 +21,7 @@ mod Bodies
 mod OrderObject
 mod AnswerBytes
 mod RouteSearch
-mod RouteFound
+mod RouteResult
 mod TargetParts
 mod TargetText
 mod PlainTargets

@@ -4,7 +4,7 @@ use Rattle.std.proofs.lemmas.Fmt.{decimal_injective, decimal_is_IsNumeral}
 use Rattle.std.specs.Str.Parse.{digits_value}
 use Rattle.escrow.specs.Codes.{IsArticle, IsBranch}
 use Rattle.escrow.specs.Ranges.{IsOrderNo}
-use Rattle.words.proofs.Decided.{Decided, decided_article, decided_both, decided_branch, decided_by, decided_order_no, decided_word}
+use Rattle.words.proofs.Decisions.{Decided, decided_article, decided_both, decided_branch, decided_by, decided_order_no, decided_word}
 use Rattle.web.specs.Routes.{LeadsTo, part_of, resource_of}
 use Rattle.web.specs.declared.place.Place.{Place}
 use Rattle.web.specs.declared.place.Place.TheVariants as place

@@ -17,7 +17,7 @@ use Rattle.web.specs.declared.place.Place.{Place}
 use Rattle.web.specs.declared.place.Place.TheVariants as place
 use Rattle.web.specs.declared.route.Resource.{Resource}
 use Rattle.web.specs.declared.route.Resource.TheVariants.{Commands, Field, Order, Sheet}
-use Rattle.web.proofs.RouteFound.{IsPart, commands_found, field_found, order_found, sheet_found}
+use Rattle.web.proofs.RouteResult.{IsPart, commands_found, field_found, order_found, sheet_found}
 use Rattle.web.proofs.FourRoutes.{IsRouted, commands_route, field_route, order_route, routed, sheet_route}
 use Rattle.web.proofs.OnePlace.{same}
 use Rattle.web.proofs.TargetParts.{field_parts, order_parts, sheet_parts}

@@ -1,6 +1,6 @@
 -- Each message asks for something.
 use Rattle.std.proofs.Common.{◌≡◌, codes, inl, inr}
-use Rattle.words.proofs.Decided.{Decided, decided_word}
+use Rattle.words.proofs.Decisions.{Decided, decided_word}
 use Rattle.web.specs.Asks.{AsksFor}
 use Rattle.web.specs.declared.ask.Ask.{Ask}
 use Rattle.web.specs.declared.ask.Ask.TheVariants as ask

@@ -18,7 +18,7 @@ use Rattle.web.specs.declared.served.WebFault.{WebFault}
 use Rattle.web.specs.declared.served.WebFault.TheVariants.{Memory, Read, Write}
 use Rattle.web.proofs.SomeParts.{some_parts}
 use Rattle.web.proofs.Steps.{StaysStopped, answers_on, bytes_on, cut_goes_on, first_behind, first_on, parts_behind, passes_more, passes_on, serves_more}
-use Rattle.web.proofs.Told.{stopped_told}
+use Rattle.web.proofs.Marks.{stopped_told}
 
 -- ---- the parts of messages alone
 

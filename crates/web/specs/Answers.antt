@@ -21,7 +21,8 @@ abbrev pub head_line : List ℕ → List ℕ
 head_line text = text ++ 13 ∷ 10 ∷ []
 
 abbrev pub status_line : ℕ → List ℕ
-status_line status = head_line (codes "HTTP/1.1 " ++ code_digits status ++ codes " " ++ unwrap_or (reason_phrase status) [])
+status_line status =
+    head_line (codes "HTTP/1.1 " ++ code_digits status ++ codes " " ++ unwrap_or (reason_phrase status) [])
 
 abbrev pub header_line : List ℕ → List ℕ → List ℕ
 header_line name value = head_line (name ++ codes ": " ++ value)

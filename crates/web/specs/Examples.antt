@@ -15,7 +15,8 @@ use Rattle.web.specs.Objects.{field_object, order_object}
 -- the answer is this status line, its two header lines, an empty line and this body
 abbrev pub IsBytesOf : Answer → List ℕ → List ℕ → List ℕ → List ℕ → Type 0
 IsBytesOf answer status kind length body = answer_bytes answer
-    ≡ head_line status ++ head_line (codes "content-type: " ++ kind) ++ head_line (codes "content-length: " ++ length) ++ head_line [] ++ body
+    ≡ head_line status ++ head_line (codes "content-type: " ++ kind) ++ head_line (codes "content-length: " ++ length)
+    ++ head_line [] ++ body
 
 -- the same of JSON
 abbrev pub IsBytes : Answer → List ℕ → List ℕ → List ℕ → Type 0
@@ -32,11 +33,25 @@ opened = record { number = 7; kind = Plain; until = 120; state = Open; firm = fa
 
 -- the same order, used in part and firm
 abbrev pub promised : Order
-promised = record { number = 7; kind = Plain; until = 120; state = Open; firm = true; lines = record { way = Take; branch = codes "N1"; article = codes "A-1"; held = 15; used = 10 } ∷ [] }
+promised = record {
+  number = 7;
+  kind = Plain;
+  until = 120;
+  state = Open;
+  firm = true;
+  lines = record { way = Take; branch = codes "N1"; article = codes "A-1"; held = 15; used = 10 } ∷ [];
+}
 
 -- a transfer that has ended
 abbrev pub moved : Order
-moved = record { number = 8; kind = Transfer; until = 60; state = Committed; firm = false; lines = line Take (codes "N1") ∷ line Add (codes "N2") ∷ [] }
+moved = record {
+  number = 8;
+  kind = Transfer;
+  until = 60;
+  state = Committed;
+  firm = false;
+  lines = line Take (codes "N1") ∷ line Add (codes "N2") ∷ [];
+}
   where
     line : Way → List ℕ → Line
     line way branch = record { way = way; branch = branch; article = codes "A-1"; held = 5; used = 5 }
@@ -48,11 +63,15 @@ bare = record { number = 9; kind = Plain; until = 0; state = Aborted; firm = fal
 pub record WorkedAnswers : Type 0 where
   pub none : IsBytes none_answer (codes "HTTP/1.1 404 Not Found") (codes "16") (codes "{\"error\":\"none\"}")
   pub message : IsBytes message_answer (codes "HTTP/1.1 400 Bad Request") (codes "19") (codes "{\"error\":\"message\"}")
-  pub stopped : IsBytes stopped_answer (codes "HTTP/1.1 503 Service Unavailable") (codes "19") (codes "{\"error\":\"stopped\"}")
-  pub memory : IsBytes memory_answer (codes "HTTP/1.1 503 Service Unavailable") (codes "18") (codes "{\"error\":\"memory\"}")
-  pub bad : IsBytes bad_answer (codes "HTTP/1.1 400 Bad Request") (codes "43") (codes "{\"code\":20,\"line\":0,\"refused\":\"BadCommand\"}")
+  pub stopped : IsBytes stopped_answer (codes "HTTP/1.1 503 Service Unavailable") (codes "19")
+      (codes "{\"error\":\"stopped\"}")
+  pub memory : IsBytes memory_answer (codes "HTTP/1.1 503 Service Unavailable") (codes "18")
+      (codes "{\"error\":\"memory\"}")
+  pub bad : IsBytes bad_answer (codes "HTTP/1.1 400 Bad Request") (codes "43")
+      (codes "{\"code\":20,\"line\":0,\"refused\":\"BadCommand\"}")
   pub done : IsBytes (reply_answer (Done 1)) (codes "HTTP/1.1 200 OK") (codes "11") (codes "{\"place\":1}")
-  pub refused : IsBytes (reply_answer (Refused TooLittle 1)) (codes "HTTP/1.1 409 Conflict") (codes "42") (codes "{\"code\":13,\"line\":1,\"refused\":\"TooLittle\"}")
+  pub refused : IsBytes (reply_answer (Refused TooLittle 1)) (codes "HTTP/1.1 409 Conflict") (codes "42")
+      (codes "{\"code\":13,\"line\":1,\"refused\":\"TooLittle\"}")
   pub field : IsBytes (json_answer 200 (field_object shown)) (codes "HTTP/1.1 200 OK") (codes "76")
       (codes "{\"article\":\"A-1\",\"branch\":\"N1\",\"hi\":100,\"inf\":40,\"lo\":0,\"sup\":40,\"value\":40}")
   pub order : IsBytes (json_answer 200 (order_object opened)) (codes "HTTP/1.1 200 OK") (codes "128")
@@ -63,4 +82,5 @@ pub record WorkedAnswers : Type 0 where
       (codes "{\"kind\":\"transfer\",\"lines\":[{\"article\":\"A-1\",\"branch\":\"N1\",\"held\":5,\"used\":5,\"way\":\"take\"},{\"article\":\"A-1\",\"branch\":\"N2\",\"held\":5,\"used\":5,\"way\":\"add\"}],\"number\":8,\"state\":\"committed\",\"until\":60}")
   pub bare : IsBytes (json_answer 200 (order_object bare)) (codes "HTTP/1.1 200 OK") (codes "66")
       (codes "{\"kind\":\"plain\",\"lines\":[],\"number\":9,\"state\":\"aborted\",\"until\":0}")
-  pub text : IsBytesOf (text_answer (codes "total\n")) (codes "HTTP/1.1 200 OK") (codes "text/plain") (codes "6") (codes "total\n")
+  pub text : IsBytesOf (text_answer (codes "total\n")) (codes "HTTP/1.1 200 OK") (codes "text/plain") (codes "6")
+      (codes "total\n")

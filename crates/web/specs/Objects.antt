@@ -42,16 +42,20 @@ place_object place = object_of ((codes "place", natural place) ∷ [])
 -- {"code":C,"line":L,"refused":"NAME"}
 abbrev pub refused_object : Refusal → ℕ → Data
 refused_object refusal line =
-    object_of ((codes "code", natural (refusal_code refusal)) ∷ (codes "line", natural line) ∷ (codes "refused", string (refusal_name refusal)) ∷ [])
+    object_of ((codes "code", natural (refusal_code refusal)) ∷ (codes "line", natural line)
+    ∷ (codes "refused", string (refusal_name refusal)) ∷ [])
 
 -- {"article":"A","branch":"B","hi":HI,"inf":I,"lo":LO,"sup":S,"value":V}
 abbrev pub field_object : FieldView → Data
-field_object v = object_of ((codes "article", string v.article) ∷ (codes "branch", string v.branch) ∷ (codes "hi", natural v.hi)
-    ∷ (codes "inf", natural v.inf) ∷ (codes "lo", natural v.lo) ∷ (codes "sup", natural v.sup) ∷ (codes "value", natural v.value) ∷ [])
+field_object v =
+    object_of ((codes "article", string v.article) ∷ (codes "branch", string v.branch) ∷ (codes "hi", natural v.hi)
+    ∷ (codes "inf", natural v.inf) ∷ (codes "lo", natural v.lo) ∷ (codes "sup", natural v.sup)
+    ∷ (codes "value", natural v.value) ∷ [])
 
 -- {"article":"A","branch":"B","held":H,"used":U,"way":"WAY"}
 abbrev pub line_object : Line → Data
-line_object l = object_of ((codes "article", string l.article) ∷ (codes "branch", string l.branch) ∷ (codes "held", natural l.held)
+line_object l =
+    object_of ((codes "article", string l.article) ∷ (codes "branch", string l.branch) ∷ (codes "held", natural l.held)
     ∷ (codes "used", natural l.used) ∷ (codes "way", string (way_word l.way)) ∷ [])
 
 -- [LINE,..]
@@ -60,7 +64,9 @@ line_objects lines = array (items_of (map line_object lines))
 
 -- {"kind":"KIND","lines":[LINE,..],"number":N,"state":"STATE","until":UNTIL}
 abbrev pub shown_object : ℕ → Kind → ℕ → Standing → List Line → Data
-shown_object order kind until state lines = object_of ((codes "kind", string (kind_word kind)) ∷ (codes "lines", line_objects lines) ∷ (codes "number", natural order)
+shown_object order kind until state lines =
+    object_of ((codes "kind", string (kind_word kind)) ∷ (codes "lines", line_objects lines)
+    ∷ (codes "number", natural order)
     ∷ (codes "state", string (state_word state)) ∷ (codes "until", natural until) ∷ [])
 
 abbrev pub order_object : Order → Data

@@ -23,8 +23,11 @@ TellsSheet A branch answer = (text : List ℕ) × IsBranchSheet A branch text ×
 abbrev pub Replies : Ledger → Ask → Answer → Ledger → Type 0
 Replies A (ask.Call request) answer B = (reply : Reply) × Answers A request reply B × (answer ≡ reply_answer reply)
 Replies A ask.BadCall answer B = (answer ≡ bad_answer) × (B ≡ A)
-Replies A (ask.Field branch article) answer B = MatchOption (field_named A (name_of branch article)) (answer ≡ none_answer) (λ f. TellsField A f answer) × (B ≡ A)
-Replies A (ask.Order number) answer B = MatchOption (order_numbered A number) (answer ≡ none_answer) (λ o. answer ≡ json_answer 200 (order_object o)) × (B ≡ A)
+Replies A (ask.Field branch article) answer B =
+    MatchOption (field_named A (name_of branch article)) (answer ≡ none_answer) (λ f. TellsField A f answer) × (B ≡ A)
+Replies A (ask.Order number) answer B =
+    MatchOption (order_numbered A number) (answer ≡ none_answer) (λ o. answer ≡ json_answer 200 (order_object o))
+    × (B ≡ A)
 Replies A (ask.Sheet branch) answer B = TellsSheet A branch answer × (B ≡ A)
 Replies A ask.Nothing answer B = (answer ≡ none_answer) × (B ≡ A)
 

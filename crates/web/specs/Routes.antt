@@ -43,7 +43,8 @@ part_of name target = option_and_then (λ route. named name (parts_on target rou
 abbrev pub LeadsTo : List ℕ → Place → Type 0
 LeadsTo target place.Commands = resource_of target ≡ Some Commands
 LeadsTo target (place.Field branch article) =
-    (resource_of target ≡ Some Field) × (part_of (codes "branch") target ≡ Some branch) × (part_of (codes "article") target ≡ Some article)
+    (resource_of target ≡ Some Field) × (part_of (codes "branch") target ≡ Some branch)
+    × (part_of (codes "article") target ≡ Some article)
     × IsBranch branch × IsArticle article
 LeadsTo target (place.Order number) =
     (resource_of target ≡ Some Order) × (part_of (codes "number") target ≡ Some (decimal number)) × IsOrderNo number

@@ -30,17 +30,22 @@ wholes (m ∷ ms) = whole m ∷ wholes ms
 abbrev pub ToldBy : Stand → Ask → Mark → Answer → Stand → Type 0
 ToldBy old a plain answer new = RepliesAt old a answer new
 ToldBy old a memory answer new = (answer ≡ memory_answer) × (new ≡ old)
-ToldBy old a stopped answer new = (answer ≡ stopped_answer) × (r : Request) × (a ≡ ask.Call r) × IsAccepted old.ledger r × (old.is_stopped ≡ false) × (new.is_stopped ≡ true) × (new.ledger ≡ old.ledger)
+ToldBy old a stopped answer new =
+    (answer ≡ stopped_answer) × (r : Request) × (a ≡ ask.Call r) × IsAccepted old.ledger r × (old.is_stopped ≡ false)
+    × (new.is_stopped ≡ true) × (new.ledger ≡ old.ledger)
 
 -- The answer to an ask: under some mark, and where its command stopped the desk, it is known what a stop leaves.
-pub record AnswersAsk (is_honest : Type 0) (leaves : List Content → Type 0) (old : Stand) (a : Ask) (answer : Answer) (new : Stand) : Type 0 where
+pub record AnswersAsk (is_honest : Type 0) (leaves : List Content → Type 0) (old : Stand) (a : Ask) (answer : Answer)
+    (new : Stand) : Type 0 where
   pub mark : Mark
   pub told : ToldBy old a mark answer new
-  pub stops : old.is_stopped ≡ false → new.is_stopped ≡ true → is_honest → (r : Request) × (a ≡ ask.Call r) × (mark ≡ stopped) × LeavesEither leaves new.ledger (accept new.ledger r)
+  pub stops : old.is_stopped ≡ false → new.is_stopped ≡ true → is_honest → (r : Request) × (a ≡ ask.Call r)
+      × (mark ≡ stopped) × LeavesEither leaves new.ledger (accept new.ledger r)
 
 -- what is to be written for a request with that reply, where memory is not refused for it
 abbrev pub IsTold : Reply → Ready → Type 0
-IsTold reply ready = (ready_bytes ready ≡ answer_bytes (reply_answer reply)) ⊎ (ready_bytes ready ≡ answer_bytes memory_answer)
+IsTold reply ready =
+    (ready_bytes ready ≡ answer_bytes (reply_answer reply)) ⊎ (ready_bytes ready ≡ answer_bytes memory_answer)
 
 -- what is to be written for an ask that changes nothing
 abbrev pub Shows : Stand → Ask → Ready → Type 0
@@ -51,14 +56,18 @@ abbrev pub IsNoCall : Ask → Type 0
 IsNoCall a = (r : Request) → a ≡ ask.Call r → ⊥
 
 -- what is to be written for an ask
-abbrev pub IsAnswered : (is_honest : Type 0) (leaves : List Content → Type 0) (old : Stand) (a : Ask) → Ready → (new : Stand) → Type 0
-IsAnswered is_honest leaves old a ready new = (answer : Answer) × AnswersAsk is_honest leaves old a answer new × (ready_bytes ready ≡ answer_bytes answer)
+abbrev pub IsAnswered : (is_honest : Type 0) (leaves : List Content → Type 0) (old : Stand) (a : Ask) → Ready
+    → (new : Stand) → Type 0
+IsAnswered is_honest leaves old a ready new =
+    (answer : Answer) × AnswersAsk is_honest leaves old a answer new × (ready_bytes ready ≡ answer_bytes answer)
 
 -- The answer to one message: under some mark, and where its command stopped the desk, it is known what a stop leaves.
-pub record AnswersOne (is_honest : Type 0) (leaves : List Content → Type 0) (old : Stand) (m : Message) (answer : Answer) (new : Stand) : Type 0 where
+pub record AnswersOne (is_honest : Type 0) (leaves : List Content → Type 0) (old : Stand) (m : Message)
+    (answer : Answer) (new : Stand) : Type 0 where
   pub mark : Mark
   pub part : AnswersPart old (whole m) mark answer new
-  pub stops : old.is_stopped ≡ false → new.is_stopped ≡ true → is_honest → (r : Request) × AsksFor m (ask.Call r) × (mark ≡ stopped) × LeavesEither leaves new.ledger (accept new.ledger r)
+  pub stops : old.is_stopped ≡ false → new.is_stopped ≡ true → is_honest → (r : Request) × AsksFor m (ask.Call r)
+      × (mark ≡ stopped) × LeavesEither leaves new.ledger (accept new.ledger r)
 
 -- The messages that have come are answered, but for what is held behind them.
 pub record HasServed (is_honest : Type 0) (leaves : List Content → Type 0) (old new : Stand)

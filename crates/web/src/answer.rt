@@ -44,7 +44,8 @@ pub fn answer_of(
     kind: &[u8],
     body: &[u8],
 ) -> Result<Vec<u8>, AllocError>
-    ensures { IfOk result (λ out. out.items ≡ answer_bytes (record { status = status; kind = kind.now; body = body.now })) }
+    ensures { IfOk result (λ out. out.items ≡ answer_bytes
+        (record { status = status; kind = kind.now; body = body.now })) }
 {
     let mut buffer = Buffer::new();
     let mut out = status_line(alloc, status)?;
@@ -82,7 +83,8 @@ pub fn field_answer(alloc: Global, view: &FieldView) -> Result<Vec<u8>, AllocErr
 
 /// The answer that tells the order that is shown.
 pub fn order_answer(alloc: Global, view: &OrderView) -> Result<Vec<u8>, AllocError>
-    ensures { (order : Order) → ShowsOrder order view.now → IfOk result (λ out. out.items ≡ answer_bytes (json_answer 200 (order_object order))) }
+    ensures { (order : Order) → ShowsOrder order view.now → IfOk result
+        (λ out. out.items ≡ answer_bytes (json_answer 200 (order_object order))) }
 {
     json_answer(alloc, StatusCode::OK, &order_json(alloc, view)?)
 }

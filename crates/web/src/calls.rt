@@ -25,10 +25,12 @@ fn told(alloc: Global, reply: Reply) -> Ready
     }
 }
 
-/// The answer to a request, which is called. It is made before the request is carried out, so that want of memory hides nothing that
-/// is done.
+/// The answer to a request, which is called. It is made before the request is carried out, so that want of memory hides
+/// nothing that is done.
 fn answer_call<K: Keep>(alloc: Global, desk: &mut Desk<K>, request: &Request) -> Ready
-    ensures answers { IsAnswered (K.is_honest desk.new.keep) (K.leaves desk.new.keep) (stand desk.old.ledger (K.stopped desk.old.keep)) (ask.Call request.now) result (stand desk.new.ledger (K.stopped desk.new.keep)) }
+    ensures answers { IsAnswered (K.is_honest desk.new.keep) (K.leaves desk.new.keep)
+        (stand desk.old.ledger (K.stopped desk.old.keep)) (ask.Call request.now) result
+        (stand desk.new.ledger (K.stopped desk.new.keep)) }
     ensures untouched { IsTrue (K.stopped desk.old.keep) → desk.new ≡ desk.old }
     ensures honest { K.is_honest desk.new.keep → K.is_honest desk.old.keep }
 {
@@ -67,7 +69,9 @@ fn answer_view<K: Keep>(alloc: Global, desk: &Desk<K>, ask: &Ask) -> Result<Read
 
 /// The answer to an ask. Where memory is refused for it, nothing is done.
 pub fn answer_ask<K: Keep>(alloc: Global, desk: &mut Desk<K>, ask: &Ask) -> Ready
-    ensures answers { IsAnswered (K.is_honest desk.new.keep) (K.leaves desk.new.keep) (stand desk.old.ledger (K.stopped desk.old.keep)) ask.now result (stand desk.new.ledger (K.stopped desk.new.keep)) }
+    ensures answers { IsAnswered (K.is_honest desk.new.keep) (K.leaves desk.new.keep)
+        (stand desk.old.ledger (K.stopped desk.old.keep)) ask.now result
+        (stand desk.new.ledger (K.stopped desk.new.keep)) }
     ensures untouched { IsTrue (K.stopped desk.old.keep) → desk.new ≡ desk.old }
     ensures honest { K.is_honest desk.new.keep → K.is_honest desk.old.keep }
 {

@@ -2,7 +2,7 @@
 
 ghost use Rattle.std.specs.Prelude.{◌≡◌, ◌++◌, ◌+◌, ◌-◌, ◌^◌, ◌≤◌, drop, false, length, List, ℕ, IfErr, IfOk, OnErr, OnOk, IsTrue, min};
 ghost use Rattle.std.specs.Io.KnownBytes.{Appends};
-ghost use Rattle.desk.specs.Desk.{Keeps};
+ghost use Rattle.desk.specs.Desk.{StaysStored};
 ghost use Rattle.web.specs.Answers.{Answer, answer_bytes, message_answer};
 ghost use Rattle.web.specs.Fixed.{ready_bytes};
 ghost use Rattle.web.specs.Intake.{IsMessageAt, IsMessageWithin};
@@ -35,7 +35,8 @@ fn ready_for<K: Keep>(
     requires made { router.now ≡ routes }
     requires within { IsMessageWithin held.now found.now }
     ensures answers { (m : Message) → IsMessageAt held.now found.now m → (answer : Answer)
-        × AnswersOne (K.is_honest desk.new.keep) (K.leaves desk.new.keep) (stand desk.old.ledger (K.stopped desk.old.keep)) m answer (stand desk.new.ledger (K.stopped desk.new.keep))
+        × AnswersOne (K.is_honest desk.new.keep) (K.leaves desk.new.keep)
+        (stand desk.old.ledger (K.stopped desk.old.keep)) m answer (stand desk.new.ledger (K.stopped desk.new.keep))
         × (ready_bytes result ≡ answer_bytes answer) }
     ensures untouched { IsTrue (K.stopped desk.old.keep) → desk.new ≡ desk.old }
     ensures honest { K.is_honest desk.new.keep → K.is_honest desk.old.keep }
@@ -58,10 +59,13 @@ fn answer_message<K: Keep, W: Write>(
     requires made { router.now ≡ routes }
     requires within { IsMessageWithin held.now found.now }
     ensures whole { OnOk result ((m : Message) → IsMessageAt held.now found.now m → (answer : Answer)
-        × AnswersOne (K.is_honest desk.new.keep) (K.leaves desk.new.keep) (stand desk.old.ledger (K.stopped desk.old.keep)) m answer (stand desk.new.ledger (K.stopped desk.new.keep))
+        × AnswersOne (K.is_honest desk.new.keep) (K.leaves desk.new.keep)
+        (stand desk.old.ledger (K.stopped desk.old.keep)) m answer (stand desk.new.ledger (K.stopped desk.new.keep))
         × Appends (W.contents writer.old) (W.contents writer.new) (answer_bytes answer)) }
-    ensures cut { OnErr result ((m : Message) → IsMessageAt held.now found.now m → (answer : Answer) × (begun : List ℕ) × (left : List ℕ)
-        × AnswersOne (K.is_honest desk.new.keep) (K.leaves desk.new.keep) (stand desk.old.ledger (K.stopped desk.old.keep)) m answer (stand desk.new.ledger (K.stopped desk.new.keep))
+    ensures cut { OnErr result ((m : Message) → IsMessageAt held.now found.now m → (answer : Answer) × (begun : List ℕ)
+        × (left : List ℕ)
+        × AnswersOne (K.is_honest desk.new.keep) (K.leaves desk.new.keep)
+        (stand desk.old.ledger (K.stopped desk.old.keep)) m answer (stand desk.new.ledger (K.stopped desk.new.keep))
         × (answer_bytes answer ≡ begun ++ left) × Appends (W.contents writer.old) (W.contents writer.new) begun) }
     ensures untouched { IsTrue (K.stopped desk.old.keep) → desk.new ≡ desk.old }
     ensures honest { K.is_honest desk.new.keep → K.is_honest desk.old.keep }
@@ -72,8 +76,10 @@ fn answer_message<K: Keep, W: Write>(
 
 /// Writes the answer to what is no message.
 fn answer_unreadable<W: Write>(writer: &mut W) -> Result<(), WriteFault>
-    ensures whole { OnOk result (Appends (W.contents writer.old) (W.contents writer.new) (answer_bytes message_answer)) }
-    ensures cut { OnErr result ((begun : List ℕ) × (left : List ℕ) × (answer_bytes message_answer ≡ begun ++ left) × Appends (W.contents writer.old) (W.contents writer.new) begun) }
+    ensures whole { OnOk result (Appends (W.contents writer.old) (W.contents writer.new)
+        (answer_bytes message_answer)) }
+    ensures cut { OnErr result ((begun : List ℕ) × (left : List ℕ) × (answer_bytes message_answer ≡ begun ++ left)
+        × Appends (W.contents writer.old) (W.contents writer.new) begun) }
 {
     write_whole(writer, Fixed::NoMessage.bytes())
 }
@@ -96,11 +102,11 @@ fn one_more(count: u64) -> u64
 /// Answers the messages of a connection in their order, each before the next is looked at, until the input ends or what
 /// comes is no message.
 ///
-/// What is written is the answers to all that was read, and `Served` has their count. After a fault it is a beginning of
-/// such: of the answers to what the desk has done at most the last is missing or cut. `stopped` is answered only where the
-/// desk is stopped. Of a desk that was not stopped before, a stop then leaves the rows of its ledger or those after the
-/// command that was first answered `stopped`, and in every other case those of its ledger alone. A desk that was stopped
-/// before changes nothing, and answers as one that is stopped.
+/// What is written is the answers to all that was read, and `Served` has their count. After a fault it is a beginning
+/// of such: of the answers to what the desk has done at most the last is missing or cut. `stopped` is answered only
+/// where the desk is stopped. Of a desk that was not stopped before, a stop then leaves the rows of its ledger or those
+/// after the command that was first answered `stopped`, and in every other case those of its ledger alone. A desk that
+/// was stopped before changes nothing, and answers as one that is stopped.
 pub fn serve<K: Keep, R: Read, W: Write>(
     alloc: Global,
     reader: &mut R,
@@ -114,7 +120,7 @@ pub fn serve<K: Keep, R: Read, W: Write>(
         (stand desk.old.ledger (K.stopped desk.old.keep)) (stand desk.new.ledger (K.stopped desk.new.keep))
         (R.remaining reader.old) (R.remaining reader.new) (W.contents writer.old) (W.contents writer.new)) }
     ensures untouched { IsTrue (K.stopped desk.old.keep) → desk.new ≡ desk.old }
-    ensures keeps { K.stopped desk.new.keep ≡ false → K.is_honest desk.new.keep → Keeps (K.holds desk.new.keep) (K.leaves desk.new.keep) desk.new.ledger }
+    ensures stored { StaysStored K.Keep desk.new }
     ensures honest { K.is_honest desk.new.keep → K.is_honest desk.old.keep }
 {
     let ended = serve_all(alloc, reader, writer, desk);

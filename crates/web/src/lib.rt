@@ -1,5 +1,5 @@
-//! HTTP over any reader and writer, answered by a desk. What a head is, `httparse` defines; which route a target has, `matchit`; what
-//! a body says, `serde_json`.
+//! HTTP over any reader and writer, answered by a desk. What a head is, `httparse` defines; which route a target has,
+//! `matchit`; what a body says, `serde_json`.
 #![tactic(auto)]
 
 mod answer;

@@ -103,7 +103,8 @@ fn order_value(alloc: Global, view: &OrderView) -> Result<Value, AllocError>
 
 /// The text of the object of the order that is shown.
 pub fn order_json(alloc: Global, view: &OrderView) -> Result<Vec<u8>, AllocError>
-    ensures { (order : Order) → ShowsOrder order view.now → IfOk result (λ text. text.items ≡ compact_text (order_object order)) }
+    ensures { (order : Order) → ShowsOrder order view.now → IfOk result
+        (λ text. text.items ≡ compact_text (order_object order)) }
 {
     order_value(alloc, view)?.to_vec(alloc)
 }

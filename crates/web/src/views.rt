@@ -20,7 +20,8 @@ pub fn show_field<K: Keep>(
     branch: Branch,
     article: Article,
 ) -> Result<Ready, AllocError>
-    ensures { IfOk result (λ ready. Shows (stand desk.now.ledger (K.stopped desk.now.keep)) (ask.Field branch article) ready) }
+    ensures { IfOk result (λ ready. Shows (stand desk.now.ledger (K.stopped desk.now.keep))
+        (ask.Field branch article) ready) }
 {
     if desk.is_stopped() {
         return Ok(Ready::Fixed(Fixed::Stopped));

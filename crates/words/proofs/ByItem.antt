@@ -13,7 +13,7 @@ use Rattle.words.specs.declared.item.Item.{Item}
 use Rattle.words.specs.declared.item.Item.TheVariants.{AskField, AskOrder, Bad, Request}
 use Rattle.words.proofs.Cuts.{parts_some}
 use Rattle.words.proofs.OrderLines.{behind}
-use Rattle.words.proofs.Spaced.{line_of, words-ask_field, words-ask_order, words-command, words-request}
+use Rattle.words.proofs.LineWords.{line_of, words-ask_field, words-ask_order, words-command, words-request}
 
 -- a command has a first word
 command_first : (c : Command) → (verb : List ℕ) × (words : List (List ℕ)) × (command_words c ≡ verb ∷ words)

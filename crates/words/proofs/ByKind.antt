@@ -11,7 +11,7 @@ use Rattle.words.specs.declared.command.Command.TheVariants.{Abort, Commit, Deli
 use Rattle.words.specs.declared.read.WordsFault.{WordsFault}
 use Rattle.words.specs.declared.read.WordsFault.TheVariants.{BadCommand}
 use Rattle.words.proofs.Cuts.{parts_some}
-use Rattle.words.proofs.Spaced.{line_of, words-command}
+use Rattle.words.proofs.LineWords.{line_of, words-command}
 
 -- no command of any kind but `open`, and the verb is no `open`
 pub none_plain : (verb : List ℕ) (ws : List (List ℕ)) → (verb ≡ codes "open" → ⊥)

@@ -1,8 +1,8 @@
 pub mod ByItem
 pub mod ByKind
 pub mod Cuts
-pub mod Cutting
-pub mod Decided
+pub mod TwoPieces
+pub mod Decisions
 pub mod Decimals
 pub mod Longest
 pub mod OneFeed
@@ -10,5 +10,5 @@ pub mod OneItem
 pub mod OrderLines
 pub mod Pieces
 pub mod SomeItem
-pub mod Spaced
-pub mod Written
+pub mod LineWords
+pub mod WordRows

@@ -14,7 +14,7 @@ use Rattle.words.specs.declared.command.Command.{Command}
 use Rattle.words.specs.declared.command.Command.TheVariants.{Abort, Commit, Deliver, Expire, Field, Firm, More, Open, Rebound, Release, Transfer, Use, Writeoff}
 use Rattle.words.specs.declared.command.Request.{Request}
 use Rattle.words.specs.declared.open_line.OpenLine.{OpenLine}
-use Rattle.words.proofs.Written.{spaced-after}
+use Rattle.words.proofs.WordRows.{spaced-after}
 
 -- the length of the words, with a space before each
 abbrev spaces_and : List (List ℕ) → ℕ

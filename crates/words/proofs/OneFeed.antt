@@ -1,6 +1,6 @@
 -- A piece of a stream gives some items, and no others.
 use Rattle.std.proofs.Common.{◌≡◌, ◌∙◌, ℕ, List, [], ◌∷◌, ◌++◌, Option, None, Some, ap, refl, sym}
-use Rattle.words.specs.Stream.{Ends, EndsOverlong, Feeds, kept}
+use Rattle.words.specs.Stream.{Ends, EndsOverlong, Feeds, pending}
 use Rattle.words.specs.Words.{parts_at}
 use Rattle.words.specs.declared.item.Item.{Item}
 use Rattle.words.specs.declared.item.Item.TheVariants.{Bad}
@@ -12,7 +12,7 @@ use Rattle.words.proofs.SomeItem.{some_item}
 
 ends_some_items : (parts : List (List ℕ)) → (parts ≡ [] → ⊥) → (items : List Item) × (new : Option (List ℕ)) × Ends parts items new
 ends_some_items [] some = absurd (some refl)
-ends_some_items (last ∷ []) some = ([], kept last, (refl, refl))
+ends_some_items (last ∷ []) some = ([], pending last, (refl, refl))
 ends_some_items (line ∷ next ∷ parts) some =
     let first = some_item line in
     let more = ends_some_items (next ∷ parts) (λ e. cc e) in

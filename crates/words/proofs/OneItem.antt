@@ -19,7 +19,7 @@ use Rattle.words.specs.declared.item.Item.{Item}
 use Rattle.words.specs.declared.item.Item.TheVariants.{AskField, AskOrder, Bad, Request}
 use Rattle.words.specs.declared.open_line.OpenLine.{OpenLine}
 use Rattle.words.proofs.ByItem.{words_of_request}
-use Rattle.words.proofs.Spaced.{words-ask_field, words-ask_order, words-command}
+use Rattle.words.proofs.LineWords.{words-ask_field, words-ask_order, words-command}
 
 -- ---- the command of the words; words that are no command's give some command
 

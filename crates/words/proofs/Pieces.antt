@@ -4,7 +4,7 @@ use Rattle.std.specs.List.{onto_first}
 use Rattle.std.proofs.lemmas.Bool.{cases_Bool}
 use Rattle.std.proofs.lemmas.List.Splits.{slice_split-cons_no, slice_split-cons_yes}
 use Rattle.words.specs.Items.{IsItem}
-use Rattle.words.specs.Stream.{Ends, EndsBehind, EndsLine, EndsOverlong, Feeds, HasNoNewline, extended, kept}
+use Rattle.words.specs.Stream.{Ends, EndsBehind, EndsLine, EndsOverlong, Feeds, HasNoNewline, extended, pending}
 use Rattle.words.specs.Words.{parts_at}
 use Rattle.words.specs.declared.item.Item.{Item}
 use Rattle.words.proofs.Cuts.{parts_some}
@@ -55,8 +55,8 @@ ends_more line item all [] items new is e some ends = absurd (some refl)
 ends_more line item all (next ∷ parts) items new is e some ends = subst (λ (ps : List (List ℕ)). Ends ps (item ∷ items) new) (sym e) (is, ends)
 
 -- the bytes behind the last newline
-pub ends_last : (rest : List ℕ) (parts : List (List ℕ)) → parts ≡ rest ∷ [] → Ends parts [] (kept rest)
-ends_last rest parts e = subst (λ (ps : List (List ℕ)). Ends ps [] (kept rest)) (sym e) (refl, refl)
+pub ends_last : (rest : List ℕ) (parts : List (List ℕ)) → parts ≡ rest ∷ [] → Ends parts [] (pending rest)
+ends_last rest parts e = subst (λ (ps : List (List ℕ)). Ends ps [] (pending rest)) (sym e) (refl, refl)
 
 -- the bytes that are kept have no newline
 pub one_line : (overlong : Bool) (bytes : List ℕ) (old : Option (List ℕ)) → parts_at 10 bytes ≡ bytes ∷ [] → cond overlong None (Some bytes) ≡ old → HasNoNewline old

@@ -12,9 +12,9 @@ use Rattle.words.specs.declared.command.Request.{Request as RequestOf}
 use Rattle.words.specs.declared.item.Item.{Item}
 use Rattle.words.specs.declared.item.Item.TheVariants.{AskField, AskOrder, Bad, Request}
 use Rattle.words.proofs.ByItem.{says_none, words_of_request}
-use Rattle.words.proofs.Decided.{Decided, decided_article, decided_both, decided_branch, decided_by, decided_in_range, decided_key, decided_le, decided_order_no, decided_word, decided_words}
+use Rattle.words.proofs.Decisions.{Decided, decided_article, decided_both, decided_branch, decided_by, decided_in_range, decided_key, decided_le, decided_order_no, decided_word, decided_words}
 use Rattle.words.proofs.OneItem.{command_of, command_of-command_words}
-use Rattle.words.proofs.Spaced.{line_of}
+use Rattle.words.proofs.LineWords.{line_of}
 
 -- ---- requests
 

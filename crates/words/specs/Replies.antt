@@ -55,4 +55,5 @@ refusal_name BadCommand = codes "BadCommand"
 -- a reply: the place of a command that is done, or a refusal with the line at fault
 abbrev pub reply_text : Reply → List ℕ
 reply_text (Done place) = spaced (codes "done" ∷ decimal place ∷ [])
-reply_text (Refused refusal line) = spaced (codes "refused" ∷ decimal (refusal_code refusal) ∷ refusal_name refusal ∷ decimal line ∷ [])
+reply_text (Refused refusal line) =
+    spaced (codes "refused" ∷ decimal (refusal_code refusal) ∷ refusal_name refusal ∷ decimal line ∷ [])

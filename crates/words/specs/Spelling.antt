@@ -14,7 +14,8 @@ command_words (Deliver b a qty) = codes "deliver" ∷ b ∷ a ∷ decimal qty �
 command_words (Writeoff b a qty) = codes "writeoff" ∷ b ∷ a ∷ decimal qty ∷ []
 command_words (Rebound b a lo hi) = codes "rebound" ∷ b ∷ a ∷ decimal lo ∷ decimal hi ∷ []
 command_words (Open n until lines) = codes "open" ∷ decimal n ∷ decimal until ∷ line_words lines
-command_words (Transfer n until a from to qty) = codes "transfer" ∷ decimal n ∷ decimal until ∷ a ∷ from ∷ to ∷ decimal qty ∷ []
+command_words (Transfer n until a from to qty) =
+    codes "transfer" ∷ decimal n ∷ decimal until ∷ a ∷ from ∷ to ∷ decimal qty ∷ []
 command_words (More n way b a qty) = codes "more" ∷ decimal n ∷ way_word way ∷ b ∷ a ∷ decimal qty ∷ []
 command_words (Use n b a qty) = codes "use" ∷ decimal n ∷ b ∷ a ∷ decimal qty ∷ []
 command_words (Release n b a qty) = codes "release" ∷ decimal n ∷ b ∷ a ∷ decimal qty ∷ []
@@ -30,7 +31,8 @@ IsInRange (Deliver b a qty) = IsBranch b × IsArticle a × IsQty qty
 IsInRange (Writeoff b a qty) = IsBranch b × IsArticle a × IsQty qty
 IsInRange (Rebound b a lo hi) = IsBranch b × IsArticle a × IsLevel lo × IsLevel hi
 IsInRange (Open n until lines) = IsOrderNo n × IsMoment until × AreOpenLines lines
-IsInRange (Transfer n until a from to qty) = IsOrderNo n × IsMoment until × IsArticle a × IsBranch from × IsBranch to × IsQty qty
+IsInRange (Transfer n until a from to qty) =
+    IsOrderNo n × IsMoment until × IsArticle a × IsBranch from × IsBranch to × IsQty qty
 IsInRange (More n way b a qty) = IsOrderNo n × IsBranch b × IsArticle a × IsQty qty
 IsInRange (Use n b a qty) = IsOrderNo n × IsBranch b × IsArticle a × IsQty qty
 IsInRange (Release n b a qty) = IsOrderNo n × IsBranch b × IsArticle a × IsQty qty

@@ -7,13 +7,13 @@ use Rattle.words.specs.declared.item.Item.{Item}
 use Rattle.words.specs.declared.item.Item.TheVariants.{Bad}
 
 -- what is kept of bytes that no newline ends
-abbrev pub kept : List ℕ → Option (List ℕ)
-kept bytes = if nat_le (length bytes) longest_line then Some bytes else None
+abbrev pub pending : List ℕ → Option (List ℕ)
+pending bytes = if nat_le (length bytes) longest_line then Some bytes else None
 
 -- what is kept of a line with these bytes more
 abbrev pub extended : Option (List ℕ) → List ℕ → Option (List ℕ)
 extended None bytes = None
-extended (Some rest) bytes = kept (rest ++ bytes)
+extended (Some rest) bytes = pending (rest ++ bytes)
 
 -- no newline stands in what is kept
 abbrev pub HasNoNewline : Option (List ℕ) → Type 0
@@ -27,7 +27,7 @@ EndsLine (Some rest) bytes item = IsItem (rest ++ bytes) item
 -- the items of the lines among these parts, and what is kept of the last part
 abbrev pub Ends : List (List ℕ) → List Item → Option (List ℕ) → Type 0
 Ends [] items new = ⊥
-Ends (last ∷ []) items new = (items ≡ []) × (new ≡ kept last)
+Ends (last ∷ []) items new = (items ≡ []) × (new ≡ pending last)
 Ends (line ∷ next ∷ parts) [] new = ⊥
 Ends (line ∷ next ∷ parts) (item ∷ items) new = IsItem line item × Ends (next ∷ parts) items new
 

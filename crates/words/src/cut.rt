@@ -13,7 +13,8 @@ fn place_of(bytes: &[u8], at: u8) -> Option<usize>
 
 /// What stands before the first such byte, and what stands after it.
 pub fn cut(bytes: &[u8], at: u8) -> Option<(&[u8], &[u8])>
-    ensures parts { MatchOption result (parts_at at bytes.now ≡ bytes.now ∷ []) (λ r. parts_at at bytes.now ≡ r.0.now ∷ parts_at at r.1.now) }
+    ensures parts { MatchOption result (parts_at at bytes.now ≡ bytes.now ∷ [])
+        (λ r. parts_at at bytes.now ≡ r.0.now ∷ parts_at at r.1.now) }
     ensures shorter { IfSome result (λ r. length r.1.now < length bytes.now) }
 {
     let place = place_of(bytes, at)?;

@@ -33,7 +33,8 @@ pub enum Item {
 /// What stands behind the words of an ask.
 fn ask_then<'a>(bytes: &'a [u8], noun: &[u8]) -> Option<&'a [u8]>
     ensures found { IfSome result (λ rest. words_of bytes.now ≡ codes "?" ∷ noun.now ∷ words_of rest.now) }
-    ensures none { IfNone result ((word : List ℕ) (words : List (List ℕ)) → words_of bytes.now ≡ codes "?" ∷ noun.now ∷ word ∷ words → ⊥) }
+    ensures none { IfNone result ((word : List ℕ) (words : List (List ℕ))
+        → words_of bytes.now ≡ codes "?" ∷ noun.now ∷ word ∷ words → ⊥) }
 {
     let (mark, rest) = cut(bytes, b' ')?;
     if mark != b"?".as_slice() {
@@ -50,7 +51,8 @@ fn ask_then<'a>(bytes: &'a [u8], noun: &[u8]) -> Option<&'a [u8]>
 fn read_ask_field(bytes: &[u8]) -> Option<(Branch, Article)>
     ensures form { IfSome result (λ r. IsBranch r.0 × IsArticle r.1) }
     ensures found { IfSome result (λ r. words_of bytes.now ≡ codes "?" ∷ codes "field" ∷ r.0 ∷ r.1 ∷ []) }
-    ensures none { IfNone result ((b a : List ℕ) → IsBranch b → IsArticle a → words_of bytes.now ≡ codes "?" ∷ codes "field" ∷ b ∷ a ∷ [] → ⊥) }
+    ensures none { IfNone result ((b a : List ℕ) → IsBranch b → IsArticle a
+        → words_of bytes.now ≡ codes "?" ∷ codes "field" ∷ b ∷ a ∷ [] → ⊥) }
 {
     let rest = ask_then(bytes, b"field")?;
     let Some((branch, rest)) = word_then::<Branch>(rest) else {
@@ -64,7 +66,8 @@ fn read_ask_field(bytes: &[u8]) -> Option<(Branch, Article)>
 fn read_ask_order(bytes: &[u8]) -> Option<OrderNo>
     ensures form { IfSome result IsOrderNo }
     ensures found { IfSome result (λ n. words_of bytes.now ≡ codes "?" ∷ codes "order" ∷ decimal n ∷ []) }
-    ensures none { IfNone result ((n : ℕ) → IsOrderNo n → words_of bytes.now ≡ codes "?" ∷ codes "order" ∷ decimal n ∷ [] → ⊥) }
+    ensures none { IfNone result ((n : ℕ) → IsOrderNo n → words_of bytes.now ≡ codes "?" ∷ codes "order" ∷ decimal n
+        ∷ [] → ⊥) }
 {
     let rest = ask_then(bytes, b"order")?;
     last_word::<OrderNo>(rest)

@@ -2,7 +2,7 @@
 
 ghost use Rattle.std.specs.Prelude.{◌≡◌, ◌∷◌, ◌++◌, [], ℕ, List, Option, None, Some, IfOk, IsOk, MatchOption, OnErr, OnOk, ◌≢◌};
 ghost use Rattle.words.specs.Items.{IsItem};
-ghost use Rattle.words.specs.Stream.{EndsBehind, EndsLine, Feeds, HasNoNewline, extended, kept};
+ghost use Rattle.words.specs.Stream.{EndsBehind, EndsLine, Feeds, HasNoNewline, extended, pending};
 ghost use Rattle.words.specs.Words.{parts_at};
 ghost use Rattle.words.specs.declared.item.Item.{Item};
 
@@ -122,7 +122,7 @@ impl Lines {
     /// What stands behind the last newline.
     fn restart(&mut self, alloc: Global, rest: &[u8]) -> Result<(), Memory>
         requires { parts_at 10 rest.now ≡ rest.now ∷ [] }
-        ensures ok { OnOk result (self.new ≡ kept rest.now) }
+        ensures ok { OnOk result (self.new ≡ pending rest.now) }
         ensures err { OnErr result (self.new ≡ self.old) }
     {
         if rest.len() > MAX_LINE_LEN {
@@ -141,7 +141,7 @@ impl Lines {
 
 /// An item, the items of the lines that end in the bytes, and what stands behind the last newline.
 fn ended_items(alloc: Global, first: Item, bytes: &[u8]) -> Result<(Vec<Item>, &[u8]), Memory>
-    ensures items { IfOk result (λ r. EndsBehind first (parts_at 10 bytes.now) r.0.items (kept r.1.now)) }
+    ensures items { IfOk result (λ r. EndsBehind first (parts_at 10 bytes.now) r.0.items (pending r.1.now)) }
     ensures rest { IfOk result (λ r. parts_at 10 r.1.now ≡ r.1.now ∷ []) }
 {
     let mut items = Vec::new(alloc);
@@ -164,7 +164,10 @@ fn ended_items(alloc: Global, first: Item, bytes: &[u8]) -> Result<(Vec<Item>, &
 /// A stream may be cut anywhere: a piece gives its items and what is kept behind them, and no others; two
 /// pieces, one after the other, give what the two in one give.
 pub fn cuts_do_not_matter()
-    ensures some { (old : Option (List ℕ)) (piece : List ℕ) → (items : List Item) × (new : Option (List ℕ)) × Feeds old piece items new }
-    ensures one { (old new other : Option (List ℕ)) (piece : List ℕ) (xs ys : List Item) → Feeds old piece xs new → Feeds old piece ys other → (xs ≡ ys) × (new ≡ other) }
-    ensures joined { (old mid new : Option (List ℕ)) (p q : List ℕ) (xs ys : List Item) → Feeds old p xs mid → Feeds mid q ys new → Feeds old (p ++ q) (xs ++ ys) new }
+    ensures some { (old : Option (List ℕ)) (piece : List ℕ) → (items : List Item) × (new : Option (List ℕ))
+        × Feeds old piece items new }
+    ensures one { (old new other : Option (List ℕ)) (piece : List ℕ) (xs ys : List Item) → Feeds old piece xs new
+        → Feeds old piece ys other → (xs ≡ ys) × (new ≡ other) }
+    ensures joined { (old mid new : Option (List ℕ)) (p q : List ℕ) (xs ys : List Item) → Feeds old p xs mid
+        → Feeds mid q ys new → Feeds old (p ++ q) (xs ++ ys) new }
 {}

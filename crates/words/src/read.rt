@@ -22,7 +22,8 @@ use thiserror::Error;
 fn read_levels(bytes: &[u8]) -> Option<(Level, Level, Level)>
     ensures form { IfSome result (λ r. IsLevel r.0 × IsLevel r.1 × IsLevel r.2) }
     ensures found { IfSome result (λ r. words_of bytes.now ≡ decimal r.0 ∷ decimal r.1 ∷ decimal r.2 ∷ []) }
-    ensures none { IfNone result ((lo hi start : ℕ) → IsLevel lo → IsLevel hi → IsLevel start → words_of bytes.now ≡ decimal lo ∷ decimal hi ∷ decimal start ∷ [] → ⊥) }
+    ensures none { IfNone result ((lo hi start : ℕ) → IsLevel lo → IsLevel hi → IsLevel start
+        → words_of bytes.now ≡ decimal lo ∷ decimal hi ∷ decimal start ∷ [] → ⊥) }
 {
     let Some((lo, rest)) = word_then::<Level>(bytes) else {
         return None;
@@ -38,7 +39,8 @@ fn read_levels(bytes: &[u8]) -> Option<(Level, Level, Level)>
 fn read_move(bytes: &[u8]) -> Option<(Branch, Article, Qty)>
     ensures form { IfSome result (λ r. IsBranch r.0 × IsArticle r.1 × IsQty r.2) }
     ensures found { IfSome result (λ r. words_of bytes.now ≡ r.0 ∷ r.1 ∷ decimal r.2 ∷ []) }
-    ensures none { IfNone result ((b a : List ℕ) (qty : ℕ) → IsBranch b → IsArticle a → IsQty qty → words_of bytes.now ≡ b ∷ a ∷ decimal qty ∷ [] → ⊥) }
+    ensures none { IfNone result ((b a : List ℕ) (qty : ℕ) → IsBranch b → IsArticle a → IsQty qty
+        → words_of bytes.now ≡ b ∷ a ∷ decimal qty ∷ [] → ⊥) }
 {
     let Some((branch, rest)) = word_then::<Branch>(bytes) else {
         return None;
@@ -100,7 +102,8 @@ fn read_rebound(bytes: &[u8]) -> Option<Command>
 fn read_part(bytes: &[u8]) -> Option<(OrderNo, Branch, Article, Qty)>
     ensures form { IfSome result (λ r. IsOrderNo r.0 × IsBranch r.1 × IsArticle r.2 × IsQty r.3) }
     ensures found { IfSome result (λ r. words_of bytes.now ≡ decimal r.0 ∷ r.1 ∷ r.2 ∷ decimal r.3 ∷ []) }
-    ensures none { IfNone result ((n : ℕ) (b a : List ℕ) (qty : ℕ) → IsOrderNo n → IsBranch b → IsArticle a → IsQty qty → words_of bytes.now ≡ decimal n ∷ b ∷ a ∷ decimal qty ∷ [] → ⊥) }
+    ensures none { IfNone result ((n : ℕ) (b a : List ℕ) (qty : ℕ) → IsOrderNo n → IsBranch b → IsArticle a → IsQty qty
+        → words_of bytes.now ≡ decimal n ∷ b ∷ a ∷ decimal qty ∷ [] → ⊥) }
 {
     let Some((number, rest)) = word_then::<OrderNo>(bytes) else {
         return None;
@@ -135,7 +138,8 @@ fn read_more(bytes: &[u8]) -> Option<Command>
 fn read_goods(bytes: &[u8]) -> Option<(Article, Branch, Branch, Qty)>
     ensures form { IfSome result (λ r. IsArticle r.0 × IsBranch r.1 × IsBranch r.2 × IsQty r.3) }
     ensures found { IfSome result (λ r. words_of bytes.now ≡ r.0 ∷ r.1 ∷ r.2 ∷ decimal r.3 ∷ []) }
-    ensures none { IfNone result ((a from to : List ℕ) (qty : ℕ) → IsArticle a → IsBranch from → IsBranch to → IsQty qty → words_of bytes.now ≡ a ∷ from ∷ to ∷ decimal qty ∷ [] → ⊥) }
+    ensures none { IfNone result ((a from to : List ℕ) (qty : ℕ) → IsArticle a → IsBranch from → IsBranch to → IsQty qty
+        → words_of bytes.now ≡ a ∷ from ∷ to ∷ decimal qty ∷ [] → ⊥) }
 {
     let Some((article, rest)) = word_then::<Article>(bytes) else {
         return None;
@@ -154,7 +158,8 @@ fn read_goods(bytes: &[u8]) -> Option<(Article, Branch, Branch, Qty)>
 fn terms_then(bytes: &[u8]) -> Option<(OrderNo, Moment, &[u8])>
     ensures form { IfSome result (λ r. IsOrderNo r.0 × IsMoment r.1) }
     ensures found { IfSome result (λ r. words_of bytes.now ≡ decimal r.0 ∷ decimal r.1 ∷ words_of r.2.now) }
-    ensures none { IfNone result ((n until : ℕ) (word : List ℕ) (words : List (List ℕ)) → IsOrderNo n → IsMoment until → words_of bytes.now ≡ decimal n ∷ decimal until ∷ word ∷ words → ⊥) }
+    ensures none { IfNone result ((n until : ℕ) (word : List ℕ) (words : List (List ℕ)) → IsOrderNo n → IsMoment until
+        → words_of bytes.now ≡ decimal n ∷ decimal until ∷ word ∷ words → ⊥) }
 {
     let Some(number) = word_then::<OrderNo>(bytes) else {
         return None;
@@ -190,7 +195,8 @@ fn line_then(bytes: &[u8]) -> Option<(OpenLine, &[u8])>
     ensures form { IfSome result (λ r. IsOpenLine r.0) }
     ensures found { IfSome result (λ r. words_of bytes.now ≡ line_words (r.0 ∷ []) ++ words_of r.1.now) }
     ensures shorter { IfSome result (λ r. length r.1.now < length bytes.now) }
-    ensures none { IfNone result ((line : OpenLine) (word : List ℕ) (words : List (List ℕ)) → IsOpenLine line → words_of bytes.now ≡ line_words (line ∷ []) ++ (word ∷ words) → ⊥) }
+    ensures none { IfNone result ((line : OpenLine) (word : List ℕ) (words : List (List ℕ)) → IsOpenLine line
+        → words_of bytes.now ≡ line_words (line ∷ []) ++ (word ∷ words) → ⊥) }
 {
     let Some((way, rest)) = word_then::<Way>(bytes) else {
         return None;
@@ -217,7 +223,8 @@ fn line_then(bytes: &[u8]) -> Option<(OpenLine, &[u8])>
 fn last_line(bytes: &[u8]) -> Option<OpenLine>
     ensures form { IfSome result IsOpenLine }
     ensures found { IfSome result (λ line. words_of bytes.now ≡ line_words (line ∷ [])) }
-    ensures none { IfNone result ((line : OpenLine) → IsOpenLine line → words_of bytes.now ≡ line_words (line ∷ []) → ⊥) }
+    ensures none { IfNone result ((line : OpenLine) → IsOpenLine line → words_of bytes.now ≡ line_words (line ∷ [])
+        → ⊥) }
 {
     let Some((way, rest)) = word_then::<Way>(bytes) else {
         return None;
@@ -245,7 +252,8 @@ pub enum WordsFault {
 /// Lines that end the line, one at least.
 fn read_lines(alloc: Global, bytes: &[u8]) -> Result<Vec<OpenLine>, WordsFault>
     ensures found { IfOk result (λ lines. words_of bytes.now ≡ line_words lines.items) }
-    ensures bad { IsErrOf result WordsFault.BadCommand → (lines : List OpenLine) → AreOpenLines lines → words_of bytes.now ≡ line_words lines → ⊥ }
+    ensures bad { IsErrOf result WordsFault.BadCommand → (lines : List OpenLine) → AreOpenLines lines
+        → words_of bytes.now ≡ line_words lines → ⊥ }
 {
     let mut lines = Vec::new(alloc);
     let mut rest = bytes;

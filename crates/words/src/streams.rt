@@ -22,7 +22,8 @@ pub fn read_piece<R: Read>(reader: &mut R, buffer: &mut [u8]) -> Result<usize, R
     requires { 0 < length buffer.old }
     ensures within { IfOk result (λ count. count ≤ length buffer.new) }
     ensures size { length buffer.new ≡ length buffer.old }
-    ensures taken { IfOk result (λ count. Consumes (R.remaining reader.old) (R.remaining reader.new) (take count buffer.new)) }
+    ensures taken { IfOk result (λ count. Consumes (R.remaining reader.old) (R.remaining reader.new)
+        (take count buffer.new)) }
     ensures end { IfOk result (λ count. count ≡ 0 → IsAtEnd (R.remaining reader.new)) }
     ensures err { OnErr result (Keeps (R.remaining reader.old) (R.remaining reader.new)) }
 {
@@ -37,7 +38,8 @@ pub fn read_piece<R: Read>(reader: &mut R, buffer: &mut [u8]) -> Result<usize, R
 pub fn write_whole<W: Write>(writer: &mut W, text: &[u8]) -> Result<(), WriteFault>
     ensures whole { OnOk result (Appends (W.contents writer.old) (W.contents writer.new) text.now) }
     ensures some { OnErr result (0 < length text.now) }
-    ensures beginning { OnErr result ((count : ℕ) × (count ≤ length text.now) × Appends (W.contents writer.old) (W.contents writer.new) (take count text.now)) }
+    ensures beginning { OnErr result ((count : ℕ) × (count ≤ length text.now)
+        × Appends (W.contents writer.old) (W.contents writer.new) (take count text.now)) }
 {
     let mut written = 0;
     while written < text.len() {

@@ -30,7 +30,8 @@ pub fn word_then<W: Word>(bytes: &[u8]) -> Option<(W, &[u8])>
     ensures form { IfSome result (λ r. W.is_value r.0) }
     ensures found { IfSome result (λ r. words_of bytes.now ≡ W.text r.0 ∷ words_of r.1.now) }
     ensures shorter { IfSome result (λ r. length r.1.now < length bytes.now) }
-    ensures none { IfNone result ((x : W) (word : List ℕ) (words : List (List ℕ)) → W.is_value x → words_of bytes.now ≡ W.text x ∷ word ∷ words → ⊥) }
+    ensures none { IfNone result ((x : W) (word : List ℕ) (words : List (List ℕ)) → W.is_value x
+        → words_of bytes.now ≡ W.text x ∷ word ∷ words → ⊥) }
 {
     let Some((word, rest)) = cut(bytes, b' ') else {
         return None;

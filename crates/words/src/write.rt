@@ -78,7 +78,8 @@ fn push_open(
     until: Moment,
     lines: &[OpenLine],
 ) -> Result<(), AllocError>
-    ensures { OnOk result (out.new.items ≡ out.old.items ++ (codes "open" ++ after_space (decimal number ∷ decimal until ∷ line_words lines.now))) }
+    ensures { OnOk result (out.new.items ≡ out.old.items ++ (codes "open" ++ after_space
+        (decimal number ∷ decimal until ∷ line_words lines.now))) }
 {
     out.extend_from_slice(b"open")?;
     push_number(out, number.get())?;
@@ -95,7 +96,8 @@ fn push_part(
     article: Article,
     qty: Qty,
 ) -> Result<(), AllocError>
-    ensures { OnOk result (out.new.items ≡ out.old.items ++ spaced (verb.now ∷ decimal number ∷ branch ∷ article ∷ decimal qty ∷ [])) }
+    ensures { OnOk result (out.new.items ≡ out.old.items ++ spaced (verb.now ∷ decimal number ∷ branch ∷ article
+        ∷ decimal qty ∷ [])) }
 {
     out.extend_from_slice(verb)?;
     push_number(out, number.get())?;
@@ -126,7 +128,8 @@ fn push_stock_move(
 
 /// Appends the spelling of a command about stock, and nothing for another.
 fn push_stock(out: &mut Vec<u8>, command: &Command) -> Result<(), AllocError>
-    ensures { OnOk result (out.new.items ≡ out.old.items ++ (if is_stock command.now then spelling command.now else [])) }
+    ensures { OnOk result (out.new.items ≡ out.old.items
+        ++ (if is_stock command.now then spelling command.now else [])) }
 {
     match command {
         Command::Field {
@@ -187,7 +190,8 @@ fn push_goods(
 
 /// Appends the spelling of a command that opens an order, and nothing for another.
 fn push_opening(out: &mut Vec<u8>, command: &Command) -> Result<(), AllocError>
-    ensures { OnOk result (out.new.items ≡ out.old.items ++ (if is_opening command.now then spelling command.now else [])) }
+    ensures { OnOk result (out.new.items ≡ out.old.items
+        ++ (if is_opening command.now then spelling command.now else [])) }
 {
     match command {
         Command::Open {
@@ -214,7 +218,8 @@ fn push_opening(out: &mut Vec<u8>, command: &Command) -> Result<(), AllocError>
 
 /// Appends the spelling of a command that changes what an order holds, and nothing for another.
 fn push_change(out: &mut Vec<u8>, command: &Command) -> Result<(), AllocError>
-    ensures { OnOk result (out.new.items ≡ out.old.items ++ (if is_change command.now then spelling command.now else [])) }
+    ensures { OnOk result (out.new.items ≡ out.old.items
+        ++ (if is_change command.now then spelling command.now else [])) }
 {
     match command {
         Command::More {

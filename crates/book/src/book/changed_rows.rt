@@ -6,9 +6,9 @@ ghost use Rattle.words.specs.declared.limits.TheConstants.{MAX_ORDER_LINES};
 ghost use Rattle.book.specs.Ledger.{is_transfer};
 ghost use Rattle.book.specs.Next.{set_state, next};
 ghost use Rattle.book.specs.Rows.{kept_row, kind_code, line_row, move_row, order_row, state_code, way_code};
-ghost use Rattle.book.specs.Running.{Accepts, entry_row};
+ghost use Rattle.book.specs.RunningNumbers.{Accepts, entry_row};
 ghost use Rattle.book.specs.Tables.{desk_cells, field_cells, kept_cells, line_cells, move_cells, order_cells, rows_among};
-ghost use Rattle.book.specs.View.{move_of, order_of};
+ghost use Rattle.book.specs.Model.{move_of, order_of};
 ghost use Rattle.book.specs.After.{aborted_rows, changes_own_line, line_rows, move_rows, of_numbered, order_after, own_firm_rows, own_line_rows, own_order_rows, with_fields, with_firms, with_kept, with_lines, with_moves, with_orders, IsShort};
 ghost use Rattle.book.specs.Plans.{ChangesTo, Makes};
 
@@ -143,7 +143,8 @@ fn move_row(alloc: Global, entry: &MoveEntry) -> Result<MoveRow, Memory>
 /// The row of a kept key.
 fn kept_row(alloc: Global, key: Key, place: u64, words: &KeptWords) -> Result<KeptRow, Memory>
     requires { place ≤ MAX_PLACES }
-    ensures { IfOk result (λ row. kept_cells row ≡ kept_row (record { key = key; place = place; command = words.now })) }
+    ensures { IfOk result (λ row. kept_cells row ≡ kept_row
+        (record { key = key; place = place; command = words.now })) }
 {
     Ok(KeptRow {
         reqkey: key_text(alloc, key)?,
@@ -178,7 +179,8 @@ fn push_fields(
     changes: &mut Vec<Change>,
     fields: &InOrder<FieldName, FieldEntry>,
 ) -> Result<(), Memory>
-    ensures { OnOk result (rows_among changes.new.items ≡ with_fields (map entry_row fields.now.entries) (rows_among changes.old.items)) }
+    ensures { OnOk result (rows_among changes.new.items ≡ with_fields (map entry_row fields.now.entries)
+        (rows_among changes.old.items)) }
 {
     for place in 0..fields.len() {
         let row = field_row(alloc, fields.entry_at(place))?;
@@ -193,7 +195,8 @@ fn push_order(
     command: &Command,
     made: &Option<Order>,
 ) -> Result<(), Memory>
-    ensures { OnOk result (rows_among changes.new.items ≡ with_orders (own_order_rows command.now (option_map order_of made.now)) (rows_among changes.old.items)) }
+    ensures { OnOk result (rows_among changes.new.items ≡ with_orders (own_order_rows command.now
+        (option_map order_of made.now)) (rows_among changes.old.items)) }
 {
     let Some(order) = made else {
         return Ok(());
@@ -215,7 +218,9 @@ fn push_line(
     line: &Line,
 ) -> Result<(), Memory>
     requires { nr ≤ MAX_ORDER_LINES }
-    ensures { OnOk result (rows_among changes.new.items ≡ with_lines (line_rows (changes_own_line (is_transfer (order_of order.now)) command.now) order.now.0 nr (line.now ∷ [])) (rows_among changes.old.items)) }
+    ensures { OnOk result (rows_among changes.new.items ≡ with_lines (line_rows
+        (changes_own_line (is_transfer (order_of order.now)) command.now) order.now.0 nr (line.now ∷ []))
+        (rows_among changes.old.items)) }
 {
     if changes_line(command, is_transfer(order), line) {
         let row = line_row(alloc, order.0, nr, line)?;
@@ -232,7 +237,8 @@ fn push_lines(
     order: &Order,
 ) -> Result<(), Memory>
     requires { length order.now.1.lines.items ≤ MAX_ORDER_LINES }
-    ensures { OnOk result (rows_among changes.new.items ≡ with_lines (own_line_rows command.now (Some (order_of order.now))) (rows_among changes.old.items)) }
+    ensures { OnOk result (rows_among changes.new.items ≡ with_lines (own_line_rows command.now
+        (Some (order_of order.now))) (rows_among changes.old.items)) }
 {
     for (index, line) in order.1.lines.iter().enumerate() {
         push_line(alloc, changes, command, order, index + 1, line)?;
@@ -249,7 +255,8 @@ fn push_own_lines(
     made: &Option<Order>,
 ) -> Result<(), Memory>
     requires { IsShort (option_map order_of made.now) }
-    ensures { OnOk result (rows_among changes.new.items ≡ with_lines (own_line_rows command.now (option_map order_of made.now)) (rows_among changes.old.items)) }
+    ensures { OnOk result (rows_among changes.new.items ≡ with_lines (own_line_rows command.now
+        (option_map order_of made.now)) (rows_among changes.old.items)) }
 {
     match made {
         Some(order) => push_lines(alloc, changes, command, order),
@@ -264,7 +271,8 @@ fn push_move(
     moved: &Option<MoveEntry>,
 ) -> Result<(), Memory>
     requires { IfSome moved.now (λ entry. entry.place ≤ MAX_PLACES) }
-    ensures { OnOk result (rows_among changes.new.items ≡ with_moves (move_rows (option_map move_of moved.now)) (rows_among changes.old.items)) }
+    ensures { OnOk result (rows_among changes.new.items ≡ with_moves (move_rows (option_map move_of moved.now))
+        (rows_among changes.old.items)) }
 {
     let Some(entry) = moved else {
         return Ok(());
@@ -276,7 +284,9 @@ fn push_move(
 /// Appends the row of the key that the parts put in.
 fn push_kept(alloc: Global, changes: &mut Vec<Change>, parts: &PlanParts) -> Result<(), Memory>
     requires { parts.now.place ≤ MAX_PLACES }
-    ensures { OnOk result (rows_among changes.new.items ≡ with_kept (kept_row (record { key = parts.now.key; place = parts.now.place; command = parts.now.words }) ∷ []) (rows_among changes.old.items)) }
+    ensures { OnOk result (rows_among changes.new.items ≡ with_kept (kept_row
+        (record { key = parts.now.key; place = parts.now.place; command = parts.now.words }) ∷ [])
+        (rows_among changes.old.items)) }
 {
     let row = kept_row(alloc, parts.key, parts.place, &parts.words)?;
     push(changes, Change::Kept(row))
@@ -284,7 +294,8 @@ fn push_kept(alloc: Global, changes: &mut Vec<Change>, parts: &PlanParts) -> Res
 
 /// Appends the row that marks the order as firm, where the command does that.
 fn push_firm(changes: &mut Vec<Change>, command: &Command) -> Result<(), Memory>
-    ensures { OnOk result (rows_among changes.new.items ≡ with_firms (own_firm_rows command.now) (rows_among changes.old.items)) }
+    ensures { OnOk result (rows_among changes.new.items ≡ with_firms (own_firm_rows command.now)
+        (rows_among changes.old.items)) }
 {
     let Command::Firm { number } = command else {
         return Ok(());
@@ -308,7 +319,8 @@ impl Book {
 
     /// Appends the row of the order of that number, aborted, if there is one.
     fn push_aborted(&self, changes: &mut Vec<Change>, number: OrderNo) -> Result<(), Memory>
-        ensures { OnOk result (rows_among changes.new.items ≡ with_orders (of_numbered self.now.ledger aborted_rows number) (rows_among changes.old.items)) }
+        ensures { OnOk result (rows_among changes.new.items ≡ with_orders
+            (of_numbered self.now.ledger aborted_rows number) (rows_among changes.old.items)) }
     {
         let Some(order) = self.order_entry(number) else {
             return Ok(());
@@ -319,7 +331,8 @@ impl Book {
 
     /// Appends the rows of the orders of these numbers, aborted.
     fn push_all_aborted(&self, changes: &mut Vec<Change>, numbers: &[OrderNo]) -> Result<(), Memory>
-        ensures { OnOk result (rows_among changes.new.items ≡ with_orders (flat_map (of_numbered self.now.ledger aborted_rows) numbers.now) (rows_among changes.old.items)) }
+        ensures { OnOk result (rows_among changes.new.items ≡ with_orders
+            (flat_map (of_numbered self.now.ledger aborted_rows) numbers.now) (rows_among changes.old.items)) }
     {
         for number in numbers {
             self.push_aborted(changes, *number)?;
@@ -327,8 +340,8 @@ impl Book {
         Ok(())
     }
 
-    /// The rows that the accepted request changes, which puts these parts into the book, those of each table in the order
-    /// of its key.
+    /// The rows that the accepted request changes, which puts these parts into the book, those of each table in the
+    /// order of its key.
     pub(super) fn changes_of(
         &self,
         alloc: Global,
@@ -338,7 +351,8 @@ impl Book {
         requires accepts { Accepts self.now.ledger request.now }
         requires makes { Makes self.now.ledger request.now parts.now }
         ensures changes { IfOk result (λ changes. ChangesTo self.now.ledger request.now (rows_among changes.items)) }
-        ensures fields { IfOk result (λ changes. map entry_row parts.now.fields.entries ≡ (rows_among changes.items).fields) }
+        ensures fields { IfOk result (λ changes. map entry_row parts.now.fields.entries
+            ≡ (rows_among changes.items).fields) }
     {
         let command = &request.command;
         let mut changes = Vec::new(alloc);

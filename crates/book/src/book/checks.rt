@@ -9,11 +9,11 @@ ghost use Rattle.book.specs.After.{moved_at_once};
 ghost use Rattle.book.specs.Answers.{FirstFailure, bounds_checks, checks, loose_checks, open_checks, order_checks, part_checks, line_checks};
 ghost use Rattle.book.specs.Checking.{hold_checks, bound_checks, refusal_of, stock_checks};
 ghost use Rattle.book.specs.Ledger.{is_open, order_numbered, name_of, Ledger, field_named, on, open_orders, places};
-ghost use Rattle.book.specs.View.{order_of, field_of};
+ghost use Rattle.book.specs.Model.{order_of, field_of};
 ghost use Rattle.escrow.specs.Escrow.{bound_of};
 ghost use Rattle.book.specs.Good.{Good};
 ghost use Rattle.book.specs.Next.{new_line, new_order};
-ghost use Rattle.book.specs.Running.{IsUpToDate};
+ghost use Rattle.book.specs.RunningNumbers.{IsUpToDate};
 ghost use Rattle.book.specs.declared.order.Kind.{Kind};
 
 use super::plan::{moved_at_once, transfer_lines};
@@ -174,7 +174,8 @@ impl Book {
         until: Moment,
         lines: &[OpenLine],
     ) -> Option<(Refusal, u64)>
-        ensures { (kind : Kind) → FirstFailure (order_checks self.now.ledger number until ++ line_checks self.now.ledger (new_order number kind until) [] lines.now) result }
+        ensures { (kind : Kind) → FirstFailure (order_checks self.now.ledger number until ++ line_checks self.now.ledger
+            (new_order number kind until) [] lines.now) result }
     {
         let fault = self.check_order(number, until);
         if fault.is_some() {
@@ -300,8 +301,10 @@ impl Book {
 
     /// The open order of that number, or why there is none.
     fn open_order(&self, number: OrderNo) -> Result<&OrderEntry, Refusal>
-        ensures found { MatchResult result (λ order. FirstFailure (open_checks self.now.ledger number) None) (λ refusal. FirstFailure (open_checks self.now.ledger number) (Some (refusal, 0))) }
-        ensures order { IfOk result (λ order. order_numbered self.now.ledger number ≡ Some (order_of (number, order.now))) }
+        ensures found { MatchResult result (λ order. FirstFailure (open_checks self.now.ledger number) None)
+            (λ refusal. FirstFailure (open_checks self.now.ledger number) (Some (refusal, 0))) }
+        ensures order { IfOk result (λ order. order_numbered self.now.ledger number ≡ Some
+            (order_of (number, order.now))) }
         ensures open { IfOk result (λ order. IsTrue (is_open (order_of (number, order.now)))) }
     {
         match self.order_entry(number) {
@@ -319,8 +322,10 @@ impl Book {
 impl Book {
     /// The open order of that number that is not firm, or why there is none.
     fn loose_order(&self, number: OrderNo) -> Result<&OrderEntry, Refusal>
-        ensures found { MatchResult result (λ order. FirstFailure (loose_checks self.now.ledger number) None) (λ refusal. FirstFailure (loose_checks self.now.ledger number) (Some (refusal, 0))) }
-        ensures order { IfOk result (λ order. order_numbered self.now.ledger number ≡ Some (order_of (number, order.now))) }
+        ensures found { MatchResult result (λ order. FirstFailure (loose_checks self.now.ledger number) None)
+            (λ refusal. FirstFailure (loose_checks self.now.ledger number) (Some (refusal, 0))) }
+        ensures order { IfOk result (λ order. order_numbered self.now.ledger number ≡ Some
+            (order_of (number, order.now))) }
         ensures open { IfOk result (λ order. IsTrue (is_open (order_of (number, order.now)))) }
         ensures loose { IfOk result (λ order. IsFalse order.now.firm) }
     {
@@ -363,7 +368,8 @@ fn check_hold(
 impl Book {
     /// The first check that fails of the lines of a new order, whatever its number, its kind and its end.
     fn check_lines(&self, lines: &[OpenLine]) -> Option<(Refusal, u64)>
-        ensures { (n : ℕ) (kind : Kind) (until : ℕ) → FirstFailure (line_checks self.now.ledger (new_order n kind until) [] lines.now) result }
+        ensures { (n : ℕ) (kind : Kind) (until : ℕ) → FirstFailure (line_checks self.now.ledger
+            (new_order n kind until) [] lines.now) result }
     {
         for (i, line) in lines.iter().enumerate() {
             let number = i as u64 + 1;
@@ -381,7 +387,8 @@ impl Book {
     /// The field of the line is there, and has so much more room the one way.
     fn check_stock(&self, line: &OpenLine, number: u64) -> Option<(Refusal, u64)>
         ensures good { Good self.now.ledger }
-        ensures found { FirstFailure (stock_checks line.now.way self.now.ledger (name_of line.now.branch line.now.article) line.now.qty number) result }
+        ensures found { FirstFailure (stock_checks line.now.way self.now.ledger
+            (name_of line.now.branch line.now.article) line.now.qty number) result }
     {
         let name = FieldName {
             branch: line.branch,
@@ -413,7 +420,8 @@ fn check_bound(
     qty: Qty,
     line: u64,
 ) -> Option<(Refusal, u64)>
-    ensures { (A : Ledger) → Good A → IsUpToDate A (name, field.now) → field_named A name ≡ Some (field_of (name, field.now)) → FirstFailure (bound_checks way A name qty line) result }
+    ensures { (A : Ledger) → Good A → IsUpToDate A (name, field.now) → field_named A name ≡ Some
+        (field_of (name, field.now)) → FirstFailure (bound_checks way A name qty line) result }
 {
     let mut quantity = field.quantity;
     match quantity.ask(way, qty) {
@@ -424,7 +432,8 @@ fn check_bound(
 
 /// No outcome passes the field's bound with its value moved so much the one way.
 fn check_moved(name: FieldName, field: &FieldEntry, way: Way, qty: Qty) -> Option<(Refusal, u64)>
-    ensures { (A : Ledger) → Good A → IsUpToDate A (name, field.now) → field_named A name ≡ Some (field_of (name, field.now)) → FirstFailure (bound_checks way A name qty 0) result }
+    ensures { (A : Ledger) → Good A → IsUpToDate A (name, field.now) → field_named A name ≡ Some
+        (field_of (name, field.now)) → FirstFailure (bound_checks way A name qty 0) result }
 {
     let mut moved = field.quantity;
     match moved.at_once(way, qty) {
@@ -435,7 +444,8 @@ fn check_moved(name: FieldName, field: &FieldEntry, way: Way, qty: Qty) -> Optio
 
 /// Every outcome of the field lies within these bounds.
 fn check_bounds(name: FieldName, field: &FieldEntry, lo: Level, hi: Level) -> Option<(Refusal, u64)>
-    ensures { (A : Ledger) → Good A → IsUpToDate A (name, field.now) → field_named A name ≡ Some (field_of (name, field.now)) → FirstFailure (bounds_checks A name lo hi) result }
+    ensures { (A : Ledger) → Good A → IsUpToDate A (name, field.now) → field_named A name ≡ Some
+        (field_of (name, field.now)) → FirstFailure (bounds_checks A name lo hi) result }
 {
     let mut bounded = field.quantity;
     match bounded.rebound(lo, hi) {

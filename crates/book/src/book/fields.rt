@@ -8,8 +8,8 @@ ghost use Rattle.std.specs.Map.{keys_of};
 ghost use Rattle.book.specs.After.{expired_numbers, field_rows, of_numbered, order_after};
 ghost use Rattle.book.specs.Changes.{changes_field};
 ghost use Rattle.book.specs.Ledger.{field_named, line_name, name_cmp, on, order_numbered, name_of};
-ghost use Rattle.book.specs.Running.{Accepts, GivenBack, GivesBack, HasLines, MayGiveBack, MovesField, Puts, entry_row, share_numbers, share_on, Becomes, MayBecome};
-ghost use Rattle.book.specs.View.{order_of};
+ghost use Rattle.book.specs.RunningNumbers.{Accepts, GivenBack, GivesBack, HasLines, MayGiveBack, MovesField, Puts, entry_row, share_numbers, share_on, Becomes, MayBecome};
+ghost use Rattle.book.specs.Model.{order_of};
 ghost use Rattle.book.specs.declared.order.Line.{Line};
 ghost use Rattle.words.specs.declared.command.Command.TheVariants.{Rebound};
 ghost use Rattle.words.specs.declared.command.Request.{Request};
@@ -116,8 +116,10 @@ impl Book {
         requires accepts { Accepts self.now.ledger request.now }
         requires made { order_after self.now.ledger request.now.command ≡ Some (order_of order.now) }
         requires line { find (on (line_name line.now)) order.now.1.lines.items ≡ Some line.now }
-        ensures changed { OnOk result (changes_field self.now.ledger request.now.command (line_name line.now) ≡ true → Puts self.now.ledger request.now (line_name line.now) fields.old.entries fields.new.entries) }
-        ensures same { OnOk result (changes_field self.now.ledger request.now.command (line_name line.now) ≡ false → fields.new.entries ≡ fields.old.entries) }
+        ensures changed { OnOk result (changes_field self.now.ledger request.now.command (line_name line.now) ≡ true
+            → Puts self.now.ledger request.now (line_name line.now) fields.old.entries fields.new.entries) }
+        ensures same { OnOk result (changes_field self.now.ledger request.now.command (line_name line.now) ≡ false
+            → fields.new.entries ≡ fields.old.entries) }
     {
         if !self.changes_field(request, order, line) {
             return Ok(());
@@ -154,7 +156,8 @@ impl Book {
         qty: Qty,
     ) -> Result<(), Memory>
         requires { (r : Request) × MovesField self.now.ledger r name way qty }
-        ensures { OnOk result ((r : Request) → MovesField self.now.ledger r name way qty → Puts self.now.ledger r name fields.old.entries fields.new.entries) }
+        ensures { OnOk result ((r : Request) → MovesField self.now.ledger r name way qty
+            → Puts self.now.ledger r name fields.old.entries fields.new.entries) }
     {
         let Some(entry) = self.field_entry(name.branch, name.article) else {
             unreachable!()
@@ -190,7 +193,8 @@ impl Book {
     /// The field of the line, as the lines so far leave it that give back what they hold.
     fn field_so_far(&self, fields: &Fields, line: &Line) -> FieldEntry
         requires { IsSome (field_named self.now.ledger (line_name line.now)) }
-        ensures { (ls : List Line) → GivesBack self.now.ledger ls fields.now.entries → GivenBack self.now.ledger ls (line_name line.now, result) }
+        ensures { (ls : List Line) → GivesBack self.now.ledger ls fields.now.entries
+            → GivenBack self.now.ledger ls (line_name line.now, result) }
     {
         if let Some(entry) = fields.get(&name_of(line)) {
             return *entry;
@@ -204,8 +208,11 @@ impl Book {
     /// Gives back what the line of an order that expires holds, and puts its field in.
     fn give_back_line(&self, fields: &mut Fields, line: &Line) -> Result<(), Memory>
         requires there { IsSome (field_named self.now.ledger (line_name line.now)) }
-        requires held { (ls : List Line) × GivesBack self.now.ledger ls fields.old.entries × MayGiveBack self.now.ledger (ls ++ line.now ∷ []) }
-        ensures { OnOk result ((ls : List Line) → GivesBack self.now.ledger ls fields.old.entries → MayGiveBack self.now.ledger (ls ++ line.now ∷ []) → GivesBack self.now.ledger (ls ++ line.now ∷ []) fields.new.entries) }
+        requires held { (ls : List Line) × GivesBack self.now.ledger ls fields.old.entries
+            × MayGiveBack self.now.ledger (ls ++ line.now ∷ []) }
+        ensures { OnOk result ((ls : List Line) → GivesBack self.now.ledger ls fields.old.entries
+            → MayGiveBack self.now.ledger (ls ++ line.now ∷ []) → GivesBack self.now.ledger
+            (ls ++ line.now ∷ []) fields.new.entries) }
     {
         let mut entry = self.field_so_far(fields, line);
         entry.quantity.give_back(line.way, line.held.get());
@@ -215,8 +222,11 @@ impl Book {
     /// Gives back what these lines hold, and puts their fields in.
     fn give_back_lines(&self, fields: &mut Fields, lines: &[Line]) -> Result<(), Memory>
         requires there { Each (λ l. IsSome (field_named self.now.ledger (line_name l))) lines.now }
-        requires held { (ls : List Line) × GivesBack self.now.ledger ls fields.old.entries × MayGiveBack self.now.ledger (ls ++ lines.now) }
-        ensures { OnOk result ((ls : List Line) → GivesBack self.now.ledger ls fields.old.entries → MayGiveBack self.now.ledger (ls ++ lines.now) → GivesBack self.now.ledger (ls ++ lines.now) fields.new.entries) }
+        requires held { (ls : List Line) × GivesBack self.now.ledger ls fields.old.entries
+            × MayGiveBack self.now.ledger (ls ++ lines.now) }
+        ensures { OnOk result ((ls : List Line) → GivesBack self.now.ledger ls fields.old.entries
+            → MayGiveBack self.now.ledger (ls ++ lines.now) → GivesBack self.now.ledger
+            (ls ++ lines.now) fields.new.entries) }
     {
         for line in lines {
             self.give_back_line(fields, line)?;
@@ -226,8 +236,11 @@ impl Book {
 
     /// Gives back what the order of that number holds, if there is one.
     fn give_back_order(&self, fields: &mut Fields, number: OrderNo) -> Result<(), Memory>
-        requires { (ls : List Line) × GivesBack self.now.ledger ls fields.old.entries × MayGiveBack self.now.ledger (ls ++ of_numbered self.now.ledger (λ o. o.lines) number) }
-        ensures { OnOk result ((ls : List Line) → GivesBack self.now.ledger ls fields.old.entries → MayGiveBack self.now.ledger (ls ++ of_numbered self.now.ledger (λ o. o.lines) number) → GivesBack self.now.ledger (ls ++ of_numbered self.now.ledger (λ o. o.lines) number) fields.new.entries) }
+        requires { (ls : List Line) × GivesBack self.now.ledger ls fields.old.entries
+            × MayGiveBack self.now.ledger (ls ++ of_numbered self.now.ledger (λ o. o.lines) number) }
+        ensures { OnOk result ((ls : List Line) → GivesBack self.now.ledger ls fields.old.entries
+            → MayGiveBack self.now.ledger (ls ++ of_numbered self.now.ledger (λ o. o.lines) number)
+            → GivesBack self.now.ledger (ls ++ of_numbered self.now.ledger (λ o. o.lines) number) fields.new.entries) }
     {
         // so that the proof has the invariant
         let _ = &self.orders;
@@ -240,8 +253,10 @@ impl Book {
     /// Gives back what the orders of these numbers hold, and puts their fields in.
     fn put_expired(&self, fields: &mut Fields, numbers: &[OrderNo]) -> Result<(), Memory>
         requires none { fields.old.entries ≡ [] }
-        requires held { MayGiveBack self.now.ledger (flat_map (of_numbered self.now.ledger (λ o. o.lines)) numbers.now) }
-        ensures { OnOk result (GivesBack self.now.ledger (flat_map (of_numbered self.now.ledger (λ o. o.lines)) numbers.now) fields.new.entries) }
+        requires held { MayGiveBack self.now.ledger
+            (flat_map (of_numbered self.now.ledger (λ o. o.lines)) numbers.now) }
+        ensures { OnOk result (GivesBack self.now.ledger
+            (flat_map (of_numbered self.now.ledger (λ o. o.lines)) numbers.now) fields.new.entries) }
     {
         for number in numbers {
             self.give_back_order(fields, *number)?;
@@ -261,7 +276,8 @@ impl Book {
         requires made { option_map order_of made.now ≡ order_after self.now.ledger request.now.command }
         requires expired { expired.now ≡ expired_numbers self.now.ledger request.now.command }
         requires none { fields.old.entries ≡ [] }
-        ensures { OnOk result (IsStrictlySortedBy name_cmp (keys_of fields.new.entries) → map entry_row fields.new.entries ≡ field_rows self.now.ledger request.now) }
+        ensures { OnOk result (IsStrictlySortedBy name_cmp (keys_of fields.new.entries)
+            → map entry_row fields.new.entries ≡ field_rows self.now.ledger request.now) }
     {
         if let Some(moved) = moved_at_once(&request.command) {
             return self.put_moved(fields, moved.0, moved.1, moved.2);

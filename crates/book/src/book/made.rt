@@ -1,12 +1,13 @@
-//! The orders that an accepted command opens, changes or aborts, as they are then, and what that changes of their lines.
+//! The orders that an accepted command opens, changes or aborts, as they are then, and what that changes of their
+//! lines.
 
 ghost use Rattle.book.specs.After.{order_after, changes_own_line, changes_own_stock, changes_state, expired_numbers};
 ghost use Rattle.book.specs.Changes.{changes_field};
 ghost use Rattle.book.specs.InPlace.{MayChange, MayChangeOrder, changed_line, changed_order, held_lines, order_change_of, abort_all, abort_one};
 ghost use Rattle.book.specs.Ledger.{line_name, name_of, on, is_transfer, order_numbered, same_name, open_state};
 ghost use Rattle.book.specs.Next.{new_line, expires};
-ghost use Rattle.book.specs.Running.{Accepts};
-ghost use Rattle.book.specs.View.{order_of};
+ghost use Rattle.book.specs.RunningNumbers.{Accepts};
+ghost use Rattle.book.specs.Model.{order_of};
 ghost use Rattle.book.specs.declared.book.made.LineChange.TheVariants as LineChange;
 ghost use Rattle.book.specs.declared.order.State.TheVariants as State;
 ghost use Rattle.escrow.specs.Ranges.{IsLevel};
@@ -94,7 +95,8 @@ fn change_lines(
     change: &LineChange,
 )
     requires { Each (λ l. (is_transfer || on (name_of branch article) l) ≡ true → MayChange change.now l) lines.old }
-    ensures { lines.new ≡ map (λ l. if is_transfer || on (name_of branch article) l then changed_line change.now l else l) lines.old }
+    ensures { lines.new ≡ map (λ l. if is_transfer || on
+        (name_of branch article) l then changed_line change.now l else l) lines.old }
 {
     for line in lines.iter_mut() {
         let is_chosen = is_chosen(line, is_transfer, branch, article);
@@ -104,7 +106,9 @@ fn change_lines(
 
 /// The line on the field holds more; without such a line there is one more at the end.
 fn hold_more(lines: &mut Vec<Line>, more: &OpenLine)
-    requires { let name = line_name (new_line more.now) in MatchOption (find (on name) lines.old.items) (vec_len lines.old < vec_capacity lines.old) (λ found. Each (λ m. on name m ≡ true → MayChange (LineChange.Hold more.now.qty) m) lines.old.items) }
+    requires { let name = line_name (new_line more.now) in MatchOption (find (on name) lines.old.items)
+        (vec_len lines.old < vec_capacity lines.old)
+        (λ found. Each (λ m. on name m ≡ true → MayChange (LineChange.Hold more.now.qty) m) lines.old.items) }
     ensures { lines.new.items ≡ held_lines more.now lines.old.items }
 {
     if line_in(lines, more.branch, more.article).is_some() {
@@ -153,7 +157,14 @@ fn change_order(order: &mut OrderEntry, change: &OrderChange)
 
 /// An open order of these lines.
 pub(super) fn opened(number: OrderNo, kind: Kind, until: Moment, lines: Vec<Line>) -> Order
-    ensures { order_of result ≡ record { number = number; kind = kind; until = until; state = State.Open; firm = false; lines = lines.items } }
+    ensures { order_of result ≡ record {
+      number = number;
+      kind = kind;
+      until = until;
+      state = State.Open;
+      firm = false;
+      lines = lines.items;
+    } }
 {
     let entry = OrderEntry {
         kind,
@@ -233,8 +244,10 @@ impl Book {
         alloc: Global,
         change: (OrderNo, OrderChange),
     ) -> Result<Option<Order>, Memory>
-        requires { (entry : OrderEntry) → order_numbered self.now.ledger change.0 ≡ Some (order_of (change.0, entry)) → vec_len entry.lines < vec_capacity entry.lines → MayChangeOrder change.1 entry }
-        ensures { IfOk result (λ made. option_map order_of made ≡ option_map (changed_order change.1) (order_numbered self.now.ledger change.0)) }
+        requires { (entry : OrderEntry) → order_numbered self.now.ledger change.0 ≡ Some (order_of (change.0, entry))
+            → vec_len entry.lines < vec_capacity entry.lines → MayChangeOrder change.1 entry }
+        ensures { IfOk result (λ made. option_map order_of made ≡ option_map (changed_order change.1)
+            (order_numbered self.now.ledger change.0)) }
     {
         let Some(entry) = self.order_entry(change.0) else {
             return Ok(None);
@@ -357,7 +370,8 @@ fn expires(order: &OrderEntry, now: Moment) -> bool
 
 /// Appends the order's number, where it expires.
 fn push_expiring(numbers: &mut Vec<OrderNo>, order: &Order, now: Moment) -> Result<(), Memory>
-    ensures { OnOk result (numbers.new.items ≡ numbers.old.items ++ map (λ o. o.number) (filter (expires now) (order_of order.now ∷ []))) }
+    ensures { OnOk result (numbers.new.items ≡ numbers.old.items ++ map (λ o. o.number)
+        (filter (expires now) (order_of order.now ∷ []))) }
 {
     if expires(&order.1, now) {
         return numbers.push(order.0).map_err(|_| Memory);
@@ -367,7 +381,8 @@ fn push_expiring(numbers: &mut Vec<OrderNo>, order: &Order, now: Moment) -> Resu
 
 /// The numbers of those of the orders that expire, as the orders lie.
 fn expiring(alloc: Global, orders: &[Order], now: Moment) -> Result<Vec<OrderNo>, Memory>
-    ensures { IfOk result (λ numbers. numbers.items ≡ map (λ o. o.number) (filter (expires now) (map order_of orders.now))) }
+    ensures { IfOk result (λ numbers. numbers.items ≡ map (λ o. o.number)
+        (filter (expires now) (map order_of orders.now))) }
 {
     let mut numbers = Vec::new(alloc);
     for order in orders {

@@ -5,11 +5,11 @@ ghost use Rattle.book.specs.Answers.{IsAccepted};
 ghost use Rattle.book.specs.Ledger.{kept_under, name_of};
 ghost use Rattle.book.specs.Next.{new_line, transfer_lines};
 ghost use Rattle.book.specs.Outcomes.{signed};
-ghost use Rattle.book.specs.Planned.{Plans};
+ghost use Rattle.book.specs.PlanAnswers.{Plans};
 ghost use Rattle.book.specs.Plans.{plan_of, Makes, opened_lines};
-ghost use Rattle.book.specs.Running.{Accepts};
+ghost use Rattle.book.specs.RunningNumbers.{Accepts};
 ghost use Rattle.book.specs.Tables.{rows_among};
-ghost use Rattle.book.specs.View.{move_of, order_of};
+ghost use Rattle.book.specs.Model.{move_of, order_of};
 ghost use Rattle.std.specs.Prelude.{◌≡◌, length, option_map, ◌⊎◌, IfOk, IsSome, OnErr, map};
 
 use super::made::new_line;
@@ -214,7 +214,8 @@ impl Book {
     /// commands are compared, and for a command that is accepted.
     pub fn plan(&self, alloc: Global, request: &Request) -> Result<Planned, Memory>
         ensures planned { IfOk result (λ planned. Plans self.now.ledger request.now planned) }
-        ensures memory { OnErr result (IsSome (kept_under self.now.ledger request.now.key) ⊎ IsAccepted self.now.ledger request.now) }
+        ensures memory { OnErr result (IsSome (kept_under self.now.ledger request.now.key)
+            ⊎ IsAccepted self.now.ledger request.now) }
     {
         if let Some(kept) = self.kept_entry(request.key) {
             let words = KeptWords::of(alloc, &request.command)?;

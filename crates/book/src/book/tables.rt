@@ -5,7 +5,7 @@ ghost use Rattle.std.specs.List.{AllByRecursion as Each, AllZip};
 ghost use Rattle.book.specs.Good.{Good};
 ghost use Rattle.book.specs.Ledger.{open_state};
 ghost use Rattle.book.specs.Tables.{content_of, desk_cells};
-ghost use Rattle.book.specs.Told.{AreGood, AreInOrder, IsBounded, IsFieldTold, IsInForm, IsWhole, KeepsLimits, TellsLedger, told_ledger};
+ghost use Rattle.book.specs.RowEntries.{AreGood, AreInOrder, IsBounded, IsFieldTold, IsInForm, IsWhole, IsWithinLimits, TellsLedger, told_ledger};
 ghost use Rattle.escrow.specs.Ranges.{IsMoment};
 ghost use Rattle.book.specs.Rows.{IsDamaged, IsRowsOf};
 ghost use Rattle.book.specs.declared.book.tables.TablesFault.TheVariants as TablesFault;
@@ -57,8 +57,14 @@ struct Entries {
 
 /// The clock, where the row has it and these places.
 fn read_desk(row: &DeskRow, places: usize) -> Option<Moment>
-    ensures { MatchOption result ((clock : ℕ) → IsMoment clock → desk_cells row.now ≡ record { one = pos 1; version = pos 2; clock = pos clock; places = pos places } → ⊥)
-        (λ clock. IsMoment clock × (desk_cells row.now ≡ record { one = pos 1; version = pos 2; clock = pos clock; places = pos places })) }
+    ensures { MatchOption result ((clock : ℕ) → IsMoment clock → desk_cells row.now
+        ≡ record { one = pos 1; version = pos 2; clock = pos clock; places = pos places } → ⊥)
+        (λ clock. IsMoment clock × (desk_cells row.now ≡ record {
+          one = pos 1;
+          version = pos 2;
+          clock = pos clock;
+          places = pos places;
+        })) }
 {
     let known = natural(row.places)?;
     if row.one != 1 || row.version != 2 || known != places as u64 {
@@ -117,7 +123,7 @@ fn count_open(orders: &[Order]) -> usize
 
 /// Whether they keep the limits.
 fn keep_limits(entries: &Entries) -> bool
-    ensures { IsTrue result ↔ KeepsLimits (told_ledger entries.now) }
+    ensures { IsTrue result ↔ IsWithinLimits (told_ledger entries.now) }
 {
     entries.fields.len() <= MAX_FIELDS
         && entries.orders.len() <= MAX_ORDERS

@@ -4,8 +4,8 @@ ghost use Rattle.std.specs.Prelude.{◌≡◌, length, map, slice_get, IsSomeAnd
 ghost use Rattle.std.specs.List.Sorted.{IsStrictlySortedBy};
 ghost use Rattle.book.specs.Good.{Good};
 ghost use Rattle.book.specs.Ledger.{Ledger, field_named, name_cmp, order_numbered, name_of, shown_state};
-ghost use Rattle.book.specs.Running.{IsUpToDate};
-ghost use Rattle.book.specs.View.{field_of};
+ghost use Rattle.book.specs.RunningNumbers.{IsUpToDate};
+ghost use Rattle.book.specs.Model.{field_of};
 ghost use Rattle.book.specs.Views.{ShowsField, ShowsOrder};
 
 use super::{Book, FieldEntry};
@@ -38,7 +38,8 @@ pub struct OrderView<'a> {
 impl Book {
     /// The field of that name, or `None` exactly where there is none.
     pub fn field(&self, branch: Branch, article: Article) -> Option<FieldView>
-        ensures { let found = field_named self.now.ledger (name_of branch article) in MatchOption result (found ≡ None) (λ view. IsSomeAnd found (λ f. ShowsField self.now.ledger f view)) }
+        ensures { let found = field_named self.now.ledger (name_of branch article) in MatchOption result (found ≡ None)
+            (λ view. IsSomeAnd found (λ f. ShowsField self.now.ledger f view)) }
     {
         let entry = self.field_entry(branch, article)?;
         Some(show(FieldName { branch, article }, entry))
@@ -54,7 +55,8 @@ impl Book {
     /// The field at that index, from 0 and in the order of branches, then articles, or `None` exactly past the
     /// last.
     pub fn field_at(&self, index: usize) -> Option<FieldView>
-        ensures found { let found = slice_get self.now.ledger.fields index in MatchOption result (found ≡ None) (λ view. IsSomeAnd found (λ f. ShowsField self.now.ledger f view)) }
+        ensures found { let found = slice_get self.now.ledger.fields index in MatchOption result (found ≡ None)
+            (λ view. IsSomeAnd found (λ f. ShowsField self.now.ledger f view)) }
         ensures order { IsStrictlySortedBy name_cmp (map (λ f. f.name) self.now.ledger.fields) }
     {
         let entry = self.fields.nth(index)?;
@@ -63,7 +65,8 @@ impl Book {
 
     /// The order of that number, or `None` exactly where there is none.
     pub fn order(&self, number: OrderNo) -> Option<OrderView<'_>>
-        ensures { let found = order_numbered self.now.ledger number in MatchOption result (found ≡ None) (λ view. IsSomeAnd found (λ o. ShowsOrder o view)) }
+        ensures { let found = order_numbered self.now.ledger number in MatchOption result (found ≡ None)
+            (λ view. IsSomeAnd found (λ o. ShowsOrder o view)) }
     {
         let entry = self.order_entry(number)?;
         Some(OrderView {
@@ -90,7 +93,8 @@ fn shown_state(state: State, firm: bool) -> Standing
 
 /// What is shown of a field.
 fn show(name: FieldName, entry: &FieldEntry) -> FieldView
-    ensures { (A : Ledger) → Good A → IsUpToDate A (name, entry.now) → ShowsField A (field_of (name, entry.now)) result }
+    ensures { (A : Ledger) → Good A → IsUpToDate A (name, entry.now) → ShowsField A
+        (field_of (name, entry.now)) result }
 {
     let quantity = &entry.quantity;
     FieldView {

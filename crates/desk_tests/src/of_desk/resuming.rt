@@ -14,8 +14,8 @@ use std::alloc::Global;
 use std::test::Fail;
 use words::{Refusal, Reply, Request};
 
-/// A list of requests, the replies to them, what is asked of the desk, and what is answered to that before the list and behind
-/// each of its requests.
+/// A list of requests, the replies to them, what is asked of the desk, and what is answered to that before the list and
+/// behind each of its requests.
 struct List {
     lines: &'static [&'static str],
     replies: &'static [Reply],
@@ -257,8 +257,8 @@ fn visit_cut(
     Ok((left_by(alloc, fused, is_cut)?, count))
 }
 
-/// The list is cut by these two failures, one after the other, and then resumed to its end: how many replies came before the
-/// first.
+/// The list is cut by these two failures, one after the other, and then resumed to its end: how many replies came
+/// before the first.
 fn cut_twice(
     alloc: Global,
     list: &List,
@@ -276,8 +276,8 @@ fn cut_twice(
     Ok(begun)
 }
 
-/// Fails at each call of one of the files in turn, up to the first run that is not cut: each is resumed, and that is cut
-/// after so many calls too. How many were tried.
+/// Fails at each call of one of the files in turn, up to the first run that is not cut: each is resumed, and that is
+/// cut after so many calls too. How many were tried.
 fn cut_at_each_call(
     alloc: Global,
     list: &List,
@@ -338,8 +338,8 @@ fn a_list_is_resumed_after_two_failures_of_the_database_and_a_power_cut(
     cut_twice_at_each_call(rt.alloc(), false, true)
 }
 
-/// With ample memory the list ends in its first session. Where one allocation is refused it goes on, in the same session or,
-/// where that was stopped, in the next.
+/// With ample memory the list ends in its first session. Where one allocation is refused it goes on, in the same
+/// session or, where that was stopped, in the next.
 #[test]
 fn a_list_is_resumed_where_memory_was_refused(rt: HostRuntime) -> Result<(), Fail> {
     let uncut = calls_to(true, u64::MAX);

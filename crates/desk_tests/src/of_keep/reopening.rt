@@ -21,7 +21,8 @@ const FOUND: [&str; 4] = [
     "Tables { desk: DeskRow { one: 1, version: 2, clock: 0, places: 0 }, fields: Rows { rows: [] }, moves: Rows { rows: [] }, orders: Rows { rows: [OrderRow { number: 1, kind: 1, until: 900, state: 0 }, OrderRow { number: 2, kind: 1, until: 900, state: 1 }, OrderRow { number: 3, kind: 1, until: 900, state: 0 }] }, lines: Rows { rows: [] }, kept: Rows { rows: [] }, firms: Rows { rows: [] } }",
 ];
 
-/// Commits two orders, then one of them again and a third: how many commits were acknowledged, and the answer to the last.
+/// Commits two orders, then one of them again and a third: how many commits were acknowledged, and the answer to the
+/// last.
 fn commit_twice<K: Keep>(keep: &mut K) -> (usize, Result<(), KeepFault>) {
     match commit(
         keep,
@@ -95,8 +96,8 @@ fn visit<D: Disk + Drop>(alloc: Global, files: Files<D>) -> Result<(Files<D>, us
     }
 }
 
-/// The same where one of the files fails after so many calls, with a power cut at the end or not: then all that was acknowledged
-/// is found, or one step more, and no part of a step.
+/// The same where one of the files fails after so many calls, with a power cut at the end or not: then all that was
+/// acknowledged is found, or one step more, and no part of a step.
 fn visit_cut(alloc: Global, calls: (u64, u64), is_cut: bool) -> Result<usize, Fail> {
     let files = new_files(alloc);
     let fused = Files {

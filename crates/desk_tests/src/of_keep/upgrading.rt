@@ -149,8 +149,8 @@ fn version_in(alloc: Global, files: Files<Memory>) -> Result<u64, Fail>
     }
 }
 
-/// Upgrades where one of the files fails after so many calls, with a power cut at the end or not: whether it was done. Then version 2
-/// is found, and else one of the two.
+/// Upgrades where one of the files fails after so many calls, with a power cut at the end or not: whether it was done.
+/// Then version 2 is found, and else one of the two.
 fn visit_cut(alloc: Global, calls: (u64, u64), is_cut: bool) -> Result<bool, Fail> {
     let files = old_files(alloc)?;
     let fused = Files {

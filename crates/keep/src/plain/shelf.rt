@@ -30,8 +30,10 @@ pub(super) struct Shelf {
 /// Where the row with that key stands, or the place for it among the others.
 fn place_of<R: Table>(rows: &[R], row: &R) -> Result<usize, usize>
     requires { IsStrictlySortedBy R.cmp (map R.cells rows.now) }
-    ensures there { IfOk result (λ i. (i < length rows.now) × (map R.cells (slice_set rows.now i row.now) ≡ put_row R.cmp (R.cells row.now) (map R.cells rows.now))) }
-    ensures between { IfErr result (λ i. (i ≤ length rows.now) × (map R.cells (insert rows.now i row.now) ≡ put_row R.cmp (R.cells row.now) (map R.cells rows.now))) }
+    ensures there { IfOk result (λ i. (i < length rows.now) × (map R.cells (slice_set rows.now i row.now)
+        ≡ put_row R.cmp (R.cells row.now) (map R.cells rows.now))) }
+    ensures between { IfErr result (λ i. (i ≤ length rows.now) × (map R.cells (insert rows.now i row.now)
+        ≡ put_row R.cmp (R.cells row.now) (map R.cells rows.now))) }
 {
     rows.binary_search_by(|other| other.compare(row))
 }

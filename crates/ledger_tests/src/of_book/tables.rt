@@ -8,8 +8,8 @@ use book::{
 use std::alloc::Global;
 use std::test::Fail;
 
-/// The row of `desk` by its first two columns, and the numbers of the fields, moves, orders, lines, kept commands and firm orders, as
-/// their rows come. The number of a line is ten times that of its order, and its own.
+/// The row of `desk` by its first two columns, and the numbers of the fields, moves, orders, lines, kept commands and
+/// firm orders, as their rows come. The number of a line is ten times that of its order, and its own.
 type Numbers = (
     i64,
     i64,
@@ -37,8 +37,8 @@ static GOOD: Numbers = (
     &[2],
 );
 
-/// Another `desk`; rows out of the order of their keys, and keys that come twice; firm orders that were aborted, that are not there, and that
-/// come twice.
+/// Another `desk`; rows out of the order of their keys, and keys that come twice; firm orders that were aborted, that
+/// are not there, and that come twice.
 fn damaged() -> &'static [Numbers] {
     &DAMAGED
 }

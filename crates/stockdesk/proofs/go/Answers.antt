@@ -1,7 +1,7 @@
 use Rattle.std.proofs.Math.Logic.{inl, inr}
 use Rattle.std.proofs.KnownBytes.{Keeps-refl}
 use Rattle.stockdesk.proofs.PlainRun.{plain_taken}
-use Rattle.stockdesk.proofs.Played.{runs_nothing, told_unbegun}
+use Rattle.stockdesk.proofs.SessionParts.{runs_nothing, told_unbegun}
 use Rattle.stockdesk.proofs.go.Goals as goal
 
 pub returns-in-Ok-None-clause-fault : goal.returns-in-Ok-None-clause-fault

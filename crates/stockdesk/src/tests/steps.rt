@@ -5,8 +5,8 @@ use super::rows::{FIRST, LONG, LONG_REPLIES, SPELLING, SPELLING_REPLIES};
 use std::fs;
 use std::test::Fail;
 
-/// A file; a command on it, with what it reads, the file of requests or the word behind it; the status that it ends with, its output,
-/// and what is told of a fault.
+/// A file; a command on it, with what it reads, the file of requests or the word behind it; the status that it ends
+/// with, its output, and what is told of a fault.
 type Step = (
     &'static str,
     &'static str,

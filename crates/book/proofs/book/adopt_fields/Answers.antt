@@ -1,6 +1,6 @@
 use Rattle.std.proofs.lemmas.List.Sums.{fold-append}
 use Rattle.book.proofs.Prelude.{[], ◌∙◌, ◌∷◌, ap, arith, insert_entry, name_cmp, sym, take, with_entries}
-use Rattle.book.proofs.Walked.{read-step}
+use Rattle.book.proofs.Walks.{read-step}
 use Rattle.book.proofs.book.adopt_fields.Goals as goal
 
 pub put-requires : goal.put-requires

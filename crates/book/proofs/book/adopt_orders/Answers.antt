@@ -1,6 +1,6 @@
 use Rattle.book.proofs.Prelude.{arith}
-use Rattle.book.proofs.Counted.{none_made}
-use Rattle.book.proofs.Putting.{orders_put}
+use Rattle.book.proofs.OpenCount.{none_made}
+use Rattle.book.proofs.OrderEntry.{orders_put}
 use Rattle.book.proofs.book.adopt_orders.Goals as goal
 
 pub returns-in-Some : goal.returns-in-Some

@@ -1,5 +1,5 @@
 use Rattle.book.proofs.Bounds.{inf_is, sup_is}
-use Rattle.book.proofs.Closing.{sounds_from_good}
+use Rattle.book.proofs.Futures.{sounds_from_good}
 use Rattle.book.proofs.laws.bounds_are_held.Goals as goal
 
 pub returns-clause-infimum : goal.returns-clause-infimum

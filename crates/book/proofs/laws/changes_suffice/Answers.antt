@@ -1,4 +1,4 @@
-use Rattle.book.proofs.Changed.{changes_suffice}
+use Rattle.book.proofs.NextContent.{changes_suffice}
 use Rattle.book.proofs.Once.{no_key}
 use Rattle.book.proofs.laws.changes_suffice.Goals as goal
 

@@ -1,4 +1,4 @@
-use Rattle.book.proofs.Closing.{honours_always}
+use Rattle.book.proofs.Futures.{honours_always}
 use Rattle.book.proofs.Once.{honours_if_good}
 use Rattle.book.proofs.laws.good_ledgers_honour.Goals as goal
 

@@ -1,4 +1,4 @@
-use Rattle.book.proofs.Told.{told_by_rows}
+use Rattle.book.proofs.EqualRows.{told_by_rows}
 use Rattle.book.proofs.laws.rows_tell_all.Goals as goal
 
 pub returns : goal.returns

@@ -1,6 +1,6 @@
-use Rattle.book.proofs.Asked.{delivery_test, write_off_test}
-use Rattle.book.proofs.Closing.{sounds_from_good}
-use Rattle.book.proofs.Compared.{line_test, more_test}
+use Rattle.book.proofs.OutcomeTests.{delivery_test, write_off_test}
+use Rattle.book.proofs.Futures.{sounds_from_good}
+use Rattle.book.proofs.Comparisons.{line_test, more_test}
 use Rattle.book.proofs.laws.tests_are_comparisons.Goals as goal
 
 pub returns-clause-deliver : goal.returns-clause-deliver

@@ -1,7 +1,7 @@
 use Rattle.std.specs.Fmt.{digits}
 use Rattle.book.specs.Examples.{firm_order, firm_transfer, long_script, other_bounds, release_and_abort, tight_bounds, transfer}
 use Rattle.book.proofs.Prelude.{new_ledger, refl}
-use Rattle.book.proofs.Played.{plays}
+use Rattle.book.proofs.ScriptPlay.{plays}
 use Rattle.book.proofs.laws.worked_examples_hold.Goals as goal
 
 pub returns-clause-long_script : goal.returns-clause-long_script

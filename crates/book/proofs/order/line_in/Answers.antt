@@ -1,5 +1,5 @@
 use Rattle.book.proofs.Prelude.{sym, ◌∙◌}
-use Rattle.book.proofs.Found.{find-here, find-next}
+use Rattle.book.proofs.FirstMatch.{find-here, find-next}
 use Rattle.book.proofs.order.line_in.Goals as goal
 
 pub returns-then-is_on : goal.returns-then-is_on

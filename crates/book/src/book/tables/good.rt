@@ -2,8 +2,8 @@
 
 ghost use Rattle.book.specs.Good.{IsTransferPair};
 ghost use Rattle.book.specs.Ledger.{line_name, name_cmp, same_name};
-ghost use Rattle.book.specs.Told.{IsMoveByItself, IsOrderByItself};
-ghost use Rattle.book.specs.View.{field_of, kept_of, move_of, order_of};
+ghost use Rattle.book.specs.RowEntries.{IsMoveByItself, IsOrderByItself};
+ghost use Rattle.book.specs.Model.{field_of, kept_of, move_of, order_of};
 ghost use Rattle.escrow.specs.Ranges.{IsLevel};
 ghost use Rattle.std.specs.Cmp.Lexicographic.{slice_cmp};
 ghost use Rattle.std.specs.List.Sorted.{IsStrictlySortedBy};
@@ -166,7 +166,8 @@ pub(super) fn are_orders_good(orders: &[Order]) -> bool
 
 /// Whether the places are 1 to the number of kept keys, each once.
 pub(super) fn are_places_good(alloc: Global, kept: &[(Key, KeptEntry)]) -> Result<bool, Memory>
-    ensures { IfOk result (λ good. IsTrue good ↔ (Each (λ k. (1 ≤ k.place) × (k.place ≤ length kept.now)) (map kept_of kept.now) × IsDistinct nat_eq (map (λ k. k.place) (map kept_of kept.now)))) }
+    ensures { IfOk result (λ good. IsTrue good ↔ (Each (λ k. (1 ≤ k.place) × (k.place ≤ length kept.now))
+        (map kept_of kept.now) × IsDistinct nat_eq (map (λ k. k.place) (map kept_of kept.now)))) }
 {
     let Ok(mut taken) = Vec::from_elem(alloc, false, kept.len() + 1) else {
         return Err(Memory);
@@ -182,7 +183,8 @@ pub(super) fn are_places_good(alloc: Global, kept: &[(Key, KeptEntry)]) -> Resul
 
 /// Whether there is such a place, from 1, and it is not taken.
 fn is_free(taken: &[bool], place: u64) -> bool
-    ensures { IsTrue result ↔ ((1 ≤ place) × (place < length taken.now) × (slice_index_or taken.now place true ≡ false)) }
+    ensures { IsTrue result ↔ ((1 ≤ place) × (place < length taken.now)
+        × (slice_index_or taken.now place true ≡ false)) }
 {
     1 <= place && place < taken.len() as u64 && !taken[place as usize]
 }

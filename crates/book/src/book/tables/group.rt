@@ -7,8 +7,8 @@ ghost use Rattle.std.specs.Ordering.{nat_cmp};
 ghost use Rattle.book.specs.Ledger.{Order};
 ghost use Rattle.book.specs.Rows.{LineCells, lines_from};
 ghost use Rattle.book.specs.Tables.{line_cells};
-ghost use Rattle.book.specs.Told.{AreNumbered, AreOthers, BeginsOther, IsLineTold, TellOrders};
-ghost use Rattle.book.specs.View.{order_of};
+ghost use Rattle.book.specs.RowEntries.{AreNumbered, AreOthers, BeginsOther, IsLineTold, TellOrders};
+ghost use Rattle.book.specs.Model.{order_of};
 ghost use Rattle.book.specs.declared.book.tables.TablesFault.TheVariants as TablesFault;
 ghost use Rattle.book.specs.declared.order.Line.{Line};
 
@@ -64,9 +64,11 @@ fn lines_of_order(
 ) -> Result<Vec<Line>, TablesFault>
     requires { AllZip IsLineTold lines.now rows.now }
     ensures within { IfOk result (λ own. length own.items ≤ length rows.now) }
-    ensures told { IfOk result (λ own. lines_from number 1 own.items ++ map line_cells (drop (length own.items) rows.now) ≡ map line_cells rows.now) }
+    ensures told { IfOk result (λ own. lines_from number 1 own.items ++ map line_cells
+        (drop (length own.items) rows.now) ≡ map line_cells rows.now) }
     ensures end { IfOk result (λ own. BeginsOther number (drop (length own.items) rows.now)) }
-    ensures damaged { IfErr result (λ fault. fault ≡ TablesFault.Damaged → (own : List Line) (rest : List LineCells) → AreOthers number rest → lines_from number 1 own ++ rest ≡ map line_cells rows.now → ⊥) }
+    ensures damaged { IfErr result (λ fault. fault ≡ TablesFault.Damaged → (own : List Line) (rest : List LineCells)
+        → AreOthers number rest → lines_from number 1 own ++ rest ≡ map line_cells rows.now → ⊥) }
 {
     let count = run_length(rows, number);
     if !are_numbered(&rows[..count]) {
@@ -87,7 +89,9 @@ pub(super) fn group(
 ) -> Result<Vec<Order>, TablesFault>
     requires { AllZip IsLineTold lines.now rows.now }
     ensures told { IfOk result (λ orders. TellOrders (map order_of orders.items) heads.now (map line_cells rows.now)) }
-    ensures damaged { IfErr result (λ fault. fault ≡ TablesFault.Damaged → (orders : List Order) → IsStrictlySortedBy nat_cmp (map (λ o. o.number) orders) → TellOrders orders heads.now (map line_cells rows.now) → ⊥) }
+    ensures damaged { IfErr result (λ fault. fault ≡ TablesFault.Damaged → (orders : List Order)
+        → IsStrictlySortedBy nat_cmp (map (λ o. o.number) orders) → TellOrders orders heads.now
+        (map line_cells rows.now) → ⊥) }
 {
     let Ok(mut orders) = Vec::with_capacity(alloc, heads.len()) else {
         return Err(TablesFault::Memory);
@@ -116,7 +120,14 @@ fn behind<T>(items: &[T], start: usize) -> &[T]
 }
 
 fn with_lines(head: &Head, lines: Vec<Line>) -> Order
-    ensures { order_of result ≡ record { number = head.now.number; kind = head.now.kind; until = head.now.until; state = head.now.state; firm = head.now.firm; lines = lines.items } }
+    ensures { order_of result ≡ record {
+      number = head.now.number;
+      kind = head.now.kind;
+      until = head.now.until;
+      state = head.now.state;
+      firm = head.now.firm;
+      lines = lines.items;
+    } }
 {
     let entry = OrderEntry {
         kind: head.kind,

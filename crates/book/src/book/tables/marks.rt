@@ -7,7 +7,7 @@ ghost use Rattle.book.specs.Good.{Good};
 ghost use Rattle.book.specs.Ledger.{Ledger};
 ghost use Rattle.book.specs.Rows.{firm_rows, order_row};
 ghost use Rattle.book.specs.Tables.{firm_cells, order_cells};
-ghost use Rattle.book.specs.Told.{head_row, mark_rows, Marks, TellHeads};
+ghost use Rattle.book.specs.RowEntries.{head_row, mark_rows, Marks, TellHeads};
 ghost use Rattle.book.specs.declared.book.tables.TablesFault.TheVariants as TablesFault;
 ghost use Rattle.book.specs.declared.book.tables.group.Head.{Head};
 
@@ -24,8 +24,11 @@ pub(super) fn read_heads(
     orders: &[OrderRow],
     firms: &[FirmRow],
 ) -> Result<Vec<Head>, TablesFault>
-    ensures told { IfOk result (λ heads. TellHeads heads.items (map order_cells orders.now) (map firm_cells firms.now)) }
-    ensures damaged { IfErr result (λ fault. fault ≡ TablesFault.Damaged → (A : Ledger) → Good A → map order_cells orders.now ≡ map order_row A.orders → map firm_cells firms.now ≡ flat_map firm_rows A.orders → ⊥) }
+    ensures told { IfOk result (λ heads. TellHeads heads.items (map order_cells orders.now)
+        (map firm_cells firms.now)) }
+    ensures damaged { IfErr result (λ fault. fault ≡ TablesFault.Damaged → (A : Ledger) → Good A
+        → map order_cells orders.now ≡ map order_row A.orders → map firm_cells firms.now ≡ flat_map firm_rows A.orders
+        → ⊥) }
 {
     let mut heads: Vec<Head> = read_all(alloc, orders)?;
     if mark(&mut heads, firms) {
@@ -49,7 +52,8 @@ fn is_of(rows: &[FirmRow], place: usize, number: OrderNo) -> bool
 fn mark(heads: &mut [Head], rows: &[FirmRow]) -> bool
     ensures same { map head_row heads.new ≡ map head_row heads.old }
     ensures marked { IsTrue result → flat_map mark_rows heads.new ≡ map firm_cells rows.now }
-    ensures damaged { result ≡ false → (hs : List Head) → IsStrictlySortedBy nat_cmp (map (λ h. h.number) hs) → map head_row hs ≡ map head_row heads.old → flat_map mark_rows hs ≡ map firm_cells rows.now → ⊥ }
+    ensures damaged { result ≡ false → (hs : List Head) → IsStrictlySortedBy nat_cmp (map (λ h. h.number) hs)
+        → map head_row hs ≡ map head_row heads.old → flat_map mark_rows hs ≡ map firm_cells rows.now → ⊥ }
 {
     let mut next = 0;
     for head in heads.iter_mut() {

@@ -1,9 +1,10 @@
-//! What all moves and orders add up to on each of the fields, in one walk over them; whether the fields have these numbers.
+//! What all moves and orders add up to on each of the fields, in one walk over them; whether the fields have these
+//! numbers.
 
 ghost use Rattle.book.specs.Ledger.{line_name, name_cmp, name_of, Name};
 ghost use Rattle.book.specs.Sums.{added, entry_name, field_among, lines_numbers, numbers_on, only_on, part_of_line, AreFieldsInOrder, AreLinesOnFields, AreMovesOnFields, AreOnFields, AreOrdersOnFields, IsField, IsFieldAt};
-ghost use Rattle.book.specs.Told.{HasNumbers, HaveNumbers};
-ghost use Rattle.book.specs.View.{field_of, move_of};
+ghost use Rattle.book.specs.RowEntries.{HasNumbers, HaveNumbers};
+ghost use Rattle.book.specs.Model.{field_of, move_of};
 ghost use Rattle.book.specs.Walk.{most_of_all, plus, IsSmall, most_of_line, most_of_lines, most_of_move, most_of_moves, nothing};
 ghost use Rattle.book.specs.declared.book.tables.sums.Numbers.{Numbers};
 ghost use Rattle.book.specs.declared.limits.TheConstants.{MAX_ORDERS, MAX_PLACES};
@@ -66,7 +67,8 @@ pub(super) fn sums_of(
     requires few_orders { length orders.now ≤ MAX_ORDERS }
     requires short { Each (λ order. length order.1.lines.items ≤ MAX_ORDER_LINES) orders.now }
     ensures there { IfOk result (λ sums. IsSome sums ↔ AreOnFields fields.now moves.now orders.now) }
-    ensures sums { IfOk result (λ sums. IfSome sums (λ numbers. numbers.items ≡ map (λ f. numbers_on moves.now orders.now (field_of f).name) fields.now)) }
+    ensures sums { IfOk result (λ sums. IfSome sums (λ numbers. numbers.items ≡ map
+        (λ f. numbers_on moves.now orders.now (field_of f).name) fields.now)) }
     ensures small { IfOk result (λ sums. IfSome sums (λ numbers. Each (IsSmall most_of_all) numbers.items)) }
 {
     let mut sums = no_sums(alloc, fields)?;
@@ -126,7 +128,8 @@ fn field_index(
     article: Article,
 ) -> Option<usize>
     requires { AreFieldsInOrder fields.now }
-    ensures { let name = name_of branch article in MatchOption result (IsNone (field_among fields.now name)) (IsFieldAt fields.now name) }
+    ensures { let name = name_of branch article in MatchOption result (IsNone (field_among fields.now name))
+        (IsFieldAt fields.now name) }
 {
     match fields.binary_search_by(|entry| compare(entry, branch, article)) {
         Ok(place) => Some(place),
@@ -308,7 +311,8 @@ fn numbers_of(entry: &FieldEntry) -> Numbers
 }
 
 fn are_same(one: &Numbers, other: &Numbers) -> bool
-    ensures { IsTrue result ↔ ((one.now.moved ≡ other.now.moved) × (one.now.takes ≡ other.now.takes) × (one.now.adds ≡ other.now.adds)) }
+    ensures { IsTrue result ↔ ((one.now.moved ≡ other.now.moved) × (one.now.takes ≡ other.now.takes)
+        × (one.now.adds ≡ other.now.adds)) }
 {
     one.moved == other.moved && one.takes == other.takes && one.adds == other.adds
 }
@@ -346,7 +350,8 @@ pub(super) fn are_up_to_date(
     requires amounts { Each (λ entry. IsQty (nat_abs entry.amount)) moves.now }
     requires few_orders { length orders.now ≤ MAX_ORDERS }
     requires short { Each (λ order. length order.1.lines.items ≤ MAX_ORDER_LINES) orders.now }
-    ensures { IfOk result (λ fit. IsTrue fit ↔ (AreOnFields fields.now moves.now orders.now × HaveNumbers (numbers_on moves.now orders.now) fields.now)) }
+    ensures { IfOk result (λ fit. IsTrue fit ↔ (AreOnFields fields.now moves.now orders.now
+        × HaveNumbers (numbers_on moves.now orders.now) fields.now)) }
 {
     match sums_of(alloc, fields, moves, orders)? {
         Some(sums) => Ok(have_numbers(fields, &sums)),

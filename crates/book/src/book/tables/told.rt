@@ -5,7 +5,7 @@ ghost use Rattle.std.specs.List.{AllByRecursion as Each, AllZip};
 ghost use Rattle.escrow.specs.Ranges.{IsLevel, IsMoment};
 ghost use Rattle.book.specs.Ledger.{Name};
 ghost use Rattle.book.specs.Rows.{kind_code, state_code, way_code};
-ghost use Rattle.book.specs.Told.{IsFieldTold, IsHeadTold, IsKeptTold, IsLineTold, IsMoveTold, IsQuantityTold};
+ghost use Rattle.book.specs.RowEntries.{IsFieldTold, IsHeadTold, IsKeptTold, IsLineTold, IsMoveTold, IsQuantityTold};
 ghost use Rattle.escrow.specs.Stock.{Stock};
 ghost use Rattle.book.specs.declared.book.tables.TablesFault.TheVariants as TablesFault;
 ghost use Rattle.book.specs.declared.book.tables.group.Head.{Head};
@@ -34,7 +34,8 @@ pub(super) trait Told<R>: Sized {
     /// What the row tells, where it tells something in range.
     fn read(alloc: Global, row: &R) -> Result<Self, TablesFault>
         ensures told { IfOk result (λ told. is_told told row.now) }
-        ensures damaged { IfErr result (λ fault. fault ≡ TablesFault.Damaged → (told : Self) → is_told told row.now → ⊥) };
+        ensures damaged { IfErr result (λ fault. fault ≡ TablesFault.Damaged → (told : Self) → is_told told row.now
+            → ⊥) };
 }
 
 /// What all the rows tell, each something in range.
@@ -43,7 +44,8 @@ pub(super) fn read_all<R, T: Told<R> + Drop>(
     rows: &[R],
 ) -> Result<Vec<T>, TablesFault>
     ensures told { IfOk result (λ all. AllZip T.is_told all.items rows.now) }
-    ensures damaged { IfErr result (λ fault. fault ≡ TablesFault.Damaged → Each (λ row. (told : T) × T.is_told told row) rows.now → ⊥) }
+    ensures damaged { IfErr result (λ fault. fault ≡ TablesFault.Damaged
+        → Each (λ row. (told : T) × T.is_told told row) rows.now → ⊥) }
 {
     let Ok(mut all) = Vec::with_capacity(alloc, rows.len()) else {
         return Err(TablesFault::Memory);
@@ -65,13 +67,15 @@ pub(super) fn natural(number: i64) -> Option<u64>
 }
 
 fn level(number: i64) -> Option<Level>
-    ensures { MatchOption result ((n : ℕ) → IsLevel n → number ≡ pos n → ⊥) (λ level. IsLevel level × (number ≡ pos level)) }
+    ensures { MatchOption result ((n : ℕ) → IsLevel n → number ≡ pos n → ⊥)
+        (λ level. IsLevel level × (number ≡ pos level)) }
 {
     Level::new(natural(number)?)
 }
 
 pub(super) fn moment(number: i64) -> Option<Moment>
-    ensures { MatchOption result ((n : ℕ) → IsMoment n → number ≡ pos n → ⊥) (λ moment. IsMoment moment × (number ≡ pos moment)) }
+    ensures { MatchOption result ((n : ℕ) → IsMoment n → number ≡ pos n → ⊥)
+        (λ moment. IsMoment moment × (number ≡ pos moment)) }
 {
     Moment::new(natural(number)?)
 }

@@ -1,4 +1,4 @@
-use Rattle.desk.proofs.Resumed.{found_standing, resumed_same}
+use Rattle.desk.proofs.Resumption.{found_standing, resumed_same}
 use Rattle.desk.proofs.laws.resuming_is_invisible.Goals as goal
 
 pub returns-clause-same : goal.returns-clause-same

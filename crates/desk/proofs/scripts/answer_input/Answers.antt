@@ -3,11 +3,11 @@ use Rattle.std.specs.Io.KnownBytes.{Consumes}
 use Rattle.std.proofs.KnownBytes.{Keeps-refl}
 use Rattle.std.proofs.lemmas.List.{length-take}
 use Rattle.std.proofs.lemmas.Result.{on_ok_weaker}
-use Rattle.book.proofs.Tested.{passed_up}
+use Rattle.book.proofs.TestResults.{passed_up}
 use Rattle.desk.specs.Script.{longest_piece}
 use Rattle.desk.specs.declared.scripts.TheConstants.{PIECE}
 use Rattle.desk.proofs.Cuts.{of_error}
-use Rattle.desk.proofs.Standing.{ends_behind, ends_in_piece, ends_unread, ends_whole, may_read, stands_on}
+use Rattle.desk.proofs.ScriptSteps.{ends_behind, ends_in_piece, ends_unread, ends_whole, may_read, stands_on}
 use Rattle.desk.proofs.scripts.answer_input.Goals as goal
 
 pub returns-in_default-clause-cut : goal.returns-in_default-clause-cut

@@ -1,7 +1,7 @@
 -- what was read is answered, and the answers are written
 use Rattle.std.proofs.Common.{◌≡◌, false, IsTrue, length}
 use Rattle.desk.specs.declared.scripts.TheConstants.{PIECE}
-use Rattle.desk.proofs.Standing.{Stands}
+use Rattle.desk.proofs.ScriptSteps.{Stands}
 use Rattle.desk.proofs.scripts.answer_input.Given as goal
 
 abbrev pub invariant-loop-turn : goal.invariant-loop-turn

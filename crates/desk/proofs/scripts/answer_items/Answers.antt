@@ -1,6 +1,6 @@
 use Rattle.std.proofs.Common.{◌≡◌, ◌∙◌, false, rules, sym}
 use Rattle.std.proofs.KnownBytes.{Appends-trans}
-use Rattle.book.proofs.Tested.{passed_up}
+use Rattle.book.proofs.TestResults.{passed_up}
 use Rattle.desk.proofs.Cuts.{cut_at, may_at}
 use Rattle.desk.proofs.Texts.{replies_at}
 use Rattle.desk.proofs.scripts.answer_items.Goals as goal

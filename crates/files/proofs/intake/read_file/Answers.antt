@@ -1,11 +1,11 @@
 use Rattle.std.proofs.Common.{◌≡◌, ◌∙◌, ◌+◌, ◌≤◌, ◌∷◌, [], IfSome, ap, arith, inr, length, length-append, refl, sym}
 use Rattle.csv.specs.Reading.{source_of}
 use Rattle.csv.specs.Records.{fields_of}
-use Rattle.book.proofs.Tested.{passed_up}
+use Rattle.book.proofs.TestResults.{passed_up}
 use Rattle.files.specs.Files.{BeginsFile, FaultsAt, NamesFirst}
 use Rattle.files.specs.declared.fault.FileFault.TheVariants.{Io}
-use Rattle.files.proofs.Admitted.{names_given, names_header, names_none, whole_file}
-use Rattle.files.proofs.Reading.{gave_all, gave_front, gave_more, gave_none}
+use Rattle.files.proofs.NextRecord.{names_given, names_header, names_none, whole_file}
+use Rattle.files.proofs.RecordsSoFar.{gave_all, gave_front, gave_more, gave_none}
 use Rattle.files.proofs.intake.read_file.Goals as goal
 
 pub loop-number-init : goal.loop-number-init

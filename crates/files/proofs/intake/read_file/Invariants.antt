@@ -3,7 +3,7 @@ use Rattle.std.proofs.Common.{◌≡◌, length}
 use Rattle.csv.specs.Reading.{Ready, default_config, source_of}
 use Rattle.csv.specs.declared.reader.Trim.TheVariants as trim
 use Rattle.files.specs.Files.{BeginsFile}
-use Rattle.files.proofs.Reading.{Gave}
+use Rattle.files.proofs.RecordsSoFar.{Gave}
 use Rattle.files.proofs.intake.read_file.Given as goal
 
 abbrev pub invariant-loop-number : goal.invariant-loop-number

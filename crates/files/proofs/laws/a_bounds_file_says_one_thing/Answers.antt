@@ -1,5 +1,5 @@
 use Rattle.files.specs.Bounds.{SayBounds, bounds_header}
-use Rattle.files.proofs.SaidOnce.{bounds_say_one}
+use Rattle.files.proofs.OneMeaning.{bounds_say_one}
 use Rattle.files.proofs.OneReading.{not_both_of_file, one_file, one_number}
 use Rattle.files.proofs.laws.a_bounds_file_says_one_thing.Goals as goal
 

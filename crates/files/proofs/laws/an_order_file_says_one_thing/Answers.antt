@@ -1,5 +1,5 @@
 use Rattle.files.specs.Orders.{SayOrders, order_header}
-use Rattle.files.proofs.SaidOnce.{orders_say_one}
+use Rattle.files.proofs.OneMeaning.{orders_say_one}
 use Rattle.files.proofs.OneReading.{not_both_of_file, one_file, one_number}
 use Rattle.files.proofs.laws.an_order_file_says_one_thing.Goals as goal
 

@@ -1,4 +1,4 @@
-use Rattle.files.proofs.Shown.{spaces_pushed}
+use Rattle.files.proofs.SheetLines.{spaces_pushed}
 use Rattle.files.proofs.sheet.push_spaces.Goals as goal
 
 pub returns : goal.returns

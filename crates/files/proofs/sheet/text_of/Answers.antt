@@ -1,5 +1,5 @@
 use Rattle.std.proofs.Common.{◌∙◌, ◌∷◌, ◌++◌, [], ap, arith}
-use Rattle.files.proofs.Shown.{field_hidden, field_shown, sum_more, text_more, whole_sheet}
+use Rattle.files.proofs.SheetLines.{field_hidden, field_shown, sum_more, text_more, whole_sheet}
 use Rattle.files.proofs.sheet.text_of.Goals as goal
 use Rattle.files.proofs.sheet.text_of.Goals.{in-Some-title+in_ok-push_field, in_default-title}
 

@@ -1,5 +1,5 @@
 use Rattle.std.specs.List.{AllZip}
-use Rattle.files.proofs.Admitted.{file_of}
+use Rattle.files.proofs.NextRecord.{file_of}
 use Rattle.files.proofs.single.read_singles.Goals as goal
 
 pub returns-in-Ok-clause-ok : goal.returns-in-Ok-clause-ok

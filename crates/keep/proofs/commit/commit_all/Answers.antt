@@ -8,7 +8,7 @@ use Rattle.sqlite.proofs.Callers.{survives_begin}
 use Rattle.book.specs.declared.rows.Change.{Change}
 use Rattle.keep.specs.Content.{Holds}
 use Rattle.keep.specs.Transactions.{PutsIn, Committed, AreChanged, with_changes}
-use Rattle.keep.proofs.Leaving.{held_by}
+use Rattle.keep.proofs.Stops.{held_by}
 use Rattle.keep.proofs.commit.commit_all.Goals as goal
 
 on_ok : {U E A B : Type 0} (r : Result U E) → (A → B) → OnOk r A → OnOk r B

@@ -2,8 +2,8 @@ use Rattle.std.proofs.Common.{refl}
 use Rattle.sqlite.specs.Held.{state}
 use Rattle.keep.specs.Schema.{desk_table, no_schema}
 use Rattle.keep.specs.Stages.{with_desk}
-use Rattle.keep.proofs.Making.{made_table}
-use Rattle.keep.proofs.MakingTexts.{desk_means, desk_text}
+use Rattle.keep.proofs.NewTables.{made_table}
+use Rattle.keep.proofs.NewTexts.{desk_means, desk_text}
 use Rattle.keep.proofs.create.create_desk.Goals as goal
 
 pub returns-clause-made : goal.returns-clause-made

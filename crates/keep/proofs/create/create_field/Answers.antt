@@ -2,8 +2,8 @@ use Rattle.std.proofs.Common.{refl}
 use Rattle.sqlite.specs.Held.{state}
 use Rattle.keep.specs.Schema.{field_table}
 use Rattle.keep.specs.Stages.{with_desk, with_field}
-use Rattle.keep.proofs.Making.{made_table}
-use Rattle.keep.proofs.MakingTexts.{field_means, field_text}
+use Rattle.keep.proofs.NewTables.{made_table}
+use Rattle.keep.proofs.NewTexts.{field_means, field_text}
 use Rattle.keep.proofs.create.create_field.Goals as goal
 
 pub returns-clause-made : goal.returns-clause-made

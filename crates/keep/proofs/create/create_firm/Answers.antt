@@ -1,9 +1,9 @@
 use Rattle.std.proofs.Common.{refl}
 use Rattle.sqlite.specs.Held.{state}
 use Rattle.keep.specs.Schema.{desk_schema, firm_table, old_schema}
-use Rattle.keep.proofs.Making.{made_table}
-use Rattle.keep.proofs.MakingTexts.{firm_means, firm_text}
-use Rattle.keep.proofs.Raised.{firm_added}
+use Rattle.keep.proofs.NewTables.{made_table}
+use Rattle.keep.proofs.NewTexts.{firm_means, firm_text}
+use Rattle.keep.proofs.Upgrades.{firm_added}
 use Rattle.keep.proofs.create.create_firm.Goals as goal
 
 pub returns-clause-made : goal.returns-clause-made

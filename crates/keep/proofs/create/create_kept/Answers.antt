@@ -2,8 +2,8 @@ use Rattle.std.proofs.Common.{refl}
 use Rattle.sqlite.specs.Held.{state}
 use Rattle.keep.specs.Schema.{old_schema, kept_table}
 use Rattle.keep.specs.Stages.{with_line}
-use Rattle.keep.proofs.Making.{made_table}
-use Rattle.keep.proofs.MakingTexts.{kept_means, kept_text}
+use Rattle.keep.proofs.NewTables.{made_table}
+use Rattle.keep.proofs.NewTexts.{kept_means, kept_text}
 use Rattle.keep.proofs.create.create_kept.Goals as goal
 
 pub returns-clause-made : goal.returns-clause-made

@@ -2,8 +2,8 @@ use Rattle.std.proofs.Common.{refl}
 use Rattle.sqlite.specs.Held.{state}
 use Rattle.keep.specs.Schema.{line_table}
 use Rattle.keep.specs.Stages.{with_orders, with_line}
-use Rattle.keep.proofs.Making.{made_table}
-use Rattle.keep.proofs.MakingTexts.{line_means, line_text}
+use Rattle.keep.proofs.NewTables.{made_table}
+use Rattle.keep.proofs.NewTexts.{line_means, line_text}
 use Rattle.keep.proofs.create.create_line.Goals as goal
 
 pub returns-clause-made : goal.returns-clause-made

@@ -2,8 +2,8 @@ use Rattle.std.proofs.Common.{refl}
 use Rattle.sqlite.specs.Held.{state}
 use Rattle.keep.specs.Schema.{move_table}
 use Rattle.keep.specs.Stages.{with_field, with_move}
-use Rattle.keep.proofs.Making.{made_table}
-use Rattle.keep.proofs.MakingTexts.{move_means, move_text}
+use Rattle.keep.proofs.NewTables.{made_table}
+use Rattle.keep.proofs.NewTexts.{move_means, move_text}
 use Rattle.keep.proofs.create.create_move.Goals as goal
 
 pub returns-clause-made : goal.returns-clause-made

@@ -2,8 +2,8 @@ use Rattle.std.proofs.Common.{refl}
 use Rattle.sqlite.specs.Held.{state}
 use Rattle.keep.specs.Schema.{orders_table}
 use Rattle.keep.specs.Stages.{with_move, with_orders}
-use Rattle.keep.proofs.Making.{made_table}
-use Rattle.keep.proofs.MakingTexts.{orders_means, orders_text}
+use Rattle.keep.proofs.NewTables.{made_table}
+use Rattle.keep.proofs.NewTexts.{orders_means, orders_text}
 use Rattle.keep.proofs.create.create_orders.Goals as goal
 
 pub returns-clause-made : goal.returns-clause-made

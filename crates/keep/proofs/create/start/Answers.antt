@@ -1,5 +1,5 @@
 use Rattle.sqlite.specs.Held.{state}
-use Rattle.keep.proofs.MakingRow.{started}
+use Rattle.keep.proofs.NewRow.{started}
 use Rattle.keep.proofs.create.start.Goals as goal
 
 pub returns-clause-made : goal.returns-clause-made

@@ -8,7 +8,7 @@ use Rattle.book.specs.Rows.{desk_cmp, field_cmp, move_cmp, order_cmp, line_cmp, 
 use Rattle.book.specs.Tables.{desk_cells, field_cells, move_cells, order_cells, line_cells, kept_cells, firm_cells}
 use Rattle.keep.specs.Columns.{desk_stored, field_stored, move_stored, order_stored, line_stored, kept_stored, firm_stored, desk_columns, field_columns, move_columns, order_columns, line_columns, kept_columns, firm_columns}
 use Rattle.keep.specs.Content.{AreRows, IsContent}
-use Rattle.keep.specs.Loading.{Finds, FindsOver, IsOfAVersion}
+use Rattle.keep.specs.Loads.{Finds, FindsOver, IsOfAVersion}
 use Rattle.keep.proofs.Steps.{finds_then}
 use Rattle.keep.specs.OneContent.{only_content}
 use Rattle.keep.proofs.load.load_all.Goals as goal

@@ -11,7 +11,7 @@ use Rattle.sqlite.specs.Files.{file_state}
 use Rattle.sqlite.specs.Effect.{Database}
 use Rattle.book.specs.Rows.{Content}
 use Rattle.keep.specs.Content.{Holds, IsAmong}
-use Rattle.keep.proofs.Reopened.{found_again, may_after}
+use Rattle.keep.proofs.NextOpen.{found_again, may_after}
 use Rattle.keep.proofs.reopening.cut_and_open.Goals as goal
 
 pub returns-in-Ok-clause-found : goal.returns-in-Ok-clause-found

@@ -4,7 +4,7 @@ use Rattle.sqlite.specs.Files.{file_state}
 use Rattle.sqlite.specs.Effect.{Database}
 use Rattle.keep.specs.Content.{Holds, IsContent, LeavesOnly}
 use Rattle.keep.specs.Old.{HoldsOld, IsOldContent}
-use Rattle.keep.proofs.Reopened.{holds_content, holds_old}
+use Rattle.keep.proofs.NextOpen.{holds_content, holds_old}
 use Rattle.keep.proofs.reopening.open_path.Goals as goal
 
 pub returns-in-Ok-clause-found : goal.returns-in-Ok-clause-found

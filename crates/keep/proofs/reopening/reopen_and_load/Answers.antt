@@ -2,7 +2,7 @@ use Rattle.std.proofs.Math.Logic.{∥∥₁_elim}
 use Rattle.sqlite.specs.Files.{file_state}
 use Rattle.keep.specs.Content.{Holds, LeavesOnly}
 use Rattle.keep.specs.Laws.{holds_tables}
-use Rattle.keep.proofs.Reopened.{which, is_desk, alone_after, if_held}
+use Rattle.keep.proofs.NextOpen.{which, is_desk, alone_after, if_held}
 use Rattle.keep.proofs.reopening.reopen_and_load.Goals as goal
 
 pub returns-clause-found : goal.returns-clause-found

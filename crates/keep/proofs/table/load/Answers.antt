@@ -1,4 +1,4 @@
-use Rattle.keep.proofs.Loaded.{loaded}
+use Rattle.keep.proofs.LoadAnswers.{loaded}
 use Rattle.keep.proofs.table.load.Goals as goal
 
 pub returns-then-are_in_order-clause-found : goal.returns-then-are_in_order-clause-found

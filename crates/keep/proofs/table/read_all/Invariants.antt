@@ -1,7 +1,7 @@
 -- those read so far
 use Rattle.std.proofs.Common.{take}
 use Rattle.std.specs.List.{AllZip}
-use Rattle.keep.specs.Loading.{IsShown}
+use Rattle.keep.specs.Loads.{IsShown}
 use Rattle.keep.proofs.table.read_all.Given as goal
 
 abbrev pub invariant-loop-answer : goal.invariant-loop-answer

@@ -7,10 +7,10 @@ use Rattle.sqlite.proofs.StateLemmas.{survives_then}
 use Rattle.sqlite.proofs.Callers.{survives_begin}
 use Rattle.book.specs.declared.rows.DeskRow.{DeskRow}
 use Rattle.keep.specs.Content.{Holds}
-use Rattle.keep.specs.Raising.{AreRaised, Raised, RaisesIn, with_row}
+use Rattle.keep.specs.UpgradeSteps.{AreRaised, Raised, RaisesIn, with_row}
 use Rattle.sqlite_trees.specs.Tree.{Trees}
-use Rattle.keep.proofs.Leaving.{held_by}
-use Rattle.keep.proofs.Raised.{raises_in}
+use Rattle.keep.proofs.Stops.{held_by}
+use Rattle.keep.proofs.Upgrades.{raises_in}
 use Rattle.keep.proofs.upgrade.raise.Goals as goal
 
 on_ok : {U E A B : Type 0} (r : Result U E) → (A → B) → OnOk r A → OnOk r B

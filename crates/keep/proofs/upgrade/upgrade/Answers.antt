@@ -1,5 +1,5 @@
 use Rattle.sqlite.specs.Held.{state}
-use Rattle.keep.proofs.Raised.{survives_upgrade, upgraded_to}
+use Rattle.keep.proofs.Upgrades.{survives_upgrade, upgraded_to}
 use Rattle.keep.proofs.upgrade.upgrade.Goals as goal
 
 pub returns-in-Ok-clause-made : goal.returns-in-Ok-clause-made

@@ -1,7 +1,7 @@
 use Rattle.std.proofs.lemmas.Result.{on_ok_weaker}
 use Rattle.desk.proofs.Cuts.{of_error}
 use Rattle.keep.specs.Laws.{holds_tables}
-use Rattle.stockdesk.proofs.Played.{starts_part, starts_whole}
+use Rattle.stockdesk.proofs.SessionParts.{starts_part, starts_whole}
 use Rattle.stockdesk.proofs.file.answer.Goals as goal
 
 pub returns-clause-whole : goal.returns-clause-whole

@@ -4,7 +4,7 @@ use Rattle.std.proofs.KnownBytes.{Keeps-refl}
 use Rattle.desk.proofs.Cuts.{of_error}
 use Rattle.stockdesk.specs.Connections.{ServiceInPart}
 use Rattle.stockdesk.specs.Sessions.{IsLeft}
-use Rattle.stockdesk.proofs.Played.{cut_by}
+use Rattle.stockdesk.proofs.SessionParts.{cut_by}
 use Rattle.stockdesk.proofs.loopback.serve.Goals as goal
 
 pub returns-in-Err-clause-cut : goal.returns-in-Err-clause-cut
@@ -19,5 +19,5 @@ returns-clause-cut g c =
     (λ keep. ServiceInPart g.K.Keep c.args.service.now.connections fault keep (g.K.Keep.holds c.args.keep) (g.K.Keep.has_tables c.args.keep) (IsLeft g.K.Keep c.args.keep keep) (g.W.Write.contents c.args.writer.now) (g.W.Write.contents c.serve_desk-ended.new.writer))
     (sym c.into_keep.ensures)
     (inr (cut_by g.K.Keep c.serve_desk-ended.result fault c.serve_desk-ended.new.desk.keep _ c.in-Ok.desk.ledger c.serve_desk-ended.new.desk.ledger _ is
-    opened.good (λ honest. opened.rows (ended.honest honest)) cut ended.desk ended.stopped ended.going ended.keeps)))
+    opened.good (λ honest. opened.rows (ended.honest honest)) cut ended.desk ended.stopped ended.going ended.stored)))
     ended.cut

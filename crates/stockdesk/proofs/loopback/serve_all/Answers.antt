@@ -1,5 +1,5 @@
 use Rattle.std.proofs.Common.{◌∙◌, refl, rules, sym}
-use Rattle.stockdesk.proofs.Connected.{goes_on, serves_none, serves_one, serves_so_far}
+use Rattle.stockdesk.proofs.Connections.{goes_on, serves_none, serves_one, serves_so_far}
 use Rattle.stockdesk.proofs.loopback.serve_all.Goals as goal
 
 pub loop-turn-init : goal.loop-turn-init

@@ -1,6 +1,6 @@
 -- so many connections are served, as they came, and the desk goes on
 use Rattle.std.proofs.Common.{◌≡◌, false}
-use Rattle.stockdesk.proofs.Connected.{ServesFrom}
+use Rattle.stockdesk.proofs.Connections.{ServesFrom}
 use Rattle.stockdesk.proofs.loopback.serve_all.Given as goal
 
 abbrev pub invariant-loop-turn : goal.invariant-loop-turn

@@ -1,5 +1,5 @@
 use Rattle.std.proofs.Common.{refl}
-use Rattle.stockdesk.proofs.Connected.{is_served}
+use Rattle.stockdesk.proofs.Connections.{is_served}
 use Rattle.stockdesk.proofs.loopback.serve_one.Goals as goal
 
 pub returns-clause-served : goal.returns-clause-served

@@ -2,7 +2,7 @@ use Rattle.std.proofs.lemmas.Result.{on_ok_weaker}
 use Rattle.book.specs.Ledger.{new_ledger}
 use Rattle.book.proofs.Runs.{good_new}
 use Rattle.desk.proofs.Cuts.{of_error}
-use Rattle.stockdesk.proofs.Played.{file_untouched, nothing_printed, on_err, on_error, prints_replies, prints_replies_in_part}
+use Rattle.stockdesk.proofs.SessionParts.{file_untouched, nothing_printed, on_err, on_error, prints_replies, prints_replies_in_part}
 use Rattle.stockdesk.specs.declared.session.Fault.{Fault}
 use Rattle.stockdesk.proofs.perform.answer_file.Goals as goal
 

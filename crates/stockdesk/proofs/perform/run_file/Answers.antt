@@ -1,6 +1,6 @@
 use Rattle.std.proofs.lemmas.Result.{on_ok_weaker}
 use Rattle.desk.proofs.Cuts.{of_error}
-use Rattle.stockdesk.proofs.Played.{on_err, on_error, plays_kept, plays_part, plays_whole, script_untouched}
+use Rattle.stockdesk.proofs.SessionParts.{on_err, on_error, plays_kept, plays_part, plays_whole, script_untouched}
 use Rattle.stockdesk.proofs.perform.run_file.Goals as goal
 
 pub returns-in_err-keep-clause-beginning : goal.returns-in_err-keep-clause-beginning

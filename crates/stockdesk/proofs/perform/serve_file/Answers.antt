@@ -1,7 +1,7 @@
 use Rattle.std.proofs.lemmas.Result.{on_ok_weaker}
 use Rattle.desk.proofs.Cuts.{of_error}
-use Rattle.stockdesk.proofs.Connected.{port_unwritten, service_untouched, tells_port, tells_port_in_part}
-use Rattle.stockdesk.proofs.Played.{on_err, on_error}
+use Rattle.stockdesk.proofs.Connections.{port_unwritten, service_untouched, tells_port, tells_port_in_part}
+use Rattle.stockdesk.proofs.SessionParts.{on_err, on_error}
 use Rattle.stockdesk.specs.declared.session.Fault.{Fault}
 use Rattle.stockdesk.proofs.perform.serve_file.Goals as goal
 

@@ -2,7 +2,7 @@ use Rattle.std.proofs.Math.Logic.{inl}
 use Rattle.std.proofs.KnownBytes.{Appends-kept, Appends-nil}
 use Rattle.std.proofs.lemmas.Result.{on_ok_weaker}
 use Rattle.desk.proofs.Cuts.{of_error}
-use Rattle.stockdesk.proofs.Played.{on_err, on_error, prints_sheet, prints_sheet_in_part, sheet_untouched}
+use Rattle.stockdesk.proofs.SessionParts.{on_err, on_error, prints_sheet, prints_sheet_in_part, sheet_untouched}
 use Rattle.stockdesk.specs.declared.session.Fault.{Fault}
 use Rattle.stockdesk.proofs.perform.show_file.Goals as goal
 

@@ -4,7 +4,7 @@ use Rattle.std.proofs.KnownBytes.{Keeps-refl}
 use Rattle.desk.proofs.Cuts.{of_error}
 use Rattle.stockdesk.specs.Requests.{FileInPart}
 use Rattle.stockdesk.specs.Sessions.{IsLeft}
-use Rattle.stockdesk.proofs.Played.{cut_by}
+use Rattle.stockdesk.proofs.SessionParts.{cut_by}
 use Rattle.stockdesk.proofs.requests.answer.Goals as goal
 
 pub returns-in-Err-clause-cut : goal.returns-in-Err-clause-cut
@@ -19,5 +19,5 @@ returns-clause-cut g c =
     (λ keep. FileInPart g.K.Keep fault keep (g.K.Keep.holds c.args.keep) (g.K.Keep.has_tables c.args.keep) (IsLeft g.K.Keep c.args.keep keep) (g.W.Write.contents c.args.writer.now) (g.W.Write.contents c.answer_file-ended.new.writer))
     (sym c.into_keep.ensures)
     (inr (cut_by g.K.Keep c.answer_file-ended.result fault c.answer_file-ended.new.desk.keep _ c.in-Ok.desk.ledger c.answer_file-ended.new.desk.ledger _ is
-    opened.good (λ honest. opened.rows (ended.honest honest)) cut ended.desk ended.stopped (λ other. ended.going other ∙ opened.going) ended.keeps)))
+    opened.good (λ honest. opened.rows (ended.honest honest)) cut ended.desk ended.stopped (λ other. ended.going other ∙ opened.going) ended.stored)))
     (ended.cut opened.going)

@@ -1,5 +1,5 @@
 use Rattle.std.proofs.Common.{refl}
-use Rattle.web.proofs.Answered.{nothing_done}
+use Rattle.web.proofs.CommandAnswers.{nothing_done}
 use Rattle.web.proofs.calls.answer_ask.Goals as goal
 
 pub returns-in-Err : goal.returns-in-Err

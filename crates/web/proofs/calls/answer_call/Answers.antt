@@ -1,7 +1,7 @@
 use Rattle.std.proofs.Common.{Err, ap, refl}
 use Rattle.words.specs.declared.reply.Reply.TheVariants.{Done, Refused}
 use Rattle.web.specs.declared.ask.Ask.TheVariants as ask
-use Rattle.web.proofs.Answered.{carried_out, halted_before, halted_now, nothing_done, replied}
+use Rattle.web.proofs.CommandAnswers.{carried_out, halted_before, halted_now, nothing_done, replied}
 use Rattle.web.proofs.calls.answer_call.Goals as goal
 
 pub returns-in-Ok-Again-clause-answers : goal.returns-in-Ok-Again-clause-answers

@@ -6,7 +6,7 @@ use Rattle.web.specs.declared.ask.Ask.{Ask}
 use Rattle.web.specs.declared.ask.Ask.TheVariants as ask
 use Rattle.web.specs.declared.fixed.Fixed.TheVariants as fixed
 use Rattle.web.specs.declared.fixed.Ready.TheVariants as ready
-use Rattle.web.proofs.Shown.{always_given}
+use Rattle.web.proofs.ViewAnswers.{always_given}
 use Rattle.web.proofs.calls.answer_view.Goals as goal
 
 pub returns-in-BadCall : goal.returns-in-BadCall

@@ -1,6 +1,6 @@
 use Rattle.std.proofs.Common.{refl}
 use Rattle.web.specs.Answers.{memory_answer}
-use Rattle.web.proofs.Answered.{asked, unasked}
+use Rattle.web.proofs.CommandAnswers.{asked, unasked}
 use Rattle.web.proofs.connection.ready_for.Goals as goal
 
 pub returns-in-Ok-clause-answers : goal.returns-in-Ok-clause-answers

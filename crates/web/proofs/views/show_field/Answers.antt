@@ -2,7 +2,7 @@ use Rattle.std.proofs.Common.{◌∙◌, refl, sym}
 use Rattle.web.specs.Answers.{answer_bytes, json_answer, none_answer}
 use Rattle.web.specs.Objects.{field_object}
 use Rattle.web.specs.declared.ask.Ask.TheVariants as ask
-use Rattle.web.proofs.Shown.{going_given, no_field, some_field, stopped_given}
+use Rattle.web.proofs.ViewAnswers.{going_given, no_field, some_field, stopped_given}
 use Rattle.web.proofs.views.show_field.Goals as goal
 
 pub returns-then-is_stopped : goal.returns-then-is_stopped

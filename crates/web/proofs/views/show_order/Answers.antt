@@ -1,7 +1,7 @@
 use Rattle.std.proofs.Common.{◌∙◌, refl, sym}
 use Rattle.web.specs.Answers.{answer_bytes, none_answer}
 use Rattle.web.specs.declared.ask.Ask.TheVariants as ask
-use Rattle.web.proofs.Shown.{going_given, no_order, some_order, stopped_given}
+use Rattle.web.proofs.ViewAnswers.{going_given, no_order, some_order, stopped_given}
 use Rattle.web.proofs.views.show_order.Goals as goal
 
 pub returns-then-is_stopped : goal.returns-then-is_stopped

@@ -1,6 +1,6 @@
 use Rattle.std.proofs.Common.{◌∙◌, refl, sym}
 use Rattle.web.specs.declared.ask.Ask.TheVariants as ask
-use Rattle.web.proofs.Shown.{some_sheet_given, stopped_given}
+use Rattle.web.proofs.ViewAnswers.{some_sheet_given, stopped_given}
 use Rattle.web.proofs.views.show_sheet.Goals as goal
 
 pub returns-then-is_stopped : goal.returns-then-is_stopped

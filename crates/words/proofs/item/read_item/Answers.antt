@@ -1,6 +1,6 @@
 use Rattle.std.proofs.Common.{arith}
 use Rattle.words.proofs.ByItem.{says_none}
-use Rattle.words.proofs.Spaced.{line_of}
+use Rattle.words.proofs.LineWords.{line_of}
 use Rattle.words.proofs.item.read_item.Goals as goal
 
 pub returns-in-Some-clause-item : goal.returns-in-Some-clause-item

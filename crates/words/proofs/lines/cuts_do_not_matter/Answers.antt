@@ -1,4 +1,4 @@
-use Rattle.words.proofs.Cutting.{feeds_joined}
+use Rattle.words.proofs.TwoPieces.{feeds_joined}
 use Rattle.words.proofs.OneFeed.{feeds_one, feeds_some_items}
 use Rattle.words.proofs.lines.cuts_do_not_matter.Goals as goal
 

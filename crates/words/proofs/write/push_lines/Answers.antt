@@ -1,4 +1,4 @@
-use Rattle.words.proofs.Written.{lines_more}
+use Rattle.words.proofs.WordRows.{lines_more}
 use Rattle.words.proofs.write.push_lines.Goals as goal
 
 pub loop-line-preserved : goal.loop-line-preserved

@@ -1,6 +1,6 @@
 use Rattle.std.proofs.Common.{◌∷◌, arith, codes, decimal}
 use Rattle.words.specs.OpenLines.{line_words}
-use Rattle.words.proofs.Written.{spaced-after}
+use Rattle.words.proofs.WordRows.{spaced-after}
 use Rattle.words.proofs.write.push_opening.Goals as goal
 
 pub returns-in-Open : goal.returns-in-Open

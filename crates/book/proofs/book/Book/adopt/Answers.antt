@@ -1,8 +1,8 @@
 use Rattle.book.proofs.Prelude.{◌+◌, ◌∙◌, ◌≡◌, BookView, Done, Each, Good, IsAccepted, IsInRange, IsKey, IsUpToDate, Ledger, None, accept, ap, article_total, field_of, kept_under, ledger_of, map, open_orders, places, rules, subst, sym, with_entries}
 use Rattle.book.specs.After.{move_made}
-use Rattle.book.proofs.Closing.{honours_always}
+use Rattle.book.proofs.Futures.{honours_always}
 use Rattle.book.proofs.Goodness.{good_accept}
-use Rattle.book.proofs.Running.{adopted}
+use Rattle.book.proofs.RunningNumbers.{adopted}
 use Rattle.book.proofs.Transfers.{total_answer}
 use Rattle.book.proofs.Once.{accepted_answered, honours_if_good, no_key}
 use Rattle.book.proofs.book.Book.adopt.Goals as goal

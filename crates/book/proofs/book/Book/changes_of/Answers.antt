@@ -1,7 +1,7 @@
 use Rattle.book.proofs.Prelude.{[], ◌++◌, ◌∙◌, ◌∷◌, ◌≤◌, Change, IsShort, List, MAX_PLACES, aborted_rows, ap, flat_map, of_numbered, rows_among, subst, sym, with_orders, ℕ}
 use Rattle.book.specs.Tables.{desk_cells}
 use Rattle.book.specs.declared.rows.Change.TheVariants.{Desk}
-use Rattle.book.proofs.Made.{made_short}
+use Rattle.book.proofs.CommandOrder.{made_short}
 use Rattle.book.proofs.NextRows.{changes_to, place_fits, placed, rows_in_turn}
 use Rattle.book.proofs.book.Book.changes_of.Goals as goal
 

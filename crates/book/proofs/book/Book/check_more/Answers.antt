@@ -1,5 +1,5 @@
 use Rattle.book.proofs.Prelude.{◌∙◌, arith, field_of, name_of, order_of, sym}
-use Rattle.book.proofs.Checked.{more_decides, no}
+use Rattle.book.proofs.CheckAnswers.{more_decides, no}
 use Rattle.book.proofs.book.Book.check_more.Goals as goal
 
 pub returns : goal.returns

@@ -1,5 +1,5 @@
 use Rattle.book.proofs.Prelude.{◌∙◌, sym}
-use Rattle.book.proofs.Checked.{full_decides, moving_decides, no}
+use Rattle.book.proofs.CheckAnswers.{full_decides, moving_decides, no}
 use Rattle.book.proofs.book.Book.check_moving.Goals as goal
 
 pub returns-then-is_full : goal.returns-then-is_full

@@ -1,5 +1,5 @@
 use Rattle.book.proofs.Prelude.{◌∙◌, [], Ledger, line_checks, new_order, order_checks, sym}
-use Rattle.book.proofs.Checked.{cut_off, go_on}
+use Rattle.book.proofs.CheckAnswers.{cut_off, go_on}
 use Rattle.book.proofs.book.Book.check_open.Goals as goal
 
 pub returns-then-is_some : goal.returns-then-is_some

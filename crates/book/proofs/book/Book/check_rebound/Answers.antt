@@ -1,5 +1,5 @@
 use Rattle.book.proofs.Prelude.{inr, true≢false}
-use Rattle.book.proofs.Checked.{no}
+use Rattle.book.proofs.CheckAnswers.{no}
 use Rattle.book.proofs.book.Book.check_rebound.Goals as goal
 
 pub returns-in-Some : goal.returns-in-Some

@@ -1,6 +1,6 @@
 use Rattle.std.proofs.lemmas.List.Sorted.{IsNonDecreasingBy-from_sort}
 use Rattle.book.proofs.Prelude.{◌∙◌, BookView, Command, IsPermutation, List, ap, expired_numbers, expires, filter, map, subst, sym, ℕ}
-use Rattle.book.proofs.Expiring.{numbers_sorted}
+use Rattle.book.proofs.ExpiredOrders.{numbers_sorted}
 use Rattle.book.proofs.book.Book.expired.Goals as goal
 
 pub returns : goal.returns

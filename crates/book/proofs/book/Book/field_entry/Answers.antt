@@ -1,5 +1,5 @@
 use Rattle.book.proofs.Prelude.{◌≡◌, Bor, Each, Field, FieldEntry, IfSome, IsUpToDate, Ledger, List, MatchOption, Name, None, Option, Some, arith, field_of, is_at, ledger_of, lookup, name_cmp, name_of, option_copied, option_map, sym}
-use Rattle.book.proofs.Keyed.{field_found}
+use Rattle.book.proofs.KeyEntries.{field_found}
 use Rattle.book.proofs.ChangedFields.{each_at_name}
 use Rattle.book.proofs.book.Book.field_entry.Goals as goal
 

@@ -1,5 +1,5 @@
 use Rattle.book.proofs.Prelude.{◌∙◌, ap, is_at, line_name, lookup, name_cmp, option_copied, sym}
-use Rattle.book.proofs.GivingBack.{from_book, from_entries}
+use Rattle.book.proofs.Returns.{from_book, from_entries}
 use Rattle.book.proofs.book.Book.field_so_far.Goals as goal
 
 pub returns-in-Some : goal.returns-in-Some

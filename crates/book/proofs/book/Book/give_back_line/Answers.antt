@@ -1,6 +1,6 @@
 use Rattle.book.proofs.Prelude.{◌∙◌, ◌≤◌, ap, giving_back, held_of, insert_entry, name_cmp, subst, sym}
 use Rattle.book.proofs.ChangedFields.{on_ok_both}
-use Rattle.book.proofs.GivingBack.{held_there, line_given}
+use Rattle.book.proofs.Returns.{held_there, line_given}
 use Rattle.book.proofs.book.Book.give_back_line.Goals as goal
 
 pub give_back-requires : goal.give_back-requires

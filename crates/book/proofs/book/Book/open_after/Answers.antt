@@ -1,5 +1,5 @@
 use Rattle.book.proofs.Prelude.{ap, arith, option_map, order_of}
-use Rattle.book.proofs.Counted.{made_seen, unmade_seen}
+use Rattle.book.proofs.OpenCount.{made_seen, unmade_seen}
 use Rattle.book.proofs.book.Book.open_after.Goals as goal
 
 pub overflow_sub-result : goal.overflow_sub-result

@@ -1,9 +1,9 @@
 use Rattle.book.proofs.Prelude.{◌∙◌, ◌≡◌, Command, GivesBack, Good, Ledger, Line, List, MayGiveBack, ap, arith, changes_field, expired_lines, expired_numbers, expires, flat_map, name_of, of_numbered, subst, sym, ℕ}
 use Rattle.words.specs.declared.command.Command.TheVariants as command
 use Rattle.book.proofs.ChangedFields.{on_ok}
-use Rattle.book.proofs.Expiring.{numbered_flat}
+use Rattle.book.proofs.ExpiredOrders.{numbered_flat}
 use Rattle.book.proofs.FieldRows.{expired_rows, lines_rows, moving, moving_rows, new_rows, one_row}
-use Rattle.book.proofs.GivingBack.{may_all}
+use Rattle.book.proofs.Returns.{may_all}
 use Rattle.book.proofs.book.Book.put_changed.Goals as goal
 
 pub put_moved-requires : goal.put_moved-requires

@@ -1,5 +1,5 @@
 use Rattle.book.proofs.Prelude.{GivesBack, Ledger, Line, List, flat_map, of_numbered, subst, sym, take}
-use Rattle.book.proofs.Expiring.{flat_next, may_next}
+use Rattle.book.proofs.ExpiredOrders.{flat_next, may_next}
 use Rattle.book.proofs.book.Book.put_expired.Goals as goal
 
 pub give_back_order-requires : goal.give_back_order-requires

@@ -1,7 +1,7 @@
 use Rattle.book.proofs.Prelude.{◌∙◌, Contains, Ledger, Name, Order, ap, field_of, find, insert_entry, is_some, line_name, name_cmp, order_of, same_name, subst, sym, true≢false}
 use Rattle.book.proofs.ChangedFields.{line_there, made_keeps, number_of_made, on_ok}
 use Rattle.book.proofs.StockChanges.{stock_changed, stock_may}
-use Rattle.book.proofs.Viewed.{Contains-of_find}
+use Rattle.book.proofs.ShownNumbers.{Contains-of_find}
 use Rattle.book.proofs.book.Book.put_line.Goals as goal
 
 pub unreachable-requires : goal.unreachable-requires

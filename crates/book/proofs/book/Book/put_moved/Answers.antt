@@ -1,7 +1,7 @@
 use Rattle.book.proofs.Prelude.{◌∙◌, Contains, Ledger, accept, ap, field_of, find, refl, same_name, subst, sym}
 use Rattle.book.proofs.ChangedFields.{on_ok}
 use Rattle.book.proofs.StockChanges.{value_may, value_moved}
-use Rattle.book.proofs.Viewed.{Contains-of_find}
+use Rattle.book.proofs.ShownNumbers.{Contains-of_find}
 use Rattle.book.proofs.book.Book.put_moved.Goals as goal
 
 pub move_value-requires : goal.move_value-requires

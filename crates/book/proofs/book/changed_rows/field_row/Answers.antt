@@ -1,5 +1,5 @@
 use Rattle.book.proofs.Prelude.{arith, ints, pos}
-use Rattle.book.proofs.Running.{entry_cells_are, greatest_is, least_is}
+use Rattle.book.proofs.RunningNumbers.{entry_cells_are, greatest_is, least_is}
 use Rattle.book.proofs.book.changed_rows.field_row.Goals as goal
 
 pub returns : goal.returns

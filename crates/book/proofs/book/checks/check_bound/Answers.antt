@@ -1,5 +1,5 @@
 use Rattle.book.proofs.Prelude.{Refusal, Some, ap, inl, inr, refl, sym, true≢false}
-use Rattle.book.proofs.Running.{grants, refuses}
+use Rattle.book.proofs.RunningNumbers.{grants, refuses}
 use Rattle.book.proofs.book.checks.check_bound.Goals as goal
 
 pub returns-in-Ok : goal.returns-in-Ok

@@ -1,6 +1,6 @@
 use Rattle.book.proofs.Prelude.{arith, inl, inr, ints, refl, subst}
 use Rattle.escrow.specs.Escrow.{RefusesBounds}
-use Rattle.book.proofs.Checked.{bounds_decide}
+use Rattle.book.proofs.CheckAnswers.{bounds_decide}
 use Rattle.book.proofs.book.checks.check_bounds.Goals as goal
 
 pub returns-in-Ok : goal.returns-in-Ok

@@ -1,5 +1,5 @@
 use Rattle.book.proofs.Prelude.{Refusal, Some, ap, inl, inr, refl, sym, true≢false}
-use Rattle.book.proofs.Running.{grants, held_if_moved, moved_if_held, refuses, stock_safe}
+use Rattle.book.proofs.RunningNumbers.{grants, held_if_moved, moved_if_held, refuses, stock_safe}
 use Rattle.book.proofs.book.checks.check_moved.Goals as goal
 
 pub returns-in-Ok : goal.returns-in-Ok

@@ -1,5 +1,5 @@
 use Rattle.book.proofs.Prelude.{◌∙◌, Name, ap, arith, is_some, name_of, new_line, on, sym}
-use Rattle.book.proofs.Found.{find-all, find-here, find-map-none, find-map-some, find-next}
+use Rattle.book.proofs.FirstMatch.{find-all, find-here, find-map-none, find-map-some, find-next}
 use Rattle.book.proofs.book.checks.has_line_on.Goals as goal
 
 pub returns-then-is_line_on : goal.returns-then-is_line_on

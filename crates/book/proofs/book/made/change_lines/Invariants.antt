@@ -1,6 +1,6 @@
 -- the lines so far are changed
 use Rattle.book.proofs.Prelude.{◌||◌, ◌≡◌, changed_line, if◌then◌else◌, name_of, on}
-use Rattle.book.proofs.Walking.{walked}
+use Rattle.book.proofs.WalksInPlace.{walked}
 use Rattle.book.proofs.book.made.change_lines.Given as goal
 
 abbrev pub invariant-loop-line : goal.invariant-loop-line

@@ -1,7 +1,7 @@
 use Rattle.book.proofs.Prelude.{◌↔◌, AreOnFields, HaveNumbers, IfOk, IfOk-weaker, IsTrue, IsWhole, arith, common_steps, ints, move_of, numbers_on, told_ledger}
 use Rattle.book.proofs.Lists.{each-unmap, length-of-map}
 use Rattle.book.proofs.Sums.{each-imp}
-use Rattle.book.proofs.Whole.{few_moves_if_whole, good_iff}
+use Rattle.book.proofs.JudgedLedger.{few_moves_if_whole, good_iff}
 use Rattle.book.proofs.book.tables.are_good.Goals as goal
 
 whole : (c : goal.After-deref-3) → IsWhole (told_ledger c.args.entries.now)

@@ -1,7 +1,7 @@
 use Rattle.book.proofs.Prelude.{◌+ℤ◌, ◌-ℤ◌, ◌∙◌, ◌≡◌, Field, FieldCells, IsInfimum, IsSupremum, ap, field_of, held_to_add, held_to_take, pos, refl, settled, subst, sym}
 use Rattle.book.proofs.Bounds.{inf_is, sup_is}
-use Rattle.book.proofs.Closing.{sounds_from_good}
-use Rattle.book.proofs.Running.{greatest_is, least_is}
+use Rattle.book.proofs.Futures.{sounds_from_good}
+use Rattle.book.proofs.RunningNumbers.{greatest_is, least_is}
 use Rattle.book.proofs.book.views.show.Goals as goal
 
 pub returns : goal.returns

@@ -2,7 +2,7 @@ use Rattle.std.proofs.Common.{◌≡◌, ◌∙◌, false, ap, subst, sym}
 use Rattle.book.specs.Next.{accept}
 use Rattle.book.specs.Plans.{Fits}
 use Rattle.desk.specs.Desk.{LeavesEither}
-use Rattle.desk.proofs.Kept.{keeps_next, leaves_either}
+use Rattle.desk.proofs.NextRows.{stored_next, leaves_either}
 use Rattle.desk.proofs.desk.Desk.carry_out.Goals as goal
 
 pub returns-in_default-commit-clause-either : goal.returns-in_default-commit-clause-either
@@ -13,19 +13,19 @@ returns-in_default-commit-clause-either g c e honest =
     (leaves_either c.self.inside.book.ledger c.args.plan c.changes.result.now c.self.invariant.good c.requires.key c.requires.command
     (subst (λ A. Fits A c.args.plan) same c.requires.fits) c.changes.ensures
     (g.K.Keep.holds c.self.inside.keep) (g.K.Keep.leaves c.self.inside.keep) (g.K.Keep.leaves c.commit.new.self)
-    (c.self.invariant.keeps going (c.commit.ensures.honest honest)) (c.commit.ensures.either honest going))
+    (c.self.invariant.stored going (c.commit.ensures.honest honest)) (c.commit.ensures.either honest going))
 
-pub returns-clause-kept : goal.returns-clause-kept
-returns-clause-kept g c honest =
+pub returns-clause-lasting : goal.returns-clause-lasting
+returns-clause-lasting g c honest =
     let same : c.args.self.now.ledger ≡ c.self.inside.book.ledger = sym (ap (λ d. d.ledger) c.self.view_is) in
     let going : g.K.Keep.stopped c.self.inside.keep ≡ false = subst (λ k. g.K.Keep.stopped k ≡ false) (sym (ap (λ d. d.keep) c.self.view_is)) c.requires.going in
-    keeps_next c.self.inside.book.ledger c.adopt.new.self.ledger c.args.plan c.changes.result.now c.self.invariant.good c.requires.key c.requires.command
+    stored_next c.self.inside.book.ledger c.adopt.new.self.ledger c.args.plan c.changes.result.now c.self.invariant.good c.requires.key c.requires.command
     (subst (λ A. Fits A c.args.plan) same c.requires.fits) c.changes.ensures (c.adopt.ensures.next ∙ ap (λ A. accept A c.args.plan.request) c.make_room.ensures.same)
     (g.K.Keep.holds c.self.inside.keep) (g.K.Keep.holds c.commit.new.self) (g.K.Keep.leaves c.self.inside.keep) (g.K.Keep.leaves c.commit.new.self)
-    (c.self.invariant.keeps going (c.commit.ensures.honest honest)) (c.in-Ok-commit.ensures.put honest) (c.in-Ok-commit.ensures.alone honest)
+    (c.self.invariant.stored going (c.commit.ensures.honest honest)) (c.in-Ok-commit.ensures.put honest) (c.in-Ok-commit.ensures.alone honest)
 
-pub returns-clause-keeps : goal.returns-clause-keeps
-returns-clause-keeps g c going honest = returns-clause-kept g c honest
+pub returns-clause-stored : goal.returns-clause-stored
+returns-clause-stored g c going honest = returns-clause-lasting g c honest
 
 pub invariant_of-self-2 : goal.invariant_of-self-2
-invariant_of-self-2 g c = record { good = c.adopt.ensures.good; keeps = λ going honest. returns-clause-kept g c honest }
+invariant_of-self-2 g c = record { good = c.adopt.ensures.good; stored = λ going honest. returns-clause-lasting g c honest }

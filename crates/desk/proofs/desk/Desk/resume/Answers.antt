@@ -3,7 +3,7 @@ use Rattle.std.proofs.Math.Seq.{take-length}
 use Rattle.std.proofs.lemmas.List.{length-drop}
 use Rattle.words.specs.declared.command.Request.{Request}
 use Rattle.desk.specs.declared.run.Ending.TheVariants.{All, Stopped}
-use Rattle.desk.proofs.Resumed.{all_of, is_whole, leaves_resumable, not_all, resumes}
+use Rattle.desk.proofs.Resumption.{all_of, is_whole, leaves_resumable, not_all, resumes}
 use Rattle.desk.proofs.desk.Desk.resume.Goals as goal
 
 -- a slice up to the end

@@ -1,7 +1,7 @@
 use Rattle.std.proofs.Common.{◌≡◌, ◌∙◌, sym, true≢false}
 use Rattle.std.proofs.lemmas.Slice.Eq.{bytes_eq-Decides}
 use Rattle.csv.specs.Records.{fields_of}
-use Rattle.files.proofs.Taking.{no_line_more, no_row, took_first, took_line, took_next}
+use Rattle.files.proofs.OrdersSoFar.{no_line_more, no_row, took_first, took_line, took_next}
 use Rattle.files.proofs.Zips.{ok_imp}
 use Rattle.files.proofs.orders.OrdersIntake.take.Goals as goal
 

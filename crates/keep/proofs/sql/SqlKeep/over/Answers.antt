@@ -1,6 +1,6 @@
 use Rattle.std.proofs.Common.{◌∙◌, IsTrue, ap, not, sym}
 use Rattle.sqlite.specs.Held.{state}
-use Rattle.keep.proofs.Leaving.{leaves_now}
+use Rattle.keep.proofs.Stops.{leaves_now}
 use Rattle.keep.proofs.sql.SqlKeep.over.Goals as goal
 
 pub returns-clause-alone : goal.returns-clause-alone

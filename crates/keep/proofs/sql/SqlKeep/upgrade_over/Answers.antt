@@ -1,7 +1,7 @@
 use Rattle.std.proofs.Common.{refl}
 use Rattle.std.proofs.lemmas.Result.{on_ok_weaker}
 use Rattle.sqlite.specs.Held.{state}
-use Rattle.keep.proofs.Leaving.{settled_if}
+use Rattle.keep.proofs.Stops.{settled_if}
 use Rattle.keep.proofs.Schemas.{has_firm, nameless, old_names}
 use Rattle.keep.proofs.sql.SqlKeep.upgrade_over.Goals as goal
 

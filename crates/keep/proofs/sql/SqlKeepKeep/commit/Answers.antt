@@ -1,7 +1,7 @@
 use Rattle.std.proofs.Common.{◌≡◌, [], ◌∷◌, ap, subst, sym}
 use Rattle.sqlite.specs.Held.{state}
 use Rattle.keep.specs.Content.{Holds, LeavesOnly}
-use Rattle.keep.proofs.Leaving.{put_if, alone_if, leaves_either}
+use Rattle.keep.proofs.Stops.{put_if, alone_if, leaves_either}
 use Rattle.keep.proofs.sql.SqlKeepKeep.commit.Goals as goal
 
 pub returns-clause-put : goal.returns-clause-put

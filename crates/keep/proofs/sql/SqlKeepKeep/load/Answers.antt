@@ -1,6 +1,6 @@
 use Rattle.std.proofs.Common.{◌≡◌, ap}
 use Rattle.sqlite.specs.Held.{state}
-use Rattle.keep.proofs.Leaving.{settled_if, stopped_over}
+use Rattle.keep.proofs.Stops.{settled_if, stopped_over}
 use Rattle.keep.proofs.sql.SqlKeepKeep.load.Goals as goal
 
 pub returns-clause-one : goal.returns-clause-one

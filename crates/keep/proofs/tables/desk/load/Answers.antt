@@ -1,7 +1,7 @@
 use Rattle.std.proofs.lemmas.Int.{to_z-of_z}
 use mir.Syntax.{w64}
 use Rattle.sqlite.specs.Held.{state}
-use Rattle.keep.proofs.DeskLoaded.{version_if, found_if, none_if}
+use Rattle.keep.proofs.DeskAnswer.{version_if, found_if, none_if}
 use Rattle.keep.proofs.tables.desk.load.Goals as goal
 
 pub returns-clause-version : goal.returns-clause-version

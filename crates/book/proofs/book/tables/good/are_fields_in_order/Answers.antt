@@ -1,5 +1,5 @@
 use Rattle.book.proofs.Prelude.{◌≡◌, Bool, Field, FieldEntry, Name, always_returns_same, field_of, is_lt, name_cmp, of_calls, refl, rules}
-use Rattle.book.proofs.Staying.{name_cmp_total}
+use Rattle.book.proofs.GoodParts.{name_cmp_total}
 use Rattle.book.proofs.InRow.{in_order}
 use Rattle.book.proofs.book.tables.good.are_fields_in_order.Goals as goal
 

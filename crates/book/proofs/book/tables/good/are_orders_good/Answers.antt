@@ -1,8 +1,8 @@
 use Rattle.book.proofs.Prelude.{IsOrderByItself, arith, order_of}
 use Rattle.book.proofs.Lists.{each-unmap}
 use Rattle.book.proofs.Sums.{each-map}
-use Rattle.book.proofs.Tested.{no, true_not_false, yes}
-use Rattle.book.proofs.Walked.{each-at, each-end, each-next}
+use Rattle.book.proofs.TestResults.{no, true_not_false, yes}
+use Rattle.book.proofs.Walks.{each-at, each-end, each-next}
 use Rattle.book.proofs.book.tables.good.are_orders_good.Goals as goal
 
 pub loop-order-preserved : goal.loop-order-preserved

@@ -1,6 +1,6 @@
 use Rattle.book.proofs.Prelude.{◌≡◌, Bool, Order, OrderEntry, always_returns_same, nat_cmp, nat_cmp_total, nat_lt, of_calls, order_of, rules, ℕ}
 use Rattle.book.proofs.InRow.{in_order}
-use Rattle.book.proofs.Staying.{lt_is}
+use Rattle.book.proofs.GoodParts.{lt_is}
 use Rattle.book.proofs.book.tables.good.are_orders_in_order.Goals as goal
 
 abbrev before : ℕ × OrderEntry → ℕ × OrderEntry → Bool

@@ -3,8 +3,8 @@ use Rattle.std.proofs.lemmas.List.{get_or-replicate, length-set}
 use Rattle.book.proofs.Lists.{each-unmap}
 use Rattle.book.proofs.Places.{apart_next, marks_next, not_before}
 use Rattle.book.proofs.Sums.{each-map}
-use Rattle.book.proofs.Tested.{no, true_not_false, yes}
-use Rattle.book.proofs.Walked.{each-at, each-end, each-next}
+use Rattle.book.proofs.TestResults.{no, true_not_false, yes}
+use Rattle.book.proofs.Walks.{each-at, each-end, each-next}
 use Rattle.book.proofs.book.tables.good.are_places_good.Goals as goal
 
 abbrev Entry : Type 0

@@ -1,8 +1,8 @@
 use Rattle.book.proofs.Prelude.{[], ◌++◌, ◌+◌, ◌<◌, ◌∙◌, ◌∷◌, ◌≡◌, BeginsOther, Head, IsLineTold, LineCells, LineRow, List, Order, ap, arith, drop, drop-drop, flat_map, get_or, head_of, length, length-drop, line_cells, lines_from, map, map-append, order_lines, order_of, subst, sym, take, ℕ}
-use Rattle.book.proofs.Grouped.{Tail, drop-step, left_step, lines_step, none_left, tail-first}
-use Rattle.book.proofs.Zipped.{zip-drop, zip-length}
-use Rattle.book.proofs.Tested.{passed_up}
-use Rattle.book.proofs.Walked.{take-step}
+use Rattle.book.proofs.LineGroups.{Tail, drop-step, left_step, lines_step, none_left, tail-first}
+use Rattle.book.proofs.Pairs.{zip-drop, zip-length}
+use Rattle.book.proofs.TestResults.{passed_up}
+use Rattle.book.proofs.Walks.{take-step}
 use Rattle.book.proofs.book.tables.group.group.Goals as goal
 
 pub behind-lines_left-requires : goal.behind-lines_left-requires

@@ -1,6 +1,6 @@
 use Rattle.book.proofs.Prelude.{◌+◌, ◌<◌, ◌≡◌, ◌≤◌, FirmRow, Head, List, OrderCells, arith, get_or, head_row, length, map, refl, set, subst, sym, ℕ}
 use Rattle.book.proofs.Marks.{MarkedSoFar, all_marked, all_named, step_if_named, step_if_unnamed}
-use Rattle.book.proofs.Tested.{true_not_false}
+use Rattle.book.proofs.TestResults.{true_not_false}
 use Rattle.book.proofs.book.tables.marks.mark.Goals as goal
 use Rattle.book.proofs.book.tables.marks.mark.Goals.{then-is_named, else-is_named}
 

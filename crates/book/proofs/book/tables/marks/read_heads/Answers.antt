@@ -1,7 +1,7 @@
 use Rattle.book.proofs.Prelude.{◌++◌, ◌∙◌, ◌≡◌, Head, List, TellHeads, ap, arith, drop, firm_cells, head_row, length, map, order_cells, subst, sym, take}
 use Rattle.std.proofs.Math.Seq.{take-append_seam}
-use Rattle.book.proofs.RowsTold.{heads_cells, heads_told, marked_by}
-use Rattle.book.proofs.Tested.{passed_up}
+use Rattle.book.proofs.RowEntries.{heads_cells, heads_told, marked_by}
+use Rattle.book.proofs.TestResults.{passed_up}
 use Rattle.book.proofs.book.tables.marks.read_heads.Goals as goal
 
 pub returns-in_err-heads-clause-damaged : goal.returns-in_err-heads-clause-damaged

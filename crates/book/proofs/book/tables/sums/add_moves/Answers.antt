@@ -1,6 +1,6 @@
 use Rattle.book.proofs.Prelude.{[], ◌*◌, ◌+◌, ◌∙◌, ◌∷◌, ◌≡◌, Each, IsField, IsSmall, added, ap, arith, most_of_move, move_of, numbers_on, refl, subst, sym, take, ℕ}
 use Rattle.book.proofs.SumsOnFields.{added-nothing, added-twice, each-small-up, move-step}
-use Rattle.book.proofs.Walked.{each-next}
+use Rattle.book.proofs.Walks.{each-next}
 use Rattle.book.proofs.book.tables.sums.add_moves.Goals as goal
 
 pub loop-entry-init : goal.loop-entry-init

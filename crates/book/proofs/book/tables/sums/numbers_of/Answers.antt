@@ -1,5 +1,5 @@
 use Rattle.book.proofs.Prelude.{arith, ints, pos}
-use Rattle.book.proofs.Running.{greatest_is, least_is}
+use Rattle.book.proofs.RunningNumbers.{greatest_is, least_is}
 use Rattle.book.proofs.book.tables.sums.numbers_of.Goals as goal
 
 pub returns : goal.returns

@@ -1,0 +1,83 @@
+-- What makes a told ledger good, and that rows tell one good ledger at the most.
+use Rattle.book.proofs.Prelude.{[], ◌+ℤ◌, ◌↔◌, ◌∷◌, ◌≡◌, ◌≤◌, AreMovesOnFields, AreOnFields, AreOrdersOnFields, Each, Field, FieldEntry, Good, HasNumbers, HaveNumbers, IsBounded, IsField, IsGoodLine, IsGoodMove, IsGoodOrder, IsMoveByItself, IsOrderByItself, IsSafe, IsUpToDate, IsWhole, Ledger, List, MAX_PLACES, Name, Numbers, Order, arith, common_steps, field_of, held_to_add, held_to_take, length, line_name, map, move_of, numbers_on, order_of, places, pos, settled, told_ledger}
+use Rattle.book.specs.declared.book.tables.Entries.{Entries}
+use Rattle.book.specs.RowEntries.{AreGood, IsInForm}
+use Rattle.book.proofs.Bounds.{HasRoom, safe_from_room}
+use Rattle.book.proofs.Lists.{each-two, each-unmap}
+use Rattle.book.proofs.Walks.{few_sorted}
+use Rattle.book.proofs.Sums.{each-imp, each-map, total-map}
+
+-- ---- what is good is whole, and its entries are on fields
+
+pub on_fields_from_good : (e : Entries) → Good (told_ledger e) → AreOnFields e.fields.items e.moves.items e.orders.items
+on_fields_from_good e g = let A : Ledger = told_ledger e in (
+  each-imp (λ m x. x.field) e.moves.items (each-unmap (IsGoodMove A) move_of e.moves.items g.moves),
+  each-imp (λ o x. each-imp (λ l y. y.field) o.1.lines.items x.lines) e.orders.items (each-unmap (IsGoodOrder A) order_of e.orders.items g.orders),
+)
+
+-- ---- what is whole, in form and on fields
+
+good_lines : (e : Entries) (o : Order) → IsOrderByItself o → Each (λ l. IsField e.fields.items (line_name l)) o.lines → Each (IsGoodLine (told_ledger e)) o.lines
+good_lines e o x there = each-imp (λ l y. record { field = y.1; held = y.0.0; used = y.0.1 }) o.lines (each-two _ _ o.lines x.lines there)
+
+good_order : (e : Entries) (o : Order) → IsOrderByItself o × Each (λ l. IsField e.fields.items (line_name l)) o.lines → IsGoodOrder (told_ledger e) o
+good_order e o x = record { number = x.0.number; until = x.0.until; some = x.0.some; few = x.0.few; lines = good_lines e o x.0 x.1; apart = x.0.apart; transfer = x.0.transfer; firm = x.0.firm }
+
+moves_good : (e : Entries) → IsWhole (told_ledger e) → AreMovesOnFields e.fields.items e.moves.items → Each (IsGoodMove (told_ledger e)) (told_ledger e).moves
+moves_good e w there = let ms = e.moves.items in
+    each-map (IsGoodMove (told_ledger e)) move_of ms (each-imp (λ m x. record { first = x.0.first; last = x.0.last; field = x.1; size = x.0.size }) ms
+    (each-two _ _ ms (each-unmap (IsMoveByItself (places (told_ledger e))) move_of ms w.moves) there))
+
+orders_good : (e : Entries) → IsWhole (told_ledger e) → AreOrdersOnFields e.fields.items e.orders.items → Each (IsGoodOrder (told_ledger e)) (told_ledger e).orders
+orders_good e w there = let os = e.orders.items in
+    each-map (IsGoodOrder (told_ledger e)) order_of os (each-imp (λ o x. good_order e (order_of o) x) os (each-two _ _ os (each-unmap IsOrderByItself order_of os w.orders) there))
+
+pub good_if_whole : (e : Entries) → IsInForm (told_ledger e) → IsWhole (told_ledger e) → AreOnFields e.fields.items e.moves.items e.orders.items → IsSafe (told_ledger e) → Good (told_ledger e)
+good_if_whole e form w there safe = grind (arith, moves_good, orders_good)
+
+-- ---- the numbers of fields
+
+pub told_settled : (e : Entries) (f : Field) → settled (told_ledger e) f ≡ pos f.start +ℤ (numbers_on e.moves.items e.orders.items f.name).moved
+told_settled e f = grind (arith, common_steps, total-map, f.name, e.moves.items, e.orders.items)
+
+pub told_takes : (e : Entries) (n : Name) → held_to_take (told_ledger e) n ≡ (numbers_on e.moves.items e.orders.items n).takes
+told_takes e n = total-map _ order_of e.orders.items
+
+pub told_adds : (e : Entries) (n : Name) → held_to_add (told_ledger e) n ≡ (numbers_on e.moves.items e.orders.items n).adds
+told_adds e n = total-map _ order_of e.orders.items
+
+abbrev numbers_of : Entries → Name → Numbers
+numbers_of e = numbers_on e.moves.items e.orders.items
+
+-- an entry with these numbers is safe
+room_if : (e : Entries) (f : Name × FieldEntry) → HasNumbers (numbers_of e f.0) f.1 → IsBounded f.1.quantity → HasRoom (told_ledger e) (field_of f)
+room_if e f h bounded = grind (arith, (told_settled e (field_of f)), (told_takes e f.0), (told_adds e f.0))
+
+pub rooms_if : (e : Entries) (fs : List (Name × FieldEntry)) → HaveNumbers (numbers_of e) fs → Each (λ f. IsBounded f.1.quantity) fs → Each (HasRoom (told_ledger e)) (map field_of fs)
+rooms_if e [] h bounded = tt
+rooms_if e (f ∷ fs) h bounded = (room_if e f h.0 bounded.0, rooms_if e fs h.1 bounded.1)
+
+-- an entry has the numbers exactly where it is up to date
+up_to_date_if : (e : Entries) (f : Name × FieldEntry) → HasNumbers (numbers_of e f.0) f.1 → IsUpToDate (told_ledger e) f
+up_to_date_if e f h = cc ((told_settled e (field_of f)), (told_takes e f.0), (told_adds e f.0))
+
+numbers_if : (e : Entries) (f : Name × FieldEntry) → IsUpToDate (told_ledger e) f → HasNumbers (numbers_of e f.0) f.1
+numbers_if e f up = grind (arith, (told_settled e (field_of f)), (told_takes e f.0), (told_adds e f.0))
+
+-- ---- all together
+
+pub few_moves_if_whole : (A : Ledger) → IsWhole A → length A.moves ≤ MAX_PLACES
+few_moves_if_whole A w =
+    let r = few_sorted 0 (places A) A.moves (omega arith) (each-imp (λ m x. x.first) A.moves w.moves) (each-imp (λ m x. x.last) A.moves w.moves) w.in_order.moves in
+    let fit = w.limits.places in
+    omega arith
+
+pub good_iff : (e : Entries) → IsInForm (told_ledger e) → Each (λ f. IsBounded f.1.quantity) e.fields.items → IsWhole (told_ledger e)
+    → (AreOnFields e.fields.items e.moves.items e.orders.items × HaveNumbers (numbers_of e) e.fields.items) ↔ AreGood e
+good_iff e form bounded w = (
+  λ fit. (
+    good_if_whole e form w fit.0 (safe_from_room (told_ledger e) (rooms_if e e.fields.items fit.1 bounded)),
+    each-imp (λ f h. up_to_date_if e f h) e.fields.items fit.1,
+  ),
+  λ good. (on_fields_from_good e good.0, each-imp (λ f up. numbers_if e f up) e.fields.items good.1),
+)

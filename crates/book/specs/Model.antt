@@ -1,0 +1,60 @@
+-- How contracts see a book: as its ledger, and the room that has been made.
+use Rattle.std.specs.Prelude.{ℕ, ◌-◌, List, map}
+use Rattle.std.specs.Vec.{vec_capacity, vec_len}
+use Rattle.book.specs.Ledger.{Field, Kept, Ledger, Move, Name, Order, name_of}
+use Rattle.book.specs.declared.book.Book.TheInside.{Inside}
+use Rattle.book.specs.declared.book.FieldEntry.{FieldEntry}
+use Rattle.book.specs.declared.book.KeptEntry.{KeptEntry}
+use Rattle.book.specs.declared.book.MoveEntry.{MoveEntry}
+use Rattle.book.specs.declared.order.OrderEntry.{OrderEntry}
+
+-- how many fields, moves, orders and kept keys more fit without memory
+pub record Room : Type 0 where
+  pub fields : ℕ
+  pub moves : ℕ
+  pub orders : ℕ
+  pub kept : ℕ
+
+-- the ledger, and the room that has been made beside it
+pub record BookView : Type 0 where
+  pub ledger : Ledger
+  pub room : Room
+
+abbrev pub field_of : Name × FieldEntry → Field
+field_of e = record { name = e.0; lo = e.1.quantity.lo; hi = e.1.quantity.hi; start = e.1.start }
+
+abbrev pub move_of : MoveEntry → Move
+move_of e = record { place = e.place; field = name_of e.branch e.article; amount = e.amount }
+
+abbrev pub order_of : ℕ × OrderEntry → Order
+order_of e = record {
+  number = e.0;
+  kind = e.1.kind;
+  until = e.1.until;
+  state = e.1.state;
+  firm = e.1.firm;
+  lines = e.1.lines.items;
+}
+
+abbrev pub kept_of : List ℕ × KeptEntry → Kept
+kept_of e = record { key = e.0; place = e.1.place; command = e.1.words }
+
+abbrev pub ledger_of : Inside → Ledger
+ledger_of b = record {
+  clock = b.clock;
+  fields = map field_of b.fields.entries;
+  moves = map move_of b.moves.items;
+  orders = map order_of b.orders.entries;
+  kept = map kept_of b.kept.entries;
+}
+
+abbrev pub room_of : Inside → Room
+room_of b = record {
+  fields = b.fields.room;
+  moves = vec_capacity b.moves - vec_len b.moves;
+  orders = b.orders.room;
+  kept = b.kept.room;
+}
+
+abbrev pub view_of : Inside → BookView
+view_of b = record { ledger = ledger_of b; room = room_of b }

@@ -1,0 +1,216 @@
+-- What the rows of tables tell: each row an entry, and rows of orders and lines together the orders.
+use Rattle.std.specs.Prelude.{ℕ, ◌+◌, ◌+ℤ◌, ◌-ℤ◌, ◌≤◌, ◌≡◌, ◌≢◌, pos, nat_abs, nat_eq, List, [], ◌∷◌, length, map, flat_map, if◌then◌else◌, string_bytes, IsSomeAnd, IsTrue, Option}
+use Rattle.std.specs.Ordering.{nat_cmp}
+use Rattle.std.specs.Cmp.Lexicographic.{slice_cmp}
+use Rattle.std.specs.List.Sorted.{IsStrictlySortedBy}
+use Rattle.std.specs.List.{AllByRecursion as Each, AllZip, IsDistinct}
+use Rattle.escrow.specs.Codes.{IsArticle, IsBranch, IsKey}
+use Rattle.escrow.specs.Ranges.{IsLevel, IsMoment, IsOrderNo, IsQty}
+use Rattle.escrow.specs.Stock.{Stock}
+use Rattle.words.specs.Spelling.{IsInRange}
+use Rattle.words.specs.declared.limits.TheConstants.{MAX_ORDER_LINES}
+use Rattle.book.specs.declared.limits.TheConstants.{MAX_FIELDS, MAX_ORDERS, MAX_PLACES}
+use Rattle.book.specs.declared.book.tables.Entries.{Entries}
+use Rattle.book.specs.declared.book.tables.group.Head.{Head}
+use Rattle.book.specs.declared.book.tables.sums.Numbers.{Numbers}
+use Rattle.book.specs.declared.book.FieldEntry.{FieldEntry}
+use Rattle.book.specs.declared.book.KeptEntry.{KeptEntry}
+use Rattle.book.specs.declared.book.MoveEntry.{MoveEntry}
+use Rattle.book.specs.declared.order.State.TheVariants.{Aborted}
+use Rattle.book.specs.declared.order.Line.{Line}
+use Rattle.book.specs.declared.rows.FieldRow.{FieldRow}
+use Rattle.book.specs.declared.rows.FirmRow.{FirmRow}
+use Rattle.book.specs.declared.rows.KeptRow.{KeptRow}
+use Rattle.book.specs.declared.rows.LineRow.{LineRow}
+use Rattle.book.specs.declared.rows.MoveRow.{MoveRow}
+use Rattle.book.specs.declared.rows.OrderRow.{OrderRow}
+use Rattle.book.specs.Good.{Good, IsGoodField, IsGoodKept, IsTransferPair}
+use Rattle.book.specs.Ledger.{Field, Ledger, Move, Name, Order, is_transfer, line_name, name_cmp, open_orders, places, same_name}
+use Rattle.book.specs.Rows.{Content, FieldCells, FirmCells, LineCells, OrderCells, desk_row, firm_row, firm_rows, kind_code, kept_row, move_row, order_lines, order_row, state_code, way_code}
+use Rattle.book.specs.RunningNumbers.{IsUpToDate}
+use Rattle.book.specs.Tables.{kept_cells, line_cells, move_cells, order_cells}
+use Rattle.book.specs.Model.{field_of, kept_of, move_of, order_of}
+
+-- the row tells the field's name, its bounds and its start; of its three other numbers nothing is said
+pub record TellsField (f : Field) (row : FieldCells) : Type 0 where
+  pub branch : row.branch ≡ f.name.branch
+  pub article : row.article ≡ f.name.article
+  pub lo : row.lo ≡ pos f.lo
+  pub hi : row.hi ≡ pos f.hi
+  pub start : row.start ≡ pos f.start
+
+-- the row tells the line, of whatever order and number
+pub record TellsLine (l : Line) (row : LineCells) : Type 0 where
+  pub branch : row.branch ≡ l.branch
+  pub article : row.article ≡ l.article
+  pub way : row.way ≡ way_code l.way
+  pub held : row.held ≡ pos l.held
+  pub used : row.used ≡ pos l.used
+
+abbrev pub head_row : Head → OrderCells
+head_row h = record { number = pos h.number; kind = kind_code h.kind; until = pos h.until; state = state_code h.state }
+
+-- ---- entries in range
+
+-- what is held keeps the quantity within its bounds
+pub record IsBounded (q : Stock) : Type 0 where
+  pub low : q.lo + q.held_to_take ≤ q.value
+  pub high : q.value + q.held_to_add ≤ q.hi
+
+-- the row has the numbers of the quantity
+pub record IsQuantityTold (q : Stock) (row : FieldRow) : Type 0 where
+  pub bounded : IsBounded q
+  pub greatest : IsLevel q.hi
+  pub lo : row.lo ≡ pos q.lo
+  pub hi : row.hi ≡ pos q.hi
+  pub value : row.value ≡ pos q.value
+  pub inf : row.inf ≡ (pos q.value -ℤ pos q.held_to_take)
+  pub sup : row.sup ≡ (pos q.value +ℤ pos q.held_to_add)
+
+pub record IsFieldTold (e : Name × FieldEntry) (row : FieldRow) : Type 0 where
+  pub branch : IsBranch e.0.branch
+  pub article : IsArticle e.0.article
+  pub start : IsLevel e.1.start
+  pub branch_is : string_bytes row.branch ≡ e.0.branch
+  pub article_is : string_bytes row.article ≡ e.0.article
+  pub start_is : row.start ≡ pos e.1.start
+  pub quantity : IsQuantityTold e.1.quantity row
+
+pub record IsMoveTold (e : MoveEntry) (row : MoveRow) : Type 0 where
+  pub branch : IsBranch e.branch
+  pub article : IsArticle e.article
+  pub cells : move_cells row ≡ move_row (move_of e)
+
+pub record IsHeadTold (h : Head) (row : OrderRow) : Type 0 where
+  pub number : IsOrderNo h.number
+  pub until : IsMoment h.until
+  pub cells : order_cells row ≡ head_row h
+
+pub record IsLineTold (l : Line) (row : LineRow) : Type 0 where
+  pub branch : IsBranch l.branch
+  pub article : IsArticle l.article
+  pub held : IsLevel l.held
+  pub used : IsLevel l.used
+  pub cells : TellsLine l (line_cells row)
+
+pub record IsKeptTold (e : List ℕ × KeptEntry) (row : KeptRow) : Type 0 where
+  pub key : IsKey e.0
+  pub command : IsInRange e.1.words
+  pub cells : kept_cells row ≡ kept_row (kept_of e)
+
+-- ---- orders from rows
+
+abbrev pub head_of : Order → Head
+head_of o = record { number = o.number; kind = o.kind; until = o.until; state = o.state; firm = o.firm }
+
+-- the row that marks it, if it is firm
+abbrev pub mark_rows : Head → List FirmCells
+mark_rows h = if h.firm then firm_row h.number ∷ [] else []
+
+-- the rows of orders, and those of firm ones, tell these heads
+pub record TellHeads (heads : List Head) (orders : List OrderCells) (firms : List FirmCells) : Type 0 where
+  pub orders_are : map head_row heads ≡ orders
+  pub firms_are : flat_map mark_rows heads ≡ firms
+
+-- there is a row, and it marks the order of that number
+abbrev pub Marks : Option FirmRow → ℕ → Type 0
+Marks row number = IsSomeAnd row (λ r. r.number ≡ pos number)
+
+-- the rows count from this number
+abbrev pub AreNumbered : ℕ → List LineRow → Type 0
+AreNumbered nr [] = Unit {0}
+AreNumbered nr (row ∷ rows) = (row.nr ≡ pos nr) × AreNumbered (nr + 1) rows
+
+-- the rows do not begin with one of that order
+abbrev pub BeginsOther : ℕ → List LineRow → Type 0
+BeginsOther number [] = Unit {0}
+BeginsOther number (row ∷ rows) = row.number ≡ pos number → ⊥
+
+-- none is a row of that order
+abbrev pub AreOthers : ℕ → List LineCells → Type 0
+AreOthers number rows = Each (λ row. row.number ≡ pos number → ⊥) rows
+
+-- the rows of orders and lines tell these orders
+pub record TellOrders (orders : List Order) (heads : List Head) (lines : List LineCells) : Type 0 where
+  pub heads_are : map head_of orders ≡ heads
+  pub lines_are : flat_map order_lines orders ≡ lines
+
+-- ---- ledgers from tables
+
+abbrev pub told_ledger : Entries → Ledger
+told_ledger e = record {
+  clock = e.clock;
+  fields = map field_of e.fields.items;
+  moves = map move_of e.moves.items;
+  orders = map order_of e.orders.items;
+  kept = map kept_of e.kept.items;
+}
+
+-- The content is the ledger's rows, but for the value, the infimum and the supremum of its fields, of which nothing is
+-- said.
+pub record TellsLedger (A : Ledger) (C : Content) : Type 0 where
+  pub desk : C.desk ≡ desk_row A ∷ []
+  pub fields : AllZip TellsField A.fields C.fields
+  pub moves : C.moves ≡ map move_row A.moves
+  pub orders : C.orders ≡ map order_row A.orders
+  pub lines : C.lines ≡ flat_map order_lines A.orders
+  pub kept : C.kept ≡ map kept_row A.kept
+  pub firms : C.firms ≡ flat_map firm_rows A.orders
+
+-- what its clock, its fields and its kept keys are by themselves
+pub record IsInForm (A : Ledger) : Type 0 where
+  pub clock : IsMoment A.clock
+  pub fields : Each IsGoodField A.fields
+  pub kept : Each IsGoodKept A.kept
+
+-- its place is taken, and its amount is a quantity, up or down; whether its field is there is not said
+pub record IsMoveByItself (places : ℕ) (m : Move) : Type 0 where
+  pub first : 1 ≤ m.place
+  pub last : m.place ≤ places
+  pub size : IsQty (nat_abs m.amount)
+
+-- all that makes an order good but that its fields are there
+pub record IsOrderByItself (o : Order) : Type 0 where
+  pub number : IsOrderNo o.number
+  pub until : IsMoment o.until
+  pub some : 1 ≤ length o.lines
+  pub few : length o.lines ≤ MAX_ORDER_LINES
+  pub lines : Each (λ l. IsLevel l.held × (l.used ≤ l.held)) o.lines
+  pub apart : IsDistinct same_name (map line_name o.lines)
+  pub transfer : IsTrue (is_transfer o) → IsTransferPair o.lines
+  pub firm : IsTrue o.firm → o.state ≢ Aborted
+
+-- each list is in the order of its keys
+pub record AreInOrder (A : Ledger) : Type 0 where
+  pub fields : IsStrictlySortedBy name_cmp (map (λ f. f.name) A.fields)
+  pub moves : IsStrictlySortedBy nat_cmp (map (λ m. m.place) A.moves)
+  pub orders : IsStrictlySortedBy nat_cmp (map (λ o. o.number) A.orders)
+  pub kept : IsStrictlySortedBy (slice_cmp nat_cmp) (map (λ k. k.key) A.kept)
+
+pub record IsWithinLimits (A : Ledger) : Type 0 where
+  pub fields : length A.fields ≤ MAX_FIELDS
+  pub orders : length A.orders ≤ MAX_ORDERS
+  pub places : places A + open_orders A ≤ MAX_PLACES
+
+-- all that makes a ledger good but its form, that the fields are there, and that each is safe
+pub record IsWhole (A : Ledger) : Type 0 where
+  pub in_order : AreInOrder A
+  pub limits : IsWithinLimits A
+  pub moves : Each (IsMoveByItself (places A)) A.moves
+  pub orders : Each IsOrderByItself A.orders
+  pub places_in_range : Each (λ k. (1 ≤ k.place) × (k.place ≤ places A)) A.kept
+  pub places_apart : IsDistinct nat_eq (map (λ k. k.place) A.kept)
+
+-- the entry has the value that these numbers give it, and they are what it holds
+pub record HasNumbers (n : Numbers) (e : FieldEntry) : Type 0 where
+  pub value : pos e.quantity.value ≡ (pos e.start +ℤ n.moved)
+  pub takes : pos e.quantity.held_to_take ≡ n.takes
+  pub adds : pos e.quantity.held_to_add ≡ n.adds
+
+-- each entry has what these numbers give it
+abbrev pub HaveNumbers : (Name → Numbers) → List (Name × FieldEntry) → Type 0
+HaveNumbers numbers fields = Each (λ e. HasNumbers (numbers e.0) e.1) fields
+
+-- what was told is a good ledger, and the entry of each field is up to date
+abbrev pub AreGood : Entries → Type 0
+AreGood e = Good (told_ledger e) × Each (IsUpToDate (told_ledger e)) e.fields.items
