@@ -16,6 +16,7 @@ import threading
 sys.dont_write_bytecode = True
 
 import damages
+import documents
 import hostile
 import messages
 import records
@@ -386,6 +387,7 @@ def main():
         test_another_database_is_no_desk,
         test_an_empty_script_changes_nothing,
         test_nothing_acknowledged_is_lost,
+        *documents.TESTS,
         *hostile.TESTS,
         *messages.TESTS,
         *resumed.TESTS,
