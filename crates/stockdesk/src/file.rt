@@ -1,11 +1,11 @@
 //! A desk in a file.
 
-ghost use Rattle.std.specs.Prelude.{◌≡◌, ◌≢◌, ◌⊎◌, ◌↔◌, false, IfErr, IfOk, OnErr, OnOk};
+ghost use Rattle.std.specs.Prelude.{◌≡◌, ◌≢◌, ◌⊎◌, ◌↔◌, ◌∷◌, [], false, pos, IfErr, IfOk, OnErr, OnOk};
 ghost use Rattle.std.specs.Io.KnownBytes.{Keeps};
 ghost use Rattle.sqlite.specs.WalFiles.{image_at};
 ghost use Rattle.sqlite.specs.Files.{file_state};
 ghost use Rattle.sqlite.specs.State.{HasCleanDisk};
-ghost use Rattle.book.specs.Rows.{Content};
+ghost use Rattle.book.specs.Rows.{Content, DeskCells};
 ghost use Rattle.keep.specs.Content.{Holds};
 ghost use Rattle.keep.specs.Old.{HoldsOld, upgraded};
 ghost use Rattle.keep.specs.Starts.{StartsOld, StartsWith};
@@ -253,6 +253,10 @@ pub fn upgrade<S: Start>(
     ensures same { IfOk result (λ r. HasCleanDisk (file_state r.0.connection)
         → OnOk r.1 ((x : Content) → StartsWith (image_at S.Start) x → Holds (file_state r.0.connection).now x)) }
     ensures ended { IfOk result (λ r. IfErr r.1 IsNotOpened) }
+    // what is of version 1 is never called no desk
+    ensures desk { IfOk result (λ r. HasCleanDisk (file_state r.0.connection) → IfErr r.1
+        (λ fault. fault ≡ Fault.NotADesk → (x : Content) (row : DeskCells) → x.desk ≡ row ∷ [] → row.version ≡ pos 1
+        → ¬ StartsOld (image_at S.Start) x)) }
     ensures fault { IfErr result IsNotOpened }
 {
     let keep = open(rt, path, start)?;
