@@ -24,11 +24,10 @@ abbrev pub StaysStored : {K : Type 0} → Ghosts K → DeskView K → Type 0
 StaysStored g desk = g.stopped desk.keep ≡ false → g.is_honest desk.keep
     → IsStored (g.holds desk.keep) (g.leaves desk.keep) desk.ledger
 
--- The ledger is good. While the keeper is not stopped, and the disk is honest, it holds the ledger's rows.
-pub record IsInOrder (stopped : Bool) (is_honest : Type 0) (holds : Content → Type 0) (leaves : List Content → Type 0)
-    (A : Ledger) : Type 0 where
-  pub good : Good A
-  pub stored : stopped ≡ false → is_honest → IsStored holds leaves A
+-- its ledger is good, and the rows of that stay stored
+pub record IsInOrder {K : Type 0} (g : Ghosts K) (desk : DeskView K) : Type 0 where
+  pub good : Good desk.ledger
+  pub stored : StaysStored g desk
 
 -- a stop leaves the rows of the one ledger or those of the other
 pub record LeavesEither (leaves : List Content → Type 0) (A B : Ledger) : Type 0 where

@@ -38,8 +38,7 @@ impl<K: Keep> Model for Desk<K> {
 
     ghost view = { λ d. record { ledger = d.book.ledger; keep = d.keep } };
 
-    ghost invariant = { λ d. IsInOrder (K.stopped d.keep) (K.is_honest d.keep) (K.holds d.keep)
-        (K.leaves d.keep) d.book.ledger };
+    ghost invariant = { λ d. IsInOrder K.Keep (record { ledger = d.book.ledger; keep = d.keep }) };
 }
 
 impl<K: Keep> Desk<K> {
