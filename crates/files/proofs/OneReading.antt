@@ -6,7 +6,7 @@ use Rattle.csv.specs.declared.parser.Config.{Config}
 use Rattle.csv.specs.declared.parser.State.{State}
 use Rattle.csv.specs.declared.parser.State.TheVariants as st
 use Rattle.words.specs.declared.command.Request.{Request}
-use Rattle.files.specs.Files.{AreRecordsOf, Breaks, IsFile, IsFirstBad, IsFirstBadRow, NamesFirst, Record}
+use Rattle.files.specs.Files.{AreRecordsOf, Breaks, IsFile, IsFirstBad, IsFirstBadRow, NamesFirst, Record, SaysOneThing}
 use Rattle.files.specs.declared.fault.FileFault.TheVariants.{BadRecord}
 
 -- ---- the records of a text are one list
@@ -37,7 +37,7 @@ pub record SaysOne (says : List Record → List Request → Type 0) : Type 0 whe
   pub one : (rows : List Record) (xs ys : List Request) → says rows xs → says rows ys → xs ≡ ys
   pub front : (rows behind : List Record) (xs : List Request) → says (rows ++ behind) xs → (ys : List Request) × says rows ys
 
-pub one_file : (header : Record) (says : List Record → List Request → Type 0) → SaysOne says → (bytes : List ℕ) (xs ys : List Request) → IsFile header says bytes xs → IsFile header says bytes ys → xs ≡ ys
+one_file : (header : Record) (says : List Record → List Request → Type 0) → SaysOne says → (bytes : List ℕ) (xs ys : List Request) → IsFile header says bytes xs → IsFile header says bytes ys → xs ≡ ys
 one_file header says kind bytes xs ys h k =
     let same : header ∷ h.rows ≡ header ∷ k.rows = one_list bytes (header ∷ h.rows) (header ∷ k.rows) h.records k.records in
     let rows : h.rows ≡ k.rows = cc in
@@ -50,7 +50,7 @@ broken says kind rows behind row xs breaks h =
     let (ys, said) = kind.front (rows ++ row ∷ []) behind xs whole in
     breaks.fault ys said
 
-pub not_both_of_file : (header : Record) (says : List Record → List Request → Type 0) → SaysOne says → (bytes : List ℕ) (xs : List Request) (number : ℕ) → IsFile header says bytes xs → NamesFirst header says bytes (BadRecord number) → ⊥
+not_both_of_file : (header : Record) (says : List Record → List Request → Type 0) → SaysOne says → (bytes : List ℕ) (xs : List Request) (number : ℕ) → IsFile header says bytes xs → NamesFirst header says bytes (BadRecord number) → ⊥
 not_both_of_file header says kind bytes xs number h (records, all, bad) = by records (one_list bytes records (header ∷ h.rows) all h.records) bad
   where
     by : (records : List Record) → records ≡ header ∷ h.rows → IsFirstBad header says records number → ⊥
@@ -79,7 +79,7 @@ ordered says kind rows m n h k less =
 neither_less : (m n : ℕ) → (m < n → ⊥) → (n < m → ⊥) → m ≡ n
 neither_less m n h k = omega arith
 
-pub one_number : (header : Record) (says : List Record → List Request → Type 0) → SaysOne says → (bytes : List ℕ) (m n : ℕ) → NamesFirst header says bytes (BadRecord m) → NamesFirst header says bytes (BadRecord n) → m ≡ n
+one_number : (header : Record) (says : List Record → List Request → Type 0) → SaysOne says → (bytes : List ℕ) (m n : ℕ) → NamesFirst header says bytes (BadRecord m) → NamesFirst header says bytes (BadRecord n) → m ≡ n
 one_number header says kind bytes m n (records, all, bad) (others, all2, bad2) =
     by records bad (subst (λ l. IsFirstBad header says l n) (sym (one_list bytes records others all all2)) bad2)
   where
@@ -89,3 +89,6 @@ one_number header says kind bytes m n (records, all, bad) (others, all2, bad2) =
     by (r ∷ rs) (inl h) (inr k) = absurd (h.0 k.0)
     by (r ∷ rs) (inr h) (inl k) = absurd (k.0 h.0)
     by (r ∷ rs) (inr h) (inr k) = neither_less m n (λ less. ordered says kind rs m n h.1 k.1 less) (λ less. ordered says kind rs n m k.1 h.1 less)
+
+pub says_one_thing : (header : Record) (says : List Record → List Request → Type 0) → SaysOne says → SaysOneThing header says
+says_one_thing header says one = record { requests = one_file header says one; number = one_number header says one; apart = not_both_of_file header says one }

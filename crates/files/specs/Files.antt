@@ -53,6 +53,15 @@ abbrev pub NamesFirst : Record → (List Record → List Request → Type 0) →
 NamesFirst header says bytes fault =
     (records : List Record) × AreRecordsOf bytes records × FaultsAt header says records fault
 
+-- Whatever the bytes, they say one list of requests, or have one first record at fault, and never both.
+pub record SaysOneThing (header : Record) (says : List Record → List Request → Type 0) : Type 0 where
+  pub requests : (bytes : List ℕ) (one other : List Request) → IsFile header says bytes one
+      → IsFile header says bytes other → one ≡ other
+  pub number : (bytes : List ℕ) (one other : ℕ) → NamesFirst header says bytes (BadRecord one)
+      → NamesFirst header says bytes (BadRecord other) → one ≡ other
+  pub apart : (bytes : List ℕ) (requests : List Request) (number : ℕ) → IsFile header says bytes requests
+      → NamesFirst header says bytes (BadRecord number) → ⊥
+
 -- nothing yet, or the header and rows of which this holds
 abbrev pub BeginsFile : Record → (List Record → Type 0) → List Record → Type 0
 BeginsFile header holds [] = holds []

@@ -4,45 +4,25 @@ ghost use Rattle.std.specs.Prelude.{◌≡◌, ◌+◌, ◌*◌, ℕ, List, filt
 ghost use Rattle.std.specs.Str.{bytes_eq};
 ghost use Rattle.book.specs.Good.{Good};
 ghost use Rattle.book.specs.Ledger.{Ledger};
-ghost use Rattle.words.specs.declared.command.Request.{Request};
 ghost use Rattle.files.specs.Bounds.{SayBounds, bounds_header};
 ghost use Rattle.files.specs.Deliveries.{SayDeliveries, delivery_header};
-ghost use Rattle.files.specs.Files.{IsFile, NamesFirst};
+ghost use Rattle.files.specs.Files.{SaysOneThing};
 ghost use Rattle.files.specs.Orders.{SayOrders, order_header};
 ghost use Rattle.files.specs.Sheets.{IsArticleSheet, IsBranchSheet};
-ghost use Rattle.files.specs.declared.fault.FileFault.TheVariants.{BadRecord};
 
 /// An order file says one list of requests, or has one first record at fault, and never both.
 pub fn an_order_file_says_one_thing()
-    ensures requests { (bytes : List ℕ) (one other : List Request) → IsFile order_header SayOrders bytes one
-        → IsFile order_header SayOrders bytes other → one ≡ other }
-    ensures number { (bytes : List ℕ) (one other : ℕ) → NamesFirst order_header SayOrders bytes (BadRecord one)
-        → NamesFirst order_header SayOrders bytes (BadRecord other) → one ≡ other }
-    ensures apart { (bytes : List ℕ) (requests : List Request) (number : ℕ)
-        → IsFile order_header SayOrders bytes requests → NamesFirst order_header SayOrders bytes (BadRecord number)
-        → ⊥ }
+    ensures { SaysOneThing order_header SayOrders }
 {}
 
 /// A delivery file says one list of requests, or has one first record at fault, and never both.
 pub fn a_delivery_file_says_one_thing()
-    ensures requests { (bytes : List ℕ) (one other : List Request) → IsFile delivery_header SayDeliveries bytes one
-        → IsFile delivery_header SayDeliveries bytes other → one ≡ other }
-    ensures number { (bytes : List ℕ) (one other : ℕ) → NamesFirst delivery_header SayDeliveries bytes (BadRecord one)
-        → NamesFirst delivery_header SayDeliveries bytes (BadRecord other) → one ≡ other }
-    ensures apart { (bytes : List ℕ) (requests : List Request) (number : ℕ)
-        → IsFile delivery_header SayDeliveries bytes requests → NamesFirst delivery_header SayDeliveries bytes
-        (BadRecord number) → ⊥ }
+    ensures { SaysOneThing delivery_header SayDeliveries }
 {}
 
 /// A file of bounds says one list of requests, or has one first record at fault, and never both.
 pub fn a_bounds_file_says_one_thing()
-    ensures requests { (bytes : List ℕ) (one other : List Request) → IsFile bounds_header SayBounds bytes one
-        → IsFile bounds_header SayBounds bytes other → one ≡ other }
-    ensures number { (bytes : List ℕ) (one other : ℕ) → NamesFirst bounds_header SayBounds bytes (BadRecord one)
-        → NamesFirst bounds_header SayBounds bytes (BadRecord other) → one ≡ other }
-    ensures apart { (bytes : List ℕ) (requests : List Request) (number : ℕ)
-        → IsFile bounds_header SayBounds bytes requests → NamesFirst bounds_header SayBounds bytes (BadRecord number)
-        → ⊥ }
+    ensures { SaysOneThing bounds_header SayBounds }
 {}
 
 /// A good ledger has exactly one sheet for each branch and for each article.

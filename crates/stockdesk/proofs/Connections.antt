@@ -5,16 +5,12 @@ use Rattle.std.proofs.KnownBytes.{Appends-kept, Appends-nil}
 use Rattle.std.proofs.lemmas.List.{length-append, take_all}
 use Rattle.book.specs.Ledger.{Ledger}
 use Rattle.book.specs.Rows.{Content}
-use Rattle.keep.specs.declared.keep.Keep.{Ghosts}
 use Rattle.web.specs.Messages.{Part}
 use Rattle.web.specs.Serving.{EndsCut, EndsShort, EndsWhole, Serves, stand}
 use Rattle.web.specs.Web.{Stand}
 use Rattle.web.specs.declared.served.Served.{Served}
 use Rattle.web.specs.declared.served.WebFault.{WebFault}
-use Rattle.stockdesk.specs.Connections.{AreServed, Came, IsServed, PortBegun, PortTold, ServiceCut, ServiceInPart, ServiceWhole, Streams, listening_line}
-use Rattle.stockdesk.specs.Sessions.{IsUnbegun}
-use Rattle.stockdesk.specs.declared.session.Fault.{Fault}
-use Rattle.stockdesk.proofs.SessionParts.{not_unbegun}
+use Rattle.stockdesk.specs.Connections.{AreServed, Came, IsServed, PortBegun, PortTold, Streams, listening_line}
 
 -- ---- a desk that goes on has told nothing of what a stop leaves
 
@@ -139,28 +135,3 @@ port_whole W w (port, is, writes) =
 
 pub port_unwritten : (W w : Option (List ℕ)) → Keeps W w → PortBegun W w
 port_unwritten W w kept = (0, 0, omega arith, omega arith, Appends-kept _ _ _ _ (Appends-nil W) kept)
-
--- ---- sessions
-
-module _ {K : Type 0} (g : Ghosts K) (count : ℕ) (keep : K) (W w : Option (List ℕ)) (fault : Fault) (held tables : Content → Type 0) (Left : Type 0) where
-  pub tells_port : ServiceWhole g count keep held W w → PortTold W w
-  tells_port s = s.ends.0
-
-  pub tells_port_in_part : ServiceInPart g count fault keep held tables Left W w → PortBegun W w
-  tells_port_in_part (inl (s, kept)) = port_unwritten W w kept
-  tells_port_in_part (inr s) = by s.ends
-    where
-      by : ServiceCut fault count (g.stopped keep) (g.is_honest keep) (g.leaves keep) W w s.first s.last → PortBegun W w
-      by (inl (why, begun, same)) = begun
-      by (inr (why, told, some)) = port_whole W w told
-
-  pub service_untouched : ServiceInPart g count fault keep held tables Left W w → IsUnbegun fault → Keeps W w
-  service_untouched (inl (s, kept)) un = kept
-  service_untouched (inr s) un = absurd (by s.ends)
-    where
-      by : ServiceCut fault count (g.stopped keep) (g.is_honest keep) (g.leaves keep) W w s.first s.last → ⊥
-      by (inl (inl is, begun, same)) = not_unbegun fault _ is refl un
-      by (inl (inr (inl is), begun, same)) = not_unbegun fault _ is refl un
-      by (inl (inr (inr is), begun, same)) = not_unbegun fault _ is refl un
-      by (inr (inl is, told, some)) = not_unbegun fault _ is refl un
-      by (inr (inr is, told, some)) = not_unbegun fault _ is refl un

@@ -1,3 +1,4 @@
 mod SessionParts
 mod Connections
+mod WorkParts
 mod PlainRun

@@ -1,7 +1,7 @@
 -- What a session has read and written.
-use Rattle.std.proofs.Common.{◌≡◌, ◌≢◌, ◌⊎◌, ◌∙◌, [], ◌∷◌, ◌++◌, Bool, Err, IfErr, IsTrue, List, ℕ, Ok, OnErr, Option, Result, Some, ap, append-nil, append_assoc, arith, false, refl, subst, sym, true, true≢false}
+use Rattle.std.proofs.Common.{◌≡◌, ◌≢◌, ◌⊎◌, ◌∙◌, [], ◌∷◌, Bool, Err, IfErr, IsTrue, List, ℕ, Ok, OnErr, Option, Result, Some, ap, arith, false, refl, subst, sym, true, true≢false}
 use Rattle.std.proofs.Math.Logic.{inl, inr}
-use Rattle.std.specs.Io.KnownBytes.{Appends, Keeps}
+use Rattle.std.specs.Io.KnownBytes.{Keeps}
 use Rattle.std.proofs.KnownBytes.{Appends-kept, Appends-nil, Consumes-kept, Consumes-nil, Keeps-refl}
 use Rattle.book.specs.Good.{Good}
 use Rattle.book.specs.Ledger.{Ledger, new_ledger}
@@ -11,19 +11,13 @@ use Rattle.book.proofs.EqualRows.{told_by_rows}
 use Rattle.keep.specs.Content.{new_content, new_row}
 use Rattle.keep.specs.declared.keep.Keep.{Ghosts}
 use Rattle.desk.specs.Desk.{IsStored}
-use Rattle.desk.specs.Script.{AlmostWritten, EndsWhole}
-use Rattle.desk.specs.Text.{RepliesAll}
+use Rattle.desk.specs.Script.{EndsWhole}
 use Rattle.desk.specs.declared.fault.ScriptFault.{ScriptFault}
-use Rattle.desk.proofs.Texts.{replies_more}
-use Rattle.words.specs.declared.command.Request.{Request}
-use Rattle.words.specs.declared.item.Item.{Item}
-use Rattle.stockdesk.specs.Runs.{BeginsText, PlaysInPart, PlaysWhole, RunsSoFar, RunsWhole}
-use Rattle.stockdesk.specs.Done.{PrintsReplies, PrintsRepliesInPart, PrintsSheet, PrintsSheetInPart}
-use Rattle.stockdesk.specs.Requests.{FileCut, FileInPart, FileWhole, items_of}
-use Rattle.stockdesk.specs.Sessions.{IsBadFile, IsLeft, IsNoDesk, IsToldAs, IsUnbegun, StillHolds, OpensWith, ScriptCut, ScriptInPart, ScriptWhole, SessionCut, SessionInPart, SessionWhole}
-use Rattle.stockdesk.specs.Sheets.{SheetCut, SheetInPart, SheetWhole}
-use Rattle.stockdesk.specs.declared.sheet.Shown.{Shown}
+use Rattle.stockdesk.specs.Runs.{BeginsText, RunsSoFar, RunsWhole}
+use Rattle.stockdesk.specs.Sessions.{IsBadFile, IsLeft, IsNoDesk, IsToldAs, IsUnbegun, StillHolds, OpensWith, ScriptCut, SessionCut, SessionInPart, SessionWhole}
+use Rattle.stockdesk.specs.Work.{WorkInPart, WorkWhole}
 use Rattle.stockdesk.specs.declared.session.Fault.{Fault}
+use Rattle.stockdesk.specs.declared.work.Work.TheVariants.{Script}
 
 rows_new : IsRowsOf new_ledger new_content
 rows_new = record { desk = refl; fields = tt; moves = refl; orders = refl; lines = refl; kept = refl; firms = refl }
@@ -33,7 +27,7 @@ is_new : (A : Ledger) → Good A → IsRowsOf A new_content → A ≡ new_ledger
 is_new A good rows = told_by_rows A new_ledger new_content good good_new rows rows_new
 
 -- nothing is read, and nothing written
-nothing_read : (A : Ledger) (R r W w : Option (List ℕ)) → Keeps R r → Keeps W w → BeginsText A R r W w
+pub nothing_read : (A : Ledger) (R r W w : Option (List ℕ)) → Keeps R r → Keeps W w → BeginsText A R r W w
 nothing_read A R r W w reads writes = record {
   read = [];
   written = [];
@@ -93,7 +87,7 @@ not_unbegun fault told e begun (inr (inl is)) = true≢false (sym (ap is_unbegun
 not_unbegun fault told e begun (inr (inr (number, is))) = true≢false (sym (ap is_unbegun is) ∙ ap is_unbegun e ∙ begun)
 
 -- what a script is cut by is told as a fault of something begun
-told_begun : (cause : ScriptFault) (fault : Fault) → IsToldAs cause fault → IsUnbegun fault → ⊥
+pub told_begun : (cause : ScriptFault) (fault : Fault) → IsToldAs cause fault → IsUnbegun fault → ⊥
 told_begun ScriptFault.Memory fault told = not_unbegun fault _ (told.memory.1 refl) refl
 told_begun ScriptFault.Stopped fault told = not_unbegun fault _ (told.store.1 refl) refl
 told_begun ScriptFault.Read fault told = not_unbegun fault _ (told.read.1 refl) refl
@@ -142,7 +136,7 @@ cut_by g r fault keep held first last PartDone is good rows ends desk stopped go
 -- ---- scripts
 
 module _ {K : Type 0} (g : Ghosts K) (keep : K) (R r W w : Option (List ℕ)) where
-  cut_begins : (fault : Fault) (held : Content → Type 0) (s : SessionCut g fault keep held (ScriptCut fault (g.is_honest keep) (g.leaves keep) R r W w)) → BeginsText s.first R r W w
+  pub cut_begins : (fault : Fault) (held : Content → Type 0) (s : SessionCut g fault keep held (ScriptCut fault (g.is_honest keep) (g.leaves keep) R r W w)) → BeginsText s.first R r W w
   cut_begins fault held s = let (cause, told, ends) = s.ends in record {
     read = ends.read;
     written = ends.written;
@@ -154,31 +148,17 @@ module _ {K : Type 0} (g : Ghosts K) (keep : K) (R r W w : Option (List ℕ)) wh
     prompt = ends.prompt;
   }
 
-  -- ---- over the desk of a good ledger
-
-  pub plays_whole : (held : Content → Type 0) → ScriptWhole g keep held R r W w → PlaysWhole R r W w
-  plays_whole held s = (s.first, s.last, s.good, s.ends)
-
-  pub plays_part : (fault : Fault) (held tables : Content → Type 0) (Left : Type 0) → ScriptInPart g fault keep held tables Left R r W w → PlaysInPart R r W w
-  plays_part fault held tables Left (inl (s, (reads, writes))) = (new_ledger, good_new, nothing_read new_ledger R r W w reads writes)
-  plays_part fault held tables Left (inr s) = (s.first, s.good, cut_begins fault held s)
-
-  -- where nothing is begun, nothing is read or written
-  pub script_untouched : (fault : Fault) (held tables : Content → Type 0) (Left : Type 0) → ScriptInPart g fault keep held tables Left R r W w → IsUnbegun fault → Keeps R r × Keeps W w
-  script_untouched fault held tables Left (inl (s, kept)) un = kept
-  script_untouched fault held tables Left (inr s) un = let (cause, told, ends) = s.ends in absurd (told_begun cause fault told un)
-
   -- ---- over a new desk
 
-  pub runs_whole : (held : Content → Type 0) → g.is_honest keep → held new_content → ScriptWhole g keep held R r W w → RunsWhole R r W w
+  pub runs_whole : (held : Content → Type 0) → g.is_honest keep → held new_content → WorkWhole g Script keep held R r W w → RunsWhole R r W w
   runs_whole held honest new s = (s.last, subst (λ (A : Ledger). EndsWhole A s.last R r W w) (is_new s.first s.good (s.rows honest new_content new)) s.ends)
 
   module _ (fault : Fault) (held tables : Content → Type 0) (Left : Type 0) (honest : g.is_honest keep) (new : held new_content) where
-    pub runs_part : ScriptInPart g fault keep held tables Left R r W w → BeginsText new_ledger R r W w
+    pub runs_part : WorkInPart g Script fault keep held tables Left R r W w → BeginsText new_ledger R r W w
     runs_part (inl (s, (reads, writes))) = nothing_read new_ledger R r W w reads writes
     runs_part (inr s) = subst (λ (A : Ledger). BeginsText A R r W w) (is_new s.first s.good (s.rows honest new_content new)) (cut_begins fault held s)
 
-    pub runs_so_far : ScriptInPart g fault keep held tables Left R r W w → fault ≡ Fault.Read → RunsSoFar new_ledger R r W w
+    pub runs_so_far : WorkInPart g Script fault keep held tables Left R r W w → fault ≡ Fault.Read → RunsSoFar new_ledger R r W w
     runs_so_far (inl (s, (reads, writes))) is = nothing_so_far new_ledger R r W w reads writes
     runs_so_far (inr s) is = let (cause, told, ends) = s.ends in
         subst (λ (A : Ledger). RunsSoFar A R r W w) (is_new s.first s.good (s.rows honest new_content new)) (record {
@@ -194,7 +174,7 @@ module _ {K : Type 0} (g : Ghosts K) (keep : K) (R r W w : Option (List ℕ)) wh
         })
 
     -- a new desk is a desk, and not damaged
-    pub opens_new : tables new_content → ScriptInPart g fault keep held tables Left R r W w → IsUnbegun fault → ⊥
+    pub opens_new : tables new_content → WorkInPart g Script fault keep held tables Left R r W w → IsUnbegun fault → ⊥
     opens_new there (inl (s, kept)) un = by s.opening
       where
         by : IsNoDesk fault ⊎ ((fault ≡ Fault.Memory) ⊎ (fault ≡ Fault.Store)) → ⊥
@@ -204,74 +184,6 @@ module _ {K : Type 0} (g : Ghosts K) (keep : K) (R r W w : Option (List ℕ)) wh
         by (inr (inl is)) = not_unbegun fault _ is refl un
         by (inr (inr is)) = not_unbegun fault _ is refl un
     opens_new there (inr s) un = let (cause, told, ends) = s.ends in told_begun cause fault told un
-
--- ---- files of requests, and sheets
-
-pub nothing_printed : (A : Ledger) (W w : Option (List ℕ)) → Good A → Keeps W w → PrintsRepliesInPart W w
-nothing_printed A W w good writes = record {
-  first = A;
-  last = A;
-  requests = [];
-  answered = [];
-  left = [];
-  written = [];
-  unwritten = [];
-  good = good;
-  split = refl;
-  replies = (refl, refl);
-  writes = Appends-kept _ _ _ _ (Appends-nil W) writes;
-}
-
-module _ {K : Type 0} (g : Ghosts K) (keep : K) (W w : Option (List ℕ)) (fault : Fault) (held tables : Content → Type 0) (Left : Type 0) where
-  pub prints_replies : FileWhole g keep held W w → PrintsReplies W w
-  prints_replies s = let (requests, answered) = s.ends in (s.first, s.last, requests, s.good, answered)
-
-  pub prints_replies_in_part : FileInPart g fault keep held tables Left W w → PrintsRepliesInPart W w
-  prints_replies_in_part (inl (s, kept)) = nothing_printed new_ledger W w good_new kept
-  prints_replies_in_part (inr s) = by s.ends
-    where
-      answers : (requests : List Request) (written : List ℕ) (answered left : List Item) → Appends W w written → items_of requests ≡ answered ++ left → AlmostWritten s.first answered written s.last
-          → PrintsRepliesInPart W w
-      answers requests written answered left writes split (inl all) =
-          record { first = s.first; last = s.last; requests = requests; answered = answered; left = left; written = written; unwritten = []; good = s.good; split = split; replies = subst (λ (out : List ℕ). RepliesAll s.first answered out s.last) (sym (append-nil written)) all; writes = writes }
-      answers requests written answered left writes split (inr l) =
-          let whole = subst (λ (xs : List Item). RepliesAll s.first xs (l.lines ++ (l.begun ++ l.left)) s.last) (sym l.split)
-          (replies_more l.before l.last s.first l.mid s.last l.lines (l.begun ++ l.left) l.replies l.reply) in
-          let same : l.lines ++ (l.begun ++ l.left) ≡ written ++ l.left =
-          sym (append_assoc l.lines l.begun l.left) ∙ ap (λ (out : List ℕ). out ++ l.left) (sym l.written_are) in
-          record { first = s.first; last = s.last; requests = requests; answered = answered; left = left; written = written; unwritten = l.left; good = s.good; split = split; replies = subst (λ (out : List ℕ). RepliesAll s.first answered out s.last) same whole; writes = writes }
-
-      by : FileCut fault (g.is_honest keep) (g.leaves keep) W w s.first s.last → PrintsRepliesInPart W w
-      by (inl (unread, (same, kept))) = nothing_printed s.first W w s.good kept
-      by (inr (requests, (cause, told, (written, writes, cut)))) = answers requests written cut.answered cut.left writes cut.split cut.lines
-
-  pub file_untouched : FileInPart g fault keep held tables Left W w → IsUnbegun fault → Keeps W w
-  file_untouched (inl (s, kept)) un = kept
-  file_untouched (inr s) un = by s.ends
-    where
-      by : FileCut fault (g.is_honest keep) (g.leaves keep) W w s.first s.last → Keeps W w
-      by (inl (unread, (same, kept))) = kept
-      by (inr (requests, (cause, told, cut))) = absurd (told_begun cause fault told un)
-
-  module _ (shown : Shown) where
-    pub prints_sheet : SheetWhole g keep held shown W w → PrintsSheet shown W w
-    prints_sheet s = (s.first, s.good, s.ends.1)
-
-    pub prints_sheet_in_part : SheetInPart g fault keep held tables Left shown W w → PrintsSheetInPart shown W w
-    prints_sheet_in_part (inl (s, kept)) = inl (Appends-kept _ _ _ _ (Appends-nil W) kept)
-    prints_sheet_in_part (inr s) = by s.ends.1
-      where
-        by : SheetCut shown fault s.first W w → PrintsSheetInPart shown W w
-        by (inl (is, nothing)) = inl nothing
-        by (inr (is, begun)) = inr (s.first, s.good, begun)
-
-    pub sheet_untouched : SheetInPart g fault keep held tables Left shown W w → IsUnbegun fault → Keeps W w
-    sheet_untouched (inl (s, kept)) un = kept
-    sheet_untouched (inr s) un = absurd (by s.ends.1)
-      where
-        by : SheetCut shown fault s.first W w → ⊥
-        by (inl (is, nothing)) = not_unbegun fault _ is refl un
-        by (inr (is, begun)) = not_unbegun fault _ is refl un
 
 -- ---- over what the bytes of a file hold
 
@@ -318,12 +230,6 @@ module _ {K : Type 0} (g : Ghosts K) (keep : K) (was : Content → Type 0) (open
     going = s.going;
     kept = s.kept;
   })
-
-pub plays_nothing : (R W : Option (List ℕ)) → PlaysInPart R R W W
-plays_nothing R W = (new_ledger, good_new, nothing_read new_ledger R R W W (Keeps-refl R) (Keeps-refl W))
-
-pub plays_kept : (R r W w : Option (List ℕ)) → Keeps R r × Keeps W w → PlaysInPart R r W w
-plays_kept R r W w kept = (new_ledger, good_new, nothing_read new_ledger R r W w kept.0 kept.1)
 
 pub runs_nothing : (R W : Option (List ℕ)) → BeginsText new_ledger R R W W
 runs_nothing R W = nothing_read new_ledger R R W W (Keeps-refl R) (Keeps-refl W)

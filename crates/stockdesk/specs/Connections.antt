@@ -1,14 +1,12 @@
--- What a session shows of a desk to connections, and what these do to it.
+-- What is shown of a desk to connections, and what these do to it.
 use Rattle.std.specs.Prelude.{◌≡◌, ◌<◌, ◌≤◌, ◌⊎◌, ◌^◌, Bool, false, ℕ, List, [], ◌∷◌, ◌++◌, Option, codes, decimal, length, take}
-use Rattle.std.specs.Io.KnownBytes.{Appends, Keeps}
+use Rattle.std.specs.Io.KnownBytes.{Appends}
 use Rattle.book.specs.Ledger.{Ledger}
 use Rattle.book.specs.Rows.{Content}
-use Rattle.keep.specs.declared.keep.Keep.{Ghosts}
 use Rattle.web.specs.Serving.{EndsCut, EndsWhole, stand}
 use Rattle.web.specs.Web.{Stand}
 use Rattle.web.specs.declared.served.Served.{Served}
 use Rattle.web.specs.declared.served.WebFault.{WebFault}
-use Rattle.stockdesk.specs.Sessions.{SessionInPart, SessionWhole}
 use Rattle.stockdesk.specs.declared.session.Fault.{Fault}
 
 -- ---- the port
@@ -71,15 +69,6 @@ ServesSome count is_stopped is_honest leaves first last =
     (streams : List Streams) × (length streams ≤ count) × AreServed is_honest leaves (stand first false) streams
     (stand last is_stopped)
 
--- ---- sessions
-
--- the port was told, and so many connections were served, from the desk's ledger on
-abbrev pub ServiceWhole : {K : Type 0} → Ghosts K → ℕ → K → (Content → Type 0)
-    → (writer_old writer_new : Option (List ℕ)) → Type 0
-ServiceWhole g count keep held writer_old writer_new =
-    SessionWhole g keep held (λ first last. PortTold writer_old writer_new
-    × ServesAll count (g.is_honest keep) (g.leaves keep) first last)
-
 -- The port was not told, or not whole, since there was no socket or no memory, or a write failed; or it was told, and
 -- there was no connection more, or the last one stopped the desk.
 abbrev pub ServiceCut : Fault → ℕ → Bool → (is_honest : Type 0) → (leaves : List Content → Type 0)
@@ -89,10 +78,3 @@ ServiceCut fault count is_stopped is_honest leaves writer_old writer_new first l
     × (last ≡ first))
     ⊎ (((fault ≡ Fault.Socket) ⊎ (fault ≡ Fault.Store)) × PortTold writer_old writer_new
     × ServesSome count is_stopped is_honest leaves first last)
-
--- no desk was opened, and nothing written; or one was, and its service cut
-abbrev pub ServiceInPart : {K : Type 0} → Ghosts K → ℕ → Fault → K → (held tables : Content → Type 0)
-    → (IsLeftSo : Type 0) → (writer_old writer_new : Option (List ℕ)) → Type 0
-ServiceInPart g count fault keep held tables IsLeftSo writer_old writer_new =
-    SessionInPart g fault keep held tables IsLeftSo (Keeps writer_old writer_new)
-    (ServiceCut fault count (g.stopped keep) (g.is_honest keep) (g.leaves keep) writer_old writer_new)

@@ -1,5 +1,5 @@
 -- What the program does for a task, by what it reads and writes.
-use Rattle.std.specs.Prelude.{◌≡◌, ◌⊎◌, ℕ, List, [], ◌++◌, Option, None, Some}
+use Rattle.std.specs.Prelude.{◌≡◌, ◌⊎◌, ℕ, List, [], ◌++◌, Option}
 use Rattle.std.specs.Io.KnownBytes.{Appends, Keeps}
 use Rattle.book.specs.Good.{Good}
 use Rattle.book.specs.Ledger.{Ledger, new_ledger}
@@ -14,7 +14,7 @@ use Rattle.stockdesk.specs.Sheets.{SheetBegun, SheetWritten}
 use Rattle.stockdesk.specs.Tasks.{Asks, stockdesk}
 use Rattle.stockdesk.specs.declared.sheet.Shown.{Shown}
 use Rattle.stockdesk.specs.declared.tasks.Task.{Task}
-use Rattle.stockdesk.specs.declared.tasks.Task.TheVariants.{Bounds, Deliveries, Init, Orders, Run, Serve, Sheet, Upgrade}
+use Rattle.stockdesk.specs.declared.work.Work.{Work}
 
 -- ---- replies to requests
 
@@ -49,47 +49,55 @@ abbrev pub PrintsSheetInPart : Shown → (writer_old writer_new : Option (List �
 PrintsSheetInPart shown writer_old writer_new =
     Appends writer_old writer_new [] ⊎ ((A : Ledger) × Good A × SheetBegun shown A writer_old writer_new)
 
+-- ---- work on the desk of some good ledger
+
+-- the work is done
+abbrev pub DoesWork : Work → (reader_old reader_new writer_old writer_new : Option (List ℕ)) → Type 0
+DoesWork Work.Script reader_old reader_new writer_old writer_new =
+    PlaysWhole reader_old reader_new writer_old writer_new
+DoesWork (Work.Requests kind csv) reader_old reader_new writer_old writer_new =
+    Keeps reader_old reader_new × PrintsReplies writer_old writer_new
+DoesWork (Work.Sheet shown) reader_old reader_new writer_old writer_new =
+    Keeps reader_old reader_new × PrintsSheet shown writer_old writer_new
+DoesWork (Work.Serve service) reader_old reader_new writer_old writer_new =
+    Keeps reader_old reader_new × PortTold writer_old writer_new
+
+-- the work is done in part: what was written is a beginning
+abbrev pub DoesWorkInPart : Work → (reader_old reader_new writer_old writer_new : Option (List ℕ)) → Type 0
+DoesWorkInPart Work.Script reader_old reader_new writer_old writer_new =
+    PlaysInPart reader_old reader_new writer_old writer_new
+DoesWorkInPart (Work.Requests kind csv) reader_old reader_new writer_old writer_new =
+    Keeps reader_old reader_new × PrintsRepliesInPart writer_old writer_new
+DoesWorkInPart (Work.Sheet shown) reader_old reader_new writer_old writer_new =
+    Keeps reader_old reader_new × PrintsSheetInPart shown writer_old writer_new
+DoesWorkInPart (Work.Serve service) reader_old reader_new writer_old writer_new =
+    Keeps reader_old reader_new × PortBegun writer_old writer_new
+
 -- ---- tasks
+
+-- by what is done: on a file alone, on a desk in memory, or as work on the desk in a file
+abbrev pub ByTask : Task → (on_file in_memory : Type 0) → (Work → Type 0) → Type 0
+ByTask (Task.Init path) on_file in_memory work = on_file
+ByTask Task.Memory on_file in_memory work = in_memory
+ByTask (Task.Script path) on_file in_memory work = work Work.Script
+ByTask (Task.Requests path kind csv) on_file in_memory work = work (Work.Requests kind csv)
+ByTask (Task.Sheet path shown) on_file in_memory work = work (Work.Sheet shown)
+ByTask (Task.Serve path service) on_file in_memory work = work (Work.Serve service)
+ByTask (Task.Upgrade path) on_file in_memory work = on_file
 
 -- the task is done
 abbrev pub Does : Task → (reader_old reader_new writer_old writer_new : Option (List ℕ)) → Type 0
-Does (Init path) reader_old reader_new writer_old writer_new = Keeps reader_old reader_new × Keeps writer_old writer_new
-Does (Run None) reader_old reader_new writer_old writer_new = RunsWhole reader_old reader_new writer_old writer_new
-Does (Run (Some path)) reader_old reader_new writer_old writer_new =
-    PlaysWhole reader_old reader_new writer_old writer_new
-Does (Orders path csv) reader_old reader_new writer_old writer_new =
-    Keeps reader_old reader_new × PrintsReplies writer_old writer_new
-Does (Deliveries path csv) reader_old reader_new writer_old writer_new =
-    Keeps reader_old reader_new × PrintsReplies writer_old writer_new
-Does (Bounds path csv) reader_old reader_new writer_old writer_new =
-    Keeps reader_old reader_new × PrintsReplies writer_old writer_new
-Does (Sheet path shown) reader_old reader_new writer_old writer_new =
-    Keeps reader_old reader_new × PrintsSheet shown writer_old writer_new
-Does (Serve path service) reader_old reader_new writer_old writer_new =
-    Keeps reader_old reader_new × PortTold writer_old writer_new
-Does (Upgrade path) reader_old reader_new writer_old writer_new =
-    Keeps reader_old reader_new × Keeps writer_old writer_new
+Does task reader_old reader_new writer_old writer_new =
+    ByTask task (Keeps reader_old reader_new × Keeps writer_old writer_new)
+    (RunsWhole reader_old reader_new writer_old writer_new)
+    (λ work. DoesWork work reader_old reader_new writer_old writer_new)
 
 -- the task is done in part: what was written is a beginning
 abbrev pub DoesInPart : Task → (reader_old reader_new writer_old writer_new : Option (List ℕ)) → Type 0
-DoesInPart (Init path) reader_old reader_new writer_old writer_new =
-    Keeps reader_old reader_new × Keeps writer_old writer_new
-DoesInPart (Run None) reader_old reader_new writer_old writer_new =
-    BeginsText new_ledger reader_old reader_new writer_old writer_new
-DoesInPart (Run (Some path)) reader_old reader_new writer_old writer_new =
-    PlaysInPart reader_old reader_new writer_old writer_new
-DoesInPart (Orders path csv) reader_old reader_new writer_old writer_new =
-    Keeps reader_old reader_new × PrintsRepliesInPart writer_old writer_new
-DoesInPart (Deliveries path csv) reader_old reader_new writer_old writer_new =
-    Keeps reader_old reader_new × PrintsRepliesInPart writer_old writer_new
-DoesInPart (Bounds path csv) reader_old reader_new writer_old writer_new =
-    Keeps reader_old reader_new × PrintsRepliesInPart writer_old writer_new
-DoesInPart (Sheet path shown) reader_old reader_new writer_old writer_new =
-    Keeps reader_old reader_new × PrintsSheetInPart shown writer_old writer_new
-DoesInPart (Serve path service) reader_old reader_new writer_old writer_new =
-    Keeps reader_old reader_new × PortBegun writer_old writer_new
-DoesInPart (Upgrade path) reader_old reader_new writer_old writer_new =
-    Keeps reader_old reader_new × Keeps writer_old writer_new
+DoesInPart task reader_old reader_new writer_old writer_new =
+    ByTask task (Keeps reader_old reader_new × Keeps writer_old writer_new)
+    (BeginsText new_ledger reader_old reader_new writer_old writer_new)
+    (λ work. DoesWorkInPart work reader_old reader_new writer_old writer_new)
 
 -- the words ask for a task, and it is done
 abbrev pub DoesAsked : List Text → (reader_old reader_new writer_old writer_new : Option (List ℕ)) → Type 0

@@ -3,5 +3,6 @@ pub mod Sessions
 pub mod Connections
 pub mod Requests
 pub mod Sheets
+pub mod Work
 pub mod Tasks
 pub mod Done

@@ -1,4 +1,4 @@
--- What a session does with a file of requests.
+-- What a desk does with a file of requests.
 use Rattle.std.specs.Prelude.{◌≡◌, ◌⊎◌, ◌↔◌, ℕ, List, Option, false, map}
 use Rattle.std.specs.Io.KnownBytes.{Keeps}
 use Rattle.book.specs.Ledger.{Ledger}
@@ -13,8 +13,7 @@ use Rattle.files.specs.Deliveries.{SayDeliveries, delivery_header}
 use Rattle.files.specs.Files.{IsFile, NamesFirst}
 use Rattle.files.specs.Orders.{SayOrders, order_header}
 use Rattle.files.specs.declared.fault.FileFault.{FileFault}
-use Rattle.keep.specs.declared.keep.Keep.{Ghosts}
-use Rattle.stockdesk.specs.Sessions.{IsBadFile, IsToldAs, SessionInPart, SessionWhole}
+use Rattle.stockdesk.specs.Sessions.{IsBadFile, IsToldAs}
 use Rattle.stockdesk.specs.declared.requests.Kind.{Kind}
 use Rattle.stockdesk.specs.declared.requests.Kind.TheVariants.{Bounds, Deliveries, Orders}
 use Rattle.stockdesk.specs.declared.session.Fault.{Fault}
@@ -67,19 +66,3 @@ abbrev pub FileCut : Fault → (is_honest : Type 0) → (List Content → Type 0
 FileCut fault is_honest leaves writer_old writer_new first last =
     (((fault ≡ Fault.Memory) ⊎ IsBadFile fault) × NothingDone writer_old writer_new first last)
     ⊎ ((requests : List Request) × RequestsCut requests fault is_honest leaves writer_old writer_new first last)
-
--- ---- sessions
-
--- some requests are answered, from the desk's ledger on
-abbrev pub FileWhole : {K : Type 0} → Ghosts K → K → (Content → Type 0) → (writer_old writer_new : Option (List ℕ))
-    → Type 0
-FileWhole g keep held writer_old writer_new =
-    SessionWhole g keep held (λ first last. (requests : List Request)
-    × RequestsAnswered requests writer_old writer_new first last)
-
--- no desk was opened, and nothing written; or one was, and the answers were not begun, or cut
-abbrev pub FileInPart : {K : Type 0} → Ghosts K → Fault → K → (held tables : Content → Type 0) → (IsLeftSo : Type 0)
-    → (writer_old writer_new : Option (List ℕ)) → Type 0
-FileInPart g fault keep held tables IsLeftSo writer_old writer_new =
-    SessionInPart g fault keep held tables IsLeftSo (Keeps writer_old writer_new)
-    (FileCut fault (g.is_honest keep) (g.leaves keep) writer_old writer_new)

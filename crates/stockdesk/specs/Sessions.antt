@@ -1,13 +1,12 @@
 -- What a session does with a desk that is held, and with what it reads and writes.
 use Rattle.std.specs.Prelude.{◌≡◌, ◌≢◌, ◌⊎◌, ◌↔◌, ℕ, List, [], ◌∷◌, Option, IsTrue, false}
-use Rattle.std.specs.Io.KnownBytes.{Keeps}
 use Rattle.book.specs.Good.{Good}
 use Rattle.book.specs.Ledger.{Ledger}
 use Rattle.book.specs.Rows.{Content, IsDamaged, IsRowsOf}
 use Rattle.keep.specs.Content.{IsDesk, new_content}
 use Rattle.keep.specs.declared.keep.Keep.{Ghosts}
 use Rattle.desk.specs.Desk.{IsStored}
-use Rattle.desk.specs.Script.{EndsCut, EndsWhole}
+use Rattle.desk.specs.Script.{EndsCut}
 use Rattle.desk.specs.declared.fault.ScriptFault.{ScriptFault}
 use Rattle.stockdesk.specs.declared.session.Fault.{Fault}
 
@@ -117,16 +116,3 @@ abbrev pub ScriptCut : Fault → (is_honest : Type 0) → (List Content → Type
 ScriptCut fault is_honest leaves reader_old reader_new writer_old writer_new first last =
     (cause : ScriptFault) × IsToldAs cause fault
     × EndsCut cause (false ≡ false) is_honest leaves first last reader_old reader_new writer_old writer_new
-
--- all of the input was read, and its text written from the desk's ledger on
-abbrev pub ScriptWhole : {K : Type 0} → Ghosts K → K → (Content → Type 0)
-    → (reader_old reader_new writer_old writer_new : Option (List ℕ)) → Type 0
-ScriptWhole g keep held reader_old reader_new writer_old writer_new =
-    SessionWhole g keep held (λ first last. EndsWhole first last reader_old reader_new writer_old writer_new)
-
--- no desk was opened, and nothing read from the input or written to the output; or one was, and the script cut
-abbrev pub ScriptInPart : {K : Type 0} → Ghosts K → Fault → K → (held tables : Content → Type 0) → (IsLeftSo : Type 0)
-    → (reader_old reader_new writer_old writer_new : Option (List ℕ)) → Type 0
-ScriptInPart g fault keep held tables IsLeftSo reader_old reader_new writer_old writer_new =
-    SessionInPart g fault keep held tables IsLeftSo (Keeps reader_old reader_new × Keeps writer_old writer_new)
-    (ScriptCut fault (g.is_honest keep) (g.leaves keep) reader_old reader_new writer_old writer_new)

@@ -1,11 +1,13 @@
 -- The words that the program takes, and the task that they ask for, as `clap` sees them.
-use Rattle.std.specs.Prelude.{◌≡◌, ◌<◌, ◌≤◌, ◌∷◌, ◌^◌, [], List, Option, Some, true, codes, decimal, option_map}
+use Rattle.std.specs.Prelude.{◌≡◌, ◌<◌, ◌≤◌, ◌∷◌, ◌^◌, [], List, None, Option, Some, true, codes, decimal}
 use Rattle.clap.specs.Words.{App, Row, Rule, Text, first_of, new_app, new_rule, with_rule, with_subcommand}
 use Rattle.clap.specs.declared.builder.action.ArgAction.TheVariants.{Set}
 use Rattle.stockdesk.specs.declared.loopback.Service.{Service}
 use Rattle.stockdesk.specs.declared.sheet.Shown.TheVariants.{OfArticle, OfBranch}
 use Rattle.stockdesk.specs.declared.tasks.Task.{Task}
-use Rattle.stockdesk.specs.declared.tasks.Task.TheVariants.{Bounds, Deliveries, Init, Orders, Run, Serve, Sheet, Upgrade}
+use Rattle.stockdesk.specs.declared.tasks.Task.TheVariants.{Init, Memory, Requests, Script, Serve, Sheet, Upgrade}
+use Rattle.stockdesk.specs.declared.requests.Kind.{Kind}
+use Rattle.stockdesk.specs.declared.requests.Kind.TheVariants.{Bounds, Deliveries, Orders}
 
 -- a word of that name
 abbrev pub word : Text → Rule
@@ -83,18 +85,18 @@ pub record IsService (port connections : Text) (service : Service) : Type 0 wher
   pub some : 1 ≤ service.connections
   pub not_many : service.connections ≤ 1000000
 
+-- the command that reads files of that kind
+abbrev pub command_of : Kind → Text
+command_of Orders = codes "orders"
+command_of Deliveries = codes "deliveries"
+command_of Bounds = codes "bounds"
+
 -- the first word behind the program's name, and what was found behind it, ask for this task
 abbrev pub AsksFor : Text → List Row → Task → Type 0
 AsksFor name rows (Init path) = (name ≡ codes "init") × (first_of (codes "FILE") rows ≡ Some path.now)
-AsksFor name rows (Run path) = (name ≡ codes "run") × (first_of (codes "FILE") rows ≡ option_map (λ p. p.now) path)
-AsksFor name rows (Orders path csv) =
-    (name ≡ codes "orders") × (first_of (codes "FILE") rows ≡ Some path.now)
-    × (first_of (codes "CSV") rows ≡ Some csv.now)
-AsksFor name rows (Deliveries path csv) =
-    (name ≡ codes "deliveries") × (first_of (codes "FILE") rows ≡ Some path.now)
-    × (first_of (codes "CSV") rows ≡ Some csv.now)
-AsksFor name rows (Bounds path csv) =
-    (name ≡ codes "bounds") × (first_of (codes "FILE") rows ≡ Some path.now)
+AsksFor name rows Memory = (name ≡ codes "run") × (first_of (codes "FILE") rows ≡ None)
+AsksFor name rows (Script path) = (name ≡ codes "run") × (first_of (codes "FILE") rows ≡ Some path.now)
+AsksFor name rows (Requests path kind csv) = (name ≡ command_of kind) × (first_of (codes "FILE") rows ≡ Some path.now)
     × (first_of (codes "CSV") rows ≡ Some csv.now)
 AsksFor name rows (Sheet path (OfBranch branch)) = (name ≡ codes "sheet")
     × (first_of (codes "FILE") rows ≡ Some path.now) × (first_of (codes "BRANCH") rows ≡ Some branch)

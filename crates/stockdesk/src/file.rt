@@ -9,17 +9,13 @@ ghost use Rattle.book.specs.Rows.{Content, DeskCells};
 ghost use Rattle.keep.specs.Content.{Holds};
 ghost use Rattle.keep.specs.Old.{HoldsOld, upgraded};
 ghost use Rattle.keep.specs.Starts.{StartsOld, StartsWith};
-ghost use Rattle.stockdesk.specs.Connections.{ServiceInPart, ServiceWhole};
-ghost use Rattle.stockdesk.specs.Requests.{FileInPart, FileWhole};
-ghost use Rattle.stockdesk.specs.Sessions.{IsNewDesk, IsNotOpened, OpensWith, ScriptInPart, ScriptWhole, StillHolds};
-ghost use Rattle.stockdesk.specs.Sheets.{SheetInPart, SheetWhole};
+ghost use Rattle.stockdesk.specs.Sessions.{IsNewDesk, IsNotOpened, OpensWith, StillHolds};
+ghost use Rattle.stockdesk.specs.Work.{WorkInPart, WorkWhole};
 
-use crate::loopback::{self, Service};
 use crate::new_desk::new_desk;
-use crate::requests::{self, Kind};
-use crate::session::{Fault, session};
-use crate::sheet::{self, Shown};
+use crate::session::Fault;
 use crate::upgrade;
+use crate::work::{self, Work};
 use keep::{Keep, SqlKeep, open_path};
 use sqlite::{Connection, Error, ErrorCode, FileFrom, FileStore, Start};
 use sqlite_disk::Disk;
@@ -146,97 +142,31 @@ pub fn open<S: Start>(
     }
 }
 
-/// Plays a script on the desk in the file at the path, whose bytes are named by `start`. The keeper comes back as the
-/// session leaves it, and is still open. Where the file was not opened nothing is read from the one or written to the
-/// other: a file that is not there or has no bytes is `NotADesk`, and none is made.
-pub fn run<S: Start, R: Read, W: Write>(
+/// Does the work on the desk in the file at the path, whose bytes are named by `start`. The keeper comes back as the
+/// session leaves it, and is still open. Where the file was not opened nothing is read or written: a file that is not
+/// there or has no bytes is `NotADesk`, and none is made.
+pub fn session<S: Start, R: Read, W: Write>(
     rt: &HostRuntime,
     path: &str,
     start: S,
+    work: &Work<'_>,
     reader: &mut R,
     writer: &mut W,
 ) -> Result<(SqlKeep<FileStore<FileFrom<S>>>, Result<(), Fault>), Fault>
-    ensures whole { IfOk result (λ r. OnOk r.1 (ScriptWhole ⟦<SqlKeep<FileStore<FileFrom<S>>> as Keep>⟧ r.0
+    ensures whole { IfOk result (λ r. OnOk r.1 (WorkWhole ⟦<SqlKeep<FileStore<FileFrom<S>>> as Keep>⟧ work.now r.0
         (StartsWith (image_at S.Start)) (R.remaining reader.old) (R.remaining reader.new) (W.contents writer.old)
         (W.contents writer.new))) }
     ensures cut { IfOk result (λ r. IfErr r.1
-        (λ fault. ScriptInPart ⟦<SqlKeep<FileStore<FileFrom<S>>> as Keep>⟧ fault r.0 (StartsWith (image_at S.Start))
-        (StartsWith (image_at S.Start)) (StillHolds ⟦<SqlKeep<FileStore<FileFrom<S>>> as Keep>⟧
-        (StartsWith (image_at S.Start)) r.0)
+        (λ fault. WorkInPart ⟦<SqlKeep<FileStore<FileFrom<S>>> as Keep>⟧ work.now fault r.0
+        (StartsWith (image_at S.Start)) (StartsWith (image_at S.Start))
+        (StillHolds ⟦<SqlKeep<FileStore<FileFrom<S>>> as Keep>⟧ (StartsWith (image_at S.Start)) r.0)
         (R.remaining reader.old) (R.remaining reader.new) (W.contents writer.old) (W.contents writer.new))) }
     ensures unopened { OnErr result (Keeps (R.remaining reader.old) (R.remaining reader.new)
         × Keeps (W.contents writer.old) (W.contents writer.new)) }
     ensures fault { IfErr result IsNotOpened }
 {
     let keep = open(rt, path, start)?;
-    Ok(session(rt.alloc(), keep, reader, writer))
-}
-
-/// Answers a file of requests on the desk in the file at the path, likewise.
-pub fn answer<S: Start, W: Write>(
-    rt: &HostRuntime,
-    path: &str,
-    start: S,
-    kind: Kind,
-    csv: &str,
-    writer: &mut W,
-) -> Result<(SqlKeep<FileStore<FileFrom<S>>>, Result<(), Fault>), Fault>
-    ensures whole { IfOk result (λ r. OnOk r.1 (FileWhole ⟦<SqlKeep<FileStore<FileFrom<S>>> as Keep>⟧ r.0
-        (StartsWith (image_at S.Start)) (W.contents writer.old) (W.contents writer.new))) }
-    ensures cut { IfOk result (λ r. IfErr r.1 (λ fault. FileInPart ⟦<SqlKeep<FileStore<FileFrom<S>>> as Keep>⟧ fault r.0
-        (StartsWith (image_at S.Start)) (StartsWith (image_at S.Start))
-        (StillHolds ⟦<SqlKeep<FileStore<FileFrom<S>>> as Keep>⟧ (StartsWith (image_at S.Start)) r.0)
-        (W.contents writer.old) (W.contents writer.new))) }
-    ensures unopened { OnErr result (Keeps (W.contents writer.old) (W.contents writer.new)) }
-    ensures fault { IfErr result IsNotOpened }
-{
-    let keep = open(rt, path, start)?;
-    Ok(requests::answer(rt, keep, kind, csv, writer))
-}
-
-/// Writes a sheet of the desk in the file at the path, likewise.
-pub fn show<S: Start, W: Write>(
-    rt: &HostRuntime,
-    path: &str,
-    start: S,
-    shown: &Shown,
-    writer: &mut W,
-) -> Result<(SqlKeep<FileStore<FileFrom<S>>>, Result<(), Fault>), Fault>
-    ensures whole { IfOk result (λ r. OnOk r.1 (SheetWhole ⟦<SqlKeep<FileStore<FileFrom<S>>> as Keep>⟧ r.0
-        (StartsWith (image_at S.Start)) shown.now (W.contents writer.old) (W.contents writer.new))) }
-    ensures cut { IfOk result (λ r. IfErr r.1
-        (λ fault. SheetInPart ⟦<SqlKeep<FileStore<FileFrom<S>>> as Keep>⟧ fault r.0 (StartsWith (image_at S.Start))
-        (StartsWith (image_at S.Start)) (StillHolds ⟦<SqlKeep<FileStore<FileFrom<S>>> as Keep>⟧
-        (StartsWith (image_at S.Start)) r.0)
-        shown.now (W.contents writer.old) (W.contents writer.new))) }
-    ensures unopened { OnErr result (Keeps (W.contents writer.old) (W.contents writer.new)) }
-    ensures fault { IfErr result IsNotOpened }
-{
-    let keep = open(rt, path, start)?;
-    Ok(sheet::show(rt.alloc(), keep, shown, writer))
-}
-
-/// Serves the desk in the file at the path, likewise.
-pub fn serve<S: Start, W: Write>(
-    rt: &HostRuntime,
-    path: &str,
-    start: S,
-    service: &Service,
-    writer: &mut W,
-) -> Result<(SqlKeep<FileStore<FileFrom<S>>>, Result<(), Fault>), Fault>
-    ensures whole { IfOk result (λ r. OnOk r.1
-        (ServiceWhole ⟦<SqlKeep<FileStore<FileFrom<S>>> as Keep>⟧ service.now.connections r.0
-        (StartsWith (image_at S.Start)) (W.contents writer.old) (W.contents writer.new))) }
-    ensures cut { IfOk result (λ r. IfErr r.1
-        (λ fault. ServiceInPart ⟦<SqlKeep<FileStore<FileFrom<S>>> as Keep>⟧ service.now.connections fault r.0
-        (StartsWith (image_at S.Start)) (StartsWith (image_at S.Start))
-        (StillHolds ⟦<SqlKeep<FileStore<FileFrom<S>>> as Keep>⟧ (StartsWith (image_at S.Start)) r.0)
-        (W.contents writer.old) (W.contents writer.new))) }
-    ensures unopened { OnErr result (Keeps (W.contents writer.old) (W.contents writer.new)) }
-    ensures fault { IfErr result IsNotOpened }
-{
-    let keep = open(rt, path, start)?;
-    Ok(loopback::serve(rt, keep, service, writer))
+    Ok(work::session(rt, keep, work, reader, writer))
 }
 
 /// Makes version 2 of the desk in the file at the path, whose bytes are named by `start`, where it is of version 1; one

@@ -1,12 +1,12 @@
-//! A desk that a keeper holds, served to connections on this machine.
+//! A desk, served to connections on this machine.
 
 ghost use Rattle.std.specs.Prelude.{◌≡◌, ◌≢◌, ◌≤◌, ◌⊎◌, false, Err, IfErr, IfOk, IsTrue, List, length, OnErr, OnOk};
 ghost use Rattle.desk.specs.Desk.{StaysStored};
 ghost use Rattle.web.specs.Serving.{stand};
-ghost use Rattle.stockdesk.specs.Connections.{AreServed, Came, IsServed, PortBegun, PortTold, ServesAll, ServiceCut, ServiceInPart, ServiceWhole, Streams, listening_line};
-ghost use Rattle.stockdesk.specs.Sessions.{IsLeft, IsNoDesk};
+ghost use Rattle.stockdesk.specs.Connections.{AreServed, Came, IsServed, PortBegun, PortTold, ServesAll, ServiceCut, Streams, listening_line};
+ghost use Rattle.stockdesk.specs.Sessions.{IsNoDesk};
 
-use crate::session::{Fault, open_desk};
+use crate::session::Fault;
 use desk::Desk;
 use itoa::Buffer;
 use keep::Keep;
@@ -144,8 +144,9 @@ fn listen_at<W: Write>(rt: &HostRuntime, port: u16, writer: &mut W) -> Result<Tc
     Ok(listener)
 }
 
-/// Serves a desk.
-fn serve_desk<K: Keep, W: Write>(
+/// Listens, tells the port, and serves a desk to connections, one after the other. A fault of a connection ends that
+/// one alone.
+pub fn serve_desk<K: Keep, W: Write>(
     rt: &HostRuntime,
     desk: &mut Desk<K>,
     service: &Service,
@@ -170,32 +171,4 @@ fn serve_desk<K: Keep, W: Write>(
     };
     desk.is_stopped();
     ended
-}
-
-/// Opens the desk that a keeper holds, listens, tells the port, and serves connections one after the other. The keeper
-/// comes back as the session leaves it.
-///
-/// With Ok so many connections were served, and a stop leaves the rows of the ledger behind them. After `Store` the
-/// last connection stopped the desk, and a stop leaves the rows of its ledger or those after the command that was first
-/// answered `stopped`; after any other fault those of its ledger alone. A fault of a connection ends that one alone.
-/// Where no desk was opened nothing is written, the keeper holds what it held, and nothing is added to what a stop may
-/// leave.
-pub fn serve<K: Keep, W: Write>(
-    rt: &HostRuntime,
-    keep: K,
-    service: &Service,
-    writer: &mut W,
-) -> (K, Result<(), Fault>)
-    ensures whole { OnOk result.1 (ServiceWhole K.Keep service.now.connections result.0 (K.holds keep)
-        (W.contents writer.old) (W.contents writer.new)) }
-    ensures cut { IfErr result.1 (λ fault. ServiceInPart K.Keep service.now.connections fault result.0 (K.holds keep)
-        (K.has_tables keep) (IsLeft K.Keep keep result.0) (W.contents writer.old) (W.contents writer.new)) }
-    ensures honest { K.is_honest result.0 → K.is_honest keep }
-{
-    let mut desk = match open_desk(rt.alloc(), keep) {
-        Ok(desk) => desk,
-        Err((fault, keep)) => return (keep, Err(fault)),
-    };
-    let ended = serve_desk(rt, &mut desk, service, writer);
-    (desk.into_keep(), ended)
 }

@@ -22,6 +22,7 @@ mod tasks;
 #[cfg(test)]
 mod tests;
 mod upgrade;
+mod work;
 
 use crate::perform::perform;
 use crate::session::Fault;
@@ -126,28 +127,40 @@ fn unread_words<E: Write>(errors: &mut E, kind: ErrorKind) -> u8
     }
 }
 
-fn main(rt: HostRuntime) -> ExitCode {
-    let alloc = rt.alloc();
+/// The words that the program is called with.
+fn called_with(rt: &HostRuntime) -> Result<Vec<String>, ErrorKind> {
+    match env::args(rt) {
+        Ok(args) => match args.collect::<Vec<String>>(rt.alloc()) {
+            Ok(args) => Ok(args),
+            Err(_) => Err(ErrorKind::OutOfMemory),
+        },
+        Err(fault) => Err(fault.kind()),
+    }
+}
+
+/// Does what the words ask for, over standard input, output and error, and gives the status.
+fn go_over(rt: &HostRuntime, args: &[String]) -> u8 {
     let mut errors = rt.stderr();
-    let args = match env::args(&rt) {
-        Ok(args) => args,
-        Err(fault) => return ExitCode::from(unread_words(&mut errors, fault.kind())),
-    };
-    let Ok(args) = args.collect::<Vec<String>>(alloc) else {
-        return ExitCode::from(tell(&mut errors, b"stockdesk: memory\n", 1));
-    };
-    let Ok(words) = args
+    match args
         .iter()
         .map(|word| word.as_str())
-        .collect::<Vec<&str>>(alloc)
-    else {
-        return ExitCode::from(tell(&mut errors, b"stockdesk: memory\n", 1));
+        .collect::<Vec<&str>>(rt.alloc())
+    {
+        Ok(words) => go(
+            rt,
+            words.as_slice(),
+            &mut rt.stdin(),
+            &mut rt.stdout(),
+            &mut errors,
+        ),
+        Err(_) => unread_words(&mut errors, ErrorKind::OutOfMemory),
+    }
+}
+
+fn main(rt: HostRuntime) -> ExitCode {
+    let status = match called_with(&rt) {
+        Ok(args) => go_over(&rt, &args),
+        Err(kind) => unread_words(&mut rt.stderr(), kind),
     };
-    ExitCode::from(go(
-        &rt,
-        words.as_slice(),
-        &mut rt.stdin(),
-        &mut rt.stdout(),
-        &mut errors,
-    ))
+    ExitCode::from(status)
 }

@@ -6,7 +6,8 @@ ghost use Rattle.stockdesk.specs.Runs.{BeginsText, RunsSoFar, RunsWhole};
 ghost use Rattle.stockdesk.specs.Sessions.{IsNewDesk, IsUnbegun};
 
 use crate::new_desk::new_desk;
-use crate::session::{Fault, session};
+use crate::session::Fault;
+use crate::work::{Work, session};
 use keep::{Keep, SqlKeep};
 use sqlite::{Connection, MemStore};
 use std::alloc::Global;
@@ -29,7 +30,7 @@ fn new_keeper(alloc: Global) -> Result<SqlKeep<MemStore>, Fault>
 /// Reads to the end, and writes what a new desk answers, each reply line before the next line is answered. After a
 /// fault what is written is a beginning of the text for what was read, with the whole answer to all of that but the
 /// last piece, of 512 bytes at the most; after a failing read, the answer to each line that was read.
-pub fn run<R: Read, W: Write>(alloc: Global, reader: &mut R, writer: &mut W) -> Result<(), Fault>
+pub fn run<R: Read, W: Write>(rt: &HostRuntime, reader: &mut R, writer: &mut W) -> Result<(), Fault>
     ensures whole { OnOk result (RunsWhole (R.remaining reader.old) (R.remaining reader.new) (W.contents writer.old)
         (W.contents writer.new)) }
     ensures beginning { OnErr result (BeginsText new_ledger (R.remaining reader.old) (R.remaining reader.new)
@@ -38,7 +39,7 @@ pub fn run<R: Read, W: Write>(alloc: Global, reader: &mut R, writer: &mut W) -> 
     ensures prompt { IfErr result (λ fault. fault ≡ Fault.Read → RunsSoFar new_ledger (R.remaining reader.old)
         (R.remaining reader.new) (W.contents writer.old) (W.contents writer.new)) }
 {
-    let keep = new_keeper(alloc)?;
-    let (_, ended) = session(alloc, keep, reader, writer);
+    let keep = new_keeper(rt.alloc())?;
+    let (_, ended) = session(rt, keep, &Work::Script, reader, writer);
     ended
 }

@@ -1,13 +1,13 @@
-//! A file of requests, answered by a desk that a keeper holds.
+//! A file of requests, answered by a desk.
 
 ghost use Rattle.std.specs.Prelude.{◌≡◌, ◌≢◌, ◌⊎◌, false, Err, IfErr, IfOk, IfSome, IsTrue, List, OnOk};
 ghost use Rattle.desk.specs.Desk.{StaysStored};
-ghost use Rattle.stockdesk.specs.Requests.{FileCut, FileInPart, FileWhole, IsFileFault, IsFileOf, NamesFirstOf, RequestsAnswered, RequestsCut, items_of};
-ghost use Rattle.stockdesk.specs.Sessions.{IsBadFile, IsLeft, IsNoDesk, IsUnbegun};
+ghost use Rattle.stockdesk.specs.Requests.{FileCut, IsFileFault, IsFileOf, NamesFirstOf, RequestsAnswered, RequestsCut, items_of};
+ghost use Rattle.stockdesk.specs.Sessions.{IsBadFile, IsNoDesk, IsUnbegun};
 ghost use Rattle.words.specs.declared.command.Request.{Request};
 ghost use Rattle.files.specs.declared.fault.FileFault.{FileFault};
 
-use crate::session::{Fault, open_desk, script_fault};
+use crate::session::{Fault, script_fault};
 use desk::{Desk, answer_all};
 use files::{FileFault, read_bounds, read_deliveries, read_orders};
 use keep::Keep;
@@ -133,8 +133,10 @@ fn answer_from<K: Keep, R: Read + Drop, W: Write>(
     answer_items(alloc, desk, &items, writer)
 }
 
-/// Answers the requests of the file at the path on a desk.
-fn answer_file<K: Keep, W: Write>(
+/// Reads the file of requests at the path, and then answers its requests on a desk in their order, each reply line
+/// written before the next request is called. A file that cannot be read is `Csv`, a record at fault `BadRecord`; then
+/// nothing is done, and nothing written.
+pub fn answer_file<K: Keep, W: Write>(
     rt: &HostRuntime,
     desk: &mut Desk<K>,
     kind: Kind,
@@ -156,32 +158,4 @@ fn answer_file<K: Keep, W: Write>(
         Ok(reader) => answer_from(rt.alloc(), desk, kind, reader, writer),
         Err(error) => Err(open_fault(error.kind())),
     }
-}
-
-/// Opens the desk that a keeper holds, reads the file of requests at the path, and then answers its requests in their
-/// order, each reply line written before the next request is called. The keeper comes back as the session leaves it.
-///
-/// A file that cannot be read is `Csv`, a record at fault `BadRecord`; then nothing is done, and nothing written. After
-/// any other fault the first of the requests are answered, and a stop leaves the rows of the ledger behind them, or,
-/// where the store failed, those or the rows after one request more. Where no desk was opened the file is not looked
-/// at, and the keeper holds what it held.
-pub fn answer<K: Keep, W: Write>(
-    rt: &HostRuntime,
-    keep: K,
-    kind: Kind,
-    path: &str,
-    writer: &mut W,
-) -> (K, Result<(), Fault>)
-    ensures whole { OnOk result.1 (FileWhole K.Keep result.0 (K.holds keep) (W.contents writer.old)
-        (W.contents writer.new)) }
-    ensures cut { IfErr result.1 (λ fault. FileInPart K.Keep fault result.0 (K.holds keep) (K.has_tables keep)
-        (IsLeft K.Keep keep result.0) (W.contents writer.old) (W.contents writer.new)) }
-    ensures honest { K.is_honest result.0 → K.is_honest keep }
-{
-    let mut desk = match open_desk(rt.alloc(), keep) {
-        Ok(desk) => desk,
-        Err((fault, keep)) => return (keep, Err(fault)),
-    };
-    let ended = answer_file(rt, &mut desk, kind, path, writer);
-    (desk.into_keep(), ended)
 }

@@ -1,11 +1,11 @@
-//! A session: what is done on a desk that a keeper holds.
+//! The desk that a keeper holds: opened, and a script played on it.
 
-ghost use Rattle.std.specs.Prelude.{◌≡◌, ◌≢◌, ◌↔◌, ◌⊎◌, false, Err, IfErr, IfOk, IsTrue, List, OnOk};
+ghost use Rattle.std.specs.Prelude.{◌≡◌, ◌≢◌, ◌↔◌, ◌⊎◌, false, Err, IfErr, IfOk, IsTrue, OnOk};
 ghost use Rattle.book.specs.Good.{Good};
 ghost use Rattle.book.specs.Rows.{Content, IsRowsOf};
 ghost use Rattle.desk.specs.Desk.{StaysStored};
 ghost use Rattle.desk.specs.Script.{EndsWhole};
-ghost use Rattle.stockdesk.specs.Sessions.{IsLeft, IsNoDesk, IsToldAs, IsUnbegun, ScriptCut, ScriptInPart, ScriptWhole, SessionRefused};
+ghost use Rattle.stockdesk.specs.Sessions.{IsLeft, IsNoDesk, IsToldAs, IsUnbegun, ScriptCut, SessionRefused};
 
 use desk::{Desk, OpenFault, ScriptFault, script};
 use keep::Keep;
@@ -95,7 +95,7 @@ pub fn open_desk<K: Keep>(alloc: Global, keep: K) -> Result<Desk<K>, (Fault, K)>
 }
 
 /// Plays a script on a desk.
-fn play<K: Keep, R: Read, W: Write>(
+pub fn play<K: Keep, R: Read, W: Write>(
     alloc: Global,
     desk: &mut Desk<K>,
     reader: &mut R,
@@ -117,33 +117,4 @@ fn play<K: Keep, R: Read, W: Write>(
         Ok(()) => Ok(()),
         Err(fault) => Err(script_fault(fault)),
     }
-}
-
-/// Opens the desk that a keeper holds, and plays a script on it. The keeper comes back as the session leaves it.
-///
-/// With Ok all of the input was read, and its text written from the desk's ledger on; a stop leaves the rows of the
-/// ledger behind it. After a fault a beginning of the text is written for what was read, and a stop leaves the rows of
-/// the ledger behind the answers, or, where the store failed, those or the rows after one request more. Where no desk
-/// was opened nothing is read, the keeper holds what it held, and nothing is added to what a stop may leave. A keeper
-/// that was stopped comes back as it was.
-pub fn session<K: Keep, R: Read, W: Write>(
-    alloc: Global,
-    keep: K,
-    reader: &mut R,
-    writer: &mut W,
-) -> (K, Result<(), Fault>)
-    ensures whole { OnOk result.1 (ScriptWhole K.Keep result.0 (K.holds keep) (R.remaining reader.old)
-        (R.remaining reader.new) (W.contents writer.old) (W.contents writer.new)) }
-    ensures cut { IfErr result.1 (λ fault. ScriptInPart K.Keep fault result.0 (K.holds keep) (K.has_tables keep)
-        (IsLeft K.Keep keep result.0) (R.remaining reader.old) (R.remaining reader.new) (W.contents writer.old)
-        (W.contents writer.new)) }
-    ensures refused { IsTrue (K.stopped keep) → result ≡ (keep, Err Fault.Store) }
-    ensures honest { K.is_honest result.0 → K.is_honest keep }
-{
-    let mut desk = match open_desk(alloc, keep) {
-        Ok(desk) => desk,
-        Err((fault, keep)) => return (keep, Err(fault)),
-    };
-    let ended = play(alloc, &mut desk, reader, writer);
-    (desk.into_keep(), ended)
 }

@@ -1,14 +1,12 @@
-//! A stock sheet of a desk that a keeper holds.
+//! A stock sheet of a desk.
 
 ghost use Rattle.std.specs.Prelude.{◌≡◌, ◌⊎◌, IfErr, OnOk};
-ghost use Rattle.stockdesk.specs.Sessions.{IsLeft};
-ghost use Rattle.stockdesk.specs.Sheets.{SheetCut, SheetInPart, SheetWhole, SheetWritten};
+ghost use Rattle.stockdesk.specs.Sheets.{SheetCut, SheetWritten};
 
-use crate::session::{Fault, open_desk};
+use crate::session::Fault;
 use book::Book;
 use escrow::{Article, Branch};
 use files::{SheetFault, article_sheet, branch_sheet};
-use keep::Keep;
 use std::alloc::Global;
 use std::io::Write;
 
@@ -39,8 +37,9 @@ fn write<W: Write>(
     }
 }
 
-/// The same, with the fault as the program tells it.
-fn show_book<W: Write>(
+/// The same, with the fault as the program tells it. Want of memory leaves nothing written, and a failing write a
+/// beginning.
+pub fn show_book<W: Write>(
     alloc: Global,
     book: &Book,
     shown: &Shown,
@@ -57,27 +56,4 @@ fn show_book<W: Write>(
         Err(SheetFault::Memory) => Err(Fault::Memory),
         Err(SheetFault::Io) => Err(Fault::Write),
     }
-}
-
-/// Opens the desk that a keeper holds, and writes a sheet of it. The desk is as it was, and the keeper holds what it
-/// held. Want of memory leaves nothing written, and a failing write a beginning.
-pub fn show<K: Keep, W: Write>(
-    alloc: Global,
-    keep: K,
-    shown: &Shown,
-    writer: &mut W,
-) -> (K, Result<(), Fault>)
-    ensures whole { OnOk result.1 (SheetWhole K.Keep result.0 (K.holds keep) shown.now (W.contents writer.old)
-        (W.contents writer.new)) }
-    ensures cut { IfErr result.1 (λ fault. SheetInPart K.Keep fault result.0 (K.holds keep) (K.has_tables keep)
-        (IsLeft K.Keep keep result.0) shown.now (W.contents writer.old) (W.contents writer.new)) }
-    ensures honest { K.is_honest result.0 → K.is_honest keep }
-{
-    let desk = match open_desk(alloc, keep) {
-        Ok(desk) => desk,
-        Err((fault, keep)) => return (keep, Err(fault)),
-    };
-    desk.is_stopped();
-    let ended = show_book(alloc, desk.book(), shown, writer);
-    (desk.into_keep(), ended)
 }

@@ -1,11 +1,12 @@
 //! What the words behind the program's name ask for.
 
-ghost use Rattle.std.specs.Prelude.{◌≡◌, ◌≤◌, Some, None, codes, [], false, true, decimal, map, IfErr, IfOk, IfSome};
-ghost use Rattle.clap.specs.Words.{app_of, found_of, kind_of, rows_of, rule_of, subcommand_of, subcommand_rows_of, takes, with_subcommand};
+ghost use Rattle.std.specs.Prelude.{◌≡◌, ◌≤◌, Some, None, codes, [], false, true, decimal, map, option_map, IfErr, IfOk, IfSome};
+ghost use Rattle.clap.specs.Words.{app_of, first_of, found_of, kind_of, rows_of, rule_of, subcommand_of, subcommand_rows_of, takes, with_subcommand};
 ghost use Rattle.clap.specs.declared.builder.command.Command.TheViews.{out-Command as fields_of};
-ghost use Rattle.stockdesk.specs.Tasks.{Asks, AsksFor, IsPlainRun, IsService, article, bounds, deliveries, init, on_file, option, orders, run, scripts, serve, sheet, stockdesk, upgrade, with_both};
+ghost use Rattle.stockdesk.specs.Tasks.{Asks, AsksFor, IsPlainRun, IsService, article, bounds, command_of, deliveries, init, on_file, option, orders, run, scripts, serve, sheet, stockdesk, upgrade, with_both};
 
 use crate::loopback::Service;
+use crate::requests::Kind;
 use crate::sheet::Shown;
 use clap::error::ErrorKind;
 use clap::{Arg, ArgAction, ArgMatches, Command, Error};
@@ -21,14 +22,12 @@ const MAX_CONNECTIONS: u32 = 1_000_000;
 pub enum Task<'a> {
     /// A new desk in this file.
     Init(&'a str),
-    /// A script on the desk in this file, or on a new one in memory.
-    Run(Option<&'a str>),
-    /// On the desk in the first file, the orders in the second.
-    Orders(&'a str, &'a str),
-    /// On the desk in the first file, the deliveries in the second.
-    Deliveries(&'a str, &'a str),
-    /// On the desk in the first file, the other bounds in the second.
-    Bounds(&'a str, &'a str),
+    /// A script on a new desk in memory.
+    Memory,
+    /// A script on the desk in this file.
+    Script(&'a str),
+    /// On the desk in the first file, the requests of that kind in the second.
+    Requests(&'a str, Kind, &'a str),
     /// A sheet of the desk in this file.
     Sheet(&'a str, Shown),
     /// The desk in this file, served.
@@ -257,38 +256,67 @@ fn service_named(port: &str, connections: &str) -> Option<Service>
     Some(Service { port, connections })
 }
 
-/// The task that a command asks for, by its name and the words behind it; none where one of these is no code or number.
-fn task_named<'a>(name: &str, found: &ArgMatches<'a>) -> Option<Task<'a>>
-    ensures asked { IfSome result (AsksFor name.now (rows_of (found_of found.now))) }
-    ensures run { name.now ≡ codes "run" → rows_of (found_of found.now) ≡ [] → result ≡ Some (Task.Run None) }
+/// The word that was found by that name.
+fn word<'a>(found: &ArgMatches<'a>, name: &str) -> Option<&'a str>
+    ensures { option_map (λ s. s.now) result ≡ first_of name.now (rows_of (found_of found.now)) }
+{
+    found.get_str(name)
+}
+
+/// What a command reads a file of.
+fn kind_named(name: &str) -> Option<Kind>
+    ensures { IfSome result (λ kind. name.now ≡ command_of kind) }
 {
     match name {
-        "init" => Some(Task::Init(found.get_str("FILE")?)),
-        "run" => Some(Task::Run(found.get_str("FILE"))),
-        "orders" => Some(Task::Orders(found.get_str("FILE")?, found.get_str("CSV")?)),
-        "deliveries" => Some(Task::Deliveries(found.get_str("FILE")?, found.get_str("CSV")?)),
-        "bounds" => Some(Task::Bounds(found.get_str("FILE")?, found.get_str("CSV")?)),
-        "sheet" => Some(Task::Sheet(
-            found.get_str("FILE")?,
-            branch_named(found.get_str("BRANCH")?)?,
-        )),
-        "article" => Some(Task::Sheet(
-            found.get_str("FILE")?,
-            article_named(found.get_str("ARTICLE")?)?,
-        )),
-        "serve" => Some(Task::Serve(
-            found.get_str("FILE")?,
-            service_named(found.get_str("port")?, found.get_str("connections")?)?,
-        )),
-        "upgrade" => Some(Task::Upgrade(found.get_str("FILE")?)),
+        "orders" => Some(Kind::Orders),
+        "deliveries" => Some(Kind::Deliveries),
+        "bounds" => Some(Kind::Bounds),
         _ => None,
+    }
+}
+
+/// The task that a command on the desk in a file asks for; none where a word behind it is no code or number.
+fn task_on<'a>(name: &str, path: &'a str, found: &ArgMatches<'a>) -> Option<Task<'a>>
+    ensures { IfSome result (λ task. first_of (codes "FILE") (rows_of (found_of found.now)) ≡ Some path.entry.now
+        → AsksFor name.now (rows_of (found_of found.now)) task) }
+{
+    match name {
+        "init" => Some(Task::Init(path)),
+        "run" => Some(Task::Script(path)),
+        "sheet" => Some(Task::Sheet(path, branch_named(word(found, "BRANCH")?)?)),
+        "article" => Some(Task::Sheet(path, article_named(word(found, "ARTICLE")?)?)),
+        "serve" => {
+            let port = word(found, "port")?;
+            let connections = word(found, "connections")?;
+            Some(Task::Serve(path, service_named(port, connections)?))
+        }
+        "upgrade" => Some(Task::Upgrade(path)),
+        _ => {
+            let kind = kind_named(name)?;
+            Some(Task::Requests(path, kind, word(found, "CSV")?))
+        }
+    }
+}
+
+/// The task that a command asks for, by its name and the words behind it, likewise. A run alone may be without a file:
+/// it is one in memory.
+fn task_named<'a>(name: &str, found: &ArgMatches<'a>) -> Option<Task<'a>>
+    ensures asked { IfSome result (AsksFor name.now (rows_of (found_of found.now))) }
+    ensures run { name.now ≡ codes "run" → rows_of (found_of found.now) ≡ [] → result ≡ Some Task.Memory }
+{
+    match word(found, "FILE") {
+        Some(path) => task_on(name, path, found),
+        None => match name {
+            "run" => Some(Task::Memory),
+            _ => None,
+        },
     }
 }
 
 /// The task that the words have been read as.
 fn task_of<'a>(matches: &ArgMatches<'a>) -> Option<Task<'a>>
     ensures asked { IfSome result (Asks (subcommand_rows_of matches.now)) }
-    ensures run { subcommand_rows_of matches.now ≡ Some (codes "run", []) → result ≡ Some (Task.Run None) }
+    ensures run { subcommand_rows_of matches.now ≡ Some (codes "run", []) → result ≡ Some Task.Memory }
 {
     match matches.subcommand() {
         Some((name, found)) => task_named(name, found),
@@ -301,7 +329,7 @@ fn task_of<'a>(matches: &ArgMatches<'a>) -> Option<Task<'a>>
 pub fn read_task<'a>(alloc: Global, words: &'a [&'a str]) -> Result<Option<Task<'a>>, Error>
     ensures asks { IfOk result (λ task. IfSome task
         (Asks (subcommand_of stockdesk (map (λ s. s.now) words.entry.now)))) }
-    ensures asked { IsPlainRun (map (λ s. s.now) words.entry.now) → IfOk result (λ task. task ≡ Some (Task.Run None)) }
+    ensures asked { IsPlainRun (map (λ s. s.now) words.entry.now) → IfOk result (λ task. task ≡ Some Task.Memory) }
     ensures taken { takes stockdesk (map (λ s. s.now) words.entry.now) ≡ true
         → IfErr result (λ error. kind_of error ≡ ErrorKind.OutOfMemory) }
 {

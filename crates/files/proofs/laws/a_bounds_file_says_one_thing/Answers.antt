@@ -1,13 +1,7 @@
 use Rattle.files.specs.Bounds.{SayBounds, bounds_header}
 use Rattle.files.proofs.OneMeaning.{bounds_say_one}
-use Rattle.files.proofs.OneReading.{not_both_of_file, one_file, one_number}
+use Rattle.files.proofs.OneReading.{says_one_thing}
 use Rattle.files.proofs.laws.a_bounds_file_says_one_thing.Goals as goal
 
-pub returns-clause-requests : goal.returns-clause-requests
-returns-clause-requests c = one_file bounds_header SayBounds bounds_say_one
-
-pub returns-clause-number : goal.returns-clause-number
-returns-clause-number c = one_number bounds_header SayBounds bounds_say_one
-
-pub returns-clause-apart : goal.returns-clause-apart
-returns-clause-apart c = not_both_of_file bounds_header SayBounds bounds_say_one
+pub returns : goal.returns
+returns c = says_one_thing bounds_header SayBounds bounds_say_one

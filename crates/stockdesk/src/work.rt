@@ -1,0 +1,89 @@
+//! A session: work that is done on the desk that a keeper holds.
+
+ghost use Rattle.std.specs.Prelude.{◌≡◌, ◌≢◌, false, Err, IfErr, IsTrue, OnOk};
+ghost use Rattle.desk.specs.Desk.{StaysStored};
+ghost use Rattle.stockdesk.specs.Sessions.{IsLeft, IsNoDesk};
+ghost use Rattle.stockdesk.specs.Work.{WorkCut, WorkDone, WorkInPart, WorkWhole};
+
+use crate::loopback::{Service, serve_desk};
+use crate::requests::{Kind, answer_file};
+use crate::session::{Fault, open_desk, play};
+use crate::sheet::{Shown, show_book};
+use desk::Desk;
+use keep::Keep;
+use std::io::{Read, Write};
+
+/// What is done on a desk.
+#[derive(Clone, Copy, Debug, PartialEq, Eq)]
+pub enum Work<'a> {
+    /// A script is played, from the reader to the writer.
+    Script,
+    /// The requests of the file at this path are answered.
+    Requests(Kind, &'a str),
+    /// A sheet of it is written.
+    Sheet(Shown),
+    /// It is served.
+    Serve(Service),
+}
+
+/// Does the work on a desk.
+fn work_on<K: Keep, R: Read, W: Write>(
+    rt: &HostRuntime,
+    desk: &mut Desk<K>,
+    work: &Work<'_>,
+    reader: &mut R,
+    writer: &mut W,
+) -> Result<(), Fault>
+    requires { K.stopped desk.old.keep ≡ false }
+    ensures whole { OnOk result (WorkDone work.now (K.is_honest desk.new.keep) (K.leaves desk.new.keep)
+        (R.remaining reader.old) (R.remaining reader.new) (W.contents writer.old) (W.contents writer.new)
+        desk.old.ledger desk.new.ledger) }
+    ensures cut { IfErr result (λ fault. WorkCut work.now fault (K.stopped desk.new.keep) (K.is_honest desk.new.keep)
+        (K.leaves desk.new.keep) (R.remaining reader.old) (R.remaining reader.new) (W.contents writer.old)
+        (W.contents writer.new) desk.old.ledger desk.new.ledger) }
+    ensures desk { IfErr result (λ fault. ¬ IsNoDesk fault) }
+    ensures going { result ≢ Err Fault.Store → K.stopped desk.new.keep ≡ false }
+    ensures stopped { result ≡ Err Fault.Store → IsTrue (K.stopped desk.new.keep) }
+    ensures stored { StaysStored K.Keep desk.new }
+    ensures honest { K.is_honest desk.new.keep → K.is_honest desk.old.keep }
+{
+    match work {
+        Work::Script => play(rt.alloc(), desk, reader, writer),
+        Work::Requests(kind, path) => answer_file(rt, desk, *kind, *path, writer),
+        Work::Sheet(shown) => {
+            desk.is_stopped();
+            show_book(rt.alloc(), desk.book(), shown, writer)
+        }
+        Work::Serve(service) => serve_desk(rt, desk, service, writer),
+    }
+}
+
+/// Opens the desk that a keeper holds, and does the work on it. The keeper comes back as the session leaves it.
+///
+/// With Ok the work is done, from the desk's ledger on; a stop leaves the rows of the ledger behind it. After a fault a
+/// beginning of what was to be written is, and a stop leaves the rows of the ledger behind the answers, or, where the
+/// store failed, those or the rows after one request more. Where no desk was opened nothing is read or written, the
+/// keeper holds what it held, and nothing is added to what a stop may leave. A keeper that was stopped comes back as it
+/// was.
+pub fn session<K: Keep, R: Read, W: Write>(
+    rt: &HostRuntime,
+    keep: K,
+    work: &Work<'_>,
+    reader: &mut R,
+    writer: &mut W,
+) -> (K, Result<(), Fault>)
+    ensures whole { OnOk result.1 (WorkWhole K.Keep work.now result.0 (K.holds keep) (R.remaining reader.old)
+        (R.remaining reader.new) (W.contents writer.old) (W.contents writer.new)) }
+    ensures cut { IfErr result.1 (λ fault. WorkInPart K.Keep work.now fault result.0 (K.holds keep) (K.has_tables keep)
+        (IsLeft K.Keep keep result.0) (R.remaining reader.old) (R.remaining reader.new) (W.contents writer.old)
+        (W.contents writer.new)) }
+    ensures refused { IsTrue (K.stopped keep) → result ≡ (keep, Err Fault.Store) }
+    ensures honest { K.is_honest result.0 → K.is_honest keep }
+{
+    let mut desk = match open_desk(rt.alloc(), keep) {
+        Ok(desk) => desk,
+        Err((fault, keep)) => return (keep, Err(fault)),
+    };
+    let ended = work_on(rt, &mut desk, work, reader, writer);
+    (desk.into_keep(), ended)
+}
