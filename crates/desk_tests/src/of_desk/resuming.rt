@@ -5,11 +5,11 @@ ghost use Rattle.sqlite_disk.specs.Memory.{memory_is_usable};
 
 use crate::desks::{answers, open, opened, requests, resume};
 use crate::keepers::{connection_of, keeper, sql_keeper};
-use crate::of_keep::disks::{self, CUTS, calls_to, desk_files, files_of, left_by};
+use crate::of_keep::disks::{CUTS, Visit, calls_to, desk_files, left_by, over_files};
 use desk::{Desk, Ending, OpenFault, Run};
 use keep::Keep;
 use sqlite::{Alter, Connection, Files};
-use sqlite_disk::{Disk, Fuse, Memory};
+use sqlite_disk::{Fuse, Memory};
 use std::alloc::Global;
 use std::test::Fail;
 use words::{Refusal, Reply, Request};
@@ -201,37 +201,28 @@ fn go_on<K: Keep>(
     answer_on(alloc, desk, list, &requests, before)
 }
 
-/// A session over the connection: how many replies it gave, none where no desk was opened.
-fn session<S: Alter + Drop>(
-    alloc: Global,
-    conn: Connection<S>,
-    list: &List,
+/// A session behind so many replies of the list: how many it gave, none where no desk was opened.
+#[derive(Drop)]
+struct Session<'a> {
+    list: &'a List,
     before: usize,
-) -> Result<(Connection<S>, usize), Fail> {
-    match open(alloc, keeper(conn)?) {
-        Err((OpenFault::Store | OpenFault::Memory, keep)) => Ok((connection_of(keep), 0)),
-        Err(_) => Err("the store is told as something else")?,
-        Ok(mut desk) => {
-            let count = go_on(alloc, &mut desk, list, before)?;
-            Ok((connection_of(desk.into_keep()), count))
-        }
-    }
 }
 
-/// The same over two files; where these cannot be opened there is no session.
-fn visit<D: Disk + Drop>(
-    alloc: Global,
-    files: Files<D>,
-    list: &List,
-    before: usize,
-) -> Result<(Files<D>, usize), Fail>
-    requires { IsTrue (D.Disk.is_usable files.log) × IsTrue (D.Disk.is_usable files.db) }
-{
-    match disks::open(alloc, files) {
-        Err(files) => Ok((files, 0)),
-        Ok(conn) => {
-            let (conn, count) = session(alloc, conn, list, before)?;
-            Ok((files_of(conn), count))
+impl Visit for Session<'_> {
+    type Found = usize;
+
+    fn over<S: Alter + Drop>(
+        &self,
+        alloc: Global,
+        conn: Connection<S>,
+    ) -> Result<(Connection<S>, usize), Fail> {
+        match open(alloc, keeper(conn)?) {
+            Err((OpenFault::Store | OpenFault::Memory, keep)) => Ok((connection_of(keep), 0)),
+            Err(_) => Err("the store is told as something else")?,
+            Ok(mut desk) => {
+                let count = go_on(alloc, &mut desk, self.list, self.before)?;
+                Ok((connection_of(desk.into_keep()), count))
+            }
         }
     }
 }
@@ -253,8 +244,8 @@ fn visit_cut(
         log: Fuse::new(files.log, calls.0),
         db: Fuse::new(files.db, calls.1),
     };
-    let (fused, count) = visit(alloc, fused, list, before)?;
-    Ok((left_by(alloc, fused, is_cut)?, count))
+    let (fused, count) = over_files(alloc, fused, &Session { list, before })?;
+    Ok((left_by(alloc, fused, is_cut)?, count.unwrap_or(0)))
 }
 
 /// The list is cut by these two failures, one after the other, and then resumed to its end: how many replies came
@@ -269,8 +260,8 @@ fn cut_twice(
     let (left, begun) = visit_cut(alloc, desk_files(alloc)?, list, 0, first, is_cut)?;
     let (left, more) = visit_cut(alloc, left, list, begun, second, is_cut)?;
     let before = begun.checked_add(more).ok_or("no such number")?;
-    let (_, rest) = visit(alloc, left, list, before)?;
-    if before.checked_add(rest) != Some(list.lines.len()) {
+    let (_, rest) = over_files(alloc, left, &Session { list, before })?;
+    if before.checked_add(rest.unwrap_or(0)) != Some(list.lines.len()) {
         Err("not resumed to its end")?;
     }
     Ok(begun)

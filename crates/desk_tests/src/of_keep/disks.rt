@@ -4,7 +4,7 @@ ghost use Rattle.std.specs.Prelude.{IsTrue, IfOk};
 ghost use Rattle.sqlite_disk.specs.Memory.{memory_is_usable};
 
 use crate::keepers::create;
-use sqlite::{Connection, FileStore, Files, Options};
+use sqlite::{Alter, Connection, FileStore, Files, Options};
 use sqlite_disk::{Crash, Disk, Fuse, Memory};
 use std::alloc::Global;
 use std::test::Fail;
@@ -21,7 +21,7 @@ pub(crate) fn open<D: Disk + Drop>(
     }
 }
 
-pub(crate) fn files_of<D: Disk + Drop>(conn: Connection<FileStore<D>>) -> Files<D> {
+fn files_of<D: Disk + Drop>(conn: Connection<FileStore<D>>) -> Files<D> {
     match conn.close_files() {
         Ok(files) => files,
         Err((_, store)) => store.close(),
@@ -56,27 +56,67 @@ pub(crate) fn copies(alloc: Global, log: &[u8], db: &[u8]) -> Result<Files<Memor
     Ok(Files { log, db })
 }
 
-/// Makes a new desk in the files.
-fn made<D: Disk + Drop>(alloc: Global, files: Files<D>) -> Result<Files<D>, Fail>
+/// What is done over a connection, whatever its store.
+pub(crate) trait Visit {
+    type Found: Drop;
+
+    /// Does it: the connection as it is then, and what was found.
+    fn over<S: Alter + Drop>(
+        &self,
+        alloc: Global,
+        conn: Connection<S>,
+    ) -> Result<(Connection<S>, Self::Found), Fail>;
+}
+
+/// Does it over the files: they come back, with what was found where they can be opened.
+pub(crate) fn over_files<D: Disk + Drop, V: Visit>(
+    alloc: Global,
+    files: Files<D>,
+    work: &V,
+) -> Result<(Files<D>, Option<V::Found>), Fail>
     requires { IsTrue (D.Disk.is_usable files.log) × IsTrue (D.Disk.is_usable files.db) }
 {
     match open(alloc, files) {
-        Ok(conn) => made_over(conn),
-        Err(_) => Err("not opened")?,
+        Err(files) => Ok((files, None)),
+        Ok(conn) => {
+            let (conn, found) = work.over(alloc, conn)?;
+            Ok((files_of(conn), Some(found)))
+        }
     }
 }
 
-fn made_over<D: Disk + Drop>(mut conn: Connection<FileStore<D>>) -> Result<Files<D>, Fail> {
-    create(&mut conn)?;
-    Ok(files_of(conn))
+/// A new desk is made.
+struct Making;
+
+impl Visit for Making {
+    type Found = ();
+
+    fn over<S: Alter + Drop>(
+        &self,
+        _alloc: Global,
+        mut conn: Connection<S>,
+    ) -> Result<(Connection<S>, ()), Fail> {
+        create(&mut conn)?;
+        Ok((conn, ()))
+    }
+}
+
+/// The files that the work leaves of new ones.
+pub(crate) fn files_made<V: Visit>(alloc: Global, work: &V) -> Result<Files<Memory>, Fail>
+    ensures { IfOk result (λ f. IsTrue (memory_is_usable f.log) × IsTrue (memory_is_usable f.db)) }
+{
+    let (files, found) = over_files(alloc, new_files(alloc), work)?;
+    if found.is_none() {
+        Err("not opened")?;
+    }
+    copies(alloc, files.log.bytes(), files.db.bytes())
 }
 
 /// The files of a new desk.
 pub(crate) fn desk_files(alloc: Global) -> Result<Files<Memory>, Fail>
     ensures { IfOk result (λ f. IsTrue (memory_is_usable f.log) × IsTrue (memory_is_usable f.db)) }
 {
-    let files = made(alloc, new_files(alloc))?;
-    copies(alloc, files.log.bytes(), files.db.bytes())
+    files_made(alloc, &Making)
 }
 
 /// The bytes that are left for the next open, after a power cut or without one.

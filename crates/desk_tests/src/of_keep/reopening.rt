@@ -1,15 +1,14 @@
 //! What a stop leaves for the next open.
 
 ghost use Rattle.std.specs.Prelude.{IsTrue};
-ghost use Rattle.sqlite_disk.specs.Memory.{memory_is_usable};
 
-use super::disks::{CUTS, calls_to, desk_files, files_of, left_by, new_files, open};
+use super::disks::{CUTS, Visit, calls_to, desk_files, left_by, new_files, open, over_files};
 use super::{loaded, order, shown};
 use crate::keepers::{commit, connection_of, create, keeper};
 use book::{Change, Tables};
 use keep::{Keep, KeepFault, SqlKeep, reopen, reopen_and_load};
 use sqlite::{Alter, Connection, FileStore, Files, Options};
-use sqlite_disk::{Crash, Disk, Fuse, Memory};
+use sqlite_disk::{Crash, Disk, Fuse};
 use std::alloc::Global;
 use std::test::Fail;
 
@@ -48,55 +47,52 @@ fn is_told<K: Keep>(keep: &K, last: Result<(), KeepFault>) -> bool {
     }
 }
 
-/// Makes a new desk and commits twice: how much of that was acknowledged. What fails is told as the store.
-fn make_and_commit<S: Alter + Drop>(
-    mut conn: Connection<S>,
-) -> Result<(Connection<S>, usize), Fail> {
-    match create(&mut conn) {
-        Ok(()) => {}
-        Err(KeepFault::Store) => return Ok((conn, 0)),
-        Err(_) => Err("the store is told as something else")?,
+/// A new desk is made, and two commits: how much of that was acknowledged. What fails is told as the store.
+struct Commits;
+
+impl Visit for Commits {
+    type Found = usize;
+
+    fn over<S: Alter + Drop>(
+        &self,
+        _alloc: Global,
+        mut conn: Connection<S>,
+    ) -> Result<(Connection<S>, usize), Fail> {
+        match create(&mut conn) {
+            Ok(()) => {}
+            Err(KeepFault::Store) => return Ok((conn, 0)),
+            Err(_) => Err("the store is told as something else")?,
+        }
+        let mut keep = keeper(conn)?;
+        let (done, last) = commit_twice(&mut keep);
+        if !is_told(&keep, last) {
+            Err("the store is told as something else, or has not stopped its keeper")?;
+        }
+        Ok((connection_of(keep), done.saturating_add(1)))
     }
-    let mut keep = keeper(conn)?;
-    let (done, last) = commit_twice(&mut keep);
-    if !is_told(&keep, last) {
-        Err("the store is told as something else, or has not stopped its keeper")?;
-    }
-    Ok((connection_of(keep), done.saturating_add(1)))
 }
 
 /// The rows that are there, nothing where there is no table.
-fn found<S: Alter + Drop>(alloc: Global, conn: Connection<S>) -> Result<String, Fail> {
-    if conn.schema().tables.is_empty() {
-        return Ok(String::new(alloc));
-    }
-    loaded(alloc, &mut keeper(conn)?)
-}
+struct RowsThere;
 
-/// The same over files, which can be opened.
-fn found_in(alloc: Global, files: Files<Memory>) -> Result<String, Fail>
-    requires { IsTrue (memory_is_usable files.log) × IsTrue (memory_is_usable files.db) }
-{
-    match open(alloc, files) {
-        Ok(conn) => found(alloc, conn),
-        Err(_) => Err("not opened again")?,
-    }
-}
+impl Visit for RowsThere {
+    type Found = String;
 
-/// Makes a desk and commits twice where the files can be opened: how much was acknowledged.
-fn visit<D: Disk + Drop>(alloc: Global, files: Files<D>) -> Result<(Files<D>, usize), Fail>
-    requires { IsTrue (D.Disk.is_usable files.log) × IsTrue (D.Disk.is_usable files.db) }
-{
-    match open(alloc, files) {
-        Err(files) => Ok((files, 0)),
-        Ok(conn) => {
-            let (conn, done) = make_and_commit(conn)?;
-            Ok((files_of(conn), done))
+    fn over<S: Alter + Drop>(
+        &self,
+        alloc: Global,
+        conn: Connection<S>,
+    ) -> Result<(Connection<S>, String), Fail> {
+        if conn.schema().tables.is_empty() {
+            return Ok((conn, String::new(alloc)));
         }
+        let mut keep = keeper(conn)?;
+        let rows = loaded(alloc, &mut keep)?;
+        Ok((connection_of(keep), rows))
     }
 }
 
-/// The same where one of the files fails after so many calls, with a power cut at the end or not: then all that was
+/// The commits where one of the files fails after so many calls, with a power cut at the end or not: then all that was
 /// acknowledged is found, or one step more, and no part of a step.
 fn visit_cut(alloc: Global, calls: (u64, u64), is_cut: bool) -> Result<usize, Fail> {
     let files = new_files(alloc);
@@ -104,8 +100,10 @@ fn visit_cut(alloc: Global, calls: (u64, u64), is_cut: bool) -> Result<usize, Fa
         log: Fuse::new(files.log, calls.0),
         db: Fuse::new(files.db, calls.1),
     };
-    let (fused, done) = visit(alloc, fused)?;
-    let rows = found_in(alloc, left_by(alloc, fused, is_cut)?)?;
+    let (fused, done) = over_files(alloc, fused, &Commits)?;
+    let done = done.unwrap_or(0);
+    let (_, rows) = over_files(alloc, left_by(alloc, fused, is_cut)?, &RowsThere)?;
+    let rows = rows.ok_or("not opened again")?;
     let place = FOUND.iter().position(|want| *want == rows.as_str());
     if place == Some(done) || place == done.checked_add(1) {
         Ok(done)

@@ -1,14 +1,11 @@
 //! What an upgrade makes of a store of version 1, and what a stop within it leaves.
 
-ghost use Rattle.std.specs.Prelude.{IsTrue, IfOk};
-ghost use Rattle.sqlite_disk.specs.Memory.{memory_is_usable};
-
-use super::disks::{CUTS, calls_to, copies, files_of, left_by, new_files, open};
-use super::{fails_by, shown};
-use crate::keepers::{connection_of, keeper, load, load_fault, upgrade};
+use super::disks::{CUTS, Visit, calls_to, files_made, left_by, over_files};
+use super::{fails_by, loaded};
+use crate::keepers::{connection_of, keeper, load_fault, upgrade};
 use keep::KeepFault;
-use sqlite::{Alter, Connection, Error, FileStore, Files};
-use sqlite_disk::{Disk, Fuse, Memory};
+use sqlite::{Alter, Connection, Error, Files};
+use sqlite_disk::Fuse;
 use std::alloc::Global;
 use std::test::Fail;
 
@@ -36,49 +33,86 @@ fn make_old<S: Alter>(conn: &mut Connection<S>) -> Result<(), Error> {
     conn.execute_batch(OLD)
 }
 
-/// The files of that store.
-fn old_files(alloc: Global) -> Result<Files<Memory>, Fail>
-    ensures { IfOk result (λ f. IsTrue (memory_is_usable f.log) × IsTrue (memory_is_usable f.db)) }
-{
-    let files = made(alloc, new_files(alloc))?;
-    copies(alloc, files.log.bytes(), files.db.bytes())
-}
+/// The store of version 1 is made.
+struct Old;
 
-fn made(alloc: Global, files: Files<Memory>) -> Result<Files<Memory>, Fail>
-    requires { IsTrue (memory_is_usable files.log) × IsTrue (memory_is_usable files.db) }
-{
-    match open(alloc, files) {
-        Ok(mut conn) => {
-            make_old(&mut conn)?;
-            Ok(files_of(conn))
-        }
-        Err(_) => Err("not opened")?,
+impl Visit for Old {
+    type Found = ();
+
+    fn over<S: Alter + Drop>(
+        &self,
+        _alloc: Global,
+        mut conn: Connection<S>,
+    ) -> Result<(Connection<S>, ()), Fail> {
+        make_old(&mut conn)?;
+        Ok((conn, ()))
     }
 }
 
 /// Whether all of version 2 is loaded.
-fn is_upgraded<S: Alter + Drop>(alloc: Global, conn: Connection<S>) -> Result<bool, Fail> {
-    let tables = load(&mut keeper(conn)?, alloc)?;
-    Ok(shown(alloc, &tables)?.as_str() == UPGRADED)
+fn is_upgraded<S: Alter + Drop>(
+    alloc: Global,
+    conn: Connection<S>,
+) -> Result<(Connection<S>, bool), Fail> {
+    let mut keep = keeper(conn)?;
+    let rows = loaded(alloc, &mut keep)?;
+    Ok((connection_of(keep), rows.as_str() == UPGRADED))
 }
 
 /// The version that is found, 1 or 2, of which all is there: an upgrade of version 1 has each row.
-fn version<S: Alter + Drop>(alloc: Global, conn: Connection<S>) -> Result<u64, Fail> {
+fn version<S: Alter + Drop>(
+    alloc: Global,
+    conn: Connection<S>,
+) -> Result<(Connection<S>, u64), Fail> {
     let mut keep = keeper(conn)?;
     let fault = load_fault(&mut keep, alloc);
     let mut conn = connection_of(keep);
-    let found = match fault {
-        None => 2,
+    match fault {
+        None => Ok((conn, 2)),
         Some(KeepFault::OldVersion) => {
             upgrade(&mut conn)?;
-            1
+            Ok((conn, 1))
         }
         Some(_) => Err("it is of neither version")?,
-    };
-    if is_upgraded(alloc, conn)? {
-        Ok(found)
-    } else {
-        Err("a row is missing")?
+    }
+}
+
+/// That version.
+struct VersionThere;
+
+impl Visit for VersionThere {
+    type Found = u64;
+
+    fn over<S: Alter + Drop>(
+        &self,
+        alloc: Global,
+        conn: Connection<S>,
+    ) -> Result<(Connection<S>, u64), Fail> {
+        let (conn, found) = version(alloc, conn)?;
+        let (conn, is_whole) = is_upgraded(alloc, conn)?;
+        if !is_whole {
+            Err("a row is missing")?;
+        }
+        Ok((conn, found))
+    }
+}
+
+/// Upgrades it: whether that was answered to be done.
+struct Upgrading;
+
+impl Visit for Upgrading {
+    type Found = bool;
+
+    fn over<S: Alter + Drop>(
+        &self,
+        _alloc: Global,
+        mut conn: Connection<S>,
+    ) -> Result<(Connection<S>, bool), Fail> {
+        match upgrade(&mut conn) {
+            Ok(()) => Ok((conn, true)),
+            Err(KeepFault::Store) => Ok((conn, false)),
+            Err(_) => Err("the store is told as something else")?,
+        }
     }
 }
 
@@ -91,7 +125,7 @@ fn an_old_version_is_told_and_upgraded_once(rt: HostRuntime) -> Result<(), Fail>
     let mut conn = connection_of(keep);
     assert!(rt; upgrade(&mut conn) == Ok(()));
     assert!(rt; upgrade(&mut conn) == Ok(()));
-    assert!(rt; is_upgraded(rt.alloc(), conn)?);
+    assert!(rt; is_upgraded(rt.alloc(), conn)?.1);
     Ok(())
 }
 
@@ -121,44 +155,18 @@ fn only_the_two_versions_are_upgraded(rt: HostRuntime) -> Result<(), Fail> {
     Ok(())
 }
 
-/// Upgrades what the files hold, where they can be opened: the files, and whether that was answered to be done.
-fn visit<D: Disk + Drop>(alloc: Global, files: Files<D>) -> Result<(Files<D>, bool), Fail>
-    requires { IsTrue (D.Disk.is_usable files.log) × IsTrue (D.Disk.is_usable files.db) }
-{
-    match open(alloc, files) {
-        Err(files) => Ok((files, false)),
-        Ok(conn) => upgraded(conn),
-    }
-}
-
-fn upgraded<D: Disk + Drop>(mut conn: Connection<FileStore<D>>) -> Result<(Files<D>, bool), Fail> {
-    match upgrade(&mut conn) {
-        Ok(()) => Ok((files_of(conn), true)),
-        Err(KeepFault::Store) => Ok((files_of(conn), false)),
-        Err(_) => Err("the store is told as something else")?,
-    }
-}
-
-/// The version that the next open finds.
-fn version_in(alloc: Global, files: Files<Memory>) -> Result<u64, Fail>
-    requires { IsTrue (memory_is_usable files.log) × IsTrue (memory_is_usable files.db) }
-{
-    match open(alloc, files) {
-        Ok(conn) => version(alloc, conn),
-        Err(_) => Err("not opened again")?,
-    }
-}
-
 /// Upgrades where one of the files fails after so many calls, with a power cut at the end or not: whether it was done.
 /// Then version 2 is found, and else one of the two.
 fn visit_cut(alloc: Global, calls: (u64, u64), is_cut: bool) -> Result<bool, Fail> {
-    let files = old_files(alloc)?;
+    let files = files_made(alloc, &Old)?;
     let fused = Files {
         log: Fuse::new(files.log, calls.0),
         db: Fuse::new(files.db, calls.1),
     };
-    let (fused, done) = visit(alloc, fused)?;
-    let found = version_in(alloc, left_by(alloc, fused, is_cut)?)?;
+    let (fused, done) = over_files(alloc, fused, &Upgrading)?;
+    let done = done.unwrap_or(false);
+    let (_, found) = over_files(alloc, left_by(alloc, fused, is_cut)?, &VersionThere)?;
+    let found = found.ok_or("not opened again")?;
     if done && found != 2 {
         Err("an upgrade that was done is lost")?;
     }

@@ -1,4 +1,4 @@
-use Rattle.std.proofs.Common.{◌≡◌, [], ◌∷◌, ap, sym, subst}
+use Rattle.std.proofs.Common.{[], ◌∷◌, ◌≡◌, ap, rules, subst, sym}
 use Rattle.sqlite.specs.State.{HasCleanDisk}
 use Rattle.sqlite.specs.Files.{file_state}
 use Rattle.sqlite.specs.Effect.{Database}
@@ -34,3 +34,6 @@ returns-in-Ok-clause-alone g c clean x held =
     let opened = c.in-Ok.ensures.opened first in
     subst (λ h. LeavesOnly (file_state h).may_leave (x ∷ [])) (sym same)
     (c.over.ensures.alone opened.0.is_open x (subst (λ h. Holds (file_state h).now x) same held))
+
+pub returns-in-Ok-clause-going : goal.returns-in-Ok-clause-going
+returns-in-Ok-clause-going g c = search rules

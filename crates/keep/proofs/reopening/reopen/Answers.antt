@@ -1,4 +1,4 @@
-use Rattle.std.proofs.Common.{◌≡◌, [], ◌∷◌, ap, sym, subst}
+use Rattle.std.proofs.Common.{[], ◌∷◌, ◌≡◌, ap, rules, subst, sym}
 use Rattle.sqlite.specs.State.{HasCleanDisk}
 use Rattle.sqlite.specs.Files.{file_state}
 use Rattle.book.specs.Rows.{Content}
@@ -24,3 +24,6 @@ returns-clause-left g c clean =
     let found = c.in_ok-conn.ensures.left (subst (λ h. HasCleanDisk (file_state h)) same clean) in
     subst (λ h. ∥ (file_state c.args.keep.connection).may_leave (file_state h).now.trees ∥₁) (sym same)
     (subst (λ h. ∥ (file_state h).may_leave (file_state c.in_ok-conn.conn).now.trees ∥₁) c.into_connection.ensures.connection found)
+
+pub returns-clause-going : goal.returns-clause-going
+returns-clause-going g c = search rules

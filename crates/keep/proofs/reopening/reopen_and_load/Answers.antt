@@ -1,3 +1,4 @@
+use Rattle.std.proofs.Common.{rules}
 use Rattle.std.proofs.Math.Logic.{∥∥₁_elim}
 use Rattle.sqlite.specs.Files.{file_state}
 use Rattle.keep.specs.Content.{Holds, LeavesOnly}
@@ -21,3 +22,12 @@ returns-clause-alone g c clean =
     let was = if_held c.load-tables.result Was (Holds (file_state c.load-tables.new.self.connection).now) (c.load-tables.ensures.same clean) (c.load-tables.ensures.content clean) in
     alone_after Was (LeavesOnly (file_state c.in_ok-again.again.connection).may_leave) (LeavesOnly (file_state c.load-tables.new.self.connection).may_leave) c.load-tables.result was
     (c.in_ok-again.ensures.alone (c.load-tables.ensures.honest clean)) (c.load-tables.ensures.adds_nothing clean)
+
+pub returns-clause-going : goal.returns-clause-going
+returns-clause-going g c = search rules
+
+pub returns-clause-stopped : goal.returns-clause-stopped
+returns-clause-stopped g c = search rules
+
+pub returns-clause-held : goal.returns-clause-held
+returns-clause-held g c = search rules

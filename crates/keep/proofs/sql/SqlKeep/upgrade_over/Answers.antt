@@ -1,4 +1,4 @@
-use Rattle.std.proofs.Common.{refl}
+use Rattle.std.proofs.Common.{refl, rules}
 use Rattle.std.proofs.lemmas.Result.{on_ok_weaker}
 use Rattle.sqlite.specs.Held.{state}
 use Rattle.keep.proofs.Stops.{settled_if}
@@ -37,3 +37,6 @@ returns-in-Nameless-clause-desk g c clean fault =
 pub returns-in-Nameless-clause-other : goal.returns-in-Nameless-clause-other
 returns-in-Nameless-clause-other g c names differ other =
     let none = rw c.schema.ensures.value at (c.in-Nameless.ensures.nameless refl) in absurd (none names)
+
+pub returns-in-Nameless-clause-nameless : goal.returns-in-Nameless-clause-nameless
+returns-in-Nameless-clause-nameless g c = search rules
