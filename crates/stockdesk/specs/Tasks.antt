@@ -21,9 +21,13 @@ needed name = record (word name) { required = true }
 abbrev pub option : Text → Rule
 option name = record (needed name) { long = Some name; value_names = 1 }
 
+-- a command with a file
+abbrev pub on_path : Text → App
+on_path name = with_rule (new_app name) (needed (codes "FILE"))
+
 -- `init FILE`
 abbrev pub init : App
-init = with_rule (new_app (codes "init")) (needed (codes "FILE"))
+init = on_path (codes "init")
 
 -- `run [FILE]`
 abbrev pub run : App
@@ -31,7 +35,7 @@ run = with_rule (new_app (codes "run")) (word (codes "FILE"))
 
 -- a command with a file and one word more
 abbrev pub on_file : Text → Text → App
-on_file name second = with_rule (with_rule (new_app name) (needed (codes "FILE"))) (needed second)
+on_file name second = with_rule (on_path name) (needed second)
 
 -- `orders FILE CSV`
 abbrev pub orders : App
@@ -55,12 +59,11 @@ article = on_file (codes "article") (codes "ARTICLE")
 
 -- `serve FILE --port N --connections N`
 abbrev pub serve : App
-serve = with_rule (with_rule (with_rule (new_app (codes "serve")) (needed (codes "FILE"))) (option (codes "port")))
-    (option (codes "connections"))
+serve = with_rule (with_rule (on_path (codes "serve")) (option (codes "port"))) (option (codes "connections"))
 
 -- `upgrade FILE`
 abbrev pub upgrade : App
-upgrade = with_rule (new_app (codes "upgrade")) (needed (codes "FILE"))
+upgrade = on_path (codes "upgrade")
 
 -- two commands more
 abbrev pub with_both : App → App → App → App

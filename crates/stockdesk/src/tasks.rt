@@ -3,7 +3,7 @@
 ghost use Rattle.std.specs.Prelude.{◌≡◌, ◌≤◌, Some, None, codes, [], false, true, decimal, map, option_map, IfErr, IfOk, IfSome};
 ghost use Rattle.clap.specs.Words.{app_of, first_of, found_of, kind_of, rows_of, rule_of, subcommand_of, subcommand_rows_of, takes, with_subcommand};
 ghost use Rattle.clap.specs.declared.builder.command.Command.TheViews.{out-Command as fields_of};
-ghost use Rattle.stockdesk.specs.Tasks.{Asks, AsksFor, IsPlainRun, IsService, article, bounds, command_of, deliveries, init, on_file, option, orders, run, scripts, serve, sheet, stockdesk, upgrade, with_both};
+ghost use Rattle.stockdesk.specs.Tasks.{Asks, AsksFor, IsPlainRun, IsService, article, bounds, command_of, deliveries, on_file, on_path, option, orders, run, scripts, serve, sheet, stockdesk, upgrade, with_both};
 
 use crate::loopback::Service;
 use crate::requests::Kind;
@@ -36,18 +36,21 @@ pub enum Task<'a> {
     Upgrade(&'a str),
 }
 
-/// `init`, with its file.
-fn init_command<'a>(alloc: Global) -> Result<Command<'a>, AllocError>
-    ensures app { IfOk result (λ command. app_of command ≡ init) }
+/// A command with a file.
+fn path_command<'a>(
+    alloc: Global,
+    name: &'a str,
+    about: &'a str,
+    help: &'a str,
+) -> Result<Command<'a>, AllocError>
+    ensures app { IfOk result (λ command. app_of command ≡ on_path name.entry.now) }
     ensures local { IfOk result (λ command. (fields_of command).has_globals ≡ false) }
 {
     let file = Arg::new(alloc, "FILE")
-        .help("A file that is not there or has no bytes; any other is left alone")
+        .help(help)
         .required(true)
         .action(ArgAction::Set);
-    Command::new(alloc, "init")
-        .about("Makes a new desk in a file")
-        .arg(file)
+    Command::new(alloc, name).about(about).arg(file)
 }
 
 /// `run`, with its file or without.
@@ -74,22 +77,19 @@ fn file_command<'a>(
     ensures app { IfOk result (λ command. app_of command ≡ on_file name.entry.now second.entry.now) }
     ensures local { IfOk result (λ command. (fields_of command).has_globals ≡ false) }
 {
-    let file = Arg::new(alloc, "FILE")
-        .help("The file of a desk")
-        .required(true)
-        .action(ArgAction::Set);
     let more = Arg::new(alloc, second)
         .help(help)
         .required(true)
         .action(ArgAction::Set);
-    Command::new(alloc, name).about(about).arg(file)?.arg(more)
+    path_command(alloc, name, about, "The file of a desk")?.arg(more)
 }
 
 /// The program, with the commands of scripts.
 fn with_scripts<'a>(alloc: Global) -> Result<Command<'a>, AllocError>
     ensures { IfOk result (λ command. app_of command ≡ scripts) }
 {
-    let init = init_command(alloc)?;
+    let help = "A file that is not there or has no bytes; any other is left alone";
+    let init = path_command(alloc, "init", "Makes a new desk in a file", help)?;
     let run = run_command(alloc)?;
     Command::new(alloc, "stockdesk")
         .about("The stock desk of a chain of shops")
@@ -153,17 +153,12 @@ fn serve_command<'a>(alloc: Global) -> Result<Command<'a>, AllocError>
     ensures app { IfOk result (λ command. app_of command ≡ serve) }
     ensures local { IfOk result (λ command. (fields_of command).has_globals ≡ false) }
 {
-    let file = Arg::new(alloc, "FILE")
-        .help("The file of a desk")
-        .required(true)
-        .action(ArgAction::Set);
     let help = "The port on 127.0.0.1, 0 to 65535; 0 is any that is free";
     let port = number_option(alloc, "port", help);
     let help = "How many connections are served before it ends, 1 to 1000000";
     let connections = number_option(alloc, "connections", help);
-    Command::new(alloc, "serve")
-        .about("Answers HTTP on 127.0.0.1, one connection after the other")
-        .arg(file)?
+    let about = "Answers HTTP on 127.0.0.1, one connection after the other";
+    path_command(alloc, "serve", about, "The file of a desk")?
         .arg(port)?
         .arg(connections)
 }
@@ -176,25 +171,13 @@ fn with_service<'a>(alloc: Global, command: Command<'a>) -> Result<Command<'a>, 
     command.subcommand(serve)
 }
 
-/// `upgrade`, with its file.
-fn upgrade_command<'a>(alloc: Global) -> Result<Command<'a>, AllocError>
-    ensures app { IfOk result (λ command. app_of command ≡ upgrade) }
-    ensures local { IfOk result (λ command. (fields_of command).has_globals ≡ false) }
-{
-    let file = Arg::new(alloc, "FILE")
-        .help("The file of a desk of an earlier version; one of this version is left alone")
-        .required(true)
-        .action(ArgAction::Set);
-    Command::new(alloc, "upgrade")
-        .about("Makes a desk of this version of one of an earlier version")
-        .arg(file)
-}
-
 /// Adds the command that upgrades a desk.
 fn with_upgrade<'a>(alloc: Global, command: Command<'a>) -> Result<Command<'a>, AllocError>
     ensures { IfOk result (λ more. app_of more ≡ with_subcommand (app_of command.entry) upgrade.top) }
 {
-    let upgrade = upgrade_command(alloc)?;
+    let about = "Makes a desk of this version of one of an earlier version";
+    let help = "The file of a desk of an earlier version; one of this version is left alone";
+    let upgrade = path_command(alloc, "upgrade", about, help)?;
     command.subcommand(upgrade)
 }
 

@@ -3,7 +3,7 @@ use Rattle.std.proofs.lemmas.Result.{IfOk-weaker}
 use Rattle.clap.specs.Words.{rule_of, with_rule}
 use Rattle.clap.specs.Simple.{app_of_fields}
 use Rattle.stockdesk.specs.Tasks.{needed}
-use Rattle.stockdesk.proofs.tasks.upgrade_command.Goals as goal
+use Rattle.stockdesk.proofs.tasks.path_command.Goals as goal
 
 pub returns-clause-app : goal.returns-clause-app
 returns-clause-app c =
