@@ -129,16 +129,13 @@ reaching w l = if is_way w l.way then l.held else l.used
 -- what a line moves then, of a firm order, whichever way it has
 firm_step : (w : Way) (b : Bool) (v : Way) (used held : ℕ) → used ≤ held → (if b then signed v ((if is_way w v then held else used) - used) else pos 0) ≡ toward w (if b then pos (if_way w v (held - used)) else pos 0)
 unfolding is_way
-firm_step Take b v used held h = grind (arith, ints)
-firm_step Add b v used held h = grind (arith, ints)
+firm_step w b v used held h = grind arith
 
 both_toward : (w : Way) (y z : ℤ) → toward w (y +ℤ z) ≡ toward w y +ℤ toward w z
-both_toward Take y z = omega (arith, ints)
-both_toward Add y z = refl
+both_toward w y z = grind arith
 
 nothing_toward : (w : Way) → pos 0 ≡ toward w (pos 0)
-nothing_toward Take = refl
-nothing_toward Add = refl
+nothing_toward w = grind arith
 
 in_firm : (w : Way) (f : Name) (ls : List Line) → Each (λ l. l.used ≤ l.held) ls → total (λ l. if on f l then signed l.way (unsettled true l (reaching w l)) else pos 0) ls ≡ toward w (total (held w true f) ls)
 in_firm w f [] h = nothing_toward w
@@ -149,8 +146,7 @@ in_firm w f (l ∷ ls) h = let a = firm_step w (on f l) l.way l.used l.held h.0 
 full_step : (w : Way) (b : Bool) (v : Way) (used h : ℕ) (r s : ℤ) (any : Bool) → (b ≡ true → (r ≡ pos 0) × (s ≡ pos 0) × (any ≡ false)) → (any ≡ true → r ≡ toward w s)
     → (b && is_way w v || any) ≡ true → (if b then signed v (if is_way w v then h else used) else pos 0) +ℤ r ≡ toward w ((if b then pos (if_way w v h) else pos 0) +ℤ s)
 unfolding is_way
-full_step Take b v used h r s any p q e = grind arith
-full_step Add b v used h r s any p q e = grind arith
+full_step w b v used h r s any p q e = grind arith
 
 in_full : (w : Way) (f : Name) (ls : List Line) → OneOn f ls → has (is_way w) f ls ≡ true → total (λ l. if on f l then signed l.way (unsettled false l (reaching w l)) else pos 0) ls ≡ toward w (total (held w false f) ls)
 unfolding has
@@ -161,8 +157,7 @@ in_full w f (l ∷ ls) one e = full_step w (on f l) l.way l.used l.held (total (
 
 none_step : (w : Way) (b : Bool) (v : Way) (h : ℕ) (s : ℤ) (any : Bool) → (any ≡ false → s ≡ pos 0) → (b && is_way w v || any) ≡ false → (if b then pos (if_way w v h) else pos 0) +ℤ s ≡ pos 0
 unfolding is_way
-none_step Take b v h s any q e = grind arith
-none_step Add b v h s any q e = grind arith
+none_step w b v h s any q e = grind arith
 
 none_held : (w : Way) (f : Name) (ls : List Line) → has (is_way w) f ls ≡ false → total (held w false f) ls ≡ pos 0
 unfolding has
@@ -181,8 +176,7 @@ unfolding extreme
 extreme-outcome w f A h = each-imp (λ o s c. each-imp (λ l u. reaches (is_way w l.way) l.used l.held u) o.lines s.used) A.orders h
 
 extreme_order : (w : Way) (b c : Bool) (m z : ℤ) → (c ≡ true → m ≡ toward w z) → (c ≡ false → z ≡ pos 0) → (if b && c then m else pos 0) ≡ toward w (if b then z else pos 0)
-extreme_order Take b c m z p q = grind arith
-extreme_order Add b c m z p q = grind arith
+extreme_order w b c m z p q = grind arith
 
 -- one order, firm or not
 one_order : (w : Way) (f : Name) (b m : Bool) (ls : List Line) → OneOn f ls → Each (λ l. l.used ≤ l.held) ls
@@ -196,10 +190,7 @@ extreme-result w f A h = ap (λ z. settled A f +ℤ z) (go A.orders h)
   where
     go : (os : List Order) → Each Sound os → total (λ o. if commits_in (extreme w f.name) o then moved_by f.name (λ l. unsettled o.firm l (reaching w l)) o else pos 0) os ≡ toward w (total (λ o. if is_open o then total (held w o.firm f.name) o.lines else pos 0) os)
     go [] h = nothing_toward w
-    go (o ∷ os) h =
-        let a = one_order w f.name (is_open o) o.firm o.lines (h.0.one f.name) h.0.used in
-        let b = go os h.1 in
-        (λ i. a i +ℤ b i) ∙ sym (both_toward w (if is_open o then total (held w o.firm f.name) o.lines else pos 0) (total (λ o. if is_open o then total (held w o.firm f.name) o.lines else pos 0) os))
+    go (o ∷ os) h = grind (arith, (one_order w f.name (is_open o) o.firm o.lines (h.0.one f.name) h.0.used), (go os h.1))
 
 least-result : (f : Field) (A : Ledger) → Each Sound A.orders → outcome_result A (extreme Take f.name) f ≡ settled A f -ℤ held_to_take A f.name
 least-result f A h = let e = extreme-result Take f A h in omega (arith, ints)

@@ -1,15 +1,18 @@
 -- What the comparisons of a program say of the checks of a command.
-use Rattle.book.proofs.Prelude.{[], ◌++◌, ◌↔◌, ◌∙◌, ◌∷◌, ◌≡◌, ◌≢◌, ◌≤◌, ◌<ℤ◌, ◌+ℤ◌, ◌-ℤ◌, Add, Bool, BreaksBound, Check, Command, Deliver, FallsBelow, Field, FieldCells, FieldEntry, FirstFailure, Good, IsFalse, IsNone, IsSome, IsSomeAnd, IsTrue, IsUpToDate, Ledger, List, MAX_ORDER_LINES, More, Name, None, OpenLine, Option, Order, Refusal, RisesAbove, Some, Take, Way, Writeoff, ap, arith, bound, checks, false, field_named, field_of, full, held_to_add, held_to_take, inl, inr, is_open, is_some, is_transfer, length, line_on, loose_checks, name_of, next, no_field, order_numbered, pos, refl, settled, stock_checks, subst, sym, true, true≢false, ℕ}
+use Rattle.book.proofs.Prelude.{Add, Bool, BreaksBound, Check, Command, Deliver, Each, FallsBelow, Field, FieldEntry, FirstFailure, Good, IsDistinct, IsFalse, IsNone, IsSome, IsTrue, IsUpToDate, Kind, Ledger, Line, List, MAX_ORDER_LINES, More, Name, None, OpenLine, Option, Order, Refusal, RisesAbove, Some, Take, Way, Writeoff, [], ap, arith, bound, checks, drop, false, field_named, field_of, find, full, get_or, inl, inr, is_open, is_some, is_transfer, length, length-take, line_checks, line_name, line_on, loose_checks, map, name_of, new_line, new_order, next, no_field, on, order_numbered, pos, refl, same_name, stock_checks, subst, sym, take, true, true≢false, with_order, ℕ, ◌++◌, ◌+ℤ◌, ◌+◌, ◌-ℤ◌, ◌<ℤ◌, ◌<◌, ◌↔◌, ◌∙◌, ◌∷◌, ◌≡◌, ◌≢◌, ◌≤◌}
 use Rattle.words.specs.declared.reply.Refusal.TheVariants.{Full, OtherWay, TooManyLines, TransferFixed}
 use Rattle.book.specs.After.{moved_at_once}
 use Rattle.book.specs.Answers.{OfLine, OfOrder, check}
 use Rattle.book.specs.Checking.{bound_checks, hold_checks}
-use Rattle.book.proofs.OutcomeTests.{delivery_test, write_off_test}
-use Rattle.book.proofs.RowFilter.{some_is}
+use Rattle.book.proofs.OutcomeTests.{delivery_test, map-push, none_found, write_off_test}
+use Rattle.book.proofs.Lists.{some_is, take-step}
 use Rattle.book.proofs.Futures.{sounds_from_good}
-use Rattle.book.proofs.Comparisons.{more_test}
-use Rattle.book.proofs.OtherBounds.{high_test, low_test}
+use Rattle.book.proofs.Comparisons.{line_test, more_test}
+use Rattle.book.proofs.Safety.{high_test, low_test, other_way}
 use Rattle.words.specs.declared.command.Command.TheVariants.{Rebound}
+use Rattle.std.proofs.lemmas.List.{drop_more}
+
+-- ---- what the comparisons of a program say of the checks of a command
 
 -- ---- lists of checks
 
@@ -20,8 +23,7 @@ cut_short (c ∷ cs) ds x (inl h) = inl h
 cut_short (c ∷ cs) ds x (inr h) = inr (h.0, cut_short cs ds x h.1)
 
 pub cut_off : (cs ds : List Check) (found : Option (Refusal × ℕ)) → FirstFailure cs found → is_some found ≡ true → FirstFailure (cs ++ ds) found
-cut_off cs ds None h e = absurd (true≢false (sym e))
-cut_off cs ds (Some x) h e = cut_short cs ds x h
+cut_off cs ds found h e = grind (arith, cut_short)
 
 -- where it finds nothing, those after it decide
 pub go_on : (cs ds : List Check) (first found : Option (Refusal × ℕ)) → FirstFailure cs first → is_some first ≡ false → FirstFailure ds found → FirstFailure (cs ++ ds) found
@@ -50,9 +52,7 @@ no iff e h = true≢false (sym (iff.1 h) ∙ e)
 -- ---- what is moved at once
 
 pub full_decides : (A : Ledger) (c : Command) → IsSome (moved_at_once c) → (full A 1).fails → FirstFailure (checks A c) (Some (Full, 0))
-full_decides A (Deliver b a q) some is = inl (is, refl)
-full_decides A (Writeoff b a q) some is = inl (is, refl)
-full_decides A c some is = absurd (true≢false (sym some))
+full_decides A c some is = grind arith
 
 -- The field is there, and the value may be moved.
 pub moving_decides : (A : Ledger) (c : Command) (n : Name) (w : Way) (q : ℕ) (found : Option (Refusal × ℕ)) → moved_at_once c ≡ Some (n, w, q) → ((full A 1).fails → ⊥) → Good A → FirstFailure (stock_checks w A n q 0) found → FirstFailure (checks A c) found
@@ -106,12 +106,70 @@ more_decides A n w f q o e fault found good room ordered numbered opened loose p
 -- where the lower is not above the upper, each bound is one comparison with the field
 pub bounds_decide : (A : Ledger) (n : Name) (e : FieldEntry) (lo hi : ℕ) → Good A → IsUpToDate A (n, e) → field_named A n ≡ Some (field_of (n, e))
     → (FallsBelow (next A (Rebound n.branch n.article lo hi)) n ↔ (pos e.quantity.value -ℤ pos e.quantity.held_to_take) <ℤ pos lo) × (RisesAbove (next A (Rebound n.branch n.article lo hi)) n ↔ pos hi <ℤ (pos e.quantity.value +ℤ pos e.quantity.held_to_add))
-bounds_decide A n e lo hi good up there =
-    let sound = sounds_from_good A good in
-    let low = subst (λ (o : Option Field). FallsBelow (next A (Rebound n.branch n.article lo hi)) n ↔ IsSomeAnd o (λ f. (settled A f -ℤ held_to_take A f.name) <ℤ pos lo)) there (low_test A n lo hi sound) in
-    let high = subst (λ (o : Option Field). RisesAbove (next A (Rebound n.branch n.article lo hi)) n ↔ IsSomeAnd o (λ f. pos hi <ℤ (settled A f +ℤ held_to_add A f.name))) there (high_test A n lo hi sound) in
-    let inf = ap (λ (r : FieldCells). r.inf) up in
-    let sup = ap (λ (r : FieldCells). r.sup) up in (
-      subst (λ z. FallsBelow (next A (Rebound n.branch n.article lo hi)) n ↔ (z <ℤ pos lo)) (sym inf) low,
-      subst (λ z. RisesAbove (next A (Rebound n.branch n.article lo hi)) n ↔ (pos hi <ℤ z)) (sym sup) high,
-    )
+bounds_decide A n e lo hi good up there = grind (arith, sounds_from_good, low_test, high_test)
+
+-- ---- the checks of the lines of a new order, one line at a time
+
+-- ---- lines on different fields
+
+-- the field that the line is on
+abbrev line_field : OpenLine → Name
+line_field l = line_name (new_line l)
+
+abbrev pub AreApart : List OpenLine → Type 0
+AreApart lines = IsDistinct same_name (map line_name (map new_line lines))
+
+pub apart_push : (ls : List Line) (l : Line) → IsDistinct same_name (map line_name ls) → Each (λ m. on (line_name l) m ≡ false) ls → IsDistinct same_name (map line_name (ls ++ l ∷ []))
+unfolding IsDistinct
+apart_push [] l d h = (tt, tt)
+apart_push (m ∷ ms) l d h = (last ms d.0, apart_push ms l d.1 h.1)
+  where
+    last : (ms : List Line) → Each (λ f. same_name (line_name m) f ≡ false) (map line_name ms) → Each (λ f. same_name (line_name m) f ≡ false) (map line_name (ms ++ l ∷ []))
+    last [] k = (other_way (line_name l) (line_name m) h.0, tt)
+    last (k ∷ ks) e = (e.0, last ks e.1)
+
+pub none_apart : AreApart []
+unfolding IsDistinct
+none_apart = tt
+
+-- one line more, on a field that none before it is on
+pub apart-step : (lines : List OpenLine) (i : ℕ) (l : OpenLine) → i < length lines → l ≡ get_or lines i l → AreApart (take i lines) → is_some (find (on (line_field l)) (map new_line (take i lines))) ≡ false → AreApart (take (i + 1) lines)
+apart-step lines i l h e apart alone = subst AreApart (sym (take-step lines i l h e)) (rw (map-push (take i lines) l) (apart_push (map new_line (take i lines)) (new_line l) apart (none_found _ _ (none _ alone))))
+  where
+    none : (o : Option Line) → is_some o ≡ false → o ≡ None
+    none b e = grind arith
+
+-- ---- the checks of a line, and of those after it
+
+-- The checks of all lines find what those from line i on find, whatever the order.
+abbrev pub RestDecides : Ledger → List OpenLine → ℕ → Type 0
+RestDecides A lines i = (n : ℕ) (kind : Kind) (until : ℕ) (found : Option (Refusal × ℕ))
+    → FirstFailure (line_checks A (new_order n kind until) (take i lines) (drop i lines)) found → FirstFailure (line_checks A (new_order n kind until) [] lines) found
+
+module _ (A : Ledger) (lines : List OpenLine) (i : ℕ) (l : OpenLine) (h : i < length lines) (e : l ≡ get_or lines i l)
+    (good : Good A) (apart : AreApart (take i lines)) (alone : is_some (find (on (line_field l)) (map new_line (take i lines))) ≡ false) where
+  -- the checks of the line's field and of its amount, with the ledger that has the line
+  own : ℕ → Kind → ℕ → List Check
+  own n kind until = no_field A (line_field l) (length (take i lines) + 1) ∷ bound l.way (with_order (new_order n kind until (take i lines ++ l ∷ [])) A) (line_field l) (length (take i lines) + 1) ∷ []
+
+  has_own : (n : ℕ) (kind : Kind) (until : ℕ) (fault : Option (Refusal × ℕ)) → FirstFailure (stock_checks l.way A (line_field l) l.qty (i + 1)) fault → FirstFailure (own n kind until) fault
+  unfolding own
+  has_own n kind until fault k = has_stock A (with_order (new_order n kind until (take i lines ++ l ∷ [])) A) l.way (line_field l) l.qty (length (take i lines) + 1) fault
+      (line_test A n kind until (take i lines) l (length (take i lines) + 1) good apart alone)
+      (subst (λ line. FirstFailure (stock_checks l.way A (line_field l) l.qty line) fault) (let s : length (take i lines) ≡ i = simp length-take (omega arith) in omega arith) k)
+
+  here : (n : ℕ) (kind : Kind) (until : ℕ) (found : Option (Refusal × ℕ))
+      → FirstFailure (own n kind until ++ line_checks A (new_order n kind until) (take i lines ++ l ∷ []) (drop (i + 1) lines)) found
+      → FirstFailure (line_checks A (new_order n kind until) (take i lines) (drop i lines)) found
+  unfolding own
+  here n kind until found k = subst (λ ls. FirstFailure (line_checks A (new_order n kind until) (take i lines) ls) found) (sym (drop_more lines i l h ∙ ap (λ m. m ∷ drop (i + 1) lines) (sym e))) (inr ((λ there. true≢false (sym there ∙ alone)), k))
+
+  -- the line's own checks decide
+  pub line_fails : (fault : Option (Refusal × ℕ)) → FirstFailure (stock_checks l.way A (line_field l) l.qty (i + 1)) fault → is_some fault ≡ true → RestDecides A lines i
+      → (n : ℕ) (kind : Kind) (until : ℕ) → FirstFailure (line_checks A (new_order n kind until) [] lines) fault
+  line_fails b k some rest n kind until = grind (arith, cut_short, has_own, here)
+
+  -- they pass, and those after them decide
+  pub line_passes : (fault : Option (Refusal × ℕ)) → FirstFailure (stock_checks l.way A (line_field l) l.qty (i + 1)) fault → is_some fault ≡ false → RestDecides A lines i → RestDecides A lines (i + 1)
+  line_passes (Some x) k some rest n kind until found after = absurd (true≢false some)
+  line_passes None k some rest n kind until found after = grind (arith, (has_own n kind until None k), go_on, here, take-step)

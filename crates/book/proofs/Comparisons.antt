@@ -1,17 +1,16 @@
 -- Each test of a check by all outcomes is one comparison with the numbers of the ledger as it is.
-use Rattle.book.proofs.Prelude.{[], ◌++◌, ◌+ℤ◌, ◌+◌, ◌==◌, ◌↔◌, ◌∙◌, ◌∷◌, ◌≡◌, Add, Bool, BreaksBound, Each, Field, Good, IsDistinct, IsNone, IsSomeAnd, IsStrictlySortedBy, Kind, Ledger, Line, List, MatchOption, MayHoldMore, Name, None, OpenLine, Option, Order, Some, State, Take, Way, add_hold, ap, arith, bound, change_order, common_steps, false, find, held_to_add, held_to_take, if_add, if_take, if◌then◌else◌, ints, is_open, line_name, line_on, map, nat_cmp, new_line, new_order, on, open_state, option_map, order_numbered, pos, raise_held, refl, same_name, some_part, subst, sym, total, true, with_order, ℕ, ℤ}
+use Rattle.book.proofs.Prelude.{[], ◌++◌, ◌+ℤ◌, ◌+◌, ◌==◌, ◌↔◌, ◌∙◌, ◌∷◌, ◌≡◌, Add, Bool, BreaksBound, Each, Field, Good, IsDistinct, IsNone, IsSomeAnd, IsStrictlySortedBy, Kind, Ledger, Line, List, MatchOption, MayHoldMore, Name, None, OpenLine, Option, Order, Some, State, Take, Way, add_hold, ap, arith, bound, change_order, common_steps, false, find, held_to_add, held_to_take, if_add, if_take, if◌then◌else◌, ints, is_open, line_name, line_on, map, nat_cmp, new_line, new_order, on, open_state, order_numbered, pos, raise_held, refl, same_name, subst, sym, total, true, with_order, ℕ, ℤ}
 use Rattle.book.proofs.OutcomeTests.{HasMore, Passes, compared, line_compared, same_self, total-push}
 use Rattle.book.proofs.Bounds.{OneOn, Sound}
 use Rattle.book.proofs.Futures.{at_number, one_on, sounds_from_good}
-use Rattle.book.proofs.MoreAmounts.{Rising, held_part, part, raised, same_settled, sound-more}
+use Rattle.book.proofs.Safety.{Rising, held_part, part, raised, same_settled, sound-more}
 use Rattle.book.proofs.Sums.{each-both}
 use Rattle.book.proofs.Transfers.{found_is}
 use Rattle.book.proofs.CommandOrder.{total-changed, total_parts}
 
 -- the check of a bound fails where some outcome passes it
 fails_so : {Q : Type 0} (w : Way) (B : Ledger) (name : Name) (i : ℕ) → Passes w B name ↔ Q → (bound w B name i).fails ↔ Q
-fails_so Take B name i h = h
-fails_so Add B name i h = h
+fails_so w B name i h = grind arith
 
 -- ---- a line of a new order
 
@@ -67,15 +66,7 @@ part_more p sum l o sound may = by (line_on o name) refl may.3
 -- the one order of that number is changed, and its part by z
 total_changed : (g : Order → ℤ) (h : Order → Order) (n : ℕ) (z : ℤ) (os : List Order) → IsStrictlySortedBy nat_cmp (map (λ o. o.number) os)
     → IsSomeAnd (find (λ o. o.number == n) os) (λ o. g (h o) ≡ g o +ℤ z) → total g (map (λ o. if o.number == n then h o else o) os) ≡ total g os +ℤ z
-total_changed g h n z os sorted found =
-    let after = total-changed g h n os sorted in
-    let before = total_parts g n os sorted in
-    let part = by (find (λ o. o.number == n) os) found in
-    omega (arith, ints)
-  where
-    by : (x : Option Order) → IsSomeAnd x (λ o. g (h o) ≡ g o +ℤ z) → some_part g (option_map h x) ≡ some_part g x +ℤ z
-    by None k = absurd k
-    by (Some o) k = k
+total_changed g h n z os sorted found = grind (arith, common_steps, (total-changed g h n os sorted), (total_parts g n os sorted), part)
 
 more_if : (p : Way → ℕ → ℕ) (g : Name) (s t : State) (m k : Bool) (xs ys : List Line) (z : ℤ) → s ≡ t → open_state t ≡ true → m ≡ k → k ≡ false → total (part p g) xs ≡ total (part p g) ys +ℤ z
     → (if open_state s then total (held_part m p g) xs else pos 0) ≡ (if open_state t then total (held_part k p g) ys else pos 0) +ℤ z
@@ -85,18 +76,7 @@ more_if p g s t m k xs ys z e o d f h = rw (e, o, d, f) h
 held_more : (p : Way → ℕ → ℕ) → IsSum p → (A : Ledger) (n : ℕ) (l : OpenLine) → Good A → IsSomeAnd (order_numbered A n) (MayHoldMore (line_name (new_line l)) l.way)
     → total (λ o. if is_open o then total (held_part o.firm p (line_name (new_line l))) o.lines else pos 0) (change_order n (add_hold l) A).orders
     ≡ total (λ o. if is_open o then total (held_part o.firm p (line_name (new_line l))) o.lines else pos 0) A.orders +ℤ pos (p l.way l.qty)
-held_more p sum A n l good may = total_changed (λ o. if is_open o then total (held_part o.firm p name) o.lines else pos 0) (add_hold l) n (pos (p l.way l.qty)) A.orders good.orders_in_order (by (order_numbered A n) refl may)
-  where
-    name : Name
-    name = line_name (new_line l)
-
-    by : (x : Option Order) → order_numbered A n ≡ x → IsSomeAnd x (MayHoldMore name l.way)
-        → IsSomeAnd x (λ o. (if is_open (add_hold l o) then total (held_part (add_hold l o).firm p name) (add_hold l o).lines else pos 0) ≡ (if is_open o then total (held_part o.firm p name) o.lines else pos 0) +ℤ pos (p l.way l.qty))
-    by None e h = h
-    by (Some o) e h =
-        let sound = found_is Sound n A.orders o (sounds_from_good A good) e in
-        let x = raised l o sound h in
-        more_if p name (add_hold l o).state o.state (add_hold l o).firm o.firm (add_hold l o).lines o.lines (pos (p l.way l.qty)) x.state h.0 x.firm h.1 (part_more p sum l o sound h)
+held_more p sum A n l good may = grind (arith, total_changed, held_part, found_is, Sound, sounds_from_good, raised, more_if, part_more)
 
 pub more_test : (A : Ledger) (n : ℕ) (l : OpenLine) (i : ℕ) → Good A → IsSomeAnd (order_numbered A n) (MayHoldMore (line_name (new_line l)) l.way)
     → (bound l.way (change_order n (add_hold l) A) (line_name (new_line l)) i).fails ↔ BreaksBound l.way A (line_name (new_line l)) l.qty

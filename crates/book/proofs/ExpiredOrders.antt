@@ -2,12 +2,10 @@
 use Rattle.book.proofs.Prelude.{[], ◌&&◌, ◌++◌, ◌+◌, ◌<◌, ◌==◌, ◌∙◌, ◌∷◌, ◌≡◌, ◌≤◌, Aborted, Bool, Each, Good, IsNonDecreasingBy, IsPermutation, IsPermutation-map, IsStrictlySortedBy, Ledger, Less, Line, List, MayGiveBack, Order, OrderEntry, Some, abort_all, abort_one, ap, append-nil, append_assoc, arith, cases_lt, common_steps, count_by, drop, expires, false, filter, flat_map, flat_map-append, get_or, if◌then◌else◌, inl, inr, length, list_any, map, nat_cmp, of_numbered, order_numbered, order_of, refl, set_state, subst, suc, sym, take, ℕ}
 use Rattle.std.proofs.lemmas.List.Sorted.{sum_by-IsPermutation}
 use Rattle.std.specs.List.{fold}
-use Rattle.book.proofs.RowFilter.{none_any, same_number}
+use Rattle.book.proofs.Lists.{none_any, same_number, counted, each-two, each-unmap, cut_at, take-step}
 use Rattle.book.proofs.Futures.{less_is, find_self}
-use Rattle.book.proofs.Returns.{may_prefix}
-use Rattle.book.proofs.Lists.{counted, each-two, each-unmap}
+use Rattle.book.proofs.ChangedFields.{may_prefix}
 use Rattle.book.proofs.Sums.{each-imp, each-map}
-use Rattle.book.proofs.Walks.{cut_at, take-step}
 use Rattle.book.proofs.Puts.{each-filter}
 
 above : (m n : ℕ) → m < n → (n == m) ≡ false
@@ -38,11 +36,7 @@ all_above : (n m : ℕ) (ms : List ℕ) → n < m → Rising (m ∷ ms) → Each
 all_above n m ms h up = (h, each-imp (λ k le. omega arith) ms up.0)
 
 counts_left : (n : ℕ) (xs ys : List ℕ) → ((k : ℕ) → count k (n ∷ xs) ≡ count k (n ∷ ys)) → (k : ℕ) → count k xs ≡ count k ys
-counts_left n xs ys h k =
-    let a = counted (λ m. m == k) n xs in
-    let b = counted (λ m. m == k) n ys in
-    let c = h k in
-    omega arith
+counts_left n xs ys h k = grind (arith, (counted (λ m. m == k) n xs), (counted (λ m. m == k) n ys), (h k))
 
 first_alike : (x y : ℕ) (xs ys : List ℕ) → Rising (x ∷ xs) → Rising (y ∷ ys) → ((n : ℕ) → count n (x ∷ xs) ≡ count n (y ∷ ys)) → x ≡ y
 first_alike x y xs ys h k e = elim (cases_lt x y) [
@@ -125,13 +119,7 @@ module _ (p : Order → Bool) where
     where
       go : (os : List Order) → Each (λ o. order_numbered A o.number ≡ Some o) os → flat_map (of_numbered A parts) (numbers os) ≡ flat_map (λ o. if p o then parts o else []) os
       go [] h = refl
-      go (o ∷ os) h = by (p o) (go os h.1)
-        where
-          rest : List X
-          rest = flat_map (λ o. if p o then parts o else []) os
-
-          by : (b : Bool) → flat_map (of_numbered A parts) (numbers os) ≡ rest → flat_map (of_numbered A parts) (map (λ o. o.number) (if b then o ∷ filter p os else filter p os)) ≡ (if b then parts o else []) ++ rest
-          by b more = grind arith
+      go (o ∷ os) h = grind (arith, (go os h.1))
 
 -- the numbers of those that expire, found in any order of the entries and then put in theirs
 pub numbers_sorted : (now : ℕ) (es lying : List (ℕ × OrderEntry)) (ns : List ℕ) → IsStrictlySortedBy nat_cmp (map (λ o. o.number) (map order_of es)) → IsPermutation es lying → IsPermutation (numbers (expires now) (map order_of lying)) ns → IsNonDecreasingBy (λ x. x) ns

@@ -5,14 +5,12 @@ use Rattle.book.specs.After.{changes_own_stock, moved_at_once}
 use Rattle.book.specs.RunningNumbers.{HasLines, MovesField, lines_add, lines_take}
 use Rattle.book.proofs.OutcomeTests.{none_found, same_self}
 use Rattle.book.proofs.Bounds.{adds, takes}
-use Rattle.book.proofs.ChangedFields.{all_rows, put_self, self_eq}
+use Rattle.book.proofs.ChangedFields.{all_rows, put_self, self_eq, any-append, total-flat}
 use Rattle.book.proofs.CheckAnswers.{bounds_decide}
-use Rattle.book.proofs.RowFilter.{any-map, find-new, some_is}
+use Rattle.book.proofs.Lists.{any-map, find-new, some_is}
 use Rattle.book.proofs.Futures.{all_pass, name_is}
-use Rattle.book.proofs.Returns.{any-append, total-flat}
-use Rattle.book.proofs.NewAmounts.{none_if_not_some, not_less}
+use Rattle.book.proofs.Safety.{none_if_not_some, not_less, bounding, found_bounded}
 use Rattle.book.proofs.CommandOrder.{any_one, changed_on, left_out, lined, lined_firm, total-next}
-use Rattle.book.proofs.OtherBounds.{bounding, found_bounded}
 use Rattle.book.proofs.RunningNumbers.{new_field}
 use Rattle.escrow.specs.Choices.{IsSafe}
 use Rattle.escrow.specs.Escrow.{bounded}
@@ -45,23 +43,10 @@ record MovesAtOnce (A : Ledger) (c : Command) (n : Name) (w : Way) (q : ℕ) : T
   fields : (next A c).fields ≡ A.fields
 
 moves_at_once : (A : Ledger) (c : Command) (n : Name) (w : Way) (q : ℕ) → FirstFailure (checks A c) None → moved_at_once c ≡ Some (n, w, q) → MovesAtOnce A c n w q
-moves_at_once A (command.Deliver b a p) n w q h e = subst (λ (m : Name × Way × ℕ). MovesAtOnce A (command.Deliver b a p) m.0 m.1 m.2) (some_is _ (n, w, q) e)
-    (record { there = some_there (field_named A (name_of b a)) (all_pass (checks A (command.Deliver b a p)) h).1.0; names = λ f. refl; moves = λ f. refl; orders = refl; fields = refl })
-moves_at_once A (command.Writeoff b a p) n w q h e = subst (λ (m : Name × Way × ℕ). MovesAtOnce A (command.Writeoff b a p) m.0 m.1 m.2) (some_is _ (n, w, q) e)
-    (record { there = some_there (field_named A (name_of b a)) (all_pass (checks A (command.Writeoff b a p)) h).1.0; names = λ f. refl; moves = λ f. refl; orders = refl; fields = refl })
-moves_at_once A c n w q h e = absurd (true≢false (sym (ap is_some e)))
+moves_at_once A c n w q h e = grind arith
 
 pub moving : (A : Ledger) (r : Request) (n : Name) (w : Way) (q : ℕ) → Accepts A r → moved_at_once r.command ≡ Some (n, w, q) → MovesField A r n w q
-moving A r n w q accepts is =
-    let m = moves_at_once A r.command n w q accepts.accepted.1 is in record {
-      accepts = accepts;
-      there = m.there;
-      fields = m.fields;
-      changes = m.names n ∙ same_self n;
-      value = λ f e. settled_moved A f r.command w q (m.moves f.name ∙ ap (λ (k : Name). if same_name k n then signed w q else pos 0) e ∙ ap (λ b. if b then signed w q else pos 0) (same_self n)) m.orders;
-      takes = ap (total (taken_part n)) m.orders;
-      adds = ap (total (added_part n)) m.orders;
-    }
+moving A r n w q accepts is = grind (arith, moves_at_once, same_self, settled_moved, takes, adds)
 
 pub moving_rows : (A : Ledger) (r : Request) (n : Name) (w : Way) (q : ℕ) (old D : List (Name × FieldEntry)) → Accepts A r → moved_at_once r.command ≡ Some (n, w, q) → old ≡ [] → IsStrictlySortedBy name_cmp (keys_of D) → Puts A r n old D → map entry_row D ≡ field_rows A r
 moving_rows A r n w q old D accepts is empty rising puts =
@@ -159,24 +144,8 @@ changed_has_line A (command.More n way b a q) f o good h made e = by (order_numb
     by : (x : Option Order) → option_map (add_hold (record { way = way; branch = b; article = a; qty = q })) x ≡ Some o → list_any (on f) o.lines ≡ true
     by None k = absurd (true≢false (sym (ap is_some k)))
     by (Some p) k = subst (λ (m : Order). list_any (on f) m.lines ≡ true) (some_is _ o k) (held_on f (record { way = way; branch = b; article = a; qty = q }) p (name_is f (name_of b a) e))
-changed_has_line A (command.Release n b a q) f o good h made e = by (order_numbered A n) refl made
-  where
-    g : Name
-    g = name_of b a
-
-    by : (x : Option Order) → order_numbered A n ≡ x → option_map (change_lines g (lower_held q)) x ≡ Some o → list_any (on f) o.lines ≡ true
-    by None there k = absurd (true≢false (sym (ap is_some k)))
-    by (Some p) there k = subst (λ (m : Order). has_line_on f m ≡ true) (some_is _ o k) (changed_on f g (lower_held q) p (λ l. refl)
-        ∙ part_has_line A n f g p (all_pass (checks A (command.Release n b a q)) h).1.1.1.0 there (ap (λ t. same_name f g || t) (sym (any_one n (λ o. is_transfer o && has_line_on f o) p A.orders good.orders_in_order there)) ∙ e))
-changed_has_line A (command.Use n b a q) f o good h made e = by (order_numbered A n) refl made
-  where
-    g : Name
-    g = name_of b a
-
-    by : (x : Option Order) → order_numbered A n ≡ x → option_map (change_lines g (raise_used q)) x ≡ Some o → list_any (on f) o.lines ≡ true
-    by None there k = absurd (true≢false (sym (ap is_some k)))
-    by (Some p) there k = subst (λ (m : Order). has_line_on f m ≡ true) (some_is _ o k) (changed_on f g (raise_used q) p (λ l. refl)
-        ∙ part_has_line A n f g p (all_pass (checks A (command.Use n b a q)) h).1.1.1.0 there (second_true p.firm (same_name f g || (is_transfer p && has_line_on f p)) (sym (any_one n (λ o. o.firm && (same_name f g || (is_transfer o && has_line_on f o))) p A.orders good.orders_in_order there) ∙ e)))
+changed_has_line A (command.Release n b a q) f o good h made e = grind (arith, some_is, changed_on, part_has_line, all_pass, any_one)
+changed_has_line A (command.Use n b a q) f o good h made e = grind (arith, some_is, changed_on, part_has_line, all_pass, second_true, any_one)
 changed_has_line A (command.Field b a lo hi start) f o good h made e = absurd (true≢false (sym (ap is_some made)))
 changed_has_line A (command.Deliver b a q) f o good h made e = absurd (true≢false (sym (ap is_some made)))
 changed_has_line A (command.Writeoff b a q) f o good h made e = absurd (true≢false (sym (ap is_some made)))

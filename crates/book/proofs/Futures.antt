@@ -1,5 +1,5 @@
 -- From a good ledger every future keeps the bounds and the commits.
-use Rattle.book.proofs.Prelude.{[], ◌&&◌, ◌+ℤ◌, ◌+◌, ◌-ℤ◌, ◌-◌, ◌<◌, ◌==◌, ◌||◌, ◌∷◌, ◌≡◌, ◌≤ℤ◌, ◌≤◌, Aborted, Answers, AnswersNew, AsksNoStock, Bool, Check, Command, Committed, Done, Each, Field, FirstFailure, Good, IsDistinct, IsFalse, IsFuture, IsGoodOrder, IsNone, IsSomeAnd, IsStrictlySortedBy, IsTransferPair, IsTrue, IsWithin, Kept, KeyReused, Ledger, Less, Line, List, MatchOption, MatchOrdering, Name, None, Option, Order, Refusal, Refused, Reply, Request, Runs, Some, IsHonoured, State, Way, accept, ap, arith, bytes_decides, change_lines, checks, common_steps, expires, false, find, held_to_add, held_to_take, if_add, if_take, if◌then◌else◌, inl, inr, ints, is_open, is_settled, is_some, is_transfer, kept_under, line_name, line_on, lower_held, map, moved_by, nat_cmp, nat_le, not, on, open_state, order_numbered, places, pos, raise_used, ranks, refl, same_command, same_name, set_firm, set_state, settled, settled_state, signed, subst, sym, total, true, true≢false, ℕ, ℤ}
+use Rattle.book.proofs.Prelude.{[], ◌&&◌, ◌+ℤ◌, ◌+◌, ◌-ℤ◌, ◌-◌, ◌<◌, ◌==◌, ◌||◌, ◌∷◌, ◌≡◌, ◌≤ℤ◌, ◌≤◌, Aborted, Answers, AnswersNew, AsksNoStock, Bool, Check, Command, Committed, Done, Each, Field, FirstFailure, Good, IsDistinct, IsFalse, IsFuture, IsGoodOrder, IsNone, IsSomeAnd, IsStrictlySortedBy, IsTransferPair, IsTrue, IsWithin, Kept, KeyReused, Ledger, Less, Line, List, MatchOption, MatchOrdering, Name, None, Option, Order, Refusal, Refused, Reply, Request, Runs, Some, IsHonoured, State, Way, accept, ap, arith, bytes_decides, change_lines, checks, common_steps, expires, false, find, if_add, if_take, if◌then◌else◌, inl, inr, ints, is_open, is_settled, is_some, is_transfer, kept_under, line_name, line_on, lower_held, map, moved_by, nat_cmp, nat_le, not, on, open_state, order_numbered, places, pos, raise_used, ranks, refl, same_command, same_name, set_firm, set_state, settled, settled_state, signed, subst, sym, total, true, true≢false, ℕ, ℤ}
 use Rattle.words.specs.declared.command.Command.TheVariants as command
 use Rattle.book.specs.Future.{HonoursAlways}
 use Rattle.book.proofs.Sums.{each-imp, each-both, each-map, least_if, total-le, total-map}
@@ -11,9 +11,7 @@ pub same_parts : (a b : Bool) → (a && b) ≡ true → (a ≡ true) × (b ≡ t
 same_parts x b e = grind arith
 
 pub name_is : (f g : Name) → same_name f g ≡ true → f ≡ g
-name_is f g e = let p = same_parts _ _ e in
-    let b = (bytes_decides f.branch g.branch).0 p.0 in let a = (bytes_decides f.article g.article).0 p.1 in
-    λ i. record { branch = b i; article = a i }
+name_is f g e = grind (arith, same_parts, bytes_decides)
 
 pub one_on : (f : Name) (ls : List Line) → IsDistinct same_name (map line_name ls) → OneOn f ls
 unfolding IsDistinct
@@ -82,11 +80,7 @@ changed h clock kept A = record { clock = clock; fields = A.fields; moves = A.mo
 
 room-changed : (A : Ledger) (h : Order → Order) (clock : ℕ) (kept : List Kept) → Each (λ o. Better o (h o)) A.orders → (f : Field) → HasRoom A f → HasRoom (changed h clock kept A) f
 unfolding settled_part takes_part adds_part
-room-changed A h clock kept b f r =
-    let p : (pos f.lo) ≤ℤ (settled A f -ℤ held_to_take A f.name) = r.0 in let q : (settled A f +ℤ held_to_add A f.name) ≤ℤ pos f.hi = r.1 in
-    let x : (settled_part f.name A.orders -ℤ takes_part f.name A.orders) ≤ℤ (settled_part f.name (map h A.orders) -ℤ takes_part f.name (map h A.orders)) = lower f.name h A.orders b in
-    let y : (settled_part f.name (map h A.orders) +ℤ adds_part f.name (map h A.orders)) ≤ℤ (settled_part f.name A.orders +ℤ adds_part f.name A.orders) = higher f.name h A.orders b in
-    (omega (arith, ints), omega (arith, ints))
+room-changed A h clock kept b f r = omega (arith, ints, r.0, r.1, (lower f.name h A.orders b), (higher f.name h A.orders b))
 
 fit-changed : (A : Ledger) (h : Order → Order) (clock : ℕ) (kept : List Kept) → Fit A → Each (λ o. Better o (h o)) A.orders → Fit (changed h clock kept A)
 fit-changed A h clock kept fit b = record {
@@ -270,8 +264,7 @@ left_on f q o fine u = step (is_transfer o) refl
     step false e = at_line (λ l. l.used + q ≤ l.held) f o.lines (fine.sound.one f) u.1
 
 pub line_step : (b : Bool) (l new : Line) → l.used ≤ l.held → (b ≡ true → LineStep l new) → LineStep l (if b then new else l)
-line_step true l new h s = s refl
-line_step false l new h s = record { name = refl; way = refl; held = omega arith; used = h; more = omega arith }
+line_step b l new h s = grind arith
 
 -- what a use and a release do to a line
 pub record IsClosingChange (q : ℕ) (change : Line → Line) : Type 0 where

@@ -1,5 +1,5 @@
 -- From a good ledger every accepted command leaves a good one.
-use Rattle.book.proofs.Prelude.{[], ◌++◌, ◌+ℤ◌, ◌+◌, ◌-ℤ◌, ◌<◌, ◌==◌, ◌∙◌, ◌∷◌, ◌≡◌, ◌≢◌, ◌≤ℤ◌, ◌≤◌, Aborted, Answers, AnswersNew, Bool, Command, Committed, Done, Each, Field, FirstFailure, Good, IsGoodField, IsGoodKept, IsGoodLine, IsGoodOrder, IsInRange, IsKey, IsLevel, IsMoment, IsNone, IsOpenLine, IsQty, IsSafe, IsSome, IsSomeAnd, IsStrictlySortedBy, IsTransferPair, IsTrue, Kept, KeyReused, Kind, Ledger, Line, List, MatchOption, MayHoldMore, Name, None, OpenLine, Option, Order, Plain, Refusal, Refused, Reply, Request, Some, Transfer, Way, accept, add_hold, append-nil, append_assoc, arith, bytes_eq, change_order, checks, false, field_named, find, held_to_add, held_to_take, hold_more, if_add, if_take, if◌then◌else◌, insert_in_order, ints, is_lt, is_open, is_some, is_transfer, kept_under, length, line_checks, line_name, line_on, lower_held, map, name_cmp, nat_abs, nat_cmp, nat_cmp_total, nat_list_cmp_total, nat_lt, neg_ℤ, new_line, new_order, on, open_orders, order_numbered, places, pos, raise_held, raise_used, recursion_from_All, refl, same_command, same_name, slice_cmp, subst, sym, total, transfer_lines, true, true≢false, with_move, with_order, ℕ, ℤ}
+use Rattle.book.proofs.Prelude.{[], ◌++◌, ◌+ℤ◌, ◌+◌, ◌-ℤ◌, ◌<◌, ◌==◌, ◌∙◌, ◌∷◌, ◌≡◌, ◌≢◌, ◌≤ℤ◌, ◌≤◌, Aborted, Answers, Bool, Command, Committed, Each, Field, FirstFailure, Good, IsGoodField, IsGoodKept, IsGoodLine, IsGoodOrder, IsInRange, IsKey, IsLevel, IsMoment, IsNone, IsOpenLine, IsQty, IsSafe, IsSome, IsSomeAnd, IsStrictlySortedBy, IsTransferPair, IsTrue, Kept, Kind, Ledger, Line, List, MayHoldMore, Name, None, OpenLine, Option, Order, Plain, Reply, Request, Some, Transfer, Way, accept, add_hold, append-nil, append_assoc, arith, bytes_eq, change_order, checks, false, field_named, find, held_to_add, held_to_take, hold_more, if_add, if_take, if◌then◌else◌, insert_in_order, ints, is_lt, is_open, is_some, is_transfer, kept_under, length, line_checks, line_name, line_on, lower_held, map, name_cmp, nat_abs, nat_cmp, nat_cmp_total, nat_list_cmp_total, nat_lt, neg_ℤ, new_line, new_order, on, open_orders, order_numbered, places, pos, raise_held, raise_used, recursion_from_All, refl, same_name, slice_cmp, subst, sym, total, transfer_lines, true, true≢false, with_move, with_order, ℕ, ℤ}
 use Rattle.escrow.specs.Ranges.{IsOrderNo}
 use Rattle.words.specs.declared.command.Command.TheVariants as command
 use Rattle.words.specs.OpenLines.{AreOpenLines}
@@ -8,11 +8,8 @@ use Rattle.book.proofs.GoodParts.{name_cmp_total, equal_name, other_number, othe
 use Rattle.book.proofs.Bounds.{OneOn, Sound, takes, adds, takes-not_negative, adds-not_negative, room_from_safe, HasRoom}
 use Rattle.book.proofs.Futures.{fit_from_good, fit-accept, all_pass, AllPass, name_is, sounds_from_good, at_number, changed, open_there}
 use Rattle.book.proofs.OutcomeTests.{each-insert, none_found, same_self, fresh-push}
-use Rattle.book.proofs.NewAmounts.{Room, none_if_not_some, room-order}
-use Rattle.book.proofs.MoreAmounts.{sound-more, raised}
-use Rattle.book.proofs.Safety.{safe_after, takes_more, not_false}
+use Rattle.book.proofs.Safety.{Room, none_if_not_some, room-order, sound-more, raised, safe_after, takes_more, not_false, bounding, bounding_names, still_bounded}
 use Rattle.book.specs.Next.{with_bounds}
-use Rattle.book.proofs.OtherBounds.{bounding, bounding_names, still_bounded}
 use Rattle.book.proofs.Lists.{each-unmap, each-two, each-all, sorted-insert, sorted-push, distinct-insert, length-insert, length-of-map, length-of-push, count-insert, count-map, find-insert, total-has}
 
 -- what is held on a field that is there is a level
@@ -93,8 +90,7 @@ rebounding A n lo hi kept g low high more room =
     }
   where
     by : (b : Bool) (f : Field) → IsGoodField f → IsGoodField (if b then with_bounds lo hi f else f)
-    by true f x = record { branch = x.branch; article = x.article; lo = low; hi = high; start = x.start }
-    by false f x = x
+    by b f x = grind arith
 
 -- a new order
 fields_there : (A : Ledger) (order : List OpenLine → Order) (before ls : List OpenLine) → AllPass (line_checks A order before ls) → Each (λ l. IsSome (field_named A (line_name (new_line l)))) ls
@@ -193,12 +189,10 @@ pub quantities : (ls : List OpenLine) → AreOpenLines ls → Each (λ l. IsQty 
 quantities ls h = each-imp (λ (l : OpenLine) (x : IsOpenLine l). x.qty) ls (recursion_from_All IsOpenLine ls h.each)
 
 some_all : {P : Order → Type 0} (o : Option Order) → (IsNone o → ⊥) → ((o : Order) → P o) → IsSomeAnd o P
-some_all None some all = absurd (some refl)
-some_all (Some o) some all = all o
+some_all o some all = grind arith
 
 none_firm : (o : Option Order) → (IsNone o → ⊥) → (IsSomeAnd o (λ o. IsTrue o.firm) → ⊥) → IsSomeAnd o (λ o. IsTrue o.firm → Aborted ≢ Aborted)
-none_firm None some none = absurd (some refl)
-none_firm (Some o) some none = λ m e. none m
+none_firm o some none = grind arith
 
 parts_accept : (A : Ledger) (key : List ℕ) (c : Command) → Good A → IsInRange c → FirstFailure (checks A c) None → Parts (accept A (record { key = key; command = c }))
 parts_accept A key (command.Field b a lo hi start) g i h = let p = all_pass (checks A (command.Field b a lo hi start)) h in
@@ -266,10 +260,4 @@ pub good_accept : (A : Ledger) (r : Request) → Good A → IsKey r.key → IsIn
 good_accept A r g key range none h = keeping A r g key range none (parts_accept A r.key r.command g range h) (safe_after A r g h)
 
 pub good_answer : (A : Ledger) (r : Request) (reply : Reply) (B : Ledger) → Good A → IsKey r.key → IsInRange r.command → Answers A r reply B → Good B
-good_answer A r reply B g key range h = by_key (kept_under A r.key) refl h
-  where
-    by_found : kept_under A r.key ≡ None → (found : Option (Refusal × ℕ)) → FirstFailure (checks A r.command) found → MatchOption found ((reply ≡ Done (places A + 1)) × (B ≡ accept A r)) (λ e. (reply ≡ Refused e.0 e.1) × (B ≡ A)) → Good B
-    by_found none b f m = grind (arith, good_accept)
-
-    by_key : (k : Option Kept) → kept_under A r.key ≡ k → MatchOption k (AnswersNew A r reply B) (λ k. (reply ≡ (if same_command k.command r.command then Done k.place else Refused KeyReused 0)) × (B ≡ A)) → Good B
-    by_key b e m = grind (arith, by_found)
+good_answer A r reply B g key range h = grind (arith, good_accept)

@@ -1,7 +1,8 @@
 -- Whether a list is in the order of its keys, told from each two neighbours.
-use Rattle.book.proofs.Prelude.{[], ◌+◌, ◌<◌, ◌↔◌, ◌∙◌, ◌∷◌, ◌≡◌, Bool, IsStrictlySortedBy, IsTotalOrder, IsTrue, Less, List, Ordering, ap, arith, false, is_lt, length, map, map-map, subst, suc, sym, true, true≢false, zero, ℕ}
+use Rattle.book.proofs.Prelude.{[], ◌+◌, ◌<◌, ◌↔◌, ◌∙◌, ◌∷◌, ◌≡◌, Bool, Field, IsStrictlySortedBy, IsTotalOrder, IsTrue, Kept, Less, List, Order, Ordering, ap, arith, false, field_of, is_lt, kept_of, keys_of, length, map, map-map, order_of, subst, suc, sym, told_ledger, true, true≢false, zero, ℕ}
 use Rattle.std.specs.List.{AllAdjacentBelow, IsAllAdjacentAnswer}
 use Rattle.std.specs.Prelude.{slice_index_or}
+use Rattle.book.specs.declared.book.tables.Entries.{Entries}
 use Rattle.book.proofs.Sums.{each-imp}
 use Rattle.book.proofs.TestResults.{no, yes}
 
@@ -44,3 +45,13 @@ neighbours cmp total key test same xs false (k, lt, not) = no (λ sorted. falls 
 pub in_order : {X Y K : Type 0} (cmp : K → K → Ordering) → IsTotalOrder cmp → (key : Y → K) (view : X → Y) (test : X → X → Bool) → ((x y : X) → test x y ≡ is_lt (cmp (key (view x)) (key (view y))))
     → (xs : List X) (r : Bool) → IsAllAdjacentAnswer (λ x y b. b ≡ test x y) xs r → IsTrue r ↔ IsStrictlySortedBy cmp (map key (map view xs))
 in_order cmp total key view test same xs r all = subst (λ ks. IsTrue r ↔ IsStrictlySortedBy cmp ks) (sym (map-map key view xs)) (neighbours cmp total (λ x. key (view x)) test same xs r all)
+
+-- the keys of entries are those of what they tell
+pub told_names : (e : Entries) → keys_of e.fields.items ≡ map (λ f. f.name) (told_ledger e).fields
+told_names e = sym (map-map (λ (f : Field). f.name) field_of e.fields.items)
+
+pub told_numbers : (e : Entries) → keys_of e.orders.items ≡ map (λ o. o.number) (told_ledger e).orders
+told_numbers e = sym (map-map (λ (o : Order). o.number) order_of e.orders.items)
+
+pub told_keys : (e : Entries) → keys_of e.kept.items ≡ map (λ k. k.key) (told_ledger e).kept
+told_keys e = sym (map-map (λ (k : Kept). k.key) kept_of e.kept.items)

@@ -1,19 +1,16 @@
 -- What makes a told ledger good, and that rows tell one good ledger at the most.
-use Rattle.book.proofs.Prelude.{[], ◌+ℤ◌, ◌↔◌, ◌∷◌, ◌≡◌, ◌≤◌, AreMovesOnFields, AreOnFields, AreOrdersOnFields, Each, Field, FieldEntry, Good, HasNumbers, HaveNumbers, IsBounded, IsField, IsGoodLine, IsGoodMove, IsGoodOrder, IsMoveByItself, IsOrderByItself, IsSafe, IsUpToDate, IsWhole, Ledger, List, MAX_PLACES, Name, Numbers, Order, arith, common_steps, field_of, held_to_add, held_to_take, length, line_name, map, move_of, numbers_on, order_of, places, pos, settled, told_ledger}
+use Rattle.book.proofs.Prelude.{[], ◌+ℤ◌, ◌↔◌, ◌∷◌, ◌≡◌, ◌≤◌, AreMovesOnFields, AreOnFields, AreOrdersOnFields, Each, Field, FieldEntry, Good, HasNumbers, HaveNumbers, IsBounded, IsField, IsGoodLine, IsGoodMove, IsGoodOrder, IsMoveByItself, IsOrderByItself, IsSafe, IsStrictlySortedBy, IsUpToDate, IsWhole, List, MAX_PLACES, Name, Numbers, Order, arith, common_steps, field_of, held_to_add, held_to_take, length, line_name, map, move_of, name_cmp, nat_cmp, numbers_on, order_of, places, pos, settled, slice_cmp, subst, sym, told_ledger}
 use Rattle.book.specs.declared.book.tables.Entries.{Entries}
-use Rattle.book.specs.RowEntries.{AreGood, IsInForm}
+use Rattle.book.specs.RowEntries.{AreGood, AreInOrder, IsInForm}
+use Rattle.book.proofs.InRow.{told_keys, told_names, told_numbers}
 use Rattle.book.proofs.Bounds.{HasRoom, safe_from_room}
-use Rattle.book.proofs.Lists.{each-two, each-unmap}
-use Rattle.book.proofs.Walks.{few_sorted}
+use Rattle.book.proofs.Lists.{each-two, each-unmap, few_sorted}
 use Rattle.book.proofs.Sums.{each-imp, each-map, total-map}
 
 -- ---- what is good is whole, and its entries are on fields
 
 pub on_fields_from_good : (e : Entries) → Good (told_ledger e) → AreOnFields e.fields.items e.moves.items e.orders.items
-on_fields_from_good e g = let A : Ledger = told_ledger e in (
-  each-imp (λ m x. x.field) e.moves.items (each-unmap (IsGoodMove A) move_of e.moves.items g.moves),
-  each-imp (λ o x. each-imp (λ l y. y.field) o.1.lines.items x.lines) e.orders.items (each-unmap (IsGoodOrder A) order_of e.orders.items g.orders),
-)
+on_fields_from_good e g = grind (arith, each-imp, each-unmap)
 
 -- ---- what is whole, in form and on fields
 
@@ -23,17 +20,26 @@ good_lines e o x there = each-imp (λ l y. record { field = y.1; held = y.0.0; u
 good_order : (e : Entries) (o : Order) → IsOrderByItself o × Each (λ l. IsField e.fields.items (line_name l)) o.lines → IsGoodOrder (told_ledger e) o
 good_order e o x = record { number = x.0.number; until = x.0.until; some = x.0.some; few = x.0.few; lines = good_lines e o x.0 x.1; apart = x.0.apart; transfer = x.0.transfer; firm = x.0.firm }
 
-moves_good : (e : Entries) → IsWhole (told_ledger e) → AreMovesOnFields e.fields.items e.moves.items → Each (IsGoodMove (told_ledger e)) (told_ledger e).moves
+moves_good : (e : Entries) → IsWhole e → AreMovesOnFields e.fields.items e.moves.items → Each (IsGoodMove (told_ledger e)) (told_ledger e).moves
 moves_good e w there = let ms = e.moves.items in
     each-map (IsGoodMove (told_ledger e)) move_of ms (each-imp (λ m x. record { first = x.0.first; last = x.0.last; field = x.1; size = x.0.size }) ms
     (each-two _ _ ms (each-unmap (IsMoveByItself (places (told_ledger e))) move_of ms w.moves) there))
 
-orders_good : (e : Entries) → IsWhole (told_ledger e) → AreOrdersOnFields e.fields.items e.orders.items → Each (IsGoodOrder (told_ledger e)) (told_ledger e).orders
+orders_good : (e : Entries) → IsWhole e → AreOrdersOnFields e.fields.items e.orders.items → Each (IsGoodOrder (told_ledger e)) (told_ledger e).orders
 orders_good e w there = let os = e.orders.items in
     each-map (IsGoodOrder (told_ledger e)) order_of os (each-imp (λ o x. good_order e (order_of o) x) os (each-two _ _ os (each-unmap IsOrderByItself order_of os w.orders) there))
 
-pub good_if_whole : (e : Entries) → IsInForm (told_ledger e) → IsWhole (told_ledger e) → AreOnFields e.fields.items e.moves.items e.orders.items → IsSafe (told_ledger e) → Good (told_ledger e)
-good_if_whole e form w there safe = grind (arith, moves_good, orders_good)
+pub good_if_whole : (e : Entries) → IsInForm (told_ledger e) → IsWhole e → AreOnFields e.fields.items e.moves.items e.orders.items → IsSafe (told_ledger e) → Good (told_ledger e)
+good_if_whole e form w there safe =
+    let fields = subst (IsStrictlySortedBy name_cmp) (told_names e) w.in_order.fields in
+    let orders = subst (IsStrictlySortedBy nat_cmp) (told_numbers e) w.in_order.orders in
+    let kept = subst (IsStrictlySortedBy (slice_cmp nat_cmp)) (told_keys e) w.in_order.kept in
+    grind (arith, moves_good, orders_good)
+
+pub whole_if_good : (e : Entries) → Good (told_ledger e) → IsWhole e
+whole_if_good e g =
+    let order : AreInOrder e = record { fields = subst (IsStrictlySortedBy name_cmp) (sym (told_names e)) g.fields_in_order; moves = g.moves_in_order; orders = subst (IsStrictlySortedBy nat_cmp) (sym (told_numbers e)) g.orders_in_order; kept = subst (IsStrictlySortedBy (slice_cmp nat_cmp)) (sym (told_keys e)) g.kept_in_order } in
+    grind (arith, each-imp)
 
 -- ---- the numbers of fields
 
@@ -66,13 +72,12 @@ numbers_if e f up = grind (arith, (told_settled e (field_of f)), (told_takes e f
 
 -- ---- all together
 
-pub few_moves_if_whole : (A : Ledger) → IsWhole A → length A.moves ≤ MAX_PLACES
-few_moves_if_whole A w =
-    let r = few_sorted 0 (places A) A.moves (omega arith) (each-imp (λ m x. x.first) A.moves w.moves) (each-imp (λ m x. x.last) A.moves w.moves) w.in_order.moves in
-    let fit = w.limits.places in
-    omega arith
+pub few_moves_if_whole : (e : Entries) → IsWhole e → length (told_ledger e).moves ≤ MAX_PLACES
+few_moves_if_whole e w =
+    let A = told_ledger e in
+    grind (arith, (few_sorted 0 (places A) A.moves (omega arith) (each-imp (λ m x. x.first) A.moves w.moves) (each-imp (λ m x. x.last) A.moves w.moves) w.in_order.moves), w.limits.places)
 
-pub good_iff : (e : Entries) → IsInForm (told_ledger e) → Each (λ f. IsBounded f.1.quantity) e.fields.items → IsWhole (told_ledger e)
+pub good_iff : (e : Entries) → IsInForm (told_ledger e) → Each (λ f. IsBounded f.1.quantity) e.fields.items → IsWhole e
     → (AreOnFields e.fields.items e.moves.items e.orders.items × HaveNumbers (numbers_of e) e.fields.items) ↔ AreGood e
 good_iff e form bounded w = (
   λ fit. (

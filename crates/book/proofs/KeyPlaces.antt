@@ -1,12 +1,166 @@
--- Keys among entries in their order.
-use Rattle.book.proofs.Prelude.{[], ◌++◌, ◌<◌, ◌∙◌, ◌∷◌, ◌≡◌, ◌≤◌, Each, Equal, Err, Greater, IfErr, IfOk, IsBinarySearchResult, IsGap, IsNonDecreasingBy, IsSearchInRange, IsStrictlySortedBy, IsTotalOrder, Less, List, None, Ok, Ordering, Result, Some, ap, arith, at_indexes, cases_lt, common_steps, compare_at, cond, get_or, get_or_from_slice_get, inl, inr, insert, insert_entry, is_at, is_eq, keys_of, length, length-append, lookup, match_ordering, none-some, option_map, option_map_or, ordering_index, ordering_reverse, refl, same_Some, set, set_value, slice_get, slice_get-map, slice_get_read, slice_get_within, subst, suc, sym, zero, ℕ}
-use Rattle.std.proofs.lemmas.Cmp.{alike_right, eq_by_cmp_equiv, tied_back}
+-- Entries under keys: the indexes of an order, keys in their order, and entries of a ledger.
+use Rattle.book.proofs.Prelude.{Bool, Each, Equal, Err, FieldEntry, Greater, IfErr, IfOk, IsBinarySearchResult, IsDistinct, IsGap, IsNonDecreasingBy, IsPermutation, IsPermutation-map, IsPermutation-refl, IsSearchInRange, IsStrictlySortedBy, IsTotalOrder, KeptEntry, Less, List, Name, None, Ok, Option, OrderEntry, Ordering, Result, Some, [], add-zero, ap, arith, at_indexes, bytes_decides, bytes_eq, cases_lt, common_steps, compare_at, eqb, false, field_of, find, get_or, get_or_from_slice_get, inl, inr, insert, insert_entry, insert_in_order, is_at, is_eq, is_eq-slice_cmp, is_lt, kept_of, keys_of, length, length-append, lookup, map, name_cmp, nat_cmp, nat_tests, none-some, option_map, order_of, ordering_index, ordering_reverse, range_with_len, recursion_from_All, refl, room_left, same_Some, same_name, set, set_value, slice_cmp, slice_get, slice_get-map, slice_get_read, slice_get_within, subst, suc, sym, zero, zero-add, ℕ, ◌++◌, ◌+◌, ◌-◌, ◌<◌, ◌==◌, ◌^◌, ◌∙◌, ◌∷◌, ◌≡◌, ◌≢◌, ◌≤◌}
+use Rattle.std.proofs.lemmas.List.Elements.{All-from_get_or, All-from_recursion}
+use Rattle.std.proofs.lemmas.List.FromFn.{fill_by_all, get_or-range_with_len, length-range_with_len}
+use Rattle.std.proofs.lemmas.Bool.{eqb-false}
+use Rattle.std.proofs.lemmas.Map.Keys.{IsDistinct-IsPermutation, IsDistinct-from_apart, IsDistinct-from_sorted, Less-from_sorted}
+use Rattle.std.proofs.lemmas.Option.{slice_get-get_or}
+use Rattle.std.proofs.lemmas.List.Sorted.{All-permutation, IsNonDecreasingBy-from_default, IsPermutation-insert, IsPermutation-push_more, IsPermutation-sym, length_permutation}
+use Rattle.std.proofs.lemmas.Cmp.{alike_right, eq_by_cmp_equiv, nat_list_eq_equiv, tied_back}
 use Rattle.std.proofs.lemmas.List.Edits.{insert_end}
-use Rattle.std.proofs.lemmas.List.Sorted.{IsNonDecreasingBy-from_default}
-use Rattle.std.proofs.lemmas.Map.Entries.{lookup_at_gap, lookup_from_place, length-keys_of}
-use Rattle.std.proofs.lemmas.Map.Keys.{IsDistinct-from_sorted, Less-from_sorted}
+use Rattle.std.proofs.lemmas.Map.Entries.{length-keys_of, lookup_at_gap, lookup_from_place}
 use Rattle.book.specs.InOrder.{IsAt, IsKeyOrder, set_value_at}
-use Rattle.book.proofs.Indexes.{Names, names_more, index_at, at_indexes-set, in_range, at_indexes-insert, get-at_indexes, length-at_indexes, some_at}
+use Rattle.book.proofs.Futures.{name_is}
+use Rattle.book.proofs.GoodParts.{equal_name, equal_number}
+
+-- ---- the entries at the indexes of an order
+
+-- ---- orders of so many indexes
+
+-- the order names each of n indexes once
+abbrev pub Names : ℕ → List ℕ → Type 0
+Names n order = IsPermutation (range_with_len 0 n) order
+
+pub in_range : (n : ℕ) (order : List ℕ) → Names n order → Each (λ i. i < n) order
+in_range n order p =
+    let below = All-from_get_or (λ i. i < n) (range_with_len 0 n) 0 (λ i h. rw (get_or-range_with_len 0 n i 0 (omega (arith, length-range_with_len 0 n))) (omega (arith, length-range_with_len 0 n))) in
+    recursion_from_All (λ i. i < n) order (All-permutation (λ i. i < n) (range_with_len 0 n) order p below)
+
+pub length_order : (n : ℕ) (order : List ℕ) → Names n order → length order ≡ n
+length_order n order p = length_permutation _ _ p ∙ length-range_with_len 0 n
+
+pub range_more : (a n : ℕ) → range_with_len a (suc n) ≡ range_with_len a n ++ (a + n) ∷ []
+range_more a zero = rw add-zero
+range_more a (suc n) = let shift : a + 1 + n ≡ a + suc n = omega arith in ap (λ l. a ∷ l) (range_more (a + 1) n ∙ ap (λ m. range_with_len (a + 1) n ++ m ∷ []) shift)
+
+-- one index more, wherever it goes
+pub names_more : (n : ℕ) (order : List ℕ) (place : ℕ) → Names n order → Names (suc n) (insert order place n)
+names_more n order place p =
+    rw (range_more 0 n, zero-add) (IsPermutation-push_more (range_with_len 0 n) order (insert order place n) n p (IsPermutation-insert order place n))
+
+-- no index stands twice
+distinct : (n : ℕ) (order : List ℕ) → Names n order → IsDistinct eqb order
+distinct n order p =
+    let apart : IsDistinct eqb (range_with_len 0 n) = IsDistinct-from_apart eqb (range_with_len 0 n) (λ i j d lt short.
+    let len = length-range_with_len 0 n in
+    rw (get_or-range_with_len 0 n i d (omega arith), get_or-range_with_len 0 n j d (omega arith)) (grind (arith, nat_tests))) in
+    IsDistinct-IsPermutation eqb (λ x y. grind (arith, nat_tests)) (range_with_len 0 n) order p apart
+
+-- ---- the entries at them
+
+module _ {E : Type 0} where
+  pub some_at : (es : List E) (i : ℕ) → i < length es → (e : E) × (slice_get es i ≡ Some e)
+  some_at [] i h = absurd (omega arith)
+  some_at (e ∷ es) zero h = (e, refl)
+  some_at (e ∷ es) (suc i) h = some_at es i (omega arith)
+
+  pub length-at_indexes : (es : List E) (order : List ℕ) → Each (λ i. i < length es) order → length (at_indexes es order) ≡ length order
+  length-at_indexes es [] h = refl
+  length-at_indexes es (i ∷ order) h = let found = some_at es i h.0 in rw found.1 (ap suc (length-at_indexes es order h.1))
+
+  -- as many as there are
+  pub length_in_order : (es : List E) (order : List ℕ) → Names (length es) order → length (at_indexes es order) ≡ length es
+  length_in_order es order p = length-at_indexes es order (in_range _ order p) ∙ length_order _ order p
+
+  -- the entry at a place is the one at its index
+  pub get-at_indexes : (es : List E) (order : List ℕ) (place j : ℕ) → Each (λ i. i < length es) order → place < length order → slice_get (at_indexes es order) place ≡ slice_get es (get_or order place j)
+  get-at_indexes es [] place j h l = absurd (omega arith)
+  get-at_indexes es (i ∷ order) zero j h l = let found = some_at es i h.0 in rw found.1
+  get-at_indexes es (i ∷ order) (suc place) j h l = let found = some_at es i h.0 in rw found.1 (get-at_indexes es order place j h.1 (omega arith))
+
+  -- so a place in their order gives an index, and that an entry
+  pub index_at : (es : List E) (order : List ℕ) (place index : ℕ) → Names (length es) order → place < length (at_indexes es order) → index ≡ get_or order place index → (index < length es) × (slice_get (at_indexes es order) place ≡ slice_get es index)
+  index_at es order place index p h read =
+      let below : Each (λ i. i < length es) order = in_range _ order p in
+      let short : place < length order = omega (arith, length-at_indexes es order below) in (
+        rw (← read) at (All-from_recursion (λ i. i < length es) order below place index short),
+        get-at_indexes es order place index below short ∙ ap (slice_get es) (sym read),
+      )
+
+  get-append : (es : List E) (x : E) (i : ℕ) → i < length es → slice_get (es ++ x ∷ []) i ≡ slice_get es i
+  get-append [] x i h = absurd (omega arith)
+  get-append (e ∷ es) x zero h = refl
+  get-append (e ∷ es) x (suc i) h = get-append es x i (omega arith)
+
+  get-last : (es : List E) (x : E) → slice_get (es ++ x ∷ []) (length es) ≡ Some x
+  get-last [] x = refl
+  get-last (e ∷ es) x = get-last es x
+
+  at_indexes-append : (es : List E) (x : E) (order : List ℕ) → Each (λ i. i < length es) order → at_indexes (es ++ x ∷ []) order ≡ at_indexes es order
+  at_indexes-append es x [] h = refl
+  at_indexes-append es x (i ∷ order) h = rw (get-append es x i h.0, at_indexes-append es x order h.1)
+
+  -- an entry more at the end, and its index at a place, is that entry more at that place
+  pub at_indexes-insert : (es : List E) (x : E) (order : List ℕ) (place : ℕ) → Each (λ i. i < length es) order → at_indexes (es ++ x ∷ []) (insert order place (length es)) ≡ insert (at_indexes es order) place x
+  at_indexes-insert es x order zero h = rw (get-last es x, at_indexes-append es x order h)
+  at_indexes-insert es x [] (suc place) h = rw (get-last es x)
+  at_indexes-insert es x (i ∷ order) (suc place) h = let found = some_at es i h.0 in rw (get-append es x i h.0, found.1) (ap (λ l. found.0 ∷ l) (at_indexes-insert es x order place h.1))
+
+  get-set_same : (es : List E) (i : ℕ) (x : E) → i < length es → slice_get (set es i x) i ≡ Some x
+  get-set_same [] i x h = absurd (omega arith)
+  get-set_same (e ∷ es) zero x h = refl
+  get-set_same (e ∷ es) (suc i) x h = get-set_same es i x (omega arith)
+
+  get-set_other : (es : List E) (i j : ℕ) (x : E) → i ≢ j → slice_get (set es i x) j ≡ slice_get es j
+  get-set_other [] i j x h = refl
+  get-set_other (e ∷ es) zero zero x h = absurd (h refl)
+  get-set_other (e ∷ es) zero (suc j) x h = refl
+  get-set_other (e ∷ es) (suc i) zero x h = refl
+  get-set_other (e ∷ es) (suc i) (suc j) x h = get-set_other es i j x (omega arith)
+
+  at_indexes-set_none : (es : List E) (i : ℕ) (x : E) (order : List ℕ) → Each (λ j. eqb i j ≡ false) order → at_indexes (set es i x) order ≡ at_indexes es order
+  at_indexes-set_none es i x [] h = refl
+  at_indexes-set_none es i x (j ∷ order) h = let other = get-set_other es i j x (eqb-false i j h.0) in rw (other, at_indexes-set_none es i x order h.1)
+
+  set-distinct : (es : List E) (x : E) (order : List ℕ) (place i : ℕ) → IsDistinct eqb order → Each (λ i. i < length es) order → place < length order → i ≡ get_or order place i → at_indexes (set es i x) order ≡ set (at_indexes es order) place x
+  unfolding IsDistinct
+  set-distinct es x [] place i apart h short read = absurd (omega arith)
+  set-distinct es x (j ∷ order) zero i apart h short read = grind (arith, (some_at es j h.0), (subst (λ i. slice_get (set es i x) j ≡ Some x) (sym read) (get-set_same es j x h.0)), (subst (λ i. Each (λ k. eqb i k ≡ false) order) (sym read) apart.0), get-set_same, at_indexes-set_none)
+  set-distinct es x (j ∷ order) (suc place) i apart h short read =
+      let found = some_at es j h.0 in
+      let differ : eqb j i ≡ false = rw (← read) at (All-from_recursion (λ k. eqb j k ≡ false) order apart.0 place i (omega arith)) in
+      let other = get-set_other es i j x (λ same. eqb-false j i differ (sym same)) in
+      rw (other, found.1) (ap (λ l. found.0 ∷ l) (set-distinct es x order place i apart.1 h.1 (omega arith) read))
+
+  -- another entry at an index is that entry at its place
+  pub at_indexes-set : (es : List E) (x : E) (order : List ℕ) (place i : ℕ) → Names (length es) order → place < length (at_indexes es order) → i ≡ get_or order place i → at_indexes (set es i x) order ≡ set (at_indexes es order) place x
+  at_indexes-set es x order place i p short read =
+      let below : Each (λ i. i < length es) order = in_range _ order p in
+      set-distinct es x order place i (distinct _ order p) below (omega (arith, length-at_indexes es order below)) read
+
+  -- the entries are those at the indexes 0, 1, ..
+  at_indexes-map : (es : List E) (d : E) (order : List ℕ) → Each (λ i. i < length es) order → at_indexes es order ≡ map (λ i. get_or es i d) order
+  at_indexes-map es d [] h = refl
+  at_indexes-map es d (i ∷ order) h = let found = slice_get-get_or es i d h.0 in rw found (ap (λ l. get_or es i d ∷ l) (at_indexes-map es d order h.1))
+
+  pub at_indexes-all : (es : List E) → at_indexes es (range_with_len 0 (length es)) ≡ es
+  at_indexes-all [] = refl
+  at_indexes-all (e ∷ es) =
+      let all = e ∷ es in
+      at_indexes-map all e (range_with_len 0 (length all)) (in_range (length all) _ (IsPermutation-refl _)) ∙ sym (fill_by_all (λ i. get_or all i e) all (length all) e refl (λ k h. refl))
+
+  -- in the order of their keys they are the same entries
+  pub same_entries : (es : List E) (order : List ℕ) → Names (length es) order → IsPermutation (at_indexes es order) es
+  same_entries [] [] p = IsPermutation-refl []
+  same_entries [] (i ∷ order) p = absurd (omega (arith, length_order 0 (i ∷ order) p))
+  same_entries (e ∷ es) order p =
+      let all = e ∷ es in
+      let listed : at_indexes all order ≡ map (λ i. get_or all i e) order = at_indexes-map all e order (in_range (length all) order p) in
+      let in_turn : map (λ i. get_or all i e) (range_with_len 0 (length all)) ≡ all = sym (at_indexes-map all e (range_with_len 0 (length all)) (in_range (length all) _ (IsPermutation-refl _))) ∙ at_indexes-all all in
+      subst (λ l. IsPermutation (at_indexes all order) l) in_turn (rw listed (IsPermutation-sym _ _ (IsPermutation-map (λ i. get_or all i e) _ order p)))
+
+-- ---- how many entries more fit without memory
+
+pub room_made : (n m more entries order : ℕ) → m ≡ n → more ≤ 2 ^ 32 - n → n + more ≤ entries → m + more ≤ order → more ≤ room_left n entries order
+room_made n m more entries order same short in_entries in_order = omega arith
+
+pub no_room : (n m more entries order : ℕ) → m ≡ n → m ≤ order → order < m + more → room_left n entries order < more
+no_room n m more entries order same within full = omega arith
+
+pub has_room : (n entries order : ℕ) → 1 ≤ room_left n entries order → (n < entries) × (n < order)
+has_room n entries order room = (omega arith, omega arith)
+
+-- ---- keys among entries in their order
 
 module _ {K V : Type 0} where
   pub keys-set_value_at : (l : List (K × V)) (place : ℕ) (w : V) → keys_of (set_value_at l place w) ≡ keys_of l
@@ -88,9 +242,7 @@ module _ {K : Type 0} {cmp : K → K → Ordering} (total : IsTotalOrder cmp) (k
     key_at l place e d h = get_or_from_slice_get (keys_of l) place e.0 d (slice_get-map (λ (e : K × V). e.0) l place ∙ ap (option_map (λ (e : K × V). e.0)) h)
 
     rise_along : (l : List (K × V)) → IsStrictlySortedBy cmp (keys_of l) → (i j : ℕ) (x y : K × V) → i < j → slice_get l i ≡ Some x → slice_get l j ≡ Some y → cmp x.0 y.0 ≡ Less
-    rise_along l rising i j x y lt at_i at_j =
-        let less = Less-from_sorted cmp (keys_of l) i j x.0 rising lt (omega (arith, length-keys_of l, slice_get_within l j y at_j)) in
-        rw (key_at l i x x.0 at_i, key_at l j y x.0 at_j) at less
+    rise_along l rising i j x y lt at_i at_j = grind (arith, (Less-from_sorted cmp (keys_of l) i j x.0 rising lt (omega (arith, length-keys_of l, slice_get_within l j y at_j))), length-keys_of, slice_get_within, key_at)
 
     at_tail : (e : K × V) (l : List (K × V)) (place : ℕ) → IsAt cmp (e ∷ l) key (suc place) → IsAt cmp l key place
     at_tail e l place at = record { entry = at.entry; there = at.there; equal = at.equal }
@@ -113,13 +265,7 @@ module _ {K : Type 0} {cmp : K → K → Ordering} (total : IsTotalOrder cmp) (k
     pub set_value-insert : (w : V) (l : List (K × V)) (v : V) → IsStrictlySortedBy cmp (keys_of l) → lookup (is_at (cmp key)) l ≡ Some v → set_value (is_at (cmp key)) l w ≡ insert_entry cmp l key w
     unfolding IsStrictlySortedBy
     set_value-insert w [] v rising there = absurd (none-some v there)
-    set_value-insert w (e ∷ l) v rising there = by (cmp key e.0) refl there (set_value-insert w l v rising.1)
-      where
-        by : (o : Ordering) → cmp key e.0 ≡ o → cond (is_eq o) (Some e.1) (lookup (is_at (cmp key)) l) ≡ Some v → (lookup (is_at (cmp key)) l ≡ Some v → set_value (is_at (cmp key)) l w ≡ insert_entry cmp l key w)
-            → cond (is_eq o) ((e.0, w) ∷ l) (e ∷ set_value (is_at (cmp key)) l w) ≡ match_ordering o ((key, w) ∷ e ∷ l) ((e.0, w) ∷ l) (e ∷ insert_entry cmp l key w)
-        by Less is there more = absurd (none-some v (sym (none_below l (each_below e.0 is (keys_of l) rising.0)) ∙ there))
-        by Equal is there more = refl
-        by Greater is there more = ap (λ r. e ∷ r) (more there)
+    set_value-insert w (e ∷ l) v rising there = grind (arith, (set_value-insert w l v rising.1), none-some, none_below, each_below)
 
     -- ---- a search for the key by halving
 
@@ -129,9 +275,7 @@ module _ {K : Type 0} {cmp : K → K → Ordering} (total : IsTotalOrder cmp) (k
 
       -- the comparison at a place
       answer : (place d : ℕ) (e : K × V) → slice_get (at_indexes es order) place ≡ Some e → compare_at cmp es key (get_or order place d) ≡ cmp e.0 key
-      answer place d e there =
-          let short : place < length order = omega (arith, length-at_indexes es order below, slice_get_within (at_indexes es order) place e there) in
-          ap (λ o. option_map_or (λ (e : K × V). cmp e.0 key) o Less) (sym (get-at_indexes es order place d below short) ∙ there)
+      answer place d e there = grind (arith, length-at_indexes, below, slice_get_within, get-at_indexes)
 
       entry_at : (place : ℕ) → place < length order → (e : K × V) × (slice_get (at_indexes es order) place ≡ Some e)
       entry_at place short = some_at (at_indexes es order) place (omega (arith, length-at_indexes es order below))
@@ -179,3 +323,54 @@ module _ {K : Type 0} {cmp : K → K → Ordering} (total : IsTotalOrder cmp) (k
               each_once = rw longer one_more;
               rising = rw put (rising-gap v (at_indexes es order) place rising gap);
             }
+
+-- ---- entries under keys, as they stand in a ledger
+
+module _ {K V X : Type 0} (cmp : K → K → Ordering) (ties : (a b : K) → cmp a b ≡ Equal → a ≡ b) (view : K × V → X) where
+  -- what stands under a key
+  found : (key : K) (test : X → Bool) → ((e : K × V) → test (view e) ≡ is_eq (cmp key e.0)) → (l : List (K × V)) → find test (map view l) ≡ option_map (λ v. view (key, v)) (lookup (is_at (cmp key)) l)
+  found key test same [] = refl
+  found key test same (e ∷ l) = let more = found key test same l in grind arith
+
+  -- an entry under a key that none stands under is put before the first that it precedes
+  inserted : (key : K) (v : V) (before : X → X → Bool) → ((e : K × V) → before (view (key, v)) (view e) ≡ is_lt (cmp key e.0)) → (l : List (K × V)) → lookup (is_at (cmp key)) l ≡ None
+      → map view (insert_entry cmp l key v) ≡ insert_in_order before (view (key, v)) (map view l)
+  inserted key v before first [] none = refl
+  inserted key v before first (e ∷ l) none = let more = inserted key v before first l in grind arith
+
+nothing_there : {X Y : Type 0} (f : X → Y) (o : Option X) → option_map f o ≡ None → o ≡ None
+nothing_there f b h = grind arith
+
+-- ---- fields
+
+pub same_field : (f g : Name) → same_name f g ≡ is_eq (name_cmp f g)
+same_field f g = rw (← is_eq-slice_cmp f.branch g.branch, ← is_eq-slice_cmp f.article g.article) (sym (grind arith))
+
+pub equal_field : (f g : Name) → name_cmp f g ≡ Equal → f ≡ g
+equal_field f g h = name_is f g (equal_name f g h)
+
+pub field_found : (name : Name) (l : List (Name × FieldEntry)) → find (λ f. same_name name f.name) (map field_of l) ≡ option_map (λ v. field_of (name, v)) (lookup (is_at (name_cmp name)) l)
+field_found name l = found name_cmp equal_field field_of name (λ f. same_name name f.name) (λ e. same_field name e.0) l
+
+-- ---- orders
+
+pub same_number : (m n : ℕ) → (m == n) ≡ is_eq (nat_cmp n m)
+same_number m n = grind arith
+
+pub order_found : (n : ℕ) (l : List (ℕ × OrderEntry)) → find (λ o. o.number == n) (map order_of l) ≡ option_map (λ v. order_of (n, v)) (lookup (is_at (nat_cmp n)) l)
+order_found n l = found nat_cmp equal_number order_of n (λ o. o.number == n) (λ e. same_number e.0 n) l
+
+-- ---- kept keys
+
+same_text : (a b : List ℕ) → slice_cmp nat_cmp a b ≡ Equal → a ≡ b
+same_text a b h = (bytes_decides a b).0 (sym (is_eq-slice_cmp a b) ∙ ap is_eq h)
+
+pub kept_found : (key : List ℕ) (l : List (List ℕ × KeptEntry)) → find (λ k. bytes_eq k.key key) (map kept_of l) ≡ option_map (λ v. kept_of (key, v)) (lookup (is_at (slice_cmp nat_cmp key)) l)
+kept_found key l = found (slice_cmp nat_cmp) same_text kept_of key (λ k. bytes_eq k.key key) (λ e. nat_list_eq_equiv.symm e.0 key ∙ sym (is_eq-slice_cmp key e.0)) l
+
+pub kept_absent : (key : List ℕ) (l : List (List ℕ × KeptEntry)) → find (λ k. bytes_eq k.key key) (map kept_of l) ≡ None → lookup (is_at (slice_cmp nat_cmp key)) l ≡ None
+kept_absent key l none = nothing_there (λ v. kept_of (key, v)) (lookup (is_at (slice_cmp nat_cmp key)) l) (sym (kept_found key l) ∙ none)
+
+pub kept_inserted : (key : List ℕ) (v : KeptEntry) (l : List (List ℕ × KeptEntry)) → find (λ k. bytes_eq k.key key) (map kept_of l) ≡ None
+    → map kept_of (insert_entry (slice_cmp nat_cmp) l key v) ≡ insert_in_order (λ a b. is_lt (slice_cmp nat_cmp a.key b.key)) (kept_of (key, v)) (map kept_of l)
+kept_inserted key v l none = inserted (slice_cmp nat_cmp) same_text kept_of key v (λ a b. is_lt (slice_cmp nat_cmp a.key b.key)) (λ e. refl) l (kept_absent key l none)

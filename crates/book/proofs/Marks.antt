@@ -1,16 +1,14 @@
 -- Heads of orders that the rows of firm orders mark.
-use Rattle.book.proofs.Prelude.{[], ◌++◌, ◌+◌, ◌<◌, ◌∙◌, ◌∷◌, ◌≡◌, ◌≤◌, Bool, FirmCells, FirmRow, Head, IsStrictlySortedBy, Less, List, Option, OrderCells, None, Some, ap, append-nil, arith, drop, false, firm_cells, firm_row, flat_map, flat_map-append, get_or, get_or_from_slice_get, head_row, if◌then◌else◌, length, length-drop, map, map-append, mark_rows, nat_cmp, pos, refl, set, slice_get, slice_get_within, subst, suc, sym, take, take_all, true, zero, ℕ}
+use Rattle.book.proofs.Prelude.{[], ◌++◌, ◌+◌, ◌<◌, ◌∙◌, ◌∷◌, ◌≡◌, ◌≤◌, FirmCells, FirmRow, Head, IsStrictlySortedBy, Less, List, Option, OrderCells, Some, ap, append-nil, arith, drop, false, firm_cells, firm_row, flat_map, flat_map-append, get_or, get_or_from_slice_get, head_row, if◌then◌else◌, length, length-drop, map, map-append, mark_rows, nat_cmp, pos, refl, set, slice_get, slice_get_within, subst, suc, sym, take, take_all, true, zero, ℕ}
 use Rattle.std.proofs.Math.ListN.{drop_of_length-le}
 use Rattle.std.proofs.Math.Seq.{map-set_same}
 use Rattle.std.proofs.lemmas.List.{take_more_set}
 use Rattle.book.specs.RowEntries.{Marks}
 use Rattle.book.proofs.Futures.{less_is}
 use Rattle.book.proofs.LineGroups.{drop-step}
-use Rattle.book.proofs.Lists.{each-unmap, length-of-map}
+use Rattle.book.proofs.Lists.{each-unmap, length-of-map, read-step, get-of-map}
 use Rattle.book.proofs.Sums.{each-imp}
-use Rattle.book.proofs.EqualRows.{MarkOthers, later_marks, same_first, same_kind, same_mark, same_pos, same_rest, same_state}
-use Rattle.book.proofs.Walks.{read-step}
-use Rattle.book.proofs.Pairs.{get-of-map}
+use Rattle.book.proofs.EqualRows.{MarkOthers, later_marks, same_first, same_mark, same_pos, same_rest}
 
 -- there are heads in the order of their numbers with these rows of orders, and these rows mark them
 pub record Marked (cells : List OrderCells) (marks : List FirmCells) : Type 0 where
@@ -27,18 +25,10 @@ same_numbers : (hs ks : List Head) → map head_row hs ≡ map head_row ks → m
 same_numbers [] [] e = refl
 same_numbers [] (k ∷ ks) e = absurd (cc)
 same_numbers (h ∷ hs) [] e = absurd (cc)
-same_numbers (h ∷ hs) (k ∷ ks) e =
-    let first = same_pos h.number k.number (ap (λ (r : OrderCells). r.number) (same_first (head_row h) (head_row k) (map head_row hs) (map head_row ks) e)) in
-    let more = same_numbers hs ks (same_rest (head_row h) (head_row k) (map head_row hs) (map head_row ks) e) in
-    λ i. first i ∷ more i
+same_numbers (h ∷ hs) (k ∷ ks) e = grind (arith, (same_numbers hs ks (same_rest (head_row h) (head_row k) (map head_row hs) (map head_row ks) e)))
 
 same_head : (h k : Head) → head_row h ≡ head_row k → h.firm ≡ k.firm → h ≡ k
-same_head h k e firm =
-    let number = same_pos h.number k.number (ap (λ r. r.number) e) in
-    let kind = same_kind h.kind k.kind (ap (λ r. r.kind) e) in
-    let until = same_pos h.until k.until (ap (λ r. r.until) e) in
-    let state = same_state h.state k.state (ap (λ r. r.state) e) in
-    λ i. record { number = number i; kind = kind i; until = until i; state = state i; firm = firm i }
+same_head h k e firm = grind arith
 
 -- heads with the same rows of orders, marked by the same rows, are the same
 heads_once : (hs ks : List Head) → IsStrictlySortedBy nat_cmp (map (λ h. h.number) hs) → IsStrictlySortedBy nat_cmp (map (λ h. h.number) ks) → map head_row hs ≡ map head_row ks → flat_map mark_rows hs ≡ flat_map mark_rows ks → hs ≡ ks
@@ -76,19 +66,11 @@ behind c cells marks rest rows t = by t.heads t.sorted t.same t.rows
 
 -- the first row names the first head
 named_first : (c : OrderCells) (cells : List OrderCells) (m : FirmCells) (marks : List FirmCells) → m.number ≡ c.number → Marked (c ∷ cells) (m ∷ marks) → Marked cells marks
-named_first c cells m marks named t = behind c cells (m ∷ marks) marks (λ h hs is others e. by h.firm h.number (flat_map mark_rows hs) is others e) t
-  where
-    by : (firm : Bool) (n : ℕ) (rest : List FirmCells) → c.number ≡ pos n → MarkOthers n rest → (if firm then firm_row n ∷ [] else []) ++ rest ≡ m ∷ marks → rest ≡ marks
-    by true n rest is others e = same_rest (firm_row n) m rest marks e
-    by false n rest is others e = absurd ((subst (MarkOthers n) e others).0 (named ∙ is))
+named_first c cells m marks named t = grind (arith, behind, MarkOthers, same_rest)
 
 -- no first row names the first head
 unnamed_first : (c : OrderCells) (cells : List OrderCells) (marks : List FirmCells) → ((m : FirmCells) (rest : List FirmCells) → marks ≡ m ∷ rest → m.number ≡ c.number → ⊥) → Marked (c ∷ cells) marks → Marked cells marks
-unnamed_first c cells marks unnamed t = behind c cells marks marks (λ h hs is others e. by h.firm h.number (flat_map mark_rows hs) is e) t
-  where
-    by : (firm : Bool) (n : ℕ) (rest : List FirmCells) → c.number ≡ pos n → (if firm then firm_row n ∷ [] else []) ++ rest ≡ marks → rest ≡ marks
-    by true n rest is e = absurd (unnamed (firm_row n) rest (sym e) (sym is))
-    by false n rest is e = e
+unnamed_first c cells marks unnamed t = grind (arith, behind)
 
 -- ---- the rows that are left
 
@@ -99,8 +81,7 @@ pub record MarkingRow (row : Option FirmRow) (n : ℕ) : Type 0 where
   pub number : it.number ≡ pos n
 
 pub marking_row : (row : Option FirmRow) (n : ℕ) → Marks row n → MarkingRow row n
-marking_row None n h = absurd h
-marking_row (Some r) n h = record { it = r; is = refl; number = h }
+marking_row row n h = grind arith
 
 -- where the rows that are left begin with one of that number
 marks_there : (rows : List FirmRow) (i n : ℕ) (m : FirmCells) (rest : List FirmCells) → map firm_cells (drop i rows) ≡ m ∷ rest → m.number ≡ pos n → Marks (slice_get rows i) n
@@ -169,13 +150,7 @@ step_if_named cells hs i d h rows next so_far within same firm named =
 -- no row names it
 pub step_if_unnamed : (cells : List OrderCells) (hs : List Head) (i : ℕ) (d h : Head) (rows : List FirmRow) (next : ℕ) → MarkedSoFar cells hs i rows next → i < length hs → head_row h ≡ head_row (get_or hs i d) → h.firm ≡ false → (Marks (slice_get rows next) h.number → ⊥)
     → MarkedSoFar cells (set hs i h) (i + 1) rows next
-step_if_unnamed cells hs i d h rows next so_far within same firm unnamed = record {
-  within = so_far.within;
-  same = map-set_same head_row hs i h d same ∙ so_far.same;
-  marked = set_rows hs i h within ∙ ap (λ b. flat_map mark_rows (take i hs) ++ (if b then firm_row h.number ∷ [] else [])) firm ∙ append-nil (flat_map mark_rows (take i hs)) ∙ so_far.marked;
-  left = λ t. left_if_unnamed (head_row h) (drop (i + 1) cells) rows next h.number refl unnamed
-      (subst (λ cs. Marked cs (map firm_cells (drop next rows))) (cells_here cells hs i d so_far.same within ∙ ap (λ (c : OrderCells). c ∷ drop (i + 1) cells) (sym same)) (so_far.left t));
-}
+step_if_unnamed cells hs i d h rows next so_far within same firm unnamed = grind (arith, map-set_same, set_rows, append-nil, left_if_unnamed, cells_here)
 
 -- at the end of the heads no row is left
 pub all_named : (cells : List OrderCells) (hs : List Head) (i : ℕ) (rows : List FirmRow) (next : ℕ) → MarkedSoFar cells hs i rows next → length hs ≤ i → Marked cells (map firm_cells rows) → next ≡ length rows
@@ -186,11 +161,8 @@ all_named cells hs i rows next so_far past t =
     let none = ap (λ (rs : List FirmCells). length rs) (none_left (map firm_cells (drop next rows)) (subst (λ cs. Marked cs (map firm_cells (drop next rows))) (drop_of_length-le cells past_cells) (so_far.left t))) in
     let left = length-of-map firm_cells (drop next rows) in
     let long = length-drop next rows in
-    let within = so_far.within in
     omega arith
 
 -- and then all rows mark all heads
 pub all_marked : (cells : List OrderCells) (hs : List Head) (i : ℕ) (rows : List FirmRow) (next : ℕ) → MarkedSoFar cells hs i rows next → length hs ≤ i → next ≡ length rows → flat_map mark_rows hs ≡ map firm_cells rows
-all_marked cells hs i rows next so_far past all =
-    let past_rows : length rows ≤ next = omega arith in
-    ap (flat_map mark_rows) (sym (take_all i hs past)) ∙ so_far.marked ∙ ap (map firm_cells) (take_all next rows past_rows)
+all_marked cells hs i rows next so_far past all = grind (arith, take_all)

@@ -1,5 +1,5 @@
 -- The rows that an accepted command names, put into the ledger's rows, give the rows of the next ledger.
-use Rattle.book.proofs.Prelude.{[], ◌&&◌, ◌++◌, ◌+◌, ◌==◌, ◌||◌, ◌∙◌, ◌∷◌, ◌≡◌, Aborted, AllZip, Bool, Command, Committed, Content, DeskCells, Each, Equal, Field, FieldCells, FirmCells, FirstFailure, Good, IsFalse, IsFieldRow, IsInRange, IsKey, IsNone, IsRowsOf, IsSomeAnd, IsStrictlySortedBy, IsTotalOrder, Kept, Ledger, Line, LineCells, List, Move, Name, None, OpenLine, Order, OrderCells, Ordering, Plain, Request, State, Transfer, Way, accept, add_hold, ap, arith, bytes_decides, bytes_eq, change_lines, changed_rows, changes_field, changes_firm, changes_line, changes_move, changes_order, checks, desk_row, expires, false, field_cmp, filter, firm_cmp, firm_row, firm_rows, flat_map, has_line_on, held_to_add, held_to_take, hold_more, if_add, if_take, if◌then◌else◌, inl, inr, insert_in_order, int_cmp_total, int_eq, ints, is_eq, is_lt, is_open, is_settled, is_some, is_transfer, kept_cmp, kept_row, kept_under, line_cmp, line_name, line_on, line_row, lines_from, list_any, lower_held, map, move_cmp, move_row, moved_by, name_cmp, name_of, nat_cmp, nat_list_cmp_total, nat_lt, neg_ℤ, new_line, new_order, on, on_total, open_state, order_cmp, order_is, order_lines, order_numbered, order_row, places, pos, put_content, put_rows, raise_held, raise_used, refl, same_name, set_firm, set_state, settled, settled_state, signed, slice_cmp, subst, sym, then_total, tied_itself, total, transfer_lines, true, true≢false, unsettled, with_order, ℕ, ℤ}
+use Rattle.book.proofs.Prelude.{[], ◌&&◌, ◌++◌, ◌+◌, ◌==◌, ◌||◌, ◌∙◌, ◌∷◌, ◌≡◌, Aborted, AllZip, Bool, Command, Committed, Content, DeskCells, Each, Equal, Field, FieldCells, FirmCells, FirstFailure, Good, IsFalse, IsFieldRow, IsInRange, IsKey, IsNone, IsRowsOf, IsSomeAnd, IsStrictlySortedBy, IsTotalOrder, Kept, Ledger, Line, LineCells, List, Move, Name, None, OpenLine, Order, OrderCells, Ordering, Plain, Request, State, Transfer, Way, accept, add_hold, ap, arith, bytes_decides, bytes_eq, change_lines, changed_rows, changes_field, changes_firm, changes_line, changes_move, changes_order, checks, desk_row, expires, false, field_cmp, filter, firm_cmp, firm_rows, flat_map, has_line_on, held_to_add, held_to_take, hold_more, if_add, if_take, if◌then◌else◌, inl, inr, insert_in_order, int_cmp_total, int_eq, ints, is_eq, is_lt, is_open, is_settled, is_some, is_transfer, kept_cmp, kept_row, kept_under, line_cmp, line_name, line_on, line_row, lines_from, list_any, lower_held, map, move_cmp, move_row, moved_by, name_cmp, name_of, nat_cmp, nat_list_cmp_total, nat_lt, neg_ℤ, new_line, new_order, on, on_total, open_state, order_cmp, order_is, order_lines, order_numbered, order_row, places, pos, put_content, put_rows, raise_held, raise_used, refl, same_name, set_firm, set_state, settled, settled_state, signed, slice_cmp, subst, sym, then_total, tied_itself, total, transfer_lines, true, true≢false, unsettled, with_order, ℕ, ℤ}
 use Rattle.words.specs.declared.command.Command.TheVariants as command
 use Rattle.book.specs.Rows.{desk_cmp}
 use Rattle.book.proofs.Sums.{each, each-imp, each-both, each-map, total-kept}
@@ -8,11 +8,10 @@ use Rattle.book.proofs.Futures.{all_pass, at_number, name_is, sounds_from_good, 
 use Rattle.book.proofs.OutcomeTests.{same_self, total-push, settled-order, held_take-order, held_add-order}
 use Rattle.book.proofs.Goodness.{good_accept}
 use Rattle.book.specs.Next.{with_bounds}
-use Rattle.book.proofs.NewAmounts.{other_way}
-use Rattle.book.proofs.OtherBounds.{bounding, bounding_name}
+use Rattle.book.proofs.Safety.{other_way, bounding, bounding_name}
 use Rattle.book.proofs.Puts.{Follows, put_all, follows-flat, follows-same, follows-before, follows-join, follows-map, follows-insert, follows-push}
-use Rattle.book.proofs.InOrder.{fields_sorted, firms_sorted, kept_sorted, lines_sorted, moves_sorted, orders_sorted}
-use Rattle.book.proofs.RowFilter.{any_none, or_false, or_right}
+use Rattle.book.proofs.EqualRows.{fields_sorted, firms_sorted, kept_sorted, lines_sorted, moves_sorted, orders_sorted}
+use Rattle.book.proofs.Lists.{any_none, or_false, or_right}
 use Rattle.book.proofs.GoodParts.{both_true}
 
 -- orders of the seven tables
@@ -159,53 +158,27 @@ lines_follow A key c m = follows-same line_cmp line_cmp_total _ (flat_map order_
 
 marks_insert : (p : Order → Order → Bool) (o : Order) (os : List Order) → o.firm ≡ false → flat_map firm_rows (insert_in_order p o os) ≡ flat_map firm_rows os
 marks_insert p o [] e = rw e refl
-marks_insert p o (m ∷ ms) e = by (p o m) (marks_insert p o ms e)
-  where
-    by : (b : Bool) → flat_map firm_rows (insert_in_order p o ms) ≡ flat_map firm_rows ms → flat_map firm_rows (if b then o ∷ m ∷ ms else m ∷ insert_in_order p o ms) ≡ flat_map firm_rows (m ∷ ms)
-    by true more = rw e refl
-    by false more = ap (λ rows. firm_rows m ++ rows) more
+marks_insert p o (m ∷ ms) e = grind (arith, (marks_insert p o ms e))
 
 marks_kept : (test : Order → Bool) (change : Order → Order) (os : List Order) → ((o : Order) → firm_rows (change o) ≡ firm_rows o) → flat_map firm_rows (map (λ o. if test o then change o else o) os) ≡ flat_map firm_rows os
 marks_kept test change [] same = refl
-marks_kept test change (o ∷ os) same = ap (λ rows. rows ++ flat_map firm_rows (map (λ o. if test o then change o else o) os)) (by (test o)) ∙ ap (λ rows. firm_rows o ++ rows) (marks_kept test change os same)
-  where
-    by : (b : Bool) → firm_rows (if b then change o else o) ≡ firm_rows o
-    by true = same o
-    by false = refl
+marks_kept test change (o ∷ os) same = grind (arith, (marks_kept test change os same))
 
 held_mark : (l : OpenLine) (o : Order) → firm_rows (add_hold l o) ≡ firm_rows o
-held_mark l o = by (is_some (line_on o (name_of l.branch l.article)))
-  where
-    by : (b : Bool) → firm_rows (if b then hold_more (name_of l.branch l.article) l.qty o else record o { lines = o.lines ++ new_line l ∷ [] }) ≡ firm_rows o
-    by true = refl
-    by false = refl
+held_mark l o = grind arith
 
 -- the new row of an order that was not firm; one that was has its row
 marked_follows : (n : ℕ) (o : Order) → (o.number == n) ≡ true → Follows firm_cmp (λ row. int_eq row.number (pos n)) (firm_rows o) (firm_rows (set_firm o))
-marked_follows n o e = by o.firm
-  where
-    by : (b : Bool) → Follows firm_cmp (λ row. int_eq row.number (pos n)) (if b then firm_row o.number ∷ [] else []) (firm_row o.number ∷ [])
-    by true = follows-same firm_cmp firm_cmp_total (λ row. int_eq row.number (pos n)) (firm_row o.number ∷ [])
-    by false = inl (numbered n o e, refl)
+marked_follows n o e = grind arith
 
 follows-if : (chosen : FirmCells → Bool) (b : Bool) (o new : Order) → (b ≡ true → Follows firm_cmp chosen (firm_rows o) (firm_rows new)) → Follows firm_cmp chosen (firm_rows o) (firm_rows (if b then new else o))
-follows-if chosen true o new h = h refl
-follows-if chosen false o new h = follows-same firm_cmp firm_cmp_total chosen (firm_rows o)
+follows-if chosen b o new h = grind arith
 
 marks_follow : (chosen : FirmCells → Bool) (xs ys : List FirmCells) → ys ≡ xs → Follows firm_cmp chosen xs ys
 marks_follow chosen xs ys e = subst (Follows firm_cmp chosen xs) (sym e) (follows-same firm_cmp firm_cmp_total chosen xs)
 
 firms_follow : (A : Ledger) (key : List ℕ) (c : Command) → Follows firm_cmp (λ row. changes_firm c row.number) (flat_map firm_rows A.orders) (flat_map firm_rows (accept A (record { key = key; command = c })).orders)
-firms_follow A key (command.Open n until lines) = marks_follow _ _ _ (marks_insert (λ a b. nat_lt a.number b.number) (new_order n Plain until lines) A.orders refl)
-firms_follow A key (command.Transfer n until a from to q) = marks_follow _ _ _ (marks_insert (λ a b. nat_lt a.number b.number) (new_order n Transfer until (transfer_lines a from to q)) A.orders refl)
-firms_follow A key (command.More n way b a q) = marks_follow _ _ _ (marks_kept (λ o. o.number == n) _ A.orders (held_mark (record { way = way; branch = b; article = a; qty = q })))
-firms_follow A key (command.Use n b a q) = marks_follow _ _ _ (marks_kept (λ o. o.number == n) (change_lines (name_of b a) (raise_used q)) A.orders (λ o. refl))
-firms_follow A key (command.Release n b a q) = marks_follow _ _ _ (marks_kept (λ o. o.number == n) (change_lines (name_of b a) (lower_held q)) A.orders (λ o. refl))
-firms_follow A key (command.Commit n) = marks_follow _ _ _ (marks_kept (λ o. o.number == n) (set_state Committed) A.orders (λ o. refl))
-firms_follow A key (command.Abort n) = marks_follow _ _ _ (marks_kept (λ o. o.number == n) (set_state Aborted) A.orders (λ o. refl))
-firms_follow A key (command.Expire now) = marks_follow _ _ _ (marks_kept (expires now) (set_state Aborted) A.orders (λ o. refl))
-firms_follow A key (command.Firm n) = follows-flat firm_cmp _ firm_rows _ A.orders (each (λ o. follows-if _ (o.number == n) o (set_firm o) (marked_follows n o)) A.orders)
-firms_follow A key c = follows-same firm_cmp firm_cmp_total _ (flat_map firm_rows A.orders)
+firms_follow A key c = grind (arith, marks_follow, marks_insert, marks_kept, held_mark, follows-flat, each, follows-if, marked_follows, follows-same, firm_cmp_total)
 
 -- fields
 
@@ -218,12 +191,7 @@ SameParts f o p = ((if is_settled p then moved_by f (λ l. l.used) p else pos 0)
     × ((if is_open p then total (adds p.firm f) p.lines else pos 0) ≡ (if is_open o then total (adds o.firm f) o.lines else pos 0))
 
 same_numbers : (A : Ledger) (h : Order → Order) (clock : ℕ) (kept : List Kept) (f : Field) → Each (λ o. SameParts f.name o (h o)) A.orders → SameNumbers A (changed h clock kept A) f
-same_numbers A h clock kept f e =
-    let a = total-kept (λ o. if is_settled o then moved_by f.name (λ l. l.used) o else pos 0) h A.orders (each-imp (λ o x. x.0) A.orders e) in (
-      (omega (arith, ints)),
-      total-kept (λ o. if is_open o then total (takes o.firm f.name) o.lines else pos 0) h A.orders (each-imp (λ o x. x.1) A.orders e),
-      total-kept (λ o. if is_open o then total (adds o.firm f.name) o.lines else pos 0) h A.orders (each-imp (λ o x. x.2) A.orders e),
-    )
+same_numbers A h clock kept f e = grind (arith, total-kept, each-imp, takes, adds)
 
 parts_if : (f : Name) (b : Bool) (o new : Order) → (b ≡ true → SameParts f o new) → SameParts f o (if b then new else o)
 parts_if f b o new h = grind arith
@@ -249,14 +217,7 @@ record SameLines (f : Name) (o : Order) (ls : List Line) : Type 0 where
   add : total (adds o.firm f) ls ≡ total (adds o.firm f) o.lines
 
 parts_lines : (f : Name) (o : Order) (ls : List Line) → SameLines f o ls → SameParts f o (record o { lines = ls })
-parts_lines f o ls same = (used (is_settled o) (settled_if_firm o.state o.firm same.open_is), ap (λ z. if is_open o then z else pos 0) same.take, ap (λ z. if is_open o then z else pos 0) same.add)
-  where
-    settled_if_firm : (s : State) (firm : Bool) → open_state s ≡ true → settled_state s firm ≡ true → firm ≡ true
-    settled_if_firm s firm e d = grind arith
-
-    used : (b : Bool) → (b ≡ true → o.firm ≡ true) → (if b then moved_by f (λ l. l.used) (record o { lines = ls }) else pos 0) ≡ (if b then moved_by f (λ l. l.used) o else pos 0)
-    used true e = same.used (e refl)
-    used false e = refl
+parts_lines f o ls same = grind arith
 
 -- a line that is not on f holds nothing on it, and still does not once its amounts are changed
 off : (f : Name) (change : Line → Line) (part : Line → ℤ) → ((l : Line) → line_name (change l) ≡ line_name l) → ((l : Line) → on f l ≡ false → part l ≡ pos 0) → (b : Bool) (l : Line) → (b ≡ true → on f l ≡ false) → part (if b then change l else l) ≡ part l
@@ -264,12 +225,7 @@ off f change part same zero_off b l h = grind arith
 
 -- where each part that lines on f alone have stays
 off_lines : (f : Name) (o : Order) (ls : List Line) → is_open o ≡ true → ((part : Line → ℤ) → ((l : Line) → on f l ≡ false → part l ≡ pos 0) → total part ls ≡ total part o.lines) → SameParts f o (record o { lines = ls })
-off_lines f o ls open_is same = parts_lines f o ls (record {
-  open_is = open_is;
-  used = λ _. same (λ l. if on f l then signed l.way l.used else pos 0) (λ l e. rw e refl);
-  take = same (takes o.firm f) (λ l e. rw e refl);
-  add = same (adds o.firm f) (λ l e. rw e refl);
-})
+off_lines f o ls open_is same = grind arith
 
 parts_off : (f g : Name) (change : Line → Line) (o : Order) → ((l : Line) → line_name (change l) ≡ line_name l) → is_open o ≡ true → Each (λ l. (is_transfer o || on g l) ≡ true → on f l ≡ false) o.lines → SameParts f o (change_lines g change o)
 parts_off f g change o same open_is h = off_lines f o _ open_is (λ part zero. total-kept part (λ l. if is_transfer o || on g l then change l else l) o.lines (each-imp (λ l k. off f change part same zero (is_transfer o || on g l) l k) o.lines h))
@@ -286,8 +242,7 @@ use_parts : (f g : Name) (q : ℕ) (o : Order) → is_open o ≡ true → (o.fir
 use_parts f g q o open_is h = by o.firm refl h
   where
     one : (part : Line → ℤ) → ((l : Line) → part (raise_used q l) ≡ part l) → (b : Bool) (l : Line) → part (if b then raise_used q l else l) ≡ part l
-    one part same true l = same l
-    one part same false l = refl
+    one part same b l = grind arith
 
     kept : (part : Line → ℤ) → ((l : Line) → part (raise_used q l) ≡ part l) → total part (map (λ l. if is_transfer o || on g l then raise_used q l else l) o.lines) ≡ total part o.lines
     kept part same = total-kept part (λ l. if is_transfer o || on g l then raise_used q l else l) o.lines (each (λ l. one part same (is_transfer o || on g l) l) o.lines)
@@ -313,11 +268,7 @@ other_move : (A : Ledger) (g : Name) (z : ℤ) (f : Field) (ms : List Move) → 
 other_move A g z f ms e h = grind (arith, total-push)
 
 hold_parts : (f g : Name) (l : OpenLine) (o : Order) → line_name (new_line l) ≡ g → same_name f g ≡ false → is_open o ≡ true → (b : Bool) → SameParts f o (if b then hold_more g l.qty o else record o { lines = o.lines ++ new_line l ∷ [] })
-hold_parts f g l o i e open_is true = off_lines f o _ open_is (λ part zero. total-kept part (λ m. if on g m then raise_held l.qty m else m) o.lines (each (λ m. off f (raise_held l.qty) part (λ _. refl) zero (on g m) m (λ k. apart f g m e k)) o.lines))
-hold_parts f g l o i e open_is false = off_lines f o _ open_is (λ part zero.
-    let none : part (new_line l) ≡ pos 0 = zero (new_line l) (subst (λ n. same_name f n ≡ false) (sym i) e) in
-    let pushed = total-push part o.lines (new_line l) in
-    omega (arith, ints))
+hold_parts f g l o i e open_is b = grind (arith, off_lines, total-kept, each, off, apart, total-push)
 
 same_field : (A : Ledger) (key : List ℕ) (c : Command) → Good A → FirstFailure (checks A c) None → (f : Field) → changes_field A c f.name ≡ false → SameNumbers A (accept A (record { key = key; command = c })) f
 same_field A key (command.Field b a lo hi start) g h f e = (refl, refl, refl)
@@ -356,7 +307,6 @@ same_field_row A B f x y g k s h j =
     let v : x.value ≡ y.value = h.value ∙ sym s.0 ∙ sym j.value in
     let a = inf_unique A f x.inf _ h.inf (inf_is A (sounds_from_good A g) f) in let b = inf_unique B f y.inf _ j.inf (inf_is B (sounds_from_good B k) f) in
     let c = sup_unique A f x.sup _ h.sup (sup_is A (sounds_from_good A g) f) in let d = sup_unique B f y.sup _ j.sup (sup_is B (sounds_from_good B k) f) in
-    let e0 = s.0 in let e1 = s.1 in let e2 = s.2 in
     let i : x.inf ≡ y.inf = omega (arith, ints) in let u : x.sup ≡ y.sup = omega (arith, ints) in
     let n = h.branch ∙ sym j.branch in let m = h.article ∙ sym j.article in let l = h.lo ∙ sym j.lo in let t = h.hi ∙ sym j.hi in let r = h.start ∙ sym j.start in
     λ z. record { branch = n z; article = m z; lo = l z; hi = t z; start = r z; value = v z; inf = i z; sup = u z }

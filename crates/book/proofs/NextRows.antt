@@ -1,23 +1,77 @@
--- The rows of the next ledger that an accepted request changes, table by table.
-use Rattle.std.proofs.lemmas.Bool.Decides.{Decides-int_eq}
-use Rattle.book.proofs.Prelude.{[], ◌&&◌, ◌++◌, ◌+◌, ◌==◌, ◌||◌, ◌∙◌, ◌∷◌, ◌≡◌, ◌≤◌, Aborted, BookView, Bool, ChangesTo, Command, Content, DeskCells, Each, FieldCells, FirstFailure, Good, IfSome, Inside, IsAccepted, IsInRange, IsKey, IsNone, IsRowsOf, IsStrictlySortedBy, Ledger, Line, LineCells, List, MAX_PLACES, Move, MoveEntry, Name, None, Option, Order, OrderCells, Request, Some, Way, aborted_rows, accept, ap, append-nil, arith, bytes_decides, bytes_eq, change_lines, changed_orders, changed_rows, changes_field, changes_firm, changes_line, changes_move, changes_order, changes_state, checks, desk_row, entry_row, expired_numbers, expires, false, field_row, field_rows, filter, find, firm_row, firm_rows, flat_map, if◌then◌else◌, int_eq, is_lt, is_some, is_transfer, kept_of, kept_row, ledger_of, length, line_name, line_row, line_rows, lines_from, list_any, lower_held, map, move_of, move_row, name_of, nat_cmp, next, of_numbered, option_map, option_map_or, order_after, order_is, order_lines, order_number, order_numbered, order_of, order_row, places, pos, put_content, raise_used, refl, same_name, set_firm, set_state, signed, slice_cmp, subst, sym, transfer_kind, true, true≢false, view_of, with_fields, with_firms, with_kept, with_lines, with_moves, with_orders, ℕ}
-use Rattle.std.proofs.lemmas.List.Elements.{filter-append}
+-- The next ledger: how many of its orders are open, and the rows that an accepted request changes, table by table.
+use Rattle.book.proofs.Prelude.{Aborted, BookView, Bool, ChangesTo, Command, Content, DeskCells, Each, FieldCells, FirstFailure, Good, IfSome, Inside, IsAccepted, IsInRange, IsKey, IsNone, IsRowsOf, IsStrictlySortedBy, Ledger, Line, LineCells, List, MAX_PLACES, MoveEntry, Name, None, Option, Order, OrderCells, Request, Some, Way, [], abort_all, aborted_rows, accept, add-zero, ap, append-nil, arith, bytes_decides, bytes_eq, change_lines, changed_orders, changed_rows, changes_field, changes_firm, changes_line, changes_move, changes_order, changes_state, checks, count_by, desk_row, entry_row, expired_numbers, expires, false, field_row, field_rows, filter, find, firm_row, firm_rows, flat_map, if◌then◌else◌, int_eq, is_lt, is_open, is_transfer, kept_of, kept_row, ledger_of, length, line_name, line_row, line_rows, lines_from, list_any, lower_held, map, move_of, move_row, name_of, nat_cmp, next, of_numbered, open_orders, option_map, option_map_or, order_after, order_is, order_lines, order_number, order_numbered, order_of, order_row, places, pos, raise_used, refl, same_name, set_firm, set_state, slice_cmp, some_part, subst, sym, total, transfer_kind, true, view_of, with_fields, with_firms, with_kept, with_lines, with_moves, with_orders, ℕ, ℤ, ◌&&◌, ◌++◌, ◌+◌, ◌==◌, ◌||◌, ◌∙◌, ◌∷◌, ◌≡◌, ◌≤◌}
 use Rattle.words.specs.declared.command.Command.TheVariants as command
-use Rattle.book.specs.After.{expired_rows, move_made, move_rows, moved_at_once, own_firm_rows, own_line_rows, own_order_rows}
-use Rattle.book.specs.Plans.{Makes}
+use Rattle.book.specs.After.{expired_rows, move_made, move_rows, open_among, own_firm_rows, own_line_rows, own_order_rows}
+use Rattle.book.specs.Plans.{Leaves, Makes}
+use Rattle.book.specs.RunningNumbers.{Stands}
+use Rattle.book.proofs.ChangedFields.{number_of_made}
+use Rattle.book.proofs.Futures.{all_pass, find_self}
+use Rattle.book.proofs.ExpiredOrders.{all_aborted, length_numbers, numbered_flat}
+use Rattle.book.proofs.FieldRows.{parted}
+use Rattle.book.proofs.Lists.{any_same, counted, filter-each, filter-insert, filter-push, found_passes, length-insert, length-of-map, none_after, number_is, same_number}
+use Rattle.book.proofs.CommandOrder.{any_one, made_there, there, total-next}
+use Rattle.book.proofs.StockChanges.{total_moved}
+use Rattle.std.proofs.lemmas.Bool.Decides.{Decides-int_eq}
+use Rattle.std.proofs.lemmas.List.Elements.{filter-append}
 use Rattle.book.specs.Tables.{no_content}
 use Rattle.book.specs.declared.book.plan.PlanParts.{PlanParts}
 use Rattle.book.proofs.OutcomeTests.{none_found}
 use Rattle.book.proofs.NextContent.{changes_suffice}
-use Rattle.book.proofs.RowFilter.{any_same, filter-each, filter-insert, filter-push, found_passes, none_after, number_is, some_is, same_number}
-use Rattle.book.proofs.Futures.{all_pass, find_self}
 use Rattle.book.proofs.Goodness.{good_accept}
-use Rattle.book.proofs.InOrder.{one_content, rows_are, rows_of}
-use Rattle.book.proofs.Lists.{length-insert, length-of-map}
-use Rattle.book.proofs.CommandOrder.{any_one, made_there}
-use Rattle.book.proofs.Once.{no_key}
+use Rattle.book.proofs.EqualRows.{one_content, rows_are, rows_of}
+use Rattle.book.proofs.Runs.{no_key}
 use Rattle.book.proofs.Sums.{each, each-imp}
-use Rattle.book.proofs.ExpiredOrders.{numbered_flat}
+
+-- ---- how many orders are open, and how many in the next ledger
+
+pub viewed : {X Y : Type 0} (view : X → Y) (p : Y → Bool) (xs : List X) → count_by p (map view xs) ≡ count_by (λ x. p (view x)) xs
+viewed view p [] = refl
+viewed view p (x ∷ xs) = counted p (view x) (map view xs) ∙ ap (λ n. (if p (view x) then 1 else 0) + n) (viewed view p xs) ∙ sym (counted (λ x. p (view x)) x xs)
+
+-- ---- how many are open in the next ledger
+
+abbrev one : Order → ℤ
+one o = if is_open o then pos 1 else pos 0
+
+total_one : (os : List Order) → total one os ≡ pos (count_by is_open os)
+total_one [] = refl
+total_one (o ∷ os) = let more = total_one os in grind (arith, (counted is_open o os))
+
+expired_one : (now : ℕ) (os : List Order) → total (λ o. if expires now o then one o else pos 0) os ≡ pos (count_by (expires now) os)
+expired_one now [] = refl
+expired_one now (o ∷ os) = let more = expired_one now os in grind (arith, (counted (expires now) o os))
+
+one_among : (x : Option Order) → some_part one x ≡ pos (open_among x)
+one_among x = grind arith
+
+-- with what was under the number left out, and what the command makes added
+made_count : (A : Ledger) (c : Command) (o : Order) → Good A → FirstFailure (checks A c) None → order_after A c ≡ Some o → open_orders (next A c) + open_among (order_numbered A o.number) ≡ open_orders A + open_among (Some o)
+made_count A c o good passed made = grind (arith, (one_among (order_numbered A o.number)), (ap (some_part one) made ∙ one_among (Some o)), (total_moved one (λ o. refl) A c o.number good passed (number_of_made A c o passed made)), (total_one A.orders), (total_one (next A c).orders))
+
+expired_count : (A : Ledger) (now : ℕ) → Good A → FirstFailure (checks A (command.Expire now)) None → open_orders (next A (command.Expire now)) + count_by (expires now) A.orders ≡ open_orders A
+expired_count A now good h = grind (arith, (total-next one (λ o. refl) A (command.Expire now) good h), (parted (expires now) one A.orders), (expired_one now A.orders), (total_one A.orders), (total_one (next A (command.Expire now)).orders))
+
+-- a command that makes no order leaves those that do not expire
+pub none_made : (A : Ledger) (c : Command) → Good A → FirstFailure (checks A c) None → order_after A c ≡ None
+    → (abort_all (expired_numbers A c) A.orders ≡ (next A c).orders) × (open_orders (next A c) + length (expired_numbers A c) ≡ open_orders A)
+none_made A c good passed none = grind (arith, expired_count, good, all_aborted, length_numbers, there, all_pass, add-zero)
+
+-- ---- as the book knows it
+
+module _ (b : Inside) (v : BookView) (e : view_of b ≡ v) (stands : Stands b) where
+  good : Good v.ledger
+  good = subst (λ (v : BookView). Good v.ledger) e stands.0
+
+  count : b.open_count ≡ open_orders v.ledger
+  count = stands.2 ∙ ap (λ (v : BookView). open_orders v.ledger) e
+
+  pub made_seen : (c : Command) (o : Order) (x : Option Order) (ns : List ℕ) → x ≡ Some o → Leaves v.ledger c x ns → open_orders (next v.ledger c) + open_among (order_numbered v.ledger o.number) ≡ b.open_count + open_among (Some o)
+  made_seen c o x ns some l = made_count v.ledger c o good l.passed (sym l.made_is ∙ some) ∙ ap (λ n. n + open_among (Some o)) (sym count)
+
+  pub unmade_seen : (c : Command) (x : Option Order) (ns : List ℕ) → x ≡ None → Leaves v.ledger c x ns → open_orders (next v.ledger c) + length ns ≡ b.open_count
+  unmade_seen c x ns none l = ap (λ (ns : List ℕ). open_orders (next v.ledger c) + length ns) l.expired_is ∙ (none_made v.ledger c good l.passed (sym l.made_is ∙ none)).1 ∙ sym count
+
+-- ---- the rows of the next ledger that an accepted request changes, table by table
 
 pos_same : (m n : ℕ) → (m == n) ≡ true → int_eq (pos m) (pos n) ≡ true
 pos_same m n e = (Decides-int_eq (pos m) (pos n)).1 (ap pos (number_is m n e))
@@ -78,11 +132,7 @@ rows_by_one (o ∷ os) = ap (λ (rows : List OrderCells). order_row o ∷ rows) 
 
 -- a test and an equal number, the other way round
 turned : (m n : ℕ) (b : Bool) → (b && int_eq (pos m) (pos n)) ≡ ((n == m) && b)
-turned m n b = by (n == m) refl
-  where
-    by : (s : Bool) → (n == m) ≡ s → (b && int_eq (pos m) (pos n)) ≡ (s && b)
-    by true e = ap (λ t. b && t) (pos_same m n (ap (λ k. k == n) (sym (number_is n m e)) ∙ same_number n)) ∙ grind arith
-    by false e = ap (λ t. b && t) (pos_other m n (grind arith)) ∙ grind arith
+turned m n b = grind arith
 
 -- some order that expires has the number exactly where the order does
 number_expires : (now : ℕ) (o : Order) (os : List Order) → IsStrictlySortedBy nat_cmp (map (λ o. o.number) os) → find (λ m. m.number == o.number) os ≡ Some o → list_any (λ p. expires now p && int_eq (pos o.number) (pos p.number)) os ≡ expires now o
@@ -102,8 +152,7 @@ orders_expired A now g =
     (each (λ o e. ap (λ b. order_row (if b then set_state Aborted o else o)) (sym e)) A.orders))
 
 of_made : (c : Command) (x : Option Order) → changes_state c ≡ true → option_map_or (λ o. order_row o ∷ []) x [] ≡ own_order_rows c x
-of_made c None state = refl
-of_made c (Some o) state = sym (ap (λ b. if b then order_row o ∷ [] else []) state)
+of_made c x state = grind arith
 
 own_order : (A : Ledger) (key : List ℕ) (c : Command) (n : ℕ) → Good (accept A (record { key = key; command = c })) → FirstFailure (checks A c) None → order_number c ≡ Some n → changes_state c ≡ true
     → filter (λ row. int_eq row.number (pos n)) (map order_row (accept A (record { key = key; command = c })).orders) ≡ own_order_rows c (order_after A c)
@@ -156,8 +205,7 @@ all_lines A key c n k h is =
     ∙ ap (lines_there (λ l. true)) (made_there A c n h is)
 
 more_lines : (n : ℕ) (way : Way) (b a : List ℕ) (q : ℕ) (x : Option Order) → lines_there (λ l. same_name (line_name l) (name_of b a)) x ≡ own_line_rows (command.More n way b a q) x
-more_lines n way b a q None = refl
-more_lines n way b a q (Some o) = refl
+more_lines n way b a q x = grind arith
 
 -- a use or a release, which changes both lines of a transfer
 part_lines : (A : Ledger) (c : Command) (n : ℕ) (b a : List ℕ) (change : Order → Order) → Good A → ((o : Order) → (change o).kind ≡ o.kind)
@@ -215,16 +263,13 @@ own_firm A key n k h =
     ∙ number_found n (order_numbered A n) (λ o there. found_passes (λ m. m.number == n) o A.orders there) (all_pass (checks A (command.Firm n)) h).1.0
   where
     other : (o : Order) (m : Bool) → (o.number == n) ≡ false → filter (λ row. int_eq row.number (pos n)) (if m then firm_row o.number ∷ [] else []) ≡ []
-    other o true e = ap (λ b. if b then firm_row o.number ∷ [] else []) (pos_other o.number n e)
-    other o false e = refl
+    other o m e = grind arith
 
     own : (o : Order) (m : Bool) → (o.number == n) ≡ true → filter (λ row. int_eq row.number (pos n)) (if m then firm_row o.number ∷ [] else []) ≡ (if m then firm_row o.number ∷ [] else [])
-    own o true e = ap (λ b. if b then firm_row o.number ∷ [] else []) (pos_same o.number n e)
-    own o false e = refl
+    own o m e = grind arith
 
     made : (x : Option Order) → option_map_or firm_rows (option_map set_firm x) [] ≡ option_map_or (λ o. firm_row o.number ∷ []) (option_map set_firm x) []
-    made None = refl
-    made (Some o) = refl
+    made x = grind arith
 
 firms_changed : (A : Ledger) (key : List ℕ) (c : Command) → Good (accept A (record { key = key; command = c })) → FirstFailure (checks A c) None
     → filter (λ row. changes_firm c row.number) (flat_map firm_rows (accept A (record { key = key; command = c })).orders) ≡ own_firm_rows c
@@ -254,11 +299,7 @@ made_changed A r g k ok = cc ((fields_changed A r), (moves_changed A r.key r.com
 
 -- they are those that change
 pub changes_to : (A : Ledger) (r : Request) (rows : Content) → Good A → IsKey r.key → IsInRange r.command → IsAccepted A r → rows ≡ rows_made A r → ChangesTo A r rows
-changes_to A r rows g key range ok is = record {
-  changed = changed;
-  suffice = λ C D x y. ap (λ (new : Content). put_content new C) (changed D y) ∙ changes_suffice A r C D g key range (no_key _ ok.0) ok.1 x y;
-  desk = ap (λ (made : Content). made.desk) is;
-}
+changes_to A r rows g key range ok is = grind (arith, changed, changes_suffice, no_key)
   where
     k : Good (accept A r)
     k = good_accept A r g key range (no_key _ ok.0) ok.1
@@ -276,27 +317,18 @@ good_next b v r e g key range ok = good_accept v.ledger r (good_now b v e g) key
 
 -- the place of the command is there
 pub place_fits : (A : Ledger) (r : Request) → Good (accept A r) → places A + 1 ≤ MAX_PLACES
-place_fits A r g =
-    let fit = g.places_fit in
-    let more = length-insert (λ a b. is_lt (slice_cmp nat_cmp a.key b.key)) (record { key = r.key; place = places A + 1; command = r.command }) A.kept in
-    omega arith
+place_fits A r g = grind (arith, length-insert)
 
 pub place_is : (b : Inside) (v : BookView) (n : ℕ) → view_of b ≡ v → n ≡ length b.kept.entries → n + 1 ≡ places v.ledger + 1
 place_is b v n e is = cc ((length-of-map kept_of b.kept.entries))
 
 -- the move that the command makes has it
 pub placed : (x : Option MoveEntry) (n : ℕ) (c : Command) → option_map move_of x ≡ move_made n c → n ≤ MAX_PLACES → IfSome x (λ e. e.place ≤ MAX_PLACES)
-placed None n c e fit = tt
-placed (Some m) n c e fit = by (moved_at_once c) e
-  where
-    by : (y : Option (Name × Way × ℕ)) → Some (move_of m) ≡ option_map (λ k. record { place = n; field = k.0; amount = signed k.1 k.2 }) y → m.place ≤ MAX_PLACES
-    by None e = absurd (true≢false (ap is_some e))
-    by (Some k) e = subst (λ z. z ≤ MAX_PLACES) (sym (ap (λ (x : Move). x.place) (some_is (move_of m) _ e))) fit
+placed x n c e fit = grind arith
 
 -- the order that is made and those that are aborted, of which there are not both
 orders_made : (A : Ledger) (c : Command) → Good A → own_order_rows c (order_after A c) ++ flat_map (of_numbered A aborted_rows) (expired_numbers A c) ≡ changed_orders A c
-orders_made A (command.Expire now) good = numbered_flat (expires now) A aborted_rows good
-orders_made A c good = append-nil (own_order_rows c (order_after A c))
+orders_made A c good = grind (arith, numbered_flat, append-nil)
 
 -- the rows as they are made one after the other
 pub rows_in_turn : (A : Ledger) (r : Request) (p : PlanParts) (cells : DeskCells) (desk fields moves orders aborted lines kept firms : Content) → Good A → Makes A r p
@@ -304,20 +336,4 @@ pub rows_in_turn : (A : Ledger) (r : Request) (p : PlanParts) (cells : DeskCells
     → moves ≡ with_moves (move_rows (option_map move_of p.moved)) fields → orders ≡ with_orders (own_order_rows r.command (option_map order_of p.made)) moves → aborted ≡ with_orders (flat_map (of_numbered A aborted_rows) p.expired.items) orders
     → lines ≡ with_lines (own_line_rows r.command (option_map order_of p.made)) aborted
     → kept ≡ with_kept (kept_row (record { key = p.key; place = p.place; command = p.words }) ∷ []) lines → firms ≡ with_firms (own_firm_rows r.command) kept → firms ≡ rows_made A r
-rows_in_turn A r p cells desk fields moves orders aborted lines kept firms good m is a b d f e g h j =
-    let more : places (accept A r) ≡ places A + 1 = length-insert (λ a b. is_lt (slice_cmp nat_cmp a.key b.key)) (record { key = r.key; place = places A + 1; command = r.command }) A.kept in
-    let count = m.place ∙ sym more in
-    let moved = m.moved ∙ ap (λ n. move_made n r.command) m.place in
-    let states = (λ i. own_order_rows r.command (m.made i) ++ flat_map (of_numbered A aborted_rows) (m.expired i)) ∙ orders_made A r.command good in
-    let row : cells ≡ desk_row (accept A r) = is ∙ (λ i. record { one = pos 1; version = pos 2; clock = pos (m.clock i); places = pos (count i) }) in
-    j ∙ ap (with_firms (own_firm_rows r.command)) (h ∙ ap (with_kept (kept_row (record { key = p.key; place = p.place; command = p.words }) ∷ [])) (g ∙ ap (with_lines (own_line_rows r.command (option_map order_of p.made))) (e ∙ ap (with_orders (flat_map (of_numbered A aborted_rows) p.expired.items)) (f ∙ ap (with_orders (own_order_rows r.command (option_map order_of p.made))) (d
-    ∙ ap (with_moves (move_rows (option_map move_of p.moved))) (b ∙ ap (with_fields (map entry_row p.fields.entries)) a))))))
-    ∙ (λ i. record {
-      desk = row i ∷ [];
-      fields = m.fields i;
-      moves = move_rows (moved i);
-      orders = states i;
-      lines = own_line_rows r.command (m.made i);
-      kept = kept_row (record { key = m.key i; place = m.place i; command = m.command i }) ∷ [];
-      firms = own_firm_rows r.command;
-    })
+rows_in_turn A r p cells desk fields moves orders aborted lines kept firms good m is a b d f e g h j = grind (arith, length-insert, orders_made)

@@ -99,10 +99,7 @@ compared Take A ms os name q sound more = let iff = falls_below_iff (record A { 
   (λ h. named A.fields name _ _ (λ f e x. subst (λ z. z <ℤ pos f.lo) (more f e) x) (iff.0 h)),
   (λ h. iff.1 (named A.fields name _ _ (λ f e x. subst (λ z. z <ℤ pos f.lo) (sym (more f e)) x) h)),
 )
-compared Add A ms os name q sound more = let iff = rises_above_iff (record A { moves = ms; orders = os }) sound name in (
-  (λ h. named A.fields name _ _ (λ f e x. subst (λ z. pos f.hi <ℤ z) (more f e) x) (iff.0 h)),
-  (λ h. iff.1 (named A.fields name _ _ (λ f e x. subst (λ z. pos f.hi <ℤ z) (sym (more f e)) x) h)),
-)
+compared Add A ms os name q sound more = grind (arith, (rises_above_iff (record A { moves = ms; orders = os }) sound name), named)
 
 -- a line of a new order
 pub line_compared : (A : Ledger) (n : ℕ) (k : Kind) (u : ℕ) (ls : List OpenLine) (l : OpenLine) → Each Sound A.orders → ((g : Name) → OneOn g (map new_line ls)) → find (on (line_name (new_line l))) (map new_line ls) ≡ None
@@ -119,16 +116,8 @@ line_compared A n k u ls l sound one none = compared l.way A A.moves B.orders na
     held p f e = subst (λ g. total (λ m. if on g m then pos (p m.way m.held) else pos 0) (map new_line (ls ++ l ∷ [])) ≡ pos (p l.way l.qty)) (sym e) (held-push p ls l none)
 
     more : (w : Way) → l.way ≡ w → (f : Field) → f.name ≡ name → HasMore w A B f l.qty
-    more Take way f e =
-        let a = settled-order A n k u (ls ++ l ∷ []) f in
-        let b = held_take-order A n k u (ls ++ l ∷ []) f.name in
-        let c = held if_take f.name e ∙ ap (λ w. pos (if_take w l.qty)) way in
-        omega (arith, ints)
-    more Add way f e =
-        let a = settled-order A n k u (ls ++ l ∷ []) f in
-        let b = held_add-order A n k u (ls ++ l ∷ []) f.name in
-        let c = held if_add f.name e ∙ ap (λ w. pos (if_add w l.qty)) way in
-        omega (arith, ints)
+    more Take way f e = omega (arith, ints, (settled-order A n k u (ls ++ l ∷ []) f), (held_take-order A n k u (ls ++ l ∷ []) f.name), (held if_take f.name e ∙ ap (λ w. pos (if_take w l.qty)) way))
+    more Add way f e = omega (arith, ints, (settled-order A n k u (ls ++ l ∷ []) f), (held_add-order A n k u (ls ++ l ∷ []) f.name), (held if_add f.name e ∙ ap (λ w. pos (if_add w l.qty)) way))
 
 -- a delivery and a write-off
 pub moved-settled : (A : Ledger) (name : Name) (z : ℤ) (f : Field) → f.name ≡ name → settled (with_move name z A) f ≡ settled A f +ℤ z

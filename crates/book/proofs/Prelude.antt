@@ -11,7 +11,6 @@ pub use Rattle.book.specs.InPlace.{MayChangeOrder, abort_all, abort_one, changed
 pub use Rattle.book.specs.Ledger.{Field, Kept, Ledger, Move, Name, Order, field_named, insert_in_order, is_open, is_settled, is_transfer, kept_under, line_name, line_on, name_cmp, name_of, new_ledger, on, open_orders, open_state, order_numbered, places, same_name, settled_state, shown_state, transfer_kind, unsettled}
 pub use Rattle.book.specs.Next.{accept, add_hold, change_lines, change_order, expires, hold_more, lower_held, new_line, new_order, next, raise_held, raise_used, set_firm, set_state, transfer_lines, with_move, with_order}
 pub use Rattle.escrow.specs.Choices.{IsWithin}
-pub use Rattle.escrow.specs.Choices.{IsWithin}
 pub use Rattle.book.specs.Outcomes.{FallsBelow, IsInfimum, IsSafe, IsSupremum, RisesAbove, article_total, moved_by, settled, signed, total}
 pub use Rattle.book.specs.Plans.{ChangesTo}
 pub use Rattle.book.specs.Rows.{Content, DeskCells, FieldCells, FirmCells, IsFieldRow, IsRowsOf, KeptCells, LineCells, OrderCells, desk_row, field_cmp, firm_cmp, firm_row, firm_rows, kept_cmp, kept_row, line_cmp, line_row, lines_from, move_cmp, move_row, order_cmp, order_lines, order_row}

@@ -1,5 +1,5 @@
 -- Rows that are put in by their keys.
-use Rattle.book.proofs.Prelude.{[], ◌++◌, ◌∙◌, ◌∷◌, ◌≡◌, ◌⊎◌, Bool, Each, Equal, Greater, IsStrictlySortedBy, IsTotalOrder, Less, List, Ordering, ap, arith, false, filter, flat_map, if◌then◌else◌, inl, inr, insert_in_order, map, ordering_reverse, put_row, put_rows, refl, subst, sym, tied_itself, true}
+use Rattle.book.proofs.Prelude.{[], ◌++◌, ◌∙◌, ◌∷◌, ◌≡◌, ◌⊎◌, Bool, Each, Equal, Greater, IsStrictlySortedBy, IsTotalOrder, Less, List, Ordering, ap, arith, false, filter, flat_map, inl, inr, insert_in_order, map, ordering_reverse, put_row, put_rows, refl, subst, sym, tied_itself, true}
 use Rattle.book.proofs.Sums.{each-imp}
 
 -- Row by row, the second list has the first one's rows, with new ones between; what is not chosen is as it was.
@@ -33,16 +33,7 @@ pub put_all : {R : Type 0} (cmp : R → R → Ordering) → IsTotalOrder cmp →
 unfolding IsStrictlySortedBy
 put_all cmp o chosen xs [] sorted f = f
 put_all cmp o chosen xs (y ∷ ys) sorted (inl f) = let more = put_all cmp o chosen xs ys sorted.1 f.1 in grind (arith, (each-filter (λ r. cmp r y ≡ Greater) chosen ys (each-imp (λ r k. turned o y r k) ys sorted.0)), (put_first cmp y xs (below cmp o chosen y xs ys f.1 sorted.0)), below, each-imp, past, turned)
-put_all cmp o chosen xs (y ∷ ys) sorted (inr f) = ap (λ t. put_rows cmp (filter chosen (y ∷ ys)) t) f.2 ∙ step (chosen y) refl (put_all cmp o chosen f.1 ys sorted.1 f.5)
-  where
-    later : Each (λ r. cmp r y ≡ Greater) (filter chosen ys)
-    later = each-filter (λ r. cmp r y ≡ Greater) chosen ys (each-imp (λ r k. turned o y r k) ys sorted.0)
-
-    replaced : put_row cmp y (f.0 ∷ f.1) ≡ y ∷ f.1
-    replaced = rw f.3 refl
-
-    step : (b : Bool) → chosen y ≡ b → put_rows cmp (filter chosen ys) f.1 ≡ ys → put_rows cmp (if b then y ∷ filter chosen ys else filter chosen ys) (f.0 ∷ f.1) ≡ y ∷ ys
-    step b e more = grind (arith, past, later, replaced)
+put_all cmp o chosen xs (y ∷ ys) sorted (inr f) = grind (arith, (put_all cmp o chosen f.1 ys sorted.1 f.5), each-filter, each-imp, turned, past)
 
 pub follows-same : {R : Type 0} (cmp : R → R → Ordering) → IsTotalOrder cmp → (chosen : R → Bool) (xs : List R) → Follows cmp chosen xs xs
 follows-same cmp o chosen [] = refl

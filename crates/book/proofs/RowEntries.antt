@@ -1,5 +1,5 @@
 -- Rows of a good ledger each tell something in range, and rows that each tell something tell a ledger.
-use Rattle.book.proofs.Prelude.{[], ◌++◌, ◌+ℤ◌, ◌+◌, ◌-ℤ◌, ◌∙◌, ◌∷◌, ◌≡◌, ◌≤ℤ◌, ◌≤◌, AllZip, Bool, Each, Field, FieldEntry, FieldRow, Good, Head, IsArticle, IsBounded, IsBranch, IsFieldRow, IsFieldTold, IsGoodField, IsGoodKept, IsGoodLine, IsGoodMove, IsGoodOrder, IsKeptTold, IsLevel, IsLineTold, IsMoveTold, IsSome, IsStrictlySortedBy, KeptEntry, KeptRow, Ledger, Line, LineCells, LineRow, List, MoveEntry, MoveRow, Name, Order, OrderRow, Some, TellHeads, TellsField, ap, arith, entry_row, false, field_cells, field_of, find, firm_rows, flat_map, head_of, held_to_add, held_to_take, if◌then◌else◌, ints, kept_cells, kept_row, line_cells, line_name, lines_from, map, mark_rows, move_cells, move_row, nat_abs, nat_cmp, order_cells, order_lines, order_row, pos, refl, same_name, settled, subst, sym, true, true≢false, ℕ, ℤ}
+use Rattle.book.proofs.Prelude.{[], ◌++◌, ◌+ℤ◌, ◌+◌, ◌-ℤ◌, ◌∙◌, ◌∷◌, ◌≡◌, ◌≤ℤ◌, ◌≤◌, AllZip, Bool, Each, Field, FieldEntry, FieldRow, Good, Head, IsArticle, IsBounded, IsBranch, IsFieldRow, IsFieldTold, IsGoodField, IsGoodKept, IsGoodLine, IsGoodMove, IsGoodOrder, IsKeptTold, IsLevel, IsLineTold, IsMoveTold, IsSome, IsStrictlySortedBy, KeptEntry, KeptRow, Ledger, Line, LineCells, LineRow, List, MoveEntry, MoveRow, Name, Order, OrderRow, Some, TellHeads, TellsField, ap, arith, entry_row, false, field_cells, field_of, find, firm_rows, flat_map, head_of, held_to_add, held_to_take, if◌then◌else◌, ints, kept_cells, kept_row, line_cells, line_name, lines_from, map, mark_rows, move_cells, move_row, nat_abs, nat_cmp, order_cells, order_lines, order_row, pos, refl, same_name, settled, subst, sym, true, true≢false, ℕ}
 use Rattle.book.specs.RowEntries.{IsHeadTold, TellsLine, head_row}
 use Rattle.book.proofs.Bounds.{inf_is, inf_unique, sup_is, sup_unique}
 use Rattle.book.proofs.Futures.{name_is, sounds_from_good}
@@ -37,9 +37,6 @@ named_codes n (f ∷ fs) good there = step (same_name n f.name) refl (λ k. name
 abbrev AreInOrder : Ledger → Field → Type 0
 AreInOrder A f = (pos f.lo ≤ℤ (settled A f -ℤ held_to_take A f.name)) × ((settled A f -ℤ held_to_take A f.name) ≤ℤ settled A f) × (settled A f ≤ℤ (settled A f +ℤ held_to_add A f.name)) × ((settled A f +ℤ held_to_add A f.name) ≤ℤ pos f.hi) × (f.hi ≤ 1000000000)
 
-natural : (z : ℤ) → pos 0 ≤ℤ z → pos (nat_abs z) ≡ z
-natural b h = grind arith
-
 field_told : (A : Ledger) (f : Field) (row : FieldRow) → Good A → IsGoodField f → AreInOrder A f → IsFieldRow A f (field_cells row) → (e : Name × FieldEntry) × IsFieldTold e row
 field_told A f row g good r is =
     let sound = sounds_from_good A g in
@@ -49,9 +46,6 @@ field_told A f row g good r is =
     let inf = r.1 in
     let sup = r.2 in
     let high = r.3 in
-    let v = natural (settled A f) (omega (arith, ints)) in
-    let t = natural (held_to_take A f.name) (omega (arith, ints)) in
-    let a = natural (held_to_add A f.name) (omega (arith, ints)) in
     let value_is = is.value in (
       (f.name, record { start = f.start; quantity = record { lo = f.lo; hi = f.hi; value = nat_abs (settled A f); held_to_take = nat_abs (held_to_take A f.name); held_to_add = nat_abs (held_to_add A f.name) } }),
       record {
@@ -127,9 +121,7 @@ orders_each A [] g good = tt
 orders_each A (o ∷ os) g good = each-join _ (order_lines o) (flat_map order_lines os) (lines_each A o.number 1 o.lines g good.0.lines) (orders_each A os g good.1)
 
 pub lines_told : (A : Ledger) (rows : List LineRow) → Good A → map line_cells rows ≡ flat_map order_lines A.orders → Each (λ row. (l : Line) × IsLineTold l row) rows
-lines_told A rows g e =
-    each-imp (λ row told. (told.line, record { branch = told.branch; article = told.article; held = told.held; used = told.used; cells = told.tells })) rows
-    (each-unmap Line_told line_cells rows (subst (Each Line_told) (sym e) (orders_each A A.orders g g.orders)))
+lines_told A rows g e = grind (arith, each-imp, each-unmap, orders_each)
 
 -- ---- rows, all together
 

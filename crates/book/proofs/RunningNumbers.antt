@@ -1,24 +1,19 @@
 -- Running numbers: what the entries of fields say of a ledger, and what becomes of them.
-use Rattle.book.proofs.Prelude.{[], ◌+ℤ◌, ◌+◌, ◌-ℤ◌, ◌<ℤ◌, ◌∙◌, ◌∷◌, ◌≡◌, ◌≤ℤ◌, ◌≤◌, Add, Bool, BreaksBound, Contains, Content, Each, Equal, Field, FieldCells, FieldEntry, Global, Good, Greater, IsSafeMoved, IsSome, IsSomeAnd, IsUpToDate, Ledger, Less, List, Name, None, Option, Ordering, Some, Stock, String, Take, Way, accept, ap, arith, common_steps, entry_row, false, field_cells, field_cmp, field_named, field_of, field_row, held_to_add, held_to_take, holding, if_add, if_take, if◌then◌else◌, insert_entry, ints, is_settled, is_eq, is_lt, is_open, is_some, map, match_ordering, moved_by, name_cmp, next, pos, put_row, put_rows, refl, same_name, settled, signed, string_bytes, subst, sym, total, true≢false, unsettled, with_entries, ℕ, ℤ}
+use Rattle.book.proofs.Prelude.{[], ◌+ℤ◌, ◌+◌, ◌-ℤ◌, ◌<ℤ◌, ◌∙◌, ◌∷◌, ◌≡◌, ◌≤ℤ◌, ◌≤◌, Add, Bool, BreaksBound, Contains, Content, Each, Equal, Field, FieldCells, FieldEntry, Global, Good, Greater, IsSome, IsSomeAnd, IsUpToDate, Ledger, Less, List, Name, None, Option, Ordering, Some, Stock, String, Take, Way, accept, ap, arith, common_steps, entry_row, false, field_cells, field_cmp, field_named, field_of, field_row, held_to_add, held_to_take, holding, if_add, if_take, if◌then◌else◌, insert_entry, ints, is_settled, is_eq, is_lt, is_open, is_some, map, match_ordering, moved_by, name_cmp, next, pos, put_row, put_rows, refl, same_name, settled, signed, string_bytes, subst, sym, total, true≢false, unsettled, with_entries, ℕ, ℤ}
 use Rattle.escrow.specs.Choices.{IsInfimum as IsLeastOf, IsSafe as IsSafeStock, IsSupremum as IsGreatestOf}
 use Rattle.book.specs.Plans.{Fits, PlanView}
-use Rattle.book.proofs.InOrder.{rows_are, rows_of}
-use Rattle.book.proofs.KeyEntries.{equal_field}
+use Rattle.book.proofs.EqualRows.{rows_are, rows_of, same_first, same_rest}
+use Rattle.book.proofs.KeyPlaces.{equal_field}
 use Rattle.book.proofs.Runs.{in_order}
 use Rattle.book.proofs.Sums.{each-imp, total-zero}
-use Rattle.book.proofs.EqualRows.{same_first, same_rest}
 use Rattle.book.proofs.ShownNumbers.{Contains-of_find}
-use Rattle.book.proofs.Walks.{each-at}
+use Rattle.book.proofs.Lists.{each-at}
 use Rattle.book.proofs.Safety.{no_orders, not_there}
 
 -- ---- one quantity
 
 pub least_is : (s : Stock) (z : ℤ) → IsLeastOf s z → z ≡ pos s.value -ℤ pos s.held_to_take
-least_is s z h =
-    let low = h.least s.held_to_take 0 (omega arith) (omega arith) in
-    let taken = h.reached.2 in
-    let is = h.reached.4 in
-    omega (arith, ints)
+least_is s z h = grind (arith, (h.least s.held_to_take 0 (omega arith) (omega arith)), h.reached.2, h.reached.4)
 
 pub greatest_is : (s : Stock) (z : ℤ) → IsGreatestOf s z → z ≡ pos s.value +ℤ pos s.held_to_add
 greatest_is s z h = grind (arith, common_steps, h.greatest, s.held_to_add, h.reached.3, h.reached.4)
@@ -27,33 +22,6 @@ greatest_is s z h = grind (arith, common_steps, h.greatest, s.held_to_add, h.rea
 
 not_above : (a b : ℤ) → (a ≤ℤ b → ⊥) → b <ℤ a
 not_above a b h = grind (arith, ints)
-
--- the quantity of a good ledger's field is safe
-pub stock_safe : (A : Ledger) (n : Name) (e : FieldEntry) → Good A → IsUpToDate A (n, e) → field_named A n ≡ Some (field_of (n, e)) → IsSafeStock e.quantity
-stock_safe A n e good up there taken added t a =
-    let f : Field = field_of (n, e) in
-    let here = Contains-of_find (λ g. same_name n g.name) A.fields f there in
-    let r = each-at _ A.fields here.0 f here.1 (sym here.2) (in_order A good) in
-    let low = r.0 in
-    let high = r.3 in
-    let inf = ap (λ (r : FieldCells). r.inf) up in
-    let sup = ap (λ (r : FieldCells). r.sup) up in
-    (omega (arith, ints), omega (arith, ints))
-
--- its value may be moved so much exactly where so much more may be held
-pub held_if_moved : (s : Stock) (w : Way) (q : ℕ) → IsSafeStock s → IsSafeMoved s w q → IsSafeStock (holding s w q)
-held_if_moved s Take q safe moved taken added t a =
-    let low = (moved s.held_to_take 0 (omega arith) (omega arith)).0 in
-    let high = (safe 0 added (omega arith) a).1 in
-    (omega (arith, ints), omega (arith, ints))
-held_if_moved s Add q safe moved taken added t a =
-    let high = (moved 0 s.held_to_add (omega arith) (omega arith)).1 in
-    let low = (safe taken 0 t (omega arith)).0 in
-    (omega (arith, ints), omega (arith, ints))
-
-pub moved_if_held : (s : Stock) (w : Way) (q : ℕ) → IsSafeStock (holding s w q) → IsSafeMoved s w q
-moved_if_held s Take q safe taken added t a = let r = safe (taken + q) added (omega arith) a in (omega (arith, ints), omega (arith, ints))
-moved_if_held s Add q safe taken added t a = let r = safe taken (added + q) t (omega arith) in (omega (arith, ints), omega (arith, ints))
 
 -- an amount that the quantity grants breaks no bound
 pub grants : (A : Ledger) (n : Name) (e : FieldEntry) (way : Way) (q : ℕ) → IsUpToDate A (n, e) → field_named A n ≡ Some (field_of (n, e)) → IsSafeStock (holding e.quantity way q) → BreaksBound way A n q → ⊥
@@ -76,7 +44,6 @@ refuses A n e Take q good up there unsafe =
     let f : Field = field_of (n, e) in
     let here = Contains-of_find (λ g. same_name n g.name) A.fields f there in
     let r = each-at _ A.fields here.0 f here.1 (sym here.2) (in_order A good) in
-    let high = r.3 in
     let inf = ap (λ (r : FieldCells). r.inf) up in
     let sup = ap (λ (r : FieldCells). r.sup) up in
     subst (λ (o : Option Field). IsSomeAnd o (λ f. ((settled A f -ℤ held_to_take A f.name) -ℤ pos q) <ℤ pos f.lo)) (sym there)
@@ -85,7 +52,6 @@ refuses A n e Add q good up there unsafe =
     let f : Field = field_of (n, e) in
     let here = Contains-of_find (λ g. same_name n g.name) A.fields f there in
     let r = each-at _ A.fields here.0 f here.1 (sym here.2) (in_order A good) in
-    let low = r.0 in
     let inf = ap (λ (r : FieldCells). r.inf) up in
     let sup = ap (λ (r : FieldCells). r.sup) up in
     subst (λ (o : Option Field). IsSomeAnd o (λ f. pos f.hi <ℤ ((settled A f +ℤ held_to_add A f.name) +ℤ pos q))) (sym there)

@@ -1,13 +1,172 @@
--- Whole runs from a good ledger, and the numbers of a good ledger's fields.
-use Rattle.book.proofs.Prelude.{[], ◌+ℤ◌, ◌-ℤ◌, ◌↔◌, ◌∙◌, ◌∷◌, ◌≡◌, ◌≤ℤ◌, ◌≤◌, Command, Each, Field, Good, IsDistinct, IsGoodField, IsInRange, IsKey, IsStrictlySortedBy, Ledger, List, Reply, Request, Runs, ap, arith, bytes_decides, held_to_add, held_to_take, if◌then◌else◌, ints, is_open, new_ledger, pos, refl, same_command, settled, spelling, spelling_one, subst, suc, sym, take, total, true, zero, ℕ}
-use Rattle.book.specs.Answers.{After}
+-- What is answered: each request once, at a good ledger always, and in whole runs.
+use Rattle.book.proofs.Prelude.{Add, Answers, AnswersNew, AsksNoStock, Check, Command, Done, Each, Field, FirstFailure, Good, IsAccepted, IsDistinct, IsFuture, IsGoodField, IsHonoured, IsInRange, IsKey, IsNone, IsSomeAnd, IsStrictlySortedBy, Kept, KeyReused, Kind, Ledger, List, MatchOption, MayHoldMore, Name, None, OpenLine, Option, Plain, Refusal, Refused, Reply, Request, Runs, Some, Take, Transfer, Way, [], accept, add_hold, ap, arith, bound, bytes_decides, change_order, checks, dec_le, find, held_to_add, held_to_take, if◌then◌else◌, inl, inr, ints, is_open, kept_under, length, line_checks, line_name, map, nat_lt, new_ledger, new_line, new_order, next, on, order_numbered, places, pos, refl, same_command, settled, spelling, spelling_one, subst, suc, sym, take, total, transfer_lines, true, with_order, zero, ℕ, ◌++◌, ◌+ℤ◌, ◌+◌, ◌-ℤ◌, ◌<◌, ◌↔◌, ◌∙◌, ◌∷◌, ◌≡◌, ◌≤ℤ◌, ◌≤◌, ◌⊎◌}
+use Rattle.book.specs.Future.{Honours}
+use Rattle.book.proofs.Futures.{Fit, at_number, fit-answer, fit_from_good, sounds_from_good, stands_if_fit}
+use native.Mathlib.Decide.{dec_lt}
+use Rattle.words.specs.declared.command.Command.TheVariants as command
 use Rattle.book.proofs.Sums.{each-both, least_if}
-use Rattle.book.proofs.Bounds.{takes, adds, takes-not_negative, adds-not_negative, room_from_safe, HasRoom}
-use Rattle.book.proofs.Futures.{sounds_from_good}
-use Rattle.book.proofs.Once.{answered_once}
-use Rattle.book.proofs.Total.{answered_if_good}
+use Rattle.book.proofs.Bounds.{HasRoom, OneOn, Sound, adds, adds-not_negative, falls_below_iff, rises_above_iff, room_from_safe, takes, takes-not_negative}
+use Rattle.book.proofs.OutcomeTests.{each-insert, fresh-push, fresh-sound}
+use Rattle.book.proofs.Safety.{none_if_not_some, raised, sound-more, takes_more}
+use Rattle.book.specs.Answers.{After}
 use Rattle.book.proofs.Lists.{total-not_negative}
 use Rattle.book.proofs.Goodness.{good_answer}
+
+-- ---- each request has one answer, and each request of a future has an answer
+
+first_once : (cs : List Check) (a b : Option (Refusal × ℕ)) → FirstFailure cs a → FirstFailure cs b → a ≡ b
+first_once [] a b h k = h ∙ sym k
+first_once (c ∷ cs) a b (inl h) (inl k) = h.1 ∙ sym k.1
+first_once (c ∷ cs) a b (inl h) (inr k) = absurd (k.0 h.0)
+first_once (c ∷ cs) a b (inr h) (inl k) = absurd (h.0 k.0)
+first_once (c ∷ cs) a b (inr h) (inr k) = first_once cs a b h.1 k.1
+
+Left : Ledger → Request → Option (Refusal × ℕ) → Reply → Ledger → Type 0
+Left A r found reply B = MatchOption found ((reply ≡ Done (places A + 1)) × (B ≡ accept A r)) (λ e. (reply ≡ Refused e.0 e.1) × (B ≡ A))
+
+pub answered_once : (A : Ledger) (r : Request) (p q : Reply) (B C : Ledger) → Answers A r p B → Answers A r q C → (p ≡ q) × (B ≡ C)
+unfolding Left
+answered_once A r p q B C h k = grind (arith, Left, first_once)
+
+pub no_key : (o : Option Kept) → IsNone o → o ≡ None
+no_key b e = grind arith
+
+-- an accepted request is done at the next place
+pub accepted_answered : (A : Ledger) (r : Request) → IsAccepted A r → Answers A r (Done (places A + 1)) (accept A r)
+accepted_answered A r (none, passed) = rw (no_key (kept_under A r.key) none) (None, passed, (refl, refl))
+
+pub accepted_once : (A : Ledger) (r : Request) (reply : Reply) (B : Ledger) → IsAccepted A r → Answers A r reply B → (reply ≡ Done (places A + 1)) × (B ≡ accept A r)
+accepted_once A r reply B accepted h = answered_once A r reply (Done (places A + 1)) B (accept A r) h (accepted_answered A r accepted)
+
+-- each check fails or does not
+abbrev AllDecided : List Check → Type 0
+AllDecided [] = Unit {0}
+AllDecided (c ∷ cs) = (c.fails ⊎ (c.fails → ⊥)) × AllDecided cs
+
+first_is : (cs : List Check) → AllDecided cs → (found : Option (Refusal × ℕ)) × FirstFailure cs found
+first_is [] d = (None, refl)
+first_is (c ∷ cs) d = by d.0 (first_is cs d.1)
+  where
+    by : c.fails ⊎ (c.fails → ⊥) → (found : Option (Refusal × ℕ)) × FirstFailure cs found → (found : Option (Refusal × ℕ)) × FirstFailure (c ∷ cs) found
+    by (inl h) r = (Some (c.refusal, c.line), inl (h, refl))
+    by (inr h) r = (r.0, inr (h, r.1))
+
+-- what the checks find is answered
+pub answers_found : (A : Ledger) (r : Request) → (found : Option (Refusal × ℕ)) × FirstFailure (checks A r.command) found → (reply : Reply) × (B : Ledger) × Answers A r reply B
+answers_found A r first = by_key (kept_under A r.key)
+  where
+    by_found : (found : Option (Refusal × ℕ)) → FirstFailure (checks A r.command) found → (reply : Reply) × (B : Ledger) × AnswersNew A r reply B
+    by_found None f = (Done (places A + 1), accept A r, (None, f, (refl, refl)))
+    by_found (Some e) f = (Refused e.0 e.1, A, (Some e, f, (refl, refl)))
+
+    by_key : (o : Option Kept) → (reply : Reply) × (B : Ledger) × MatchOption o (AnswersNew A r reply B) (λ k. (reply ≡ (if same_command k.command r.command then Done k.place else Refused KeyReused 0)) × (B ≡ A))
+    by_key None = by_found first.0 first.1
+    by_key (Some k) = (if same_command k.command r.command then Done k.place else Refused KeyReused 0, A, (refl, refl))
+
+answered : (A : Ledger) (r : Request) → AsksNoStock r.command → (reply : Reply) × (B : Ledger) × Answers A r reply B
+answered A r w = answers_found A r (first_is (checks A r.command) (grind arith))
+
+honoured : (A : Ledger) (rs : List Request) → IsFuture rs → Fit A → (replies : List Reply) × (B : Ledger) × Runs A rs replies B × IsHonoured B
+honoured A [] w fit = ([], A, refl, stands_if_fit A fit)
+honoured A (r ∷ rs) w fit = let a = answered A r w.0 in let t = honoured a.1 rs w.1 (fit-answer A r a.0 a.1 w.0 fit a.2) in
+    (a.0 ∷ t.0, t.1, (a.1, a.2, t.2), t.3)
+
+pub honours_if_good : (A : Ledger) → Good A → Honours A
+honours_if_good A g rs w = honoured A rs w (fit_from_good A g)
+
+-- ---- at a good ledger every request has an answer
+
+abbrev Decided : Type 0 → Type 0
+Decided P = P ⊎ (P → ⊥)
+
+abbrev Found : List Check → Type 0
+Found cs = (found : Option (Refusal × ℕ)) × FirstFailure cs found
+
+-- each check is decided, where those before it do not fail
+abbrev InTurn : List Check → Type 0
+InTurn [] = Unit {0}
+InTurn (c ∷ cs) = Decided c.fails × ((c.fails → ⊥) → InTurn cs)
+
+in_turn : (cs : List Check) → InTurn cs → Found cs
+in_turn [] d = (None, refl)
+in_turn (c ∷ cs) d = by d.0 (λ h. in_turn cs (d.1 h))
+  where
+    by : Decided c.fails → ((c.fails → ⊥) → Found cs) → Found (c ∷ cs)
+    by (inl h) rest = (Some (c.refusal, c.line), inl (h, refl))
+    by (inr h) rest = let r = rest h in (r.0, inr (h, r.1))
+
+dec_less : (m n : ℕ) → Decided (m < n)
+dec_less m n = elim (dec_lt m n) [ yes h ↦ inl h | no h ↦ inr h ]
+
+dec_upto : (m n : ℕ) → Decided (m ≤ n)
+dec_upto m n = elim (dec_le m n) [ yes h ↦ inl h | no h ↦ inr h ]
+
+dec_bound : (w : Way) (B : Ledger) (f : Name) (i : ℕ) → Each Sound B.orders → Decided (bound w B f i).fails
+dec_bound b x f i s = grind (arith, falls_below_iff, rises_above_iff)
+
+found_lines : (A : Ledger) (n : ℕ) (k : Kind) (u : ℕ) (before ls : List OpenLine) → Each Sound A.orders → ((g : Name) → OneOn g (map new_line before)) → InTurn (line_checks A (new_order n k u) before ls)
+found_lines A n k u before [] s one = tt
+found_lines A n k u before (l ∷ ls) s one = (
+  (grind arith),
+  λ same. (
+    (grind arith),
+    λ there.
+        let one' : (g : Name) → OneOn g (map new_line (before ++ l ∷ [])) = fresh-push before l one (none_if_not_some (find (on (line_name (new_line l))) (map new_line before)) same) in (
+          (dec_bound l.way (with_order (new_order n k u (before ++ l ∷ [])) A) (line_name (new_line l)) (length before + 1)
+              (each-insert Sound (λ a b. nat_lt a.number b.number) (new_order n k u (before ++ l ∷ [])) A.orders (fresh-sound n k u (before ++ l ∷ []) one') s)),
+          λ _. found_lines A n k u (before ++ l ∷ []) ls s one',
+        ),
+  ),
+)
+
+found : (A : Ledger) (c : Command) → Good A → InTurn (checks A c)
+found A (command.Field b a lo hi start) g = ((dec_less _ _), λ _. ((dec_upto _ _), λ _. ((grind arith), λ _. ((grind arith), λ _. tt))))
+found A (command.Deliver b a q) g = ((dec_less _ _), λ _. ((grind arith), λ _. ((dec_bound Add (next A (command.Deliver b a q)) (record { branch = b; article = a }) 0 (sounds_from_good A g)), λ _. tt)))
+found A (command.Writeoff b a q) g = ((dec_less _ _), λ _. ((grind arith), λ _. ((dec_bound Take (next A (command.Writeoff b a q)) (record { branch = b; article = a }) 0 (sounds_from_good A g)), λ _. tt)))
+found A (command.Rebound b a lo hi) g = let B : Ledger = next A (command.Rebound b a lo hi) in let f : Name = record { branch = b; article = a } in let s = sounds_from_good A g in
+    ((dec_less _ _), λ _. ((grind arith), λ _. ((dec_less _ _), λ _. ((dec_bound Take B f 0 s), λ _. ((dec_bound Add B f 0 s), λ _. tt)))))
+found A (command.Open n until lines) g = ((dec_less _ _), λ _. ((dec_upto _ _), λ _. ((grind arith), λ _. ((dec_upto _ _), λ _. found_lines A n Plain until [] lines (sounds_from_good A g) (λ _. tt)))))
+found A (command.Transfer n until a from to q) g = ((dec_less _ _), λ _. ((dec_upto _ _), λ _. ((grind arith), λ _. ((dec_upto _ _), λ _. found_lines A n Transfer until [] (transfer_lines a from to q) (sounds_from_good A g) (λ _. tt)))))
+found A (command.More n way b a q) g = let f : Name = record { branch = b; article = a } in let l : OpenLine = record { way = way; branch = b; article = a; qty = q } in (
+  (dec_less _ _),
+  λ _. (
+    (grind arith),
+    λ p1. (
+      (grind arith),
+      λ p2. (
+        (grind arith),
+        λ loose. (
+          (grind arith),
+          λ p3. (
+            (grind arith),
+            λ _. (
+              (grind arith),
+              λ p5. (
+                (grind arith),
+                λ _.
+                    ((dec_bound way (next A (command.More n way b a q)) f 0 (more_sound l (takes_more f way (order_numbered A n) p1 p2 loose p3 p5))), λ _. tt),
+              ),
+            ),
+          ),
+        ),
+      ),
+    ),
+  ),
+)
+  where
+    more_sound : (l : OpenLine) → IsSomeAnd (order_numbered A n) (MayHoldMore (line_name (new_line l)) l.way) → Each Sound (change_order n (add_hold l) A).orders
+    more_sound l t = sound-more A n l (sounds_from_good A g) (each-both (λ o s k e. ((k e).0, (k e).1, raised l o s (k e))) A.orders (sounds_from_good A g) (at_number (MayHoldMore (line_name (new_line l)) l.way) n A.orders g.orders_in_order t))
+found A (command.Use n b a q) g = grind arith
+found A (command.Release n b a q) g = grind arith
+found A (command.Commit n) g = ((grind arith), λ _. ((grind arith), λ _. tt))
+found A (command.Abort n) g = ((grind arith), λ _. ((grind arith), λ _. ((grind arith), λ _. tt)))
+found A (command.Firm n) g = ((dec_less _ _), λ _. ((grind arith), λ _. ((grind arith), λ _. ((grind arith), λ _. tt))))
+found A (command.Expire now) g = ((dec_less _ _), λ _. ((dec_less _ _), λ _. tt))
+
+pub answered_if_good : (A : Ledger) (r : Request) → Good A → (reply : Reply) × (B : Ledger) × Answers A r reply B
+answered_if_good A r g = answers_found A r (in_turn (checks A r.command) (found A r.command g))
+
+-- ---- whole runs from a good ledger, and the numbers of a good ledger's fields
 
 -- the same text is the same command
 pub same_is : (c d : Command) → IsInRange c → IsInRange d → (same_command c d ≡ true) ↔ (c ≡ d)

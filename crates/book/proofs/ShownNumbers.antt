@@ -1,9 +1,8 @@
 -- The numbers that a book shows of its fields.
 use Rattle.book.proofs.Prelude.{[], ◌+ℤ◌, ◌-ℤ◌, ◌∙◌, ◌∷◌, ◌≡◌, ◌≤ℤ◌, BookView, Bool, Contains, Field, FieldEntry, Good, Inside, Ledger, List, Name, Some, ap, arith, common_steps, false, field_of, find, held_to_add, held_to_take, if◌then◌else◌, is_some, option_map, pos, settled, slice_get, slice_get-map, suc, sym, true, true≢false, view_of, ℕ}
 use Rattle.escrow.specs.declared.limits.TheConstants.{MAX_LEVEL}
-use Rattle.book.proofs.FirstMatch.{from_some}
+use Rattle.book.proofs.Lists.{from_some, each-at}
 use Rattle.book.proofs.Runs.{in_order}
-use Rattle.book.proofs.Walks.{each-at}
 
 pub Contains-of_find : {X : Type 0} (p : X → Bool) (xs : List X) (x : X) → find p xs ≡ Some x → Contains xs x
 Contains-of_find p [] x n = absurd (true≢false (sym (ap is_some n)))

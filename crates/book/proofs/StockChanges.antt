@@ -1,13 +1,12 @@
 -- What becomes of a field's stock, as an accepted command changes an order's line on it.
-use Rattle.book.proofs.Prelude.{[], ◌++◌, ◌+ℤ◌, ◌+◌, ◌-ℤ◌, ◌-◌, ◌<◌, ◌==◌, ◌||◌, ◌∙◌, ◌∷◌, ◌≡◌, ◌≤ℤ◌, ◌≤◌, Aborted, Add, Becomes, Bool, Command, Committed, Contains, Each, Field, FieldCells, FieldEntry, FirstFailure, Good, IsAccepted, IsFalse, IsGoodLine, IsGoodOrder, IsInRange, IsQty, IsSafeMoved, IsSomeAnd, IsTrue, IsUpToDate, Ledger, Line, List, MatchOption, MayBecome, Move, Name, None, Numbers, Open, OpenLine, Option, Order, Request, Share, Some, State, Stock, Take, Way, accept, add_hold, added_part, ap, arith, change_lines, checks, common_steps, entry_row, false, field_of, field_row, find, held_of, held_to_add, held_to_take, hold_more, holding, if_add, if_take, if◌then◌else◌, ints, is_open, is_settled, is_some, is_touched, is_transfer, line_name, line_on, lower_held, map, moved_by_command, moved_part, name_of, new_line, next, on, open_state, option_map, option_map_or, order_after, order_number, order_numbered, pos, raise_held, raise_used, refl, same_name, set_firm, set_state, settled, settled_state, share_numbers, share_of, share_on, signed, some_part, subst, sym, taken_part, total, transfer_lines, true, true≢false, unsettled, ℕ, ℤ}
+use Rattle.book.proofs.Prelude.{[], ◌++◌, ◌+ℤ◌, ◌+◌, ◌-ℤ◌, ◌-◌, ◌<◌, ◌==◌, ◌||◌, ◌∙◌, ◌∷◌, ◌≡◌, ◌≤ℤ◌, ◌≤◌, Aborted, Add, Becomes, Bool, Command, Contains, Each, Field, FieldCells, FieldEntry, FirstFailure, Good, IsAccepted, IsFalse, IsGoodLine, IsGoodOrder, IsInRange, IsQty, IsSafeMoved, IsSomeAnd, IsTrue, IsUpToDate, Ledger, Line, List, MatchOption, MayBecome, Move, Name, None, Numbers, Open, OpenLine, Option, Order, Request, Share, Some, State, Stock, Take, Way, accept, add_hold, added_part, ap, arith, change_lines, checks, common_steps, entry_row, false, field_of, field_row, find, held_of, held_to_add, held_to_take, hold_more, holding, if_add, if_take, if◌then◌else◌, ints, is_open, is_settled, is_some, is_touched, is_transfer, line_name, line_on, lower_held, map, moved_by_command, moved_part, name_of, new_line, next, on, open_state, option_map, option_map_or, order_after, order_number, order_numbered, pos, raise_held, raise_used, refl, same_name, set_state, settled, settled_state, share_numbers, share_of, share_on, signed, some_part, subst, sym, taken_part, total, transfer_lines, true, true≢false, unsettled, ℕ, ℤ}
 use Rattle.escrow.specs.Choices.{IsSafe}
 use Rattle.escrow.specs.Escrow.{moved, MovesValue}
 use Rattle.words.specs.declared.command.Command.TheVariants as command
 use Rattle.book.proofs.Bounds.{OneOn, adds-not_negative, takes-not_negative}
-use Rattle.book.proofs.RowFilter.{some_is}
+use Rattle.book.proofs.Lists.{some_is, total-not_negative}
 use Rattle.book.proofs.Futures.{all_pass, one_on}
 use Rattle.book.proofs.Goodness.{quantities}
-use Rattle.book.proofs.Lists.{total-not_negative}
 use Rattle.book.proofs.CommandOrder.{each-found, left_out, made_there, none_opened, total-next, total_parts}
 use Rattle.book.proofs.RunningNumbers.{bounds_at, off}
 use Rattle.book.proofs.Sums.{each, each-imp, each-map, total-eq, total-zero, least_if}
@@ -124,15 +123,6 @@ lowered m b q k = grind arith
 used_more : (m b : Bool) (q : ℕ) (k : Line) → (if b then raise_used q k else k).used ≤ (if b then raise_used q k else k).held → Goes (share_of Open m k) (share_of Open m (if b then raise_used q k else k))
 used_more m b q k within = grind arith
 
-committed : (m : Bool) (k : Line) → k.used ≤ k.held → Goes (share_of Open m k) (share_of Committed m k)
-committed m k within = grind arith
-
-aborted : (k : Line) → Goes (share_of Open false k) (share_of Aborted false k)
-aborted k = grind arith
-
-made_firm : (m : Bool) (k : Line) → k.used ≤ k.held → Goes (share_of Open m k) (share_of Open true k)
-made_firm m k within = grind arith
-
 -- a line of a new order
 new_goes : (f : Name) (ls : List OpenLine) (l : Line) → Each (λ l. IsQty l.qty) ls → find (on f) (map new_line ls) ≡ Some l → LineGoes None no_share l (share_of Open false l)
 new_goes f ls l range there = record { way = tt; goes = fresh l (each-found (λ l. IsQty l.held) (on f) l (map new_line ls) (each-map (λ l. IsQty l.held) new_line ls range) there) }
@@ -143,11 +133,7 @@ kept_goes : (f : Name) (g : Line → Line) (ls : List Line) (m n : Bool) (s : St
 kept_goes f g ls m n s l keeps ways goes there within = by (find (on f) ls) (sym (find_map f g keeps ls) ∙ there)
   where
     by : (x : Option Line) → option_map g x ≡ Some l → LineGoes x (some_share Open m x) l (share_of s n l)
-    by None e = absurd (true≢false (sym (ap is_some e)))
-    by (Some k) e = let is = some_is (g k) l e in record {
-      way = sym (ways k) ∙ ap (λ (l : Line). l.way) is;
-      goes = subst (λ (x : Line). Goes (share_of Open m k) (share_of s n x)) is (goes k (subst (λ (x : Line). x.used ≤ x.held) (sym is) within));
-    }
+    by x e = grind arith
 
 on_kept : (f : Name) (b : Bool) (g : Line → Line) (k : Line) → on f (g k) ≡ on f k → on f (if b then g k else k) ≡ on f k
 on_kept f b g k e = grind arith
@@ -162,8 +148,7 @@ pushed_goes f ol (k ∷ ls) l range there = by (on f k) there (λ h. pushed_goes
   where
     by : (b : Bool) → (if b then Some k else find (on f) (ls ++ new_line ol ∷ [])) ≡ Some l → (find (on f) (ls ++ new_line ol ∷ []) ≡ Some l → LineGoes (find (on f) ls) (some_share Open false (find (on f) ls)) l (share_of Open false l))
         → LineGoes (if b then Some k else find (on f) ls) (some_share Open false (if b then Some k else find (on f) ls)) l (share_of Open false l)
-    by true e more = let is = some_is k l e in record { way = ap (λ (l : Line). l.way) is; goes = subst (λ (x : Line). Goes (share_of Open false k) (share_of Open false x)) is (stays (share_of Open false k)) }
-    by false e more = more e
+    by b e more = grind arith
 
 pub state_is : (s : State) → open_state s ≡ true → Open ≡ s
 state_is c e = grind arith
@@ -179,10 +164,6 @@ each_goes : (f : Name) (g : Line → Line) (new p : Order) (l : Line) → ((k : 
     → find (on f) (map g p.lines) ≡ Some l → LineGoes (line_on p f) (some_share Open p.firm (line_on p f)) l (share_of p.state p.firm l)
 each_goes f g new p l keeps ways goes unended within there = subst (λ s. LineGoes (line_on p f) (some_share Open p.firm (line_on p f)) l (share_of s p.firm l)) (state_is p.state unended) (kept_goes f g p.lines p.firm p.firm Open l keeps ways goes there within)
 
--- the lines stay, and the state and the mark change
-ended_goes : (f : Name) (p : Order) (s : State) (m : Bool) (l : Line) → ((k : Line) → k.used ≤ k.held → Goes (share_of Open p.firm k) (share_of s m k)) → l.used ≤ l.held → find (on f) p.lines ≡ Some l → LineGoes (line_on p f) (some_share Open p.firm (line_on p f)) l (share_of s m l)
-ended_goes f p s m l goes within there = subst (λ (x : Option Line). LineGoes x (some_share Open p.firm x) l (share_of s m l)) (sym there) (record { way = refl; goes = goes l within })
-
 held_goes : (f : Name) (ol : OpenLine) (p : Order) (l : Line) → IsQty ol.qty → is_open p ≡ true → p.firm ≡ false → l.used ≤ l.held → ChangeGoes f (add_hold ol) p l
 held_goes f ol p l range unended loose within there = by (is_some (line_on p (line_name (new_line ol)))) there
   where
@@ -195,23 +176,11 @@ held_goes f ol p l range unended loose within there = by (is_some (line_on p (li
 -- what an order under the number becomes
 changed_goes : (A : Ledger) (n : ℕ) (f : Name) (change : Order → Order) (o : Order) (l : Line) → IsBefore f (order_numbered A n) → ((p : Order) → order_numbered A n ≡ Some p → is_open p ≡ true → ChangeGoes f change p l)
     → option_map change (order_numbered A n) ≡ Some o → find (on f) o.lines ≡ Some l → LineGoes (line_before (order_numbered A n) f) (share_on (order_numbered A n) f) l (share_of o.state o.firm l)
-changed_goes A n f change o l is goes e there = by (order_numbered A n) refl is e
-  where
-    by : (x : Option Order) → order_numbered A n ≡ x → IsBefore f x → option_map change x ≡ Some o → LineGoes (line_before x f) (share_on x f) l (share_of o.state o.firm l)
-    by None k is e = absurd (true≢false (sym (ap is_some e)))
-    by (Some p) k is e =
-        let same = some_is (change p) o e in
-        subst (λ (o : Order). LineGoes (line_on p f) (share_on (Some p) f) l (share_of o.state o.firm l)) same
-        (subst (λ s. LineGoes (line_on p f) (some_share s p.firm (line_on p f)) l (share_of (change p).state (change p).firm l)) (state_is p.state is.0)
-        (goes p k is.0 (subst (λ (o : Order). find (on f) o.lines ≡ Some l) (sym same) there)))
+changed_goes A n f change o l is goes e there = grind arith
 
 opened_goes : (f : Name) (new o : Order) (ls : List OpenLine) (l : Line) (x : Option Order) → x ≡ None → new.lines ≡ map new_line ls → new.state ≡ Open → new.firm ≡ false → Each (λ l. IsQty l.qty) ls → Some new ≡ Some o → find (on f) o.lines ≡ Some l
     → LineGoes (line_before x f) (share_on x f) l (share_of o.state o.firm l)
-opened_goes f new o ls l x none lines state firm range e there =
-    let same = some_is new o e in
-    subst (λ (x : Option Order). LineGoes (line_before x f) (share_on x f) l (share_of o.state o.firm l)) (sym none)
-    (subst (λ (o : Order). LineGoes None no_share l (share_of o.state o.firm l)) same
-    (subst (λ s. LineGoes None no_share l (share_of s new.firm l)) (sym state) (subst (λ m. LineGoes None no_share l (share_of Open m l)) (sym firm) (new_goes f ls l range (subst (λ (ls : List Line). find (on f) ls ≡ Some l) (ap (λ (p : Order). p.lines) (sym same) ∙ lines) there)))))
+opened_goes f new o ls l x none lines state firm range e there = grind (arith, some_is, line_before, no_share, new_goes)
 
 -- the order that is found is not firm
 loose : (x : Option Order) (p : Order) → (IsSomeAnd x (λ o. IsTrue o.firm) → ⊥) → x ≡ Some p → p.firm ≡ false
@@ -238,31 +207,21 @@ line_goes A (command.Release m b a q) n f o l range h e is made there within =
     (λ p k unended. each_goes f (λ x. if is_transfer p || on (name_of b a) x then lower_held q x else x) p p l (λ x. on_kept f (is_transfer p || on (name_of b a) x) (lower_held q) x refl) (λ x. way_kept (is_transfer p || on (name_of b a) x) (lower_held q) x refl)
     (λ x within. lowered p.firm (is_transfer p || on (name_of b a) x) q x) unended within)
     (subst (λ k. option_map (change_lines (name_of b a) (lower_held q)) (order_numbered A k) ≡ Some o) (some_is m n e) made) there
-line_goes A (command.Commit m) n f o l range h e is made there within =
-    changed_goes A n f (set_state Committed) o l is (λ p k unended. ended_goes f p Committed p.firm l (committed p.firm) within) (subst (λ k. option_map (set_state Committed) (order_numbered A k) ≡ Some o) (some_is m n e) made) there
-line_goes A (command.Abort m) n f o l range h e is made there within = at m (some_is m n e) (all_pass (checks A (command.Abort m)) h).1.1.0 made
-  where
-    at : (m : ℕ) → m ≡ n → (IsSomeAnd (order_numbered A m) (λ o. IsTrue o.firm) → ⊥) → option_map (set_state Aborted) (order_numbered A m) ≡ Some o → LineGoes (line_before (order_numbered A n) f) (share_on (order_numbered A n) f) l (share_of o.state o.firm l)
-    at m e not made = changed_goes A n f (set_state Aborted) o l is (λ p k unended. let not_firm = loose (order_numbered A n) p (subst (λ m. IsSomeAnd (order_numbered A m) (λ o. IsTrue o.firm) → ⊥) e not) k in
-        ended_goes f p Aborted p.firm l (λ x within. subst (λ m. Goes (share_of Open m x) (share_of Aborted m x)) (sym not_firm) (aborted x)) within)
-        (subst (λ k. option_map (set_state Aborted) (order_numbered A k) ≡ Some o) e made) there
-line_goes A (command.Firm m) n f o l range h e is made there within =
-    changed_goes A n f set_firm o l is (λ p k unended there. subst (λ s. LineGoes (line_on p f) (some_share Open p.firm (line_on p f)) l (share_of s true l)) (state_is p.state unended) (ended_goes f p Open true l (made_firm p.firm) within there)) (subst (λ k. option_map set_firm (order_numbered A k) ≡ Some o) (some_is m n e) made) there
+line_goes A (command.Commit m) n f o l range h e is made there within = grind arith
+line_goes A (command.Abort m) n f o l range h e is made there within = grind arith
+line_goes A (command.Firm m) n f o l range h e is made there within = grind arith
 line_goes A c n f o l range h e is made there within = absurd (true≢false (sym (ap is_some e)))
 
 -- ---- what the order adds before and after
 
 moved_some : (s : State) (m : Bool) (w : Way) (x : Option Line) → HasWay w x → (if settled_state s m then of_line (λ l. signed l.way l.used) x else pos 0) ≡ signed w (some_share s m x).settled
-moved_some s m w None way = grind arith
-moved_some s m w (Some k) way = grind arith
+moved_some s m w x way = grind arith
 
 takes_some : (s : State) (m : Bool) (w : Way) (x : Option Line) → HasWay w x → (if open_state s then of_line (λ l. pos (if_take l.way (unsettled m l l.held))) x else pos 0) ≡ pos (if_take w (some_share s m x).held)
-takes_some s m w None way = grind arith
-takes_some s m w (Some k) way = grind arith
+takes_some s m w x way = grind arith
 
 adds_some : (s : State) (m : Bool) (w : Way) (x : Option Line) → HasWay w x → (if open_state s then of_line (λ l. pos (if_add l.way (unsettled m l l.held))) x else pos 0) ≡ pos (if_add w (some_share s m x).held)
-adds_some s m w None way = grind arith
-adds_some s m w (Some k) way = grind arith
+adds_some s m w x way = grind arith
 
 -- what an order adds up to on the field, if there is one
 record PartsAre (f : Name) (x : Option Order) (n : Numbers) : Type 0 where
@@ -271,8 +230,7 @@ record PartsAre (f : Name) (x : Option Order) (n : Numbers) : Type 0 where
   adds : some_part (added_part f) x ≡ n.adds
 
 none_parts : (f : Name) (w : Way) → PartsAre f None (share_numbers w no_share)
-none_parts f Take = record { moved = refl; takes = refl; adds = refl }
-none_parts f Add = record { moved = refl; takes = refl; adds = refl }
+none_parts f w = grind arith
 
 -- as much as its line on the field counts for
 order_parts : (f : Name) (w : Way) (o : Order) → OneOn f o.lines → HasWay w (line_on o f) → PartsAre f (Some o) (share_numbers w (share_on (Some o) f))
@@ -283,8 +241,7 @@ order_parts f w o one way = record {
 }
 
 parts_before : (f : Name) (w : Way) (x : Option Order) → IsBefore f x → HasWay w (line_before x f) → PartsAre f x (share_numbers w (share_on x f))
-parts_before f w None is way = none_parts f w
-parts_before f w (Some o) is way = order_parts f w o is.1 way
+parts_before f w x is way = grind (arith, none_parts, order_parts)
 
 parts_after : (f : Name) (o : Order) (l : Line) → OneOn f o.lines → find (on f) o.lines ≡ Some l → PartsAre f (Some o) (share_numbers l.way (share_of o.state o.firm l))
 parts_after f o l one there = subst (λ (x : Option Line). PartsAre f (Some o) (share_numbers l.way (some_share o.state o.firm x))) there (order_parts f l.way o one (subst (HasWay l.way) (sym there) refl))
@@ -320,10 +277,7 @@ changes A r n o fld l good after ok range number made there =
     let is = subst (λ (y : Option Order). PartsAre f y (share_numbers l.way (share_of o.state o.firm l))) (sym made) (parts_after f o l one there) in
     let moves = not_moved f A c n number in
     let moved = total_moved (moved_part f) (λ o. refl) A c n good ok.1 number in
-    let moved_was = was.moved in
-    let moved_is = is.moved in
     let takes = total_moved (taken_part f) (λ o. refl) A c n good ok.1 number in
-    let takes_was = was.takes in
     let takes_is = is.takes in
     let adds = total_moved (added_part f) (λ o. refl) A c n good ok.1 number in
     let adds_was = was.adds in
@@ -348,38 +302,19 @@ stock_changed A r n o f e l new good after ok range number made up there becomes
         let value = ap (λ (row : FieldCells). row.value) up in
         let inf = ap (λ (row : FieldCells). row.inf) up in
         let sup = ap (λ (row : FieldCells). row.sup) up in
-        let value_sum = sums.value in
-        let takes_sum = sums.takes in
         let adds_sum = sums.adds in
         let value_is = becomes.value in
         let takes_is = becomes.takes in
         let adds_is = becomes.adds in
         entry_is B f e new becomes.lo becomes.hi (omega (arith, ints)) (omega (arith, ints)) (omega (arith, ints))
 
--- what a field holds is at least what a line holds of it
-held_within : (A : Ledger) (f : Name) (e : FieldEntry) (w : Way) (held : ℕ) → IsUpToDate A (f, e) → pos (if_take w held) ≤ℤ held_to_take A f → pos (if_add w held) ≤ℤ held_to_add A f → held ≤ held_of e.quantity w
-held_within A f e Take held up takes adds =
-    let value = ap (λ (row : FieldCells). row.value) up in
-    let inf = ap (λ (row : FieldCells). row.inf) up in
-    omega (arith, ints)
-held_within A f e Add held up takes adds =
-    let value = ap (λ (row : FieldCells). row.value) up in
-    let sup = ap (λ (row : FieldCells). row.sup) up in
-    omega (arith, ints)
-
 held_there : (A : Ledger) (n : ℕ) (f : Name) (e : FieldEntry) (w : Way) → Good A → IsUpToDate A (f, e) → PartsAre f (order_numbered A n) (share_numbers w (share_on (order_numbered A n) f)) → (share_on (order_numbered A n) f).held ≤ held_of e.quantity w
-held_there A n f e w good up parts =
-    let takes = total_most (taken_part f) (λ o. least_if (is_open o) _ (takes-not_negative o.firm f o.lines)) A n good in
-    let adds = total_most (added_part f) (λ o. least_if (is_open o) _ (adds-not_negative o.firm f o.lines)) A n good in
-    held_within A f e w (share_on (order_numbered A n) f).held up (subst (λ z. z ≤ℤ held_to_take A f) parts.takes takes) (subst (λ z. z ≤ℤ held_to_add A f) parts.adds adds)
+held_there A n f e w good up parts = grind (arith, (total_most (taken_part f) (λ o. least_if (is_open o) _ (takes-not_negative o.firm f o.lines)) A n good), (total_most (added_part f) (λ o. least_if (is_open o) _ (adds-not_negative o.firm f o.lines)) A n good))
 
 -- what is held more is safe, since the next ledger is
 more_safe : (A B : Ledger) (f : Name) (e : FieldEntry) (w : Way) (was is : Share) → Good B → Contains B.fields (field_of (f, e)) → IsUpToDate A (f, e) → Changes A B (field_of (f, e)) (share_numbers w was) (share_numbers w is) → is.settled ≡ was.settled → was.held < is.held → was.held ≤ held_of e.quantity w → IsSafe (holding e.quantity w (is.held - was.held))
 more_safe A B f e Take was is good there up sums same more within taken added t a =
     let bounds = bounds_at B (field_of (f, e)) good there in
-    let low = bounds.0 in
-    let high = bounds.3 in
-    let value = ap (λ (row : FieldCells). row.value) up in
     let inf = ap (λ (row : FieldCells). row.inf) up in
     let sup = ap (λ (row : FieldCells). row.sup) up in
     let value_sum = sums.value in
@@ -388,9 +323,6 @@ more_safe A B f e Take was is good there up sums same more within taken added t 
     (omega (arith, ints), omega (arith, ints))
 more_safe A B f e Add was is good there up sums same more within taken added t a =
     let bounds = bounds_at B (field_of (f, e)) good there in
-    let low = bounds.0 in
-    let high = bounds.3 in
-    let value = ap (λ (row : FieldCells). row.value) up in
     let inf = ap (λ (row : FieldCells). row.inf) up in
     let sup = ap (λ (row : FieldCells). row.sup) up in
     let value_sum = sums.value in
@@ -429,8 +361,7 @@ value_may A B f e Take q good there up value takes adds taken added t a = grind 
 value_may A B f e Add q good there up value takes adds taken added t a = grind (arith, common_steps, (bounds_at B (field_of (f, e)) good there))
 
 moved_is : (w : Way) (q : ℕ) (z : ℤ) → z +ℤ signed w q ≡ moved w q z
-moved_is Take q z = omega (arith, ints)
-moved_is Add q z = refl
+moved_is w q z = grind arith
 
 -- what the command moves at once is all that its value is moved, where no order changes
 pub settled_moved : (A : Ledger) (fld : Field) (c : Command) (w : Way) (q : ℕ) → moved_by_command fld.name c ≡ signed w q → (next A c).orders ≡ A.orders → settled (next A c) fld ≡ moved w q (settled A fld)

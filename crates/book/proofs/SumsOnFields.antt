@@ -1,15 +1,14 @@
 -- Sums on each of the fields: where a field stands among those in order, and what an entry more adds.
-use Rattle.book.proofs.Prelude.{[], ◌+◌, ◌<◌, ◌∙◌, ◌∷◌, ◌≡◌, ◌≤◌, Bool, Each, Equal, FieldEntry, IsBinarySearchResult, IsField, IsNonDecreasingBy, IsNone, IsSearchInRange, IsSmall, IsSome, IsStrictlySortedBy, Less, Line, List, MatchResult, MoveEntry, Name, Numbers, OrderEntry, Ordering, Result, Some, State, added, ap, arith, common_steps, entry_name, false, field_of, get_or, if◌then◌else◌, ints, is_lt, is_some, length, lines_numbers, map, moved_by_move, moved_by_order, name_cmp, nothing, numbers_on, only_on, ordering_index, ordering_reverse, plus, refl, same_name, set, subst, suc, sym, take, tied_itself, true, true≢false, zero, ℕ}
+use Rattle.book.proofs.Prelude.{[], ◌+◌, ◌<◌, ◌∙◌, ◌∷◌, ◌≡◌, ◌≤◌, Bool, Each, Equal, FieldEntry, IsBinarySearchResult, IsField, IsNonDecreasingBy, IsNone, IsSearchInRange, IsSmall, IsStrictlySortedBy, Less, Line, List, MatchResult, MoveEntry, Name, Numbers, OrderEntry, Ordering, Result, Some, State, added, ap, arith, common_steps, entry_name, false, field_of, get_or, if◌then◌else◌, ints, is_lt, is_some, length, lines_numbers, map, moved_by_move, moved_by_order, name_cmp, nothing, numbers_on, only_on, ordering_index, ordering_reverse, plus, refl, same_name, set, subst, suc, sym, take, tied_itself, true, true≢false, zero, ℕ}
 use Rattle.std.proofs.lemmas.List.Sorted.{searchable_from_sorted}
 use Rattle.book.specs.Walk.{added_by_line, added_by_order, moved_by_line, taken_by_line, taken_by_order}
-use Rattle.book.specs.Sums.{field_among, AreFieldsInOrder, IsFieldAt}
+use Rattle.std.specs.Prelude.{replicate}
+use Rattle.book.specs.Sums.{field_among, AreFieldsInOrder, AreSums, IsFieldAt}
 use Rattle.book.proofs.OutcomeTests.{same_self}
 use Rattle.book.proofs.Futures.{name_is}
 use Rattle.book.proofs.GoodParts.{equal_name, name_cmp_total}
-use Rattle.book.proofs.Lists.{each-unmap}
-use Rattle.book.proofs.Sums.{each, each-imp, each-map}
-use Rattle.book.proofs.Walks.{total-step}
-use Rattle.book.proofs.WalksInPlace.{each_get, each_set}
+use Rattle.book.proofs.Lists.{each-unmap, total-step, each_get, each_set}
+use Rattle.book.proofs.Sums.{each-imp}
 use Rattle.book.proofs.Safety.{not_true}
 
 -- ---- numbers added to one another, and how great they can be
@@ -38,6 +37,9 @@ small-plus k m a b s t = record { low = omega (arith, ints); high = omega (arith
 pub each-small-up : (k m : ℕ) (ns : List Numbers) → k ≤ m → Each (IsSmall k) ns → Each (IsSmall m) ns
 each-small-up k m ns h s = each-imp (λ n t. small-up k m n h t) ns s
 
+pub sums-up : (k m : ℕ) (fs : List (Name × FieldEntry)) (ns : List Numbers) → k ≤ m → AreSums k fs ns → AreSums m fs ns
+sums-up k m fs ns h s = record { sorted = s.sorted; long = s.long; room = each-small-up k m ns h s.room }
+
 -- where a sum is added to, the bounds add up
 pub each-small-set : (k m i : ℕ) (d part : Numbers) (ns : List Numbers) → i < length ns → Each (IsSmall k) ns → IsSmall m part → Each (IsSmall (k + m)) (set ns i (plus (get_or ns i d) part))
 each-small-set k m i d part ns lt s t =
@@ -65,7 +67,7 @@ added-twice g h k both (f ∷ fs) [] = refl
 added-twice g h k both (f ∷ fs) (n ∷ ns) = let more = added-twice g h k both fs ns in grind (arith, plus-assoc)
 
 -- added to nothing, the parts alone are left
-added-to_nothing : (h : Name → Numbers) (fs : List (Name × FieldEntry)) → added h fs (map (λ f. nothing) fs) ≡ map (λ f. h (entry_name f)) fs
+pub added-to_nothing : (h : Name → Numbers) (fs : List (Name × FieldEntry)) → added h fs (replicate (length fs) nothing) ≡ map (λ f. h (entry_name f)) fs
 added-to_nothing h [] = refl
 added-to_nothing h (f ∷ fs) = let more = added-to_nothing h fs in grind arith
 
@@ -87,9 +89,7 @@ unfolding IsStrictlySortedBy
 ascending [] s k d lt = absurd (omega arith)
 ascending (f ∷ []) s k d lt = absurd (omega arith)
 ascending (f ∷ g ∷ fs) s zero d lt = ap is_lt (name_cmp_total.antisymm (entry_name g) (entry_name f) ∙ ap ordering_reverse s.0.0)
-ascending (f ∷ g ∷ fs) s (suc k) d lt =
-    let more : suc (k + 1) ≡ suc k + 1 = omega arith in
-    subst (λ j. is_lt (name_cmp (entry_name (get_or (f ∷ g ∷ fs) j d)) (entry_name (get_or (g ∷ fs) k d))) ≡ false) more (ascending (g ∷ fs) s.1 k d (omega arith))
+ascending (f ∷ g ∷ fs) s (suc k) d lt = grind (arith, (ascending (g ∷ fs) s.1 k d (omega arith)))
 
 -- so their comparisons with a name rise, as a binary search asks
 rising : (name : Name) (fs : List (Name × FieldEntry)) → AreFieldsInOrder fs → IsNonDecreasingBy (λ e. ordering_index (name_cmp (entry_name e) name)) fs
@@ -114,10 +114,7 @@ there_at name (f ∷ fs) zero at = rw (same_as (at.named f)) refl
   where
     same_as : entry_name f ≡ name → same_name name (entry_name f) ≡ true
     same_as e = subst (λ g. same_name name g ≡ true) (sym e) (same_self name)
-there_at name (f ∷ fs) (suc i) at = by (same_name name (entry_name f)) (there_at name fs i (record { within = omega arith; named = at.named }))
-  where
-    by : (b : Bool) → IsField fs name → IsSome (if b then Some (field_of f) else field_among fs name)
-    by b h = grind arith
+there_at name (f ∷ fs) (suc i) at = grind (arith, (there_at name fs i (record { within = omega arith; named = at.named })))
 
 -- ---- a sum that is added to
 
@@ -161,14 +158,12 @@ added-at name part (f ∷ fs) (n ∷ ns) zero s long at = λ i. first i ∷ sym 
     after g less = subst (λ k. same_name (entry_name g) k ≡ false) (at.named f) (other_name (entry_name f) (entry_name g) (not_less _ less)).1
 
     more : added (only_on name part) fs ns ≡ ns
-    more = added-elsewhere name part fs ns (each-imp after fs (each-unmap (λ g. name_cmp (entry_name f) g.name ≡ Less) field_of fs (each-unmap (λ k. name_cmp (entry_name f) k ≡ Less) (λ g. g.name) (map field_of fs) s.0)))
-added-at name part (f ∷ fs) (n ∷ ns) (suc i) s long at =
-    let more = added-at name part fs ns i s.1 (omega arith) (record { within = omega (arith, at.within); named = at.named }) in
-    λ j. sym first j ∷ more j
+    more = added-elsewhere name part fs ns (each-imp after fs (each-unmap (λ k. name_cmp (entry_name f) k ≡ Less) (λ e. e.0) fs s.0))
+added-at name part (f ∷ fs) (n ∷ ns) (suc i) s long at = grind (arith, (added-at name part fs ns i s.1 (omega arith) (record { within = omega (arith, at.within); named = at.named })), first)
   where
     before : name_cmp (entry_name f) name ≡ Less
     before = subst (λ k. name_cmp (entry_name f) k ≡ Less) (at.named f)
-        (each_get (λ g. name_cmp (entry_name f) (entry_name g) ≡ Less) fs i f (omega (arith, at.within)) (each-unmap (λ g. name_cmp (entry_name f) g.name ≡ Less) field_of fs (each-unmap (λ k. name_cmp (entry_name f) k ≡ Less) (λ g. g.name) (map field_of fs) s.0)))
+        (each_get (λ g. name_cmp (entry_name f) (entry_name g) ≡ Less) fs i f (omega (arith, at.within)) (each-unmap (λ k. name_cmp (entry_name f) k ≡ Less) (λ e. e.0) fs s.0))
 
     first : plus n (only_on name part (entry_name f)) ≡ n
     first = ap (λ b. plus n (if b then part else nothing)) (other_name (entry_name f) name (not_less _ before)).0 ∙ plus-nothing n
@@ -188,9 +183,10 @@ pub order-step : (os : List (ℕ × OrderEntry)) (i : ℕ) (o : ℕ × OrderEntr
 order-step os i o h e f = grind (arith, (total-step (moved_by_order f) os i o h e), (total-step (taken_by_order f) os i o h e), (total-step (added_by_order f) os i o h e), same-numbers)
 
 -- the moves' sums, and then the orders', from nothing
-pub added-all : (ms : List MoveEntry) (os : List (ℕ × OrderEntry)) (fs : List (Name × FieldEntry)) → added (numbers_on [] os) fs (added (numbers_on ms []) fs (map (λ f. nothing) fs)) ≡ map (λ f. numbers_on ms os (entry_name f)) fs
-added-all ms os fs = added-twice (numbers_on ms []) (numbers_on [] os) (numbers_on ms os) (λ f. same-numbers _ _ (omega (arith, ints)) (omega (arith, ints)) (omega (arith, ints))) fs (map (λ f. nothing) fs) ∙ added-to_nothing (numbers_on ms os) fs
+pub added-all : (ms : List MoveEntry) (os : List (ℕ × OrderEntry)) (fs : List (Name × FieldEntry)) → added (numbers_on [] os) fs (added (numbers_on ms []) fs (replicate (length fs) nothing)) ≡ map (λ f. numbers_on ms os (entry_name f)) fs
+added-all ms os fs = added-twice (numbers_on ms []) (numbers_on [] os) (numbers_on ms os) (λ f. same-numbers _ _ (omega (arith, ints)) (omega (arith, ints)) (omega (arith, ints))) fs (replicate (length fs) nothing) ∙ added-to_nothing (numbers_on ms os) fs
 
 -- nothing is small
-pub small-nothing : (fs : List (Name × FieldEntry)) (ns : List Numbers) → ns ≡ map (λ f. nothing) fs → Each (IsSmall 0) ns
-small-nothing fs ns e = grind (arith, each, each-map)
+pub small-nothing : (n : ℕ) → Each (IsSmall 0) (replicate n nothing)
+small-nothing zero = tt
+small-nothing (suc n) = let more = small-nothing n in grind arith

@@ -5,7 +5,7 @@ use Rattle.book.specs.Future.{Settles}
 use Rattle.book.proofs.Sums.{each, each-imp, each-map, total-eq, total-sum, total-zero}
 use Rattle.book.proofs.Futures.{Fine, Fit, fit-accept, fit_from_good, less_is, name_is}
 use Rattle.book.proofs.Lists.{each-unmap}
-use Rattle.book.proofs.NewAmounts.{not_before_itself}
+use Rattle.book.proofs.Safety.{not_before_itself}
 
 -- what is moved on one field, over the article's fields
 one_part : List ℕ → Name → ℤ → Field → ℤ
@@ -112,8 +112,7 @@ numbered n [] o e = absurd (true≢false (sym (ap is_some e)))
 numbered n (m ∷ ms) o e = step (m.number == n) refl e (λ k. numbered n ms o k)
   where
     step : (b : Bool) → (m.number == n) ≡ b → (if b then Some m else find (λ o. o.number == n) ms) ≡ Some o → (find (λ o. o.number == n) ms ≡ Some o → (o.number == n) ≡ true) → (o.number == n) ≡ true
-    step true t e more = subst (λ (x : Order). (x.number == n) ≡ true) (some_is m o e) t
-    step false t e more = more e
+    step b t e more = grind arith
 
 -- ---- a transfer changes, and is one before and after
 
@@ -141,8 +140,7 @@ module _ (A : Ledger) (good : Good A) (n : ℕ) (h : Order → Order) (kept : Li
       omega (arith, ints)
     where
       at : (f : Field) (b : Bool) → (if b then settled after f else pos 0) +ℤ (if b then settled_part f.name o else pos 0) ≡ (if b then settled A f else pos 0) +ℤ (if b then settled_part f.name (h o) else pos 0)
-      at f true = settled_so o found f
-      at f false = refl
+      at f b = grind (arith, settled_so)
 
   pub stays : Fit after → ((o : Order) → is_transfer (h o) ≡ is_transfer o) → ((o : Order) → AreThere A o.lines → AreThere A (h o).lines)
       → IsSomeAnd (order_numbered A n) (λ o. IsTrue (is_transfer o)) → article_total after article ≡ article_total A article
@@ -159,11 +157,7 @@ module _ (A : Ledger) (good : Good A) (n : ℕ) (h : Order → Order) (kept : Li
 -- ---- by the commands that settle what it uses
 
 used_there : (A : Ledger) (t : Bool) (f : Name) (q : ℕ) (ls : List Line) → AreThere A ls → AreThere A (map (λ l. if t || on f l then raise_used q l else l) ls)
-used_there A t f q ls there = each-map (λ l. IsSome (field_named A (line_name l))) (λ l. if t || on f l then raise_used q l else l) ls (each-imp (λ l x. by (t || on f l) l x) ls there)
-  where
-    by : (b : Bool) (l : Line) → IsSome (field_named A (line_name l)) → IsSome (field_named A (line_name (if b then raise_used q l else l)))
-    by true l x = x
-    by false l x = x
+used_there A t f q ls there = grind (arith, each-map, each-imp)
 
 total_stays : (A : Ledger) (key : List ℕ) (c : Command) (n : ℕ) (article : List ℕ) → Good A → Settles c n → FirstFailure (checks A c) None → IsSomeAnd (order_numbered A n) (λ o. IsTrue (is_transfer o))
     → article_total (accept A (record { key = key; command = c })) article ≡ article_total A article

@@ -29,7 +29,7 @@ MayChange (Release q) l = l.used + q ≤ l.held
 
 abbrev pub changed_order : OrderChange → Order → Order
 changed_order (HoldMore l) o = add_hold l o
-changed_order (ChangeLines b a change) o = change_lines (name_of b a) (changed_line change) o
+changed_order (ChangeLines f change) o = change_lines f (changed_line change) o
 changed_order (End state) o = set_state state o
 changed_order MakeFirm o = set_firm o
 
@@ -44,16 +44,16 @@ abbrev pub MayChangeOrder : OrderChange → OrderEntry → Type 0
 MayChangeOrder (HoldMore l) o =
     MatchOption (find (on (line_name (new_line l))) o.lines.items) (vec_len o.lines < vec_capacity o.lines)
     (λ found. Each (λ m. on (line_name (new_line l)) m ≡ true → MayChange (Hold l.qty) m) o.lines.items)
-MayChangeOrder (ChangeLines b a change) o =
-    Each (λ l. (transfer_kind o.kind || on (name_of b a) l) ≡ true → MayChange change l) o.lines.items
+MayChangeOrder (ChangeLines f change) o =
+    Each (λ l. (transfer_kind o.kind || on f l) ≡ true → MayChange change l) o.lines.items
 MayChangeOrder (End state) o = Unit {0}
 MayChangeOrder MakeFirm o = Unit {0}
 
 -- the order that a command changes, and how; none for a command that changes no one order
 abbrev pub order_change_of : Command → Option (ℕ × OrderChange)
 order_change_of (command.More n way b a q) = Some (n, HoldMore (record { way = way; branch = b; article = a; qty = q }))
-order_change_of (command.Use n b a q) = Some (n, ChangeLines b a (Use q))
-order_change_of (command.Release n b a q) = Some (n, ChangeLines b a (Release q))
+order_change_of (command.Use n b a q) = Some (n, ChangeLines (name_of b a) (Use q))
+order_change_of (command.Release n b a q) = Some (n, ChangeLines (name_of b a) (Release q))
 order_change_of (command.Commit n) = Some (n, End Committed)
 order_change_of (command.Abort n) = Some (n, End Aborted)
 order_change_of (command.Firm n) = Some (n, MakeFirm)

@@ -3,6 +3,7 @@ use Rattle.std.specs.Prelude.{ℕ, ◌+◌, ◌+ℤ◌, ◌-ℤ◌, ◌≤◌, �
 use Rattle.std.specs.Ordering.{nat_cmp}
 use Rattle.std.specs.Cmp.Lexicographic.{slice_cmp}
 use Rattle.std.specs.List.Sorted.{IsStrictlySortedBy}
+use Rattle.std.specs.Map.{keys_of}
 use Rattle.std.specs.List.{AllByRecursion as Each, AllZip, IsDistinct}
 use Rattle.escrow.specs.Codes.{IsArticle, IsBranch, IsKey}
 use Rattle.escrow.specs.Ranges.{IsLevel, IsMoment, IsOrderNo, IsQty}
@@ -26,7 +27,7 @@ use Rattle.book.specs.declared.rows.MoveRow.{MoveRow}
 use Rattle.book.specs.declared.rows.OrderRow.{OrderRow}
 use Rattle.book.specs.Good.{Good, IsGoodField, IsGoodKept, IsTransferPair}
 use Rattle.book.specs.Ledger.{Field, Ledger, Move, Name, Order, is_transfer, line_name, name_cmp, open_orders, places, same_name}
-use Rattle.book.specs.Rows.{Content, FieldCells, FirmCells, LineCells, OrderCells, desk_row, firm_row, firm_rows, kind_code, kept_row, move_row, order_lines, order_row, state_code, way_code}
+use Rattle.book.specs.Rows.{Content, DeskCells, FieldCells, FirmCells, LineCells, OrderCells, desk_row, firm_row, firm_rows, kind_code, kept_row, move_row, order_lines, order_row, state_code, way_code}
 use Rattle.book.specs.RunningNumbers.{IsUpToDate}
 use Rattle.book.specs.Tables.{kept_cells, line_cells, move_cells, order_cells}
 use Rattle.book.specs.Model.{field_of, kept_of, move_of, order_of}
@@ -137,6 +138,10 @@ pub record TellOrders (orders : List Order) (heads : List Head) (lines : List Li
 
 -- ---- ledgers from tables
 
+-- the row of a desk with that clock and so many places
+abbrev pub desk_of : ℕ → ℕ → DeskCells
+desk_of clock places = record { one = pos 1; version = pos 2; clock = pos clock; places = pos places }
+
 abbrev pub told_ledger : Entries → Ledger
 told_ledger e = record {
   clock = e.clock;
@@ -181,25 +186,25 @@ pub record IsOrderByItself (o : Order) : Type 0 where
   pub firm : IsTrue o.firm → o.state ≢ Aborted
 
 -- each list is in the order of its keys
-pub record AreInOrder (A : Ledger) : Type 0 where
-  pub fields : IsStrictlySortedBy name_cmp (map (λ f. f.name) A.fields)
-  pub moves : IsStrictlySortedBy nat_cmp (map (λ m. m.place) A.moves)
-  pub orders : IsStrictlySortedBy nat_cmp (map (λ o. o.number) A.orders)
-  pub kept : IsStrictlySortedBy (slice_cmp nat_cmp) (map (λ k. k.key) A.kept)
+pub record AreInOrder (e : Entries) : Type 0 where
+  pub fields : IsStrictlySortedBy name_cmp (keys_of e.fields.items)
+  pub moves : IsStrictlySortedBy nat_cmp (map (λ m. m.place) (map move_of e.moves.items))
+  pub orders : IsStrictlySortedBy nat_cmp (keys_of e.orders.items)
+  pub kept : IsStrictlySortedBy (slice_cmp nat_cmp) (keys_of e.kept.items)
 
 pub record IsWithinLimits (A : Ledger) : Type 0 where
   pub fields : length A.fields ≤ MAX_FIELDS
   pub orders : length A.orders ≤ MAX_ORDERS
   pub places : places A + open_orders A ≤ MAX_PLACES
 
--- all that makes a ledger good but its form, that the fields are there, and that each is safe
-pub record IsWhole (A : Ledger) : Type 0 where
-  pub in_order : AreInOrder A
-  pub limits : IsWithinLimits A
-  pub moves : Each (IsMoveByItself (places A)) A.moves
-  pub orders : Each IsOrderByItself A.orders
-  pub places_in_range : Each (λ k. (1 ≤ k.place) × (k.place ≤ places A)) A.kept
-  pub places_apart : IsDistinct nat_eq (map (λ k. k.place) A.kept)
+-- all that makes what was told a good ledger but its form, that the fields are there, and that each is safe
+pub record IsWhole (e : Entries) : Type 0 where
+  pub in_order : AreInOrder e
+  pub limits : IsWithinLimits (told_ledger e)
+  pub moves : Each (IsMoveByItself (places (told_ledger e))) (told_ledger e).moves
+  pub orders : Each IsOrderByItself (told_ledger e).orders
+  pub places_in_range : Each (λ k. (1 ≤ k.place) × (k.place ≤ places (told_ledger e))) (told_ledger e).kept
+  pub places_apart : IsDistinct nat_eq (map (λ k. k.place) (told_ledger e).kept)
 
 -- the entry has the value that these numbers give it, and they are what it holds
 pub record HasNumbers (n : Numbers) (e : FieldEntry) : Type 0 where

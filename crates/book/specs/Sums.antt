@@ -1,7 +1,11 @@
 -- What all moves and orders add up to on each of the fields.
-use Rattle.std.specs.Prelude.{◌≡◌, ℕ, ◌<◌, Bool, pos, ◌+ℤ◌, List, [], ◌∷◌, length, map, Option, find, if◌then◌else◌, IsSome}
+use Rattle.std.specs.Prelude.{◌≡◌, ℕ, ◌<◌, ◌≤◌, Bool, nat_abs, pos, ◌+ℤ◌, List, [], ◌∷◌, length, map, Option, find, if◌then◌else◌, IsSome}
 use Rattle.std.specs.List.{AllByRecursion as Each, HoldsAt}
 use Rattle.std.specs.List.Sorted.{IsStrictlySortedBy}
+use Rattle.std.specs.Map.{keys_of}
+use Rattle.escrow.specs.Ranges.{IsQty}
+use Rattle.words.specs.declared.limits.TheConstants.{MAX_ORDER_LINES}
+use Rattle.book.specs.declared.limits.TheConstants.{MAX_ORDERS, MAX_PLACES}
 use Rattle.book.specs.declared.book.tables.sums.Numbers.{Numbers}
 use Rattle.book.specs.declared.book.FieldEntry.{FieldEntry}
 use Rattle.book.specs.declared.book.MoveEntry.{MoveEntry}
@@ -12,7 +16,7 @@ use Rattle.book.specs.Ledger.{Field, Name, line_name, name_cmp, open_state, same
 use Rattle.book.specs.Outcomes.{signed, total}
 use Rattle.book.specs.Held.{if_add, if_take}
 use Rattle.book.specs.Model.{field_of, move_of}
-use Rattle.book.specs.Walk.{added_by_line, added_by_order, moved_by_line, moved_by_move, moved_by_order, nothing, plus, taken_by_line, taken_by_order}
+use Rattle.book.specs.Walk.{added_by_line, added_by_order, moved_by_line, moved_by_move, moved_by_order, nothing, IsSmall, plus, taken_by_line, taken_by_order}
 
 -- what the moves and the orders add up to on the field
 abbrev pub numbers_on : List MoveEntry → List (ℕ × OrderEntry) → Name → Numbers
@@ -30,7 +34,7 @@ entry_name e = (field_of e).name
 
 -- the fields stand in the order of their names
 abbrev pub AreFieldsInOrder : List (Name × FieldEntry) → Type 0
-AreFieldsInOrder fs = IsStrictlySortedBy name_cmp (map (λ f. f.name) (map field_of fs))
+AreFieldsInOrder fs = IsStrictlySortedBy name_cmp (keys_of fs)
 
 -- the field of that name
 abbrev pub field_among : List (Name × FieldEntry) → Name → Option Field
@@ -60,6 +64,24 @@ AreOrdersOnFields fs os = Each (λ o. AreLinesOnFields fs o.1.lines.items) os
 -- each move, and each line of each order, is on a field
 abbrev pub AreOnFields : List (Name × FieldEntry) → List MoveEntry → List (ℕ × OrderEntry) → Type 0
 AreOnFields fs ms os = AreMovesOnFields fs ms × AreOrdersOnFields fs os
+
+-- ---- how much there may be
+
+-- so many moves, of such amounts, as there can be
+pub record AreFewMoves (ms : List MoveEntry) : Type 0 where
+  pub few : length ms ≤ MAX_PLACES
+  pub amounts : Each (λ m. IsQty (nat_abs m.amount)) ms
+
+-- so many orders, of so many lines, as there can be
+pub record AreFewOrders (os : List (ℕ × OrderEntry)) : Type 0 where
+  pub few : length os ≤ MAX_ORDERS
+  pub short : Each (λ o. length o.1.lines.items ≤ MAX_ORDER_LINES) os
+
+-- each of the fields, in their order, has its sum, and each sum is at most so much
+pub record AreSums (most : ℕ) (fs : List (Name × FieldEntry)) (ns : List Numbers) : Type 0 where
+  pub sorted : AreFieldsInOrder fs
+  pub long : length ns ≡ length fs
+  pub room : Each (IsSmall most) ns
 
 -- ---- numbers added to numbers
 

@@ -3,13 +3,12 @@
 ghost use Rattle.book.specs.After.{move_made, open_among};
 ghost use Rattle.book.specs.Future.{Honours, HonoursAlways, Settles};
 ghost use Rattle.book.specs.Good.{Good};
-ghost use Rattle.book.specs.Ledger.{new_ledger, field_named, kept_under, name_of, order_numbered, Ledger, is_transfer, open_state, places, insert_in_order, open_orders};
+ghost use Rattle.book.specs.Ledger.{new_ledger, field_named, kept_under, order_numbered, Ledger, is_transfer, open_state, places, insert_in_order, open_orders};
 ghost use Rattle.book.specs.Next.{accept, next};
 ghost use Rattle.book.specs.Outcomes.{article_total};
 ghost use Rattle.book.specs.Plans.{Fits, HasRoomFor, RoomStays, Leaves};
 ghost use Rattle.book.specs.RunningNumbers.{IsUpToDate, with_entries};
 ghost use Rattle.book.specs.Model.{field_of, kept_of, order_of, move_of};
-ghost use Rattle.std.specs.BTreeMap.{insert_entry};
 ghost use Rattle.std.specs.Cmp.Lexicographic.{slice_cmp};
 ghost use Rattle.std.specs.Ordering.{nat_cmp, is_lt};
 ghost use Rattle.std.specs.Prelude.{◌≡◌, IfSome, MatchOption, find, OnErr, OnOk, ◌<◌, ◌≤◌, ◌+◌, None, ℕ, List, IsSomeAnd, IsTrue, if◌then◌else◌, length, map, option_map};
@@ -43,6 +42,9 @@ pub struct FieldEntry {
     pub start: Level,
     pub quantity: Quantity,
 }
+
+/// A field under its name.
+pub type Field = (FieldName, FieldEntry);
 
 /// A delivery (above 0) or a write-off (below 0), with the place of its command.
 #[derive(Debug, Drop)]
@@ -98,17 +100,15 @@ impl Book {
             kept: InOrder::new(alloc),
         }
     }
-}
 
-impl Book {
     /// The field of that name.
-    fn field_entry(&self, branch: Branch, article: Article) -> Option<&FieldEntry>
+    fn field_entry(&self, name: &FieldName) -> Option<&FieldEntry>
         ensures good { Good self.now.ledger }
-        ensures found { let found = field_named self.now.ledger (name_of branch article) in MatchOption result
-            (found ≡ None) (λ entry. found ≡ Some (field_of (name_of branch article, entry.now))) }
-        ensures up_to_date { IfSome result (λ entry. IsUpToDate self.now.ledger (name_of branch article, entry.now)) }
+        ensures found { let found = field_named self.now.ledger name.now in MatchOption result (found ≡ None)
+            (λ entry. found ≡ Some (field_of (name.now, entry.now))) }
+        ensures up_to_date { IfSome result (λ entry. IsUpToDate self.now.ledger (name.now, entry.now)) }
     {
-        self.fields.get(&FieldName { branch, article })
+        self.fields.get(name)
     }
 
     /// The order of that number.
@@ -126,9 +126,7 @@ impl Book {
     {
         self.kept.get(&key)
     }
-}
 
-impl Book {
     /// Makes room for the plan: for the fields that it changes, and an entry more of each other kind. Room made before
     /// stays, and the ledger is as it was, also after a refusal. Memory is wanted only where there was no room for the
     /// plan.
@@ -139,15 +137,9 @@ impl Book {
         ensures room_stays { RoomStays self.old self.new }
         ensures memory { OnErr result (HasRoomFor self.old plan.now → ⊥) }
     {
-        let Ok(()) = self.fields.reserve(plan.field_count()) else {
-            return Err(Memory);
-        };
-        let Ok(()) = self.moves.reserve(1) else {
-            return Err(Memory);
-        };
-        let Ok(()) = self.orders.reserve(1) else {
-            return Err(Memory);
-        };
+        self.fields.reserve(plan.field_count()).map_err(|_| Memory)?;
+        self.moves.reserve(1).map_err(|_| Memory)?;
+        self.orders.reserve(1).map_err(|_| Memory)?;
         self.kept.reserve(1).map_err(|_| Memory)
     }
 }
@@ -181,22 +173,11 @@ fn adopt_move(moves: &mut Vec<MoveEntry>, moved: Option<MoveEntry>)
     ensures { (A : Ledger) (c : Command) → map move_of moves.old.items ≡ A.moves
         → option_map move_of moved ≡ move_made (places A + 1) c → map move_of moves.new.items ≡ (next A c).moves }
 {
-    let Some(entry) = moved else {
-        return;
-    };
-    match moves.push(entry) {
-        Ok(()) => {}
-        Err(_) => unreachable!(),
+    if let Some(entry) = moved {
+        let Ok(()) = moves.push(entry) else {
+            unreachable!()
+        };
     }
-}
-
-/// Puts the order in by its number.
-fn put_order(orders: &mut InOrder<OrderNo, OrderEntry>, order: Order)
-    requires { 1 ≤ orders.old.room }
-    ensures { orders.new.entries ≡ insert_entry nat_cmp orders.old.entries order.0 order.1 }
-{
-    let (number, entry) = order;
-    orders.put(number, entry);
 }
 
 /// Puts the order in that the command makes, or else aborts those that expire.
@@ -206,7 +187,7 @@ fn adopt_orders(orders: &mut InOrder<OrderNo, OrderEntry>, made: Option<Order>, 
         → map order_of orders.old.entries ≡ A.orders → map order_of orders.new.entries ≡ (next A c).orders }
 {
     match made {
-        Some(order) => put_order(orders, order),
+        Some(order) => orders.put(order.0, order.1),
         None => abort_all(orders, expired),
     }
 }

@@ -1,10 +1,10 @@
 //! Orders, which hold amounts on fields until they end.
 
 ghost use Rattle.std.specs.Prelude.{◌≡◌, MatchOption, find};
-ghost use Rattle.book.specs.Ledger.{name_of, on};
+ghost use Rattle.book.specs.Ledger.{on};
 ghost use Rattle.book.specs.RunningNumbers.{share_of};
 
-use escrow::{Article, Branch, Level, Moment, OrderNo, Way};
+use escrow::{Article, Branch, FieldName, Level, Moment, OrderNo, Way};
 
 /// What kind of order it is.
 #[derive(Clone, Copy, Debug, PartialEq, Eq)]
@@ -67,6 +67,12 @@ pub struct Share {
     pub held: u64,
 }
 
+/// What no line counts for.
+pub(crate) const NO_SHARE: Share = Share {
+    settled: 0,
+    held: 0,
+};
+
 /// The share of a line whose order has the state, and is firm or not.
 pub(crate) fn share_of(line: &Line, state: State, firm: bool) -> Share
     ensures { result ≡ share_of state firm line.now }
@@ -82,10 +88,7 @@ pub(crate) fn share_of(line: &Line, state: State, firm: bool) -> Share
             settled: used,
             held: 0,
         },
-        State::Aborted => Share {
-            settled: 0,
-            held: 0,
-        },
+        State::Aborted => NO_SHARE,
     }
 }
 
@@ -93,21 +96,16 @@ pub(crate) fn share_of(line: &Line, state: State, firm: bool) -> Share
 pub type Order = (OrderNo, OrderEntry);
 
 /// The first line on that field.
-pub(crate) fn line_in(lines: &[Line], branch: Branch, article: Article) -> Option<&Line>
-    ensures { let found = find (on (name_of branch article)) lines.now in MatchOption result (found ≡ None)
+pub(crate) fn line_in<'a>(lines: &'a [Line], name: &FieldName) -> Option<&'a Line>
+    ensures { let found = find (on name.now) lines.now in MatchOption result (found ≡ None)
         (λ line. found ≡ Some line.now) }
 {
-    for line in lines {
-        if is_on(line, branch, article) {
-            return Some(line);
-        }
-    }
-    None
+    lines.iter().find(|line| is_on(line, name))
 }
 
 /// Whether the line is on that field.
-pub(crate) fn is_on(line: &Line, branch: Branch, article: Article) -> bool
-    ensures { result ≡ on (name_of branch article) line.now }
+pub(crate) fn is_on(line: &Line, name: &FieldName) -> bool
+    ensures { result ≡ on name.now line.now }
 {
-    branch == line.branch && article == line.article
+    name.branch == line.branch && name.article == line.article
 }

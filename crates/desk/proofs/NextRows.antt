@@ -12,8 +12,8 @@ use Rattle.book.specs.Tables.{rows_among}
 use Rattle.book.specs.declared.rows.Change.{Change}
 use Rattle.keep.specs.Transactions.{with_changes}
 use Rattle.book.proofs.Goodness.{good_accept}
-use Rattle.book.proofs.InOrder.{a_content}
-use Rattle.book.proofs.Once.{no_key}
+use Rattle.book.proofs.EqualRows.{a_content}
+use Rattle.book.proofs.Runs.{no_key}
 use Rattle.desk.specs.Desk.{IsStored, LeavesEither}
 
 -- the ledger after the plan is good

@@ -7,7 +7,7 @@ use Rattle.book.specs.Ledger.{Field, Ledger, Name, Order, field_named, order_num
 use Rattle.book.specs.Views.{ShowsField}
 use Rattle.book.specs.declared.book.views.FieldView.{FieldView}
 use Rattle.book.proofs.Bounds.{inf_unique, sup_unique}
-use Rattle.book.proofs.Once.{answered_once}
+use Rattle.book.proofs.Runs.{answered_once}
 use Rattle.desk.specs.Replies.{AnswersField, field_line, none_line, order_line, request_line}
 use Rattle.desk.specs.Text.{AreItems, IsText, Replies, RepliesAll, unended}
 

@@ -12,8 +12,7 @@ use Rattle.book.specs.Answers.{After, Answers, Runs}
 use Rattle.book.specs.Good.{Good}
 use Rattle.book.specs.Ledger.{Ledger}
 use Rattle.book.specs.Rows.{Content, IsRowsOf}
-use Rattle.book.proofs.Once.{answered_once}
-use Rattle.book.proofs.Runs.{runs_once, runs_stay_good}
+use Rattle.book.proofs.Runs.{answered_once, runs_once, runs_stay_good}
 use Rattle.book.proofs.EqualRows.{told_by_rows}
 use Rattle.desk.specs.Desk.{LeavesEither}
 use Rattle.desk.specs.Resuming.{LeavesResumable, Resumes, ResumesAgain, StandsAt}

@@ -20,7 +20,7 @@ use Rattle.book.specs.Outcomes.{settled}
 use Rattle.book.proofs.Bounds.{inf_is, sup_is}
 use Rattle.book.proofs.Futures.{sounds_from_good}
 use Rattle.book.proofs.Goodness.{good_answer}
-use Rattle.book.proofs.Total.{answered_if_good}
+use Rattle.book.proofs.Runs.{answered_if_good}
 use Rattle.book.proofs.ShownNumbers.{Contains-of_find, levels_of}
 use Rattle.desk.specs.Replies.{AnswersField, bad_line, field_line, none_line, order_line, request_line}
 use Rattle.desk.specs.Text.{AreItems, IsText, Replies, RepliesAll, unended}

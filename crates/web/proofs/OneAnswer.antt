@@ -1,7 +1,7 @@
 -- A part has one answer under its mark.
 use Rattle.std.proofs.Common.{◌≡◌, ◌∙◌, Bool, true, false, ℕ, List, [], ◌∷◌, Option, Some, None, MatchOption, MatchBool, ap, refl, subst, sym}
 use Rattle.std.specs.Str.{bytes_eq}
-use Rattle.book.proofs.Once.{answered_once}
+use Rattle.book.proofs.Runs.{answered_once}
 use Rattle.book.specs.Ledger.{Field, Ledger, Order, field_named, name_of, order_numbered}
 use Rattle.book.specs.declared.book.views.FieldView.{FieldView}
 use Rattle.web.specs.Answers.{Answer, answers_bytes, json_answer, none_answer, reply_answer, text_answer}

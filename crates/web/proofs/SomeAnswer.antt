@@ -3,7 +3,7 @@ use Rattle.std.proofs.Common.{◌≡◌, Bool, true, false, ℕ, List, [], ◌�
 use Rattle.std.specs.List.{AllByRecursion as Each}
 use Rattle.std.specs.Str.{bytes_eq}
 use Rattle.book.proofs.Goodness.{good_answer}
-use Rattle.book.proofs.Total.{answered_if_good}
+use Rattle.book.proofs.Runs.{answered_if_good}
 use Rattle.book.proofs.ShownNumbers.{Contains-of_find}
 use Rattle.book.specs.Good.{Good}
 use Rattle.book.specs.Ledger.{Field, Ledger, Order, field_named, name_of, order_numbered, same_name}

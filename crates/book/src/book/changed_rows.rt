@@ -1,6 +1,6 @@
 //! The rows that an accepted request changes.
 
-ghost use Rattle.std.specs.Prelude.{◌≡◌, ◌≤◌, pos, string_bytes, IfOk, IfSome, ◌∷◌, ◌++◌, [], flat_map, length, map, option_map, OnOk, Some};
+ghost use Rattle.std.specs.Prelude.{◌≡◌, ◌≤◌, pos, string_bytes, IfOk, IfSome, ◌∷◌, ◌++◌, [], flat_map, map, option_map, OnOk};
 ghost use Rattle.std.specs.Str.{IsUtf8};
 ghost use Rattle.words.specs.declared.limits.TheConstants.{MAX_ORDER_LINES};
 ghost use Rattle.book.specs.Ledger.{is_transfer};
@@ -9,7 +9,7 @@ ghost use Rattle.book.specs.Rows.{kept_row, kind_code, line_row, move_row, order
 ghost use Rattle.book.specs.RunningNumbers.{Accepts, entry_row};
 ghost use Rattle.book.specs.Tables.{desk_cells, field_cells, kept_cells, line_cells, move_cells, order_cells, rows_among};
 ghost use Rattle.book.specs.Model.{move_of, order_of};
-ghost use Rattle.book.specs.After.{aborted_rows, changes_own_line, line_rows, move_rows, of_numbered, order_after, own_firm_rows, own_line_rows, own_order_rows, with_fields, with_firms, with_kept, with_lines, with_moves, with_orders, IsShort};
+ghost use Rattle.book.specs.After.{aborted_rows, changes_own_line, line_rows, move_rows, of_numbered, own_firm_rows, own_line_rows, own_order_rows, with_fields, with_firms, with_kept, with_lines, with_moves, with_orders, IsShort};
 ghost use Rattle.book.specs.Plans.{ChangesTo, Makes};
 
 use super::made::{changes_line, changes_state, is_transfer};
@@ -229,23 +229,6 @@ fn push_line(
     Ok(())
 }
 
-/// Appends the rows of the order's lines that are new or whose amounts change.
-fn push_lines(
-    alloc: Global,
-    changes: &mut Vec<Change>,
-    command: &Command,
-    order: &Order,
-) -> Result<(), Memory>
-    requires { length order.now.1.lines.items ≤ MAX_ORDER_LINES }
-    ensures { OnOk result (rows_among changes.new.items ≡ with_lines (own_line_rows command.now
-        (Some (order_of order.now))) (rows_among changes.old.items)) }
-{
-    for (index, line) in order.1.lines.iter().enumerate() {
-        push_line(alloc, changes, command, order, index + 1, line)?;
-    }
-    Ok(())
-}
-
 /// Appends the rows of the lines that are new or whose amounts change of the order that the command makes, if it
 /// makes one.
 fn push_own_lines(
@@ -258,10 +241,13 @@ fn push_own_lines(
     ensures { OnOk result (rows_among changes.new.items ≡ with_lines (own_line_rows command.now
         (option_map order_of made.now)) (rows_among changes.old.items)) }
 {
-    match made {
-        Some(order) => push_lines(alloc, changes, command, order),
-        None => Ok(()),
+    let Some(order) = made else {
+        return Ok(());
+    };
+    for (index, line) in order.1.lines.iter().enumerate() {
+        push_line(alloc, changes, command, order, index + 1, line)?;
     }
+    Ok(())
 }
 
 /// Appends the row of the move, if there is one.

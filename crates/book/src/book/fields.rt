@@ -1,40 +1,26 @@
 //! The fields that an accepted command makes or changes, as they are then.
 
-ghost use Rattle.std.specs.Prelude.{◌≡◌, ℕ, ◌∷◌, ◌++◌, [], List, Some, IsSome, IfOk, OnOk, false, find, flat_map, map, option_map, true, ◌-◌, ◌<◌, ◌≤◌};
+ghost use Rattle.std.specs.Prelude.{◌≡◌, ℕ, ◌∷◌, ◌++◌, [], List, Some, IsSome, IfOk, OnOk, false, find, flat_map, map, option_map, true};
 ghost use Rattle.std.specs.BTreeMap.{insert_entry};
 ghost use Rattle.std.specs.List.{AllByRecursion as Each};
 ghost use Rattle.std.specs.List.Sorted.{IsStrictlySortedBy};
 ghost use Rattle.std.specs.Map.{keys_of};
 ghost use Rattle.book.specs.After.{expired_numbers, field_rows, of_numbered, order_after};
 ghost use Rattle.book.specs.Changes.{changes_field};
-ghost use Rattle.book.specs.Ledger.{field_named, line_name, name_cmp, on, order_numbered, name_of};
+ghost use Rattle.book.specs.Ledger.{field_named, line_name, name_cmp, on, order_numbered};
 ghost use Rattle.book.specs.RunningNumbers.{Accepts, GivenBack, GivesBack, HasLines, MayGiveBack, MovesField, Puts, entry_row, share_numbers, share_on, Becomes, MayBecome};
 ghost use Rattle.book.specs.Model.{order_of};
 ghost use Rattle.book.specs.declared.order.Line.{Line};
 ghost use Rattle.words.specs.declared.command.Command.TheVariants.{Rebound};
 ghost use Rattle.words.specs.declared.command.Request.{Request};
-ghost use Rattle.escrow.specs.Choices.{IsSafe};
-ghost use Rattle.escrow.specs.Escrow.{held_of, holding, IsSafeMoved, MovesValue};
-ghost use Rattle.escrow.specs.Ranges.{IsQty};
 
 use super::plan::moved_at_once;
 use super::{Book, FieldEntry};
 use crate::in_order::InOrder;
-use crate::order::{Line, Order, OrderEntry, Share, line_in, share_of};
-use escrow::{Article, Branch, FieldName, Level, OrderNo, Qty, Quantity, Way};
+use crate::order::{Line, NO_SHARE, Order, OrderEntry, Share, line_in, share_of};
+use escrow::{FieldName, Level, OrderNo, Qty, Quantity, Way};
 use std::alloc::Global;
 use words::{Command, Memory, Request};
-
-/// A delivery, or a write-off.
-fn move_value(quantity: &mut Quantity, way: Way, qty: Qty)
-    requires { IsSafeMoved quantity.old way qty }
-    ensures { MovesValue quantity.old way qty quantity.new }
-{
-    match quantity.at_once(way, qty) {
-        Ok(()) => {}
-        Err(_) => unreachable!(),
-    }
-}
 
 /// What a line counts for changes from the one to the other.
 fn change_stock(quantity: &mut Quantity, way: Way, before: Share, after: Share)
@@ -54,17 +40,11 @@ fn change_stock(quantity: &mut Quantity, way: Way, before: Share, after: Share)
     }
 }
 
-/// What no line counts for.
-const NO_SHARE: Share = Share {
-    settled: 0,
-    held: 0,
-};
-
 /// What the order's line on that field counts for, if there is one.
-fn share_in(order: &OrderEntry, branch: Branch, article: Article) -> Share
-    ensures { (n : ℕ) → result ≡ share_on (Some (order_of (n, order.now))) (name_of branch article) }
+fn share_in(order: &OrderEntry, name: &FieldName) -> Share
+    ensures { (n : ℕ) → result ≡ share_on (Some (order_of (n, order.now))) name.now }
 {
-    match line_in(&order.lines, branch, article) {
+    match line_in(&order.lines, name) {
         Some(line) => share_of(line, order.state, order.firm),
         None => NO_SHARE,
     }
@@ -83,23 +63,13 @@ fn put(fields: &mut Fields, name: FieldName, entry: FieldEntry) -> Result<(), Me
     Ok(())
 }
 
-/// The field of the line.
-fn name_of(line: &Line) -> FieldName
-    ensures { result ≡ line_name line.now }
-{
-    FieldName {
-        branch: line.branch,
-        article: line.article,
-    }
-}
-
 impl Book {
     /// What the line on that field of the order of that number counts for so far.
-    fn share_before(&self, number: OrderNo, line: &Line) -> Share
-        ensures { result ≡ share_on (order_numbered self.now.ledger number) (line_name line.now) }
+    fn share_before(&self, number: OrderNo, name: &FieldName) -> Share
+        ensures { result ≡ share_on (order_numbered self.now.ledger number) name.now }
     {
         match self.order_entry(number) {
-            Some(order) => share_in(order, line.branch, line.article),
+            Some(order) => share_in(order, name),
             None => NO_SHARE,
         }
     }
@@ -124,14 +94,16 @@ impl Book {
         if !self.changes_field(request, order, line) {
             return Ok(());
         }
-        let before = self.share_before(order.0, line);
+        let (branch, article) = (line.branch, line.article);
+        let name = FieldName { branch, article };
+        let before = self.share_before(order.0, &name);
         let after = share_of(line, order.1.state, order.1.firm);
-        let Some(entry) = self.field_entry(line.branch, line.article) else {
+        let Some(entry) = self.field_entry(&name) else {
             unreachable!()
         };
         let mut entry = *entry;
         change_stock(&mut entry.quantity, line.way, before, after);
-        put(fields, name_of(line), entry)
+        put(fields, name, entry)
     }
 
     /// Puts in the fields of the lines of the order that the request makes, where it changes them.
@@ -151,20 +123,22 @@ impl Book {
     fn put_moved(
         &self,
         fields: &mut Fields,
-        name: FieldName,
+        name: &FieldName,
         way: Way,
         qty: Qty,
     ) -> Result<(), Memory>
-        requires { (r : Request) × MovesField self.now.ledger r name way qty }
-        ensures { OnOk result ((r : Request) → MovesField self.now.ledger r name way qty
-            → Puts self.now.ledger r name fields.old.entries fields.new.entries) }
+        requires { (r : Request) × MovesField self.now.ledger r name.now way qty }
+        ensures { OnOk result ((r : Request) → MovesField self.now.ledger r name.now way qty
+            → Puts self.now.ledger r name.now fields.old.entries fields.new.entries) }
     {
-        let Some(entry) = self.field_entry(name.branch, name.article) else {
+        let Some(entry) = self.field_entry(name) else {
             unreachable!()
         };
         let mut entry = *entry;
-        move_value(&mut entry.quantity, way, qty);
-        put(fields, name, entry)
+        let Ok(()) = entry.quantity.at_once(way, qty) else {
+            unreachable!()
+        };
+        put(fields, *name, entry)
     }
 
     /// Puts in the field that gets other bounds.
@@ -172,22 +146,22 @@ impl Book {
         &self,
         fields: &mut Fields,
         request: &Request,
-        name: FieldName,
+        name: &FieldName,
         lo: Level,
         hi: Level,
     ) -> Result<(), Memory>
         requires accepts { Accepts self.now.ledger request.now }
-        requires command { request.now.command ≡ Rebound name.branch name.article lo hi }
-        ensures { OnOk result (Puts self.now.ledger request.now name fields.old.entries fields.new.entries) }
+        requires command { request.now.command ≡ Rebound name.now.branch name.now.article lo hi }
+        ensures { OnOk result (Puts self.now.ledger request.now name.now fields.old.entries fields.new.entries) }
     {
-        let Some(entry) = self.field_entry(name.branch, name.article) else {
+        let Some(entry) = self.field_entry(name) else {
             unreachable!()
         };
         let mut entry = *entry;
         let Ok(()) = entry.quantity.rebound(lo, hi) else {
             unreachable!()
         };
-        put(fields, name, entry)
+        put(fields, *name, entry)
     }
 
     /// The field of the line, as the lines so far leave it that give back what they hold.
@@ -196,10 +170,12 @@ impl Book {
         ensures { (ls : List Line) → GivesBack self.now.ledger ls fields.now.entries
             → GivenBack self.now.ledger ls (line_name line.now, result) }
     {
-        if let Some(entry) = fields.get(&name_of(line)) {
+        let (branch, article) = (line.branch, line.article);
+        let name = FieldName { branch, article };
+        if let Some(entry) = fields.get(&name) {
             return *entry;
         }
-        match self.field_entry(line.branch, line.article) {
+        match self.field_entry(&name) {
             Some(entry) => *entry,
             None => unreachable!(),
         }
@@ -216,7 +192,8 @@ impl Book {
     {
         let mut entry = self.field_so_far(fields, line);
         entry.quantity.give_back(line.way, line.held.get());
-        put(fields, name_of(line), entry)
+        let (branch, article) = (line.branch, line.article);
+        put(fields, FieldName { branch, article }, entry)
     }
 
     /// Gives back what these lines hold, and puts their fields in.
@@ -280,9 +257,9 @@ impl Book {
             → map entry_row fields.new.entries ≡ field_rows self.now.ledger request.now) }
     {
         if let Some(moved) = moved_at_once(&request.command) {
-            return self.put_moved(fields, moved.0, moved.1, moved.2);
+            return self.put_moved(fields, &moved.0, moved.1, moved.2);
         }
-        match &request.command {
+        match request.command {
             Command::Field {
                 branch,
                 article,
@@ -290,14 +267,10 @@ impl Book {
                 hi,
                 start,
             } => {
-                let start = *start;
-                let Ok(quantity) = Quantity::start(*lo, *hi, start) else {
+                let Ok(quantity) = Quantity::start(lo, hi, start) else {
                     unreachable!()
                 };
-                let name = FieldName {
-                    branch: *branch,
-                    article: *article,
-                };
+                let name = FieldName { branch, article };
                 put(fields, name, FieldEntry { start, quantity })
             }
             Command::Rebound {
@@ -305,13 +278,7 @@ impl Book {
                 article,
                 lo,
                 hi,
-            } => {
-                let name = FieldName {
-                    branch: *branch,
-                    article: *article,
-                };
-                self.put_bounds(fields, request, name, *lo, *hi)
-            }
+            } => self.put_bounds(fields, request, &FieldName { branch, article }, lo, hi),
             Command::Expire { .. } => self.put_expired(fields, expired),
             _ => match made {
                 Some(order) => self.put_lines(fields, request, order),

@@ -5,21 +5,21 @@ ghost use Rattle.book.specs.After.{order_after, changes_own_line, changes_own_st
 ghost use Rattle.book.specs.Changes.{changes_field};
 ghost use Rattle.book.specs.InPlace.{MayChange, MayChangeOrder, changed_line, changed_order, held_lines, order_change_of, abort_all, abort_one};
 ghost use Rattle.book.specs.Ledger.{line_name, name_of, on, is_transfer, order_numbered, same_name, open_state};
-ghost use Rattle.book.specs.Next.{new_line, expires};
+ghost use Rattle.book.specs.Next.{new_line, new_order, expires};
 ghost use Rattle.book.specs.RunningNumbers.{Accepts};
 ghost use Rattle.book.specs.Model.{order_of};
 ghost use Rattle.book.specs.declared.book.made.LineChange.TheVariants as LineChange;
-ghost use Rattle.book.specs.declared.order.State.TheVariants as State;
 ghost use Rattle.escrow.specs.Ranges.{IsLevel};
+ghost use Rattle.words.specs.declared.open_line.OpenLine.{OpenLine};
 ghost use Rattle.std.specs.List.{AllByRecursion as Each, filter};
-ghost use Rattle.std.specs.Prelude.{◌≡◌, ℕ, ◌<◌, ◌||◌, false, true, MatchOption, find, if◌then◌else◌, map, option_map, IfOk, Some, ◌∷◌, ◌++◌, [], ◌&&◌, not, nat_le, OnOk};
+ghost use Rattle.std.specs.Prelude.{◌≡◌, ℕ, ◌<◌, ◌||◌, List, true, MatchOption, find, if◌then◌else◌, map, option_map, IfOk, Some, ◌∷◌, ◌++◌, [], ◌&&◌, not, nat_le, OnOk};
 ghost use Rattle.std.specs.Vec.{vec_capacity, vec_len};
 
 use super::Book;
 use super::plan::lines_of;
 use crate::in_order::InOrder;
 use crate::order::{Kind, Line, Order, OrderEntry, State, is_on, line_in};
-use escrow::{Article, Branch, Level, Moment, OrderNo, Qty};
+use escrow::{Article, Branch, FieldName, Level, Moment, OrderNo, Qty};
 use std::alloc::Global;
 use words::{Command, Memory, OpenLine, Request};
 
@@ -40,7 +40,7 @@ pub enum OrderChange {
     /// Its line on a field holds more; without such a line, it gets one more at the end.
     HoldMore(OpenLine),
     /// Its line on a field changes, on a transfer both lines.
-    ChangeLines(Branch, Article, LineChange),
+    ChangeLines(FieldName, LineChange),
     /// It ends.
     End(State),
     /// It is made firm.
@@ -70,37 +70,22 @@ fn change_line(line: &mut Line, change: &LineChange)
     }
 }
 
-/// Whether the line changes: it is on the field, or the order is a transfer, of which both lines change.
-fn is_chosen(line: &Line, is_transfer: bool, branch: Branch, article: Article) -> bool
-    ensures { result ≡ is_transfer || on (name_of branch article) line.now }
+/// The line changes where it is on the field, or the order is a transfer, of which both lines change.
+fn change_where(line: &mut Line, is_transfer: bool, name: &FieldName, change: &LineChange)
+    requires { (is_transfer || on name.now line.old) ≡ true → MayChange change.now line.old }
+    ensures { line.new ≡ (if is_transfer || on name.now line.old then changed_line change.now line.old else line.old) }
 {
-    is_transfer || is_on(line, branch, article)
-}
-
-/// The line changes where it is chosen.
-fn change_where(line: &mut Line, is_chosen: bool, change: &LineChange)
-    requires { is_chosen ≡ true → MayChange change.now line.old }
-    ensures { line.new ≡ (if is_chosen then changed_line change.now line.old else line.old) }
-{
-    if is_chosen {
+    if is_transfer || is_on(line, name) {
         change_line(line, change);
     }
 }
 
-fn change_lines(
-    lines: &mut [Line],
-    is_transfer: bool,
-    branch: Branch,
-    article: Article,
-    change: &LineChange,
-)
-    requires { Each (λ l. (is_transfer || on (name_of branch article) l) ≡ true → MayChange change.now l) lines.old }
-    ensures { lines.new ≡ map (λ l. if is_transfer || on
-        (name_of branch article) l then changed_line change.now l else l) lines.old }
+fn change_lines(lines: &mut [Line], is_transfer: bool, name: &FieldName, change: &LineChange)
+    requires { Each (λ l. (is_transfer || on name.now l) ≡ true → MayChange change.now l) lines.old }
+    ensures { lines.new ≡ map (λ l. if is_transfer || on name.now l then changed_line change.now l else l) lines.old }
 {
     for line in lines.iter_mut() {
-        let is_chosen = is_chosen(line, is_transfer, branch, article);
-        change_where(line, is_chosen, change);
+        change_where(line, is_transfer, name, change);
     }
 }
 
@@ -111,14 +96,10 @@ fn hold_more(lines: &mut Vec<Line>, more: &OpenLine)
         (λ found. Each (λ m. on name m ≡ true → MayChange (LineChange.Hold more.now.qty) m) lines.old.items) }
     ensures { lines.new.items ≡ held_lines more.now lines.old.items }
 {
-    if line_in(lines, more.branch, more.article).is_some() {
-        change_lines(
-            lines,
-            false,
-            more.branch,
-            more.article,
-            &LineChange::Hold(more.qty),
-        );
+    let (branch, article) = (more.branch, more.article);
+    let name = FieldName { branch, article };
+    if line_in(lines, &name).is_some() {
+        change_lines(lines, false, &name, &LineChange::Hold(more.qty));
         return;
     }
     match lines.push(new_line(more)) {
@@ -146,9 +127,9 @@ fn change_order(order: &mut OrderEntry, change: &OrderChange)
 {
     match change {
         OrderChange::HoldMore(line) => hold_more(&mut order.lines, line),
-        OrderChange::ChangeLines(branch, article, change) => {
+        OrderChange::ChangeLines(name, change) => {
             let is_transfer = matches!(order.kind, Kind::Transfer);
-            change_lines(&mut order.lines, is_transfer, *branch, *article, change);
+            change_lines(&mut order.lines, is_transfer, name, change);
         }
         OrderChange::End(state) => order.state = *state,
         OrderChange::MakeFirm => order.firm = true,
@@ -156,15 +137,9 @@ fn change_order(order: &mut OrderEntry, change: &OrderChange)
 }
 
 /// An open order of these lines.
-pub(super) fn opened(number: OrderNo, kind: Kind, until: Moment, lines: Vec<Line>) -> Order
-    ensures { order_of result ≡ record {
-      number = number;
-      kind = kind;
-      until = until;
-      state = State.Open;
-      firm = false;
-      lines = lines.items;
-    } }
+fn opened(number: OrderNo, kind: Kind, until: Moment, lines: Vec<Line>) -> Order
+    ensures { (made : List OpenLine) → lines.items ≡ map new_line made → order_of result
+        ≡ new_order number kind until made }
 {
     let entry = OrderEntry {
         kind,
@@ -180,7 +155,7 @@ pub(super) fn opened(number: OrderNo, kind: Kind, until: Moment, lines: Vec<Line
 fn order_change(command: &Command) -> Option<(OrderNo, OrderChange)>
     ensures { result ≡ order_change_of command.now }
 {
-    match command {
+    match *command {
         Command::More {
             number,
             way,
@@ -189,12 +164,12 @@ fn order_change(command: &Command) -> Option<(OrderNo, OrderChange)>
             qty,
         } => {
             let line = OpenLine {
-                way: *way,
-                branch: *branch,
-                article: *article,
-                qty: *qty,
+                way,
+                branch,
+                article,
+                qty,
             };
-            Some((*number, OrderChange::HoldMore(line)))
+            Some((number, OrderChange::HoldMore(line)))
         }
         Command::Use {
             number,
@@ -202,8 +177,8 @@ fn order_change(command: &Command) -> Option<(OrderNo, OrderChange)>
             article,
             qty,
         } => {
-            let change = LineChange::Use(*qty);
-            Some((*number, OrderChange::ChangeLines(*branch, *article, change)))
+            let name = FieldName { branch, article };
+            Some((number, OrderChange::ChangeLines(name, LineChange::Use(qty))))
         }
         Command::Release {
             number,
@@ -211,12 +186,15 @@ fn order_change(command: &Command) -> Option<(OrderNo, OrderChange)>
             article,
             qty,
         } => {
-            let change = LineChange::Release(*qty);
-            Some((*number, OrderChange::ChangeLines(*branch, *article, change)))
+            let name = FieldName { branch, article };
+            Some((
+                number,
+                OrderChange::ChangeLines(name, LineChange::Release(qty)),
+            ))
         }
-        Command::Commit { number } => Some((*number, OrderChange::End(State::Committed))),
-        Command::Abort { number } => Some((*number, OrderChange::End(State::Aborted))),
-        Command::Firm { number } => Some((*number, OrderChange::MakeFirm)),
+        Command::Commit { number } => Some((number, OrderChange::End(State::Committed))),
+        Command::Abort { number } => Some((number, OrderChange::End(State::Aborted))),
+        Command::Firm { number } => Some((number, OrderChange::MakeFirm)),
         _ => None,
     }
 }
@@ -282,6 +260,29 @@ impl Book {
             },
         }
     }
+
+    /// Whether the request changes the numbers of the field of a line of the order that it makes.
+    pub(super) fn changes_field(&self, request: &Request, order: &Order, line: &Line) -> bool
+        requires accepts { Accepts self.now.ledger request.now }
+        requires made { order_after self.now.ledger request.now.command ≡ Some (order_of order.now) }
+        requires line { find (on (line_name line.now)) order.now.1.lines.items ≡ Some line.now }
+        ensures { result ≡ changes_field self.now.ledger request.now.command (line_name line.now) }
+    {
+        changes_stock(&request.command, order.1.firm, is_transfer(order), line)
+    }
+
+    /// The numbers of the orders that the command aborts as expired, in their order. It looks at all orders as they
+    /// lie, and is the one that does.
+    pub(super) fn expired(&self, alloc: Global, command: &Command) -> Result<Vec<OrderNo>, Memory>
+        ensures { IfOk result (λ numbers. numbers.items ≡ expired_numbers self.now.ledger command.now) }
+    {
+        let Command::Expire { now } = command else {
+            return Ok(Vec::new(alloc));
+        };
+        let mut numbers = expiring(alloc, self.orders.arrived(), *now)?;
+        numbers.sort_unstable();
+        Ok(numbers)
+    }
 }
 
 /// Whether the line is on the field of that name.
@@ -295,10 +296,7 @@ fn is_same_field(line: &Line, branch: &Branch, article: &Article) -> bool
 pub(super) fn is_transfer(order: &Order) -> bool
     ensures { result ≡ is_transfer (order_of order.now) }
 {
-    match order.1.kind {
-        Kind::Plain => false,
-        Kind::Transfer => true,
-    }
+    matches!(order.1.kind, Kind::Transfer)
 }
 
 /// Whether the command opens an order or ends one.
@@ -348,18 +346,6 @@ fn changes_stock(command: &Command, is_firm: bool, is_transfer: bool, line: &Lin
     }
 }
 
-impl Book {
-    /// Whether the request changes the numbers of the field of a line of the order that it makes.
-    pub(super) fn changes_field(&self, request: &Request, order: &Order, line: &Line) -> bool
-        requires accepts { Accepts self.now.ledger request.now }
-        requires made { order_after self.now.ledger request.now.command ≡ Some (order_of order.now) }
-        requires line { find (on (line_name line.now)) order.now.1.lines.items ≡ Some line.now }
-        ensures { result ≡ changes_field self.now.ledger request.now.command (line_name line.now) }
-    {
-        changes_stock(&request.command, order.1.firm, is_transfer(order), line)
-    }
-}
-
 /// Whether the expiry aborts the order.
 fn expires(order: &OrderEntry, now: Moment) -> bool
     ensures { result ≡ open_state order.now.state && not order.now.firm && nat_le order.now.until now }
@@ -389,21 +375,6 @@ fn expiring(alloc: Global, orders: &[Order], now: Moment) -> Result<Vec<OrderNo>
         push_expiring(&mut numbers, order, now)?;
     }
     Ok(numbers)
-}
-
-impl Book {
-    /// The numbers of the orders that the command aborts as expired, in their order. It looks at all orders as they
-    /// lie, and is the one that does.
-    pub(super) fn expired(&self, alloc: Global, command: &Command) -> Result<Vec<OrderNo>, Memory>
-        ensures { IfOk result (λ numbers. numbers.items ≡ expired_numbers self.now.ledger command.now) }
-    {
-        let Command::Expire { now } = command else {
-            return Ok(Vec::new(alloc));
-        };
-        let mut numbers = expiring(alloc, self.orders.arrived(), *now)?;
-        numbers.sort_unstable();
-        Ok(numbers)
-    }
 }
 
 /// The order of that number is aborted, if there is one.

@@ -4,12 +4,11 @@ ghost use Rattle.book.specs.After.{move_made, moved_at_once};
 ghost use Rattle.book.specs.Answers.{IsAccepted};
 ghost use Rattle.book.specs.Ledger.{kept_under, name_of};
 ghost use Rattle.book.specs.Next.{new_line, transfer_lines};
-ghost use Rattle.book.specs.Outcomes.{signed};
 ghost use Rattle.book.specs.PlanAnswers.{Plans};
 ghost use Rattle.book.specs.Plans.{plan_of, Makes, opened_lines};
 ghost use Rattle.book.specs.RunningNumbers.{Accepts};
 ghost use Rattle.book.specs.Tables.{rows_among};
-ghost use Rattle.book.specs.Model.{move_of, order_of};
+ghost use Rattle.book.specs.Model.{move_of};
 ghost use Rattle.std.specs.Prelude.{◌≡◌, length, option_map, ◌⊎◌, IfOk, IsSome, OnErr, map};
 
 use super::made::new_line;
@@ -56,13 +55,6 @@ impl Model for Plan {
 }
 
 impl Plan {
-    /// The plan that puts these parts in and changes these rows.
-    pub(crate) fn new(parts: PlanParts, changes: Vec<Change>) -> Plan
-        ensures { result ≡ plan_of parts (rows_among changes.items) }
-    {
-        Plan { parts, changes }
-    }
-
     /// The place that the command gets.
     pub fn place(&self) -> u64
         ensures { result ≡ self.now.place }
@@ -87,15 +79,7 @@ impl Plan {
 
     /// What it puts into the book.
     pub(crate) fn into_parts(self) -> PlanParts
-        ensures key { result.key ≡ self.request.key }
-        ensures command { result.words ≡ self.request.command }
-        ensures place { result.place ≡ self.place }
-        ensures clock { result.clock ≡ self.clock }
-        ensures open_count { result.open_count ≡ self.open_count }
-        ensures fields { result.fields.entries ≡ self.fields }
-        ensures moved { option_map move_of result.moved ≡ self.moved }
-        ensures made { option_map order_of result.made ≡ self.made }
-        ensures expired { result.expired.items ≡ self.expired }
+        ensures { plan_of result self.changes ≡ self }
     {
         self.parts
     }
@@ -162,51 +146,43 @@ pub(super) fn lines_of(alloc: Global, command: &Command) -> Result<Vec<Line>, Me
 pub(super) fn moved_at_once(command: &Command) -> Option<(FieldName, Way, Qty)>
     ensures { result ≡ moved_at_once command.now }
 {
-    match command {
+    match *command {
         Command::Deliver {
             branch,
             article,
             qty,
-        } => Some((field_name(*branch, *article), Way::Add, *qty)),
+        } => Some((FieldName { branch, article }, Way::Add, qty)),
         Command::Writeoff {
             branch,
             article,
             qty,
-        } => Some((field_name(*branch, *article), Way::Take, *qty)),
+        } => Some((FieldName { branch, article }, Way::Take, qty)),
         _ => None,
     }
 }
 
-fn field_name(branch: Branch, article: Article) -> FieldName
+/// The name of the field of that branch and article.
+pub(super) fn name_of(branch: Branch, article: Article) -> FieldName
     ensures { result ≡ name_of branch article }
 {
     FieldName { branch, article }
-}
-
-/// The move at that place.
-fn move_at(place: u64, moved: (FieldName, Way, Qty)) -> MoveEntry
-    ensures { move_of result ≡ record { place = place; field = moved.0; amount = signed moved.1 moved.2 } }
-{
-    let amount = moved.2.get() as i64;
-    MoveEntry {
-        place,
-        branch: moved.0.branch,
-        article: moved.0.article,
-        amount: match moved.1 {
-            Way::Take => -amount,
-            Way::Add => amount,
-        },
-    }
 }
 
 /// The move that the command makes at that place, if it makes one.
 fn move_made(place: u64, command: &Command) -> Option<MoveEntry>
     ensures { option_map move_of result ≡ move_made place command.now }
 {
-    match moved_at_once(command) {
-        Some(moved) => Some(move_at(place, moved)),
-        None => None,
-    }
+    let (name, way, qty) = moved_at_once(command)?;
+    let amount = qty.get() as i64;
+    Some(MoveEntry {
+        place,
+        branch: name.branch,
+        article: name.article,
+        amount: match way {
+            Way::Take => -amount,
+            Way::Add => amount,
+        },
+    })
 }
 
 impl Book {
@@ -231,8 +207,7 @@ impl Book {
         self.accepts(request);
         let parts = self.parts_of(alloc, request)?;
         let changes = self.changes_of(alloc, request, &parts)?;
-        let plan = Plan::new(parts, changes);
-        Ok(Planned::Accept(plan))
+        Ok(Planned::Accept(Plan { parts, changes }))
     }
 
     /// That an accepted request is in range, and leaves a good ledger.

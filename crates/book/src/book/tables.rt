@@ -1,11 +1,11 @@
 //! A ledger from the rows of its tables.
 
-ghost use Rattle.std.specs.Prelude.{◌≡◌, ◌↔◌, pos, ℕ, count_by, IfErr, IfOk, IsTrue, MatchOption};
+ghost use Rattle.std.specs.Prelude.{◌≡◌, ◌↔◌, ℕ, count_by, IfErr, IfOk, IsTrue, MatchOption};
 ghost use Rattle.std.specs.List.{AllByRecursion as Each, AllZip};
 ghost use Rattle.book.specs.Good.{Good};
 ghost use Rattle.book.specs.Ledger.{open_state};
 ghost use Rattle.book.specs.Tables.{content_of, desk_cells};
-ghost use Rattle.book.specs.RowEntries.{AreGood, AreInOrder, IsBounded, IsFieldTold, IsInForm, IsWhole, IsWithinLimits, TellsLedger, told_ledger};
+ghost use Rattle.book.specs.RowEntries.{AreGood, AreInOrder, IsBounded, IsFieldTold, IsInForm, IsWhole, IsWithinLimits, TellsLedger, desk_of, told_ledger};
 ghost use Rattle.escrow.specs.Ranges.{IsMoment};
 ghost use Rattle.book.specs.Rows.{IsDamaged, IsRowsOf};
 ghost use Rattle.book.specs.declared.book.tables.TablesFault.TheVariants as TablesFault;
@@ -17,8 +17,7 @@ mod sums;
 mod told;
 
 use self::good::{
-    are_fields_in_order, are_keys_in_order, are_moves_good, are_moves_in_order, are_orders_good,
-    are_orders_in_order, are_places_good,
+    are_keys_in_order, are_moves_good, are_moves_in_order, are_orders_good, are_places_good,
 };
 use self::group::group;
 use self::marks::read_heads;
@@ -57,14 +56,8 @@ struct Entries {
 
 /// The clock, where the row has it and these places.
 fn read_desk(row: &DeskRow, places: usize) -> Option<Moment>
-    ensures { MatchOption result ((clock : ℕ) → IsMoment clock → desk_cells row.now
-        ≡ record { one = pos 1; version = pos 2; clock = pos clock; places = pos places } → ⊥)
-        (λ clock. IsMoment clock × (desk_cells row.now ≡ record {
-          one = pos 1;
-          version = pos 2;
-          clock = pos clock;
-          places = pos places;
-        })) }
+    ensures { MatchOption result ((clock : ℕ) → IsMoment clock → desk_cells row.now ≡ desk_of clock places → ⊥)
+        (λ clock. IsMoment clock × (desk_cells row.now ≡ desk_of clock places)) }
 {
     let known = natural(row.places)?;
     if row.one != 1 || row.version != 2 || known != places as u64 {
@@ -103,12 +96,12 @@ fn read_tables(alloc: Global, tables: Tables) -> Result<Entries, TablesFault>
 
 /// Whether each list is in the order of its keys.
 fn are_in_order(entries: &Entries) -> bool
-    ensures { IsTrue result ↔ AreInOrder (told_ledger entries.now) }
+    ensures { IsTrue result ↔ AreInOrder entries.now }
 {
-    are_fields_in_order(&entries.fields)
-        && are_moves_in_order(&entries.moves)
-        && are_orders_in_order(&entries.orders)
-        && are_keys_in_order(&entries.kept)
+    if !are_keys_in_order(&entries.fields) || !are_moves_in_order(&entries.moves) {
+        return false;
+    }
+    are_keys_in_order(&entries.orders) && are_keys_in_order(&entries.kept)
 }
 
 /// How many of the orders are open.
@@ -133,7 +126,7 @@ fn keep_limits(entries: &Entries) -> bool
 
 /// Whether they are those of a good ledger, apart from whether fields are there, and safe.
 fn are_whole(alloc: Global, entries: &Entries) -> Result<bool, Memory>
-    ensures { IfOk result (λ whole. IsTrue whole ↔ IsWhole (told_ledger entries.now)) }
+    ensures { IfOk result (λ whole. IsTrue whole ↔ IsWhole entries.now) }
 {
     if !are_in_order(entries) || !keep_limits(entries) {
         return Ok(false);

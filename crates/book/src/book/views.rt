@@ -41,8 +41,8 @@ impl Book {
         ensures { let found = field_named self.now.ledger (name_of branch article) in MatchOption result (found ≡ None)
             (λ view. IsSomeAnd found (λ f. ShowsField self.now.ledger f view)) }
     {
-        let entry = self.field_entry(branch, article)?;
-        Some(show(FieldName { branch, article }, entry))
+        let name = FieldName { branch, article };
+        Some(show(name, self.field_entry(&name)?))
     }
 
     /// How many fields there are.

@@ -1,21 +1,16 @@
 use Rattle.std.proofs.lemmas.List.Sums.{fold-append}
 use Rattle.book.proofs.Prelude.{[], ◌∙◌, ◌∷◌, ap, arith, insert_entry, name_cmp, sym, take, with_entries}
-use Rattle.book.proofs.Walks.{read-step}
+use Rattle.book.proofs.Lists.{read-step}
 use Rattle.book.proofs.book.adopt_fields.Goals as goal
 
 pub put-requires : goal.put-requires
-put-requires c =
-    let room = c.loop-place.invariant.room in
-    let within = c.loop-place-test.true in
-    let len = c.len-place-end.ensures.len in
-    omega arith
+put-requires c = grind arith
 
 pub loop-place-preserved : goal.loop-place-preserved
 loop-place-preserved c =
     let i = c.loop-place.place in
     let changed = c.args.changed.now.entries in
     let x = c.entry_at.result.now in
-    let left = c.put.ensures.room in
     let room = c.loop-place.invariant.room in
     record {
       put = c.put.ensures.entries ∙ ap (λ es. insert_entry name_cmp es x.0 x.1) c.loop-place.invariant.put

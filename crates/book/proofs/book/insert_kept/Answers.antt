@@ -1,5 +1,5 @@
 use Rattle.book.proofs.Prelude.{◌∙◌, ap, kept_of, map}
-use Rattle.book.proofs.KeyEntries.{kept_absent, kept_inserted}
+use Rattle.book.proofs.KeyPlaces.{kept_absent, kept_inserted}
 use Rattle.book.proofs.book.insert_kept.Goals as goal
 
 pub insert-requires-clause-absent : goal.insert-requires-clause-absent

@@ -1,5 +1,5 @@
 use Rattle.book.proofs.NextContent.{changes_suffice}
-use Rattle.book.proofs.Once.{no_key}
+use Rattle.book.proofs.Runs.{no_key}
 use Rattle.book.proofs.laws.changes_suffice.Goals as goal
 
 pub returns : goal.returns

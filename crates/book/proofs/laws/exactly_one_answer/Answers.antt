@@ -1,5 +1,4 @@
-use Rattle.book.proofs.Once.{accepted_once, answered_once}
-use Rattle.book.proofs.Total.{answered_if_good}
+use Rattle.book.proofs.Runs.{accepted_once, answered_once, answered_if_good}
 use Rattle.book.proofs.laws.exactly_one_answer.Goals as goal
 
 pub returns-clause-some : goal.returns-clause-some

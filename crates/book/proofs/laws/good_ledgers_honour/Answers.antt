@@ -1,5 +1,5 @@
 use Rattle.book.proofs.Futures.{honours_always}
-use Rattle.book.proofs.Once.{honours_if_good}
+use Rattle.book.proofs.Runs.{honours_if_good}
 use Rattle.book.proofs.laws.good_ledgers_honour.Goals as goal
 
 pub returns-clause-answered : goal.returns-clause-answered

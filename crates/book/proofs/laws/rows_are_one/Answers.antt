@@ -1,4 +1,4 @@
-use Rattle.book.proofs.InOrder.{a_content, one_content, rows_in_order}
+use Rattle.book.proofs.EqualRows.{a_content, one_content, rows_in_order}
 use Rattle.book.proofs.laws.rows_are_one.Goals as goal
 
 pub returns-clause-some : goal.returns-clause-some

@@ -1,9 +1,9 @@
-use Rattle.book.proofs.Prelude.{sym, ◌∙◌}
-use Rattle.book.proofs.FirstMatch.{find-here, find-next}
+use Rattle.book.proofs.Prelude.{◌≡◌, Line, false, of_calls, on, rules, true}
+use Rattle.std.proofs.lemmas.Iterator.{YieldsList-from_slice, first_from_find}
+use Rattle.book.proofs.Lists.{find-first}
 use Rattle.book.proofs.order.line_in.Goals as goal
 
-pub returns-then-is_on : goal.returns-then-is_on
-returns-then-is_on c = find-here _ c.args.lines.now c.loop-line.line-index c.line-item.result c.loop-line-test.true c.line-item.is c.loop-line.invariant (sym c.is_on.ensures ∙ c.if-is_on.true)
-
-pub loop-line-preserved : goal.loop-line-preserved
-loop-line-preserved c = find-next _ c.args.lines.now c.loop-line.line-index c.line-item.result c.loop-line-test.true c.line-item.is c.loop-line.invariant (sym c.is_on.ensures ∙ c.if-is_on.false)
+pub returns : goal.returns
+returns c =
+    find-first (on c.args.name.now) c.find.result c.args.lines.now (first_from_find _ _ _ (λ (l : Line). on c.args.name.now l ≡ true) (λ (l : Line). on c.args.name.now l ≡ false)
+    c.find.ensures.ran (YieldsList-from_slice c.args.lines.now cc) (λ x q k. search (rules, of_calls)) (λ x q k. search (rules, of_calls)))

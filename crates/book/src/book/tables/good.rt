@@ -1,46 +1,27 @@
 //! Whether entries are those of a good ledger, whatever their fields' numbers.
 
 ghost use Rattle.book.specs.Good.{IsTransferPair};
-ghost use Rattle.book.specs.Ledger.{line_name, name_cmp, same_name};
+ghost use Rattle.book.specs.Ledger.{line_name, same_name};
 ghost use Rattle.book.specs.RowEntries.{IsMoveByItself, IsOrderByItself};
-ghost use Rattle.book.specs.Model.{field_of, kept_of, move_of, order_of};
+ghost use Rattle.book.specs.Model.{kept_of, move_of, order_of};
 ghost use Rattle.escrow.specs.Ranges.{IsLevel};
-ghost use Rattle.std.specs.Cmp.Lexicographic.{slice_cmp};
 ghost use Rattle.std.specs.List.Sorted.{IsStrictlySortedBy};
 ghost use Rattle.std.specs.List.{AllByRecursion as Each, IsDistinct};
-ghost use Rattle.std.specs.Ordering.{nat_cmp, is_lt};
+ghost use Rattle.std.specs.Map.{keys_of};
+ghost use Rattle.std.specs.Ordering.{nat_cmp};
 ghost use Rattle.std.specs.Prelude.{◌≡◌, ◌≤◌, ◌↔◌, IsTrue, map, nat_lt, ◌<◌, IfOk, false, length, nat_eq, slice_index_or, true};
 
-use crate::book::{FieldEntry, KeptEntry, MoveEntry};
+use crate::book::{KeptEntry, MoveEntry};
 use crate::order::{Kind, Line, Order, State, line_in};
 use escrow::{FieldName, Key, Qty, Way};
 use std::alloc::Global;
 use words::{MAX_ORDER_LINES, Memory};
 
-/// Whether the one field stands before the other: by branch, then by article.
-fn is_field_before(one: &(FieldName, FieldEntry), other: &(FieldName, FieldEntry)) -> bool
-    ensures { result ≡ is_lt (name_cmp (field_of one.now).name (field_of other.now).name) }
+/// Whether the entries stand in the order of their keys, each once.
+pub(super) fn are_keys_in_order<K: Ord, V>(entries: &[(K, V)]) -> bool
+    ensures { IsTrue result ↔ IsStrictlySortedBy K.cmp (keys_of entries.now) }
 {
-    one.0 < other.0
-}
-
-fn is_order_before(one: &Order, other: &Order) -> bool
-    ensures { result ≡ nat_lt one.now.0 other.now.0 }
-{
-    one.0 < other.0
-}
-
-fn is_key_before(one: &(Key, KeptEntry), other: &(Key, KeptEntry)) -> bool
-    ensures { result ≡ is_lt (slice_cmp nat_cmp one.now.0 other.now.0) }
-{
-    one.0 < other.0
-}
-
-/// Whether the fields stand in the order of their names, each once.
-pub(super) fn are_fields_in_order(fields: &[(FieldName, FieldEntry)]) -> bool
-    ensures { IsTrue result ↔ IsStrictlySortedBy name_cmp (map (λ f. f.name) (map field_of fields.now)) }
-{
-    fields.is_sorted_by(|one, other| is_field_before(one, other))
+    entries.is_sorted_by(|one, other| one.0.cmp(&other.0).is_lt())
 }
 
 fn is_move_before(one: &MoveEntry, other: &MoveEntry) -> bool
@@ -56,20 +37,6 @@ pub(super) fn are_moves_in_order(moves: &[MoveEntry]) -> bool
     moves.is_sorted_by(|one, other| is_move_before(one, other))
 }
 
-/// Whether the orders stand in the order of their numbers, one of each.
-pub(super) fn are_orders_in_order(orders: &[Order]) -> bool
-    ensures { IsTrue result ↔ IsStrictlySortedBy nat_cmp (map (λ o. o.number) (map order_of orders.now)) }
-{
-    orders.is_sorted_by(|one, other| is_order_before(one, other))
-}
-
-/// Whether the kept keys stand in their order, each once.
-pub(super) fn are_keys_in_order(kept: &[(Key, KeptEntry)]) -> bool
-    ensures { IsTrue result ↔ IsStrictlySortedBy (slice_cmp nat_cmp) (map (λ k. k.key) (map kept_of kept.now)) }
-{
-    kept.is_sorted_by(|one, other| is_key_before(one, other))
-}
-
 fn is_move_good(entry: &MoveEntry, places: usize) -> bool
     ensures { IsTrue result ↔ IsMoveByItself places (move_of entry.now) }
 {
@@ -82,24 +49,14 @@ fn is_move_good(entry: &MoveEntry, places: usize) -> bool
 pub(super) fn are_moves_good(moves: &[MoveEntry], places: usize) -> bool
     ensures { IsTrue result ↔ Each (IsMoveByItself places) (map move_of moves.now) }
 {
-    for entry in moves {
-        if !is_move_good(entry, places) {
-            return false;
-        }
-    }
-    true
+    moves.iter().all(|entry| is_move_good(entry, places))
 }
 
 /// Whether no line has used more than it holds.
 fn are_lines_good(lines: &[Line]) -> bool
     ensures { IsTrue result ↔ Each (λ l. IsLevel l.held × (l.used ≤ l.held)) lines.now }
 {
-    for line in lines {
-        if line.used.get() > line.held.get() {
-            return false;
-        }
-    }
-    true
+    lines.iter().all(|line| line.used.get() <= line.held.get())
 }
 
 /// Whether no two lines are on one field.
@@ -107,7 +64,8 @@ fn are_apart(lines: &[Line]) -> bool
     ensures { IsTrue result ↔ IsDistinct same_name (map line_name lines.now) }
 {
     for (i, line) in lines.iter().enumerate() {
-        if line_in(&lines[..i], line.branch, line.article).is_some() {
+        let (branch, article) = (line.branch, line.article);
+        if line_in(&lines[..i], &FieldName { branch, article }).is_some() {
             return false;
         }
     }
@@ -156,12 +114,7 @@ fn is_order_good(order: &Order) -> bool
 pub(super) fn are_orders_good(orders: &[Order]) -> bool
     ensures { IsTrue result ↔ Each IsOrderByItself (map order_of orders.now) }
 {
-    for order in orders {
-        if !is_order_good(order) {
-            return false;
-        }
-    }
-    true
+    orders.iter().all(|order| is_order_good(order))
 }
 
 /// Whether the places are 1 to the number of kept keys, each once.

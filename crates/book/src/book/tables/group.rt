@@ -101,8 +101,14 @@ pub(super) fn group(
         let (rows_left, lines_left) = (behind(rows, start), behind(lines, start));
         let own = lines_of_order(alloc, head.number, rows_left, lines_left)?;
         start += own.len();
-        let order = with_lines(head, own);
-        let Ok(()) = orders.push(order) else {
+        let entry = OrderEntry {
+            kind: head.kind,
+            until: head.until,
+            state: head.state,
+            firm: head.firm,
+            lines: own,
+        };
+        let Ok(()) = orders.push((head.number, entry)) else {
             return Err(TablesFault::Memory);
         };
     }
@@ -117,24 +123,4 @@ fn behind<T>(items: &[T], start: usize) -> &[T]
     ensures { result.now ≡ drop start items.now }
 {
     &items[start..]
-}
-
-fn with_lines(head: &Head, lines: Vec<Line>) -> Order
-    ensures { order_of result ≡ record {
-      number = head.now.number;
-      kind = head.now.kind;
-      until = head.now.until;
-      state = head.now.state;
-      firm = head.now.firm;
-      lines = lines.items;
-    } }
-{
-    let entry = OrderEntry {
-        kind: head.kind,
-        until: head.until,
-        state: head.state,
-        firm: head.firm,
-        lines,
-    };
-    (head.number, entry)
 }

@@ -1,25 +1,22 @@
 //! What all moves and orders add up to on each of the fields, in one walk over them; whether the fields have these
 //! numbers.
 
-ghost use Rattle.book.specs.Ledger.{line_name, name_cmp, name_of, Name};
-ghost use Rattle.book.specs.Sums.{added, entry_name, field_among, lines_numbers, numbers_on, only_on, part_of_line, AreFieldsInOrder, AreLinesOnFields, AreMovesOnFields, AreOnFields, AreOrdersOnFields, IsField, IsFieldAt};
+ghost use Rattle.book.specs.Ledger.{line_name, Name};
+ghost use Rattle.book.specs.Sums.{added, entry_name, field_among, lines_numbers, numbers_on, only_on, part_of_line, AreFewMoves, AreFewOrders, AreFieldsInOrder, AreLinesOnFields, AreMovesOnFields, AreOnFields, AreOrdersOnFields, AreSums, IsField, IsFieldAt};
 ghost use Rattle.book.specs.RowEntries.{HasNumbers, HaveNumbers};
-ghost use Rattle.book.specs.Model.{field_of, move_of};
+ghost use Rattle.book.specs.Model.{move_of};
 ghost use Rattle.book.specs.Walk.{most_of_all, plus, IsSmall, most_of_line, most_of_lines, most_of_move, most_of_moves, nothing};
 ghost use Rattle.book.specs.declared.book.tables.sums.Numbers.{Numbers};
-ghost use Rattle.book.specs.declared.limits.TheConstants.{MAX_ORDERS, MAX_PLACES};
 ghost use Rattle.escrow.specs.Ranges.{IsQty};
-ghost use Rattle.std.specs.List.Sorted.{IsStrictlySortedBy};
 ghost use Rattle.std.specs.List.{AllByRecursion as Each};
-ghost use Rattle.std.specs.Prelude.{◌≡◌, ◌+◌, ◌≤◌, ◌<◌, ◌↔◌, length, IsTrue, ℕ, [], ◌∷◌, map, nat_abs, set, slice_index_or, IfOk, IfSome, IsNone, IsSome, MatchOption};
+ghost use Rattle.std.specs.Prelude.{◌≡◌, ◌+◌, ◌≤◌, ◌↔◌, length, IsTrue, ℕ, [], ◌∷◌, map, nat_abs, replicate, IfOk, IsNone, MatchOption};
 ghost use Rattle.words.specs.declared.limits.TheConstants.{MAX_ORDER_LINES};
 
-use crate::book::{FieldEntry, MoveEntry};
-use crate::limits::MAX_PLACES;
+use crate::book::plan::name_of;
+use crate::book::{Field, FieldEntry, MoveEntry};
 use crate::order::{Line, Order, State, share_of};
-use escrow::{Article, Branch, FieldName, Way};
+use escrow::{FieldName, Way};
 use std::alloc::Global;
-use std::cmp::Ordering;
 use words::Memory;
 
 /// What entries add up to on a field.
@@ -54,119 +51,44 @@ impl Numbers {
     }
 }
 
-/// What the moves and the orders add up to on each of the fields; `None` exactly where one of them is on no field.
-pub(super) fn sums_of(
-    alloc: Global,
-    fields: &[(FieldName, FieldEntry)],
-    moves: &[MoveEntry],
-    orders: &[Order],
-) -> Result<Option<Vec<Numbers>>, Memory>
-    requires sorted { IsStrictlySortedBy name_cmp (map (λ f. f.name) (map field_of fields.now)) }
-    requires few_moves { length moves.now ≤ MAX_PLACES }
-    requires amounts { Each (λ entry. IsQty (nat_abs entry.amount)) moves.now }
-    requires few_orders { length orders.now ≤ MAX_ORDERS }
-    requires short { Each (λ order. length order.1.lines.items ≤ MAX_ORDER_LINES) orders.now }
-    ensures there { IfOk result (λ sums. IsSome sums ↔ AreOnFields fields.now moves.now orders.now) }
-    ensures sums { IfOk result (λ sums. IfSome sums (λ numbers. numbers.items ≡ map
-        (λ f. numbers_on moves.now orders.now (field_of f).name) fields.now)) }
-    ensures small { IfOk result (λ sums. IfSome sums (λ numbers. Each (IsSmall most_of_all) numbers.items)) }
-{
-    let mut sums = no_sums(alloc, fields)?;
-    if add_all(fields, &mut sums, moves, orders) {
-        Ok(Some(sums))
-    } else {
-        Ok(None)
-    }
-}
-
 /// Adds the moves and the orders to the sums of their fields, which are nothing so far. Whether all of them are on
-/// fields.
-fn add_all(
-    fields: &[(FieldName, FieldEntry)],
-    sums: &mut [Numbers],
-    moves: &[MoveEntry],
-    orders: &[Order],
-) -> bool
+/// fields, and each field has what they add up to on it.
+fn add_all(fields: &[Field], sums: &mut [Numbers], moves: &[MoveEntry], orders: &[Order]) -> bool
     requires sorted { AreFieldsInOrder fields.now }
-    requires nothing { sums.old ≡ map (λ f. nothing) fields.now }
-    requires few_moves { length moves.now ≤ MAX_PLACES }
-    requires amounts { Each (λ entry. IsQty (nat_abs entry.amount)) moves.now }
-    requires few_orders { length orders.now ≤ MAX_ORDERS }
-    requires short { Each (λ order. length order.1.lines.items ≤ MAX_ORDER_LINES) orders.now }
-    ensures there { IsTrue result ↔ AreOnFields fields.now moves.now orders.now }
-    ensures sums { IsTrue result → sums.new ≡ map (λ f. numbers_on moves.now orders.now (entry_name f)) fields.now }
-    ensures small { IsTrue result → Each (IsSmall most_of_all) sums.new }
+    requires nothing { sums.old ≡ replicate (length fields.now) nothing }
+    requires moves { AreFewMoves moves.now }
+    requires orders { AreFewOrders orders.now }
+    ensures { IsTrue result ↔ (AreOnFields fields.now moves.now orders.now
+        × HaveNumbers (numbers_on moves.now orders.now) fields.now) }
 {
-    add_moves(fields, sums, moves) && add_orders(fields, sums, orders)
-}
-
-/// Nothing on each of the fields.
-fn no_sums(alloc: Global, fields: &[(FieldName, FieldEntry)]) -> Result<Vec<Numbers>, Memory>
-    ensures { IfOk result (λ sums. sums.items ≡ map (λ f. nothing) fields.now) }
-{
-    let mut sums = Vec::new(alloc);
-    for _ in fields {
-        sums.push(NOTHING).map_err(|_| Memory)?;
+    if !add_moves(fields, sums, moves) {
+        return false;
     }
-    Ok(sums)
-}
-
-/// How the entry's field stands to the one of that name: by branch, then by article.
-fn compare(entry: &(FieldName, FieldEntry), branch: Branch, article: Article) -> Ordering
-    ensures { result ≡ name_cmp (entry_name entry.now) (name_of branch article) }
-{
-    match entry.0.branch.cmp(&branch) {
-        Ordering::Equal => entry.0.article.cmp(&article),
-        other => other,
-    }
+    add_orders(fields, sums, orders) && have_numbers(fields, sums)
 }
 
 /// The place of the field of that name, by a binary search.
-fn field_index(
-    fields: &[(FieldName, FieldEntry)],
-    branch: Branch,
-    article: Article,
-) -> Option<usize>
+fn field_index(fields: &[Field], name: FieldName) -> Option<usize>
     requires { AreFieldsInOrder fields.now }
-    ensures { let name = name_of branch article in MatchOption result (IsNone (field_among fields.now name))
-        (IsFieldAt fields.now name) }
+    ensures { MatchOption result (IsNone (field_among fields.now name)) (IsFieldAt fields.now name) }
 {
-    match fields.binary_search_by(|entry| compare(entry, branch, article)) {
+    match fields.binary_search_by(|entry| entry.0.cmp(&name)) {
         Ok(place) => Some(place),
         Err(_) => None,
     }
 }
 
-/// Adds to the sum at that place.
-fn add_at(sums: &mut [Numbers], place: usize, part: &Numbers)
-    requires within { place < length sums.old }
-    requires room { Each (IsSmall (most_of_all + most_of_all)) sums.old }
-    requires part { IsSmall most_of_line part.now }
-    ensures sums { sums.new ≡ set sums.old place (plus (slice_index_or sums.old place nothing) part.now) }
-    ensures small { (k m : ℕ) → Each (IsSmall k) sums.old → IsSmall m part.now → Each (IsSmall (k + m)) sums.new }
-{
-    sums[place] = sums[place].plus(*part);
-}
-
 /// Adds to the sum of the field of that name. Whether there is such a field; if not, nothing changes.
-fn add_on(
-    fields: &[(FieldName, FieldEntry)],
-    sums: &mut [Numbers],
-    branch: Branch,
-    article: Article,
-    part: &Numbers,
-) -> bool
-    requires sorted { AreFieldsInOrder fields.now }
-    requires long { length sums.old ≡ length fields.now }
-    requires room { Each (IsSmall (most_of_all + most_of_all)) sums.old }
+fn add_on(fields: &[Field], sums: &mut [Numbers], name: FieldName, part: &Numbers) -> bool
+    requires sums { AreSums (most_of_all + most_of_all) fields.now sums.old }
     requires part { IsSmall most_of_line part.now }
-    ensures there { IsTrue result ↔ IsField fields.now (name_of branch article) }
-    ensures sums { sums.new ≡ added (only_on (name_of branch article) part.now) fields.now sums.old }
+    ensures there { IsTrue result ↔ IsField fields.now name }
+    ensures sums { sums.new ≡ added (only_on name part.now) fields.now sums.old }
     ensures small { (k m : ℕ) → Each (IsSmall k) sums.old → IsSmall m part.now → Each (IsSmall (k + m)) sums.new }
 {
-    match field_index(fields, branch, article) {
+    match field_index(fields, name) {
         Some(place) => {
-            add_at(sums, place, part);
+            sums[place] = sums[place].plus(*part);
             true
         }
         None => false,
@@ -174,12 +96,9 @@ fn add_on(
 }
 
 /// Adds the moves, each to the sum of its field. Whether all of them are on fields.
-fn add_moves(fields: &[(FieldName, FieldEntry)], sums: &mut [Numbers], moves: &[MoveEntry]) -> bool
-    requires sorted { AreFieldsInOrder fields.now }
-    requires long { length sums.old ≡ length fields.now }
-    requires room { Each (IsSmall 0) sums.old }
-    requires few { length moves.now ≤ MAX_PLACES }
-    requires amounts { Each (λ entry. IsQty (nat_abs entry.amount)) moves.now }
+fn add_moves(fields: &[Field], sums: &mut [Numbers], moves: &[MoveEntry]) -> bool
+    requires sums { AreSums 0 fields.now sums.old }
+    requires moves { AreFewMoves moves.now }
     ensures there { IsTrue result ↔ AreMovesOnFields fields.now moves.now }
     ensures sums { IsTrue result → sums.new ≡ added (numbers_on moves.now []) fields.now sums.old }
     ensures small { IsTrue result → Each (IsSmall most_of_moves) sums.new }
@@ -193,10 +112,8 @@ fn add_moves(fields: &[(FieldName, FieldEntry)], sums: &mut [Numbers], moves: &[
 }
 
 /// Adds the move to the sum of its field. Whether there is one.
-fn add_move(fields: &[(FieldName, FieldEntry)], sums: &mut [Numbers], entry: &MoveEntry) -> bool
-    requires sorted { AreFieldsInOrder fields.now }
-    requires long { length sums.old ≡ length fields.now }
-    requires room { Each (IsSmall most_of_all) sums.old }
+fn add_move(fields: &[Field], sums: &mut [Numbers], entry: &MoveEntry) -> bool
+    requires sums { AreSums most_of_all fields.now sums.old }
     requires amount { IsQty (nat_abs entry.now.amount) }
     ensures there { IsTrue result ↔ IsField fields.now (move_of entry.now).field }
     ensures sums { sums.new ≡ added (numbers_on (entry.now ∷ []) []) fields.now sums.old }
@@ -207,16 +124,13 @@ fn add_move(fields: &[(FieldName, FieldEntry)], sums: &mut [Numbers], entry: &Mo
         takes: 0,
         adds: 0,
     };
-    add_on(fields, sums, entry.branch, entry.article, &part)
+    add_on(fields, sums, name_of(entry.branch, entry.article), &part)
 }
 
 /// Adds the orders, each line to the sum of its field. Whether all lines are on fields.
-fn add_orders(fields: &[(FieldName, FieldEntry)], sums: &mut [Numbers], orders: &[Order]) -> bool
-    requires sorted { AreFieldsInOrder fields.now }
-    requires long { length sums.old ≡ length fields.now }
-    requires room { Each (IsSmall most_of_moves) sums.old }
-    requires few { length orders.now ≤ MAX_ORDERS }
-    requires short { Each (λ order. length order.1.lines.items ≤ MAX_ORDER_LINES) orders.now }
+fn add_orders(fields: &[Field], sums: &mut [Numbers], orders: &[Order]) -> bool
+    requires sums { AreSums most_of_moves fields.now sums.old }
+    requires orders { AreFewOrders orders.now }
     ensures there { IsTrue result ↔ AreOrdersOnFields fields.now orders.now }
     ensures sums { IsTrue result → sums.new ≡ added (numbers_on [] orders.now) fields.now sums.old }
     ensures small { IsTrue result → Each (IsSmall most_of_all) sums.new }
@@ -232,15 +146,13 @@ fn add_orders(fields: &[(FieldName, FieldEntry)], sums: &mut [Numbers], orders: 
 /// Adds the lines of an order in that state, which is firm or not, each to the sum of its field. Whether all of them
 /// are on fields.
 fn add_lines(
-    fields: &[(FieldName, FieldEntry)],
+    fields: &[Field],
     sums: &mut [Numbers],
     lines: &[Line],
     state: State,
     firm: bool,
 ) -> bool
-    requires sorted { AreFieldsInOrder fields.now }
-    requires long { length sums.old ≡ length fields.now }
-    requires room { Each (IsSmall most_of_all) sums.old }
+    requires sums { AreSums most_of_all fields.now sums.old }
     requires short { length lines.now ≤ MAX_ORDER_LINES }
     ensures there { IsTrue result ↔ AreLinesOnFields fields.now lines.now }
     ensures sums { IsTrue result → sums.new ≡ added (lines_numbers state firm lines.now) fields.now sums.old }
@@ -255,22 +167,14 @@ fn add_lines(
 }
 
 /// Adds the line to the sum of its field. Whether there is one.
-fn add_line(
-    fields: &[(FieldName, FieldEntry)],
-    sums: &mut [Numbers],
-    line: &Line,
-    state: State,
-    firm: bool,
-) -> bool
-    requires sorted { AreFieldsInOrder fields.now }
-    requires long { length sums.old ≡ length fields.now }
-    requires room { Each (IsSmall (most_of_all + most_of_all)) sums.old }
+fn add_line(fields: &[Field], sums: &mut [Numbers], line: &Line, state: State, firm: bool) -> bool
+    requires { AreSums (most_of_all + most_of_all) fields.now sums.old }
     ensures there { IsTrue result ↔ IsField fields.now (line_name line.now) }
     ensures sums { sums.new ≡ added (lines_numbers state firm (line.now ∷ [])) fields.now sums.old }
     ensures small { (k : ℕ) → Each (IsSmall k) sums.old → Each (IsSmall (k + most_of_line)) sums.new }
 {
     let part = part_of(line, state, firm);
-    add_on(fields, sums, line.branch, line.article, &part)
+    add_on(fields, sums, name_of(line.branch, line.article), &part)
 }
 
 /// What the line adds to its field, where its order has the state, and is firm or not.
@@ -310,22 +214,16 @@ fn numbers_of(entry: &FieldEntry) -> Numbers
     }
 }
 
-fn are_same(one: &Numbers, other: &Numbers) -> bool
-    ensures { IsTrue result ↔ ((one.now.moved ≡ other.now.moved) × (one.now.takes ≡ other.now.takes)
-        × (one.now.adds ≡ other.now.adds)) }
-{
-    one.moved == other.moved && one.takes == other.takes && one.adds == other.adds
-}
-
 /// Whether the field's quantity has what these numbers give it.
 fn has_numbers(entry: &FieldEntry, numbers: &Numbers) -> bool
     ensures { IsTrue result ↔ HasNumbers numbers.now entry.now }
 {
-    are_same(&numbers_of(entry), numbers)
+    let own = numbers_of(entry);
+    own.moved == numbers.moved && own.takes == numbers.takes && own.adds == numbers.adds
 }
 
 /// Whether each field's quantity has what the sum gives it.
-pub(super) fn have_numbers(fields: &[(FieldName, FieldEntry)], sums: &[Numbers]) -> bool
+fn have_numbers(fields: &[Field], sums: &[Numbers]) -> bool
     requires { length sums.now ≡ length fields.now }
     ensures { (numbers : Name → Numbers) → sums.now ≡ map (λ f. numbers (entry_name f)) fields.now
         → IsTrue result ↔ HaveNumbers numbers fields.now }
@@ -341,20 +239,16 @@ pub(super) fn have_numbers(fields: &[(FieldName, FieldEntry)], sums: &[Numbers])
 /// Whether all moves and lines are on fields, and each field has what they add up to on it.
 pub(super) fn are_up_to_date(
     alloc: Global,
-    fields: &[(FieldName, FieldEntry)],
+    fields: &[Field],
     moves: &[MoveEntry],
     orders: &[Order],
 ) -> Result<bool, Memory>
     requires sorted { AreFieldsInOrder fields.now }
-    requires few_moves { length moves.now ≤ MAX_PLACES }
-    requires amounts { Each (λ entry. IsQty (nat_abs entry.amount)) moves.now }
-    requires few_orders { length orders.now ≤ MAX_ORDERS }
-    requires short { Each (λ order. length order.1.lines.items ≤ MAX_ORDER_LINES) orders.now }
+    requires moves { AreFewMoves moves.now }
+    requires orders { AreFewOrders orders.now }
     ensures { IfOk result (λ fit. IsTrue fit ↔ (AreOnFields fields.now moves.now orders.now
         × HaveNumbers (numbers_on moves.now orders.now) fields.now)) }
 {
-    match sums_of(alloc, fields, moves, orders)? {
-        Some(sums) => Ok(have_numbers(fields, &sums)),
-        None => Ok(false),
-    }
+    let mut sums = Vec::from_elem(alloc, NOTHING, fields.len()).map_err(|_| Memory)?;
+    Ok(add_all(fields, &mut sums, moves, orders))
 }

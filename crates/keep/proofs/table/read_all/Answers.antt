@@ -1,7 +1,7 @@
 use Rattle.std.proofs.Common.{◌∙◌, ◌≡◌, ◌++◌, ◌+◌, [], ◌∷◌, ap, subst, sym, take}
 use Rattle.std.proofs.lemmas.List.{take_more}
 use Rattle.std.specs.List.{AllZip}
-use Rattle.book.proofs.Pairs.{zip-push}
+use Rattle.book.proofs.Lists.{zip-push}
 use Rattle.sqlite.specs.Order.{Row}
 use Rattle.keep.specs.Loads.{IsShown}
 use Rattle.keep.proofs.table.read_all.Goals as goal

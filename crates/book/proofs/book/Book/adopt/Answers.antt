@@ -1,26 +1,20 @@
-use Rattle.book.proofs.Prelude.{◌+◌, ◌∙◌, ◌≡◌, BookView, Done, Each, Good, IsAccepted, IsInRange, IsKey, IsUpToDate, Ledger, None, accept, ap, article_total, field_of, kept_under, ledger_of, map, open_orders, places, rules, subst, sym, with_entries}
-use Rattle.book.specs.After.{move_made}
+use Rattle.book.proofs.Prelude.{◌+◌, ◌∙◌, ◌≡◌, BookView, Done, Each, Good, IsUpToDate, Ledger, accept, ap, article_total, field_of, map, places, rules, subst, sym, with_entries}
+use Rattle.book.specs.Plans.{PlanView}
 use Rattle.book.proofs.Futures.{honours_always}
 use Rattle.book.proofs.Goodness.{good_accept}
 use Rattle.book.proofs.RunningNumbers.{adopted}
 use Rattle.book.proofs.Transfers.{total_answer}
-use Rattle.book.proofs.Once.{accepted_answered, honours_if_good, no_key}
+use Rattle.book.proofs.Runs.{accepted_answered, honours_if_good, no_key}
 use Rattle.book.proofs.book.Book.adopt.Goals as goal
 
 pub insert_kept-requires-clause-absent : goal.insert_kept-requires-clause-absent
-insert_kept-requires-clause-absent c =
-    let L : Ledger = ledger_of c.self.inside in
-    let accepted = subst (λ (v : BookView). IsAccepted v.ledger c.args.plan.request) (sym c.self.view_is) c.requires.fits.accepted in
-    subst (λ key. kept_under L key ≡ None) (sym c.into_parts-parts.ensures.key) (no_key _ accepted.0)
+insert_kept-requires-clause-absent c = search (rules, no_key)
 
 good : (c : goal.After-drop-parts-3) → Good c.args.self.now.ledger
 good c = subst (λ (v : BookView). Good v.ledger) c.self.view_is c.self.invariant.0
 
 good_after : (c : goal.After-drop-parts-3) → Good (accept c.args.self.now.ledger c.args.plan.request)
-good_after c =
-    let parts = c.into_parts-parts.ensures in
-    let accepted = c.requires.fits.accepted in
-    good_accept c.args.self.now.ledger c.args.plan.request (good c) (subst IsKey parts.key c.as_bytes.ensures.form) (subst IsInRange parts.command c.as_bytes-2.ensures.range) (no_key _ accepted.0) accepted.1
+good_after c = search (rules, good_accept, good, no_key)
 
 -- the fields as they are then
 put : (c : goal.After-drop-parts-3) → (map field_of c.adopt_fields.new.fields.entries ≡ (accept c.args.self.now.ledger c.args.plan.request).fields) × Each (IsUpToDate (accept c.args.self.now.ledger c.args.plan.request)) c.adopt_fields.new.fields.entries
@@ -28,22 +22,15 @@ put c =
     let A : Ledger = c.args.self.now.ledger in
     let plan = c.args.plan in
     let old = c.self.inside.fields.entries in
-    let is = c.adopt_fields.ensures ∙ ap (λ es. with_entries es old) c.into_parts-parts.ensures.fields in
+    let is = c.adopt_fields.ensures ∙ ap (λ es. with_entries es old) (ap (λ (p : PlanView). p.fields) c.into_parts-parts.ensures) in
     let done = adopted A plan old (good c) (good_after c) c.requires.fits (ap (λ (v : BookView). v.ledger.fields) c.self.view_is) (subst (λ (v : BookView). Each (IsUpToDate v.ledger) old) c.self.view_is c.self.invariant.1) in
     (ap (map field_of) is ∙ done.0, subst (Each (IsUpToDate (accept A plan.request))) (sym is) done.1)
 
 pub returns-clause-next : goal.returns-clause-next
-returns-clause-next c =
-    let r = c.args.plan.request in
-    let fits = c.requires.fits in
-    let fields = (put c).0 in
-    let moves = c.adopt_move.ensures c.args.self.now.ledger r.command (ap (λ (v : BookView). v.ledger.moves) c.self.view_is) (c.into_parts-parts.ensures.moved ∙ fits.moved ∙ ap (λ n. move_made n r.command) fits.place) in
-    search rules
+returns-clause-next c = search (rules, put)
 
 pub invariant_of-self : goal.invariant_of-self
-invariant_of-self c =
-    let next = sym (returns-clause-next c) in
-    (subst Good next (good_after c), subst (λ (L : Ledger). Each (IsUpToDate L) c.adopt_fields.new.fields.entries) next (put c).1, c.into_parts-parts.ensures.open_count ∙ c.requires.fits.open_count ∙ ap open_orders next)
+invariant_of-self c = search (rules, returns-clause-next, good_after, put)
 
 pub returns-clause-good : goal.returns-clause-good
 returns-clause-good c = (invariant_of-self c).0

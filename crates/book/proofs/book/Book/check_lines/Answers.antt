@@ -1,5 +1,5 @@
 use Rattle.book.proofs.Prelude.{◌∙◌, OpenLine, arith, sym}
-use Rattle.book.proofs.LineChecks.{apart-step, line_fails, line_passes, none_apart}
+use Rattle.book.proofs.CheckAnswers.{apart-step, line_fails, line_passes, none_apart}
 use Rattle.book.proofs.book.Book.check_lines.Goals as goal
 
 pub loop-i-init : goal.loop-i-init
@@ -15,5 +15,5 @@ loop-i-preserved c =
     record {
       apart = apart-step c.args.lines.now c.loop-i.i l c.loop-i-test.true c.index-lines-i.is c.loop-i.invariant.apart alone;
       rest = line_passes c.args.self.now.ledger c.args.lines.now c.loop-i.i l c.loop-i-test.true c.index-lines-i.is c.check_stock-fault.ensures.good c.loop-i.invariant.apart alone
-          c.check_stock-fault.result c.check_stock-fault.ensures.found (sym c.is_some.ensures ∙ c.if-is_some.false) c.loop-i.invariant.rest;
+          c.check_stock-fault.result (rw c.name_of-name.ensures at c.check_stock-fault.ensures.found) (sym c.is_some.ensures ∙ c.if-is_some.false) c.loop-i.invariant.rest;
     }

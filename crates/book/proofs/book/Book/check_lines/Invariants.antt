@@ -1,5 +1,5 @@
 use Rattle.book.proofs.Prelude.{take}
-use Rattle.book.proofs.LineChecks.{AreApart, RestDecides}
+use Rattle.book.proofs.CheckAnswers.{AreApart, RestDecides}
 use Rattle.book.proofs.book.Book.check_lines.Given as goal
 
 abbrev pub invariant-loop-i : goal.invariant-loop-i

@@ -1,6 +1,6 @@
 use Rattle.book.proofs.Prelude.{BookView, Good, IsUpToDate, get_or_from_slice_get, ledger_of, slice_get_within, subst, sym}
 use Rattle.book.proofs.ShownNumbers.{slice_get-fields}
-use Rattle.book.proofs.Walks.{each-at}
+use Rattle.book.proofs.Lists.{each-at}
 use Rattle.book.proofs.book.Book.field_at.Goals as goal
 
 pub returns-clause-found : goal.returns-clause-found

@@ -1,5 +1,5 @@
-use Rattle.book.proofs.Prelude.{◌≡◌, Bor, Each, Field, FieldEntry, IfSome, IsUpToDate, Ledger, List, MatchOption, Name, None, Option, Some, arith, field_of, is_at, ledger_of, lookup, name_cmp, name_of, option_copied, option_map, sym}
-use Rattle.book.proofs.KeyEntries.{field_found}
+use Rattle.book.proofs.Prelude.{◌≡◌, Bor, Each, Field, FieldEntry, IfSome, IsUpToDate, Ledger, List, MatchOption, Name, None, Option, Some, arith, field_of, is_at, ledger_of, lookup, name_cmp, option_copied, option_map, sym}
+use Rattle.book.proofs.KeyPlaces.{field_found}
 use Rattle.book.proofs.ChangedFields.{each_at_name}
 use Rattle.book.proofs.book.Book.field_entry.Goals as goal
 
@@ -17,5 +17,4 @@ returns-clause-found c = grind (arith, field_found, told)
 
 pub returns-clause-up_to_date : goal.returns-clause-up_to_date
 returns-clause-up_to_date c =
-    let name : Name = name_of c.args.branch c.args.article in
-    rw (← c.self.view_is) (up (ledger_of c.self.inside) name c.self.inside.fields.entries c.get.result c.self.invariant.1 c.get.ensures)
+    rw (← c.self.view_is) (up (ledger_of c.self.inside) c.args.name.now c.self.inside.fields.entries c.get.result c.self.invariant.1 c.get.ensures)

@@ -1,6 +1,5 @@
-use Rattle.book.proofs.Prelude.{◌∙◌, ◌≤◌, ap, giving_back, held_of, insert_entry, name_cmp, subst, sym}
-use Rattle.book.proofs.ChangedFields.{on_ok_both}
-use Rattle.book.proofs.Returns.{held_there, line_given}
+use Rattle.book.proofs.Prelude.{◌∙◌, ◌≤◌, ap, giving_back, held_of, subst, sym}
+use Rattle.book.proofs.ChangedFields.{on_ok_both, held_there, line_given}
 use Rattle.book.proofs.book.Book.give_back_line.Goals as goal
 
 pub give_back-requires : goal.give_back-requires
@@ -15,4 +14,4 @@ returns c = on_ok_both c.put.result (λ put rising ls gives may.
     let v = c.field_so_far-entry.result in
     line_given c.args.self.now.ledger ls l v c.give_back.new.self c.args.fields.now.entries c.put.new.fields.entries rising gives may (c.field_so_far-entry.ensures ls gives)
     (c.give_back.ensures ∙ ap (giving_back v.quantity l.way) c.get.ensures.value)
-    (put ∙ ap (λ n. insert_entry name_cmp c.args.fields.now.entries n (record { start = v.start; quantity = c.give_back.new.self })) c.name_of.ensures)) c.put.ensures.put c.put.ensures.rising
+    put) c.put.ensures.put c.put.ensures.rising

@@ -1,6 +1,6 @@
 use Rattle.book.proofs.Prelude.{[], ◌++◌, ◌∙◌, ◌∷◌, GivesBack, Line, List, ap, append_assoc, subst, sym, take}
-use Rattle.book.proofs.Returns.{may_step}
-use Rattle.book.proofs.Walks.{take-step}
+use Rattle.book.proofs.ChangedFields.{may_step}
+use Rattle.book.proofs.Lists.{take-step}
 use Rattle.book.proofs.book.Book.give_back_lines.Goals as goal
 
 pub give_back_line-requires-clause-held : goal.give_back_line-requires-clause-held

@@ -1,4 +1,4 @@
-use Rattle.book.proofs.Returns.{lines_there}
+use Rattle.book.proofs.ChangedFields.{lines_there}
 use Rattle.book.proofs.NextRows.{good_now}
 use Rattle.book.proofs.book.Book.give_back_order.Goals as goal
 

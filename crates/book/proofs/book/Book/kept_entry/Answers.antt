@@ -1,5 +1,5 @@
 use Rattle.book.proofs.Prelude.{◌≡◌, Bor, Kept, KeptEntry, List, MatchOption, None, Option, Some, kept_of, option_copied, option_map, ℕ}
-use Rattle.book.proofs.KeyEntries.{kept_found}
+use Rattle.book.proofs.KeyPlaces.{kept_found}
 use Rattle.book.proofs.book.Book.kept_entry.Goals as goal
 
 told : (key : List ℕ) (result : Option (Bor KeptEntry)) (there : Option KeptEntry) (found : Option Kept) → option_copied result ≡ there → found ≡ option_map (λ v. kept_of (key, v)) there

@@ -1,11 +1,10 @@
 use Rattle.book.proofs.Prelude.{◌∙◌, ◌≡◌, AllZip, Content, Each, Field, Good, IsFieldRow, IsRowsOf, IsUpToDate, Kept, Ledger, Order, OrderEntry, ap, arith, count_by, field_of, is_open, kept_of, ledger_of, map, map-map, move_of, open_orders, open_state, order_of, subst, sym, told_ledger, ℕ}
 use Rattle.book.specs.Tables.{content_of}
-use Rattle.book.proofs.OpenCount.{viewed}
+use Rattle.book.proofs.NextRows.{viewed}
 use Rattle.book.proofs.TestResults.{true_not_false}
-use Rattle.book.proofs.InOrder.{one_content, rows_are, rows_of}
+use Rattle.book.proofs.EqualRows.{one_content, rows_are, rows_of, rows_tell, told_once}
 use Rattle.book.proofs.RowEntries.{told_bounded, told_rows}
 use Rattle.book.proofs.RunningNumbers.{entries_of_rows, rows_of_entries}
-use Rattle.book.proofs.EqualRows.{rows_tell, told_once}
 use Rattle.book.proofs.book.Book.of_tables.Goals as goal
 
 pub are_good-requires-clause-bounded : goal.are_good-requires-clause-bounded

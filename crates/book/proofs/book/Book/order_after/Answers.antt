@@ -1,5 +1,5 @@
 use Rattle.book.proofs.Prelude.{◌∙◌, IfOk-weaker, arith, sym}
-use Rattle.book.proofs.OrderCopies.{changed_is_after, copy_may_change}
+use Rattle.book.proofs.CommandOrder.{changed_is_after, copy_may_change}
 use Rattle.book.proofs.book.Book.order_after.Goals as goal
 
 pub order_changed-requires : goal.order_changed-requires

@@ -1,5 +1,5 @@
 use Rattle.book.proofs.Prelude.{◌≡◌, Bor, MatchOption, None, Option, Order, OrderEntry, Some, option_copied, option_map, order_of, ℕ}
-use Rattle.book.proofs.KeyEntries.{order_found}
+use Rattle.book.proofs.KeyPlaces.{order_found}
 use Rattle.book.proofs.book.Book.order_entry.Goals as goal
 
 told : (n : ℕ) (result : Option (Bor OrderEntry)) (there : Option OrderEntry) (found : Option Order) → option_copied result ≡ there → found ≡ option_map (λ v. order_of (n, v)) there

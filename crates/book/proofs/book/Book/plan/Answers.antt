@@ -1,6 +1,6 @@
 use Rattle.book.proofs.Prelude.{◌∙◌, ◌≡◌, ChangesTo, Command, IsAccepted, Request, ap, expired_numbers, is_some, next, open_orders, order_after, rows_among, subst, sym}
 use Rattle.book.specs.After.{move_made}
-use Rattle.book.specs.Plans.{Fits, PlanView, plan_of}
+use Rattle.book.specs.Plans.{Fits, plan_of}
 use Rattle.book.proofs.book.Book.plan.Goals as goal
 
 pub returns : goal.returns
@@ -9,7 +9,6 @@ returns c =
     let r : Request = c.args.request.now in
     let rows = rows_among c.in_ok-changes.changes.items in
     let makes = c.in_ok-parts.ensures in
-    let is = c.new-plan.ensures in
     let same : ◌≡◌ {A = Request} (plan_of c.in_ok-parts.parts rows).request r = λ i. record { key = makes.key i; command = makes.command i } in
     let fits : Fits A (plan_of c.in_ok-parts.parts rows) = record {
       accepted = subst (IsAccepted A) (sym same) (ap is_some c.in_default.ensures, c.in_default-check.ensures);
@@ -22,6 +21,6 @@ returns c =
       changes = subst (λ (r : Request). ChangesTo A r rows) (sym same) c.in_ok-changes.ensures.changes;
       fields = c.in_ok-changes.ensures.fields;
     } in record {
-      planned = (ap (λ (p : PlanView). p.request) is ∙ same, subst (Fits A) (sym is) fits);
+      planned = (same, fits);
       memory = tt;
     }

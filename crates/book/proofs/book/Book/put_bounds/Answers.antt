@@ -5,12 +5,12 @@ use Rattle.book.proofs.book.Book.put_bounds.Goals as goal
 
 pub unreachable-requires-in_default-rebound : goal.unreachable-requires-in_default-rebound
 unreachable-requires-in_default-rebound c =
-    true≢false (sym (c.in_default-rebound.ensures.granted.1 (bounds_safe c.args.self.now.ledger c.args.request.now c.args.name c.args.lo c.args.hi c.in-Some.entry.now c.requires.accepts c.requires.command c.in-Some.ensures.up_to_date c.in-Some.ensures.found)))
+    true≢false (sym (c.in_default-rebound.ensures.granted.1 (bounds_safe c.args.self.now.ledger c.args.request.now c.args.name.now c.args.lo c.args.hi c.in-Some.entry.now c.requires.accepts c.requires.command c.in-Some.ensures.up_to_date c.in-Some.ensures.found)))
 
 pub returns : goal.returns
 returns c = on_ok c.put.result (λ put.
     let A : Ledger = c.args.self.now.ledger in
-    let n = c.args.name in
+    let n = c.args.name.now in
     let e = c.in-Some.entry.now in
     record {
       entry = record { start = e.start; quantity = c.rebound.new.self };

@@ -1,21 +1,15 @@
-use Rattle.book.proofs.Prelude.{◌∙◌, ◌≡◌, Command, GivesBack, Good, Ledger, Line, List, MayGiveBack, ap, arith, changes_field, expired_lines, expired_numbers, expires, flat_map, name_of, of_numbered, subst, sym, ℕ}
+use Rattle.book.proofs.Prelude.{◌∙◌, ◌≡◌, Command, GivesBack, Good, Ledger, Line, List, MayGiveBack, ap, arith, expired_lines, expired_numbers, expires, flat_map, of_numbered, subst, sym, ℕ}
 use Rattle.words.specs.declared.command.Command.TheVariants as command
-use Rattle.book.proofs.ChangedFields.{on_ok}
+use Rattle.book.proofs.ChangedFields.{on_ok, may_all}
 use Rattle.book.proofs.ExpiredOrders.{numbered_flat}
 use Rattle.book.proofs.FieldRows.{expired_rows, lines_rows, moving, moving_rows, new_rows, one_row}
-use Rattle.book.proofs.Returns.{may_all}
 use Rattle.book.proofs.book.Book.put_changed.Goals as goal
 
 pub put_moved-requires : goal.put_moved-requires
 put_moved-requires c = let m = c.in-Some.moved in let is = sym c.moved_at_once.ensures ∙ c.in-Some.is in (c.args.request.now, moving c.args.self.now.ledger c.args.request.now m.0 m.1 m.2 c.requires.accepts is)
 
 pub returns-in-Some : goal.returns-in-Some
-returns-in-Some c = on_ok c.put_moved.result (λ puts rising.
-    let A : Ledger = c.args.self.now.ledger in
-    let r = c.args.request.now in
-    let m = c.in-Some.moved in
-    let is = sym c.moved_at_once.ensures ∙ c.in-Some.is in
-    moving_rows A r m.0 m.1 m.2 c.args.fields.now.entries c.put_moved.new.fields.entries c.requires.accepts is c.requires.none rising (puts r (moving A r m.0 m.1 m.2 c.requires.accepts is))) c.put_moved.ensures
+returns-in-Some c = grind (arith, on_ok, moving_rows, moving)
 
 pub returns-in-Ok : goal.returns-in-Ok
 returns-in-Ok c = grind (arith, new_rows, on_ok)
@@ -41,7 +35,4 @@ pub returns-in-Some-made : goal.returns-in-Some-made
 returns-in-Some-made c = grind (arith, lines_rows, on_ok)
 
 pub returns-in-Rebound : goal.returns-in-Rebound
-returns-in-Rebound c = on_ok c.put_bounds.result (λ puts rising.
-    let A : Ledger = c.args.self.now.ledger in
-    let r = c.args.request.now in
-    one_row A r (name_of c.in-Rebound.branch c.in-Rebound.article) c.args.fields.now.entries c.put_bounds.new.fields.entries c.requires.accepts.after c.requires.none rising puts (λ f. ap (λ (c : Command). changes_field A c f) c.in-Rebound.is)) c.put_bounds.ensures
+returns-in-Rebound c = grind (arith, on_ok, one_row)

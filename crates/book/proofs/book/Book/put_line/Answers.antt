@@ -1,4 +1,4 @@
-use Rattle.book.proofs.Prelude.{◌∙◌, Contains, Ledger, Name, Order, ap, field_of, find, insert_entry, is_some, line_name, name_cmp, order_of, same_name, subst, sym, true≢false}
+use Rattle.book.proofs.Prelude.{◌∙◌, Contains, Ledger, Name, Order, ap, field_of, find, is_some, line_name, order_of, same_name, subst, sym, true≢false}
 use Rattle.book.proofs.ChangedFields.{line_there, made_keeps, number_of_made, on_ok}
 use Rattle.book.proofs.StockChanges.{stock_changed, stock_may}
 use Rattle.book.proofs.ShownNumbers.{Contains-of_find}
@@ -43,5 +43,5 @@ returns-clause-changed c = on_ok c.put.result (λ put changes.
         passes = changes;
         has_row = stock_changed A r c.args.order.now.0 o f e l c.change_stock.new.quantity a.before a.after a.accepted a.range (number_of_made A r.command o a.accepted.1 made) made c.in-Some.ensures.up_to_date c.requires.line becomes;
       };
-      put = put ∙ ap (λ n. insert_entry name_cmp c.args.fields.now.entries n (record { start = e.start; quantity = c.change_stock.new.quantity })) c.name_of.ensures;
+      put = put;
     }) c.put.ensures.put

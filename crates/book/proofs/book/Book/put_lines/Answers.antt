@@ -1,7 +1,7 @@
 use Rattle.book.proofs.Prelude.{◌≡◌, Each, Ledger, Line, List, Some, find, line_name, on, order_of, subst, sym}
 use Rattle.book.proofs.ChangedFields.{found_itself, lines_step, made_good}
 use Rattle.book.proofs.Futures.{one_on}
-use Rattle.book.proofs.Walks.{each-at}
+use Rattle.book.proofs.Lists.{each-at}
 use Rattle.book.proofs.book.Book.put_lines.Goals as goal
 
 pub put_line-requires-clause-line : goal.put_line-requires-clause-line

@@ -7,7 +7,6 @@ returns c =
     let quantity = c.args.field.now.1.quantity in
     let least = least_is quantity (pos c.inf.result) c.inf.ensures in
     let greatest = greatest_is quantity (pos c.sup.result) c.sup.ensures in
-    let value = c.value.ensures.value in
     let lo = c.lo.ensures in
     let hi = c.hi.ensures in
     entry_cells_are c.args.field.now c.in_ok-branch_text.field-0 c.in_ok-article_text.field-0 _ _ _ _ _ _ c.in_ok-branch_text.ensures c.in_ok-article_text.ensures

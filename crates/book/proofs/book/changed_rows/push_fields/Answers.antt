@@ -1,6 +1,6 @@
 use Rattle.book.proofs.Prelude.{[], ◌+◌, ◌∙◌, ◌∷◌, ap, entry_row, map, map-append, rows_among, take}
 use Rattle.book.proofs.Among.{field_joined, field_pushed}
-use Rattle.book.proofs.Walks.{read-step}
+use Rattle.book.proofs.Lists.{read-step}
 use Rattle.book.proofs.book.changed_rows.push_fields.Goals as goal
 
 pub loop-place-preserved : goal.loop-place-preserved

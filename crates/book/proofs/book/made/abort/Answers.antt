@@ -1,5 +1,5 @@
 use Rattle.book.proofs.Prelude.{sym}
-use Rattle.book.proofs.OrderEntry.{aborted_none, aborted_there}
+use Rattle.book.proofs.CommandOrder.{aborted_none, aborted_there}
 use Rattle.book.proofs.book.made.abort.Goals as goal
 
 pub returns-in-Some : goal.returns-in-Some

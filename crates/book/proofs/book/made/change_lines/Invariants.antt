@@ -1,7 +1,7 @@
 -- the lines so far are changed
-use Rattle.book.proofs.Prelude.{◌||◌, ◌≡◌, changed_line, if◌then◌else◌, name_of, on}
-use Rattle.book.proofs.WalksInPlace.{walked}
+use Rattle.book.proofs.Prelude.{◌||◌, ◌≡◌, changed_line, if◌then◌else◌, on}
+use Rattle.book.proofs.Lists.{walked}
 use Rattle.book.proofs.book.made.change_lines.Given as goal
 
 abbrev pub invariant-loop-line : goal.invariant-loop-line
-invariant-loop-line l = l.lines ≡ walked (λ m. if l.is_transfer || on (name_of l.branch l.article) m then changed_line l.change m else m) l.line-index l.initial.lines
+invariant-loop-line l = l.lines ≡ walked (λ m. if l.is_transfer || on l.name m then changed_line l.change m else m) l.line-index l.initial.lines

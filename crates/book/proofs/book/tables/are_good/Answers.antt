@@ -1,20 +1,20 @@
-use Rattle.book.proofs.Prelude.{◌↔◌, AreOnFields, HaveNumbers, IfOk, IfOk-weaker, IsTrue, IsWhole, arith, common_steps, ints, move_of, numbers_on, told_ledger}
+use Rattle.book.proofs.Prelude.{◌↔◌, AreOnFields, HaveNumbers, IfOk, IfOk-weaker, IsTrue, IsWhole, arith, common_steps, ints, move_of, numbers_on, order_of}
 use Rattle.book.proofs.Lists.{each-unmap, length-of-map}
 use Rattle.book.proofs.Sums.{each-imp}
-use Rattle.book.proofs.JudgedLedger.{few_moves_if_whole, good_iff}
+use Rattle.book.proofs.JudgedLedger.{few_moves_if_whole, good_iff, whole_if_good}
 use Rattle.book.proofs.book.tables.are_good.Goals as goal
 
-whole : (c : goal.After-deref-3) → IsWhole (told_ledger c.args.entries.now)
+whole : (c : goal.After-deref-3) → IsWhole c.args.entries.now
 whole c = c.in_ok-are_whole.ensures.0 c.if-not-branch.false
 
-pub are_up_to_date-requires-clause-few_moves : goal.are_up_to_date-requires-clause-few_moves
-are_up_to_date-requires-clause-few_moves c = grind (arith, (few_moves_if_whole (told_ledger c.args.entries.now) (whole c)), (length-of-map move_of c.args.entries.now.moves.items), whole)
+pub are_up_to_date-requires-clause-moves : goal.are_up_to_date-requires-clause-moves
+are_up_to_date-requires-clause-moves c = grind (arith, (few_moves_if_whole c.args.entries.now (whole c)), (length-of-map move_of c.args.entries.now.moves.items), (whole c), each-imp, each-unmap)
 
-pub are_up_to_date-requires-clause-amounts : goal.are_up_to_date-requires-clause-amounts
-are_up_to_date-requires-clause-amounts c = grind (arith, (whole c), each-imp, each-unmap)
+pub are_up_to_date-requires-clause-orders : goal.are_up_to_date-requires-clause-orders
+are_up_to_date-requires-clause-orders c = grind (arith, (length-of-map order_of c.args.entries.now.orders.items), (whole c), each-imp, each-unmap)
 
-pub are_up_to_date-requires-clause-short : goal.are_up_to_date-requires-clause-short
-are_up_to_date-requires-clause-short c = grind (arith, (whole c), each-imp, each-unmap)
+pub returns-then-not-branch : goal.returns-then-not-branch
+returns-then-not-branch c = grind (arith, (whole_if_good c.args.entries.now))
 
 -- what is said of the slices, said of the entries
 of_entries : (c : goal.After-are_up_to_date) → IfOk c.are_up_to_date.result (λ fit. IsTrue fit ↔ (AreOnFields c.args.entries.now.fields.items c.args.entries.now.moves.items c.args.entries.now.orders.items

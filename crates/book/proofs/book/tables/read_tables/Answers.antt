@@ -1,9 +1,8 @@
 use Rattle.book.proofs.Prelude.{[], ◌∙◌, ◌∷◌, ◌≡◌, AllZip, DeskCells, Each, FieldEntry, FieldRow, IsFieldRow, IsFieldTold, IsGoodField, IsGoodKept, IsKeptTold, IsMoveTold, KeptCells, KeptEntry, KeptRow, List, Name, Order, TellsField, ap, arith, field_cells, field_of, firm_cells, kept_cells, kept_of, kept_row, length, line_cells, map, move_cells, move_of, move_row, order_cells, order_of, places, pos, subst, sym, ℕ}
 use Rattle.book.proofs.RowEntries.{fields_told, good_field, heads_same, kept_told, lines_told, moves_told, orders_rows, rows_of, tells_field}
-use Rattle.book.proofs.Lists.{length-of-map}
+use Rattle.book.proofs.Lists.{length-of-map, zip-length, zip-map}
 use Rattle.book.proofs.EqualRows.{same_first}
 use Rattle.book.proofs.TestResults.{passed_up}
-use Rattle.book.proofs.Pairs.{zip-length, zip-map}
 use Rattle.book.proofs.book.tables.read_tables.Goals as goal
 
 abbrev desk_at : ℕ → ℕ → DeskCells
@@ -19,22 +18,14 @@ returns-in_err-moves-clause-damaged c = passed_up c.from_residual-in_err-moves.r
     (λ is A g rows. c.in_err-moves.ensures.damaged is (moves_told A c.as_slice-2.result.now g (ap (map move_cells) c.as_slice-2.ensures ∙ rows.moves)))
 
 pub returns-in_err-heads-clause-damaged : goal.returns-in_err-heads-clause-damaged
-returns-in_err-heads-clause-damaged c = passed_up c.from_residual-in_err-heads.result c.in_err-heads.field-0.0 _ c.from_residual-in_err-heads.ensures.1
-    (λ is A g rows. c.in_err-heads.ensures.damaged is A g (ap (map order_cells) c.as_slice-3.ensures ∙ rows.orders) (ap (map firm_cells) c.as_slice-4.ensures ∙ rows.firms))
+returns-in_err-heads-clause-damaged c = grind arith
 
 pub returns-in_err-lines-clause-damaged : goal.returns-in_err-lines-clause-damaged
 returns-in_err-lines-clause-damaged c = passed_up c.from_residual-in_err-lines.result c.in_err-lines.field-0.0 _ c.from_residual-in_err-lines.ensures.1
     (λ is A g rows. c.in_err-lines.ensures.damaged is (lines_told A c.as_slice-5.result.now g (ap (map line_cells) c.as_slice-5.ensures ∙ rows.lines)))
 
 pub returns-in_err-orders-clause-damaged : goal.returns-in_err-orders-clause-damaged
-returns-in_err-orders-clause-damaged c = passed_up c.from_residual-in_err-orders.result c.in_err-orders.field-0.0 _ c.from_residual-in_err-orders.ensures.1
-    (λ is A g rows.
-    let told = c.in_ok-heads.ensures.told in
-    let heads = heads_same c.in_ok-heads.heads.items A.orders g.orders_in_order (record {
-      orders_are = told.orders_are ∙ ap (map order_cells) c.as_slice-3.ensures ∙ rows.orders;
-      firms_are = told.firms_are ∙ ap (map firm_cells) c.as_slice-4.ensures ∙ rows.firms;
-    }) in
-    c.in_err-orders.ensures.damaged is A.orders g.orders_in_order (record { heads_are = heads ∙ sym c.deref.ensures.value; lines_are = sym (ap (map line_cells) c.as_slice-6.ensures ∙ rows.lines) }))
+returns-in_err-orders-clause-damaged c = grind (arith, passed_up, heads_same)
 
 pub returns-in_err-kept-clause-damaged : goal.returns-in_err-kept-clause-damaged
 returns-in_err-kept-clause-damaged c = passed_up c.from_residual-in_err-kept.result c.in_err-kept.field-0.0 _ c.from_residual-in_err-kept.ensures.1
@@ -42,7 +33,6 @@ returns-in_err-kept-clause-damaged c = passed_up c.from_residual-in_err-kept.res
 
 pub returns-in_default-clause-damaged : goal.returns-in_default-clause-damaged
 returns-in_default-clause-damaged c _ A g rows =
-    let counted = c.len.ensures in
     let kept = c.in_ok-kept.kept.ok.0 in
     let told = zip-length IsKeptTold c.in_ok-kept.kept.items c.as_slice-7.result.now c.in_ok-kept.ensures.told in
     let same = ap (λ (cells : List KeptCells). length cells) (ap (map kept_cells) c.as_slice-7.ensures ∙ rows.kept) in
@@ -57,7 +47,6 @@ returns-clause-told c =
     let told = c.in_ok-heads.ensures.told in
     let grouped = c.in_ok-orders.ensures.told in
     let have = orders_rows c.in_ok-heads.heads.items orders (grouped.heads_are ∙ c.deref.ensures.value) in
-    let counted = c.len.ensures in
     let kept = c.in_ok-kept.kept.ok.0 in
     let seen = length-of-map kept_of c.in_ok-kept.kept.items in
     let places : c.len.result ≡ length (map kept_of c.in_ok-kept.kept.items) = omega arith in

@@ -1,4 +1,4 @@
-use Rattle.book.proofs.Indexes.{same_entries}
+use Rattle.book.proofs.KeyPlaces.{same_entries}
 use Rattle.book.proofs.in_order.InOrder.arrived.Goals as goal
 
 pub returns : goal.returns

@@ -1,5 +1,5 @@
 use Rattle.book.proofs.Prelude.{◌<◌, ◌∙◌, ap, arith, length, refl, slice_get, slice_get_read, subst, sym}
-use Rattle.book.proofs.Indexes.{index_at, length_in_order, length_order}
+use Rattle.book.proofs.KeyPlaces.{index_at, length_in_order, length_order}
 use Rattle.book.proofs.in_order.InOrder.entry_at.Goals as goal
 
 -- the place is within the order

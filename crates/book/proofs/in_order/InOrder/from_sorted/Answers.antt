@@ -1,5 +1,5 @@
 use Rattle.book.proofs.Prelude.{◌∙◌, ◌≡◌, IsPermutation-refl, add-one, ap, arith, at_indexes, length, range_with_len, refl, zero-add}
-use Rattle.book.proofs.Indexes.{at_indexes-all, range_more}
+use Rattle.book.proofs.KeyPlaces.{at_indexes-all, range_more}
 use Rattle.book.proofs.in_order.InOrder.from_sorted.Goals as goal
 
 pub loop-index-preserved : goal.loop-index-preserved

@@ -1,6 +1,5 @@
 use Rattle.book.proofs.Prelude.{◌∙◌, ◌≤◌, IsGap, ap, arith, insert_entry, none-some, room_left, subst, sym, vec_capacity, vec_len}
-use Rattle.book.proofs.Indexes.{has_room, length_in_order, length_order}
-use Rattle.book.proofs.KeyPlaces.{lookup_at, kept, listed}
+use Rattle.book.proofs.KeyPlaces.{has_room, length_in_order, length_order, lookup_at, kept, listed}
 use Rattle.book.proofs.in_order.InOrder.insert.Goals as goal
 
 -- the key is not there

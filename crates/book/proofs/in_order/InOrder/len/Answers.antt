@@ -1,5 +1,5 @@
 use Rattle.book.proofs.Prelude.{◌∙◌, sym, ap, length}
-use Rattle.book.proofs.Indexes.{length_in_order}
+use Rattle.book.proofs.KeyPlaces.{length_in_order}
 use Rattle.book.proofs.in_order.InOrder.len.Goals as goal
 
 pub returns : goal.returns

@@ -1,6 +1,5 @@
 use Rattle.book.proofs.Prelude.{◌<◌, ◌∙◌, ap, arith, at_indexes, length, option_map, refl, room_left, slice_get-map, slice_get_read, subst, sym, vec_capacity, vec_len}
-use Rattle.book.proofs.Indexes.{index_at, length_in_order, length_order}
-use Rattle.book.proofs.KeyPlaces.{kept_written, written}
+use Rattle.book.proofs.KeyPlaces.{index_at, length_in_order, length_order, kept_written, written}
 use Rattle.book.proofs.in_order.InOrder.nth_mut.Goals as goal
 
 -- the place is within the order

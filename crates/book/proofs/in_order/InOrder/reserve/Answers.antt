@@ -1,5 +1,5 @@
 use Rattle.book.proofs.Prelude.{◌<◌, arith, rules, subst, vec_capacity, vec_len}
-use Rattle.book.proofs.Indexes.{length_order, no_room, room_made}
+use Rattle.book.proofs.KeyPlaces.{length_order, no_room, room_made}
 use Rattle.book.proofs.in_order.InOrder.reserve.Goals as goal
 
 pub returns-clause-ok : goal.returns-clause-ok

@@ -1,7 +1,7 @@
 use Rattle.std.proofs.Common.{subst}
 use Rattle.book.specs.Rows.{IsRowsOf}
 use Rattle.book.proofs.Futures.{honours_always}
-use Rattle.book.proofs.Once.{honours_if_good}
+use Rattle.book.proofs.Runs.{honours_if_good}
 use Rattle.book.proofs.EqualRows.{told_by_rows}
 use Rattle.desk.proofs.desk.Desk.open.Goals as goal
 

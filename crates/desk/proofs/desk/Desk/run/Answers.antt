@@ -6,7 +6,7 @@ use Rattle.book.specs.Answers.{Runs}
 use Rattle.words.specs.declared.reply.Reply.TheVariants.{Done}
 use Rattle.book.specs.Ledger.{Ledger, places}
 use Rattle.book.specs.Next.{accept}
-use Rattle.book.proofs.Once.{accepted_answered}
+use Rattle.book.proofs.Runs.{accepted_answered}
 use Rattle.desk.specs.Desk.{LeavesEither}
 use Rattle.desk.proofs.RunsOn.{runs_on}
 use Rattle.desk.proofs.desk.Desk.run.Goals as goal

@@ -1,11 +1,9 @@
 use Rattle.book.proofs.Prelude.{[], ◌<◌, ◌∙◌, ◌∷◌, ◌≡◌, Bor, IsDistinct, Line, List, MatchOption, None, Option, Some, ap, arith, false, find, get_or, is_some, length, line_name, map, on, refl, same_name, subst, suc, sym, take, true, true≢false, zero, ℕ}
 use Rattle.book.proofs.OutcomeTests.{none_found}
-use Rattle.book.proofs.NewAmounts.{other_way}
-use Rattle.book.proofs.LineChecks.{apart_push}
-use Rattle.book.proofs.Lists.{each-unmap}
+use Rattle.book.proofs.Safety.{other_way}
+use Rattle.book.proofs.CheckAnswers.{apart_push}
+use Rattle.book.proofs.Lists.{each-unmap, take-step, each_get}
 use Rattle.book.proofs.TestResults.{no}
-use Rattle.book.proofs.Walks.{take-step}
-use Rattle.book.proofs.WalksInPlace.{each_get}
 use Rattle.book.proofs.book.tables.good.are_apart.Goals as goal
 
 none_before : (ls : List Line) (i : ℕ) (d : Line) → i < length ls → IsDistinct same_name (map line_name ls) → find (on (line_name (get_or ls i d))) (take i ls) ≡ None

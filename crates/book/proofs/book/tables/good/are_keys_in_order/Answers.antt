@@ -1,11 +1,8 @@
-use Rattle.book.proofs.Prelude.{◌≡◌, Bool, Kept, KeptEntry, List, always_returns_same, is_lt, kept_of, nat_cmp, nat_list_cmp_total, of_calls, refl, rules, slice_cmp, ℕ}
-use Rattle.book.proofs.InRow.{in_order}
+use Rattle.book.proofs.Prelude.{◌≡◌, always_returns_same, is_lt, of_calls, refl, rules}
+use Rattle.book.proofs.InRow.{neighbours}
 use Rattle.book.proofs.book.tables.good.are_keys_in_order.Goals as goal
 
-abbrev before : List ℕ × KeptEntry → List ℕ × KeptEntry → Bool
-before one other = is_lt (slice_cmp nat_cmp one.0 other.0)
-
 pub returns : goal.returns
-returns c =
-    in_order (slice_cmp nat_cmp) nat_list_cmp_total (λ (k : Kept). k.key) kept_of before (λ x y. refl) c.args.kept.now c.is_sorted_by.result
-    (c.is_sorted_by.ensures.cases before (always_returns_same _ (λ a r. r ≡ before a.0.now a.1.0.now) _ (λ a r f k. search (rules, of_calls))))
+returns g c =
+    neighbours g.K.Ord.cmp g.met.K.Ord.total (λ e. e.0) (λ x y. is_lt (g.K.Ord.cmp x.0 y.0)) (λ x y. refl) c.args.entries.now c.is_sorted_by.result
+    (c.is_sorted_by.ensures.cases (λ x y. is_lt (g.K.Ord.cmp x.0 y.0)) (always_returns_same _ (λ a r. r ≡ is_lt (g.K.Ord.cmp a.0.now.0 a.1.0.now.0)) _ (λ a r f k. search (rules, of_calls))))

@@ -1,10 +1,8 @@
 use Rattle.book.proofs.Prelude.{◌∙◌, ◌≡◌, ◌≤◌, Bool, IsDistinct, Kept, KeptEntry, List, ap, arith, false, kept_of, length, list_any, map, map-map, nat_eq, refl, slice_index_or, subst, sym, take, take_all, true, ℕ}
 use Rattle.std.proofs.lemmas.List.{get_or-replicate, length-set}
-use Rattle.book.proofs.Lists.{each-unmap}
-use Rattle.book.proofs.Places.{apart_next, marks_next, not_before}
+use Rattle.book.proofs.Lists.{each-unmap, apart_next, marks_next, not_before, each-at, each-end, each-next}
 use Rattle.book.proofs.Sums.{each-map}
 use Rattle.book.proofs.TestResults.{no, true_not_false, yes}
-use Rattle.book.proofs.Walks.{each-at, each-end, each-next}
 use Rattle.book.proofs.book.tables.good.are_places_good.Goals as goal
 
 abbrev Entry : Type 0
@@ -23,7 +21,6 @@ loop-entry-preserved c =
     let i = c.loop-entry.entry-index in
     let e = c.entry-item.result in
     let free = c.if-not-is_free.ensures.0 refl in
-    let within = free.1 in
     let same = c.deref.ensures.value in
     let long = ap (λ (bs : List Bool). length bs) same in
     let size = c.loop-entry.invariant.long in
@@ -44,7 +41,6 @@ returns-then-not-is_free c = no (λ good.
     let low = range.0 in
     let high = range.1 in
     let same = c.deref.ensures.value in
-    let long = ap (λ (bs : List Bool). length bs) same in
     let size = c.loop-entry.invariant.long in
     let off = subst (λ (x : Entry). list_any (λ y. nat_eq (place y) (place x)) (take i kept) ≡ false) (sym c.entry-item.is)
     (not_before place kept i e c.loop-entry-test.true (subst (IsDistinct nat_eq) (map-map (λ (k : Kept). k.place) kept_of kept) good.1)) in

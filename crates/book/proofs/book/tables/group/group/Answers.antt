@@ -1,8 +1,7 @@
-use Rattle.book.proofs.Prelude.{[], ◌++◌, ◌+◌, ◌<◌, ◌∙◌, ◌∷◌, ◌≡◌, BeginsOther, Head, IsLineTold, LineCells, LineRow, List, Order, ap, arith, drop, drop-drop, flat_map, get_or, head_of, length, length-drop, line_cells, lines_from, map, map-append, order_lines, order_of, subst, sym, take, ℕ}
+use Rattle.book.proofs.Prelude.{[], ◌++◌, ◌+◌, ◌<◌, ◌∙◌, ◌∷◌, ◌≡◌, BeginsOther, Head, IsLineTold, LineCells, LineRow, List, Order, OrderEntry, ap, arith, drop, drop-drop, flat_map, get_or, head_of, length, length-drop, line_cells, lines_from, map, map-append, order_lines, order_of, subst, sym, ℕ}
 use Rattle.book.proofs.LineGroups.{Tail, drop-step, left_step, lines_step, none_left, tail-first}
-use Rattle.book.proofs.Pairs.{zip-drop, zip-length}
+use Rattle.book.proofs.Lists.{zip-drop, zip-length, take-step}
 use Rattle.book.proofs.TestResults.{passed_up}
-use Rattle.book.proofs.Walks.{take-step}
 use Rattle.book.proofs.book.tables.group.group.Goals as goal
 
 pub behind-lines_left-requires : goal.behind-lines_left-requires
@@ -36,24 +35,23 @@ loop-head-preserved c =
     let told = subst (λ (rows : List LineRow). lines_from head.number 1 own ++ map line_cells (drop (length own) rows) ≡ map line_cells rows) same c.in_ok-own.ensures.told in
     let end = subst (λ (rows : List LineRow). BeginsOther head.number (drop (length own) rows)) same c.in_ok-own.ensures.end in
     let further : drop (length own) rows ≡ drop (start + c.len-start.result) c.args.rows.now = drop-drop (length own) start c.args.rows.now ∙ ap (λ k. drop k c.args.rows.now) (omega arith) in
-    let pushed : map order_of c.push.new.self.items ≡ map order_of c.loop-head.orders.items ++ order_of c.with_lines-order.result ∷ [] =
-    ap (map order_of) c.in-Ok-push.ensures.items ∙ map-append order_of c.loop-head.orders.items (c.with_lines-order.result ∷ []) in
+    let order : ℕ × OrderEntry = (head.number, record { kind = head.kind; until = head.until; state = head.state; firm = head.firm; lines = c.in_ok-own.own }) in
+    let pushed : map order_of c.push.new.self.items ≡ map order_of c.loop-head.orders.items ++ order_of order ∷ [] =
+    ap (map order_of) c.in-Ok-push.ensures.items ∙ map-append order_of c.loop-head.orders.items (order ∷ []) in
     record {
       within =
           let own_within = c.in_ok-own.ensures.within in
           let left = ap (λ (rows : List LineRow). length rows) same in
           let long = length-drop start c.args.rows.now in
-          let counted = c.len-start.ensures in
           let before = c.loop-head.invariant.within in
           omega arith;
-      heads = ap (map head_of) pushed ∙ map-append head_of (map order_of c.loop-head.orders.items) (order_of c.with_lines-order.result ∷ [])
-          ∙ ap (λ (hs : List Head). hs ++ head_of (order_of c.with_lines-order.result) ∷ []) c.loop-head.invariant.heads
-          ∙ ap (λ (o : Order). take i c.args.heads.now ++ head_of o ∷ []) c.with_lines-order.ensures
+      heads = ap (map head_of) pushed ∙ map-append head_of (map order_of c.loop-head.orders.items) (order_of order ∷ [])
+          ∙ ap (λ (hs : List Head). hs ++ head_of (order_of order) ∷ []) c.loop-head.invariant.heads
           ∙ sym (take-step c.args.heads.now i head c.loop-head-test.true c.head-item.is);
       lines = subst (λ (os : List Order). flat_map order_lines os ++ map line_cells (drop (start + c.len-start.result) c.args.rows.now) ≡ map line_cells c.args.rows.now) (sym pushed)
-          (subst (λ (left : List LineRow). flat_map order_lines (map order_of c.loop-head.orders.items ++ order_of c.with_lines-order.result ∷ []) ++ map line_cells left ≡ map line_cells c.args.rows.now) further
-          (lines_step (map order_of c.loop-head.orders.items) (order_of c.with_lines-order.result) (map line_cells (drop (length own) rows)) (map line_cells rows) (map line_cells c.args.rows.now) c.loop-head.invariant.lines
-          (ap (λ (o : Order). order_lines o ++ map line_cells (drop (length own) rows)) c.with_lines-order.ensures ∙ told)));
+          (subst (λ (left : List LineRow). flat_map order_lines (map order_of c.loop-head.orders.items ++ order_of order ∷ []) ++ map line_cells left ≡ map line_cells c.args.rows.now) further
+          (lines_step (map order_of c.loop-head.orders.items) (order_of order) (map line_cells (drop (length own) rows)) (map line_cells rows) (map line_cells c.args.rows.now) c.loop-head.invariant.lines
+          told));
       left = λ orders sorted tell. subst (λ (left : List LineRow). Tail (drop (i + 1) c.args.heads.now) (map line_cells left)) further
           (left_step head (drop (i + 1) c.args.heads.now) own rows told end
           (left_here c.args.heads.now i head (map line_cells rows) c.loop-head-test.true c.head-item.is (c.loop-head.invariant.left orders sorted tell)));

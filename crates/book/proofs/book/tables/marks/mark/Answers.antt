@@ -31,7 +31,4 @@ returns-clause-marked c t =
     all_marked (map head_row c.args.heads.now) c.loop-head.heads c.loop-head.head-index c.args.rows.now c.loop-head.next c.loop-head.invariant past all
 
 pub returns-clause-damaged : goal.returns-clause-damaged
-returns-clause-damaged c less heads sorted same rows =
-    let past : length c.loop-head.heads ≤ c.loop-head.head-index = omega arith in
-    let all = all_named (map head_row c.args.heads.now) c.loop-head.heads c.loop-head.head-index c.args.rows.now c.loop-head.next c.loop-head.invariant past (record { heads = heads; sorted = sorted; same = same; rows = rows }) in
-    grind arith
+returns-clause-damaged c less heads sorted same rows = grind (arith, all_named)

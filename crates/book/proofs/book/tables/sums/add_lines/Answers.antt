@@ -1,16 +1,20 @@
 use Rattle.book.proofs.Prelude.{[], ◌*◌, ◌+◌, ◌∙◌, ◌∷◌, ◌≡◌, ◌≤◌, Each, IsField, IsSmall, added, ap, arith, line_name, lines_numbers, most_of_all, most_of_line, most_of_lines, refl, subst, sym, take, ℕ}
 use Rattle.book.proofs.SumsOnFields.{added-nothing, added-twice, each-small-up, line-step}
-use Rattle.book.proofs.Walks.{each-next}
+use Rattle.book.proofs.Lists.{each-next}
 use Rattle.book.proofs.book.tables.sums.add_lines.Goals as goal
 
 pub loop-line-init : goal.loop-line-init
 loop-line-init c = record { there = tt; sums = sym (added-nothing (lines_numbers c.args.state c.args.firm []) (grind arith) c.args.fields.now c.args.sums.now); small = λ k small. let more : k ≤ k + 0 = omega arith in each-small-up k (k + 0) c.args.sums.now more small }
 
-pub add_line-requires-clause-room : goal.add_line-requires-clause-room
-add_line-requires-clause-room c =
+pub add_line-requires : goal.add_line-requires
+add_line-requires c =
     let i : ℕ = c.loop-line.line-index in
     let up : most_of_all + most_of_line * i ≤ most_of_all + most_of_all = omega arith in
-    each-small-up (most_of_all + most_of_line * i) (most_of_all + most_of_all) c.loop-line.sums up (c.loop-line.invariant.small most_of_all c.requires.room)
+    record {
+      sorted = c.requires.sums.sorted;
+      long = grind arith;
+      room = each-small-up (most_of_all + most_of_line * i) (most_of_all + most_of_all) c.loop-line.sums up (c.loop-line.invariant.small most_of_all c.requires.sums.room);
+    }
 
 pub loop-line-preserved : goal.loop-line-preserved
 loop-line-preserved c =

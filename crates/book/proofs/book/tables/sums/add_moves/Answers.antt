@@ -1,13 +1,13 @@
 use Rattle.book.proofs.Prelude.{[], ◌*◌, ◌+◌, ◌∙◌, ◌∷◌, ◌≡◌, Each, IsField, IsSmall, added, ap, arith, most_of_move, move_of, numbers_on, refl, subst, sym, take, ℕ}
 use Rattle.book.proofs.SumsOnFields.{added-nothing, added-twice, each-small-up, move-step}
-use Rattle.book.proofs.Walks.{each-next}
+use Rattle.book.proofs.Lists.{each-next}
 use Rattle.book.proofs.book.tables.sums.add_moves.Goals as goal
 
 pub loop-entry-init : goal.loop-entry-init
-loop-entry-init c = record { there = tt; sums = sym (added-nothing (numbers_on [] []) (λ f. refl) c.args.fields.now c.args.sums.now); small = c.requires.room }
+loop-entry-init c = record { there = tt; sums = sym (added-nothing (numbers_on [] []) (λ f. refl) c.args.fields.now c.args.sums.now); small = c.requires.sums.room }
 
-pub add_move-requires-clause-room : goal.add_move-requires-clause-room
-add_move-requires-clause-room c = grind (arith, each-small-up)
+pub add_move-requires-clause-sums : goal.add_move-requires-clause-sums
+add_move-requires-clause-sums c = grind (arith, each-small-up)
 
 pub loop-entry-preserved : goal.loop-entry-preserved
 loop-entry-preserved c =

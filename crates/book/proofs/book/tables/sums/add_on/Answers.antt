@@ -1,14 +1,15 @@
-use Rattle.book.proofs.Prelude.{◌+◌, ◌≤◌, Name, arith, name_of, refl}
-use Rattle.book.proofs.SumsOnFields.{added-at, added-none, there_at, each-small-up}
+use Rattle.book.proofs.Prelude.{◌+◌, ◌≤◌, arith, nothing, refl}
+use Rattle.book.proofs.SumsOnFields.{added-at, added-none, there_at, each-small-set, each-small-up}
 use Rattle.book.proofs.book.tables.sums.add_on.Goals as goal
 
 pub returns-in-Some-clause-there : goal.returns-in-Some-clause-there
-returns-in-Some-clause-there c =
-    let name : Name = name_of c.args.branch c.args.article in
-    ((λ t. there_at name c.args.fields.now c.in-Some.place c.in-Some.ensures), λ f. refl)
+returns-in-Some-clause-there c = ((λ t. there_at c.args.name c.args.fields.now c.in-Some.place c.in-Some.ensures), λ f. refl)
 
 pub returns-in-Some-clause-sums : goal.returns-in-Some-clause-sums
 returns-in-Some-clause-sums c = grind (arith, added-at)
+
+pub returns-in-Some-clause-small : goal.returns-in-Some-clause-small
+returns-in-Some-clause-small c k m small part = grind (arith, (each-small-set k m c.in-Some.place nothing c.args.part.now c.args.sums.now (omega (arith, c.in-Some.ensures.within)) small part))
 
 pub returns-in-None-clause-sums : goal.returns-in-None-clause-sums
 returns-in-None-clause-sums c = grind (arith, added-none)

@@ -1,13 +1,13 @@
 use Rattle.book.proofs.Prelude.{[], ◌*◌, ◌+◌, ◌∙◌, ◌≡◌, AreLinesOnFields, Each, IsSmall, Line, List, added, ap, arith, lines_numbers, most_of_lines, most_of_moves, numbers_on, refl, subst, sym, take, ℕ}
 use Rattle.book.proofs.SumsOnFields.{added-nothing, added-twice, each-small-up, order-step}
-use Rattle.book.proofs.Walks.{each-next}
+use Rattle.book.proofs.Lists.{each-next}
 use Rattle.book.proofs.book.tables.sums.add_orders.Goals as goal
 
 pub loop-entry-init : goal.loop-entry-init
-loop-entry-init c = record { there = tt; sums = sym (added-nothing (numbers_on [] []) (λ f. refl) c.args.fields.now c.args.sums.now); small = c.requires.room }
+loop-entry-init c = record { there = tt; sums = sym (added-nothing (numbers_on [] []) (λ f. refl) c.args.fields.now c.args.sums.now); small = c.requires.sums.room }
 
-pub add_lines-requires-clause-room : goal.add_lines-requires-clause-room
-add_lines-requires-clause-room c = grind (arith, each-small-up)
+pub add_lines-requires-clause-sums : goal.add_lines-requires-clause-sums
+add_lines-requires-clause-sums c = grind (arith, each-small-up)
 
 pub loop-entry-preserved : goal.loop-entry-preserved
 loop-entry-preserved c =

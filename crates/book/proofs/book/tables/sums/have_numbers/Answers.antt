@@ -1,6 +1,5 @@
 use Rattle.book.proofs.Prelude.{◌<◌, ◌≡◌, FieldEntry, HasNumbers, List, Name, Numbers, arith, entry_name, get_or, length, map, pos, refl, subst, ℕ}
-use Rattle.book.proofs.Walks.{each-next}
-use Rattle.book.proofs.Pairs.{get-of-map}
+use Rattle.book.proofs.Lists.{each-next, get-of-map}
 use Rattle.book.proofs.book.tables.sums.have_numbers.Goals as goal
 
 -- what stands for numbers past the last

@@ -7,7 +7,6 @@ returns c =
     let quantity = c.args.entry.now.quantity in
     let least = least_is quantity (pos c.inf.result) c.inf.ensures in
     let greatest = greatest_is quantity (pos c.sup.result) c.sup.ensures in
-    let value_is = c.value.ensures.value in
     let value = c.get-value.ensures.value in
     let start = c.get.ensures.value in
     let inf = c.get-2.ensures.value in
