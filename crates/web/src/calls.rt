@@ -21,7 +21,7 @@ fn told(alloc: Global, reply: Reply) -> Ready
 {
     match reply_answer(alloc, reply) {
         Ok(answer) => Ready::Made(answer),
-        Err(_) => Ready::Fixed(Fixed::Memory),
+        Err(AllocError) => Ready::Fixed(Fixed::Memory),
     }
 }
 

@@ -1,4 +1,4 @@
-use Rattle.std.proofs.Common.{Err, ap, refl, rules, subst}
+use Rattle.std.proofs.Common.{Err, ap, inr, refl, rules, subst}
 use Rattle.book.specs.Answers.{IsAccepted}
 use Rattle.book.specs.Next.{accept}
 use Rattle.desk.specs.Desk.{LeavesEither}
@@ -14,6 +14,21 @@ returns-in-Ok-Accept-clause-cut g c =
     let fits = planned.1 in
     cut_stopped _ _ _ _ _ _ (c.in-Err-Stopped-carry_out.ensures.stopped is).1 (λ went. subst (IsAccepted c.args.desk.now.ledger) same fits.accepted)
     (λ went honest. subst (λ r. LeavesEither (g.K.Keep.leaves c.carry_out.new.self.keep) c.args.desk.now.ledger (accept c.args.desk.now.ledger r)) same (c.in-Err-Stopped-carry_out.ensures.either is honest))
+
+pub returns-in-Ok-Accept-clause-line : goal.returns-in-Ok-Accept-clause-line
+returns-in-Ok-Accept-clause-line g c = tt
+
+pub returns-in-Ok-Accept-clause-memory : goal.returns-in-Ok-Accept-clause-memory
+returns-in-Ok-Accept-clause-memory g c = λ e. absurd (cc e)
+
+pub returns-in-Ok-Accept-clause-going : goal.returns-in-Ok-Accept-clause-going
+returns-in-Ok-Accept-clause-going g c = λ other. absurd (other refl)
+
+pub returns-in-Ok-Accept-clause-went_on : goal.returns-in-Ok-Accept-clause-went_on
+returns-in-Ok-Accept-clause-went_on g c = tt
+
+pub returns-in-Ok-Accept-clause-fault : goal.returns-in-Ok-Accept-clause-fault
+returns-in-Ok-Accept-clause-fault g c = inr refl
 
 -- the desk was stopped before
 pub returns-clause-cut : goal.returns-clause-cut
