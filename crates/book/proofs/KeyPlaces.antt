@@ -1,11 +1,12 @@
 -- Entries under keys: the indexes of an order, keys in their order, and entries of a ledger.
-use Rattle.book.proofs.Prelude.{Bool, Each, Equal, Err, FieldEntry, Greater, IfErr, IfOk, IsBinarySearchResult, IsDistinct, IsGap, IsNonDecreasingBy, IsPermutation, IsPermutation-map, IsPermutation-refl, IsSearchInRange, IsStrictlySortedBy, IsTotalOrder, KeptEntry, Less, List, Name, None, Ok, Option, OrderEntry, Ordering, Result, Some, [], add-zero, ap, arith, at_indexes, bytes_decides, bytes_eq, cases_lt, common_steps, compare_at, eqb, false, field_of, find, get_or, get_or_from_slice_get, inl, inr, insert, insert_entry, insert_in_order, is_at, is_eq, is_eq-slice_cmp, is_lt, kept_of, keys_of, length, length-append, lookup, map, name_cmp, nat_cmp, nat_tests, none-some, option_map, order_of, ordering_index, ordering_reverse, range_with_len, recursion_from_All, refl, room_left, same_Some, same_name, set, set_value, slice_cmp, slice_get, slice_get-map, slice_get_read, slice_get_within, subst, suc, sym, zero, zero-add, ℕ, ◌++◌, ◌+◌, ◌-◌, ◌<◌, ◌==◌, ◌^◌, ◌∙◌, ◌∷◌, ◌≡◌, ◌≢◌, ◌≤◌}
+use Rattle.book.proofs.Prelude.{Bool, Each, Equal, FieldEntry, Greater, IsDistinct, IsGap, IsPermutation, IsPermutation-map, IsPermutation-refl, IsStrictlySortedBy, IsTotalOrder, KeptEntry, Less, List, Name, None, Option, OrderEntry, Ordering, Some, [], add-zero, ap, arith, at_indexes, bytes_decides, bytes_eq, cases_lt, common_steps, compare_at, eqb, false, field_of, find, get_or, get_or_from_slice_get, inl, inr, insert, insert_entry, insert_in_order, is_at, is_eq, is_eq-slice_cmp, is_lt, kept_of, keys_of, length, length-append, lookup, map, name_cmp, nat_cmp, nat_tests, none-some, option_map, order_of, ordering_reverse, range_with_len, recursion_from_All, refl, room_left, same_Some, same_name, set, set_value, slice_cmp, slice_get, slice_get-map, slice_get_read, slice_get_within, subst, suc, sym, zero, zero-add, ℕ, ◌++◌, ◌+◌, ◌-◌, ◌<◌, ◌==◌, ◌^◌, ◌∙◌, ◌∷◌, ◌≡◌, ◌≢◌, ◌≤◌}
+use Rattle.std.proofs.Common.{◌/◌}
 use Rattle.std.proofs.lemmas.List.Elements.{All-from_get_or, All-from_recursion}
 use Rattle.std.proofs.lemmas.List.FromFn.{fill_by_all, get_or-range_with_len, length-range_with_len}
 use Rattle.std.proofs.lemmas.Bool.{eqb-false}
 use Rattle.std.proofs.lemmas.Map.Keys.{IsDistinct-IsPermutation, IsDistinct-from_apart, IsDistinct-from_sorted, Less-from_sorted}
 use Rattle.std.proofs.lemmas.Option.{slice_get-get_or}
-use Rattle.std.proofs.lemmas.List.Sorted.{All-permutation, IsNonDecreasingBy-from_default, IsPermutation-insert, IsPermutation-push_more, IsPermutation-sym, length_permutation}
+use Rattle.std.proofs.lemmas.List.Sorted.{All-permutation, IsPermutation-insert, IsPermutation-push_more, IsPermutation-sym, length_permutation}
 use Rattle.std.proofs.lemmas.Cmp.{alike_right, eq_by_cmp_equiv, nat_list_eq_equiv, tied_back}
 use Rattle.std.proofs.lemmas.List.Edits.{insert_end}
 use Rattle.std.proofs.lemmas.Map.Entries.{length-keys_of, lookup_at_gap, lookup_from_place}
@@ -183,6 +184,12 @@ module _ {K V : Type 0} where
   pub kept_written : (cmp : K → K → Ordering) (es : List (K × V)) (order : List ℕ) (place i : ℕ) (e : K × V) (w : V) → IsKeyOrder cmp es order → place < length (at_indexes es order) → i ≡ get_or order place i → e ≡ get_or es i e → IsKeyOrder cmp (set es i (e.0, w)) order
   kept_written cmp es order place i e w kept short read entry = grind (arith, common_steps, (written es order place i e w kept.each_once short read entry), keys-set_value_at, kept.each_once, kept.rising)
 
+-- the key stands, if at all, from low on and below high
+pub record IsBetween {K V : Type 0} (cmp : K → K → Ordering) (l : List (K × V)) (key : K) (low high : ℕ) : Type 0 where
+  pub within : high ≤ length l
+  pub above : (j : ℕ) (e : K × V) → j < low → slice_get l j ≡ Some e → cmp key e.0 ≡ Greater
+  pub below : (j : ℕ) (e : K × V) → high ≤ j → slice_get l j ≡ Some e → cmp key e.0 ≡ Less
+
 module _ {K : Type 0} {cmp : K → K → Ordering} (total : IsTotalOrder cmp) (key : K) where
   before : (x : K) → cmp x key ≡ Less → cmp key x ≡ Greater
   before x h = total.antisymm key x ∙ ap ordering_reverse h
@@ -192,10 +199,6 @@ module _ {K : Type 0} {cmp : K → K → Ordering} (total : IsTotalOrder cmp) (k
 
   back : (x : K) → cmp key x ≡ Greater → cmp x key ≡ Less
   back x h = total.antisymm x key ∙ ap ordering_reverse h
-
-  -- the answers of a search for the key rise with the keys
-  rises : (x y : K) → cmp x y ≡ Less → (o : Ordering) → cmp y key ≡ o → ordering_index (cmp x key) ≤ ordering_index o
-  rises x y h b e = grind arith
 
   each_below : (x : K) → cmp key x ≡ Less → (ks : List K) → Each (λ y. cmp x y ≡ Less) ks → Each (λ y. cmp key y ≡ Less) ks
   each_below x h [] all = tt
@@ -244,6 +247,27 @@ module _ {K : Type 0} {cmp : K → K → Ordering} (total : IsTotalOrder cmp) (k
     rise_along : (l : List (K × V)) → IsStrictlySortedBy cmp (keys_of l) → (i j : ℕ) (x y : K × V) → i < j → slice_get l i ≡ Some x → slice_get l j ≡ Some y → cmp x.0 y.0 ≡ Less
     rise_along l rising i j x y lt at_i at_j = grind (arith, (Less-from_sorted cmp (keys_of l) i j x.0 rising lt (omega (arith, length-keys_of l, slice_get_within l j y at_j))), length-keys_of, slice_get_within, key_at)
 
+    -- half of the places are left, behind an entry or before it
+    behind : (l : List (K × V)) (low high middle : ℕ) (e : K × V) → IsStrictlySortedBy cmp (keys_of l) → IsBetween cmp l key low high → slice_get l middle ≡ Some e → cmp e.0 key ≡ Less → IsBetween cmp l key (middle + 1) high
+    behind l low high middle e rising between there less = record {
+      within = between.within;
+      above = λ j x lt at. before x.0 (elim (cases_lt j middle) [
+        | inl lower ↦ total.trans x.0 e.0 key (rise_along l rising j middle x e lower at there) less
+        | inr ge ↦ let same : middle ≡ j = omega arith in subst (λ y. cmp y.0 key ≡ Less) (same_Some _ _ (sym there ∙ ap (slice_get l) same ∙ at)) less
+      ]);
+      below = between.below;
+    }
+
+    in_front : (l : List (K × V)) (low high middle : ℕ) (e : K × V) → IsStrictlySortedBy cmp (keys_of l) → IsBetween cmp l key low high → slice_get l middle ≡ Some e → cmp e.0 key ≡ Greater → IsBetween cmp l key low middle
+    in_front l low high middle e rising between there greater = record {
+      within = omega (arith, slice_get_within l middle e there);
+      above = between.above;
+      below = λ j x ge at. elim (cases_lt middle j) [
+        | inl higher ↦ total.trans key e.0 x.0 (after e.0 greater) (rise_along l rising middle j e x higher there at)
+        | inr le ↦ let same : middle ≡ j = omega arith in subst (λ y. cmp key y.0 ≡ Less) (same_Some _ _ (sym there ∙ ap (slice_get l) same ∙ at)) (after e.0 greater)
+      ];
+    }
+
     at_tail : (e : K × V) (l : List (K × V)) (place : ℕ) → IsAt cmp (e ∷ l) key (suc place) → IsAt cmp l key place
     at_tail e l place at = record { entry = at.entry; there = at.there; equal = at.equal }
 
@@ -280,27 +304,35 @@ module _ {K : Type 0} {cmp : K → K → Ordering} (total : IsTotalOrder cmp) (k
       entry_at : (place : ℕ) → place < length order → (e : K × V) × (slice_get (at_indexes es order) place ≡ Some e)
       entry_at place short = some_at (at_indexes es order) place (omega (arith, length-at_indexes es order below))
 
-      comparisons_rise : IsNonDecreasingBy (λ i. ordering_index (compare_at cmp es key i)) order
-      comparisons_rise = IsNonDecreasingBy-from_default (λ i. ordering_index (compare_at cmp es key i)) order 0 (λ i j le short.
-          elim (cases_lt i j) [
-            | inl lt ↦
-                let x = entry_at i (omega arith) in
-                let y = entry_at j short in
-                rw (answer i 0 x.0 x.1, answer j 0 y.0 y.1) (rises x.0.0 y.0.0 (rise_along (at_indexes es order) rising i j x.0 y.0 lt x.1 y.1) (cmp y.0.0 key) refl)
-            | inr ge ↦ let same : i ≡ j = omega arith in rw same (omega arith)
-          ])
+      -- one step of a search: the entry in the middle of the places that are left
+      module _ (l : List (K × V)) (same : at_indexes es order ≡ l) (low high : ℕ) (between : IsBetween cmp l key low high) (open_still : low < high) where
+        abbrev pub middle : ℕ
+        middle = low + (high - low) / 2
 
-      -- ends at the key, or at the gap for it
-      pub searched : (r : Result ℕ ℕ) → IsSearchInRange r (length order) → IsBinarySearchResult (compare_at cmp es key) order r → record { found : IfOk r (IsAt cmp (at_indexes es order) key); gap : IfErr r (IsGap cmp (at_indexes es order) key) }
-      searched (Ok place) short equal = let e = entry_at place short in record { found = record { entry = e.0; there = e.1; equal = tied_back total e.0.0 key (sym (answer place 0 e.0 e.1) ∙ equal 0) }; gap = tt }
-      searched (Err place) within parted = record {
-        found = tt;
-        gap = record {
-          within = omega (arith, length-at_indexes es order below, within);
-          above = λ j e lt there. before e.0 (sym (answer j 0 e there) ∙ (parted comparisons_rise).0 j 0 (omega arith) lt);
-          below = λ e there. after e.0 (sym (answer place 0 e there) ∙ (parted comparisons_rise).1 place 0 (omega arith) (omega (arith, length-at_indexes es order below, slice_get_within (at_indexes es order) place e there)));
-        };
-      }
+        pub is_place : middle < length order
+        is_place = omega (arith, open_still, between.within, ap length same, length-at_indexes es order below)
+
+        module _ (index : ℕ) (read : index ≡ get_or order middle index) (o : Ordering) (answered : o ≡ compare_at cmp es key index) where
+          e : (e : K × V) × (slice_get (at_indexes es order) middle ≡ Some e)
+          e = entry_at middle is_place
+
+          there : slice_get l middle ≡ Some e.0
+          there = subst (λ l. slice_get l middle ≡ Some e.0) same e.1
+
+          compared : cmp e.0.0 key ≡ o
+          compared = sym (answered ∙ subst (λ i. compare_at cmp es key i ≡ cmp e.0.0 key) (sym read) (answer middle index e.0 e.1))
+
+          rises : IsStrictlySortedBy cmp (keys_of l)
+          rises = subst (λ l. IsStrictlySortedBy cmp (keys_of l)) same rising
+
+          pub found_there : o ≡ Equal → IsAt cmp l key middle
+          found_there is = record { entry = e.0; there = there; equal = tied_back total e.0.0 key (compared ∙ is) }
+
+          pub left_behind : o ≡ Less → (middle + 1 ≤ high) × IsBetween cmp l key (middle + 1) high
+          left_behind is = (omega (arith, open_still), behind l low high middle e.0 rises between there (compared ∙ is))
+
+          pub left_in_front : o ≡ Greater → (low ≤ middle) × IsBetween cmp l key low middle
+          left_in_front is = (omega (arith, open_still), in_front l low high middle e.0 rises between there (compared ∙ is))
 
       -- an entry more at the end, and its index put into the gap
       module _ (v : V) (place n : ℕ) (last : n ≡ length es) (gap : IsGap cmp (at_indexes es order) key place) where

@@ -22,6 +22,7 @@ pub mod ShownNumbers
 pub mod CheckAnswers
 pub mod Marks
 pub mod EqualRows
+pub mod Blocks
 pub mod KeyPlaces
 pub mod Puts
 pub mod NextContent

@@ -7,6 +7,7 @@ pub mod Good
 pub mod Future
 pub mod Model
 pub mod Examples
+pub mod IndexList
 pub mod InOrder
 pub mod InPlace
 pub mod KeptWords

@@ -9,6 +9,7 @@ ghost use Rattle.std.specs.BTreeMap.{insert_entry, is_at};
 ghost use Rattle.book.specs.Lends.{LendsAt, LendsUnder};
 ghost use Rattle.book.specs.InOrder.{Entries, IsAt, IsGap, compare_at};
 
+use crate::index_list::IndexList;
 use std::alloc::{AllocError, Global};
 use std::cmp::Ordering;
 use std::marker::Model;
@@ -21,7 +22,7 @@ const MAX_LEN: usize = 1 << 32;
 #[derive(Debug, Drop)]
 pub struct InOrder<K: Ord, V> {
     entries: Vec<(K, V)>,
-    order: Vec<u32>,
+    order: IndexList,
 }
 
 impl<K: Ord, V> Model for InOrder<K, V> {
@@ -32,7 +33,7 @@ impl<K: Ord, V> Model for InOrder<K, V> {
 
     ghost view = { λ m. record {
       entries = at_indexes m.entries.items m.order.items;
-      room = room_left (vec_len m.entries) (vec_capacity m.entries) (vec_capacity m.order);
+      room = room_left (vec_len m.entries) (vec_capacity m.entries) m.order.capacity;
     } };
 
     ghost invariant = { λ m. IsKeyOrder K.cmp m.entries.items m.order.items };
@@ -55,7 +56,7 @@ impl<K: Ord, V> InOrder<K, V> {
     {
         InOrder {
             entries: Vec::new(alloc),
-            order: Vec::new(alloc),
+            order: IndexList::new(alloc),
         }
     }
 
@@ -113,7 +114,7 @@ impl<K: Ord, V> InOrder<K, V> {
         ensures* writes { sem 𝓛 (LendsAt K.row V.row K.Ord self.entry place result) }
         ensures value { slice_get (values_of self.old.entries) place ≡ Some result.now }
     {
-        let index = self.order[place] as usize;
+        let index = self.order.get(place) as usize;
         let entry = &mut self.entries[index];
         &mut entry.1
     }
@@ -123,7 +124,7 @@ impl<K: Ord, V> InOrder<K, V> {
         requires { place < length self.now.entries }
         ensures { slice_get self.now.entries place ≡ Some result.now }
     {
-        &self.entries[self.order[place] as usize]
+        &self.entries[self.order.get(place) as usize]
     }
 
     /// Where the key stands, or else where it would go.
@@ -132,9 +133,17 @@ impl<K: Ord, V> InOrder<K, V> {
         ensures gap { IfErr result (IsGap K.cmp self.now.entries key.now) }
         ensures rising { IsStrictlySortedBy K.cmp (keys_of self.now.entries) }
     {
-        let entries = self.entries.as_slice();
-        self.order
-            .binary_search_by(|index| compare_at(entries, *index, key))
+        let mut low = 0;
+        let mut high = self.order.len();
+        while low < high {
+            let middle = low + (high - low) / 2;
+            match compare_at(&self.entries, self.order.get(middle), key) {
+                Ordering::Less => low = middle + 1,
+                Ordering::Greater => high = middle,
+                Ordering::Equal => return Ok(middle),
+            }
+        }
+        Err(low)
     }
 
     /// Makes room for so many entries more. Memory is wanted only where there was no such room.
@@ -144,7 +153,7 @@ impl<K: Ord, V> InOrder<K, V> {
         ensures room_stays { self.old.room ≤ self.new.room }
         ensures full { OnErr result (self.old.room < additional) }
     {
-        if MAX_LEN.saturating_sub(self.entries.len()) < additional {
+        if MAX_LEN.saturating_sub(self.order.len()) < additional {
             return Err(AllocError);
         }
         self.entries.reserve(additional)?;
@@ -166,9 +175,7 @@ impl<K: Ord, V> InOrder<K, V> {
             unreachable!()
         };
         let len = self.entries.len();
-        let Ok(()) = self.order.insert(place, len as u32) else {
-            unreachable!()
-        };
+        self.order.insert(place, len as u32);
         let Ok(()) = self.entries.insert(len, (key, value)) else {
             unreachable!()
         };
@@ -199,9 +206,10 @@ impl<K: Ord, V> InOrder<K, V> {
         requires rising { IsStrictlySortedBy K.cmp (keys_of entries.items) }
         ensures { IfOk result (λ r. r.entries ≡ entries.items) }
     {
-        let mut order = Vec::with_capacity(alloc, entries.len())?;
+        let mut order = IndexList::new(alloc);
+        order.reserve(entries.len())?;
         for index in 0..entries.len() {
-            order.push(index as u32)?;
+            order.insert(index, index as u32);
         }
         Ok(InOrder { entries, order })
     }

@@ -3,6 +3,7 @@
 
 mod book;
 mod in_order;
+mod index_list;
 mod kept_words;
 mod laws;
 mod limits;
