@@ -1,4 +1,4 @@
-use Rattle.std.proofs.Common.{subst}
+use Rattle.std.proofs.Common.{rules, subst}
 use Rattle.book.specs.Rows.{IsRowsOf}
 use Rattle.book.proofs.Futures.{honours_always}
 use Rattle.book.proofs.Runs.{honours_if_good}
@@ -13,3 +13,18 @@ pub returns-in-Ok-of_tables-clause-nothing_else : goal.returns-in-Ok-of_tables-c
 returns-in-Ok-of_tables-clause-nothing_else g c honest A x good rows held =
     told_by_rows c.in-Ok-of_tables.book.ledger A x c.in-Ok-of_tables.ensures.ok.0 good
     (subst (IsRowsOf c.in-Ok-of_tables.book.ledger) (c.in-Ok.ensures.one honest x held) c.in-Ok-of_tables.ensures.ok.1) rows
+
+pub invariant_of-result : goal.invariant_of-result
+invariant_of-result g c = search rules
+
+pub returns-in-Ok-of_tables-clause-stored : goal.returns-in-Ok-of_tables-clause-stored
+returns-in-Ok-of_tables-clause-stored g c = search rules
+
+pub returns-in-Ok-of_tables-clause-rows : goal.returns-in-Ok-of_tables-clause-rows
+returns-in-Ok-of_tables-clause-rows g c = search rules
+
+pub returns-in-Err-Damaged-clause-nothing_else : goal.returns-in-Err-Damaged-clause-nothing_else
+returns-in-Err-Damaged-clause-nothing_else g c = search rules
+
+pub returns-in-Err-Damaged-clause-damaged : goal.returns-in-Err-Damaged-clause-damaged
+returns-in-Err-Damaged-clause-damaged g c = search rules
