@@ -159,8 +159,9 @@ def test_want_of_memory_is_told(program, folder):
             expect((out, errors) == (replies, b""), f"{size} bytes: {out!r}, {errors!r}")
             whole += 1
         elif status == 1:
-            # what was done is told, in whole lines
-            expect(errors == b"stockdesk: memory\n" and replies.startswith(out), f"{size} bytes: {out!r}, {errors!r}")
+            # what was done is told, in whole lines; want of memory within a commit is a fault of the store
+            expect(errors in (b"stockdesk: memory\n", b"stockdesk: store\n"), f"{size} bytes: {errors!r}")
+            expect(replies.startswith(out), f"{size} bytes: {out!r}")
             expect(not out or out.endswith(b"\n"), f"{size} bytes: {out!r}")
             cut += 1
         else:

@@ -1,5 +1,5 @@
-use Rattle.std.proofs.Common.{rules}
+use Rattle.std.proofs.Common.{ap}
 use Rattle.desk.proofs.desk.Desk.into_keep.Goals as goal
 
 pub returns : goal.returns
-returns g c = search rules
+returns g c = ap (λ d. d.keep) c.self.view_is
