@@ -22,7 +22,6 @@ pub mod ShownNumbers
 pub mod CheckAnswers
 pub mod Marks
 pub mod EqualRows
-pub mod Blocks
 pub mod KeyPlaces
 pub mod Puts
 pub mod NextContent

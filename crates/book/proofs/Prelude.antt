@@ -6,7 +6,6 @@ pub use Rattle.book.specs.Checking.{stock_checks}
 pub use Rattle.book.specs.Future.{AsksNoStock, IsFuture, IsHonoured}
 pub use Rattle.book.specs.Good.{Good, IsGoodField, IsGoodKept, IsGoodLine, IsGoodMove, IsGoodOrder, IsTransferPair}
 pub use Rattle.book.specs.Held.{BreaksBound, MayHoldMore, held_to_add, held_to_take, if_add, if_take}
-pub use Rattle.book.specs.InOrder.{IsGap, at_indexes, compare_at, room_left}
 pub use Rattle.book.specs.InPlace.{MayChangeOrder, abort_all, abort_one, changed_line, changed_order}
 pub use Rattle.book.specs.Ledger.{Field, Kept, Ledger, Move, Name, Order, field_named, insert_in_order, is_open, is_settled, is_transfer, kept_under, line_name, line_on, name_cmp, name_of, new_ledger, on, open_orders, open_state, order_numbered, places, same_name, settled_state, shown_state, transfer_kind, unsettled}
 pub use Rattle.book.specs.Next.{accept, add_hold, change_lines, change_order, expires, hold_more, lower_held, new_line, new_order, next, raise_held, raise_used, set_firm, set_state, transfer_lines, with_move, with_order}

@@ -7,11 +7,8 @@ pub mod Good
 pub mod Future
 pub mod Model
 pub mod Examples
-pub mod IndexList
-pub mod InOrder
 pub mod InPlace
 pub mod KeptWords
-pub mod Lends
 pub mod Walk
 pub mod Plans
 pub mod Views

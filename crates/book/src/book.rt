@@ -24,8 +24,8 @@ mod plan;
 mod tables;
 mod views;
 
+use index::InOrder;
 use self::made::abort_all;
-use crate::in_order::InOrder;
 use crate::kept_words::KeptWords;
 use crate::order::{Order, OrderEntry, State};
 use escrow::{Article, Branch, FieldName, Key, Level, Moment, OrderNo, Quantity};

@@ -2,8 +2,6 @@
 #![tactic(auto)]
 
 mod book;
-mod in_order;
-mod index_list;
 mod kept_words;
 mod laws;
 mod limits;

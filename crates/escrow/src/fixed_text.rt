@@ -1,6 +1,6 @@
 //! A short text in a fixed array.
 
-ghost use Rattle.std.specs.Prelude.{◌≡◌, ◌≤◌, Some, length, nat_eq, refl};
+ghost use Rattle.std.specs.Prelude.{◌≡◌, ◌<◌, ◌≤◌, Some, length, nat_eq, refl};
 ghost use Rattle.std.specs.Cmp.{partial_equiv_from_equiv};
 ghost use Rattle.std.specs.Cmp.Lexicographic.{nat_list_cmp_total, nat_list_eq_equiv, pointwise, slice_cmp, texts_po, texts_ties};
 ghost use Rattle.std.specs.Ordering.{nat_cmp};
@@ -10,11 +10,11 @@ use std::fmt;
 use std::fmt::Write;
 use std::marker::Model;
 
-/// A text of at most `N` bytes, compared and ordered by its bytes. Zeros stand behind it.
+/// A text of at most `N` bytes, and of 255, compared and ordered by its bytes. Zeros stand behind it.
 #[derive(Clone, Copy)]
 pub struct FixedText<const N: usize> {
     cells: [u8; N],
-    len: usize,
+    len: u8,
 }
 
 impl<const N: usize> Model for FixedText<N> {
@@ -38,14 +38,15 @@ impl<const N: usize> Model for FixedText<N> {
 impl<const N: usize> FixedText<N> {
     /// The text of these bytes.
     pub fn new(bytes: &[u8]) -> FixedText<N>
-        requires { length bytes.now ≤ N }
+        requires fits { length bytes.now ≤ N }
+        requires short { N < 256 }
         ensures { result ≡ bytes.now }
     {
         let mut cells = [0; N];
         cells[..bytes.len()].copy_from_slice(bytes);
         FixedText {
             cells,
-            len: bytes.len(),
+            len: bytes.len() as u8,
         }
     }
 
@@ -53,7 +54,7 @@ impl<const N: usize> FixedText<N> {
     pub fn as_bytes(&self) -> &[u8]
         ensures { result.now ≡ self.now }
     {
-        &self.cells[..self.len]
+        &self.cells[..usize::from(self.len)]
     }
 }
 

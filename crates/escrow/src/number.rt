@@ -9,7 +9,7 @@ use std::marker::Model;
 /// A level of stock, in pieces: 0 to 1,000,000,000.
 #[derive(Clone, Copy, Debug, PartialEq, Eq, PartialOrd, Ord)]
 pub struct Level {
-    amount: u64,
+    amount: u32,
 }
 
 impl Model for Level {
@@ -31,7 +31,9 @@ impl Level {
         ensures { SomeIff result (IsLevel amount) amount }
     {
         if amount <= MAX_LEVEL {
-            Some(Level { amount })
+            Some(Level {
+                amount: amount as u32,
+            })
         } else {
             None
         }
@@ -42,7 +44,9 @@ impl Level {
         requires { IsLevel amount }
         ensures { result ≡ amount }
     {
-        Level { amount }
+        Level {
+            amount: amount as u32,
+        }
     }
 
     /// The amount, in pieces.
@@ -50,14 +54,14 @@ impl Level {
         ensures value { result ≡ self }
         ensures range { IsLevel self }
     {
-        self.amount
+        u64::from(self.amount)
     }
 }
 
 /// A quantity in a command, in pieces: 1 to 1,000,000.
 #[derive(Clone, Copy, Debug, PartialEq, Eq, PartialOrd, Ord)]
 pub struct Qty {
-    pieces: u64,
+    pieces: u32,
 }
 
 impl Model for Qty {
@@ -79,7 +83,9 @@ impl Qty {
         ensures { SomeIff result (IsQty pieces) pieces }
     {
         if 1 <= pieces && pieces <= MAX_QTY {
-            Some(Qty { pieces })
+            Some(Qty {
+                pieces: pieces as u32,
+            })
         } else {
             None
         }
@@ -90,14 +96,14 @@ impl Qty {
         ensures value { result ≡ self }
         ensures range { IsQty self }
     {
-        self.pieces
+        u64::from(self.pieces)
     }
 }
 
 /// A moment, in whole minutes: 0 to 4,000,000,000.
 #[derive(Clone, Copy, Debug, PartialEq, Eq, PartialOrd, Ord)]
 pub struct Moment {
-    minutes: u64,
+    minutes: u32,
 }
 
 impl Model for Moment {
@@ -119,7 +125,9 @@ impl Moment {
         ensures { SomeIff result (IsMoment minutes) minutes }
     {
         if minutes <= MAX_MOMENT {
-            Some(Moment { minutes })
+            Some(Moment {
+                minutes: minutes as u32,
+            })
         } else {
             None
         }
@@ -137,14 +145,14 @@ impl Moment {
         ensures value { result ≡ self }
         ensures range { IsMoment self }
     {
-        self.minutes
+        u64::from(self.minutes)
     }
 }
 
 /// The number of an order: 1 to 999,999,999.
 #[derive(Clone, Copy, Debug, PartialEq, Eq, PartialOrd, Ord)]
 pub struct OrderNo {
-    number: u64,
+    number: u32,
 }
 
 impl Model for OrderNo {
@@ -166,7 +174,9 @@ impl OrderNo {
         ensures { SomeIff result (IsOrderNo number) number }
     {
         if 1 <= number && number <= MAX_ORDER_NO {
-            Some(OrderNo { number })
+            Some(OrderNo {
+                number: number as u32,
+            })
         } else {
             None
         }
@@ -177,6 +187,6 @@ impl OrderNo {
         ensures value { result ≡ self }
         ensures range { IsOrderNo self }
     {
-        self.number
+        u64::from(self.number)
     }
 }

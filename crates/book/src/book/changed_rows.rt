@@ -12,10 +12,10 @@ ghost use Rattle.book.specs.Model.{move_of, order_of};
 ghost use Rattle.book.specs.After.{aborted_rows, changes_own_line, line_rows, move_rows, of_numbered, own_firm_rows, own_line_rows, own_order_rows, with_fields, with_firms, with_kept, with_lines, with_moves, with_orders, IsShort};
 ghost use Rattle.book.specs.Plans.{ChangesTo, Makes};
 
+use index::InOrder;
 use super::made::{changes_line, changes_state, is_transfer};
 use super::plan::PlanParts;
 use super::{Book, FieldEntry, MoveEntry};
-use crate::in_order::InOrder;
 use crate::kept_words::KeptWords;
 use crate::limits::MAX_PLACES;
 use crate::order::{Kind, Line, Order, OrderEntry, State};

@@ -14,9 +14,9 @@ ghost use Rattle.book.specs.declared.order.Line.{Line};
 ghost use Rattle.words.specs.declared.command.Command.TheVariants.{Rebound};
 ghost use Rattle.words.specs.declared.command.Request.{Request};
 
+use index::InOrder;
 use super::plan::moved_at_once;
 use super::{Book, FieldEntry};
-use crate::in_order::InOrder;
 use crate::order::{Line, NO_SHARE, Order, OrderEntry, Share, line_in, share_of};
 use escrow::{FieldName, Level, OrderNo, Qty, Quantity, Way};
 use std::alloc::Global;

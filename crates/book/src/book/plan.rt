@@ -11,9 +11,9 @@ ghost use Rattle.book.specs.Tables.{rows_among};
 ghost use Rattle.book.specs.Model.{move_of};
 ghost use Rattle.std.specs.Prelude.{◌≡◌, length, option_map, ◌⊎◌, IfOk, IsSome, OnErr, map};
 
+use index::InOrder;
 use super::made::new_line;
 use super::{Book, FieldEntry, MoveEntry};
-use crate::in_order::InOrder;
 use crate::kept_words::KeptWords;
 use crate::order::{Line, Order};
 use crate::rows::Change;

@@ -16,6 +16,7 @@ mod marks;
 mod sums;
 mod told;
 
+use index::InOrder;
 use self::good::{
     are_keys_in_order, are_moves_good, are_moves_in_order, are_orders_good, are_places_good,
 };
@@ -24,7 +25,6 @@ use self::marks::read_heads;
 use self::sums::are_up_to_date;
 use self::told::{moment, natural, read_all};
 use crate::book::{Book, FieldEntry, KeptEntry, MoveEntry};
-use crate::in_order::InOrder;
 use crate::limits::{MAX_FIELDS, MAX_ORDERS, MAX_PLACES};
 use crate::order::{Line, Order, State};
 use crate::rows::{DeskRow, Tables};

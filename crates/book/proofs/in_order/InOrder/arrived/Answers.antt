@@ -1,5 +1,0 @@
-use Rattle.book.proofs.KeyPlaces.{same_entries}
-use Rattle.book.proofs.in_order.InOrder.arrived.Goals as goal
-
-pub returns : goal.returns
-returns g c = rw (← c.self.view_is, c.deref.ensures.value) (same_entries c.self.inside.entries.items c.self.inside.order.items c.self.invariant.each_once)

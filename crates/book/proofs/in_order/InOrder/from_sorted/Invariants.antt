@@ -1,5 +1,0 @@
-use Rattle.book.proofs.Prelude.{◌≡◌, ◌≤◌, range_with_len, vec_len}
-use Rattle.book.proofs.in_order.InOrder.from_sorted.Given as goal
-
-abbrev pub invariant-loop-index : goal.invariant-loop-index
-invariant-loop-index g l = (l.order.items ≡ range_with_len 0 l.index) × (vec_len l.entries ≤ l.order.capacity)

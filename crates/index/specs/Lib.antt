@@ -1,0 +1,3 @@
+pub mod IndexList
+pub mod InOrder
+pub mod Lends

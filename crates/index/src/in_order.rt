@@ -1,0 +1,216 @@
+//! Entries in the order of their keys: found by halving, and put in by moving indexes alone.
+
+ghost use Rattle.std.specs.Prelude.{◌≡◌, ◌≤◌, ◌<◌, ◌+◌, ◌-◌, ◌^◌, [], length, slice_get, IfOk, IfErr, OnOk, OnErr, vec_len};
+ghost use Rattle.std.specs.List.Sorted.{IsPermutation, IsStrictlySortedBy};
+ghost use Rattle.std.specs.Borrow.{sem};
+ghost use Rattle.std.specs.Option.{option_copied, option_copied_mut};
+ghost use Rattle.std.specs.Map.{keys_of, lookup, values_of};
+ghost use Rattle.std.specs.BTreeMap.{insert_entry, is_at};
+ghost use Rattle.index.specs.Lends.{LendsAt, LendsUnder};
+ghost use Rattle.index.specs.InOrder.{Entries, IsAt, IsGap, compare_at};
+
+use crate::index_list::IndexList;
+use std::alloc::{AllocError, Global};
+use std::cmp::Ordering;
+use std::marker::Model;
+
+/// How many entries there can be: an index has 32 bits.
+const MAX_LEN: usize = 1 << 32;
+
+/// Entries in the order of their keys. They lie as they came, under an index in that order. Contracts see them in
+/// the order of their keys, beside how many more fit without memory.
+#[derive(Debug, Drop)]
+pub struct InOrder<K: Ord, V> {
+    entries: Vec<(K, V)>,
+    order: IndexList,
+}
+
+impl<K: Ord, V> Model for InOrder<K, V> {
+    ghost use Rattle.std.specs.Vec.{vec_capacity, vec_len};
+    ghost use Rattle.index.specs.InOrder.{Entries, IsKeyOrder, at_indexes, room_left};
+
+    ghost Value = { Entries K V };
+
+    ghost view = { λ m. record {
+      entries = at_indexes m.entries.items m.order.items;
+      room = room_left (vec_len m.entries) (vec_capacity m.entries) m.order.capacity;
+    } };
+
+    ghost invariant = { λ m. IsKeyOrder K.cmp m.entries.items m.order.items };
+}
+
+/// How the key of the entry at an index compares with this key. Each index names an entry.
+fn compare_at<K: Ord, V>(entries: &[(K, V)], index: u32, key: &K) -> Ordering
+    ensures { result ≡ compare_at K.cmp entries.now key.now index }
+{
+    match entries.get(index as usize) {
+        Some((other, _)) => other.cmp(key),
+        None => Ordering::Less,
+    }
+}
+
+impl<K: Ord, V> InOrder<K, V> {
+    /// No entries. Takes no memory.
+    pub fn new(alloc: Global) -> InOrder<K, V>
+        ensures { result ≡ record { entries = []; room = 0 } }
+    {
+        InOrder {
+            entries: Vec::new(alloc),
+            order: IndexList::new(alloc),
+        }
+    }
+
+    /// How many entries there are.
+    pub fn len(&self) -> usize
+        ensures len { result ≡ length self.now.entries }
+        ensures rising { IsStrictlySortedBy K.cmp (keys_of self.now.entries) }
+    {
+        self.entries.len()
+    }
+
+    /// The entries as they came in.
+    pub fn arrived(&self) -> &[(K, V)]
+        ensures { IsPermutation self.now.entries result.now }
+    {
+        &self.entries
+    }
+
+    /// The entry at a place in the order.
+    pub fn nth(&self, place: usize) -> Option<&(K, V)>
+        ensures { option_copied result ≡ slice_get self.now.entries place }
+    {
+        if place < self.len() {
+            Some(self.entry_at(place))
+        } else {
+            None
+        }
+    }
+
+    /// What stands under the key.
+    pub fn get(&self, key: &K) -> Option<&V>
+        ensures { option_copied result ≡ lookup (is_at (K.cmp key.now)) self.now.entries }
+    {
+        match self.place(key) {
+            Ok(place) => Some(&self.entry_at(place).1),
+            Err(_) => None,
+        }
+    }
+
+    /// What stands under the key, to be changed.
+    pub fn get_mut(&mut self, key: &K) -> Option<&mut V>
+        ensures* writes { sem 𝓛 (LendsUnder K.row V.row K.Ord self.entry (is_at (K.cmp key.now)) result) }
+        ensures value { option_copied_mut result ≡ lookup (is_at (K.cmp key.now)) self.old.entries }
+        ensures rising { IsStrictlySortedBy K.cmp (keys_of self.old.entries) }
+    {
+        match self.place(key) {
+            Ok(place) => Some(self.nth_mut(place)),
+            Err(_) => None,
+        }
+    }
+
+    /// The value at a place in the order, to be changed.
+    pub fn nth_mut(&mut self, place: usize) -> &mut V
+        requires { place < length self.old.entries }
+        ensures* writes { sem 𝓛 (LendsAt K.row V.row K.Ord self.entry place result) }
+        ensures value { slice_get (values_of self.old.entries) place ≡ Some result.now }
+    {
+        let index = self.order.get(place) as usize;
+        let entry = &mut self.entries[index];
+        &mut entry.1
+    }
+
+    /// The entry at a place that is known to be within the order.
+    pub fn entry_at(&self, place: usize) -> &(K, V)
+        requires { place < length self.now.entries }
+        ensures { slice_get self.now.entries place ≡ Some result.now }
+    {
+        &self.entries[self.order.get(place) as usize]
+    }
+
+    /// Where the key stands, or else where it would go.
+    fn place(&self, key: &K) -> Result<usize, usize>
+        ensures found { IfOk result (IsAt K.cmp self.now.entries key.now) }
+        ensures gap { IfErr result (IsGap K.cmp self.now.entries key.now) }
+        ensures rising { IsStrictlySortedBy K.cmp (keys_of self.now.entries) }
+    {
+        let mut low = 0;
+        let mut high = self.order.len();
+        while low < high {
+            let middle = low + (high - low) / 2;
+            match compare_at(&self.entries, self.order.get(middle), key) {
+                Ordering::Less => low = middle + 1,
+                Ordering::Greater => high = middle,
+                Ordering::Equal => return Ok(middle),
+            }
+        }
+        Err(low)
+    }
+
+    /// Makes room for so many entries more. Memory is wanted only where there was no such room.
+    pub fn reserve(&mut self, additional: usize) -> Result<(), AllocError>
+        ensures ok { OnOk result (additional ≤ self.new.room) }
+        ensures same { self.new.entries ≡ self.old.entries }
+        ensures room_stays { self.old.room ≤ self.new.room }
+        ensures full { OnErr result (self.old.room < additional) }
+    {
+        if MAX_LEN.saturating_sub(self.order.len()) < additional {
+            return Err(AllocError);
+        }
+        self.entries.reserve(additional)?;
+        self.order.reserve(additional)?;
+        Ok(())
+    }
+
+    /// Puts an entry in at its place. Takes no memory.
+    pub fn insert(&mut self, key: K, value: V)
+    where
+        K: Drop,
+        V: Drop,
+        requires room { 1 ≤ self.old.room }
+        requires absent { lookup (is_at (K.cmp key)) self.old.entries ≡ None }
+        ensures entries { self.new.entries ≡ insert_entry K.cmp self.old.entries key value }
+        ensures room { self.new.room + 1 ≡ self.old.room }
+    {
+        let Err(place) = self.place(&key) else {
+            unreachable!()
+        };
+        let len = self.entries.len();
+        self.order.insert(place, len as u32);
+        let Ok(()) = self.entries.insert(len, (key, value)) else {
+            unreachable!()
+        };
+    }
+
+    /// Puts an entry in: in place of the one under its key, or else at its place. Takes no memory.
+    pub fn put(&mut self, key: K, value: V)
+    where
+        K: Drop,
+        V: Drop,
+        requires { 1 ≤ self.old.room }
+        ensures entries { self.new.entries ≡ insert_entry K.cmp self.old.entries key value }
+        ensures room { self.old.room ≤ self.new.room + 1 }
+        ensures rising { IsStrictlySortedBy K.cmp (keys_of self.old.entries) }
+    {
+        match self.get_mut(&key) {
+            Some(there) => *there = value,
+            None => self.insert(key, value),
+        }
+    }
+
+    /// Entries that stand in the order of their keys.
+    pub fn from_sorted(alloc: Global, entries: Vec<(K, V)>) -> Result<InOrder<K, V>, AllocError>
+    where
+        K: Drop,
+        V: Drop,
+        requires len { vec_len entries ≤ 2 ^ 32 }
+        requires rising { IsStrictlySortedBy K.cmp (keys_of entries.items) }
+        ensures { IfOk result (λ r. r.entries ≡ entries.items) }
+    {
+        let mut order = IndexList::new(alloc);
+        order.reserve(entries.len())?;
+        for index in 0..entries.len() {
+            order.insert(index, index as u32);
+        }
+        Ok(InOrder { entries, order })
+    }
+}
