@@ -52,8 +52,9 @@ pub struct Line {
 /// An order, open or ended.
 #[derive(Debug, Drop)]
 pub struct OrderEntry {
-    pub kind: Kind,
+    // first, so that the small fields lie together and a walk over all orders reads less
     pub until: Moment,
+    pub kind: Kind,
     pub state: State,
     /// Whether it may no longer be aborted; the mark stays, also after the commit.
     pub firm: bool,

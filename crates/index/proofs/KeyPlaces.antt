@@ -1,6 +1,8 @@
 -- Entries under keys: the indexes of an order, and keys in their order.
 use Rattle.index.proofs.Prelude.{Each, Equal, Greater, IsDistinct, IsGap, IsPermutation, IsPermutation-map, IsPermutation-refl, IsStrictlySortedBy, IsTotalOrder, Less, List, None, Ordering, Some, [], add-zero, ap, arith, at_indexes, cases_lt, common_steps, compare_at, eqb, false, get_or, get_or_from_slice_get, inl, inr, insert, insert_entry, is_at, is_eq, keys_of, length, length-append, lookup, map, nat_tests, none-some, option_map, ordering_reverse, range_with_len, recursion_from_All, refl, room_left, same_Some, set, set_value, slice_get, slice_get-map, slice_get_read, slice_get_within, subst, suc, sym, zero, zero-add, ℕ, ◌++◌, ◌+◌, ◌-◌, ◌<◌, ◌^◌, ◌∙◌, ◌∷◌, ◌≡◌, ◌≢◌, ◌≤◌}
-use Rattle.std.proofs.Common.{◌/◌}
+use Rattle.std.proofs.Common.{Err, IfErr, IfOk, Ok, Result}
+use Rattle.std.specs.List.Sorted.{IsBinarySearchResult, IsNonDecreasingBy, IsSearchInRange}
+use Rattle.std.specs.Ordering.{ordering_index}
 use Rattle.std.proofs.lemmas.List.Elements.{All-from_get_or, All-from_recursion}
 use Rattle.std.proofs.lemmas.List.FromFn.{fill_by_all, get_or-range_with_len, length-range_with_len}
 use Rattle.std.proofs.lemmas.Bool.{eqb-false}
@@ -43,6 +45,10 @@ distinct n order p =
     rw (get_or-range_with_len 0 n i d (omega arith), get_or-range_with_len 0 n j d (omega arith)) (grind (arith, nat_tests))) in
     IsDistinct-IsPermutation eqb (λ x y. grind (arith, nat_tests)) (range_with_len 0 n) order p apart
 
+-- an index as it stands at a place
+read_of : (order : List ℕ) (place i : ℕ) → slice_get order place ≡ Some i → i ≡ get_or order place i
+read_of order place i there = sym (get_or_from_slice_get order place i i there)
+
 -- ---- the entries at them
 
 module _ {E : Type 0} where
@@ -66,8 +72,9 @@ module _ {E : Type 0} where
   get-at_indexes es (i ∷ order) (suc place) j h l = let found = some_at es i h.0 in rw found.1 (get-at_indexes es order place j h.1 (omega arith))
 
   -- so a place in their order gives an index, and that an entry
-  pub index_at : (es : List E) (order : List ℕ) (place index : ℕ) → Names (length es) order → place < length (at_indexes es order) → index ≡ get_or order place index → (index < length es) × (slice_get (at_indexes es order) place ≡ slice_get es index)
-  index_at es order place index p h read =
+  pub index_at : (es : List E) (order : List ℕ) (place index : ℕ) → Names (length es) order → place < length (at_indexes es order) → slice_get order place ≡ Some index → (index < length es) × (slice_get (at_indexes es order) place ≡ slice_get es index)
+  index_at es order place index p h there =
+      let read = read_of order place index there in
       let below : Each (λ i. i < length es) order = in_range _ order p in
       let short : place < length order = omega (arith, length-at_indexes es order below) in (
         rw (← read) at (All-from_recursion (λ i. i < length es) order below place index short),
@@ -120,8 +127,9 @@ module _ {E : Type 0} where
       rw (other, found.1) (ap (λ l. found.0 ∷ l) (set-distinct es x order place i apart.1 h.1 (omega arith) read))
 
   -- another entry at an index is that entry at its place
-  pub at_indexes-set : (es : List E) (x : E) (order : List ℕ) (place i : ℕ) → Names (length es) order → place < length (at_indexes es order) → i ≡ get_or order place i → at_indexes (set es i x) order ≡ set (at_indexes es order) place x
-  at_indexes-set es x order place i p short read =
+  pub at_indexes-set : (es : List E) (x : E) (order : List ℕ) (place i : ℕ) → Names (length es) order → place < length (at_indexes es order) → slice_get order place ≡ Some i → at_indexes (set es i x) order ≡ set (at_indexes es order) place x
+  at_indexes-set es x order place i p short there =
+      let read = read_of order place i there in
       let below : Each (λ i. i < length es) order = in_range _ order p in
       set-distinct es x order place i (distinct _ order p) below (omega (arith, length-at_indexes es order below)) read
 
@@ -151,8 +159,8 @@ module _ {E : Type 0} where
 pub room_made : (n m more entries order : ℕ) → m ≡ n → more ≤ 2 ^ 32 - n → n + more ≤ entries → m + more ≤ order → more ≤ room_left n entries order
 room_made n m more entries order same short in_entries in_order = omega arith
 
-pub no_room : (n m more entries order : ℕ) → m ≡ n → m ≤ order → order < m + more → room_left n entries order < more
-no_room n m more entries order same within full = omega arith
+pub no_room : (n m more entries order : ℕ) → m ≡ n → order - m < more → room_left n entries order < more
+no_room n m more entries order same full = omega arith
 
 pub has_room : (n entries order : ℕ) → 1 ≤ room_left n entries order → (n < entries) × (n < order)
 has_room n entries order room = (omega arith, omega arith)
@@ -171,20 +179,14 @@ module _ {K V : Type 0} where
   set-value (f ∷ l) (suc place) e w there = ap (λ r. f ∷ r) (set-value l place e w there)
 
   -- a value written at an index, behind its key, is written at its place
-  pub written : (es : List (K × V)) (order : List ℕ) (place i : ℕ) (e : K × V) (w : V) → Names (length es) order → place < length (at_indexes es order) → i ≡ get_or order place i → e ≡ get_or es i e → at_indexes (set es i (e.0, w)) order ≡ set_value_at (at_indexes es order) place w
+  pub written : (es : List (K × V)) (order : List ℕ) (place i : ℕ) (e : K × V) (w : V) → Names (length es) order → place < length (at_indexes es order) → slice_get order place ≡ Some i → e ≡ get_or es i e → at_indexes (set es i (e.0, w)) order ≡ set_value_at (at_indexes es order) place w
   written es order place i e w names short read entry =
       let at = index_at es order place i names short read in
       at_indexes-set es (e.0, w) order place i names short read ∙ set-value (at_indexes es order) place e w (at.1 ∙ slice_get_read es _ i e refl at.0 entry)
 
   -- so the keys stay
-  pub kept_written : (cmp : K → K → Ordering) (es : List (K × V)) (order : List ℕ) (place i : ℕ) (e : K × V) (w : V) → IsKeyOrder cmp es order → place < length (at_indexes es order) → i ≡ get_or order place i → e ≡ get_or es i e → IsKeyOrder cmp (set es i (e.0, w)) order
+  pub kept_written : (cmp : K → K → Ordering) (es : List (K × V)) (order : List ℕ) (place i : ℕ) (e : K × V) (w : V) → IsKeyOrder cmp es order → place < length (at_indexes es order) → slice_get order place ≡ Some i → e ≡ get_or es i e → IsKeyOrder cmp (set es i (e.0, w)) order
   kept_written cmp es order place i e w kept short read entry = grind (arith, common_steps, (written es order place i e w kept.each_once short read entry), keys-set_value_at, kept.each_once, kept.rising)
-
--- the key stands, if at all, from low on and below high
-pub record IsBetween {K V : Type 0} (cmp : K → K → Ordering) (l : List (K × V)) (key : K) (low high : ℕ) : Type 0 where
-  pub within : high ≤ length l
-  pub above : (j : ℕ) (e : K × V) → j < low → slice_get l j ≡ Some e → cmp key e.0 ≡ Greater
-  pub below : (j : ℕ) (e : K × V) → high ≤ j → slice_get l j ≡ Some e → cmp key e.0 ≡ Less
 
 module _ {K : Type 0} {cmp : K → K → Ordering} (total : IsTotalOrder cmp) (key : K) where
   before : (x : K) → cmp x key ≡ Less → cmp key x ≡ Greater
@@ -195,6 +197,20 @@ module _ {K : Type 0} {cmp : K → K → Ordering} (total : IsTotalOrder cmp) (k
 
   back : (x : K) → cmp key x ≡ Greater → cmp x key ≡ Less
   back x h = total.antisymm x key ∙ ap ordering_reverse h
+
+  -- a greater one is no less beside the key
+  pub index_rises : (a b : K) → cmp a b ≡ Less → ordering_index (cmp a key) ≤ ordering_index (cmp b key)
+  index_rises a b h = by (cmp b key) refl
+    where
+      most : (o : Ordering) → ordering_index o ≤ 2
+      most Less = omega arith
+      most Equal = omega arith
+      most Greater = omega arith
+
+      by : (o : Ordering) → cmp b key ≡ o → ordering_index (cmp a key) ≤ ordering_index o
+      by Less e = rw (total.trans a b key h e) (omega arith)
+      by Equal e = rw (sym (alike_right total b key a e) ∙ h) (omega arith)
+      by Greater e = most (cmp a key)
 
   each_below : (x : K) → cmp key x ≡ Less → (ks : List K) → Each (λ y. cmp x y ≡ Less) ks → Each (λ y. cmp key y ≡ Less) ks
   each_below x h [] all = tt
@@ -243,27 +259,6 @@ module _ {K : Type 0} {cmp : K → K → Ordering} (total : IsTotalOrder cmp) (k
     rise_along : (l : List (K × V)) → IsStrictlySortedBy cmp (keys_of l) → (i j : ℕ) (x y : K × V) → i < j → slice_get l i ≡ Some x → slice_get l j ≡ Some y → cmp x.0 y.0 ≡ Less
     rise_along l rising i j x y lt at_i at_j = grind (arith, (Less-from_sorted cmp (keys_of l) i j x.0 rising lt (omega (arith, length-keys_of l, slice_get_within l j y at_j))), length-keys_of, slice_get_within, key_at)
 
-    -- half of the places are left, behind an entry or before it
-    behind : (l : List (K × V)) (low high middle : ℕ) (e : K × V) → IsStrictlySortedBy cmp (keys_of l) → IsBetween cmp l key low high → slice_get l middle ≡ Some e → cmp e.0 key ≡ Less → IsBetween cmp l key (middle + 1) high
-    behind l low high middle e rising between there less = record {
-      within = between.within;
-      above = λ j x lt at. before x.0 (elim (cases_lt j middle) [
-        | inl lower ↦ total.trans x.0 e.0 key (rise_along l rising j middle x e lower at there) less
-        | inr ge ↦ let same : middle ≡ j = omega arith in subst (λ y. cmp y.0 key ≡ Less) (same_Some _ _ (sym there ∙ ap (slice_get l) same ∙ at)) less
-      ]);
-      below = between.below;
-    }
-
-    in_front : (l : List (K × V)) (low high middle : ℕ) (e : K × V) → IsStrictlySortedBy cmp (keys_of l) → IsBetween cmp l key low high → slice_get l middle ≡ Some e → cmp e.0 key ≡ Greater → IsBetween cmp l key low middle
-    in_front l low high middle e rising between there greater = record {
-      within = omega (arith, slice_get_within l middle e there);
-      above = between.above;
-      below = λ j x ge at. elim (cases_lt middle j) [
-        | inl higher ↦ total.trans key e.0 x.0 (after e.0 greater) (rise_along l rising middle j e x higher there at)
-        | inr le ↦ let same : middle ≡ j = omega arith in subst (λ y. cmp key y.0 ≡ Less) (same_Some _ _ (sym there ∙ ap (slice_get l) same ∙ at)) (after e.0 greater)
-      ];
-    }
-
     at_tail : (e : K × V) (l : List (K × V)) (place : ℕ) → IsAt cmp (e ∷ l) key (suc place) → IsAt cmp l key place
     at_tail e l place at = record { entry = at.entry; there = at.there; equal = at.equal }
 
@@ -287,7 +282,7 @@ module _ {K : Type 0} {cmp : K → K → Ordering} (total : IsTotalOrder cmp) (k
     set_value-insert w [] v rising there = absurd (none-some v there)
     set_value-insert w (e ∷ l) v rising there = grind (arith, (set_value-insert w l v rising.1), none-some, none_below, each_below)
 
-    -- ---- a search for the key by halving
+    -- ---- a search for the key
 
     module _ (es : List (K × V)) (order : List ℕ) (names : Names (length es) order) (rising : IsStrictlySortedBy cmp (keys_of (at_indexes es order))) where
       below : Each (λ i. i < length es) order
@@ -300,35 +295,35 @@ module _ {K : Type 0} {cmp : K → K → Ordering} (total : IsTotalOrder cmp) (k
       entry_at : (place : ℕ) → place < length order → (e : K × V) × (slice_get (at_indexes es order) place ≡ Some e)
       entry_at place short = some_at (at_indexes es order) place (omega (arith, length-at_indexes es order below))
 
-      -- one step of a search: the entry in the middle of the places that are left
-      module _ (l : List (K × V)) (same : at_indexes es order ≡ l) (low high : ℕ) (between : IsBetween cmp l key low high) (open_still : low < high) where
-        abbrev pub middle : ℕ
-        middle = low + (high - low) / 2
+      -- along the order the entries' keys come to be greater
+      rises : IsNonDecreasingBy (λ index. ordering_index (compare_at cmp es key index)) order
+      rises i j d le short = elim (cases_lt i j) [
+        | inl lt ↦
+            let x = entry_at i (omega arith) in
+            let y = entry_at j short in
+            rw (answer i d x.0 x.1, answer j d y.0 y.1) (index_rises x.0.0 y.0.0 (rise_along (at_indexes es order) rising i j x.0 y.0 lt x.1 y.1))
+        | inr ge ↦
+            let same : i ≡ j = omega arith in
+            subst (λ j. ordering_index (compare_at cmp es key (get_or order i d)) ≤ ordering_index (compare_at cmp es key (get_or order j d))) same (omega arith)
+      ]
 
-        pub is_place : middle < length order
-        is_place = omega (arith, open_still, between.within, ap length same, length-at_indexes es order below)
-
-        module _ (index : ℕ) (read : index ≡ get_or order middle index) (o : Ordering) (answered : o ≡ compare_at cmp es key index) where
-          e : (e : K × V) × (slice_get (at_indexes es order) middle ≡ Some e)
-          e = entry_at middle is_place
-
-          there : slice_get l middle ≡ Some e.0
-          there = subst (λ l. slice_get l middle ≡ Some e.0) same e.1
-
-          compared : cmp e.0.0 key ≡ o
-          compared = sym (answered ∙ subst (λ i. compare_at cmp es key i ≡ cmp e.0.0 key) (sym read) (answer middle index e.0 e.1))
-
-          rises : IsStrictlySortedBy cmp (keys_of l)
-          rises = subst (λ l. IsStrictlySortedBy cmp (keys_of l)) same rising
-
-          pub found_there : o ≡ Equal → IsAt cmp l key middle
-          found_there is = record { entry = e.0; there = there; equal = tied_back total e.0.0 key (compared ∙ is) }
-
-          pub left_behind : o ≡ Less → (middle + 1 ≤ high) × IsBetween cmp l key (middle + 1) high
-          left_behind is = (omega (arith, open_still), behind l low high middle e.0 rises between there (compared ∙ is))
-
-          pub left_in_front : o ≡ Greater → (low ≤ middle) × IsBetween cmp l key low middle
-          left_in_front is = (omega (arith, open_still), in_front l low high middle e.0 rises between there (compared ∙ is))
+      -- where it ends
+      pub searched : (r : Result ℕ ℕ) → IsSearchInRange r (length order) → IsBinarySearchResult (compare_at cmp es key) order r
+          → record { found : IfOk r (IsAt cmp (at_indexes es order) key); gap : IfErr r (IsGap cmp (at_indexes es order) key) }
+      searched (Ok place) short is =
+          let e = entry_at place short in
+          record { found = record { entry = e.0; there = e.1; equal = tied_back total e.0.0 key (sym (answer place 0 e.0 e.1) ∙ is 0) }; gap = tt }
+      searched (Err place) within is =
+          let parts = is rises in
+          let as_many = length-at_indexes es order below in
+          record {
+            found = tt;
+            gap = record {
+              within = omega (arith, within, as_many);
+              above = λ j e lt there. before e.0 (sym (answer j 0 e there) ∙ parts.0 j 0 (omega arith) lt);
+              below = λ e there. after e.0 (sym (answer place 0 e there) ∙ parts.1 place 0 (omega arith) (omega (arith, as_many, slice_get_within (at_indexes es order) place e there)));
+            };
+          }
 
       -- an entry more at the end, and its index put into the gap
       module _ (v : V) (place n : ℕ) (last : n ≡ length es) (gap : IsGap cmp (at_indexes es order) key place) where

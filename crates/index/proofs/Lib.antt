@@ -1,3 +1,4 @@
 pub mod Blocks
 pub mod KeyPlaces
 pub mod Prelude
+pub mod Search

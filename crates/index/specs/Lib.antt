@@ -1,3 +1,3 @@
-pub mod IndexList
+pub mod BlockList
 pub mod InOrder
 pub mod Lends

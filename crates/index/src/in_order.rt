@@ -9,20 +9,17 @@ ghost use Rattle.std.specs.BTreeMap.{insert_entry, is_at};
 ghost use Rattle.index.specs.Lends.{LendsAt, LendsUnder};
 ghost use Rattle.index.specs.InOrder.{Entries, IsAt, IsGap, compare_at};
 
-use crate::index_list::IndexList;
+use crate::block_list::BlockList;
 use std::alloc::{AllocError, Global};
 use std::cmp::Ordering;
 use std::marker::Model;
-
-/// How many entries there can be: an index has 32 bits.
-const MAX_LEN: usize = 1 << 32;
 
 /// Entries in the order of their keys. They lie as they came, under an index in that order. Contracts see them in
 /// the order of their keys, beside how many more fit without memory.
 #[derive(Debug, Drop)]
 pub struct InOrder<K: Ord, V> {
     entries: Vec<(K, V)>,
-    order: IndexList,
+    order: BlockList<u32>,
 }
 
 impl<K: Ord, V> Model for InOrder<K, V> {
@@ -56,7 +53,7 @@ impl<K: Ord, V> InOrder<K, V> {
     {
         InOrder {
             entries: Vec::new(alloc),
-            order: IndexList::new(alloc),
+            order: BlockList::new(alloc),
         }
     }
 
@@ -114,7 +111,7 @@ impl<K: Ord, V> InOrder<K, V> {
         ensures* writes { sem 𝓛 (LendsAt K.row V.row K.Ord self.entry place result) }
         ensures value { slice_get (values_of self.old.entries) place ≡ Some result.now }
     {
-        let index = self.order.get(place) as usize;
+        let index = *self.order.get(place) as usize;
         let entry = &mut self.entries[index];
         &mut entry.1
     }
@@ -124,7 +121,7 @@ impl<K: Ord, V> InOrder<K, V> {
         requires { place < length self.now.entries }
         ensures { slice_get self.now.entries place ≡ Some result.now }
     {
-        &self.entries[self.order.get(place) as usize]
+        &self.entries[*self.order.get(place) as usize]
     }
 
     /// Where the key stands, or else where it would go.
@@ -133,17 +130,9 @@ impl<K: Ord, V> InOrder<K, V> {
         ensures gap { IfErr result (IsGap K.cmp self.now.entries key.now) }
         ensures rising { IsStrictlySortedBy K.cmp (keys_of self.now.entries) }
     {
-        let mut low = 0;
-        let mut high = self.order.len();
-        while low < high {
-            let middle = low + (high - low) / 2;
-            match compare_at(&self.entries, self.order.get(middle), key) {
-                Ordering::Less => low = middle + 1,
-                Ordering::Greater => high = middle,
-                Ordering::Equal => return Ok(middle),
-            }
-        }
-        Err(low)
+        let entries = self.entries.as_slice();
+        self.order
+            .binary_search_by(|index| compare_at(entries, *index, key))
     }
 
     /// Makes room for so many entries more. Memory is wanted only where there was no such room.
@@ -153,11 +142,8 @@ impl<K: Ord, V> InOrder<K, V> {
         ensures room_stays { self.old.room ≤ self.new.room }
         ensures full { OnErr result (self.old.room < additional) }
     {
-        if MAX_LEN.saturating_sub(self.order.len()) < additional {
-            return Err(AllocError);
-        }
-        self.entries.reserve(additional)?;
         self.order.reserve(additional)?;
+        self.entries.reserve(additional)?;
         Ok(())
     }
 
@@ -202,11 +188,10 @@ impl<K: Ord, V> InOrder<K, V> {
     where
         K: Drop,
         V: Drop,
-        requires len { vec_len entries ≤ 2 ^ 32 }
-        requires rising { IsStrictlySortedBy K.cmp (keys_of entries.items) }
+        requires { IsStrictlySortedBy K.cmp (keys_of entries.items) }
         ensures { IfOk result (λ r. r.entries ≡ entries.items) }
     {
-        let mut order = IndexList::new(alloc);
+        let mut order = BlockList::new(alloc);
         order.reserve(entries.len())?;
         for index in 0..entries.len() {
             order.insert(index, index as u32);

@@ -1,7 +1,8 @@
-//! Entries under keys: they lie as they came, under an index in the order of their keys.
+//! Lists into which one more goes at any place by moving little: of items, and of entries under keys.
 #![tactic(auto)]
 
+mod block_list;
 mod in_order;
-mod index_list;
 
+pub use block_list::BlockList;
 pub use in_order::InOrder;

@@ -1,4 +1,4 @@
--- Rows that are put by their keys, in vectors and as cells.
+-- Rows that are put by their keys, in lists and as cells.
 use Rattle.std.proofs.Common.{◌≡◌, ◌∙◌, ℕ, zero, suc, ◌+◌, ◌<◌, ◌≤◌, List, [], ◌∷◌, ◌++◌, Bool, true, false, if◌then◌else◌, Result, Ok, Err, IfErr, IfOk, Less, Equal, add-one, ap, arith, drop, get_or, length, map, refl, set, subst, sym, take}
 use Rattle.std.proofs.lemmas.Cmp.{alike_right, tied_back}
 use Rattle.std.proofs.Math.Seq.{take-suc}
@@ -10,6 +10,7 @@ use Rattle.std.specs.List.{AllByRecursion as Each, AllWithin, AllZip, insert}
 use Rattle.std.specs.List.Sorted.{IsBinarySearchResult, IsNonDecreasingBy, IsSearchInRange, IsStrictlySortedBy}
 use Rattle.std.specs.Ordering.{is_eq, is_lt, ordering_index, ordering_reverse}
 use Rattle.book.specs.Changes.{put_row}
+use Rattle.index.proofs.KeyPlaces.{index_rises}
 
 module _ {R : Type 0} (cmp : R → R → Ordering) (o : IsTotalOrder cmp) where
   turned : (a b : R) → cmp a b ≡ Less → cmp b a ≡ Greater
@@ -40,24 +41,11 @@ module _ {R : Type 0} (cmp : R → R → Ordering) (o : IsTotalOrder cmp) where
       rw later (ap (λ ys. x ∷ ys) (put_between row xs i (omega arith) before.1 after))
 
   -- a row that comes later is no less than the row that is looked for, where an earlier one is not
-  index_rises : (a b row : R) → cmp a b ≡ Less → ordering_index (cmp a row) ≤ ordering_index (cmp b row)
-  index_rises a b row h = by (cmp b row) refl
-    where
-      most : (r : Ordering) → ordering_index r ≤ 2
-      most Less = omega arith
-      most Equal = omega arith
-      most Greater = omega arith
-
-      by : (r : Ordering) → cmp b row ≡ r → ordering_index (cmp a row) ≤ ordering_index r
-      by Less e = rw (o.trans a b row h e) (omega arith)
-      by Equal e = rw (sym (alike_right o b row a e) ∙ h) (omega arith)
-      by Greater e = most (cmp a row)
-
   rises : (row : R) (xs : List R) → IsStrictlySortedBy cmp xs → IsNonDecreasingBy (λ x. ordering_index (cmp x row)) xs
   unfolding IsStrictlySortedBy
   rises row [] sorted i j d le lt = absurd (omega arith)
   rises row (x ∷ xs) sorted zero zero d le lt = omega arith
-  rises row (x ∷ xs) sorted zero (suc j) d le lt = index_rises x (get_or xs j d) row (each_at x xs j d (omega arith) sorted.0)
+  rises row (x ∷ xs) sorted zero (suc j) d le lt = index_rises o row x (get_or xs j d) (each_at x xs j d (omega arith) sorted.0)
   rises row (x ∷ xs) sorted (suc i) zero d le lt = absurd (omega arith)
   rises row (x ∷ xs) sorted (suc i) (suc j) d le lt = rises row xs sorted.1 i j d (omega arith) (omega arith)
 

@@ -33,7 +33,7 @@ leaves_a_content may_leave these some only =
     ∥∥₁_map some (λ left. let found = only left.0 left.1 in let r : ((x : Content)
     × MayLeave may_leave x) = (found.0, (left.0, left.1, found.1)) in r)
 
--- of what is kept in vectors a stop leaves the content itself
+-- of what is kept in lists a stop leaves the content itself
 pub is_it : (content : Content) (these : List Content) (x : Content) → IsAmong these content → content ≡ x
     → IsAmong these x
 is_it content these x among is = subst (IsAmong these) is among

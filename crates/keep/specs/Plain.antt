@@ -1,6 +1,5 @@
 -- A keeper in memory.
-use Rattle.std.specs.Prelude.{◌≡◌, ◌+◌, ◌-◌, ◌≤◌, ℕ, Bool, false, true, if◌then◌else◌, Option, Some, List, [], ◌∷◌, map, option_map}
-use Rattle.std.specs.Vec.{vec_capacity, vec_len}
+use Rattle.std.specs.Prelude.{◌≡◌, ◌+◌, ◌-◌, ◌≤◌, ℕ, Bool, false, true, if◌then◌else◌, Option, Some, List, [], ◌∷◌, length, map, option_map}
 use Rattle.book.specs.declared.rows.Change.{Change}
 use Rattle.book.specs.Rows.{Content, IsInKeyOrder}
 use Rattle.book.specs.Tables.{desk_cells, field_cells, firm_cells, kept_cells, line_cells, move_cells, no_content, order_cells, with_change}
@@ -8,7 +7,7 @@ use Rattle.keep.specs.Content.{IsTheRow}
 use Rattle.keep.specs.Transactions.{with_changes}
 use Rattle.keep.specs.declared.plain.shelf.Shelf.{Shelf}
 
--- what the vectors hold
+-- what the lists hold
 abbrev pub shelf_content : Shelf → Content
 shelf_content s = record {
   desk = desk_cells s.desk ∷ [];
@@ -25,14 +24,14 @@ pub record IsInOrder (s : Shelf) : Type 0 where
   pub rows : IsInKeyOrder (shelf_content s)
   pub desk : IsTheRow (desk_cells s.desk)
 
--- in each vector there is room for so many rows more
+-- in each list there is room for so many rows more
 pub record HasRoom (more : ℕ) (s : Shelf) : Type 0 where
-  pub fields : vec_len s.fields + more ≤ vec_capacity s.fields
-  pub moves : vec_len s.moves + more ≤ vec_capacity s.moves
-  pub orders : vec_len s.orders + more ≤ vec_capacity s.orders
-  pub lines : vec_len s.lines + more ≤ vec_capacity s.lines
-  pub kept : vec_len s.kept + more ≤ vec_capacity s.kept
-  pub firms : vec_len s.firms + more ≤ vec_capacity s.firms
+  pub fields : length s.fields.items + more ≤ s.fields.capacity
+  pub moves : length s.moves.items + more ≤ s.moves.capacity
+  pub orders : length s.orders.items + more ≤ s.orders.capacity
+  pub lines : length s.lines.items + more ≤ s.lines.capacity
+  pub kept : length s.kept.items + more ≤ s.kept.capacity
+  pub firms : length s.firms.items + more ≤ s.firms.capacity
 
 -- the content that is this row alone
 abbrev pub row_of : Change → Content

@@ -14,7 +14,7 @@ use sqlite::{FileStore, MemStore};
 use sqlite_disk::{Disk, Fuse, Memory};
 
 /// A keeper in memory is honest, whatever was called on it: the one over SQLite's store in memory, the one over files
-/// in memory, whether or not a fuse makes their calls fail, and the one in vectors.
+/// in memory, whether or not a fuse makes their calls fail, and the one in lists.
 pub fn keepers_in_memory_are_honest()
     ensures sql { (k : Keeper MemStore) → ⟦<SqlKeep<MemStore> as Keep>⟧.is_honest k }
     ensures files { (k : Keeper (FileStore Memory ⟦<Memory as Disk>⟧))

@@ -1,4 +1,4 @@
-//! Tests of `escrow`, `words`, `book` and `files`, each by what its callers see.
+//! Tests of `index`, `escrow`, `words`, `book` and `files`, each by what its callers see.
 #![tactic(auto)]
 
 #[cfg(test)]
@@ -7,6 +7,8 @@ mod of_book;
 mod of_escrow;
 #[cfg(test)]
 mod of_files;
+#[cfg(test)]
+mod of_index;
 #[cfg(test)]
 mod of_words;
 #[cfg(test)]

@@ -1,16 +1,14 @@
 //! Lists in blocks, and entries under keys.
 
-ghost use Rattle.std.specs.Prelude.{◌≡◌, ◌+◌, ◌≤◌, length};
-
 use index::{BlockList, InOrder};
 use std::alloc::{AllocError, Global};
 use std::test::Fail;
 
-/// More than two blocks of items.
+/// More items than two blocks hold.
 const COUNT: u32 = 3000;
 
-/// The number that comes in at a place: each below 3,001 but one, in no order, since 3,001 is a prime number.
-fn coming(place: u32) -> u32 {
+/// The key that comes in at a place: each number below 3,001 but one, in no order, since 3,001 is a prime.
+fn key_at(place: u32) -> u32 {
     (u64::from(place) * 7919 % 3001) as u32
 }
 
@@ -19,37 +17,38 @@ fn filled(alloc: Global) -> Result<InOrder<u32, u32>, AllocError> {
     let mut entries = InOrder::new(alloc);
     for place in 0..COUNT {
         entries.reserve(1)?;
-        entries.put(coming(place), place);
+        entries.put(key_at(place), place);
     }
     Ok(entries)
 }
 
-/// How many of the entries are found as they came: under their keys, among those that came, and in order.
-fn found(entries: &InOrder<u32, u32>) -> usize {
+/// Whether each entry stands behind the one with the next lower key, under its key, and among those that came where it
+/// came.
+fn are_found(entries: &InOrder<u32, u32>) -> bool {
     let mut before = None;
-    let mut count = 0;
     for place in 0..entries.len() {
         let (key, value) = *entries.entry_at(place);
-        let in_turn = before < Some(key);
-        before = Some(key);
-        let is_there = entries.get(&key) == Some(&value) && entries.nth(place) == Some(&(key, value));
-        if in_turn && is_there && entries.arrived().get(value as usize) == Some(&(key, value)) {
-            count += 1;
+        let is_there = entries.get(&key) == Some(&value)
+            && entries.nth(place) == Some(&(key, value))
+            && entries.arrived().get(value as usize) == Some(&(key, value));
+        if !is_there || before >= Some(key) {
+            return false;
         }
+        before = Some(key);
     }
-    count
+    true
 }
 
 #[test]
 fn entries_are_found_under_their_keys(rt: HostRuntime) -> Result<(), Fail> {
     let mut entries = filled(rt.alloc())?;
-    assert!(rt; entries.len() == 3000 && found(&entries) == 3000);
+    assert!(rt; entries.len() == 3000 && are_found(&entries));
     assert!(rt; entries.nth(3000).is_none() && entries.get(&3001).is_none());
     entries.reserve(1)?;
     if entries.get(&9000).is_none() {
         entries.insert(9000, 3000);
     }
-    assert!(rt; found(&entries) == 3001);
+    assert!(rt; entries.len() == 3001 && are_found(&entries));
     if let Some(value) = entries.get_mut(&9000) {
         *value = 5;
     }
@@ -61,10 +60,25 @@ fn entries_are_found_under_their_keys(rt: HostRuntime) -> Result<(), Fail> {
     Ok(())
 }
 
+/// The numbers below a count, the last of them put in first.
+fn counted(alloc: Global, count: u32) -> Result<BlockList<u32>, AllocError> {
+    let mut list = BlockList::new(alloc);
+    for number in (0..count).rev() {
+        list.reserve(1)?;
+        list.insert(0, number);
+    }
+    Ok(list)
+}
+
 #[test]
-fn entries_are_made_of_a_list_in_order(rt: HostRuntime) -> Result<(), Fail> {
-    let list = Vec::from_slice(rt.alloc(), &[(1u32, 10u32), (3, 30), (7, 70)])?;
-    let entries = InOrder::from_sorted(rt.alloc(), list)?;
-    assert!(rt; entries.get(&3) == Some(&30) && entries.get(&2).is_none() && entries.len() == 3);
+fn lists_take_items_at_any_place(rt: HostRuntime) -> Result<(), Fail> {
+    let mut list = counted(rt.alloc(), COUNT)?;
+    assert!(rt; list.len() == 3000);
+    assert!(rt; list.binary_search_by(|number| number.cmp(&2999)) == Ok(2999));
+    assert!(rt; list.binary_search_by(|number| number.cmp(&5000)) == Err(3000));
+    if list.len() > 1024 {
+        list.set(1024, 7);
+        assert!(rt; *list.get(1024) == 7 && *list.get(1023) == 1023);
+    }
     Ok(())
 }

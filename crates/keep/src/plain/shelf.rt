@@ -1,9 +1,8 @@
-//! The rows of the seven tables, in vectors.
+//! The rows of the seven tables, in lists.
 
 ghost use Rattle.std.specs.Prelude.{◌≡◌, ◌+◌, ◌<◌, ◌≤◌, IfErr, IfOk, OnErr, OnOk, ℕ, length, map, slice_set};
 ghost use Rattle.std.specs.List.{All, insert};
 ghost use Rattle.std.specs.List.Sorted.{IsStrictlySortedBy};
-ghost use Rattle.std.specs.Vec.{vec_capacity, vec_len};
 ghost use Rattle.book.specs.Changes.{put_content, put_row};
 ghost use Rattle.book.specs.Tables.{content_of, rows_among};
 ghost use Rattle.keep.specs.Content.{IsTheRow, new_content};
@@ -13,55 +12,54 @@ ghost use Rattle.keep.specs.Transactions.{with_changes};
 use crate::table::Table;
 use crate::tables::desk::VERSION;
 use book::{Change, DeskRow, FieldRow, FirmRow, KeptRow, LineRow, MoveRow, OrderRow, Rows, Tables};
+use index::BlockList;
 use std::alloc::{AllocError, Global};
 
 /// The rows of the seven tables, each table in the order of its key.
 #[derive(Drop)]
 pub(super) struct Shelf {
+    alloc: Global,
     pub desk: DeskRow,
-    pub fields: Vec<FieldRow>,
-    pub moves: Vec<MoveRow>,
-    pub orders: Vec<OrderRow>,
-    pub lines: Vec<LineRow>,
-    pub kept: Vec<KeptRow>,
-    pub firms: Vec<FirmRow>,
+    pub fields: BlockList<FieldRow>,
+    pub moves: BlockList<MoveRow>,
+    pub orders: BlockList<OrderRow>,
+    pub lines: BlockList<LineRow>,
+    pub kept: BlockList<KeptRow>,
+    pub firms: BlockList<FirmRow>,
 }
 
 /// Where the row with that key stands, or the place for it among the others.
-fn place_of<R: Table>(rows: &[R], row: &R) -> Result<usize, usize>
-    requires { IsStrictlySortedBy R.cmp (map R.cells rows.now) }
-    ensures there { IfOk result (λ i. (i < length rows.now) × (map R.cells (slice_set rows.now i row.now)
-        ≡ put_row R.cmp (R.cells row.now) (map R.cells rows.now))) }
-    ensures between { IfErr result (λ i. (i ≤ length rows.now) × (map R.cells (insert rows.now i row.now)
-        ≡ put_row R.cmp (R.cells row.now) (map R.cells rows.now))) }
+fn place_of<R: Table>(rows: &BlockList<R>, row: &R) -> Result<usize, usize>
+    requires { IsStrictlySortedBy R.cmp (map R.cells rows.now.items) }
+    ensures there { IfOk result (λ i. (i < length rows.now.items) × (map R.cells (slice_set rows.now.items i row.now)
+        ≡ put_row R.cmp (R.cells row.now) (map R.cells rows.now.items))) }
+    ensures between { IfErr result (λ i. (i ≤ length rows.now.items) × (map R.cells (insert rows.now.items i row.now)
+        ≡ put_row R.cmp (R.cells row.now) (map R.cells rows.now.items))) }
 {
     rows.binary_search_by(|other| other.compare(row))
 }
 
 /// Puts the row in by its key: in place of the row that has it, or else between the others.
-fn put_row<R: Table>(rows: &mut Vec<R>, row: R)
+fn put_row<R: Table>(rows: &mut BlockList<R>, row: R)
     requires sorted { IsStrictlySortedBy R.cmp (map R.cells rows.old.items) }
-    requires room { vec_len rows.old < vec_capacity rows.old }
+    requires room { length rows.old.items < rows.old.capacity }
     ensures put { map R.cells rows.new.items ≡ put_row R.cmp (R.cells row) (map R.cells rows.old.items) }
-    ensures len { vec_len rows.new ≤ vec_len rows.old + 1 }
-    ensures capacity { vec_capacity rows.old ≤ vec_capacity rows.new }
+    ensures len { length rows.new.items ≤ length rows.old.items + 1 }
+    ensures capacity { rows.new.capacity ≡ rows.old.capacity }
 {
     match place_of(rows, &row) {
-        Ok(place) => rows[place] = row,
-        Err(place) => match rows.insert(place, row) {
-            Ok(()) => {}
-            Err(_) => unreachable!(),
-        },
+        Ok(place) => rows.set(place, row),
+        Err(place) => rows.insert(place, row),
     }
 }
 
 /// The rows, each copied.
-fn copy_rows<R: Table>(alloc: Global, rows: &[R]) -> Result<Vec<R>, AllocError>
-    ensures { IfOk result (λ copies. map R.cells copies.items ≡ map R.cells rows.now) }
+fn copy_rows<R: Table>(alloc: Global, rows: &BlockList<R>) -> Result<Vec<R>, AllocError>
+    ensures { IfOk result (λ copies. map R.cells copies.items ≡ map R.cells rows.now.items) }
 {
     let mut copies = Vec::new(alloc);
-    for row in rows {
-        copies.push(row.copy(alloc)?)?;
+    for place in 0..rows.len() {
+        copies.push(rows.get(place).copy(alloc)?)?;
     }
     Ok(copies)
 }
@@ -99,18 +97,19 @@ impl Shelf {
         ensures order { IsInOrder result }
     {
         Shelf {
+            alloc,
             desk: DeskRow {
                 one: 1,
                 version: VERSION,
                 clock: 0,
                 places: 0,
             },
-            fields: Vec::new(alloc),
-            moves: Vec::new(alloc),
-            orders: Vec::new(alloc),
-            lines: Vec::new(alloc),
-            kept: Vec::new(alloc),
-            firms: Vec::new(alloc),
+            fields: BlockList::new(alloc),
+            moves: BlockList::new(alloc),
+            orders: BlockList::new(alloc),
+            lines: BlockList::new(alloc),
+            kept: BlockList::new(alloc),
+            firms: BlockList::new(alloc),
         }
     }
 
@@ -184,7 +183,7 @@ impl Shelf {
         ensures err { OnErr result (shelf_content self.new ≡ shelf_content self.old) }
         ensures order { IsInOrder self.new }
     {
-        let copies = copy_changes(*self.fields.allocator(), changes)?;
+        let copies = copy_changes(self.alloc, changes)?;
         self.reserve(copies.len())?;
         self.put_all(copies);
         Ok(())

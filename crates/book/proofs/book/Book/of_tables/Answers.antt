@@ -20,14 +20,14 @@ returns-in-Ok-false-clause-damaged c _ A g rows =
     ∙ ap (λ (D : Content). D.fields) (one_content B C (rows_of B) (subst (λ (L : Ledger). IsRowsOf L C) same rows) (rows_are B good)) in
     true_not_false (c.in-Ok-false.ensures.1 (good, (entries_of_rows B c.in_ok-entries.entries.fields.items B.fields fields).1)) c.in-Ok-false.field-0-test
 
-pub from_sorted-requires-clause-rising : goal.from_sorted-requires-clause-rising
-from_sorted-requires-clause-rising c = grind (arith, (map-map (λ (f : Field). f.name) field_of c.in_ok-entries.entries.fields.items))
+pub from_sorted-requires : goal.from_sorted-requires
+from_sorted-requires c = grind (arith, (map-map (λ (f : Field). f.name) field_of c.in_ok-entries.entries.fields.items))
 
-pub from_sorted-requires-2-clause-rising : goal.from_sorted-requires-2-clause-rising
-from_sorted-requires-2-clause-rising c = grind (arith, (map-map (λ (o : Order). o.number) order_of c.in_ok-entries.entries.orders.items))
+pub from_sorted-requires-2 : goal.from_sorted-requires-2
+from_sorted-requires-2 c = grind (arith, (map-map (λ (o : Order). o.number) order_of c.in_ok-entries.entries.orders.items))
 
-pub from_sorted-requires-3-clause-rising : goal.from_sorted-requires-3-clause-rising
-from_sorted-requires-3-clause-rising c = grind (arith, (map-map (λ (k : Kept). k.key) kept_of c.in_ok-entries.entries.kept.items))
+pub from_sorted-requires-3 : goal.from_sorted-requires-3
+from_sorted-requires-3 c = grind (arith, (map-map (λ (k : Kept). k.key) kept_of c.in_ok-entries.entries.kept.items))
 
 pub returns-clause-ok : goal.returns-clause-ok
 returns-clause-ok c =

@@ -3,5 +3,5 @@ use Rattle.std.proofs.Common.{◌≡◌, take}
 use Rattle.std.specs.List.{AllZip}
 use Rattle.keep.proofs.plain.shelf.copy_rows.Given as goal
 
-abbrev pub invariant-loop-row : goal.invariant-loop-row
-invariant-loop-row g l = AllZip (λ a b. g.R.Table.cells b ≡ g.R.Table.cells a) (take l.row-index l.rows) l.copies.items
+abbrev pub invariant-loop-place : goal.invariant-loop-place
+invariant-loop-place g l = AllZip (λ a b. g.R.Table.cells b ≡ g.R.Table.cells a) (take l.place l.rows.items) l.copies.items

@@ -9,4 +9,4 @@ returns g c =
     let cells = g.R.Table.cells in
     let facts = c.binary_search_by.ensures in
     let found = facts.position (λ x. g.R.Table.cmp (cells x) (cells c.args.row.now)) (always_returns_same _ _ _ (λ a r f' k. search rules)) in
-    searched_cells cells g.R.Table.cmp g.met.R.Table.total c.args.row.now c.args.rows.now c.binary_search_by.result c.requires facts.bound found
+    searched_cells cells g.R.Table.cmp g.met.R.Table.total c.args.row.now c.args.rows.now.items c.binary_search_by.result c.requires facts.bound found

@@ -14,10 +14,4 @@ returns c = rw (
   c.in_ok-copy_rows-4.ensures,
   c.in_ok-copy_rows-5.ensures,
   c.in_ok-copy_rows-6.ensures,
-  c.deref.ensures.value,
-  c.deref-2.ensures.value,
-  c.deref-3.ensures.value,
-  c.deref-4.ensures.value,
-  c.deref-5.ensures.value,
-  c.deref-6.ensures.value,
 )

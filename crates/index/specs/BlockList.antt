@@ -1,0 +1,24 @@
+-- Lists in blocks.
+use Rattle.std.specs.Prelude.{◌≡◌, ℕ, [], ◌∷◌, ◌++◌, ◌-◌, ◌^◌, ◌≤◌, min, List, length}
+use Rattle.std.specs.List.{AllByRecursion}
+
+-- what contracts see: the items, and how many fit without memory
+pub record Items (T : Type 0) : Type 0 where
+  pub items : List T
+  pub capacity : ℕ
+
+-- the items of all blocks
+abbrev pub joined : {T : Type 0} → List (List T) → List T
+joined [] = []
+joined (b ∷ bs) = b ++ joined bs
+
+-- n items fill these blocks one after another
+abbrev pub IsFilled : {T : Type 0} → ℕ → List (List T) → Type 0
+IsFilled n [] = n ≡ 0
+IsFilled n (b ∷ bs) = (length b ≡ min n 1024) × IsFilled (n - 1024) bs
+
+-- so many items lie in blocks of these capacities, which are at most as many as 2 ^ 32 items fill
+pub record IsInBlocks {T : Type 0} (n : ℕ) (blocks : List (List T)) (capacities : List ℕ) : Type 0 where
+  pub filled : IsFilled n blocks
+  pub roomy : AllByRecursion (λ c. 1024 ≤ c) capacities
+  pub few : length blocks ≤ 2 ^ 22

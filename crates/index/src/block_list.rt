@@ -1,0 +1,162 @@
+//! A list into which one item more goes at any place by moving few of those behind it.
+
+ghost use Rattle.std.specs.Prelude.{◌≡◌, ◌≤◌, ◌<◌, ◌+◌, ◌-◌, ◌++◌, ◌∷◌, ◌^◌, [], Some, length, slice_get, slice_set, OnOk, OnErr};
+ghost use Rattle.std.specs.Fn.{ComputesKey};
+ghost use Rattle.std.specs.List.{insert};
+ghost use Rattle.std.specs.List.Sorted.{IsBinarySearchResult, IsSearchInRange};
+ghost use Rattle.std.specs.VecDeque.{deque_capacity};
+
+use std::alloc::{AllocError, Global};
+use std::cmp::Ordering;
+use std::collections::VecDeque;
+use std::marker::Model;
+
+/// How many items a block holds.
+const BLOCK_LEN: usize = 1024;
+
+/// How many items there can be.
+const MAX_LEN: usize = 1 << 32;
+
+/// A list in blocks, each of them full but the last. Contracts see the items, and how many fit without memory.
+#[derive(Debug, Drop)]
+pub struct BlockList<T> {
+    blocks: Vec<VecDeque<T>>,
+    len: usize,
+}
+
+impl<T> Model for BlockList<T> {
+    ghost use Rattle.std.specs.Prelude.{◌*◌, map, vec_len};
+    ghost use Rattle.std.specs.VecDeque.{deque_capacity};
+    ghost use Rattle.index.specs.BlockList.{IsInBlocks, Items, joined};
+
+    ghost Value = { Items T };
+
+    ghost view = { λ m. record {
+      items = joined (map (λ b. b.items) m.blocks.items);
+      capacity = 1024 * vec_len m.blocks;
+    } };
+
+    ghost invariant = { λ m. IsInBlocks m.len (map (λ b. b.items) m.blocks.items) (map deque_capacity m.blocks.items) };
+}
+
+/// Puts an item into a full block, and gives back the last.
+fn push_through<T: Drop>(block: &mut VecDeque<T>, place: usize, item: T) -> T
+    requires full { length block.old.items ≡ 1024 }
+    requires room { 1024 ≤ deque_capacity block.old }
+    requires within { place < 1024 }
+    ensures items { block.new.items ++ result ∷ [] ≡ insert block.old.items place item }
+    ensures room { deque_capacity block.old ≤ deque_capacity block.new }
+{
+    let Some(last) = block.pop_back() else {
+        unreachable!()
+    };
+    let Ok(()) = block.insert(place, item) else {
+        unreachable!()
+    };
+    last
+}
+
+impl<T> BlockList<T> {
+    /// No items. Takes no memory.
+    pub fn new(alloc: Global) -> BlockList<T>
+        ensures { result ≡ record { items = []; capacity = 0 } }
+    {
+        BlockList {
+            blocks: Vec::new(alloc),
+            len: 0,
+        }
+    }
+
+    /// How many items there are.
+    pub fn len(&self) -> usize
+        ensures value { result ≡ length self.now.items }
+        ensures fits { length self.now.items ≤ self.now.capacity }
+        ensures small { length self.now.items ≤ 2 ^ 32 }
+    {
+        self.len
+    }
+
+    /// The item at a place.
+    pub fn get(&self, place: usize) -> &T
+        requires { place < length self.now.items }
+        ensures { slice_get self.now.items place ≡ Some result.now }
+    {
+        &self.blocks[place / BLOCK_LEN][place % BLOCK_LEN]
+    }
+
+    /// Puts an item in place of the one there.
+    pub fn set(&mut self, place: usize, item: T)
+    where
+        T: Drop,
+        requires { place < length self.old.items }
+        ensures items { self.new.items ≡ slice_set self.old.items place item }
+        ensures capacity { self.new.capacity ≡ self.old.capacity }
+    {
+        self.blocks[place / BLOCK_LEN][place % BLOCK_LEN] = item;
+    }
+
+    /// Searches by halving, as a slice is searched: `f` says how an item stands to what is looked for.
+    pub fn binary_search_by<F: FnMut(&T) -> Ordering>(&self, mut f: F) -> Result<usize, usize>
+        requires { F.IsAlwaysCallable f }
+        ensures bound { IsSearchInRange result (length self.now.items) }
+        ensures position { (ord : T → Ordering) → ComputesKey F.FnMut ord f
+            → IsBinarySearchResult ord self.now.items result }
+    {
+        let mut low = 0;
+        let mut high = self.len();
+        while low < high {
+            let middle = low + (high - low) / 2;
+            match f(self.get(middle)) {
+                Ordering::Less => low = middle + 1,
+                Ordering::Greater => high = middle,
+                Ordering::Equal => return Ok(middle),
+            }
+        }
+        Err(low)
+    }
+
+    /// Makes room for so many items more. Memory is wanted only where there was no such room.
+    pub fn reserve(&mut self, additional: usize) -> Result<(), AllocError>
+    where
+        T: Drop,
+        ensures ok { OnOk result (length self.new.items + additional ≤ self.new.capacity) }
+        ensures same { self.new.items ≡ self.old.items }
+        ensures capacity { self.old.capacity ≤ self.new.capacity }
+        ensures small { self.new.capacity ≤ 2 ^ 32 }
+        ensures full { OnErr result (self.old.capacity - length self.old.items < additional) }
+    {
+        if MAX_LEN.saturating_sub(self.len) < additional {
+            return Err(AllocError);
+        }
+        let alloc = *self.blocks.allocator();
+        let room = BLOCK_LEN * self.blocks.len() - self.len;
+        for _ in 0..additional.saturating_sub(room).div_ceil(BLOCK_LEN) {
+            self.blocks
+                .push(VecDeque::with_capacity(alloc, BLOCK_LEN)?)?;
+        }
+        Ok(())
+    }
+
+    /// Puts an item in at a place. Takes no memory.
+    pub fn insert(&mut self, place: usize, item: T)
+    where
+        T: Drop,
+        requires place { place ≤ length self.old.items }
+        requires room { length self.old.items < self.old.capacity }
+        ensures items { self.new.items ≡ insert self.old.items place item }
+        ensures capacity { self.new.capacity ≡ self.old.capacity }
+    {
+        let mut index = place / BLOCK_LEN;
+        let mut at = place % BLOCK_LEN;
+        let mut item = item;
+        while self.blocks[index].len() == BLOCK_LEN {
+            item = push_through(&mut self.blocks[index], at, item);
+            index += 1;
+            at = 0;
+        }
+        let Ok(()) = self.blocks[index].insert(at, item) else {
+            unreachable!()
+        };
+        self.len += 1;
+    }
+}
