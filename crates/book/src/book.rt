@@ -24,11 +24,11 @@ mod plan;
 mod tables;
 mod views;
 
-use index::InOrder;
 use self::made::abort_all;
 use crate::kept_words::KeptWords;
 use crate::order::{Order, OrderEntry, State};
 use escrow::{Article, Branch, FieldName, Key, Level, Moment, OrderNo, Quantity};
+use index::InOrder;
 pub use plan::{Plan, Planned};
 use std::alloc::Global;
 use std::marker::Model;

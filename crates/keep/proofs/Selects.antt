@@ -27,7 +27,7 @@ use Rattle.keep.proofs.Meanings as m
 
 -- over that schema the text shows each row of the tree once, and changes nothing
 pub record IsListing (schema : Schema) (tree : ℕ) (selected : Row → Row) (text : List ℕ) : Type 1 where
-  pub plain : IsPlain (understood schema text)
+  pub plain : (here : Schema) → here ≡ schema → IsPlain (understood here text)
   pub rows : (old new : State) (r : Result (Vec Answer Global) Error) → old.now.schema ≡ schema → IfOk r (λ rows. Shown text [] old new rows.items) → IfOk r (λ rows. IsPermutation (map selected (old.now.trees tree)) rows.items)
   pub same : (old new : State) (r : Result (Vec Answer Global) Error) → old.now.schema ≡ schema → IfOk r (λ rows. Shown text [] old new rows.items) → OnOk r (IsUnchanged old new)
   pub survives : (old new : State) → Survives old new (CommitsShowing text [] old) → Survives old new (λ _. ¬ (old.now.schema ≡ schema))
@@ -67,12 +67,15 @@ module _ (schema : Schema) (tree : ℕ) (project : List Term) (order : List (Ter
   rows_if old new (Ok rows) has h = selects old new rows.items has h
   rows_if old new (Err e) has h = tt
 
+  plain_if : (here : Schema) → here ≡ schema → IsPlain (understood here text)
+  plain_if here has = subst (λ s. IsPlain (understood s text)) (sym has) plain
+
   listing : IsListing schema tree selected text
   listing = record {
-    plain = plain;
+    plain = plain_if;
     rows = rows_if;
     same = same_if;
-    survives = λ old new. survives_weaker old new _ _ (λ _ db commits has. never_commits text [] old db (subst (λ s. IsPlain (understood s text)) (sym has) plain) commits);
+    survives = λ old new. survives_weaker old new _ _ (λ _ db commits has. never_commits text [] old db (plain_if old.now.schema has) commits);
   }
 
 desk_listing : IsListing desk_schema 0 desk_selected t.desk_select
@@ -90,8 +93,8 @@ desk_same old new r (inl has) h = desk_listing.same old new r has h
 desk_same old new r (inr has) h = old_listing.same old new r has h
 
 pub desk_plain : (schema : Schema) → IsOfAVersion schema → IsPlain (understood schema t.desk_select)
-desk_plain schema (inl has) = subst (λ s. IsPlain (understood s t.desk_select)) (sym has) desk_listing.plain
-desk_plain schema (inr has) = subst (λ s. IsPlain (understood s t.desk_select)) (sym has) old_listing.plain
+desk_plain schema (inl has) = desk_listing.plain schema has
+desk_plain schema (inr has) = old_listing.plain schema has
 
 pub field_listing : IsListing desk_schema 1 field_selected t.field_select
 field_listing = listing desk_schema 1 m.field_query.project m.field_query.order t.field_select _ m.field_select_is.0 m.field_select_plain m.field_select_is.1 (λ _. refl)

@@ -1,6 +1,7 @@
 //! Keepers: the tables on a disk, so that a stop at any moment leaves what was before a commit or the whole of it.
 #![tactic(auto)]
 
+mod answers;
 mod commit;
 mod create;
 mod keep;

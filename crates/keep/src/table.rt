@@ -71,7 +71,7 @@ pub(crate) trait Table: Sized + Drop {
         ensures survives { Survives (state S.Store tx.old.conn.now) (state S.Store tx.new.conn.now) (λ _. ⊥) };
 
     /// All rows of the table.
-    fn select<S: Alter>(conn: &mut Connection<S>) -> Result<Vec<Row>, Error>
+    fn select<S: Alter>(alloc: Global, conn: &mut Connection<S>) -> Result<Vec<Row>, Error>
         ensures mode { conn.old.in_transaction ≡ false → conn.new.in_transaction ≡ false }
         ensures rows { HasCleanDisk (state S.Store conn.new) → (state S.Store conn.old).now.schema ≡ desk_schema
             → IfOk result (λ rows. IsPermutation (map selected ((state S.Store conn.old).now.trees tree)) rows.items) }
@@ -122,7 +122,7 @@ pub(crate) fn load<R: Table, S: Alter>(
     ensures survives { Survives (state S.Store conn.old) (state S.Store conn.new)
         (λ _. ¬ ((state S.Store conn.old).now.schema ≡ desk_schema)) }
 {
-    let answers = R::select(conn)?;
+    let answers = R::select(alloc, conn)?;
     let rows = read_all(alloc, answers.as_slice())?;
     if are_in_order(rows.as_slice()) {
         Ok(rows)

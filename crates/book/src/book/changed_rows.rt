@@ -12,7 +12,6 @@ ghost use Rattle.book.specs.Model.{move_of, order_of};
 ghost use Rattle.book.specs.After.{aborted_rows, changes_own_line, line_rows, move_rows, of_numbered, own_firm_rows, own_line_rows, own_order_rows, with_fields, with_firms, with_kept, with_lines, with_moves, with_orders, IsShort};
 ghost use Rattle.book.specs.Plans.{ChangesTo, Makes};
 
-use index::InOrder;
 use super::made::{changes_line, changes_state, is_transfer};
 use super::plan::PlanParts;
 use super::{Book, FieldEntry, MoveEntry};
@@ -21,6 +20,7 @@ use crate::limits::MAX_PLACES;
 use crate::order::{Kind, Line, Order, OrderEntry, State};
 use crate::rows::{Change, DeskRow, FieldRow, FirmRow, KeptRow, LineRow, MoveRow, OrderRow};
 use escrow::{Article, Branch, FieldName, Key, Moment, OrderNo, Way};
+use index::InOrder;
 use std::alloc::Global;
 use words::{Command, Memory, Request};
 

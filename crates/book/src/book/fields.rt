@@ -14,11 +14,11 @@ ghost use Rattle.book.specs.declared.order.Line.{Line};
 ghost use Rattle.words.specs.declared.command.Command.TheVariants.{Rebound};
 ghost use Rattle.words.specs.declared.command.Request.{Request};
 
-use index::InOrder;
 use super::plan::moved_at_once;
 use super::{Book, FieldEntry};
 use crate::order::{Line, NO_SHARE, Order, OrderEntry, Share, line_in, share_of};
 use escrow::{FieldName, Level, OrderNo, Qty, Quantity, Way};
+use index::InOrder;
 use std::alloc::Global;
 use words::{Command, Memory, Request};
 

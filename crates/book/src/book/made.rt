@@ -15,11 +15,11 @@ ghost use Rattle.std.specs.List.{AllByRecursion as Each, filter};
 ghost use Rattle.std.specs.Prelude.{◌≡◌, ℕ, ◌<◌, ◌||◌, List, true, MatchOption, find, if◌then◌else◌, map, option_map, IfOk, Some, ◌∷◌, ◌++◌, [], ◌&&◌, not, nat_le, OnOk};
 ghost use Rattle.std.specs.Vec.{vec_capacity, vec_len};
 
-use index::InOrder;
 use super::Book;
 use super::plan::lines_of;
 use crate::order::{Kind, Line, Order, OrderEntry, State, is_on, line_in};
 use escrow::{Article, Branch, FieldName, Level, Moment, OrderNo, Qty};
+use index::InOrder;
 use std::alloc::Global;
 use words::{Command, Memory, OpenLine, Request};
 

@@ -11,13 +11,13 @@ ghost use Rattle.book.specs.Tables.{rows_among};
 ghost use Rattle.book.specs.Model.{move_of};
 ghost use Rattle.std.specs.Prelude.{◌≡◌, length, option_map, ◌⊎◌, IfOk, IsSome, OnErr, map};
 
-use index::InOrder;
 use super::made::new_line;
 use super::{Book, FieldEntry, MoveEntry};
 use crate::kept_words::KeptWords;
 use crate::order::{Line, Order};
 use crate::rows::Change;
 use escrow::{Article, Branch, FieldName, Key, Moment, OrderNo, Qty, Way};
+use index::InOrder;
 use std::alloc::Global;
 use std::marker::Model;
 use words::{Command, Memory, OpenLine, Refusal, Request};

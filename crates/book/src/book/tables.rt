@@ -16,7 +16,6 @@ mod marks;
 mod sums;
 mod told;
 
-use index::InOrder;
 use self::good::{
     are_keys_in_order, are_moves_good, are_moves_in_order, are_orders_good, are_places_good,
 };
@@ -29,6 +28,7 @@ use crate::limits::{MAX_FIELDS, MAX_ORDERS, MAX_PLACES};
 use crate::order::{Line, Order, State};
 use crate::rows::{DeskRow, Tables};
 use escrow::{FieldName, Key, Moment};
+use index::InOrder;
 use std::alloc::Global;
 use thiserror::Error;
 use words::Memory;

@@ -1,5 +1,6 @@
 //! The table `field`.
 
+use crate::answers::all_rows;
 use crate::table::Table;
 use book::FieldRow;
 use sqlite::{Alter, Connection, Error, Row, Transaction, params};
@@ -75,10 +76,11 @@ impl Table for FieldRow {
     }
 
     /// The rows of `field`, by branch and article, the rowid of each last.
-    fn select<S: Alter>(conn: &mut Connection<S>) -> Result<Vec<Row>, Error> {
-        conn.query_all(
+    fn select<S: Alter>(alloc: Global, conn: &mut Connection<S>) -> Result<Vec<Row>, Error> {
+        all_rows(
+            alloc,
+            conn,
             "SELECT branch, article, lo, hi, start, value, inf, sup, rowid FROM field ORDER BY branch, article",
-            &[],
         )
     }
 

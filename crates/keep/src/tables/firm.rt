@@ -1,5 +1,6 @@
 //! The table `firm`.
 
+use crate::answers::all_rows;
 use crate::table::Table;
 use book::FirmRow;
 use sqlite::{Alter, Connection, Error, Row, Transaction, params};
@@ -57,8 +58,8 @@ impl Table for FirmRow {
     }
 
     /// The rows of `firm`, by number.
-    fn select<S: Alter>(conn: &mut Connection<S>) -> Result<Vec<Row>, Error> {
-        conn.query_all("SELECT number FROM firm ORDER BY number", &[])
+    fn select<S: Alter>(alloc: Global, conn: &mut Connection<S>) -> Result<Vec<Row>, Error> {
+        all_rows(alloc, conn, "SELECT number FROM firm ORDER BY number")
     }
 
     fn read(row: &Row) -> Result<Self, Error> {

@@ -1,5 +1,6 @@
 //! The table `kept`.
 
+use crate::answers::all_rows;
 use crate::table::Table;
 use book::KeptRow;
 use sqlite::{Alter, Connection, Error, Row, Transaction, params};
@@ -60,10 +61,11 @@ impl Table for KeptRow {
     }
 
     /// The rows of `kept`, by key, the rowid of each last.
-    fn select<S: Alter>(conn: &mut Connection<S>) -> Result<Vec<Row>, Error> {
-        conn.query_all(
+    fn select<S: Alter>(alloc: Global, conn: &mut Connection<S>) -> Result<Vec<Row>, Error> {
+        all_rows(
+            alloc,
+            conn,
             "SELECT reqkey, place, words, rowid FROM kept ORDER BY reqkey",
-            &[],
         )
     }
 

@@ -1,5 +1,6 @@
 //! The table `line`.
 
+use crate::answers::all_rows;
 use crate::table::Table;
 use book::LineRow;
 use sqlite::{Alter, Connection, Error, Row, Transaction, params};
@@ -73,10 +74,11 @@ impl Table for LineRow {
     }
 
     /// The rows of `line`, by number and nr, the rowid of each last.
-    fn select<S: Alter>(conn: &mut Connection<S>) -> Result<Vec<Row>, Error> {
-        conn.query_all(
+    fn select<S: Alter>(alloc: Global, conn: &mut Connection<S>) -> Result<Vec<Row>, Error> {
+        all_rows(
+            alloc,
+            conn,
             "SELECT number, nr, branch, article, way, held, used, rowid FROM line ORDER BY number, nr",
-            &[],
         )
     }
 

@@ -1,5 +1,6 @@
 //! The table `move`.
 
+use crate::answers::all_rows;
 use crate::table::Table;
 use book::MoveRow;
 use sqlite::{Alter, Connection, Error, Row, Transaction, params};
@@ -61,10 +62,11 @@ impl Table for MoveRow {
     }
 
     /// The rows of `move`, by place.
-    fn select<S: Alter>(conn: &mut Connection<S>) -> Result<Vec<Row>, Error> {
-        conn.query_all(
+    fn select<S: Alter>(alloc: Global, conn: &mut Connection<S>) -> Result<Vec<Row>, Error> {
+        all_rows(
+            alloc,
+            conn,
             "SELECT place, branch, article, qty FROM move ORDER BY place",
-            &[],
         )
     }
 

@@ -1,5 +1,6 @@
 //! The table `orders`.
 
+use crate::answers::all_rows;
 use crate::table::Table;
 use book::OrderRow;
 use sqlite::{Alter, Connection, Error, Row, Transaction, params};
@@ -56,10 +57,11 @@ impl Table for OrderRow {
     }
 
     /// The rows of `orders`, by number.
-    fn select<S: Alter>(conn: &mut Connection<S>) -> Result<Vec<Row>, Error> {
-        conn.query_all(
+    fn select<S: Alter>(alloc: Global, conn: &mut Connection<S>) -> Result<Vec<Row>, Error> {
+        all_rows(
+            alloc,
+            conn,
             "SELECT number, kind, until, state FROM orders ORDER BY number",
-            &[],
         )
     }
 

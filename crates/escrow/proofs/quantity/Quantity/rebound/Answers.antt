@@ -1,6 +1,4 @@
-use Rattle.std.specs.Prelude.{◌≡◌, ℕ, ◌+◌, ◌-◌, ◌<◌, ◌≤◌}
 use Rattle.std.proofs.Common.{arith}
-use Rattle.escrow.specs.Stock.{Stock}
 use Rattle.escrow.proofs.Rebounds.{none_below, some_above, some_below}
 use Rattle.escrow.proofs.quantity.Quantity.rebound.Goals as goal
 

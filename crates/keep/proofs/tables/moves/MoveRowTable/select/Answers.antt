@@ -3,10 +3,10 @@ use Rattle.keep.proofs.Selects.{move_listing}
 use Rattle.keep.proofs.tables.moves.MoveRowTable.select.Goals as goal
 
 pub returns-clause-rows : goal.returns-clause-rows
-returns-clause-rows g c clean has = move_listing.rows (state g.S.Store c.args.conn.now) (state g.S.Store c.query_all.new.self) c.query_all.result has (c.query_all.ensures.ok clean)
+returns-clause-rows g c clean has = move_listing.rows (state g.S.Store c.args.conn.now) (state g.S.Store c.all_rows.new.conn) c.all_rows.result has (c.all_rows.ensures.ok (move_listing.plain _ has) clean)
 
 pub returns-clause-same : goal.returns-clause-same
-returns-clause-same g c clean has = move_listing.same (state g.S.Store c.args.conn.now) (state g.S.Store c.query_all.new.self) c.query_all.result has (c.query_all.ensures.ok clean)
+returns-clause-same g c clean has = move_listing.same (state g.S.Store c.args.conn.now) (state g.S.Store c.all_rows.new.conn) c.all_rows.result has (c.all_rows.ensures.ok (move_listing.plain _ has) clean)
 
 pub returns-clause-survives : goal.returns-clause-survives
-returns-clause-survives g c = move_listing.survives (state g.S.Store c.args.conn.now) (state g.S.Store c.query_all.new.self) c.query_all.ensures.survives
+returns-clause-survives g c = move_listing.survives (state g.S.Store c.args.conn.now) (state g.S.Store c.all_rows.new.conn) c.all_rows.ensures.survives
