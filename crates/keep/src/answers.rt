@@ -30,5 +30,5 @@ pub(crate) fn all_rows<S: Alter>(
         };
         all.push(row.copy()?)?;
     }
-    Err(Error::SqliteFailure(ErrorCode::OutOfMemory))
+    Err(Error::SqliteFailure(ErrorCode::DatabaseCorrupt))
 }
