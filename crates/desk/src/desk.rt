@@ -216,8 +216,8 @@ impl<K: Keep> Desk<K> {
         ensures good { Good self.now.ledger }
         ensures stored { StaysStored K.Keep self.now }
     {
-        self.book();
-        self.is_stopped();
+        // what is always so of a desk is known where it is read
+        let _book = &self.book;
     }
 
     /// The keeper, as it stands. Takes no memory.

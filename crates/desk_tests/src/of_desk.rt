@@ -6,7 +6,7 @@ use crate::desks::{answers, call, open, opened, requests, resume, run};
 use crate::keepers::{plain_keeper, sql_keeper};
 use crate::scripts::{Played, scripts};
 use desk::{CallFault, Desk, Ending, OpenFault, Run};
-use keep::{Keep, PlainKeep};
+use keep::Keep;
 use std::alloc::Global;
 use std::test::Fail;
 use words::{Reply, Request};
@@ -74,8 +74,8 @@ fn calls<K: Keep>(
 }
 
 /// The keeper behind the first request.
-fn behind(alloc: Global, first: &Request) -> Result<PlainKeep, Fail> {
-    let mut desk = opened(alloc, plain_keeper(alloc))?;
+fn behind<K: Keep + Drop>(alloc: Global, keep: K, first: &Request) -> Result<K, Fail> {
+    let mut desk = opened(alloc, keep)?;
     if calls(alloc, &mut desk, first, Ok(Reply::Done(1))) {
         Ok(desk.into_keep())
     } else {
@@ -101,12 +101,12 @@ fn closed<K: Keep + Drop>(alloc: Global, keep: K) -> Result<K, Fail> {
 }
 
 /// The keeper behind such a run, which is then closed.
-fn cut(
+fn cut<K: Keep + Drop>(
     alloc: Global,
-    keep: PlainKeep,
+    keep: K,
     first: &Request,
     orders: &[Request],
-) -> Result<PlainKeep, Fail> {
+) -> Result<K, Fail> {
     let mut desk = opened(alloc, keep)?;
     if is_cut(alloc, &mut desk, first, orders) {
         closed(alloc, desk.into_keep())
@@ -132,7 +132,12 @@ fn is_resumed<K: Keep>(
 }
 
 /// A reopening finds this infimum, and is resumed.
-fn goes_on(alloc: Global, keep: PlainKeep, orders: &[Request], inf: u64) -> Result<bool, Fail> {
+fn goes_on<K: Keep + Drop>(
+    alloc: Global,
+    keep: K,
+    orders: &[Request],
+    inf: u64,
+) -> Result<bool, Fail> {
     let mut desk = opened(alloc, keep)?;
     Ok(has_infimum(&desk, inf) && is_resumed(alloc, &mut desk, orders)?)
 }
@@ -142,7 +147,7 @@ fn a_run_ends_where_a_commit_fails(rt: HostRuntime) -> Result<(), Fail> {
     let requests = requests(rt.alloc(), &LINES)?;
     let (first, orders) = requests.split_first().ok_or("requests")?;
     for (lands, inf) in [(false, 30), (true, 20)] {
-        let keep = behind(rt.alloc(), first)?.reopen(Some(2), lands);
+        let keep = behind(rt.alloc(), plain_keeper(rt.alloc()), first)?.reopen(Some(2), lands);
         let keep = cut(rt.alloc(), keep, first, orders)?.reopen(None, false);
         assert!(rt; goes_on(rt.alloc(), keep, orders, inf)?);
     }

@@ -131,16 +131,15 @@ const COMMITTED: &str =
     "Tables { desk: DeskRow { one: 1, version: 2, clock: 30, places: 12 }, fields: Rows { rows: [FieldRow { branch: \"N1\", article: \"A-1\", lo: 1, hi: 90, start: 50, value: 43, inf: 30, sup: 70 }, FieldRow { branch: \"N1\", article: \"A-2\", lo: 1, hi: 90, start: 50, value: 41, inf: 30, sup: 70 }] }, moves: Rows { rows: [MoveRow { place: 9, branch: \"N1\", article: \"A-1\", qty: -8 }] }, orders: Rows { rows: [OrderRow { number: 7, kind: 1, until: 900, state: 0 }, OrderRow { number: 20, kind: 1, until: 900, state: 1 }] }, lines: Rows { rows: [LineRow { number: 7, nr: 2, branch: \"N2\", article: \"A-3\", way: 1, held: 6, used: 5 }] }, kept: Rows { rows: [KeptRow { reqkey: \"K2\", place: 4, words: \"'); DROP TABLE kept; --\" }] }, firms: Rows { rows: [FirmRow { number: 7 }, FirmRow { number: 20 }] } }";
 
 /// Whether what is committed comes back.
-fn comes_back<K: Keep>(alloc: Global, keep: &mut K) -> Result<bool, Fail> {
-    commit_rows(alloc, keep)?;
-    Ok(loaded(alloc, keep)?.as_str() == COMMITTED)
+fn comes_back<K: Keep + Drop>(alloc: Global, mut keep: K) -> Result<bool, Fail> {
+    commit_rows(alloc, &mut keep)?;
+    Ok(loaded(alloc, &mut keep)?.as_str() == COMMITTED)
 }
 
 #[test]
 fn rows_come_back_by_their_keys(rt: HostRuntime) -> Result<(), Fail> {
-    let over_sql = comes_back(rt.alloc(), &mut sql_keeper(rt.alloc())?)?;
-    let in_memory = comes_back(rt.alloc(), &mut plain_keeper(rt.alloc()))?;
-    assert!(rt; over_sql && in_memory);
+    assert!(rt; comes_back(rt.alloc(), sql_keeper(rt.alloc())?)?);
+    assert!(rt; comes_back(rt.alloc(), plain_keeper(rt.alloc()))?);
     Ok(())
 }
 

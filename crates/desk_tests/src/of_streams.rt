@@ -6,7 +6,7 @@ use crate::of_web::{message_answers, messages, serve_on};
 use crate::scripts::long_script;
 use crate::streams::{Drip, Sink};
 use desk::{Desk, ScriptFault};
-use keep::PlainKeep;
+use keep::Keep;
 use std::alloc::Global;
 use std::io::{Read, Write};
 use std::process::Abort;
@@ -31,11 +31,11 @@ enum Ended {
 }
 
 /// How a script on these streams ends.
-fn script_end<R: Read, W: Write>(
+fn script_end<K: Keep, R: Read, W: Write>(
     alloc: Global,
     reader: &mut R,
     writer: &mut W,
-    desk: &mut Desk<PlainKeep>,
+    desk: &mut Desk<K>,
 ) -> Ended {
     match answer(alloc, reader, writer, desk) {
         Ok(()) => Ended::Whole,
@@ -46,11 +46,11 @@ fn script_end<R: Read, W: Write>(
 }
 
 /// How messages on these streams end.
-fn message_end<R: Read, W: Write>(
+fn message_end<K: Keep, R: Read, W: Write>(
     alloc: Global,
     reader: &mut R,
     writer: &mut W,
-    desk: &mut Desk<PlainKeep>,
+    desk: &mut Desk<K>,
 ) -> Ended {
     match serve_on(alloc, reader, writer, desk) {
         Ok(_) => Ended::Whole,
@@ -60,14 +60,15 @@ fn message_end<R: Read, W: Write>(
     }
 }
 
-/// How it ends on these streams.
-fn end<R: Read, W: Write>(
+/// How it ends on these streams, on the desk that the keeper holds.
+fn end<K: Keep + Drop, R: Read, W: Write>(
     alloc: Global,
+    keep: K,
     is_script: bool,
     reader: &mut R,
     writer: &mut W,
 ) -> Result<Ended, Fail> {
-    let mut desk = opened(alloc, plain_keeper(alloc))?;
+    let mut desk = opened(alloc, keep)?;
     Ok(if is_script {
         script_end(alloc, reader, writer, &mut desk)
     } else {
@@ -98,7 +99,8 @@ fn ends_with(alloc: Global, played: &Played<'_>, fault: Fault) -> Result<(Ended,
         before_fault: fault.write,
         takes_none: fault.is_other,
     };
-    let ended = end(alloc, played.is_script, &mut reader, &mut writer)?;
+    let keep = plain_keeper(alloc);
+    let ended = end(alloc, keep, played.is_script, &mut reader, &mut writer)?;
     if !played.answers.starts_with(writer.taken.as_slice()) {
         Err("another answer")?;
     }

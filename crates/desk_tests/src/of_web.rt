@@ -75,9 +75,10 @@ pub(crate) fn serve_on<K: Keep, R: Read, W: Write>(
     serve(alloc, reader, writer, desk)
 }
 
-/// How serving the messages in pieces of that length ends, on a new desk.
-fn serve_pieces(
+/// How serving the messages in pieces of that length ends, on the desk that the keeper holds.
+fn serve_pieces<K: Keep + Drop>(
     alloc: Global,
+    keep: K,
     piece: usize,
     messages: &[u8],
     out: &mut Vec<u8>,
@@ -88,14 +89,14 @@ fn serve_pieces(
         before_fault: usize::MAX,
         is_interrupted: false,
     };
-    let mut desk = opened(alloc, plain_keeper(alloc))?;
+    let mut desk = opened(alloc, keep)?;
     Ok(serve_on(alloc, &mut reader, out, &mut desk)?)
 }
 
 /// Whether they are answered so.
 fn answers_so(alloc: Global, piece: usize, messages: &[u8], answers: &[u8]) -> Result<bool, Fail> {
     let mut out: Vec<u8> = Vec::new(alloc);
-    let served = serve_pieces(alloc, piece, messages, &mut out)?;
+    let served = serve_pieces(alloc, plain_keeper(alloc), piece, messages, &mut out)?;
     Ok(served.answered == 14 && served.ending == Ending::BadMessage && out.as_slice() == answers)
 }
 

@@ -201,7 +201,25 @@ fn go_on<K: Keep>(
     answer_on(alloc, desk, list, &requests, before)
 }
 
-/// A session behind so many replies of the list: how many it gave, none where no desk was opened.
+/// A session on the desk that the keeper holds: the keeper behind it, and how many replies it gave, none where no desk
+/// was opened.
+fn play<K: Keep + Drop>(
+    alloc: Global,
+    keep: K,
+    list: &List,
+    before: usize,
+) -> Result<(K, usize), Fail> {
+    match open(alloc, keep) {
+        Err((OpenFault::Store | OpenFault::Memory, keep)) => Ok((keep, 0)),
+        Err(_) => Err("the store is told as something else")?,
+        Ok(mut desk) => {
+            let count = go_on(alloc, &mut desk, list, before)?;
+            Ok((desk.into_keep(), count))
+        }
+    }
+}
+
+/// A session behind so many replies of the list.
 #[derive(Drop)]
 struct Session<'a> {
     list: &'a List,
@@ -216,14 +234,8 @@ impl Visit for Session<'_> {
         alloc: Global,
         conn: Connection<S>,
     ) -> Result<(Connection<S>, usize), Fail> {
-        match open(alloc, keeper(conn)?) {
-            Err((OpenFault::Store | OpenFault::Memory, keep)) => Ok((connection_of(keep), 0)),
-            Err(_) => Err("the store is told as something else")?,
-            Ok(mut desk) => {
-                let count = go_on(alloc, &mut desk, self.list, self.before)?;
-                Ok((connection_of(desk.into_keep()), count))
-            }
-        }
+        let (keep, count) = play(alloc, keeper(conn)?, self.list, self.before)?;
+        Ok((connection_of(keep), count))
     }
 }
 
@@ -361,10 +373,14 @@ fn is_decided_anew<K: Keep>(
     Ok(first && are_answered(alloc, desk, requests, &want)?)
 }
 
+/// Whether the desk that the keeper holds decides it anew.
+fn decides_anew<K: Keep + Drop>(alloc: Global, keep: K) -> Result<bool, Fail> {
+    let requests = requests(alloc, two_orders().lines)?;
+    is_decided_anew(alloc, &mut opened(alloc, keep)?, &requests)
+}
+
 #[test]
 fn a_whole_list_again_is_decided_anew(rt: HostRuntime) -> Result<(), Fail> {
-    let requests = requests(rt.alloc(), two_orders().lines)?;
-    let mut desk = opened(rt.alloc(), sql_keeper(rt.alloc())?)?;
-    assert!(rt; is_decided_anew(rt.alloc(), &mut desk, &requests)?);
+    assert!(rt; decides_anew(rt.alloc(), sql_keeper(rt.alloc())?)?);
     Ok(())
 }

@@ -47,7 +47,16 @@ fn is_told<K: Keep>(keep: &K, last: Result<(), KeepFault>) -> bool {
     }
 }
 
-/// A new desk is made, and two commits: how much of that was acknowledged. What fails is told as the store.
+/// Two commits on a new desk: how much of all that was acknowledged. What fails is told as the store.
+fn acknowledged<K: Keep>(keep: &mut K) -> Result<usize, Fail> {
+    let (done, last) = commit_twice(keep);
+    if !is_told(keep, last) {
+        Err("the store is told as something else, or has not stopped its keeper")?;
+    }
+    Ok(done.saturating_add(1))
+}
+
+/// A new desk is made, and two commits.
 struct Commits;
 
 impl Visit for Commits {
@@ -64,11 +73,8 @@ impl Visit for Commits {
             Err(_) => Err("the store is told as something else")?,
         }
         let mut keep = keeper(conn)?;
-        let (done, last) = commit_twice(&mut keep);
-        if !is_told(&keep, last) {
-            Err("the store is told as something else, or has not stopped its keeper")?;
-        }
-        Ok((connection_of(keep), done.saturating_add(1)))
+        let done = acknowledged(&mut keep)?;
+        Ok((connection_of(keep), done))
     }
 }
 

@@ -1,5 +1,6 @@
-use Rattle.std.proofs.Common.{rules, subst}
+use Rattle.std.proofs.Common.{subst, sym}
 use Rattle.book.specs.Rows.{IsRowsOf}
+use Rattle.book.specs.Tables.{content_of}
 use Rattle.book.proofs.Futures.{honours_always}
 use Rattle.book.proofs.Runs.{honours_if_good}
 use Rattle.book.proofs.EqualRows.{told_by_rows}
@@ -15,16 +16,32 @@ returns-in-Ok-of_tables-clause-nothing_else g c honest A x good rows held =
     (subst (IsRowsOf c.in-Ok-of_tables.book.ledger) (c.in-Ok.ensures.one honest x held) c.in-Ok-of_tables.ensures.ok.1) rows
 
 pub invariant_of-result : goal.invariant_of-result
-invariant_of-result g c = search rules
+invariant_of-result g c = record {
+  good = c.in-Ok-of_tables.ensures.ok.0;
+  stored = λ going honest. record {
+    rows = content_of c.in-Ok.tables;
+    are_rows = c.in-Ok-of_tables.ensures.ok.1;
+    held = c.in-Ok.ensures.content honest;
+    alone = c.in-Ok.ensures.alone honest (content_of c.in-Ok.tables) (c.in-Ok.ensures.content honest);
+  };
+}
 
 pub returns-in-Ok-of_tables-clause-stored : goal.returns-in-Ok-of_tables-clause-stored
-returns-in-Ok-of_tables-clause-stored g c = search rules
+returns-in-Ok-of_tables-clause-stored g c honest = record {
+  rows = content_of c.in-Ok.tables;
+  are_rows = c.in-Ok-of_tables.ensures.ok.1;
+  held = (c.in-Ok.ensures.same honest (content_of c.in-Ok.tables)).1 (c.in-Ok.ensures.content honest);
+  alone = c.in-Ok.ensures.alone honest (content_of c.in-Ok.tables) (c.in-Ok.ensures.content honest);
+}
 
 pub returns-in-Ok-of_tables-clause-rows : goal.returns-in-Ok-of_tables-clause-rows
-returns-in-Ok-of_tables-clause-rows g c = search rules
+returns-in-Ok-of_tables-clause-rows g c honest x held =
+    subst (IsRowsOf c.in-Ok-of_tables.book.ledger) (c.in-Ok.ensures.one honest x held) c.in-Ok-of_tables.ensures.ok.1
 
 pub returns-in-Err-Damaged-clause-nothing_else : goal.returns-in-Err-Damaged-clause-nothing_else
-returns-in-Err-Damaged-clause-nothing_else g c = search rules
+returns-in-Err-Damaged-clause-nothing_else g c honest A x good rows held =
+    absurd (c.in-Err-Damaged.ensures.damaged c.in-Err-Damaged.field-0-is A good (subst (IsRowsOf A) (sym (c.in-Ok.ensures.one honest x held)) rows))
 
 pub returns-in-Err-Damaged-clause-damaged : goal.returns-in-Err-Damaged-clause-damaged
-returns-in-Err-Damaged-clause-damaged g c = search rules
+returns-in-Err-Damaged-clause-damaged g c is honest x held A good rows =
+    c.in-Err-Damaged.ensures.damaged c.in-Err-Damaged.field-0-is A good (subst (IsRowsOf A) (sym (c.in-Ok.ensures.one honest x held)) rows)
