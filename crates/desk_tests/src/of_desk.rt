@@ -6,7 +6,7 @@ use crate::desks::{answers, call, open, opened, requests, resume, run};
 use crate::keepers::{plain_keeper, sql_keeper};
 use crate::scripts::{Played, scripts};
 use desk::{CallFault, Desk, Ending, OpenFault, Run};
-use keep::Keep;
+use keep::{Keep, PlainKeep};
 use std::alloc::Global;
 use std::test::Fail;
 use words::{Reply, Request};
@@ -73,16 +73,6 @@ fn calls<K: Keep>(
     call(alloc, desk, request) == want
 }
 
-/// The keeper behind the first request.
-fn behind<K: Keep + Drop>(alloc: Global, keep: K, first: &Request) -> Result<K, Fail> {
-    let mut desk = opened(alloc, keep)?;
-    if calls(alloc, &mut desk, first, Ok(Reply::Done(1))) {
-        Ok(desk.into_keep())
-    } else {
-        Err("another reply")?
-    }
-}
-
 /// The second commit of a run fails: it ends there, and then nothing is answered, also not to what was done.
 fn is_cut<K: Keep>(alloc: Global, desk: &mut Desk<K>, first: &Request, orders: &[Request]) -> bool {
     runs(alloc, desk, orders, Ending::Stopped, &[Reply::Done(2)])
@@ -97,21 +87,6 @@ fn closed<K: Keep + Drop>(alloc: Global, keep: K) -> Result<K, Fail> {
     match open(alloc, keep) {
         Err((OpenFault::Store, keep)) => Ok(keep),
         _ => Err("not told as the store")?,
-    }
-}
-
-/// The keeper behind such a run, which is then closed.
-fn cut<K: Keep + Drop>(
-    alloc: Global,
-    keep: K,
-    first: &Request,
-    orders: &[Request],
-) -> Result<K, Fail> {
-    let mut desk = opened(alloc, keep)?;
-    if is_cut(alloc, &mut desk, first, orders) {
-        closed(alloc, desk.into_keep())
-    } else {
-        Err("not cut there")?
     }
 }
 
@@ -131,25 +106,63 @@ fn is_resumed<K: Keep>(
     )
 }
 
-/// A reopening finds this infimum, and is resumed.
-fn goes_on<K: Keep + Drop>(
-    alloc: Global,
-    keep: K,
-    orders: &[Request],
-    inf: u64,
-) -> Result<bool, Fail> {
+/// A part of what is done, each on a desk of its own, and how it is to end.
+#[derive(Clone, Copy)]
+enum Part<'a> {
+    /// The first request is answered.
+    First(&'a Request),
+    /// A run of the orders is cut, and the first request is answered no more.
+    Cut(&'a Request, &'a [Request]),
+    /// This infimum is found, and the run is resumed.
+    Rest(u64, &'a [Request]),
+}
+
+/// Whether it ends so.
+fn ends_so<K: Keep>(alloc: Global, desk: &mut Desk<K>, part: Part<'_>) -> Result<bool, Fail> {
+    Ok(match part {
+        Part::First(first) => calls(alloc, desk, first, Ok(Reply::Done(1))),
+        Part::Cut(first, orders) => is_cut(alloc, desk, first, orders),
+        Part::Rest(inf, orders) => { has_infimum(desk, inf) && is_resumed(alloc, desk, orders)? }
+    })
+}
+
+/// The keeper behind that part, on the desk that it holds.
+fn behind<K: Keep + Drop>(alloc: Global, keep: K, part: Part<'_>) -> Result<K, Fail> {
     let mut desk = opened(alloc, keep)?;
-    Ok(has_infimum(&desk, inf) && is_resumed(alloc, &mut desk, orders)?)
+    let ended = ends_so(alloc, &mut desk, part);
+    let keep = desk.into_keep();
+    if ended? {
+        Ok(keep)
+    } else {
+        Err("ended otherwise")?
+    }
+}
+
+/// Another keeper behind a run that was cut, whose last commit lands or not: no desk is opened over the one that was
+/// stopped.
+fn cut(alloc: Global, first: &Request, orders: &[Request], lands: bool) -> Result<PlainKeep, Fail> {
+    let keep = behind(alloc, plain_keeper(alloc), Part::First(first))?.reopen(Some(2), lands);
+    let keep = behind(alloc, keep, Part::Cut(first, orders))?;
+    Ok(closed(alloc, keep)?.reopen(None, false))
+}
+
+/// The next desk has this infimum, and goes on.
+fn goes_on(
+    alloc: Global,
+    first: &Request,
+    orders: &[Request],
+    lands: bool,
+    inf: u64,
+) -> Result<(), Fail> {
+    let keep = cut(alloc, first, orders, lands)?;
+    behind(alloc, keep, Part::Rest(inf, orders))?;
+    Ok(())
 }
 
 #[test]
 fn a_run_ends_where_a_commit_fails(rt: HostRuntime) -> Result<(), Fail> {
     let requests = requests(rt.alloc(), &LINES)?;
     let (first, orders) = requests.split_first().ok_or("requests")?;
-    for (lands, inf) in [(false, 30), (true, 20)] {
-        let keep = behind(rt.alloc(), plain_keeper(rt.alloc()), first)?.reopen(Some(2), lands);
-        let keep = cut(rt.alloc(), keep, first, orders)?.reopen(None, false);
-        assert!(rt; goes_on(rt.alloc(), keep, orders, inf)?);
-    }
-    Ok(())
+    goes_on(rt.alloc(), first, orders, false, 30)?;
+    goes_on(rt.alloc(), first, orders, true, 20)
 }

@@ -2,10 +2,12 @@
 
 ghost use Rattle.std.specs.Prelude.{◌≡◌, ◌≢◌, List, [], ◌∷◌, false, IsTrue, IfSome, IfOk, OnOk, OnErr, Err};
 ghost use Rattle.std.specs.List.{AllByRecursion};
+ghost use Rattle.sqlite.specs.Held.{AreDatabases};
 ghost use Rattle.sqlite.specs.State.{HasCleanDisk};
 ghost use Rattle.sqlite.specs.Files.{file_state, HoldsDatabase};
 ghost use Rattle.sqlite.specs.WalFiles.{image_at};
 ghost use Rattle.sqlite_trees.specs.Tree.{Trees};
+ghost use Rattle.sqlite_trees.specs.View.{IsClean, IsQuiet};
 ghost use Rattle.book.specs.Rows.{Content};
 ghost use Rattle.book.specs.Tables.{content_of};
 ghost use Rattle.keep.specs.Content.{Holds, IsAmong, IsContent, IsDesk, LeavesOnly};
@@ -14,26 +16,46 @@ ghost use Rattle.keep.specs.Old.{HoldsOld, IsOldContent};
 use crate::keep::{Keep, KeepFault};
 use crate::sql::SqlKeep;
 use book::Tables;
-use sqlite::{Connection, Error, FileFrom, FileStore, Options, Start};
+use sqlite::{Alter, Connection, Error, FileFrom, FileStore, Options, Start};
 use sqlite_disk::{Crash, Disk};
 use std::alloc::Global;
 
-/// What the next open finds on the two files of a connection after a power cut, or None where it fails. It finds one
-/// of the contents that a stop could leave.
+/// The store of a keeper, as a stop finds it: what is not committed is rolled back.
+fn store_of<S: Alter + Drop>(keep: SqlKeep<S>) -> S
+    ensures numbered { IsClean (S.Store.view result) → IsTrue (S.Store.view result).is_numbered }
+    ensures sound { IsClean (S.Store.view result) → AreDatabases (S.Store.recovers result) }
+    ensures quiet { IsQuiet S.Store.view S.Store.faults S.Store.recovers S.Store.is_shielded keep.connection.store
+        result }
+{
+    keep.into_connection().into_store()
+}
+
+/// A keeper over a connection to two files, in which no transaction is open.
+fn over_files<D: Disk + Drop>(conn: Connection<FileStore<D>>) -> SqlKeep<FileStore<D>>
+    requires { conn.in_transaction ≡ false }
+    ensures keeper { result ≡ record { connection = conn; stopped = false } }
+    ensures alone { IsTrue (file_state conn).is_open → (x : Content) → Holds (file_state conn).now x
+        → LeavesOnly (file_state conn).may_leave (x ∷ []) }
+{
+    SqlKeep::over(conn)
+}
+
+/// What the next open finds on the two files of a keeper after a power cut, or None where it fails. It finds one of the
+/// contents that a stop could leave.
 fn cut_and_open<D: Crash + Drop>(
     alloc: Global,
-    conn: Connection<FileStore<D>>,
+    keep: SqlKeep<FileStore<D>>,
     options: Options,
 ) -> Option<Connection<FileStore<D>>>
     ensures idle { IfSome result (λ again. again.in_transaction ≡ false) }
     ensures open { IfSome result (λ again. HasCleanDisk (file_state again) → IsTrue (file_state again).is_open) }
     ensures left { IfSome result (λ again. HasCleanDisk (file_state again)
-        → ∥ (file_state conn).may_leave (file_state again).now.trees ∥₁) }
+        → ∥ (file_state keep.connection).may_leave (file_state again).now.trees ∥₁) }
     ensures found { IfSome result (λ again. HasCleanDisk (file_state again) → (these : List Content)
-        → LeavesOnly (file_state conn).may_leave these
+        → LeavesOnly (file_state keep.connection).may_leave these
         → ∥ ((x : Content) × Holds (file_state again).now x × IsAmong these x) ∥₁) }
 {
-    let store = conn.into_store();
+    let store = store_of(keep);
     let mut files = store.close();
     files.log.crash();
     files.db.crash();
@@ -60,8 +82,8 @@ pub fn reopen<D: Crash + Drop>(
     ensures alone { IfSome result (λ again. HasCleanDisk (file_state again.connection) → (x : Content)
         → Holds (file_state again.connection).now x → LeavesOnly (file_state again.connection).may_leave (x ∷ [])) }
 {
-    let conn = cut_and_open(alloc, keep.into_connection(), options)?;
-    Some(SqlKeep::over(conn))
+    let conn = cut_and_open(alloc, keep, options)?;
+    Some(over_files(conn))
 }
 
 /// A keeper over what the next open finds on the two files of a keeper after a power cut, and what it loads: one of the
@@ -105,7 +127,7 @@ pub fn open_path<S: Start>(
         → Holds (file_state keep.connection).now x → LeavesOnly (file_state keep.connection).may_leave (x ∷ [])) }
 {
     match Connection::open_from(rt, path, false, start) {
-        Ok(conn) => Ok(SqlKeep::over(conn)),
+        Ok(conn) => Ok(over_files(conn)),
         Err((error, _)) => Err(error),
     }
 }

@@ -39,15 +39,31 @@ fn is_one(alloc: Global, requests: &[Request], key: &[u8], command: &[u8]) -> Re
     Ok(request.key.as_bytes() == key && out.as_slice() == command)
 }
 
+fn orders_open(alloc: Global) -> Result<bool, Fail> {
+    let orders = read_orders(alloc, ORDERS)?;
+    is_one(
+        alloc,
+        &orders,
+        b"G1",
+        b"open 50 500 take N1 A-1 5 add N1 B-2 1",
+    )
+}
+
+fn deliveries_deliver(alloc: Global) -> Result<bool, Fail> {
+    let deliveries = read_deliveries(alloc, DELIVERIES)?;
+    is_one(alloc, &deliveries, b"D1", b"deliver N1 A-1 10")
+}
+
+fn bounds_rebound(alloc: Global) -> Result<bool, Fail> {
+    let bounds = read_bounds(alloc, BOUNDS)?;
+    is_one(alloc, &bounds, b"B1", b"rebound N1 A-1 5 40")
+}
+
 #[test]
 fn files_say_their_requests(rt: HostRuntime) -> Result<(), Fail> {
-    let orders = read_orders(rt.alloc(), ORDERS)?;
-    let open = b"open 50 500 take N1 A-1 5 add N1 B-2 1".as_slice();
-    assert!(rt; is_one(rt.alloc(), &orders, b"G1", open)?);
-    let deliveries = read_deliveries(rt.alloc(), DELIVERIES)?;
-    assert!(rt; is_one(rt.alloc(), &deliveries, b"D1", b"deliver N1 A-1 10")?);
-    let bounds = read_bounds(rt.alloc(), BOUNDS)?;
-    assert!(rt; is_one(rt.alloc(), &bounds, b"B1", b"rebound N1 A-1 5 40")?);
+    assert!(rt; orders_open(rt.alloc())?);
+    assert!(rt; deliveries_deliver(rt.alloc())?);
+    assert!(rt; bounds_rebound(rt.alloc())?);
     Ok(())
 }
 
@@ -173,6 +189,10 @@ fn is_beginning(
 }
 
 /// Pieces of three lengths, and how the write with the number fails: by an error, or by taking none.
+fn ways() -> &'static [(usize, bool)] {
+    &WAYS
+}
+
 const WAYS: [(usize, bool); 6] = [
     (1, false),
     (1, true),
@@ -196,12 +216,25 @@ fn expect_beginnings<R: Abort + AllocGlobal>(
     Ok(())
 }
 
-#[test]
-fn after_a_fault_a_beginning_is_written(rt: HostRuntime) -> Result<(), Fail> {
-    let book = book_after(&rt, stock())?;
-    for way in WAYS {
-        expect_beginnings(&rt, &book, (Kind::Branch, BRANCH_SHEET), way)?;
-        expect_beginnings(&rt, &book, (Kind::Article, ARTICLE_SHEET), way)?;
+/// Of both sheets.
+fn expect_both<R: Abort + AllocGlobal>(
+    rt: &R,
+    book: &Book,
+    way: (usize, bool),
+) -> Result<(), Fail> {
+    expect_beginnings(rt, book, (Kind::Branch, BRANCH_SHEET), way)?;
+    expect_beginnings(rt, book, (Kind::Article, ARTICLE_SHEET), way)
+}
+
+/// In each way.
+fn expect_each<R: Abort + AllocGlobal>(rt: &R, book: &Book) -> Result<(), Fail> {
+    for way in ways() {
+        expect_both(rt, book, *way)?;
     }
     Ok(())
+}
+
+#[test]
+fn after_a_fault_a_beginning_is_written(rt: HostRuntime) -> Result<(), Fail> {
+    expect_each(&rt, &book_after(&rt, stock())?)
 }

@@ -39,24 +39,40 @@ fn are_found(entries: &InOrder<u32, u32>) -> bool {
     true
 }
 
-#[test]
-fn entries_are_found_under_their_keys(rt: HostRuntime) -> Result<(), Fail> {
-    let mut entries = filled(rt.alloc())?;
-    assert!(rt; entries.len() == 3000 && are_found(&entries));
-    assert!(rt; entries.nth(3000).is_none() && entries.get(&3001).is_none());
+/// The entries that came in, and no others.
+fn shows_all(entries: &InOrder<u32, u32>) -> bool {
+    entries.len() == 3000
+        && are_found(entries)
+        && entries.nth(3000).is_none()
+        && entries.get(&3001).is_none()
+}
+
+/// One more, under a key behind the others.
+fn takes_one_more(entries: &mut InOrder<u32, u32>) -> Result<bool, AllocError> {
     entries.reserve(1)?;
     if entries.get(&9000).is_none() {
         entries.insert(9000, 3000);
     }
-    assert!(rt; entries.len() == 3001 && are_found(&entries));
+    Ok(entries.len() == 3001 && are_found(entries))
+}
+
+/// Another value, under a key and at a place.
+fn takes_other_values(entries: &mut InOrder<u32, u32>) -> bool {
     if let Some(value) = entries.get_mut(&9000) {
         *value = 5;
     }
-    assert!(rt; entries.get(&9000) == Some(&5));
     if entries.len() > 7 {
         *entries.nth_mut(7) = 4;
     }
-    assert!(rt; entries.nth(7).map(|entry| entry.1) == Some(4));
+    entries.get(&9000) == Some(&5) && entries.nth(7).map(|entry| entry.1) == Some(4)
+}
+
+#[test]
+fn entries_are_found_under_their_keys(rt: HostRuntime) -> Result<(), Fail> {
+    let mut entries = filled(rt.alloc())?;
+    assert!(rt; shows_all(&entries));
+    assert!(rt; takes_one_more(&mut entries)?);
+    assert!(rt; takes_other_values(&mut entries));
     Ok(())
 }
 
@@ -70,15 +86,25 @@ fn counted(alloc: Global, count: u32) -> Result<BlockList<u32>, AllocError> {
     Ok(list)
 }
 
+/// The place of a number, or where it would go.
+fn place(list: &BlockList<u32>, wanted: u32) -> Result<usize, usize> {
+    list.binary_search_by(|number| number.cmp(&wanted))
+}
+
+/// Another number in the second block.
+fn takes_another(list: &mut BlockList<u32>) -> bool {
+    if list.len() <= 1024 {
+        return false;
+    }
+    list.set(1024, 7);
+    *list.get(1024) == 7 && *list.get(1023) == 1023
+}
+
 #[test]
 fn lists_take_items_at_any_place(rt: HostRuntime) -> Result<(), Fail> {
     let mut list = counted(rt.alloc(), COUNT)?;
     assert!(rt; list.len() == 3000);
-    assert!(rt; list.binary_search_by(|number| number.cmp(&2999)) == Ok(2999));
-    assert!(rt; list.binary_search_by(|number| number.cmp(&5000)) == Err(3000));
-    if list.len() > 1024 {
-        list.set(1024, 7);
-        assert!(rt; *list.get(1024) == 7 && *list.get(1023) == 1023);
-    }
+    assert!(rt; place(&list, 2999) == Ok(2999) && place(&list, 5000) == Err(3000));
+    assert!(rt; takes_another(&mut list));
     Ok(())
 }

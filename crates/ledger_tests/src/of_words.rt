@@ -142,19 +142,41 @@ fn gives(
     })
 }
 
-/// Each line comes in two pieces, and then its newline.
+/// A line comes in two pieces, and then its newline.
+fn gives_at_its_end(
+    alloc: Global,
+    lines: &mut Lines,
+    line: &str,
+    want: &str,
+) -> Result<bool, Memory> {
+    let (first, rest) = line.as_bytes().split_at(line.len() / 2);
+    Ok(
+        gives(alloc, lines, first, None)?
+            && gives(alloc, lines, rest, None)?
+            && gives(alloc, lines, b"\n", Some(want))?,
+    )
+}
+
+/// What comes behind the last newline is bad, once.
+fn gives_a_rest(alloc: Global, lines: &mut Lines) -> Result<bool, Memory> {
+    Ok(
+        lines.finish().is_none()
+            && gives(alloc, lines, b"K1 commit 7", None)?
+            && matches!(lines.finish(), Some(Item::Bad))
+            && lines.finish().is_none(),
+    )
+}
+
 #[test]
 fn a_piece_gives_the_lines_that_end_in_it(rt: HostRuntime) -> Result<(), Fail> {
     let mut lines = Lines::new(rt.alloc());
     for (line, want) in script() {
-        let (first, rest) = line.as_bytes().split_at(line.len() / 2);
-        assert!(rt; gives(rt.alloc(), &mut lines, first, None)?, "{line}");
-        assert!(rt; gives(rt.alloc(), &mut lines, rest, None)?, "{line}");
-        assert!(rt; gives(rt.alloc(), &mut lines, b"\n", Some(want))?, "{line}");
+        assert!(rt;
+            gives_at_its_end(rt.alloc(), &mut lines, line, want)?,
+            "{line}"
+        );
     }
-    assert!(rt; lines.finish().is_none());
-    assert!(rt; gives(rt.alloc(), &mut lines, b"K1 commit 7", None)?);
-    assert!(rt; matches!(lines.finish(), Some(Item::Bad)) && lines.finish().is_none());
+    assert!(rt; gives_a_rest(rt.alloc(), &mut lines)?);
     Ok(())
 }
 

@@ -1,7 +1,7 @@
 //! What the words behind the program's name ask for.
 
 ghost use Rattle.std.specs.Prelude.{◌≡◌, ◌≤◌, Some, None, codes, [], false, true, decimal, map, option_map, IfErr, IfOk, IfSome};
-ghost use Rattle.clap.specs.Words.{app_of, first_of, found_of, kind_of, rows_of, rule_of, subcommand_of, subcommand_rows_of, takes, with_subcommand};
+ghost use Rattle.clap.specs.Words.{App, app_of, first_of, found_of, kind_of, rows_of, subcommand_of, subcommand_rows_of, takes, with_rule, with_subcommand};
 ghost use Rattle.clap.specs.declared.builder.command.Command.TheViews.{out-Command as fields_of};
 ghost use Rattle.stockdesk.specs.Tasks.{Asks, AsksFor, IsPlainRun, IsService, article, bounds, command_of, deliveries, on_file, on_path, option, orders, run, scripts, serve, sheet, stockdesk, upgrade, with_both};
 
@@ -77,49 +77,57 @@ fn file_command<'a>(
     ensures app { IfOk result (λ command. app_of command ≡ on_file name.entry.now second.entry.now) }
     ensures local { IfOk result (λ command. (fields_of command).has_globals ≡ false) }
 {
+    let command = path_command(alloc, name, about, "The file of a desk")?;
     let more = Arg::new(alloc, second)
         .help(help)
         .required(true)
         .action(ArgAction::Set);
-    path_command(alloc, name, about, "The file of a desk")?.arg(more)
+    command.arg(more)
+}
+
+/// The command with one more below it, where that could be made.
+fn with<'a>(
+    command: Command<'a>,
+    more: Result<Command<'a>, AllocError>,
+) -> Result<Command<'a>, AllocError>
+    ensures { IfOk result (λ both. (app : App) → IfOk more.entry (λ one. app_of one ≡ app)
+        → IfOk more.entry (λ one. (fields_of one).has_globals ≡ false)
+        → app_of both ≡ with_subcommand (app_of command.entry) app.top) }
+{
+    command.subcommand(more?)
 }
 
 /// The program, with the commands of scripts.
 fn with_scripts<'a>(alloc: Global) -> Result<Command<'a>, AllocError>
     ensures { IfOk result (λ command. app_of command ≡ scripts) }
 {
-    let help = "A file that is not there or has no bytes; any other is left alone";
-    let init = path_command(alloc, "init", "Makes a new desk in a file", help)?;
-    let run = run_command(alloc)?;
-    Command::new(alloc, "stockdesk")
+    let program = Command::new(alloc, "stockdesk")
         .about("The stock desk of a chain of shops")
-        .subcommand_required(true)
-        .subcommand(init)?
-        .subcommand(run)
+        .subcommand_required(true);
+    let help = "A file that is not there or has no bytes; any other is left alone";
+    let init = path_command(alloc, "init", "Makes a new desk in a file", help);
+    let program = with(program, init)?;
+    with(program, run_command(alloc))
 }
 
 /// Adds the commands that read files of requests.
 fn with_files<'a>(alloc: Global, command: Command<'a>) -> Result<Command<'a>, AllocError>
-    ensures { IfOk result (λ both. app_of both ≡ with_both (app_of command.entry) orders deliveries) }
+    ensures { IfOk result (λ all. app_of all
+        ≡ with_subcommand (with_both (app_of command.entry) orders deliveries) bounds.top) }
 {
     let about =
         "Answers the orders of a file, neighbouring lines of one key as one order, each by a line on standard output";
     let help = "A CSV file: key,order,until,way,branch,article,qty";
-    let orders = file_command(alloc, "orders", about, "CSV", help)?;
+    let command = with(command, file_command(alloc, "orders", about, "CSV", help))?;
     let about = "Answers the deliveries of a file, each by a line on standard output";
     let help = "A CSV file: key,branch,article,qty";
-    let deliveries = file_command(alloc, "deliveries", about, "CSV", help)?;
-    command.subcommand(orders)?.subcommand(deliveries)
-}
-
-/// Adds the command that reads a file of bounds.
-fn with_bounds<'a>(alloc: Global, command: Command<'a>) -> Result<Command<'a>, AllocError>
-    ensures { IfOk result (λ more. app_of more ≡ with_subcommand (app_of command.entry) bounds.top) }
-{
+    let command = with(
+        command,
+        file_command(alloc, "deliveries", about, "CSV", help),
+    )?;
     let about = "Gives fields the bounds of a file, each answered by a line on standard output";
     let help = "A CSV file: key,branch,article,lo,hi";
-    let bounds = file_command(alloc, "bounds", about, "CSV", help)?;
-    command.subcommand(bounds)
+    with(command, file_command(alloc, "bounds", about, "CSV", help))
 }
 
 /// Adds the commands that write sheets.
@@ -128,24 +136,33 @@ fn with_sheets<'a>(alloc: Global, command: Command<'a>) -> Result<Command<'a>, A
 {
     let about = "Writes the stock of a branch as a sheet, a line an article";
     let help = "The code of the branch";
-    let sheet = file_command(alloc, "sheet", about, "BRANCH", help)?;
+    let command = with(command, file_command(alloc, "sheet", about, "BRANCH", help))?;
     let about = "Writes the stock of an article as a sheet, a line a branch";
     let help = "The code of the article";
-    let article = file_command(alloc, "article", about, "ARTICLE", help)?;
-    command.subcommand(sheet)?.subcommand(article)
+    with(
+        command,
+        file_command(alloc, "article", about, "ARTICLE", help),
+    )
 }
 
-/// An option that is always there, with a number.
-fn number_option<'a>(alloc: Global, name: &'a str, help: &'a str) -> Arg<'a>
-    ensures rule { rule_of result ≡ option name.entry.now }
-    ensures local { result.global ≡ false }
+/// Adds an option that is always there, with a number.
+fn with_option<'a>(
+    alloc: Global,
+    command: Command<'a>,
+    name: &'a str,
+    help: &'a str,
+) -> Result<Command<'a>, AllocError>
+    ensures app { IfOk result (λ more. app_of more ≡ with_rule (app_of command.entry) (option name.entry.now)) }
+    ensures local { (fields_of command.entry).has_globals ≡ false
+        → IfOk result (λ more. (fields_of more).has_globals ≡ false) }
 {
-    Arg::new(alloc, name)
+    let number = Arg::new(alloc, name)
         .long(name)
         .value_name("N")
         .help(help)
         .required(true)
-        .action(ArgAction::Set)
+        .action(ArgAction::Set);
+    command.arg(number)
 }
 
 /// `serve`, with its file and its two options.
@@ -153,32 +170,22 @@ fn serve_command<'a>(alloc: Global) -> Result<Command<'a>, AllocError>
     ensures app { IfOk result (λ command. app_of command ≡ serve) }
     ensures local { IfOk result (λ command. (fields_of command).has_globals ≡ false) }
 {
-    let help = "The port on 127.0.0.1, 0 to 65535; 0 is any that is free";
-    let port = number_option(alloc, "port", help);
-    let help = "How many connections are served before it ends, 1 to 1000000";
-    let connections = number_option(alloc, "connections", help);
     let about = "Answers HTTP on 127.0.0.1, one connection after the other";
-    path_command(alloc, "serve", about, "The file of a desk")?
-        .arg(port)?
-        .arg(connections)
+    let command = path_command(alloc, "serve", about, "The file of a desk")?;
+    let help = "The port on 127.0.0.1, 0 to 65535; 0 is any that is free";
+    let command = with_option(alloc, command, "port", help)?;
+    let help = "How many connections are served before it ends, 1 to 1000000";
+    with_option(alloc, command, "connections", help)
 }
 
-/// Adds the command that serves connections.
+/// Adds the commands that serve connections and upgrade a desk.
 fn with_service<'a>(alloc: Global, command: Command<'a>) -> Result<Command<'a>, AllocError>
-    ensures { IfOk result (λ more. app_of more ≡ with_subcommand (app_of command.entry) serve.top) }
+    ensures { IfOk result (λ both. app_of both ≡ with_both (app_of command.entry) serve upgrade) }
 {
-    let serve = serve_command(alloc)?;
-    command.subcommand(serve)
-}
-
-/// Adds the command that upgrades a desk.
-fn with_upgrade<'a>(alloc: Global, command: Command<'a>) -> Result<Command<'a>, AllocError>
-    ensures { IfOk result (λ more. app_of more ≡ with_subcommand (app_of command.entry) upgrade.top) }
-{
+    let command = with(command, serve_command(alloc))?;
     let about = "Makes a desk of this version of one of an earlier version";
     let help = "The file of a desk of an earlier version; one of this version is left alone";
-    let upgrade = path_command(alloc, "upgrade", about, help)?;
-    command.subcommand(upgrade)
+    with(command, path_command(alloc, "upgrade", about, help))
 }
 
 /// The words that the program takes.
@@ -187,10 +194,8 @@ fn command<'a>(alloc: Global) -> Result<Command<'a>, AllocError>
 {
     let command = with_scripts(alloc)?;
     let command = with_files(alloc, command)?;
-    let command = with_bounds(alloc, command)?;
     let command = with_sheets(alloc, command)?;
-    let command = with_service(alloc, command)?;
-    with_upgrade(alloc, command)
+    with_service(alloc, command)
 }
 
 /// The sheet of the branch that a word names.

@@ -213,8 +213,9 @@ fn play<K: Keep + Drop>(
         Err((OpenFault::Store | OpenFault::Memory, keep)) => Ok((keep, 0)),
         Err(_) => Err("the store is told as something else")?,
         Ok(mut desk) => {
-            let count = go_on(alloc, &mut desk, list, before)?;
-            Ok((desk.into_keep(), count))
+            let count = go_on(alloc, &mut desk, list, before);
+            let keep = desk.into_keep();
+            Ok((keep, count?))
         }
     }
 }

@@ -2,12 +2,19 @@
 
 use crate::scripts::{Row, Step};
 
-/// Of stock, of an order, of a transfer, and of orders that are made firm.
-pub(super) fn scripts() -> &'static [&'static [Step]] {
-    &SCRIPTS
-}
+/// How many scripts there are.
+pub(super) const SCRIPTS: usize = 5;
 
-static SCRIPTS: [&[Step]; 5] = [STOCK, ORDER, TRANSFER, FIRM, FIRM_TRANSFER];
+/// A script of stock, of an order, of a transfer, and two of orders that are made firm.
+pub(super) fn script(number: usize) -> &'static [Step] {
+    match number {
+        0 => &STOCK,
+        1 => &ORDER,
+        2 => &TRANSFER,
+        3 => &FIRM,
+        _ => &FIRM_TRANSFER,
+    }
+}
 
 /// Three orders, of which two expire.
 pub(super) fn expired() -> &'static [Step] {
@@ -34,7 +41,7 @@ const SECOND: Step = (
     ],
 );
 
-const STOCK: &[Step] = &[
+static STOCK: [Step; 6] = [
     FIRST,
     SECOND,
     (
@@ -78,7 +85,7 @@ const STOCK: &[Step] = &[
     ),
 ];
 
-const ORDER: &[Step] = &[
+static ORDER: [Step; 8] = [
     FIRST,
     SECOND,
     (
@@ -145,7 +152,7 @@ const ORDER: &[Step] = &[
     ),
 ];
 
-const TRANSFER: &[Step] = &[
+static TRANSFER: [Step; 6] = [
     FIRST,
     SECOND,
     (
@@ -197,7 +204,7 @@ const TRANSFER: &[Step] = &[
 ];
 
 /// What is used is settled as the order is made firm, and from then on at once.
-const FIRM: &[Step] = &[
+static FIRM: [Step; 9] = [
     FIRST,
     SECOND,
     (
@@ -271,7 +278,7 @@ const FIRM: &[Step] = &[
     ),
 ];
 
-const FIRM_TRANSFER: &[Step] = &[
+static FIRM_TRANSFER: [Step; 5] = [
     FIRST,
     SECOND,
     (

@@ -367,11 +367,17 @@ fn book_of(alloc: Global, tables: Tables) -> Result<Book, TablesFault> {
     Book::of_tables(alloc, tables)
 }
 
+fn shows_the_fields(book: &Book) -> bool {
+    book.field_count() == 2 && numbers(field_at(book, 1)) == Some([5, 5, 5])
+}
+
+fn book_of_rows(alloc: Global, numbers: &Numbers) -> Result<Book, Fail> {
+    Ok(book_of(alloc, tables_of(alloc, numbers)?)?)
+}
+
 #[test]
 fn rows_in_their_order_open(rt: HostRuntime) -> Result<(), Fail> {
-    let book = book_of(rt.alloc(), tables_of(rt.alloc(), good())?)?;
-    assert!(rt; book.field_count() == 2);
-    assert!(rt; numbers(field_at(&book, 1)) == Some([5, 5, 5]));
+    assert!(rt; shows_the_fields(&book_of_rows(rt.alloc(), good())?));
     Ok(())
 }
 

@@ -40,13 +40,16 @@ fn opened<K: Keep + Drop>(alloc: Global, keep: K) -> Result<Desk<K>, Fail>
     }
 }
 
-/// A new desk is served to one connection.
-fn serve_new<L: Listen>(alloc: Global, listener: &mut L) -> Result<(), Fail> {
-    let mut desk = opened(alloc, PlainKeep::start(alloc, None, false))?;
-    match served(alloc, &mut desk, listener, 1) {
-        Ok(()) => Ok(()),
-        Err(_) => Err("not served")?,
-    }
+/// The desk that is kept is served to one connection.
+fn serve_kept<K: Keep + Drop, L: Listen>(
+    alloc: Global,
+    keep: K,
+    listener: &mut L,
+) -> Result<(), Fail> {
+    let mut desk = opened(alloc, keep)?;
+    let ended = served(alloc, &mut desk, listener, 1);
+    drop(desk.into_keep());
+    Ok(ended?)
 }
 
 /// A connection that brings these bytes one by one, and no more.
@@ -63,7 +66,8 @@ fn connection(rt: &HostRuntime, listener: &TcpListener, bytes: &[u8]) -> Result<
 fn a_connection_on_loopback_is_served(rt: HostRuntime) -> Result<(), Fail> {
     let mut listener = TcpListener::bind(&rt, "127.0.0.1:0")?;
     let mut client = connection(&rt, &listener, FIRST)?;
-    serve_new(rt.alloc(), &mut listener)?;
+    let keep = PlainKeep::start(rt.alloc(), None, false);
+    serve_kept(rt.alloc(), keep, &mut listener)?;
     let mut answers = Vec::new(rt.alloc());
     client.read_to_end(&mut answers)?;
     assert!(rt; answers.as_slice() == FIRST_ANSWERS);

@@ -340,7 +340,7 @@ pub fn rows() -> &'static [(&'static str, &'static str)] {
     &ROWS
 }
 
-const ROWS: [(&str, &str); 12] = [
+static ROWS: [(&str, &str); 12] = [
     ("", ""),
     ("K1 field N1 A-1 0 100 40\n? field N1 A-1\n", FIRST),
     (LONG, LONG_REPLIES),

@@ -34,7 +34,7 @@ const THREE_ORDERS: &str =
 
 const THREE_REPLIES: &str = "F1 done 2\nF2 done 3\nF3 done 4\n";
 
-const STEPS: [Step; 44] = [
+static STEPS: [Step; 44] = [
     // one field, over several runs
     ("files_test/a.db", "run", "K1 expire 1\n", 3, "", NOT_A_DESK),
     ("files_test/a.db", "init", "", 0, "", ""),

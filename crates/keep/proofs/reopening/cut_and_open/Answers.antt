@@ -16,7 +16,7 @@ use Rattle.keep.proofs.reopening.cut_and_open.Goals as goal
 
 pub returns-in-Ok-clause-found : goal.returns-in-Ok-clause-found
 returns-in-Ok-clause-found g c clean these only =
-    let it = c.into_store-store.result in
+    let it = c.store_of-store.result in
     let found = c.in-Ok.ensures.found clean in
     let opened = c.in-Ok.ensures.opened clean in
     let parts = and_parts _ _ found.honest in
@@ -27,13 +27,13 @@ returns-in-Ok-clause-found g c clean these only =
     let is_open = opened.0.is_open in
     let live = opened.1 is_open in
     subst (λ (d : Database). ∥ ((x : Content) × Holds d x × IsAmong these x) ∥₁) (sym opened.0.clean)
-    (found_again it (c.into_store-store.ensures.numbered none) (c.into_store-store.ensures.sound none) _ left these
-    (λ trees may_be. only trees (c.into_store-store.ensures.quiet.outcomes trees may_be))
+    (found_again it (c.store_of-store.ensures.numbered none) (c.store_of-store.ensures.sound none) _ left these
+    (λ trees may_be. only trees (c.store_of-store.ensures.quiet.outcomes trees may_be))
     (file_state c.in-Ok.again) live.1 (record { holds = found.holds; reads = found.reads }))
 
 pub returns-in-Ok-clause-left : goal.returns-in-Ok-clause-left
 returns-in-Ok-clause-left g c clean =
-    let it = c.into_store-store.result in
+    let it = c.store_of-store.result in
     let found = c.in-Ok.ensures.found clean in
     let opened = c.in-Ok.ensures.opened clean in
     let parts = and_parts _ _ found.honest in
@@ -41,6 +41,6 @@ returns-in-Ok-clause-left g c clean =
     let sure_now = subst (λ p. AreClean g.D.Disk p.0 p.1) c.close-files.ensures before in
     let none : IsClean (view it) = no_doubt _ (clean_is it.pool ∙ sure_now) in
     let left = may_after it _ _ _ c.close-files.ensures before (c.crash.ensures.left, c.crash-2.ensures.left) in
-    subst (λ (d : Database). ∥ (file_state c.args.conn).may_leave d.trees ∥₁) (sym opened.0.clean)
-    (∥∥₁_map (next_run it (c.into_store-store.ensures.numbered none) (c.into_store-store.ensures.sound none) _ left (file_state c.in-Ok.again) (record { holds = found.holds; reads = found.reads }))
-    (λ may_be. c.into_store-store.ensures.quiet.outcomes (file_state c.in-Ok.again).committed.trees may_be))
+    subst (λ (d : Database). ∥ (file_state c.args.keep.connection).may_leave d.trees ∥₁) (sym opened.0.clean)
+    (∥∥₁_map (next_run it (c.store_of-store.ensures.numbered none) (c.store_of-store.ensures.sound none) _ left (file_state c.in-Ok.again) (record { holds = found.holds; reads = found.reads }))
+    (λ may_be. c.store_of-store.ensures.quiet.outcomes (file_state c.in-Ok.again).committed.trees may_be))

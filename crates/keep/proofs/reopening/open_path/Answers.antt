@@ -9,7 +9,7 @@ use Rattle.keep.proofs.reopening.open_path.Goals as goal
 
 pub returns-in-Ok-clause-found : goal.returns-in-Ok-clause-found
 returns-in-Ok-clause-found g c clean trees x database content =
-    let same : c.over.result.connection ≡ c.in-Ok.conn = ap (λ k. k.connection) c.over.ensures.keeper in
+    let same : c.over_files.result.connection ≡ c.in-Ok.conn = ap (λ k. k.connection) c.over_files.ensures.keeper in
     let first : HasCleanDisk (file_state c.in-Ok.conn) = subst (λ h. HasCleanDisk (file_state h)) same clean in
     let found = c.in-Ok.ensures.found first in
     let opened = c.in-Ok.ensures.opened first in
@@ -19,7 +19,7 @@ returns-in-Ok-clause-found g c clean trees x database content =
 
 pub returns-in-Ok-clause-old : goal.returns-in-Ok-clause-old
 returns-in-Ok-clause-old g c clean trees x database content =
-    let same : c.over.result.connection ≡ c.in-Ok.conn = ap (λ k. k.connection) c.over.ensures.keeper in
+    let same : c.over_files.result.connection ≡ c.in-Ok.conn = ap (λ k. k.connection) c.over_files.ensures.keeper in
     let first : HasCleanDisk (file_state c.in-Ok.conn) = subst (λ h. HasCleanDisk (file_state h)) same clean in
     let found = c.in-Ok.ensures.found first in
     let opened = c.in-Ok.ensures.opened first in
@@ -29,11 +29,11 @@ returns-in-Ok-clause-old g c clean trees x database content =
 
 pub returns-in-Ok-clause-alone : goal.returns-in-Ok-clause-alone
 returns-in-Ok-clause-alone g c clean x held =
-    let same : c.over.result.connection ≡ c.in-Ok.conn = ap (λ k. k.connection) c.over.ensures.keeper in
+    let same : c.over_files.result.connection ≡ c.in-Ok.conn = ap (λ k. k.connection) c.over_files.ensures.keeper in
     let first : HasCleanDisk (file_state c.in-Ok.conn) = subst (λ h. HasCleanDisk (file_state h)) same clean in
     let opened = c.in-Ok.ensures.opened first in
     subst (λ h. LeavesOnly (file_state h).may_leave (x ∷ [])) (sym same)
-    (c.over.ensures.alone opened.0.is_open x (subst (λ h. Holds (file_state h).now x) same held))
+    (c.over_files.ensures.alone opened.0.is_open x (subst (λ h. Holds (file_state h).now x) same held))
 
 pub returns-in-Ok-clause-going : goal.returns-in-Ok-clause-going
 returns-in-Ok-clause-going g c = search rules

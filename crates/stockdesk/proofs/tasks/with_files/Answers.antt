@@ -1,11 +1,13 @@
-use Rattle.std.proofs.Common.{◌≡◌, ◌∙◌, ap, ap₂, rules}
+use Rattle.std.proofs.Common.{◌≡◌, ◌∙◌, ap}
 use Rattle.std.proofs.lemmas.Result.{IfOk-weaker}
 use Rattle.clap.specs.Words.{App, app_of, with_subcommand}
-use Rattle.stockdesk.specs.Tasks.{orders}
+use Rattle.stockdesk.specs.Tasks.{bounds, deliveries, orders, with_both}
 use Rattle.stockdesk.proofs.tasks.with_files.Goals as goal
 
 pub returns : goal.returns
 returns c =
-    let one : app_of c.in_ok-subcommand.field-0 ≡ with_subcommand (app_of c.args.command) orders.top =
-    c.in_ok-subcommand.ensures.shape (search rules) ∙ ap (λ (a : App). with_subcommand (app_of c.args.command) a.top) c.in_ok-orders.ensures.app in
-    IfOk-weaker c.subcommand-2.result _ _ (λ both added. added.shape (search rules) ∙ ap₂ with_subcommand one (ap (λ (a : App). a.top) c.in_ok-deliveries.ensures.app)) c.subcommand-2.ensures
+    let one : app_of c.in_ok-command.command ≡ with_subcommand (app_of c.args.command) orders.top =
+    c.in_ok-command.ensures orders c.file_command.ensures.app c.file_command.ensures.local in
+    let two : app_of c.in_ok-command-2.command ≡ with_both (app_of c.args.command) orders deliveries =
+    c.in_ok-command-2.ensures deliveries c.file_command-2.ensures.app c.file_command-2.ensures.local ∙ ap (λ (a : App). with_subcommand a deliveries.top) one in
+    IfOk-weaker c.with-3.result _ _ (λ all added. added bounds c.file_command-3.ensures.app c.file_command-3.ensures.local ∙ ap (λ (a : App). with_subcommand a bounds.top) two) c.with-3.ensures

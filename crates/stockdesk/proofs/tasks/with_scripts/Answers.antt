@@ -1,8 +1,8 @@
-use Rattle.std.proofs.Common.{◌≡◌, ◌∙◌, ap, ap₂, codes, rules, true}
+use Rattle.std.proofs.Common.{◌≡◌, ◌∙◌, ap, codes, true}
 use Rattle.std.proofs.lemmas.Result.{IfOk-weaker}
 use Rattle.clap.specs.Words.{App, app_of, new_app, with_subcommand}
 use Rattle.clap.specs.Simple.{app_of_fields}
-use Rattle.stockdesk.specs.Tasks.{init}
+use Rattle.stockdesk.specs.Tasks.{init, run}
 use Rattle.stockdesk.proofs.tasks.with_scripts.Goals as goal
 
 abbrev with_required_subcommand : App → App
@@ -10,8 +10,8 @@ with_required_subcommand a = record a { top = record a.top { subcommand_required
 
 pub returns : goal.returns
 returns c =
-    let named : app_of c.subcommand_required.result ≡ with_required_subcommand (new_app (codes "stockdesk")) =
-    ap app_of_fields c.subcommand_required.ensures ∙ ap with_required_subcommand (ap app_of_fields c.about.ensures ∙ c.new.ensures.app) in
-    let one : app_of c.in_ok-subcommand.field-0 ≡ with_subcommand (with_required_subcommand (new_app (codes "stockdesk"))) init.top =
-    c.in_ok-subcommand.ensures.shape (search rules) ∙ ap₂ with_subcommand named (ap (λ (a : App). a.top) c.in_ok-init.ensures.app) in
-    IfOk-weaker c.subcommand-2.result _ _ (λ both added. added.shape (search rules) ∙ ap₂ with_subcommand one (ap (λ (a : App). a.top) c.in_ok-run.ensures.app)) c.subcommand-2.ensures
+    let named : app_of c.subcommand_required-program.result ≡ with_required_subcommand (new_app (codes "stockdesk")) =
+    ap app_of_fields c.subcommand_required-program.ensures ∙ ap with_required_subcommand (ap app_of_fields c.about.ensures ∙ c.new.ensures.app) in
+    let one : app_of c.in_ok-program.program ≡ with_subcommand (with_required_subcommand (new_app (codes "stockdesk"))) init.top =
+    c.in_ok-program.ensures init c.path_command-init.ensures.app c.path_command-init.ensures.local ∙ ap (λ (a : App). with_subcommand a init.top) named in
+    IfOk-weaker c.with-2.result _ _ (λ both added. added run c.run_command.ensures.app c.run_command.ensures.local ∙ ap (λ (a : App). with_subcommand a run.top) one) c.with-2.ensures

@@ -1,8 +1,11 @@
-use Rattle.std.proofs.Common.{◌∙◌, ap, rules}
+use Rattle.std.proofs.Common.{◌≡◌, ◌∙◌, ap}
 use Rattle.std.proofs.lemmas.Result.{IfOk-weaker}
 use Rattle.clap.specs.Words.{App, app_of, with_subcommand}
+use Rattle.stockdesk.specs.Tasks.{serve, upgrade}
 use Rattle.stockdesk.proofs.tasks.with_service.Goals as goal
 
 pub returns : goal.returns
 returns c =
-    IfOk-weaker c.subcommand.result _ _ (λ more added. added.shape (search rules) ∙ ap (λ (a : App). with_subcommand (app_of c.args.command) a.top) c.in_ok-serve.ensures.app) c.subcommand.ensures
+    let one : app_of c.in_ok-command.command ≡ with_subcommand (app_of c.args.command) serve.top =
+    c.in_ok-command.ensures serve c.serve_command.ensures.app c.serve_command.ensures.local in
+    IfOk-weaker c.with-2.result _ _ (λ both added. added upgrade c.path_command.ensures.app c.path_command.ensures.local ∙ ap (λ (a : App). with_subcommand a upgrade.top) one) c.with-2.ensures
