@@ -18,7 +18,10 @@ fn answers_so<K: Keep>(alloc: Global, desk: &mut Desk<K>, played: Played) -> Res
 
 /// Whether the desk that the keeper holds does.
 fn plays<K: Keep + Drop>(alloc: Global, keep: K, played: Played) -> Result<bool, Fail> {
-    answers_so(alloc, &mut opened(alloc, keep)?, played)
+    let mut desk = opened(alloc, keep)?;
+    let is_so = answers_so(alloc, &mut desk, played);
+    drop(desk.into_keep());
+    is_so
 }
 
 #[test]

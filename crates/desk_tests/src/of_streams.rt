@@ -69,11 +69,13 @@ fn end<K: Keep + Drop, R: Read, W: Write>(
     writer: &mut W,
 ) -> Result<Ended, Fail> {
     let mut desk = opened(alloc, keep)?;
-    Ok(if is_script {
+    let ended = if is_script {
         script_end(alloc, reader, writer, &mut desk)
     } else {
         message_end(alloc, reader, writer, &mut desk)
-    })
+    };
+    drop(desk.into_keep());
+    Ok(ended)
 }
 
 /// A reader and a writer of so many bytes at a time; each fails in the place of that call, and goes on.

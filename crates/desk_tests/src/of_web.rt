@@ -90,7 +90,9 @@ fn serve_pieces<K: Keep + Drop>(
         is_interrupted: false,
     };
     let mut desk = opened(alloc, keep)?;
-    Ok(serve_on(alloc, &mut reader, out, &mut desk)?)
+    let served = serve_on(alloc, &mut reader, out, &mut desk);
+    drop(desk.into_keep());
+    Ok(served?)
 }
 
 /// Whether they are answered so.

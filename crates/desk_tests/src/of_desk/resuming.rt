@@ -377,7 +377,10 @@ fn is_decided_anew<K: Keep>(
 /// Whether the desk that the keeper holds decides it anew.
 fn decides_anew<K: Keep + Drop>(alloc: Global, keep: K) -> Result<bool, Fail> {
     let requests = requests(alloc, two_orders().lines)?;
-    is_decided_anew(alloc, &mut opened(alloc, keep)?, &requests)
+    let mut desk = opened(alloc, keep)?;
+    let is_anew = is_decided_anew(alloc, &mut desk, &requests);
+    drop(desk.into_keep());
+    is_anew
 }
 
 #[test]
