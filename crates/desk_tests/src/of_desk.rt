@@ -88,8 +88,12 @@ fn is_cut<K: Keep>(alloc: Global, desk: &mut Desk<K>, first: &Request, orders: &
 /// No desk is opened over the stopped keeper.
 fn closed<K: Keep + Drop>(alloc: Global, keep: K) -> Result<K, Fail> {
     match open(alloc, keep) {
+        Ok(desk) => {
+            drop(desk.into_keep());
+            Err("opened")?
+        }
         Err((OpenFault::Store, keep)) => Ok(keep),
-        _ => Err("not told as the store")?,
+        Err(_) => Err("not told as the store")?,
     }
 }
 

@@ -124,7 +124,9 @@ fn commit_rows<K: Keep>(alloc: Global, keep: &mut K) -> Result<(), Fail> {
 /// What the keeper loads, as text.
 pub(crate) fn loaded<K: Keep>(alloc: Global, keep: &mut K) -> Result<String, Fail> {
     let tables = load(keep, alloc)?;
-    Ok(shown(alloc, &tables)?)
+    let text = shown(alloc, &tables);
+    drop(tables);
+    Ok(text?)
 }
 
 const COMMITTED: &str =

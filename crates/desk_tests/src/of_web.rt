@@ -11,7 +11,7 @@ use std::test::Fail;
 use web::{Ending, Served, WebFault, serve};
 
 /// Messages on one desk, of which the last one is cut.
-const MESSAGES: [&str; 14] = [
+static MESSAGES: [&str; 14] = [
     "POST /v1/commands HTTP/1.1\r\nContent-Length: 46\r\n\r\n{\"command\":\"field N1 A-1 0 100 40\",\"key\":\"K1\"}",
     // the same as `curl` sends it
     "POST /v1/commands HTTP/1.1\r\nHost: 127.0.0.1:8080\r\nUser-Agent: curl/8.5.0\r\nAccept: */*\r\nContent-Type: application/json\r\nContent-Length: 46\r\n\r\n{\"command\":\"field N1 A-1 0 100 40\",\"key\":\"K1\"}",
@@ -29,7 +29,7 @@ const MESSAGES: [&str; 14] = [
     "POST /v1/commands HTTP/1.1\r\nContent-Length: 34\r\n\r\n{\"command\":\"commit 8\"",
 ];
 
-const ANSWERS: [&str; 14] = [
+static ANSWERS: [&str; 14] = [
     "HTTP/1.1 200 OK\r\ncontent-type: application/json\r\ncontent-length: 11\r\n\r\n{\"place\":1}",
     "HTTP/1.1 200 OK\r\ncontent-type: application/json\r\ncontent-length: 11\r\n\r\n{\"place\":1}",
     "HTTP/1.1 200 OK\r\ncontent-type: application/json\r\ncontent-length: 76\r\n\r\n{\"article\":\"A-1\",\"branch\":\"N1\",\"hi\":100,\"inf\":40,\"lo\":0,\"sup\":40,\"value\":40}",

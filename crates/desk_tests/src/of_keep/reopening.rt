@@ -13,7 +13,7 @@ use std::alloc::Global;
 use std::test::Fail;
 
 /// What is found before a new desk is made and behind it, and behind each of two commits.
-const FOUND: [&str; 4] = [
+static FOUND: [&str; 4] = [
     "",
     "Tables { desk: DeskRow { one: 1, version: 2, clock: 0, places: 0 }, fields: Rows { rows: [] }, moves: Rows { rows: [] }, orders: Rows { rows: [] }, lines: Rows { rows: [] }, kept: Rows { rows: [] }, firms: Rows { rows: [] } }",
     "Tables { desk: DeskRow { one: 1, version: 2, clock: 0, places: 0 }, fields: Rows { rows: [] }, moves: Rows { rows: [] }, orders: Rows { rows: [OrderRow { number: 1, kind: 1, until: 900, state: 0 }, OrderRow { number: 2, kind: 1, until: 900, state: 0 }] }, lines: Rows { rows: [] }, kept: Rows { rows: [] }, firms: Rows { rows: [] } }",
@@ -172,9 +172,16 @@ fn left_by_cuts<D: Crash + Drop>(alloc: Global, files: Files<D>) -> Result<Table
 const LEFT: &str =
     "Tables { desk: DeskRow { one: 1, version: 2, clock: 0, places: 0 }, fields: Rows { rows: [] }, moves: Rows { rows: [] }, orders: Rows { rows: [OrderRow { number: 4, kind: 1, until: 900, state: 1 }] }, lines: Rows { rows: [] }, kept: Rows { rows: [] }, firms: Rows { rows: [] } }";
 
+/// The same as text.
+fn text_left_by_cuts(alloc: Global) -> Result<String, Fail> {
+    let tables = left_by_cuts(alloc, desk_files(alloc)?)?;
+    let text = shown(alloc, &tables);
+    drop(tables);
+    Ok(text?)
+}
+
 #[test]
 fn a_cut_leaves_what_was_committed(rt: HostRuntime) -> Result<(), Fail> {
-    let tables = left_by_cuts(rt.alloc(), desk_files(rt.alloc())?)?;
-    assert!(rt; shown(rt.alloc(), &tables)?.as_str() == LEFT);
+    assert!(rt; text_left_by_cuts(rt.alloc())?.as_str() == LEFT);
     Ok(())
 }
