@@ -37,7 +37,7 @@ pub use views::{FieldView, OrderView};
 use words::{Command, Memory};
 
 /// A field: the level at which it started, and its stock as it stands, with its bounds.
-#[derive(Clone, Copy, Debug)]
+#[derive(Clone, Copy)]
 pub struct FieldEntry {
     pub start: Level,
     pub quantity: Quantity,
@@ -47,7 +47,7 @@ pub struct FieldEntry {
 pub type Field = (FieldName, FieldEntry);
 
 /// A delivery (above 0) or a write-off (below 0), with the place of its command.
-#[derive(Debug, Drop)]
+#[derive(Drop)]
 pub struct MoveEntry {
     pub place: u64,
     pub branch: Branch,
@@ -56,7 +56,7 @@ pub struct MoveEntry {
 }
 
 /// What is kept under an accepted key: its place and the words of its command.
-#[derive(Debug, Drop)]
+#[derive(Drop)]
 pub struct KeptEntry {
     pub place: u64,
     pub words: KeptWords,
@@ -64,7 +64,7 @@ pub struct KeptEntry {
 
 /// A good ledger: all fields, with their stock as it stands, moves, orders and kept keys of the desk. Contracts see it
 /// as its ledger and, beside that, the room that has been made for entries to come.
-#[derive(Debug, Drop)]
+#[derive(Drop)]
 pub struct Book {
     clock: Moment,
     /// How many orders are open.
@@ -137,10 +137,10 @@ impl Book {
         ensures room_stays { RoomStays self.old self.new }
         ensures memory { OnErr result (HasRoomFor self.old plan.now → ⊥) }
     {
-        self.fields.reserve(plan.field_count()).map_err(|_| Memory)?;
-        self.moves.reserve(1).map_err(|_| Memory)?;
-        self.orders.reserve(1).map_err(|_| Memory)?;
-        self.kept.reserve(1).map_err(|_| Memory)
+        self.fields.reserve(plan.field_count())?;
+        self.moves.reserve(1)?;
+        self.orders.reserve(1)?;
+        Ok(self.kept.reserve(1)?)
     }
 }
 

@@ -11,7 +11,7 @@ use std::marker::Model;
 use words::{Command, Memory, WordsFault, read_command, write_command};
 
 /// The one spelling of a command. Contracts see it as the command.
-#[derive(Debug, Drop)]
+#[derive(Drop)]
 pub struct KeptWords {
     bytes: Vec<u8>,
     ghost spelled: { Spelled bytes.items } by { Spelled-prop bytes.items },

@@ -7,7 +7,7 @@ ghost use Rattle.book.specs.RunningNumbers.{share_of};
 use escrow::{Article, Branch, FieldName, Level, Moment, OrderNo, Way};
 
 /// What kind of order it is.
-#[derive(Clone, Copy, Debug, PartialEq, Eq)]
+#[derive(Clone, Copy, PartialEq, Eq)]
 pub enum Kind {
     /// Of lines of its own.
     Plain,
@@ -16,7 +16,7 @@ pub enum Kind {
 }
 
 /// Where an order stands.
-#[derive(Clone, Copy, Debug, PartialEq, Eq)]
+#[derive(Clone, Copy, PartialEq, Eq)]
 pub enum State {
     /// It holds what its lines hold.
     Open,
@@ -27,7 +27,7 @@ pub enum State {
 }
 
 /// Where an order stands, as it is shown.
-#[derive(Clone, Copy, Debug, PartialEq, Eq)]
+#[derive(Clone, Copy, PartialEq, Eq)]
 pub enum Standing {
     /// It holds what its lines hold.
     Open,
@@ -40,7 +40,7 @@ pub enum Standing {
 }
 
 /// A line of an order: what it holds on a field, one way, and how much of that it has used.
-#[derive(Clone, Copy, Debug)]
+#[derive(Clone, Copy)]
 pub struct Line {
     pub way: Way,
     pub branch: Branch,
@@ -50,7 +50,7 @@ pub struct Line {
 }
 
 /// An order, open or ended.
-#[derive(Debug, Drop)]
+#[derive(Drop)]
 pub struct OrderEntry {
     // first, so that the small fields lie together and a walk over all orders reads less
     pub until: Moment,
@@ -62,7 +62,7 @@ pub struct OrderEntry {
 }
 
 /// What a line counts for in the stock of its field: how much of it is settled, and how much is held beyond that.
-#[derive(Clone, Copy, Debug)]
+#[derive(Clone, Copy)]
 pub struct Share {
     pub settled: u64,
     pub held: u64,

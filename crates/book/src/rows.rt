@@ -134,7 +134,7 @@ pub struct Tables {
 }
 
 /// A row to put into its table: it replaces the row with its key, or is added where there is none.
-#[derive(Debug, Drop)]
+#[derive(Drop)]
 pub enum Change {
     Desk(DeskRow),
     Field(FieldRow),

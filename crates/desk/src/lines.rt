@@ -17,13 +17,13 @@ use words::Memory;
 pub fn text(alloc: Global, bytes: &[u8]) -> Result<Vec<u8>, Memory>
     ensures { IfOk result (λ out. out.items ≡ bytes.now) }
 {
-    Vec::from_slice(alloc, bytes).map_err(|_| Memory)
+    Ok(Vec::from_slice(alloc, bytes)?)
 }
 
 pub fn push_text(out: &mut Vec<u8>, text: &[u8]) -> Result<(), Memory>
     ensures { OnOk result (out.new.items ≡ out.old.items ++ text.now) }
 {
-    out.extend_from_slice(text).map_err(|_| Memory)
+    Ok(out.extend_from_slice(text)?)
 }
 
 /// Appends a space and a word.

@@ -15,7 +15,7 @@ use std::alloc::Global;
 use words::{Reply, Request};
 
 /// How a run ended.
-#[derive(Clone, Copy, Debug, PartialEq, Eq)]
+#[derive(Clone, Copy, PartialEq, Eq)]
 pub enum Ending {
     /// All requests are answered.
     All,
@@ -26,7 +26,7 @@ pub enum Ending {
 }
 
 /// What was answered to a list of requests: the replies to the first of them, and how it ended.
-#[derive(Debug, Drop)]
+#[derive(Drop)]
 pub struct Run {
     pub replies: Vec<Reply>,
     pub ending: Ending,

@@ -6,8 +6,6 @@ ghost use Rattle.std.specs.Cmp.Lexicographic.{nat_list_cmp_total, nat_list_eq_eq
 ghost use Rattle.std.specs.Ordering.{nat_cmp};
 
 use std::cmp::Ordering;
-use std::fmt;
-use std::fmt::Write;
 use std::marker::Model;
 
 /// A text of at most `N` bytes, and of 255, compared and ordered by its bytes. Zeros stand behind it.
@@ -93,14 +91,5 @@ impl<const N: usize> Ord for FixedText<N> {
 
     fn cmp(&self, other: &FixedText<N>) -> Ordering {
         self.as_bytes().cmp(other.as_bytes())
-    }
-}
-
-impl<const N: usize> fmt::Debug for FixedText<N> {
-    fn fmt<W: fmt::Write>(&self, f: &mut fmt::Formatter<W>) -> fmt::Result {
-        for byte in self.as_bytes() {
-            f.write_char(char::from(*byte))?;
-        }
-        Ok(())
     }
 }

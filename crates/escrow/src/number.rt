@@ -7,7 +7,7 @@ use crate::limits::{MAX_LEVEL, MAX_MOMENT, MAX_ORDER_NO, MAX_QTY};
 use std::marker::Model;
 
 /// A level of stock, in pieces: 0 to 1,000,000,000.
-#[derive(Clone, Copy, Debug, PartialEq, Eq, PartialOrd, Ord)]
+#[derive(Clone, Copy, PartialEq, Eq, PartialOrd, Ord)]
 pub struct Level {
     amount: u32,
 }
@@ -59,7 +59,7 @@ impl Level {
 }
 
 /// A quantity in a command, in pieces: 1 to 1,000,000.
-#[derive(Clone, Copy, Debug, PartialEq, Eq, PartialOrd, Ord)]
+#[derive(Clone, Copy, PartialEq, Eq, PartialOrd, Ord)]
 pub struct Qty {
     pieces: u32,
 }
@@ -101,7 +101,7 @@ impl Qty {
 }
 
 /// A moment, in whole minutes: 0 to 4,000,000,000.
-#[derive(Clone, Copy, Debug, PartialEq, Eq, PartialOrd, Ord)]
+#[derive(Clone, Copy, PartialEq, Eq, PartialOrd, Ord)]
 pub struct Moment {
     minutes: u32,
 }
@@ -150,7 +150,7 @@ impl Moment {
 }
 
 /// The number of an order: 1 to 999,999,999.
-#[derive(Clone, Copy, Debug, PartialEq, Eq, PartialOrd, Ord)]
+#[derive(Clone, Copy, PartialEq, Eq, PartialOrd, Ord)]
 pub struct OrderNo {
     number: u32,
 }

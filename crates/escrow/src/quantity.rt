@@ -10,7 +10,7 @@ use std::marker::Model;
 use thiserror::Error;
 
 /// Whether stock is taken or added.
-#[derive(Clone, Copy, Debug, PartialEq, Eq)]
+#[derive(Clone, Copy, PartialEq, Eq)]
 pub enum Way {
     Take,
     Add,
@@ -47,7 +47,7 @@ pub enum Rebound {
 /// Each order that is open may still take or add any part of what it holds. So a request is tested
 /// against the worst outcome of all of them (O'Neil's escrow method), and whatever is held can be used
 /// or given back in any order, within the bounds.
-#[derive(Clone, Copy, Debug, PartialEq, Eq)]
+#[derive(Clone, Copy, PartialEq, Eq)]
 pub struct Quantity {
     lo: u64,
     hi: u64,

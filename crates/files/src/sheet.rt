@@ -44,7 +44,7 @@ impl Shown {
 fn push_text(out: &mut Vec<u8>, text: &[u8]) -> Result<(), Memory>
     ensures { OnOk result (out.new.items ≡ out.old.items ++ text.now) }
 {
-    out.extend_from_slice(text).map_err(|_| Memory)
+    Ok(out.extend_from_slice(text)?)
 }
 
 /// Appends as many spaces as a text of that length lacks in a column.

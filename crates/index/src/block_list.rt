@@ -18,7 +18,7 @@ const BLOCK_LEN: usize = 1024;
 const MAX_LEN: usize = 1 << 32;
 
 /// A list in blocks, each of them full but the last. Contracts see the items, and how many fit without memory.
-#[derive(Debug, Drop)]
+#[derive(Drop)]
 pub struct BlockList<T> {
     blocks: Vec<VecDeque<T>>,
     len: usize,

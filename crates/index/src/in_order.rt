@@ -16,7 +16,7 @@ use std::marker::Model;
 
 /// Entries in the order of their keys. They lie as they came, under an index in that order. Contracts see them in
 /// the order of their keys, beside how many more fit without memory.
-#[derive(Debug, Drop)]
+#[derive(Drop)]
 pub struct InOrder<K: Ord, V> {
     entries: Vec<(K, V)>,
     order: BlockList<u32>,

@@ -1,10 +1,11 @@
 //! From a stop to the next open.
 
-ghost use Rattle.std.specs.Prelude.{◌≡◌, ◌≢◌, List, [], ◌∷◌, false, IsTrue, IfSome, IfOk, OnOk, OnErr, Err};
+ghost use Rattle.std.specs.Prelude.{◌≡◌, ◌≢◌, List, [], ◌∷◌, false, IsTrue, IfSome, IfErr, IfOk, OnOk, OnErr, Err};
 ghost use Rattle.std.specs.List.{AllByRecursion};
 ghost use Rattle.sqlite.specs.Held.{AreDatabases};
 ghost use Rattle.sqlite.specs.State.{HasCleanDisk};
 ghost use Rattle.sqlite.specs.Files.{file_state, HoldsDatabase};
+ghost use Rattle.sqlite.specs.Opening.{is_open_error};
 ghost use Rattle.sqlite.specs.WalFiles.{image_at};
 ghost use Rattle.sqlite_trees.specs.Tree.{Trees};
 ghost use Rattle.sqlite_trees.specs.View.{IsClean, IsQuiet};
@@ -112,7 +113,8 @@ pub fn reopen_and_load<D: Crash + Drop>(
 }
 
 /// A keeper over the file of this path, whose bytes at the start are named by `start`: it holds what they hold, and a
-/// stop leaves that alone. A file that is not there is made, without tables. The error is that of the open.
+/// stop leaves that alone. A file that is not there is made, without tables. The error is that of the open, and none of
+/// a statement.
 pub fn open_path<S: Start>(
     rt: &HostRuntime,
     path: &str,
@@ -125,6 +127,7 @@ pub fn open_path<S: Start>(
         → HoldsDatabase (image_at S.Start) trees → IsOldContent trees x → HoldsOld (file_state keep.connection).now x) }
     ensures alone { IfOk result (λ keep. HasCleanDisk (file_state keep.connection) → (x : Content)
         → Holds (file_state keep.connection).now x → LeavesOnly (file_state keep.connection).may_leave (x ∷ [])) }
+    ensures error { IfErr result (λ error. IsTrue (is_open_error error)) }
 {
     match Connection::open_from(rt, path, false, start) {
         Ok(conn) => Ok(over_files(conn)),

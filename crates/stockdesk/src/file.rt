@@ -23,7 +23,7 @@ use std::fs;
 use std::io::{ErrorKind, Read, Write};
 
 /// What lies at a path.
-#[derive(Clone, Copy, Debug, PartialEq, Eq)]
+#[derive(Clone, Copy)]
 enum Found {
     /// No file, or one without bytes.
     Nothing,

@@ -16,7 +16,7 @@ use std::net::{Ipv4Addr, SocketAddr, TcpListener, TcpStream};
 use words::write_whole;
 
 /// Where a desk is served, port 0 being any that is free, and to how many connections.
-#[derive(Clone, Copy, Debug, PartialEq, Eq)]
+#[derive(Clone, Copy)]
 pub struct Service {
     pub port: u16,
     pub connections: u32,

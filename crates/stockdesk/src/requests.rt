@@ -17,7 +17,7 @@ use std::io::{ErrorKind, Read, Write};
 use words::{Item, Request};
 
 /// What a file of requests holds.
-#[derive(Clone, Copy, Debug, PartialEq, Eq)]
+#[derive(Clone, Copy)]
 pub enum Kind {
     Orders,
     Deliveries,

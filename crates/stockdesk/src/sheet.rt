@@ -11,7 +11,7 @@ use std::alloc::Global;
 use std::io::Write;
 
 /// What a sheet is of.
-#[derive(Clone, Copy, Debug, PartialEq, Eq)]
+#[derive(Clone, Copy)]
 pub enum Shown {
     OfBranch(Branch),
     OfArticle(Article),

@@ -18,7 +18,7 @@ use words::read_number;
 const MAX_CONNECTIONS: u32 = 1_000_000;
 
 /// What is asked for.
-#[derive(Clone, Copy, Debug, PartialEq, Eq)]
+#[derive(Clone, Copy)]
 pub enum Task<'a> {
     /// A new desk in this file.
     Init(&'a str),

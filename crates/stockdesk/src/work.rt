@@ -14,7 +14,7 @@ use keep::Keep;
 use std::io::{Read, Write};
 
 /// What is done on a desk.
-#[derive(Clone, Copy, Debug, PartialEq, Eq)]
+#[derive(Clone, Copy)]
 pub enum Work<'a> {
     /// A script is played, from the reader to the writer.
     Script,

@@ -18,7 +18,7 @@ use std::str;
 use words::Request;
 
 /// What a message asks for.
-#[derive(Debug, Drop)]
+#[derive(Drop)]
 pub enum Ask {
     /// A request is to be called.
     Call(Request),

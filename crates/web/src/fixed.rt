@@ -5,7 +5,7 @@ ghost use Rattle.web.specs.Answers.{answer_bytes};
 ghost use Rattle.web.specs.Fixed.{fixed_answer, ready_bytes};
 
 /// An answer that is the same each time.
-#[derive(Clone, Copy, Debug, PartialEq, Eq)]
+#[derive(Clone, Copy)]
 pub enum Fixed {
     /// Nothing is there under that target.
     Nothing,
@@ -50,7 +50,7 @@ impl Fixed {
 }
 
 /// An answer that can be sent.
-#[derive(Debug, Drop)]
+#[derive(Drop)]
 pub enum Ready {
     /// One that takes no memory.
     Fixed(Fixed),

@@ -9,7 +9,7 @@ use httparse::spans::{EMPTY_HEADER_SPAN, HeaderSpan, Span, parse_request};
 const MAX_HEADER_LINES: usize = 32;
 
 /// A head, by where its parts stand.
-#[derive(Clone, Copy, Debug)]
+#[derive(Clone, Copy)]
 pub struct Head {
     pub length: usize,
     pub method: Span,
@@ -20,7 +20,7 @@ pub struct Head {
 }
 
 /// What the front of a buffer is.
-#[derive(Clone, Copy, Debug)]
+#[derive(Clone, Copy)]
 pub enum Front {
     /// A head.
     Whole(Head),

@@ -11,7 +11,7 @@ use matchit::Router;
 use words::read_number;
 
 /// What a target leads to.
-#[derive(Clone, Copy, Debug, PartialEq, Eq)]
+#[derive(Clone, Copy)]
 pub enum Place {
     /// Where commands are given.
     Commands,

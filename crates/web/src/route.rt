@@ -8,7 +8,7 @@ use matchit::{InsertError, Router};
 use std::alloc::Global;
 
 /// What a route leads to.
-#[derive(Clone, Copy, Debug, PartialEq, Eq)]
+#[derive(Clone, Copy)]
 pub enum Resource {
     Commands,
     Field,

@@ -9,7 +9,7 @@ use crate::open_line::OpenLines;
 use escrow::{Article, Branch, Key, Level, Moment, OrderNo, Qty, Way};
 
 /// What is to be done.
-#[derive(Debug, Drop)]
+#[derive(Drop)]
 pub enum Command {
     /// Adds a field: the stock of an article at a branch, with its bounds and its start.
     Field {
@@ -94,7 +94,7 @@ pub enum Command {
 }
 
 /// A command under its key.
-#[derive(Debug, Drop)]
+#[derive(Drop)]
 pub struct Request {
     pub key: Key,
     pub command: Command,

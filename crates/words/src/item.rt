@@ -18,7 +18,7 @@ use escrow::{Article, Branch, Key, OrderNo};
 use std::alloc::Global;
 
 /// What a line is.
-#[derive(Debug, Drop)]
+#[derive(Drop)]
 pub enum Item {
     /// A key and a command.
     Request(Request),

@@ -14,7 +14,7 @@ use std::alloc::Global;
 use std::marker::Model;
 
 /// What has come of a line that has not ended: its bytes, at most 4,096, or that they are more.
-#[derive(Debug, Drop)]
+#[derive(Drop)]
 pub struct Lines {
     rest: Vec<u8>,
     is_overlong: bool,

@@ -9,7 +9,7 @@ use escrow::{Article, Branch, Qty, Way};
 use std::marker::Model;
 
 /// A line of an order: an amount to take or to add, of one article at one branch.
-#[derive(Clone, Copy, Debug)]
+#[derive(Clone, Copy)]
 pub struct OpenLine {
     pub way: Way,
     pub branch: Branch,
@@ -31,7 +31,7 @@ impl OpenLine {
 }
 
 /// 1 to 64 lines of an order, in their order.
-#[derive(Debug, Drop)]
+#[derive(Drop)]
 pub struct OpenLines {
     lines: Vec<OpenLine>,
 }

@@ -5,7 +5,7 @@ ghost use Rattle.words.specs.Replies.{refusal_code, refusal_name, reply_text};
 ghost use Rattle.words.specs.Words.{after_space};
 
 use crate::write::{push_number, push_word};
-use std::alloc::{AllocError, Global};
+use std::alloc::{AllocError, AllocFailed, Global};
 use thiserror::Error;
 
 /// Memory was refused, and nothing was changed.
@@ -13,8 +13,20 @@ use thiserror::Error;
 #[error("out of memory")]
 pub struct Memory;
 
+impl From<AllocError> for Memory {
+    fn from(_: AllocError) -> Memory {
+        Memory
+    }
+}
+
+impl<T: Drop> From<AllocFailed<T>> for Memory {
+    fn from(_: AllocFailed<T>) -> Memory {
+        Memory
+    }
+}
+
 /// Why a command is refused.
-#[derive(Clone, Copy, Debug, PartialEq, Eq)]
+#[derive(Clone, Copy, PartialEq, Eq)]
 pub enum Refusal {
     /// The key is kept with another command.
     KeyReused,
@@ -117,7 +129,7 @@ impl Refusal {
 }
 
 /// The answer to a request.
-#[derive(Clone, Copy, Debug, PartialEq, Eq)]
+#[derive(Clone, Copy, PartialEq, Eq)]
 pub enum Reply {
     /// Done, at this place.
     Done(u64),

@@ -30,7 +30,7 @@ fn text_of(alloc: Global, bytes: &[u8]) -> Result<String, Memory>
     ensures { IfOk result (λ text. string_bytes text ≡ bytes.now) }
 {
     match str::from_utf8(bytes) {
-        Ok(text) => String::from_str(alloc, text).map_err(|_| Memory),
+        Ok(text) => Ok(String::from_str(alloc, text)?),
         Err(_) => unreachable!(),
     }
 }
@@ -170,7 +170,7 @@ fn desk_row(clock: Moment, places: u64) -> DeskRow
 fn push(changes: &mut Vec<Change>, change: Change) -> Result<(), Memory>
     ensures { OnOk result (changes.new.items ≡ changes.old.items ++ change ∷ []) }
 {
-    changes.push(change).map_err(|_| Memory)
+    Ok(changes.push(change)?)
 }
 
 /// Appends the rows of the fields.

@@ -58,7 +58,7 @@ fn put(fields: &mut Fields, name: FieldName, entry: FieldEntry) -> Result<(), Me
     ensures put { OnOk result (fields.new.entries ≡ insert_entry name_cmp fields.old.entries name entry) }
     ensures rising { OnOk result (IsStrictlySortedBy name_cmp (keys_of fields.old.entries)) }
 {
-    fields.reserve(1).map_err(|_| Memory)?;
+    fields.reserve(1)?;
     fields.put(name, entry);
     Ok(())
 }

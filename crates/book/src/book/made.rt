@@ -204,8 +204,8 @@ fn copy_of_order(alloc: Global, entry: &OrderEntry) -> Result<OrderEntry, Memory
     ensures same { IfOk result (λ copy. (n : ℕ) → order_of (n, copy) ≡ order_of (n, entry.now)) }
     ensures room { IfOk result (λ copy. vec_len copy.lines < vec_capacity copy.lines) }
 {
-    let mut lines = Vec::from_slice(alloc, &entry.lines).map_err(|_| Memory)?;
-    lines.reserve(1).map_err(|_| Memory)?;
+    let mut lines = Vec::from_slice(alloc, &entry.lines)?;
+    lines.reserve(1)?;
     Ok(OrderEntry {
         kind: entry.kind,
         until: entry.until,
@@ -360,7 +360,7 @@ fn push_expiring(numbers: &mut Vec<OrderNo>, order: &Order, now: Moment) -> Resu
         (filter (expires now) (order_of order.now ∷ []))) }
 {
     if expires(&order.1, now) {
-        return numbers.push(order.0).map_err(|_| Memory);
+        numbers.push(order.0)?;
     }
     Ok(())
 }

@@ -24,7 +24,7 @@ use words::{Command, Memory, OpenLine, Refusal, Request};
 
 /// What an accepted request puts into the book: its key, its words and its place, the clock and how many orders are
 /// open then, the fields, the move and the order that it makes or changes, and the orders that expire.
-#[derive(Debug, Drop)]
+#[derive(Drop)]
 pub(crate) struct PlanParts {
     pub key: Key,
     pub words: KeptWords,
@@ -39,7 +39,7 @@ pub(crate) struct PlanParts {
 
 /// An accepted request with its place, what it puts into the book, and the rows that change.
 /// `Book::plan` gives one that fits the book's ledger.
-#[derive(Debug, Drop)]
+#[derive(Drop)]
 pub struct Plan {
     parts: PlanParts,
     changes: Vec<Change>,
@@ -86,7 +86,7 @@ impl Plan {
 }
 
 /// What is answered to a request.
-#[derive(Debug, Drop)]
+#[derive(Drop)]
 pub enum Planned {
     /// Done already, at this place.
     Again(u64),
@@ -102,7 +102,7 @@ fn new_lines(alloc: Global, lines: &[OpenLine]) -> Result<Vec<Line>, Memory>
 {
     let mut made = Vec::new(alloc);
     for line in lines {
-        made.push(new_line(line)).map_err(|_| Memory)?;
+        made.push(new_line(line))?;
     }
     Ok(made)
 }

@@ -14,7 +14,7 @@ use escrow::{Article, Branch, FieldName, Level, Moment, OrderNo};
 
 /// A field as it stands: its bounds, its settled value, and the least and the greatest value that the open
 /// orders can leave.
-#[derive(Clone, Copy, Debug, PartialEq, Eq)]
+#[derive(Clone, Copy, PartialEq, Eq)]
 pub struct FieldView {
     pub branch: Branch,
     pub article: Article,
@@ -26,7 +26,7 @@ pub struct FieldView {
 }
 
 /// An order as it stands, open or ended.
-#[derive(Clone, Copy, Debug)]
+#[derive(Clone, Copy)]
 pub struct OrderView<'a> {
     pub number: OrderNo,
     pub kind: Kind,

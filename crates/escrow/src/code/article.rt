@@ -12,7 +12,7 @@ use std::marker::Model;
 
 /// The code of an article: 1 to 16 bytes of `A-Z`, `0-9` and `-`, the first of them no `-`. Codes are
 /// compared and ordered by their bytes.
-#[derive(Clone, Copy, Debug, PartialEq, Eq, PartialOrd, Ord)]
+#[derive(Clone, Copy, PartialEq, Eq, PartialOrd, Ord)]
 pub struct Article {
     text: FixedText<MAX_ARTICLE_LEN>,
 }
@@ -64,7 +64,7 @@ fn is_article(bytes: &[u8]) -> bool
 fn all_article_bytes(bytes: &[u8]) -> bool
     ensures { result ≡ list_all article_byte bytes.now }
 {
-    bytes.iter().all(|byte| is_article_byte(*byte))
+    bytes.iter().copied().all(is_article_byte)
 }
 
 pub(crate) fn is_article_byte(byte: u8) -> bool

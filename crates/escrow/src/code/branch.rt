@@ -10,7 +10,7 @@ use crate::limits::MAX_BRANCH_LEN;
 use std::marker::Model;
 
 /// The code of a branch: 1 to 8 bytes of `A-Z` and `0-9`. Codes are compared and ordered by their bytes.
-#[derive(Clone, Copy, Debug, PartialEq, Eq, PartialOrd, Ord)]
+#[derive(Clone, Copy, PartialEq, Eq, PartialOrd, Ord)]
 pub struct Branch {
     text: FixedText<MAX_BRANCH_LEN>,
 }
@@ -59,7 +59,7 @@ fn is_branch(bytes: &[u8]) -> bool
 fn all_branch_bytes(bytes: &[u8]) -> bool
     ensures { result ≡ list_all branch_byte bytes.now }
 {
-    bytes.iter().all(|byte| is_branch_byte(*byte))
+    bytes.iter().copied().all(is_branch_byte)
 }
 
 pub(crate) fn is_branch_byte(byte: u8) -> bool

@@ -12,7 +12,7 @@ use std::marker::Model;
 
 /// The key of a request: 1 to 36 bytes of `A-Z`, `a-z`, `0-9` and `-`. Keys are compared and ordered by
 /// their bytes.
-#[derive(Clone, Copy, Debug, PartialEq, Eq, PartialOrd, Ord)]
+#[derive(Clone, Copy, PartialEq, Eq, PartialOrd, Ord)]
 pub struct Key {
     text: FixedText<MAX_KEY_LEN>,
 }
@@ -61,7 +61,7 @@ fn is_key(bytes: &[u8]) -> bool
 fn all_key_bytes(bytes: &[u8]) -> bool
     ensures { result ≡ list_all key_byte bytes.now }
 {
-    bytes.iter().all(|byte| is_key_byte(*byte))
+    bytes.iter().copied().all(is_key_byte)
 }
 
 fn is_key_byte(byte: u8) -> bool

@@ -34,7 +34,7 @@ fn is_move_before(one: &MoveEntry, other: &MoveEntry) -> bool
 pub(super) fn are_moves_in_order(moves: &[MoveEntry]) -> bool
     ensures { IsTrue result ↔ IsStrictlySortedBy nat_cmp (map (λ m. m.place) (map move_of moves.now)) }
 {
-    moves.is_sorted_by(|one, other| is_move_before(one, other))
+    moves.is_sorted_by(is_move_before)
 }
 
 fn is_move_good(entry: &MoveEntry, places: usize) -> bool
@@ -114,7 +114,7 @@ fn is_order_good(order: &Order) -> bool
 pub(super) fn are_orders_good(orders: &[Order]) -> bool
     ensures { IsTrue result ↔ Each IsOrderByItself (map order_of orders.now) }
 {
-    orders.iter().all(|order| is_order_good(order))
+    orders.iter().all(is_order_good)
 }
 
 /// Whether the places are 1 to the number of kept keys, each once.

@@ -19,7 +19,7 @@ use escrow::{Moment, OrderNo};
 use std::alloc::Global;
 
 /// An order but for its lines.
-#[derive(Clone, Copy, Debug)]
+#[derive(Clone, Copy)]
 pub(super) struct Head {
     pub number: OrderNo,
     pub kind: Kind,

@@ -20,7 +20,7 @@ use std::alloc::Global;
 use words::Memory;
 
 /// What entries add up to on a field.
-#[derive(Clone, Copy, Debug)]
+#[derive(Clone, Copy)]
 pub(super) struct Numbers {
     /// What has moved its value.
     pub moved: i64,
@@ -249,6 +249,6 @@ pub(super) fn are_up_to_date(
     ensures { IfOk result (λ fit. IsTrue fit ↔ (AreOnFields fields.now moves.now orders.now
         × HaveNumbers (numbers_on moves.now orders.now) fields.now)) }
 {
-    let mut sums = Vec::from_elem(alloc, NOTHING, fields.len()).map_err(|_| Memory)?;
+    let mut sums = Vec::from_elem(alloc, NOTHING, fields.len())?;
     Ok(add_all(fields, &mut sums, moves, orders))
 }

@@ -37,3 +37,6 @@ returns-in-Ok-clause-alone g c clean x held =
 
 pub returns-in-Ok-clause-going : goal.returns-in-Ok-clause-going
 returns-in-Ok-clause-going g c = search rules
+
+pub returns-clause-error : goal.returns-clause-error
+returns-clause-error g c = c.in-Err.ensures.named

@@ -1,6 +1,6 @@
 //! Files of requests, and stock sheets.
 
-use crate::scripts::{Row, Step, book_after};
+use crate::books::{Row, Step, book_after};
 use crate::streams::{Drip, Sink};
 use book::Book;
 use escrow::{Article, Branch};

@@ -1,6 +1,6 @@
 //! Scripts, each on a new book, with the rows that each command changes.
 
-use crate::scripts::{Row, Step};
+use crate::books::{Row, Step};
 
 /// How many scripts there are.
 pub(super) const SCRIPTS: usize = 5;

@@ -1,18 +1,30 @@
-//! Tests of `keep`, `desk` and `web`, each by what its callers see.
+//! Tests of the libraries, each by what its callers see.
 #![tactic(auto)]
 
+#[cfg(test)]
+mod books;
 #[cfg(test)]
 mod desks;
 #[cfg(test)]
 mod keepers;
 #[cfg(test)]
+mod of_book;
+#[cfg(test)]
 mod of_desk;
+#[cfg(test)]
+mod of_escrow;
+#[cfg(test)]
+mod of_files;
+#[cfg(test)]
+mod of_index;
 #[cfg(test)]
 mod of_keep;
 #[cfg(test)]
 mod of_streams;
 #[cfg(test)]
 mod of_web;
+#[cfg(test)]
+mod of_words;
 #[cfg(test)]
 mod scripts;
 #[cfg(test)]

@@ -3,7 +3,7 @@
 mod steps;
 mod tables;
 
-use crate::scripts::{Step, book_after, request};
+use crate::books::{Step, book_after, request};
 use book::{Book, FieldView, Kind, OrderView, Planned, Standing};
 use escrow::{Article, Branch, OrderNo, Way};
 use std::alloc::Global;
