@@ -1,0 +1,188 @@
+"""The controls of the wrong bodies: `tests/controls.py [CRATE..] [-- WORD..]` tries those of these crates, or of all, and with
+words the controls of the edits whose names have one of them.
+
+A wrong body shows something only where the right meaning at the same place, in other words, is proved. So each edit has behind
+each `new: TEXT` a line `control: TEXT`, which is put in place of the old text in a copy of the tree: the crate must be proved
+with it. An edit of must-fail/ without a control fails, and so does a control that is not proved, for whatever cause. Of
+more-edits/ those that have a control are tried."""
+
+import glob
+import os
+import re
+import shutil
+import subprocess
+import sys
+import tempfile
+from concurrent.futures import ThreadPoolExecutor
+from dataclasses import dataclass
+from queue import SimpleQueue
+
+sys.dont_write_bytecode = True
+
+TOP = os.path.dirname(os.path.dirname(os.path.abspath(__file__)))
+LINE = re.compile(r"(file|old|new|control): ?(.*)")
+# the largest crate takes 8 GB
+MOST_COPIES = 3
+
+
+class BadEdit(Exception):
+    """What is wrong with an edit file."""
+
+
+@dataclass
+class Swap:
+    """A place in a file, and the texts that are put there."""
+
+    file: str
+    old: str
+    new: str = ""
+    control: str = ""
+
+
+@dataclass
+class Edit:
+    """A wrong body, and its control."""
+
+    crate: str
+    name: str
+    swaps: list[Swap]
+
+    @property
+    def has_control(self):
+        return all(swap.control for swap in self.swaps)
+
+    def __str__(self):
+        return f"{self.crate}/{self.name}"
+
+
+def swaps_of(text: str) -> list[Swap]:
+    """The swaps of an edit file; a line of another kind is a remark."""
+    file, swaps = "", []
+    for line in text.splitlines():
+        kind, value = found.groups() if (found := LINE.match(line)) else ("", "")
+        if kind == "file":
+            file = value
+        elif kind == "old":
+            swaps.append(Swap(file, value))
+        elif kind:
+            setattr(swaps[-1], kind, value)
+    return swaps
+
+
+def edits_in(crate: str, folder: str) -> list[Edit]:
+    found = []
+    for path in sorted(glob.glob(os.path.join(TOP, "crates", crate, folder, "*.edit"))):
+        with open(path, encoding="utf-8") as file:
+            found.append(Edit(crate, os.path.basename(path), swaps_of(file.read())))
+    return found
+
+
+def swapped(edit: Edit, kind: str, read) -> dict[str, str]:
+    """The files that an edit or its control changes, by their paths in the crate; `read` gives a file's text."""
+    texts = {}
+    for swap in edit.swaps:
+        text = texts.get(swap.file) or read(swap.file)
+        if text.count(swap.old) != 1:
+            raise BadEdit(f"{swap.file} has its old text {text.count(swap.old)} times")
+        texts[swap.file] = text.replace(swap.old, getattr(swap, kind))
+    return texts
+
+
+def with_control(edit: Edit, read) -> dict[str, str]:
+    texts = swapped(edit, "control", read)
+    if texts in (swapped(edit, "new", read), {path: read(path) for path in texts}):
+        raise BadEdit("its control is the old text or the new one")
+    return texts
+
+
+class Copy:
+    """A copy of the tree, in which one control is tried at a time."""
+
+    def __init__(self, room: str):
+        self.crates = os.path.join(room, "crates")
+        os.makedirs(room)
+        for name in ("crates.txt", "HANDLES"):
+            shutil.copy(os.path.join(TOP, name), room)
+        skipped = shutil.ignore_patterns("out", "must-fail", "more-edits")
+        shutil.copytree(os.path.join(TOP, "crates"), self.crates, ignore=skipped)
+
+    def check(self, crate: str) -> list[str]:
+        """What a check of the crate says against it."""
+        command = ["rt", "check", "--jobs", "1"]
+        folder = os.path.join(self.crates, crate)
+        run = subprocess.run(command, cwd=folder, stdin=subprocess.DEVNULL, capture_output=True, text=True, errors="replace")
+        lines = (run.stdout + run.stderr).splitlines()
+        return [line for line in lines if "error" in line] or lines[-1:] if run.returncode else []
+
+    def attempt(self, edit: Edit) -> str:
+        """What is said against the control, or nothing where it is proved."""
+        folder = os.path.join(self.crates, edit.crate)
+        before = {}
+
+        def read(path):
+            with open(os.path.join(folder, path), encoding="utf-8") as file:
+                return before.setdefault(path, file.read())
+
+        def write(texts):
+            for path, text in texts.items():
+                with open(os.path.join(folder, path), "w", encoding="utf-8") as file:
+                    file.write(text)
+
+        try:
+            write(with_control(edit, read))
+            return "; ".join(line[:200] for line in self.check(edit.crate)[:3])
+        except (BadEdit, OSError) as error:
+            return str(error)
+        finally:
+            write(before)
+
+
+def chosen(crates: list[str], words: list[str]) -> tuple[list[Edit], list[Edit]]:
+    """The edits whose controls are to be tried, and those of the gate that lack one."""
+    gate = [edit for crate in crates for edit in edits_in(crate, "must-fail")]
+    more = [edit for crate in crates for edit in edits_in(crate, "more-edits") if edit.has_control]
+    wanted = [edit for edit in gate + more if not words or any(word in edit.name for word in words)]
+    return [edit for edit in wanted if edit.has_control], [edit for edit in wanted if not edit.has_control]
+
+
+def crates_of(order: str) -> list[str]:
+    """The crates, lowest first."""
+    with open(order, encoding="utf-8") as file:
+        return re.findall(r"^(\w+)(?: \S+)*:", file.read(), re.MULTILINE)
+
+
+def attempt_all(edits: list[Edit]) -> int:
+    """Tries the controls, as many crates at a time as there are copies, and gives how many are not proved."""
+    crates = sorted({edit.crate for edit in edits}, key=lambda crate: -sum(edit.crate == crate for edit in edits))
+    count = min(MOST_COPIES, os.cpu_count() or 1, len(crates))
+    with tempfile.TemporaryDirectory() as room, ThreadPoolExecutor(max(count, 1)) as pool:
+        copies = SimpleQueue()
+        for number in range(count):
+            copies.put(Copy(os.path.join(room, str(number))))
+
+        def failed_in(crate):
+            copy, failed = copies.get(), 0
+            for edit in edits:
+                if edit.crate == crate:
+                    fault = copy.attempt(edit)
+                    print(f"{edit}: " + (f"NOT PROVED: {fault}" if fault else "its control is proved"), flush=True)
+                    failed += bool(fault)
+            copies.put(copy)
+            return failed
+
+        return sum(pool.map(failed_in, crates))
+
+
+def main():
+    named, _, words = " ".join(sys.argv[1:]).partition("-- ")
+    crates = named.split() or crates_of(os.path.join(TOP, "crates.txt"))
+    edits, without = chosen(crates, words.split())
+    for edit in without:
+        print(f"{edit}: HAS NO CONTROL")
+    failed = attempt_all(edits) + len(without)
+    print(f"{len(edits) + len(without) - failed} passed, {failed} failed")
+    sys.exit(failed > 0)
+
+
+if __name__ == "__main__":
+    main()
