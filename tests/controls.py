@@ -112,7 +112,8 @@ class Copy:
         folder = os.path.join(self.crates, crate)
         run = subprocess.run(command, cwd=folder, stdin=subprocess.DEVNULL, capture_output=True, text=True, errors="replace")
         lines = (run.stdout + run.stderr).splitlines()
-        return [line for line in lines if "error" in line] or lines[-1:] if run.returncode else []
+        told = [line for line in lines if re.search(r"\berror(\[|:)", line)]
+        return (told or lines[-1:]) if run.returncode else []
 
     def attempt(self, edit: Edit) -> str:
         """What is said against the control, or nothing where it is proved."""
