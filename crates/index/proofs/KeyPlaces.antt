@@ -12,6 +12,7 @@ use Rattle.std.proofs.lemmas.List.Sorted.{All-permutation, IsPermutation-insert,
 use Rattle.std.proofs.lemmas.Cmp.{alike_right, eq_by_cmp_equiv, tied_back}
 use Rattle.std.proofs.lemmas.List.Edits.{insert_end}
 use Rattle.std.proofs.lemmas.Map.Entries.{length-keys_of, lookup_at_gap, lookup_from_place}
+use Rattle.index.specs.BlockList.{Items}
 use Rattle.index.specs.InOrder.{IsAt, IsKeyOrder, set_value_at}
 
 -- ---- orders of so many indexes
@@ -168,6 +169,10 @@ has_room n entries order room = (omega arith, omega arith)
 -- ---- keys among entries in their order
 
 module _ {K V : Type 0} where
+  pub empty_order : (cmp : K → K → Ordering) (es : List (K × V)) (order : Items ℕ) → es ≡ [] → order ≡ record { items = []; capacity = 0 } → IsKeyOrder cmp es order.items
+  unfolding IsStrictlySortedBy
+  empty_order cmp es order none no_order = rw (none, no_order) (record { each_once = IsPermutation-refl []; rising = tt })
+
   pub keys-set_value_at : (l : List (K × V)) (place : ℕ) (w : V) → keys_of (set_value_at l place w) ≡ keys_of l
   keys-set_value_at [] place w = refl
   keys-set_value_at (e ∷ l) zero w = refl
