@@ -24,7 +24,7 @@ fn commands() -> &'static [&'static str] {
     &COMMANDS
 }
 
-const COMMANDS: [&str; 12] = [
+const COMMANDS: [&str; 14] = [
     "field N1 A-1 0 100 40",
     "deliver N1 A-1 1000000",
     "writeoff N1 A-1 5",
@@ -37,6 +37,8 @@ const COMMANDS: [&str; 12] = [
     "commit 7",
     "abort 999999999",
     "expire 4000000000",
+    "rebound N1 A-1 0 50",
+    "firm 7",
 ];
 
 /// The text is read as a command, and written back behind what is there.

@@ -10,7 +10,7 @@ use Rattle.web.specs.Serving.{EndsCut, EndsShort, EndsWhole, Serves, stand}
 use Rattle.web.specs.Web.{Stand}
 use Rattle.web.specs.declared.served.Served.{Served}
 use Rattle.web.specs.declared.served.WebFault.{WebFault}
-use Rattle.stockdesk.specs.Connections.{AreServed, Came, IsServed, PortBegun, PortTold, Streams, listening_line}
+use Rattle.stockdesk.specs.Connections.{AreServed, IsServed, Pass, Passes, PortBegun, PortTold, Streams, listening_line, streams}
 
 -- ---- a desk that goes on has told nothing of what a stop leaves
 
@@ -54,7 +54,8 @@ module _ (H G : Type 0) (L M : List Content → Type 0) where
     serves = serves_again old new e.answered going e.serves;
     writes = e.writes;
     almost = e.almost;
-    prompt = e.prompt;
+    told = e.told;
+    unread = e.unread;
   }
 
   cut_again : (fault : WebFault) (old new : Stand) (R r W w : Option (List ℕ)) → new.is_stopped ≡ false → EndsCut fault H L old new R r W w → EndsCut fault G M old new R r W w
@@ -77,7 +78,7 @@ module _ (H G : Type 0) (L M : List Content → Type 0) where
 
 -- a connection ends whole, or by a fault
 pub is_served : (result : Result Served WebFault) (H : Type 0) (L : List Content → Type 0) (old new : Stand) (R r W w : Option (List ℕ)) → IfOk result (λ served. EndsWhole served H L old new R r W w)
-    → IfErr result (λ fault. EndsCut fault H L old new R r W w) → IsServed H L old (record { reader_old = R; reader_new = r; writer_old = W; writer_new = w }) new
+    → IfErr result (λ fault. EndsCut fault H L old new R r W w) → IsServed H L old (streams R r W w) new
 is_served (Ok served) H L old new R r W w whole cut = inl (served, whole)
 is_served (Err fault) H L old new R r W w whole cut = inr (fault, cut)
 
@@ -89,41 +90,59 @@ served_on H L [] s old mid new same going one = subst (λ (o : Stand). AreServed
 served_on H L (t ∷ streams) s old mid new (next, before, first, rest) going one = (next, before, first, served_on H L streams s next mid new rest going one)
 
 -- so many connections were served, as they came
-abbrev pub ServesFrom : {N R W : Type 0} → (N → R → W → N → Type 0) → (R → Option (List ℕ)) → (W → Option (List ℕ)) → ℕ → Bool → (is_honest : Type 0) → (leaves : List Content → Type 0) → Ledger → Ledger → N → N → Type 0
-ServesFrom comes remaining contents count is_stopped is_honest leaves first last old new =
-    (streams : List Streams) × (length streams ≡ count) × AreServed is_honest leaves (stand first false) streams (stand last is_stopped) × Came comes remaining contents old streams new
+abbrev pub ServesFrom : {N R W : Type 0} → (comes closes : N → R → W → N → Type 0) → (R → Option (List ℕ)) → (W → Option (List ℕ)) → ℕ → Bool → (is_honest : Type 0) → (leaves : List Content → Type 0) → Ledger → Ledger → N → N → Type 0
+ServesFrom comes closes remaining contents count is_stopped is_honest leaves first last old new =
+    (streams : List Streams) × (length streams ≡ count) × AreServed is_honest leaves (stand first false) streams (stand last is_stopped) × Pass comes closes remaining contents old streams new
 
-came_on : {N R W : Type 0} (comes : N → R → W → N → Type 0) (remaining : R → Option (List ℕ)) (contents : W → Option (List ℕ)) (streams : List Streams) (s : Streams) (old mid new : N) (reader : R) (writer : W)
-    → Came comes remaining contents old streams mid → comes mid reader writer new → s.reader_old ≡ remaining reader → s.writer_old ≡ contents writer → Came comes remaining contents old (streams ++ s ∷ []) new
-came_on comes remaining contents [] s old mid new reader writer same came reads writes =
-    (reader, writer, new, subst (λ o. comes o reader writer new) same came, reads, writes, refl)
-came_on comes remaining contents (t ∷ streams) s old mid new reader writer (r, w, next, first, was, is, rest) came reads writes =
-    (r, w, next, first, was, is, came_on comes remaining contents streams s next mid new reader writer rest came reads writes)
+-- it came so, and was closed so
+pub passes : {N R W : Type 0} (comes closes : N → R → W → N → Type 0) (remaining : R → Option (List ℕ)) (contents : W → Option (List ℕ)) (old busy new : N) (reader reader_then : R) (writer writer_then : W)
+    → comes old reader writer busy → closes busy reader_then writer_then new
+    → Passes comes closes remaining contents old (streams (remaining reader) (remaining reader_then) (contents writer) (contents writer_then)) new
+passes comes closes remaining contents old busy new reader reader_then writer writer_then came closed = record {
+  reader = reader;
+  writer = writer;
+  busy = busy;
+  came = came;
+  reads = refl;
+  writes = refl;
+  reader_then = reader_then;
+  writer_then = writer_then;
+  closed = closed;
+  has_read = refl;
+  has_written = refl;
+}
 
-module _ {N R W : Type 0} (comes : N → R → W → N → Type 0) (remaining : R → Option (List ℕ)) (contents : W → Option (List ℕ)) {H G : Type 0} {L M : List Content → Type 0} where
-  pub serves_one : (count : ℕ) (s : Streams) (first mid last : Ledger) (was is : Bool) (old now new : N) (reader : R) (writer : W) → was ≡ false → ServesFrom comes remaining contents count false H L first mid old now
-      → comes now reader writer new → s.reader_old ≡ remaining reader → s.writer_old ≡ contents writer → IsServed G M (stand mid was) s (stand last is)
-      → ServesFrom comes remaining contents (count + 1) is G M first last old new
-  serves_one count s first mid last was is old now new reader writer going (streams, size, are, come) came reads writes one =
+passed_on : {N R W : Type 0} (comes closes : N → R → W → N → Type 0) (remaining : R → Option (List ℕ)) (contents : W → Option (List ℕ)) (streams : List Streams) (s : Streams) (old mid new : N)
+    → Pass comes closes remaining contents old streams mid → Passes comes closes remaining contents mid s new → Pass comes closes remaining contents old (streams ++ s ∷ []) new
+passed_on comes closes remaining contents [] s old mid new same one =
+    (new, subst (λ o. Passes comes closes remaining contents o s new) same one, refl)
+passed_on comes closes remaining contents (t ∷ streams) s old mid new (next, first, rest) one =
+    (next, first, passed_on comes closes remaining contents streams s next mid new rest one)
+
+module _ {N R W : Type 0} (comes closes : N → R → W → N → Type 0) (remaining : R → Option (List ℕ)) (contents : W → Option (List ℕ)) {H G : Type 0} {L M : List Content → Type 0} where
+  pub serves_one : (count : ℕ) (s : Streams) (first mid last : Ledger) (was is : Bool) (old now new : N) → was ≡ false → ServesFrom comes closes remaining contents count false H L first mid old now
+      → Passes comes closes remaining contents now s new → IsServed G M (stand mid was) s (stand last is)
+      → ServesFrom comes closes remaining contents (count + 1) is G M first last old new
+  serves_one count s first mid last was is old now new going (streams, size, are, come) pass one =
       let more = length-append streams (s ∷ []) in (
         streams ++ s ∷ [],
         omega (arith, size, more),
         served_on G M streams s (stand first false) (stand mid false) (stand last is) (are_again H G L M streams (stand first false) (stand mid false) refl are) refl
             (subst (λ (b : Bool). IsServed G M (stand mid b) s (stand last is)) going one),
-        came_on comes remaining contents streams s old now new reader writer come came reads writes,
+        passed_on comes closes remaining contents streams s old now new come pass,
       )
 
-module _ {N R W : Type 0} {comes : N → R → W → N → Type 0} {remaining : R → Option (List ℕ)} {contents : W → Option (List ℕ)} where
-  pub serves_none : (H : Type 0) (L : List Content → Type 0) (first : Ledger) (old : N) → ServesFrom comes remaining contents 0 false H L first first old old
+module _ {N R W : Type 0} {comes closes : N → R → W → N → Type 0} {remaining : R → Option (List ℕ)} {contents : W → Option (List ℕ)} where
+  pub serves_none : (H : Type 0) (L : List Content → Type 0) (first : Ledger) (old : N) → ServesFrom comes closes remaining contents 0 false H L first first old old
   serves_none H L first old = ([], refl, refl, refl)
 
   module _ {H : Type 0} {L : List Content → Type 0} where
-    pub goes_on : (count : ℕ) (is : Bool) (first last : Ledger) (old new : N) → is ≡ false → ServesFrom comes remaining contents count is H L first last old new → ServesFrom comes remaining contents count false H L first last old new
-    goes_on count is first last old new going from = subst (λ (b : Bool). ServesFrom comes remaining contents count b H L first last old new) going from
+    pub goes_on : (count : ℕ) (is : Bool) (first last : Ledger) (old new : N) → is ≡ false → ServesFrom comes closes remaining contents count is H L first last old new → ServesFrom comes closes remaining contents count false H L first last old new
+    goes_on count is first last old new going from = subst (λ (b : Bool). ServesFrom comes closes remaining contents count b H L first last old new) going from
 
     -- those so far
-    pub serves_so_far : (count most : ℕ) (was is : Bool) (first last : Ledger) (old now : N) → count ≤ most → is ≡ was → ServesFrom comes remaining contents count was H L first last old now
-        → (streams : List Streams) × (length streams ≤ most) × AreServed H L (stand first false) streams (stand last is) × (mid : N) × Came comes remaining contents old streams mid
+    pub serves_so_far : (count most : ℕ) (was is : Bool) (first last : Ledger) (old now : N) → count ≤ most → is ≡ was → ServesFrom comes closes remaining contents count was H L first last old now
+        → (streams : List Streams) × (length streams ≤ most) × AreServed H L (stand first false) streams (stand last is) × (mid : N) × Pass comes closes remaining contents old streams mid
     serves_so_far count most was is first last old now few same (streams, size, are, come) =
         (streams, omega (arith, size, few), subst (λ (b : Bool). AreServed H L (stand first false) streams (stand last b)) (sym same) are, now, come)
 

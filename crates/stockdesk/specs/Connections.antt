@@ -34,6 +34,14 @@ pub record Streams : Type 0 where
   pub writer_old : Option (List ℕ)
   pub writer_new : Option (List ℕ)
 
+abbrev pub streams : (reader_old reader_new writer_old writer_new : Option (List ℕ)) → Streams
+streams reader_old reader_new writer_old writer_new = record {
+  reader_old = reader_old;
+  reader_new = reader_new;
+  writer_old = writer_old;
+  writer_new = writer_new;
+}
+
 -- A connection was served on a desk that stood so before and stands so after it: to its end, or to a fault, which is
 -- its own.
 abbrev pub IsServed : (is_honest : Type 0) → (leaves : List Content → Type 0) → Stand → Streams → Stand → Type 0
@@ -48,14 +56,27 @@ AreServed is_honest leaves old (s ∷ streams) new =
     (mid : Stand) × (old.is_stopped ≡ false) × IsServed is_honest leaves old s mid
     × AreServed is_honest leaves mid streams new
 
+-- A connection came to what listens, and was closed with what was left to read then and all that was written.
+pub record Passes {L R W : Type 0} (comes closes : L → R → W → L → Type 0) (remaining : R → Option (List ℕ))
+    (contents : W → Option (List ℕ)) (old : L) (s : Streams) (new : L) : Type 0 where
+  pub reader : R
+  pub writer : W
+  pub busy : L
+  pub came : comes old reader writer busy
+  pub reads : s.reader_old ≡ remaining reader
+  pub writes : s.writer_old ≡ contents writer
+  pub reader_then : R
+  pub writer_then : W
+  pub closed : closes busy reader_then writer_then new
+  pub has_read : s.reader_new ≡ remaining reader_then
+  pub has_written : s.writer_new ≡ contents writer_then
+
 -- These connections came one after the other to what listens, which was so before and is so after them.
-abbrev pub Came : {L R W : Type 0} → (comes : L → R → W → L → Type 0) → (remaining : R → Option (List ℕ))
+abbrev pub Pass : {L R W : Type 0} → (comes closes : L → R → W → L → Type 0) → (remaining : R → Option (List ℕ))
     → (contents : W → Option (List ℕ)) → L → List Streams → L → Type 0
-Came comes remaining contents old [] new = new ≡ old
-Came {L} {R} {W} comes remaining contents old (s ∷ streams) new =
-    (reader : R) × (writer : W) × (mid : L) × comes old reader writer mid × (s.reader_old ≡ remaining reader)
-    × (s.writer_old ≡ contents writer)
-    × Came comes remaining contents mid streams new
+Pass comes closes remaining contents old [] new = new ≡ old
+Pass {L} comes closes remaining contents old (s ∷ streams) new =
+    (mid : L) × Passes comes closes remaining contents old s mid × Pass comes closes remaining contents mid streams new
 
 -- so many connections were served, and the desk goes on
 abbrev pub ServesAll : ℕ → (is_honest : Type 0) → (leaves : List Content → Type 0) → Ledger → Ledger → Type 0

@@ -6,3 +6,4 @@ pub mod Sheets
 pub mod Work
 pub mod Tasks
 pub mod Done
+pub mod Upgrades

@@ -1,15 +1,16 @@
 //! A desk in a file.
 
-ghost use Rattle.std.specs.Prelude.{◌≡◌, ◌≢◌, ◌⊎◌, ◌↔◌, ◌∷◌, [], false, pos, IfErr, IfOk, OnErr, OnOk};
+ghost use Rattle.std.specs.Prelude.{◌≡◌, ◌≢◌, ◌⊎◌, ◌↔◌, ◌∷◌, [], false, pos, Err, IfErr, IfOk, OnErr, OnOk};
 ghost use Rattle.std.specs.Io.KnownBytes.{Keeps};
 ghost use Rattle.sqlite.specs.WalFiles.{image_at};
 ghost use Rattle.sqlite.specs.Files.{file_state};
-ghost use Rattle.sqlite.specs.State.{HasCleanDisk};
+ghost use Rattle.sqlite.specs.State.{HasCleanDisk, State};
 ghost use Rattle.book.specs.Rows.{Content, DeskCells};
 ghost use Rattle.keep.specs.Content.{Holds};
 ghost use Rattle.keep.specs.Old.{HoldsOld, upgraded};
 ghost use Rattle.keep.specs.Starts.{StartsOld, StartsWith};
 ghost use Rattle.stockdesk.specs.Sessions.{IsNewDesk, IsNotOpened, OpensWith, StillHolds};
+ghost use Rattle.stockdesk.specs.Upgrades.{Starts, Upgrades};
 ghost use Rattle.stockdesk.specs.Work.{WorkInPart, WorkWhole};
 
 use crate::new_desk::new_desk;
@@ -161,6 +162,10 @@ pub fn session<S: Start, R: Read, W: Write>(
         (StartsWith (image_at S.Start)) (StartsWith (image_at S.Start))
         (StillHolds ⟦<SqlKeep<FileStore<FileFrom<S>>> as Keep>⟧ (StartsWith (image_at S.Start)) r.0)
         (R.remaining reader.old) (R.remaining reader.new) (W.contents writer.old) (W.contents writer.new))) }
+    // what is of version 1 is told as that, and as nothing else but want of memory or the store
+    ensures old { IfOk result (λ r. HasCleanDisk (file_state r.0.connection) → (x : Content) (row : DeskCells)
+        → StartsOld (image_at S.Start) x → x.desk ≡ row ∷ [] → row.version ≡ pos 1 → (r.1 ≡ Err Fault.OldVersion)
+        ⊎ ((r.1 ≡ Err Fault.Memory) ⊎ (r.1 ≡ Err Fault.Store))) }
     ensures unopened { OnErr result (Keeps (R.remaining reader.old) (R.remaining reader.new)
         × Keeps (W.contents writer.old) (W.contents writer.new)) }
     ensures fault { IfErr result IsNotOpened }
@@ -170,8 +175,9 @@ pub fn session<S: Start, R: Read, W: Write>(
 }
 
 /// Makes version 2 of the desk in the file at the path, whose bytes are named by `start`, where it is of version 1; one
-/// of version 2 is left alone. The keeper comes back over what the file holds then, and is still open. A file that is
-/// not there or has no bytes is `NotADesk`, and none is made.
+/// of version 2 is left alone. The keeper comes back over what the file holds then, and is still open. Whatever is
+/// answered, a stop leaves what was found or the whole of version 2. A file that is not there or has no bytes is
+/// `NotADesk`, and none is made.
 pub fn upgrade<S: Start>(
     rt: &HostRuntime,
     path: &str,
@@ -183,6 +189,9 @@ pub fn upgrade<S: Start>(
     ensures same { IfOk result (λ r. HasCleanDisk (file_state r.0.connection)
         → OnOk r.1 ((x : Content) → StartsWith (image_at S.Start) x → Holds (file_state r.0.connection).now x)) }
     ensures ended { IfOk result (λ r. IfErr r.1 IsNotOpened) }
+    // from what the opening found
+    ensures from { IfOk result (λ r. HasCleanDisk (file_state r.0.connection) → (was : State)
+        × Starts (image_at S.Start) was × Upgrades was (file_state r.0.connection) r.1) }
     // what is of version 1 is never called no desk
     ensures desk { IfOk result (λ r. HasCleanDisk (file_state r.0.connection) → IfErr r.1
         (λ fault. fault ≡ Fault.NotADesk → (x : Content) (row : DeskCells) → x.desk ≡ row ∷ [] → row.version ≡ pos 1

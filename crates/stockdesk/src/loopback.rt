@@ -3,7 +3,7 @@
 ghost use Rattle.std.specs.Prelude.{◌≡◌, ◌≢◌, ◌≤◌, ◌⊎◌, false, Err, IfErr, IfOk, IsTrue, List, length, OnErr, OnOk};
 ghost use Rattle.desk.specs.Desk.{StaysStored};
 ghost use Rattle.web.specs.Serving.{stand};
-ghost use Rattle.stockdesk.specs.Connections.{AreServed, Came, IsServed, PortBegun, PortTold, ServesAll, ServiceCut, Streams, listening_line};
+ghost use Rattle.stockdesk.specs.Connections.{AreServed, IsServed, Pass, PortBegun, PortTold, ServesAll, ServiceCut, Streams, listening_line, streams};
 ghost use Rattle.stockdesk.specs.Sessions.{IsNoDesk};
 
 use crate::session::Fault;
@@ -31,9 +31,16 @@ pub trait Listen {
     /// A connection that may come, and what listens after that.
     ghost comes: { Self → Self.Reader → Self.Writer → Self → Type 0 };
 
+    /// A connection that is closed as it stands, and what listens after that.
+    ghost closes: { Self → Self.Reader → Self.Writer → Self → Type 0 };
+
     /// Waits for the next connection.
     fn next_connection(&mut self) -> io::Result<(Self::Reader, Self::Writer)>
         ensures { IfOk result (λ connection. comes self.old connection.0 connection.1 self.new) };
+
+    /// Closes a connection, as it stands.
+    fn close(&mut self, reader: Self::Reader, writer: Self::Writer)
+        ensures { closes self.old reader writer self.new };
 }
 
 impl Listen for TcpListener {
@@ -41,8 +48,10 @@ impl Listen for TcpListener {
 
     type Writer = TcpStream;
 
-    // no clause knows what a socket brings
+    // no clause knows what a socket brings or takes
     ghost comes = { λ old reader writer new. Unit {0} };
+
+    ghost closes = { λ old reader writer new. Unit {0} };
 
     fn next_connection(&mut self) -> io::Result<(TcpStream, TcpStream)> {
         let (stream, _) = self.accept()?;
@@ -50,26 +59,32 @@ impl Listen for TcpListener {
         let _ = stream.set_nodelay(true);
         Ok((stream.try_clone()?, stream))
     }
+
+    fn close(&mut self, reader: TcpStream, writer: TcpStream) {
+        drop(reader);
+        drop(writer);
+    }
 }
 
-/// Serves a connection, and closes it. A fault ends it alone.
-fn serve_one<K: Keep, R: Read + Drop, W: Write + Drop>(
+/// Serves a connection. A fault ends it alone.
+fn serve_one<K: Keep, R: Read, W: Write>(
     alloc: Global,
     desk: &mut Desk<K>,
-    connection: (R, W),
+    reader: &mut R,
+    writer: &mut W,
 )
-    ensures served { (s : Streams) × (s.reader_old ≡ R.remaining connection.0)
-        × (s.writer_old ≡ W.contents connection.1)
-        × IsServed (K.is_honest desk.new.keep) (K.leaves desk.new.keep)
-        (stand desk.old.ledger (K.stopped desk.old.keep)) s (stand desk.new.ledger (K.stopped desk.new.keep)) }
+    ensures served { IsServed (K.is_honest desk.new.keep) (K.leaves desk.new.keep)
+        (stand desk.old.ledger (K.stopped desk.old.keep))
+        (streams (R.remaining reader.old) (R.remaining reader.new) (W.contents writer.old) (W.contents writer.new))
+        (stand desk.new.ledger (K.stopped desk.new.keep)) }
     ensures honest { K.is_honest desk.new.keep → K.is_honest desk.old.keep }
 {
-    let (mut reader, mut writer) = connection;
-    let _ = web::serve(alloc, &mut reader, &mut writer, desk);
+    let _ = web::serve(alloc, reader, writer, desk);
 }
 
-/// Serves so many connections on a desk that is not stopped, each as it comes, one after the other. Those before a
-/// fault are served: `Socket` where no connection could be had, and `Store` where the last of them stopped the desk.
+/// Serves so many connections on a desk that is not stopped, each as it comes, one after the other, and closes each
+/// behind its answers. Those before a fault are served: `Socket` where no connection could be had, and `Store` where
+/// the last of them stopped the desk.
 pub fn serve_all<K: Keep, L: Listen>(
     alloc: Global,
     desk: &mut Desk<K>,
@@ -80,11 +95,11 @@ pub fn serve_all<K: Keep, L: Listen>(
     ensures whole { OnOk result ((streams : List Streams) × (length streams ≡ connections)
         × AreServed (K.is_honest desk.new.keep) (K.leaves desk.new.keep) (stand desk.old.ledger false) streams
         (stand desk.new.ledger false)
-        × Came L.comes L.Reader.remaining L.Writer.contents listener.old streams listener.new) }
+        × Pass L.comes L.closes L.Reader.remaining L.Writer.contents listener.old streams listener.new) }
     ensures cut { OnErr result ((streams : List Streams) × (length streams ≤ connections)
         × AreServed (K.is_honest desk.new.keep) (K.leaves desk.new.keep) (stand desk.old.ledger false) streams
         (stand desk.new.ledger (K.stopped desk.new.keep))
-        × (mid : L) × Came L.comes L.Reader.remaining L.Writer.contents listener.old streams mid) }
+        × (mid : L) × Pass L.comes L.closes L.Reader.remaining L.Writer.contents listener.old streams mid) }
     ensures fault { IfErr result (λ fault. (fault ≡ Fault.Socket) ⊎ (fault ≡ Fault.Store)) }
     ensures going { result ≢ Err Fault.Store → K.stopped desk.new.keep ≡ false }
     ensures stopped { result ≡ Err Fault.Store → IsTrue (K.stopped desk.new.keep) }
@@ -94,7 +109,9 @@ pub fn serve_all<K: Keep, L: Listen>(
         let Ok(connection) = listener.next_connection() else {
             return Err(Fault::Socket);
         };
-        serve_one(alloc, desk, connection);
+        let (mut reader, mut writer) = connection;
+        serve_one(alloc, desk, &mut reader, &mut writer);
+        listener.close(reader, writer);
         if desk.is_stopped() {
             return Err(Fault::Store);
         }

@@ -1,12 +1,10 @@
 //! A desk of version 2 in place of one of version 1.
 
-ghost use Rattle.std.specs.Prelude.{◌≡◌, ◌↔◌, ◌⊎◌, false, IfErr, OnOk};
+ghost use Rattle.std.specs.Prelude.{◌≡◌, ◌↔◌, false, IfErr};
 ghost use Rattle.sqlite.specs.Held.{state};
 ghost use Rattle.sqlite.specs.State.{HasCleanDisk};
-ghost use Rattle.book.specs.Rows.{Content};
-ghost use Rattle.keep.specs.Content.{Holds};
-ghost use Rattle.keep.specs.Old.{HoldsOld, IsCurrent, IsOld, upgraded};
 ghost use Rattle.stockdesk.specs.Sessions.{IsNotOpened};
+ghost use Rattle.stockdesk.specs.Upgrades.{Upgrades};
 
 use crate::session::Fault;
 use keep::{KeepFault, SqlKeep};
@@ -30,14 +28,8 @@ fn upgrade_over<S: Alter>(conn: &mut Connection<S>) -> Result<(), Fault>
     requires { conn.old.in_transaction ≡ false }
     ensures idle { conn.new.in_transaction ≡ false }
     ensures clean { HasCleanDisk (state S.Store conn.new) → HasCleanDisk (state S.Store conn.old) }
-    ensures version { HasCleanDisk (state S.Store conn.new) → OnOk result
-        (IsOld (state S.Store conn.old).now ⊎ IsCurrent (state S.Store conn.old).now) }
-    ensures made { HasCleanDisk (state S.Store conn.new) → OnOk result
-        ((x : Content) → HoldsOld (state S.Store conn.old).now x → Holds (state S.Store conn.new).now (upgraded x)) }
-    ensures same { HasCleanDisk (state S.Store conn.new) → OnOk result
-        ((x : Content) → Holds (state S.Store conn.old).now x → Holds (state S.Store conn.new).now x) }
-    ensures desk { HasCleanDisk (state S.Store conn.new) → IfErr result
-        (λ fault. fault ≡ Fault.NotADesk → ¬ IsOld (state S.Store conn.old).now) }
+    ensures upgrades { HasCleanDisk (state S.Store conn.new) → Upgrades (state S.Store conn.old)
+        (state S.Store conn.new) result }
     ensures fault { IfErr result IsNotOpened }
 {
     match SqlKeep::upgrade_over(conn) {
@@ -51,16 +43,8 @@ fn upgrade_over<S: Alter>(conn: &mut Connection<S>) -> Result<(), Fault>
 pub fn upgrade<S: Alter>(keep: SqlKeep<S>) -> (SqlKeep<S>, Result<(), Fault>)
     ensures going { result.0.stopped ≡ false }
     ensures clean { HasCleanDisk (state S.Store result.0.connection) → HasCleanDisk (state S.Store keep.connection) }
-    ensures version { HasCleanDisk (state S.Store result.0.connection)
-        → OnOk result.1 (IsOld (state S.Store keep.connection).now ⊎ IsCurrent (state S.Store keep.connection).now) }
-    ensures made { HasCleanDisk (state S.Store result.0.connection) → OnOk result.1
-        ((x : Content) → HoldsOld (state S.Store keep.connection).now x
-        → Holds (state S.Store result.0.connection).now (upgraded x)) }
-    ensures same { HasCleanDisk (state S.Store result.0.connection) → OnOk result.1
-        ((x : Content) → Holds (state S.Store keep.connection).now x → Holds
-        (state S.Store result.0.connection).now x) }
-    ensures desk { HasCleanDisk (state S.Store result.0.connection) → IfErr result.1
-        (λ fault. fault ≡ Fault.NotADesk → ¬ IsOld (state S.Store keep.connection).now) }
+    ensures upgrades { HasCleanDisk (state S.Store result.0.connection) → Upgrades (state S.Store keep.connection)
+        (state S.Store result.0.connection) result.1 }
     ensures fault { IfErr result.1 IsNotOpened }
 {
     let mut conn = keep.into_connection();

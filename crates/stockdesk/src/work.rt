@@ -1,6 +1,6 @@
 //! A session: work that is done on the desk that a keeper holds.
 
-ghost use Rattle.std.specs.Prelude.{◌≡◌, ◌≢◌, false, Err, IfErr, IsTrue, OnOk};
+ghost use Rattle.std.specs.Prelude.{◌≡◌, ◌≢◌, ◌⊎◌, false, Err, IfErr, IsTrue, OnOk};
 ghost use Rattle.desk.specs.Desk.{StaysStored};
 ghost use Rattle.stockdesk.specs.Sessions.{IsLeft, IsNoDesk};
 ghost use Rattle.stockdesk.specs.Work.{WorkCut, WorkDone, WorkInPart, WorkWhole};
@@ -77,6 +77,9 @@ pub fn session<K: Keep, R: Read, W: Write>(
     ensures cut { IfErr result.1 (λ fault. WorkInPart K.Keep work.now fault result.0 (K.holds keep) (K.has_tables keep)
         (IsLeft K.Keep keep result.0) (R.remaining reader.old) (R.remaining reader.new) (W.contents writer.old)
         (W.contents writer.new)) }
+    // what is of version 1 is told as that, and as nothing else but want of memory or the store
+    ensures old { K.is_honest result.0 → K.stopped keep ≡ false → K.is_old keep → (result.1 ≡ Err Fault.OldVersion)
+        ⊎ ((result.1 ≡ Err Fault.Memory) ⊎ (result.1 ≡ Err Fault.Store)) }
     ensures refused { IsTrue (K.stopped keep) → result ≡ (keep, Err Fault.Store) }
     ensures honest { K.is_honest result.0 → K.is_honest keep }
 {

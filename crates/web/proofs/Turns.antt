@@ -1,9 +1,9 @@
 -- One turn more of serving a connection, and how it ends.
-use Rattle.std.proofs.Common.{Err, IfErr, IfOk, Ok, OnErr, Result, drop, take, ◌≡◌, ◌≢◌, ◌∙◌, ◌+◌, ◌-◌, ◌^◌, ◌≤◌, Bool, true, ℕ, List, [], ◌∷◌, ◌++◌, Option, append-nil, ap, arith, inl, inr, length, min, refl, subst, sym}
+use Rattle.std.proofs.Common.{Err, IfErr, IfOk, Ok, OnErr, Result, ◌≡◌, ◌≢◌, ◌⊎◌, ◌∙◌, ◌+◌, ◌-◌, ◌^◌, ◌≤◌, Bool, true, ℕ, List, [], ◌∷◌, ◌++◌, Option, append-nil, ap, arith, inl, inr, min, refl, subst, sym}
 use Rattle.std.specs.Io.KnownBytes.{Appends, Consumes, IsAtEnd}
 use Rattle.std.specs.List.{AllByRecursion as Each}
 use Rattle.std.proofs.KnownBytes.{Appends-nil, Appends-trans, Consumes-nil, Consumes-trans}
-use Rattle.std.proofs.lemmas.List.{length-append, take-append-drop}
+use Rattle.std.proofs.lemmas.List.{length-append}
 use Rattle.book.specs.Good.{Good}
 use Rattle.book.specs.Rows.{Content}
 use Rattle.web.specs.Answers.{Answer, answer_bytes, answers_bytes, message_answer}
@@ -14,6 +14,7 @@ use Rattle.web.specs.Serving.{EndsCut, EndsShort, EndsWhole, IsCut, IsWhole, Ser
 use Rattle.web.specs.Turns.{AnswersOne, HasServed, Passes, wholes}
 use Rattle.web.specs.Web.{AnswersAll, Stand, plain}
 use Rattle.web.specs.declared.served.Ending.TheVariants.{BadMessage, Input}
+use Rattle.web.specs.declared.served.Served.{Served}
 use Rattle.web.specs.declared.served.WebFault.{WebFault}
 use Rattle.web.specs.declared.served.WebFault.TheVariants.{Memory, Read, Write}
 use Rattle.web.proofs.SomeParts.{some_parts}
@@ -69,8 +70,8 @@ module _ {H : Type 0} {L : List Content → Type 0} {old : Stand} {r w : Option 
 
   -- a read or the growth of what is held fails
   pub served_short : {new : Stand} {q p v : Option (List ℕ)} {held : List ℕ} {count : ℕ} (fault : WebFault) → HasServed H L old new r q w v held count
-      → (piece : List ℕ) × Consumes q p piece × (fault ≡ Read → HasNoMessage (held ++ piece)) → EndsShort fault H L old new r p w v
-  served_short {new} {q} {p} {v} {held} fault h (piece, more, none) =
+      → (piece : List ℕ) × Consumes q p piece × (fault ≡ Read → HasNoMessage (held ++ piece) ⊎ (2 ^ 64 - 1 ≤ count)) → EndsShort fault H L old new r p w v
+  served_short {new} {q} {p} {v} {held} {count} fault h (piece, more, none) =
       let left = some_parts (held ++ piece) in
       let passes = passes_on h.messages h.read held piece h.passes in
       record {
@@ -84,16 +85,25 @@ module _ {H : Type 0} {L : List Content → Type 0} {old : Stand} {r w : Option 
         serves = h.serves;
         writes = h.writes;
         almost = inl refl;
-        prompt = λ e. (refl, all_cut (held ++ piece) left.0 left.1 (none e));
+        told = λ e. refl;
+        unread = λ e. elim (none e) [ inl none_here ↦ inl (all_cut (held ++ piece) left.0 left.1 none_here) | inr most ↦ inr (omega (arith, most, h.counts)) ];
       }
 
 -- which bytes were read at a fault of the intake
-pub read_at : (fault : WebFault) (q p : Option (List ℕ)) (held new : List ℕ) → (fault ≢ Memory → Holds q p held new) → (fault ≡ Read → HasNoMessage new) → (piece : List ℕ) × Consumes q p piece
-    → (piece : List ℕ) × Consumes q p piece × (fault ≡ Read → HasNoMessage (held ++ piece))
-read_at Read q p held new holds none any =
-    let (piece, more, e) = holds (λ f. cc f) in (piece, more, λ f. subst HasNoMessage e (none refl))
-read_at Write q p held new holds none any = (any.0, any.1, λ f. absurd (cc f))
-read_at Memory q p held new holds none any = (any.0, any.1, λ f. absurd (cc f))
+pub read_at : (fault : WebFault) (q p : Option (List ℕ)) (held new : List ℕ) (most : Type 0) → (fault ≢ Memory → Holds q p held new) → (fault ≡ Read → HasNoMessage new)
+    → (piece : List ℕ) × Consumes q p piece → (piece : List ℕ) × Consumes q p piece × (fault ≡ Read → HasNoMessage (held ++ piece) ⊎ most)
+read_at Read q p held new most holds none any =
+    let (piece, more, e) = holds (λ f. cc f) in (piece, more, λ f. inl (subst HasNoMessage e (none refl)))
+read_at Write q p held new most holds none any = (any.0, any.1, λ f. absurd (cc f))
+read_at Memory q p held new most holds none any = (any.0, any.1, λ f. absurd (cc f))
+
+pub if_ok : {A E : Type 0} (r : Result A E) (P Q : A → Type 0) → IfOk r P → ((a : A) → P a → Q a) → IfOk r Q
+if_ok (Ok a) P Q h f = f a h
+if_ok (Err e) P Q h f = tt
+
+pub if_err : {A E : Type 0} (r : Result A E) (P Q : E → Type 0) → ((e : E) → P e → Q e) → IfErr r P → IfErr r Q
+if_err (Ok a) P Q f h = tt
+if_err (Err e) P Q f h = f e h
 
 -- what goes on from a fault, at a good ledger
 pub ends_cut : (fault : WebFault) (H : Type 0) (L : List Content → Type 0) (old new : Stand) (r p w v : Option (List ℕ)) → Good new.ledger → EndsShort fault H L old new r p w v → EndsCut fault H L old new r p w v
@@ -168,7 +178,8 @@ module _ {H G : Type 0} {L M : List Content → Type 0} {old mid new : Stand} {r
         serves = s.0;
         writes = Appends-trans w v u (answers_bytes h.serves.answers) begun h.writes writes;
         almost = inr (record { before = h.serves.answers; last = answer; begun = begun; left = rest; split = s.1; cut = cut; written_are = refl });
-        prompt = λ f. absurd (cc f);
+        told = λ f. absurd (f refl);
+        unread = λ f. absurd (cc f);
       }
 
 unread_here : (p : Option (List ℕ)) (all : List ℕ) → NoneComes all p → IsUnreadable all
@@ -212,25 +223,24 @@ module _ {H : Type 0} {L : List Content → Type 0} {old new : Stand} {r q p w v
         serves = s.0;
         writes = Appends-trans w v u (answers_bytes h.serves.answers) begun h.writes writes;
         almost = inr (record { before = h.serves.answers; last = message_answer; begun = begun; left = rest; split = s.1; cut = cut; written_are = refl });
-        prompt = λ f. absurd (cc f);
+        told = λ f. absurd (f refl);
+        unread = λ f. absurd (cc f);
       }
+
+module _ {H : Type 0} {L : List Content → Type 0} {old new : Stand} {r q w v : Option (List ℕ)} {held : List ℕ} {count : ℕ} (result : Result Served WebFault) (h : HasServed H L old new r q w v held count) (p u : Option (List ℕ)) (all : List ℕ) where
+  pub ended_unreadable : Holds q p held all → NoneComes all p → IfOk result (λ served. (served ≡ record { answered = min (count + 1) (2 ^ 64 - 1); ending = BadMessage }) × Appends v u (answer_bytes message_answer))
+      → IfOk result (λ served. EndsWhole served H L old new r p w u)
+  ended_unreadable holds none ends =
+      if_ok result _ _ ends (λ served one. subst (λ (s : Served). EndsWhole s H L old new r p w u) (sym one.0) (unreadable_served h all holds none one.1))
+
+  pub cut_unreadable : Holds q p held all → NoneComes all p
+      → IfErr result (λ fault. (fault ≡ Write) × (begun : List ℕ) × (left : List ℕ) × (answer_bytes message_answer ≡ begun ++ left) × Appends v u begun) → IfErr result (λ fault. EndsShort fault H L old new r p w u)
+  cut_unreadable holds none cut =
+      if_err result _ _ (λ fault (is, begun, left, split, writes). subst (λ (f : WebFault). EndsShort f H L old new r p w u) (sym is) (unreadable_cut h all begun left holds none split writes)) cut
 
 pub on_err : {A E : Type 0} (r : Result A E) (P Q : Type 0) → OnErr r P → (P → Q) → OnErr r Q
 on_err (Ok a) P Q h f = tt
 on_err (Err e) P Q h f = f h
-
-pub if_ok : {A E : Type 0} (r : Result A E) (P Q : A → Type 0) → IfOk r P → ((a : A) → P a → Q a) → IfOk r Q
-if_ok (Ok a) P Q h f = f a h
-if_ok (Err e) P Q h f = tt
-
-pub if_err : {A E : Type 0} (r : Result A E) (P Q : E → Type 0) → ((e : E) → P e → Q e) → IfErr r P → IfErr r Q
-if_err (Ok a) P Q f h = tt
-if_err (Err e) P Q f h = f e h
-
-pub begun_of : {A E : Type 0} (result : Result A E) (old new : Option (List ℕ)) (text : List ℕ) → OnErr result ((count : ℕ) × (count ≤ length text) × Appends old new (take count text))
-    → OnErr result ((begun : List ℕ) × (left : List ℕ) × (text ≡ begun ++ left) × Appends old new begun)
-begun_of (Ok a) old new text h = tt
-begun_of (Err e) old new text (count, fits, writes) = (take count text, drop count text, sym (take-append-drop count text), writes)
 
 -- a desk that is the same stays as it is
 pub stays_of : {K : Type 0} (H : K → Type 0) (L : K → List Content → Type 0) (is_stopped : K → Bool) (old new : DeskView K) → (H new.keep → H old.keep) → new ≡ old

@@ -74,14 +74,30 @@ fn answer_message<K: Keep, W: Write>(
     write_whole(writer, ready.as_bytes())
 }
 
-/// Writes the answer to what is no message.
-fn answer_unreadable<W: Write>(writer: &mut W) -> Result<(), WriteFault>
-    ensures whole { OnOk result (Appends (W.contents writer.old) (W.contents writer.new)
-        (answer_bytes message_answer)) }
-    ensures cut { OnErr result ((begun : List ℕ) × (left : List ℕ) × (answer_bytes message_answer ≡ begun ++ left)
-        × Appends (W.contents writer.old) (W.contents writer.new) begun) }
+/// One more, or the greatest count.
+fn one_more(count: u64) -> u64
+    ensures { result ≡ min (count + 1) (2 ^ 64 - 1) }
 {
-    write_whole(writer, Fixed::NoMessage.bytes())
+    count.saturating_add(1)
+}
+
+/// Writes the answer to what is no message, which is the last one.
+fn end_unreadable<W: Write>(writer: &mut W, answered: u64) -> Result<Served, WebFault>
+    ensures whole { IfOk result (λ served. (served ≡ record {
+      answered = min (answered + 1) (2 ^ 64 - 1);
+      ending = Ending.BadMessage;
+    })
+        × Appends (W.contents writer.old) (W.contents writer.new) (answer_bytes message_answer)) }
+    ensures cut { IfErr result (λ fault. (fault ≡ WebFault.Write) × (begun : List ℕ) × (left : List ℕ)
+        × (answer_bytes message_answer ≡ begun ++ left) × Appends (W.contents writer.old) (W.contents writer.new) begun) }
+{
+    match write_whole(writer, Fixed::NoMessage.bytes()) {
+        Ok(()) => Ok(Served {
+            answered: one_more(answered),
+            ending: Ending::BadMessage,
+        }),
+        Err(_) => Err(WebFault::Write),
+    }
 }
 
 /// Lets go of the first bytes.
@@ -92,18 +108,12 @@ fn let_go(held: &mut Vec<u8>, count: usize)
     held.drain(..count);
 }
 
-/// One more, or the greatest count.
-fn one_more(count: u64) -> u64
-    ensures { result ≡ min (count + 1) (2 ^ 64 - 1) }
-{
-    count.saturating_add(1)
-}
-
 /// Answers the messages of a connection in their order, each before the next is looked at, until the input ends or what
 /// comes is no message.
 ///
 /// What is written is the answers to all that was read, and `Served` has their count. After a fault it is a beginning
-/// of such: of the answers to what the desk has done at most the last is missing or cut. `stopped` is answered only
+/// of such: the answers to all that the desk has done, of which only a failing write leaves out the last one or its end.
+/// A connection of 2^64 - 1 messages ends as one whose reader fails. `stopped` is answered only
 /// where the desk is stopped. Of a desk that was not stopped before, a stop then leaves the rows of its ledger or those
 /// after the command that was first answered `stopped`, and in every other case those of its ledger alone. A desk that
 /// was stopped before changes nothing, and answers as one that is stopped.
@@ -160,15 +170,7 @@ fn serve_all<K: Keep, R: Read, W: Write>(
                 let_go(&mut held, found.end);
                 answered = one_more(answered);
             }
-            Ok(Next::Unreadable) => {
-                let Ok(()) = answer_unreadable(writer) else {
-                    return Err(WebFault::Write);
-                };
-                return Ok(Served {
-                    answered: one_more(answered),
-                    ending: Ending::BadMessage,
-                });
-            }
+            Ok(Next::Unreadable) => return end_unreadable(writer, answered),
             Ok(Next::End) => {
                 return Ok(Served {
                     answered,
@@ -178,5 +180,5 @@ fn serve_all<K: Keep, R: Read, W: Write>(
             Err(fault) => return Err(fault),
         }
     }
-    Err(WebFault::Memory)
+    Err(WebFault::Read)
 }

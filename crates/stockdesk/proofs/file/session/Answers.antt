@@ -2,6 +2,7 @@ use Rattle.std.proofs.lemmas.Result.{on_ok_weaker}
 use Rattle.desk.proofs.Cuts.{of_error}
 use Rattle.keep.specs.Laws.{holds_tables}
 use Rattle.stockdesk.proofs.SessionParts.{starts_part, starts_whole}
+use Rattle.stockdesk.proofs.Versions.{is_of_version_1}
 use Rattle.stockdesk.proofs.file.session.Goals as goal
 
 pub returns-clause-whole : goal.returns-clause-whole
@@ -13,3 +14,8 @@ returns-clause-cut g c =
     of_error c.session.result.1 _ _
     (λ fault is s. starts_part _ _ _ _ c.in_ok-keep.ensures.opened c.session.ensures.honest (λ x. holds_tables _ x) fault _ _ s)
     c.session.ensures.cut
+
+pub returns-clause-old : goal.returns-clause-old
+returns-clause-old g c clean x row there one version =
+    c.session.ensures.old clean c.in_ok-keep.ensures.opened.going
+    (is_of_version_1 _ x row (c.in_ok-keep.ensures.old (c.session.ensures.honest clean) x there) one version)

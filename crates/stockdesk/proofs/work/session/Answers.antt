@@ -1,4 +1,4 @@
-use Rattle.std.proofs.Common.{subst, sym}
+use Rattle.std.proofs.Common.{Err, ap, subst, sym}
 use Rattle.std.proofs.Math.Logic.{inl, inr}
 use Rattle.std.proofs.KnownBytes.{Keeps-refl}
 use Rattle.desk.proofs.Cuts.{of_error}
@@ -21,3 +21,11 @@ returns-clause-cut g c =
     (inr (cut_by g.K.Keep c.work_on-ended.result fault c.work_on-ended.new.desk.keep _ c.in-Ok.desk.ledger c.work_on-ended.new.desk.ledger _ is
     opened.good (λ honest. opened.rows (ended.honest honest)) cut ended.desk ended.stopped ended.going ended.stored)))
     ended.cut
+
+pub returns-in-Err-clause-old : goal.returns-in-Err-clause-old
+returns-in-Err-clause-old g c honest going old =
+    elim (c.in-Err.ensures.only_old honest going old) [ inl e ↦ inl (ap (λ f. Err f) e) | inr more ↦ inr (elim more [ inl e ↦ inl (ap (λ f. Err f) e) | inr e ↦ inr (ap (λ f. Err f) e) ]) ]
+
+pub returns-clause-old : goal.returns-clause-old
+returns-clause-old g c honest going old =
+    absurd (c.in-Ok.ensures.not_old (c.work_on-ended.ensures.honest (subst (λ keep. g.K.Keep.is_honest keep) c.into_keep.ensures honest)) going old)
