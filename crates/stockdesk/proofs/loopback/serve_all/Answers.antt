@@ -12,7 +12,7 @@ pub returns-then-is_stopped-clause-cut : goal.returns-then-is_stopped-clause-cut
 returns-then-is_stopped-clause-cut g c =
     let pass = passes g.L.Listen.comes g.L.Listen.closes g.L.Reader.Read.remaining g.L.Writer.Write.contents _ _ _ _ _ _ _ c.in-Ok.ensures c.close.ensures in
     serves_so_far _ _ _ _ _ _ _ _ (search rules) refl
-    (serves_one _ _ _ _ _ _ _ _ _ _ _ _ _ c.loop-turn.invariant.going c.loop-turn.invariant.served pass c.serve_one.ensures.served)
+    (serves_one _ _ _ _ _ _ _ _ _ _ _ _ _ _ c.loop-turn.invariant.going c.loop-turn.invariant.served pass c.serve_one.ensures.served)
 
 pub loop-turn-preserved : goal.loop-turn-preserved
 loop-turn-preserved g c =
@@ -21,6 +21,6 @@ loop-turn-preserved g c =
     record {
       going = going;
       served = goes_on _ _ _ _ _ _ going
-          (serves_one _ _ _ _ _ _ _ _ _ _ _ _ _ c.loop-turn.invariant.going c.loop-turn.invariant.served pass c.serve_one.ensures.served);
+          (serves_one _ _ _ _ _ _ _ _ _ _ _ _ _ _ c.loop-turn.invariant.going c.loop-turn.invariant.served pass c.serve_one.ensures.served);
       honest = λ h. c.loop-turn.invariant.honest (c.serve_one.ensures.honest h);
     }
