@@ -175,6 +175,7 @@ impl<K: Ord, V> InOrder<K, V> {
         requires { 1 ≤ self.old.room }
         ensures entries { self.new.entries ≡ insert_entry K.cmp self.old.entries key value }
         ensures room { self.old.room ≤ self.new.room + 1 }
+        ensures no_more { self.new.room ≤ self.old.room }
         ensures rising { IsStrictlySortedBy K.cmp (keys_of self.old.entries) }
     {
         match self.get_mut(&key) {
