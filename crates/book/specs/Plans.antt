@@ -103,3 +103,8 @@ pub record HasRoomFor (book : BookView) (plan : PlanView) : Type 0 where
 -- The room that there was for any plan is still there.
 abbrev pub RoomStays : BookView → BookView → Type 0
 RoomStays old new = (plan : PlanView) → HasRoomFor old plan → HasRoomFor new plan
+
+-- No memory is taken for moves and kept keys to come: there is no more room for them than there was.
+pub record NoRoomGrows (old new : BookView) : Type 0 where
+  pub moves : new.room.moves ≤ old.room.moves
+  pub kept : new.room.kept ≤ old.room.kept

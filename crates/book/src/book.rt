@@ -6,12 +6,12 @@ ghost use Rattle.book.specs.Good.{Good};
 ghost use Rattle.book.specs.Ledger.{new_ledger, field_named, kept_under, order_numbered, Ledger, is_transfer, open_state, places, insert_in_order, open_orders};
 ghost use Rattle.book.specs.Next.{accept, next};
 ghost use Rattle.book.specs.Outcomes.{article_total};
-ghost use Rattle.book.specs.Plans.{Fits, HasRoomFor, RoomStays, Leaves};
+ghost use Rattle.book.specs.Plans.{Fits, HasRoomFor, RoomStays, NoRoomGrows, Leaves};
 ghost use Rattle.book.specs.RunningNumbers.{IsUpToDate, with_entries};
 ghost use Rattle.book.specs.Model.{field_of, kept_of, order_of, move_of};
 ghost use Rattle.std.specs.Cmp.Lexicographic.{slice_cmp};
 ghost use Rattle.std.specs.Ordering.{nat_cmp, is_lt};
-ghost use Rattle.std.specs.Prelude.{◌≡◌, IfSome, MatchOption, find, OnErr, OnOk, ◌<◌, ◌≤◌, ◌+◌, None, ℕ, List, IsSomeAnd, IsTrue, if◌then◌else◌, length, map, option_map};
+ghost use Rattle.std.specs.Prelude.{◌≡◌, IfSome, MatchOption, find, OnErr, OnOk, ◌<◌, ◌≤◌, ◌+◌, ◌-◌, None, ℕ, List, IsSomeAnd, IsTrue, if◌then◌else◌, length, map, option_map};
 ghost use Rattle.std.specs.Str.{bytes_eq};
 ghost use Rattle.std.specs.Vec.{vec_capacity, vec_len};
 ghost use Rattle.words.specs.declared.command.Command.{Command};
@@ -89,7 +89,8 @@ impl Model for Book {
 impl Book {
     /// The book of a new desk: its clock stands at 0, and nothing else is in it. Takes no memory.
     pub fn new(alloc: Global) -> Book
-        ensures { result.ledger ≡ new_ledger }
+        ensures ledger { result.ledger ≡ new_ledger }
+        ensures room { result.room ≡ record { fields = 0; moves = 0; orders = 0; kept = 0 } }
     {
         Book {
             clock: Moment::first(),
@@ -147,8 +148,9 @@ impl Book {
 fn insert_kept(kept: &mut InOrder<Key, KeptEntry>, key: Key, entry: KeptEntry)
     requires room { 1 ≤ kept.old.room }
     requires absent { find (λ k. bytes_eq k.key key) (map kept_of kept.old.entries) ≡ None }
-    ensures { map kept_of kept.new.entries ≡ insert_in_order (λ a b. is_lt (slice_cmp nat_cmp a.key b.key))
+    ensures kept { map kept_of kept.new.entries ≡ insert_in_order (λ a b. is_lt (slice_cmp nat_cmp a.key b.key))
         (kept_of (key, entry)) (map kept_of kept.old.entries) }
+    ensures room { kept.new.room ≤ kept.old.room }
 {
     kept.insert(key, entry);
 }
@@ -170,13 +172,12 @@ fn adopt_fields(
 /// Puts the move in, if there is one.
 fn adopt_move(moves: &mut Vec<MoveEntry>, moved: Option<MoveEntry>)
     requires { vec_len moves.old < vec_capacity moves.old }
-    ensures { (A : Ledger) (c : Command) → map move_of moves.old.items ≡ A.moves
+    ensures moves { (A : Ledger) (c : Command) → map move_of moves.old.items ≡ A.moves
         → option_map move_of moved ≡ move_made (places A + 1) c → map move_of moves.new.items ≡ (next A c).moves }
+    ensures room { vec_capacity moves.new - vec_len moves.new ≤ vec_capacity moves.old - vec_len moves.old }
 {
     if let Some(entry) = moved {
-        let Ok(()) = moves.push(entry) else {
-            unreachable!()
-        };
+        moves.push_reserved(entry);
     }
 }
 
@@ -236,6 +237,7 @@ impl Book {
         ensures even { (n : ℕ) (article : List ℕ) → Settles plan.request.command n
             → IsSomeAnd (order_numbered self.old.ledger n) (λ o. IsTrue (is_transfer o))
             → article_total self.new.ledger article ≡ article_total self.old.ledger article }
+        ensures room_used { NoRoomGrows self.old self.new }
     {
         let parts = plan.into_parts();
         let (key, place, words) = (parts.key, parts.place, parts.words);

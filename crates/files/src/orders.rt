@@ -94,6 +94,13 @@ impl OpenOrder {
         })
     }
 
+    /// Whether it is the order's key.
+    fn has_key(&self, key: &Key) -> bool
+        ensures { IsTrue result ↔ (self.now.key ≡ key.now) }
+    {
+        self.key.as_bytes() == key.as_bytes()
+    }
+
     /// Whether the row has the order's number and its end.
     fn agrees(&self, row: &Row) -> bool
         ensures { IsTrue result ↔ ((row.now.number ≡ self.now.number) × (row.now.until ≡ self.now.until)) }
@@ -224,7 +231,7 @@ impl Intake for Orders {
             self.last = Some(OpenOrder::begin(alloc, &row)?);
             return Ok(true);
         };
-        if order.key.as_bytes() == row.key.as_bytes() {
+        if order.has_key(&row.key) {
             return self.go_on(order, &row);
         }
         match self.done.push(order.into_request()) {

@@ -57,7 +57,7 @@ impl Book {
             Command::Open { .. } | Command::Transfer { .. } => self.check_opening(command),
             Command::More { .. } => self.check_change(command),
             Command::Use { .. } | Command::Release { .. } => self.check_change(command),
-            Command::Commit { number } => self.open_order(number).err(),
+            Command::Commit { number } => self.check_commit(number),
             Command::Abort { number } => self.loose_order(number).err(),
             Command::Firm { number } => self.check_firm(number),
             Command::Expire { now } => self.check_expire(now),
@@ -223,6 +223,13 @@ impl Book {
             }
             Some(_) => None,
         }
+    }
+
+    /// It takes the place that its order has set aside.
+    fn check_commit(&self, number: OrderNo) -> Option<Failure>
+        ensures { FirstFailure (checks self.now.ledger (command.Commit number)) result }
+    {
+        self.open_order(number).err()
     }
 
     fn check_firm(&self, number: OrderNo) -> Option<Failure>

@@ -60,7 +60,8 @@ impl Book {
         ensures order { IsStrictlySortedBy name_cmp (map (λ f. f.name) self.now.ledger.fields) }
     {
         let entry = self.fields.nth(index)?;
-        Some(show(entry.0, &entry.1))
+        let view = show(entry.0, &entry.1);
+        Some(view)
     }
 
     /// The order of that number, or `None` exactly where there is none.

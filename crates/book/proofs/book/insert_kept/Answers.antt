@@ -5,5 +5,5 @@ use Rattle.book.proofs.book.insert_kept.Goals as goal
 pub insert-requires-clause-absent : goal.insert-requires-clause-absent
 insert-requires-clause-absent c = kept_absent c.args.key c.args.kept.now.entries c.requires.absent
 
-pub returns : goal.returns
-returns c = ap (map kept_of) c.insert.ensures.entries ∙ kept_inserted c.args.key c.args.entry c.args.kept.now.entries c.requires.absent
+pub returns-clause-kept : goal.returns-clause-kept
+returns-clause-kept c = ap (map kept_of) c.insert.ensures.entries ∙ kept_inserted c.args.key c.args.entry c.args.kept.now.entries c.requires.absent

@@ -44,3 +44,6 @@ returns-clause-even c n article commits transfer =
     let r = c.args.plan.request in
     subst (λ (B : Ledger). article_total B article ≡ article_total A article) (sym (returns-clause-next c))
     (total_answer A r n (Done (places A + 1)) (accept A r) article (good c) commits (accepted_answered A r c.requires.fits.accepted) transfer)
+
+pub returns-clause-room_used : goal.returns-clause-room_used
+returns-clause-room_used c = rw (← c.self.view_is) (record { moves = c.adopt_move.ensures.room; kept = c.insert_kept.ensures.room })
