@@ -176,13 +176,14 @@ fn create<S: Alter>(conn: &mut Connection<S>) -> Result<(), Error>
 impl<S: Alter> SqlKeep<S> {
     /// Makes the seven tables and the one row of `desk` in one transaction. A store in which a table or anything else
     /// is declared already is refused with `Store` and left as it is. A stop leaves what was before or the whole new
-    /// desk.
+    /// desk. The connection is set as it was.
     pub fn create_over(conn: &mut Connection<S>) -> Result<(), KeepFault>
         requires { conn.old.in_transaction ≡ false }
         ensures idle { conn.new.in_transaction ≡ false }
         ensures taken { ¬ ((state S.Store conn.old).now.schema ≡ no_schema) → (result ≡ Err KeepFault.Store)
             × (conn.new ≡ conn.old) }
         ensures fault { IfErr result (λ fault. (fault ≡ KeepFault.Memory) ⊎ (fault ≡ KeepFault.Store)) }
+        ensures settings { conn.new.step_limit ≡ conn.old.step_limit }
         ensures clean { HasCleanDisk (state S.Store conn.new) → HasCleanDisk (state S.Store conn.old) }
         ensures made { HasCleanDisk (state S.Store conn.new) → OnOk result
             (IsSettled (λ db. Holds db new_content) (state S.Store conn.new)) }

@@ -1,6 +1,6 @@
 //! From a stop to the next open.
 
-ghost use Rattle.std.specs.Prelude.{◌≡◌, ◌≢◌, List, [], ◌∷◌, false, IsTrue, IfSome, IfErr, IfOk, OnOk, OnErr, Err};
+ghost use Rattle.std.specs.Prelude.{◌≡◌, ◌≢◌, List, [], ◌∷◌, false, None, IsTrue, IfSome, IfErr, IfOk, OnOk, OnErr, Err};
 ghost use Rattle.std.specs.List.{AllByRecursion};
 ghost use Rattle.sqlite.specs.Held.{AreDatabases};
 ghost use Rattle.sqlite.specs.State.{HasCleanDisk};
@@ -42,13 +42,16 @@ fn over_files<D: Disk + Drop>(conn: Connection<FileStore<D>>) -> SqlKeep<FileSto
 }
 
 /// What the next open finds on the two files of a keeper after a power cut, or None where it fails. It finds one of the
-/// contents that a stop could leave.
+/// contents that a stop could leave, by a connection that is set as a new one.
 fn cut_and_open<D: Crash + Drop>(
     alloc: Global,
     keep: SqlKeep<FileStore<D>>,
     options: Options,
 ) -> Option<Connection<FileStore<D>>>
     ensures idle { IfSome result (λ again. again.in_transaction ≡ false) }
+    ensures settings { IfSome result (λ again. again.step_limit ≡ None) }
+    ensures honest { IfSome result (λ again. HasCleanDisk (file_state again)
+        → HasCleanDisk (file_state keep.connection)) }
     ensures open { IfSome result (λ again. HasCleanDisk (file_state again) → IsTrue (file_state again).is_open) }
     ensures left { IfSome result (λ again. HasCleanDisk (file_state again)
         → ∥ (file_state keep.connection).may_leave (file_state again).now.trees ∥₁) }
@@ -67,13 +70,17 @@ fn cut_and_open<D: Crash + Drop>(
 }
 
 /// A keeper over what the next open finds on the two files of a keeper after a power cut, or None where the open fails.
-/// It holds one of the contents that a stop could leave, and a stop leaves that alone.
+/// It holds one of the contents that a stop could leave, and a stop leaves that alone; its connection is set as a new
+/// one. A disk that is honest after the open was so before the cut.
 pub fn reopen<D: Crash + Drop>(
     alloc: Global,
     keep: SqlKeep<FileStore<D>>,
     options: Options,
 ) -> Option<SqlKeep<FileStore<D>>>
     ensures going { IfSome result (λ again. again.stopped ≡ false) }
+    ensures settings { IfSome result (λ again. again.connection.step_limit ≡ None) }
+    ensures honest { IfSome result (λ again. HasCleanDisk (file_state again.connection)
+        → HasCleanDisk (file_state keep.connection)) }
     // of whatever version, the trees are some that a stop could leave
     ensures left { IfSome result (λ again. HasCleanDisk (file_state again.connection)
         → ∥ (file_state keep.connection).may_leave (file_state again.connection).now.trees ∥₁) }
@@ -88,7 +95,8 @@ pub fn reopen<D: Crash + Drop>(
 }
 
 /// A keeper over what the next open finds on the two files of a keeper after a power cut, and what it loads: one of the
-/// contents that a stop could leave, and never `NotADesk` where each of them is a desk. None where the open fails.
+/// contents that a stop could leave, and never `NotADesk` where each of them is a desk. None where the open fails. Its
+/// connection is set as a new one. A disk that is honest after the load was so before the cut.
 pub fn reopen_and_load<D: Crash + Drop>(
     alloc: Global,
     keep: SqlKeep<FileStore<D>>,
@@ -96,6 +104,9 @@ pub fn reopen_and_load<D: Crash + Drop>(
 ) -> Option<(SqlKeep<FileStore<D>>, Result<Tables, KeepFault>)>
     ensures going { IfSome result (λ r. OnOk r.1 (r.0.stopped ≡ false)) }
     ensures stopped { IfSome result (λ r. OnErr r.1 (IsTrue r.0.stopped)) }
+    ensures settings { IfSome result (λ r. r.0.connection.step_limit ≡ None) }
+    ensures honest { IfSome result (λ r. HasCleanDisk (file_state r.0.connection)
+        → HasCleanDisk (file_state keep.connection)) }
     ensures held { IfSome result (λ r. HasCleanDisk (file_state r.0.connection)
         → IfOk r.1 (λ tables. Holds (file_state r.0.connection).now (content_of tables))) }
     ensures found { IfSome result (λ r. HasCleanDisk (file_state r.0.connection) → (these : List Content)
@@ -113,14 +124,15 @@ pub fn reopen_and_load<D: Crash + Drop>(
 }
 
 /// A keeper over the file of this path, whose bytes at the start are named by `start`: it holds what they hold, and a
-/// stop leaves that alone. A file that is not there is made, without tables. The error is that of the open, and none of
-/// a statement.
+/// stop leaves that alone; its connection is set as a new one. A file that is not there is made, without tables. The
+/// error is that of the open, and none of a statement.
 pub fn open_path<S: Start>(
     rt: &HostRuntime,
     path: &str,
     start: S,
 ) -> Result<SqlKeep<FileStore<FileFrom<S>>>, Error>
     ensures going { IfOk result (λ keep. keep.stopped ≡ false) }
+    ensures settings { IfOk result (λ keep. keep.connection.step_limit ≡ None) }
     ensures found { IfOk result (λ keep. HasCleanDisk (file_state keep.connection) → (trees : Trees) (x : Content)
         → HoldsDatabase (image_at S.Start) trees → IsContent trees x → Holds (file_state keep.connection).now x) }
     ensures old { IfOk result (λ keep. HasCleanDisk (file_state keep.connection) → (trees : Trees) (x : Content)

@@ -103,12 +103,13 @@ impl<S: Alter> SqlKeep<S> {
     /// Makes a store of version 2 of one of version 1, in one transaction: the empty table `firm`, and version 2 in the
     /// row of `desk`. All other rows are as they were, and are not checked. A store of version 2 is left alone. Any
     /// other is `NotADesk` and left as it is; `Store` where its tables are not laid out as they were made. A stop
-    /// leaves what was before or the whole of version 2.
+    /// leaves what was before or the whole of version 2. The connection is set as it was.
     pub fn upgrade_over(conn: &mut Connection<S>) -> Result<(), KeepFault>
         requires { conn.old.in_transaction ≡ false }
         ensures idle { conn.new.in_transaction ≡ false }
         ensures fault { IfErr result (λ fault. (fault ≡ KeepFault.NotADesk)
             ⊎ ((fault ≡ KeepFault.Memory) ⊎ (fault ≡ KeepFault.Store))) }
+        ensures settings { conn.new.step_limit ≡ conn.old.step_limit }
         ensures clean { HasCleanDisk (state S.Store conn.new) → HasCleanDisk (state S.Store conn.old) }
         ensures version { HasCleanDisk (state S.Store conn.new) → OnOk result
             (IsOld (state S.Store conn.old).now ⊎ IsCurrent (state S.Store conn.old).now) }

@@ -1,17 +1,12 @@
-use Rattle.std.proofs.Common.{refl, rules}
+use Rattle.std.proofs.Common.{IfOk, subst}
+use Rattle.book.specs.Answers.{Answers}
 use Rattle.desk.proofs.desk.Desk.call.Goals as goal
 
-pub returns-in-Ok-Refused-clause-answer : goal.returns-in-Ok-Refused-clause-answer
-returns-in-Ok-Refused-clause-answer g c = search rules
+-- the plan's request is the one that is called
+pub returns-in-Ok-Accept-clause-answer : goal.returns-in-Ok-Accept-clause-answer
+returns-in-Ok-Accept-clause-answer g c =
+    let planned = rw c.in-Ok-Accept.field-0-is at c.in-Ok-Accept.ensures.planned in
+    subst (λ r. IfOk c.carry_out.result (λ reply. Answers c.args.self.now.ledger r reply c.carry_out.new.self.ledger)) planned.0 c.carry_out.ensures.answer
 
-pub returns-in-Ok-Refused-clause-going : goal.returns-in-Ok-Refused-clause-going
-returns-in-Ok-Refused-clause-going g c = c.in-Ok-Refused.ensures.going
-
-pub returns-in-Ok-Refused-clause-stored : goal.returns-in-Ok-Refused-clause-stored
-returns-in-Ok-Refused-clause-stored g c = search rules
-
-pub returns-in-Ok-Refused-clause-others : goal.returns-in-Ok-Refused-clause-others
-returns-in-Ok-Refused-clause-others g c = λ no. refl
-
-pub returns-in-Ok-Refused-clause-honest : goal.returns-in-Ok-Refused-clause-honest
-returns-in-Ok-Refused-clause-honest g c = λ honest. honest
+pub returns-in-Ok-Accept-clause-going : goal.returns-in-Ok-Accept-clause-going
+returns-in-Ok-Accept-clause-going g c = c.carry_out.ensures.going

@@ -12,15 +12,16 @@ returns-in-Ok-of_tables-clause-good g c =
 
 pub returns-in-Ok-of_tables-clause-nothing_else : goal.returns-in-Ok-of_tables-clause-nothing_else
 returns-in-Ok-of_tables-clause-nothing_else g c honest A x good rows held =
+    let found : IsRowsOf c.in-Ok-of_tables.book.ledger (content_of c.in-Ok.tables) = subst (IsRowsOf c.in-Ok-of_tables.book.ledger) (cc) c.in-Ok-of_tables.ensures.ok.1 in
     told_by_rows c.in-Ok-of_tables.book.ledger A x c.in-Ok-of_tables.ensures.ok.0 good
-    (subst (IsRowsOf c.in-Ok-of_tables.book.ledger) (c.in-Ok.ensures.one honest x held) c.in-Ok-of_tables.ensures.ok.1) rows
+    (subst (IsRowsOf c.in-Ok-of_tables.book.ledger) (c.in-Ok.ensures.one honest x held) found) rows
 
 pub invariant_of-result : goal.invariant_of-result
 invariant_of-result g c = record {
   good = c.in-Ok-of_tables.ensures.ok.0;
   stored = λ going honest. record {
     rows = content_of c.in-Ok.tables;
-    are_rows = c.in-Ok-of_tables.ensures.ok.1;
+    are_rows = subst (IsRowsOf c.in-Ok-of_tables.book.ledger) (cc) c.in-Ok-of_tables.ensures.ok.1;
     held = c.in-Ok.ensures.content honest;
     alone = c.in-Ok.ensures.alone honest (content_of c.in-Ok.tables) (c.in-Ok.ensures.content honest);
   };
@@ -29,19 +30,22 @@ invariant_of-result g c = record {
 pub returns-in-Ok-of_tables-clause-stored : goal.returns-in-Ok-of_tables-clause-stored
 returns-in-Ok-of_tables-clause-stored g c honest = record {
   rows = content_of c.in-Ok.tables;
-  are_rows = c.in-Ok-of_tables.ensures.ok.1;
+  are_rows = subst (IsRowsOf c.in-Ok-of_tables.book.ledger) (cc) c.in-Ok-of_tables.ensures.ok.1;
   held = (c.in-Ok.ensures.same honest (content_of c.in-Ok.tables)).1 (c.in-Ok.ensures.content honest);
   alone = c.in-Ok.ensures.alone honest (content_of c.in-Ok.tables) (c.in-Ok.ensures.content honest);
 }
 
 pub returns-in-Ok-of_tables-clause-rows : goal.returns-in-Ok-of_tables-clause-rows
 returns-in-Ok-of_tables-clause-rows g c honest x held =
-    subst (IsRowsOf c.in-Ok-of_tables.book.ledger) (c.in-Ok.ensures.one honest x held) c.in-Ok-of_tables.ensures.ok.1
+    let found : IsRowsOf c.in-Ok-of_tables.book.ledger (content_of c.in-Ok.tables) = subst (IsRowsOf c.in-Ok-of_tables.book.ledger) (cc) c.in-Ok-of_tables.ensures.ok.1 in
+    subst (IsRowsOf c.in-Ok-of_tables.book.ledger) (c.in-Ok.ensures.one honest x held) found
 
 pub returns-in-Err-Damaged-clause-nothing_else : goal.returns-in-Err-Damaged-clause-nothing_else
 returns-in-Err-Damaged-clause-nothing_else g c honest A x good rows held =
-    absurd (c.in-Err-Damaged.ensures.damaged c.in-Err-Damaged.field-0-is A good (subst (IsRowsOf A) (sym (c.in-Ok.ensures.one honest x held)) rows))
+    let found : IsRowsOf A (content_of c.in-Ok.tables) = subst (IsRowsOf A) (sym (c.in-Ok.ensures.one honest x held)) rows in
+    absurd (c.in-Err-Damaged.ensures.damaged c.in-Err-Damaged.field-0-is A good (subst (IsRowsOf A) (cc) found))
 
 pub returns-in-Err-Damaged-clause-damaged : goal.returns-in-Err-Damaged-clause-damaged
 returns-in-Err-Damaged-clause-damaged g c is honest x held A good rows =
-    c.in-Err-Damaged.ensures.damaged c.in-Err-Damaged.field-0-is A good (subst (IsRowsOf A) (sym (c.in-Ok.ensures.one honest x held)) rows)
+    let found : IsRowsOf A (content_of c.in-Ok.tables) = subst (IsRowsOf A) (sym (c.in-Ok.ensures.one honest x held)) rows in
+    c.in-Err-Damaged.ensures.damaged c.in-Err-Damaged.field-0-is A good (subst (IsRowsOf A) (cc) found)
