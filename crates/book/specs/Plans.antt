@@ -104,7 +104,9 @@ pub record HasRoomFor (book : BookView) (plan : PlanView) : Type 0 where
 abbrev pub RoomStays : BookView → BookView → Type 0
 RoomStays old new = (plan : PlanView) → HasRoomFor old plan → HasRoomFor new plan
 
--- No memory is taken for moves and kept keys to come: there is no more room for them than there was.
+-- No memory is taken for entries to come: there is no more room for any of them than there was.
 pub record NoRoomGrows (old new : BookView) : Type 0 where
+  pub fields : new.room.fields ≤ old.room.fields
   pub moves : new.room.moves ≤ old.room.moves
+  pub orders : new.room.orders ≤ old.room.orders
   pub kept : new.room.kept ≤ old.room.kept

@@ -161,7 +161,8 @@ fn adopt_fields(
     changed: &InOrder<FieldName, FieldEntry>,
 )
     requires { length changed.now.entries ≤ fields.old.room }
-    ensures { fields.new.entries ≡ with_entries changed.now.entries fields.old.entries }
+    ensures fields { fields.new.entries ≡ with_entries changed.now.entries fields.old.entries }
+    ensures room { fields.new.room ≤ fields.old.room }
 {
     for place in 0..changed.len() {
         let (name, entry) = changed.entry_at(place);
@@ -184,8 +185,9 @@ fn adopt_move(moves: &mut Vec<MoveEntry>, moved: Option<MoveEntry>)
 /// Puts the order in that the command makes, or else aborts those that expire.
 fn adopt_orders(orders: &mut InOrder<OrderNo, OrderEntry>, made: Option<Order>, expired: &[OrderNo])
     requires room { 1 ≤ orders.old.room }
-    ensures { (A : Ledger) (c : Command) → Good A → Leaves A c (option_map order_of made) expired.now
+    ensures orders { (A : Ledger) (c : Command) → Good A → Leaves A c (option_map order_of made) expired.now
         → map order_of orders.old.entries ≡ A.orders → map order_of orders.new.entries ≡ (next A c).orders }
+    ensures room { orders.new.room ≤ orders.old.room }
 {
     match made {
         Some(order) => orders.put(order.0, order.1),

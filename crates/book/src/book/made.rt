@@ -379,7 +379,8 @@ fn expiring(alloc: Global, orders: &[Order], now: Moment) -> Result<Vec<OrderNo>
 
 /// The order of that number is aborted, if there is one.
 fn abort(orders: &mut InOrder<OrderNo, OrderEntry>, number: OrderNo)
-    ensures { map order_of orders.new.entries ≡ abort_one (map order_of orders.old.entries) number }
+    ensures aborted { map order_of orders.new.entries ≡ abort_one (map order_of orders.old.entries) number }
+    ensures room { orders.new.room ≡ orders.old.room }
 {
     if let Some(order) = orders.get_mut(&number) {
         order.state = State::Aborted;
@@ -388,7 +389,8 @@ fn abort(orders: &mut InOrder<OrderNo, OrderEntry>, number: OrderNo)
 
 /// The orders of these numbers are aborted.
 pub(super) fn abort_all(orders: &mut InOrder<OrderNo, OrderEntry>, numbers: &[OrderNo])
-    ensures { map order_of orders.new.entries ≡ abort_all numbers.now (map order_of orders.old.entries) }
+    ensures aborted { map order_of orders.new.entries ≡ abort_all numbers.now (map order_of orders.old.entries) }
+    ensures room { orders.new.room ≡ orders.old.room }
 {
     for number in numbers {
         abort(orders, *number);

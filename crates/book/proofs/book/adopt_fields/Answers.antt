@@ -16,4 +16,5 @@ loop-place-preserved c =
       put = c.put.ensures.entries ∙ ap (λ es. insert_entry name_cmp es x.0 x.1) c.loop-place.invariant.put
           ∙ sym (ap (λ xs. with_entries xs c.args.fields.now.entries) (read-step changed i x c.entry_at.ensures) ∙ fold-append (λ es e. insert_entry name_cmp es e.0 e.1) c.args.fields.now.entries (take i changed) (x ∷ []));
       room = omega arith;
+      no_more = omega arith;
     }

@@ -22,7 +22,7 @@ put c =
     let A : Ledger = c.args.self.now.ledger in
     let plan = c.args.plan in
     let old = c.self.inside.fields.entries in
-    let is = c.adopt_fields.ensures ∙ ap (λ es. with_entries es old) (ap (λ (p : PlanView). p.fields) c.into_parts-parts.ensures) in
+    let is = c.adopt_fields.ensures.fields ∙ ap (λ es. with_entries es old) (ap (λ (p : PlanView). p.fields) c.into_parts-parts.ensures) in
     let done = adopted A plan old (good c) (good_after c) c.requires.fits (ap (λ (v : BookView). v.ledger.fields) c.self.view_is) (subst (λ (v : BookView). Each (IsUpToDate v.ledger) old) c.self.view_is c.self.invariant.1) in
     (ap (map field_of) is ∙ done.0, subst (Each (IsUpToDate (accept A plan.request))) (sym is) done.1)
 
@@ -46,4 +46,5 @@ returns-clause-even c n article commits transfer =
     (total_answer A r n (Done (places A + 1)) (accept A r) article (good c) commits (accepted_answered A r c.requires.fits.accepted) transfer)
 
 pub returns-clause-room_used : goal.returns-clause-room_used
-returns-clause-room_used c = rw (← c.self.view_is) (record { moves = c.adopt_move.ensures.room; kept = c.insert_kept.ensures.room })
+returns-clause-room_used c = rw (← c.self.view_is)
+    (record { fields = c.adopt_fields.ensures.room; moves = c.adopt_move.ensures.room; orders = c.adopt_orders.ensures.room; kept = c.insert_kept.ensures.room })
