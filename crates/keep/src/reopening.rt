@@ -35,6 +35,8 @@ fn store_of<S: Alter + Drop>(keep: SqlKeep<S>) -> S
 fn over_files<D: Disk + Drop>(conn: Connection<FileStore<D>>) -> SqlKeep<FileStore<D>>
     requires { conn.in_transaction ≡ false }
     ensures keeper { result ≡ record { connection = conn; stopped = false } }
+    ensures shown { IsTrue (file_state conn).is_open → (trees : Trees) → (file_state conn).may_leave trees
+        → trees ≡ (file_state conn).now.trees }
     ensures alone { IsTrue (file_state conn).is_open → (x : Content) → Holds (file_state conn).now x
         → LeavesOnly (file_state conn).may_leave (x ∷ []) }
 {
@@ -137,6 +139,9 @@ pub fn open_path<S: Start>(
         → HoldsDatabase (image_at S.Start) trees → IsContent trees x → Holds (file_state keep.connection).now x) }
     ensures old { IfOk result (λ keep. HasCleanDisk (file_state keep.connection) → (trees : Trees) (x : Content)
         → HoldsDatabase (image_at S.Start) trees → IsOldContent trees x → HoldsOld (file_state keep.connection).now x) }
+    // of whatever version, a stop leaves what is shown
+    ensures shown { IfOk result (λ keep. HasCleanDisk (file_state keep.connection) → (trees : Trees)
+        → (file_state keep.connection).may_leave trees → trees ≡ (file_state keep.connection).now.trees) }
     ensures alone { IfOk result (λ keep. HasCleanDisk (file_state keep.connection) → (x : Content)
         → Holds (file_state keep.connection).now x → LeavesOnly (file_state keep.connection).may_leave (x ∷ [])) }
     ensures error { IfErr result (λ error. IsTrue (is_open_error error)) }

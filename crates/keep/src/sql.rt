@@ -3,6 +3,7 @@
 ghost use Rattle.std.specs.Prelude.{◌≡◌, ◌≢◌, ◌⊎◌, false, true, List, [], ◌∷◌, All, IsTrue, IfOk, IfErr, OnOk, OnErr, Err};
 ghost use Rattle.sqlite.specs.State.{HasCleanDisk, IsLive, IsUnchanged, Survives};
 ghost use Rattle.sqlite.specs.Held.{state};
+ghost use Rattle.sqlite_trees.specs.Tree.{Trees};
 ghost use Rattle.book.specs.Rows.{Content, IsInKeyOrder};
 ghost use Rattle.book.specs.Tables.{content_of, rows_among};
 ghost use Rattle.keep.specs.Content.{HasTables, Holds, IsDesk, IsTheRow, LeavesOnly, MayLeave};
@@ -46,7 +47,9 @@ impl<S: Alter> SqlKeep<S> {
     pub fn over(conn: Connection<S>) -> SqlKeep<S>
         requires { conn.in_transaction ≡ false }
         ensures keeper { result ≡ record { connection = conn; stopped = false } }
-        // what a stop leaves of an open store is its content alone
+        // what a stop leaves of an open store is what it shows, and its content alone
+        ensures shown { IsTrue (state S.Store conn).is_open → (trees : Trees) → (state S.Store conn).may_leave trees
+            → trees ≡ (state S.Store conn).now.trees }
         ensures alone { IsTrue (state S.Store conn).is_open → (x : Content) → Holds (state S.Store conn).now x
             → LeavesOnly (state S.Store conn).may_leave (x ∷ []) }
     {

@@ -1,19 +1,11 @@
 -- An upgrade of a store, from what was found to what is there then.
-use Rattle.std.specs.Prelude.{◌≡◌, ◌⊎◌, List, [], ◌∷◌, Err, OnOk, Result}
+use Rattle.std.specs.Prelude.{◌≡◌, ◌⊎◌, [], ◌∷◌, Err, OnOk, Result}
 use Rattle.sqlite.specs.State.{State}
 use Rattle.sqlite_trees.specs.Tree.{Trees}
-use Rattle.sqlite_wal.specs.Recovery.{Image}
 use Rattle.book.specs.Rows.{Content}
 use Rattle.keep.specs.Content.{HasTables, Holds, IsDesk, LeavesOnly}
 use Rattle.keep.specs.Old.{AreUpgraded, HoldsOld, IsCurrent, IsOld, upgraded}
-use Rattle.keep.specs.Starts.{StartsOld, StartsWith}
 use Rattle.stockdesk.specs.declared.session.Fault.{Fault}
-
--- the store holds what the bytes of its files say, and of version 2 a stop leaves that alone
-pub record Starts (image : Image) (store : State) : Type 0 where
-  pub held : (x : Content) → StartsWith image x → Holds store.now x
-  pub old : (x : Content) → StartsOld image x → HoldsOld store.now x
-  pub alone : (x : Content) → StartsWith image x → LeavesOnly store.may_leave (x ∷ [])
 
 -- With Ok the store was of version 1 or 2, holds version 2 of all its rows, and a stop leaves that alone. `NotADesk` is
 -- answered only where it was neither, and then it is as it was. Whatever is answered, a stop leaves what was before or

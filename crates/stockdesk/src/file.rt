@@ -4,13 +4,13 @@ ghost use Rattle.std.specs.Prelude.{◌≡◌, ◌≢◌, ◌⊎◌, ◌↔◌, 
 ghost use Rattle.std.specs.Io.KnownBytes.{Keeps};
 ghost use Rattle.sqlite.specs.WalFiles.{image_at};
 ghost use Rattle.sqlite.specs.Files.{file_state};
-ghost use Rattle.sqlite.specs.State.{HasCleanDisk, State};
+ghost use Rattle.sqlite.specs.State.{HasCleanDisk};
+ghost use Rattle.sqlite_trees.specs.Tree.{Trees};
 ghost use Rattle.book.specs.Rows.{Content, DeskCells};
-ghost use Rattle.keep.specs.Content.{Holds};
-ghost use Rattle.keep.specs.Old.{HoldsOld, upgraded};
+ghost use Rattle.keep.specs.Content.{Holds, IsContent, LeavesOnly};
+ghost use Rattle.keep.specs.Old.{HoldsOld, IsOldContent, upgraded};
 ghost use Rattle.keep.specs.Starts.{StartsOld, StartsWith};
 ghost use Rattle.stockdesk.specs.Sessions.{IsNewDesk, IsNotOpened, OpensWith, StillHolds};
-ghost use Rattle.stockdesk.specs.Upgrades.{Starts, Upgrades};
 ghost use Rattle.stockdesk.specs.Work.{WorkInPart, WorkWhole};
 
 use crate::new_desk::new_desk;
@@ -131,6 +131,9 @@ pub fn open<S: Start>(
         (StartsWith (image_at S.Start))) }
     ensures old { IfOk result (λ keep. HasCleanDisk (file_state keep.connection) → (x : Content)
         → StartsOld (image_at S.Start) x → HoldsOld (file_state keep.connection).now x) }
+    // of whatever version, a stop leaves what is shown
+    ensures shown { IfOk result (λ keep. HasCleanDisk (file_state keep.connection) → (trees : Trees)
+        → (file_state keep.connection).may_leave trees → trees ≡ (file_state keep.connection).now.trees) }
     ensures fault { IfErr result IsNotOpened }
 {
     match look(rt, path)? {
@@ -189,9 +192,17 @@ pub fn upgrade<S: Start>(
     ensures same { IfOk result (λ r. HasCleanDisk (file_state r.0.connection)
         → OnOk r.1 ((x : Content) → StartsWith (image_at S.Start) x → Holds (file_state r.0.connection).now x)) }
     ensures ended { IfOk result (λ r. IfErr r.1 IsNotOpened) }
-    // from what the opening found
-    ensures from { IfOk result (λ r. HasCleanDisk (file_state r.0.connection) → (was : State)
-        × Starts (image_at S.Start) was × Upgrades was (file_state r.0.connection) r.1) }
+    ensures alone { IfOk result (λ r. HasCleanDisk (file_state r.0.connection) → OnOk r.1 ((x : Content)
+        → Holds (file_state r.0.connection).now x → LeavesOnly (file_state r.0.connection).may_leave (x ∷ []))) }
+    // whatever is answered
+    ensures either { IfOk result (λ r. HasCleanDisk (file_state r.0.connection) → (x : Content)
+        → StartsOld (image_at S.Start) x → (trees : Trees) → (file_state r.0.connection).may_leave trees
+        → IsOldContent trees x ⊎ IsContent trees (upgraded x)) }
+    ensures kept { IfOk result (λ r. HasCleanDisk (file_state r.0.connection) → (x : Content)
+        → StartsWith (image_at S.Start) x → LeavesOnly (file_state r.0.connection).may_leave (x ∷ [])) }
+    ensures unchanged { IfOk result (λ r. HasCleanDisk (file_state r.0.connection) → r.1 ≡ Err Fault.NotADesk
+        → (x : Content) → (StartsWith (image_at S.Start) x → Holds (file_state r.0.connection).now x)
+        × (StartsOld (image_at S.Start) x → HoldsOld (file_state r.0.connection).now x)) }
     // what is of version 1 is never called no desk
     ensures desk { IfOk result (λ r. HasCleanDisk (file_state r.0.connection) → IfErr r.1
         (λ fault. fault ≡ Fault.NotADesk → (x : Content) (row : DeskCells) → x.desk ≡ row ∷ [] → row.version ≡ pos 1

@@ -35,6 +35,13 @@ returns-in-Ok-clause-alone g c clean x held =
     subst (λ h. LeavesOnly (file_state h).may_leave (x ∷ [])) (sym same)
     (c.over_files.ensures.alone opened.0.is_open x (subst (λ h. Holds (file_state h).now x) same held))
 
+pub returns-in-Ok-clause-shown : goal.returns-in-Ok-clause-shown
+returns-in-Ok-clause-shown g c clean trees left =
+    let same : c.over_files.result.connection ≡ c.in-Ok.conn = ap (λ k. k.connection) c.over_files.ensures.keeper in
+    let first : HasCleanDisk (file_state c.in-Ok.conn) = subst (λ h. HasCleanDisk (file_state h)) same clean in
+    let opened = c.in-Ok.ensures.opened first in
+    subst (λ h. trees ≡ (file_state h).now.trees) (sym same) (c.over_files.ensures.shown opened.0.is_open trees (subst (λ h. (file_state h).may_leave trees) same left))
+
 pub returns-in-Ok-clause-going : goal.returns-in-Ok-clause-going
 returns-in-Ok-clause-going g c = search rules
 

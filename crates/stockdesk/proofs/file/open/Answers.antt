@@ -9,3 +9,6 @@ returns-in-Ok-clause-opened g c = record {
 
 pub returns-in-Ok-clause-old : goal.returns-in-Ok-clause-old
 returns-in-Ok-clause-old g c clean x there = c.in-Ok.ensures.old clean there.0 x there.1 there.2
+
+pub returns-in-Ok-clause-shown : goal.returns-in-Ok-clause-shown
+returns-in-Ok-clause-shown g c = c.in-Ok.ensures.shown

@@ -1,5 +1,10 @@
-use Rattle.std.proofs.Common.{Err, IfErr, Ok, Result, ap, refl, ◌≡◌, ◌∙◌}
+use Rattle.std.proofs.Common.{Err, IfErr, Ok, Result, ap, inl, inr, refl, subst, sym, ◌≡◌, ◌∙◌}
 use Rattle.std.proofs.lemmas.Result.{on_ok_weaker}
+use Rattle.sqlite.specs.Effect.{Database}
+use Rattle.sqlite_trees.specs.Tree.{Trees}
+use Rattle.keep.specs.Content.{Holds}
+use Rattle.keep.specs.Laws.{holds_tables, old_is_apart}
+use Rattle.keep.specs.Old.{HoldsOld, IsOldContent}
 use Rattle.stockdesk.proofs.Versions.{is_of_version_1}
 use Rattle.stockdesk.proofs.file.upgrade.Goals as goal
 
@@ -11,13 +16,32 @@ pub returns-clause-same : goal.returns-clause-same
 returns-clause-same g c clean =
     on_ok_weaker c.upgrade.result.1 (λ same x there. same x (c.in_ok-keep.ensures.opened.held (c.upgrade.ensures.clean clean) x there)) (c.upgrade.ensures.upgrades clean).same
 
-pub returns-clause-from : goal.returns-clause-from
-returns-clause-from g c clean =
-    let was = c.upgrade.ensures.clean clean in (
-      _,
-      record { held = c.in_ok-keep.ensures.opened.held was; old = c.in_ok-keep.ensures.old was; alone = c.in_ok-keep.ensures.opened.alone was },
-      c.upgrade.ensures.upgrades clean,
-    )
+pub returns-clause-alone : goal.returns-clause-alone
+returns-clause-alone g c clean = (c.upgrade.ensures.upgrades clean).alone
+
+pub returns-clause-either : goal.returns-clause-either
+returns-clause-either g c clean x there trees left =
+    let was = c.upgrade.ensures.clean clean in
+    let held = c.in_ok-keep.ensures.old was x there in
+    elim ((c.upgrade.ensures.upgrades clean).either trees left) [
+      inl before ↦ inl (subst (λ (t : Trees). IsOldContent t x) (sym (c.in_ok-keep.ensures.shown was trees before)) held.content)
+    | inr made ↦ inr (made.whole x held)
+    ]
+
+pub returns-clause-kept : goal.returns-clause-kept
+returns-clause-kept g c clean x there trees left =
+    let was = c.upgrade.ensures.clean clean in
+    let held = c.in_ok-keep.ensures.opened.held was x there in
+    elim ((c.upgrade.ensures.upgrades clean).either trees left) [
+      inl before ↦ c.in_ok-keep.ensures.opened.alone was x there trees before
+    | inr made ↦ absurd (old_is_apart _ x made.was (holds_tables _ x held))
+    ]
+
+pub returns-clause-unchanged : goal.returns-clause-unchanged
+returns-clause-unchanged g c clean told x =
+    let was = c.upgrade.ensures.clean clean in
+    let same = sym ((c.upgrade.ensures.upgrades clean).unchanged told).0 in
+    (λ there. subst (λ (d : Database). Holds d x) same (c.in_ok-keep.ensures.opened.held was x there), λ there. subst (λ (d : Database). HoldsOld d x) same (c.in_ok-keep.ensures.old was x there))
 
 on_error : {T E : Type 0} (r : Result T E) (P : E → Type 0) → ((e : E) → r ≡ Err e → P e) → IfErr r P
 on_error (Ok x) P on = tt
