@@ -1,7 +1,7 @@
 -- What work on the desk of a good ledger has read and written.
-use Rattle.std.proofs.Common.{◌≡◌, ◌⊎◌, ◌∙◌, [], ◌++◌, Bool, List, ℕ, Option, ap, append-nil, append_assoc, refl, subst, sym}
+use Rattle.std.proofs.Common.{◌≡◌, ◌∙◌, [], ◌++◌, Bool, List, ℕ, Option, ap, append-nil, append_assoc, refl, subst, sym}
 use Rattle.std.proofs.Math.Logic.{inl, inr}
-use Rattle.std.specs.Io.KnownBytes.{Appends, Keeps}
+use Rattle.std.specs.Io.KnownBytes.{Keeps}
 use Rattle.std.proofs.KnownBytes.{Appends-kept, Appends-nil}
 use Rattle.book.specs.Good.{Good}
 use Rattle.book.specs.Ledger.{Ledger, new_ledger}
@@ -11,12 +11,11 @@ use Rattle.keep.specs.declared.keep.Keep.{Ghosts}
 use Rattle.desk.specs.Script.{AlmostWritten}
 use Rattle.desk.specs.Text.{RepliesAll}
 use Rattle.desk.proofs.Texts.{replies_more}
-use Rattle.words.specs.declared.command.Request.{Request}
 use Rattle.words.specs.declared.item.Item.{Item}
 use Rattle.stockdesk.specs.Connections.{PortBegun, ServiceCut}
 use Rattle.stockdesk.specs.Done.{DoesWork, DoesWorkInPart, PrintsRepliesInPart, PrintsSheetInPart}
-use Rattle.stockdesk.specs.Requests.{FileCut, items_of}
-use Rattle.stockdesk.specs.Sessions.{IsUnbegun, ScriptCut, SessionCut}
+use Rattle.stockdesk.specs.Requests.{FileCut}
+use Rattle.stockdesk.specs.Sessions.{IsUnbegun, SessionCut}
 use Rattle.stockdesk.specs.Sheets.{SheetCut}
 use Rattle.stockdesk.specs.Work.{WorkCut, WorkInPart, WorkWhole}
 use Rattle.stockdesk.specs.declared.session.Fault.{Fault}

@@ -1,13 +1,13 @@
 //! The desk, served over a socket of this machine.
 
-ghost use Rattle.std.specs.Prelude.{◌≡◌, false, IfOk};
+ghost use Rattle.std.specs.Prelude.{◌≡◌, [], false, IfOk};
 
 use crate::loopback::{Listen, serve_all};
 use crate::session::Fault;
 use desk::Desk;
 use keep::{Keep, PlainKeep};
 use std::alloc::Global;
-use std::io::{Read, Write};
+use std::io::{self, ErrorKind, Read, Write};
 use std::net::{Shutdown, TcpListener, TcpStream};
 use std::test::Fail;
 
@@ -17,6 +17,36 @@ const FIRST: &[u8] =
 
 const FIRST_ANSWERS: &[u8] =
     b"HTTP/1.1 200 OK\r\ncontent-type: application/json\r\ncontent-length: 11\r\n\r\n{\"place\":1}HTTP/1.1 200 OK\r\ncontent-type: application/json\r\ncontent-length: 76\r\n\r\n{\"article\":\"A-1\",\"branch\":\"N1\",\"hi\":100,\"inf\":40,\"lo\":0,\"sup\":40,\"value\":40}HTTP/1.1 404 Not Found\r\ncontent-type: application/json\r\ncontent-length: 16\r\n\r\n{\"error\":\"none\"}";
+
+/// A connection in memory: the bytes that it brings until it comes, and what was written to it once it is closed.
+#[derive(Drop)]
+struct InMemory {
+    alloc: Global,
+    brings: Option<&'static [u8]>,
+    written: Option<Vec<u8>>,
+}
+
+impl Listen for InMemory {
+    type Reader = &'static [u8];
+
+    type Writer = Vec<u8>;
+
+    ghost comes = { λ old reader writer new. (old.brings ≡ Some reader) × (writer.items ≡ []) };
+
+    ghost closes = { λ old reader writer new. new.written ≡ Some writer };
+
+    fn next_connection(&mut self) -> io::Result<(&'static [u8], Vec<u8>)> {
+        match self.brings.take() {
+            Some(bytes) => Ok((bytes, Vec::new(self.alloc))),
+            None => Err(io::Error::from(ErrorKind::NotConnected)),
+        }
+    }
+
+    fn close(&mut self, reader: &'static [u8], writer: Vec<u8>) {
+        let _ = reader;
+        self.written = Some(writer);
+    }
+}
 
 /// Serving connections: the call without its clauses, so that a test's proof need not carry them.
 fn served<K: Keep, L: Listen>(
@@ -71,5 +101,18 @@ fn a_connection_on_loopback_is_served(rt: HostRuntime) -> Result<(), Fail> {
     let mut answers = Vec::new(rt.alloc());
     client.read_to_end(&mut answers)?;
     assert!(rt; answers.as_slice() == FIRST_ANSWERS);
+    Ok(())
+}
+
+#[test]
+fn a_connection_in_memory_is_served(rt: HostRuntime) -> Result<(), Fail> {
+    let mut listener = InMemory {
+        alloc: rt.alloc(),
+        brings: Some(FIRST),
+        written: None,
+    };
+    let keep = PlainKeep::start(rt.alloc(), None, false);
+    serve_kept(rt.alloc(), keep, &mut listener)?;
+    assert!(rt; listener.written.as_deref() == Some(FIRST_ANSWERS));
     Ok(())
 }

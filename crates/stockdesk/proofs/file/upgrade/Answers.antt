@@ -24,8 +24,8 @@ returns-clause-either g c clean x there trees left =
     let was = c.upgrade.ensures.clean clean in
     let held = c.in_ok-keep.ensures.old was x there in
     elim ((c.upgrade.ensures.upgrades clean).either trees left) [
-      inl before ↦ inl (subst (λ (t : Trees). IsOldContent t x) (sym (c.in_ok-keep.ensures.shown was trees before)) held.content)
-    | inr made ↦ inr (made.whole x held)
+      | inl before ↦ inl (subst (λ (t : Trees). IsOldContent t x) (sym (c.in_ok-keep.ensures.shown was trees before)) held.content)
+      | inr made ↦ inr (made.whole x held)
     ]
 
 pub returns-clause-kept : goal.returns-clause-kept
@@ -33,8 +33,8 @@ returns-clause-kept g c clean x there trees left =
     let was = c.upgrade.ensures.clean clean in
     let held = c.in_ok-keep.ensures.opened.held was x there in
     elim ((c.upgrade.ensures.upgrades clean).either trees left) [
-      inl before ↦ c.in_ok-keep.ensures.opened.alone was x there trees before
-    | inr made ↦ absurd (old_is_apart _ x made.was (holds_tables _ x held))
+      | inl before ↦ c.in_ok-keep.ensures.opened.alone was x there trees before
+      | inr made ↦ absurd (old_is_apart _ x made.was (holds_tables _ x held))
     ]
 
 pub returns-clause-unchanged : goal.returns-clause-unchanged

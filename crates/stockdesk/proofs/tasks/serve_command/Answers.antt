@@ -1,7 +1,7 @@
-use Rattle.std.proofs.Common.{◌≡◌, ◌∙◌, ap, codes}
+use Rattle.std.proofs.Common.{◌∙◌, ap, codes}
 use Rattle.std.proofs.lemmas.Result.{IfOk-weaker}
 use Rattle.clap.specs.Words.{App, with_rule}
-use Rattle.stockdesk.specs.Tasks.{on_path, option}
+use Rattle.stockdesk.specs.Tasks.{option}
 use Rattle.stockdesk.proofs.tasks.serve_command.Goals as goal
 
 pub returns-clause-app : goal.returns-clause-app
