@@ -22,7 +22,7 @@ sys.dont_write_bytecode = True
 TOP = os.path.dirname(os.path.dirname(os.path.abspath(__file__)))
 LINE = re.compile(r"(file|old|new|control): ?(.*)")
 # the largest crate takes 8 GB
-MOST_COPIES = 3
+MOST_COPIES = int(os.environ.get("RT_JOBS", "3"))
 
 
 class BadEdit(Exception):
