@@ -13,6 +13,7 @@ import shutil
 import subprocess
 import sys
 import tempfile
+from collections.abc import Callable
 from concurrent.futures import ThreadPoolExecutor
 from dataclasses import dataclass
 from queue import SimpleQueue
@@ -77,9 +78,9 @@ def edits_in(crate: str, folder: str) -> list[Edit]:
     return found
 
 
-def swapped(edit: Edit, kind: str, read) -> dict[str, str]:
+def swapped(edit: Edit, kind: str, read: Callable[[str], str]) -> dict[str, str]:
     """The files that an edit or its control changes, by their paths in the crate; `read` gives a file's text."""
-    texts = {}
+    texts: dict[str, str] = {}
     for swap in edit.swaps:
         text = texts.get(swap.file) or read(swap.file)
         if text.count(swap.old) != 1:
@@ -88,7 +89,7 @@ def swapped(edit: Edit, kind: str, read) -> dict[str, str]:
     return texts
 
 
-def with_control(edit: Edit, read) -> dict[str, str]:
+def with_control(edit: Edit, read: Callable[[str], str]) -> dict[str, str]:
     texts = swapped(edit, "control", read)
     if texts in (swapped(edit, "new", read), {path: read(path) for path in texts}):
         raise BadEdit("its control is the old text or the new one")
@@ -118,7 +119,7 @@ class Copy:
     def attempt(self, edit: Edit) -> str:
         """What is said against the control, or nothing where it is proved."""
         folder = os.path.join(self.crates, edit.crate)
-        before = {}
+        before: dict[str, str] = {}
 
         def read(path):
             with open(os.path.join(folder, path), encoding="utf-8") as file:
@@ -157,7 +158,7 @@ def attempt_all(edits: list[Edit]) -> int:
     crates = sorted({edit.crate for edit in edits}, key=lambda crate: -sum(edit.crate == crate for edit in edits))
     count = min(MOST_COPIES, os.cpu_count() or 1, len(crates))
     with tempfile.TemporaryDirectory() as room, ThreadPoolExecutor(max(count, 1)) as pool:
-        copies = SimpleQueue()
+        copies: SimpleQueue[Copy] = SimpleQueue()
         for number in range(count):
             copies.put(Copy(os.path.join(room, str(number))))
 
