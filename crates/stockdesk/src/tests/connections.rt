@@ -1,6 +1,6 @@
 //! The desk, served over a socket of this machine.
 
-ghost use Rattle.std.specs.Prelude.{◌≡◌, [], false, IfOk};
+ghost use Rattle.std.specs.Prelude.{◌≡◌, [], Some, false, IfOk};
 
 use crate::loopback::{Listen, serve_all};
 use crate::session::Fault;
