@@ -8,3 +8,6 @@ pub mod Cuts
 pub mod ScriptSteps
 pub mod Repeats
 pub mod Resumption
+pub mod FoundAfter
+pub mod FoundLines
+pub mod FoundAgain

@@ -34,7 +34,7 @@ runs_joined A M B [] ss (p ∷ ps) qs e h = absurd e
 runs_joined A M B (r ∷ rs) ss [] qs e h = absurd e
 runs_joined A M B (r ∷ rs) ss (p ∷ ps) qs (L, first, rest) h = (L, first, runs_joined L M B rs ss ps qs rest h)
 
-runs_split : (A B : Ledger) (rs ss : List Request) (ps : List Reply) → Runs A (rs ++ ss) ps B → (M : Ledger) × Runs A rs (take (length rs) ps) M × Runs M ss (drop (length rs) ps) B
+pub runs_split : (A B : Ledger) (rs ss : List Request) (ps : List Reply) → Runs A (rs ++ ss) ps B → (M : Ledger) × Runs A rs (take (length rs) ps) M × Runs M ss (drop (length rs) ps) B
 runs_split A B [] ss ps h = (A, refl, h)
 runs_split A B (r ∷ rs) ss [] h = absurd h
 runs_split A B (r ∷ rs) ss (p ∷ ps) (L, first, rest) = let cut = runs_split L B rs ss ps rest in (cut.0, (L, first, cut.1), cut.2)
@@ -138,7 +138,7 @@ is_whole A B rs k ps h all = (h.before, h.counted, by h.stands)
     by (inr (le, after)) = absurd (omega arith)
 
 -- no more are answered than there are
-few : (B C : Ledger) (rs : List Request) (ps : List Reply) → Runs B (take (length ps) rs) ps C → length ps ≤ length rs
+pub few : (B C : Ledger) (rs : List Request) (ps : List Reply) → Runs B (take (length ps) rs) ps C → length ps ≤ length rs
 few B C rs ps run = let e = runs_length B C (take (length ps) rs) ps run in omega (arith, length-take (length ps) rs, e)
 
 fewer : (m n : ℕ) → m ≤ n → (m ≡ n → ⊥) → m + 1 ≤ n
@@ -155,21 +155,26 @@ not_all B C rs k ps one le run apart =
 pub all_of : (rs : List Request) (k : ℕ) (ps : List Reply) → 1 ≤ k → k ≤ length rs + 1 → length ps ≡ length (drop (k - 1) rs) → k + length ps ≡ length rs + 1
 all_of rs k ps one le all = let dropped : length (drop (k - 1) rs) ≡ length rs - (k - 1) = length-drop (k - 1) rs in omega arith
 
--- a stop leaves the rows of the desk's ledger, or those after one request more
-pub leaves_resumable : (A B C next : Ledger) (rs : List Request) (k : ℕ) (ps : List Reply) (leaves : List Content → Type 0) → 1 ≤ k → k + length ps ≤ length rs → StandsAt A rs k B
-    → Runs B (take (length ps) (drop (k - 1) rs)) ps C → After B (drop (k - 1) rs) (length ps + 1) next → LeavesEither leaves C next → LeavesResumable leaves A rs (k + length ps)
-leaves_resumable A B C next rs k ps leaves one le stands more (qs, run) either =
+-- a request more is done than is answered: there the next may be resumed, too
+pub one_more_stands : (A B next : Ledger) (rs : List Request) (k : ℕ) (ps : List Reply) → 1 ≤ k → k + length ps ≤ length rs → StandsAt A rs k B → After B (drop (k - 1) rs) (length ps + 1) next
+    → StandsAt A rs (k + length ps) next
+one_more_stands A B next rs k ps one le stands (qs, run) =
     let dropped : length (drop (k - 1) rs) ≡ length rs - (k - 1) = length-drop (k - 1) rs in
     let size : length qs ≡ length ps + 1 = runs_length B next _ qs run ∙ length-take-le (length ps + 1) (drop (k - 1) rs) (omega arith) in
     let after = from_before A B next rs (k - 1) qs (omega arith) (subst (λ i. StandsAt A rs i B) (sym (before_is k one)) stands)
     (subst (λ i. Runs B (take i (drop (k - 1) rs)) qs next) (sym size) run) (omega arith) in
-    record {
-      first = C;
-      second = next;
-      first_stands = (resumes A B C rs k ps one (omega arith) stands more).stands;
-      second_stands = inr (le, (after.0 ++ qs, subst (λ i. Runs A (take i rs) (after.0 ++ qs) next) (omega arith) after.2));
-      either = either;
-    }
+    inr (le, (after.0 ++ qs, subst (λ i. Runs A (take i rs) (after.0 ++ qs) next) (omega arith) after.2))
+
+-- a stop leaves the rows of the desk's ledger, or those after one request more
+pub leaves_resumable : (A B C next : Ledger) (rs : List Request) (k : ℕ) (ps : List Reply) (leaves : List Content → Type 0) → 1 ≤ k → k + length ps ≤ length rs → StandsAt A rs k B
+    → Runs B (take (length ps) (drop (k - 1) rs)) ps C → After B (drop (k - 1) rs) (length ps + 1) next → LeavesEither leaves C next → LeavesResumable leaves A rs (k + length ps)
+leaves_resumable A B C next rs k ps leaves one le stands more after either = record {
+  first = C;
+  second = next;
+  first_stands = (resumes A B C rs k ps one (omega arith) stands more).stands;
+  second_stands = one_more_stands A B next rs k ps one le stands after;
+  either = either;
+}
 
 -- ---- resumed again and again
 
@@ -194,7 +199,7 @@ resumes_joined A M C rs k ps qs le first second =
       stands = subst (λ i. StandsAt A rs i C) (omega (arith, length-append ps qs)) second.stands;
     }
 
-resumed_again : (A B : Ledger) (rs : List Request) (k : ℕ) (given : List (List Reply)) → 1 ≤ k → k + length (flat_map (λ some. some) given) ≤ length rs + 1 → ResumesAgain A rs k given B
+pub resumed_again : (A B : Ledger) (rs : List Request) (k : ℕ) (given : List (List Reply)) → 1 ≤ k → k + length (flat_map (λ some. some) given) ≤ length rs + 1 → ResumesAgain A rs k given B
     → Resumes A rs k (flat_map (λ some. some) given) B
 resumed_again A B rs k [] one le stands = resumes A B B rs k [] one (omega arith) stands refl
 resumed_again A B rs k (ps ∷ more) one le (M, first, rest) =

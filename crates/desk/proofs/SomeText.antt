@@ -31,7 +31,7 @@ use Rattle.desk.proofs.Texts.{replies_joined, replies_more}
 
 -- ---- the requests of a stream are in range
 
-abbrev IsItemInRange : Item → Type 0
+abbrev pub IsItemInRange : Item → Type 0
 IsItemInRange (Request r) = IsKey r.key × IsInRange r.command
 IsItemInRange (AskField b a) = Unit {0}
 IsItemInRange (AskOrder n) = Unit {0}
@@ -137,7 +137,7 @@ behind_in_range [] ys h = h
 behind_in_range (x ∷ xs) ys h = behind_in_range xs ys h.1
 
 -- what stands before others is so, too
-front_in_range : (xs ys : List Item) → Each IsItemInRange (xs ++ ys) → Each IsItemInRange xs
+pub front_in_range : (xs ys : List Item) → Each IsItemInRange (xs ++ ys) → Each IsItemInRange xs
 front_in_range [] ys h = tt
 front_in_range (x ∷ xs) ys h = (h.0, front_in_range xs ys h.1)
 

@@ -3,6 +3,7 @@
 
 mod desk;
 mod fault;
+mod headline;
 mod laws;
 mod lines;
 mod reply;
@@ -11,6 +12,9 @@ mod scripts;
 
 pub use desk::Desk;
 pub use fault::{CallFault, OpenFault, ScriptFault};
+pub use headline::{
+    any_number_of_cuts, cut_and_open, run_cut_and_open, run_cut_and_resume, script_cut_and_open,
+};
 pub use laws::{exactly_one_text, resuming_is_invisible};
 pub use run::{Ending, Run};
 pub use scripts::{answer_all, script};

@@ -18,5 +18,5 @@ mod upgrade;
 pub use keep::{Keep, KeepFault};
 pub use laws::{a_fuse_tells_no_lie, keepers_in_memory_are_honest};
 pub use plain::PlainKeep;
-pub use reopening::{open_path, reopen, reopen_and_load};
+pub use reopening::{Recover, open_path, reopen, reopen_and_load};
 pub use sql::SqlKeep;

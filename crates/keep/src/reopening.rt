@@ -15,6 +15,7 @@ ghost use Rattle.keep.specs.Content.{Holds, IsAmong, IsContent, IsDesk, LeavesOn
 ghost use Rattle.keep.specs.Old.{HoldsOld, IsOldContent};
 
 use crate::keep::{Keep, KeepFault};
+use crate::plain::PlainKeep;
 use crate::sql::SqlKeep;
 use book::Tables;
 use sqlite::{Alter, Connection, Error, FileFrom, FileStore, Options, Start};
@@ -94,6 +95,44 @@ pub fn reopen<D: Crash + Drop>(
 {
     let conn = cut_and_open(alloc, keep, options)?;
     Some(over_files(conn))
+}
+
+/// A keeper that is opened anew where a stop has left it.
+pub trait Recover: Keep {
+    ghost use Rattle.std.specs.Prelude.{◌≡◌, false, List, IfSome};
+    ghost use Rattle.book.specs.Rows.{Content};
+    ghost use Rattle.keep.specs.Content.{IsAmong};
+
+    /// How it is opened.
+    type Options;
+
+    /// What the next open finds after a stop at this moment, or None where the open fails: a keeper that is not
+    /// stopped, and that holds one of the contents which the stop could leave. A disk that is honest after the open was
+    /// so before the stop.
+    fn recover(self, alloc: Global, options: Self::Options) -> Option<Self>
+        ensures going { IfSome result (λ again. Self.Keep.stopped again ≡ false) }
+        ensures honest { IfSome result (λ again. Self.Keep.is_honest again → Self.Keep.is_honest self) }
+        ensures found { IfSome result (λ again. Self.Keep.is_honest again → (these : List Content)
+            → Self.Keep.leaves self these → ∥ ((x : Content) × Self.Keep.holds again x × IsAmong these x) ∥₁) };
+}
+
+/// The stop is a cut of the power: of what was not synced, each file keeps whatever it keeps.
+impl<D: Crash + Drop> Recover for SqlKeep<FileStore<D>> {
+    type Options = Options;
+
+    fn recover(self, alloc: Global, options: Options) -> Option<Self> {
+        reopen(alloc, self, options)
+    }
+}
+
+/// A stop between commits, or at the one that fails. Its next commit that fails, and whether that lands, are given.
+impl Recover for PlainKeep {
+    type Options = (Option<u64>, bool);
+
+    fn recover(self, _alloc: Global, options: (Option<u64>, bool)) -> Option<Self> {
+        let (fail_at, lands) = options;
+        Some(self.reopen(fail_at, lands))
+    }
 }
 
 /// A keeper over what the next open finds on the two files of a keeper after a power cut, and what it loads: one of the

@@ -1,5 +1,6 @@
 //! Desks over both keepers.
 
+mod headline;
 mod resuming;
 
 use crate::desks::{answers, call, open, opened, requests, resume, run};

@@ -1,0 +1,74 @@
+-- What an opening finds after a stop: the headline.
+use Rattle.std.specs.Prelude.{◌≡◌, ◌≢◌, ◌≤◌, ◌+◌, ◌++◌, ℕ, List, [], ◌∷◌, Option, drop, flat_map, length, take}
+use Rattle.std.specs.Io.KnownBytes.{Appends, Consumes}
+use Rattle.words.specs.declared.command.Request.{Request}
+use Rattle.words.specs.declared.item.Item.{Item}
+use Rattle.words.specs.declared.reply.Reply.{Reply}
+use Rattle.book.specs.Answers.{After, Runs}
+use Rattle.book.specs.Good.{Good}
+use Rattle.book.specs.Ledger.{Ledger}
+use Rattle.book.specs.Rows.{Content, IsRowsOf}
+use Rattle.keep.specs.Content.{IsAmong}
+use Rattle.desk.specs.Text.{AreItems, RepliesAll}
+use Rattle.desk.specs.declared.run.Ending.TheVariants.{Stopped}
+use Rattle.desk.specs.declared.run.Run.{Run}
+
+-- how many requests a run has answered
+abbrev pub answered : Run → ℕ
+answered run = length run.replies.items
+
+-- the replies are the model's to the first of the requests, one to each
+abbrev pub AreRepliesTo : Ledger → List Request → List Reply → Type 0
+AreRepliesTo A requests replies = (M : Ledger) × Runs A (take (length replies) requests) replies M
+
+-- B is the ledger after a prefix of the requests that holds every one which the run has answered. At most one more is
+-- done, and that only where the desk was stopped.
+pub record IsFoundAfter (A : Ledger) (requests : List Request) (run : Run) (B : Ledger) : Type 0 where
+  pub done : ℕ
+  pub none_lost : answered run ≤ done
+  pub one_more : done ≤ answered run + 1
+  pub none_unasked : done ≤ length requests
+  pub all_told : run.ending ≢ Stopped → done ≡ answered run
+  pub after : After A requests done B
+
+-- B is the ledger after a prefix of the lines that were read. That holds every one whose reply line was written whole:
+-- what was written begins the reply lines to it. At most one more is done.
+pub record IsFoundAfterLines (A : Ledger) (reader_old reader_new writer_old writer_new : Option (List ℕ)) (B : Ledger)
+    : Type 0 where
+  pub read : List ℕ
+  pub written : List ℕ
+  pub reads : Consumes reader_old reader_new read
+  pub writes : Appends writer_old writer_new written
+  pub items : List Item
+  pub are_items : AreItems read items
+  -- what was written is the reply lines to so many of them, and a beginning of the next
+  pub told : ℕ
+  pub mid : Ledger
+  pub lines : List ℕ
+  pub begun : List ℕ
+  pub replies : RepliesAll A (take told items) lines mid
+  pub written_are : written ≡ lines ++ begun
+  -- and so many are done
+  pub done : ℕ
+  pub none_lost : told ≤ done
+  pub one_more : done ≤ told + 1
+  pub none_unread : done ≤ length items
+  pub unwritten : List ℕ
+  pub after : RepliesAll A (take done items) (written ++ unwritten) B
+
+-- a stop leaves the rows of good ledgers of this kind alone
+pub record LeavesRowsOf (leaves : List Content → Type 0) (Is : Ledger → Type 0) : Type 0 where
+  pub these : List Content
+  pub leaves_these : leaves these
+  pub are_rows : (x : Content) → IsAmong these x → (A : Ledger) × Good A × IsRowsOf A x × Is A
+
+-- Cut again and again: each part begins at the ledger that was found, with the first request that has no reply. B is
+-- what is found after the last.
+abbrev pub IsFoundAfterAll : Ledger → List Request → List Run → Ledger → Type 0
+IsFoundAfterAll A requests [] B = B ≡ A
+IsFoundAfterAll A requests (run ∷ runs) B = (M : Ledger) × AreRepliesTo A requests run.replies.items
+    × IsFoundAfter A requests run M × IsFoundAfterAll M (drop (answered run) requests) runs B
+
+-- what was answered in all
+abbrev pub all_replies : List Run → List Reply
+all_replies runs = flat_map (λ run. run.replies.items) runs

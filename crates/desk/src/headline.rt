@@ -1,0 +1,204 @@
+//! The headline: wherever a session stops, an opening finds the ledger after a prefix of what was asked that holds all
+//! that was answered, and from there every future is honoured.
+
+ghost use Rattle.std.specs.Prelude.{◌≡◌, ◌⊎◌, ◌↔◌, ◌<◌, ◌+◌, ◌++◌, false, List, length, IfErr, IfOk, IfSome, OnOk, slice_index_or};
+ghost use Rattle.escrow.specs.Codes.{IsKey};
+ghost use Rattle.words.specs.Spelling.{IsInRange};
+ghost use Rattle.words.specs.declared.command.Request.{Request as RequestOf};
+ghost use Rattle.words.specs.declared.reply.Reply.{Reply as ReplyOf};
+ghost use Rattle.book.specs.Answers.{Runs};
+ghost use Rattle.book.specs.Future.{Honours, HonoursAlways};
+ghost use Rattle.book.specs.Good.{Good};
+ghost use Rattle.book.specs.Ledger.{Ledger};
+ghost use Rattle.book.specs.Rows.{Content, IsRowsOf};
+ghost use Rattle.desk.specs.Desk.{keeper_after};
+ghost use Rattle.desk.specs.Headline.{AreRepliesTo, IsFoundAfter, IsFoundAfterAll, IsFoundAfterLines, LeavesRowsOf, all_replies, answered};
+ghost use Rattle.desk.specs.Resuming.{StandsAt};
+ghost use Rattle.desk.specs.Script.{EndsWhole};
+ghost use Rattle.keep.specs.Content.{IsAmong};
+
+use crate::desk::Desk;
+use crate::fault::{OpenFault, ScriptFault};
+use crate::run::{Ending, Run};
+use crate::scripts::script;
+use keep::{Keep, Recover};
+use std::alloc::Global;
+use std::io::{Read, Write};
+use words::{Reply, Request};
+
+/// The request behind those with replies, if there is one, is in range.
+fn next_in_range(requests: &[Request], replies: &[Reply])
+    ensures { length replies.now < length requests.now → (r : RequestOf)
+        × (r ≡ slice_index_or requests.now (length replies.now) r) × IsKey r.key × IsInRange r.command }
+{
+    let at = replies.len();
+    if at < requests.len() {
+        requests[at].in_range();
+    }
+}
+
+/// Runs the requests, and gives the keeper up where that ends.
+fn run_and_stop<K: Keep>(alloc: Global, desk: Desk<K>, requests: &[Request]) -> (Run, K)
+    requires { K.stopped desk.keep ≡ false }
+    ensures replies { AreRepliesTo desk.ledger requests.now result.0.replies.items }
+    ensures all { result.0.ending ≡ Ending.All ↔ answered result.0 ≡ length requests.now }
+    ensures left { K.is_honest result.1
+        → LeavesRowsOf (K.leaves result.1) (IsFoundAfter desk.ledger requests.now result.0) }
+{
+    let mut desk = desk;
+    let run = desk.run(alloc, requests);
+    desk.in_order();
+    next_in_range(requests, run.replies.as_slice());
+    (run, desk.into_keep())
+}
+
+/// Stops at this moment, and opens the desk that is found then, by any keeper that recovers. None where the keeper does
+/// not recover.
+///
+/// The ledger found is one whose rows the stop could leave, and every future of it is honoured. Where each content that
+/// the stop could leave is the rows of a good ledger, the opening is refused for memory or by the store, and for
+/// nothing else.
+pub fn cut_and_open<K: Recover>(
+    alloc: Global,
+    keep: K,
+    options: K::Options,
+) -> Option<Result<Desk<K>, (OpenFault, K)>>
+    ensures found { IfSome result (λ r. K.is_honest (keeper_after r) → (these : List Content) → K.leaves keep these
+        → IfOk r (λ again. ∥ ((x : Content) × IsAmong these x × IsRowsOf again.ledger x) ∥₁)) }
+    ensures refused { IfSome result (λ r. K.is_honest (keeper_after r) → LeavesRowsOf (K.leaves keep) Good
+        → IfErr r (λ e. (e.0 ≡ OpenFault.Memory) ⊎ (e.0 ≡ OpenFault.Store))) }
+    ensures honours { IfSome result (λ r. IfOk r (λ again. Good again.ledger × Honours again.ledger
+        × HonoursAlways again.ledger)) }
+    ensures going { IfSome result (λ r. IfOk r (λ again. K.stopped again.keep ≡ false)) }
+    ensures honest { IfSome result (λ r. K.is_honest (keeper_after r) → K.is_honest keep) }
+{
+    let again = keep.recover(alloc, options)?;
+    Some(Desk::open(alloc, again))
+}
+
+/// Runs the requests, stops there, and opens the desk that is found then: the replies, and that desk. None where the
+/// keeper does not recover.
+///
+/// While the disk is honest: the ledger found is the one after the requests that were answered, or after one more, and
+/// that only where the run ended `Stopped`; the opening is refused for memory or by the store, and for nothing else;
+/// from the ledger found, whatever uses, releases, commits, aborts, expiries and firm marks come, in any order, each
+/// field is within its bounds and each order that is open then commits. The replies are the model's.
+pub fn run_cut_and_open<K: Recover>(
+    alloc: Global,
+    desk: Desk<K>,
+    requests: &[Request],
+    options: K::Options,
+) -> Option<(Run, Result<Desk<K>, (OpenFault, K)>)>
+    requires { K.stopped desk.keep ≡ false }
+    ensures replies { IfSome result (λ r. AreRepliesTo desk.ledger requests.now r.0.replies.items) }
+    ensures all { IfSome result (λ r. r.0.ending ≡ Ending.All ↔ answered r.0 ≡ length requests.now) }
+    ensures found { IfSome result (λ r. K.is_honest (keeper_after r.1)
+        → IfOk r.1 (λ again. ∥ IsFoundAfter desk.ledger requests.now r.0 again.ledger ∥₁)) }
+    ensures refused { IfSome result (λ r. K.is_honest (keeper_after r.1)
+        → IfErr r.1 (λ e. (e.0 ≡ OpenFault.Memory) ⊎ (e.0 ≡ OpenFault.Store))) }
+    ensures honours { IfSome result (λ r. IfOk r.1 (λ again. Good again.ledger × Honours again.ledger
+        × HonoursAlways again.ledger)) }
+    ensures going { IfSome result (λ r. IfOk r.1 (λ again. K.stopped again.keep ≡ false)) }
+{
+    let (run, keep) = run_and_stop(alloc, desk, requests);
+    let opened = cut_and_open(alloc, keep, options)?;
+    Some((run, opened))
+}
+
+/// Runs the requests, stops there, opens the desk that is found then, and goes on behind the last reply: the replies
+/// before the stop, the desk, and the replies after it. None where the keeper does not recover.
+///
+/// While the disk is honest: where the second part answers all that is left, the replies before the stop and those after
+/// it are together the model's to the requests, as if nothing had been cut, and the ledger is the one after them. The
+/// opening is refused for memory or by the store, and for nothing else.
+pub fn run_cut_and_resume<K: Recover>(
+    alloc: Global,
+    desk: Desk<K>,
+    requests: &[Request],
+    options: K::Options,
+) -> Option<(Run, Result<(Desk<K>, Run), (OpenFault, K)>)>
+    requires { K.stopped desk.keep ≡ false }
+    ensures replies { IfSome result (λ r. AreRepliesTo desk.ledger requests.now r.0.replies.items) }
+    ensures rest { IfSome result (λ r. IfOk r.1 (λ after. after.1.ending ≡ Ending.All
+        ↔ answered r.0 + answered after.1 ≡ length requests.now)) }
+    ensures whole { IfSome result (λ r. IfOk r.1 (λ after. K.is_honest after.0.keep → after.1.ending ≡ Ending.All
+        → ∥ Runs desk.ledger requests.now (r.0.replies.items ++ after.1.replies.items) after.0.ledger ∥₁)) }
+    ensures refused { IfSome result (λ r. IfErr r.1 (λ e. K.is_honest e.1
+        → (e.0 ≡ OpenFault.Memory) ⊎ (e.0 ≡ OpenFault.Store))) }
+    ensures good { IfSome result (λ r. IfOk r.1 (λ after. Good after.0.ledger)) }
+{
+    let (run, opened) = run_cut_and_open(alloc, desk, requests, options)?;
+    let first = run.replies.len() + 1;
+    match opened {
+        Ok(again) => {
+            let mut again = again;
+            let rest = again.resume(alloc, requests, first);
+            again.in_order();
+            Some((run, Ok((again, rest))))
+        }
+        Err(refused) => Some((run, Err(refused))),
+    }
+}
+
+/// However often a run is cut, and gone on with each time at the ledger found and behind the last reply: what is found
+/// is the ledger after all that was answered, or after one more; and with all answered, the replies and the ledger are
+/// those of a run that was never cut.
+pub fn any_number_of_cuts()
+    ensures found { (A B : Ledger) (requests : List RequestOf) (runs : List Run) → IsFoundAfterAll A requests runs B
+        → StandsAt A requests (length (all_replies runs) + 1) B }
+    ensures same { (A B last : Ledger) (requests : List RequestOf) (runs : List Run) (replies : List ReplyOf)
+        → IsFoundAfterAll A requests runs B → length (all_replies runs) ≡ length requests
+        → Runs A requests replies last → (all_replies runs ≡ replies) × (B ≡ last) }
+{}
+
+/// Plays a script, and gives the keeper up where that ends.
+fn script_and_stop<K: Keep, R: Read, W: Write>(
+    alloc: Global,
+    desk: Desk<K>,
+    reader: &mut R,
+    writer: &mut W,
+) -> (Result<(), ScriptFault>, K)
+    requires { K.stopped desk.keep ≡ false }
+    ensures left { K.is_honest result.1 → LeavesRowsOf (K.leaves result.1) (IsFoundAfterLines desk.ledger
+        (R.remaining reader.old) (R.remaining reader.new) (W.contents writer.old) (W.contents writer.new)) }
+    ensures whole { K.is_honest result.1 → OnOk result.0 (LeavesRowsOf (K.leaves result.1) (λ B. EndsWhole desk.ledger B
+        (R.remaining reader.old) (R.remaining reader.new) (W.contents writer.old) (W.contents writer.new))) }
+{
+    let mut desk = desk;
+    desk.in_order();
+    let ended = script(alloc, reader, writer, &mut desk);
+    desk.in_order();
+    (ended, desk.into_keep())
+}
+
+/// Plays a script, stops where it ends, and opens the desk that is found then: how the script ended, and that desk. None
+/// where the keeper does not recover.
+///
+/// While the disk is honest: the ledger found is the one after a prefix of the lines that were read which holds every
+/// one whose reply line was written whole, and at most one more; after a script that ended `Ok` it is the one after all
+/// its lines. The opening is refused for memory or by the store, and for nothing else, and every future of the ledger
+/// found is honoured.
+pub fn script_cut_and_open<K: Recover, R: Read, W: Write>(
+    alloc: Global,
+    desk: Desk<K>,
+    reader: &mut R,
+    writer: &mut W,
+    options: K::Options,
+) -> Option<(Result<(), ScriptFault>, Result<Desk<K>, (OpenFault, K)>)>
+    requires { K.stopped desk.keep ≡ false }
+    ensures found { IfSome result (λ r. K.is_honest (keeper_after r.1) → IfOk r.1 (λ again.
+        ∥ IsFoundAfterLines desk.ledger (R.remaining reader.old) (R.remaining reader.new)
+        (W.contents writer.old) (W.contents writer.new) again.ledger ∥₁)) }
+    ensures whole { IfSome result (λ r. K.is_honest (keeper_after r.1) → OnOk r.0 (IfOk r.1 (λ again.
+        ∥ EndsWhole desk.ledger again.ledger (R.remaining reader.old) (R.remaining reader.new)
+        (W.contents writer.old) (W.contents writer.new) ∥₁))) }
+    ensures refused { IfSome result (λ r. K.is_honest (keeper_after r.1)
+        → IfErr r.1 (λ e. (e.0 ≡ OpenFault.Memory) ⊎ (e.0 ≡ OpenFault.Store))) }
+    ensures honours { IfSome result (λ r. IfOk r.1 (λ again. Good again.ledger × Honours again.ledger
+        × HonoursAlways again.ledger)) }
+    ensures going { IfSome result (λ r. IfOk r.1 (λ again. K.stopped again.keep ≡ false)) }
+{
+    let (ended, keep) = script_and_stop(alloc, desk, reader, writer);
+    let opened = cut_and_open(alloc, keep, options)?;
+    Some((ended, opened))
+}

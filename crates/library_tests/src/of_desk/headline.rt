@@ -1,0 +1,320 @@
+//! The headline, wherever a session stops: at each call of a disk with a power cut behind it, at each commit of a keeper
+//! in memory, at each write of a script.
+
+use crate::desks::{open, requests};
+use crate::keepers::{keeper, plain_keeper};
+use crate::of_keep::disks::{calls_to, desk_files, open as open_files};
+use crate::of_keep::loaded;
+use crate::streams::Sink;
+use desk::{Desk, Ending, OpenFault, Run, ScriptFault, cut_and_open, run_cut_and_open, run_cut_and_resume, script_cut_and_open};
+use keep::{Keep, PlainKeep, Recover, SqlKeep};
+use sqlite::{FileStore, Files, Options};
+use sqlite_disk::{Fuse, Memory};
+use std::alloc::Global;
+use std::test::Fail;
+use words::{Refusal, Reply};
+
+/// Orders that are open, used, firm and committed, and a request that is refused.
+static LINES: [&str; 8] = [
+    "H1 field N1 A-1 0 100 40",
+    "H2 open 7 500 take N1 A-1 10",
+    "H3 open 8 500 take N1 A-1 12",
+    "H4 use 8 N1 A-1 5",
+    "H5 open 9 500 add N1 A-1 20",
+    "H6 firm 9",
+    "H7 writeoff N1 A-1 19",
+    "H8 commit 8",
+];
+
+static REPLIES: [Reply; 8] = [
+    Reply::Done(1),
+    Reply::Done(2),
+    Reply::Done(3),
+    Reply::Done(4),
+    Reply::Done(5),
+    Reply::Done(6),
+    Reply::Refused(Refusal::TooLittle, 0),
+    Reply::Done(7),
+];
+
+/// All rows before these requests, and behind each of them.
+static ROWS: [&str; 9] = [
+    "Tables { desk: DeskRow { one: 1, version: 2, clock: 0, places: 0 }, fields: Rows { rows: [] }, moves: Rows { rows: [] }, orders: Rows { rows: [] }, lines: Rows { rows: [] }, kept: Rows { rows: [] }, firms: Rows { rows: [] } }",
+    "Tables { desk: DeskRow { one: 1, version: 2, clock: 0, places: 1 }, fields: Rows { rows: [FieldRow { branch: \"N1\", article: \"A-1\", lo: 0, hi: 100, start: 40, value: 40, inf: 40, sup: 40 }] }, moves: Rows { rows: [] }, orders: Rows { rows: [] }, lines: Rows { rows: [] }, kept: Rows { rows: [KeptRow { reqkey: \"H1\", place: 1, words: \"field N1 A-1 0 100 40\" }] }, firms: Rows { rows: [] } }",
+    "Tables { desk: DeskRow { one: 1, version: 2, clock: 0, places: 2 }, fields: Rows { rows: [FieldRow { branch: \"N1\", article: \"A-1\", lo: 0, hi: 100, start: 40, value: 40, inf: 30, sup: 40 }] }, moves: Rows { rows: [] }, orders: Rows { rows: [OrderRow { number: 7, kind: 0, until: 500, state: 0 }] }, lines: Rows { rows: [LineRow { number: 7, nr: 1, branch: \"N1\", article: \"A-1\", way: 0, held: 10, used: 0 }] }, kept: Rows { rows: [KeptRow { reqkey: \"H1\", place: 1, words: \"field N1 A-1 0 100 40\" }, KeptRow { reqkey: \"H2\", place: 2, words: \"open 7 500 take N1 A-1 10\" }] }, firms: Rows { rows: [] } }",
+    "Tables { desk: DeskRow { one: 1, version: 2, clock: 0, places: 3 }, fields: Rows { rows: [FieldRow { branch: \"N1\", article: \"A-1\", lo: 0, hi: 100, start: 40, value: 40, inf: 18, sup: 40 }] }, moves: Rows { rows: [] }, orders: Rows { rows: [OrderRow { number: 7, kind: 0, until: 500, state: 0 }, OrderRow { number: 8, kind: 0, until: 500, state: 0 }] }, lines: Rows { rows: [LineRow { number: 7, nr: 1, branch: \"N1\", article: \"A-1\", way: 0, held: 10, used: 0 }, LineRow { number: 8, nr: 1, branch: \"N1\", article: \"A-1\", way: 0, held: 12, used: 0 }] }, kept: Rows { rows: [KeptRow { reqkey: \"H1\", place: 1, words: \"field N1 A-1 0 100 40\" }, KeptRow { reqkey: \"H2\", place: 2, words: \"open 7 500 take N1 A-1 10\" }, KeptRow { reqkey: \"H3\", place: 3, words: \"open 8 500 take N1 A-1 12\" }] }, firms: Rows { rows: [] } }",
+    "Tables { desk: DeskRow { one: 1, version: 2, clock: 0, places: 4 }, fields: Rows { rows: [FieldRow { branch: \"N1\", article: \"A-1\", lo: 0, hi: 100, start: 40, value: 40, inf: 18, sup: 40 }] }, moves: Rows { rows: [] }, orders: Rows { rows: [OrderRow { number: 7, kind: 0, until: 500, state: 0 }, OrderRow { number: 8, kind: 0, until: 500, state: 0 }] }, lines: Rows { rows: [LineRow { number: 7, nr: 1, branch: \"N1\", article: \"A-1\", way: 0, held: 10, used: 0 }, LineRow { number: 8, nr: 1, branch: \"N1\", article: \"A-1\", way: 0, held: 12, used: 5 }] }, kept: Rows { rows: [KeptRow { reqkey: \"H1\", place: 1, words: \"field N1 A-1 0 100 40\" }, KeptRow { reqkey: \"H2\", place: 2, words: \"open 7 500 take N1 A-1 10\" }, KeptRow { reqkey: \"H3\", place: 3, words: \"open 8 500 take N1 A-1 12\" }, KeptRow { reqkey: \"H4\", place: 4, words: \"use 8 N1 A-1 5\" }] }, firms: Rows { rows: [] } }",
+    "Tables { desk: DeskRow { one: 1, version: 2, clock: 0, places: 5 }, fields: Rows { rows: [FieldRow { branch: \"N1\", article: \"A-1\", lo: 0, hi: 100, start: 40, value: 40, inf: 18, sup: 60 }] }, moves: Rows { rows: [] }, orders: Rows { rows: [OrderRow { number: 7, kind: 0, until: 500, state: 0 }, OrderRow { number: 8, kind: 0, until: 500, state: 0 }, OrderRow { number: 9, kind: 0, until: 500, state: 0 }] }, lines: Rows { rows: [LineRow { number: 7, nr: 1, branch: \"N1\", article: \"A-1\", way: 0, held: 10, used: 0 }, LineRow { number: 8, nr: 1, branch: \"N1\", article: \"A-1\", way: 0, held: 12, used: 5 }, LineRow { number: 9, nr: 1, branch: \"N1\", article: \"A-1\", way: 1, held: 20, used: 0 }] }, kept: Rows { rows: [KeptRow { reqkey: \"H1\", place: 1, words: \"field N1 A-1 0 100 40\" }, KeptRow { reqkey: \"H2\", place: 2, words: \"open 7 500 take N1 A-1 10\" }, KeptRow { reqkey: \"H3\", place: 3, words: \"open 8 500 take N1 A-1 12\" }, KeptRow { reqkey: \"H4\", place: 4, words: \"use 8 N1 A-1 5\" }, KeptRow { reqkey: \"H5\", place: 5, words: \"open 9 500 add N1 A-1 20\" }] }, firms: Rows { rows: [] } }",
+    "Tables { desk: DeskRow { one: 1, version: 2, clock: 0, places: 6 }, fields: Rows { rows: [FieldRow { branch: \"N1\", article: \"A-1\", lo: 0, hi: 100, start: 40, value: 40, inf: 18, sup: 60 }] }, moves: Rows { rows: [] }, orders: Rows { rows: [OrderRow { number: 7, kind: 0, until: 500, state: 0 }, OrderRow { number: 8, kind: 0, until: 500, state: 0 }, OrderRow { number: 9, kind: 0, until: 500, state: 0 }] }, lines: Rows { rows: [LineRow { number: 7, nr: 1, branch: \"N1\", article: \"A-1\", way: 0, held: 10, used: 0 }, LineRow { number: 8, nr: 1, branch: \"N1\", article: \"A-1\", way: 0, held: 12, used: 5 }, LineRow { number: 9, nr: 1, branch: \"N1\", article: \"A-1\", way: 1, held: 20, used: 0 }] }, kept: Rows { rows: [KeptRow { reqkey: \"H1\", place: 1, words: \"field N1 A-1 0 100 40\" }, KeptRow { reqkey: \"H2\", place: 2, words: \"open 7 500 take N1 A-1 10\" }, KeptRow { reqkey: \"H3\", place: 3, words: \"open 8 500 take N1 A-1 12\" }, KeptRow { reqkey: \"H4\", place: 4, words: \"use 8 N1 A-1 5\" }, KeptRow { reqkey: \"H5\", place: 5, words: \"open 9 500 add N1 A-1 20\" }, KeptRow { reqkey: \"H6\", place: 6, words: \"firm 9\" }] }, firms: Rows { rows: [FirmRow { number: 9 }] } }",
+    "Tables { desk: DeskRow { one: 1, version: 2, clock: 0, places: 6 }, fields: Rows { rows: [FieldRow { branch: \"N1\", article: \"A-1\", lo: 0, hi: 100, start: 40, value: 40, inf: 18, sup: 60 }] }, moves: Rows { rows: [] }, orders: Rows { rows: [OrderRow { number: 7, kind: 0, until: 500, state: 0 }, OrderRow { number: 8, kind: 0, until: 500, state: 0 }, OrderRow { number: 9, kind: 0, until: 500, state: 0 }] }, lines: Rows { rows: [LineRow { number: 7, nr: 1, branch: \"N1\", article: \"A-1\", way: 0, held: 10, used: 0 }, LineRow { number: 8, nr: 1, branch: \"N1\", article: \"A-1\", way: 0, held: 12, used: 5 }, LineRow { number: 9, nr: 1, branch: \"N1\", article: \"A-1\", way: 1, held: 20, used: 0 }] }, kept: Rows { rows: [KeptRow { reqkey: \"H1\", place: 1, words: \"field N1 A-1 0 100 40\" }, KeptRow { reqkey: \"H2\", place: 2, words: \"open 7 500 take N1 A-1 10\" }, KeptRow { reqkey: \"H3\", place: 3, words: \"open 8 500 take N1 A-1 12\" }, KeptRow { reqkey: \"H4\", place: 4, words: \"use 8 N1 A-1 5\" }, KeptRow { reqkey: \"H5\", place: 5, words: \"open 9 500 add N1 A-1 20\" }, KeptRow { reqkey: \"H6\", place: 6, words: \"firm 9\" }] }, firms: Rows { rows: [FirmRow { number: 9 }] } }",
+    "Tables { desk: DeskRow { one: 1, version: 2, clock: 0, places: 7 }, fields: Rows { rows: [FieldRow { branch: \"N1\", article: \"A-1\", lo: 0, hi: 100, start: 40, value: 35, inf: 25, sup: 55 }] }, moves: Rows { rows: [] }, orders: Rows { rows: [OrderRow { number: 7, kind: 0, until: 500, state: 0 }, OrderRow { number: 8, kind: 0, until: 500, state: 1 }, OrderRow { number: 9, kind: 0, until: 500, state: 0 }] }, lines: Rows { rows: [LineRow { number: 7, nr: 1, branch: \"N1\", article: \"A-1\", way: 0, held: 10, used: 0 }, LineRow { number: 8, nr: 1, branch: \"N1\", article: \"A-1\", way: 0, held: 12, used: 5 }, LineRow { number: 9, nr: 1, branch: \"N1\", article: \"A-1\", way: 1, held: 20, used: 0 }] }, kept: Rows { rows: [KeptRow { reqkey: \"H1\", place: 1, words: \"field N1 A-1 0 100 40\" }, KeptRow { reqkey: \"H2\", place: 2, words: \"open 7 500 take N1 A-1 10\" }, KeptRow { reqkey: \"H3\", place: 3, words: \"open 8 500 take N1 A-1 12\" }, KeptRow { reqkey: \"H4\", place: 4, words: \"use 8 N1 A-1 5\" }, KeptRow { reqkey: \"H5\", place: 5, words: \"open 9 500 add N1 A-1 20\" }, KeptRow { reqkey: \"H6\", place: 6, words: \"firm 9\" }, KeptRow { reqkey: \"H8\", place: 7, words: \"commit 8\" }] }, firms: Rows { rows: [FirmRow { number: 9 }] } }",
+];
+
+/// The rows that the keeper holds are those behind so many requests, or one more.
+fn expect_rows<K: Keep>(alloc: Global, keep: &mut K, done: usize, most: usize) -> Result<(), Fail> {
+    let rows = loaded(alloc, keep)?;
+    let is_so = ROWS
+        .iter()
+        .take(most.saturating_add(1))
+        .skip(done)
+        .any(|want| *want == rows.as_str());
+    if is_so {
+        Ok(())
+    } else {
+        Err("other rows than behind what was answered, or one request more")?
+    }
+}
+
+/// The desk that is found has these rows.
+fn expect_found<K: Keep + Drop>(
+    alloc: Global,
+    opened: Result<Desk<K>, (OpenFault, K)>,
+    done: usize,
+    most: usize,
+) -> Result<(), Fail> {
+    match opened {
+        Ok(desk) => expect_rows(alloc, &mut desk.into_keep(), done, most),
+        Err((fault, _)) => Err(fault)?,
+    }
+}
+
+/// The replies are those of the table, and all of them exactly where the run ended so: how many they are.
+fn expect_replies(run: &Run, before: usize) -> Result<usize, Fail> {
+    let rest = REPLIES.get(before..).ok_or("no such number")?;
+    let count = run.replies.len();
+    if rest.get(..count) != Some(run.replies.as_slice()) {
+        Err("another reply")?;
+    }
+    if (run.ending == Ending::All) != (count == rest.len()) {
+        Err("ended before its end")?;
+    }
+    Ok(count)
+}
+
+/// How many requests may be done behind so many replies.
+fn most_done(run: &Run) -> usize {
+    let more = usize::from(run.ending == Ending::Stopped);
+    run.replies.len().saturating_add(more)
+}
+
+/// What is tried on a desk, over any keeper that recovers.
+trait Trial {
+    /// How many replies came before the stop.
+    fn on<K: Recover + Drop>(
+        &self,
+        alloc: Global,
+        desk: Desk<K>,
+        options: K::Options,
+    ) -> Result<usize, Fail>;
+}
+
+/// The list runs, and the desk is opened behind the stop.
+struct Opening;
+
+impl Trial for Opening {
+    fn on<K: Recover + Drop>(
+        &self,
+        alloc: Global,
+        desk: Desk<K>,
+        options: K::Options,
+    ) -> Result<usize, Fail> {
+        let requests = requests(alloc, &LINES)?;
+        if desk.is_stopped() {
+            drop(desk.into_keep());
+            Err("stopped")?
+        }
+        let Some((run, opened)) = run_cut_and_open(alloc, desk, &requests, options) else {
+            Err("not recovered")?
+        };
+        let count = expect_replies(&run, 0)?;
+        expect_found(alloc, opened, count, most_done(&run))?;
+        Ok(count)
+    }
+}
+
+/// The list runs, and goes on behind the stop to its end.
+struct Resuming;
+
+impl Trial for Resuming {
+    fn on<K: Recover + Drop>(
+        &self,
+        alloc: Global,
+        desk: Desk<K>,
+        options: K::Options,
+    ) -> Result<usize, Fail> {
+        let requests = requests(alloc, &LINES)?;
+        if desk.is_stopped() {
+            drop(desk.into_keep());
+            Err("stopped")?
+        }
+        match run_cut_and_resume(alloc, desk, &requests, options) {
+            None => Err("not recovered")?,
+            Some((_, Err((fault, _)))) => Err(fault)?,
+            Some((run, Ok((desk, rest)))) => {
+                let mut keep = desk.into_keep();
+                let count = expect_replies(&run, 0)?;
+                if count.checked_add(expect_replies(&rest, count)?) != Some(LINES.len()) {
+                    Err("not resumed to its end")?;
+                }
+                expect_rows(alloc, &mut keep, LINES.len(), LINES.len())?;
+                Ok(count)
+            }
+        }
+    }
+}
+
+/// The list is played as a script, whose writer fails behind so many writes.
+struct Playing {
+    writes: usize,
+}
+
+const SCRIPT: &str = "H1 field N1 A-1 0 100 40\nH2 open 7 500 take N1 A-1 10\nH3 open 8 500 take N1 A-1 12\nH4 use 8 N1 A-1 5\nH5 open 9 500 add N1 A-1 20\nH6 firm 9\nH7 writeoff N1 A-1 19\nH8 commit 8\n";
+
+const ANSWERS: &str = "H1 done 1\nH2 done 2\nH3 done 3\nH4 done 4\nH5 done 5\nH6 done 6\nH7 refused 13 TooLittle 0\nH8 done 7\n";
+
+/// How many lines were written whole of the answers: all where the script ended `Ok`.
+fn expect_told(ended: Result<(), ScriptFault>, taken: &[u8]) -> Result<usize, Fail> {
+    if !ANSWERS.as_bytes().starts_with(taken) {
+        Err("another answer")?;
+    }
+    let told = taken.iter().filter(|byte| **byte == b'\n').count();
+    if ended.is_ok() != (told == LINES.len()) {
+        Err("ended before its end")?;
+    }
+    Ok(told)
+}
+
+impl Trial for Playing {
+    fn on<K: Recover + Drop>(
+        &self,
+        alloc: Global,
+        desk: Desk<K>,
+        options: K::Options,
+    ) -> Result<usize, Fail> {
+        let mut writer = Sink {
+            taken: Vec::new(alloc),
+            piece: 16,
+            before_fault: self.writes,
+            takes_none: false,
+        };
+        if desk.is_stopped() {
+            drop(desk.into_keep());
+            Err("stopped")?
+        }
+        let played = script_cut_and_open(alloc, desk, &mut SCRIPT.as_bytes(), &mut writer, options);
+        let Some((ended, opened)) = played else {
+            Err("not recovered")?
+        };
+        let told = expect_told(ended, &writer.taken)?;
+        expect_found(alloc, opened, told, told.saturating_add(1))?;
+        Ok(told)
+    }
+}
+
+type FusedKeep = SqlKeep<FileStore<Fuse<Memory>>>;
+
+/// A new desk over files of which one fails after so many calls, where that is opened.
+fn fused_desk(alloc: Global, calls: (u64, u64)) -> Result<Option<Desk<FusedKeep>>, Fail> {
+    let files = desk_files(alloc)?;
+    let fused = Files {
+        log: Fuse::new(files.log, calls.0),
+        db: Fuse::new(files.db, calls.1),
+    };
+    match open_files(alloc, fused) {
+        Ok(conn) => Ok(open(alloc, keeper(conn)?).ok()),
+        Err(_) => Ok(None),
+    }
+}
+
+/// Tries it with a failure at each call of one of the files in turn, up to the first that is not cut: how many were
+/// tried.
+fn at_each_call<T: Trial>(alloc: Global, trial: &T, on_log: bool) -> Result<u64, Fail> {
+    for calls in 0..400u64 {
+        if let Some(desk) = fused_desk(alloc, calls_to(on_log, calls))? {
+            if trial.on(alloc, desk, Options::new(5))? == LINES.len() {
+                return Ok(calls);
+            }
+        }
+    }
+    Err("never ended")?
+}
+
+/// Tries it with a failure at each commit of a keeper in memory in turn, which lands or not.
+fn at_each_commit<T: Trial>(alloc: Global, trial: &T, lands: bool) -> Result<(), Fail> {
+    // the seventh request is refused, so it has no commit
+    for (fail_at, replies) in [(1, 0), (2, 1), (3, 2), (4, 3), (5, 4), (6, 5), (7, 7), (8, 8)] {
+        let keep = PlainKeep::start(alloc, Some(fail_at), lands);
+        match open(alloc, keep) {
+            Ok(desk) => {
+                if trial.on(alloc, desk, (None, false))? != replies {
+                    Err("another commit failed")?;
+                }
+            }
+            Err((fault, _)) => Err(fault)?,
+        }
+    }
+    Ok(())
+}
+
+/// Tries it at each stop that there is: how many were at calls of the files.
+fn at_each_stop<T: Trial>(alloc: Global, trial: &T) -> Result<u64, Fail> {
+    at_each_commit(alloc, trial, false)?;
+    at_each_commit(alloc, trial, true)?;
+    let of_log = at_each_call(alloc, trial, true)?;
+    let of_database = at_each_call(alloc, trial, false)?;
+    Ok(of_log.saturating_add(of_database))
+}
+
+#[test]
+fn the_desk_is_found_wherever_a_run_stops(rt: HostRuntime) -> Result<(), Fail> {
+    assert!(rt; at_each_stop(rt.alloc(), &Opening)? > 20);
+    Ok(())
+}
+
+#[test]
+fn a_run_goes_on_wherever_it_stops(rt: HostRuntime) -> Result<(), Fail> {
+    assert!(rt; at_each_stop(rt.alloc(), &Resuming)? > 20);
+    desk::any_number_of_cuts();
+    Ok(())
+}
+
+#[test]
+fn the_desk_is_found_wherever_a_script_stops(rt: HostRuntime) -> Result<(), Fail> {
+    assert!(rt; at_each_stop(rt.alloc(), &Playing { writes: usize::MAX })? > 20);
+    Ok(())
+}
+
+/// What a script is told whose writer fails behind so many writes: how many lines.
+fn told_before(alloc: Global, writes: usize) -> Result<usize, Fail> {
+    match open(alloc, plain_keeper(alloc)) {
+        Ok(desk) => Playing { writes }.on(alloc, desk, (None, false)),
+        Err((fault, _)) => Err(fault)?,
+    }
+}
+
+#[test]
+fn the_desk_is_found_where_a_write_fails(rt: HostRuntime) -> Result<(), Fail> {
+    let mut last = 0;
+    // of 16 bytes each, so that the line of the refusal takes two
+    for writes in 0..=9 {
+        let told = told_before(rt.alloc(), writes)?;
+        assert!(rt; told == writes.min(7) || (writes == 9 && told == 8), "{writes}");
+        last = told;
+    }
+    assert!(rt; last == 8);
+    Ok(())
+}
+
+/// The desk that is found behind two stops between calls is the new one.
+fn found_between(alloc: Global) -> Result<(), Fail> {
+    let Some(Ok(desk)) = cut_and_open(alloc, plain_keeper(alloc), (None, false)) else {
+        Err("not opened")?
+    };
+    let again = cut_and_open(alloc, desk.into_keep(), (None, false)).ok_or("not recovered")?;
+    expect_found(alloc, again, 0, 0)
+}
+
+#[test]
+fn a_desk_is_found_between_calls(rt: HostRuntime) -> Result<(), Fail> {
+    found_between(rt.alloc())
+}
