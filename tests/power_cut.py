@@ -13,7 +13,7 @@ sys.dont_write_bytecode = True
 
 from inputs import Inputs
 from programs import NOT_A_DESK, STORE, done, ended, expect, new_desk, rows_of, say, sqlite3
-from recorded import Disk, record, traced
+from recorded import SYNCS, Call, Disk, record, traced
 
 REQUESTS = 60
 SEED = 1986
@@ -23,9 +23,8 @@ BLIND_CUTS = 200
 # in one cut of so many the opening is recorded, too, and cut
 OPENINGS = 8
 NAME = "desk.db"
-SYNCS = ("fsync", "fdatasync")
 # stands among the calls where the desk is made
-MADE = ("made", "", "0", None)
+MADE = Call("made", "", "", "", b"", 0)
 
 
 def script_of(seed):
@@ -61,9 +60,8 @@ def calls_of(program, folder, lines):
 
 def without_some_syncs(calls):
     """The same, but for every other sync."""
-    syncs = [call for call in calls if call[0] in SYNCS]
-    left_out = set(map(id, syncs[::2]))
-    return [call for call in calls if id(call) not in left_out]
+    left_out = [call for call in calls if call.name in SYNCS][::2]
+    return [call for call in calls if call not in left_out]
 
 
 class Cuts:
@@ -82,16 +80,12 @@ class Cuts:
         return os.path.join(folder, NAME)
 
     def opened(self, files):
-        """The rows of the desk that the program opens on these files, or None where it opens none."""
+        """The rows of the desk that the program opens on these files, or how it ends where it opens none."""
         path = self.laid(files)
-        try:
-            end = ended(self.program, ["run", path])
-            if end in (NOT_A_DESK, STORE):
-                return None
-            expect(end == (0, b"", b""), f"an opening ends with {end}")
-            return rows_of(path)
-        finally:
-            shutil.rmtree(os.path.dirname(path))
+        end = ended(self.program, ["run", path])
+        found = rows_of(path) if end == (0, b"", b"") else end
+        shutil.rmtree(os.path.dirname(path))
+        return found
 
     def left_by_an_opening(self, files):
         """What a power cut leaves that comes while the program opens these files."""
@@ -99,7 +93,7 @@ class Cuts:
         _status, calls = record(self.program, ["run", path], "")
         disk = Disk(os.path.dirname(path), files)
         for call in calls[: self.chance.randint(0, len(calls))]:
-            disk.carry_out(*call)
+            disk.carry_out(call)
         shutil.rmtree(os.path.dirname(path))
         self.openings += 1
         return disk.left(self.chance)
@@ -109,7 +103,7 @@ class Cuts:
         files = disk.left(self.chance)
         if self.chance.randrange(OPENINGS) == 0:
             files = self.left_by_an_opening(files)
-        may = [None, self.rows[0]] if replies is None else self.rows[replies : replies + 2]
+        may = [NOT_A_DESK, STORE, self.rows[0]] if replies is None else self.rows[replies : replies + 2]
         self.tried += 1
         self.lost += self.opened(files) not in may
 
@@ -120,7 +114,7 @@ class Cuts:
             if call is MADE:
                 made = True
             else:
-                written += disk.carry_out(*call)
+                written += disk.carry_out(call)
             for _ in range(count * (number + 1) // len(calls) - count * number // len(calls)):
                 self.cut(disk, written.count(b"\n") if made else None)
 

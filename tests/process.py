@@ -19,6 +19,7 @@ import damages
 import documents
 import hostile
 import messages
+import power_cut
 import records
 import resumed
 import scripts
@@ -391,6 +392,7 @@ def main():
         *documents.TESTS,
         *hostile.TESTS,
         *messages.TESTS,
+        *power_cut.TESTS,
         *resumed.TESTS,
         *scripts.TESTS,
         *service.TESTS,

@@ -6,6 +6,8 @@ import re
 import shutil
 import subprocess
 import tempfile
+from dataclasses import dataclass
+from random import Random
 
 from programs import SECONDS, expect
 
@@ -13,9 +15,10 @@ SECTOR = 512
 
 # all calls by which a program changes files or names; one that is recorded and not understood ends the test
 CHANGES = (
-    "open,openat,creat,write,writev,pwrite64,pwritev,pwritev2,lseek,truncate,ftruncate,fallocate,fsync,fdatasync,"
-    "rename,renameat,renameat2,unlink,unlinkat,link,linkat,mkdir,mkdirat,sync_file_range,copy_file_range,sendfile"
+    "open,openat,creat,write,writev,pwrite64,pwritev,pwritev2,truncate,ftruncate,fallocate,fsync,fdatasync,rename,renameat,"
+    "renameat2,unlink,unlinkat,link,linkat,mkdir,mkdirat,sync_file_range,copy_file_range,sendfile"
 )
+SYNCS = ("fsync", "fdatasync")
 LONGEST = 1 << 20
 CALL = re.compile(r"(\w+)\((.*)\)\s+= (-?\d+)(?:<([^>]*)>)?")
 FILE = re.compile(r"(\d+)<([^>]*)>")
@@ -23,56 +26,80 @@ TEXT = re.compile(r'"((?:\\x[0-9a-f]{2})*)"')
 OUTPUT = "1"
 
 
-def traced():
+def bytes_in(text: str) -> bytes:
+    return bytes.fromhex(text.replace("\\x", ""))
+
+
+@dataclass(eq=False)
+class Call:
+    """A call: its name, the number and the path of its file, its words, the bytes among them, and what came back."""
+
+    name: str
+    number: str
+    path: str
+    words: str
+    data: bytes
+    result: int
+
+
+def read_call(line: str) -> Call | None:
+    """The call that a line of strace tells, if it tells one. An opening is of the file that came of it."""
+    if not (found := CALL.match(line)):
+        return None
+    name, words, result, opened = found.groups()
+    file = FILE.match(words)
+    number, path = (file[1], file[2]) if file else ("", opened or "")
+    data = TEXT.search(words)
+    return Call(name, number, bytes_in(path).decode(), words, bytes_in(data[1]) if data else b"", int(result))
+
+
+def traced() -> bool:
     """Whether there is a strace that may trace here."""
     if not shutil.which("strace"):
         return False
     return subprocess.run(["strace", "-o", os.devnull, "true"], capture_output=True, check=False).returncode == 0
 
 
-def bytes_in(text):
-    return bytes.fromhex(text.replace("\\x", ""))
-
-
-def record(program, words, text):
-    """The status of a run, and its calls in their order: each its name, its arguments, what came back, and the path of that."""
+def record(program: str, words: list[str], text: str) -> tuple[int, list[Call]]:
+    """The status of a run, and its calls in their order."""
     with tempfile.TemporaryDirectory() as folder:
         path = os.path.join(folder, "calls")
-        strace = ["strace", "-y", "-xx", "-s", str(LONGEST), "-o", path, "-e", f"trace={CHANGES}"]
-        run = subprocess.run([*strace, program, *words], input=text.encode(), capture_output=True, timeout=SECONDS, check=False)
+        strace = ["strace", "-y", "-xx", "-s", str(LONGEST), "-o", path, "-e", f"trace={CHANGES}", program, *words]
+        run = subprocess.run(strace, input=text.encode(), capture_output=True, timeout=SECONDS, check=False)
         with open(path, encoding="ascii") as file:
-            return run.returncode, [call.groups() for call in map(CALL.match, file) if call]
+            return run.returncode, [call for call in map(read_call, file) if call]
 
 
 class File:
     """The bytes of a file that were synced, and what was written since: parts at places, and lengths."""
 
-    def __init__(self, data=b""):
-        self.synced = bytes(data)
+    def __init__(self, data: bytes = b"") -> None:
+        self.synced = data
         self.data = bytearray(data)
-        self.parts = []
-        self.lengths = []
+        self.parts: list[tuple[int, bytes]] = []
+        self.lengths: list[int] = []
 
-    def write(self, at, data):
+    def write(self, at: int, data: bytes) -> None:
         end = at + len(data)
         self.data.extend(bytes(max(0, end - len(self.data))))
         self.data[at:end] = data
         self.parts.append((at, data))
         self.lengths.append(len(self.data))
 
-    def cut(self, length):
+    def cut(self, length: int) -> None:
         self.data = bytearray(self.data[:length].ljust(length, b"\0"))
         self.lengths.append(length)
 
-    def sync(self):
+    def sync(self) -> None:
         self.synced = bytes(self.data)
         self.parts, self.lengths = [], []
 
-    def left(self, chance):
+    def left(self, chance: Random) -> bytes:
         """What a power cut leaves: of what was not synced any sectors, and any length that it had."""
         share = chance.choice([0, 1, chance.random()])
         length = chance.choice([len(self.synced), *self.lengths])
-        left = bytearray(self.synced.ljust(max([length, *(at + len(data) for at, data in self.parts)]), b"\0"))
+        ends = [at + len(data) for at, data in self.parts]
+        left = bytearray(self.synced.ljust(max([length, *ends]), b"\0"))
         for at, data in self.parts:
             for begin in range(at - at % SECTOR, at + len(data), SECTOR):
                 low, high = max(begin, at), min(begin + SECTOR, at + len(data))
@@ -82,92 +109,48 @@ class File:
 
 
 class Disk:
-    """A folder: its files, the names of them that were synced, and those given and taken since. What a call says of another path is
-    no matter of it."""
+    """A folder: its files, which of their names were synced, and those given since. Calls on other paths are no matter of it."""
 
-    def __init__(self, folder, files):
+    def __init__(self, folder: str, files: dict[str, bytes]) -> None:
         self.folder = os.path.realpath(folder)
         self.names = {name: File(data) for name, data in files.items()}
         self.synced = dict(self.names)
-        self.given = []
-        self.places = {}
 
-    def within(self, path):
-        """The name of a path within the folder, the empty one for the folder itself, or None."""
-        path = os.path.normpath(path)
-        if path == self.folder:
-            return ""
-        return os.path.basename(path) if os.path.dirname(path) == self.folder else None
-
-    def give(self, name, file):
-        if file is None:
-            self.names.pop(name, None)
-        else:
-            self.names[name] = file
-        self.given.append((name, file))
-
-    def open(self, words, result, opened):
-        if int(result) < 0 or (name := self.within(bytes_in(opened).decode())) is None or name == "":
-            return
+    def open(self, name: str, call: Call) -> None:
         if name not in self.names:
-            expect("O_CREAT" in words, f"{name} was there, and is not known")
-            self.give(name, File())
-        if "O_TRUNC" in words:
-            self.names[name].cut(0)
-        self.places[result] = 0
+            expect("O_CREAT" in call.words, f"{name} was there, and is not known")
+            self.names[name] = File()
+        expect("O_TRUNC" not in call.words, f"{name} is opened without its bytes")
 
-    def rename(self, words):
-        old, new = (self.within(bytes_in(path).decode()) for path in TEXT.findall(words))
-        self.give(new, self.names[old])
-        self.give(old, None)
-
-    def sync(self, name):
-        if name:
-            self.names[name].sync()
+    def change(self, file: File, call: Call) -> None:
+        """Carries out a call on a file, whose last word is a place or a length."""
+        if call.name in SYNCS:
+            file.sync()
+        elif call.name == "pwrite64":
+            file.write(int(call.words.rsplit(", ", 1)[1]), call.data[: call.result])
+        elif call.name == "ftruncate":
+            file.cut(int(call.words.rsplit(", ", 1)[1]))
         else:
-            self.synced, self.given = dict(self.names), []
+            raise AssertionError(f"a call that is not understood: {call}")
 
-    def change(self, call, number, name, words, result):
-        """Carries out a call on an open file of the folder."""
-        file = self.names[name]
-        if call in ("write", "pwrite64"):
-            data = bytes_in(TEXT.search(words)[1])[: int(result)]
-            at = int(words.rsplit(", ", 1)[1]) if call == "pwrite64" else self.places[number]
-            self.places[number] += 0 if call == "pwrite64" else len(data)
-            file.write(at, data)
-        elif call == "lseek":
-            self.places[number] = int(result)
-        elif call == "ftruncate":
-            file.cut(int(words.rsplit(", ", 1)[1]))
-        else:
-            raise AssertionError(f"a call that is not understood: {call}({words})")
-
-    def carry_out(self, call, words, result, opened):
+    def carry_out(self, call: Call) -> bytes:
         """Carries out a call, and gives what it has written on standard output."""
-        if call in ("open", "openat", "creat"):
-            self.open(words, result, opened)
-        elif call == "rename":
-            self.rename(words)
-        elif call == "unlink":
-            if (name := self.within(bytes_in(TEXT.search(words)[1]).decode())) is not None and result == "0":
-                self.give(name, None)
-        elif file := FILE.match(words):
-            if file[1] == OUTPUT and call == "write":
-                return bytes_in(TEXT.search(words)[1])
-            name = self.within(bytes_in(file[2]).decode())
-            if name is not None and call in ("fsync", "fdatasync"):
-                self.sync(name)
-            elif name and int(result) >= 0:
-                self.change(call, file[1], name, words, result)
+        if call.name == "write" and call.number == OUTPUT:
+            return call.data[: call.result]
+        if call.path == self.folder and call.name in SYNCS:
+            self.synced = dict(self.names)
+        elif os.path.dirname(call.path) == self.folder and call.result >= 0:
+            name = os.path.basename(call.path)
+            if call.name == "openat":
+                self.open(name, call)
+            else:
+                self.change(self.names[name], call)
         else:
-            raise AssertionError(f"a call that is not understood: {call}({words})")
+            expect(call.number or call.name == "openat", f"a call that is not understood: {call}")
         return b""
 
-    def left(self, chance):
-        """The files by their names as a power cut leaves them: of the names given and taken since any, in their order."""
-        names = dict(self.synced)
+    def left(self, chance: Random) -> dict[str, bytes]:
+        """The files by their names as a power cut leaves them: of the names that were not synced any."""
         share = chance.choice([0, 1, chance.random()])
-        for name, file in self.given:
-            if chance.random() < share:
-                names[name] = file
-        return {name: file.left(chance) for name, file in names.items() if file is not None}
+        names = {name: file for name, file in self.names.items() if name in self.synced or chance.random() < share}
+        return {name: file.left(chance) for name, file in names.items()}

@@ -6,7 +6,10 @@ use crate::keepers::{keeper, plain_keeper};
 use crate::of_keep::disks::{calls_to, desk_files, open as open_files};
 use crate::of_keep::loaded;
 use crate::streams::Sink;
-use desk::{Desk, Ending, OpenFault, Run, ScriptFault, cut_and_open, run_cut_and_open, run_cut_and_resume, script_cut_and_open};
+use desk::{
+    Desk, Ending, OpenFault, Run, ScriptFault, cut_and_open, run_cut_and_open, run_cut_and_resume,
+    script_cut_and_open,
+};
 use keep::{Keep, PlainKeep, Recover, SqlKeep};
 use sqlite::{FileStore, Files, Options};
 use sqlite_disk::{Fuse, Memory};
@@ -168,9 +171,11 @@ struct Playing {
     writes: usize,
 }
 
-const SCRIPT: &str = "H1 field N1 A-1 0 100 40\nH2 open 7 500 take N1 A-1 10\nH3 open 8 500 take N1 A-1 12\nH4 use 8 N1 A-1 5\nH5 open 9 500 add N1 A-1 20\nH6 firm 9\nH7 writeoff N1 A-1 19\nH8 commit 8\n";
+const SCRIPT: &str =
+    "H1 field N1 A-1 0 100 40\nH2 open 7 500 take N1 A-1 10\nH3 open 8 500 take N1 A-1 12\nH4 use 8 N1 A-1 5\nH5 open 9 500 add N1 A-1 20\nH6 firm 9\nH7 writeoff N1 A-1 19\nH8 commit 8\n";
 
-const ANSWERS: &str = "H1 done 1\nH2 done 2\nH3 done 3\nH4 done 4\nH5 done 5\nH6 done 6\nH7 refused 13 TooLittle 0\nH8 done 7\n";
+const ANSWERS: &str =
+    "H1 done 1\nH2 done 2\nH3 done 3\nH4 done 4\nH5 done 5\nH6 done 6\nH7 refused 13 TooLittle 0\nH8 done 7\n";
 
 /// How many lines were written whole of the answers: all where the script ended `Ok`.
 fn expect_told(ended: Result<(), ScriptFault>, taken: &[u8]) -> Result<usize, Fail> {
@@ -242,7 +247,16 @@ fn at_each_call<T: Trial>(alloc: Global, trial: &T, on_log: bool) -> Result<u64,
 /// Tries it with a failure at each commit of a keeper in memory in turn, which lands or not.
 fn at_each_commit<T: Trial>(alloc: Global, trial: &T, lands: bool) -> Result<(), Fail> {
     // the seventh request is refused, so it has no commit
-    for (fail_at, replies) in [(1, 0), (2, 1), (3, 2), (4, 3), (5, 4), (6, 5), (7, 7), (8, 8)] {
+    for (fail_at, replies) in [
+        (1, 0),
+        (2, 1),
+        (3, 2),
+        (4, 3),
+        (5, 4),
+        (6, 5),
+        (7, 7),
+        (8, 8),
+    ] {
         let keep = PlainKeep::start(alloc, Some(fail_at), lands);
         match open(alloc, keep) {
             Ok(desk) => {
@@ -298,7 +312,10 @@ fn the_desk_is_found_where_a_write_fails(rt: HostRuntime) -> Result<(), Fail> {
     // of 16 bytes each, so that the line of the refusal takes two
     for writes in 0..=9 {
         let told = told_before(rt.alloc(), writes)?;
-        assert!(rt; told == writes.min(7) || (writes == 9 && told == 8), "{writes}");
+        assert!(rt;
+            told == writes.min(7) || (writes == 9 && told == 8),
+            "{writes}"
+        );
         last = told;
     }
     assert!(rt; last == 8);
