@@ -1,4 +1,3 @@
-use Rattle.std.proofs.Common.{rules}
 use Rattle.std.proofs.Math.Logic.{∥∥₁_elim}
 use Rattle.sqlite.specs.Files.{file_state}
 use Rattle.keep.specs.Content.{Holds, LeavesOnly}
@@ -24,10 +23,10 @@ returns-clause-alone g c clean =
     (c.in_ok-again.ensures.alone (c.load-tables.ensures.honest clean)) (c.load-tables.ensures.adds_nothing clean)
 
 pub returns-clause-going : goal.returns-clause-going
-returns-clause-going g c = search rules
+returns-clause-going g c = c.load-tables.ensures.ok
 
 pub returns-clause-stopped : goal.returns-clause-stopped
-returns-clause-stopped g c = search rules
+returns-clause-stopped g c = c.load-tables.ensures.err
 
 pub returns-clause-held : goal.returns-clause-held
-returns-clause-held g c = search rules
+returns-clause-held g c = c.load-tables.ensures.content
