@@ -104,7 +104,7 @@ pub trait Recover: Keep {
     ghost use Rattle.keep.specs.Content.{IsAmong};
 
     /// How it is opened.
-    type Options;
+    type Options: Drop;
 
     /// What the next open finds after a stop at this moment, or None where the open fails: a keeper that is not
     /// stopped, and that holds one of the contents which the stop could leave. A disk that is honest after the open was

@@ -124,11 +124,10 @@ impl Trial for Opening {
         let requests = requests(alloc, &LINES)?;
         if desk.is_stopped() {
             drop(desk.into_keep());
-            Err("stopped")?
+            Err("stopped")?;
         }
-        let Some((run, opened)) = run_cut_and_open(alloc, desk, &requests, options) else {
-            Err("not recovered")?
-        };
+        let found = run_cut_and_open(alloc, desk, &requests, options);
+        let (run, opened) = found.ok_or("not recovered")?;
         let count = expect_replies(&run, 0)?;
         expect_found(alloc, opened, count, most_done(&run))?;
         Ok(count)
@@ -148,7 +147,7 @@ impl Trial for Resuming {
         let requests = requests(alloc, &LINES)?;
         if desk.is_stopped() {
             drop(desk.into_keep());
-            Err("stopped")?
+            Err("stopped")?;
         }
         match run_cut_and_resume(alloc, desk, &requests, options) {
             None => Err("not recovered")?,
@@ -204,12 +203,10 @@ impl Trial for Playing {
         };
         if desk.is_stopped() {
             drop(desk.into_keep());
-            Err("stopped")?
+            Err("stopped")?;
         }
         let played = script_cut_and_open(alloc, desk, &mut SCRIPT.as_bytes(), &mut writer, options);
-        let Some((ended, opened)) = played else {
-            Err("not recovered")?
-        };
+        let (ended, opened) = played.ok_or("not recovered")?;
         let told = expect_told(ended, &writer.taken)?;
         expect_found(alloc, opened, told, told.saturating_add(1))?;
         Ok(told)
@@ -324,11 +321,13 @@ fn the_desk_is_found_where_a_write_fails(rt: HostRuntime) -> Result<(), Fail> {
 
 /// The desk that is found behind two stops between calls is the new one.
 fn found_between(alloc: Global) -> Result<(), Fail> {
-    let Some(Ok(desk)) = cut_and_open(alloc, plain_keeper(alloc), (None, false)) else {
-        Err("not opened")?
-    };
-    let again = cut_and_open(alloc, desk.into_keep(), (None, false)).ok_or("not recovered")?;
-    expect_found(alloc, again, 0, 0)
+    match cut_and_open(alloc, plain_keeper(alloc), (None, false)) {
+        Some(Ok(desk)) => {
+            let again = cut_and_open(alloc, desk.into_keep(), (None, false));
+            expect_found(alloc, again.ok_or("not recovered")?, 0, 0)
+        }
+        _ => Err("not opened")?,
+    }
 }
 
 #[test]
