@@ -131,7 +131,8 @@ impl Recover for PlainKeep {
 
     fn recover(self, _alloc: Global, options: (Option<u64>, bool)) -> Option<Self> {
         let (fail_at, lands) = options;
-        Some(self.reopen(fail_at, lands))
+        let again = self.reopen(fail_at, lands);
+        Some(again)
     }
 }
 

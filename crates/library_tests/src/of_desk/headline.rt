@@ -112,6 +112,7 @@ trait Trial {
 }
 
 /// The list runs, and the desk is opened behind the stop.
+#[derive(Drop)]
 struct Opening;
 
 impl Trial for Opening {
@@ -124,7 +125,7 @@ impl Trial for Opening {
         let requests = requests(alloc, &LINES)?;
         if desk.is_stopped() {
             drop(desk.into_keep());
-            Err("stopped")?;
+            return Err(Fail::from("stopped"));
         }
         let found = run_cut_and_open(alloc, desk, &requests, options);
         let (run, opened) = found.ok_or("not recovered")?;
@@ -135,6 +136,7 @@ impl Trial for Opening {
 }
 
 /// The list runs, and goes on behind the stop to its end.
+#[derive(Drop)]
 struct Resuming;
 
 impl Trial for Resuming {
@@ -147,7 +149,7 @@ impl Trial for Resuming {
         let requests = requests(alloc, &LINES)?;
         if desk.is_stopped() {
             drop(desk.into_keep());
-            Err("stopped")?;
+            return Err(Fail::from("stopped"));
         }
         match run_cut_and_resume(alloc, desk, &requests, options) {
             None => Err("not recovered")?,
@@ -166,6 +168,7 @@ impl Trial for Resuming {
 }
 
 /// The list is played as a script, whose writer fails behind so many writes.
+#[derive(Drop)]
 struct Playing {
     writes: usize,
 }
@@ -203,7 +206,7 @@ impl Trial for Playing {
         };
         if desk.is_stopped() {
             drop(desk.into_keep());
-            Err("stopped")?;
+            return Err(Fail::from("stopped"));
         }
         let played = script_cut_and_open(alloc, desk, &mut SCRIPT.as_bytes(), &mut writer, options);
         let (ended, opened) = played.ok_or("not recovered")?;
