@@ -7,7 +7,7 @@ use Rattle.words.specs.declared.reply.Reply.{Reply}
 use Rattle.book.specs.Answers.{After, Runs}
 use Rattle.book.specs.Ledger.{Ledger}
 use Rattle.book.proofs.Runs.{runs_once}
-use Rattle.desk.specs.Headline.{AreRepliesTo, IsFoundAfter, IsFoundAfterAll, all_replies, answered}
+use Rattle.desk.specs.Headline.{AreRepliesTo, IsFoundAfter, IsFoundAfterCuts, all_replies, answered}
 use Rattle.desk.specs.Resuming.{Resumes, ResumesAgain, StandsAt}
 use Rattle.desk.specs.declared.run.Run.{Run}
 use Rattle.desk.proofs.Resumption.{few, one_more_stands, resumed_again, resumed_same, resumes}
@@ -43,7 +43,7 @@ all_given [] = refl
 all_given (run ∷ runs) = ap (λ (xs : List Reply). run.replies.items ++ xs) (all_given runs)
 
 -- no more are answered than there are
-few_in_all : (B D : Ledger) (rs : List Request) (runs : List Run) → IsFoundAfterAll B rs runs D → length (all_replies runs) ≤ length rs
+few_in_all : (B D : Ledger) (rs : List Request) (runs : List Run) → IsFoundAfterCuts B rs runs D → length (all_replies runs) ≤ length rs
 few_in_all B D rs [] h = omega arith
 few_in_all B D rs (run ∷ runs) (M, (C, is), found, more) =
     let first = few B C rs run.replies.items is in
@@ -52,7 +52,7 @@ few_in_all B D rs (run ∷ runs) (M, (C, is), found, more) =
     let dropped : length (drop (answered run) rs) ≡ length rs - answered run = length-drop (answered run) rs in
     omega arith
 
-found_again : (A B D : Ledger) (rs : List Request) (k : ℕ) (runs : List Run) → 1 ≤ k → k ≤ length rs + 1 → StandsAt A rs k B → IsFoundAfterAll B (drop (k - 1) rs) runs D → ResumesAgain A rs k (given_by runs) D
+found_again : (A B D : Ledger) (rs : List Request) (k : ℕ) (runs : List Run) → 1 ≤ k → k ≤ length rs + 1 → StandsAt A rs k B → IsFoundAfterCuts B (drop (k - 1) rs) runs D → ResumesAgain A rs k (given_by runs) D
 found_again A B D rs k [] one le stands same = subst (λ (L : Ledger). StandsAt A rs k L) (sym same) stands
 found_again A B D rs k (run ∷ runs) one le stands (M, (C, is), found, more) =
     let dropped : length (drop (k - 1) rs) ≡ length rs - (k - 1) = length-drop (k - 1) rs in
@@ -60,19 +60,19 @@ found_again A B D rs k (run ∷ runs) one le stands (M, (C, is), found, more) =
     let step = found_resumes A B M rs k run one le stands (C, is) found in
     let behind : drop (answered run) (drop (k - 1) rs) ≡ drop (k + answered run - 1) rs =
     drop-drop (answered run) (k - 1) rs ∙ ap (λ n. drop n rs) {x = k - 1 + answered run} {y = k + answered run - 1} (omega arith) in
-    (M, step, found_again A M D rs (k + answered run) runs (omega arith) (omega arith) step.stands (subst (λ (xs : List Request). IsFoundAfterAll M xs runs D) behind more))
+    (M, step, found_again A M D rs (k + answered run) runs (omega arith) (omega arith) step.stands (subst (λ (xs : List Request). IsFoundAfterCuts M xs runs D) behind more))
 
-from_start : (A D : Ledger) (rs : List Request) (runs : List Run) → IsFoundAfterAll A rs runs D → ResumesAgain A rs 1 (given_by runs) D
+from_start : (A D : Ledger) (rs : List Request) (runs : List Run) → IsFoundAfterCuts A rs runs D → ResumesAgain A rs 1 (given_by runs) D
 from_start A D rs runs h = found_again A A D rs 1 runs (omega arith) (omega arith) (inl ([], refl)) h
 
-pub stands_after_all : (A D : Ledger) (rs : List Request) (runs : List Run) → IsFoundAfterAll A rs runs D → StandsAt A rs (length (all_replies runs) + 1) D
+pub stands_after_all : (A D : Ledger) (rs : List Request) (runs : List Run) → IsFoundAfterCuts A rs runs D → StandsAt A rs (length (all_replies runs) + 1) D
 stands_after_all A D rs runs h =
     let few_given = few_in_all A D rs runs h in
     let size : length (flat_map (λ some. some) (given_by runs)) ≡ length (all_replies runs) = ap (λ (xs : List Reply). length xs) (all_given runs) in
     subst (λ i. StandsAt A rs i D) {x = 1 + length (flat_map (λ some. some) (given_by runs))} {y = length (all_replies runs) + 1} (omega arith)
     (resumed_again A D rs 1 (given_by runs) (omega arith) (omega arith) (from_start A D rs runs h)).stands
 
-pub same_after_all : (A D last : Ledger) (rs : List Request) (runs : List Run) (replies : List Reply) → IsFoundAfterAll A rs runs D → length (all_replies runs) ≡ length rs → Runs A rs replies last
+pub same_after_all : (A D last : Ledger) (rs : List Request) (runs : List Run) (replies : List Reply) → IsFoundAfterCuts A rs runs D → length (all_replies runs) ≡ length rs → Runs A rs replies last
     → (all_replies runs ≡ replies) × (D ≡ last)
 same_after_all A D last rs runs replies h all run =
     let size : length (flat_map (λ some. some) (given_by runs)) ≡ length (all_replies runs) = ap (λ (xs : List Reply). length xs) (all_given runs) in

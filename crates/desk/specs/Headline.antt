@@ -22,7 +22,7 @@ abbrev pub AreRepliesTo : Ledger → List Request → List Reply → Type 0
 AreRepliesTo A requests replies = (M : Ledger) × Runs A (take (length replies) requests) replies M
 
 -- B is the ledger after a prefix of the requests that holds every one which the run has answered. At most one more is
--- done, and that only where the desk was stopped.
+-- done, and that only where the run ended `Stopped`.
 pub record IsFoundAfter (A : Ledger) (requests : List Request) (run : Run) (B : Ledger) : Type 0 where
   pub done : ℕ
   pub none_lost : answered run ≤ done
@@ -31,8 +31,8 @@ pub record IsFoundAfter (A : Ledger) (requests : List Request) (run : Run) (B : 
   pub all_told : run.ending ≢ Stopped → done ≡ answered run
   pub after : After A requests done B
 
--- B is the ledger after a prefix of the lines that were read. That holds every one whose reply line was written whole:
--- what was written begins the reply lines to it. At most one more is done.
+-- B is the ledger after a prefix of the lines that were read. That holds every one whose reply line was written whole,
+-- since what was written is a beginning of the reply lines to that prefix. At most one more is done.
 pub record IsFoundAfterLines (A : Ledger) (reader_old reader_new writer_old writer_new : Option (List ℕ)) (B : Ledger)
     : Type 0 where
   pub read : List ℕ
@@ -56,7 +56,7 @@ pub record IsFoundAfterLines (A : Ledger) (reader_old reader_new writer_old writ
   pub unwritten : List ℕ
   pub after : RepliesAll A (take done items) (written ++ unwritten) B
 
--- a stop leaves the rows of good ledgers of this kind alone
+-- a stop leaves nothing but the rows of good ledgers of this kind
 pub record LeavesRowsOf (leaves : List Content → Type 0) (Is : Ledger → Type 0) : Type 0 where
   pub these : List Content
   pub leaves_these : leaves these
@@ -64,10 +64,10 @@ pub record LeavesRowsOf (leaves : List Content → Type 0) (Is : Ledger → Type
 
 -- Cut again and again: each part begins at the ledger that was found, with the first request that has no reply. B is
 -- what is found after the last.
-abbrev pub IsFoundAfterAll : Ledger → List Request → List Run → Ledger → Type 0
-IsFoundAfterAll A requests [] B = B ≡ A
-IsFoundAfterAll A requests (run ∷ runs) B = (M : Ledger) × AreRepliesTo A requests run.replies.items
-    × IsFoundAfter A requests run M × IsFoundAfterAll M (drop (answered run) requests) runs B
+abbrev pub IsFoundAfterCuts : Ledger → List Request → List Run → Ledger → Type 0
+IsFoundAfterCuts A requests [] B = B ≡ A
+IsFoundAfterCuts A requests (run ∷ runs) B = (M : Ledger) × AreRepliesTo A requests run.replies.items
+    × IsFoundAfter A requests run M × IsFoundAfterCuts M (drop (answered run) requests) runs B
 
 -- what was answered in all
 abbrev pub all_replies : List Run → List Reply

@@ -1,5 +1,5 @@
-//! The headline: wherever a session stops, an opening finds the ledger after a prefix of what was asked that holds all
-//! that was answered, and from there every future is honoured.
+//! The headline: wherever a run or a script is cut, an opening finds the ledger after a prefix of what was asked that
+//! holds all that was answered, and from there every future is honoured.
 
 ghost use Rattle.std.specs.Prelude.{◌≡◌, ◌⊎◌, ◌↔◌, ◌<◌, ◌+◌, ◌++◌, false, List, length, IfErr, IfOk, IfSome, OnOk, slice_index_or};
 ghost use Rattle.escrow.specs.Codes.{IsKey};
@@ -12,7 +12,7 @@ ghost use Rattle.book.specs.Good.{Good};
 ghost use Rattle.book.specs.Ledger.{Ledger};
 ghost use Rattle.book.specs.Rows.{Content, IsRowsOf};
 ghost use Rattle.desk.specs.Desk.{keeper_after};
-ghost use Rattle.desk.specs.Headline.{AreRepliesTo, IsFoundAfter, IsFoundAfterAll, IsFoundAfterLines, LeavesRowsOf, all_replies, answered};
+ghost use Rattle.desk.specs.Headline.{AreRepliesTo, IsFoundAfter, IsFoundAfterCuts, IsFoundAfterLines, LeavesRowsOf, all_replies, answered};
 ghost use Rattle.desk.specs.Resuming.{StandsAt};
 ghost use Rattle.desk.specs.Script.{EndsWhole};
 ghost use Rattle.keep.specs.Content.{IsAmong};
@@ -52,12 +52,11 @@ fn run_and_stop<K: Keep>(alloc: Global, desk: Desk<K>, requests: &[Request]) -> 
     (run, desk.into_keep())
 }
 
-/// Stops at this moment, and opens the desk that is found then, by any keeper that recovers. None where the keeper does
-/// not recover.
+/// Cuts off at this moment, and opens the desk that is found then, by any keeper that recovers. None where the keeper
+/// does not recover.
 ///
-/// The ledger found is one whose rows the stop could leave, and every future of it is honoured. Where each content that
-/// the stop could leave is the rows of a good ledger, the opening is refused for memory or by the store, and for
-/// nothing else.
+/// Every future of the ledger found is honoured. While the disk is honest, its rows are in every list that bounds what
+/// a stop leaves; and where that is the rows of good ledgers, the opening fails, if at all, for memory or by the store.
 pub fn cut_and_open<K: Recover>(
     alloc: Global,
     keep: K,
@@ -76,13 +75,13 @@ pub fn cut_and_open<K: Recover>(
     Some(Desk::open(alloc, again))
 }
 
-/// Runs the requests, stops there, and opens the desk that is found then: the replies, and that desk. None where the
-/// keeper does not recover.
+/// Runs the requests, is cut off there, and opens the desk that is found then: the replies, and that desk. None where
+/// the keeper does not recover.
 ///
 /// While the disk is honest: the ledger found is the one after the requests that were answered, or after one more, and
-/// that only where the run ended `Stopped`; the opening is refused for memory or by the store, and for nothing else;
-/// from the ledger found, whatever uses, releases, commits, aborts, expiries and firm marks come, in any order, each
-/// field is within its bounds and each order that is open then commits. The replies are the model's.
+/// that only where the run ended `Stopped`; the opening fails, if at all, for memory or by the store. From the ledger
+/// found, whatever uses, releases, commits, aborts, expiries and firm marks come, in any order, each field is within
+/// its bounds and no order that is open then is refused its commit under a new key. The replies are the model's.
 pub fn run_cut_and_open<K: Recover>(
     alloc: Global,
     desk: Desk<K>,
@@ -105,12 +104,12 @@ pub fn run_cut_and_open<K: Recover>(
     Some((run, opened))
 }
 
-/// Runs the requests, stops there, opens the desk that is found then, and goes on behind the last reply: the replies
-/// before the stop, the desk, and the replies after it. None where the keeper does not recover.
+/// Runs the requests, is cut off there, opens the desk that is found then, and goes on behind the last reply: the
+/// replies before the cut, the desk, and the replies after it. None where the keeper does not recover.
 ///
-/// While the disk is honest: where the second part answers all that is left, the replies before the stop and those after
+/// While the disk is honest: where the second part answers all that is left, the replies before the cut and those after
 /// it are together the model's to the requests, as if nothing had been cut, and the ledger is the one after them. The
-/// opening is refused for memory or by the store, and for nothing else.
+/// opening fails, if at all, for memory or by the store.
 pub fn run_cut_and_resume<K: Recover>(
     alloc: Global,
     desk: Desk<K>,
@@ -144,10 +143,10 @@ pub fn run_cut_and_resume<K: Recover>(
 /// is the ledger after all that was answered, or after one more; and with all answered, the replies and the ledger are
 /// those of a run that was never cut.
 pub fn any_number_of_cuts()
-    ensures found { (A B : Ledger) (requests : List RequestOf) (runs : List Run) → IsFoundAfterAll A requests runs B
+    ensures found { (A B : Ledger) (requests : List RequestOf) (runs : List Run) → IsFoundAfterCuts A requests runs B
         → StandsAt A requests (length (all_replies runs) + 1) B }
     ensures same { (A B last : Ledger) (requests : List RequestOf) (runs : List Run) (replies : List ReplyOf)
-        → IsFoundAfterAll A requests runs B → length (all_replies runs) ≡ length requests
+        → IsFoundAfterCuts A requests runs B → length (all_replies runs) ≡ length requests
         → Runs A requests replies last → (all_replies runs ≡ replies) × (B ≡ last) }
 {}
 
@@ -171,13 +170,13 @@ fn script_and_stop<K: Keep, R: Read, W: Write>(
     (ended, desk.into_keep())
 }
 
-/// Plays a script, stops where it ends, and opens the desk that is found then: how the script ended, and that desk. None
-/// where the keeper does not recover.
+/// Plays a script, is cut off where it ends, and opens the desk that is found then: how the script ended, and that desk.
+/// None where the keeper does not recover.
 ///
-/// While the disk is honest: the ledger found is the one after a prefix of the lines that were read which holds every
-/// one whose reply line was written whole, and at most one more; after a script that ended `Ok` it is the one after all
-/// its lines. The opening is refused for memory or by the store, and for nothing else, and every future of the ledger
-/// found is honoured.
+/// While the disk is honest, and where the reader and the writer tell their bytes: the ledger found is the one after a
+/// prefix of the lines that were read which holds every one whose reply line was written whole, and at most one more;
+/// after a script that ended `Ok` it is the one after all its lines. The opening fails, if at all, for memory or by the
+/// store, and every future of the ledger found is honoured.
 pub fn script_cut_and_open<K: Recover, R: Read, W: Write>(
     alloc: Global,
     desk: Desk<K>,

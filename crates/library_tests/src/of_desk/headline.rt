@@ -1,6 +1,8 @@
 //! The headline, wherever a session stops: at each call of a disk with a power cut behind it, at each commit of a keeper
 //! in memory, at each write of a script.
 
+ghost use Rattle.std.specs.Prelude.{IsTrue};
+
 use crate::desks::{open, requests};
 use crate::keepers::{keeper, plain_keeper};
 use crate::of_keep::disks::{calls_to, desk_files, open as open_files};
@@ -10,9 +12,9 @@ use desk::{
     Desk, Ending, OpenFault, Run, ScriptFault, cut_and_open, run_cut_and_open, run_cut_and_resume,
     script_cut_and_open,
 };
-use keep::{Keep, PlainKeep, Recover, SqlKeep};
-use sqlite::{FileStore, Files, Options};
-use sqlite_disk::{Fuse, Memory};
+use keep::{Keep, PlainKeep, Recover};
+use sqlite::{Files, Options};
+use sqlite_disk::{Crash, Disk, Fuse};
 use std::alloc::Global;
 use std::test::Fail;
 use words::{Refusal, Reply};
@@ -216,29 +218,39 @@ impl Trial for Playing {
     }
 }
 
-type FusedKeep = SqlKeep<FileStore<Fuse<Memory>>>;
+/// Tries it on the desk in these files: how many replies came, none where it is not opened.
+fn tried_over<D: Crash + Drop, T: Trial>(
+    alloc: Global,
+    files: Files<D>,
+    trial: &T,
+) -> Result<usize, Fail>
+    requires { IsTrue (D.Disk.is_usable files.log) × IsTrue (D.Disk.is_usable files.db) }
+{
+    match open_files(alloc, files) {
+        Ok(conn) => match open(alloc, keeper(conn)?) {
+            Ok(desk) => trial.on(alloc, desk, Options::new(5)),
+            Err(_) => Ok(0),
+        },
+        Err(_) => Ok(0),
+    }
+}
 
-/// A new desk over files of which one fails after so many calls, where that is opened.
-fn fused_desk(alloc: Global, calls: (u64, u64)) -> Result<Option<Desk<FusedKeep>>, Fail> {
+/// Tries it on a new desk in files that fail after so many calls, up to a power cut.
+fn tried_at<T: Trial>(alloc: Global, trial: &T, calls: (u64, u64)) -> Result<usize, Fail> {
     let files = desk_files(alloc)?;
     let fused = Files {
         log: Fuse::new(files.log, calls.0),
         db: Fuse::new(files.db, calls.1),
     };
-    match open_files(alloc, fused) {
-        Ok(conn) => Ok(open(alloc, keeper(conn)?).ok()),
-        Err(_) => Ok(None),
-    }
+    tried_over(alloc, fused, trial)
 }
 
 /// Tries it with a failure at each call of one of the files in turn, up to the first that is not cut: how many were
 /// tried.
 fn at_each_call<T: Trial>(alloc: Global, trial: &T, on_log: bool) -> Result<u64, Fail> {
     for calls in 0..400u64 {
-        if let Some(desk) = fused_desk(alloc, calls_to(on_log, calls))? {
-            if trial.on(alloc, desk, Options::new(5))? == LINES.len() {
-                return Ok(calls);
-            }
+        if tried_at(alloc, trial, calls_to(on_log, calls))? == LINES.len() {
+            return Ok(calls);
         }
     }
     Err("never ended")?
