@@ -1,7 +1,7 @@
 -- What an opening finds after a run, after a script, and after many cuts.
-use Rattle.std.proofs.Common.{◌≡◌, ◌∙◌, ◌⊎◌, ◌<◌, ◌≤◌, ◌+◌, ◌-◌, ◌++◌, ℕ, List, [], ◌∷◌, Option, Some, ap, append-nil, append_assoc, arith, drop, flat_map, inl, inr, length, map, refl, subst, sym, take}
+use Rattle.std.proofs.Common.{◌≡◌, ◌∙◌, ◌⊎◌, ◌<◌, ◌≤◌, ◌+◌, ◌-◌, ◌++◌, ℕ, List, [], ◌∷◌, Option, None, Some, ap, append-nil, append_assoc, arith, drop, flat_map, inl, inr, length, map, refl, subst, sym, take}
 use native.Mathlib.Decide.{dec_lt}
-use Rattle.std.specs.Prelude.{◌≢◌, ◌↔◌, IfErr, IfOk, Result, Ok, Err, slice_index_or}
+use Rattle.std.specs.Prelude.{◌≢◌, ◌↔◌, IfErr, IfOk, IfSome, Result, Ok, Err, slice_index_or}
 use Rattle.std.specs.Io.KnownBytes.{Appends, Consumes}
 use Rattle.std.proofs.lemmas.List.{length-append, length-take-le, take-append-drop, take_at, take_more}
 use Rattle.std.proofs.Math.Logic.{∥∥₁_elim, ∥∥₁_map}
@@ -26,7 +26,7 @@ use Rattle.keep.specs.Content.{IsAmong}
 use Rattle.desk.specs.Desk.{DeskView, IsStored, LeavesEither, OpensAt, keeper_after}
 use Rattle.desk.specs.Headline.{IsFoundAfter, IsFoundAfterLines, LeavesRowsOf, answered}
 use Rattle.desk.specs.Replies.{request_line}
-use Rattle.desk.specs.Resuming.{StandsAt}
+use Rattle.desk.specs.Resuming.{Resumes, StandsAt}
 use Rattle.desk.specs.Script.{AlmostWritten, EndsCut, EndsWhole, IsCut, StopsAt}
 use Rattle.desk.specs.Text.{AreItems, RepliesAll, unended}
 use Rattle.desk.specs.declared.fault.OpenFault.{OpenFault}
@@ -35,7 +35,7 @@ use Rattle.desk.specs.declared.fault.ScriptFault.{ScriptFault}
 use Rattle.desk.specs.declared.run.Ending.{Ending}
 use Rattle.desk.specs.declared.run.Ending.TheVariants.{All, Memory as OutOfMemory, Stopped}
 use Rattle.desk.specs.declared.run.Run.{Run}
-use Rattle.desk.proofs.Resumption.{few, runs_split}
+use Rattle.desk.proofs.Resumption.{few, is_whole, runs_split}
 use Rattle.desk.proofs.SomeText.{front_in_range, good_after_all, items_in_range}
 use Rattle.desk.proofs.Texts.{replies_more}
 
@@ -114,13 +114,45 @@ opened_one (Ok desk) leaves Is left good found =
     subst Is (told_by_rows A desk.ledger f.0 sound good.0 rows f.2) is)
 opened_one (Err e) leaves Is left good found = tt
 
--- what is so of an opening is so of its desk
-pub at_ok : {K : Type 0} {r : Result (DeskView K) (OpenFault × K)} {d : DeskView K} → r ≡ Ok d → (Honest : K → Type 0) (P : Ledger → Type 0) → (Honest (keeper_after r) → IfOk r (λ again. P again.ledger)) → Honest d.keep → P d.ledger
-at_ok {K} {r} {d} is Honest P all = subst (λ (o : Result (DeskView K) (OpenFault × K)). Honest (keeper_after o) → IfOk o (λ again. P again.ledger)) is all
+-- another stop leaves what was found alone
+pub left_alone : (these : List Content) (Held : Content → Type 0) (leaves : List Content → Type 0) → ∥ ((x : Content) × Held x × IsAmong these x) ∥₁ → ((x : Content) → Held x → leaves (x ∷ []))
+    → ∥ ((x : Content) × IsAmong these x × leaves (x ∷ [])) ∥₁
+left_alone these Held leaves found alone =
+    ∥∥₁_map found (λ f. let r : ((x : Content) × IsAmong these x × leaves (x ∷ [])) = (f.0, f.2, alone f.0 f.1) in r)
 
--- and of its fault
-pub at_err : {K : Type 0} {r : Result (DeskView K) (OpenFault × K)} {e : OpenFault × K} → r ≡ Err e → (Honest : K → Type 0) (P : OpenFault → Type 0) → (Honest (keeper_after r) → IfErr r (λ f. P f.0)) → Honest e.1 → P e.0
-at_err {K} {r} {e} is Honest P all = subst (λ (o : Result (DeskView K) (OpenFault × K)). Honest (keeper_after o) → IfErr o (λ f. P f.0)) is all
+-- of what is left that is one
+left_still : (before after : List Content → Type 0) (Is : Ledger → Type 0) → (left : LeavesRowsOf before Is) → ∥ ((x : Content) × IsAmong left.these x × after (x ∷ [])) ∥₁ → ∥ LeavesRowsOf after Is ∥₁
+left_still before after Is left found = ∥∥₁_map found one
+  where
+    one : ((x : Content) × IsAmong left.these x × after (x ∷ [])) → LeavesRowsOf after Is
+    one (x, among, leaves) = record { these = x ∷ []; leaves_these = leaves; are_rows = at }
+      where
+        at : (y : Content) → IsAmong (x ∷ []) y → (A : Ledger) × Good A × IsRowsOf A y × Is A
+        at y (inl same) = left.are_rows y (subst (IsAmong left.these) (sym same) among)
+        at y (inr never) = absurd never
+
+-- ---- what is found after a stop that left such rows, where the keeper recovers
+
+module _ {K : Type 0} (Honest : K → Type 0) (leaves : List Content → Type 0) (Before : Type 0) (Is : Ledger → Type 0) where
+  pub found_of : (o : Option (Result (DeskView K) (OpenFault × K))) → IfSome o (λ r. Honest (keeper_after r) → Before) → (Before → LeavesRowsOf leaves Is)
+      → IfSome o (λ r. Honest (keeper_after r) → (these : List Content) → leaves these → IfOk r (λ desk. ∥ ((x : Content) × IsAmong these x × IsRowsOf desk.ledger x) ∥₁))
+      → IfSome o (λ r. IfOk r (λ desk. Good desk.ledger × Honours desk.ledger × HonoursAlways desk.ledger)) → IfSome o (λ r. Honest (keeper_after r) → IfOk r (λ desk. ∥ Is desk.ledger ∥₁))
+  found_of None before left found good = tt
+  found_of (Some r) before left found good =
+      λ honest. let those = left (before honest) in opened_one r leaves Is those good (found honest those.these those.leaves_these)
+
+  pub refused_of : (o : Option (Result (DeskView K) (OpenFault × K))) → IfSome o (λ r. Honest (keeper_after r) → Before) → (Before → LeavesRowsOf leaves Is)
+      → IfSome o (λ r. Honest (keeper_after r) → LeavesRowsOf leaves Good → IfErr r (λ e. (e.0 ≡ Memory) ⊎ (e.0 ≡ Store)))
+      → IfSome o (λ r. Honest (keeper_after r) → IfErr r (λ e. (e.0 ≡ Memory) ⊎ (e.0 ≡ Store)))
+  refused_of None before left refused = tt
+  refused_of (Some r) before left refused = λ honest. refused honest (good_left leaves Is (left (before honest)))
+
+  pub left_of : (after : K → List Content → Type 0) (o : Option (Result (DeskView K) (OpenFault × K))) → IfSome o (λ r. Honest (keeper_after r) → Before) → (Before → LeavesRowsOf leaves Is)
+      → IfSome o (λ r. Honest (keeper_after r) → (these : List Content) → leaves these → ∥ ((x : Content) × IsAmong these x × after (keeper_after r) (x ∷ [])) ∥₁)
+      → IfSome o (λ r. Honest (keeper_after r) → ∥ LeavesRowsOf (after (keeper_after r)) Is ∥₁)
+  left_of after None before left found = tt
+  left_of after (Some r) before left found =
+      λ honest. let those = left (before honest) in left_still leaves (after (keeper_after r)) Is those (found honest those.these those.leaves_these)
 
 -- ---- after a run
 
@@ -194,7 +226,7 @@ stands_found A B rs run found =
     let high = found.one_more in
     let there = found.none_unasked in
     elim (dec_lt (answered run) found.done) [
-      yes more ↦ inr (omega arith, subst (λ i. After A rs i B) (omega arith) found.after)
+      | yes more ↦ inr (omega arith, subst (λ i. After A rs i B) (omega arith) found.after)
       | no same ↦ inl (subst (λ i. After A rs i B) (omega arith) found.after)
     ]
 
@@ -207,8 +239,31 @@ whole_run A M B rs ps before rest first size run =
     let same : before ≡ ps = sym (take_at before rest (length (take n rs)) (size ∙ sym front)) ∙ (runs_once A (take n rs) _ ps parts.0 M parts.1 first).0 in
     subst (λ (xs : List Reply). Runs A rs (xs ++ rest) B) same run
 
-pub resumed_whole : (A M B C : Ledger) (rs : List Request) (run : Run) (rest : List Reply) (k : ℕ) → k ≡ answered run + 1 → Runs A (take (answered run) rs) run.replies.items M → ∥ IsFoundAfter A rs run B ∥₁
-    → (StandsAt A rs k B → (before : List Reply) × (length before + 1 ≡ k) × Runs A rs (before ++ rest) C) → ∥ Runs A rs (run.replies.items ++ rest) C ∥₁
-resumed_whole A M B C rs run rest k is first found whole =
-    ∥∥₁_map found (λ f. let (before, size, all) = whole (subst (λ i. StandsAt A rs i B) (sym is) (stands_found A B rs run f)) in
-    whole_run A M C rs run.replies.items before rest first (omega (arith, size, is)) all)
+-- ---- gone on with
+
+-- what is so of what there is
+pub some_of : {X : Type 0} {o : Option X} {x : X} (P : X → Type 0) → o ≡ Some x → IfSome o P → P x
+some_of P is all = subst (λ o. IfSome o P) is all
+
+module _ {K : Type 0} (Honest : K → Type 0) (A : Ledger) (rs : List Request) (run : Run) (opened : Result (DeskView K) (OpenFault × K)) where
+  pub resumed_of : (r : Result (DeskView K × Run) (OpenFault × K)) (k : ℕ) → k ≡ answered run + 1 → (Honest (keeper_after opened) → IfOk opened (λ desk. ∥ IsFoundAfter A rs run desk.ledger ∥₁))
+      → IfOk r (λ after. Honest after.0.keep → (again : DeskView K) × (opened ≡ Ok again) × Honest again.keep × ((B : Ledger) → StandsAt B rs k again.ledger → Resumes B rs k after.1.replies.items after.0.ledger))
+      → IfOk r (λ after. Honest after.0.keep → ∥ Resumes A rs (answered run + 1) after.1.replies.items after.0.ledger ∥₁)
+  resumed_of (Ok after) k is found resumed = λ honest. let (again, same, honest_again, goes_on) = resumed honest in
+      let there = subst (λ (o : Result (DeskView K) (OpenFault × K)). Honest (keeper_after o) → IfOk o (λ desk. ∥ IsFoundAfter A rs run desk.ledger ∥₁)) same found honest_again in
+      ∥∥₁_map there (λ f. subst (λ i. Resumes A rs i after.1.replies.items after.0.ledger) is (goes_on A (subst (λ i. StandsAt A rs i again.ledger) (sym is) (stands_found A again.ledger rs run f))))
+  resumed_of (Err e) k is found resumed = tt
+
+  pub whole_of : (r : Result (DeskView K × Run) (OpenFault × K)) (M : Ledger) → Runs A (take (answered run) rs) run.replies.items M
+      → IfOk r (λ after. Honest after.0.keep → ∥ Resumes A rs (answered run + 1) after.1.replies.items after.0.ledger ∥₁) → IfOk r (λ after. after.1.ending ≡ All ↔ answered run + answered after.1 ≡ length rs)
+      → IfOk r (λ after. Honest after.0.keep → after.1.ending ≡ All → ∥ Runs A rs (run.replies.items ++ after.1.replies.items) after.0.ledger ∥₁)
+  whole_of (Ok after) M first resumed rest = λ honest all. ∥∥₁_map (resumed honest) (λ f.
+      let count = rest.0 all in
+      let (before, size, runs) = is_whole A after.0.ledger rs (answered run + 1) after.1.replies.items f (omega (arith, count)) in
+      whole_run A M after.0.ledger rs run.replies.items before after.1.replies.items first (omega (arith, size)) runs)
+  whole_of (Err e) M first resumed rest = tt
+
+-- how many replies there are in all
+pub rest_of : {T E : Type 0} (r : Result (T × Run) E) (k m n : ℕ) → k ≡ m + 1 → IfOk r (λ after. after.1.ending ≡ All ↔ k + answered after.1 ≡ n + 1) → IfOk r (λ after. after.1.ending ≡ All ↔ m + answered after.1 ≡ n)
+rest_of (Ok after) k m n is rest = (λ all. let e = rest.0 all in omega (arith, is), λ e. rest.1 (omega (arith, is, e)))
+rest_of (Err e) k m n is rest = tt

@@ -7,15 +7,15 @@ use Rattle.words.specs.declared.reply.Reply.{Reply}
 use Rattle.book.specs.Answers.{After, Runs}
 use Rattle.book.specs.Ledger.{Ledger}
 use Rattle.book.proofs.Runs.{runs_once}
-use Rattle.desk.specs.Headline.{AreRepliesTo, IsFoundAfter, IsFoundAfterCuts, all_replies, answered}
+use Rattle.desk.specs.Headline.{IsFoundAfter, IsFoundAfterCuts, IsRunOf, all_replies, answered}
 use Rattle.desk.specs.Resuming.{Resumes, ResumesAgain, StandsAt}
 use Rattle.desk.specs.declared.run.Run.{Run}
 use Rattle.desk.proofs.Resumption.{few, one_more_stands, resumed_again, resumed_same, resumes}
 
 -- what is found after a part is where the next is to be resumed
-found_resumes : (A B M : Ledger) (rs : List Request) (k : ℕ) (run : Run) → 1 ≤ k → k ≤ length rs + 1 → StandsAt A rs k B → AreRepliesTo B (drop (k - 1) rs) run.replies.items
+found_resumes : (A B M : Ledger) (rs : List Request) (k : ℕ) (run : Run) → 1 ≤ k → k ≤ length rs + 1 → StandsAt A rs k B → IsRunOf B (drop (k - 1) rs) run
     → IsFoundAfter B (drop (k - 1) rs) run M → Resumes A rs k run.replies.items M
-found_resumes A B M rs k run one le stands (C, is) found = record { before = base.before; last = base.last; counted = base.counted; run = base.run; stands = there }
+found_resumes A B M rs k run one le stands ((C, is), ended) found = record { before = base.before; last = base.last; counted = base.counted; run = base.run; stands = there }
   where
     base : Resumes A rs k run.replies.items C
     base = resumes A B C rs k run.replies.items one le stands is
@@ -27,7 +27,7 @@ found_resumes A B M rs k run one le stands (C, is) found = record { before = bas
         let high = found.one_more in
         let asked = found.none_unasked in
         elim (dec_lt (answered run) found.done) [
-          yes more ↦ one_more_stands A B M rs k run.replies.items one (omega arith) stands (subst (λ i. After B (drop (k - 1) rs) i M) (omega arith) found.after)
+          | yes more ↦ one_more_stands A B M rs k run.replies.items one (omega arith) stands (subst (λ i. After B (drop (k - 1) rs) i M) (omega arith) found.after)
           | no same ↦ same_there (subst (λ i. After B (drop (k - 1) rs) i M) (omega arith) found.after)
         ]
       where
@@ -45,7 +45,7 @@ all_given (run ∷ runs) = ap (λ (xs : List Reply). run.replies.items ++ xs) (a
 -- no more are answered than there are
 few_in_all : (B D : Ledger) (rs : List Request) (runs : List Run) → IsFoundAfterCuts B rs runs D → length (all_replies runs) ≤ length rs
 few_in_all B D rs [] h = omega arith
-few_in_all B D rs (run ∷ runs) (M, (C, is), found, more) =
+few_in_all B D rs (run ∷ runs) (M, ((C, is), ended), found, more) =
     let first = few B C rs run.replies.items is in
     let rest = few_in_all M D (drop (answered run) rs) runs more in
     let size : length (all_replies (run ∷ runs)) ≡ answered run + length (all_replies runs) = length-append run.replies.items (all_replies runs) in
@@ -54,10 +54,10 @@ few_in_all B D rs (run ∷ runs) (M, (C, is), found, more) =
 
 found_again : (A B D : Ledger) (rs : List Request) (k : ℕ) (runs : List Run) → 1 ≤ k → k ≤ length rs + 1 → StandsAt A rs k B → IsFoundAfterCuts B (drop (k - 1) rs) runs D → ResumesAgain A rs k (given_by runs) D
 found_again A B D rs k [] one le stands same = subst (λ (L : Ledger). StandsAt A rs k L) (sym same) stands
-found_again A B D rs k (run ∷ runs) one le stands (M, (C, is), found, more) =
+found_again A B D rs k (run ∷ runs) one le stands (M, ((C, is), ended), found, more) =
     let dropped : length (drop (k - 1) rs) ≡ length rs - (k - 1) = length-drop (k - 1) rs in
     let fits = few B C (drop (k - 1) rs) run.replies.items is in
-    let step = found_resumes A B M rs k run one le stands (C, is) found in
+    let step = found_resumes A B M rs k run one le stands ((C, is), ended) found in
     let behind : drop (answered run) (drop (k - 1) rs) ≡ drop (k + answered run - 1) rs =
     drop-drop (answered run) (k - 1) rs ∙ ap (λ n. drop n rs) {x = k - 1 + answered run} {y = k + answered run - 1} (omega arith) in
     (M, step, found_again A M D rs (k + answered run) runs (omega arith) (omega arith) step.stands (subst (λ (xs : List Request). IsFoundAfterCuts M xs runs D) behind more))

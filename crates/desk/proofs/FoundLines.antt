@@ -1,6 +1,6 @@
 -- What an opening finds after a script.
 use Rattle.std.proofs.Common.{◌≡◌, ◌⊎◌, ◌∙◌, ◌≤◌, ◌+◌, ◌++◌, ℕ, List, [], ◌∷◌, Option, Some, append-nil, append_assoc, arith, ap, inl, inr, length, refl, subst, sym, take}
-use Rattle.std.specs.Prelude.{◌≢◌, Err, IfErr, IfOk, Ok, OnOk, Result}
+use Rattle.std.specs.Prelude.{◌≢◌, Err, IfErr, IfOk, IfSome, Ok, OnOk, Result}
 use Rattle.std.specs.List.{AllByRecursion as Each}
 use Rattle.std.specs.Io.KnownBytes.{Appends, Consumes}
 use Rattle.std.proofs.lemmas.List.{length-append, take_at}
@@ -16,7 +16,7 @@ use Rattle.book.specs.Next.{accept}
 use Rattle.book.specs.Rows.{Content, IsRowsOf}
 use Rattle.book.proofs.Runs.{accepted_answered}
 use Rattle.keep.specs.Content.{IsAmong}
-use Rattle.desk.specs.Desk.{DeskView, IsStored}
+use Rattle.desk.specs.Desk.{DeskView, IsStored, keeper_after}
 use Rattle.desk.specs.Headline.{IsFoundAfterLines, LeavesRowsOf}
 use Rattle.desk.specs.Replies.{request_line}
 use Rattle.desk.specs.Script.{EndsCut, EndsWhole, IsCut, LacksRest, StopsAt}
@@ -24,7 +24,7 @@ use Rattle.desk.specs.Text.{AreItems, RepliesAll, unended}
 use Rattle.desk.specs.declared.fault.OpenFault.{OpenFault}
 use Rattle.desk.specs.declared.fault.ScriptFault.{ScriptFault}
 use Rattle.desk.proofs.Cuts.{write_stops_nothing}
-use Rattle.desk.proofs.FoundAfter.{either_left, opened_one, stored_left}
+use Rattle.desk.proofs.FoundAfter.{either_left, found_of, stored_left}
 use Rattle.desk.proofs.SomeText.{IsItemInRange, front_in_range, good_after_all, items_in_range}
 use Rattle.desk.proofs.Texts.{replies_more}
 
@@ -155,8 +155,9 @@ whole_left (Ok done) holds leaves A M R r W w good whole stored = stored_left M 
 whole_left (Err fault) holds leaves A M R r W w good whole stored = tt
 
 -- what is opened then is the ledger of the whole
-pub whole_opened : {T K : Type 0} (ended : Result T ScriptFault) (r : Result (DeskView K) (OpenFault × K)) (leaves : List Content → Type 0) (Is : Ledger → Type 0) → OnOk ended (LeavesRowsOf leaves Is)
-    → IfOk r (λ desk. Good desk.ledger × Honours desk.ledger × HonoursAlways desk.ledger)
-    → ((these : List Content) → leaves these → IfOk r (λ desk. ∥ ((x : Content) × IsAmong these x × IsRowsOf desk.ledger x) ∥₁)) → OnOk ended (IfOk r (λ desk. ∥ Is desk.ledger ∥₁))
-whole_opened (Ok done) r leaves Is left good found = opened_one r leaves Is left good (found left.these left.leaves_these)
-whole_opened (Err fault) r leaves Is left good found = tt
+pub whole_opened : {T K : Type 0} (Honest : K → Type 0) (leaves : List Content → Type 0) (Before : Type 0) (Is : Ledger → Type 0) (ended : Result T ScriptFault) (o : Option (Result (DeskView K) (OpenFault × K)))
+    → IfSome o (λ r. Honest (keeper_after r) → Before) → (Before → OnOk ended (LeavesRowsOf leaves Is))
+    → IfSome o (λ r. Honest (keeper_after r) → (these : List Content) → leaves these → IfOk r (λ desk. ∥ ((x : Content) × IsAmong these x × IsRowsOf desk.ledger x) ∥₁))
+    → IfSome o (λ r. IfOk r (λ desk. Good desk.ledger × Honours desk.ledger × HonoursAlways desk.ledger)) → OnOk ended (IfSome o (λ r. Honest (keeper_after r) → IfOk r (λ desk. ∥ Is desk.ledger ∥₁)))
+whole_opened Honest leaves Before Is (Ok done) o before left found good = found_of Honest leaves Before Is o before left found good
+whole_opened Honest leaves Before Is (Err fault) o before left found good = tt

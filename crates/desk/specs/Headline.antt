@@ -1,5 +1,5 @@
 -- What an opening finds after a stop: the headline.
-use Rattle.std.specs.Prelude.{◌≡◌, ◌≢◌, ◌≤◌, ◌+◌, ◌++◌, ℕ, List, [], ◌∷◌, Option, drop, flat_map, length, take}
+use Rattle.std.specs.Prelude.{◌≡◌, ◌≢◌, ◌↔◌, ◌≤◌, ◌+◌, ◌++◌, ℕ, List, [], ◌∷◌, Option, drop, flat_map, length, take}
 use Rattle.std.specs.Io.KnownBytes.{Appends, Consumes}
 use Rattle.words.specs.declared.command.Request.{Request}
 use Rattle.words.specs.declared.item.Item.{Item}
@@ -10,16 +10,17 @@ use Rattle.book.specs.Ledger.{Ledger}
 use Rattle.book.specs.Rows.{Content, IsRowsOf}
 use Rattle.keep.specs.Content.{IsAmong}
 use Rattle.desk.specs.Text.{AreItems, RepliesAll}
-use Rattle.desk.specs.declared.run.Ending.TheVariants.{Stopped}
+use Rattle.desk.specs.declared.run.Ending.TheVariants.{All, Stopped}
 use Rattle.desk.specs.declared.run.Run.{Run}
 
 -- how many requests a run has answered
 abbrev pub answered : Run → ℕ
 answered run = length run.replies.items
 
--- the replies are the model's to the first of the requests, one to each
-abbrev pub AreRepliesTo : Ledger → List Request → List Reply → Type 0
-AreRepliesTo A requests replies = (M : Ledger) × Runs A (take (length replies) requests) replies M
+-- the replies are the model's to the first of the requests, one to each; it ended `All` exactly where these are all
+abbrev pub IsRunOf : Ledger → List Request → Run → Type 0
+IsRunOf A requests run = ((M : Ledger) × Runs A (take (answered run) requests) run.replies.items M)
+    × (run.ending ≡ All ↔ answered run ≡ length requests)
 
 -- B is the ledger after a prefix of the requests that holds every one which the run has answered. At most one more is
 -- done, and that only where the run ended `Stopped`.
@@ -66,7 +67,7 @@ pub record LeavesRowsOf (leaves : List Content → Type 0) (Is : Ledger → Type
 -- what is found after the last.
 abbrev pub IsFoundAfterCuts : Ledger → List Request → List Run → Ledger → Type 0
 IsFoundAfterCuts A requests [] B = B ≡ A
-IsFoundAfterCuts A requests (run ∷ runs) B = (M : Ledger) × AreRepliesTo A requests run.replies.items
+IsFoundAfterCuts A requests (run ∷ runs) B = (M : Ledger) × IsRunOf A requests run
     × IsFoundAfter A requests run M × IsFoundAfterCuts M (drop (answered run) requests) runs B
 
 -- what was answered in all

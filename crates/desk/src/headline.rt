@@ -1,7 +1,7 @@
 //! The headline: wherever a run or a script is cut, an opening finds the ledger after a prefix of what was asked that
 //! holds all that was answered, and from there every future is honoured.
 
-ghost use Rattle.std.specs.Prelude.{◌≡◌, ◌⊎◌, ◌↔◌, ◌<◌, ◌+◌, ◌++◌, false, List, length, IfErr, IfOk, IfSome, OnOk, slice_index_or};
+ghost use Rattle.std.specs.Prelude.{◌≡◌, ◌⊎◌, ◌↔◌, ◌<◌, ◌≤◌, ◌+◌, ◌++◌, ◌∷◌, [], false, Err, Ok, List, length, IfErr, IfOk, IfSome, OnOk, slice_index_or};
 ghost use Rattle.escrow.specs.Codes.{IsKey};
 ghost use Rattle.words.specs.Spelling.{IsInRange};
 ghost use Rattle.words.specs.declared.command.Request.{Request as RequestOf};
@@ -11,9 +11,9 @@ ghost use Rattle.book.specs.Future.{Honours, HonoursAlways};
 ghost use Rattle.book.specs.Good.{Good};
 ghost use Rattle.book.specs.Ledger.{Ledger};
 ghost use Rattle.book.specs.Rows.{Content, IsRowsOf};
-ghost use Rattle.desk.specs.Desk.{keeper_after};
-ghost use Rattle.desk.specs.Headline.{AreRepliesTo, IsFoundAfter, IsFoundAfterCuts, IsFoundAfterLines, LeavesRowsOf, all_replies, answered};
-ghost use Rattle.desk.specs.Resuming.{StandsAt};
+ghost use Rattle.desk.specs.Desk.{DeskView, keeper_after};
+ghost use Rattle.desk.specs.Headline.{IsFoundAfter, IsFoundAfterCuts, IsFoundAfterLines, IsRunOf, LeavesRowsOf, all_replies, answered};
+ghost use Rattle.desk.specs.Resuming.{Resumes, StandsAt};
 ghost use Rattle.desk.specs.Script.{EndsWhole};
 ghost use Rattle.keep.specs.Content.{IsAmong};
 
@@ -38,10 +38,12 @@ fn next_in_range(requests: &[Request], replies: &[Reply])
 }
 
 /// Runs the requests, and gives the keeper up where that ends.
-fn run_and_stop<K: Keep>(alloc: Global, desk: Desk<K>, requests: &[Request]) -> (Run, K)
+///
+/// The replies are the model's. Over an honest disk a stop leaves then nothing but the rows of the ledger after the
+/// requests that were answered, or, where the run ended `Stopped`, those after one more.
+pub fn run_and_stop<K: Keep>(alloc: Global, desk: Desk<K>, requests: &[Request]) -> (Run, K)
     requires { K.stopped desk.keep ≡ false }
-    ensures replies { AreRepliesTo desk.ledger requests.now result.0.replies.items }
-    ensures all { result.0.ending ≡ Ending.All ↔ answered result.0 ≡ length requests.now }
+    ensures replies { IsRunOf desk.ledger requests.now result.0 }
     ensures left { K.is_honest result.1
         → LeavesRowsOf (K.leaves result.1) (IsFoundAfter desk.ledger requests.now result.0) }
 {
@@ -57,6 +59,7 @@ fn run_and_stop<K: Keep>(alloc: Global, desk: Desk<K>, requests: &[Request]) -> 
 ///
 /// Every future of the ledger found is honoured. While the disk is honest, its rows are in every list that bounds what
 /// a stop leaves; and where that is the rows of good ledgers, the opening fails, if at all, for memory or by the store.
+/// Whether it fails or not, another stop leaves nothing but one of that list.
 pub fn cut_and_open<K: Recover>(
     alloc: Global,
     keep: K,
@@ -64,6 +67,8 @@ pub fn cut_and_open<K: Recover>(
 ) -> Option<Result<Desk<K>, (OpenFault, K)>>
     ensures found { IfSome result (λ r. K.is_honest (keeper_after r) → (these : List Content) → K.leaves keep these
         → IfOk r (λ again. ∥ ((x : Content) × IsAmong these x × IsRowsOf again.ledger x) ∥₁)) }
+    ensures left { IfSome result (λ r. K.is_honest (keeper_after r) → (these : List Content) → K.leaves keep these
+        → ∥ ((x : Content) × IsAmong these x × K.leaves (keeper_after r) (x ∷ [])) ∥₁) }
     ensures refused { IfSome result (λ r. K.is_honest (keeper_after r) → LeavesRowsOf (K.leaves keep) Good
         → IfErr r (λ e. (e.0 ≡ OpenFault.Memory) ⊎ (e.0 ≡ OpenFault.Store))) }
     ensures honours { IfSome result (λ r. IfOk r (λ again. Good again.ledger × Honours again.ledger
@@ -75,67 +80,94 @@ pub fn cut_and_open<K: Recover>(
     Some(Desk::open(alloc, again))
 }
 
-/// Runs the requests, is cut off there, and opens the desk that is found then: the replies, and that desk. None where
+/// Runs the requests, is cut off there, and opens the desk that is found then: the replies, and that desk, or None where
 /// the keeper does not recover.
 ///
-/// While the disk is honest: the ledger found is the one after the requests that were answered, or after one more, and
-/// that only where the run ended `Stopped`; the opening fails, if at all, for memory or by the store. From the ledger
-/// found, whatever uses, releases, commits, aborts, expiries and firm marks come, in any order, each field is within
-/// its bounds and no order that is open then is refused its commit under a new key. The replies are the model's.
+/// The replies are the model's. While the disk is honest: the ledger found is the one after the requests that were
+/// answered, or after one more, and that only where the run ended `Stopped`; the opening fails, if at all, for memory or
+/// by the store, and then another finds the same. From the ledger found, whatever uses, releases, commits, aborts,
+/// expiries and firm marks come, in any order, each field is within its bounds and no order that is open then is refused
+/// its commit under a new key.
 pub fn run_cut_and_open<K: Recover>(
     alloc: Global,
     desk: Desk<K>,
     requests: &[Request],
     options: K::Options,
-) -> Option<(Run, Result<Desk<K>, (OpenFault, K)>)>
+) -> (Run, Option<Result<Desk<K>, (OpenFault, K)>>)
     requires { K.stopped desk.keep ≡ false }
-    ensures replies { IfSome result (λ r. AreRepliesTo desk.ledger requests.now r.0.replies.items) }
-    ensures all { IfSome result (λ r. r.0.ending ≡ Ending.All ↔ answered r.0 ≡ length requests.now) }
-    ensures found { IfSome result (λ r. K.is_honest (keeper_after r.1)
-        → IfOk r.1 (λ again. ∥ IsFoundAfter desk.ledger requests.now r.0 again.ledger ∥₁)) }
-    ensures refused { IfSome result (λ r. K.is_honest (keeper_after r.1)
-        → IfErr r.1 (λ e. (e.0 ≡ OpenFault.Memory) ⊎ (e.0 ≡ OpenFault.Store))) }
-    ensures honours { IfSome result (λ r. IfOk r.1 (λ again. Good again.ledger × Honours again.ledger
+    ensures replies { IsRunOf desk.ledger requests.now result.0 }
+    ensures found { IfSome result.1 (λ r. K.is_honest (keeper_after r)
+        → IfOk r (λ again. ∥ IsFoundAfter desk.ledger requests.now result.0 again.ledger ∥₁)) }
+    ensures refused { IfSome result.1 (λ r. K.is_honest (keeper_after r)
+        → IfErr r (λ e. (e.0 ≡ OpenFault.Memory) ⊎ (e.0 ≡ OpenFault.Store))) }
+    ensures left { IfSome result.1 (λ r. K.is_honest (keeper_after r)
+        → ∥ LeavesRowsOf (K.leaves (keeper_after r)) (IsFoundAfter desk.ledger requests.now result.0) ∥₁) }
+    ensures honours { IfSome result.1 (λ r. IfOk r (λ again. Good again.ledger × Honours again.ledger
         × HonoursAlways again.ledger)) }
-    ensures going { IfSome result (λ r. IfOk r.1 (λ again. K.stopped again.keep ≡ false)) }
+    ensures going { IfSome result.1 (λ r. IfOk r (λ again. K.stopped again.keep ≡ false)) }
 {
     let (run, keep) = run_and_stop(alloc, desk, requests);
-    let opened = cut_and_open(alloc, keep, options)?;
-    Some((run, opened))
+    let opened = cut_and_open(alloc, keep, options);
+    (run, opened)
 }
 
-/// Runs the requests, is cut off there, opens the desk that is found then, and goes on behind the last reply: the
-/// replies before the cut, the desk, and the replies after it. None where the keeper does not recover.
-///
-/// While the disk is honest: where the second part answers all that is left, the replies before the cut and those after
-/// it are together the model's to the requests, as if nothing had been cut, and the ledger is the one after them. The
-/// opening fails, if at all, for memory or by the store.
-pub fn run_cut_and_resume<K: Recover>(
+/// A desk that was opened goes on with the requests from number `first` on: the desk, and the replies.
+fn go_on<K: Keep>(
     alloc: Global,
-    desk: Desk<K>,
+    opened: Result<Desk<K>, (OpenFault, K)>,
     requests: &[Request],
-    options: K::Options,
-) -> Option<(Run, Result<(Desk<K>, Run), (OpenFault, K)>)>
-    requires { K.stopped desk.keep ≡ false }
-    ensures replies { IfSome result (λ r. AreRepliesTo desk.ledger requests.now r.0.replies.items) }
-    ensures rest { IfSome result (λ r. IfOk r.1 (λ after. after.1.ending ≡ Ending.All
-        ↔ answered r.0 + answered after.1 ≡ length requests.now)) }
-    ensures whole { IfSome result (λ r. IfOk r.1 (λ after. K.is_honest after.0.keep → after.1.ending ≡ Ending.All
-        → ∥ Runs desk.ledger requests.now (r.0.replies.items ++ after.1.replies.items) after.0.ledger ∥₁)) }
-    ensures refused { IfSome result (λ r. IfErr r.1 (λ e. K.is_honest e.1
-        → (e.0 ≡ OpenFault.Memory) ⊎ (e.0 ≡ OpenFault.Store))) }
-    ensures good { IfSome result (λ r. IfOk r.1 (λ after. Good after.0.ledger)) }
+    first: usize,
+) -> Result<(Desk<K>, Run), (OpenFault, K)>
+    requires counted { 1 ≤ first }
+    requires within { first ≤ length requests.now + 1 }
+    ensures resumed { IfOk result (λ after. K.is_honest after.0.keep → (again : DeskView K) × (opened ≡ Ok again)
+        × K.is_honest again.keep × ((A : Ledger) → StandsAt A requests.now first again.ledger
+        → Resumes A requests.now first after.1.replies.items after.0.ledger)) }
+    ensures rest { IfOk result (λ after. after.1.ending ≡ Ending.All
+        ↔ first + answered after.1 ≡ length requests.now + 1) }
+    ensures refused { IfErr result (λ e. opened ≡ Err e) }
+    ensures good { IfOk result (λ after. Good after.0.ledger) }
 {
-    let (run, opened) = run_cut_and_open(alloc, desk, requests, options)?;
-    let first = run.replies.len() + 1;
     match opened {
         Ok(again) => {
             let mut again = again;
             let rest = again.resume(alloc, requests, first);
             again.in_order();
-            Some((run, Ok((again, rest))))
+            Ok((again, rest))
         }
-        Err(refused) => Some((run, Err(refused))),
+        Err(refused) => Err(refused),
+    }
+}
+
+/// Runs the requests, is cut off there, opens the desk that is found then, and goes on behind the last reply: the
+/// replies before the cut, and the desk with the replies after it, or None where the keeper does not recover.
+///
+/// The replies before the cut are the model's. While the disk is honest, those after it are those which a run that was
+/// never cut would give behind them, however many they are; where they are all that is left, the ledger is the one after
+/// that run. The opening fails, if at all, for memory or by the store.
+pub fn run_cut_and_resume<K: Recover>(
+    alloc: Global,
+    desk: Desk<K>,
+    requests: &[Request],
+    options: K::Options,
+) -> (Run, Option<Result<(Desk<K>, Run), (OpenFault, K)>>)
+    requires { K.stopped desk.keep ≡ false }
+    ensures replies { IsRunOf desk.ledger requests.now result.0 }
+    ensures resumed { IfSome result.1 (λ r. IfOk r (λ after. K.is_honest after.0.keep → ∥ Resumes desk.ledger requests.now
+        (answered result.0 + 1) after.1.replies.items after.0.ledger ∥₁)) }
+    ensures whole { IfSome result.1 (λ r. IfOk r (λ after. K.is_honest after.0.keep → after.1.ending ≡ Ending.All
+        → ∥ Runs desk.ledger requests.now (result.0.replies.items ++ after.1.replies.items) after.0.ledger ∥₁)) }
+    ensures rest { IfSome result.1 (λ r. IfOk r (λ after. after.1.ending ≡ Ending.All
+        ↔ answered result.0 + answered after.1 ≡ length requests.now)) }
+    ensures refused { IfSome result.1 (λ r. IfErr r (λ e. K.is_honest e.1
+        → (e.0 ≡ OpenFault.Memory) ⊎ (e.0 ≡ OpenFault.Store))) }
+    ensures good { IfSome result.1 (λ r. IfOk r (λ after. Good after.0.ledger)) }
+{
+    let (run, opened) = run_cut_and_open(alloc, desk, requests, options);
+    let first = run.replies.len() + 1;
+    match opened {
+        Some(opened) => (run, Some(go_on(alloc, opened, requests, first))),
+        None => (run, None),
     }
 }
 
@@ -150,8 +182,12 @@ pub fn any_number_of_cuts()
         → Runs A requests replies last → (all_replies runs ≡ replies) × (B ≡ last) }
 {}
 
-/// Plays a script, and gives the keeper up where that ends.
-fn script_and_stop<K: Keep, R: Read, W: Write>(
+/// Plays a script, and gives the keeper up where that ends: how it ended, and the keeper.
+///
+/// Over an honest disk a stop leaves then nothing but the rows of the ledger after a prefix of the lines that were read,
+/// which holds every one whose reply line was written whole, and at most one more; after a script that ended `Ok`, of
+/// the one after all its lines.
+pub fn script_and_stop<K: Keep, R: Read, W: Write>(
     alloc: Global,
     desk: Desk<K>,
     reader: &mut R,
@@ -170,8 +206,8 @@ fn script_and_stop<K: Keep, R: Read, W: Write>(
     (ended, desk.into_keep())
 }
 
-/// Plays a script, is cut off where it ends, and opens the desk that is found then: how the script ended, and that desk.
-/// None where the keeper does not recover.
+/// Plays a script, is cut off where it ends, and opens the desk that is found then: how the script ended, and that desk,
+/// or None where the keeper does not recover.
 ///
 /// While the disk is honest, and where the reader and the writer tell their bytes: the ledger found is the one after a
 /// prefix of the lines that were read which holds every one whose reply line was written whole, and at most one more;
@@ -183,21 +219,27 @@ pub fn script_cut_and_open<K: Recover, R: Read, W: Write>(
     reader: &mut R,
     writer: &mut W,
     options: K::Options,
-) -> Option<(Result<(), ScriptFault>, Result<Desk<K>, (OpenFault, K)>)>
+) -> (
+    Result<(), ScriptFault>,
+    Option<Result<Desk<K>, (OpenFault, K)>>,
+)
     requires { K.stopped desk.keep ≡ false }
-    ensures found { IfSome result (λ r. K.is_honest (keeper_after r.1) → IfOk r.1 (λ again.
+    ensures found { IfSome result.1 (λ r. K.is_honest (keeper_after r) → IfOk r (λ again.
         ∥ IsFoundAfterLines desk.ledger (R.remaining reader.old) (R.remaining reader.new)
         (W.contents writer.old) (W.contents writer.new) again.ledger ∥₁)) }
-    ensures whole { IfSome result (λ r. K.is_honest (keeper_after r.1) → OnOk r.0 (IfOk r.1 (λ again.
+    ensures whole { OnOk result.0 (IfSome result.1 (λ r. K.is_honest (keeper_after r) → IfOk r (λ again.
         ∥ EndsWhole desk.ledger again.ledger (R.remaining reader.old) (R.remaining reader.new)
         (W.contents writer.old) (W.contents writer.new) ∥₁))) }
-    ensures refused { IfSome result (λ r. K.is_honest (keeper_after r.1)
-        → IfErr r.1 (λ e. (e.0 ≡ OpenFault.Memory) ⊎ (e.0 ≡ OpenFault.Store))) }
-    ensures honours { IfSome result (λ r. IfOk r.1 (λ again. Good again.ledger × Honours again.ledger
+    ensures refused { IfSome result.1 (λ r. K.is_honest (keeper_after r)
+        → IfErr r (λ e. (e.0 ≡ OpenFault.Memory) ⊎ (e.0 ≡ OpenFault.Store))) }
+    ensures left { IfSome result.1 (λ r. K.is_honest (keeper_after r) → ∥ LeavesRowsOf (K.leaves (keeper_after r))
+        (IsFoundAfterLines desk.ledger (R.remaining reader.old) (R.remaining reader.new)
+        (W.contents writer.old) (W.contents writer.new)) ∥₁) }
+    ensures honours { IfSome result.1 (λ r. IfOk r (λ again. Good again.ledger × Honours again.ledger
         × HonoursAlways again.ledger)) }
-    ensures going { IfSome result (λ r. IfOk r.1 (λ again. K.stopped again.keep ≡ false)) }
+    ensures going { IfSome result.1 (λ r. IfOk r (λ again. K.stopped again.keep ≡ false)) }
 {
     let (ended, keep) = script_and_stop(alloc, desk, reader, writer);
-    let opened = cut_and_open(alloc, keep, options)?;
-    Some((ended, opened))
+    let opened = cut_and_open(alloc, keep, options);
+    (ended, opened)
 }

@@ -13,7 +13,8 @@ mod scripts;
 pub use desk::Desk;
 pub use fault::{CallFault, OpenFault, ScriptFault};
 pub use headline::{
-    any_number_of_cuts, cut_and_open, run_cut_and_open, run_cut_and_resume, script_cut_and_open,
+    any_number_of_cuts, cut_and_open, run_and_stop, run_cut_and_open, run_cut_and_resume,
+    script_and_stop, script_cut_and_open,
 };
 pub use laws::{exactly_one_text, resuming_is_invisible};
 pub use run::{Ending, Run};

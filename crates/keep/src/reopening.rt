@@ -99,7 +99,7 @@ pub fn reopen<D: Crash + Drop>(
 
 /// A keeper that is opened anew where a stop has left it.
 pub trait Recover: Keep {
-    ghost use Rattle.std.specs.Prelude.{◌≡◌, false, List, IfSome};
+    ghost use Rattle.std.specs.Prelude.{◌≡◌, false, List, [], ◌∷◌, IfSome};
     ghost use Rattle.book.specs.Rows.{Content};
     ghost use Rattle.keep.specs.Content.{IsAmong};
 
@@ -107,13 +107,15 @@ pub trait Recover: Keep {
     type Options: Drop;
 
     /// What the next open finds after a stop at this moment, or None where the open fails: a keeper that is not
-    /// stopped, and that holds one of the contents which the stop could leave. A disk that is honest after the open was
-    /// so before the stop.
+    /// stopped, and that holds one of the contents which the stop could leave; another stop leaves nothing but that. A
+    /// disk that is honest after the open was so before the stop.
     fn recover(self, alloc: Global, options: Self::Options) -> Option<Self>
         ensures going { IfSome result (λ again. Self.Keep.stopped again ≡ false) }
         ensures honest { IfSome result (λ again. Self.Keep.is_honest again → Self.Keep.is_honest self) }
         ensures found { IfSome result (λ again. Self.Keep.is_honest again → (these : List Content)
-            → Self.Keep.leaves self these → ∥ ((x : Content) × Self.Keep.holds again x × IsAmong these x) ∥₁) };
+            → Self.Keep.leaves self these → ∥ ((x : Content) × Self.Keep.holds again x × IsAmong these x) ∥₁) }
+        ensures alone { IfSome result (λ again. Self.Keep.is_honest again → (x : Content)
+            → Self.Keep.holds again x → Self.Keep.leaves again (x ∷ [])) };
 }
 
 /// The stop is a cut of the power: of what was not synced, each file keeps whatever it keeps.

@@ -3,7 +3,7 @@
 
 ghost use Rattle.std.specs.Prelude.{IsTrue};
 
-use crate::desks::{open, requests};
+use crate::desks::{open, opened, requests};
 use crate::keepers::{keeper, plain_keeper};
 use crate::of_keep::disks::{calls_to, desk_files, open as open_files};
 use crate::of_keep::loaded;
@@ -70,15 +70,10 @@ fn expect_rows<K: Keep>(alloc: Global, keep: &mut K, done: usize, most: usize) -
     }
 }
 
-/// The desk that is found has these rows.
-fn expect_found<K: Keep + Drop>(
-    alloc: Global,
-    opened: Result<Desk<K>, (OpenFault, K)>,
-    done: usize,
-    most: usize,
-) -> Result<(), Fail> {
-    match opened {
-        Ok(desk) => expect_rows(alloc, &mut desk.into_keep(), done, most),
+/// What is found, where the keeper recovers and the opening does not fail.
+fn found<T, K: Drop>(opened: Option<Result<T, (OpenFault, K)>>) -> Result<T, Fail> {
+    match opened.ok_or("not recovered")? {
+        Ok(found) => Ok(found),
         Err((fault, _)) => Err(fault)?,
     }
 }
@@ -129,10 +124,10 @@ impl Trial for Opening {
             drop(desk.into_keep());
             return Err(Fail::from("stopped"));
         }
-        let found = run_cut_and_open(alloc, desk, &requests, options);
-        let (run, opened) = found.ok_or("not recovered")?;
+        let (run, opened) = run_cut_and_open(alloc, desk, &requests, options);
         let count = expect_replies(&run, 0)?;
-        expect_found(alloc, opened, count, most_done(&run))?;
+        let mut keep = found(opened)?.into_keep();
+        expect_rows(alloc, &mut keep, count, most_done(&run))?;
         Ok(count)
     }
 }
@@ -153,19 +148,15 @@ impl Trial for Resuming {
             drop(desk.into_keep());
             return Err(Fail::from("stopped"));
         }
-        match run_cut_and_resume(alloc, desk, &requests, options) {
-            None => Err("not recovered")?,
-            Some((_, Err((fault, _)))) => Err(fault)?,
-            Some((run, Ok((desk, rest)))) => {
-                let mut keep = desk.into_keep();
-                let count = expect_replies(&run, 0)?;
-                if count.checked_add(expect_replies(&rest, count)?) != Some(LINES.len()) {
-                    Err("not resumed to its end")?;
-                }
-                expect_rows(alloc, &mut keep, LINES.len(), LINES.len())?;
-                Ok(count)
-            }
+        let (run, resumed) = run_cut_and_resume(alloc, desk, &requests, options);
+        let (desk, rest) = found(resumed)?;
+        let mut keep = desk.into_keep();
+        let count = expect_replies(&run, 0)?;
+        if count.checked_add(expect_replies(&rest, count)?) != Some(LINES.len()) {
+            Err("not resumed to its end")?;
         }
+        expect_rows(alloc, &mut keep, LINES.len(), LINES.len())?;
+        Ok(count)
     }
 }
 
@@ -210,10 +201,16 @@ impl Trial for Playing {
             drop(desk.into_keep());
             return Err(Fail::from("stopped"));
         }
-        let played = script_cut_and_open(alloc, desk, &mut SCRIPT.as_bytes(), &mut writer, options);
-        let (ended, opened) = played.ok_or("not recovered")?;
+        let (ended, opened) = script_cut_and_open(
+            alloc,
+            desk,
+            &mut SCRIPT.as_bytes(),
+            &mut writer,
+            options,
+        );
         let told = expect_told(ended, &writer.taken)?;
-        expect_found(alloc, opened, told, told.saturating_add(1))?;
+        let mut keep = found(opened)?.into_keep();
+        expect_rows(alloc, &mut keep, told, told.saturating_add(1))?;
         Ok(told)
     }
 }
@@ -269,14 +266,9 @@ fn at_each_commit<T: Trial>(alloc: Global, trial: &T, lands: bool) -> Result<(),
         (7, 7),
         (8, 8),
     ] {
-        let keep = PlainKeep::start(alloc, Some(fail_at), lands);
-        match open(alloc, keep) {
-            Ok(desk) => {
-                if trial.on(alloc, desk, (None, false))? != replies {
-                    Err("another commit failed")?;
-                }
-            }
-            Err((fault, _)) => Err(fault)?,
+        let desk = opened(alloc, PlainKeep::start(alloc, Some(fail_at), lands))?;
+        if trial.on(alloc, desk, (None, false))? != replies {
+            Err("another commit failed")?;
         }
     }
     Ok(())
@@ -312,10 +304,8 @@ fn the_desk_is_found_wherever_a_script_stops(rt: HostRuntime) -> Result<(), Fail
 
 /// What a script is told whose writer fails behind so many writes: how many lines.
 fn told_before(alloc: Global, writes: usize) -> Result<usize, Fail> {
-    match open(alloc, plain_keeper(alloc)) {
-        Ok(desk) => Playing { writes }.on(alloc, desk, (None, false)),
-        Err((fault, _)) => Err(fault)?,
-    }
+    let desk = opened(alloc, plain_keeper(alloc))?;
+    Playing { writes }.on(alloc, desk, (None, false))
 }
 
 #[test]
@@ -336,13 +326,9 @@ fn the_desk_is_found_where_a_write_fails(rt: HostRuntime) -> Result<(), Fail> {
 
 /// The desk that is found behind two stops between calls is the new one.
 fn found_between(alloc: Global) -> Result<(), Fail> {
-    match cut_and_open(alloc, plain_keeper(alloc), (None, false)) {
-        Some(Ok(desk)) => {
-            let again = cut_and_open(alloc, desk.into_keep(), (None, false));
-            expect_found(alloc, again.ok_or("not recovered")?, 0, 0)
-        }
-        _ => Err("not opened")?,
-    }
+    let desk = found(cut_and_open(alloc, plain_keeper(alloc), (None, false)))?;
+    let desk = found(cut_and_open(alloc, desk.into_keep(), (None, false)))?;
+    expect_rows(alloc, &mut desk.into_keep(), 0, 0)
 }
 
 #[test]

@@ -1,10 +1,18 @@
-use Rattle.desk.proofs.FoundAfter.{opened_rows, refused_so}
+use Rattle.std.proofs.Common.{[], ◌∷◌}
+use Rattle.desk.specs.Desk.{keeper_after}
+use Rattle.desk.proofs.FoundAfter.{left_alone, opened_rows, refused_so}
 use Rattle.desk.proofs.headline.cut_and_open.Goals as goal
 
 pub returns-clause-found : goal.returns-clause-found
 returns-clause-found g c honest these leaves =
     let before = c.open.ensures.honest honest in
     opened_rows c.open.result these _ _ (c.in_ok-again.ensures.found before these leaves) c.open.ensures.rows honest
+
+pub returns-clause-left : goal.returns-clause-left
+returns-clause-left g c honest these leaves =
+    let before = c.open.ensures.honest honest in
+    left_alone these (g.K.Keep.holds c.in_ok-again.again) (g.K.Keep.leaves (keeper_after c.open.result)) (c.in_ok-again.ensures.found before these leaves)
+    (λ x held. c.open.ensures.adds_nothing honest (x ∷ []) (c.in_ok-again.ensures.alone before x held))
 
 pub returns-clause-refused : goal.returns-clause-refused
 returns-clause-refused g c honest left =

@@ -1,13 +1,17 @@
-use Rattle.desk.proofs.FoundAfter.{good_left, opened_one}
+use Rattle.desk.proofs.FoundAfter.{found_of, left_of, refused_of}
 use Rattle.desk.proofs.headline.run_cut_and_open.Goals as goal
 
 pub returns-clause-found : goal.returns-clause-found
-returns-clause-found g c honest =
-    let opened = c.in_ok-opened in
-    let left = c.run_and_stop-run.ensures.left (opened.ensures.honest honest) in
-    opened_one opened.opened _ _ left opened.ensures.honours (opened.ensures.found honest left.these left.leaves_these)
+returns-clause-found g c =
+    let opened = c.cut_and_open-opened in
+    found_of g.K.Keep.is_honest _ _ _ opened.result opened.ensures.honest c.run_and_stop-run.ensures.left opened.ensures.found opened.ensures.honours
 
 pub returns-clause-refused : goal.returns-clause-refused
-returns-clause-refused g c honest =
-    let opened = c.in_ok-opened in
-    opened.ensures.refused honest (good_left _ _ (c.run_and_stop-run.ensures.left (opened.ensures.honest honest)))
+returns-clause-refused g c =
+    let opened = c.cut_and_open-opened in
+    refused_of g.K.Keep.is_honest _ _ _ opened.result opened.ensures.honest c.run_and_stop-run.ensures.left opened.ensures.refused
+
+pub returns-clause-left : goal.returns-clause-left
+returns-clause-left g c =
+    let opened = c.cut_and_open-opened in
+    left_of g.K.Keep.is_honest _ _ _ g.K.Keep.leaves opened.result opened.ensures.honest c.run_and_stop-run.ensures.left opened.ensures.left

@@ -1,28 +1,34 @@
-use Rattle.std.proofs.Common.{◌≡◌, ◌⊎◌, arith, rules}
+use Rattle.std.proofs.Common.{◌≡◌, arith, rules}
+use Rattle.std.specs.Prelude.{IfOk}
+use Rattle.desk.specs.Desk.{keeper_after}
 use Rattle.desk.specs.Headline.{IsFoundAfter, answered}
-use Rattle.desk.specs.declared.fault.OpenFault.TheVariants.{Memory, Store}
-use Rattle.desk.proofs.FoundAfter.{at_err, at_ok, resumed_whole}
+use Rattle.desk.proofs.FoundAfter.{rest_of, resumed_of, some_of, whole_of}
 use Rattle.desk.proofs.Resumption.{few}
 use Rattle.desk.proofs.headline.run_cut_and_resume.Goals as goal
 
-pub returns-in-Ok-clause-whole : goal.returns-in-Ok-clause-whole
-returns-in-Ok-clause-whole g c honest all =
+pub go_on-requires-clause-within : goal.go_on-requires-clause-within
+go_on-requires-clause-within g c =
+    let run = c.run_cut_and_open-run.result.0 in
+    let ((M, first), ended) = c.run_cut_and_open-run.ensures.replies in
+    let none_unasked = few c.args.desk.ledger M c.args.requests.now run.replies.items first in
+    let size : c.len-first.result ≡ answered run = search rules in
+    omega arith
+
+pub returns-in-Some-clause-resumed : goal.returns-in-Some-clause-resumed
+returns-in-Some-clause-resumed g c =
     let A = c.args.desk.ledger in
     let rs = c.args.requests.now in
-    let run = c.in_ok-run.run' in
-    let again = c.in-Ok.again in
+    let run = c.run_cut_and_open-run.result.0 in
+    let Honest = g.K.Keep.is_honest in
     let size : c.len-first.result ≡ answered run = search rules in
-    let found = at_ok c.in-Ok.is g.K.Keep.is_honest (λ L. ∥ IsFoundAfter A rs run L ∥₁) c.in_ok-run.ensures.found (c.resume-rest.ensures.honest honest) in
-    let (M, first) = c.in_ok-run.ensures.replies in
-    resumed_whole A M again.ledger c.resume-rest.new.self.ledger rs run c.resume-rest.result.replies.items _ (omega arith) first found (c.resume-rest.ensures.whole all A)
+    let found = some_of (λ r. Honest (keeper_after r) → IfOk r (λ desk. ∥ IsFoundAfter A rs run desk.ledger ∥₁)) c.in-Some.is c.run_cut_and_open-run.ensures.found in
+    resumed_of Honest A rs run c.in-Some.opened c.go_on.result _ (omega arith) found c.go_on.ensures.resumed
 
-pub returns-in-Err-clause-refused : goal.returns-in-Err-clause-refused
-returns-in-Err-clause-refused g c honest =
-    at_err c.in-Err.is g.K.Keep.is_honest (λ f. (f ≡ Memory) ⊎ (f ≡ Store)) c.in_ok-run.ensures.refused honest
-
-pub resume-rest-requires-clause-within : goal.resume-rest-requires-clause-within
-resume-rest-requires-clause-within g c =
-    let (M, first) = c.in_ok-run.ensures.replies in
-    let none_unasked = few c.args.desk.ledger M c.args.requests.now c.in_ok-run.run'.replies.items first in
-    let size : c.len-first.result ≡ answered c.in_ok-run.run' = search rules in
-    omega arith
+pub returns-in-Some-clause-whole : goal.returns-in-Some-clause-whole
+returns-in-Some-clause-whole g c =
+    let rs = c.args.requests.now in
+    let run = c.run_cut_and_open-run.result.0 in
+    let size : c.len-first.result ≡ answered run = search rules in
+    let ((M, first), ended) = c.run_cut_and_open-run.ensures.replies in
+    whole_of g.K.Keep.is_honest c.args.desk.ledger rs run c.in-Some.opened c.go_on.result M first (returns-in-Some-clause-resumed g c)
+    (rest_of c.go_on.result _ _ _ (omega arith) c.go_on.ensures.rest)
