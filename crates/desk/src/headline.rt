@@ -1,7 +1,7 @@
 //! The headline: wherever a run or a script is cut, an opening finds the ledger after a prefix of what was asked that
 //! holds all that was answered, and from there every future is honoured.
 
-ghost use Rattle.std.specs.Prelude.{◌≡◌, ◌⊎◌, ◌↔◌, ◌<◌, ◌≤◌, ◌+◌, ◌++◌, ◌∷◌, [], false, Err, Ok, List, length, IfErr, IfOk, IfSome, OnOk, slice_index_or};
+ghost use Rattle.std.specs.Prelude.{◌≡◌, ◌≢◌, ◌⊎◌, ◌↔◌, ◌<◌, ◌≤◌, ◌+◌, ◌++◌, ◌∷◌, [], false, Err, Ok, List, length, IfErr, IfOk, IfSome, IsTrue, OnOk, slice_index_or};
 ghost use Rattle.escrow.specs.Codes.{IsKey};
 ghost use Rattle.words.specs.Spelling.{IsInRange};
 ghost use Rattle.words.specs.declared.command.Request.{Request as RequestOf};
@@ -14,7 +14,7 @@ ghost use Rattle.book.specs.Rows.{Content, IsRowsOf};
 ghost use Rattle.desk.specs.Desk.{DeskView, keeper_after};
 ghost use Rattle.desk.specs.Headline.{IsFoundAfter, IsFoundAfterCuts, IsFoundAfterLines, IsRunOf, LeavesRowsOf, all_replies, answered};
 ghost use Rattle.desk.specs.Resuming.{Resumes, StandsAt};
-ghost use Rattle.desk.specs.Script.{EndsWhole};
+ghost use Rattle.desk.specs.Script.{EndsCut, EndsWhole};
 ghost use Rattle.keep.specs.Content.{IsAmong};
 
 use crate::desk::Desk;
@@ -40,12 +40,16 @@ fn next_in_range(requests: &[Request], replies: &[Reply])
 /// Runs the requests, and gives the keeper up where that ends.
 ///
 /// The replies are the model's. Over an honest disk a stop leaves then nothing but the rows of the ledger after the
-/// requests that were answered, or, where the run ended `Stopped`, those after one more.
+/// requests that were answered, or, where the run ended `Stopped`, those after one more. The keeper is stopped exactly
+/// in that case.
 pub fn run_and_stop<K: Keep>(alloc: Global, desk: Desk<K>, requests: &[Request]) -> (Run, K)
     requires { K.stopped desk.keep ≡ false }
     ensures replies { IsRunOf desk.ledger requests.now result.0 }
+    ensures going { result.0.ending ≢ Ending.Stopped → K.stopped result.1 ≡ false }
+    ensures stopped { result.0.ending ≡ Ending.Stopped → IsTrue (K.stopped result.1) }
     ensures left { K.is_honest result.1
         → LeavesRowsOf (K.leaves result.1) (IsFoundAfter desk.ledger requests.now result.0) }
+    ensures honest { K.is_honest result.1 → K.is_honest desk.keep }
 {
     let mut desk = desk;
     let run = desk.run(alloc, requests);
@@ -186,7 +190,7 @@ pub fn any_number_of_cuts()
 ///
 /// Over an honest disk a stop leaves then nothing but the rows of the ledger after a prefix of the lines that were read,
 /// which holds every one whose reply line was written whole, and at most one more; after a script that ended `Ok`, of
-/// the one after all its lines.
+/// the one after all its lines. How it ended is told as `script` tells it; the keeper is stopped exactly after `Stopped`.
 pub fn script_and_stop<K: Keep, R: Read, W: Write>(
     alloc: Global,
     desk: Desk<K>,
@@ -198,6 +202,11 @@ pub fn script_and_stop<K: Keep, R: Read, W: Write>(
         (R.remaining reader.old) (R.remaining reader.new) (W.contents writer.old) (W.contents writer.new)) }
     ensures whole { K.is_honest result.1 → OnOk result.0 (LeavesRowsOf (K.leaves result.1) (λ B. EndsWhole desk.ledger B
         (R.remaining reader.old) (R.remaining reader.new) (W.contents writer.old) (W.contents writer.new))) }
+    ensures cut { IfErr result.0 (λ fault. (last : Ledger) × EndsCut fault (K.stopped desk.keep ≡ false)
+        (K.is_honest result.1) (K.leaves result.1) desk.ledger last (R.remaining reader.old) (R.remaining reader.new)
+        (W.contents writer.old) (W.contents writer.new)) }
+    ensures going { result.0 ≢ Err ScriptFault.Stopped → K.stopped result.1 ≡ false }
+    ensures stopped { result.0 ≡ Err ScriptFault.Stopped → IsTrue (K.stopped result.1) }
 {
     let mut desk = desk;
     desk.in_order();
