@@ -138,6 +138,14 @@ cut_at fault V W H leaves old mid new items i x lines written lt is on back done
     subst (λ (xs : List Item). IsCut fault V H leaves old xs (lines ++ written) new) (sym (around items i x lt is))
     (cut_behind fault V W H leaves old mid new (take i items) (x ∷ []) (drop (i + 1) items) lines written on back done may cut)
 
+abbrev error_or : {T E : Type 0} → E → Result T E → E
+error_or none (Ok value) = none
+error_or none (Err fault) = fault
+
+-- an error is no other one
+pub other_error : {T E : Type 0} (r : Result T E) (fault other : E) → r ≡ Err fault → fault ≢ other → r ≢ Err other
+other_error r fault other is not e = not (sym (ap (error_or fault) is) ∙ ap (error_or fault) e)
+
 -- what holds of an error that is answered
 pub of_error : {T E : Type 0} (r : Result T E) (P Q : E → Type 0) → ((e : E) → r ≡ Err e → P e → Q e) → IfErr r P → IfErr r Q
 of_error (Ok x) P Q on p = tt

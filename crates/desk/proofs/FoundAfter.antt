@@ -1,43 +1,28 @@
 -- What an opening finds after a run, after a script, and after many cuts.
-use Rattle.std.proofs.Common.{◌≡◌, ◌∙◌, ◌⊎◌, ◌<◌, ◌≤◌, ◌+◌, ◌-◌, ◌++◌, ℕ, List, [], ◌∷◌, Option, None, Some, ap, append-nil, append_assoc, arith, drop, flat_map, inl, inr, length, map, refl, subst, sym, take}
+use Rattle.std.proofs.Common.{◌≡◌, ◌∙◌, ◌⊎◌, ◌<◌, ◌≤◌, ◌+◌, ◌-◌, ◌++◌, ℕ, List, [], ◌∷◌, Option, None, Some, arith, drop, inl, inr, length, refl, subst, sym, take}
 use native.Mathlib.Decide.{dec_lt}
-use Rattle.std.specs.Prelude.{◌≢◌, ◌↔◌, IfErr, IfOk, IfSome, Result, Ok, Err, slice_index_or}
-use Rattle.std.specs.Io.KnownBytes.{Appends, Consumes}
-use Rattle.std.proofs.lemmas.List.{length-append, length-take-le, take-append-drop, take_at, take_more}
+use Rattle.std.specs.Prelude.{◌≢◌, ◌↔◌, IfErr, IfOk, IfSome, Result, Ok, Err}
+use Rattle.std.proofs.lemmas.List.{length-take-le, take-append-drop, take_at}
 use Rattle.std.proofs.Math.Logic.{∥∥₁_elim, ∥∥₁_map}
-use Rattle.std.proofs.Math.Seq.{take-length}
-use Rattle.escrow.specs.Codes.{IsKey}
-use Rattle.words.specs.Spelling.{IsInRange}
 use Rattle.words.specs.declared.command.Request.{Request}
-use Rattle.words.specs.declared.item.Item.{Item}
-use Rattle.words.specs.declared.item.Item.TheVariants as item
 use Rattle.words.specs.declared.reply.Reply.{Reply}
-use Rattle.words.specs.declared.reply.Reply.TheVariants.{Done}
-use Rattle.book.specs.Answers.{After, IsAccepted, Runs}
+use Rattle.book.specs.Answers.{After, Runs}
 use Rattle.book.specs.Future.{Honours, HonoursAlways}
 use Rattle.book.specs.Good.{Good}
-use Rattle.book.specs.Ledger.{Ledger, places}
-use Rattle.book.specs.Next.{accept}
+use Rattle.book.specs.Ledger.{Ledger}
 use Rattle.book.specs.Rows.{Content, IsRowsOf}
 use Rattle.book.proofs.EqualRows.{told_by_rows}
-use Rattle.book.proofs.Goodness.{good_answer}
-use Rattle.book.proofs.Runs.{accepted_answered, answered_once, runs_once}
+use Rattle.book.proofs.Runs.{runs_once}
 use Rattle.keep.specs.Content.{IsAmong}
 use Rattle.desk.specs.Desk.{DeskView, IsStored, LeavesEither, OpensAt, keeper_after}
-use Rattle.desk.specs.Headline.{IsFoundAfter, IsFoundAfterLines, LeavesRowsOf, answered}
-use Rattle.desk.specs.Replies.{request_line}
+use Rattle.desk.specs.Headline.{IsFoundAfter, LeavesRowsOf, answered}
 use Rattle.desk.specs.Resuming.{Resumes, StandsAt}
-use Rattle.desk.specs.Script.{AlmostWritten, EndsCut, EndsWhole, IsCut, StopsAt}
-use Rattle.desk.specs.Text.{AreItems, RepliesAll, unended}
 use Rattle.desk.specs.declared.fault.OpenFault.{OpenFault}
 use Rattle.desk.specs.declared.fault.OpenFault.TheVariants.{Damaged, Memory, NotADesk, OldVersion, Store}
-use Rattle.desk.specs.declared.fault.ScriptFault.{ScriptFault}
 use Rattle.desk.specs.declared.run.Ending.{Ending}
 use Rattle.desk.specs.declared.run.Ending.TheVariants.{All, Memory as OutOfMemory, Stopped}
 use Rattle.desk.specs.declared.run.Run.{Run}
 use Rattle.desk.proofs.Resumption.{few, is_whole, runs_split}
-use Rattle.desk.proofs.SomeText.{front_in_range, good_after_all, items_in_range}
-use Rattle.desk.proofs.Texts.{replies_more}
 
 -- ---- what a stop leaves
 
@@ -50,13 +35,13 @@ stored_left M Is holds leaves good is stored = record { these = stored.rows ∷ 
     at x (inr never) = absurd never
 
 -- or of two
-pub either_left : (M next : Ledger) (Is : Ledger → Type 0) (leaves : List Content → Type 0) → Good M → Good next → Is M → Is next → LeavesEither leaves M next → LeavesRowsOf leaves Is
-either_left M next Is leaves good good_next is is_next either =
+pub either_left : (M next : Ledger) (Is : Ledger → Type 0) (leaves : List Content → Type 0) → Is M → Is next → LeavesEither leaves M next → LeavesRowsOf leaves Is
+either_left M next Is leaves is is_next either =
     record { these = either.before ∷ either.after ∷ []; leaves_these = either.either; are_rows = at }
   where
     at : (x : Content) → IsAmong (either.before ∷ either.after ∷ []) x → (A : Ledger) × Good A × IsRowsOf A x × Is A
-    at x (inl same) = (M, good, subst (λ (y : Content). IsRowsOf M y) (sym same) either.are_before, is)
-    at x (inr (inl same)) = (next, good_next, subst (λ (y : Content). IsRowsOf next y) (sym same) either.are_after, is_next)
+    at x (inl same) = (M, either.good_before, subst (λ (y : Content). IsRowsOf M y) (sym same) either.are_before, is)
+    at x (inr (inl same)) = (next, either.good_after, subst (λ (y : Content). IsRowsOf next y) (sym same) either.are_after, is_next)
     at x (inr (inr never)) = absurd never
 
 -- and these ledgers are good
@@ -181,26 +166,10 @@ one_more_done A B rs run stopped more after = record {
   after = after;
 }
 
--- a request in range after a run to a good ledger leaves a good ledger
-good_last : (A M B : Ledger) (rs : List Request) (r : Request) (ps qs : List Reply) → Runs A rs ps M → Runs A (rs ++ r ∷ []) qs B → Good M → IsKey r.key → IsInRange r.command → Good B
-good_last A M B [] r [] [] e run good key range = absurd run
-good_last A M B [] r [] (q ∷ []) e (L, answer, same) good key range =
-    subst Good (sym same) (good_answer A r q L (subst Good e good) key range answer)
-good_last A M B [] r [] (q ∷ q2 ∷ qs) e (L, answer, more) good key range = absurd more
-good_last A M B [] r (p ∷ ps) qs e run good key range = absurd e
-good_last A M B (x ∷ rs) r [] qs e run good key range = absurd e
-good_last A M B (x ∷ rs) r (p ∷ ps) [] e run good key range = absurd run
-good_last A M B (x ∷ rs) r (p ∷ ps) (q ∷ qs) (L, first, rest) (N, answer, more) good key range =
-    good_last N M B rs r ps qs (subst (λ K. Runs K rs ps M) (answered_once A x p q L N first answer).1 rest) more good key range
-
--- the request behind those that are answered is there, and in range
-abbrev pub IsNextInRange : List Request → ℕ → Type 0
-IsNextInRange rs m = m < length rs → (r : Request) × (r ≡ slice_index_or rs m r) × IsKey r.key × IsInRange r.command
-
 pub run_left : (A M : Ledger) (rs : List Request) (run : Run) (holds : Content → Type 0) (leaves : List Content → Type 0) → Good M → Runs A (take (answered run) rs) run.replies.items M
-    → (run.ending ≢ Stopped → IsStored holds leaves M) → (run.ending ≡ All ↔ answered run ≡ length rs) → IsNextInRange rs (answered run)
+    → (run.ending ≢ Stopped → IsStored holds leaves M) → (run.ending ≡ All ↔ answered run ≡ length rs)
     → (run.ending ≡ Stopped → (next : Ledger) × After A rs (answered run + 1) next × LeavesEither leaves M next) → LeavesRowsOf leaves (IsFoundAfter A rs run)
-run_left A M rs run holds leaves good is stored all next either = by run.ending refl
+run_left A M rs run holds leaves good is stored all either = by run.ending refl
   where
     went : run.ending ≢ Stopped → LeavesRowsOf leaves (IsFoundAfter A rs run)
     went on = stored_left M (IsFoundAfter A rs run) holds leaves good (told A M rs run is) (stored on)
@@ -210,12 +179,8 @@ run_left A M rs run holds leaves good is stored all next either = by run.ending 
     by OutOfMemory e = went (λ is. cc)
     by Stopped e =
         let more : answered run < length rs = below (few A M rs run.replies.items is) (λ full. let all_told = all.1 full in cc) in
-        let (r, at, key, range) = next more in
         let (B, after, two) = either e in
-        let longer : take (answered run + 1) rs ≡ take (answered run) rs ++ r ∷ [] =
-        subst (λ (s : Request). take (answered run + 1) rs ≡ take (answered run) rs ++ s ∷ []) (sym at) (take_more rs (answered run) r more) in
-        let good_next = good_last A M B (take (answered run) rs) r run.replies.items after.0 is (subst (λ (xs : List Request). Runs A xs after.0 B) longer after.1) good key range in
-        either_left M B (IsFoundAfter A rs run) leaves good good_next (told A M rs run is) (one_more_done A B rs run e more after) two
+        either_left M B (IsFoundAfter A rs run) leaves (told A M rs run is) (one_more_done A B rs run e more after) two
 
 -- ---- resumed behind the last reply
 

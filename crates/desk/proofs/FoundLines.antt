@@ -1,10 +1,8 @@
 -- What an opening finds after a script.
-use Rattle.std.proofs.Common.{◌≡◌, ◌⊎◌, ◌∙◌, ◌≤◌, ◌+◌, ◌++◌, ℕ, List, [], ◌∷◌, Option, Some, append-nil, append_assoc, arith, ap, inl, inr, length, refl, subst, sym, take}
+use Rattle.std.proofs.Common.{◌≡◌, ◌⊎◌, ◌∙◌, ◌≤◌, ◌+◌, ◌++◌, ℕ, List, [], ◌∷◌, Option, append-nil, append_assoc, arith, ap, inl, inr, length, refl, subst, sym, take}
 use Rattle.std.specs.Prelude.{◌≢◌, Err, IfErr, IfOk, IfSome, Ok, OnOk, Result}
-use Rattle.std.specs.List.{AllByRecursion as Each}
-use Rattle.std.specs.Io.KnownBytes.{Appends, Consumes}
+use Rattle.std.specs.Io.KnownBytes.{Appends}
 use Rattle.std.proofs.lemmas.List.{length-append, take_at}
-use Rattle.std.proofs.Math.Seq.{take-length}
 use Rattle.words.specs.declared.command.Request.{Request}
 use Rattle.words.specs.declared.item.Item.{Item}
 use Rattle.words.specs.declared.item.Item.TheVariants as item
@@ -17,15 +15,14 @@ use Rattle.book.specs.Rows.{Content, IsRowsOf}
 use Rattle.book.proofs.Runs.{accepted_answered}
 use Rattle.keep.specs.Content.{IsAmong}
 use Rattle.desk.specs.Desk.{DeskView, IsStored, keeper_after}
-use Rattle.desk.specs.Headline.{IsFoundAfterLines, LeavesRowsOf}
+use Rattle.desk.specs.Headline.{IsFoundAfterItems, IsFoundAfterLines, LeavesRowsOf}
 use Rattle.desk.specs.Replies.{request_line}
-use Rattle.desk.specs.Script.{EndsCut, EndsWhole, IsCut, LacksRest, StopsAt}
+use Rattle.desk.specs.Script.{AnswersAll, EndsCut, EndsWhole, IsCut, LacksRest}
 use Rattle.desk.specs.Text.{AreItems, RepliesAll, unended}
 use Rattle.desk.specs.declared.fault.OpenFault.{OpenFault}
 use Rattle.desk.specs.declared.fault.ScriptFault.{ScriptFault}
-use Rattle.desk.proofs.Cuts.{write_stops_nothing}
+use Rattle.desk.proofs.Cuts.{memory_stops_nothing, other_error, read_stops_nothing, write_stops_nothing}
 use Rattle.desk.proofs.FoundAfter.{either_left, found_of, stored_left}
-use Rattle.desk.proofs.SomeText.{IsItemInRange, front_in_range, good_after_all, items_in_range}
 use Rattle.desk.proofs.Texts.{replies_more}
 
 first_of : (items before behind : List Item) → items ≡ before ++ behind → take (length before) items ≡ before
@@ -34,119 +31,128 @@ first_of items before behind split = ap (λ (xs : List Item). take (length befor
 fits : (items before behind : List Item) → items ≡ before ++ behind → length before ≤ length items
 fits items before behind split = let size = ap (λ (xs : List Item). length xs) split ∙ length-append before behind in omega arith
 
--- the ledger behind what is told whole
-pub found_told : (A M : Ledger) (R r W w : Option (List ℕ)) (read written : List ℕ) (items before behind : List Item) → Consumes R r read → Appends W w written → AreItems read items → items ≡ before ++ behind
-    → RepliesAll A before written M → IsFoundAfterLines A R r W w M
-found_told A M R r W w read written items before behind reads writes are split replies =
-    let first = subst (λ (xs : List Item). RepliesAll A xs written M) (sym (first_of items before behind split)) replies in
-    record {
-      read = read;
-      written = written;
-      reads = reads;
-      writes = writes;
-      items = items;
-      are_items = are;
-      told = length before;
-      mid = M;
-      lines = written;
-      begun = [];
-      replies = first;
-      written_are = sym (append-nil written);
-      done = length before;
-      none_lost = omega arith;
-      one_more = omega arith;
-      none_unread = fits items before behind split;
-      unwritten = [];
-      after = subst (λ (out : List ℕ). RepliesAll A (take (length before) items) out M) (sym (append-nil written)) first;
-    }
+-- ---- after items
 
--- the ledger behind an item more, whose line is missing or cut
-pub found_done : (A M B : Ledger) (R r W w : Option (List ℕ)) (read written lines begun left : List ℕ) (items before behind : List Item) (last : Item) → Consumes R r read → Appends W w written → AreItems read items
-    → items ≡ (before ++ last ∷ []) ++ behind → RepliesAll A before lines M → written ≡ lines ++ begun → RepliesAll A (before ++ last ∷ []) (lines ++ (begun ++ left)) B → IsFoundAfterLines A R r W w B
-found_done A M B R r W w read written lines begun left items before behind last reads writes are split replies is more =
-    let size : length (before ++ last ∷ []) ≡ length before + 1 = length-append before (last ∷ []) in
-    let whole : written ++ left ≡ lines ++ (begun ++ left) = ap (λ (out : List ℕ). out ++ left) is ∙ append_assoc lines begun left in
-    let there = fits items (before ++ last ∷ []) behind split in
-    record {
-      read = read;
-      written = written;
-      reads = reads;
-      writes = writes;
-      items = items;
-      are_items = are;
-      told = length before;
-      mid = M;
-      lines = lines;
-      begun = begun;
-      replies = subst (λ (xs : List Item). RepliesAll A xs lines M) (sym (first_of items before (last ∷ behind) (split ∙ append_assoc before (last ∷ []) behind))) replies;
-      written_are = is;
-      done = length (before ++ last ∷ []);
-      none_lost = omega arith;
-      one_more = omega arith;
-      none_unread = there;
-      unwritten = left;
-      after = subst (λ (xs : List Item). RepliesAll A xs (written ++ left) B) (sym (first_of items (before ++ last ∷ []) behind split))
-          (subst (λ (out : List ℕ). RepliesAll A (before ++ last ∷ []) out B) (sym whole) more);
-    }
+module _ (A : Ledger) (W w : Option (List ℕ)) (items : List Item) where
+  -- the ledger behind what is told whole
+  pub found_told : (M : Ledger) (written : List ℕ) (before behind : List Item) → Appends W w written → items ≡ before ++ behind → RepliesAll A before written M → IsFoundAfterItems A items W w M
+  found_told M written before behind writes split replies =
+      let first = subst (λ (xs : List Item). RepliesAll A xs written M) (sym (first_of items before behind split)) replies in
+      record {
+        written = written;
+        writes = writes;
+        told = length before;
+        mid = M;
+        lines = written;
+        begun = [];
+        replies = first;
+        written_are = sym (append-nil written);
+        done = length before;
+        none_lost = omega arith;
+        one_more = omega arith;
+        none_unasked = fits items before behind split;
+        unwritten = [];
+        after = subst (λ (out : List ℕ). RepliesAll A (take (length before) items) out M) (sym (append-nil written)) first;
+      }
 
--- all is read and answered
-pub found_whole : (A M : Ledger) (R r W w : Option (List ℕ)) → EndsWhole A M R r W w → IsFoundAfterLines A R r W w M
-found_whole A M R r W w ends =
-    found_told A M R r W w ends.read ends.out ends.text.items ends.text.items [] ends.reads ends.writes ends.text.are_items (sym (append-nil ends.text.items)) ends.text.replies
+  -- the ledger behind an item more, whose line is missing or cut
+  found_done : (M B : Ledger) (written lines begun left : List ℕ) (before behind : List Item) (last : Item) → Appends W w written → items ≡ (before ++ last ∷ []) ++ behind → RepliesAll A before lines M
+      → written ≡ lines ++ begun → RepliesAll A (before ++ last ∷ []) (lines ++ (begun ++ left)) B → IsFoundAfterItems A items W w B
+  found_done M B written lines begun left before behind last writes split replies is more =
+      let size : length (before ++ last ∷ []) ≡ length before + 1 = length-append before (last ∷ []) in
+      let whole : written ++ left ≡ lines ++ (begun ++ left) = ap (λ (out : List ℕ). out ++ left) is ∙ append_assoc lines begun left in
+      let there = fits items (before ++ last ∷ []) behind split in
+      record {
+        written = written;
+        writes = writes;
+        told = length before;
+        mid = M;
+        lines = lines;
+        begun = begun;
+        replies = subst (λ (xs : List Item). RepliesAll A xs lines M) (sym (first_of items before (last ∷ behind) (split ∙ append_assoc before (last ∷ []) behind))) replies;
+        written_are = is;
+        done = length (before ++ last ∷ []);
+        none_lost = omega arith;
+        one_more = omega arith;
+        none_unasked = there;
+        unwritten = left;
+        after = subst (λ (xs : List Item). RepliesAll A xs (written ++ left) B) (sym (first_of items (before ++ last ∷ []) behind split))
+            (subst (λ (out : List ℕ). RepliesAll A (before ++ last ∷ []) out B) (sym whole) more);
+      }
 
--- what is answered so far
-pub found_cut : (fault : ScriptFault) (U H : Type 0) (leaves : List Content → Type 0) (A M : Ledger) (R r W w : Option (List ℕ)) → EndsCut fault U H leaves A M R r W w → IsFoundAfterLines A R r W w M
-found_cut fault U H leaves A M R r W w ends = by ends.cut.lines
-  where
-    items : List Item
-    items = ends.ended ++ unended ends.rest
+  -- all are answered
+  pub found_all : (M : Ledger) → AnswersAll A items M W w → IsFoundAfterItems A items W w M
+  found_all M (lines, replies, writes) = found_told M lines items [] writes (sym (append-nil items)) replies
 
-    are : AreItems ends.read items
-    are = record { ended = ends.ended; rest = ends.rest; feeds = ends.feeds; all = refl }
+  module _ (U H : Type 0) (leaves : List Content → Type 0) (M : Ledger) where
+    -- what is answered so far
+    found_so_far : (fault : ScriptFault) (written : List ℕ) → Appends W w written → IsCut fault U H leaves A items written M → IsFoundAfterItems A items W w M
+    found_so_far fault written writes cut = by cut.lines
+      where
+        by : RepliesAll A cut.answered written M ⊎ LacksRest A cut.answered written M → IsFoundAfterItems A items W w M
+        by (inl all) = found_told M written cut.answered cut.left writes cut.split all
+        by (inr l) =
+            found_done l.mid M written l.lines l.begun l.left l.before cut.left l.last writes (subst (λ (xs : List Item). items ≡ xs ++ cut.left) l.split cut.split) l.replies l.written_are
+            (replies_more l.before l.last A l.mid M l.lines (l.begun ++ l.left) l.replies l.reply)
 
-    by : RepliesAll A ends.cut.answered ends.written M ⊎ LacksRest A ends.cut.answered ends.written M → IsFoundAfterLines A R r W w M
-    by (inl all) = found_told A M R r W w ends.read ends.written items ends.cut.answered ends.cut.left ends.reads ends.writes are ends.cut.split all
-    by (inr l) =
-        found_done A l.mid M R r W w ends.read ends.written l.lines l.begun l.left items l.before ends.cut.left l.last ends.reads ends.writes are
-        (subst (λ (xs : List Item). items ≡ xs ++ ends.cut.left) l.split ends.cut.split) l.replies l.written_are
-        (replies_more l.before l.last A l.mid M l.lines (l.begun ++ l.left) l.replies l.reply)
+    -- and what is left where the request that comes next stops the desk
+    stop_left : (written : List ℕ) → U → H → Appends W w written → IsCut ScriptFault.Stopped U H leaves A items written M → LeavesRowsOf leaves (IsFoundAfterItems A items W w)
+    stop_left written went honest writes cut =
+        let stops = cut.stopped refl went honest in
+        let request = stops.request in
+        let next = item.Request request in
+        let told : RepliesAll A cut.answered written M = cut.told (λ e. write_stops_nothing (sym e)) in
+        let split : items ≡ (cut.answered ++ next ∷ []) ++ stops.more =
+        subst (λ (xs : List Item). items ≡ cut.answered ++ xs) stops.next cut.split ∙ sym (append_assoc cut.answered (next ∷ []) stops.more) in
+        let line = request_line request.key (Done (places M + 1)) in
+        let more : RepliesAll A (cut.answered ++ next ∷ []) (written ++ line) (accept M request) =
+        replies_more cut.answered next A M (accept M request) written line told (Done (places M + 1), accepted_answered M request stops.accepted, refl) in
+        either_left M (accept M request) (IsFoundAfterItems A items W w) leaves (found_so_far ScriptFault.Stopped written writes cut)
+        (found_done M (accept M request) written written [] line cut.answered stops.more next writes split told (sym (append-nil written)) more) stops.either
 
--- and what is left where the request that comes next stops the desk
-pub stop_left : (U H : Type 0) (leaves : List Content → Type 0) (A M : Ledger) (R r W w : Option (List ℕ)) → Good A → Good M → U → H → EndsCut ScriptFault.Stopped U H leaves A M R r W w
-    → LeavesRowsOf leaves (IsFoundAfterLines A R r W w)
-stop_left U H leaves A M R r W w good good_now went honest ends =
-    let stops = ends.cut.stopped refl went honest in
-    let request = stops.request in
-    let answered = ends.cut.answered in
-    let next = item.Request request in
-    let items = ends.ended ++ unended ends.rest in
-    let are : AreItems ends.read items = record { ended = ends.ended; rest = ends.rest; feeds = ends.feeds; all = refl } in
-    let told : RepliesAll A answered ends.written M = ends.cut.told (λ e. write_stops_nothing (sym e)) in
-    let split : items ≡ (answered ++ next ∷ []) ++ stops.more =
-    subst (λ (xs : List Item). items ≡ answered ++ xs) stops.next ends.cut.split ∙ sym (append_assoc answered (next ∷ []) stops.more) in
-    let line = request_line request.key (Done (places M + 1)) in
-    let more : RepliesAll A (answered ++ next ∷ []) (ends.written ++ line) (accept M request) =
-    replies_more answered next A M (accept M request) ends.written line told (Done (places M + 1), accepted_answered M request stops.accepted, refl) in
-    let range = front_in_range (answered ++ next ∷ []) stops.more (subst (λ (xs : List Item). Each IsItemInRange xs) split (items_in_range ends.read items are)) in
-    let good_next = good_after_all (answered ++ next ∷ []) A (ends.written ++ line) (accept M request) good range more in
-    either_left M (accept M request) (IsFoundAfterLines A R r W w) leaves good_now good_next (found_cut ScriptFault.Stopped U H leaves A M R r W w ends)
-    (found_done A M (accept M request) R r W w ends.read ends.written ends.written [] line items answered stops.more next ends.reads ends.writes are split told (sym (append-nil ends.written)) more)
-    stops.either
+    -- what a stop leaves where the answers are cut
+    pub cut_left : (fault : ScriptFault) (holds : Content → Type 0) (written : List ℕ) → Good M → U → H → Appends W w written → IsCut fault U H leaves A items written M
+        → (fault ≢ ScriptFault.Stopped → IsStored holds leaves M) → LeavesRowsOf leaves (IsFoundAfterItems A items W w)
+    cut_left ScriptFault.Memory holds written good went honest writes cut stored =
+        stored_left M (IsFoundAfterItems A items W w) holds leaves good (found_so_far ScriptFault.Memory written writes cut) (stored memory_stops_nothing)
+    cut_left ScriptFault.Read holds written good went honest writes cut stored =
+        stored_left M (IsFoundAfterItems A items W w) holds leaves good (found_so_far ScriptFault.Read written writes cut) (stored read_stops_nothing)
+    cut_left ScriptFault.Write holds written good went honest writes cut stored =
+        stored_left M (IsFoundAfterItems A items W w) holds leaves good (found_so_far ScriptFault.Write written writes cut) (stored write_stops_nothing)
+    cut_left ScriptFault.Stopped holds written good went honest writes cut stored = stop_left written went honest writes cut
 
--- what a stop leaves behind a script, however that ended
-pub script_left : {T : Type 0} (ended : Result T ScriptFault) (U H : Type 0) (holds : Content → Type 0) (leaves : List Content → Type 0) (A M : Ledger) (R r W w : Option (List ℕ)) → Good A → Good M → U → H
-    → OnOk ended (EndsWhole A M R r W w) → IfErr ended (λ fault. EndsCut fault U H leaves A M R r W w) → (ended ≢ Err ScriptFault.Stopped → IsStored holds leaves M)
-    → LeavesRowsOf leaves (IsFoundAfterLines A R r W w)
-script_left (Ok done) U H holds leaves A M R r W w good good_now went honest whole cut stored =
-    stored_left M (IsFoundAfterLines A R r W w) holds leaves good_now (found_whole A M R r W w whole) (stored (λ e. cc))
-script_left (Err ScriptFault.Memory) U H holds leaves A M R r W w good good_now went honest whole cut stored =
-    stored_left M (IsFoundAfterLines A R r W w) holds leaves good_now (found_cut ScriptFault.Memory U H leaves A M R r W w cut) (stored (λ e. cc))
-script_left (Err ScriptFault.Read) U H holds leaves A M R r W w good good_now went honest whole cut stored =
-    stored_left M (IsFoundAfterLines A R r W w) holds leaves good_now (found_cut ScriptFault.Read U H leaves A M R r W w cut) (stored (λ e. cc))
-script_left (Err ScriptFault.Write) U H holds leaves A M R r W w good good_now went honest whole cut stored =
-    stored_left M (IsFoundAfterLines A R r W w) holds leaves good_now (found_cut ScriptFault.Write U H leaves A M R r W w cut) (stored (λ e. cc))
-script_left (Err ScriptFault.Stopped) U H holds leaves A M R r W w good good_now went honest whole cut stored =
-    stop_left U H leaves A M R r W w good good_now went honest cut
+-- of these ledgers those that are of another kind
+pub left_as : (leaves : List Content → Type 0) (Is So : Ledger → Type 0) → ((B : Ledger) → Is B → So B) → LeavesRowsOf leaves Is → LeavesRowsOf leaves So
+left_as leaves Is So turn left = record {
+  these = left.these;
+  leaves_these = left.leaves_these;
+  are_rows = λ x among. let (A, good, rows, is) = left.are_rows x among in (A, good, rows, turn A is);
+}
+
+-- ---- after a script
+
+module _ (A M : Ledger) (R r W w : Option (List ℕ)) where
+  -- all is read and answered
+  pub found_whole : EndsWhole A M R r W w → IsFoundAfterLines A R r W w M
+  found_whole ends = (ends.read, ends.text.items, ends.reads, ends.text.are_items, found_all A W w ends.text.items M (ends.out, ends.text.replies, ends.writes))
+
+  -- or not
+  pub ends_cut_left : (fault : ScriptFault) (U H : Type 0) (holds : Content → Type 0) (leaves : List Content → Type 0) → Good M → U → H → EndsCut fault U H leaves A M R r W w
+      → (fault ≢ ScriptFault.Stopped → IsStored holds leaves M) → LeavesRowsOf leaves (IsFoundAfterLines A R r W w)
+  ends_cut_left fault U H holds leaves good went honest ends stored =
+      let items = ends.ended ++ unended ends.rest in
+      let are : AreItems ends.read items = record { ended = ends.ended; rest = ends.rest; feeds = ends.feeds; all = refl } in
+      left_as leaves (IsFoundAfterItems A items W w) (IsFoundAfterLines A R r W w) (λ B found. (ends.read, items, ends.reads, are, found))
+      (cut_left A W w items U H leaves M fault holds ends.written good went honest ends.writes ends.cut stored)
+
+  -- what a stop leaves behind a script, however that ended
+  pub script_left : {T : Type 0} (ended : Result T ScriptFault) (U H : Type 0) (holds : Content → Type 0) (leaves : List Content → Type 0) → Good M → U → H
+      → OnOk ended (EndsWhole A M R r W w) → IfErr ended (λ fault. EndsCut fault U H leaves A M R r W w) → (ended ≢ Err ScriptFault.Stopped → IsStored holds leaves M)
+      → LeavesRowsOf leaves (IsFoundAfterLines A R r W w)
+  script_left (Ok done) U H holds leaves good went honest whole cut stored =
+      stored_left M (IsFoundAfterLines A R r W w) holds leaves good (found_whole whole) (stored (λ e. cc))
+  script_left (Err fault) U H holds leaves good went honest whole cut stored =
+      ends_cut_left fault U H holds leaves good went honest cut (λ other. stored (other_error (Err fault) fault ScriptFault.Stopped refl other))
 
 -- and behind one that ended whole
 pub whole_left : {T : Type 0} (ended : Result T ScriptFault) (holds : Content → Type 0) (leaves : List Content → Type 0) (A M : Ledger) (R r W w : Option (List ℕ)) → Good M → OnOk ended (EndsWhole A M R r W w)

@@ -32,6 +32,8 @@ pub leaves_either : (A : Ledger) (plan : PlanView) (changes : List Change) → G
     → rows_among changes ≡ plan.changes → (holds : Content → Type 0) (old new : List Content → Type 0) → IsStored holds old A
     → ((x : Content) → holds x → old (x ∷ []) → new (x ∷ with_changes changes x ∷ [])) → LeavesEither new A (accept A plan.request)
 leaves_either A plan changes g key range fits same holds old new stored either = record {
+  good_before = g;
+  good_after = good_next A plan g key range fits;
   before = stored.rows;
   after = with_changes changes stored.rows;
   are_before = stored.are_rows;

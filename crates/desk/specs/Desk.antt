@@ -29,8 +29,10 @@ pub record IsInOrder {K : Type 0} (g : Ghosts K) (desk : DeskView K) : Type 0 wh
   pub good : Good desk.ledger
   pub stored : StaysStored g desk
 
--- a stop leaves the rows of the one ledger or those of the other
+-- a stop leaves the rows of the one ledger or those of the other, and both are good
 pub record LeavesEither (leaves : List Content → Type 0) (A B : Ledger) : Type 0 where
+  pub good_before : Good A
+  pub good_after : Good B
   pub before : Content
   pub after : Content
   pub are_before : IsRowsOf A before

@@ -32,16 +32,12 @@ pub record IsFoundAfter (A : Ledger) (requests : List Request) (run : Run) (B : 
   pub all_told : run.ending ≢ Stopped → done ≡ answered run
   pub after : After A requests done B
 
--- B is the ledger after a prefix of the lines that were read. That holds every one whose reply line was written whole,
--- since what was written is a beginning of the reply lines to that prefix. At most one more is done.
-pub record IsFoundAfterLines (A : Ledger) (reader_old reader_new writer_old writer_new : Option (List ℕ)) (B : Ledger)
+-- B is the ledger after a prefix of the items. That holds every one whose reply line was written whole, since what was
+-- written is a beginning of the reply lines to that prefix. At most one more is done.
+pub record IsFoundAfterItems (A : Ledger) (items : List Item) (writer_old writer_new : Option (List ℕ)) (B : Ledger)
     : Type 0 where
-  pub read : List ℕ
   pub written : List ℕ
-  pub reads : Consumes reader_old reader_new read
   pub writes : Appends writer_old writer_new written
-  pub items : List Item
-  pub are_items : AreItems read items
   -- what was written is the reply lines to so many of them, and a beginning of the next
   pub told : ℕ
   pub mid : Ledger
@@ -53,9 +49,15 @@ pub record IsFoundAfterLines (A : Ledger) (reader_old reader_new writer_old writ
   pub done : ℕ
   pub none_lost : told ≤ done
   pub one_more : done ≤ told + 1
-  pub none_unread : done ≤ length items
+  pub none_unasked : done ≤ length items
   pub unwritten : List ℕ
   pub after : RepliesAll A (take done items) (written ++ unwritten) B
+
+-- B is the ledger after such a prefix of the lines that were read
+abbrev pub IsFoundAfterLines : Ledger → (reader_old reader_new writer_old writer_new : Option (List ℕ)) → Ledger → Type 0
+IsFoundAfterLines A reader_old reader_new writer_old writer_new B =
+    (read : List ℕ) × (items : List Item) × Consumes reader_old reader_new read × AreItems read items
+    × IsFoundAfterItems A items writer_old writer_new B
 
 -- a stop leaves nothing but the rows of good ledgers of this kind
 pub record LeavesRowsOf (leaves : List Content → Type 0) (Is : Ledger → Type 0) : Type 0 where

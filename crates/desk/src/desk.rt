@@ -222,7 +222,8 @@ impl<K: Keep> Desk<K> {
 
     /// The keeper, as it stands. Takes no memory.
     pub fn into_keep(self) -> K
-        ensures { result ≡ self.keep }
+        ensures keep { result ≡ self.keep }
+        ensures good { Good self.ledger }
     {
         let Desk { book: _, keep } = self;
         keep

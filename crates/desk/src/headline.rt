@@ -1,9 +1,7 @@
 //! The headline: wherever a run or a script is cut, an opening finds the ledger after a prefix of what was asked that
 //! holds all that was answered, and from there every future is honoured.
 
-ghost use Rattle.std.specs.Prelude.{◌≡◌, ◌≢◌, ◌⊎◌, ◌↔◌, ◌<◌, ◌≤◌, ◌+◌, ◌++◌, ◌∷◌, [], false, Err, Ok, List, length, IfErr, IfOk, IfSome, IsTrue, OnOk, slice_index_or};
-ghost use Rattle.escrow.specs.Codes.{IsKey};
-ghost use Rattle.words.specs.Spelling.{IsInRange};
+ghost use Rattle.std.specs.Prelude.{◌≡◌, ◌≢◌, ◌⊎◌, ◌↔◌, ◌≤◌, ◌+◌, ◌++◌, ◌∷◌, [], false, Err, Ok, List, length, IfErr, IfOk, IfSome, IsTrue, OnOk};
 ghost use Rattle.words.specs.declared.command.Request.{Request as RequestOf};
 ghost use Rattle.words.specs.declared.reply.Reply.{Reply as ReplyOf};
 ghost use Rattle.book.specs.Answers.{Runs};
@@ -24,18 +22,7 @@ use crate::scripts::script;
 use keep::{Keep, Recover};
 use std::alloc::Global;
 use std::io::{Read, Write};
-use words::{Reply, Request};
-
-/// The request behind those with replies, if there is one, is in range.
-fn next_in_range(requests: &[Request], replies: &[Reply])
-    ensures { length replies.now < length requests.now → (r : RequestOf)
-        × (r ≡ slice_index_or requests.now (length replies.now) r) × IsKey r.key × IsInRange r.command }
-{
-    let at = replies.len();
-    if at < requests.len() {
-        requests[at].in_range();
-    }
-}
+use words::Request;
 
 /// Runs the requests, and gives the keeper up where that ends.
 ///
@@ -53,8 +40,6 @@ pub fn run_and_stop<K: Keep>(alloc: Global, desk: Desk<K>, requests: &[Request])
 {
     let mut desk = desk;
     let run = desk.run(alloc, requests);
-    desk.in_order();
-    next_in_range(requests, run.replies.as_slice());
     (run, desk.into_keep())
 }
 
@@ -209,9 +194,7 @@ pub fn script_and_stop<K: Keep, R: Read, W: Write>(
     ensures stopped { result.0 ≡ Err ScriptFault.Stopped → IsTrue (K.stopped result.1) }
 {
     let mut desk = desk;
-    desk.in_order();
     let ended = script(alloc, reader, writer, &mut desk);
-    desk.in_order();
     (ended, desk.into_keep())
 }
 

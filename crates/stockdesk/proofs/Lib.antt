@@ -3,3 +3,4 @@ mod Connections
 mod WorkParts
 mod PlainRun
 mod Versions
+mod NextSession

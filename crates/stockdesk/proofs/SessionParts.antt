@@ -13,6 +13,7 @@ use Rattle.keep.specs.declared.keep.Keep.{Ghosts}
 use Rattle.desk.specs.Desk.{IsStored}
 use Rattle.desk.specs.Script.{EndsWhole}
 use Rattle.desk.specs.declared.fault.ScriptFault.{ScriptFault}
+use Rattle.desk.proofs.Cuts.{other_error}
 use Rattle.stockdesk.specs.Runs.{BeginsText, RunsSoFar, RunsWhole}
 use Rattle.stockdesk.specs.Sessions.{IsBadFile, IsLeft, IsNoDesk, IsToldAs, IsUnbegun, StillHolds, OpensWith, ScriptCut, SessionCut, SessionInPart, SessionWhole}
 use Rattle.stockdesk.specs.Work.{WorkInPart, WorkWhole}
@@ -94,14 +95,6 @@ told_begun ScriptFault.Read fault told = not_unbegun fault _ (told.read.1 refl) 
 told_begun ScriptFault.Write fault told = not_unbegun fault _ (told.write.1 refl) refl
 
 -- ---- answers and errors
-
-abbrev error_or : {T E : Type 0} → E → Result T E → E
-error_or none (Ok value) = none
-error_or none (Err fault) = fault
-
--- an error is no other one
-other_error : {T E : Type 0} (r : Result T E) (fault other : E) → r ≡ Err fault → fault ≢ other → r ≢ Err other
-other_error r fault other is not e = not (sym (ap (error_or fault) is) ∙ ap (error_or fault) e)
 
 -- what holds of an error holds of this one
 of_this_error : {T E : Type 0} (r : Result T E) (P : E → Type 0) (fault : E) → IfErr r P → r ≡ Err fault → P fault

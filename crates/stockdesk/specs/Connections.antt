@@ -1,8 +1,11 @@
 -- What is shown of a desk to connections, and what these do to it.
-use Rattle.std.specs.Prelude.{◌≡◌, ◌<◌, ◌≤◌, ◌⊎◌, ◌^◌, Bool, false, ℕ, List, [], ◌∷◌, ◌++◌, Option, codes, decimal, length, take}
+use Rattle.std.specs.Prelude.{◌≡◌, ◌<◌, ◌≤◌, ◌⊎◌, ◌^◌, Bool, false, true, ℕ, List, [], ◌∷◌, ◌++◌, Option, codes, decimal, length, take}
 use Rattle.std.specs.Io.KnownBytes.{Appends}
+use Rattle.book.specs.Answers.{IsAccepted}
 use Rattle.book.specs.Ledger.{Ledger}
+use Rattle.book.specs.Next.{accept}
 use Rattle.book.specs.Rows.{Content}
+use Rattle.words.specs.declared.command.Request.{Request}
 use Rattle.web.specs.Serving.{EndsCut, EndsWhole, stand}
 use Rattle.web.specs.Web.{Stand}
 use Rattle.web.specs.declared.served.Served.{Served}
@@ -89,6 +92,13 @@ abbrev pub ServesSome : ℕ → Bool → (is_honest : Type 0) → (leaves : List
 ServesSome count is_stopped is_honest leaves first last =
     (streams : List Streams) × (length streams ≤ count) × AreServed is_honest leaves (stand first false) streams
     (stand last is_stopped)
+
+-- B is the ledger behind such connections, or, where the last of them stopped the desk, behind one accepted request more
+abbrev pub IsFoundAfterService : ℕ → (is_honest : Type 0) → (leaves : List Content → Type 0) → Ledger → Ledger → Type 0
+IsFoundAfterService count is_honest leaves A B =
+    (last : Ledger) × (is_stopped : Bool) × ServesSome count is_stopped is_honest leaves A last
+    × ((B ≡ last)
+    ⊎ ((is_stopped ≡ true) × (request : Request) × IsAccepted last request × (B ≡ accept last request)))
 
 -- The port was not told, or not whole, since there was no socket or no memory, or a write failed; or it was told, and
 -- there was no connection more, or the last one stopped the desk.

@@ -6,12 +6,14 @@ ghost use Rattle.sqlite.specs.WalFiles.{image_at};
 ghost use Rattle.sqlite.specs.Files.{file_state};
 ghost use Rattle.sqlite.specs.State.{HasCleanDisk};
 ghost use Rattle.sqlite_trees.specs.Tree.{Trees};
-ghost use Rattle.book.specs.Rows.{Content, DeskCells};
+ghost use Rattle.book.specs.Good.{Good};
+ghost use Rattle.book.specs.Ledger.{Ledger};
+ghost use Rattle.book.specs.Rows.{Content, DeskCells, IsRowsOf};
 ghost use Rattle.keep.specs.Content.{Holds, IsContent, LeavesOnly};
 ghost use Rattle.keep.specs.Old.{HoldsOld, IsOldContent, upgraded};
 ghost use Rattle.keep.specs.Starts.{StartsOld, StartsWith};
 ghost use Rattle.stockdesk.specs.Sessions.{IsNewDesk, IsNotOpened, OpensWith, StillHolds};
-ghost use Rattle.stockdesk.specs.Work.{WorkInPart, WorkWhole};
+ghost use Rattle.stockdesk.specs.Work.{GoesOnFrom, WorkInPart, WorkWhole};
 
 use crate::new_desk::new_desk;
 use crate::session::Fault;
@@ -172,6 +174,11 @@ pub fn session<S: Start, R: Read, W: Write>(
     ensures unopened { OnErr result (Keeps (R.remaining reader.old) (R.remaining reader.new)
         × Keeps (W.contents writer.old) (W.contents writer.new)) }
     ensures fault { IfErr result IsNotOpened }
+    // what a stop leaves of it the next session goes on from
+    ensures goes_on { IfOk result (λ r. HasCleanDisk (file_state r.0.connection) → (A : Ledger) (x : Content) → Good A
+        → IsRowsOf A x → StartsWith (image_at S.Start) x
+        → GoesOnFrom ⟦<SqlKeep<FileStore<FileFrom<S>>> as Keep>⟧ work.now r.0 r.1 A (R.remaining reader.old)
+        (R.remaining reader.new) (W.contents writer.old) (W.contents writer.new)) }
 {
     let keep = open(rt, path, start)?;
     Ok(work::session(rt, keep, work, reader, writer))

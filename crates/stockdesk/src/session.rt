@@ -2,6 +2,7 @@
 
 ghost use Rattle.std.specs.Prelude.{◌≡◌, ◌≢◌, ◌↔◌, ◌⊎◌, false, Err, IfErr, IfOk, IsTrue, OnOk};
 ghost use Rattle.book.specs.Good.{Good};
+ghost use Rattle.book.specs.Ledger.{Ledger};
 ghost use Rattle.book.specs.Rows.{Content, IsRowsOf};
 ghost use Rattle.desk.specs.Desk.{StaysStored};
 ghost use Rattle.desk.specs.Script.{EndsWhole};
@@ -85,6 +86,9 @@ pub fn open_desk<K: Keep>(alloc: Global, keep: K) -> Result<Desk<K>, (Fault, K)>
         → (e.0 ≡ Fault.OldVersion) ⊎ ((e.0 ≡ Fault.Memory) ⊎ (e.0 ≡ Fault.Store))) }
     ensures held { IfErr result (λ e. SessionRefused K.Keep e.0 e.1 (K.holds keep) (K.has_tables keep)
         (IsLeft K.Keep keep e.1)) }
+    // what holds the rows of a good ledger is opened, but for want of memory and the store
+    ensures nothing_else { IfErr result (λ e. K.is_honest e.1 → (A : Ledger) (x : Content) → Good A → IsRowsOf A x
+        → K.holds keep x → (e.0 ≡ Fault.Memory) ⊎ (e.0 ≡ Fault.Store)) }
     ensures honest { IfErr result (λ e. K.is_honest e.1 → K.is_honest keep) }
     ensures refused { IsTrue (K.stopped keep) → result ≡ Err (Fault.Store, keep) }
 {

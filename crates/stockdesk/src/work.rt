@@ -1,9 +1,12 @@
 //! A session: work that is done on the desk that a keeper holds.
 
-ghost use Rattle.std.specs.Prelude.{◌≡◌, ◌≢◌, ◌⊎◌, false, Err, IfErr, IsTrue, OnOk};
+ghost use Rattle.std.specs.Prelude.{◌≡◌, ◌≢◌, ◌⊎◌, ◌∷◌, [], false, Err, IfErr, IsTrue, OnOk};
+ghost use Rattle.book.specs.Good.{Good};
+ghost use Rattle.book.specs.Ledger.{Ledger};
+ghost use Rattle.book.specs.Rows.{Content, IsRowsOf};
 ghost use Rattle.desk.specs.Desk.{StaysStored};
 ghost use Rattle.stockdesk.specs.Sessions.{IsLeft, IsNoDesk};
-ghost use Rattle.stockdesk.specs.Work.{WorkCut, WorkDone, WorkInPart, WorkWhole};
+ghost use Rattle.stockdesk.specs.Work.{GoesOnFrom, WorkCut, WorkDone, WorkInPart, WorkWhole};
 
 use crate::loopback::{Service, serve_desk};
 use crate::requests::{Kind, answer_file};
@@ -82,6 +85,10 @@ pub fn session<K: Keep, R: Read, W: Write>(
         ⊎ ((result.1 ≡ Err Fault.Memory) ⊎ (result.1 ≡ Err Fault.Store)) }
     ensures refused { IsTrue (K.stopped keep) → result ≡ (keep, Err Fault.Store) }
     ensures honest { K.is_honest result.0 → K.is_honest keep }
+    // what a stop leaves of it the next session goes on from
+    ensures goes_on { K.is_honest result.0 → (A : Ledger) (x : Content) → Good A → IsRowsOf A x → K.holds keep x
+        → K.leaves keep (x ∷ []) → GoesOnFrom K.Keep work.now result.0 result.1 A (R.remaining reader.old)
+        (R.remaining reader.new) (W.contents writer.old) (W.contents writer.new) }
 {
     let mut desk = match open_desk(rt.alloc(), keep) {
         Ok(desk) => desk,

@@ -52,7 +52,7 @@ module _ {H : Type 0} {L : List Content → Type 0} where
   stops_here A B b c r e f same accepted either = record {
     mark = stopped;
     told = (refl, r, refl, accepted, e, f, same);
-    stops = λ going halted honest. (r, refl, refl, subst (λ (C : Ledger). LeavesEither L C (accept C r)) (sym same) (either honest));
+    stops = λ going halted honest. (r, refl, refl, subst (λ (C : Ledger). IsAccepted C r) (sym same) accepted, subst (λ (C : Ledger). LeavesEither L C (accept C r)) (sym same) (either honest));
   }
 
   -- the answer to what a message asks for is that to the message
@@ -61,8 +61,8 @@ module _ {H : Type 0} {L : List Content → Type 0} where
     mark = h.mark;
     part = asked_under old new m a answer h.mark asks h.told;
     stops = λ going halted honest.
-        let (r, is, mark, either) = h.stops going halted honest in
-        (r, subst (AsksFor m) is asks, mark, either);
+        let (r, is, mark, accepted, either) = h.stops going halted honest in
+        (r, subst (AsksFor m) is asks, mark, accepted, either);
   }
 
   -- memory was refused before it was known what the message asks for

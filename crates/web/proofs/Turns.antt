@@ -133,7 +133,7 @@ serves_unreadable H L old mid parts h = (
     told = λ going. stopped_told (parts ++ unreadable ∷ []) (h.marks ++ plain ∷ []) (h.answers ++ message_answer ∷ []) old mid replies going;
     stops = λ before after honest.
         let was = h.stops before after honest in
-        record { request = was.request; first = first_on parts (unreadable ∷ []) h.marks (plain ∷ []) was.request was.first; either = was.either };
+        record { request = was.request; first = first_on parts (unreadable ∷ []) h.marks (plain ∷ []) was.request was.first; accepted = was.accepted; either = was.either };
   },
   refl,
 )

@@ -40,7 +40,7 @@ pub record AnswersAsk (is_honest : Type 0) (leaves : List Content → Type 0) (o
   pub mark : Mark
   pub told : ToldBy old a mark answer new
   pub stops : old.is_stopped ≡ false → new.is_stopped ≡ true → is_honest → (r : Request) × (a ≡ ask.Call r)
-      × (mark ≡ stopped) × LeavesEither leaves new.ledger (accept new.ledger r)
+      × (mark ≡ stopped) × IsAccepted new.ledger r × LeavesEither leaves new.ledger (accept new.ledger r)
 
 -- what is to be written for a request with that reply, where memory is not refused for it
 abbrev pub IsTold : Reply → Ready → Type 0
@@ -67,7 +67,7 @@ pub record AnswersOne (is_honest : Type 0) (leaves : List Content → Type 0) (o
   pub mark : Mark
   pub part : AnswersPart old (whole m) mark answer new
   pub stops : old.is_stopped ≡ false → new.is_stopped ≡ true → is_honest → (r : Request) × AsksFor m (ask.Call r)
-      × (mark ≡ stopped) × LeavesEither leaves new.ledger (accept new.ledger r)
+      × (mark ≡ stopped) × IsAccepted new.ledger r × LeavesEither leaves new.ledger (accept new.ledger r)
 
 -- The messages that have come are answered, but for what is held behind them.
 pub record HasServed (is_honest : Type 0) (leaves : List Content → Type 0) (old new : Stand)

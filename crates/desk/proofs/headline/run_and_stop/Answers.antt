@@ -1,7 +1,6 @@
-use Rattle.std.proofs.Common.{◌∙◌, List, length, subst, sym}
-use Rattle.words.specs.declared.reply.Reply.{Reply}
-use Rattle.desk.specs.Headline.{IsFoundAfter, LeavesRowsOf, answered}
-use Rattle.desk.proofs.FoundAfter.{IsNextInRange, run_left}
+use Rattle.std.proofs.Common.{◌∙◌, subst, sym}
+use Rattle.desk.specs.Headline.{IsFoundAfter, LeavesRowsOf}
+use Rattle.desk.proofs.FoundAfter.{run_left}
 use Rattle.desk.proofs.headline.run_and_stop.Goals as goal
 
 pub returns-clause-left : goal.returns-clause-left
@@ -9,11 +8,10 @@ returns-clause-left g c honest =
     let A = c.args.desk.ledger in
     let rs = c.args.requests.now in
     let run = c.run-run.result in
-    let same = sym c.into_keep.ensures in
-    let still = subst g.K.Keep.is_honest c.into_keep.ensures honest in
-    let next = subst (λ (qs : List Reply). IsNextInRange rs (length qs)) c.as_slice.ensures.value c.next_in_range.ensures in
-    let left = run_left A c.run-run.new.self.ledger rs run _ _ c.in_order.ensures.good c.run-run.ensures.replies
+    let same = sym c.into_keep.ensures.keep in
+    let still = subst g.K.Keep.is_honest c.into_keep.ensures.keep honest in
+    let left = run_left A c.run-run.new.self.ledger rs run _ _ c.into_keep.ensures.good c.run-run.ensures.replies
     (λ went. c.run-run.ensures.stored (c.run-run.ensures.going went ∙ c.requires) still)
-    c.run-run.ensures.all next
+    c.run-run.ensures.all
     (λ is. c.run-run.ensures.either c.requires is still) in
     subst (λ k. LeavesRowsOf (g.K.Keep.leaves k) (IsFoundAfter A rs run)) same left

@@ -19,3 +19,9 @@ pub returns-clause-old : goal.returns-clause-old
 returns-clause-old g c clean x row there one version =
     c.session.ensures.old clean c.in_ok-keep.ensures.opened.going
     (is_of_version_1 _ x row (c.in_ok-keep.ensures.old (c.session.ensures.honest clean) x there) one version)
+
+pub returns-clause-goes_on : goal.returns-clause-goes_on
+returns-clause-goes_on g c clean A x good rows there =
+    let opened = c.in_ok-keep.ensures.opened in
+    let was = c.session.ensures.honest clean in
+    c.session.ensures.goes_on clean A x good rows (opened.held was x there) (opened.alone was x there)

@@ -13,3 +13,7 @@ returns-in-Err-clause-held g c =
       going = λ is. c.in-Err.ensures.loaded (told.damaged.0 is);
       left = λ honest. record { same = c.in-Err.ensures.same honest; adds_nothing = c.in-Err.ensures.adds_nothing honest; no_more = c.in-Err.ensures.no_more honest };
     }
+
+pub returns-in-Err-clause-nothing_else : goal.returns-in-Err-clause-nothing_else
+returns-in-Err-clause-nothing_else g c honest A x good rows held =
+    elim (c.in-Err.ensures.nothing_else honest A x good rows held) [ inl e ↦ inl (c.open_fault.ensures.memory.1 e) | inr e ↦ inr (c.open_fault.ensures.store.1 e) ]
