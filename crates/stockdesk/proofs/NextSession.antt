@@ -43,11 +43,11 @@ module _ (H : Type 0) (L : List Content → Type 0) where
   -- the connection that stopped the desk is the last
   last_stops : (old new : Stand) (streams : List Streams) → old.is_stopped ≡ false → new.is_stopped ≡ true → H → AreServed H L old streams new → StopsNow new.ledger
   last_stops old new [] going halted honest same = absurd (true≢false (sym halted ∙ ap (λ s. s.is_stopped) same ∙ going))
-  last_stops old new (s ∷ streams) going halted honest (mid, was, one, more) = by mid.is_stopped refl
+  last_stops old new (s ∷ streams) going halted honest (mid, was, one, more) = by (λ e. last_stops mid new streams e halted honest more) mid.is_stopped refl
     where
-      by : (b : Bool) → mid.is_stopped ≡ b → StopsNow new.ledger
-      by false e = last_stops mid new streams e halted honest more
-      by true e = subst (λ (s : Stand). StopsNow s.ledger) (sym (none_behind mid new streams e more)) (one_stops old mid s going e honest one)
+      by : (mid.is_stopped ≡ false → StopsNow new.ledger) → (b : Bool) → mid.is_stopped ≡ b → StopsNow new.ledger
+      by later false e = later e
+      by later true e = subst (λ (s : Stand). StopsNow s.ledger) (sym (none_behind mid new streams e more)) (one_stops old mid s going e honest one)
 
   service_left : (count : ℕ) (is_stopped : Bool) (holds : Content → Type 0) (A last : Ledger) → Good last → H → ServesSome count is_stopped H L A last → (is_stopped ≡ false → IsStored holds L last)
       → LeavesRowsOf L (IsFoundAfterService count H L A)
