@@ -160,3 +160,11 @@ class Front:
 
 def message(key: str, command: str) -> str:
     return json.dumps({"key": key, "command": command})
+
+
+def head_of(user: str, target: str, length: int | None = None) -> bytes:
+    lines = [f"{'GET' if length is None else 'POST'} {target} HTTP/1.1", "Host: localhost"]
+    lines.append(f"Authorization: {credentials(user)['Authorization']}")
+    if length is not None:
+        lines.append(f"Content-Length: {length}")
+    return "".join(line + "\r\n" for line in lines + [""]).encode()

@@ -1,0 +1,5 @@
+TESTS = []
+
+
+def is_there():
+    return False
