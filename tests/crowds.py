@@ -1,5 +1,5 @@
-"""Tests of many clients in front of the program: while the desk is killed, while the front stops, beside clients that are slow, and
-with those that go away."""
+"""Tests of many clients in front of the program: while the desk is killed, while the front stops, beside clients that are slow,
+and with those that go away."""
 
 import concurrent.futures
 import http.client
@@ -21,6 +21,7 @@ KILLS = 3
 
 # what is done: its place, its key, its spelling
 Done = tuple[int, str, str]
+
 
 def commands_of(client: int) -> list[tuple[str, str]]:
     """What a client tells, with the user: shops open, use and end orders, the warehouse delivers and writes off."""

@@ -19,6 +19,7 @@ sys.dont_write_bytecode = True
 
 import crowds
 import fronts
+import browser
 import page
 import ways_round
 from fronts import DEPLOY, NO_LIMITS, OFFICE, PAGE, SHOP, WAREHOUSE, Front, credentials, head_of, message
@@ -277,7 +278,7 @@ def main():
     if not fronts.is_there():
         say(f"front: {len(tests)} tests left out, since haproxy or openssl is not here")
         return
-    if not page.is_there():
+    if not browser.is_there():
         tests.remove(test_the_page)
         say("front: 1 test left out, since chromium, its driver or Selenium is not here")
     for test in tests:

@@ -25,9 +25,7 @@ FIELDS = "".join(f"F{n} field N1 A-{n} 0 1000000 500\n" for n in range(1, 9))
 SHOP, WAREHOUSE, OFFICE = "n1", "w1", "ho"
 
 # so much is answered that only the tests of the limits meet one
-NO_LIMITS = dict.fromkeys(
-    ["REQUESTS_BY_USER", "REQUESTS_BY_ADDRESS", "CONNECTIONS_BY_ADDRESS", "FAILURES_BY_ADDRESS"], "1000000"
-)
+NO_LIMITS = dict.fromkeys(["REQUESTS_BY_USER", "REQUESTS_BY_ADDRESS", "CONNECTIONS_BY_ADDRESS", "FAILURES_BY_ADDRESS"], "1000000")
 
 Body = dict[str, Any]
 
@@ -57,9 +55,7 @@ def make_certificate(folder: str) -> None:
     key, certificate = os.path.join(folder, "key"), os.path.join(folder, "certificate")
     words = "req -x509 -newkey ec -pkeyopt ec_paramgen_curve:prime256v1 -nodes -days 2 -subj /CN=localhost"
     words += " -addext subjectAltName=DNS:localhost"
-    subprocess.run(
-        ["openssl", *words.split(), "-keyout", key, "-out", certificate], check=True, stderr=subprocess.DEVNULL
-    )
+    subprocess.run(["openssl", *words.split(), "-keyout", key, "-out", certificate], check=True, stderr=subprocess.DEVNULL)
     with open(os.path.join(folder, "pem"), "w", encoding="ascii") as whole:
         for path in [certificate, key]:
             with open(path, encoding="ascii") as part:
@@ -117,9 +113,7 @@ class Front:
 
     def desk_start(self, **options: Any) -> None:
         words = [self.program, "serve", self.file, "--port", str(self.desk_port), "--connections", "1000000"]
-        self.desk = subprocess.Popen(
-            words, stdin=subprocess.DEVNULL, stdout=subprocess.PIPE, stderr=subprocess.PIPE, **options
-        )
+        self.desk = subprocess.Popen(words, stdin=subprocess.DEVNULL, stdout=subprocess.PIPE, stderr=subprocess.PIPE, **options)
         told = self.desk.stdout and self.desk.stdout.readline()
         expect(told == f"listening {self.desk_port}\n".encode(), f"no desk: {told!r}")
 

@@ -1,5 +1,5 @@
-"""Ways round what a group may do: messages of a shop that a proxy and a desk might read differently, and of which something that a
-shop may not do could come of. Each is refused by the front, or does nothing."""
+"""Ways round what a group may do: messages of a shop that a proxy and a desk might read differently, and of which something that
+a shop may not do could come. Each is refused by the front, or does nothing."""
 
 import json
 
