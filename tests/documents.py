@@ -86,7 +86,10 @@ def check_calls(promise, cell):
 def check_definitions(text, path):
     source = text_of(path)
     for name in NAME.findall(text):
-        expect(re.search(rf"^(?:\w+ )*(?:pub )?(?:record |struct )?{re.escape(name)}\b", source, re.MULTILINE), f"no {name} in {path}")
+        expect(
+            re.search(rf"^(?:\w+ )*(?:pub )?(?:record |struct )?{re.escape(name)}\b", source, re.MULTILINE),
+            f"no {name} in {path}",
+        )
 
 
 def check_items(text, path):

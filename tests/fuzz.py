@@ -274,7 +274,8 @@ def main():
             raise
         shutil.rmtree(folder)
     rounds = int(count) // BLOCK * BLOCK
-    say(f"{rounds * LINES} lines, {rounds} files of requests, {rounds * STREAMS} streams, {rounds} damaged files ({opened} opened)")
+    damaged = f"{rounds} damaged files ({opened} opened)"
+    say(f"{rounds * LINES} lines, {rounds} files of requests, {rounds * STREAMS} streams, {damaged}")
 
 
 if __name__ == "__main__":

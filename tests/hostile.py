@@ -216,6 +216,7 @@ def test_a_file_that_vanishes(program, folder):
     found = done(program, ["run", kept], "? field N1 A-1\n")
     expect(found == ["? field N1 A-1 lo 0 hi 1000000 value 2 inf 2 sup 2"], f"{found}")
 
+
 TESTS = [
     test_a_line_without_an_end_is_not_kept,
     test_heads_and_bodies_have_limits,

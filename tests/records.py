@@ -40,7 +40,10 @@ GOOD = [
     # a quote that is open at the end, and text behind a closing one
     (DELIVERIES + b'\n"D"1,N1,A-1,"10', "D1 deliver N1 A-1 10\n"),
     (BOUNDS, ""),
-    (BOUNDS + b"\nB1,N1,A-1,5,40\nB2,N1,A-1,41,40\nB3,N1,C-3,0,1\n", "B1 rebound N1 A-1 5 40\nB2 rebound N1 A-1 41 40\nB3 rebound N1 C-3 0 1\n"),
+    (
+        BOUNDS + b"\nB1,N1,A-1,5,40\nB2,N1,A-1,41,40\nB3,N1,C-3,0,1\n",
+        "B1 rebound N1 A-1 5 40\nB2 rebound N1 A-1 41 40\nB3 rebound N1 C-3 0 1\n",
+    ),
     # 64 lines, of which the second is on the field of the first
     (ORDERS + b"\n" + b"G1,1,9,take,N1,A-1,1\n" * 64, "G1 open 1 9" + " take N1 A-1 1" * 64 + "\n"),
 ]

@@ -327,9 +327,7 @@ def test_a_firm_transfer_keeps_its_articles_total(program, folder):
 
 def test_a_line_that_is_none_is_one_bad_line(program, folder):
     for count, behind, replies in FLOODS:
-        run = subprocess.run(
-            [program, "run"], input=b"A" * count + behind, capture_output=True, timeout=SECONDS, check=False
-        )
+        run = subprocess.run([program, "run"], input=b"A" * count + behind, capture_output=True, timeout=SECONDS, check=False)
         found = (run.returncode, run.stdout.decode().splitlines(), run.stderr)
         expect(found == (0, replies, b""), f"{count} bytes and {behind!r}: {found}")
 

@@ -3,7 +3,6 @@ script, `curl`, connections that break off, a store that fails, and services tha
 
 import contextlib
 import http.client
-import json
 import random
 import re
 import resource
@@ -200,9 +199,7 @@ def test_messages_are_answered_as_a_script_is(program, folder):
 def curl(port, target, *words):
     """What `curl` writes of an answer, with its status in front."""
     options = ["--silent", "--show-error", "--write-out", "%{stderr}%{http_code}"]
-    run = subprocess.run(
-        ["curl", *options, *words, f"http://127.0.0.1:{port}{target}"], capture_output=True, timeout=SECONDS
-    )
+    run = subprocess.run(["curl", *options, *words, f"http://127.0.0.1:{port}{target}"], capture_output=True, timeout=SECONDS)
     return run.stderr.decode(), run.stdout.decode()
 
 
@@ -248,7 +245,7 @@ def test_a_connection_that_breaks_off_is_the_last_of_nothing(program, folder):
 
 
 def test_a_store_that_fails_ends_the_service(program, folder):
-    """A file that may not grow: what was answered is kept, the rest is answered as by a desk that is stopped, and then it ends."""
+    """A file that may not grow: what was answered is kept, the rest is answered as by a stopped desk, and then it ends."""
     path = new_desk(program, folder)
     done(program, ["run", path], "K1 field N1 A-1 0 1000 0\n")
     service = Service(program, path, 2, limit=1_048_576)

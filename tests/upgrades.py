@@ -66,7 +66,9 @@ def test_an_upgraded_file_goes_on(program, folder):
         found = bytes_of(path)
         upgraded(program, path)
         expect(bytes_of(path) == found, f"{name}: changed by a second upgrade")
-        again = [line for line in zip(lines_of(f"{name}.script"), lines_of(f"{name}.replies"), strict=True) if " done " in line[1]]
+        again = [
+            line for line in zip(lines_of(f"{name}.script"), lines_of(f"{name}.replies"), strict=True) if " done " in line[1]
+        ]
         replies = done(program, ["run", path], "".join(line + "\n" for line, _ in again))
         expect(replies == [reply for _, reply in again], f"{name}: another reply to a repeated line")
         rest = "\n".join(lines_of(f"{name}.rest.script")) + "\n"
