@@ -5,8 +5,9 @@ branches of a letter and a digit, and orders from 8,000 on."""
 import re
 
 import page_answers
-from browser import FILE, FOREVER, NARROW, THUMB, WIDE, Keys, Page, row, tell_all, without
+from browser import FOREVER, NARROW, THUMB, WIDE, Keys, Page, row, tell_all, without
 from forms import ARTICLE, BRANCH, LEVEL, MOMENT, ORDER, QUANTITY
+from fronts import PAGE
 from page_answers import WORDS
 from programs import expect
 
@@ -61,7 +62,7 @@ def pictures(page):
 def test_the_file_is_plain(_front):
     """One script and one style, which the front names by their hashes; nothing is put in as markup, asked of another origin, or
     run by an attribute."""
-    with open(FILE, encoding="utf-8") as file:
+    with open(PAGE, encoding="utf-8") as file:
         text = file.read()
     lines = text.splitlines()
     expect(len(lines) < 500 and max(map(len, lines)) <= 120, "it is longer or wider")

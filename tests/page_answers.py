@@ -72,7 +72,7 @@ REFUSED = [
 ]
 
 # what the front says itself, and the words for it; then what it says while nothing is decided
-HELD_BACK = [(400, "could not read"), (401, "not signed in"), (403, "group may not"), (413, "longer than")]
+HELD_BACK = [(400, "could not read"), (401, "not signed in"), (403, "group may not"), (413, "too long")]
 NOTHING_YET = [(429, ""), (502, "<h1>502</h1>"), (503, '{"error":"stopped"}'), (504, ""), (200, "<h1>hello</h1>"), (500, "")]
 
 # what each user is offered: forms, and the buttons and forms of an open order
