@@ -147,13 +147,13 @@ def send_slowly(front: Front, over: threading.Event) -> None:
                 return
 
 
-def unread(front: Front) -> ssl.SSLSocket:
-    """A client that asks for a long sheet, with little room for it, and never reads."""
+def unread(front: Front, count: int) -> ssl.SSLSocket:
+    """A client that asks for a long sheet so many times in a row, with little room for it, and never reads."""
     plain = socket.socket()
     plain.setsockopt(socket.SOL_SOCKET, socket.SO_RCVBUF, 4_096)
     plain.connect(("127.0.0.1", front.port))
     client = front.context.wrap_socket(plain, server_hostname="localhost")
-    client.sendall(head_of(SHOP, "/v1/sheets/N2"))
+    client.sendall(head_of(SHOP, "/v1/sheets/N2") * count)
     return client
 
 
@@ -181,7 +181,7 @@ def test_slow_clients_hold_nobody_up(program, folder):
         for thread in slow:
             thread.start()
         idle = [front.socket() for _ in range(100)]
-        waiting = [unread(front) for _ in range(20)]
+        waiting = [unread(front, 1 + count % 3) for count in range(20)]
         time.sleep(1)
         beside = median_of_asks(front)
         over.set()

@@ -22,6 +22,7 @@ import fronts
 import browser
 import page
 import ways_round
+import ways_round_h2
 from fronts import DEPLOY, NO_LIMITS, OFFICE, PAGE, SHOP, WAREHOUSE, Front, credentials, head_of, message
 from programs import SECONDS, expect, say
 
@@ -158,6 +159,52 @@ def test_each_limit_is_told(program, folder):
         expect(front.ask(OFFICE, "GET", "/user")[0] == 429, "passwords may be guessed")
 
 
+def test_commands_and_what_is_under_way_are_limited(program, folder):
+    limits = {**NO_LIMITS, "COMMANDS_BY_USER": "5", "UNDER_WAY_BY_USER": "3"}
+    with Front(program, folder, limits) as front:
+        found = [front.tell(WAREHOUSE, "deliver N1 A-1 1")[0] for _ in range(8)]
+        expect(found[:5] == [200] * 5 and found[-1] == 429, f"commands: {found}")
+        expect(front.ask(WAREHOUSE, "GET", "/v1/fields/N1/A-1")[0] == 200, "no view is shown to who has sent too many commands")
+        front.desk_kill()
+        waiting = [front.socket() for _ in range(3)]
+        for client in waiting:
+            client.sendall(head_of(SHOP, "/v1/fields/N1/A-1"))
+        time.sleep(0.3)
+        found = front.ask(SHOP, "GET", "/v1/fields/N1/A-1")
+        expect(found == (429, '{"error":"rate"}'), f"a fourth at once: {found}")
+        front.desk_start()
+        for client in waiting:
+            expect(client.recv(65_536).startswith(b"HTTP/1.1 200 "), "one that waited is not answered")
+            client.close()
+
+
+def test_handshakes_are_limited(program, folder):
+    with Front(program, folder, {**NO_LIMITS, "HANDSHAKES_BY_ADDRESS": "5"}) as front:
+        time.sleep(1.1)
+        clients = []
+        try:
+            for _ in range(20):
+                clients.append(front.socket())
+            expect(False, "an address may make any number of connections a second")
+        except OSError:
+            pass
+        expect(len(clients) >= 4, f"{len(clients)} connections")
+        for client in clients:
+            client.close()
+
+
+def test_no_page_of_another_origin_sends_commands(program, folder):
+    with Front(program, folder) as front:
+        for origin, want in [("cross-site", 403), ("same-site", 403), ("same-origin", 200), ("none", 200)]:
+            connection = front.connect()
+            headers = {**credentials(OFFICE), "Sec-Fetch-Site": origin}
+            connection.request("POST", "/v1/commands", message(f"KEY-{origin}", "deliver N1 A-1 1"), headers)
+            answer = connection.getresponse()
+            expect(answer.status == want, f"{origin}: {answer.status}, {answer.read()!r}")
+            connection.close()
+        expect(front.value() == 502, "another number was done")
+
+
 def test_time_and_connections_are_limited(program, folder):
     """Who is silent within a head or a body is told in some five seconds; an address has so many connections."""
     with Front(program, folder, {**NO_LIMITS, "CONNECTIONS_BY_ADDRESS": "10"}) as front:
@@ -261,9 +308,13 @@ TESTS = [
     test_each_group_sends_its_commands,
     test_nobody_else_is_answered,
     *ways_round.TESTS,
+    *ways_round_h2.TESTS,
     *crowds.TESTS,
     test_a_stopped_desk_may_start_again,
     test_each_limit_is_told,
+    test_commands_and_what_is_under_way_are_limited,
+    test_handshakes_are_limited,
+    test_no_page_of_another_origin_sends_commands,
     test_time_and_connections_are_limited,
     test_the_log_names_the_user,
     test_a_browser_is_told_to_be_careful,
@@ -281,6 +332,9 @@ def main():
     if not browser.is_there():
         tests.remove(test_the_page)
         say("front: 1 test left out, since chromium, its driver or Selenium is not here")
+    if not ways_round_h2.is_there():
+        tests = [test for test in tests if test not in ways_round_h2.TESTS]
+        say(f"front: {len(ways_round_h2.TESTS)} tests left out, since python3-h2 is not here")
     for test in tests:
         if chosen and not any(word in test.__name__ for word in chosen):
             continue

@@ -25,7 +25,11 @@ FIELDS = "".join(f"F{n} field N1 A-{n} 0 1000000 500\n" for n in range(1, 9))
 SHOP, WAREHOUSE, OFFICE = "n1", "w1", "ho"
 
 # so much is answered that only the tests of the limits meet one
-NO_LIMITS = dict.fromkeys(["REQUESTS_BY_USER", "REQUESTS_BY_ADDRESS", "CONNECTIONS_BY_ADDRESS", "FAILURES_BY_ADDRESS"], "1000000")
+NO_LIMITS = dict.fromkeys(
+    ["REQUESTS_BY_USER", "COMMANDS_BY_USER", "UNDER_WAY_BY_USER", "REQUESTS_BY_ADDRESS"]
+    + ["CONNECTIONS_BY_ADDRESS", "HANDSHAKES_BY_ADDRESS", "FAILURES_BY_ADDRESS"],
+    "1000000",
+)
 
 Body = dict[str, Any]
 
