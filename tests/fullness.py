@@ -1,0 +1,133 @@
+"""Tests of how full a desk is told to be by `stockdesk-rollover --check`: at nine tenths of each limit, and in use."""
+
+import os
+import subprocess
+import sys
+import threading
+from unittest import mock
+
+from damages import OPEN_ORDER, Desks, of_desk, of_fields, of_orders
+from programs import bytes_of, expect, new_desk, say
+from rolled import SCRIPT, TOOL, desk_of, lying, play_and_kill, tool_ended
+
+sys.path.append(os.path.dirname(TOOL))
+
+import stockdesk_files as files
+
+# so many rows on both sides of nine tenths of a limit, others beside them, and the status of a look
+NEARLY = [
+    (of_desk, 179_999, [], 0),
+    (of_desk, 180_000, [], 3),
+    (of_desk, 179_998, OPEN_ORDER, 0),
+    (of_desk, 179_999, OPEN_ORDER, 3),
+    (of_fields, 8_999, [], 0),
+    (of_fields, 9_000, [], 3),
+    (of_orders, 89_999, [], 0),
+    (of_orders, 90_000, [], 3),
+]
+
+
+def test_a_look_tells_how_full_a_desk_is(program, folder):
+    """On both sides of nine tenths, and nothing is changed or made."""
+    desks = Desks(program, folder)
+    for make, count, others, want in NEARLY:
+        desks.put([*make(count), *others])
+        found, names = bytes_of(desks.path), os.listdir(folder)
+        status, out, errors = tool_ended(program, ["--check", desks.path])
+        expect((status, errors, b"nearly full" in out) == (want, b"", want == 3), f"{count}: {status}, {out}, {errors}")
+        expect(bytes_of(desks.path) == found and sorted(os.listdir(folder)) == sorted(names), "something was changed")
+    lines = tool_ended(program, ["--check", desk_of(program, folder)[0]])[1].decode().splitlines()
+    want = ["places: 8 taken and 3 set aside of 200000, 0 percent", "fields: 2 of 10000, 0 percent"]
+    expect(lines == [*want, "orders: 3 of 100000, 0 percent"], f"{lines}")
+
+
+def test_a_look_disturbs_nobody(program, folder):
+    """A desk in use, also while it takes commands as fast as it can: what is told was so at some moment, and all is answered."""
+    old, _ = desk_of(program, folder, "K1 field N1 A-1 0 1000000000 0\n")
+    pipe = subprocess.PIPE
+    with subprocess.Popen([program, "run", old], stdin=pipe, stdout=pipe, text=True) as process:
+        replies, over = [], threading.Event()
+        reader = threading.Thread(target=lambda: replies.extend(process.stdout))
+        writer = threading.Thread(target=deliver, args=(process.stdin, over))
+        reader.start()
+        writer.start()
+        try:
+            looks = [look(program, old, replies) for _ in range(10)]
+        finally:
+            over.set()
+            writer.join()
+            process.stdin.close()
+            reader.join()
+    expect(replies == [f"D{n} done {n + 1}\n" for n in range(1, len(replies) + 1)], "another reply")
+    expect(sum(looks) > 0, "each look was in vain")
+    say(f"  {len(replies)} commands, {sum(looks)} of {len(looks)} looks among them told how full the desk was")
+
+
+def deliver(stdin, over):
+    number = 0
+    while not over.is_set():
+        number += 1
+        stdin.write(f"D{number} deliver N1 A-1 1\n")
+        stdin.flush()
+
+
+def look(program, path, replies):
+    """Whether a look at a desk in use told a number of places that it had meanwhile; else it told to try again."""
+    least = len(replies)
+    status, out, errors = tool_ended(program, ["--check", path])
+    if status == 1:
+        expect(errors.endswith(b"try again\n"), f"{errors}")
+        return False
+    lines = out.decode().splitlines()
+    expect(status == 0 and " is in use: these are its numbers at some moment" in lines[0], f"{lines}")
+    places = int(lines[1].split()[1])
+    # a command is kept before it is answered
+    expect(least + 1 <= places <= len(replies) + 1_000, f"{places} places, after {least} and before {len(replies)} answers")
+    return True
+
+
+def put(path, place, number):
+    with open(path, "rb+") as file:
+        file.seek(place)
+        file.write(b"%04d" % number)
+
+
+class Changing:
+    """Copies a desk, and changes it behind each of the first copies."""
+
+    def __init__(self, change, often):
+        self.change, self.often, self.copies, self.copy = change, often, 0, files.copied
+
+    def __call__(self, path, folder, name):
+        copy = self.copy(path, folder, name)
+        self.copies += 1
+        if self.copies <= self.often:
+            self.change(self.copies)
+        return copy
+
+
+def test_a_look_takes_no_copy_of_two_moments(program, folder):
+    """Where the file changes while it is copied, or its log is begun anew, it is copied once more, and at last given up."""
+    old = new_desk(program, folder)
+    play_and_kill(program, old, SCRIPT)
+    for name, place in [(old, 68), (f"{old}-wal", 16)]:
+        for often in [0, 3, files.READINGS - 1, files.READINGS]:
+            changing = Changing(lambda number: put(name, place, number), often)
+            with mock.patch.multiple(files, copied=changing, PAUSE=0):
+                expect_copied(old, folder, changing)
+
+
+def expect_copied(old, folder, changing):
+    try:
+        copy = files.copied_in_use(old, folder, "copy.db")
+        expect(changing.copies == changing.often + 1, f"{changing.copies} copies, {changing.often} changes")
+        expect(lying(copy) == lying(old), "another copy")
+    except files.NotDone as told:
+        expect(changing.often == files.READINGS and str(told).endswith("try again"), f"{changing.often} changes: {told}")
+
+
+TESTS = [
+    test_a_look_takes_no_copy_of_two_moments,
+    test_a_look_tells_how_full_a_desk_is,
+    test_a_look_disturbs_nobody,
+]
