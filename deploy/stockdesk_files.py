@@ -2,6 +2,8 @@
 its name at last; and how the program ends on them."""
 
 import contextlib
+import ctypes
+import errno
 import fcntl
 import filecmp
 import os
@@ -27,6 +29,10 @@ LOG_WITH_A_FRAME = LOG_HEAD + 24 + 512
 
 # `struct flock` of Linux
 LOCK = "hhqqi0q"
+
+# of `renameat2`
+THIS_FOLDER = -100
+NO_REPLACE = 1
 
 # what the program tells of a file, in other words
 FAULTS = {
@@ -170,11 +176,30 @@ def sync(path: str) -> None:
         os.close(descriptor)
 
 
+def rename_where_nothing_is(path: str, name: str) -> None:
+    """In one step, which is refused where something is; so the file never has two names, with which the program refuses it."""
+    rename = ctypes.CDLL(None, use_errno=True).renameat2
+    if rename(THIS_FOLDER, os.fsencode(path), THIS_FOLDER, os.fsencode(name), NO_REPLACE) != 0:
+        number = ctypes.get_errno()
+        raise OSError(number, os.strerror(number), path, None, name)
+
+
+def rename(path: str, name: str) -> None:
+    """In two steps on a file system that has not that one: a stop between them leaves both names."""
+    try:
+        rename_where_nothing_is(path, name)
+    except OSError as error:
+        if error.errno not in [errno.EINVAL, errno.ENOSYS]:
+            raise
+        os.link(path, name)
+        os.remove(path)
+
+
 def give_name(path: str, name: str) -> None:
     """Gives a file that is whole and on the disk its name, where nothing is: a stop leaves all of it there, or nothing."""
     refuse_what_is_there(name)
     try:
-        os.link(path, name)
+        rename(path, name)
     except FileExistsError:
         raise NotDone(f"{name} is there already") from None
     try:

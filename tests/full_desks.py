@@ -1,4 +1,4 @@
-"""Desks that are full, as rows: one that a new desk takes over, and one of which no new desk can."""
+"""Desks that are full, as rows: one that a new desk takes over, and some that need about as many places as it has."""
 
 import random
 
@@ -66,12 +66,13 @@ def full_rows():
     return [f"desk,1,2,{CLOCK},{PLACES}", *kept, *rows.rows]
 
 
-def too_long_rows():
-    """Two orders of 64 lines that each hold and have used 1,000,000,000 pieces, and how many places a new desk needs: for fields,
-    for orders, for more on each line and uses of it, and set aside."""
+def long_rows(uses):
+    """Two orders of 64 lines that each hold 1,000,000,000 pieces, of which so many millions in all are used; and how many places
+    a new desk needs: for fields and orders, for more on each line, for uses, and set aside."""
     fields = [(f"N{n % 2}", f"A{n // 2}") for n in range(128)]
     rows = [f"field,{branch},{article},0,1000000000,0,0,0,1000000000" for branch, article in fields]
     rows += [f"orders,{number},0,60,0" for number in (1, 2)]
     for n, (branch, article) in enumerate(fields):
-        rows.append(f"line,{1 + n // 64},{1 + n % 64},{branch},{article},1,1000000000,1000000000")
-    return ["desk,1,2,0,0", *rows], 128 + 2 + 128 * (999 + 1_000) + 2
+        used = 1_000_000 * (uses // 128 + (n < uses % 128))
+        rows.append(f"line,{1 + n // 64},{1 + n % 64},{branch},{article},1,1000000000,{used}")
+    return ["desk,1,2,0,0", *rows], 128 + 2 + 128 * 999 + uses + 2

@@ -2,15 +2,12 @@
 
 import os
 import subprocess
-import sys
 import threading
 from unittest import mock
 
 from damages import OPEN_ORDER, Desks, of_desk, of_fields, of_orders
-from programs import bytes_of, expect, new_desk, say
-from rolled import SCRIPT, TOOL, desk_of, lying, play_and_kill, tool_ended
-
-sys.path.append(os.path.dirname(TOOL))
+from programs import Session, bytes_of, expect, new_desk, say
+from rolled import SCRIPT, desk_of, lying, play_and_kill, tool_ended
 
 import stockdesk_files as files
 
@@ -39,6 +36,32 @@ def test_a_look_tells_how_full_a_desk_is(program, folder):
     lines = tool_ended(program, ["--check", desk_of(program, folder)[0]])[1].decode().splitlines()
     want = ["places: 8 taken and 3 set aside of 200000, 0 percent", "fields: 2 of 10000, 0 percent"]
     expect(lines == [*want, "orders: 3 of 100000, 0 percent"], f"{lines}")
+
+
+def test_a_look_reads_the_log(program, folder):
+    """What a desk in use has done is in its log alone at first; it goes on, and so does one whose program was killed."""
+    old, _ = desk_of(program, folder)
+    found = bytes_of(old)
+    session = Session(program, old)
+    try:
+        expect(session.ask("K9 deliver N1 A-1 1") == "K9 done 9", "no reply")
+        expect(bytes_of(old) == found, "it is in the file at once")
+        expect_places(program, old, 9, ["in use"])
+        expect(session.ask("K10 deliver N1 A-1 1") == "K10 done 10", "it does not go on")
+    finally:
+        session.process.kill()
+        session.end()
+    expect_places(program, old, 10, ["places"])
+
+
+def expect_places(program, path, places, words):
+    """A look tells so many places, and these words in its first line; all lies as it lay."""
+    found = lying(path)
+    status, out, errors = tool_ended(program, ["--check", path])
+    told = f"places: {places} taken and 3 set aside of 200000, 0 percent\n" in out.decode()
+    expect((status, errors) == (0, b"") and told, f"{status}, {out}, {errors}")
+    expect(all(word in out.decode().splitlines()[0] for word in words), f"{out}")
+    expect(lying(path) == found, "it was changed")
 
 
 def test_a_look_disturbs_nobody(program, folder):
@@ -129,5 +152,6 @@ def expect_copied(old, folder, changing):
 TESTS = [
     test_a_look_takes_no_copy_of_two_moments,
     test_a_look_tells_how_full_a_desk_is,
+    test_a_look_reads_the_log,
     test_a_look_disturbs_nobody,
 ]

@@ -7,11 +7,16 @@ import re
 import resource
 import shutil
 import subprocess
+import sys
 
 from programs import SECONDS, bytes_of, done, expect, new_desk, sqlite3
 from sums import expect_sums
 
-TOOL = os.path.join(os.path.dirname(os.path.abspath(__file__)), "..", "deploy", "stockdesk-rollover")
+DEPLOY = os.path.join(os.path.dirname(os.path.abspath(__file__)), "..", "deploy")
+TOOL = os.path.join(DEPLOY, "stockdesk-rollover")
+
+# for tests of what the tool calls
+sys.path.append(DEPLOY)
 
 # a full desk takes its time
 PATIENCE = 20 * SECONDS
@@ -278,6 +283,7 @@ def expect_told(told, old, new):
 def expect_whole(old, new):
     """A roll-over left all that it should, in the file alone."""
     expect(not os.path.exists(f"{new}-wal"), "a log was left")
+    expect(os.stat(new).st_nlink == 1, "it has another name, too, with which the program refuses it")
     expect_standing(old, new)
     expect_sums(new, "the new desk")
 

@@ -2,6 +2,7 @@
 desks that came out otherwise, and desks that are refused."""
 
 import contextlib
+import errno
 import glob
 import os
 import random
@@ -10,12 +11,13 @@ import signal
 import stat
 import subprocess
 import time
+from unittest import mock
 
 import fullness
 from damages import OPEN_ORDER, Desks, changed
-from full_desks import full_rows, too_long_rows
+from full_desks import full_rows, long_rows
 from ledgers import STILL_GOOD
-from programs import NO_DESK, NOT_A_DESK, SECONDS, Session, bytes_of, done, expect, new_desk, say, sqlite3
+from programs import NO_DESK, NOT_A_DESK, SECONDS, Session, bytes_of, done, expect, expect_end, new_desk, say, sqlite3
 from rolled import (
     COUNTED,
     SCRIPT,
@@ -37,6 +39,8 @@ from rolled import (
 )
 from sums import expect_sums
 from upgrades import older
+
+import stockdesk_files as files
 
 DESKS = 200
 KILLS = 30
@@ -175,12 +179,15 @@ def test_a_full_desk_is_rolled_over(program, folder):
 
 
 def test_what_does_not_fit_is_told_before_anything_is_done(program, folder):
+    """Where a place is wanting, or an order cannot be opened; with just enough places the program is asked for a new desk."""
     desks, new = Desks(program, folder), os.path.join(folder, "rolled.db")
-    rows, needed = too_long_rows()
-    for these, cause in [(rows, f"needs {needed} places"), *HINDERED]:
-        desks.put(these)
+    only = instead(program, folder, 'case "$1 $2" in "run old.db") program "$@" ;; *) exit 9 ;; esac\n')
+    long = [long_rows(uses) for uses in (71_996, 71_997, 128_000)]
+    expect([needed for _, needed in long] == [200_000, 200_001, 256_004], "other counts")
+    causes = ["the program ended with status 9", "needs 200001 places, ", "needs 256004 places, "]
+    for rows, cause in [*zip([rows for rows, _ in long], causes, strict=True), *HINDERED]:
+        desks.put(rows)
         found = bytes_of(desks.path)
-        only = instead(program, folder, 'case "$1 $2" in "run old.db") program "$@" ;; *) exit 9 ;; esac\n')
         expect_refused(only, [desks.path, new], cause)
         expect(bytes_of(desks.path) == found and not os.path.exists(new), "something was done")
 
@@ -232,11 +239,13 @@ def test_a_killed_roll_over_leaves_a_whole_desk_or_none(program, folder):
         process.wait()
         if os.path.exists(new):
             expect_whole(read, new)
+            expect_end(program, ["run", new], (0, b"", b""), text="")
             os.remove(new)
+            os.remove(f"{new}-wal")
             whole += 1
         end_group(process)
-        for name in set(os.listdir(folder)) - {"old.db", "old.db-wal", "closed.db"}:
-            shutil.rmtree(os.path.join(folder, name), ignore_errors=True)
+        for name in glob.glob(os.path.join(folder, "stockdesk-rollover-*")):
+            shutil.rmtree(name, ignore_errors=True)
     expect(lying(old) == found, "the old desk was changed")
     expect(0 < whole < KILLS, f"{whole} of {KILLS} came to an end")
     say(f"  {KILLS} killed: {whole} left a new desk, {KILLS - whole} none")
@@ -328,11 +337,34 @@ def test_what_is_there_is_left_alone(program, folder):
     expect_refused(program, [old, folder], "is there already")
     expect_refused(program, [old, old], "old.db is there already")
     expect_refused(program, [old, os.path.join(folder, "none", "new.db")], "none is not there")
-    # something that comes while the new desk is made
-    status, _, errors = tool_ended(instead(program, folder, f'echo >"{new}"\nprogram "$@"\n'), [old, new])
-    expect(status == 1 and errors.endswith(b"new.db is there already\n"), f"{status}, {errors}")
-    expect(bytes_of(new) == b"\n", "what came meanwhile was changed")
-    expect_only(folder, ["old.db", "old.db-wal", "instead", "new.db"])
+    expect_only(folder, ["old.db", "old.db-wal"])
+
+
+def test_what_comes_meanwhile_is_left_alone(program, folder):
+    """A file, or a log, that is put where the new desk is to be while it is made."""
+    old, new = desk_of(program, folder)
+    for name in ["new.db", "new.db-wal"]:
+        path = os.path.join(folder, name)
+        status, _, errors = tool_ended(instead(program, folder, f'echo >"{path}"\nprogram "$@"\n'), [old, new])
+        expect(status == 1 and errors.decode().endswith(f"{name} is there already\n"), f"{status}, {errors}")
+        expect(bytes_of(path) == b"\n", "what came meanwhile was changed")
+        expect_only(folder, ["old.db", "old.db-wal", "instead", name])
+        os.remove(path)
+
+
+def test_a_name_is_given_to_what_is_new(_program, folder):
+    """In one step, or in two where the file system has not that one; never over what is there."""
+    path, name = os.path.join(folder, "made"), os.path.join(folder, "named")
+    refused = OSError(errno.EINVAL, "Invalid argument")
+    for step in [files.rename_where_nothing_is, mock.Mock(side_effect=refused)]:
+        with mock.patch.object(files, "rename_where_nothing_is", step):
+            for text in [b"first", b"second"]:
+                with open(path, "wb") as file:
+                    file.write(text)
+                with contextlib.suppress(FileExistsError):
+                    files.rename(path, name)
+                expect(bytes_of(name) == b"first" and os.path.exists(path) == (text == b"second"), f"{text}")
+        os.remove(name)
 
 
 def test_what_is_no_desk_is_refused(program, folder):
@@ -438,6 +470,8 @@ TESTS = [
     test_the_old_desk_is_kept_shut,
     test_a_desk_in_use_is_refused,
     test_what_is_there_is_left_alone,
+    test_what_comes_meanwhile_is_left_alone,
+    test_a_name_is_given_to_what_is_new,
     test_what_is_no_desk_is_refused,
     test_want_of_room_is_told,
     test_an_output_that_fails_leaves_no_desk,
