@@ -1,6 +1,11 @@
 -- Rows that are put in by their keys.
 use Rattle.book.proofs.Prelude.{[], ◌++◌, ◌∙◌, ◌∷◌, ◌≡◌, ◌⊎◌, Bool, Each, Equal, Greater, IsStrictlySortedBy, IsTotalOrder, Less, List, Ordering, ap, arith, false, filter, flat_map, inl, inr, insert_in_order, map, ordering_reverse, put_row, put_rows, refl, subst, sym, tied_itself, true}
 use Rattle.book.proofs.Sums.{each-imp}
+use Rattle.book.specs.Changes.{put_content}
+use Rattle.book.specs.Rows.{Content}
+use Rattle.book.specs.Tables.{no_content, rows_among, with_change}
+use Rattle.book.specs.declared.rows.Change.{Change}
+use Rattle.book.specs.declared.rows.Change.TheVariants as change
 
 -- Row by row, the second list has the first one's rows, with new ones between; what is not chosen is as it was.
 abbrev pub Follows : {R : Type 0} → (R → R → Ordering) → (R → Bool) → List R → List R → Type 0
@@ -66,3 +71,21 @@ follows-push cmp o chosen row x (y ∷ ys) e = inr (row y, map row ys, refl, tie
 pub follows-flat : {X R : Type 0} (cmp : R → R → Ordering) (chosen : R → Bool) (rows : X → List R) (h : X → X) (xs : List X) → Each (λ x. Follows cmp chosen (rows x) (rows (h x))) xs → Follows cmp chosen (flat_map rows xs) (flat_map rows (map h xs))
 follows-flat cmp chosen rows h [] f = refl
 follows-flat cmp chosen rows h (x ∷ xs) f = follows-join cmp chosen (rows x) (rows (h x)) (flat_map rows xs) (flat_map rows (map h xs)) f.0 (follows-flat cmp chosen rows h xs f.1)
+
+-- ---- lists of changes
+
+-- one change, put in
+one_put_in : (c : Change) (rest C : Content) → put_content (with_change c rest) C ≡ put_content rest (put_content (with_change c no_content) C)
+one_put_in (change.Desk r) rest C = refl
+one_put_in (change.Field r) rest C = refl
+one_put_in (change.Move r) rest C = refl
+one_put_in (change.Order r) rest C = refl
+one_put_in (change.Line r) rest C = refl
+one_put_in (change.Kept r) rest C = refl
+one_put_in (change.Firm r) rest C = refl
+
+-- the rows of two lists, put in one list after the other
+pub put_in_turn : (a b : List Change) (C : Content) → put_content (rows_among (a ++ b)) C ≡ put_content (rows_among b) (put_content (rows_among a) C)
+put_in_turn [] b C = refl
+put_in_turn (c ∷ a) b C =
+    one_put_in c (rows_among (a ++ b)) C ∙ put_in_turn a b (put_content (with_change c no_content) C) ∙ ap (λ (D : Content). put_content (rows_among b) D) (sym (one_put_in c (rows_among a) C))

@@ -8,6 +8,7 @@ ghost use Rattle.book.specs.Next.{accept, next};
 ghost use Rattle.book.specs.Outcomes.{article_total};
 ghost use Rattle.book.specs.Plans.{Fits, HasRoomFor, RoomStays, NoRoomGrows, Leaves};
 ghost use Rattle.book.specs.RunningNumbers.{IsUpToDate, with_entries};
+ghost use Rattle.book.specs.Tables.{rows_among};
 ghost use Rattle.book.specs.Model.{field_of, kept_of, order_of, move_of};
 ghost use Rattle.std.specs.Cmp.Lexicographic.{slice_cmp};
 ghost use Rattle.std.specs.Ordering.{nat_cmp, is_lt};
@@ -27,6 +28,7 @@ mod views;
 use self::made::abort_all;
 use crate::kept_words::KeptWords;
 use crate::order::{Order, OrderEntry, State};
+use crate::rows::Change;
 use escrow::{Article, Branch, FieldName, Key, Level, Moment, OrderNo, Quantity};
 use index::InOrder;
 pub use plan::{Plan, Planned};
@@ -228,9 +230,9 @@ impl Book {
         }
     }
 
-    /// Carries the plan out. Takes no memory, and always succeeds. The ledger stays good, and honours its open
-    /// orders; a commit of a transfer, a `firm` on it and a use leave the total of every article as it was.
-    pub fn adopt(&mut self, plan: Plan)
+    /// Carries the plan out, and gives its rows. Takes no memory, and always succeeds. The ledger stays good, and honours
+    /// its open orders; a commit of a transfer, a `firm` on it and a use leave the total of every article as it was.
+    pub fn adopt(&mut self, plan: Plan) -> Vec<Change>
         requires fits { Fits self.old.ledger plan }
         requires room { HasRoomFor self.old plan }
         ensures next { self.new.ledger ≡ accept self.old.ledger plan.request }
@@ -240,8 +242,9 @@ impl Book {
             → IsSomeAnd (order_numbered self.old.ledger n) (λ o. IsTrue (is_transfer o))
             → article_total self.new.ledger article ≡ article_total self.old.ledger article }
         ensures room_used { NoRoomGrows self.old self.new }
+        ensures rows { rows_among result.items ≡ plan.changes }
     {
-        let parts = plan.into_parts();
+        let (parts, changes) = plan.into_parts();
         let (key, place, words) = (parts.key, parts.place, parts.words);
         key.as_bytes();
         words.as_bytes();
@@ -251,5 +254,6 @@ impl Book {
         adopt_move(&mut self.moves, parts.moved);
         adopt_orders(&mut self.orders, parts.made, &parts.expired);
         insert_kept(&mut self.kept, key, KeptEntry { place, words });
+        changes
     }
 }

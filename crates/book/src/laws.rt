@@ -10,7 +10,9 @@ ghost use Rattle.book.specs.Ledger.{Field, Ledger, Name, is_transfer, line_name,
 ghost use Rattle.book.specs.Next.{accept, new_line, new_order, next, with_order};
 ghost use Rattle.book.specs.Outcomes.{FallsBelow, IsInfimum, IsSupremum, RisesAbove, article_total, settled};
 ghost use Rattle.book.specs.Rows.{Content, IsInKeyOrder, IsRowsOf};
+ghost use Rattle.book.specs.Tables.{rows_among};
 ghost use Rattle.book.specs.declared.order.Kind.{Kind};
+ghost use Rattle.book.specs.declared.rows.Change.{Change};
 ghost use Rattle.escrow.specs.Codes.{IsKey};
 ghost use Rattle.escrow.specs.declared.quantity.Way.TheVariants.{Add, Take};
 ghost use Rattle.std.specs.List.{AllByRecursion as Each, IsDistinct};
@@ -125,6 +127,12 @@ pub fn rows_are_one()
 pub fn changes_suffice()
     ensures { (A : Ledger) (r : Request) (C D : Content) → Good A → IsKey r.key → IsInRange r.command → IsAccepted A r
         → IsRowsOf A C → IsRowsOf (accept A r) D → put_content (changed_rows A r D) C ≡ D }
+{}
+
+/// The rows of two lists of changes, put in together, are those of the first put in, and then those of the second.
+pub fn changes_are_put_in_turn()
+    ensures { (first second : List Change) (C : Content) → put_content (rows_among (first ++ second)) C
+        ≡ put_content (rows_among second) (put_content (rows_among first) C) }
 {}
 
 /// The worked examples of the desk's rules are theorems over the definitions: each request of a script is answered

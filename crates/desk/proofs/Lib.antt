@@ -11,3 +11,5 @@ pub mod Resumption
 pub mod FoundAfter
 pub mod FoundLines
 pub mod FoundAgain
+pub mod Batches
+pub mod BatchesAgain

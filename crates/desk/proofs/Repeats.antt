@@ -25,7 +25,7 @@ found_in p before x (y ∷ ys) is none = by (p y) refl none (before x y) (found_
     by false e none false more = rw e (more none)
 
 -- an accepted request is kept
-kept_then : (A : Ledger) (r : Request) → kept_under A r.key ≡ None → kept_under (accept A r) r.key ≡ Some (record { key = r.key; place = places A + 1; command = r.command })
+pub kept_then : (A : Ledger) (r : Request) → kept_under A r.key ≡ None → kept_under (accept A r) r.key ≡ Some (record { key = r.key; place = places A + 1; command = r.command })
 kept_then A r none = found_in (λ (k : Kept). bytes_eq k.key r.key) (λ a b. is_lt (slice_cmp nat_cmp a.key b.key)) _ A.kept ((bytes_decides r.key r.key).1 refl) none
 
 pub repeated : (A B : Ledger) (r : Request) (reply : Reply) → Answers A r reply B → Answers B r reply B

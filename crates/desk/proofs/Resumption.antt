@@ -28,7 +28,7 @@ runs_length A B (r ∷ rs) [] h = absurd h
 runs_length A B (r ∷ rs) (p ∷ ps) h = ap suc (runs_length h.0 B rs ps h.2)
 
 -- some requests, and then more
-runs_joined : (A M B : Ledger) (rs ss : List Request) (ps qs : List Reply) → Runs A rs ps M → Runs M ss qs B → Runs A (rs ++ ss) (ps ++ qs) B
+pub runs_joined : (A M B : Ledger) (rs ss : List Request) (ps qs : List Reply) → Runs A rs ps M → Runs M ss qs B → Runs A (rs ++ ss) (ps ++ qs) B
 runs_joined A M B [] ss [] qs e h = subst (λ L. Runs L ss qs B) e h
 runs_joined A M B [] ss (p ∷ ps) qs e h = absurd e
 runs_joined A M B (r ∷ rs) ss [] qs e h = absurd e
@@ -40,7 +40,7 @@ runs_split A B (r ∷ rs) ss [] h = absurd h
 runs_split A B (r ∷ rs) ss (p ∷ ps) (L, first, rest) = let cut = runs_split L B rs ss ps rest in (cut.0, (L, first, cut.1), cut.2)
 
 -- a run of the first n, and then of m more
-runs_on : (A M B : Ledger) (rs : List Request) (n : ℕ) (ps qs : List Reply) → Runs A (take n rs) ps M → Runs M (take (length qs) (drop n rs)) qs B → Runs A (take (n + length qs) rs) (ps ++ qs) B
+pub runs_on : (A M B : Ledger) (rs : List Request) (n : ℕ) (ps qs : List Reply) → Runs A (take n rs) ps M → Runs M (take (length qs) (drop n rs)) qs B → Runs A (take (n + length qs) rs) (ps ++ qs) B
 runs_on A M B rs n ps qs first more =
     subst (λ (xs : List Request). Runs A xs (ps ++ qs) B) (sym (take-add n (length qs) rs)) (runs_joined A M B (take n rs) (take (length qs) (drop n rs)) ps qs first more)
 

@@ -1,9 +1,9 @@
 //! A ledger, and the keeper of its rows.
 
-ghost use Rattle.std.specs.Prelude.{◌≡◌, ◌⊎◌, false, List, IsTrue, IfOk, IfErr, IsSome, IsSomeAnd, MatchOption, Err};
+ghost use Rattle.std.specs.Prelude.{◌≡◌, ◌≢◌, ◌⊎◌, ◌<◌, ◌≤◌, [], false, length, take, List, IsTrue, IfOk, IfErr, IsSome, IsSomeAnd, MatchOption, Err};
 ghost use Rattle.escrow.specs.Codes.{IsKey};
 ghost use Rattle.words.specs.Spelling.{IsInRange};
-ghost use Rattle.book.specs.Answers.{Answers, IsAccepted};
+ghost use Rattle.book.specs.Answers.{Answers, IsAccepted, Runs};
 ghost use Rattle.book.specs.Future.{Honours, HonoursAlways};
 ghost use Rattle.book.specs.Good.{Good};
 ghost use Rattle.book.specs.Ledger.{Ledger, field_named, kept_under, name_of, order_numbered};
@@ -13,9 +13,12 @@ ghost use Rattle.book.specs.Plans.{Fits};
 ghost use Rattle.book.specs.Rows.{Content, IsDamaged, IsRowsOf};
 ghost use Rattle.book.specs.Views.{ShowsField, ShowsOrder};
 ghost use Rattle.keep.specs.Content.{IsDesk};
+ghost use Rattle.desk.specs.Together.{FailsAt};
 ghost use Rattle.desk.specs.Desk.{IsRefusedAsOld, IsStored, LeavesEither, OpensAt, StaysStored, keeper_after};
 
 use crate::fault::{CallFault, OpenFault, load_fault};
+use crate::run::{Ending, Run};
+use crate::together::{none_told, plan_batch};
 use book::{Book, FieldView, OrderView, Plan, Planned, TablesFault};
 use escrow::{Article, Branch, OrderNo};
 use keep::Keep;
@@ -173,6 +176,35 @@ impl<K: Keep> Desk<K> {
         };
         self.book.adopt(plan);
         Ok(Reply::Done(place))
+    }
+
+    /// Carries the first of the requests out together: a batch of them is planned and adopted, and then kept in one
+    /// transaction; only then are there replies. `All` where the batch is kept, `Memory` where it is and memory was
+    /// refused for the request behind it; `Stopped` where it could not be kept. Then there is no reply, the ledger is the
+    /// one after the batch, and a stop leaves the rows before it or behind it.
+    pub(crate) fn run_batch(&mut self, alloc: Global, requests: &[Request]) -> Run
+        requires { K.stopped self.old.keep ≡ false }
+        ensures kept { result.ending ≢ Ending.Stopped → Runs self.old.ledger (take (length result.replies.items)
+            requests.now) result.replies.items self.new.ledger }
+        ensures few { length result.replies.items ≤ length requests.now }
+        ensures some { result.ending ≡ Ending.All → 1 ≤ length requests.now → 1 ≤ length result.replies.items }
+        ensures more { result.ending ≢ Ending.All → length result.replies.items < length requests.now }
+        ensures stored { StaysStored K.Keep self.new }
+        ensures failed { result.ending ≡ Ending.Stopped → (result.replies.items ≡ [])
+            × FailsAt (K.is_honest self.new.keep) (K.leaves self.new.keep) self.old.ledger requests.now []
+            self.new.ledger }
+        ensures stopped { result.ending ≡ Ending.Stopped → IsTrue (K.stopped self.new.keep) }
+        ensures going { result.ending ≢ Ending.Stopped → K.stopped self.new.keep ≡ false }
+        ensures honest { K.is_honest self.new.keep → K.is_honest self.old.keep }
+    {
+        let (batch, joined) = plan_batch(alloc, &mut self.book, requests);
+        if batch.changes.is_empty() {
+            return batch.told(joined);
+        }
+        match self.keep.commit(&batch.changes) {
+            Ok(()) => batch.told(joined),
+            Err(_) => none_told(alloc),
+        }
     }
 
     /// The field of that name, or `None` exactly where there is none; on a stopped desk that of the ledger after the

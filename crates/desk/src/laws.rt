@@ -1,6 +1,6 @@
 //! What is true of every text, and of every run that is resumed.
 
-ghost use Rattle.std.specs.Prelude.{◌≡◌, ◌⊎◌, ◌≤◌, ◌+◌, ◌-◌, ℕ, List, drop, flat_map, length};
+ghost use Rattle.std.specs.Prelude.{◌≡◌, ◌⊎◌, ◌≤◌, ◌+◌, ◌-◌, ℕ, List, drop, flat_map, length, take};
 ghost use Rattle.std.specs.List.{AllByRecursion as Each};
 ghost use Rattle.escrow.specs.Codes.{IsKey};
 ghost use Rattle.words.specs.Spelling.{IsInRange};
@@ -11,6 +11,7 @@ ghost use Rattle.book.specs.Good.{Good};
 ghost use Rattle.book.specs.Ledger.{Ledger};
 ghost use Rattle.book.specs.Rows.{Content, IsRowsOf};
 ghost use Rattle.desk.specs.Resuming.{ResumesAgain, StandsAt};
+ghost use Rattle.desk.specs.Together.{IsBatch};
 ghost use Rattle.desk.specs.Text.{IsText};
 
 /// At a good ledger there is exactly one text for each input, so that what a script writes is settled by what it reads.
@@ -33,4 +34,14 @@ pub fn resuming_is_invisible()
         → Each (λ r. IsKey r.key × IsInRange r.command) requests → Good D
         → StandsAt A requests k B → StandsAt A requests k C → IsRowsOf B y → IsRowsOf C z → (x ≡ y) ⊎ (x ≡ z)
         → IsRowsOf D x → StandsAt A requests k D }
+{}
+
+/// A batch that comes again where it was kept is answered the same and changes nothing. So whoever was cut off, and goes
+/// on at the first request without a reply, gets the replies and the ledger of a run that was never cut, whether the
+/// batch behind that reply was kept or not.
+pub fn batches_come_again()
+    ensures same { (A B : Ledger) (requests : List Request) (replies : List Reply) → IsBatch A requests replies B
+        → Runs B requests replies B }
+    ensures resumed { (A B last : Ledger) (requests : List Request) (count : ℕ) (untold replies : List Reply)
+        → IsBatch A (take count requests) untold B → Runs B requests replies last → Runs A requests replies last }
 {}

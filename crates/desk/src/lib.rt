@@ -9,6 +9,7 @@ mod lines;
 mod reply;
 mod run;
 mod scripts;
+mod together;
 
 pub use desk::Desk;
 pub use fault::{CallFault, OpenFault, ScriptFault};
@@ -16,6 +17,6 @@ pub use headline::{
     any_number_of_cuts, cut_and_open, run_and_stop, run_cut_and_open, run_cut_and_resume,
     script_and_stop, script_cut_and_open,
 };
-pub use laws::{exactly_one_text, resuming_is_invisible};
+pub use laws::{batches_come_again, exactly_one_text, resuming_is_invisible};
 pub use run::{Ending, Run};
 pub use scripts::{answer_all, script};

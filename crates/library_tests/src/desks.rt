@@ -26,6 +26,11 @@ pub(crate) fn run<K: Keep>(alloc: Global, desk: &mut Desk<K>, requests: &[Reques
     desk.run(alloc, requests)
 }
 
+/// The call without its clauses, likewise.
+pub(crate) fn run_together<K: Keep>(alloc: Global, desk: &mut Desk<K>, requests: &[Request]) -> Run {
+    desk.run_together(alloc, requests)
+}
+
 /// The requests are answered from this number on: the call without its clauses, where there is such a number.
 pub(crate) fn resume<K: Keep>(
     alloc: Global,

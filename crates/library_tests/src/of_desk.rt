@@ -2,6 +2,7 @@
 
 mod headline;
 mod resuming;
+mod together;
 
 use crate::desks::{answers, call, open, opened, requests, resume, run};
 use crate::keepers::{plain_keeper, sql_keeper};

@@ -77,11 +77,11 @@ impl Plan {
         self.parts.fields.len()
     }
 
-    /// What it puts into the book.
-    pub(crate) fn into_parts(self) -> PlanParts
-        ensures { plan_of result self.changes ≡ self }
+    /// What it puts into the book, and the rows that change.
+    pub(crate) fn into_parts(self) -> (PlanParts, Vec<Change>)
+        ensures { plan_of result.0 (rows_among result.1.items) ≡ self }
     {
-        self.parts
+        (self.parts, self.changes)
     }
 }
 

@@ -16,15 +16,15 @@ use words::{Refusal, Reply, Request};
 
 /// A list of requests, the replies to them, what is asked of the desk, and what is answered to that before the list and
 /// behind each of its requests.
-struct List {
-    lines: &'static [&'static str],
-    replies: &'static [Reply],
+pub(crate) struct List {
+    pub lines: &'static [&'static str],
+    pub replies: &'static [Reply],
     asks: &'static str,
     states: &'static [&'static str],
 }
 
 /// Two orders, of which the second is refused at first.
-fn two_orders() -> &'static List {
+pub(crate) fn two_orders() -> &'static List {
     &TWO_ORDERS
 }
 
@@ -58,7 +58,7 @@ static TWO_ORDERS: List = List {
 };
 
 /// An order that is made firm.
-fn firm_order() -> &'static List {
+pub(crate) fn firm_order() -> &'static List {
     &FIRM_ORDER
 }
 
@@ -142,7 +142,7 @@ fn expect_state<K: Keep>(
 }
 
 /// The desk is stopped where it was told so, and stands behind the whole list where all was answered.
-fn expect_end<K: Keep>(
+pub(crate) fn expect_end<K: Keep>(
     alloc: Global,
     desk: &mut Desk<K>,
     list: &List,

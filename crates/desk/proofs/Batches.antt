@@ -1,0 +1,267 @@
+-- Batches: how they are made, and that they come again.
+use Rattle.std.proofs.Common.{◌≡◌, ◌≢◌, ◌∙◌, ◌+◌, ◌-◌, ◌≤◌, ◌++◌, Bool, false, true, true≢false, ℕ, List, [], ◌∷◌, ap, append-nil, append_assoc, arith, drop, length, refl, subst, sym, take}
+use Rattle.std.proofs.lemmas.List.{length-append, length-drop}
+use Rattle.std.proofs.Math.Seq.{take-length}
+use Rattle.std.proofs.lemmas.List.Elements.{All-append, All-from_recursion}
+use Rattle.std.specs.Prelude.{All}
+use Rattle.std.specs.List.{AllByRecursion as Each}
+use Rattle.words.specs.declared.command.Request.{Request}
+use Rattle.words.specs.declared.reply.Reply.{Reply}
+use Rattle.words.specs.declared.reply.Reply.TheVariants.{Done}
+use Rattle.escrow.specs.Codes.{IsKey}
+use Rattle.words.specs.Spelling.{IsInRange}
+use Rattle.book.specs.Answers.{Answers, Runs}
+use Rattle.book.specs.Good.{Good}
+use Rattle.book.specs.Ledger.{Ledger}
+use Rattle.book.specs.Rows.{Content, DeskCells, IsRowsOf}
+use Rattle.book.specs.Tables.{desk_cells}
+use Rattle.book.specs.Tables.{rows_among, with_change}
+use Rattle.book.specs.declared.rows.Change.{Change}
+use Rattle.book.specs.declared.rows.Change.TheVariants as change
+use Rattle.book.proofs.Puts.{put_in_turn}
+use Rattle.book.proofs.Runs.{accepted_answered}
+use Rattle.book.specs.Changes.{put_content}
+use Rattle.book.specs.Next.{accept}
+use Rattle.book.specs.Plans.{Fits, PlanView}
+use Rattle.book.specs.Rows.{desk_row}
+use Rattle.desk.proofs.NextRows.{next_rows}
+use Rattle.keep.specs.Content.{IsTheRow}
+use Rattle.keep.specs.Transactions.{with_changes}
+use Rattle.desk.specs.Desk.{IsStored, LeavesEither}
+use Rattle.desk.specs.Together.{BatchSoFar, FailsAt, IsAsBefore, IsBatch, IsDone, Joins}
+use Rattle.desk.specs.declared.together.Batch.{Batch}
+use Rattle.desk.proofs.Resumption.{runs_joined, runs_on as runs_behind}
+use Rattle.desk.proofs.RunsOn.{runs_on}
+use Rattle.desk.specs.declared.run.Ending.{Ending}
+use Rattle.desk.specs.declared.run.Ending.TheVariants.{All as AllAnswered, Memory as OutOfMemory, Stopped}
+
+-- ---- how many rows
+
+-- the rows of all tables
+abbrev count_of : Content → ℕ
+count_of C = length C.desk + length C.fields + length C.moves + length C.orders + length C.lines + length C.kept + length C.firms
+
+one_counts : (c : Change) (C : Content) → count_of (with_change c C) ≡ count_of C + 1
+one_counts (change.Desk r) C = omega arith
+one_counts (change.Field r) C = omega arith
+one_counts (change.Move r) C = omega arith
+one_counts (change.Order r) C = omega arith
+one_counts (change.Line r) C = omega arith
+one_counts (change.Kept r) C = omega arith
+one_counts (change.Firm r) C = omega arith
+
+counted : (cs : List Change) → length cs ≡ count_of (rows_among cs)
+counted [] = refl
+counted (c ∷ cs) = let more = counted cs in let one = one_counts c (rows_among cs) in omega arith
+
+-- lists of the same rows are of one length
+pub same_count : (xs ys : List Change) → rows_among xs ≡ rows_among ys → length xs ≡ length ys
+same_count xs ys same = counted xs ∙ ap count_of same ∙ sym (counted ys)
+
+-- the rows of `desk` among two lists
+desk_joined : (xs ys : List Change) → (rows_among (xs ++ ys)).desk ≡ (rows_among xs).desk ++ (rows_among ys).desk
+desk_joined [] ys = refl
+desk_joined (change.Desk r ∷ xs) ys = ap (λ (rows : List DeskCells). desk_cells r ∷ rows) (desk_joined xs ys)
+desk_joined (change.Field r ∷ xs) ys = desk_joined xs ys
+desk_joined (change.Move r ∷ xs) ys = desk_joined xs ys
+desk_joined (change.Order r ∷ xs) ys = desk_joined xs ys
+desk_joined (change.Line r ∷ xs) ys = desk_joined xs ys
+desk_joined (change.Kept r ∷ xs) ys = desk_joined xs ys
+desk_joined (change.Firm r ∷ xs) ys = desk_joined xs ys
+
+-- ---- one request more
+
+each_joined : (P : Reply → Type 0) (xs : List Reply) (y : Reply) → Each P xs → P y → Each P (xs ++ y ∷ [])
+each_joined P [] y h p = (p, tt)
+each_joined P (x ∷ xs) y h p = (h.0, each_joined P xs y h.1 p)
+
+pub batch_new : (A : Ledger) (batch : Batch) → Good A → batch.replies.items ≡ [] → batch.changes.items ≡ [] → batch.has_refused ≡ false → BatchSoFar A [] batch A
+batch_new A batch good none no_rows going = record {
+  is_batch = record { first = []; behind = []; told = []; refused = []; requests_are = refl; replies_are = none; done = refl; all_done = tt; rest = refl };
+  rows = λ C is. subst (λ (cs : List Change). IsRowsOf A (with_changes cs C)) (sym no_rows) is;
+  desk = subst (λ (cs : List Change). All IsTheRow (rows_among cs).desk) (sym no_rows) (All-from_recursion IsTheRow [] tt);
+  all_done = λ _. (subst (λ (ps : List Reply). Runs A [] ps A) (sym none) refl, subst (Each IsDone) (sym none) tt);
+  some = λ has. absurd (true≢false (sym has ∙ going));
+  none = λ _. no_rows;
+  good = good;
+}
+
+module _ (A M B : Ledger) (rs : List Request) (r : Request) (old new : Batch) (so_far : BatchSoFar A rs old M) (h : Joins M r old new B) where
+  -- all are done so far, and so is this one
+  all_more : new.has_refused ≡ false → Runs A (rs ++ r ∷ []) new.replies.items B × Each IsDone new.replies.items
+  all_more going =
+      let (is_done, before) = h.done going in
+      let (run, each) = so_far.all_done before in (
+        subst (λ (ps : List Reply). Runs A (rs ++ r ∷ []) ps B) (sym h.replies) (runs_on A M B rs old.replies.items r h.reply run h.answer),
+        subst (Each IsDone) (sym h.replies) (each_joined IsDone old.replies.items h.reply each is_done),
+      )
+
+  batch_more : (b : Bool) → new.has_refused ≡ b → IsBatch A (rs ++ r ∷ []) new.replies.items B
+  batch_more false going =
+      let (run, each) = all_more going in
+      record {
+        first = rs ++ r ∷ [];
+        behind = [];
+        told = new.replies.items;
+        refused = [];
+        requests_are = sym (append-nil (rs ++ r ∷ []));
+        replies_are = sym (append-nil new.replies.items);
+        done = run;
+        all_done = each;
+        rest = refl;
+      }
+  batch_more true has =
+      let was = so_far.is_batch in
+      let same : B ≡ M = h.nothing has in
+      let stays : Answers M r h.reply M = subst (λ L. Answers M r h.reply L) same h.answer in
+      subst (λ L. IsBatch A (rs ++ r ∷ []) new.replies.items L) (sym same) (record {
+        first = was.first;
+        behind = was.behind ++ r ∷ [];
+        told = was.told;
+        refused = was.refused ++ h.reply ∷ [];
+        requests_are = ap (λ (xs : List Request). xs ++ r ∷ []) was.requests_are ∙ append_assoc was.first was.behind (r ∷ []);
+        replies_are = h.replies ∙ ap (λ (ps : List Reply). ps ++ h.reply ∷ []) was.replies_are ∙ append_assoc was.told was.refused (h.reply ∷ []);
+        done = was.done;
+        all_done = was.all_done;
+        rest = runs_on M M M was.behind was.refused r h.reply was.rest stays;
+      })
+
+  pub joined_more : BatchSoFar A (rs ++ r ∷ []) new B
+  joined_more = record {
+    is_batch = batch_more new.has_refused refl;
+    rows = λ C is. subst (IsRowsOf B) (sym (ap (λ (cs : List Change). with_changes cs C) h.changes ∙ put_in_turn old.changes.items h.more C)) (h.rows (with_changes old.changes.items C) (so_far.rows C is));
+    desk = subst (λ (cs : List Change). All IsTheRow (rows_among cs).desk) (sym h.changes)
+        (subst (λ (rows : List DeskCells). All IsTheRow rows) (sym (desk_joined old.changes.items h.more)) (All-append IsTheRow (rows_among old.changes.items).desk (rows_among h.more).desk so_far.desk h.desk));
+    all_done = all_more;
+    some = λ _. let size = ap (λ (ps : List Reply). length ps) h.replies ∙ length-append old.replies.items (h.reply ∷ []) in omega arith;
+    none = λ is. let size = ap (λ (ps : List Reply). length ps) h.replies ∙ length-append old.replies.items (h.reply ∷ []) in let zero = ap (λ (ps : List Reply). length ps) is in absurd (omega (arith, size, zero));
+    good = h.good;
+  }
+
+-- nothing more is planned: a reply, and no row
+pub joined_told : (A : Ledger) (r : Request) (reply : Reply) (old new : Batch) → Good A → Answers A r reply A → new.replies.items ≡ old.replies.items ++ reply ∷ [] → new.changes.items ≡ old.changes.items
+    → (new.has_refused ≡ false → IsDone reply × (old.has_refused ≡ false)) → Joins A r old new A
+joined_told A r reply old new good answer replies same done = record {
+  reply = reply;
+  replies = replies;
+  answer = answer;
+  more = [];
+  changes = same ∙ sym (append-nil old.changes.items);
+  rows = λ C is. is;
+  desk = All-from_recursion IsTheRow [] tt;
+  done = done;
+  nothing = λ _. refl;
+  good = good;
+}
+
+-- an accepted request, whose plan is adopted
+pub joined_accepted : (A B : Ledger) (plan : PlanView) (rows : List Change) (old new : Batch) → Good A → IsKey plan.request.key → IsInRange plan.request.command → Fits A plan → rows_among rows ≡ plan.changes
+    → B ≡ accept A plan.request → Good B → old.has_refused ≡ false → new.has_refused ≡ false → new.replies.items ≡ old.replies.items ++ Done plan.place ∷ [] → new.changes.items ≡ old.changes.items ++ rows
+    → Joins A plan.request old new B
+joined_accepted A B plan rows old new good key range fits are is_next good_then had has replies changes = record {
+  reply = Done plan.place;
+  replies = replies;
+  answer = subst (λ L. Answers A plan.request (Done plan.place) L) (sym is_next) (subst (λ p. Answers A plan.request (Done p) (accept A plan.request)) (sym fits.place) (accepted_answered A plan.request fits.accepted));
+  more = rows;
+  changes = changes;
+  rows = λ C is. subst (λ L. IsRowsOf L (with_changes rows C)) (sym is_next)
+      (subst (λ some. IsRowsOf (accept A plan.request) (put_content some C)) (sym are) (next_rows A plan C good key range fits is));
+  desk = subst (λ (some : Content). All IsTheRow some.desk) (sym are)
+      (subst (λ (some : List DeskCells). All IsTheRow some) (sym fits.changes.desk) (All-from_recursion IsTheRow (desk_row (accept A plan.request) ∷ []) ((refl, refl), tt)));
+  done = λ _. ((plan.place, refl), had);
+  nothing = λ refused. absurd (true≢false (sym refused ∙ has));
+  good = good_then;
+}
+
+pub joined_none : (A M B : Ledger) (rs : List Request) (old new : Batch) → BatchSoFar A rs old M → IsAsBefore M old new B → BatchSoFar A rs new B
+joined_none A M B rs old new so_far h = subst (λ L. BatchSoFar A rs new L) (sym h.ledger) (record {
+  is_batch = subst (λ (ps : List Reply). IsBatch A rs ps M) (sym h.replies) so_far.is_batch;
+  rows = λ C is. subst (λ (cs : List Change). IsRowsOf M (with_changes cs C)) (sym h.changes) (so_far.rows C is);
+  desk = subst (λ (cs : List Change). All IsTheRow (rows_among cs).desk) (sym h.changes) so_far.desk;
+  all_done = λ going. let (run, each) = so_far.all_done (sym h.refused ∙ going) in
+      (subst (λ (ps : List Reply). Runs A rs ps M) (sym h.replies) run, subst (Each IsDone) (sym h.replies) each);
+  some = λ has. subst (λ (ps : List Reply). 1 ≤ length ps) (sym h.replies) (so_far.some (sym h.refused ∙ has));
+  none = λ is. h.changes ∙ so_far.none (sym h.replies ∙ is);
+  good = so_far.good;
+})
+
+-- ---- kept, or not
+
+-- a batch is a run
+pub batch_runs : (A B : Ledger) (rs : List Request) (ps : List Reply) → IsBatch A rs ps B → Runs A rs ps B
+batch_runs A B rs ps h = subst (λ (xs : List Request). Runs A xs ps B) (sym h.requests_are)
+    (subst (λ (qs : List Reply). Runs A (h.first ++ h.behind) qs B) (sym h.replies_are) (runs_joined A B B h.first h.behind h.told h.refused h.done h.rest))
+
+pub batch_told : (A B : Ledger) (rs : List Request) (batch : Batch) (ps : List Reply) → BatchSoFar A (take (length batch.replies.items) rs) batch B → ps ≡ batch.replies.items → Runs A (take (length ps) rs) ps B
+batch_told A B rs batch ps so_far same =
+    subst (λ (qs : List Reply). Runs A (take (length qs) rs) qs B) (sym same) (batch_runs A B (take (length batch.replies.items) rs) batch.replies.items so_far.is_batch)
+
+one_at_least : (ps : List Reply) → ps ≢ [] → 1 ≤ length ps
+one_at_least [] some = absurd (some refl)
+one_at_least (p ∷ ps) some = omega arith
+
+pub batch_fails : (H : Type 0) (holds : Content → Type 0) (before after : List Content → Type 0) (A B : Ledger) (rs : List Request) (batch : Batch) (changes : List Change)
+    → BatchSoFar A (take (length batch.replies.items) rs) batch B → length batch.replies.items ≤ length rs → Good A → changes ≡ batch.changes.items → changes ≢ [] → (H → IsStored holds before A)
+    → (H → (x : Content) → holds x → before (x ∷ []) → after (x ∷ with_changes changes x ∷ [])) → FailsAt H after A rs [] B
+batch_fails H holds before after A B rs batch changes so_far few good are some stored either = record {
+  mid = A;
+  run = refl;
+  count = length batch.replies.items;
+  some = one_at_least batch.replies.items (λ none. some (are ∙ so_far.none none));
+  none_unasked = omega arith;
+  untold = batch.replies.items;
+  batch = so_far.is_batch;
+  either = λ honest. let s = stored honest in record {
+    good_before = good;
+    good_after = so_far.good;
+    before = s.rows;
+    after = with_changes changes s.rows;
+    are_before = s.are_rows;
+    are_after = subst (λ (cs : List Change). IsRowsOf B (with_changes cs s.rows)) (sym are) (so_far.rows s.rows s.are_rows);
+    either = either honest s.rows s.held s.alone;
+  };
+}
+
+-- ---- batch after batch
+
+-- the batch that fails stands behind requests that are answered
+pub fails_behind : (H : Type 0) (leaves : List Content → Type 0) (A M B : Ledger) (rs : List Request) (ps : List Reply) → Runs A (take (length ps) rs) ps M → length ps ≤ length rs → FailsAt H leaves M (drop (length ps) rs) [] B
+    → FailsAt H leaves A rs ps B
+fails_behind H leaves A M B rs ps run few fails =
+    let dropped : length (drop (length ps) rs) ≡ length rs - length ps = length-drop (length ps) rs in
+    let least = fails.some in
+    let most = fails.none_unasked in
+    record {
+      mid = M;
+      run = run;
+      count = fails.count;
+      some = fails.some;
+      none_unasked = omega arith;
+      untold = fails.untold;
+      batch = subst (λ L. IsBatch L (take fails.count (drop (length ps) rs)) fails.untold B) fails.run fails.batch;
+      either = λ honest. subst (λ L. LeavesEither leaves L B) fails.run (fails.either honest);
+    }
+
+pub none_told : (A : Ledger) (rs : List Request) (ps : List Reply) → ps ≡ [] → Runs A (take (length ps) rs) ps A
+none_told A rs ps none = subst (λ (qs : List Reply). Runs A (take (length qs) rs) qs A) (sym none) refl
+
+-- requests that are answered, and a batch more
+pub run_further : (A M B : Ledger) (rs : List Request) (n : ℕ) (ps qs all : List Reply) → n ≡ length ps → Runs A (take (length ps) rs) ps M → all ≡ ps ++ qs → Runs M (take (length qs) (drop n rs)) qs B → Runs A (take (length all) rs) all B
+run_further A M B rs n ps qs all is run same more =
+    let size : length all ≡ length ps + length qs = ap (λ (xs : List Reply). length xs) same ∙ length-append ps qs in
+    subst (λ i. Runs A (take i rs) all B) (sym size)
+    (subst (λ (xs : List Reply). Runs A (take (length ps + length qs) rs) xs B) (sym same)
+    (runs_behind A M B rs (length ps) ps qs run (subst (λ i. Runs M (take (length qs) (drop i rs)) qs B) is more)))
+
+-- and however that batch ended
+pub told_so_far : (A M B : Ledger) (rs : List Request) (n : ℕ) (ps qs all : List Reply) (ending : Ending) → n ≡ length ps → Runs A (take (length ps) rs) ps M → all ≡ ps ++ qs
+    → (ending ≢ Stopped → Runs M (take (length qs) (drop n rs)) qs B) → (ending ≡ Stopped → qs ≡ []) → (mid : Ledger) × Runs A (take (length all) rs) all mid × (ending ≢ Stopped → B ≡ mid)
+told_so_far A M B rs n ps qs all AllAnswered is run same kept none = (B, run_further A M B rs n ps qs all is run same (kept (λ e. cc)), λ _. refl)
+told_so_far A M B rs n ps qs all OutOfMemory is run same kept none = (B, run_further A M B rs n ps qs all is run same (kept (λ e. cc)), λ _. refl)
+told_so_far A M B rs n ps qs all Stopped is run same kept none =
+    let alone : all ≡ ps = same ∙ ap (λ (xs : List Reply). ps ++ xs) (none refl) ∙ append-nil ps in
+    (M, subst (λ (xs : List Reply). Runs A (take (length xs) rs) xs M) (sym alone) run, λ other. absurd (other refl))
+
+-- what stands behind the first n, as a slice
+pub slice_is : (rs : List Request) (n : ℕ) → take (length rs - n) (drop n rs) ≡ drop n rs
+slice_is rs n = ap (λ i. take i (drop n rs)) (sym (length-drop n rs)) ∙ take-length (drop n rs)

@@ -1,0 +1,38 @@
+use Rattle.std.proofs.Common.{◌≡◌, ◌≢◌, ◌∙◌, [], List, ap, false, length, rules, subst, sym, take, true≢false}
+use Rattle.std.specs.Prelude.{◌==◌}
+use Rattle.book.specs.Answers.{Runs}
+use Rattle.book.specs.Ledger.{Ledger}
+use Rattle.book.specs.declared.rows.Change.{Change}
+use Rattle.desk.specs.Together.{FailsAt}
+use Rattle.desk.specs.declared.run.Ending.TheVariants.{Stopped}
+use Rattle.desk.specs.declared.run.Run.{Run}
+use Rattle.desk.proofs.Batches.{batch_fails, batch_told}
+use Rattle.desk.proofs.desk.Desk.run_batch.Goals as goal
+use Rattle.desk.proofs.desk.Desk.run_batch.Goals.{in-Ok, in-Err}
+
+pub returns-then-is_empty-clause-kept : goal.returns-then-is_empty-clause-kept
+returns-then-is_empty-clause-kept g c other =
+    subst (λ A. Runs A (take (length c.told.result.replies.items) c.args.requests.now) c.told.result.replies.items c.plan_batch-batch.new.book.ledger) (ap (λ d. d.ledger) c.self.view_is)
+    (batch_told c.self.inside.book.ledger c.plan_batch-batch.new.book.ledger c.args.requests.now _ c.told.result.replies.items c.plan_batch-batch.ensures.so_far c.told.ensures.replies)
+
+pub returns-clause-kept : goal.returns-clause-kept
+returns-clause-kept g c other = elim c.match-commit.branch [
+  | in-Ok w ↦ subst (λ A. Runs A (take (length c.match-commit.result.replies.items) c.args.requests.now) c.match-commit.result.replies.items c.plan_batch-batch.new.book.ledger) (ap (λ d. d.ledger) c.self.view_is)
+      (batch_told c.self.inside.book.ledger c.plan_batch-batch.new.book.ledger c.args.requests.now _ c.match-commit.result.replies.items c.plan_batch-batch.ensures.so_far
+      (ap (λ (r : Run). r.replies.items) w.result-is ∙ w.told-in-Ok.ensures.replies))
+  | in-Err w ↦ let is : c.match-commit.result.ending ≡ Stopped = search rules in absurd (other is)
+]
+
+pub returns-clause-failed : goal.returns-clause-failed
+returns-clause-failed g c is = elim c.match-commit.branch [
+  | in-Ok w ↦ absurd (w.told-in-Ok.ensures.going (ap (λ (r : Run). r.ending) (sym w.result-is) ∙ is))
+  | in-Err w ↦ (
+    search rules,
+    subst (λ A. FailsAt (g.K.Keep.is_honest c.commit.new.self) (g.K.Keep.leaves c.commit.new.self) A c.args.requests.now [] c.plan_batch-batch.new.book.ledger) (ap (λ d. d.ledger) c.self.view_is)
+        (batch_fails _ (g.K.Keep.holds c.self.inside.keep) (g.K.Keep.leaves c.self.inside.keep) (g.K.Keep.leaves c.commit.new.self) c.self.inside.book.ledger c.plan_batch-batch.new.book.ledger c.args.requests.now _ c.deref.result.now
+        c.plan_batch-batch.ensures.so_far c.plan_batch-batch.ensures.few c.self.invariant.good c.deref.ensures.value
+        (λ none. let empty : c.deref.result.now ≡ [] = none in true≢false (sym (c.is_empty.ensures ∙ ap (λ n. n == 0) (sym c.deref.ensures.len ∙ ap (λ (cs : List Change). length cs) empty)) ∙ c.if-is_empty.false))
+        (λ honest. c.self.invariant.stored (subst (λ k. g.K.Keep.stopped k ≡ false) (sym (ap (λ d. d.keep) c.self.view_is)) c.requires) (c.commit.ensures.honest honest))
+        (λ honest. c.commit.ensures.either honest (subst (λ k. g.K.Keep.stopped k ≡ false) (sym (ap (λ d. d.keep) c.self.view_is)) c.requires))),
+  )
+]

@@ -1,0 +1,21 @@
+use Rattle.std.proofs.Common.{[], ◌++◌, ◌∙◌, ◌∷◌, List, ap, arith, sym}
+use Rattle.words.specs.declared.reply.Reply.{Reply}
+use Rattle.words.specs.declared.reply.Reply.TheVariants.{Done}
+use Rattle.book.specs.Ledger.{Ledger}
+use Rattle.book.specs.Next.{accept}
+use Rattle.book.specs.declared.rows.Change.{Change}
+use Rattle.desk.proofs.Batches.{joined_accepted, same_count}
+use Rattle.desk.proofs.together.take_in.Goals as goal
+
+pub append-requires : goal.append-requires
+append-requires c =
+    let size = same_count c.adopt.result.items c.changes.result.now (c.adopt.ensures.rows ∙ sym c.changes.ensures) in
+    let room = c.in-Ok.ensures.ok in
+    omega arith
+
+pub returns-clause-joined : goal.returns-clause-joined
+returns-clause-joined c is =
+    joined_accepted c.args.book.now.ledger c.adopt.new.self.ledger c.args.plan c.adopt.result.items _ _ c.requires.good c.requires.key c.requires.command c.requires.fits c.adopt.ensures.rows
+    (c.adopt.ensures.next ∙ ap (λ (A : Ledger). accept A c.args.plan.request) c.make_room.ensures.same) c.adopt.ensures.good c.requires.going c.requires.going
+    (c.push_reserved.ensures.items ∙ ap (λ n. c.args.batch.now.replies.items ++ Done n ∷ []) c.place-place.ensures)
+    (c.append.ensures.items ∙ ap (λ (changes : List Change). changes ++ c.adopt.result.items) c.reserve.ensures.items)

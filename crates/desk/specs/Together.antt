@@ -1,0 +1,79 @@
+-- Requests that are carried out together: a batch is kept in one transaction.
+use Rattle.std.specs.Prelude.{◌≡◌, ◌⊎◌, ◌≤◌, ◌+◌, ◌-◌, All, Bool, false, true, ℕ, List, [], ◌∷◌, ◌++◌, drop, length, take}
+use Rattle.std.specs.List.{AllByRecursion as Each}
+use Rattle.words.specs.declared.command.Request.{Request}
+use Rattle.words.specs.declared.reply.Reply.{Reply}
+use Rattle.words.specs.declared.reply.Reply.TheVariants.{Done}
+use Rattle.book.specs.Answers.{After, Answers, Runs}
+use Rattle.book.specs.Good.{Good}
+use Rattle.book.specs.Ledger.{Ledger}
+use Rattle.book.specs.Rows.{Content, IsRowsOf}
+use Rattle.book.specs.declared.rows.Change.{Change}
+use Rattle.book.specs.Tables.{rows_among}
+use Rattle.keep.specs.Content.{IsTheRow}
+use Rattle.keep.specs.Transactions.{with_changes}
+use Rattle.desk.specs.Desk.{LeavesEither}
+use Rattle.desk.specs.declared.together.Batch.{Batch}
+
+-- the reply tells of a request that is done, now or before
+abbrev pub IsDone : Reply → Type 0
+IsDone reply = (place : ℕ) × (reply ≡ Done place)
+
+-- The requests lead from A to B with these replies. The first of them are done, and those behind change nothing: none is
+-- accepted behind one that is refused.
+pub record IsBatch (A : Ledger) (requests : List Request) (replies : List Reply) (B : Ledger) : Type 0 where
+  pub first : List Request
+  pub behind : List Request
+  pub told : List Reply
+  pub refused : List Reply
+  pub requests_are : requests ≡ first ++ behind
+  pub replies_are : replies ≡ told ++ refused
+  pub done : Runs A first told B
+  pub all_done : Each IsDone told
+  pub rest : Runs B behind refused B
+
+-- The replies are those to the first requests from A to M; then the store failed at the commit of a batch of those
+-- behind, which led to B, and a stop leaves the rows of M or those of B.
+pub record FailsAt (is_honest : Type 0) (leaves : List Content → Type 0) (A : Ledger) (requests : List Request)
+    (replies : List Reply) (B : Ledger) : Type 0 where
+  pub mid : Ledger
+  pub run : Runs A (take (length replies) requests) replies mid
+  pub count : ℕ
+  pub some : 1 ≤ count
+  pub none_unasked : length replies + count ≤ length requests
+  pub untold : List Reply
+  pub batch : IsBatch mid (take count (drop (length replies) requests)) untold B
+  pub either : is_honest → LeavesEither leaves mid B
+
+-- ---- how a batch is made (private)
+
+-- The requests so far lead from A to B as a batch, whose changes make B's rows of A's. Where none is refused all are
+-- done.
+pub record BatchSoFar (A : Ledger) (requests : List Request) (batch : Batch) (B : Ledger) : Type 0 where
+  pub is_batch : IsBatch A requests batch.replies.items B
+  pub rows : (C : Content) → IsRowsOf A C → IsRowsOf B (with_changes batch.changes.items C)
+  pub desk : All IsTheRow (rows_among batch.changes.items).desk
+  pub all_done : batch.has_refused ≡ false → Runs A requests batch.replies.items B × Each IsDone batch.replies.items
+  pub some : batch.has_refused ≡ true → 1 ≤ length batch.replies.items
+  pub none : batch.replies.items ≡ [] → batch.changes.items ≡ []
+  pub good : Good B
+
+-- one request more, from A to B: a reply and some changes more, and nothing is done behind one that is refused
+pub record Joins (A : Ledger) (request : Request) (old new : Batch) (B : Ledger) : Type 0 where
+  pub reply : Reply
+  pub replies : new.replies.items ≡ old.replies.items ++ reply ∷ []
+  pub answer : Answers A request reply B
+  pub more : List Change
+  pub changes : new.changes.items ≡ old.changes.items ++ more
+  pub rows : (C : Content) → IsRowsOf A C → IsRowsOf B (with_changes more C)
+  pub desk : All IsTheRow (rows_among more).desk
+  pub done : new.has_refused ≡ false → IsDone reply × (old.has_refused ≡ false)
+  pub nothing : new.has_refused ≡ true → B ≡ A
+  pub good : Good B
+
+-- nothing has changed
+pub record IsAsBefore (A : Ledger) (old new : Batch) (B : Ledger) : Type 0 where
+  pub ledger : B ≡ A
+  pub replies : new.replies.items ≡ old.replies.items
+  pub changes : new.changes.items ≡ old.changes.items
+  pub refused : new.has_refused ≡ old.has_refused
