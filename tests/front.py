@@ -11,6 +11,7 @@ import resource
 import shutil
 import socket
 import ssl
+import subprocess
 import sys
 import tempfile
 import time
@@ -276,6 +277,12 @@ def test_a_browser_is_told_to_be_careful(program, folder):
             connection.close()
 
 
+def test_the_configuration_is_taken_without_a_warning(program, folder):
+    with Front(program, folder) as front:
+        told = subprocess.run([*front.words, "-c"], env=front.environment, capture_output=True, text=True)
+        expect(told.returncode == 0 and "WARNING" not in told.stderr, f"{told.stderr}")
+
+
 def test_nothing_but_tls_is_spoken(program, folder):
     with Front(program, folder) as front:
         with socket.create_connection(("127.0.0.1", front.port), SECONDS) as plain:
@@ -318,6 +325,7 @@ TESTS = [
     test_time_and_connections_are_limited,
     test_the_log_names_the_user,
     test_a_browser_is_told_to_be_careful,
+    test_the_configuration_is_taken_without_a_warning,
     test_nothing_but_tls_is_spoken,
 ]
 

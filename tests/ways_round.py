@@ -108,14 +108,14 @@ HEADS = {
 
 
 def answers_to(front: Front, text: bytes) -> bytes:
-    """All that is answered to this, until the front closes or nothing comes for a while."""
+    """All that is answered to this, until the front closes or nothing more comes for a while."""
     found = b""
     with front.socket() as client:
-        client.settimeout(0.4)
         client.sendall(text)
         try:
             while part := client.recv(65_536):
                 found += part
+                client.settimeout(0.3)
         except OSError:
             pass
     return found
