@@ -151,7 +151,7 @@ def test_a_package_comes_and_goes(_program, folder):
         for package, name in [(path, "first.deb"), (later, "later.deb")]:
             shutil.copy(package, os.path.join(root, name))
         inside("dpkg --install /first.deb")
-        inside("install -d -o stockdesk -g stockdesk -m 0700 /var/lib/stockdesk /var/lib/stockdesk/shop")
+        inside("install -d -o stockdesk -g stockdesk -m 0700 /var/lib/stockdesk/shop")
         desk = "/var/lib/stockdesk/shop/desk.db"
         inside(f"runuser -u stockdesk -- stockdesk init {desk}")
         told = inside(f"printf 'F1 field N1 A-1 0 100 40\\n' | runuser -u stockdesk -- stockdesk run {desk}")
