@@ -1,5 +1,5 @@
 -- What is kept under a key stays so: a batch that comes again is answered the same, and changes nothing.
-use Rattle.std.proofs.Common.{◌≡◌, ◌∙◌, ◌+◌, Bool, List, [], ◌∷◌, ◌++◌, ℕ, Option, Some, None, MatchOption, ap, drop, false, find, if◌then◌else◌, is_some, length, refl, subst, sym, take, take-append-drop, true, true≢false}
+use Rattle.std.proofs.Common.{◌≡◌, ◌∙◌, ◌+◌, ◌-◌, ◌≤◌, ◌⊎◌, Bool, List, [], ◌∷◌, ◌++◌, ℕ, Option, Some, None, MatchOption, ap, arith, drop, false, find, if◌then◌else◌, inl, inr, is_some, length, refl, subst, sym, take, take-append-drop, true, true≢false}
 use lib.Pointwise.{bytes_decides}
 use Rattle.std.specs.List.{AllByRecursion as Each}
 use Rattle.std.specs.Cmp.Lexicographic.{slice_cmp}
@@ -10,14 +10,14 @@ use Rattle.words.specs.declared.command.Request.{Request}
 use Rattle.words.specs.declared.reply.Reply.{Reply}
 use Rattle.words.specs.declared.reply.Reply.TheVariants.{Done, Refused}
 use Rattle.words.specs.declared.reply.Refusal.TheVariants.{KeyReused}
-use Rattle.book.specs.Answers.{Answers, AnswersNew, Runs, same_command}
+use Rattle.std.proofs.lemmas.List.{length-take-le}
+use Rattle.book.specs.Answers.{After, Answers, AnswersNew, Runs, same_command}
 use Rattle.book.specs.Ledger.{Kept, Ledger, insert_in_order, kept_under, places}
-use Rattle.book.specs.Next.{accept}
 use Rattle.book.proofs.Runs.{runs_once}
-use Rattle.desk.specs.Together.{IsBatch, IsDone}
+use Rattle.desk.specs.Together.{IsBatch, IsDone, StandsWithin}
 use Rattle.desk.proofs.Batches.{batch_runs}
 use Rattle.desk.proofs.Repeats.{kept_then}
-use Rattle.desk.proofs.Resumption.{runs_joined, runs_split}
+use Rattle.desk.proofs.Resumption.{runs_joined, runs_length, runs_split}
 
 -- what is found beside one that is put in
 find_past : {X : Type 0} (p : X → Bool) (before : X → X → Bool) (x : X) (xs : List X) → p x ≡ false → find p (insert_in_order before x xs) ≡ find p xs
@@ -95,7 +95,7 @@ batch_again A B rs ps h =
     (subst (λ (qs : List Reply). Runs B (h.first ++ h.behind) qs B) (sym h.replies_are) (runs_joined B B B h.first h.behind h.told h.refused first h.rest))
 
 -- who stands behind a batch gets what one who stands before it gets
-pub batch_resumed : (A B last : Ledger) (rs : List Request) (n : ℕ) (told ps : List Reply) → IsBatch A (take n rs) told B → Runs B rs ps last → Runs A rs ps last
+batch_resumed : (A B last : Ledger) (rs : List Request) (n : ℕ) (told ps : List Reply) → IsBatch A (take n rs) told B → Runs B rs ps last → Runs A rs ps last
 batch_resumed A B last rs n told ps batch run =
     let parts = runs_split B last (take n rs) (drop n rs) ps (subst (λ (xs : List Request). Runs B xs ps last) (sym (take-append-drop n rs)) run) in
     let same = runs_once B (take n rs) _ told parts.0 B parts.1 (batch_again A B (take n rs) told batch) in
@@ -103,3 +103,31 @@ batch_resumed A B last rs n told ps batch run =
     subst (λ (xs : List Request). Runs A xs ps last) (take-append-drop n rs)
     (subst (λ (qs : List Reply). Runs A (take n rs ++ drop n rs) qs last) (take-append-drop (length (take n rs)) ps)
     (runs_joined A B last (take n rs) (drop n rs) _ _ front (subst (λ L. Runs L (drop n rs) (drop (length (take n rs)) ps) last) same.1 parts.2)))
+
+-- ---- where a run may be resumed that was cut by a failing commit
+
+one_less : (n : ℕ) → n + 1 - 1 ≡ n
+one_less n = omega arith
+
+pub fails_within : (A mid B : Ledger) (rs : List Request) (ps untold : List Reply) (count : ℕ) → Runs A (take (length ps) rs) ps mid → IsBatch mid (take count (drop (length ps) rs)) untold B
+    → StandsWithin A rs (length ps + 1) mid × StandsWithin A rs (length ps + 1) B
+fails_within A mid B rs ps untold count run batch = (
+  (mid, before, inl refl),
+  (mid, before, inr (count, untold, subst (λ i. IsBatch mid (take count (drop i rs)) untold B) (sym (one_less (length ps))) batch)),
+)
+  where
+    before : After A rs (length ps + 1 - 1) mid
+    before = (ps, subst (λ i. Runs A (take i rs) ps mid) (sym (one_less (length ps))) run)
+
+pub resumed_within : (A B last : Ledger) (rs : List Request) (k : ℕ) (ps : List Reply) → 1 ≤ k → k ≤ length rs + 1 → StandsWithin A rs k B → Runs B (drop (k - 1) rs) ps last
+    → (before : List Reply) × (length before + 1 ≡ k) × Runs A rs (before ++ ps) last
+resumed_within A B last rs k ps one le (M, (before, first), stands) run =
+    let size : length before ≡ k - 1 = runs_length A M (take (k - 1) rs) before first ∙ length-take-le (k - 1) rs (omega arith) in (
+      before,
+      omega (arith, size),
+      subst (λ (xs : List Request). Runs A xs (before ++ ps) last) (take-append-drop (k - 1) rs) (runs_joined A M last (take (k - 1) rs) (drop (k - 1) rs) before ps first (on stands)),
+    )
+  where
+    on : (B ≡ M) ⊎ ((count : ℕ) × (untold : List Reply) × IsBatch M (take count (drop (k - 1) rs)) untold B) → Runs M (drop (k - 1) rs) ps last
+    on (inl same) = subst (λ L. Runs L (drop (k - 1) rs) ps last) same run
+    on (inr (count, untold, batch)) = batch_resumed M B last (drop (k - 1) rs) count untold ps batch run

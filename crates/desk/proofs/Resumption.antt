@@ -21,7 +21,7 @@ use Rattle.desk.proofs.Repeats.{repeated}
 -- ---- runs
 
 -- each request has a reply
-runs_length : (A B : Ledger) (rs : List Request) (ps : List Reply) → Runs A rs ps B → length ps ≡ length rs
+pub runs_length : (A B : Ledger) (rs : List Request) (ps : List Reply) → Runs A rs ps B → length ps ≡ length rs
 runs_length A B [] [] h = refl
 runs_length A B [] (p ∷ ps) h = absurd h
 runs_length A B (r ∷ rs) [] h = absurd h

@@ -1,5 +1,5 @@
 -- Requests that are carried out together: a batch is kept in one transaction.
-use Rattle.std.specs.Prelude.{◌≡◌, ◌⊎◌, ◌≤◌, ◌+◌, ◌-◌, All, Bool, false, true, ℕ, List, [], ◌∷◌, ◌++◌, drop, length, take}
+use Rattle.std.specs.Prelude.{◌≡◌, ◌⊎◌, ◌≤◌, ◌+◌, ◌-◌, All, false, true, ℕ, List, [], ◌∷◌, ◌++◌, drop, length, take}
 use Rattle.std.specs.List.{AllByRecursion as Each}
 use Rattle.words.specs.declared.command.Request.{Request}
 use Rattle.words.specs.declared.reply.Reply.{Reply}
@@ -44,6 +44,13 @@ pub record FailsAt (is_honest : Type 0) (leaves : List Content → Type 0) (A : 
   pub untold : List Reply
   pub batch : IsBatch mid (take count (drop (length replies) requests)) untold B
   pub either : is_honest → LeavesEither leaves mid B
+
+-- B is the ledger after the requests before number k, counted from 1, or behind a batch of those from there on, of which
+-- the replies are not known: it may be kept or not.
+abbrev pub StandsWithin : Ledger → List Request → ℕ → Ledger → Type 0
+StandsWithin A requests k B =
+    (M : Ledger) × After A requests (k - 1) M
+    × ((B ≡ M) ⊎ ((count : ℕ) × (untold : List Reply) × IsBatch M (take count (drop (k - 1) requests)) untold B))
 
 -- ---- how a batch is made (private)
 

@@ -1,6 +1,6 @@
 //! What is true of every text, and of every run that is resumed.
 
-ghost use Rattle.std.specs.Prelude.{◌≡◌, ◌⊎◌, ◌≤◌, ◌+◌, ◌-◌, ℕ, List, drop, flat_map, length, take};
+ghost use Rattle.std.specs.Prelude.{◌≡◌, ◌⊎◌, ◌≤◌, ◌+◌, ◌-◌, ℕ, ◌++◌, List, drop, flat_map, length, take};
 ghost use Rattle.std.specs.List.{AllByRecursion as Each};
 ghost use Rattle.escrow.specs.Codes.{IsKey};
 ghost use Rattle.words.specs.Spelling.{IsInRange};
@@ -11,7 +11,7 @@ ghost use Rattle.book.specs.Good.{Good};
 ghost use Rattle.book.specs.Ledger.{Ledger};
 ghost use Rattle.book.specs.Rows.{Content, IsRowsOf};
 ghost use Rattle.desk.specs.Resuming.{ResumesAgain, StandsAt};
-ghost use Rattle.desk.specs.Together.{IsBatch};
+ghost use Rattle.desk.specs.Together.{IsBatch, StandsWithin};
 ghost use Rattle.desk.specs.Text.{IsText};
 
 /// At a good ledger there is exactly one text for each input, so that what a script writes is settled by what it reads.
@@ -36,12 +36,17 @@ pub fn resuming_is_invisible()
         → IsRowsOf D x → StandsAt A requests k D }
 {}
 
-/// A batch that comes again where it was kept is answered the same and changes nothing. So whoever was cut off, and goes
-/// on at the first request without a reply, gets the replies and the ledger of a run that was never cut, whether the
-/// batch behind that reply was kept or not.
+/// A batch that comes again where it was kept is answered the same and changes nothing. So whoever was cut off by a
+/// failing commit, and goes on at the first request without a reply, gets the replies and the ledger of a run that was
+/// never cut, whether the batch behind that reply was kept or not.
 pub fn batches_come_again()
     ensures same { (A B : Ledger) (requests : List Request) (replies : List Reply) → IsBatch A requests replies B
         → Runs B requests replies B }
-    ensures resumed { (A B last : Ledger) (requests : List Request) (count : ℕ) (untold replies : List Reply)
-        → IsBatch A (take count requests) untold B → Runs B requests replies last → Runs A requests replies last }
+    ensures found { (A mid B : Ledger) (requests : List Request) (replies untold : List Reply) (count : ℕ)
+        → Runs A (take (length replies) requests) replies mid
+        → IsBatch mid (take count (drop (length replies) requests)) untold B
+        → StandsWithin A requests (length replies + 1) mid × StandsWithin A requests (length replies + 1) B }
+    ensures resumed { (A B last : Ledger) (requests : List Request) (k : ℕ) (replies : List Reply) → 1 ≤ k
+        → k ≤ length requests + 1 → StandsWithin A requests k B → Runs B (drop (k - 1) requests) replies last
+        → (before : List Reply) × (length before + 1 ≡ k) × Runs A requests (before ++ replies) last }
 {}

@@ -1,5 +1,4 @@
 use Rattle.std.proofs.Common.{[], ◌++◌, ◌∙◌, ◌∷◌, List, ap, arith, sym}
-use Rattle.words.specs.declared.reply.Reply.{Reply}
 use Rattle.words.specs.declared.reply.Reply.TheVariants.{Done}
 use Rattle.book.specs.Ledger.{Ledger}
 use Rattle.book.specs.Next.{accept}

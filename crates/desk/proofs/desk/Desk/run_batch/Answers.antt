@@ -1,7 +1,6 @@
 use Rattle.std.proofs.Common.{◌≡◌, ◌≢◌, ◌∙◌, [], List, ap, false, length, rules, subst, sym, take, true≢false}
 use Rattle.std.specs.Prelude.{◌==◌}
 use Rattle.book.specs.Answers.{Runs}
-use Rattle.book.specs.Ledger.{Ledger}
 use Rattle.book.specs.declared.rows.Change.{Change}
 use Rattle.desk.specs.Together.{FailsAt}
 use Rattle.desk.specs.declared.run.Ending.TheVariants.{Stopped}

@@ -1,4 +1,4 @@
-use Rattle.std.proofs.Common.{◌+◌, ◌-◌, ◌∙◌, ◌≡◌, ◌≢◌, ◌≤◌, List, ap, arith, drop, length, refl, rules, subst, sym, take}
+use Rattle.std.proofs.Common.{◌+◌, ◌-◌, ◌∙◌, ◌≡◌, ◌≢◌, ◌≤◌, List, ap, arith, drop, length, refl, rules, subst, take}
 use Rattle.std.proofs.lemmas.List.{length-append, length-drop}
 use Rattle.words.specs.declared.command.Request.{Request}
 use Rattle.words.specs.declared.reply.Reply.{Reply}

@@ -1,5 +1,5 @@
 -- the requests so far are answered and kept, and there is room for the replies to the others
-use Rattle.std.proofs.Common.{◌≡◌, ◌+◌, ◌≤◌, ◌-◌, ℕ, false, length, take}
+use Rattle.std.proofs.Common.{◌≡◌, ◌+◌, ◌≤◌, ◌-◌, false, length, take}
 use Rattle.std.specs.Vec.{vec_capacity, vec_len}
 use Rattle.book.specs.Answers.{Runs}
 use Rattle.desk.specs.Desk.{IsStored}
