@@ -25,6 +25,7 @@ fn laws_can_be_called() {
     book::rows_tell_all();
     book::rows_are_one();
     book::changes_suffice();
+    book::changes_are_put_in_turn();
     book::worked_examples_hold();
     book::limits_are_those_of_the_rules();
 }
