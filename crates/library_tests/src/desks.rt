@@ -27,7 +27,11 @@ pub(crate) fn run<K: Keep>(alloc: Global, desk: &mut Desk<K>, requests: &[Reques
 }
 
 /// The call without its clauses, likewise.
-pub(crate) fn run_together<K: Keep>(alloc: Global, desk: &mut Desk<K>, requests: &[Request]) -> Run {
+pub(crate) fn run_together<K: Keep>(
+    alloc: Global,
+    desk: &mut Desk<K>,
+    requests: &[Request],
+) -> Run {
     desk.run_together(alloc, requests)
 }
 
