@@ -91,7 +91,11 @@ class Front:
             "PAGE": PAGE,
         }
         self.desk_start()
-        self.start()
+        try:
+            self.start()
+        except BaseException:
+            self.desk_kill()
+            raise
 
     def __enter__(self) -> "Front":
         return self
