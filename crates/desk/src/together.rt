@@ -161,7 +161,7 @@ impl<K: Keep> Desk<K> {
     /// Answers the requests in their order, as `run` does, and carries them out together: each is planned at the ledger
     /// after those before it, and what a batch of them changes is kept in one transaction; only then are there replies.
     /// A batch ends with the list, where memory is refused, and where an accepted request would stand behind a refused
-    /// one: that is decided anew when it comes again, so who resumes at the first request without a reply gets the
+    /// one: that is decided anew when it comes again, so who goes on behind the last reply after `Stopped` gets the
     /// replies of a run that was never cut.
     ///
     /// After `All` and `Memory` the ledger is the one after the requests that are answered, and a stop leaves its rows
@@ -175,7 +175,8 @@ impl<K: Keep> Desk<K> {
         ensures failed { K.stopped self.old.keep ≡ false → result.ending ≡ Ending.Stopped
             → FailsAt (K.is_honest self.new.keep) (K.leaves self.new.keep) self.old.ledger requests.now
             result.replies.items self.new.ledger }
-        ensures refused { IsTrue (K.stopped self.old.keep) → (result.replies.items ≡ []) × (self.new ≡ self.old) }
+        ensures refused { IsTrue (K.stopped self.old.keep) → (result.replies.items ≡ []) × (self.new ≡ self.old)
+            × (1 ≤ length requests.now → result.ending ≡ Ending.Stopped) }
         ensures stopped { result.ending ≡ Ending.Stopped → IsTrue (K.stopped self.new.keep) }
         ensures going { result.ending ≢ Ending.Stopped → K.stopped self.new.keep ≡ K.stopped self.old.keep }
         ensures stored { StaysStored K.Keep self.new }
