@@ -1,6 +1,6 @@
 -- Batches: how they are made, and that they come again.
 use Rattle.std.proofs.Common.{◌≡◌, ◌≢◌, ◌∙◌, ◌+◌, ◌-◌, ◌≤◌, ◌++◌, Bool, false, true, true≢false, ℕ, List, [], ◌∷◌, ap, append-nil, append_assoc, arith, drop, length, refl, subst, sym, take}
-use Rattle.std.proofs.lemmas.List.{length-append, length-drop}
+use Rattle.std.proofs.lemmas.List.{length-append, length-drop, map-append}
 use Rattle.std.proofs.Math.Seq.{take-length}
 use Rattle.std.proofs.lemmas.List.Elements.{All-append, All-from_recursion}
 use Rattle.std.specs.Prelude.{All}
@@ -28,6 +28,11 @@ use Rattle.desk.proofs.NextRows.{next_rows}
 use Rattle.keep.specs.Content.{IsTheRow}
 use Rattle.keep.specs.Transactions.{with_changes}
 use Rattle.desk.specs.Desk.{IsStored, LeavesEither}
+use Rattle.desk.specs.Replies.{request_line}
+use Rattle.desk.specs.Text.{RepliesAll, items_of}
+use Rattle.desk.proofs.Texts.{replies_more}
+use Rattle.words.specs.declared.item.Item.{Item}
+use Rattle.words.specs.declared.item.Item.TheVariants as item
 use Rattle.desk.specs.Together.{BatchSoFar, FailsAt, IsAsBefore, IsBatch, IsDone, Joins}
 use Rattle.desk.specs.declared.together.Batch.{Batch}
 use Rattle.desk.proofs.Resumption.{runs_joined, runs_on as runs_behind}
@@ -75,14 +80,15 @@ each_joined : (P : Reply → Type 0) (xs : List Reply) (y : Reply) → Each P xs
 each_joined P [] y h p = (p, tt)
 each_joined P (x ∷ xs) y h p = (h.0, each_joined P xs y h.1 p)
 
-pub batch_new : (A : Ledger) (batch : Batch) → Good A → batch.replies.items ≡ [] → batch.changes.items ≡ [] → batch.has_refused ≡ false → BatchSoFar A [] batch A
-batch_new A batch good none no_rows going = record {
+pub batch_new : (A : Ledger) (batch : Batch) → Good A → batch.replies.items ≡ [] → batch.text.items ≡ [] → batch.changes.items ≡ [] → batch.has_refused ≡ false → BatchSoFar A [] batch A
+batch_new A batch good none no_text no_rows going = record {
   is_batch = record { first = []; behind = []; told = []; refused = []; requests_are = refl; replies_are = none; done = refl; all_done = tt; rest = refl };
   rows = λ C is. subst (λ (cs : List Change). IsRowsOf A (with_changes cs C)) (sym no_rows) is;
   desk = subst (λ (cs : List Change). All IsTheRow (rows_among cs).desk) (sym no_rows) (All-from_recursion IsTheRow [] tt);
   all_done = λ _. (subst (λ (ps : List Reply). Runs A [] ps A) (sym none) refl, subst (Each IsDone) (sym none) tt);
   some = λ has. absurd (true≢false (sym has ∙ going));
   none = λ _. no_rows;
+  lines = (no_text, refl);
   good = good;
 }
 
@@ -135,15 +141,19 @@ module _ (A M B : Ledger) (rs : List Request) (r : Request) (old new : Batch) (s
     all_done = all_more;
     some = λ _. let size = ap (λ (ps : List Reply). length ps) h.replies ∙ length-append old.replies.items (h.reply ∷ []) in omega arith;
     none = λ is. let size = ap (λ (ps : List Reply). length ps) h.replies ∙ length-append old.replies.items (h.reply ∷ []) in let zero = ap (λ (ps : List Reply). length ps) is in absurd (omega (arith, size, zero));
+    lines = subst (λ (xs : List Item). RepliesAll A xs new.text.items B) (sym (map-append (λ x. item.Request x) rs (r ∷ [])))
+        (subst (λ (out : List ℕ). RepliesAll A (items_of rs ++ item.Request r ∷ []) out B) (sym h.line)
+        (replies_more (items_of rs) (item.Request r) A M B old.text.items (request_line r.key h.reply) so_far.lines (h.reply, h.answer, refl)));
     good = h.good;
   }
 
 -- nothing more is planned: a reply, and no row
-pub joined_told : (A : Ledger) (r : Request) (reply : Reply) (old new : Batch) → Good A → Answers A r reply A → new.replies.items ≡ old.replies.items ++ reply ∷ [] → new.changes.items ≡ old.changes.items
-    → (new.has_refused ≡ false → IsDone reply × (old.has_refused ≡ false)) → Joins A r old new A
-joined_told A r reply old new good answer replies same done = record {
+pub joined_told : (A : Ledger) (r : Request) (reply : Reply) (old new : Batch) → Good A → Answers A r reply A → new.replies.items ≡ old.replies.items ++ reply ∷ []
+    → new.text.items ≡ old.text.items ++ request_line r.key reply → new.changes.items ≡ old.changes.items → (new.has_refused ≡ false → IsDone reply × (old.has_refused ≡ false)) → Joins A r old new A
+joined_told A r reply old new good answer replies line same done = record {
   reply = reply;
   replies = replies;
+  line = line;
   answer = answer;
   more = [];
   changes = same ∙ sym (append-nil old.changes.items);
@@ -156,11 +166,12 @@ joined_told A r reply old new good answer replies same done = record {
 
 -- an accepted request, whose plan is adopted
 pub joined_accepted : (A B : Ledger) (plan : PlanView) (rows : List Change) (old new : Batch) → Good A → IsKey plan.request.key → IsInRange plan.request.command → Fits A plan → rows_among rows ≡ plan.changes
-    → B ≡ accept A plan.request → Good B → old.has_refused ≡ false → new.has_refused ≡ false → new.replies.items ≡ old.replies.items ++ Done plan.place ∷ [] → new.changes.items ≡ old.changes.items ++ rows
-    → Joins A plan.request old new B
-joined_accepted A B plan rows old new good key range fits are is_next good_then had has replies changes = record {
+    → B ≡ accept A plan.request → Good B → old.has_refused ≡ false → new.has_refused ≡ false → new.replies.items ≡ old.replies.items ++ Done plan.place ∷ []
+    → new.text.items ≡ old.text.items ++ request_line plan.request.key (Done plan.place) → new.changes.items ≡ old.changes.items ++ rows → Joins A plan.request old new B
+joined_accepted A B plan rows old new good key range fits are is_next good_then had has replies line changes = record {
   reply = Done plan.place;
   replies = replies;
+  line = line;
   answer = subst (λ L. Answers A plan.request (Done plan.place) L) (sym is_next) (subst (λ p. Answers A plan.request (Done p) (accept A plan.request)) (sym fits.place) (accepted_answered A plan.request fits.accepted));
   more = rows;
   changes = changes;
@@ -182,6 +193,7 @@ joined_none A M B rs old new so_far h = subst (λ L. BatchSoFar A rs new L) (sym
       (subst (λ (ps : List Reply). Runs A rs ps M) (sym h.replies) run, subst (Each IsDone) (sym h.replies) each);
   some = λ has. subst (λ (ps : List Reply). 1 ≤ length ps) (sym h.replies) (so_far.some (sym h.refused ∙ has));
   none = λ is. h.changes ∙ so_far.none (sym h.replies ∙ is);
+  lines = subst (λ (out : List ℕ). RepliesAll A (items_of rs) out M) (sym h.text) so_far.lines;
   good = so_far.good;
 })
 
@@ -192,9 +204,13 @@ pub batch_runs : (A B : Ledger) (rs : List Request) (ps : List Reply) → IsBatc
 batch_runs A B rs ps h = subst (λ (xs : List Request). Runs A xs ps B) (sym h.requests_are)
     (subst (λ (qs : List Reply). Runs A (h.first ++ h.behind) qs B) (sym h.replies_are) (runs_joined A B B h.first h.behind h.told h.refused h.done h.rest))
 
-pub batch_told : (A B : Ledger) (rs : List Request) (batch : Batch) (ps : List Reply) → BatchSoFar A (take (length batch.replies.items) rs) batch B → ps ≡ batch.replies.items → Runs A (take (length ps) rs) ps B
-batch_told A B rs batch ps so_far same =
-    subst (λ (qs : List Reply). Runs A (take (length qs) rs) qs B) (sym same) (batch_runs A B (take (length batch.replies.items) rs) batch.replies.items so_far.is_batch)
+module _ (A B : Ledger) (rs : List Request) (batch : Batch) (ps : List Reply) (so_far : BatchSoFar A (take (length batch.replies.items) rs) batch B) (same : ps ≡ batch.replies.items) where
+  pub batch_told : IsBatch A (take (length ps) rs) ps B
+  batch_told = subst (λ (qs : List Reply). IsBatch A (take (length qs) rs) qs B) (sym same) so_far.is_batch
+
+  pub lines_told : (out : List ℕ) → out ≡ batch.text.items → RepliesAll A (items_of (take (length ps) rs)) out B
+  lines_told out are = subst (λ (qs : List Reply). RepliesAll A (items_of (take (length qs) rs)) out B) (sym same)
+      (subst (λ (text : List ℕ). RepliesAll A (items_of (take (length batch.replies.items) rs)) text B) (sym are) so_far.lines)
 
 one_at_least : (ps : List Reply) → ps ≢ [] → 1 ≤ length ps
 one_at_least [] some = absurd (some refl)

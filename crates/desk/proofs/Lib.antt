@@ -13,3 +13,4 @@ pub mod FoundLines
 pub mod FoundAgain
 pub mod Batches
 pub mod BatchesAgain
+pub mod ListLines

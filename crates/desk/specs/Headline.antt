@@ -33,9 +33,9 @@ pub record IsFoundAfter (A : Ledger) (requests : List Request) (run : Run) (B : 
   pub after : After A requests done B
 
 -- B is the ledger after a prefix of the items. That holds every one whose reply line was written whole, since what was
--- written is a beginning of the reply lines to that prefix. At most one more is done.
-pub record IsFoundAfterItems (A : Ledger) (items : List Item) (writer_old writer_new : Option (List ℕ)) (B : Ledger)
-    : Type 0 where
+-- written is a beginning of the reply lines to that prefix. At most so many more are done as are carried out together.
+pub record IsFoundAfterItems (most : ℕ) (A : Ledger) (items : List Item) (writer_old writer_new : Option (List ℕ))
+    (B : Ledger) : Type 0 where
   pub written : List ℕ
   pub writes : Appends writer_old writer_new written
   -- what was written is the reply lines to so many of them, and a beginning of the next
@@ -48,7 +48,7 @@ pub record IsFoundAfterItems (A : Ledger) (items : List Item) (writer_old writer
   -- and so many are done
   pub done : ℕ
   pub none_lost : told ≤ done
-  pub one_more : done ≤ told + 1
+  pub few_more : done ≤ told + most
   pub none_unasked : done ≤ length items
   pub unwritten : List ℕ
   pub after : RepliesAll A (take done items) (written ++ unwritten) B
@@ -57,7 +57,7 @@ pub record IsFoundAfterItems (A : Ledger) (items : List Item) (writer_old writer
 abbrev pub IsFoundAfterLines : Ledger → (reader_old reader_new writer_old writer_new : Option (List ℕ)) → Ledger → Type 0
 IsFoundAfterLines A reader_old reader_new writer_old writer_new B =
     (read : List ℕ) × (items : List Item) × Consumes reader_old reader_new read × AreItems read items
-    × IsFoundAfterItems A items writer_old writer_new B
+    × IsFoundAfterItems 1 A items writer_old writer_new B
 
 -- a stop leaves nothing but the rows of good ledgers of this kind
 pub record LeavesRowsOf (leaves : List Content → Type 0) (Is : Ledger → Type 0) : Type 0 where

@@ -1,6 +1,7 @@
 -- What a desk writes for what it reads.
-use Rattle.std.specs.Prelude.{◌≡◌, ℕ, List, [], ◌∷◌, ◌++◌, Option, None, Some}
+use Rattle.std.specs.Prelude.{◌≡◌, ℕ, List, [], ◌∷◌, ◌++◌, Option, None, Some, map}
 use Rattle.words.specs.Stream.{Feeds}
+use Rattle.words.specs.declared.command.Request.{Request as RequestOf}
 use Rattle.words.specs.declared.item.Item.{Item}
 use Rattle.words.specs.declared.item.Item.TheVariants.{AskField, AskOrder, Bad, Request}
 use Rattle.words.specs.declared.reply.Reply.{Reply}
@@ -21,6 +22,10 @@ RepliesAll old [] out new = (out ≡ []) × (new ≡ old)
 RepliesAll old (item ∷ items) out new =
     (line : List ℕ) × (mid : Ledger) × (rest : List ℕ) × Replies old item line mid × RepliesAll mid items rest new
     × (out ≡ line ++ rest)
+
+-- requests, as the items of a script
+abbrev pub items_of : List RequestOf → List Item
+items_of requests = map (λ r. Request r) requests
 
 -- what stands behind the last newline is a bad line more, if it is anything
 abbrev pub unended : Option (List ℕ) → List Item

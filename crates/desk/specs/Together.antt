@@ -1,5 +1,6 @@
 -- Requests that are carried out together: a batch is kept in one transaction.
-use Rattle.std.specs.Prelude.{◌≡◌, ◌⊎◌, ◌≤◌, ◌+◌, ◌-◌, All, false, true, ℕ, List, [], ◌∷◌, ◌++◌, drop, length, take}
+use Rattle.std.specs.Prelude.{◌≡◌, ◌≢◌, ◌⊎◌, ◌≤◌, ◌+◌, ◌-◌, All, Option, false, true, ℕ, List, [], ◌∷◌, ◌++◌, drop, length, take}
+use Rattle.std.specs.Io.KnownBytes.{Appends}
 use Rattle.std.specs.List.{AllByRecursion as Each}
 use Rattle.words.specs.declared.command.Request.{Request}
 use Rattle.words.specs.declared.reply.Reply.{Reply}
@@ -13,6 +14,9 @@ use Rattle.book.specs.Tables.{rows_among}
 use Rattle.keep.specs.Content.{IsTheRow}
 use Rattle.keep.specs.Transactions.{with_changes}
 use Rattle.desk.specs.Desk.{LeavesEither}
+use Rattle.desk.specs.Replies.{request_line}
+use Rattle.desk.specs.Text.{RepliesAll, items_of}
+use Rattle.desk.specs.declared.fault.ScriptFault.{ScriptFault}
 use Rattle.desk.specs.declared.together.Batch.{Batch}
 
 -- the reply tells of a request that is done, now or before
@@ -52,6 +56,38 @@ StandsWithin A requests k B =
     (M : Ledger) × After A requests (k - 1) M
     × ((B ≡ M) ⊎ ((count : ℕ) × (untold : List Reply) × IsBatch M (take count (drop (k - 1) requests)) untold B))
 
+-- How far the answers to requests have come at a fault, where at most so many are carried out together. The lines of
+-- `answered` are written whole. Behind these may stand a batch, `last`: it is kept, and a beginning of its lines written,
+-- or the store failed at its commit, and a stop leaves the rows before it or behind it. Want of memory leaves no request
+-- done and not told.
+pub record IsCutTogether (fault : ScriptFault) (went_on is_honest : Type 0) (leaves : List Content → Type 0) (most : ℕ)
+    (old : Ledger) (requests : List Request) (written : List ℕ) (new : Ledger) : Type 0 where
+  pub answered : List Request
+  pub last : List Request
+  pub left : List Request
+  pub split : requests ≡ answered ++ last ++ left
+  pub few : length last ≤ most
+  pub mid : Ledger
+  pub lines : List ℕ
+  pub begun : List ℕ
+  pub unwritten : List ℕ
+  pub replies : RepliesAll old (items_of answered) lines mid
+  pub rest : RepliesAll mid (items_of last) (begun ++ unwritten) new
+  pub batch : (untold : List Reply) × IsBatch mid last untold new
+  pub written_are : written ≡ lines ++ begun
+  pub told : fault ≢ ScriptFault.Write → begun ≡ []
+  pub memory : fault ≡ ScriptFault.Memory → last ≡ []
+  pub stopped : fault ≡ ScriptFault.Stopped → went_on
+      → (1 ≤ length last) × (is_honest → LeavesEither leaves mid new)
+  pub refused : ¬ went_on → (answered ++ last ≡ []) × (1 ≤ length left)
+
+-- the answers to the requests are cut so, and what was written is the lines of the first of them
+abbrev pub AnswersCutTogether : ScriptFault → (went_on is_honest : Type 0) → (List Content → Type 0) → ℕ → Ledger
+    → List Request → Ledger → (writer_old writer_new : Option (List ℕ)) → Type 0
+AnswersCutTogether fault went_on is_honest leaves most old requests new writer_old writer_new =
+    (written : List ℕ) × Appends writer_old writer_new written
+    × IsCutTogether fault went_on is_honest leaves most old requests written new
+
 -- ---- how a batch is made (private)
 
 -- The requests so far lead from A to B as a batch, whose changes make B's rows of A's. Where none is refused all are
@@ -63,12 +99,14 @@ pub record BatchSoFar (A : Ledger) (requests : List Request) (batch : Batch) (B 
   pub all_done : batch.has_refused ≡ false → Runs A requests batch.replies.items B × Each IsDone batch.replies.items
   pub some : batch.has_refused ≡ true → 1 ≤ length batch.replies.items
   pub none : batch.replies.items ≡ [] → batch.changes.items ≡ []
+  pub lines : RepliesAll A (items_of requests) batch.text.items B
   pub good : Good B
 
 -- one request more, from A to B: a reply and some changes more, and nothing is done behind one that is refused
 pub record Joins (A : Ledger) (request : Request) (old new : Batch) (B : Ledger) : Type 0 where
   pub reply : Reply
   pub replies : new.replies.items ≡ old.replies.items ++ reply ∷ []
+  pub line : new.text.items ≡ old.text.items ++ request_line request.key reply
   pub answer : Answers A request reply B
   pub more : List Change
   pub changes : new.changes.items ≡ old.changes.items ++ more
@@ -82,5 +120,6 @@ pub record Joins (A : Ledger) (request : Request) (old new : Batch) (B : Ledger)
 pub record IsAsBefore (A : Ledger) (old new : Batch) (B : Ledger) : Type 0 where
   pub ledger : B ≡ A
   pub replies : new.replies.items ≡ old.replies.items
+  pub text : new.text.items ≡ old.text.items
   pub changes : new.changes.items ≡ old.changes.items
   pub refused : new.has_refused ≡ old.has_refused

@@ -3,7 +3,7 @@
 ghost use Rattle.std.specs.Prelude.{◌≡◌, ◌≢◌, ◌⊎◌, ◌<◌, ◌≤◌, [], false, length, take, List, IsTrue, IfOk, IfErr, IsSome, IsSomeAnd, MatchOption, Err};
 ghost use Rattle.escrow.specs.Codes.{IsKey};
 ghost use Rattle.words.specs.Spelling.{IsInRange};
-ghost use Rattle.book.specs.Answers.{Answers, IsAccepted, Runs};
+ghost use Rattle.book.specs.Answers.{Answers, IsAccepted};
 ghost use Rattle.book.specs.Future.{Honours, HonoursAlways};
 ghost use Rattle.book.specs.Good.{Good};
 ghost use Rattle.book.specs.Ledger.{Ledger, field_named, kept_under, name_of, order_numbered};
@@ -13,12 +13,13 @@ ghost use Rattle.book.specs.Plans.{Fits};
 ghost use Rattle.book.specs.Rows.{Content, IsDamaged, IsRowsOf};
 ghost use Rattle.book.specs.Views.{ShowsField, ShowsOrder};
 ghost use Rattle.keep.specs.Content.{IsDesk};
-ghost use Rattle.desk.specs.Together.{FailsAt};
+ghost use Rattle.desk.specs.Text.{RepliesAll, items_of};
+ghost use Rattle.desk.specs.Together.{FailsAt, IsBatch};
 ghost use Rattle.desk.specs.Desk.{IsRefusedAsOld, IsStored, LeavesEither, OpensAt, StaysStored, keeper_after};
 
 use crate::fault::{CallFault, OpenFault, load_fault};
-use crate::run::{Ending, Run};
-use crate::together::{none_told, plan_batch};
+use crate::run::Ending;
+use crate::together::{Told, none_told, plan_batch};
 use book::{Book, FieldView, OrderView, Plan, Planned, TablesFault};
 use escrow::{Article, Branch, OrderNo};
 use keep::Keep;
@@ -182,19 +183,22 @@ impl<K: Keep> Desk<K> {
     /// transaction; only then are there replies. `All` where the batch is kept, `Memory` where it is and memory was
     /// refused for the request behind it; `Stopped` where it could not be kept. Then there is no reply, the ledger is the
     /// one after the batch, and a stop leaves the rows before it or behind it.
-    pub(crate) fn run_batch(&mut self, alloc: Global, requests: &[Request]) -> Run
+    pub(crate) fn run_batch(&mut self, alloc: Global, requests: &[Request]) -> Told
         requires { K.stopped self.old.keep ≡ false }
-        ensures kept { result.ending ≢ Ending.Stopped → Runs self.old.ledger (take (length result.replies.items)
-            requests.now) result.replies.items self.new.ledger }
-        ensures few { length result.replies.items ≤ length requests.now }
-        ensures some { result.ending ≡ Ending.All → 1 ≤ length requests.now → 1 ≤ length result.replies.items }
-        ensures more { result.ending ≢ Ending.All → length result.replies.items < length requests.now }
+        ensures kept { result.run.ending ≢ Ending.Stopped → IsBatch self.old.ledger
+            (take (length result.run.replies.items) requests.now) result.run.replies.items self.new.ledger }
+        ensures lines { result.run.ending ≢ Ending.Stopped → RepliesAll self.old.ledger
+            (items_of (take (length result.run.replies.items) requests.now)) result.text.items self.new.ledger }
+        ensures few { length result.run.replies.items ≤ length requests.now }
+        ensures some { result.run.ending ≡ Ending.All → 1 ≤ length requests.now
+            → 1 ≤ length result.run.replies.items }
+        ensures more { result.run.ending ≢ Ending.All → length result.run.replies.items < length requests.now }
         ensures stored { StaysStored K.Keep self.new }
-        ensures failed { result.ending ≡ Ending.Stopped → (result.replies.items ≡ [])
+        ensures failed { result.run.ending ≡ Ending.Stopped → (result.run.replies.items ≡ [])
             × FailsAt (K.is_honest self.new.keep) (K.leaves self.new.keep) self.old.ledger requests.now []
             self.new.ledger }
-        ensures stopped { result.ending ≡ Ending.Stopped → IsTrue (K.stopped self.new.keep) }
-        ensures going { result.ending ≢ Ending.Stopped → K.stopped self.new.keep ≡ false }
+        ensures stopped { result.run.ending ≡ Ending.Stopped → IsTrue (K.stopped self.new.keep) }
+        ensures going { result.run.ending ≢ Ending.Stopped → K.stopped self.new.keep ≡ false }
         ensures honest { K.is_honest self.new.keep → K.is_honest self.old.keep }
     {
         let (batch, joined) = plan_batch(alloc, &mut self.book, requests);

@@ -20,3 +20,4 @@ pub use headline::{
 pub use laws::{batches_come_again, exactly_one_text, resuming_is_invisible};
 pub use run::{Ending, Run};
 pub use scripts::{answer_all, script};
+pub use together::answer_together;

@@ -1,6 +1,7 @@
 //! Requests carried out together: many in one transaction.
 
-ghost use Rattle.std.specs.Prelude.{◌≡◌, ◌≢◌, ◌↔◌, ◌+◌, ◌<◌, ◌≤◌, ◌++◌, [], false, List, IsTrue, length, take};
+ghost use Rattle.std.specs.Prelude.{◌≡◌, ◌≢◌, ◌↔◌, ◌+◌, ◌<◌, ◌≤◌, ◌++◌, ◌∷◌, [], false, Err, IfErr, IfOk, IsTrue, List, OnErr, OnOk, length, take};
+ghost use Rattle.std.specs.Int.NonZero.{non_zero_usize_get};
 ghost use Rattle.std.specs.Vec.{vec_capacity, vec_len};
 ghost use Rattle.escrow.specs.Codes.{IsKey};
 ghost use Rattle.words.specs.Spelling.{IsInRange};
@@ -9,38 +10,75 @@ ghost use Rattle.book.specs.Good.{Good};
 ghost use Rattle.book.specs.Ledger.{Ledger};
 ghost use Rattle.book.specs.Plans.{Fits};
 ghost use Rattle.desk.specs.Desk.{StaysStored};
-ghost use Rattle.desk.specs.Together.{BatchSoFar, FailsAt, IsAsBefore, Joins};
+ghost use Rattle.desk.specs.Replies.{request_line};
+ghost use Rattle.desk.specs.Script.{AnswersAll};
+ghost use Rattle.desk.specs.Text.{items_of};
+ghost use Rattle.desk.specs.Together.{AnswersCutTogether, BatchSoFar, FailsAt, IsAsBefore, Joins};
 
 use crate::desk::Desk;
+use crate::fault::ScriptFault;
+use crate::reply::line_of_reply;
 use crate::run::{Ending, Run};
 use book::{Book, Change, Plan, Planned};
+use escrow::Key;
 use keep::Keep;
 use std::alloc::Global;
-use words::{Reply, Request};
+use std::io::Write;
+use std::num::NonZeroUsize;
+use words::{Memory, Reply, Request, write_whole};
 
-/// What is made of some requests and not kept yet: their replies, the rows that they change, and whether one of them is
-/// refused.
+/// What is made of some requests and not kept yet: their replies, the lines of these, the rows that they change, and
+/// whether one of them is refused.
 #[derive(Drop)]
 pub(crate) struct Batch {
     pub replies: Vec<Reply>,
+    pub text: Vec<u8>,
     pub changes: Vec<Change>,
     pub has_refused: bool,
 }
 
+/// What is told of a batch: its replies, how it ended, and the lines of the replies.
+#[derive(Drop)]
+pub(crate) struct Told {
+    pub run: Run,
+    pub text: Vec<u8>,
+}
+
 impl Batch {
+    /// A reply more, and its line. Where memory is refused nothing has changed.
+    fn tell(&mut self, alloc: Global, key: Key, reply: Reply) -> Result<(), Memory>
+        ensures reply { OnOk result (self.new.replies.items ≡ self.old.replies.items ++ reply ∷ []) }
+        ensures line { OnOk result (self.new.text.items ≡ self.old.text.items ++ request_line key reply) }
+        ensures none { OnErr result ((self.new.replies.items ≡ self.old.replies.items)
+            × (self.new.text.items ≡ self.old.text.items)) }
+        ensures others { (self.new.changes ≡ self.old.changes) × (self.new.has_refused ≡ self.old.has_refused) }
+    {
+        let line = line_of_reply(alloc, key, &reply)?;
+        self.text.reserve(line.len())?;
+        self.replies.reserve(1)?;
+        append(&mut self.text, line);
+        self.replies.push_reserved(reply);
+        Ok(())
+    }
+
     /// What is told of it once it is kept, by what became of the request behind it.
-    pub(crate) fn told(self, behind: Joined) -> Run
-        ensures replies { result.replies.items ≡ self.replies.items }
-        ensures memory { result.ending ≡ Ending.Memory ↔ behind ≡ Joined.Memory }
-        ensures going { result.ending ≢ Ending.Stopped }
+    pub(crate) fn told(self, behind: Joined) -> Told
+        ensures replies { result.run.replies.items ≡ self.replies.items }
+        ensures text { result.text.items ≡ self.text.items }
+        ensures memory { result.run.ending ≡ Ending.Memory ↔ behind ≡ Joined.Memory }
+        ensures going { result.run.ending ≢ Ending.Stopped }
     {
         let ending = match behind {
             Joined::In | Joined::Behind => Ending::All,
             Joined::Memory => Ending::Memory,
         };
-        Run {
+        let run = Run {
             replies: self.replies,
             ending,
+        };
+        Told {
+            run,
+            text: self.text,
         }
     }
 }
@@ -57,17 +95,21 @@ pub(crate) enum Joined {
 }
 
 /// What is told of a batch that could not be kept.
-pub(crate) fn none_told(alloc: Global) -> Run
-    ensures replies { result.replies.items ≡ [] }
-    ensures stopped { result.ending ≡ Ending.Stopped }
+pub(crate) fn none_told(alloc: Global) -> Told
+    ensures replies { result.run.replies.items ≡ [] }
+    ensures stopped { result.run.ending ≡ Ending.Stopped }
 {
-    Run {
+    let run = Run {
         replies: Vec::new(alloc),
         ending: Ending::Stopped,
+    };
+    Told {
+        run,
+        text: Vec::new(alloc),
     }
 }
 
-/// Rows or replies more, for which there is room.
+/// Rows, replies or bytes more, for which there is room.
 fn append<T: Drop>(items: &mut Vec<T>, more: Vec<T>)
     requires { vec_len items.old + vec_len more ≤ vec_capacity items.old }
     ensures items { items.new.items ≡ items.old.items ++ more.items }
@@ -82,12 +124,12 @@ fn append<T: Drop>(items: &mut Vec<T>, more: Vec<T>)
 }
 
 /// Takes an accepted request in and adopts its plan. Where memory is refused nothing has changed.
-fn take_in(batch: &mut Batch, book: &mut Book, plan: Plan) -> Joined
+fn take_in(alloc: Global, batch: &mut Batch, book: &mut Book, key: Key, plan: Plan) -> Joined
     requires fits { Fits book.old.ledger plan }
     requires good { Good book.old.ledger }
+    requires named { key ≡ plan.request.key }
     requires key { IsKey plan.request.key }
     requires command { IsInRange plan.request.command }
-    requires room { vec_len batch.old.replies < vec_capacity batch.old.replies }
     requires going { batch.old.has_refused ≡ false }
     ensures joined { result ≡ Joined.In → Joins book.old.ledger plan.request batch.old batch.new book.new.ledger }
     ensures others { result ≢ Joined.In → IsAsBefore book.old.ledger batch.old batch.new book.new.ledger }
@@ -99,9 +141,10 @@ fn take_in(batch: &mut Batch, book: &mut Book, plan: Plan) -> Joined
     let Ok(()) = book.make_room(&plan) else {
         return Joined::Memory;
     };
-    let place = plan.place();
+    let Ok(()) = batch.tell(alloc, key, Reply::Done(plan.place())) else {
+        return Joined::Memory;
+    };
     append(&mut batch.changes, book.adopt(plan));
-    batch.replies.push_reserved(Reply::Done(place));
     Joined::In
 }
 
@@ -113,20 +156,23 @@ fn join(alloc: Global, batch: &mut Batch, book: &mut Book, request: &Request) ->
     ensures behind { result ≡ Joined.Behind → IsTrue batch.old.has_refused }
 {
     request.in_range();
-    let Ok(()) = batch.replies.reserve(1) else {
-        return Joined::Memory;
-    };
     match book.plan(alloc, request) {
-        Ok(Planned::Again(place)) => batch.replies.push_reserved(Reply::Done(place)),
+        Ok(Planned::Again(place)) => {
+            let Ok(()) = batch.tell(alloc, request.key, Reply::Done(place)) else {
+                return Joined::Memory;
+            };
+        }
         Ok(Planned::Refused(refusal, line)) => {
+            let Ok(()) = batch.tell(alloc, request.key, Reply::Refused(refusal, line)) else {
+                return Joined::Memory;
+            };
             batch.has_refused = true;
-            batch.replies.push_reserved(Reply::Refused(refusal, line));
         }
         Ok(Planned::Accept(plan)) => {
             if batch.has_refused {
                 return Joined::Behind;
             }
-            return take_in(batch, book, plan);
+            return take_in(alloc, batch, book, request.key, plan);
         }
         Err(_) => return Joined::Memory,
     }
@@ -145,6 +191,7 @@ pub(crate) fn plan_batch(alloc: Global, book: &mut Book, requests: &[Request]) -
 {
     let mut batch = Batch {
         replies: Vec::new(alloc),
+        text: Vec::new(alloc),
         changes: Vec::new(alloc),
         has_refused: false,
     };
@@ -203,7 +250,7 @@ impl<K: Keep> Desk<K> {
             };
         };
         while replies.len() < requests.len() {
-            let batch = self.run_batch(alloc, &requests[replies.len()..]);
+            let batch = self.run_batch(alloc, &requests[replies.len()..]).run;
             append(&mut replies, batch.replies);
             if batch.ending != Ending::All {
                 return Run {
@@ -217,4 +264,81 @@ impl<K: Keep> Desk<K> {
             ending: Ending::All,
         }
     }
+}
+
+/// Carries a batch of the first of the requests out, and writes its lines: how many there were.
+fn answer_batch<K: Keep, W: Write>(
+    alloc: Global,
+    requests: &[Request],
+    writer: &mut W,
+    desk: &mut Desk<K>,
+) -> Result<usize, ScriptFault>
+    requires going { K.stopped desk.old.keep ≡ false }
+    requires some { 1 ≤ length requests.now }
+    ensures whole { IfOk result (λ count. AnswersAll desk.old.ledger (items_of (take count requests.now))
+        desk.new.ledger (W.contents writer.old) (W.contents writer.new)) }
+    ensures some { IfOk result (λ count. (1 ≤ count) × (count ≤ length requests.now)) }
+    ensures cut { IfErr result (λ fault. AnswersCutTogether fault (K.stopped desk.old.keep ≡ false)
+        (K.is_honest desk.new.keep) (K.leaves desk.new.keep) (length requests.now) desk.old.ledger requests.now
+        desk.new.ledger (W.contents writer.old) (W.contents writer.new)) }
+    ensures read { result ≢ Err ScriptFault.Read }
+    ensures going { result ≢ Err ScriptFault.Stopped → K.stopped desk.new.keep ≡ false }
+    ensures stopped { result ≡ Err ScriptFault.Stopped → IsTrue (K.stopped desk.new.keep) }
+    ensures stored { StaysStored K.Keep desk.new }
+    ensures honest { K.is_honest desk.new.keep → K.is_honest desk.old.keep }
+{
+    let told = desk.run_batch(alloc, requests);
+    if told.run.ending == Ending::Stopped {
+        return Err(ScriptFault::Stopped);
+    }
+    let Ok(()) = write_whole(writer, &told.text) else {
+        return Err(ScriptFault::Write);
+    };
+    if told.run.ending == Ending::Memory {
+        return Err(ScriptFault::Memory);
+    }
+    Ok(told.run.replies.len())
+}
+
+/// Answers the requests in their order, at most so many of them together, as `run_together` carries them out: the
+/// lines of a batch are written when it is kept, and before the next is begun.
+///
+/// After a fault the first of the requests are answered, and what is written is their lines, but after a failing write
+/// for a rest of those of the last batch. So want of memory leaves nothing done and not told. `Stopped` is answered only
+/// where the desk is stopped, and `Read` never. Of a desk that was not stopped before, a stop then leaves the rows behind
+/// the requests whose lines are written, or those behind a batch more, which is what the stopped desk shows; in every
+/// other case the rows of the desk's ledger alone. A desk that was stopped before answers none and changes nothing.
+pub fn answer_together<K: Keep, W: Write>(
+    alloc: Global,
+    requests: &[Request],
+    most: NonZeroUsize,
+    writer: &mut W,
+    desk: &mut Desk<K>,
+) -> Result<(), ScriptFault>
+    ensures whole { OnOk result (AnswersAll desk.old.ledger (items_of requests.now) desk.new.ledger
+        (W.contents writer.old) (W.contents writer.new)) }
+    ensures cut { IfErr result (λ fault. AnswersCutTogether fault (K.stopped desk.old.keep ≡ false)
+        (K.is_honest desk.new.keep) (K.leaves desk.new.keep) (non_zero_usize_get most) desk.old.ledger requests.now
+        desk.new.ledger (W.contents writer.old) (W.contents writer.new)) }
+    ensures read { result ≢ Err ScriptFault.Read }
+    ensures going { result ≢ Err ScriptFault.Stopped → K.stopped desk.new.keep ≡ K.stopped desk.old.keep }
+    ensures stopped { result ≡ Err ScriptFault.Stopped → IsTrue (K.stopped desk.new.keep) }
+    ensures refused { IsTrue (K.stopped desk.old.keep) → (desk.new ≡ desk.old)
+        × (1 ≤ length requests.now → result ≡ Err ScriptFault.Stopped) }
+    ensures stored { StaysStored K.Keep desk.new }
+    ensures honest { K.is_honest desk.new.keep → K.is_honest desk.old.keep }
+{
+    desk.in_order();
+    if requests.is_empty() {
+        return Ok(());
+    }
+    if desk.is_stopped() {
+        return Err(ScriptFault::Stopped);
+    }
+    let mut done = 0;
+    while done < requests.len() {
+        let end = done.saturating_add(most.get()).min(requests.len());
+        done += answer_batch(alloc, &requests[done..end], writer, desk)?;
+    }
+    Ok(())
 }

@@ -1,5 +1,5 @@
 -- What is found after a session.
-use Rattle.std.proofs.Common.{◌≡◌, ◌≢◌, ◌⊎◌, ◌∙◌, ◌≤◌, ℕ, Bool, false, true, true≢false, List, [], ◌∷◌, Option, Some, Result, Ok, Err, IfErr, OnOk, ap, arith, length, refl, subst, sym}
+use Rattle.std.proofs.Common.{◌≡◌, ◌≢◌, ◌⊎◌, ◌∙◌, ◌≤◌, ℕ, Bool, false, true, true≢false, List, [], ◌∷◌, None, Option, Some, Result, Ok, Err, IfErr, OnOk, ap, arith, length, refl, subst, sym}
 use Rattle.std.proofs.Math.Logic.{inl, inr}
 use Rattle.std.specs.Io.KnownBytes.{Keeps}
 use Rattle.std.proofs.KnownBytes.{Appends-kept, Appends-nil, Consumes-kept, Consumes-nil}
@@ -13,11 +13,13 @@ use Rattle.desk.specs.Desk.{IsStored, LeavesEither}
 use Rattle.desk.specs.Headline.{IsFoundAfterItems, IsFoundAfterLines, LeavesRowsOf}
 use Rattle.desk.proofs.Cuts.{other_error}
 use Rattle.desk.proofs.FoundAfter.{either_left, stored_left}
-use Rattle.desk.proofs.FoundLines.{cut_left, ends_cut_left, found_all, found_told, found_whole, left_as}
+use Rattle.desk.proofs.FoundLines.{cut_left, ends_cut_left, found_all, found_told, found_whole, left_as, lists_left}
 use Rattle.web.specs.Serving.{stand}
 use Rattle.web.specs.Web.{Stand}
 use Rattle.stockdesk.specs.Connections.{AreServed, IsFoundAfterService, IsServed, ServesSome, Streams}
-use Rattle.stockdesk.specs.Requests.{items_of}
+use Rattle.desk.specs.Text.{items_of}
+use Rattle.stockdesk.specs.Requests.{at_once}
+use Rattle.core.specs.declared.num.nonzero.NonZeroUsize.{NonZeroUsize}
 use Rattle.stockdesk.specs.Sessions.{IsNoDesk}
 use Rattle.stockdesk.specs.Work.{IsFoundAfterWork, WorkCut, WorkDone}
 use Rattle.stockdesk.specs.declared.session.Fault.{Fault}
@@ -59,13 +61,13 @@ module _ (H : Type 0) (L : List Content → Type 0) where
 -- ---- where nothing is done
 
 module _ (A : Ledger) (W w : Option (List ℕ)) (writes : Keeps W w) where
-  no_items : IsFoundAfterItems A [] W w A
-  no_items = found_told A W w [] A [] [] [] (Appends-kept _ _ _ _ (Appends-nil W) writes) refl (refl, refl)
+  no_items : (most : ℕ) → IsFoundAfterItems most A [] W w A
+  no_items most = found_told most A W w [] A [] [] [] (Appends-kept _ _ _ _ (Appends-nil W) writes) refl (refl, refl)
 
   pub nothing_found : (H : Type 0) (L : List Content → Type 0) (R r : Option (List ℕ)) → Keeps R r → (work : Work) → IsFoundAfterWork work H L A R r W w A
   nothing_found H L R r reads Script =
-      ([], [], Consumes-kept _ _ _ _ (Consumes-nil R) reads, record { ended = []; rest = Some []; feeds = (refl, refl); all = refl }, no_items)
-  nothing_found H L R r reads (Requests kind csv) = ([], no_items)
+      ([], [], Consumes-kept _ _ _ _ (Consumes-nil R) reads, record { ended = []; rest = Some []; feeds = (refl, refl); all = refl }, no_items 1)
+  nothing_found H L R r reads (Requests kind csv together) = ([], no_items (at_once together))
   nothing_found H L R r reads (Sheet shown) = refl
   nothing_found H L R r reads (Serve service) = (A, false, ([], omega arith, refl), inl refl)
 
@@ -81,7 +83,7 @@ module _ (H : Type 0) (holds : Content → Type 0) (leaves : List Content → Ty
 
   done_left : (work : Work) → is_stopped ≡ false → WorkDone work H leaves R r W w first last → LeavesRowsOf leaves (Found work)
   done_left Script going ends = only_last Script going (found_whole first last R r W w ends)
-  done_left (Requests kind csv) going (kept, (requests, answered)) = only_last (Requests kind csv) going (requests, found_all first W w (items_of requests) last answered)
+  done_left (Requests kind csv together) going (kept, (requests, answered)) = only_last (Requests kind csv together) going (requests, found_all (at_once together) first W w (items_of requests) last answered)
   done_left (Sheet shown) going (kept, same, sheet) = only_last (Sheet shown) going same
   done_left (Serve service) going (kept, told, (streams, size, served)) =
       service_left H leaves service.connections false holds first last good honest (streams, omega (arith, size), served) (λ e. stored going)
@@ -93,12 +95,15 @@ module _ (H : Type 0) (holds : Content → Type 0) (leaves : List Content → Ty
     work_cut_left : (work : Work) → WorkCut work fault is_stopped H leaves R r W w first last → LeavesRowsOf leaves (Found work)
     work_cut_left Script (cause, told, ends) =
         ends_cut_left first last R r W w cause (false ≡ false) H holds leaves good refl honest ends (λ other. stored (going (λ e. other (told.store.0 e))))
-    work_cut_left (Requests kind csv) (reads, inl (inl is, (same, writes))) = only_last (Requests kind csv) (going (λ e. cc)) (found_same (Requests kind csv) reads writes same)
-    work_cut_left (Requests kind csv) (reads, inl (inr (inl is), (same, writes))) = only_last (Requests kind csv) (going (λ e. cc)) (found_same (Requests kind csv) reads writes same)
-    work_cut_left (Requests kind csv) (reads, inl (inr (inr (number, is)), (same, writes))) = only_last (Requests kind csv) (going (λ e. cc)) (found_same (Requests kind csv) reads writes same)
-    work_cut_left (Requests kind csv) (reads, inr (requests, (cause, told, (written, writes, cut)))) =
-        left_as leaves (IsFoundAfterItems first (items_of requests) W w) (Found (Requests kind csv)) (λ B found. (requests, found))
+    work_cut_left (Requests kind csv together) (reads, inl (inl is, (same, writes))) = only_last (Requests kind csv together) (going (λ e. cc)) (found_same (Requests kind csv together) reads writes same)
+    work_cut_left (Requests kind csv together) (reads, inl (inr (inl is), (same, writes))) = only_last (Requests kind csv together) (going (λ e. cc)) (found_same (Requests kind csv together) reads writes same)
+    work_cut_left (Requests kind csv together) (reads, inl (inr (inr (number, is)), (same, writes))) = only_last (Requests kind csv together) (going (λ e. cc)) (found_same (Requests kind csv together) reads writes same)
+    work_cut_left (Requests kind csv None) (reads, inr (requests, (cause, told, (written, writes, cut)))) =
+        left_as leaves (IsFoundAfterItems 1 first (items_of requests) W w) (Found (Requests kind csv None)) (λ B found. (requests, found))
         (cut_left first W w (items_of requests) (false ≡ false) H leaves last cause holds written good refl honest writes cut (λ other. stored (going (λ e. other (told.store.0 e)))))
+    work_cut_left (Requests kind csv (Some most)) (reads, inr (requests, (cause, told, cut))) =
+        left_as leaves (IsFoundAfterItems (at_once (Some most)) first (items_of requests) W w) (Found (Requests kind csv (Some most))) (λ B found. (requests, found))
+        (lists_left cause (false ≡ false) H leaves holds (at_once (Some most)) first last requests W w good refl honest cut (λ other. stored (going (λ e. other (told.store.0 e)))))
     work_cut_left (Sheet shown) (reads, same, inl (is, nothing)) = only_last (Sheet shown) (going (λ e. cc)) same
     work_cut_left (Sheet shown) (reads, same, inr (is, begun)) = only_last (Sheet shown) (going (λ e. cc)) same
     work_cut_left (Serve service) (reads, inl (inl is, begun, same)) = only_last (Serve service) (going (λ e. cc)) (first, false, ([], omega arith, refl), inl same)

@@ -1,5 +1,5 @@
 -- What work on the desk of a good ledger has read and written.
-use Rattle.std.proofs.Common.{◌≡◌, ◌∙◌, [], ◌++◌, Bool, List, ℕ, Option, ap, append-nil, append_assoc, refl, subst, sym}
+use Rattle.std.proofs.Common.{◌≡◌, ◌∙◌, [], ◌++◌, Bool, List, ℕ, None, Option, Some, ap, append-nil, append_assoc, refl, subst, sym}
 use Rattle.std.proofs.Math.Logic.{inl, inr}
 use Rattle.std.specs.Io.KnownBytes.{Keeps}
 use Rattle.std.proofs.KnownBytes.{Appends-kept, Appends-nil}
@@ -9,8 +9,10 @@ use Rattle.book.specs.Rows.{Content}
 use Rattle.book.proofs.Runs.{good_new}
 use Rattle.keep.specs.declared.keep.Keep.{Ghosts}
 use Rattle.desk.specs.Script.{AlmostWritten}
-use Rattle.desk.specs.Text.{RepliesAll}
-use Rattle.desk.proofs.Texts.{replies_more}
+use Rattle.desk.specs.Text.{RepliesAll, items_of}
+use Rattle.desk.proofs.ListLines.{items_joined}
+use Rattle.desk.proofs.Texts.{replies_joined, replies_more}
+use Rattle.core.specs.declared.num.nonzero.NonZeroUsize.{NonZeroUsize}
 use Rattle.words.specs.declared.item.Item.{Item}
 use Rattle.stockdesk.specs.Connections.{PortBegun, ServiceCut}
 use Rattle.stockdesk.specs.Done.{DoesWork, DoesWorkInPart, PrintsRepliesInPart, PrintsSheetInPart}
@@ -44,16 +46,32 @@ nothing_printed A W w good writes = record {
 
 pub works_nothing : (work : Work) (R r W w : Option (List ℕ)) → Keeps R r × Keeps W w → DoesWorkInPart work R r W w
 works_nothing Script R r W w (reads, writes) = (new_ledger, good_new, nothing_read new_ledger R r W w reads writes)
-works_nothing (Requests kind csv) R r W w (reads, writes) = (reads, nothing_printed new_ledger W w good_new writes)
+works_nothing (Requests kind csv together) R r W w (reads, writes) = (reads, nothing_printed new_ledger W w good_new writes)
 works_nothing (Sheet shown) R r W w (reads, writes) = (reads, inl (Appends-kept _ _ _ _ (Appends-nil W) writes))
 works_nothing (Serve service) R r W w (reads, writes) = (reads, port_unwritten W w writes)
 
 -- ---- what is cut
 
 module _ (H : Type 0) (L : List Content → Type 0) (W w : Option (List ℕ)) (fault : Fault) (first last : Ledger) where
-  replies_in_part : Good first → FileCut fault H L W w first last → PrintsRepliesInPart W w
-  replies_in_part good (inl (unread, (same, kept))) = nothing_printed first W w good kept
-  replies_in_part good (inr (requests, (cause, told, (written, writes, cut)))) = by cut.lines
+  replies_in_part : (together : Option NonZeroUsize) → Good first → FileCut together fault H L W w first last → PrintsRepliesInPart W w
+  replies_in_part together good (inl (unread, (same, kept))) = nothing_printed first W w good kept
+  replies_in_part (Some most) good (inr (requests, (cause, told, (written, writes, cut)))) = record {
+    first = first;
+    last = last;
+    requests = requests;
+    answered = items_of cut.answered ++ items_of cut.last;
+    left = items_of cut.left;
+    written = written;
+    unwritten = cut.unwritten;
+    good = good;
+    split = ap items_of cut.split ∙ items_joined cut.answered (cut.last ++ cut.left) ∙ ap (λ (xs : List Item). items_of cut.answered ++ xs) (items_joined cut.last cut.left)
+        ∙ sym (append_assoc (items_of cut.answered) (items_of cut.last) (items_of cut.left));
+    replies = subst (λ (out : List ℕ). RepliesAll first (items_of cut.answered ++ items_of cut.last) out last)
+        (sym (append_assoc cut.lines cut.begun cut.unwritten) ∙ ap (λ (out : List ℕ). out ++ cut.unwritten) (sym cut.written_are))
+        (replies_joined (items_of cut.answered) (items_of cut.last) first cut.mid last cut.lines (cut.begun ++ cut.unwritten) cut.replies cut.rest);
+    writes = writes;
+  }
+  replies_in_part None good (inr (requests, (cause, told, (written, writes, cut)))) = by cut.lines
     where
       by : AlmostWritten first cut.answered written last → PrintsRepliesInPart W w
       by (inl all) = record {
@@ -98,9 +116,10 @@ module _ (H : Type 0) (L : List Content → Type 0) (W w : Option (List ℕ)) (f
 
   -- ---- a fault of something that was not begun
 
-  file_untouched : FileCut fault H L W w first last → IsUnbegun fault → Keeps W w
-  file_untouched (inl (unread, (same, kept))) un = kept
-  file_untouched (inr (requests, (cause, told, cut))) un = absurd (told_begun cause fault told un)
+  file_untouched : (together : Option NonZeroUsize) → FileCut together fault H L W w first last → IsUnbegun fault → Keeps W w
+  file_untouched together (inl (unread, (same, kept))) un = kept
+  file_untouched None (inr (requests, (cause, told, cut))) un = absurd (told_begun cause fault told un)
+  file_untouched (Some most) (inr (requests, (cause, told, cut))) un = absurd (told_begun cause fault told un)
 
   sheet_begun : (shown : Shown) → SheetCut shown fault first W w → IsUnbegun fault → ⊥
   sheet_begun shown (inl (is, nothing)) un = not_unbegun fault _ is refl un
@@ -118,7 +137,7 @@ module _ (H : Type 0) (L : List Content → Type 0) (W w : Option (List ℕ)) (f
 module _ {K : Type 0} (g : Ghosts K) (keep : K) (R r W w : Option (List ℕ)) where
   pub works_whole : (work : Work) (held : Content → Type 0) → WorkWhole g work keep held R r W w → DoesWork work R r W w
   works_whole Script held s = (s.first, s.last, s.good, s.ends)
-  works_whole (Requests kind csv) held s = (s.ends.0, (s.first, s.last, s.ends.1.0, s.good, s.ends.1.1))
+  works_whole (Requests kind csv together) held s = (s.ends.0, (s.first, s.last, s.ends.1.0, s.good, s.ends.1.1))
   works_whole (Sheet shown) held s = (s.ends.0, (s.first, s.good, s.ends.2))
   works_whole (Serve service) held s = (s.ends.0, s.ends.1)
 
@@ -128,13 +147,13 @@ module _ {K : Type 0} (g : Ghosts K) (keep : K) (R r W w : Option (List ℕ)) wh
 
     cut_in_part : (work : Work) → Cut work → DoesWorkInPart work R r W w
     cut_in_part Script s = (s.first, s.good, cut_begins g keep R r W w fault held s)
-    cut_in_part (Requests kind csv) s = (s.ends.0, replies_in_part (g.is_honest keep) (g.leaves keep) W w fault s.first s.last s.good s.ends.1)
+    cut_in_part (Requests kind csv together) s = (s.ends.0, replies_in_part (g.is_honest keep) (g.leaves keep) W w fault s.first s.last together s.good s.ends.1)
     cut_in_part (Sheet shown) s = (s.ends.0, sheet_in_part (g.is_honest keep) (g.leaves keep) W w fault s.first s.last shown s.good s.ends.2)
     cut_in_part (Serve service) s = (s.ends.0, port_in_part (g.is_honest keep) (g.leaves keep) W w fault s.first s.last service.connections (g.stopped keep) s.ends.1)
 
     cut_untouched : (work : Work) → Cut work → IsUnbegun fault → Keeps R r × Keeps W w
     cut_untouched Script s un = let (cause, told, ends) = s.ends in absurd (told_begun cause fault told un)
-    cut_untouched (Requests kind csv) s un = (s.ends.0, file_untouched (g.is_honest keep) (g.leaves keep) W w fault s.first s.last s.ends.1 un)
+    cut_untouched (Requests kind csv together) s un = (s.ends.0, file_untouched (g.is_honest keep) (g.leaves keep) W w fault s.first s.last together s.ends.1 un)
     cut_untouched (Sheet shown) s un = absurd (sheet_begun (g.is_honest keep) (g.leaves keep) W w fault s.first s.last shown s.ends.2 un)
     cut_untouched (Serve service) s un = absurd (service_begun (g.is_honest keep) (g.leaves keep) W w fault s.first s.last service.connections (g.stopped keep) s.ends.1 un)
 

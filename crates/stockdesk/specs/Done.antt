@@ -4,11 +4,11 @@ use Rattle.std.specs.Io.KnownBytes.{Appends, Keeps}
 use Rattle.book.specs.Good.{Good}
 use Rattle.book.specs.Ledger.{Ledger, new_ledger}
 use Rattle.clap.specs.Words.{Text, subcommand_of}
-use Rattle.desk.specs.Text.{RepliesAll}
+use Rattle.desk.specs.Text.{RepliesAll, items_of}
 use Rattle.words.specs.declared.command.Request.{Request}
 use Rattle.words.specs.declared.item.Item.{Item}
 use Rattle.stockdesk.specs.Connections.{PortBegun, PortTold}
-use Rattle.stockdesk.specs.Requests.{RequestsAnswered, items_of}
+use Rattle.stockdesk.specs.Requests.{RequestsAnswered}
 use Rattle.stockdesk.specs.Runs.{BeginsText, PlaysInPart, PlaysWhole, RunsWhole}
 use Rattle.stockdesk.specs.Sheets.{SheetBegun, SheetWritten}
 use Rattle.stockdesk.specs.Tasks.{Asks, stockdesk}
@@ -55,7 +55,7 @@ PrintsSheetInPart shown writer_old writer_new =
 abbrev pub DoesWork : Work → (reader_old reader_new writer_old writer_new : Option (List ℕ)) → Type 0
 DoesWork Work.Script reader_old reader_new writer_old writer_new =
     PlaysWhole reader_old reader_new writer_old writer_new
-DoesWork (Work.Requests kind csv) reader_old reader_new writer_old writer_new =
+DoesWork (Work.Requests kind csv together) reader_old reader_new writer_old writer_new =
     Keeps reader_old reader_new × PrintsReplies writer_old writer_new
 DoesWork (Work.Sheet shown) reader_old reader_new writer_old writer_new =
     Keeps reader_old reader_new × PrintsSheet shown writer_old writer_new
@@ -66,7 +66,7 @@ DoesWork (Work.Serve service) reader_old reader_new writer_old writer_new =
 abbrev pub DoesWorkInPart : Work → (reader_old reader_new writer_old writer_new : Option (List ℕ)) → Type 0
 DoesWorkInPart Work.Script reader_old reader_new writer_old writer_new =
     PlaysInPart reader_old reader_new writer_old writer_new
-DoesWorkInPart (Work.Requests kind csv) reader_old reader_new writer_old writer_new =
+DoesWorkInPart (Work.Requests kind csv together) reader_old reader_new writer_old writer_new =
     Keeps reader_old reader_new × PrintsRepliesInPart writer_old writer_new
 DoesWorkInPart (Work.Sheet shown) reader_old reader_new writer_old writer_new =
     Keeps reader_old reader_new × PrintsSheetInPart shown writer_old writer_new
@@ -80,7 +80,7 @@ abbrev pub ByTask : Task → (on_file in_memory : Type 0) → (Work → Type 0) 
 ByTask (Task.Init path) on_file in_memory work = on_file
 ByTask Task.Memory on_file in_memory work = in_memory
 ByTask (Task.Script path) on_file in_memory work = work Work.Script
-ByTask (Task.Requests path kind csv) on_file in_memory work = work (Work.Requests kind csv)
+ByTask (Task.Requests path kind csv together) on_file in_memory work = work (Work.Requests kind csv together)
 ByTask (Task.Sheet path shown) on_file in_memory work = work (Work.Sheet shown)
 ByTask (Task.Serve path service) on_file in_memory work = work (Work.Serve service)
 ByTask (Task.Upgrade path) on_file in_memory work = on_file

@@ -1,12 +1,14 @@
 -- What a desk does with a file of requests.
-use Rattle.std.specs.Prelude.{◌≡◌, ◌⊎◌, ◌↔◌, ℕ, List, Option, false, map}
+use Rattle.std.specs.Prelude.{◌≡◌, ◌⊎◌, ◌↔◌, ℕ, List, None, Option, Some, false}
+use Rattle.std.specs.Int.NonZero.{non_zero_usize_get}
+use Rattle.core.specs.declared.num.nonzero.NonZeroUsize.{NonZeroUsize}
 use Rattle.std.specs.Io.KnownBytes.{Keeps}
 use Rattle.book.specs.Ledger.{Ledger}
 use Rattle.book.specs.Rows.{Content}
 use Rattle.words.specs.declared.command.Request.{Request}
-use Rattle.words.specs.declared.item.Item.{Item}
-use Rattle.words.specs.declared.item.Item.TheVariants as item
 use Rattle.desk.specs.Script.{AnswersAll, AnswersCut}
+use Rattle.desk.specs.Text.{items_of}
+use Rattle.desk.specs.Together.{AnswersCutTogether}
 use Rattle.desk.specs.declared.fault.ScriptFault.{ScriptFault}
 use Rattle.files.specs.Bounds.{SayBounds, bounds_header}
 use Rattle.files.specs.Deliveries.{SayDeliveries, delivery_header}
@@ -40,29 +42,34 @@ pub record IsFileFault (cause : FileFault) (fault : Fault) : Type 0 where
 
 -- ---- answers
 
--- requests, as the items of a script
-abbrev pub items_of : List Request → List Item
-items_of requests = map (λ r. item.Request r) requests
-
 -- the requests are answered in the form of script replies
 abbrev pub RequestsAnswered : List Request → (writer_old writer_new : Option (List ℕ)) → Ledger → Ledger → Type 0
 RequestsAnswered requests writer_old writer_new first last =
     AnswersAll first (items_of requests) last writer_old writer_new
 
--- the answers to the requests are cut, by a fault that is told so
-abbrev pub RequestsCut : List Request → Fault → (is_honest : Type 0) → (List Content → Type 0)
+-- how many are carried out together, where that is asked for; else each is alone
+abbrev pub at_once : Option NonZeroUsize → ℕ
+at_once None = 1
+at_once (Some most) = non_zero_usize_get most
+
+-- the answers to the requests, one after the other or so many together, are cut, by a fault that is told so
+abbrev pub RequestsCut : Option NonZeroUsize → List Request → Fault → (is_honest : Type 0) → (List Content → Type 0)
     → (writer_old writer_new : Option (List ℕ)) → Ledger → Ledger → Type 0
-RequestsCut requests fault is_honest leaves writer_old writer_new first last =
+RequestsCut None requests fault is_honest leaves writer_old writer_new first last =
     (cause : ScriptFault) × IsToldAs cause fault × AnswersCut cause (false ≡ false) is_honest leaves first
     (items_of requests) last writer_old writer_new
+RequestsCut (Some most) requests fault is_honest leaves writer_old writer_new first last =
+    (cause : ScriptFault) × IsToldAs cause fault × AnswersCutTogether cause (false ≡ false) is_honest leaves
+    (non_zero_usize_get most) first requests last writer_old writer_new
 
 -- nothing is done, and nothing written
 abbrev pub NothingDone : (writer_old writer_new : Option (List ℕ)) → Ledger → Ledger → Type 0
 NothingDone writer_old writer_new first last = (last ≡ first) × Keeps writer_old writer_new
 
 -- the file was not read, and nothing is done; or some requests were read, and the answers to them are cut
-abbrev pub FileCut : Fault → (is_honest : Type 0) → (List Content → Type 0) → (writer_old writer_new : Option (List ℕ))
-    → Ledger → Ledger → Type 0
-FileCut fault is_honest leaves writer_old writer_new first last =
+abbrev pub FileCut : Option NonZeroUsize → Fault → (is_honest : Type 0) → (List Content → Type 0)
+    → (writer_old writer_new : Option (List ℕ)) → Ledger → Ledger → Type 0
+FileCut together fault is_honest leaves writer_old writer_new first last =
     (((fault ≡ Fault.Memory) ⊎ IsBadFile fault) × NothingDone writer_old writer_new first last)
-    ⊎ ((requests : List Request) × RequestsCut requests fault is_honest leaves writer_old writer_new first last)
+    ⊎ ((requests : List Request)
+    × RequestsCut together requests fault is_honest leaves writer_old writer_new first last)

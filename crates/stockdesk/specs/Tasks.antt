@@ -1,5 +1,7 @@
 -- The words that the program takes, and the task that they ask for, as `clap` sees them.
-use Rattle.std.specs.Prelude.{◌≡◌, ◌<◌, ◌≤◌, ◌∷◌, ◌^◌, [], List, None, Option, Some, true, codes, decimal}
+use Rattle.std.specs.Prelude.{◌≡◌, ◌<◌, ◌≤◌, ◌∷◌, ◌^◌, [], Bool, List, None, Option, Some, false, true, codes, decimal}
+use Rattle.std.specs.Int.NonZero.{non_zero_usize_get}
+use Rattle.core.specs.declared.num.nonzero.NonZeroUsize.{NonZeroUsize}
 use Rattle.clap.specs.Words.{App, Row, Rule, Text, first_of, new_app, new_rule, with_rule, with_subcommand}
 use Rattle.clap.specs.declared.builder.action.ArgAction.TheVariants.{Set}
 use Rattle.stockdesk.specs.declared.loopback.Service.{Service}
@@ -17,9 +19,9 @@ word name = record (new_rule name) { action = Some Set }
 abbrev pub needed : Text → Rule
 needed name = record (word name) { required = true }
 
--- an option of that name, with a word, that is always there
-abbrev pub option : Text → Rule
-option name = record (needed name) { long = Some name; value_names = 1 }
+-- an option of that name, with a word; it is always there, or may be left out
+abbrev pub option : Bool → Text → Rule
+option required name = record (word name) { long = Some name; value_names = 1; required = required }
 
 -- a command with a file
 abbrev pub on_path : Text → App
@@ -37,17 +39,21 @@ run = with_rule (new_app (codes "run")) (word (codes "FILE"))
 abbrev pub on_file : Text → Text → App
 on_file name second = with_rule (on_path name) (needed second)
 
--- `orders FILE CSV`
+-- a command with a file of requests, `FILE CSV [--together N]`
+abbrev pub on_requests : Text → App
+on_requests name = with_rule (on_file name (codes "CSV")) (option false (codes "together"))
+
+-- `orders FILE CSV [--together N]`
 abbrev pub orders : App
-orders = on_file (codes "orders") (codes "CSV")
+orders = on_requests (codes "orders")
 
--- `deliveries FILE CSV`
+-- `deliveries FILE CSV [--together N]`
 abbrev pub deliveries : App
-deliveries = on_file (codes "deliveries") (codes "CSV")
+deliveries = on_requests (codes "deliveries")
 
--- `bounds FILE CSV`
+-- `bounds FILE CSV [--together N]`
 abbrev pub bounds : App
-bounds = on_file (codes "bounds") (codes "CSV")
+bounds = on_requests (codes "bounds")
 
 -- `sheet FILE BRANCH`
 abbrev pub sheet : App
@@ -59,7 +65,7 @@ article = on_file (codes "article") (codes "ARTICLE")
 
 -- `serve FILE --port N --connections N`
 abbrev pub serve : App
-serve = with_rule (with_rule (on_path (codes "serve")) (option (codes "port"))) (option (codes "connections"))
+serve = with_rule (with_rule (on_path (codes "serve")) (option true (codes "port"))) (option true (codes "connections"))
 
 -- `upgrade FILE`
 abbrev pub upgrade : App
@@ -94,13 +100,20 @@ command_of Orders = codes "orders"
 command_of Deliveries = codes "deliveries"
 command_of Bounds = codes "bounds"
 
+-- the word says how many are carried out together, at most a thousand; without it each is alone
+abbrev pub AsksTogether : Option Text → Option NonZeroUsize → Type 0
+AsksTogether None together = together ≡ None
+AsksTogether (Some word) together = (most : NonZeroUsize) × (together ≡ Some most)
+    × (word ≡ decimal (non_zero_usize_get most)) × (non_zero_usize_get most ≤ 1000)
+
 -- the first word behind the program's name, and what was found behind it, ask for this task
 abbrev pub AsksFor : Text → List Row → Task → Type 0
 AsksFor name rows (Init path) = (name ≡ codes "init") × (first_of (codes "FILE") rows ≡ Some path.now)
 AsksFor name rows Memory = (name ≡ codes "run") × (first_of (codes "FILE") rows ≡ None)
 AsksFor name rows (Script path) = (name ≡ codes "run") × (first_of (codes "FILE") rows ≡ Some path.now)
-AsksFor name rows (Requests path kind csv) = (name ≡ command_of kind) × (first_of (codes "FILE") rows ≡ Some path.now)
-    × (first_of (codes "CSV") rows ≡ Some csv.now)
+AsksFor name rows (Requests path kind csv together) = (name ≡ command_of kind)
+    × (first_of (codes "FILE") rows ≡ Some path.now) × (first_of (codes "CSV") rows ≡ Some csv.now)
+    × AsksTogether (first_of (codes "together") rows) together
 AsksFor name rows (Sheet path (OfBranch branch)) = (name ≡ codes "sheet")
     × (first_of (codes "FILE") rows ≡ Some path.now) × (first_of (codes "BRANCH") rows ≡ Some branch)
 AsksFor name rows (Sheet path (OfArticle article)) = (name ≡ codes "article")

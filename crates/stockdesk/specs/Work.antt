@@ -8,7 +8,8 @@ use Rattle.desk.specs.Headline.{IsFoundAfterItems, IsFoundAfterLines, LeavesRows
 use Rattle.desk.specs.Script.{EndsWhole}
 use Rattle.words.specs.declared.command.Request.{Request}
 use Rattle.stockdesk.specs.Connections.{IsFoundAfterService, PortTold, ServesAll, ServiceCut}
-use Rattle.stockdesk.specs.Requests.{FileCut, RequestsAnswered, items_of}
+use Rattle.desk.specs.Text.{items_of}
+use Rattle.stockdesk.specs.Requests.{FileCut, RequestsAnswered, at_once}
 use Rattle.stockdesk.specs.Sessions.{IsNoDesk, ScriptCut, SessionInPart, SessionWhole}
 use Rattle.stockdesk.specs.Sheets.{SheetCut, SheetWritten}
 use Rattle.stockdesk.specs.declared.session.Fault.{Fault}
@@ -24,7 +25,7 @@ abbrev pub WorkDone : Work → (is_honest : Type 0) → (leaves : List Content �
     → (reader_old reader_new writer_old writer_new : Option (List ℕ)) → Ledger → Ledger → Type 0
 WorkDone Script is_honest leaves reader_old reader_new writer_old writer_new first last =
     EndsWhole first last reader_old reader_new writer_old writer_new
-WorkDone (Requests kind csv) is_honest leaves reader_old reader_new writer_old writer_new first last =
+WorkDone (Requests kind csv together) is_honest leaves reader_old reader_new writer_old writer_new first last =
     Keeps reader_old reader_new
     × ((requests : List Request) × RequestsAnswered requests writer_old writer_new first last)
 WorkDone (Sheet shown) is_honest leaves reader_old reader_new writer_old writer_new first last =
@@ -38,8 +39,8 @@ abbrev pub WorkCut : Work → Fault → (is_stopped : Bool) → (is_honest : Typ
     → (reader_old reader_new writer_old writer_new : Option (List ℕ)) → Ledger → Ledger → Type 0
 WorkCut Script fault is_stopped is_honest leaves reader_old reader_new writer_old writer_new first last =
     ScriptCut fault is_honest leaves reader_old reader_new writer_old writer_new first last
-WorkCut (Requests kind csv) fault is_stopped is_honest leaves reader_old reader_new writer_old writer_new first last =
-    Keeps reader_old reader_new × FileCut fault is_honest leaves writer_old writer_new first last
+WorkCut (Requests kind csv together) fault is_stopped is_honest leaves reader_old reader_new writer_old writer_new first last =
+    Keeps reader_old reader_new × FileCut together fault is_honest leaves writer_old writer_new first last
 WorkCut (Sheet shown) fault is_stopped is_honest leaves reader_old reader_new writer_old writer_new first last =
     Keeps reader_old reader_new × (last ≡ first) × SheetCut shown fault first writer_old writer_new
 WorkCut (Serve service) fault is_stopped is_honest leaves reader_old reader_new writer_old writer_new first last =
@@ -64,13 +65,13 @@ WorkInPart g work fault keep held tables IsLeftSo reader_old reader_new writer_o
 -- ---- what is found after a session
 
 -- B is the ledger after a prefix of what the work did from A, which holds all that was told of it whole, and at most one
--- accepted request more
+-- accepted request more, or so many as are carried out together
 abbrev pub IsFoundAfterWork : Work → (is_honest : Type 0) → (leaves : List Content → Type 0) → Ledger
     → (reader_old reader_new writer_old writer_new : Option (List ℕ)) → Ledger → Type 0
 IsFoundAfterWork Script is_honest leaves A reader_old reader_new writer_old writer_new B =
     IsFoundAfterLines A reader_old reader_new writer_old writer_new B
-IsFoundAfterWork (Requests kind csv) is_honest leaves A reader_old reader_new writer_old writer_new B =
-    (requests : List Request) × IsFoundAfterItems A (items_of requests) writer_old writer_new B
+IsFoundAfterWork (Requests kind csv together) is_honest leaves A reader_old reader_new writer_old writer_new B =
+    (requests : List Request) × IsFoundAfterItems (at_once together) A (items_of requests) writer_old writer_new B
 IsFoundAfterWork (Sheet shown) is_honest leaves A reader_old reader_new writer_old writer_new B = B ≡ A
 IsFoundAfterWork (Serve service) is_honest leaves A reader_old reader_new writer_old writer_new B =
     IsFoundAfterService service.connections is_honest leaves A B

@@ -68,8 +68,9 @@ pub fn perform<R: Read, W: Write>(
         Task::Init(path) => init_file(rt, *path),
         Task::Memory => memory::run(rt, reader, writer),
         Task::Script(path) => work_in(rt, *path, &Work::Script, reader, writer),
-        Task::Requests(path, kind, csv) => {
-            work_in(rt, *path, &Work::Requests(*kind, *csv), reader, writer)
+        Task::Requests(path, kind, csv, together) => {
+            let work = Work::Requests(*kind, *csv, *together);
+            work_in(rt, *path, &work, reader, writer)
         }
         Task::Sheet(path, shown) => work_in(rt, *path, &Work::Sheet(*shown), reader, writer),
         Task::Serve(path, service) => work_in(rt, *path, &Work::Serve(*service), reader, writer),

@@ -1,19 +1,21 @@
 //! A file of requests, answered by a desk.
 
-ghost use Rattle.std.specs.Prelude.{◌≡◌, ◌≢◌, ◌⊎◌, false, Err, IfErr, IfOk, IfSome, IsTrue, List, OnOk};
+ghost use Rattle.std.specs.Prelude.{◌≡◌, ◌≢◌, ◌⊎◌, false, Err, IfErr, IfOk, IfSome, IsTrue, List, None, OnOk, Some};
 ghost use Rattle.desk.specs.Desk.{StaysStored};
-ghost use Rattle.stockdesk.specs.Requests.{FileCut, IsFileFault, IsFileOf, NamesFirstOf, RequestsAnswered, RequestsCut, items_of};
+ghost use Rattle.desk.specs.Text.{items_of};
+ghost use Rattle.stockdesk.specs.Requests.{FileCut, IsFileFault, IsFileOf, NamesFirstOf, RequestsAnswered, RequestsCut};
 ghost use Rattle.stockdesk.specs.Sessions.{IsBadFile, IsNoDesk, IsUnbegun};
 ghost use Rattle.words.specs.declared.command.Request.{Request};
 ghost use Rattle.files.specs.declared.fault.FileFault.{FileFault};
 
 use crate::session::{Fault, script_fault};
-use desk::{Desk, answer_all};
+use desk::{Desk, answer_all, answer_together};
 use files::{FileFault, read_bounds, read_deliveries, read_orders};
 use keep::Keep;
 use std::alloc::Global;
 use std::fs::File;
 use std::io::{ErrorKind, Read, Write};
+use std::num::NonZeroUsize;
 use words::{Item, Request};
 
 /// What a file of requests holds.
@@ -58,18 +60,11 @@ fn open_fault(kind: ErrorKind) -> Fault
     }
 }
 
-/// The requests of a file, as the items of a script.
-fn read_items<R: Read + Drop>(alloc: Global, kind: Kind, reader: R) -> Result<Vec<Item>, Fault>
-    ensures ok { IfOk result (λ items. (requests : List Request) × (items.items ≡ items_of requests)
-        × IfSome (R.remaining reader) (λ bytes. IsFileOf kind bytes requests)) }
-    ensures bad { IfErr result (λ fault. ((cause : FileFault) × IsFileFault cause fault
-        × IfSome (R.remaining reader) (λ bytes. NamesFirstOf kind bytes cause)) ⊎ (fault ≡ Fault.Memory)) }
-    ensures file { IfErr result (λ fault. (fault ≡ Fault.Memory) ⊎ IsBadFile fault) }
+/// The requests, as the items of a script.
+fn items_in(alloc: Global, requests: Vec<Request>) -> Result<Vec<Item>, Fault>
+    ensures ok { IfOk result (λ items. items.items ≡ items_of requests.items) }
+    ensures memory { IfErr result (λ fault. fault ≡ Fault.Memory) }
 {
-    let requests = match read(alloc, kind, reader) {
-        Ok(requests) => requests,
-        Err(fault) => return Err(file_fault(fault)),
-    };
     let items = requests.into_iter().map(|request| Item::Request(request));
     match items.collect(alloc) {
         Ok(items) => Ok(items),
@@ -77,7 +72,7 @@ fn read_items<R: Read + Drop>(alloc: Global, kind: Kind, reader: R) -> Result<Ve
     }
 }
 
-/// Answers items on a desk.
+/// Answers items on a desk, one after the other.
 fn answer_items<K: Keep, W: Write>(
     alloc: Global,
     desk: &mut Desk<K>,
@@ -89,7 +84,7 @@ fn answer_items<K: Keep, W: Write>(
         (W.contents writer.new) desk.old.ledger desk.new.ledger) }
     ensures cut { K.stopped desk.old.keep ≡ false → (requests : List Request) → items.now ≡ items_of requests
         → IfErr result (λ fault.
-        RequestsCut requests fault (K.is_honest desk.new.keep) (K.leaves desk.new.keep)
+        RequestsCut None requests fault (K.is_honest desk.new.keep) (K.leaves desk.new.keep)
         (W.contents writer.old) (W.contents writer.new) desk.old.ledger desk.new.ledger) }
     ensures begun { IfErr result (λ fault. ¬ IsUnbegun fault) }
     ensures going { result ≢ Err Fault.Store → K.stopped desk.new.keep ≡ K.stopped desk.old.keep }
@@ -103,13 +98,70 @@ fn answer_items<K: Keep, W: Write>(
     }
 }
 
-/// Answers the requests of a file on a desk. The whole file is read before the first of them is called; each reply line
-/// is written before the next is.
+/// Answers requests on a desk, so many together.
+fn answer_lists<K: Keep, W: Write>(
+    alloc: Global,
+    desk: &mut Desk<K>,
+    requests: &[Request],
+    most: NonZeroUsize,
+    writer: &mut W,
+) -> Result<(), Fault>
+    ensures whole { OnOk result (RequestsAnswered requests.now (W.contents writer.old) (W.contents writer.new)
+        desk.old.ledger desk.new.ledger) }
+    ensures cut { K.stopped desk.old.keep ≡ false → IfErr result (λ fault. RequestsCut (Some most) requests.now fault
+        (K.is_honest desk.new.keep) (K.leaves desk.new.keep) (W.contents writer.old) (W.contents writer.new)
+        desk.old.ledger desk.new.ledger) }
+    ensures begun { IfErr result (λ fault. ¬ IsUnbegun fault) }
+    ensures going { result ≢ Err Fault.Store → K.stopped desk.new.keep ≡ K.stopped desk.old.keep }
+    ensures stopped { result ≡ Err Fault.Store → IsTrue (K.stopped desk.new.keep) }
+    ensures stored { StaysStored K.Keep desk.new }
+    ensures honest { K.is_honest desk.new.keep → K.is_honest desk.old.keep }
+{
+    match answer_together(alloc, requests, most, writer, desk) {
+        Ok(()) => Ok(()),
+        Err(fault) => Err(script_fault(fault)),
+    }
+}
+
+/// Answers requests on a desk, one after the other or so many together.
+fn answer_requests<K: Keep, W: Write>(
+    alloc: Global,
+    desk: &mut Desk<K>,
+    requests: Vec<Request>,
+    together: Option<NonZeroUsize>,
+    writer: &mut W,
+) -> Result<(), Fault>
+    ensures whole { OnOk result (RequestsAnswered requests.items (W.contents writer.old) (W.contents writer.new)
+        desk.old.ledger desk.new.ledger) }
+    ensures cut { K.stopped desk.old.keep ≡ false → IfErr result (λ fault. FileCut together fault
+        (K.is_honest desk.new.keep) (K.leaves desk.new.keep) (W.contents writer.old) (W.contents writer.new)
+        desk.old.ledger desk.new.ledger) }
+    ensures begun { IfErr result (λ fault. ¬ IsUnbegun fault) }
+    ensures going { result ≢ Err Fault.Store → K.stopped desk.new.keep ≡ K.stopped desk.old.keep }
+    ensures stopped { result ≡ Err Fault.Store → IsTrue (K.stopped desk.new.keep) }
+    ensures stored { StaysStored K.Keep desk.new }
+    ensures honest { K.is_honest desk.new.keep → K.is_honest desk.old.keep }
+{
+    desk.is_stopped();
+    match together {
+        Some(most) => answer_lists(alloc, desk, &requests, most, writer),
+        None => {
+            let items = match items_in(alloc, requests) {
+                Ok(items) => items,
+                Err(fault) => return Err(fault),
+            };
+            answer_items(alloc, desk, &items, writer)
+        }
+    }
+}
+
+/// Answers the requests of a file on a desk. The whole file is read before the first of them is called.
 fn answer_from<K: Keep, R: Read + Drop, W: Write>(
     alloc: Global,
     desk: &mut Desk<K>,
     kind: Kind,
     reader: R,
+    together: Option<NonZeroUsize>,
     writer: &mut W,
 ) -> Result<(), Fault>
     ensures whole { OnOk result ((requests : List Request) × IfSome (R.remaining reader)
@@ -117,8 +169,9 @@ fn answer_from<K: Keep, R: Read + Drop, W: Write>(
         (W.contents writer.new) desk.old.ledger desk.new.ledger) }
     ensures unread { IfErr result (λ fault. IsBadFile fault → IfSome (R.remaining reader)
         (λ bytes. (cause : FileFault) × IsFileFault cause fault × NamesFirstOf kind bytes cause)) }
-    ensures cut { K.stopped desk.old.keep ≡ false → IfErr result (λ fault. FileCut fault (K.is_honest desk.new.keep)
-        (K.leaves desk.new.keep) (W.contents writer.old) (W.contents writer.new) desk.old.ledger desk.new.ledger) }
+    ensures cut { K.stopped desk.old.keep ≡ false → IfErr result (λ fault. FileCut together fault
+        (K.is_honest desk.new.keep) (K.leaves desk.new.keep) (W.contents writer.old) (W.contents writer.new)
+        desk.old.ledger desk.new.ledger) }
     ensures desk { IfErr result (λ fault. ¬ IsNoDesk fault) }
     ensures going { result ≢ Err Fault.Store → K.stopped desk.new.keep ≡ K.stopped desk.old.keep }
     ensures stopped { result ≡ Err Fault.Store → IsTrue (K.stopped desk.new.keep) }
@@ -126,27 +179,29 @@ fn answer_from<K: Keep, R: Read + Drop, W: Write>(
     ensures honest { K.is_honest desk.new.keep → K.is_honest desk.old.keep }
 {
     desk.is_stopped();
-    let items = match read_items(alloc, kind, reader) {
-        Ok(items) => items,
-        Err(fault) => return Err(fault),
+    let requests = match read(alloc, kind, reader) {
+        Ok(requests) => requests,
+        Err(fault) => return Err(file_fault(fault)),
     };
-    answer_items(alloc, desk, &items, writer)
+    answer_requests(alloc, desk, requests, together, writer)
 }
 
-/// Reads the file of requests at the path, and then answers its requests on a desk in their order, each reply line
-/// written before the next request is called. A file that cannot be read is `Csv`, a record at fault `BadRecord`; then
+/// Reads the file of requests at the path, and then answers its requests on a desk in their order: each reply line is
+/// written before the next request is called, or, with `together`, those of so many when these are kept. A file that cannot be read is `Csv`, a record at fault `BadRecord`; then
 /// nothing is done, and nothing written.
 pub fn answer_file<K: Keep, W: Write>(
     rt: &HostRuntime,
     desk: &mut Desk<K>,
     kind: Kind,
     path: &str,
+    together: Option<NonZeroUsize>,
     writer: &mut W,
 ) -> Result<(), Fault>
     ensures whole { OnOk result ((requests : List Request) × RequestsAnswered requests (W.contents writer.old)
         (W.contents writer.new) desk.old.ledger desk.new.ledger) }
-    ensures cut { K.stopped desk.old.keep ≡ false → IfErr result (λ fault. FileCut fault (K.is_honest desk.new.keep)
-        (K.leaves desk.new.keep) (W.contents writer.old) (W.contents writer.new) desk.old.ledger desk.new.ledger) }
+    ensures cut { K.stopped desk.old.keep ≡ false → IfErr result (λ fault. FileCut together fault
+        (K.is_honest desk.new.keep) (K.leaves desk.new.keep) (W.contents writer.old) (W.contents writer.new)
+        desk.old.ledger desk.new.ledger) }
     ensures desk { IfErr result (λ fault. ¬ IsNoDesk fault) }
     ensures going { result ≢ Err Fault.Store → K.stopped desk.new.keep ≡ K.stopped desk.old.keep }
     ensures stopped { result ≡ Err Fault.Store → IsTrue (K.stopped desk.new.keep) }
@@ -155,7 +210,7 @@ pub fn answer_file<K: Keep, W: Write>(
 {
     desk.is_stopped();
     match File::open(rt, path) {
-        Ok(reader) => answer_from(rt.alloc(), desk, kind, reader, writer),
+        Ok(reader) => answer_from(rt.alloc(), desk, kind, reader, together, writer),
         Err(error) => Err(open_fault(error.kind())),
     }
 }

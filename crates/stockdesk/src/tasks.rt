@@ -1,9 +1,10 @@
 //! What the words behind the program's name ask for.
 
 ghost use Rattle.std.specs.Prelude.{◌≡◌, ◌≤◌, Some, None, codes, [], false, true, decimal, map, option_map, IfErr, IfOk, IfSome};
+ghost use Rattle.std.specs.Int.NonZero.{non_zero_usize_get};
 ghost use Rattle.clap.specs.Words.{App, app_of, first_of, found_of, kind_of, rows_of, subcommand_of, subcommand_rows_of, takes, with_rule, with_subcommand};
 ghost use Rattle.clap.specs.declared.builder.command.Command.TheViews.{out-Command as fields_of};
-ghost use Rattle.stockdesk.specs.Tasks.{Asks, AsksFor, IsPlainRun, IsService, article, bounds, command_of, deliveries, on_file, on_path, option, orders, run, scripts, serve, sheet, stockdesk, upgrade, with_both};
+ghost use Rattle.stockdesk.specs.Tasks.{Asks, AsksFor, AsksTogether, IsPlainRun, IsService, article, bounds, command_of, deliveries, on_file, on_path, on_requests, option, orders, run, scripts, serve, sheet, stockdesk, upgrade, with_both};
 
 use crate::loopback::Service;
 use crate::requests::Kind;
@@ -12,10 +13,14 @@ use clap::error::ErrorKind;
 use clap::{Arg, ArgAction, ArgMatches, Command, Error};
 use escrow::{Article, Branch};
 use std::alloc::{AllocError, Global};
+use std::num::NonZeroUsize;
 use words::read_number;
 
 /// The most connections that are served.
 const MAX_CONNECTIONS: u32 = 1_000_000;
+
+/// The most requests that are carried out together.
+const MAX_TOGETHER: usize = 1_000;
 
 /// What is asked for.
 #[derive(Clone, Copy)]
@@ -26,8 +31,8 @@ pub enum Task<'a> {
     Memory,
     /// A script on the desk in this file.
     Script(&'a str),
-    /// On the desk in the first file, the requests of that kind in the second.
-    Requests(&'a str, Kind, &'a str),
+    /// On the desk in the first file, the requests of that kind in the second, so many together if that is asked for.
+    Requests(&'a str, Kind, &'a str, Option<NonZeroUsize>),
     /// A sheet of the desk in this file.
     Sheet(&'a str, Shown),
     /// The desk in this file, served.
@@ -110,6 +115,42 @@ fn with_scripts<'a>(alloc: Global) -> Result<Command<'a>, AllocError>
     with(program, run_command(alloc))
 }
 
+/// Adds an option with a number, which is always there or may be left out.
+fn with_option<'a>(
+    alloc: Global,
+    command: Command<'a>,
+    name: &'a str,
+    required: bool,
+    help: &'a str,
+) -> Result<Command<'a>, AllocError>
+    ensures app { IfOk result (λ more. app_of more ≡ with_rule (app_of command.entry) (option required name.entry.now)) }
+    ensures local { (fields_of command.entry).has_globals ≡ false
+        → IfOk result (λ more. (fields_of more).has_globals ≡ false) }
+{
+    let number = Arg::new(alloc, name)
+        .long(name)
+        .value_name("N")
+        .help(help)
+        .required(required)
+        .action(ArgAction::Set);
+    command.arg(number)
+}
+
+/// A command with a file of requests, with an option of how many are carried out together.
+fn requests_command<'a>(
+    alloc: Global,
+    name: &'a str,
+    about: &'a str,
+    help: &'a str,
+) -> Result<Command<'a>, AllocError>
+    ensures app { IfOk result (λ command. app_of command ≡ on_requests name.entry.now) }
+    ensures local { IfOk result (λ command. (fields_of command).has_globals ≡ false) }
+{
+    let command = file_command(alloc, name, about, "CSV", help)?;
+    let help = "How many requests are kept together, 1 to 1000: their lines are written when all of them are kept";
+    with_option(alloc, command, "together", false, help)
+}
+
 /// Adds the commands that read files of requests.
 fn with_files<'a>(alloc: Global, command: Command<'a>) -> Result<Command<'a>, AllocError>
     ensures { IfOk result (λ all. app_of all
@@ -118,16 +159,13 @@ fn with_files<'a>(alloc: Global, command: Command<'a>) -> Result<Command<'a>, Al
     let about =
         "Answers the orders of a file, neighbouring lines of one key as one order, each by a line on standard output";
     let help = "A CSV file: key,order,until,way,branch,article,qty";
-    let command = with(command, file_command(alloc, "orders", about, "CSV", help))?;
+    let command = with(command, requests_command(alloc, "orders", about, help))?;
     let about = "Answers the deliveries of a file, each by a line on standard output";
     let help = "A CSV file: key,branch,article,qty";
-    let command = with(
-        command,
-        file_command(alloc, "deliveries", about, "CSV", help),
-    )?;
+    let command = with(command, requests_command(alloc, "deliveries", about, help))?;
     let about = "Gives fields the bounds of a file, each answered by a line on standard output";
     let help = "A CSV file: key,branch,article,lo,hi";
-    with(command, file_command(alloc, "bounds", about, "CSV", help))
+    with(command, requests_command(alloc, "bounds", about, help))
 }
 
 /// Adds the commands that write sheets.
@@ -145,26 +183,6 @@ fn with_sheets<'a>(alloc: Global, command: Command<'a>) -> Result<Command<'a>, A
     )
 }
 
-/// Adds an option that is always there, with a number.
-fn with_option<'a>(
-    alloc: Global,
-    command: Command<'a>,
-    name: &'a str,
-    help: &'a str,
-) -> Result<Command<'a>, AllocError>
-    ensures app { IfOk result (λ more. app_of more ≡ with_rule (app_of command.entry) (option name.entry.now)) }
-    ensures local { (fields_of command.entry).has_globals ≡ false
-        → IfOk result (λ more. (fields_of more).has_globals ≡ false) }
-{
-    let number = Arg::new(alloc, name)
-        .long(name)
-        .value_name("N")
-        .help(help)
-        .required(true)
-        .action(ArgAction::Set);
-    command.arg(number)
-}
-
 /// `serve`, with its file and its two options.
 fn serve_command<'a>(alloc: Global) -> Result<Command<'a>, AllocError>
     ensures app { IfOk result (λ command. app_of command ≡ serve) }
@@ -173,9 +191,9 @@ fn serve_command<'a>(alloc: Global) -> Result<Command<'a>, AllocError>
     let about = "Answers HTTP on 127.0.0.1, one connection after the other";
     let command = path_command(alloc, "serve", about, "The file of a desk")?;
     let help = "The port on 127.0.0.1, 0 to 65535; 0 is any that is free";
-    let command = with_option(alloc, command, "port", help)?;
+    let command = with_option(alloc, command, "port", true, help)?;
     let help = "How many connections are served before it ends, 1 to 1000000";
-    with_option(alloc, command, "connections", help)
+    with_option(alloc, command, "connections", true, help)
 }
 
 /// Adds the commands that serve connections and upgrade a desk.
@@ -263,6 +281,31 @@ fn kind_named(name: &str) -> Option<Kind>
     }
 }
 
+/// How many requests a word says are carried out together.
+fn count_named(word: &str) -> Option<NonZeroUsize>
+    ensures { IfSome result (λ most. (word.now ≡ decimal (non_zero_usize_get most))
+        × (non_zero_usize_get most ≤ 1000)) }
+{
+    let number = read_number(word.as_bytes())?;
+    let count = usize::try_from(number).ok()?;
+    if count <= MAX_TOGETHER {
+        NonZeroUsize::new(count)
+    } else {
+        None
+    }
+}
+
+/// How many requests are to be carried out together, if that is asked for; none where the word behind it is no such
+/// number.
+fn together_asked(word: Option<&str>) -> Option<Option<NonZeroUsize>>
+    ensures { IfSome result (AsksTogether (option_map (λ s. s.now) word)) }
+{
+    match word {
+        Some(word) => Some(Some(count_named(word)?)),
+        None => Some(None),
+    }
+}
+
 /// The task that a command on the desk in a file asks for; none where a word behind it is no code or number.
 fn task_on<'a>(name: &str, path: &'a str, found: &ArgMatches<'a>) -> Option<Task<'a>>
     ensures { IfSome result (λ task. first_of (codes "FILE") (rows_of (found_of found.now)) ≡ Some path.entry.now
@@ -281,7 +324,9 @@ fn task_on<'a>(name: &str, path: &'a str, found: &ArgMatches<'a>) -> Option<Task
         "upgrade" => Some(Task::Upgrade(path)),
         _ => {
             let kind = kind_named(name)?;
-            Some(Task::Requests(path, kind, word(found, "CSV")?))
+            let csv = word(found, "CSV")?;
+            let together = together_asked(word(found, "together"))?;
+            Some(Task::Requests(path, kind, csv, together))
         }
     }
 }

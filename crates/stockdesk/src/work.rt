@@ -15,14 +15,15 @@ use crate::sheet::{Shown, show_book};
 use desk::Desk;
 use keep::Keep;
 use std::io::{Read, Write};
+use std::num::NonZeroUsize;
 
 /// What is done on a desk.
 #[derive(Clone, Copy)]
 pub enum Work<'a> {
     /// A script is played, from the reader to the writer.
     Script,
-    /// The requests of the file at this path are answered.
-    Requests(Kind, &'a str),
+    /// The requests of the file at this path are answered, one after the other or so many together.
+    Requests(Kind, &'a str, Option<NonZeroUsize>),
     /// A sheet of it is written.
     Sheet(Shown),
     /// It is served.
@@ -52,7 +53,9 @@ fn work_on<K: Keep, R: Read, W: Write>(
 {
     match work {
         Work::Script => play(rt.alloc(), desk, reader, writer),
-        Work::Requests(kind, path) => answer_file(rt, desk, *kind, *path, writer),
+        Work::Requests(kind, path, together) => {
+            answer_file(rt, desk, *kind, *path, *together, writer)
+        }
         Work::Sheet(shown) => {
             desk.is_stopped();
             show_book(rt.alloc(), desk.book(), shown, writer)
@@ -65,7 +68,7 @@ fn work_on<K: Keep, R: Read, W: Write>(
 ///
 /// With Ok the work is done, from the desk's ledger on; a stop leaves the rows of the ledger behind it. After a fault a
 /// beginning of what was to be written is, and a stop leaves the rows of the ledger behind the answers, or, where the
-/// store failed, those or the rows after one request more. Where no desk was opened nothing is read or written, the
+/// store failed, those or the rows after one request more, or after so many as are carried out together. Where no desk was opened nothing is read or written, the
 /// keeper holds what it held, and nothing is added to what a stop may leave. A keeper that was stopped comes back as it
 /// was.
 pub fn session<K: Keep, R: Read, W: Write>(

@@ -10,11 +10,11 @@ pub returns-in-Ok-Again-clause-joined : goal.returns-in-Ok-Again-clause-joined
 returns-in-Ok-Again-clause-joined c is =
     let told : Plans c.args.book.now.ledger c.args.request.now (planned.Again c.in-Ok-Again.place) = subst (Plans c.args.book.now.ledger c.args.request.now) c.in-Ok-Again.field-0-is c.in-Ok-Again.ensures.planned in
     joined_told c.args.book.now.ledger c.args.request.now (Done c.in-Ok-Again.place) _ _ c.requires told.1
-    (c.push_reserved.ensures.items ∙ ap (λ (ps : List Reply). ps ++ Done c.in-Ok-Again.place ∷ []) c.reserve.ensures.items) refl (λ going. ((c.in-Ok-Again.place, refl), going))
+    c.tell.ensures.reply c.tell.ensures.line (ap (λ changes. changes.items) c.tell.ensures.others.0) (λ going. ((c.in-Ok-Again.place, refl), going))
 
 pub returns-in-Ok-Refused-clause-joined : goal.returns-in-Ok-Refused-clause-joined
 returns-in-Ok-Refused-clause-joined c is =
     let told : Plans c.args.book.now.ledger c.args.request.now (planned.Refused c.in-Ok-Refused.refusal c.in-Ok-Refused.line) =
     subst (Plans c.args.book.now.ledger c.args.request.now) c.in-Ok-Refused.field-0-is c.in-Ok-Refused.ensures.planned in
     joined_told c.args.book.now.ledger c.args.request.now (Refused c.in-Ok-Refused.refusal c.in-Ok-Refused.line) _ _ c.requires told
-    (c.push_reserved-in-Ok-Refused.ensures.items ∙ ap (λ (ps : List Reply). ps ++ Refused c.in-Ok-Refused.refusal c.in-Ok-Refused.line ∷ []) c.reserve.ensures.items) refl (λ going. absurd (true≢false going))
+    c.tell-in-Ok-Refused.ensures.reply c.tell-in-Ok-Refused.ensures.line (ap (λ changes. changes.items) c.tell-in-Ok-Refused.ensures.others.0) (λ going. absurd (true≢false going))

@@ -7,7 +7,7 @@ use Rattle.desk.proofs.Batches.{batch_new, joined_more}
 use Rattle.desk.proofs.together.plan_batch.Goals as goal
 
 pub loop-request-init : goal.loop-request-init
-loop-request-init c = (batch_new c.args.book.now.ledger _ c.requires c.new.ensures.items c.new-2.ensures.items refl, ap (λ (ps : List Reply). length ps) c.new.ensures.items)
+loop-request-init c = (batch_new c.args.book.now.ledger _ c.requires c.new.ensures.items c.new-2.ensures.items c.new-3.ensures.items refl, ap (λ (ps : List Reply). length ps) c.new.ensures.items)
 
 pub loop-request-preserved : goal.loop-request-preserved
 loop-request-preserved c =
