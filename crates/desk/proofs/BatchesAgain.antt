@@ -73,13 +73,13 @@ done_kept A B r p h = by_key (kept_under A r.key) refl h
 kept_again : (C : Ledger) (r : Request) (p : ℕ) (e : Kept) → kept_under C r.key ≡ Some e → same_command e.command r.command ≡ true → e.place ≡ p → Answers C r (Done p) C
 kept_again C r p e there same place = rw there (rw same (ap (λ n. Done n) (sym place), refl))
 
-runs_keep : (A B : Ledger) (rs : List Request) (ps : List Reply) (k : List ℕ) (e : Kept) → Runs A rs ps B → kept_under A k ≡ Some e → kept_under B k ≡ Some e
+pub runs_keep : (A B : Ledger) (rs : List Request) (ps : List Reply) (k : List ℕ) (e : Kept) → Runs A rs ps B → kept_under A k ≡ Some e → kept_under B k ≡ Some e
 runs_keep A B [] [] k e same there = subst (λ L. kept_under L k ≡ Some e) (sym same) there
 runs_keep A B [] (p ∷ ps) k e h there = absurd h
 runs_keep A B (r ∷ rs) [] k e h there = absurd h
 runs_keep A B (r ∷ rs) (p ∷ ps) k e (L, first, rest) there = runs_keep L B rs ps k e rest (kept_stays A L r p k e first there)
 
-done_again : (A B C : Ledger) (rs : List Request) (ps : List Reply) → Runs A rs ps B → Each IsDone ps → ((k : List ℕ) (e : Kept) → kept_under B k ≡ Some e → kept_under C k ≡ Some e) → Runs C rs ps C
+pub done_again : (A B C : Ledger) (rs : List Request) (ps : List Reply) → Runs A rs ps B → Each IsDone ps → ((k : List ℕ) (e : Kept) → kept_under B k ≡ Some e → kept_under C k ≡ Some e) → Runs C rs ps C
 done_again A B C [] [] h done keeps = refl
 done_again A B C [] (p ∷ ps) h done keeps = absurd h
 done_again A B C (r ∷ rs) [] h done keeps = absurd h

@@ -141,8 +141,7 @@ module _ (fault : ScriptFault) (U H : Type 0) (leaves : List Content → Type 0)
   lists_left good went honest (written, writes, cut) stored = by fault refl
     where
       split : items_of requests ≡ (items_of cut.answered ++ items_of cut.last) ++ items_of cut.left
-      split = ap items_of cut.split ∙ items_joined cut.answered (cut.last ++ cut.left) ∙ ap (λ (xs : List Item). items_of cut.answered ++ xs) (items_joined cut.last cut.left)
-          ∙ sym (append_assoc (items_of cut.answered) (items_of cut.last) (items_of cut.left))
+      split = ap items_of cut.split ∙ items_joined (cut.answered ++ cut.last) cut.left ∙ ap (λ (xs : List Item). xs ++ items_of cut.left) (items_joined cut.answered cut.last)
 
       behind : IsFoundAfterItems most A (items_of requests) W w M
       behind =

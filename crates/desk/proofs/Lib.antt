@@ -14,3 +14,4 @@ pub mod FoundAgain
 pub mod Batches
 pub mod BatchesAgain
 pub mod ListLines
+pub mod ManyBatches

@@ -31,7 +31,7 @@ runs_told A B (r ∷ rs) (p ∷ ps) (M, first, rest) =
 no_batch : (A : Ledger) → IsBatch A [] [] A
 no_batch A = record { first = []; behind = []; told = []; refused = []; requests_are = refl; replies_are = refl; done = refl; all_done = tt; rest = refl }
 
-items_joined : (xs ys : List Request) → items_of (xs ++ ys) ≡ items_of xs ++ items_of ys
+pub items_joined : (xs ys : List Request) → items_of (xs ++ ys) ≡ items_of xs ++ items_of ys
 items_joined xs ys = map-append (λ r. item.Request r) xs ys
 
 -- ---- a batch
@@ -66,7 +66,7 @@ module _ (H : Type 0) (leaves : List Content → Type 0) (U : Type 0) (A B : Led
       answered = take n rs;
       last = [];
       left = drop n rs;
-      split = sym (take-append-drop n rs);
+      split = sym (take-append-drop n rs) ∙ ap (λ (xs : List Request). xs ++ drop n rs) (sym (append-nil (take n rs)));
       few = omega arith;
       mid = B;
       lines = text;
@@ -165,13 +165,14 @@ module _ (fault : ScriptFault) (U V H : Type 0) (leaves : List Content → Type 
     },
   )
     where
-      inner : drop n rs ≡ (cut.answered ++ cut.last ++ cut.left) ++ drop k (drop n rs)
+      inner : drop n rs ≡ ((cut.answered ++ cut.last) ++ cut.left) ++ drop k (drop n rs)
       inner = sym (take-append-drop k (drop n rs)) ∙ ap (λ (xs : List Request). xs ++ drop k (drop n rs)) (sym are ∙ cut.split)
 
-      whole : rs ≡ (take n rs ++ cut.answered) ++ cut.last ++ (cut.left ++ drop k (drop n rs))
+      whole : rs ≡ ((take n rs ++ cut.answered) ++ cut.last) ++ (cut.left ++ drop k (drop n rs))
       whole =
-          sym (take-append-drop n rs) ∙ ap (λ (xs : List Request). take n rs ++ xs) (inner ∙ append_assoc cut.answered (cut.last ++ cut.left) (drop k (drop n rs)) ∙ ap (λ (xs : List Request). cut.answered ++ xs) (append_assoc cut.last cut.left (drop k (drop n rs))))
-          ∙ sym (append_assoc (take n rs) cut.answered (cut.last ++ (cut.left ++ drop k (drop n rs))))
+          sym (take-append-drop n rs) ∙ ap (λ (xs : List Request). take n rs ++ xs) (inner ∙ append_assoc (cut.answered ++ cut.last) cut.left (drop k (drop n rs)))
+          ∙ sym (append_assoc (take n rs) (cut.answered ++ cut.last) (cut.left ++ drop k (drop n rs)))
+          ∙ ap (λ (xs : List Request). xs ++ (cut.left ++ drop k (drop n rs))) (sym (append_assoc (take n rs) cut.answered cut.last))
 
 length_take_most : (k : ℕ) (xs : List Request) → length (take k xs) ≤ k
 length_take_most zero xs = omega arith

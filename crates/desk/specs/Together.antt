@@ -56,6 +56,29 @@ StandsWithin A requests k B =
     (M : Ledger) × After A requests (k - 1) M
     × ((B ≡ M) ⊎ ((count : ℕ) × (untold : List Reply) × IsBatch M (take count (drop (k - 1) requests)) untold B))
 
+-- The replies are those from number k on, as many as there are, of the run of the requests from A; B is where the next
+-- is to be resumed, within those behind.
+pub record ResumesWithin (A : Ledger) (requests : List Request) (k : ℕ) (replies : List Reply) (B : Ledger) : Type 0 where
+  pub before : List Reply
+  pub last : Ledger
+  pub counted : length before + 1 ≡ k
+  pub run : Runs A (take (length before + length replies) requests) (before ++ replies) last
+  pub stands : StandsWithin A requests (k + length replies) B
+
+-- resumed again and again, each time at the number behind the last reply, and what was answered each time
+abbrev pub ResumesWithinAgain : Ledger → List Request → ℕ → List (List Reply) → Ledger → Type 0
+ResumesWithinAgain A requests k [] B = StandsWithin A requests k B
+ResumesWithinAgain A requests k (replies ∷ more) B =
+    (M : Ledger) × ResumesWithin A requests k replies M × ResumesWithinAgain A requests (k + length replies) more B
+
+-- one list of requests after the other is carried out whole: what was answered to each, and B is the ledger after them
+abbrev pub RunsInLists : Ledger → List (List Request) → List (List Reply) → Ledger → Type 0
+RunsInLists A [] [] B = B ≡ A
+RunsInLists A (requests ∷ lists) (replies ∷ given) B =
+    (M : Ledger) × Runs A requests replies M × RunsInLists M lists given B
+RunsInLists A [] (replies ∷ given) B = ⊥
+RunsInLists A (requests ∷ lists) [] B = ⊥
+
 -- How far the answers to requests have come at a fault, where at most so many are carried out together. The lines of
 -- `answered` are written whole. Behind these may stand a batch, `last`: it is kept, and a beginning of its lines written,
 -- or the store failed at its commit, and a stop leaves the rows before it or behind it. Want of memory leaves no request

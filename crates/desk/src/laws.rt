@@ -11,7 +11,7 @@ ghost use Rattle.book.specs.Good.{Good};
 ghost use Rattle.book.specs.Ledger.{Ledger};
 ghost use Rattle.book.specs.Rows.{Content, IsRowsOf};
 ghost use Rattle.desk.specs.Resuming.{ResumesAgain, StandsAt};
-ghost use Rattle.desk.specs.Together.{IsBatch, StandsWithin};
+ghost use Rattle.desk.specs.Together.{IsBatch, ResumesWithin, ResumesWithinAgain, RunsInLists, StandsWithin};
 ghost use Rattle.desk.specs.Text.{IsText};
 
 /// At a good ledger there is exactly one text for each input, so that what a script writes is settled by what it reads.
@@ -49,4 +49,26 @@ pub fn batches_come_again()
     ensures resumed { (A B last : Ledger) (requests : List Request) (k : ℕ) (replies : List Reply) → 1 ≤ k
         → k ≤ length requests + 1 → StandsWithin A requests k B → Runs B (drop (k - 1) requests) replies last
         → (before : List Reply) × (length before + 1 ≡ k) × Runs A requests (before ++ replies) last }
+{}
+
+/// However often a list that is carried out together is stopped by a failing commit, and gone on with behind its last
+/// reply, it comes to the replies and the ledger of one that is carried out one by one and never stopped, whether those
+/// batches were kept or not. Lists that are carried out one after the other are one list.
+pub fn batches_are_invisible()
+    ensures wider { (A B : Ledger) (requests : List Request) (k : ℕ) → 1 ≤ k → StandsAt A requests k B
+        → StandsWithin A requests k B }
+    ensures on { (A B mid C : Ledger) (requests : List Request) (k : ℕ) (replies : List Reply) → 1 ≤ k
+        → k ≤ length requests + 1 → StandsWithin A requests k B
+        → Runs B (take (length replies) (drop (k - 1) requests)) replies mid
+        → StandsWithin B (drop (k - 1) requests) (length replies + 1) C → ResumesWithin A requests k replies C }
+    ensures same { (A : Ledger) (requests : List Request) (k : ℕ) (given : List (List Reply)) (replies : List Reply)
+        (B last : Ledger) → 1 ≤ k → ResumesWithinAgain A requests k given B
+        → k + length (flat_map (λ some. some) given) ≡ length requests + 1 → Runs A requests replies last
+        → (flat_map (λ some. some) given ≡ drop (k - 1) replies) × (B ≡ last) }
+    ensures cut_into_lists { (A B : Ledger) (lists : List (List Request)) (given : List (List Reply))
+        → RunsInLists A lists given B
+        → Runs A (flat_map (λ requests. requests) lists) (flat_map (λ replies. replies) given) B }
+    ensures as_one_by_one { (A B C : Ledger) (requests : List Request) (replies others : List Reply)
+        → Runs A requests replies B → Runs A requests others C → (replies ≡ others) × (B ≡ C)
+        × ((x y : Content) → IsRowsOf B x → IsRowsOf C y → x ≡ y) }
 {}

@@ -17,7 +17,9 @@ pub use headline::{
     any_number_of_cuts, cut_and_open, run_and_stop, run_cut_and_open, run_cut_and_resume,
     script_and_stop, script_cut_and_open,
 };
-pub use laws::{batches_come_again, exactly_one_text, resuming_is_invisible};
+pub use laws::{
+    batches_are_invisible, batches_come_again, exactly_one_text, resuming_is_invisible,
+};
 pub use run::{Ending, Run};
 pub use scripts::{answer_all, script};
 pub use together::answer_together;

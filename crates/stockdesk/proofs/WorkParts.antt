@@ -64,8 +64,7 @@ module _ (H : Type 0) (L : List Content → Type 0) (W w : Option (List ℕ)) (f
     written = written;
     unwritten = cut.unwritten;
     good = good;
-    split = ap items_of cut.split ∙ items_joined cut.answered (cut.last ++ cut.left) ∙ ap (λ (xs : List Item). items_of cut.answered ++ xs) (items_joined cut.last cut.left)
-        ∙ sym (append_assoc (items_of cut.answered) (items_of cut.last) (items_of cut.left));
+    split = ap items_of cut.split ∙ items_joined (cut.answered ++ cut.last) cut.left ∙ ap (λ (xs : List Item). xs ++ items_of cut.left) (items_joined cut.answered cut.last);
     replies = subst (λ (out : List ℕ). RepliesAll first (items_of cut.answered ++ items_of cut.last) out last)
         (sym (append_assoc cut.lines cut.begun cut.unwritten) ∙ ap (λ (out : List ℕ). out ++ cut.unwritten) (sym cut.written_are))
         (replies_joined (items_of cut.answered) (items_of cut.last) first cut.mid last cut.lines (cut.begun ++ cut.unwritten) cut.replies cut.rest);

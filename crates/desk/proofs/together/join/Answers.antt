@@ -6,15 +6,15 @@ use Rattle.book.specs.declared.book.plan.Planned.TheVariants as planned
 use Rattle.desk.proofs.Batches.{joined_told}
 use Rattle.desk.proofs.together.join.Goals as goal
 
-pub returns-in-Ok-Again-clause-joined : goal.returns-in-Ok-Again-clause-joined
-returns-in-Ok-Again-clause-joined c is =
+pub returns-in-Ok-clause-joined : goal.returns-in-Ok-clause-joined
+returns-in-Ok-clause-joined c is =
     let told : Plans c.args.book.now.ledger c.args.request.now (planned.Again c.in-Ok-Again.place) = subst (Plans c.args.book.now.ledger c.args.request.now) c.in-Ok-Again.field-0-is c.in-Ok-Again.ensures.planned in
     joined_told c.args.book.now.ledger c.args.request.now (Done c.in-Ok-Again.place) _ _ c.requires told.1
-    c.tell.ensures.reply c.tell.ensures.line (ap (λ changes. changes.items) c.tell.ensures.others.0) (λ going. ((c.in-Ok-Again.place, refl), going))
+    c.in-Ok.ensures.reply c.in-Ok.ensures.line (ap (λ changes. changes.items) c.tell.ensures.others.0) (λ going. ((c.in-Ok-Again.place, refl), going))
 
-pub returns-in-Ok-Refused-clause-joined : goal.returns-in-Ok-Refused-clause-joined
-returns-in-Ok-Refused-clause-joined c is =
+pub returns-in-Ok-tell-clause-joined : goal.returns-in-Ok-tell-clause-joined
+returns-in-Ok-tell-clause-joined c is =
     let told : Plans c.args.book.now.ledger c.args.request.now (planned.Refused c.in-Ok-Refused.refusal c.in-Ok-Refused.line) =
     subst (Plans c.args.book.now.ledger c.args.request.now) c.in-Ok-Refused.field-0-is c.in-Ok-Refused.ensures.planned in
     joined_told c.args.book.now.ledger c.args.request.now (Refused c.in-Ok-Refused.refusal c.in-Ok-Refused.line) _ _ c.requires told
-    c.tell-in-Ok-Refused.ensures.reply c.tell-in-Ok-Refused.ensures.line (ap (λ changes. changes.items) c.tell-in-Ok-Refused.ensures.others.0) (λ going. absurd (true≢false going))
+    c.in-Ok-tell.ensures.reply c.in-Ok-tell.ensures.line (ap (λ changes. changes.items) c.tell-in-Ok-Refused.ensures.others.0) (λ going. absurd (true≢false going))
