@@ -146,7 +146,7 @@ module _ (fault : ScriptFault) (U H : Type 0) (leaves : List Content → Type 0)
       behind : IsFoundAfterItems most A (items_of requests) W w M
       behind =
           found_done most A W w (items_of requests) cut.mid M written cut.lines cut.begun cut.unwritten (items_of cut.answered) (items_of cut.last) (items_of cut.left) writes split
-          (subst (λ n. n ≤ most) (sym (length-map (λ r. item.Request r) cut.last)) cut.few) cut.replies cut.written_are
+          (subst (λ n. n ≤ most) (sym (length-map cut.last (λ r. item.Request r))) cut.few) cut.replies cut.written_are
           (replies_joined (items_of cut.answered) (items_of cut.last) A cut.mid M cut.lines (cut.begun ++ cut.unwritten) cut.replies cut.rest)
 
       before : cut.begun ≡ [] → IsFoundAfterItems most A (items_of requests) W w cut.mid

@@ -38,8 +38,8 @@ items_joined xs ys = map-append (λ r. item.Request r) xs ys
 
 module _ (H : Type 0) (leaves : List Content → Type 0) (U : Type 0) (A B : Ledger) (rs : List Request) where
   -- the desk was stopped before
-  pub stopped_before : ¬ U → B ≡ A → 1 ≤ length rs → IsCutTogether ScriptFault.Stopped U H leaves (length rs) A rs [] B
-  stopped_before halted same some = record {
+  pub stopped_before : (most : ℕ) → ¬ U → B ≡ A → 1 ≤ length rs → IsCutTogether ScriptFault.Stopped U H leaves most A rs [] B
+  stopped_before most halted same some = record {
     answered = [];
     last = [];
     left = rs;
@@ -174,7 +174,7 @@ module _ (fault : ScriptFault) (U V H : Type 0) (leaves : List Content → Type 
           ∙ sym (append_assoc (take n rs) (cut.answered ++ cut.last) (cut.left ++ drop k (drop n rs)))
           ∙ ap (λ (xs : List Request). xs ++ (cut.left ++ drop k (drop n rs))) (sym (append_assoc (take n rs) cut.answered cut.last))
 
-length_take_most : (k : ℕ) (xs : List Request) → length (take k xs) ≤ k
+pub length_take_most : (k : ℕ) (xs : List Request) → length (take k xs) ≤ k
 length_take_most zero xs = omega arith
 length_take_most (suc k) [] = omega arith
 length_take_most (suc k) (x ∷ xs) = let less = length_take_most k xs in omega arith

@@ -19,7 +19,7 @@ use Rattle.web.specs.Web.{Stand}
 use Rattle.stockdesk.specs.Connections.{AreServed, IsFoundAfterService, IsServed, ServesSome, Streams}
 use Rattle.desk.specs.Text.{items_of}
 use Rattle.stockdesk.specs.Requests.{at_once}
-use Rattle.core.specs.declared.num.nonzero.NonZeroUsize.{NonZeroUsize}
+use Rattle.std.specs.declared.num.NonZeroUsize.{NonZeroUsize}
 use Rattle.stockdesk.specs.Sessions.{IsNoDesk}
 use Rattle.stockdesk.specs.Work.{IsFoundAfterWork, WorkCut, WorkDone}
 use Rattle.stockdesk.specs.declared.session.Fault.{Fault}

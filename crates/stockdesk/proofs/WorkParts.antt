@@ -12,7 +12,7 @@ use Rattle.desk.specs.Script.{AlmostWritten}
 use Rattle.desk.specs.Text.{RepliesAll, items_of}
 use Rattle.desk.proofs.ListLines.{items_joined}
 use Rattle.desk.proofs.Texts.{replies_joined, replies_more}
-use Rattle.core.specs.declared.num.nonzero.NonZeroUsize.{NonZeroUsize}
+use Rattle.std.specs.declared.num.NonZeroUsize.{NonZeroUsize}
 use Rattle.words.specs.declared.item.Item.{Item}
 use Rattle.stockdesk.specs.Connections.{PortBegun, ServiceCut}
 use Rattle.stockdesk.specs.Done.{DoesWork, DoesWorkInPart, PrintsRepliesInPart, PrintsSheetInPart}

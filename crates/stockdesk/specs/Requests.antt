@@ -1,7 +1,7 @@
 -- What a desk does with a file of requests.
 use Rattle.std.specs.Prelude.{◌≡◌, ◌⊎◌, ◌↔◌, ℕ, List, None, Option, Some, false}
 use Rattle.std.specs.Int.NonZero.{non_zero_usize_get}
-use Rattle.core.specs.declared.num.nonzero.NonZeroUsize.{NonZeroUsize}
+use Rattle.std.specs.declared.num.NonZeroUsize.{NonZeroUsize}
 use Rattle.std.specs.Io.KnownBytes.{Keeps}
 use Rattle.book.specs.Ledger.{Ledger}
 use Rattle.book.specs.Rows.{Content}

@@ -1,7 +1,7 @@
 -- The words that the program takes, and the task that they ask for, as `clap` sees them.
 use Rattle.std.specs.Prelude.{◌≡◌, ◌<◌, ◌≤◌, ◌∷◌, ◌^◌, [], Bool, List, None, Option, Some, false, true, codes, decimal}
 use Rattle.std.specs.Int.NonZero.{non_zero_usize_get}
-use Rattle.core.specs.declared.num.nonzero.NonZeroUsize.{NonZeroUsize}
+use Rattle.std.specs.declared.num.NonZeroUsize.{NonZeroUsize}
 use Rattle.clap.specs.Words.{App, Row, Rule, Text, first_of, new_app, new_rule, with_rule, with_subcommand}
 use Rattle.clap.specs.declared.builder.action.ArgAction.TheVariants.{Set}
 use Rattle.stockdesk.specs.declared.loopback.Service.{Service}

@@ -298,7 +298,7 @@ fn count_named(word: &str) -> Option<NonZeroUsize>
 /// How many requests are to be carried out together, if that is asked for; none where the word behind it is no such
 /// number.
 fn together_asked(word: Option<&str>) -> Option<Option<NonZeroUsize>>
-    ensures { IfSome result (AsksTogether (option_map (λ s. s.now) word)) }
+    ensures { IfSome result (AsksTogether (option_map (λ s. s.now) word.entry)) }
 {
     match word {
         Some(word) => Some(Some(count_named(word)?)),
