@@ -11,7 +11,8 @@ use Rattle.words.specs.declared.reply.Refusal.TheVariants.{KeyReused}
 use Rattle.book.specs.Answers.{Answers, AnswersNew, Runs, same_command}
 use Rattle.book.specs.Ledger.{Kept, Ledger, kept_under, places}
 use Rattle.book.specs.Rows.{Content, IsRowsOf}
-use Rattle.book.proofs.EqualRows.{one_content}
+use Rattle.book.specs.Good.{Good}
+use Rattle.book.proofs.EqualRows.{one_content, told_by_rows}
 use Rattle.book.proofs.Runs.{runs_once}
 use Rattle.desk.specs.Resuming.{Resumes, ResumesAgain, StandsAt}
 use Rattle.desk.specs.Together.{IsBatch, IsDone, ResumesWithin, ResumesWithinAgain, RunsInLists, StandsWithin}
@@ -231,3 +232,12 @@ pub one_by_one : (A B C : Ledger) (rs : List Request) (ps qs : List Reply) → R
 one_by_one A B C rs ps qs run other =
     let same = runs_once A rs ps qs B C run other in
     (same.0, same.1, λ x y these those. one_content B x y these (subst (λ L. IsRowsOf L y) (sym same.1) those))
+
+-- ---- where a stop came between, what is opened stands so
+
+pub found_within : (A B C D : Ledger) (rs : List Request) (k : ℕ) (x y z : Content) → Good B → Good C → Good D → StandsWithin A rs k B → StandsWithin A rs k C → IsRowsOf B y → IsRowsOf C z
+    → (x ≡ y) ⊎ (x ≡ z) → IsRowsOf D x → StandsWithin A rs k D
+found_within A B C D rs k x y z good_b good_c good_d stands_b stands_c are_b are_c (inl is) are =
+    subst (λ L. StandsWithin A rs k L) (told_by_rows B D x good_b good_d (subst (IsRowsOf B) (sym is) are_b) are) stands_b
+found_within A B C D rs k x y z good_b good_c good_d stands_b stands_c are_b are_c (inr is) are =
+    subst (λ L. StandsWithin A rs k L) (told_by_rows C D x good_c good_d (subst (IsRowsOf C) (sym is) are_c) are) stands_c

@@ -65,6 +65,9 @@ pub fn batches_are_invisible()
         (B last : Ledger) → 1 ≤ k → ResumesWithinAgain A requests k given B
         → k + length (flat_map (λ some. some) given) ≡ length requests + 1 → Runs A requests replies last
         → (flat_map (λ some. some) given ≡ drop (k - 1) replies) × (B ≡ last) }
+    ensures found { (A B C D : Ledger) (requests : List Request) (k : ℕ) (x y z : Content) → Good B → Good C → Good D
+        → StandsWithin A requests k B → StandsWithin A requests k C → IsRowsOf B y → IsRowsOf C z
+        → (x ≡ y) ⊎ (x ≡ z) → IsRowsOf D x → StandsWithin A requests k D }
     ensures cut_into_lists { (A B : Ledger) (lists : List (List Request)) (given : List (List Reply))
         → RunsInLists A lists given B
         → Runs A (flat_map (λ requests. requests) lists) (flat_map (λ replies. replies) given) B }
