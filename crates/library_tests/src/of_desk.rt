@@ -1,7 +1,9 @@
 //! Desks over both keepers.
 
+mod batches;
 mod headline;
 mod resuming;
+mod sessions;
 mod together;
 
 use crate::desks::{answers, call, open, opened, requests, resume, run};

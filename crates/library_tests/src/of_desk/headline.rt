@@ -3,6 +3,7 @@
 
 ghost use Rattle.std.specs.Prelude.{IsTrue};
 
+use super::sessions::{Batches, List, expect_run};
 use crate::desks::{open, opened, requests};
 use crate::keepers::{keeper, plain_keeper};
 use crate::of_keep::disks::{calls_to, desk_files, open as open_files};
@@ -20,27 +21,51 @@ use std::test::Fail;
 use words::{Refusal, Reply};
 
 /// Orders that are open, used, firm and committed, and a request that is refused.
-static LINES: [&str; 8] = [
-    "H1 field N1 A-1 0 100 40",
-    "H2 open 7 500 take N1 A-1 10",
-    "H3 open 8 500 take N1 A-1 12",
-    "H4 use 8 N1 A-1 5",
-    "H5 open 9 500 add N1 A-1 20",
-    "H6 firm 9",
-    "H7 writeoff N1 A-1 19",
-    "H8 commit 8",
-];
+pub(super) fn three_orders() -> &'static List {
+    &THREE_ORDERS
+}
 
-static REPLIES: [Reply; 8] = [
-    Reply::Done(1),
-    Reply::Done(2),
-    Reply::Done(3),
-    Reply::Done(4),
-    Reply::Done(5),
-    Reply::Done(6),
-    Reply::Refused(Refusal::TooLittle, 0),
-    Reply::Done(7),
-];
+static THREE_ORDERS: List = List {
+    lines: &[
+        "H1 field N1 A-1 0 100 40",
+        "H2 open 7 500 take N1 A-1 10",
+        "H3 open 8 500 take N1 A-1 12",
+        "H4 use 8 N1 A-1 5",
+        "H5 open 9 500 add N1 A-1 20",
+        "H6 firm 9",
+        "H7 writeoff N1 A-1 19",
+        "H8 commit 8",
+    ],
+    replies: &[
+        Reply::Done(1),
+        Reply::Done(2),
+        Reply::Done(3),
+        Reply::Done(4),
+        Reply::Done(5),
+        Reply::Done(6),
+        Reply::Refused(Refusal::TooLittle, 0),
+        Reply::Done(7),
+    ],
+    asks: "? field N1 A-1\n? order 7\n? order 8\n? order 9\n",
+    states: &[
+        "? none\n? none\n? none\n? none\n",
+        "? field N1 A-1 lo 0 hi 100 value 40 inf 40 sup 40\n? none\n? none\n? none\n",
+        "? field N1 A-1 lo 0 hi 100 value 40 inf 30 sup 40\n? order 7 plain 500 open take N1 A-1 10 0\n? none\n? none\n",
+        "? field N1 A-1 lo 0 hi 100 value 40 inf 18 sup 40\n? order 7 plain 500 open take N1 A-1 10 0\n? order 8 plain 500 open take N1 A-1 12 0\n? none\n",
+        "? field N1 A-1 lo 0 hi 100 value 40 inf 18 sup 40\n? order 7 plain 500 open take N1 A-1 10 0\n? order 8 plain 500 open take N1 A-1 12 5\n? none\n",
+        "? field N1 A-1 lo 0 hi 100 value 40 inf 18 sup 60\n? order 7 plain 500 open take N1 A-1 10 0\n? order 8 plain 500 open take N1 A-1 12 5\n? order 9 plain 500 open add N1 A-1 20 0\n",
+        "? field N1 A-1 lo 0 hi 100 value 40 inf 18 sup 60\n? order 7 plain 500 open take N1 A-1 10 0\n? order 8 plain 500 open take N1 A-1 12 5\n? order 9 plain 500 firm add N1 A-1 20 0\n",
+        "? field N1 A-1 lo 0 hi 100 value 40 inf 18 sup 60\n? order 7 plain 500 open take N1 A-1 10 0\n? order 8 plain 500 open take N1 A-1 12 5\n? order 9 plain 500 firm add N1 A-1 20 0\n",
+        "? field N1 A-1 lo 0 hi 100 value 35 inf 25 sup 55\n? order 7 plain 500 open take N1 A-1 10 0\n? order 8 plain 500 committed take N1 A-1 12 5\n? order 9 plain 500 firm add N1 A-1 20 0\n",
+    ],
+};
+
+/// How many of them are answered before each commit, one after the other, and at the end: the seventh is refused, so it
+/// has no commit.
+pub(super) const SINGLY: Batches = Batches {
+    most: 1,
+    told: &[0, 1, 2, 3, 4, 5, 7, 8],
+};
 
 /// All rows before these requests, and behind each of them.
 static ROWS: [&str; 9] = [
@@ -55,40 +80,34 @@ static ROWS: [&str; 9] = [
     "Tables { desk: DeskRow { one: 1, version: 2, clock: 0, places: 7 }, fields: Rows { rows: [FieldRow { branch: \"N1\", article: \"A-1\", lo: 0, hi: 100, start: 40, value: 35, inf: 25, sup: 55 }] }, moves: Rows { rows: [] }, orders: Rows { rows: [OrderRow { number: 7, kind: 0, until: 500, state: 0 }, OrderRow { number: 8, kind: 0, until: 500, state: 1 }, OrderRow { number: 9, kind: 0, until: 500, state: 0 }] }, lines: Rows { rows: [LineRow { number: 7, nr: 1, branch: \"N1\", article: \"A-1\", way: 0, held: 10, used: 0 }, LineRow { number: 8, nr: 1, branch: \"N1\", article: \"A-1\", way: 0, held: 12, used: 5 }, LineRow { number: 9, nr: 1, branch: \"N1\", article: \"A-1\", way: 1, held: 20, used: 0 }] }, kept: Rows { rows: [KeptRow { reqkey: \"H1\", place: 1, words: \"field N1 A-1 0 100 40\" }, KeptRow { reqkey: \"H2\", place: 2, words: \"open 7 500 take N1 A-1 10\" }, KeptRow { reqkey: \"H3\", place: 3, words: \"open 8 500 take N1 A-1 12\" }, KeptRow { reqkey: \"H4\", place: 4, words: \"use 8 N1 A-1 5\" }, KeptRow { reqkey: \"H5\", place: 5, words: \"open 9 500 add N1 A-1 20\" }, KeptRow { reqkey: \"H6\", place: 6, words: \"firm 9\" }, KeptRow { reqkey: \"H8\", place: 7, words: \"commit 8\" }] }, firms: Rows { rows: [FirmRow { number: 9 }] } }",
 ];
 
-/// The rows that the keeper holds are those behind so many requests, or one more.
-fn expect_rows<K: Keep>(alloc: Global, keep: &mut K, done: usize, most: usize) -> Result<(), Fail> {
+/// The rows that the keeper holds are those behind so many requests, or behind so many, and no others.
+pub(super) fn expect_rows<K: Keep>(
+    alloc: Global,
+    keep: &mut K,
+    done: usize,
+    most: usize,
+) -> Result<(), Fail> {
     let rows = loaded(alloc, keep)?;
-    let is_so = ROWS
-        .iter()
-        .take(most.saturating_add(1))
-        .skip(done)
-        .any(|want| *want == rows.as_str());
-    if is_so {
+    let found = Some(rows.as_str());
+    if found == ROWS.get(done).copied() || found == ROWS.get(most).copied() {
         Ok(())
     } else {
-        Err("other rows than behind what was answered, or one request more")?
+        Err("other rows than behind what was answered, or what was to be committed")?
     }
 }
 
 /// What is found, where the keeper recovers and the opening does not fail.
-fn found<T, K: Drop>(opened: Option<Result<T, (OpenFault, K)>>) -> Result<T, Fail> {
+pub(super) fn found<T, K: Drop>(opened: Option<Result<T, (OpenFault, K)>>) -> Result<T, Fail> {
     match opened.ok_or("not recovered")? {
         Ok(found) => Ok(found),
         Err((fault, _)) => Err(fault)?,
     }
 }
 
-/// The replies are those of the table, and all of them exactly where the run ended so: how many they are.
+/// The replies are those of the table behind so many: how many they are.
 fn expect_replies(run: &Run, before: usize) -> Result<usize, Fail> {
-    let rest = REPLIES.get(before..).ok_or("no such number")?;
-    let count = run.replies.len();
-    if rest.get(..count) != Some(run.replies.as_slice()) {
-        Err("another reply")?;
-    }
-    if (run.ending == Ending::All) != (count == rest.len()) {
-        Err("ended before its end")?;
-    }
-    Ok(count)
+    let rest = THREE_ORDERS.replies.get(before..);
+    expect_run(rest.ok_or("no such number")?, run)
 }
 
 /// How many requests may be done behind so many replies.
@@ -98,7 +117,7 @@ fn most_done(run: &Run) -> usize {
 }
 
 /// What is tried on a desk, over any keeper that recovers.
-trait Trial {
+pub(super) trait Trial {
     /// How many replies came before the stop.
     fn on<K: Recover + Drop>(
         &self,
@@ -119,7 +138,7 @@ impl Trial for Opening {
         desk: Desk<K>,
         options: K::Options,
     ) -> Result<usize, Fail> {
-        let requests = requests(alloc, &LINES)?;
+        let requests = requests(alloc, THREE_ORDERS.lines)?;
         if desk.is_stopped() {
             drop(desk.into_keep());
             return Err(Fail::from("stopped"));
@@ -143,7 +162,7 @@ impl Trial for Resuming {
         desk: Desk<K>,
         options: K::Options,
     ) -> Result<usize, Fail> {
-        let requests = requests(alloc, &LINES)?;
+        let requests = requests(alloc, THREE_ORDERS.lines)?;
         if desk.is_stopped() {
             drop(desk.into_keep());
             return Err(Fail::from("stopped"));
@@ -152,10 +171,15 @@ impl Trial for Resuming {
         let (desk, rest) = found(resumed)?;
         let mut keep = desk.into_keep();
         let count = expect_replies(&run, 0)?;
-        if count.checked_add(expect_replies(&rest, count)?) != Some(LINES.len()) {
+        if count.checked_add(expect_replies(&rest, count)?) != Some(THREE_ORDERS.lines.len()) {
             Err("not resumed to its end")?;
         }
-        expect_rows(alloc, &mut keep, LINES.len(), LINES.len())?;
+        expect_rows(
+            alloc,
+            &mut keep,
+            THREE_ORDERS.lines.len(),
+            THREE_ORDERS.lines.len(),
+        )?;
         Ok(count)
     }
 }
@@ -178,7 +202,7 @@ fn expect_told(ended: Result<(), ScriptFault>, taken: &[u8]) -> Result<usize, Fa
         Err("another answer")?;
     }
     let told = taken.iter().filter(|byte| **byte == b'\n').count();
-    if ended.is_ok() != (told == LINES.len()) {
+    if ended.is_ok() != (told == THREE_ORDERS.lines.len()) {
         Err("ended before its end")?;
     }
     Ok(told)
@@ -233,7 +257,11 @@ fn tried_over<D: Crash + Drop, T: Trial>(
 }
 
 /// Tries it on a new desk in files that fail after so many calls, up to a power cut.
-fn tried_at<T: Trial>(alloc: Global, trial: &T, calls: (u64, u64)) -> Result<usize, Fail> {
+pub(super) fn tried_at<T: Trial>(
+    alloc: Global,
+    trial: &T,
+    calls: (u64, u64),
+) -> Result<usize, Fail> {
     let files = desk_files(alloc)?;
     let fused = Files {
         log: Fuse::new(files.log, calls.0),
@@ -246,28 +274,26 @@ fn tried_at<T: Trial>(alloc: Global, trial: &T, calls: (u64, u64)) -> Result<usi
 /// tried.
 fn at_each_call<T: Trial>(alloc: Global, trial: &T, on_log: bool) -> Result<u64, Fail> {
     for calls in 0..400u64 {
-        if tried_at(alloc, trial, calls_to(on_log, calls))? == LINES.len() {
+        if tried_at(alloc, trial, calls_to(on_log, calls))? == THREE_ORDERS.lines.len() {
             return Ok(calls);
         }
     }
     Err("never ended")?
 }
 
-/// Tries it with a failure at each commit of a keeper in memory in turn, which lands or not.
-fn at_each_commit<T: Trial>(alloc: Global, trial: &T, lands: bool) -> Result<(), Fail> {
-    // the seventh request is refused, so it has no commit
-    for (fail_at, replies) in [
-        (1, 0),
-        (2, 1),
-        (3, 2),
-        (4, 3),
-        (5, 4),
-        (6, 5),
-        (7, 7),
-        (8, 8),
-    ] {
+/// Tries it with a failure at each commit of a keeper in memory in turn, which lands or not: so many requests are
+/// answered before it, and in the end.
+fn at_each_commit<T: Trial>(
+    alloc: Global,
+    trial: &T,
+    told: &[usize],
+    lands: bool,
+) -> Result<(), Fail> {
+    let mut fail_at = 0u64;
+    for replies in told {
+        fail_at = fail_at.saturating_add(1);
         let desk = opened(alloc, PlainKeep::start(alloc, Some(fail_at), lands))?;
-        if trial.on(alloc, desk, (None, false))? != replies {
+        if trial.on(alloc, desk, (None, false))? != *replies {
             Err("another commit failed")?;
         }
     }
@@ -275,9 +301,13 @@ fn at_each_commit<T: Trial>(alloc: Global, trial: &T, lands: bool) -> Result<(),
 }
 
 /// Tries it at each stop that there is: how many were at calls of the files.
-fn at_each_stop<T: Trial>(alloc: Global, trial: &T) -> Result<u64, Fail> {
-    at_each_commit(alloc, trial, false)?;
-    at_each_commit(alloc, trial, true)?;
+pub(super) fn at_each_stop<T: Trial>(
+    alloc: Global,
+    trial: &T,
+    told: &[usize],
+) -> Result<u64, Fail> {
+    at_each_commit(alloc, trial, told, false)?;
+    at_each_commit(alloc, trial, told, true)?;
     let of_log = at_each_call(alloc, trial, true)?;
     let of_database = at_each_call(alloc, trial, false)?;
     Ok(of_log.saturating_add(of_database))
@@ -285,20 +315,20 @@ fn at_each_stop<T: Trial>(alloc: Global, trial: &T) -> Result<u64, Fail> {
 
 #[test]
 fn the_desk_is_found_wherever_a_run_stops(rt: HostRuntime) -> Result<(), Fail> {
-    assert!(rt; at_each_stop(rt.alloc(), &Opening)? > 20);
+    assert!(rt; at_each_stop(rt.alloc(), &Opening, SINGLY.told)? > 20);
     Ok(())
 }
 
 #[test]
 fn a_run_goes_on_wherever_it_stops(rt: HostRuntime) -> Result<(), Fail> {
-    assert!(rt; at_each_stop(rt.alloc(), &Resuming)? > 20);
+    assert!(rt; at_each_stop(rt.alloc(), &Resuming, SINGLY.told)? > 20);
     desk::any_number_of_cuts();
     Ok(())
 }
 
 #[test]
 fn the_desk_is_found_wherever_a_script_stops(rt: HostRuntime) -> Result<(), Fail> {
-    assert!(rt; at_each_stop(rt.alloc(), &Playing { writes: usize::MAX })? > 20);
+    assert!(rt; at_each_stop(rt.alloc(), &Playing { writes: usize::MAX }, SINGLY.told)? > 20);
     Ok(())
 }
 

@@ -1,56 +1,28 @@
 //! Lists of requests that are carried out together.
 
-use super::resuming::{List, expect_end, firm_order, two_orders};
-use crate::desks::{opened, requests, run_together};
+use super::headline::three_orders;
+use super::resuming::{firm_order, two_orders};
+use super::sessions::{List, answer_by, expect_end};
+use crate::desks::{opened, requests};
 use crate::keepers::{plain_keeper, sql_keeper};
 use desk::{Desk, Ending};
 use keep::Keep;
 use std::alloc::Global;
 use std::test::Fail;
-use words::Request;
-
-/// The requests from there on, so many together, are answered as in the table: how many there were.
-fn answer_some<K: Keep>(
-    alloc: Global,
-    desk: &mut Desk<K>,
-    list: &List,
-    requests: &[Request],
-    before: usize,
-    most: usize,
-) -> Result<usize, Fail> {
-    let rest = requests.get(before..).ok_or("no such number")?;
-    let some = match rest.get(..most) {
-        Some(some) => some,
-        None => rest,
-    };
-    let run = run_together(alloc, desk, some);
-    if run.ending != Ending::All || run.replies.len() != some.len() {
-        Err("not all are answered")?;
-    }
-    let told = list.replies.get(before..).ok_or("no such number")?;
-    if told.get(..some.len()) != Some(run.replies.as_slice()) {
-        Err("another reply")?;
-    }
-    Ok(some.len())
-}
 
 /// So many together at a time, until the list ends: the replies and the last state are the list's.
-fn answer_by<K: Keep>(
+fn answer_all<K: Keep>(
     alloc: Global,
     desk: &mut Desk<K>,
     list: &List,
     most: usize,
 ) -> Result<(), Fail> {
     let requests = requests(alloc, list.lines)?;
-    let mut before = 0;
-    for _ in list.lines {
-        let count = answer_some(alloc, desk, list, &requests, before, most)?;
-        before = before.checked_add(count).ok_or("too many")?;
+    let (told, ending) = answer_by(alloc, desk, list, &requests, 0, most)?;
+    if told != requests.len() || ending != Ending::All {
+        Err("not all are answered")?;
     }
-    if before != requests.len() {
-        Err("another number of replies")?;
-    }
-    expect_end(alloc, desk, list, Ending::All)
+    expect_end(alloc, desk, list, ending)
 }
 
 /// The desk that the keeper holds answers the list so.
@@ -61,7 +33,7 @@ fn answers_by<K: Keep + Drop>(
     most: usize,
 ) -> Result<(), Fail> {
     let mut desk = opened(alloc, keep)?;
-    let answered = answer_by(alloc, &mut desk, list, most);
+    let answered = answer_all(alloc, &mut desk, list, most);
     drop(desk.into_keep());
     answered
 }
@@ -79,5 +51,6 @@ fn each_length(alloc: Global, list: &List) -> Result<(), Fail> {
 fn lists_of_every_length_are_the_run(rt: HostRuntime) -> Result<(), Fail> {
     desk::batches_come_again();
     each_length(rt.alloc(), two_orders())?;
-    each_length(rt.alloc(), firm_order())
+    each_length(rt.alloc(), firm_order())?;
+    each_length(rt.alloc(), three_orders())
 }
