@@ -4,6 +4,7 @@ use desk::{CallFault, Desk, OpenFault, Run, ScriptFault, script};
 use keep::Keep;
 use std::alloc::Global;
 use std::io::{Read, Write};
+use std::num::NonZeroUsize;
 use std::test::Fail;
 use words::{Item, Reply, Request, read_item};
 
@@ -33,6 +34,19 @@ pub(crate) fn run_together<K: Keep>(
     requests: &[Request],
 ) -> Run {
     desk.run_together(alloc, requests)
+}
+
+/// So many of the requests are answered together, and their lines written, where that is a number: the call without its
+/// clauses, likewise.
+pub(crate) fn answer_together<K: Keep, W: Write>(
+    alloc: Global,
+    desk: &mut Desk<K>,
+    requests: &[Request],
+    most: usize,
+    writer: &mut W,
+) -> Result<Result<(), ScriptFault>, Fail> {
+    let most = NonZeroUsize::new(most).ok_or("none together")?;
+    Ok(desk::answer_together(alloc, requests, most, writer, desk))
 }
 
 /// The requests are answered from this number on: the call without its clauses, where there is such a number.

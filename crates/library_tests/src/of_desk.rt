@@ -5,6 +5,7 @@ mod headline;
 mod resuming;
 mod sessions;
 mod together;
+mod written;
 
 use crate::desks::{answers, call, open, opened, requests, resume, run};
 use crate::keepers::{plain_keeper, sql_keeper};

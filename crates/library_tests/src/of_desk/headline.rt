@@ -193,7 +193,7 @@ struct Playing {
 const SCRIPT: &str =
     "H1 field N1 A-1 0 100 40\nH2 open 7 500 take N1 A-1 10\nH3 open 8 500 take N1 A-1 12\nH4 use 8 N1 A-1 5\nH5 open 9 500 add N1 A-1 20\nH6 firm 9\nH7 writeoff N1 A-1 19\nH8 commit 8\n";
 
-const ANSWERS: &str =
+pub(super) const ANSWERS: &str =
     "H1 done 1\nH2 done 2\nH3 done 3\nH4 done 4\nH5 done 5\nH6 done 6\nH7 refused 13 TooLittle 0\nH8 done 7\n";
 
 /// How many lines were written whole of the answers: all where the script ended `Ok`.

@@ -50,6 +50,7 @@ fn each_length(alloc: Global, list: &List) -> Result<(), Fail> {
 #[test]
 fn lists_of_every_length_are_the_run(rt: HostRuntime) -> Result<(), Fail> {
     desk::batches_come_again();
+    desk::batches_are_invisible();
     each_length(rt.alloc(), two_orders())?;
     each_length(rt.alloc(), firm_order())?;
     each_length(rt.alloc(), three_orders())

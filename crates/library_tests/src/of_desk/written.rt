@@ -1,0 +1,118 @@
+//! The lines of lists that are carried out together, written to a writer that takes them all or fails.
+
+use super::headline::{ANSWERS, three_orders};
+use crate::desks::{answer_together, opened, requests};
+use crate::keepers::{plain_keeper, sql_keeper};
+use crate::streams::Sink;
+use desk::{Desk, ScriptFault};
+use keep::Keep;
+use std::alloc::Global;
+use std::test::Fail;
+use words::Request;
+
+/// What was written, and how that ended, where the writer fails behind so many writes.
+#[derive(Drop)]
+struct Written {
+    taken: Vec<u8>,
+    ended: Result<(), ScriptFault>,
+}
+
+/// Answers the requests, so many together.
+fn write<K: Keep>(
+    alloc: Global,
+    desk: &mut Desk<K>,
+    requests: &[Request],
+    most: usize,
+    writes: usize,
+) -> Result<Written, Fail> {
+    let mut writer = Sink {
+        taken: Vec::new(alloc),
+        piece: 16,
+        before_fault: writes,
+        takes_none: false,
+    };
+    let ended = answer_together(alloc, desk, requests, most, &mut writer)?;
+    Ok(Written {
+        taken: writer.taken,
+        ended,
+    })
+}
+
+/// How many lines of the text are whole, and the bytes of these.
+fn whole_lines(text: &[u8]) -> (usize, usize) {
+    let mut lines = (0, 0);
+    for (place, byte) in text.iter().enumerate() {
+        if *byte == b'\n' {
+            lines = (lines.0 + 1, place + 1);
+        }
+    }
+    lines
+}
+
+/// A beginning of the answers is written, and the desk goes on behind the lines that are written whole: whether the
+/// writer has taken all.
+fn goes_on<K: Keep>(
+    alloc: Global,
+    desk: &mut Desk<K>,
+    most: usize,
+    writes: usize,
+) -> Result<bool, Fail> {
+    let requests = requests(alloc, three_orders().lines)?;
+    let first = write(alloc, desk, &requests, most, writes)?;
+    if !ANSWERS.as_bytes().starts_with(&first.taken) {
+        Err("another answer")?;
+    }
+    let is_whole = first.taken.len() == ANSWERS.len();
+    if first.ended
+        != (if is_whole {
+            Ok(())
+        } else {
+            Err(ScriptFault::Write)
+        })
+    {
+        Err("ended otherwise")?;
+    }
+    let (told, end) = whole_lines(&first.taken);
+    let rest = requests.get(told..).ok_or("no such number")?;
+    let second = write(alloc, desk, rest, most, usize::MAX)?;
+    if second.ended != Ok(()) || ANSWERS.as_bytes().get(end..) != Some(second.taken.as_slice()) {
+        Err("other answers behind the lines that were written")?;
+    }
+    Ok(is_whole)
+}
+
+/// The same on the desk that the keeper holds.
+fn goes_on_over<K: Keep + Drop>(
+    alloc: Global,
+    keep: K,
+    most: usize,
+    writes: usize,
+) -> Result<bool, Fail> {
+    let mut desk = opened(alloc, keep)?;
+    let is_whole = goes_on(alloc, &mut desk, most, writes);
+    drop(desk.into_keep());
+    is_whole
+}
+
+/// The writer fails behind each number of writes, up to the first where it takes all: how many failed.
+fn at_each_write(alloc: Global, most: usize) -> Result<usize, Fail> {
+    for writes in 0..100 {
+        let over_rows = goes_on_over(alloc, sql_keeper(alloc)?, most, writes)?;
+        if goes_on_over(alloc, plain_keeper(alloc), most, writes)? != over_rows {
+            Err("the keepers differ")?;
+        }
+        if over_rows {
+            return Ok(writes);
+        }
+    }
+    Err("never ended")?
+}
+
+#[test]
+fn lines_are_written_when_their_batch_is_kept(rt: HostRuntime) -> Result<(), Fail> {
+    // one after the other: seven lines in a write of 16 bytes each, the refusal's 26 bytes in two
+    assert!(rt; at_each_write(rt.alloc(), 1)? == 9);
+    // all that may stand together: 86 bytes with the refusal, and the line of the commit behind it
+    assert!(rt; at_each_write(rt.alloc(), 8)? == 7);
+    Ok(())
+}
