@@ -1,7 +1,7 @@
 """Tests of the built program as a real process: what its words and its FILE may be, what its help says, a store and memory
-that are refused, scripts a line a run, long ones, files of requests, also killed and called again, replies on a pipe that
-stays open, the file as another SQLite reads it, connections, and sessions that are killed. The one argument is the
-program."""
+that are refused, scripts a line a run, long ones, files of requests, also killed and called again, and carried out together,
+replies on a pipe that stays open, the file as another SQLite reads it, connections, and sessions that are killed. The one
+argument is the program."""
 
 import os
 import random
@@ -26,6 +26,7 @@ import scripts
 import service
 import spelling
 import stored
+import together
 import upgrades
 from programs import (
     COLUMNS,
@@ -50,6 +51,14 @@ from programs import (
 ROUNDS = 50
 LINES = 1000
 
+# what stands behind the words of a file of requests and is no number of requests that are carried out together
+NOT_TOGETHER = [
+    ["--together"],
+    *[["--together", number] for number in ["0", "1001", "x", "-1", "+1", "01", "", " 1", "1.0", "1_0", "99999999999999999999"]],
+    ["--together", "1", "--together", "1"],
+    ["--together", "1", "2"],
+]
+
 # words that ask for nothing that the program does
 NO_TASK = [
     [],
@@ -72,6 +81,10 @@ NO_TASK = [
     ["serve", "usage.db", "--port", "-1", "--connections", "1"],
     ["serve", "usage.db", "--port", "0", "--port", "0", "--connections", "1"],
     ["serve", "usage.db", "0", "--port", "0", "--connections", "1"],
+    *[[word, "usage.db", "file.csv", *words] for word in ["orders", "deliveries", "bounds"] for words in NOT_TOGETHER],
+    ["deliveries", "--together", "1", "usage.db"],
+    ["run", "usage.db", "--together", "1"],
+    ["sheet", "usage.db", "N1", "--together", "1"],
     ["--help"],
     ["--version"],
 ]
@@ -81,9 +94,9 @@ HELP = [
     (["--help"], ["init", "run", "orders", "deliveries", "bounds", "sheet", "article", "serve", "upgrade"]),
     (["init", "--help"], ["FILE"]),
     (["run", "--help"], ["FILE"]),
-    (["orders", "--help"], ["FILE", "CSV"]),
-    (["deliveries", "--help"], ["FILE", "CSV"]),
-    (["bounds", "--help"], ["FILE", "CSV"]),
+    (["orders", "--help"], ["FILE", "CSV", "--together"]),
+    (["deliveries", "--help"], ["FILE", "CSV", "--together"]),
+    (["bounds", "--help"], ["FILE", "CSV", "--together"]),
     (["sheet", "--help"], ["FILE", "BRANCH"]),
     (["article", "--help"], ["FILE", "ARTICLE"]),
     (["serve", "--help"], ["FILE", "--port", "--connections"]),
@@ -398,6 +411,7 @@ def main():
         *service.TESTS,
         *spelling.TESTS,
         *stored.TESTS,
+        *together.TESTS,
         *upgrades.TESTS,
         *records.TESTS,
         *damages.TESTS,
