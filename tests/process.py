@@ -227,22 +227,27 @@ def test_a_file_of_requests_is_judged_last(program, folder):
     expect(bytes_of(path) == found, "the desk was changed")
 
 
+def expect_twice(program, path, words):
+    """A long file of orders, called with these words behind the desk, is carried out once, and answered alike again."""
+    done(program, ["run", path], "".join(f"F{n} field N{n % 5} A{n // 5:02} 0 1000 500\n" for n in range(50)))
+    want = [f"G{n} done {n + 51}" for n in range(2_500)]
+    for _ in range(2):
+        expect(done(program, ["orders", path, *words]) == want, f"{words}: another reply")
+    # each field has 200 of the lines
+    sheet = [f"A{n:02}".ljust(16) + "".join(f"{level:11}" for level in [0, 1000, 500, 300, 500]) for n in range(10)]
+    sheet.append("total".ljust(16) + f"{5000:15}")
+    expect(done(program, ["sheet", path, "N3"]) == sheet, f"{words}: another sheet")
+
+
 def test_a_long_file_of_orders_may_come_twice(program, folder):
-    """10,000 records, as 2,500 orders of four lines: carried out once, and answered alike again."""
-    path, records = new_desk(program, folder), os.path.join(folder, "orders.csv")
-    fields = [f"F{n} field N{n % 5} A{n // 5:02} 0 1000 500\n" for n in range(50)]
-    done(program, ["run", path], "".join(fields))
+    """10,000 records, as 2,500 orders of four lines, one by one and together."""
+    records = os.path.join(folder, "orders.csv")
     rows = [["key", "order", "until", "way", "branch", "article", "qty"]]
     for n in range(10_000):
         rows.append([f"G{n // 4}", n // 4 + 1, 500, "take", f"N{n % 5}", f"A{n % 50 // 5:02}", 1])
     write_records(records, rows)
-    want = [f"G{n} done {n + 51}" for n in range(2_500)]
-    for _ in range(2):
-        expect(done(program, ["orders", path, records]) == want, "another reply")
-    # each field has 200 of the lines
-    sheet = [f"A{n:02}".ljust(16) + "".join(f"{level:11}" for level in [0, 1000, 500, 300, 500]) for n in range(10)]
-    sheet.append("total".ljust(16) + f"{5000:15}")
-    expect(done(program, ["sheet", path, "N3"]) == sheet, "another sheet")
+    expect_twice(program, new_desk(program, folder, "one_by_one.db"), [records])
+    expect_twice(program, new_desk(program, folder, "together.db"), [records, "--together", "1000"])
 
 
 def test_an_empty_file_becomes_a_desk_once(program, folder):
