@@ -363,6 +363,12 @@ class Deliveries(Files):
         """Those of a call on a new copy of the desk."""
         return ["deliveries", self.copy("stopped.db"), self.file, "--together", str(most)]
 
+    def told(self, out, of):
+        """How many replies were written: they are the first ones, each of them whole."""
+        told = out.count(b"\n")
+        expect(out.decode() == "".join(reply + "\n" for reply in self.replies[:told]), f"{of}: other replies: {out[-100:]}")
+        return told
+
     def expect_gone_on(self, words, may, of):
         """The one field of the desk that was left has one of these values, and the same call again gives all replies."""
         [shown] = done(self.program, ["run", words[1]], "? field N1 A-1\n")
@@ -389,12 +395,42 @@ def test_a_store_that_fails_leaves_whole_batches(program, folder):
     for limit in range(size, size + GROWTH, GROWTH // 20):
         words, of = files.words(100), f"{limit} bytes"
         status, out, errors = ended(program, words, limit=(resource.RLIMIT_FSIZE, limit))
-        told = out.decode().splitlines()
         expect((status, errors) in [(0, b""), (1, b"stockdesk: store\n")], f"{of}: status {status}, {errors}")
-        expect(told == files.replies[: len(told)] and len(told) in ends, f"{of}: other replies: {told}")
-        failed.add(len(told))
-        files.expect_gone_on(words, [value_behind(files.replies[:end]) for end in may_be_kept(ends, len(told))], of)
+        told = files.told(out, of)
+        expect(told in ends, f"{of}: {told} replies are those of no batches")
+        failed.add(told)
+        files.expect_gone_on(words, [value_behind(files.replies[:end]) for end in may_be_kept(ends, told)], of)
     expect(len(failed) > 3, f"it only failed behind {failed}")
+
+
+def with_memory(files, size):
+    """The words of a call with memory of so many bytes, and how it ends."""
+    words = files.words(100)
+    return words, ended(files.program, words, limit=(resource.RLIMIT_DATA, size))
+
+
+def enough(files):
+    """So many bytes of memory that the file is answered whole, but not with a MiB less."""
+    size = 1 << 26
+    while with_memory(files, size - (1 << 20))[1][0] == 0:
+        size -= 1 << 20
+    return size
+
+
+def test_want_of_memory_leaves_what_is_told(program, folder):
+    """With less and less memory the file is answered whole, then in part, and then not at all: what is kept is told, but for a
+    batch within whose commit memory was refused, which is a fault of the store."""
+    files, cut, told = Deliveries(program, folder), 0, None
+    size = enough(files)
+    while told != 0:
+        words, (status, out, errors) = with_memory(files, size)
+        expect((status, errors) in [(0, b""), (1, b"stockdesk: memory\n"), (1, b"stockdesk: store\n")], f"{size}: {errors}")
+        told = files.told(out, f"{size} bytes")
+        ends = range(told, told + (101 if b"store" in errors else 1))
+        files.expect_gone_on(words, {value_behind(files.replies[:end]) for end in ends}, f"{size} bytes")
+        cut += 0 < told < len(files.replies)
+        size -= 1 << 15
+    expect(cut > 0, "it was never answered in part")
 
 
 TESTS = [
@@ -404,4 +440,5 @@ TESTS = [
     test_a_power_cut_leaves_whole_batches,
     test_a_reader_that_goes_away_leaves_whole_batches,
     test_a_store_that_fails_leaves_whole_batches,
+    test_want_of_memory_leaves_what_is_told,
 ]
