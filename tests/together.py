@@ -326,8 +326,7 @@ def left_alone(program, words, lines):
     with open(reads, "rb", buffering=0) as reader:
         if lines == 0:
             reader.close()
-        # a write that nobody can read is refused, and is no signal
-        process = subprocess.Popen([program, *words], stdout=writes, stderr=subprocess.PIPE, restore_signals=False)
+        process = subprocess.Popen([program, *words], stdout=writes, stderr=subprocess.PIPE)
         os.close(writes)
         for _ in range(lines):
             reader.readline()
