@@ -110,12 +110,16 @@ def processor():
         return platform.processor() or platform.machine()
 
 
-def head(program, file_system, library, rounds, batch):
+def surroundings(program, file_system, library):
     """What was measured, on what, and when."""
     machine = f"{os.cpu_count()} processors, {processor()}, load {os.getloadavg()[0]:.1f}"
     system = f"{platform.system()} {platform.release()}, files on {file_system}"
     yield f"{time.strftime('%Y-%m-%d %H:%M')}; {machine}; {system}."
     yield f"The program has {os.path.getsize(program):,} bytes. C: {f'SQLite {library}' if library else 'not there'}."
+
+
+def head(program, file_system, library, rounds, batch):
+    yield from surroundings(program, file_system, library)
     yield f"Medians of {rounds} rounds, each on new copies of the desks; batches of {batch} commands, or {batch * ASKS} asks."
     yield "A ratio to C is the median of the ratios of parts of batches that were played one right behind the other."
     yield ""

@@ -157,14 +157,28 @@ class Rows(Session):
 
     def play(self, _kind, steps):
         """Puts the rows in, one transaction a command: the seconds as C has measured them."""
-        lines = [line for step in steps for line in lines_of_rows(step)]
+        return self.put(line for step in steps for line in lines_of_rows(step))
+
+    def play_together(self, steps, count):
+        """Puts the rows in, those of so many commands in one transaction: the seconds."""
+        parts = [steps[first : first + count] for first in range(0, len(steps), count)]
+        return self.put(line for part in parts for line in in_transaction(line for step in part for line in rows_in(step)))
+
+    def put(self, lines):
         [answer], _ = self.exchange([*lines, "go"], 1)
         return float(answer.split()[1]) / 1e6
 
 
+def rows_in(step):
+    return ["\t".join(map(str, row)) for row in step.rows]
+
+
+def in_transaction(lines):
+    return ["begin", *lines, "commit"]
+
+
 def lines_of_rows(step):
-    lines = ["\t".join(map(str, row)) for row in step.rows]
-    return lines if step.rows[0][0] == "ask" else ["begin", *lines, "commit"]
+    return rows_in(step) if step.rows[0][0] == "ask" else in_transaction(rows_in(step))
 
 
 def play_together(players, batches, parts):

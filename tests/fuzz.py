@@ -1,9 +1,10 @@
 """Random and damaged input for the built program, outside the gate: `tests/fuzz.py PROGRAM SEED COUNT` plays COUNT rounds, each a
 script of 50 lines, a file of requests, ten streams of HTTP messages and a damaged database file. It holds what the rules say
 of any input: the program ends by itself, as its table of statuses says; each line, record and message is answered in its
-form; a stream in pieces is answered as the whole stream is; a file that was not opened stays as it was, but that its log may
-be copied into it; an upgrade leaves all rows but the version; and every file that was opened has the sums of a desk. Rounds are
-played in blocks of 100, each on new desks and from a seed of its own."""
+form; a script in stretches, of which files of requests say some that are carried out together, is answered as the whole script
+is, and leaves the same rows, and a stream in pieces as the whole stream; a file that was not opened stays as it was, but that
+its log may be copied into it; an upgrade leaves all rows but the version; and every file that was opened has the sums of a desk.
+Rounds are played in blocks of 100, each on new desks and from a seed of its own."""
 
 import contextlib
 import os
@@ -20,6 +21,7 @@ from forms import REPLY, answers_of, is_answer
 from inputs import Inputs
 from programs import COLUMNS, FILES, SECONDS, bytes_of, expect, new_desk, rows_of, say, sqlite3
 from service import Service, answered
+from stretches import file_of, stretches
 from sums import expect_sums
 
 BLOCK = 100
@@ -105,29 +107,58 @@ class Block:
         self.program = program
         self.inputs = Inputs(seed)
         self.folder = folder
+        self.file = os.path.join(folder, "requests.csv")
+        # how many lines of scripts were said by files of at least two, and how many damaged files were opened
+        self.said = self.opened = 0
 
     def new_desk(self, name):
         return new_desk(self.program, self.folder, name)
 
     def scripts(self):
-        path = self.new_desk("scripts.db")
+        """Each script, on a file or in memory, comes whole to one desk and in stretches to another."""
+        path, other = self.new_desk("scripts.db"), self.new_desk("stretches.db")
         for number in range(BLOCK):
-            script = self.inputs.script(LINES)
-            status, out, errors = played(self.program, ["run", path] if number % 4 else ["run"], script)
-            expect((status, errors) == (0, b""), f"status {status}, {errors}: {script}")
-            expect_answers(script, out)
+            script, is_on_file = self.inputs.script(LINES), number % 4
+            whole = self.answered(["run", path] if is_on_file else ["run"], script)
+            expect_answers(script, whole)
+            found = self.in_stretches(other if is_on_file else self.new_desk(f"{number}.db"), script)
+            expect(found == whole, f"whole {whole}, in stretches {found}: {script}")
+            expect(rows_of(path) == rows_of(other), f"other rows behind stretches: {script}")
         expect_sums(path, "scripts")
         return path
 
+    def answered(self, words, text):
+        """What is written by a run that does what it is asked for."""
+        status, out, errors = played(self.program, words, text)
+        expect((status, errors) == (0, b""), f"{words}: status {status}, {errors}: {text}")
+        return out
+
+    def in_stretches(self, path, script):
+        """What is written where each stretch of the script that a file of requests says is one, and each other one a script."""
+        lines, end = lines_in(script[: script.rfind(b"\n") + 1]), script[script.rfind(b"\n") + 1 :]
+        out = b"".join(self.stretch(path, kind, stretch) for kind, stretch in stretches(lines))
+        return out + self.answered(["run", path], end)
+
+    def stretch(self, path, kind, lines):
+        if kind is None:
+            return self.answered(["run", path], b"".join(line + b"\n" for line in lines))
+        with open(self.file, "wb") as file:
+            file.write(file_of(kind, lines))
+        self.said += len(lines) if len(lines) > 1 else 0
+        return self.answered([kind, path, self.file, *self.option()], b"")
+
+    def option(self):
+        return ["--together", str(self.inputs.together())]
+
     def files(self, path):
-        """Files of requests, each twice: what is done is done once."""
-        file = os.path.join(self.folder, "requests.csv")
+        """Files of requests, each twice, one by one or together: what is done is done once."""
         for _ in range(BLOCK):
             command, columns = self.inputs.random.choice(REQUEST_FILES)
             text, before = self.inputs.records(columns), bytes_of(path)
-            with open(file, "wb") as out:
+            with open(self.file, "wb") as out:
                 out.write(text)
-            ends = [played(self.program, [command, path, file], b"") for _ in range(2)]
+            words = [self.inputs.random.choice([[], self.option()]) for _ in range(2)]
+            ends = [played(self.program, [command, path, self.file, *option], b"") for option in words]
             for status, out, errors in ends:
                 if status == 4:
                     expect(out == b"" and RECORD.fullmatch(errors), f"{out}, {errors}: {text}")
@@ -231,10 +262,8 @@ class Block:
         return status == 0
 
     def databases(self, path):
-        """Counts how many of the damaged files were opened."""
         older = [os.path.join(FILES, f"{name}.db") for name in ["long", "transfer", "many"]]
         bases = [path, self.session_killed(path), *older, *(self.upgraded(base) for base in older)]
-        opened = 0
         for number in range(BLOCK):
             file, copy = (os.path.join(self.folder, f"{name}{number}.db") for name in ["damaged", "copy"])
             self.damage(file, bases)
@@ -243,7 +272,7 @@ class Block:
             script = b"? order 1\n" + self.inputs.script(LINES // 5)
             status, out, errors = played(self.program, ["run", file], script)
             if out:
-                opened += 1
+                self.opened += 1
                 expect((status, errors) in OPENED, f"{file}: status {status}, {errors}")
                 if status == 0:
                     expect_answers(script, out)
@@ -253,29 +282,30 @@ class Block:
                 expect(not is_new or (status, errors) != OLD_VERSION, f"{file}: old behind its upgrade")
                 expect_same(file, copy)
             removed(file, copy)
-        return opened
 
     def play(self):
         path = self.scripts()
         self.files(path)
         self.streams()
-        return self.databases(path)
+        self.databases(path)
 
 
 def main():
     program, seed, count = sys.argv[1:]
-    program, opened = os.path.abspath(program), 0
+    blocks = []
     for number in range(int(count) // BLOCK):
         folder = tempfile.mkdtemp()
         try:
-            opened += Block(program, int(seed) + number, folder).play()
+            blocks.append(Block(os.path.abspath(program), int(seed) + number, folder))
+            blocks[-1].play()
         except BaseException:
             say(f"seed {int(seed) + number}, {BLOCK} rounds; the files are in {folder}")
             raise
         shutil.rmtree(folder)
     rounds = int(count) // BLOCK * BLOCK
-    damaged = f"{rounds} damaged files ({opened} opened)"
-    say(f"{rounds * LINES} lines, {rounds} files of requests, {rounds * STREAMS} streams, {damaged}")
+    said, opened = sum(block.said for block in blocks), sum(block.opened for block in blocks)
+    lines, damaged = f"{rounds * LINES} lines ({said} in files)", f"{rounds} damaged files ({opened} opened)"
+    say(f"{lines}, {rounds} files of requests, {rounds * STREAMS} streams, {damaged}")
 
 
 if __name__ == "__main__":

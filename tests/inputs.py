@@ -22,6 +22,9 @@ class Inputs:
         self.orders = 0
         self.held = {}
         self.now = 0
+        self.verb = VERBS[0]
+        # how often a command is of the kind of the last
+        self.stays = 0
 
     def chance(self, share):
         return self.random.random() < share
@@ -60,11 +63,16 @@ class Inputs:
         count = self.random.randint(63, 65) if self.chance(0.02) else self.random.randint(1, 4)
         return [f"{self.way()} {self.branch()} {self.article()} {self.number(30)}" for _ in range(count)]
 
+    def verb_of_next(self):
+        if not (self.stays and self.chance(self.stays)):
+            self.verb = self.random.choice(VERBS)
+        return self.verb
+
     def command(self):
         if self.chance(0.01):
             self.now += self.random.randrange(30)
             return f"expire {self.now}"
-        verb = self.random.choice(VERBS)
+        verb = self.verb_of_next()
         field, quantity = f"{self.branch()} {self.article()}", self.number(40)
         if verb == "field":
             return f"field {field} {self.number(9)} {self.number(1000)} {self.number(200)}"
@@ -91,13 +99,23 @@ class Inputs:
         return f"field {self.branch()} {self.article()}" if self.chance(0.5) else f"order {self.order()}"
 
     def line(self):
-        line = f"? {self.view()}" if self.chance(0.1) else f"{self.key()} {self.command()}"
-        return self.changed(line.encode()) if self.chance(0.1) else line.encode()
+        """An ask, or a command; some are changed. Both are the rarer, the longer commands are of a kind."""
+        seldom = 0.1 * (1 - self.stays)
+        line = f"? {self.view()}" if self.chance(seldom) else f"{self.key()} {self.command()}"
+        return self.changed(line.encode()) if self.chance(seldom) else line.encode()
 
     def script(self, count):
-        """So many lines, of which the last may lack its end."""
-        text = b"".join(self.line() + b"\n" for _ in range(count))
+        """So many lines, of which some come again, and the last may lack its end. In some scripts a command is mostly of the kind
+        of the last."""
+        self.stays, lines = self.random.choice([0, 0.5, 0.8, 0.95]), []
+        for _ in range(count):
+            lines.append(self.random.choice(lines) if lines and self.chance(0.03) else self.line())
+        text = b"".join(line + b"\n" for line in lines)
         return text[:-1] if self.chance(0.2) else text
+
+    def together(self):
+        """How many requests are carried out together: mostly a few, now and then as many as may be."""
+        return self.random.choice([1, 2, 3, 7, self.random.randint(1, 100), self.random.randint(1, 1000), 1000])
 
     def records(self, columns):
         """A file of requests with these columns, mostly as it should be."""

@@ -7,6 +7,8 @@ import random
 import shutil
 import sys
 import tempfile
+from collections.abc import Callable
+from dataclasses import dataclass
 
 # no folder of compiled modules beside the sources
 sys.dont_write_bytecode = True
@@ -48,14 +50,11 @@ def rows_after_each(program, folder, lines):
     return rows
 
 
-def calls_of(program, folder, lines):
-    """The calls of the making of a desk in the folder, and of a session on it."""
-    path = os.path.join(folder, NAME)
-    status, made = record(program, ["init", path], "")
-    expect(status == 0, f"init: status {status}")
-    status, played = record(program, ["run", path], "".join(line + "\n" for line in lines))
-    expect(status == 0, f"run: status {status}")
-    return [*made, MADE, *played]
+def calls_of(program, words, text=""):
+    """The calls of a run that does what it is asked for."""
+    status, calls = record(program, words, text)
+    expect(status == 0, f"{words}: status {status}")
+    return calls
 
 
 def without_some_syncs(calls):
@@ -64,11 +63,22 @@ def without_some_syncs(calls):
     return [call for call in calls if call not in left_out]
 
 
+@dataclass
+class Recorded:
+    """Calls that were recorded, with their folder and its files before the first of them; and what may be found by how many
+    replies were written whole, where None says that the desk is not made yet."""
+
+    folder: str
+    files: dict
+    calls: list
+    may: Callable
+
+
 class Cuts:
     """Cuts that are tried, and what was found after them."""
 
-    def __init__(self, program, folder, rows, chance):
-        self.program, self.folder, self.rows, self.chance = program, folder, rows, chance
+    def __init__(self, program, folder, may, chance):
+        self.program, self.folder, self.may, self.chance = program, folder, may, chance
         self.tried = self.openings = self.lost = 0
 
     def laid(self, files):
@@ -99,17 +109,16 @@ class Cuts:
         return disk.left(self.chance)
 
     def cut(self, disk, replies):
-        """Cuts the power, and opens what is left; `replies` is None before the desk is made."""
+        """Cuts the power, and opens what is left."""
         files = disk.left(self.chance)
         if self.chance.randrange(OPENINGS) == 0:
             files = self.left_by_an_opening(files)
-        may = [NOT_A_DESK, STORE, self.rows[0]] if replies is None else self.rows[replies : replies + 2]
         self.tried += 1
-        self.lost += self.opened(files) not in may
+        self.lost += self.opened(files) not in self.may(replies)
 
-    def after_each(self, folder, calls, count):
-        """Cuts the power so often, about as often after each of the calls."""
-        disk, written, made = Disk(folder, {}), b"", False
+    def after_each(self, disk, calls, count):
+        """Cuts the power so often, about as often after each of the calls that the disk carries out."""
+        written, made = b"", MADE not in calls
         for number, call in enumerate(calls):
             if call is MADE:
                 made = True
@@ -119,27 +128,43 @@ class Cuts:
                 self.cut(disk, written.count(b"\n") if made else None)
 
 
-def try_cuts(program, folder, seed, count):
-    lines = script_of(seed)
-    rows = rows_after_each(program, folder, lines)
-    recorded = os.path.join(folder, "recorded")
-    os.mkdir(recorded)
-    calls = calls_of(program, recorded, lines)
-    cuts = Cuts(program, folder, rows, random.Random(seed))
-    cuts.after_each(recorded, calls, count)
+def try_cuts(program, folder, recorded, seed, count):
+    cuts, blind = (Cuts(program, folder, recorded.may, random.Random(seed)) for _ in range(2))
+    cuts.after_each(Disk(recorded.folder, recorded.files), recorded.calls, count)
     expect(cuts.lost == 0, f"seed {seed}: {cuts.lost} of {cuts.tried} cuts lost something")
-    blind = Cuts(program, folder, rows, random.Random(seed))
-    blind.after_each(recorded, without_some_syncs(calls), BLIND_CUTS)
+    blind.after_each(Disk(recorded.folder, recorded.files), without_some_syncs(recorded.calls), BLIND_CUTS)
     expect(blind.lost > 0, f"seed {seed}: no sync is missed")
-    say(f"  seed {seed}: {cuts.tried} cuts after {len(calls)} calls, {cuts.openings} of them in an opening, too")
+    say(f"  seed {seed}: {cuts.tried} cuts after {len(recorded.calls)} calls, {cuts.openings} of them in an opening, too")
     say(f"  with every other sync left out {blind.lost} of {blind.tried} lose something")
 
 
-def test_a_power_cut_loses_nothing_that_was_answered(program, folder):
+def recorded_script(program, folder, seed):
+    """The making of a desk and a session on it."""
+    lines = script_of(seed)
+    rows = rows_after_each(program, folder, lines)
+    there = os.path.join(folder, "recorded")
+    os.mkdir(there)
+    path = os.path.join(there, NAME)
+    played = "".join(line + "\n" for line in lines)
+    calls = [*calls_of(program, ["init", path]), MADE, *calls_of(program, ["run", path], played)]
+
+    def may(replies):
+        return [NOT_A_DESK, STORE, rows[0]] if replies is None else rows[replies : replies + 2]
+
+    return Recorded(there, {}, calls, may)
+
+
+def may_be_cut():
+    """Whether the power may be cut here; where it may not, that is said."""
     if sqlite3 is None or not traced():
         say("  not tried: no strace that may trace, or no other SQLite, is here")
-        return
-    try_cuts(program, folder, SEED, CUTS)
+        return False
+    return True
+
+
+def test_a_power_cut_loses_nothing_that_was_answered(program, folder):
+    if may_be_cut():
+        try_cuts(program, folder, recorded_script(program, folder, SEED), SEED, CUTS)
 
 
 TESTS = [test_a_power_cut_loses_nothing_that_was_answered]
@@ -148,7 +173,8 @@ TESTS = [test_a_power_cut_loses_nothing_that_was_answered]
 def main():
     program, seed, count = sys.argv[1:]
     with tempfile.TemporaryDirectory() as folder:
-        try_cuts(os.path.abspath(program), folder, int(seed), int(count))
+        program = os.path.abspath(program)
+        try_cuts(program, folder, recorded_script(program, folder, int(seed)), int(seed), int(count))
 
 
 if __name__ == "__main__":

@@ -1,7 +1,7 @@
 """Tests of the built program as a real process: what its words and its FILE may be, what its help says, a store and memory
-that are refused, scripts a line a run, long ones, files of requests, also killed and called again, replies on a pipe that
-stays open, the file as another SQLite reads it, connections, and sessions that are killed. The one argument is the
-program."""
+that are refused, scripts a line a run, long ones, files of requests, also killed and called again, and carried out together,
+replies on a pipe that stays open, the file as another SQLite reads it, connections, and sessions that are killed. The one
+argument is the program."""
 
 import os
 import random
@@ -26,6 +26,7 @@ import scripts
 import service
 import spelling
 import stored
+import together
 import upgrades
 from programs import (
     COLUMNS,
@@ -50,6 +51,14 @@ from programs import (
 ROUNDS = 50
 LINES = 1000
 
+# what stands behind the words of a file of requests and is no number of requests that are carried out together
+NOT_TOGETHER = [
+    ["--together"],
+    *[["--together", number] for number in ["0", "1001", "x", "-1", "+1", "01", "", " 1", "1.0", "1_0", "99999999999999999999"]],
+    ["--together", "1", "--together", "1"],
+    ["--together", "1", "2"],
+]
+
 # words that ask for nothing that the program does
 NO_TASK = [
     [],
@@ -72,6 +81,10 @@ NO_TASK = [
     ["serve", "usage.db", "--port", "-1", "--connections", "1"],
     ["serve", "usage.db", "--port", "0", "--port", "0", "--connections", "1"],
     ["serve", "usage.db", "0", "--port", "0", "--connections", "1"],
+    *[[word, "usage.db", "file.csv", *words] for word in ["orders", "deliveries", "bounds"] for words in NOT_TOGETHER],
+    ["deliveries", "--together", "1", "usage.db"],
+    ["run", "usage.db", "--together", "1"],
+    ["sheet", "usage.db", "N1", "--together", "1"],
     ["--help"],
     ["--version"],
 ]
@@ -81,9 +94,9 @@ HELP = [
     (["--help"], ["init", "run", "orders", "deliveries", "bounds", "sheet", "article", "serve", "upgrade"]),
     (["init", "--help"], ["FILE"]),
     (["run", "--help"], ["FILE"]),
-    (["orders", "--help"], ["FILE", "CSV"]),
-    (["deliveries", "--help"], ["FILE", "CSV"]),
-    (["bounds", "--help"], ["FILE", "CSV"]),
+    (["orders", "--help"], ["FILE", "CSV", "--together"]),
+    (["deliveries", "--help"], ["FILE", "CSV", "--together"]),
+    (["bounds", "--help"], ["FILE", "CSV", "--together"]),
     (["sheet", "--help"], ["FILE", "BRANCH"]),
     (["article", "--help"], ["FILE", "ARTICLE"]),
     (["serve", "--help"], ["FILE", "--port", "--connections"]),
@@ -214,22 +227,27 @@ def test_a_file_of_requests_is_judged_last(program, folder):
     expect(bytes_of(path) == found, "the desk was changed")
 
 
+def expect_twice(program, path, words):
+    """A long file of orders, called with these words behind the desk, is carried out once, and answered alike again."""
+    done(program, ["run", path], "".join(f"F{n} field N{n % 5} A{n // 5:02} 0 1000 500\n" for n in range(50)))
+    want = [f"G{n} done {n + 51}" for n in range(2_500)]
+    for _ in range(2):
+        expect(done(program, ["orders", path, *words]) == want, f"{words}: another reply")
+    # each field has 200 of the lines
+    sheet = [f"A{n:02}".ljust(16) + "".join(f"{level:11}" for level in [0, 1000, 500, 300, 500]) for n in range(10)]
+    sheet.append("total".ljust(16) + f"{5000:15}")
+    expect(done(program, ["sheet", path, "N3"]) == sheet, f"{words}: another sheet")
+
+
 def test_a_long_file_of_orders_may_come_twice(program, folder):
-    """10,000 records, as 2,500 orders of four lines: carried out once, and answered alike again."""
-    path, records = new_desk(program, folder), os.path.join(folder, "orders.csv")
-    fields = [f"F{n} field N{n % 5} A{n // 5:02} 0 1000 500\n" for n in range(50)]
-    done(program, ["run", path], "".join(fields))
+    """10,000 records, as 2,500 orders of four lines, one by one and together."""
+    records = os.path.join(folder, "orders.csv")
     rows = [["key", "order", "until", "way", "branch", "article", "qty"]]
     for n in range(10_000):
         rows.append([f"G{n // 4}", n // 4 + 1, 500, "take", f"N{n % 5}", f"A{n % 50 // 5:02}", 1])
     write_records(records, rows)
-    want = [f"G{n} done {n + 51}" for n in range(2_500)]
-    for _ in range(2):
-        expect(done(program, ["orders", path, records]) == want, "another reply")
-    # each field has 200 of the lines
-    sheet = [f"A{n:02}".ljust(16) + "".join(f"{level:11}" for level in [0, 1000, 500, 300, 500]) for n in range(10)]
-    sheet.append("total".ljust(16) + f"{5000:15}")
-    expect(done(program, ["sheet", path, "N3"]) == sheet, "another sheet")
+    expect_twice(program, new_desk(program, folder, "one_by_one.db"), [records])
+    expect_twice(program, new_desk(program, folder, "together.db"), [records, "--together", "1000"])
 
 
 def test_an_empty_file_becomes_a_desk_once(program, folder):
@@ -398,6 +416,7 @@ def main():
         *service.TESTS,
         *spelling.TESTS,
         *stored.TESTS,
+        *together.TESTS,
         *upgrades.TESTS,
         *records.TESTS,
         *damages.TESTS,

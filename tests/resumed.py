@@ -8,50 +8,84 @@ import time
 
 from programs import done, expect, new_desk, rows_of, say, sqlite3, write_records
 
-RECORDS = 2_000
+COUNT = 2_000
 ROUNDS = 30
-
-# every 40th order is on a field that is not there, so that it is refused whenever it comes
-ORDERS = [["key", "order", "until", "way", "branch", "article", "qty"]] + [
-    [f"F{n}", n, 500, "take", "N1", "B-9" if n % 40 == 0 else "A-1", 1] for n in range(1, RECORDS + 1)
-]
+START = 1_000_000
+FIELD = f"K1 field N1 A-1 0 1000000000 {START}\n"
 
 
-def called(program, path, records, seconds):
-    """Calls the program, and kills it after so many seconds: its output, or None where it was killed."""
-    process = subprocess.Popen([program, "orders", path, records], stdout=subprocess.PIPE, stderr=subprocess.PIPE)
+def orders_of(every):
+    """A file of orders: each of so many is on a field that is not there, so that it is refused whenever it comes."""
+    rows = [[f"F{n}", n, 500, "take", "N1", "A-1" if n % every else "B-9", 1] for n in range(1, COUNT + 1)]
+    return [["key", "order", "until", "way", "branch", "article", "qty"], *rows]
+
+
+def called(program, words, seconds):
+    """Calls the program, and kills it after so many seconds: its output, and whether it was killed."""
+    process = subprocess.Popen([program, *words], stdout=subprocess.PIPE, stderr=subprocess.PIPE)
     try:
         out, errors = process.communicate(timeout=seconds)
     except subprocess.TimeoutExpired:
         process.kill()
-        process.communicate()
-        return None
-    expect((process.returncode, errors) == (0, b""), f"orders: status {process.returncode}, {errors!r}")
-    return out
+        return process.communicate()[0], True
+    expect((process.returncode, errors) == (0, b""), f"{words}: status {process.returncode}, {errors!r}")
+    return out, False
+
+
+class Killed:
+    """Calls that are killed, with one file of orders and the same words behind it, each on a copy of one desk or on what the call
+    before it has left there."""
+
+    def __init__(self, program, folder, orders, words):
+        self.program, self.folder, self.words = program, folder, words
+        self.generator = random.Random(1986)
+        self.records, self.desk = os.path.join(folder, "orders.csv"), new_desk(program, folder, "new.db")
+        write_records(self.records, orders)
+        done(program, ["run", self.desk], FIELD)
+        self.replies, self.undisturbed = self.whole("undisturbed.db", [])
+        self.killed = 0
+
+    def copy(self, name):
+        return shutil.copy(self.desk, os.path.join(self.folder, name))
+
+    def whole(self, name, words):
+        """What is written in a call that nobody kills, and the desk that it leaves."""
+        path = self.copy(name)
+        return "\n".join([*done(self.program, ["orders", path, self.records, *words]), ""]).encode(), path
+
+    def look(self, path, out):
+        """What is looked at behind each call that was killed: the desk that it has left, and what it has written."""
+
+    def until_whole(self, path, seconds):
+        """Calls until a call ends by itself, of which each is killed within about so many seconds: what the last one writes."""
+        out, is_killed = self.call(path, seconds)
+        while is_killed:
+            self.killed += 1
+            self.look(path, out)
+            out, is_killed = self.call(path, 2 * seconds)
+        return out
+
+    def call(self, path, most):
+        words = ["orders", path, self.records, *self.words]
+        return called(self.program, words, self.generator.uniform(0, most))
+
+    def play(self, rounds):
+        """The last call gives the replies of a run that was never killed, one after the other, and leaves the same rows."""
+        began = time.monotonic()
+        out, _ = self.whole("measured.db", self.words)
+        took = time.monotonic() - began
+        expect(out == self.replies, "another reply where none is killed")
+        for number in range(rounds):
+            path = self.copy(f"killed{number}.db")
+            expect(self.until_whole(path, took) == self.replies, "another reply")
+            if sqlite3:
+                expect(rows_of(path) == rows_of(self.undisturbed), "other rows")
+        expect(self.killed > 0, "none was killed")
+        say(f"  {rounds} files, {self.killed} calls killed")
 
 
 def test_a_killed_file_of_orders_is_called_again(program, folder):
-    """The last call gives the replies of a run that was never killed, and leaves the same rows."""
-    generator = random.Random(1986)
-    records, undisturbed = os.path.join(folder, "orders.csv"), new_desk(program, folder, "undisturbed.db")
-    write_records(records, ORDERS)
-    done(program, ["run", undisturbed], "K1 field N1 A-1 0 1000000000 1000000\n")
-    new = shutil.copy(undisturbed, os.path.join(folder, "new.db"))
-    began = time.monotonic()
-    replies = "\n".join([*done(program, ["orders", undisturbed, records]), ""]).encode()
-    took = time.monotonic() - began
-    killed = 0
-    for number in range(ROUNDS):
-        path = shutil.copy(new, os.path.join(folder, f"killed{number}.db"))
-        out = called(program, path, records, generator.uniform(0, took))
-        while out is None:
-            killed += 1
-            out = called(program, path, records, generator.uniform(0, 2 * took))
-        expect(out == replies, "another reply")
-        if sqlite3:
-            expect(rows_of(path) == rows_of(undisturbed), "other rows")
-    expect(killed > 0, "none was killed")
-    say(f"  {ROUNDS} files, {killed} calls killed")
+    Killed(program, folder, orders_of(40), []).play(ROUNDS)
 
 
 TESTS = [test_a_killed_file_of_orders_is_called_again]
