@@ -191,7 +191,10 @@ pub answered_further : (A M B : Ledger) (rs some : List Request) (n k count : �
 answered_further A M B rs some n k count W X w are few (lines, replies, writes) (more, others, appends) =
     let short : length some ≤ k = subst (λ (xs : List Request). length xs ≤ k) (sym are) (length_take_most k (drop n rs)) in
     let same : take (n + count) rs ≡ take n rs ++ take count some =
-    take-add n count rs ∙ ap (λ (xs : List Request). take n rs ++ xs) (taken_again count k (drop n rs) (omega (arith, short, few)) ∙ ap (λ (xs : List Request). take count xs) (sym are)) in
-    (lines ++ more, subst (λ (xs : List Request). RepliesAll A (items_of xs) (lines ++ more) B) (sym same)
-        (subst (λ (xs : List Item). RepliesAll A xs (lines ++ more) B) (sym (items_joined (take n rs) (take count some)))
-        (replies_joined (items_of (take n rs)) (items_of (take count some)) A M B lines more replies others)), Appends-trans _ _ _ _ _ writes appends)
+    take-add n count rs ∙ ap (λ (xs : List Request). take n rs ++ xs) (taken_again count k (drop n rs) (omega (arith, short, few)) ∙ ap (λ (xs : List Request). take count xs) (sym are)) in (
+      lines ++ more,
+      subst (λ (xs : List Request). RepliesAll A (items_of xs) (lines ++ more) B) (sym same)
+          (subst (λ (xs : List Item). RepliesAll A xs (lines ++ more) B) (sym (items_joined (take n rs) (take count some)))
+          (replies_joined (items_of (take n rs)) (items_of (take count some)) A M B lines more replies others)),
+      Appends-trans _ _ _ _ _ writes appends,
+    )

@@ -1,7 +1,6 @@
 //! Requests, one after the other.
 
-ghost use Rattle.std.specs.Prelude.{◌≡◌, ◌≢◌, ◌↔◌, ◌+◌, ◌-◌, ◌<◌, ◌≤◌, ◌++◌, ◌∷◌, [], List, drop, false, length, take, IsTrue};
-ghost use Rattle.std.specs.Vec.{vec_capacity, vec_len};
+ghost use Rattle.std.specs.Prelude.{◌≡◌, ◌≢◌, ◌↔◌, ◌+◌, ◌-◌, ◌≤◌, ◌++◌, [], List, drop, false, length, take, IsTrue};
 ghost use Rattle.book.specs.Answers.{After, Runs};
 ghost use Rattle.book.specs.Ledger.{Ledger};
 ghost use Rattle.desk.specs.Desk.{LeavesEither, StaysStored};
@@ -62,7 +61,7 @@ impl<K: Keep> Desk<K> {
                 };
             };
             match self.call(alloc, request) {
-                Ok(reply) => push(&mut replies, reply),
+                Ok(reply) => replies.push_reserved(reply),
                 Err(fault) => {
                     return Run {
                         replies,
@@ -116,16 +115,5 @@ fn ending_of(fault: CallFault) -> Ending
     match fault {
         CallFault::Memory => Ending::Memory,
         CallFault::Stopped => Ending::Stopped,
-    }
-}
-
-/// A reply more, for which there is room.
-fn push(replies: &mut Vec<Reply>, reply: Reply)
-    requires { vec_len replies.old < vec_capacity replies.old }
-    ensures { replies.new.items ≡ replies.old.items ++ reply ∷ [] }
-{
-    match replies.push(reply) {
-        Ok(()) => {}
-        Err(_) => unreachable!(),
     }
 }

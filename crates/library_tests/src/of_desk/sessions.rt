@@ -169,18 +169,21 @@ impl Session {
     }
 }
 
-/// The desk stands behind so many requests, or behind so many.
-fn expect_state<K: Keep>(
+/// Behind how many requests of the list the desk stands: so many, or so many.
+fn standing<K: Keep>(
     alloc: Global,
     desk: &mut Desk<K>,
     list: &List,
     before: usize,
     next: usize,
-) -> Result<(), Fail> {
-    if !stands(alloc, desk, list, before)? && !stands(alloc, desk, list, next)? {
-        Err("another ledger than before that request or behind it")?;
+) -> Result<usize, Fail> {
+    if stands(alloc, desk, list, before)? {
+        return Ok(before);
     }
-    Ok(())
+    if stands(alloc, desk, list, next)? {
+        return Ok(next);
+    }
+    Err("another ledger than before that request or behind it")?
 }
 
 /// The desk is stopped where it was told so, and stands behind the whole list where all was answered.
@@ -199,30 +202,29 @@ pub(crate) fn expect_end<K: Keep>(
     Ok(())
 }
 
-/// A desk that stands there answers the rest: how many requests are answered then.
-fn answer_rest<K: Keep>(
-    alloc: Global,
-    desk: &mut Desk<K>,
-    session: Session,
-    requests: &[Request],
-    most: usize,
-) -> Result<usize, Fail> {
-    expect_state(alloc, desk, session.list, session.before, most)?;
-    Ok(session.carry_out(alloc, desk, requests)?.0)
-}
-
-/// It goes on where it can, at the end of the list too: behind what is answered, and nothing else.
+/// A desk that stands there answers the rest, and goes on where it can, at the end of the list too: how many requests are
+/// answered then. Meanwhile it stands behind what is answered, and behind what was found to be done.
 fn answer_on<K: Keep>(
     alloc: Global,
     desk: &mut Desk<K>,
     session: Session,
     requests: &[Request],
 ) -> Result<usize, Fail> {
-    let before = answer_rest(alloc, desk, session, requests, session.most_done())?;
+    let found = standing(
+        alloc,
+        desk,
+        session.list,
+        session.before,
+        session.most_done(),
+    )?;
+    let (before, _) = session.carry_out(alloc, desk, requests)?;
     if desk.is_stopped() {
         return Ok(before);
     }
-    answer_rest(alloc, desk, Session { before, ..session }, requests, before)
+    let done = found.max(before);
+    standing(alloc, desk, session.list, done, done)?;
+    let rest = Session { before, ..session };
+    Ok(rest.carry_out(alloc, desk, requests)?.0)
 }
 
 /// The session on the desk: how many requests are answered then.

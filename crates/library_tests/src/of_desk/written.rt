@@ -38,15 +38,15 @@ fn write<K: Keep>(
     })
 }
 
-/// How many lines of the text are whole, and the bytes of these.
-fn whole_lines(text: &[u8]) -> (usize, usize) {
-    let mut lines = (0, 0);
+/// The end of the last line of the text that is whole.
+fn end_of_lines(text: &[u8]) -> usize {
+    let mut end = 0;
     for (place, byte) in text.iter().enumerate() {
         if *byte == b'\n' {
-            lines = (lines.0 + 1, place + 1);
+            end = place + 1;
         }
     }
-    lines
+    end
 }
 
 /// A beginning of the answers is written, and the desk goes on behind the lines that are written whole: whether the
@@ -72,7 +72,8 @@ fn goes_on<K: Keep>(
     {
         Err("ended otherwise")?;
     }
-    let (told, end) = whole_lines(&first.taken);
+    let told = first.taken.iter().filter(|byte| **byte == b'\n').count();
+    let end = end_of_lines(&first.taken);
     let rest = requests.get(told..).ok_or("no such number")?;
     let second = write(alloc, desk, rest, most, usize::MAX)?;
     if second.ended != Ok(()) || ANSWERS.as_bytes().get(end..) != Some(second.taken.as_slice()) {

@@ -24,6 +24,9 @@ returns-in_default-clause-cut g c =
 
 pub returns-then-eq-2-clause-cut : goal.returns-then-eq-2-clause-cut
 returns-then-eq-2-clause-cut g c =
-    let going : c.run_batch-told.result.run.ending ≢ Stopped = λ is. search rules in
-    (_, c.in-Ok.ensures.whole, memory_behind _ _ _ c.args.desk.now.ledger c.run_batch-told.new.self.ledger c.args.requests.now c.requires.going (length c.run_batch-told.result.run.replies.items) c.deref.result.now
-    (subst (λ (out : List ℕ). RepliesAll c.args.desk.now.ledger (items_of (take (length c.run_batch-told.result.run.replies.items) c.args.requests.now)) out c.run_batch-told.new.self.ledger) (sym c.deref.ensures.value) (c.run_batch-told.ensures.lines going)))
+    let going : c.run_batch-told.result.run.ending ≢ Stopped = λ is. search rules in (
+      _,
+      c.in-Ok.ensures.whole,
+      memory_behind _ _ _ c.args.desk.now.ledger c.run_batch-told.new.self.ledger c.args.requests.now c.requires.going (length c.run_batch-told.result.run.replies.items) c.deref.result.now
+          (subst (λ (out : List ℕ). RepliesAll c.args.desk.now.ledger (items_of (take (length c.run_batch-told.result.run.replies.items) c.args.requests.now)) out c.run_batch-told.new.self.ledger) (sym c.deref.ensures.value) (c.run_batch-told.ensures.lines going)),
+    )

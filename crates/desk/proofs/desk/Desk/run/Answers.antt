@@ -39,11 +39,11 @@ loop-request-preserved g c =
     let reply = c.in-Ok-call.reply in
     let longer : take (i + 1) requests ≡ take i requests ++ r ∷ [] =
     take_more requests i r c.loop-request-test.true ∙ ap (λ (x : Request). take i requests ++ x ∷ []) (sym c.request-item.is) in
-    let told : c.push.new.replies.items ≡ c.loop-request.replies.items ++ reply ∷ [] =
-    c.push.ensures ∙ ap (λ (xs : List Reply). xs ++ reply ∷ []) c.in-Ok.ensures.items in
+    let told : c.push_reserved.new.self.items ≡ c.loop-request.replies.items ++ reply ∷ [] =
+    c.push_reserved.ensures.items ∙ ap (λ (xs : List Reply). xs ++ reply ∷ []) c.in-Ok.ensures.items in
     let runs = runs_on c.args.self.now.ledger c.loop-request.self.ledger c.call.new.self.ledger (take i requests) c.loop-request.replies.items r reply
     c.loop-request.invariant.0 c.in-Ok-call.ensures.answer in (
-      subst (λ (rs : List Request). Runs c.args.self.now.ledger rs c.push.new.replies.items c.call.new.self.ledger) (sym longer)
+      subst (λ (rs : List Request). Runs c.args.self.now.ledger rs c.push_reserved.new.self.items c.call.new.self.ledger) (sym longer)
           (subst (λ (ps : List Reply). Runs c.args.self.now.ledger (take i requests ++ r ∷ []) ps c.call.new.self.ledger) (sym told) runs),
       ap (λ (xs : List Reply). length xs) told ∙ length-append c.loop-request.replies.items (reply ∷ []) ∙ ap (λ n. n + 1) c.loop-request.invariant.1,
       search rules,
