@@ -2,20 +2,20 @@
 use Rattle.book.proofs.Prelude.{[], ◌&&◌, ◌+ℤ◌, ◌-ℤ◌, ◌||◌, ◌∙◌, ◌∷◌, ◌≡◌, Accepts, Bool, Command, Each, Field, FieldCells, FieldEntry, FirstFailure, GivenBack, GivesBack, Good, HasEntry, IsChangedField, IsNone, IsSome, IsSomeAnd, IsUpToDate, Stock, is_lt, IsStrictlySortedBy, Ledger, Line, List, Name, None, OpenLine, Option, Order, Puts, Request, Some, State, Way, accept, add_hold, added_part, ap, arith, change_lines, changes_field, checks, common_steps, entry_row, expired_lines, expires, false, field_named, field_of, field_row, field_rows, find, has_line_on, held_to_add, held_to_take, if◌then◌else◌, insert_entry, ints, is_open, is_some, is_transfer, keys_of, line_name, line_on, list_any, list_any-append, lower_held, map, moved_by, moved_by_command, moved_part, name_cmp, name_of, nat_le, new_line, next, not, on, open_state, option_map, order_after, order_is, order_numbered, pos, raise_held, raise_used, refl, same_name, settled, settled_state, signed, some_has_line, subst, sym, taken_part, total, true, true≢false, ℕ, ℤ}
 use Rattle.words.specs.declared.command.Command.TheVariants as command
 use Rattle.book.specs.After.{changes_own_stock, moved_at_once}
-use Rattle.book.specs.RunningNumbers.{HasLines, MovesField, lines_add, lines_take}
+use Rattle.book.specs.Checking.{IsFound}
+use Rattle.book.specs.RunningNumbers.{HasLines, lines_add, lines_take}
 use Rattle.book.proofs.OutcomeTests.{none_found, same_self}
 use Rattle.book.proofs.Bounds.{adds, takes}
 use Rattle.book.proofs.ChangedFields.{all_rows, put_self, self_eq, any-append, total-flat}
-use Rattle.book.proofs.CheckAnswers.{bounds_decide}
 use Rattle.book.proofs.Lists.{any-map, find-new, some_is}
 use Rattle.book.proofs.Futures.{all_pass, name_is}
-use Rattle.book.proofs.Safety.{none_if_not_some, not_less, bounding, found_bounded}
+use Rattle.book.proofs.Safety.{none_if_not_some, bounding, found_bounded, takes_more}
+use Rattle.book.proofs.Comparisons.{more_sums}
 use Rattle.book.proofs.CommandOrder.{any_one, changed_on, left_out, lined, lined_firm, total-next}
 use Rattle.book.proofs.RunningNumbers.{new_field}
-use Rattle.escrow.specs.Choices.{IsSafe}
-use Rattle.escrow.specs.Escrow.{bounded}
+use Rattle.escrow.specs.Escrow.{MovesValue, bounded, holding}
 use Rattle.book.specs.Next.{with_bounds}
-use Rattle.book.proofs.StockChanges.{entry_is, settled_moved}
+use Rattle.book.proofs.StockChanges.{entry_is, holding_row, settled_moved, value_moved}
 use Rattle.book.proofs.Sums.{each, each-both, each-imp, total-eq}
 
 -- ---- the rows, from the entries
@@ -25,11 +25,10 @@ changed_rows A r D good rising changed all = all_rows (changes_field A r.command
 
 -- ---- one field
 
-pub one_row : (A : Ledger) (r : Request) (n : Name) (old D : List (Name × FieldEntry)) → Good (accept A r) → old ≡ [] → IsStrictlySortedBy name_cmp (keys_of D) → Puts A r n old D → ((f : Name) → changes_field A r.command f ≡ same_name f n) → map entry_row D ≡ field_rows A r
-one_row A r n old D good empty rising puts only =
-    let is = puts.put ∙ ap (λ (C : List (Name × FieldEntry)). insert_entry name_cmp C n puts.entry) empty in
-    changed_rows A r D good rising (subst (Each (IsChangedField A r)) (sym is) (puts.changed, tt))
-    (λ f changes. subst (λ (k : Name). HasEntry D k) (sym (name_is f.name n (sym (only f.name) ∙ changes))) (subst (λ (C : List (Name × FieldEntry)). HasEntry C n) (sym is) (put_self [] n puts.entry)))
+one_row : (A : Ledger) (r : Request) (e : Name × FieldEntry) → Good (accept A r) → IsChangedField A r e → ((f : Name) → changes_field A r.command f ≡ same_name f e.0) → entry_row e ∷ [] ≡ field_rows A r
+unfolding IsStrictlySortedBy
+one_row A r e good changed only =
+    changed_rows A r (e ∷ []) good (tt, tt) (changed, tt) (λ f changes. subst (λ (k : Name). HasEntry (e ∷ []) k) (sym (name_is f.name e.0 (sym (only f.name) ∙ changes))) (put_self [] e.0 e.1))
 
 some_there : {X : Type 0} (o : Option X) → (IsNone o → ⊥) → IsSome o
 some_there b h = grind arith
@@ -45,67 +44,60 @@ record MovesAtOnce (A : Ledger) (c : Command) (n : Name) (w : Way) (q : ℕ) : T
 moves_at_once : (A : Ledger) (c : Command) (n : Name) (w : Way) (q : ℕ) → FirstFailure (checks A c) None → moved_at_once c ≡ Some (n, w, q) → MovesAtOnce A c n w q
 moves_at_once A c n w q h e = grind arith
 
-pub moving : (A : Ledger) (r : Request) (n : Name) (w : Way) (q : ℕ) → Accepts A r → moved_at_once r.command ≡ Some (n, w, q) → MovesField A r n w q
-moving A r n w q accepts is = grind (arith, moves_at_once, same_self, settled_moved, takes, adds)
-
-pub moving_rows : (A : Ledger) (r : Request) (n : Name) (w : Way) (q : ℕ) (old D : List (Name × FieldEntry)) → Accepts A r → moved_at_once r.command ≡ Some (n, w, q) → old ≡ [] → IsStrictlySortedBy name_cmp (keys_of D) → Puts A r n old D → map entry_row D ≡ field_rows A r
-moving_rows A r n w q old D accepts is empty rising puts =
-    let m = moves_at_once A r.command n w q accepts.accepted.1 is in
-    one_row A r n old D accepts.after empty rising puts m.names
+pub moved_found : (A : Ledger) (c : Command) (n : Name) (w : Way) (q : ℕ) (e : FieldEntry) (new : Stock) → moved_at_once c ≡ Some (n, w, q) → IsUpToDate A (n, e) → field_named A n ≡ Some (field_of (n, e)) → MovesValue e.quantity w q new → IsFound A c (Some (n, record { start = e.start; quantity = new }))
+moved_found A c n w q e new is up there moves key accepts =
+    let m = moves_at_once A c n w q accepts.accepted.1 is in
+    let value = settled_moved A (field_of (n, e)) c w q (m.moves n ∙ ap (λ b. if b then signed w q else pos 0) (same_self n)) m.orders in
+    one_row A (record { key = key; command = c }) (n, record { start = e.start; quantity = new }) accepts.after (record {
+      field = field_of (n, e);
+      there = ap (find (λ g. same_name n g.name)) m.fields ∙ there;
+      passes = m.names n ∙ same_self n;
+      has_row = value_moved A (next A c) n e w q new up value (ap (total (taken_part n)) m.orders) (ap (total (added_part n)) m.orders) moves;
+    }) m.names
 
 -- ---- a new field
 
-pub new_rows : (A : Ledger) (r : Request) (b a : List ℕ) (lo hi start : ℕ) (old D : List (Name × FieldEntry)) (e : FieldEntry) → Accepts A r → r.command ≡ command.Field b a lo hi start → old ≡ [] → IsStrictlySortedBy name_cmp (keys_of D) → D ≡ insert_entry name_cmp old (name_of b a) e
-    → e ≡ record { start = start; quantity = record { lo = lo; hi = hi; value = start; held_to_take = 0; held_to_add = 0 } } → map entry_row D ≡ field_rows A r
-new_rows A r b a lo hi start old D e accepts is empty rising put entry =
-    one_row A r n old D accepts.after empty rising (record { entry = e; changed = changed; put = put }) (λ f. ap (λ (c : Command). changes_field A c f) is)
+pub new_found : (A : Ledger) (n : Name) (lo hi start : ℕ) (q : Stock) → q ≡ record { lo = lo; hi = hi; value = start; held_to_take = 0; held_to_add = 0 } → IsFound A (command.Field n.branch n.article lo hi start) (Some (n, record { start = start; quantity = q }))
+new_found A n lo hi start q is key accepts =
+    one_row A (record { key = key; command = c }) (n, record { start = start; quantity = q }) accepts.after (record {
+      field = new;
+      there = find-new (λ g. same_name n g.name) (λ f g. is_lt (name_cmp f.name g.name)) new A.fields (same_self n) (none_found (λ g. same_name n g.name) A.fields none);
+      passes = same_self n;
+      has_row = ap (λ (q : Stock). entry_row (n, record { start = start; quantity = q })) is ∙ new_field A (next A c) n lo hi start accepts.before none refl refl;
+    }) (λ f. refl)
   where
-    n : Name
-    n = name_of b a
+    c : Command
+    c = command.Field n.branch n.article lo hi start
 
     new : Field
     new = record { name = n; lo = lo; hi = hi; start = start }
 
     none : field_named A n ≡ None
-    none = none_if_not_some (field_named A n) (all_pass (checks A (command.Field b a lo hi start)) (subst (λ (c : Command). FirstFailure (checks A c) None) is accepts.accepted.1)).1.1.0
-
-    B : Command → Ledger
-    B c = accept A (record { key = r.key; command = c })
-
-    changed : IsChangedField A r (n, e)
-    changed = record {
-      field = new;
-      there = ap (λ (c : Command). field_named (B c) n) is ∙ find-new (λ g. same_name n g.name) (λ f g. is_lt (name_cmp f.name g.name)) new A.fields (same_self n) (none_found (λ g. same_name n g.name) A.fields none);
-      passes = ap (λ (c : Command). changes_field A c n) is ∙ same_self n;
-      has_row = ap (λ (v : FieldEntry). entry_row (n, v)) entry ∙ new_field A (accept A r) n lo hi start accepts.before none (ap (λ (c : Command). (B c).moves) is) (ap (λ (c : Command). (B c).orders) is);
-    }
+    none = none_if_not_some (field_named A n) (all_pass (checks A c) accepts.accepted.1).1.1.0
 
 -- ---- other bounds
 
--- every outcome lies within them
-pub bounds_safe : (A : Ledger) (r : Request) (n : Name) (lo hi : ℕ) (e : FieldEntry) → Accepts A r → r.command ≡ command.Rebound n.branch n.article lo hi → IsUpToDate A (n, e) → field_named A n ≡ Some (field_of (n, e)) → IsSafe (bounded e.quantity lo hi)
-bounds_safe A r n lo hi e accepts is up there taken added t a =
-    let d = bounds_decide A n e lo hi accepts.before up there in
-    let p = all_pass (checks A (command.Rebound n.branch n.article lo hi)) (subst (λ (c : Command). FirstFailure (checks A c) None) is accepts.accepted.1) in
-    let low = not_less (pos e.quantity.value -ℤ pos e.quantity.held_to_take) (pos lo) (λ k. p.1.1.1.0 (d.0.1 k)) in
-    let high = not_less (pos hi) (pos e.quantity.value +ℤ pos e.quantity.held_to_add) (λ k. p.1.1.1.1.0 (d.1.1 k)) in
-    (omega (arith, ints), omega (arith, ints))
-
--- the field that gets other bounds, as it is then
-pub bounds_changed : (A : Ledger) (r : Request) (n : Name) (lo hi : ℕ) (e : FieldEntry) (new : Stock) → Accepts A r → r.command ≡ command.Rebound n.branch n.article lo hi → IsUpToDate A (n, e) → field_named A n ≡ Some (field_of (n, e)) → new ≡ bounded e.quantity lo hi
-    → IsChangedField A r (n, record { start = e.start; quantity = new })
-bounds_changed A r n lo hi e new accepts is up there bounds = record {
+pub bounds_found : (A : Ledger) (n : Name) (lo hi : ℕ) (e new : FieldEntry) → IsUpToDate A (n, e) → field_named A n ≡ Some (field_of (n, e)) → new ≡ record { start = e.start; quantity = bounded e.quantity lo hi } → IsFound A (command.Rebound n.branch n.article lo hi) (Some (n, new))
+bounds_found A n lo hi e new up there bounds key accepts = one_row A (record { key = key; command = command.Rebound n.branch n.article lo hi }) (n, new) accepts.after (record {
   field = record { name = n; lo = lo; hi = hi; start = e.start };
-  there = ap (λ (c : Command). field_named (B c) n) is ∙ found_bounded n n lo hi A.fields ∙ ap (option_map (bounding n lo hi)) there ∙ ap (λ b. Some (if b then with_bounds lo hi (field_of (n, e)) else field_of (n, e))) (same_self n);
-  passes = ap (λ (c : Command). changes_field A c n) is ∙ same_self n;
-  has_row = ap (λ (q : Stock). entry_row (n, record { start = e.start; quantity = q })) bounds ∙ row ∙ ap (λ (c : Command). field_row (B c) (record { name = n; lo = lo; hi = hi; start = e.start })) (sym is);
-}
-  where
-    B : Command → Ledger
-    B c = accept A (record { key = r.key; command = c })
+  there = found_bounded n n lo hi A.fields ∙ ap (option_map (bounding n lo hi)) there ∙ ap (λ b. Some (if b then with_bounds lo hi (field_of (n, e)) else field_of (n, e))) (same_self n);
+  passes = same_self n;
+  has_row = ap (λ (v : FieldEntry). entry_row (n, v)) bounds ∙ ap (λ (c : FieldCells). record c { lo = pos lo; hi = pos hi }) up;
+}) (λ f. refl)
 
-    row : entry_row (n, record { start = e.start; quantity = bounded e.quantity lo hi }) ≡ field_row A (record { name = n; lo = lo; hi = hi; start = e.start })
-    row = ap (λ (c : FieldCells). record c { lo = pos lo; hi = pos hi }) up
+-- ---- more on an order
+
+pub more_found : (A : Ledger) (n : ℕ) (w : Way) (f : Name) (q : ℕ) (e new : FieldEntry) → IsUpToDate A (f, e) → field_named A f ≡ Some (field_of (f, e)) → new ≡ record { start = e.start; quantity = holding e.quantity w q } → IsFound A (command.More n w f.branch f.article q) (Some (f, new))
+more_found A n w f q e new up there is key accepts =
+    let c : Command = command.More n w f.branch f.article q in
+    let p = all_pass (checks A c) accepts.accepted.1 in
+    let may = takes_more f w (order_numbered A n) p.1.0 p.1.1.0 p.1.1.1.0 p.1.1.1.1.0 p.1.1.1.1.1.1.0 in
+    one_row A (record { key = key; command = c }) (f, new) accepts.after (record {
+      field = field_of (f, e);
+      there = there;
+      passes = same_self f;
+      has_row = ap (λ (v : FieldEntry). entry_row (f, v)) is ∙ holding_row A (next A c) f e w q up (more_sums A n (record { way = w; branch = f.branch; article = f.article; qty = q }) accepts.before may (field_of (f, e)) refl);
+    }) (λ f. refl)
 
 -- ---- the lines of an order
 

@@ -2,7 +2,7 @@
 pub use Rattle.book.specs.After.{IsShort, aborted_rows, added_part, changed_orders, changes_own_line, changes_state, expired_numbers, field_row, field_rows, is_touched, line_rows, moved_by_command, moved_part, of_numbered, order_after, order_number, some_has_line, some_part, taken_part, with_fields, with_firms, with_kept, with_lines, with_moves, with_orders}
 pub use Rattle.book.specs.Answers.{Answers, AnswersNew, Check, FirstFailure, IsAccepted, Runs, bound, checks, full, line_checks, loose_checks, no_field, order_checks, same_command}
 pub use Rattle.book.specs.Changes.{changed_rows, changes_field, changes_firm, changes_line, changes_move, changes_order, has_line_on, order_is, put_content, put_row, put_rows}
-pub use Rattle.book.specs.Checking.{stock_checks}
+pub use Rattle.book.specs.Checking.{Finds, IsFound}
 pub use Rattle.book.specs.Future.{AsksNoStock, IsFuture, IsHonoured}
 pub use Rattle.book.specs.Good.{Good, IsGoodField, IsGoodKept, IsGoodLine, IsGoodMove, IsGoodOrder, IsTransferPair}
 pub use Rattle.book.specs.Held.{BreaksBound, MayHoldMore, held_to_add, held_to_take, if_add, if_take}

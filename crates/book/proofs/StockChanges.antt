@@ -290,6 +290,25 @@ pub entry_is : (B : Ledger) (f : Name) (e : FieldEntry) (new : Stock) → new.lo
     → entry_row (f, record { start = e.start; quantity = new }) ≡ field_row B (field_of (f, e))
 entry_is B f e new lo hi value takes adds = cc
 
+-- with so much more held the one way, the sums are those of the other ledger
+abbrev pub HoldsMore : Ledger → Ledger → Field → Way → ℕ → Type 0
+HoldsMore A B f w q = (settled B f ≡ settled A f) × (held_to_take B f.name ≡ held_to_take A f.name +ℤ pos (if_take w q)) × (held_to_add B f.name ≡ held_to_add A f.name +ℤ pos (if_add w q))
+
+pub holding_row : (A B : Ledger) (f : Name) (e : FieldEntry) (w : Way) (q : ℕ) → IsUpToDate A (f, e) → HoldsMore A B (field_of (f, e)) w q → entry_row (f, record { start = e.start; quantity = holding e.quantity w q }) ≡ field_row B (field_of (f, e))
+holding_row A B f e w q up more = by w more
+  where
+    by : (w : Way) → HoldsMore A B (field_of (f, e)) w q → entry_row (f, record { start = e.start; quantity = holding e.quantity w q }) ≡ field_row B (field_of (f, e))
+    by Take more =
+        let value = ap (λ (row : FieldCells). row.value) up in
+        let inf = ap (λ (row : FieldCells). row.inf) up in
+        let sup = ap (λ (row : FieldCells). row.sup) up in
+        entry_is B f e (holding e.quantity Take q) refl refl (omega (arith, ints)) (omega (arith, ints)) (omega (arith, ints))
+    by Add more =
+        let value = ap (λ (row : FieldCells). row.value) up in
+        let inf = ap (λ (row : FieldCells). row.inf) up in
+        let sup = ap (λ (row : FieldCells). row.sup) up in
+        entry_is B f e (holding e.quantity Add q) refl refl (omega (arith, ints)) (omega (arith, ints)) (omega (arith, ints))
+
 -- with its line changed, the field is that of the next ledger
 pub stock_changed : (A : Ledger) (r : Request) (n : ℕ) (o : Order) (f : Name) (e : FieldEntry) (l : Line) (new : Stock) → Good A → Good (accept A r) → IsAccepted A r → IsInRange r.command → order_number r.command ≡ Some n → order_after A r.command ≡ Some o
     → IsUpToDate A (f, e) → find (on f) o.lines ≡ Some l → Becomes e.quantity (share_numbers l.way (share_on (order_numbered A n) f)) (share_numbers l.way (share_of o.state o.firm l)) new → entry_row (f, record { start = e.start; quantity = new }) ≡ field_row (accept A r) (field_of (f, e))
@@ -353,12 +372,6 @@ stock_may A r n o f e l good after ok range number made up there found =
 pub value_moved : (A B : Ledger) (f : Name) (e : FieldEntry) (w : Way) (q : ℕ) (new : Stock) → IsUpToDate A (f, e) → settled B (field_of (f, e)) ≡ moved w q (settled A (field_of (f, e))) → held_to_take B f ≡ held_to_take A f → held_to_add B f ≡ held_to_add A f
     → MovesValue e.quantity w q new → entry_row (f, record { start = e.start; quantity = new }) ≡ field_row B (field_of (f, e))
 value_moved A B f e w q new up value takes adds moves = grind (arith, common_steps, entry_is, e.quantity.held_to_take, e.quantity.held_to_add, moves.others, moves.value)
-
--- it may be moved, since the next ledger is safe
-pub value_may : (A B : Ledger) (f : Name) (e : FieldEntry) (w : Way) (q : ℕ) → Good B → Contains B.fields (field_of (f, e)) → IsUpToDate A (f, e) → settled B (field_of (f, e)) ≡ moved w q (settled A (field_of (f, e))) → held_to_take B f ≡ held_to_take A f → held_to_add B f ≡ held_to_add A f
-    → IsSafeMoved e.quantity w q
-value_may A B f e Take q good there up value takes adds taken added t a = grind (arith, ints, common_steps, (bounds_at B (field_of (f, e)) good there))
-value_may A B f e Add q good there up value takes adds taken added t a = grind (arith, common_steps, (bounds_at B (field_of (f, e)) good there))
 
 moved_is : (w : Way) (q : ℕ) (z : ℤ) → z +ℤ signed w q ≡ moved w q z
 moved_is w q z = grind arith

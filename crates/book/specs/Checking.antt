@@ -1,13 +1,31 @@
 -- The parts of the checks of commands, as the book makes them.
-use Rattle.std.specs.Prelude.{ℕ, ◌≤◌, ◌≢◌, List, [], ◌∷◌, IsNone, IsSomeAnd, length}
+use Rattle.std.specs.Prelude.{ℕ, ◌≡◌, ◌≤◌, ◌≢◌, List, [], ◌∷◌, IsNone, IsSomeAnd, MatchResult, None, Option, Result, Some, false, length}
 use Rattle.escrow.specs.declared.quantity.Way.{Way}
 use Rattle.escrow.specs.declared.quantity.Way.TheVariants.{Add, Take}
+use Rattle.words.specs.Kinds.{is_stock}
+use Rattle.words.specs.declared.command.Command.{Command}
 use Rattle.words.specs.declared.reply.Refusal.{Refusal}
 use Rattle.words.specs.declared.reply.Refusal.TheVariants.{OtherWay, TooLittle, TooManyLines, TooMuch}
 use Rattle.words.specs.declared.limits.TheConstants.{MAX_ORDER_LINES}
-use Rattle.book.specs.Answers.{Check, check, no_field}
+use Rattle.book.specs.After.{field_rows}
+use Rattle.book.specs.Answers.{Check, FirstFailure, check}
 use Rattle.book.specs.Held.{BreaksBound}
 use Rattle.book.specs.Ledger.{Ledger, Name, Order, line_on}
+use Rattle.book.specs.RunningNumbers.{Accepts, entry_row}
+use Rattle.book.specs.declared.book.FieldEntry.{FieldEntry}
+
+-- the refusal and the line of the first of the checks that fails, or else something with the property
+abbrev pub Finds : {T : Type 0} → List Check → (T → Type 0) → Result T (Refusal × ℕ) → Type 0
+Finds cs P result =
+    MatchResult result (λ found. FirstFailure cs None × P found) (λ failure. FirstFailure cs (Some failure))
+
+-- the entry of the one field that the command, once accepted, makes or changes, as it is then; or none of a command
+-- that is not about stock
+abbrev pub IsFound : Ledger → Command → Option (Name × FieldEntry) → Type 0
+IsFound A c None = is_stock c ≡ false
+IsFound A c (Some e) =
+    (key : List ℕ) → Accepts A (record { key = key; command = c })
+    → entry_row e ∷ [] ≡ field_rows A (record { key = key; command = c })
 
 -- the order's line on the field, if there is one, has the way, and else there is room for one
 abbrev pub hold_checks : Order → Way → Name → List Check
@@ -22,7 +40,3 @@ refusal_of Add = TooMuch
 -- the check of a bound, said with the ledger as it is
 abbrev pub bound_checks : Way → Ledger → Name → ℕ → ℕ → List Check
 bound_checks way A f q line = record { fails = BreaksBound way A f q; refusal = refusal_of way; line = line } ∷ []
-
--- The field is there, and the amount breaks no bound of it.
-abbrev pub stock_checks : Way → Ledger → Name → ℕ → ℕ → List Check
-stock_checks way A f q line = no_field A f line ∷ bound_checks way A f q line

@@ -124,16 +124,6 @@ pub record Puts (A : Ledger) (r : Request) (n : Name) (old new : List (Name × F
   pub changed : IsChangedField A r (n, entry)
   pub put : new ≡ insert_entry name_cmp old n entry
 
--- the request moves the value of the field, and nothing else of it
-pub record MovesField (A : Ledger) (r : Request) (n : Name) (w : Way) (q : ℕ) : Type 0 where
-  pub accepts : Accepts A r
-  pub there : IsSome (field_named A n)
-  pub fields : (accept A r).fields ≡ A.fields
-  pub changes : changes_field A r.command n ≡ true
-  pub value : (f : Field) → f.name ≡ n → settled (accept A r) f ≡ moved w q (settled A f)
-  pub takes : held_to_take (accept A r) n ≡ held_to_take A n
-  pub adds : held_to_add (accept A r) n ≡ held_to_add A n
-
 -- each field of a line of the order that the request changes is there, and nothing else
 pub record HasLines (A : Ledger) (r : Request) (ls : List Line) (entries : List (Name × FieldEntry)) : Type 0 where
   pub each : Each (IsChangedField A r) entries

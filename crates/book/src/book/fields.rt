@@ -7,20 +7,19 @@ ghost use Rattle.std.specs.List.Sorted.{IsStrictlySortedBy};
 ghost use Rattle.std.specs.Map.{keys_of};
 ghost use Rattle.book.specs.After.{expired_numbers, field_rows, of_numbered, order_after};
 ghost use Rattle.book.specs.Changes.{changes_field};
+ghost use Rattle.book.specs.Checking.{IsFound};
 ghost use Rattle.book.specs.Ledger.{field_named, line_name, name_cmp, on, order_numbered};
-ghost use Rattle.book.specs.RunningNumbers.{Accepts, GivenBack, GivesBack, HasLines, MayGiveBack, MovesField, Puts, entry_row, share_numbers, share_on, Becomes, MayBecome};
+ghost use Rattle.book.specs.RunningNumbers.{Accepts, GivenBack, GivesBack, HasLines, MayGiveBack, Puts, entry_row, share_numbers, share_on, Becomes, MayBecome};
 ghost use Rattle.book.specs.Model.{order_of};
 ghost use Rattle.book.specs.declared.order.Line.{Line};
-ghost use Rattle.words.specs.declared.command.Command.TheVariants.{Rebound};
-ghost use Rattle.words.specs.declared.command.Request.{Request};
 
-use super::plan::moved_at_once;
+use super::checks::Found;
 use super::{Book, FieldEntry};
 use crate::order::{Line, NO_SHARE, Order, OrderEntry, Share, line_in, share_of};
-use escrow::{FieldName, Level, OrderNo, Qty, Quantity, Way};
+use escrow::{FieldName, OrderNo, Qty, Quantity, Way};
 use index::InOrder;
 use std::alloc::Global;
-use words::{Command, Memory, Request};
+use words::{Memory, Request};
 
 /// What a line counts for changes from the one to the other.
 fn change_stock(quantity: &mut Quantity, way: Way, before: Share, after: Share)
@@ -119,51 +118,6 @@ impl Book {
         Ok(())
     }
 
-    /// Puts in the field of a delivery or a write-off.
-    fn put_moved(
-        &self,
-        fields: &mut Fields,
-        name: &FieldName,
-        way: Way,
-        qty: Qty,
-    ) -> Result<(), Memory>
-        requires { (r : Request) × MovesField self.now.ledger r name.now way qty }
-        ensures { OnOk result ((r : Request) → MovesField self.now.ledger r name.now way qty
-            → Puts self.now.ledger r name.now fields.old.entries fields.new.entries) }
-    {
-        let Some(entry) = self.field_entry(name) else {
-            unreachable!()
-        };
-        let mut entry = *entry;
-        let Ok(()) = entry.quantity.at_once(way, qty) else {
-            unreachable!()
-        };
-        put(fields, *name, entry)
-    }
-
-    /// Puts in the field that gets other bounds.
-    fn put_bounds(
-        &self,
-        fields: &mut Fields,
-        request: &Request,
-        name: &FieldName,
-        lo: Level,
-        hi: Level,
-    ) -> Result<(), Memory>
-        requires accepts { Accepts self.now.ledger request.now }
-        requires command { request.now.command ≡ Rebound name.now.branch name.now.article lo hi }
-        ensures { OnOk result (Puts self.now.ledger request.now name.now fields.old.entries fields.new.entries) }
-    {
-        let Some(entry) = self.field_entry(name) else {
-            unreachable!()
-        };
-        let mut entry = *entry;
-        let Ok(()) = entry.quantity.rebound(lo, hi) else {
-            unreachable!()
-        };
-        put(fields, *name, entry)
-    }
-
     /// The field of the line, as the lines so far leave it that give back what they hold.
     fn field_so_far(&self, fields: &Fields, line: &Line) -> FieldEntry
         requires { IsSome (field_named self.now.ledger (line_name line.now)) }
@@ -241,68 +195,51 @@ impl Book {
         Ok(())
     }
 
-    /// Puts in the fields that the request makes or changes, with the order that it makes and those that expire.
+    /// Puts in the fields that the request makes or changes: that which its check found, else those of the order that it
+    /// makes or of those that expire.
     fn put_changed(
         &self,
         fields: &mut Fields,
         request: &Request,
+        found: &Found,
         made: &Option<Order>,
         expired: &[OrderNo],
     ) -> Result<(), Memory>
         requires accepts { Accepts self.now.ledger request.now }
+        requires found { IsFound self.now.ledger request.now.command found.now }
         requires made { option_map order_of made.now ≡ order_after self.now.ledger request.now.command }
         requires expired { expired.now ≡ expired_numbers self.now.ledger request.now.command }
         requires none { fields.old.entries ≡ [] }
         ensures { OnOk result (IsStrictlySortedBy name_cmp (keys_of fields.new.entries)
             → map entry_row fields.new.entries ≡ field_rows self.now.ledger request.now) }
     {
-        if let Some(moved) = moved_at_once(&request.command) {
-            return self.put_moved(fields, &moved.0, moved.1, moved.2);
+        if let Some(field) = found {
+            return put(fields, field.0, field.1);
         }
-        match request.command {
-            Command::Field {
-                branch,
-                article,
-                lo,
-                hi,
-                start,
-            } => {
-                let Ok(quantity) = Quantity::start(lo, hi, start) else {
-                    unreachable!()
-                };
-                let name = FieldName { branch, article };
-                put(fields, name, FieldEntry { start, quantity })
-            }
-            Command::Rebound {
-                branch,
-                article,
-                lo,
-                hi,
-            } => self.put_bounds(fields, request, &FieldName { branch, article }, lo, hi),
-            Command::Expire { .. } => self.put_expired(fields, expired),
-            _ => match made {
-                Some(order) => self.put_lines(fields, request, order),
-                None => Ok(()),
-            },
+        match made {
+            Some(order) => self.put_lines(fields, request, order),
+            None => self.put_expired(fields, expired),
         }
     }
 
-    /// The fields that the accepted request makes or changes, as they are then, with the order that it makes and those
-    /// that expire.
+    /// The fields that the accepted request makes or changes, as they are then, with what its check found, the order
+    /// that it makes and those that expire.
     pub(super) fn fields_after(
         &self,
         alloc: Global,
         request: &Request,
+        found: &Found,
         made: &Option<Order>,
         expired: &[OrderNo],
     ) -> Result<Fields, Memory>
         requires accepts { Accepts self.now.ledger request.now }
+        requires found { IsFound self.now.ledger request.now.command found.now }
         requires made { option_map order_of made.now ≡ order_after self.now.ledger request.now.command }
         requires expired { expired.now ≡ expired_numbers self.now.ledger request.now.command }
         ensures { IfOk result (λ fields. map entry_row fields.entries ≡ field_rows self.now.ledger request.now) }
     {
         let mut fields = InOrder::new(alloc);
-        self.put_changed(&mut fields, request, made, expired)?;
+        self.put_changed(&mut fields, request, found, made, expired)?;
         // so that the proof has their order
         let _ = fields.len();
         Ok(fields)
