@@ -1,9 +1,12 @@
 -- The fields that a request makes or changes, and what the lines of orders that end give back to them.
-use Rattle.book.proofs.Prelude.{Accepts, Add, Bool, Command, Each, Equal, Field, FieldCells, FieldEntry, FirstFailure, GivenBack, GivesBack, Good, Greater, HasEntry, IsChangedField, IsGoodLine, IsGoodOrder, IsSome, IsStrictlySortedBy, IsUpToDate, Ledger, Less, Line, List, MayGiveBack, Name, None, OnOk, Option, Order, Ordering, Puts, Request, Result, Some, Stock, Take, Way, [], accept, ap, arith, changes_field, checks, common_steps, cond, drop, entry_row, expired_lines, false, field_named, field_of, find, flat_map, get_or, giving_back, held_of, if_add, if_take, if◌then◌else◌, insert_entry, ints, is_at, is_eq, is_open, is_some, keys_of, length, line_name, list_any, lookup, map, match_ordering, name_cmp, next, not, on, order_after, order_number, order_numbered, ordering_reverse, pos, refl, same_name, subst, sym, take, tied_itself, total, true, true≢false, ℕ, ℤ, ◌&&◌, ◌++◌, ◌+ℤ◌, ◌+◌, ◌<◌, ◌==◌, ◌||◌, ◌∙◌, ◌∷◌, ◌≡◌, ◌≤ℤ◌, ◌≤◌}
-use Rattle.book.specs.RunningNumbers.{IsOneOf}
-use Rattle.book.proofs.OutcomeTests.{same_self, total-push}
+use Rattle.book.proofs.Prelude.{Accepts, Add, Bool, Command, Each, Equal, Err, Field, FieldCells, FieldEntry, FirstFailure, GivenBack, GivesBack, Good, Greater, HasEntry, IfOk, IsChangedField, IsGoodLine, IsGoodOrder, IsSome, IsStrictlySortedBy, IsUpToDate, Ledger, Less, Line, List, MayGiveBack, Name, None, Ok, OnOk, OpenLine, Option, Order, Ordering, Puts, Request, Result, Some, Stock, Take, Way, [], accept, ap, arith, changes_field, checks, common_steps, cond, drop, entry_row, expired_lines, false, field_named, field_of, find, flat_map, get_or, giving_back, held_of, holding, if_add, if_take, if◌then◌else◌, insert_entry, ints, is_at, is_eq, is_open, is_some, keys_of, length, line_name, list_any, lookup, map, match_ordering, name_cmp, new_line, next, not, on, order_after, order_number, order_numbered, ordering_reverse, pos, refl, same_name, subst, sym, take, tied_itself, total, true, true≢false, ℕ, ℤ, ◌&&◌, ◌++◌, ◌+ℤ◌, ◌+◌, ◌<◌, ◌==◌, ◌||◌, ◌∙◌, ◌∷◌, ◌≡◌, ◌≤ℤ◌, ◌≤◌}
+use Rattle.book.specs.RunningNumbers.{Held, Holds, IsOneOf, lines_add, lines_take}
+use Rattle.book.proofs.OutcomeTests.{map-push, same_self, total-push}
+use Rattle.std.specs.Result.{IsOkAnd}
+use Rattle.index.specs.declared.in_order.InOrder.{InOrder}
+use Rattle.words.specs.declared.reply.Memory.{Memory}
 use Rattle.book.proofs.Bounds.{OneOn, adds, adds-not_negative, takes, takes-not_negative}
-use Rattle.book.proofs.Lists.{any_none, cut_at, each-next, found_passes, number_is, or_right, some_is}
+use Rattle.book.proofs.Lists.{any_none, cut_at, each-next, found_passes, number_is, or_right, some_is, take-step}
 use Rattle.book.proofs.Futures.{name_is}
 use Rattle.book.proofs.Safety.{other_way}
 use Rattle.book.proofs.KeyPlaces.{equal_field, same_field}
@@ -216,6 +219,10 @@ pub any-append : {X : Type 0} (t : X → Bool) (xs : List X) (y : X) → list_an
 any-append t [] y = grind arith
 any-append t (x ∷ xs) y = let more = any-append t xs y in grind arith
 
+pub any_there : (f : Name) (ls : List Line) → is_some (find (on f) ls) ≡ list_any (on f) ls
+any_there f [] = refl
+any_there f (l ∷ ls) = let more = any_there f ls in grind arith
+
 -- no line on the field holds anything there
 none_held : (n : Name) (g : Line → ℤ) (ls : List Line) → list_any (on n) ls ≡ false → total (λ l. if on n l then g l else pos 0) ls ≡ pos 0
 none_held n g ls e = total-zero (λ l. if on n l then g l else pos 0) ls (each-imp (λ l k. off (on n l) (g l) k) ls (any_none (on n) ls e))
@@ -284,6 +291,40 @@ line_given A ls l v new C D sorted gives may given is put =
       each = put_other (GivenBack A ls) (GivenBack A (ls ++ l ∷ [])) f (record { start = v.start; quantity = giving_back v.quantity l.way l.held }) own (λ e other given. given_other A ls l e other given) C sorted gives.each;
       all = λ n. put_has C f n (record { start = v.start; quantity = giving_back v.quantity l.way l.held }) ∙ (λ i. gives.all n i || sym (same_field n f) i) ∙ sym (any-append (on n) ls l);
     })
+
+-- ---- one line of a new order
+
+held_itself : (A : Ledger) (ls : List Line) (l : Line) (v : FieldEntry) (w : Way) → l.way ≡ w → list_any (on (line_name l)) ls ≡ false → IsUpToDate A (line_name l, v) → field_named A (line_name l) ≡ Some (field_of (line_name l, v)) → Held A (ls ++ l ∷ []) (line_name l, record { start = v.start; quantity = holding v.quantity w l.held })
+held_itself A ls l v w is none up there =
+    let g = λ (m : Line). if on (line_name l) m then pos (if_take m.way m.held) else pos 0 in
+    let h = λ (m : Line). if on (line_name l) m then pos (if_add m.way m.held) else pos 0 in
+    by w (total-push g ls l ∙ (λ i. none_held (line_name l) (λ m. pos (if_take m.way m.held)) ls none i +ℤ (on_itself l (pos (if_take l.way l.held)) ∙ ap (λ w. pos (if_take w l.held)) is) i))
+    (total-push h ls l ∙ (λ i. none_held (line_name l) (λ m. pos (if_add m.way m.held)) ls none i +ℤ (on_itself l (pos (if_add l.way l.held)) ∙ ap (λ w. pos (if_add w l.held)) is) i))
+  where
+    by : (w : Way) → lines_take (line_name l) (ls ++ l ∷ []) ≡ pos 0 +ℤ pos (if_take w l.held) → lines_add (line_name l) (ls ++ l ∷ []) ≡ pos 0 +ℤ pos (if_add w l.held) → Held A (ls ++ l ∷ []) (line_name l, record { start = v.start; quantity = holding v.quantity w l.held })
+    by Take take add = let value = ap (λ (row : FieldCells). row.value) up in let inf = ap (λ (row : FieldCells). row.inf) up in let sup = ap (λ (row : FieldCells). row.sup) up in record { there = there; value = value; takes = omega (arith, ints); adds = omega (arith, ints) }
+    by Add take add = let value = ap (λ (row : FieldCells). row.value) up in let inf = ap (λ (row : FieldCells). row.inf) up in let sup = ap (λ (row : FieldCells). row.sup) up in record { there = there; value = value; takes = omega (arith, ints); adds = omega (arith, ints) }
+
+held_other : (A : Ledger) (ls : List Line) (l : Line) (e : Name × FieldEntry) → same_name e.0 (line_name l) ≡ false → Held A ls e → Held A (ls ++ l ∷ []) e
+held_other A ls l e other held = grind (arith, (total-push (λ m. if on e.0 m then pos (if_take m.way m.held) else pos 0) ls l), (off (on e.0 l) (pos (if_take l.way l.held)) other), (total-push (λ m. if on e.0 m then pos (if_add m.way m.held) else pos 0) ls l), (off (on e.0 l) (pos (if_add l.way l.held)) other))
+
+pub line_held : (A : Ledger) (ls : List Line) (l : Line) (v new : FieldEntry) (C D : List (Name × FieldEntry)) → IsStrictlySortedBy name_cmp (keys_of C) → Holds A ls C → is_some (find (on (line_name l)) ls) ≡ false → IsUpToDate A (line_name l, v) → field_named A (line_name l) ≡ Some (field_of (line_name l, v))
+    → new ≡ record { start = v.start; quantity = holding v.quantity l.way l.held } → D ≡ insert_entry name_cmp C (line_name l) new → Holds A (ls ++ l ∷ []) D
+line_held A ls l v new C D sorted holds alone up there is put =
+    let f : Name = line_name l in
+    let held : FieldEntry = record { start = v.start; quantity = holding v.quantity l.way l.held } in
+    let own = held_itself A ls l v l.way refl (sym (any_there f ls) ∙ alone) up there in
+    subst (Holds A (ls ++ l ∷ [])) (sym (put ∙ ap (insert_entry name_cmp C f) is)) (record {
+      each = put_other (Held A ls) (Held A (ls ++ l ∷ [])) f held own (λ e other h. held_other A ls l e other h) C sorted holds.each;
+      all = λ n. put_has C f n held ∙ (λ i. holds.all n i || sym (same_field n f) i) ∙ sym (any-append (on n) ls l);
+    })
+
+pub held_step : (A : Ledger) (lines : List OpenLine) (i : ℕ) (l : OpenLine) (v new : FieldEntry) (before after : Result (InOrder Name FieldEntry) Memory) → i < length lines → l ≡ get_or lines i l → is_some (find (on (line_name (new_line l))) (map new_line (take i lines))) ≡ false → IsUpToDate A (line_name (new_line l), v)
+    → field_named A (line_name (new_line l)) ≡ Some (field_of (line_name (new_line l), v)) → new ≡ record { start = v.start; quantity = holding v.quantity l.way l.qty } → IfOk before (λ C. Holds A (map new_line (take i lines)) C.entries)
+    → IfOk after (λ D. IsOkAnd before (λ C. IsStrictlySortedBy name_cmp (keys_of C.entries) × (D.entries ≡ insert_entry name_cmp C.entries (line_name (new_line l)) new))) → IfOk after (λ D. Holds A (map new_line (take (i + 1) lines)) D.entries)
+held_step A lines i l v new before (Err x) h e alone up there is holds put = tt
+held_step A lines i l v new (Err y) (Ok D) h e alone up there is holds put = absurd put
+held_step A lines i l v new (Ok C) (Ok D) h e alone up there is holds put = subst (λ ls. Holds A ls D.entries) (sym (ap (map new_line) (take-step lines i l h e) ∙ map-push (take i lines) l)) (line_held A (map new_line (take i lines)) (new_line l) v new C.entries D.entries put.0 holds alone up there is put.1)
 
 -- ---- all lines of an order, and of all orders that expire
 

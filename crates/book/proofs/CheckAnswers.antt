@@ -5,7 +5,6 @@ use Rattle.std.specs.Result.{IsErrAnd}
 use Rattle.book.specs.After.{moved_at_once}
 use Rattle.book.specs.Answers.{OfLine, OfOrder, bounds_checks, check}
 use Rattle.book.specs.Checking.{bound_checks, hold_checks}
-use Rattle.words.specs.Kinds.{is_stock}
 use Rattle.book.proofs.OutcomeTests.{delivery_test, map-push, none_found, write_off_test}
 use Rattle.book.proofs.Lists.{some_is, take-step}
 use Rattle.book.proofs.Futures.{sounds_from_good}
@@ -38,10 +37,6 @@ finds_too cs ds P Q (Err x) f g k = f (Some x) k
 pub fails_with : {T : Type 0} (cs : List Check) (P : T → Type 0) (r : Result T (Refusal × ℕ)) (x : Refusal × ℕ) → IsErrAnd r (λ y. y ≡ x) → FirstFailure cs (Some x) → Finds cs P r
 fails_with cs P (Err y) x is k = subst (λ (y : Refusal × ℕ). FirstFailure cs (Some y)) (sym is) k
 fails_with cs P (Ok t) x is k = absurd is
-
--- of a command that is not about stock nothing is found
-pub finds_none : (A : Ledger) (c : Command) (r : Result (Option (Name × FieldEntry)) (Refusal × ℕ)) → is_stock c ≡ false → Finds (checks A c) (λ found. found ≡ None) r → Finds (checks A c) (IsFound A c) r
-finds_none A c r stock k = finds_too (checks A c) (checks A c) (λ found. found ≡ None) (IsFound A c) r (λ found h. h) (λ found is. subst (IsFound A c) (sym is) stock) k
 
 -- that a field is there, and that an amount breaks no bound of it
 abbrev pub stock_checks : Way → Ledger → Name → ℕ → ℕ → List Check

@@ -1,12 +1,14 @@
 -- The rows of the fields that a request makes or changes, for each kind of command.
-use Rattle.book.proofs.Prelude.{[], ◌&&◌, ◌+ℤ◌, ◌-ℤ◌, ◌||◌, ◌∙◌, ◌∷◌, ◌≡◌, Accepts, Bool, Command, Each, Field, FieldCells, FieldEntry, FirstFailure, GivenBack, GivesBack, Good, HasEntry, IsChangedField, IsNone, IsSome, IsSomeAnd, IsUpToDate, Stock, is_lt, IsStrictlySortedBy, Ledger, Line, List, Name, None, OpenLine, Option, Order, Puts, Request, Some, State, Way, accept, add_hold, added_part, ap, arith, change_lines, changes_field, checks, common_steps, entry_row, expired_lines, expires, false, field_named, field_of, field_row, field_rows, find, has_line_on, held_to_add, held_to_take, if◌then◌else◌, insert_entry, ints, is_open, is_some, is_transfer, keys_of, line_name, line_on, list_any, list_any-append, lower_held, map, moved_by, moved_by_command, moved_part, name_cmp, name_of, nat_le, new_line, next, not, on, open_state, option_map, order_after, order_is, order_numbered, pos, raise_held, raise_used, refl, same_name, settled, settled_state, signed, some_has_line, subst, sym, taken_part, total, true, true≢false, ℕ, ℤ}
+use Rattle.book.proofs.Prelude.{Accepts, Bool, Command, Each, Err, Field, FieldCells, FieldEntry, FirstFailure, GivenBack, GivesBack, Good, HasEntry, IfOk, IsChangedField, IsNone, IsSome, IsSomeAnd, IsStrictlySortedBy, IsUpToDate, Kind, Ledger, Line, List, Name, None, Ok, OpenLine, Option, Order, Plain, Puts, Request, Result, Some, State, Stock, Transfer, Way, [], accept, add_hold, added_part, ap, arith, change_lines, changes_field, checks, common_steps, entry_row, expired_lines, expires, false, field_named, field_of, field_row, field_rows, find, has_line_on, held_to_add, held_to_take, if◌then◌else◌, insert_entry, ints, is_lt, is_open, is_some, is_transfer, keys_of, line_name, line_on, list_any, list_any-append, lower_held, map, moved_by, moved_by_command, moved_part, name_cmp, name_of, nat_le, new_line, new_order, next, not, on, open_state, option_map, order_after, order_is, order_numbered, pos, raise_held, raise_used, refl, same_name, settled, settled_state, signed, some_has_line, subst, sym, taken_part, total, transfer_lines, true, true≢false, with_order, ℕ, ℤ, ◌&&◌, ◌+ℤ◌, ◌-ℤ◌, ◌||◌, ◌∙◌, ◌∷◌, ◌≡◌}
 use Rattle.words.specs.declared.command.Command.TheVariants as command
 use Rattle.book.specs.After.{changes_own_stock, moved_at_once}
 use Rattle.book.specs.Checking.{IsFound}
-use Rattle.book.specs.RunningNumbers.{HasLines, lines_add, lines_take}
-use Rattle.book.proofs.OutcomeTests.{none_found, same_self}
+use Rattle.book.specs.RunningNumbers.{HasLines, Held, Holds, lines_add, lines_take}
+use Rattle.index.specs.declared.in_order.InOrder.{InOrder}
+use Rattle.words.specs.declared.reply.Memory.{Memory}
+use Rattle.book.proofs.OutcomeTests.{held_add-order, held_take-order, none_found, same_self, settled-order}
 use Rattle.book.proofs.Bounds.{adds, takes}
-use Rattle.book.proofs.ChangedFields.{all_rows, put_self, self_eq, any-append, total-flat}
+use Rattle.book.proofs.ChangedFields.{all_rows, any_there, put_self, self_eq, any-append, total-flat}
 use Rattle.book.proofs.Lists.{any-map, find-new, some_is}
 use Rattle.book.proofs.Futures.{all_pass, name_is}
 use Rattle.book.proofs.Safety.{none_if_not_some, bounding, found_bounded, takes_more}
@@ -30,6 +32,15 @@ unfolding IsStrictlySortedBy
 one_row A r e good changed only =
     changed_rows A r (e ∷ []) good (tt, tt) (changed, tt) (λ f changes. subst (λ (k : Name). HasEntry (e ∷ []) k) (sym (name_is f.name e.0 (sym (only f.name) ∙ changes))) (put_self [] e.0 e.1))
 
+-- the entry is that of the one field that the command, once accepted, makes or changes
+abbrev pub IsOnly : Ledger → Command → Name × FieldEntry → Type 0
+IsOnly A c e = (key : List ℕ) → Accepts A (record { key = key; command = c }) → entry_row e ∷ [] ≡ field_rows A (record { key = key; command = c })
+
+-- the fields are that one
+pub only_found : (A : Ledger) (c : Command) (e : Name × FieldEntry) (made : Result (InOrder Name FieldEntry) Memory) → IfOk made (λ fields. fields.entries ≡ e ∷ []) → IsOnly A c e → IsFound A c (Some made)
+only_found A c e (Ok fields) is only = λ key accepts rising. ap (map entry_row) is ∙ only key accepts
+only_found A c e (Err fault) is only = tt
+
 some_there : {X : Type 0} (o : Option X) → (IsNone o → ⊥) → IsSome o
 some_there b h = grind arith
 
@@ -44,7 +55,7 @@ record MovesAtOnce (A : Ledger) (c : Command) (n : Name) (w : Way) (q : ℕ) : T
 moves_at_once : (A : Ledger) (c : Command) (n : Name) (w : Way) (q : ℕ) → FirstFailure (checks A c) None → moved_at_once c ≡ Some (n, w, q) → MovesAtOnce A c n w q
 moves_at_once A c n w q h e = grind arith
 
-pub moved_found : (A : Ledger) (c : Command) (n : Name) (w : Way) (q : ℕ) (e : FieldEntry) (new : Stock) → moved_at_once c ≡ Some (n, w, q) → IsUpToDate A (n, e) → field_named A n ≡ Some (field_of (n, e)) → MovesValue e.quantity w q new → IsFound A c (Some (n, record { start = e.start; quantity = new }))
+pub moved_found : (A : Ledger) (c : Command) (n : Name) (w : Way) (q : ℕ) (e : FieldEntry) (new : Stock) → moved_at_once c ≡ Some (n, w, q) → IsUpToDate A (n, e) → field_named A n ≡ Some (field_of (n, e)) → MovesValue e.quantity w q new → IsOnly A c (n, record { start = e.start; quantity = new })
 moved_found A c n w q e new is up there moves key accepts =
     let m = moves_at_once A c n w q accepts.accepted.1 is in
     let value = settled_moved A (field_of (n, e)) c w q (m.moves n ∙ ap (λ b. if b then signed w q else pos 0) (same_self n)) m.orders in
@@ -57,7 +68,7 @@ moved_found A c n w q e new is up there moves key accepts =
 
 -- ---- a new field
 
-pub new_found : (A : Ledger) (n : Name) (lo hi start : ℕ) (q : Stock) → q ≡ record { lo = lo; hi = hi; value = start; held_to_take = 0; held_to_add = 0 } → IsFound A (command.Field n.branch n.article lo hi start) (Some (n, record { start = start; quantity = q }))
+pub new_found : (A : Ledger) (n : Name) (lo hi start : ℕ) (q : Stock) → q ≡ record { lo = lo; hi = hi; value = start; held_to_take = 0; held_to_add = 0 } → IsOnly A (command.Field n.branch n.article lo hi start) (n, record { start = start; quantity = q })
 new_found A n lo hi start q is key accepts =
     one_row A (record { key = key; command = c }) (n, record { start = start; quantity = q }) accepts.after (record {
       field = new;
@@ -77,7 +88,7 @@ new_found A n lo hi start q is key accepts =
 
 -- ---- other bounds
 
-pub bounds_found : (A : Ledger) (n : Name) (lo hi : ℕ) (e new : FieldEntry) → IsUpToDate A (n, e) → field_named A n ≡ Some (field_of (n, e)) → new ≡ record { start = e.start; quantity = bounded e.quantity lo hi } → IsFound A (command.Rebound n.branch n.article lo hi) (Some (n, new))
+pub bounds_found : (A : Ledger) (n : Name) (lo hi : ℕ) (e new : FieldEntry) → IsUpToDate A (n, e) → field_named A n ≡ Some (field_of (n, e)) → new ≡ record { start = e.start; quantity = bounded e.quantity lo hi } → IsOnly A (command.Rebound n.branch n.article lo hi) (n, new)
 bounds_found A n lo hi e new up there bounds key accepts = one_row A (record { key = key; command = command.Rebound n.branch n.article lo hi }) (n, new) accepts.after (record {
   field = record { name = n; lo = lo; hi = hi; start = e.start };
   there = found_bounded n n lo hi A.fields ∙ ap (option_map (bounding n lo hi)) there ∙ ap (λ b. Some (if b then with_bounds lo hi (field_of (n, e)) else field_of (n, e))) (same_self n);
@@ -87,7 +98,7 @@ bounds_found A n lo hi e new up there bounds key accepts = one_row A (record { k
 
 -- ---- more on an order
 
-pub more_found : (A : Ledger) (n : ℕ) (w : Way) (f : Name) (q : ℕ) (e new : FieldEntry) → IsUpToDate A (f, e) → field_named A f ≡ Some (field_of (f, e)) → new ≡ record { start = e.start; quantity = holding e.quantity w q } → IsFound A (command.More n w f.branch f.article q) (Some (f, new))
+pub more_found : (A : Ledger) (n : ℕ) (w : Way) (f : Name) (q : ℕ) (e new : FieldEntry) → IsUpToDate A (f, e) → field_named A f ≡ Some (field_of (f, e)) → new ≡ record { start = e.start; quantity = holding e.quantity w q } → IsOnly A (command.More n w f.branch f.article q) (f, new)
 more_found A n w f q e new up there is key accepts =
     let c : Command = command.More n w f.branch f.article q in
     let p = all_pass (checks A c) accepts.accepted.1 in
@@ -107,10 +118,6 @@ any_line P f (l ∷ ls) all e = by (on f l) refl e (λ k. any_line P f ls all.1 
   where
     by : (b : Bool) → on f l ≡ b → (b || list_any (on f) ls) ≡ true → (list_any (on f) ls ≡ true → P f) → P f
     by b is e more = grind (arith, name_is)
-
-any_there : (f : Name) (ls : List Line) → is_some (find (on f) ls) ≡ list_any (on f) ls
-any_there f [] = refl
-any_there f (l ∷ ls) = let more = any_there f ls in grind arith
 
 raised_on : (b : Bool) (f : Name) (q : ℕ) (l : Line) → on f (if b then raise_held q l else l) ≡ on f l
 raised_on b f q l = grind arith
@@ -196,11 +203,41 @@ lines_rows A r o D accepts made rising has =
     changed_rows A r D accepts.after rising has.each
     (λ f changes. any_line (λ n. changes_field A r.command n ≡ true → HasEntry D n) f.name o.lines has.all (changed_has_line A r.command f.name o accepts.before accepts.accepted.1 made changes) changes)
 
--- ---- an expiry
+-- ---- a new order
 
 entry_itself : (D : List (Name × FieldEntry)) → Each (λ e. HasEntry D e.0) D
 entry_itself [] = tt
 entry_itself (e ∷ D) = let more = entry_itself D in grind (arith, each-imp, self_eq)
+
+opened_row : (A : Ledger) (n : ℕ) (k : Kind) (u : ℕ) (ls : List OpenLine) (e : Name × FieldEntry) → Held A (map new_line ls) e → entry_row e ≡ field_row (with_order (new_order n k u ls) A) (field_of e)
+opened_row A n k u ls e held =
+    let takes_sum = held_take-order A n k u ls e.0 in
+    let takes_is = held.takes in
+    let adds_sum = held_add-order A n k u ls e.0 in
+    let adds_is = held.adds in
+    entry_is (with_order (new_order n k u ls) A) e.0 e.1 e.1.quantity refl refl (held.value ∙ sym (settled-order A n k u ls (field_of e))) (omega (arith, ints)) (omega (arith, ints))
+
+pub opened_found : (A : Ledger) (c : Command) (n : ℕ) (k : Kind) (u : ℕ) (ls : List OpenLine) (found : Option (Result (InOrder Name FieldEntry) Memory)) → next A c ≡ with_order (new_order n k u ls) A → ((f : Name) → changes_field A c f ≡ list_any (on f) (map new_line ls))
+    → IsSomeAnd found (λ made. IfOk made (λ fields. Holds A (map new_line ls) fields.entries)) → IsFound A c found
+opened_found A c n k u ls None is names holds = absurd holds
+opened_found A c n k u ls (Some (Err fault)) is names holds = tt
+opened_found A c n k u ls (Some (Ok fields)) is names holds = λ key accepts rising.
+    changed_rows A (record { key = key; command = c }) fields.entries accepts.after rising
+    (each-both (λ e held has. record {
+      field = field_of e;
+      there = ap (λ (B : Ledger). find (λ g. same_name e.0 g.name) B.fields) is ∙ held.there;
+      passes = names e.0 ∙ sym (holds.all e.0) ∙ has;
+      has_row = opened_row A n k u ls e held ∙ ap (λ (B : Ledger). field_row B (field_of e)) (sym is);
+    }) fields.entries holds.each (entry_itself fields.entries))
+    (λ f changes. holds.all f.name ∙ sym (names f.name) ∙ changes)
+
+pub open_found : (A : Ledger) (n u : ℕ) (ls : List OpenLine) (found : Option (Result (InOrder Name FieldEntry) Memory)) → IsSomeAnd found (λ made. IfOk made (λ fields. Holds A (map new_line ls) fields.entries)) → IsFound A (command.Open n u ls) found
+open_found A n u ls found holds = opened_found A (command.Open n u ls) n Plain u ls found refl (λ f. sym (any-map (on f) new_line ls)) holds
+
+pub transfer_found : (A : Ledger) (n u : ℕ) (a b d : List ℕ) (q : ℕ) (found : Option (Result (InOrder Name FieldEntry) Memory)) → IsSomeAnd found (λ made. IfOk made (λ fields. Holds A (map new_line (transfer_lines a b d q)) fields.entries)) → IsFound A (command.Transfer n u a b d q) found
+transfer_found A n u a b d q found holds = opened_found A (command.Transfer n u a b d q) n Transfer u (transfer_lines a b d q) found refl (λ f. grind arith) holds
+
+-- ---- an expiry
 
 any_if : (b : Bool) (f : Name) (ls : List Line) → list_any (on f) (if b then ls else []) ≡ (b && list_any (on f) ls)
 any_if b f ls = grind arith

@@ -1,16 +1,20 @@
 -- The parts of the checks of commands, as the book makes them.
-use Rattle.std.specs.Prelude.{ℕ, ◌≡◌, ◌≤◌, ◌≢◌, List, [], ◌∷◌, IsNone, IsSomeAnd, MatchResult, None, Option, Result, Some, false, length}
+use Rattle.std.specs.Prelude.{ℕ, ◌≡◌, ◌≤◌, ◌≢◌, List, [], ◌∷◌, IfOk, IsNone, IsSomeAnd, MatchResult, None, Option, Result, Some, length, map}
+use Rattle.std.specs.List.Sorted.{IsStrictlySortedBy}
+use Rattle.std.specs.Map.{keys_of}
+use Rattle.index.specs.declared.in_order.InOrder.{InOrder}
 use Rattle.escrow.specs.declared.quantity.Way.{Way}
 use Rattle.escrow.specs.declared.quantity.Way.TheVariants.{Add, Take}
-use Rattle.words.specs.Kinds.{is_stock}
 use Rattle.words.specs.declared.command.Command.{Command}
+use Rattle.words.specs.declared.reply.Memory.{Memory}
 use Rattle.words.specs.declared.reply.Refusal.{Refusal}
 use Rattle.words.specs.declared.reply.Refusal.TheVariants.{OtherWay, TooLittle, TooManyLines, TooMuch}
 use Rattle.words.specs.declared.limits.TheConstants.{MAX_ORDER_LINES}
 use Rattle.book.specs.After.{field_rows}
 use Rattle.book.specs.Answers.{Check, FirstFailure, check}
 use Rattle.book.specs.Held.{BreaksBound}
-use Rattle.book.specs.Ledger.{Ledger, Name, Order, line_on}
+use Rattle.book.specs.Future.{AsksNoStock}
+use Rattle.book.specs.Ledger.{Ledger, Name, Order, line_on, name_cmp}
 use Rattle.book.specs.RunningNumbers.{Accepts, entry_row}
 use Rattle.book.specs.declared.book.FieldEntry.{FieldEntry}
 
@@ -19,13 +23,14 @@ abbrev pub Finds : {T : Type 0} → List Check → (T → Type 0) → Result T (
 Finds cs P result =
     MatchResult result (λ found. FirstFailure cs None × P found) (λ failure. FirstFailure cs (Some failure))
 
--- the entry of the one field that the command, once accepted, makes or changes, as it is then; or none of a command
--- that is not about stock
-abbrev pub IsFound : Ledger → Command → Option (Name × FieldEntry) → Type 0
-IsFound A c None = is_stock c ≡ false
-IsFound A c (Some e) =
-    (key : List ℕ) → Accepts A (record { key = key; command = c })
-    → entry_row e ∷ [] ≡ field_rows A (record { key = key; command = c })
+-- the entries of the fields that the command, once accepted, makes or changes, as they are then; or nothing of a command
+-- that asks for no stock
+abbrev pub IsFound : Ledger → Command → Option (Result (InOrder Name FieldEntry) Memory) → Type 0
+IsFound A c None = AsksNoStock c
+IsFound A c (Some made) =
+    IfOk made (λ fields. (key : List ℕ) → Accepts A (record { key = key; command = c })
+    → IsStrictlySortedBy name_cmp (keys_of fields.entries)
+    → map entry_row fields.entries ≡ field_rows A (record { key = key; command = c }))
 
 -- the order's line on the field, if there is one, has the way, and else there is room for one
 abbrev pub hold_checks : Order → Way → Name → List Check

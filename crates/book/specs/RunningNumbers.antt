@@ -83,15 +83,11 @@ pub record Becomes (old : Stock) (before after : Numbers) (new : Stock) : Type 0
   pub takes : pos new.held_to_take ≡ ((pos old.held_to_take -ℤ before.takes) +ℤ after.takes)
   pub adds : pos new.held_to_add ≡ ((pos old.held_to_add -ℤ before.adds) +ℤ after.adds)
 
--- So much is held; where more is held then, it is a quantity that may be held, and as much is settled; else what is
--- settled then was settled or held.
+-- So much is held, and what is settled then was settled or held.
 pub record MayBecome (old : Stock) (way : Way) (before after : Share) : Type 0 where
   pub there : before.held ≤ held_of old way
   pub settled : before.settled ≤ after.settled
-  pub used : after.held ≤ before.held → after.settled + after.held ≤ before.settled + before.held
-  pub same : before.held < after.held → after.settled ≡ before.settled
-  pub qty : before.held < after.held → IsQty (after.held - before.held)
-  pub safe : before.held < after.held → IsSafe (holding old way (after.held - before.held))
+  pub used : after.settled + after.held ≤ before.settled + before.held
 
 -- ---- the fields that a request changes
 
@@ -153,6 +149,20 @@ pub record GivesBack (A : Ledger) (ls : List Line) (entries : List (Name × Fiel
 -- so much is held
 abbrev pub MayGiveBack : Ledger → List Line → Type 0
 MayGiveBack A ls = (n : Name) → (lines_take n ls ≤ℤ held_to_take A n) × (lines_add n ls ≤ℤ held_to_add A n)
+
+-- ---- what a new order holds
+
+-- the entry is that of a field of the ledger, with what these lines hold held too
+pub record Held (A : Ledger) (ls : List Line) (e : Name × FieldEntry) : Type 0 where
+  pub there : find (λ g. same_name e.0 g.name) A.fields ≡ Some (field_of e)
+  pub value : pos e.1.quantity.value ≡ settled A (field_of e)
+  pub takes : pos e.1.quantity.held_to_take ≡ (held_to_take A e.0 +ℤ lines_take e.0 ls)
+  pub adds : pos e.1.quantity.held_to_add ≡ (held_to_add A e.0 +ℤ lines_add e.0 ls)
+
+-- the entries are those of the fields of these lines, with what they hold held too
+pub record Holds (A : Ledger) (ls : List Line) (entries : List (Name × FieldEntry)) : Type 0 where
+  pub each : Each (Held A ls) entries
+  pub all : (n : Name) → is_some (lookup (is_at (name_cmp n)) entries) ≡ list_any (on n) ls
 
 -- the lines of the orders that expire
 abbrev pub expired_lines : ℕ → List Order → List Line

@@ -1,7 +1,7 @@
 //! Which check of a command fails first.
 
 ghost use Rattle.std.specs.Bool.{OnTrue};
-ghost use Rattle.std.specs.Prelude.{◌≡◌, ℕ, None, Some, IfOk, IsFalse, IsSome, IsTrue, ◌∷◌, [], find, is_some, map, ◌++◌, ◌+◌, ◌≤◌, ◌<◌, ◌↔◌};
+ghost use Rattle.std.specs.Prelude.{◌≡◌, ℕ, None, Some, IfOk, IsFalse, IsSome, IsSomeAnd, IsTrue, ◌∷◌, [], find, is_some, map, ◌++◌, ◌+◌, ◌≤◌, ◌<◌, ◌↔◌};
 ghost use Rattle.words.specs.Kinds.{is_change, is_opening};
 ghost use Rattle.words.specs.declared.command.Command.TheVariants as command;
 ghost use Rattle.book.specs.After.{moved_at_once};
@@ -12,23 +12,27 @@ ghost use Rattle.book.specs.Model.{order_of, field_of};
 ghost use Rattle.escrow.specs.Escrow.{bound_of, bounded, holding};
 ghost use Rattle.book.specs.Good.{Good};
 ghost use Rattle.book.specs.Next.{new_line, new_order};
-ghost use Rattle.book.specs.RunningNumbers.{IsUpToDate};
+ghost use Rattle.book.specs.RunningNumbers.{Holds, IsUpToDate};
 ghost use Rattle.book.specs.declared.order.Kind.{Kind};
 
+use super::fields::{Fields, one_field, with_field};
 use super::plan::{moved_at_once, transfer_lines};
-use super::{Book, Field, FieldEntry};
+use super::{Book, FieldEntry};
 use crate::limits::{MAX_FIELDS, MAX_ORDERS, MAX_PLACES};
 use crate::order::{Kind, OrderEntry, State, line_in};
 use escrow::{
     Article, Bound, Branch, FieldName, Level, Moment, OrderNo, Qty, Quantity, Rebound, Way,
 };
-use words::{Command, MAX_ORDER_LINES, OpenLine, Refusal};
+use index::InOrder;
+use std::alloc::Global;
+use words::{Command, MAX_ORDER_LINES, Memory, OpenLine, Refusal};
 
 /// A refusal, with the number of the line at fault, from 1; 0 where no line is.
 type Failure = (Refusal, u64);
 
-/// The one field that a command makes or changes, as it is then, if it is on one field.
-pub(super) type Found = Option<Field>;
+/// The fields that a command makes or changes, as they are then, or that memory for them was refused; nothing of a
+/// command that asks for no stock.
+pub(super) type Found = Option<Result<Fields, Memory>>;
 
 impl Book {
     /// Whether so many more places do not fit.
@@ -39,8 +43,9 @@ impl Book {
         self.kept.len() + self.open_count + more > MAX_PLACES
     }
 
-    /// The refusal and the line of the first check of the command that fails, or else what was found. Takes no memory.
-    pub(super) fn check(&self, command: &Command) -> Result<Found, Failure>
+    /// The refusal and the line of the first check of the command that fails, or else what was found. No check fails for
+    /// want of memory.
+    pub(super) fn check(&self, alloc: Global, command: &Command) -> Result<Found, Failure>
         ensures { Finds (checks self.now.ledger command.now) (IsFound self.now.ledger command.now) result }
     {
         match *command {
@@ -50,17 +55,17 @@ impl Book {
                 lo,
                 hi,
                 start,
-            } => self.check_field(&FieldName { branch, article }, lo, hi, start),
-            Command::Deliver { .. } | Command::Writeoff { .. } => self.check_moving(command),
+            } => self.check_field(alloc, &FieldName { branch, article }, lo, hi, start),
+            Command::Deliver { .. } | Command::Writeoff { .. } => self.check_moving(alloc, command),
             Command::Rebound {
                 branch,
                 article,
                 lo,
                 hi,
-            } => self.check_rebound(&FieldName { branch, article }, lo, hi),
-            Command::Open { .. } | Command::Transfer { .. } => self.check_opening(command),
-            Command::More { .. } => self.check_change(command),
-            Command::Use { .. } | Command::Release { .. } => self.check_change(command),
+            } => self.check_rebound(alloc, &FieldName { branch, article }, lo, hi),
+            Command::Open { .. } | Command::Transfer { .. } => self.check_opening(alloc, command),
+            Command::More { .. } => self.check_change(alloc, command),
+            Command::Use { .. } | Command::Release { .. } => self.check_change(alloc, command),
             Command::Commit { number } => self.check_commit(number),
             Command::Abort { number } => self.check_abort(number),
             Command::Firm { number } => self.check_firm(number),
@@ -69,7 +74,7 @@ impl Book {
     }
 
     /// The same for a command that moves a value at once.
-    fn check_moving(&self, command: &Command) -> Result<Found, Failure>
+    fn check_moving(&self, alloc: Global, command: &Command) -> Result<Found, Failure>
         ensures { IsSome (moved_at_once command.now) → Finds (checks self.now.ledger command.now)
             (IsFound self.now.ledger command.now) result }
     {
@@ -81,22 +86,22 @@ impl Book {
         }
         let mut field = self.field_there(&moved.0, 0)?;
         match field.quantity.at_once(moved.1, moved.2) {
-            Ok(()) => Ok(Some((moved.0, field))),
+            Ok(()) => Ok(Some(one_field(alloc, moved.0, field))),
             Err(bound) => Err((refusal_of(bound), 0)),
         }
     }
 
     /// The same for a command that opens an order.
-    fn check_opening(&self, command: &Command) -> Result<Found, Failure>
+    fn check_opening(&self, alloc: Global, command: &Command) -> Result<Found, Failure>
         ensures { OnTrue (is_opening command.now) (Finds (checks self.now.ledger command.now)
-            (λ found. found ≡ None) result) }
+            (IsFound self.now.ledger command.now) result) }
     {
         match command {
             Command::Open {
                 number,
                 until,
                 lines,
-            } => self.check_open(*number, *until, lines.as_slice()),
+            } => self.check_open(alloc, *number, *until, lines.as_slice()),
             Command::Transfer {
                 number,
                 until,
@@ -106,14 +111,14 @@ impl Book {
                 qty,
             } => {
                 let lines = transfer_lines(*article, *from, *to, *qty);
-                self.check_open(*number, *until, &lines)
+                self.check_open(alloc, *number, *until, &lines)
             }
             _ => Ok(None),
         }
     }
 
     /// The same for a command that changes what an order holds.
-    fn check_change(&self, command: &Command) -> Result<Found, Failure>
+    fn check_change(&self, alloc: Global, command: &Command) -> Result<Found, Failure>
         ensures { OnTrue (is_change command.now) (Finds (checks self.now.ledger command.now)
             (IsFound self.now.ledger command.now) result) }
     {
@@ -124,7 +129,7 @@ impl Book {
                 branch,
                 article,
                 qty,
-            } => self.check_more(number, way, &FieldName { branch, article }, qty),
+            } => self.check_more(alloc, number, way, &FieldName { branch, article }, qty),
             Command::Use {
                 number,
                 branch,
@@ -143,6 +148,7 @@ impl Book {
 
     fn check_field(
         &self,
+        alloc: Global,
         name: &FieldName,
         lo: Level,
         hi: Level,
@@ -158,12 +164,18 @@ impl Book {
             return Err((Refusal::FieldThere, 0));
         }
         match Quantity::start(lo, hi, start) {
-            Ok(quantity) => Ok(Some((*name, FieldEntry { start, quantity }))),
+            Ok(quantity) => Ok(Some(one_field(alloc, *name, FieldEntry { start, quantity }))),
             Err(_) => Err((Refusal::BadBounds, 0)),
         }
     }
 
-    fn check_rebound(&self, name: &FieldName, lo: Level, hi: Level) -> Result<Found, Failure>
+    fn check_rebound(
+        &self,
+        alloc: Global,
+        name: &FieldName,
+        lo: Level,
+        hi: Level,
+    ) -> Result<Found, Failure>
         ensures { let c = command.Rebound name.now.branch name.now.article lo hi in
             Finds (checks self.now.ledger c) (IsFound self.now.ledger c) result }
     {
@@ -171,25 +183,29 @@ impl Book {
             return Err((Refusal::Full, 0));
         }
         let field = self.field_there(name, 0)?;
-        Ok(Some((*name, rebound(field, lo, hi)?)))
+        let field = rebound(field, lo, hi)?;
+        Ok(Some(one_field(alloc, *name, field)))
     }
 
     /// A new order of these lines, whatever its kind.
     fn check_open(
         &self,
+        alloc: Global,
         number: OrderNo,
         until: Moment,
         lines: &[OpenLine],
     ) -> Result<Found, Failure>
         ensures { (kind : Kind) → Finds (order_checks self.now.ledger number until ++ line_checks self.now.ledger
-            (new_order number kind until) [] lines.now) (λ found. found ≡ None) result }
+            (new_order number kind until) [] lines.now) (λ found. IsSomeAnd found (λ made. IfOk made
+            (λ fields. Holds self.now.ledger (map new_line lines.now) fields.entries))) result }
     {
         self.check_order(number, until)?;
-        self.check_lines(lines)
+        Ok(Some(self.check_lines(alloc, lines)?))
     }
 
     fn check_more(
         &self,
+        alloc: Global,
         number: OrderNo,
         way: Way,
         name: &FieldName,
@@ -207,7 +223,8 @@ impl Book {
         }
         let field = self.field_there(name, 0)?;
         check_hold(order, way, name)?;
-        Ok(Some((*name, ask(field, way, qty, 0)?)))
+        let field = ask(field, way, qty, 0)?;
+        Ok(Some(one_field(alloc, *name, field)))
     }
 
     fn check_expire(&self, now: Moment) -> Result<Found, Failure>
@@ -308,20 +325,28 @@ impl Book {
     }
 
     /// The first check that fails of the lines of a new order, whatever its number, its kind and its end.
-    fn check_lines(&self, lines: &[OpenLine]) -> Result<Found, Failure>
+    fn check_lines(
+        &self,
+        alloc: Global,
+        lines: &[OpenLine],
+    ) -> Result<Result<Fields, Memory>, Failure>
         ensures { (n : ℕ) (kind : Kind) (until : ℕ) → Finds (line_checks self.now.ledger
-            (new_order n kind until) [] lines.now) (λ found. found ≡ None) result }
+            (new_order n kind until) [] lines.now) (λ made. IfOk made
+            (λ fields. Holds self.now.ledger (map new_line lines.now) fields.entries)) result }
     {
+        let mut fields = Ok(InOrder::new(alloc));
         for (i, line) in lines.iter().enumerate() {
             let number = i as u64 + 1;
             if has_line_on(&lines[..i], line.branch, line.article) {
                 return Err((Refusal::SameField, number));
             }
             let (branch, article) = (line.branch, line.article);
-            let field = self.field_there(&FieldName { branch, article }, number)?;
-            ask(field, line.way, line.qty, number)?;
+            let name = FieldName { branch, article };
+            let field = self.field_there(&name, number)?;
+            let field = ask(field, line.way, line.qty, number)?;
+            fields = with_field(fields, name, field);
         }
-        Ok(None)
+        Ok(fields)
     }
 
     /// The field of that name, for the line at fault where it is not there.

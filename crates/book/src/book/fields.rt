@@ -8,6 +8,8 @@ ghost use Rattle.std.specs.Map.{keys_of};
 ghost use Rattle.book.specs.After.{expired_numbers, field_rows, of_numbered, order_after};
 ghost use Rattle.book.specs.Changes.{changes_field};
 ghost use Rattle.book.specs.Checking.{IsFound};
+ghost use Rattle.book.specs.Future.{AsksNoStock};
+ghost use Rattle.std.specs.Result.{IsOkAnd};
 ghost use Rattle.book.specs.Ledger.{field_named, line_name, name_cmp, on, order_numbered};
 ghost use Rattle.book.specs.RunningNumbers.{Accepts, GivenBack, GivesBack, HasLines, MayGiveBack, Puts, entry_row, share_numbers, share_on, Becomes, MayBecome};
 ghost use Rattle.book.specs.Model.{order_of};
@@ -16,7 +18,7 @@ ghost use Rattle.book.specs.declared.order.Line.{Line};
 use super::checks::Found;
 use super::{Book, FieldEntry};
 use crate::order::{Line, NO_SHARE, Order, OrderEntry, Share, line_in, share_of};
-use escrow::{FieldName, OrderNo, Qty, Quantity, Way};
+use escrow::{FieldName, OrderNo, Quantity, Way};
 use index::InOrder;
 use std::alloc::Global;
 use words::{Memory, Request};
@@ -26,17 +28,11 @@ fn change_stock(quantity: &mut Quantity, way: Way, before: Share, after: Share)
     requires { MayBecome quantity.old way before after }
     ensures { Becomes quantity.old (share_numbers way before) (share_numbers way after) quantity.new }
 {
-    match Qty::new(after.held.saturating_sub(before.held)) {
-        Some(more) => match quantity.ask(way, more) {
-            Ok(()) => {}
-            Err(_) => unreachable!(),
-        },
-        None => quantity.settle(
-            way,
-            before.held.saturating_sub(after.held),
-            after.settled.saturating_sub(before.settled),
-        ),
-    }
+    quantity.settle(
+        way,
+        before.held - after.held,
+        after.settled - before.settled,
+    );
 }
 
 /// What the order's line on that field counts for, if there is one.
@@ -62,6 +58,27 @@ fn put(fields: &mut Fields, name: FieldName, entry: FieldEntry) -> Result<(), Me
     Ok(())
 }
 
+/// With the field put in.
+pub(super) fn with_field(
+    fields: Result<Fields, Memory>,
+    name: FieldName,
+    entry: FieldEntry,
+) -> Result<Fields, Memory>
+    ensures { IfOk result (λ new. IsOkAnd fields (λ old. IsStrictlySortedBy name_cmp (keys_of old.entries)
+        × (new.entries ≡ insert_entry name_cmp old.entries name entry))) }
+{
+    let mut fields = fields?;
+    put(&mut fields, name, entry)?;
+    Ok(fields)
+}
+
+/// That field alone.
+pub(super) fn one_field(alloc: Global, name: FieldName, entry: FieldEntry) -> Result<Fields, Memory>
+    ensures { IfOk result (λ fields. fields.entries ≡ (name, entry) ∷ []) }
+{
+    with_field(Ok(InOrder::new(alloc)), name, entry)
+}
+
 impl Book {
     /// What the line on that field of the order of that number counts for so far.
     fn share_before(&self, number: OrderNo, name: &FieldName) -> Share
@@ -84,6 +101,7 @@ impl Book {
     ) -> Result<(), Memory>
         requires accepts { Accepts self.now.ledger request.now }
         requires made { order_after self.now.ledger request.now.command ≡ Some (order_of order.now) }
+        requires asks { AsksNoStock request.now.command }
         requires line { find (on (line_name line.now)) order.now.1.lines.items ≡ Some line.now }
         ensures changed { OnOk result (changes_field self.now.ledger request.now.command (line_name line.now) ≡ true
             → Puts self.now.ledger request.now (line_name line.now) fields.old.entries fields.new.entries) }
@@ -109,6 +127,7 @@ impl Book {
     fn put_lines(&self, fields: &mut Fields, request: &Request, order: &Order) -> Result<(), Memory>
         requires accepts { Accepts self.now.ledger request.now }
         requires made { order_after self.now.ledger request.now.command ≡ Some (order_of order.now) }
+        requires asks { AsksNoStock request.now.command }
         requires none { fields.old.entries ≡ [] }
         ensures { OnOk result (HasLines self.now.ledger request.now order.now.1.lines.items fields.new.entries) }
     {
@@ -195,52 +214,52 @@ impl Book {
         Ok(())
     }
 
-    /// Puts in the fields that the request makes or changes: that which its check found, else those of the order that it
-    /// makes or of those that expire.
+    /// Puts in the fields of the lines of the order that the request makes, or else of those that expire.
     fn put_changed(
         &self,
         fields: &mut Fields,
         request: &Request,
-        found: &Found,
         made: &Option<Order>,
         expired: &[OrderNo],
     ) -> Result<(), Memory>
         requires accepts { Accepts self.now.ledger request.now }
-        requires found { IsFound self.now.ledger request.now.command found.now }
+        requires asks { AsksNoStock request.now.command }
         requires made { option_map order_of made.now ≡ order_after self.now.ledger request.now.command }
         requires expired { expired.now ≡ expired_numbers self.now.ledger request.now.command }
         requires none { fields.old.entries ≡ [] }
         ensures { OnOk result (IsStrictlySortedBy name_cmp (keys_of fields.new.entries)
             → map entry_row fields.new.entries ≡ field_rows self.now.ledger request.now) }
     {
-        if let Some(field) = found {
-            return put(fields, field.0, field.1);
-        }
         match made {
             Some(order) => self.put_lines(fields, request, order),
             None => self.put_expired(fields, expired),
         }
     }
 
-    /// The fields that the accepted request makes or changes, as they are then, with what its check found, the order
-    /// that it makes and those that expire.
+    /// The fields that the accepted request makes or changes, as they are then: those that its check found, else those
+    /// of the order that it makes or of those that expire.
     pub(super) fn fields_after(
         &self,
         alloc: Global,
         request: &Request,
-        found: &Found,
+        found: Found,
         made: &Option<Order>,
         expired: &[OrderNo],
     ) -> Result<Fields, Memory>
         requires accepts { Accepts self.now.ledger request.now }
-        requires found { IsFound self.now.ledger request.now.command found.now }
+        requires found { IsFound self.now.ledger request.now.command found }
         requires made { option_map order_of made.now ≡ order_after self.now.ledger request.now.command }
         requires expired { expired.now ≡ expired_numbers self.now.ledger request.now.command }
         ensures { IfOk result (λ fields. map entry_row fields.entries ≡ field_rows self.now.ledger request.now) }
     {
+        if let Some(found) = found {
+            let fields = found?;
+            // so that the proof has their order
+            let _ = fields.len();
+            return Ok(fields);
+        }
         let mut fields = InOrder::new(alloc);
-        self.put_changed(&mut fields, request, found, made, expired)?;
-        // so that the proof has their order
+        self.put_changed(&mut fields, request, made, expired)?;
         let _ = fields.len();
         Ok(fields)
     }

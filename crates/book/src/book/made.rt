@@ -102,10 +102,7 @@ fn hold_more(lines: &mut Vec<Line>, more: &OpenLine)
         change_lines(lines, false, &name, &LineChange::Hold(more.qty));
         return;
     }
-    match lines.push(new_line(more)) {
-        Ok(()) => {}
-        Err(_) => unreachable!(),
-    }
+    lines.push_reserved(new_line(more));
 }
 
 /// A line that holds its amount and has used nothing.

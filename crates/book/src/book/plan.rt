@@ -203,12 +203,12 @@ impl Book {
                 Ok(Planned::Refused(Refusal::KeyReused, 0))
             };
         }
-        let found = match self.check(&request.command) {
+        let found = match self.check(alloc, &request.command) {
             Ok(found) => found,
             Err(failure) => return Ok(Planned::Refused(failure.0, failure.1)),
         };
         self.accepts(request);
-        let parts = self.parts_of(alloc, request, &found)?;
+        let parts = self.parts_of(alloc, request, found)?;
         let changes = self.changes_of(alloc, request, &parts)?;
         Ok(Planned::Accept(Plan { parts, changes }))
     }
@@ -224,9 +224,9 @@ impl Book {
     }
 
     /// What the accepted request puts into the book, with what its check found.
-    fn parts_of(&self, alloc: Global, request: &Request, found: &Found) -> Result<PlanParts, Memory>
+    fn parts_of(&self, alloc: Global, request: &Request, found: Found) -> Result<PlanParts, Memory>
         requires accepts { Accepts self.now.ledger request.now }
-        requires found { IsFound self.now.ledger request.now.command found.now }
+        requires found { IsFound self.now.ledger request.now.command found }
         ensures { IfOk result (λ parts. Makes self.now.ledger request.now parts) }
     {
         let command = &request.command;
