@@ -3,7 +3,7 @@ use Rattle.book.proofs.Prelude.{Accepts, Bool, Command, Each, Err, Field, FieldC
 use Rattle.words.specs.declared.command.Command.TheVariants as command
 use Rattle.book.specs.After.{changes_own_stock, moved_at_once}
 use Rattle.book.specs.Checking.{IsFound}
-use Rattle.book.specs.RunningNumbers.{HasLines, Held, Holds, lines_add, lines_take}
+use Rattle.book.specs.RunningNumbers.{Held, Holds, lines_add, lines_take}
 use Rattle.index.specs.declared.in_order.InOrder.{InOrder}
 use Rattle.words.specs.declared.reply.Memory.{Memory}
 use Rattle.book.proofs.OutcomeTests.{held_add-order, held_take-order, none_found, same_self, settled-order}
@@ -198,10 +198,10 @@ own_stock A c o l good made there = by c made
     by (command.Firm n) made = sym has ∙ ap (some_has_line f) (sym made) ∙ lined_firm A n f good
     by c made = sym has ∙ ap (some_has_line f) (sym made) ∙ lined A c f good refl
 
-pub lines_rows : (A : Ledger) (r : Request) (o : Order) (D : List (Name × FieldEntry)) → Accepts A r → order_after A r.command ≡ Some o → IsStrictlySortedBy name_cmp (keys_of D) → HasLines A r o.lines D → map entry_row D ≡ field_rows A r
-lines_rows A r o D accepts made rising has =
-    changed_rows A r D accepts.after rising has.each
-    (λ f changes. any_line (λ n. changes_field A r.command n ≡ true → HasEntry D n) f.name o.lines has.all (changed_has_line A r.command f.name o accepts.before accepts.accepted.1 made changes) changes)
+pub lines_rows : (A : Ledger) (r : Request) (o : Order) (D : List (Name × FieldEntry)) → Accepts A r → order_after A r.command ≡ Some o → IsStrictlySortedBy name_cmp (keys_of D) → Each (IsChangedField A r) D → Each (λ l. changes_field A r.command (line_name l) ≡ true → HasEntry D (line_name l)) o.lines → map entry_row D ≡ field_rows A r
+lines_rows A r o D accepts made rising each all =
+    changed_rows A r D accepts.after rising each
+    (λ f changes. any_line (λ n. changes_field A r.command n ≡ true → HasEntry D n) f.name o.lines all (changed_has_line A r.command f.name o accepts.before accepts.accepted.1 made changes) changes)
 
 -- ---- a new order
 

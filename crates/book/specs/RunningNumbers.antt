@@ -120,11 +120,6 @@ pub record Puts (A : Ledger) (r : Request) (n : Name) (old new : List (Name × F
   pub changed : IsChangedField A r (n, entry)
   pub put : new ≡ insert_entry name_cmp old n entry
 
--- each field of a line of the order that the request changes is there, and nothing else
-pub record HasLines (A : Ledger) (r : Request) (ls : List Line) (entries : List (Name × FieldEntry)) : Type 0 where
-  pub each : Each (IsChangedField A r) entries
-  pub all : Each (λ l. changes_field A r.command (line_name l) ≡ true → HasEntry entries (line_name l)) ls
-
 -- ---- what orders that end give back
 
 -- what the lines hold on a field to take, and to add

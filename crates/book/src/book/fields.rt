@@ -11,7 +11,7 @@ ghost use Rattle.book.specs.Checking.{IsFound};
 ghost use Rattle.book.specs.Future.{AsksNoStock};
 ghost use Rattle.std.specs.Result.{IsOkAnd};
 ghost use Rattle.book.specs.Ledger.{field_named, line_name, name_cmp, on, order_numbered};
-ghost use Rattle.book.specs.RunningNumbers.{Accepts, GivenBack, GivesBack, HasLines, MayGiveBack, Puts, entry_row, share_numbers, share_on, Becomes, MayBecome};
+ghost use Rattle.book.specs.RunningNumbers.{Accepts, GivenBack, GivesBack, MayGiveBack, Puts, entry_row, share_numbers, share_on, Becomes, MayBecome};
 ghost use Rattle.book.specs.Model.{order_of};
 ghost use Rattle.book.specs.declared.order.Line.{Line};
 
@@ -123,18 +123,25 @@ impl Book {
         put(fields, name, entry)
     }
 
-    /// Puts in the fields of the lines of the order that the request makes, where it changes them.
-    fn put_lines(&self, fields: &mut Fields, request: &Request, order: &Order) -> Result<(), Memory>
+    /// The fields of the lines of the order that the request makes, where it changes them.
+    fn fields_of_order(
+        &self,
+        alloc: Global,
+        request: &Request,
+        order: &Order,
+    ) -> Result<Fields, Memory>
         requires accepts { Accepts self.now.ledger request.now }
         requires made { order_after self.now.ledger request.now.command ≡ Some (order_of order.now) }
         requires asks { AsksNoStock request.now.command }
-        requires none { fields.old.entries ≡ [] }
-        ensures { OnOk result (HasLines self.now.ledger request.now order.now.1.lines.items fields.new.entries) }
+        ensures { IfOk result (λ fields. map entry_row fields.entries ≡ field_rows self.now.ledger request.now) }
     {
+        let mut fields = InOrder::new(alloc);
         for line in order.1.lines.iter() {
-            self.put_line(fields, request, order, line)?;
+            self.put_line(&mut fields, request, order, line)?;
         }
-        Ok(())
+        // so that the proof has their order
+        let _ = fields.len();
+        Ok(fields)
     }
 
     /// The field of the line, as the lines so far leave it that give back what they hold.
@@ -200,40 +207,18 @@ impl Book {
         }
     }
 
-    /// Gives back what the orders of these numbers hold, and puts their fields in.
-    fn put_expired(&self, fields: &mut Fields, numbers: &[OrderNo]) -> Result<(), Memory>
-        requires none { fields.old.entries ≡ [] }
-        requires held { MayGiveBack self.now.ledger
-            (flat_map (of_numbered self.now.ledger (λ o. o.lines)) numbers.now) }
-        ensures { OnOk result (GivesBack self.now.ledger
-            (flat_map (of_numbered self.now.ledger (λ o. o.lines)) numbers.now) fields.new.entries) }
+    /// The fields of the orders of these numbers, once they have given back what they hold.
+    fn fields_given_back(&self, alloc: Global, numbers: &[OrderNo]) -> Result<Fields, Memory>
+        requires { MayGiveBack self.now.ledger (flat_map (of_numbered self.now.ledger (λ o. o.lines)) numbers.now) }
+        ensures { IfOk result (λ fields. IsStrictlySortedBy name_cmp (keys_of fields.entries) × GivesBack self.now.ledger
+            (flat_map (of_numbered self.now.ledger (λ o. o.lines)) numbers.now) fields.entries) }
     {
+        let mut fields = InOrder::new(alloc);
         for number in numbers {
-            self.give_back_order(fields, *number)?;
+            self.give_back_order(&mut fields, *number)?;
         }
-        Ok(())
-    }
-
-    /// Puts in the fields of the lines of the order that the request makes, or else of those that expire.
-    fn put_changed(
-        &self,
-        fields: &mut Fields,
-        request: &Request,
-        made: &Option<Order>,
-        expired: &[OrderNo],
-    ) -> Result<(), Memory>
-        requires accepts { Accepts self.now.ledger request.now }
-        requires asks { AsksNoStock request.now.command }
-        requires made { option_map order_of made.now ≡ order_after self.now.ledger request.now.command }
-        requires expired { expired.now ≡ expired_numbers self.now.ledger request.now.command }
-        requires none { fields.old.entries ≡ [] }
-        ensures { OnOk result (IsStrictlySortedBy name_cmp (keys_of fields.new.entries)
-            → map entry_row fields.new.entries ≡ field_rows self.now.ledger request.now) }
-    {
-        match made {
-            Some(order) => self.put_lines(fields, request, order),
-            None => self.put_expired(fields, expired),
-        }
+        let _ = fields.len();
+        Ok(fields)
     }
 
     /// The fields that the accepted request makes or changes, as they are then: those that its check found, else those
@@ -252,15 +237,14 @@ impl Book {
         requires expired { expired.now ≡ expired_numbers self.now.ledger request.now.command }
         ensures { IfOk result (λ fields. map entry_row fields.entries ≡ field_rows self.now.ledger request.now) }
     {
-        if let Some(found) = found {
-            let fields = found?;
-            // so that the proof has their order
+        if let Some(fields) = found {
+            let fields = fields?;
             let _ = fields.len();
             return Ok(fields);
         }
-        let mut fields = InOrder::new(alloc);
-        self.put_changed(&mut fields, request, made, expired)?;
-        let _ = fields.len();
-        Ok(fields)
+        match made {
+            Some(order) => self.fields_of_order(alloc, request, order),
+            None => self.fields_given_back(alloc, expired),
+        }
     }
 }
