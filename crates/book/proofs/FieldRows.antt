@@ -1,9 +1,9 @@
 -- The rows of the fields that a request makes or changes, for each kind of command.
-use Rattle.book.proofs.Prelude.{Accepts, Bool, Command, Each, Err, Field, FieldCells, FieldEntry, FirstFailure, GivenBack, GivesBack, Good, HasEntry, IfOk, IsChangedField, IsNone, IsSome, IsSomeAnd, IsStrictlySortedBy, IsUpToDate, Kind, Ledger, Line, List, Name, None, Ok, OpenLine, Option, Order, Plain, Puts, Request, Result, Some, State, Stock, Transfer, Way, [], accept, add_hold, added_part, ap, arith, change_lines, changes_field, checks, common_steps, entry_row, expired_lines, expires, false, field_named, field_of, field_row, field_rows, find, has_line_on, held_to_add, held_to_take, if◌then◌else◌, insert_entry, ints, is_lt, is_open, is_some, is_transfer, keys_of, line_name, line_on, list_any, list_any-append, lower_held, map, moved_by, moved_by_command, moved_part, name_cmp, name_of, nat_le, new_line, new_order, next, not, on, open_state, option_map, order_after, order_is, order_numbered, pos, raise_held, raise_used, refl, same_name, settled, settled_state, signed, some_has_line, subst, sym, taken_part, total, transfer_lines, true, true≢false, with_order, ℕ, ℤ, ◌&&◌, ◌+ℤ◌, ◌-ℤ◌, ◌||◌, ◌∙◌, ◌∷◌, ◌≡◌}
+use Rattle.book.proofs.Prelude.{Accepts, Bool, Command, Each, Err, Field, FieldCells, FieldEntry, FirstFailure, Counts, CountsAll, Good, HasEntry, IfOk, IsChangedField, IsNone, IsSome, IsSomeAnd, IsStrictlySortedBy, IsUpToDate, Kind, Ledger, Line, List, Name, None, Ok, OpenLine, Option, Order, Plain, Puts, Request, Result, Some, State, Stock, Transfer, Way, [], accept, add_hold, added_part, ap, arith, change_lines, changes_field, checks, common_steps, entry_row, expired_lines, expires, false, field_named, field_of, field_row, field_rows, find, has_line_on, held_to_add, held_to_take, if◌then◌else◌, insert_entry, ints, is_lt, is_open, is_some, is_transfer, keys_of, line_name, line_on, list_any, list_any-append, lower_held, map, moved_by, moved_by_command, moved_part, name_cmp, name_of, nat_le, new_line, new_order, next, not, on, open_state, option_map, order_after, order_is, order_numbered, pos, raise_held, raise_used, refl, same_name, settled, settled_state, signed, some_has_line, subst, sym, taken_part, total, transfer_lines, true, true≢false, with_order, ℕ, ℤ, ◌&&◌, ◌+ℤ◌, ◌-ℤ◌, ◌||◌, ◌∙◌, ◌∷◌, ◌≡◌}
 use Rattle.words.specs.declared.command.Command.TheVariants as command
 use Rattle.book.specs.After.{changes_own_stock, moved_at_once}
 use Rattle.book.specs.Checking.{IsFound}
-use Rattle.book.specs.RunningNumbers.{Held, Holds, lines_add, lines_take}
+use Rattle.book.specs.RunningNumbers.{lines_add, lines_take}
 use Rattle.index.specs.declared.in_order.InOrder.{InOrder}
 use Rattle.words.specs.declared.reply.Memory.{Memory}
 use Rattle.book.proofs.OutcomeTests.{held_add-order, held_take-order, none_found, same_self, settled-order}
@@ -209,7 +209,7 @@ entry_itself : (D : List (Name × FieldEntry)) → Each (λ e. HasEntry D e.0) D
 entry_itself [] = tt
 entry_itself (e ∷ D) = let more = entry_itself D in grind (arith, each-imp, self_eq)
 
-opened_row : (A : Ledger) (n : ℕ) (k : Kind) (u : ℕ) (ls : List OpenLine) (e : Name × FieldEntry) → Held A (map new_line ls) e → entry_row e ≡ field_row (with_order (new_order n k u ls) A) (field_of e)
+opened_row : (A : Ledger) (n : ℕ) (k : Kind) (u : ℕ) (ls : List OpenLine) (e : Name × FieldEntry) → Counts ◌+ℤ◌ A (map new_line ls) e → entry_row e ≡ field_row (with_order (new_order n k u ls) A) (field_of e)
 opened_row A n k u ls e held =
     let takes_sum = held_take-order A n k u ls e.0 in
     let takes_is = held.takes in
@@ -218,7 +218,7 @@ opened_row A n k u ls e held =
     entry_is (with_order (new_order n k u ls) A) e.0 e.1 e.1.quantity refl refl (held.value ∙ sym (settled-order A n k u ls (field_of e))) (omega (arith, ints)) (omega (arith, ints))
 
 pub opened_found : (A : Ledger) (c : Command) (n : ℕ) (k : Kind) (u : ℕ) (ls : List OpenLine) (found : Option (Result (InOrder Name FieldEntry) Memory)) → next A c ≡ with_order (new_order n k u ls) A → ((f : Name) → changes_field A c f ≡ list_any (on f) (map new_line ls))
-    → IsSomeAnd found (λ made. IfOk made (λ fields. Holds A (map new_line ls) fields.entries)) → IsFound A c found
+    → IsSomeAnd found (λ made. IfOk made (λ fields. CountsAll ◌+ℤ◌ A (map new_line ls) fields.entries)) → IsFound A c found
 opened_found A c n k u ls None is names holds = absurd holds
 opened_found A c n k u ls (Some (Err fault)) is names holds = tt
 opened_found A c n k u ls (Some (Ok fields)) is names holds = λ key accepts rising.
@@ -231,10 +231,10 @@ opened_found A c n k u ls (Some (Ok fields)) is names holds = λ key accepts ris
     }) fields.entries holds.each (entry_itself fields.entries))
     (λ f changes. holds.all f.name ∙ sym (names f.name) ∙ changes)
 
-pub open_found : (A : Ledger) (n u : ℕ) (ls : List OpenLine) (found : Option (Result (InOrder Name FieldEntry) Memory)) → IsSomeAnd found (λ made. IfOk made (λ fields. Holds A (map new_line ls) fields.entries)) → IsFound A (command.Open n u ls) found
+pub open_found : (A : Ledger) (n u : ℕ) (ls : List OpenLine) (found : Option (Result (InOrder Name FieldEntry) Memory)) → IsSomeAnd found (λ made. IfOk made (λ fields. CountsAll ◌+ℤ◌ A (map new_line ls) fields.entries)) → IsFound A (command.Open n u ls) found
 open_found A n u ls found holds = opened_found A (command.Open n u ls) n Plain u ls found refl (λ f. sym (any-map (on f) new_line ls)) holds
 
-pub transfer_found : (A : Ledger) (n u : ℕ) (a b d : List ℕ) (q : ℕ) (found : Option (Result (InOrder Name FieldEntry) Memory)) → IsSomeAnd found (λ made. IfOk made (λ fields. Holds A (map new_line (transfer_lines a b d q)) fields.entries)) → IsFound A (command.Transfer n u a b d q) found
+pub transfer_found : (A : Ledger) (n u : ℕ) (a b d : List ℕ) (q : ℕ) (found : Option (Result (InOrder Name FieldEntry) Memory)) → IsSomeAnd found (λ made. IfOk made (λ fields. CountsAll ◌+ℤ◌ A (map new_line (transfer_lines a b d q)) fields.entries)) → IsFound A (command.Transfer n u a b d q) found
 transfer_found A n u a b d q found holds = opened_found A (command.Transfer n u a b d q) n Transfer u (transfer_lines a b d q) found refl (λ f. grind arith) holds
 
 -- ---- an expiry
@@ -283,10 +283,10 @@ expired_sums A now f good h =
     let adds_given = expired_part now (λ m. adds m f.name) A.orders in
     (omega (arith, ints), omega (arith, ints), omega (arith, ints))
 
-given_row : (A B : Ledger) (now : ℕ) (e : Name × FieldEntry) → GivenBack A (expired_lines now A.orders) e → Left A B now (field_of e) → entry_row e ≡ field_row B (field_of e)
+given_row : (A B : Ledger) (now : ℕ) (e : Name × FieldEntry) → Counts ◌-ℤ◌ A (expired_lines now A.orders) e → Left A B now (field_of e) → entry_row e ≡ field_row B (field_of e)
 given_row A B now e given left = entry_is B e.0 e.1 e.1.quantity refl refl (given.value ∙ sym left.0) (given.takes ∙ sym left.1) (given.adds ∙ sym left.2)
 
-pub expired_rows : (A : Ledger) (r : Request) (now : ℕ) (D : List (Name × FieldEntry)) → Accepts A r → r.command ≡ command.Expire now → IsStrictlySortedBy name_cmp (keys_of D) → GivesBack A (expired_lines now A.orders) D → map entry_row D ≡ field_rows A r
+pub expired_rows : (A : Ledger) (r : Request) (now : ℕ) (D : List (Name × FieldEntry)) → Accepts A r → r.command ≡ command.Expire now → IsStrictlySortedBy name_cmp (keys_of D) → CountsAll ◌-ℤ◌ A (expired_lines now A.orders) D → map entry_row D ≡ field_rows A r
 expired_rows A r now D accepts is rising gives =
     let passed = subst (λ (c : Command). FirstFailure (checks A c) None) is accepts.accepted.1 in
     changed_rows A r D accepts.after rising

@@ -13,7 +13,7 @@ pub use Rattle.escrow.specs.Choices.{IsWithin}
 pub use Rattle.book.specs.Outcomes.{FallsBelow, IsInfimum, IsSafe, IsSupremum, RisesAbove, article_total, moved_by, settled, signed, total}
 pub use Rattle.book.specs.Plans.{ChangesTo}
 pub use Rattle.book.specs.Rows.{Content, DeskCells, FieldCells, FirmCells, IsFieldRow, IsRowsOf, KeptCells, LineCells, OrderCells, desk_row, field_cmp, firm_cmp, firm_row, firm_rows, kept_cmp, kept_row, line_cmp, line_row, lines_from, move_cmp, move_row, order_cmp, order_lines, order_row}
-pub use Rattle.book.specs.RunningNumbers.{Accepts, Becomes, GivenBack, GivesBack, HasEntry, IsChangedField, IsUpToDate, MayBecome, MayGiveBack, Puts, entry_row, expired_lines, share_numbers, share_of, share_on, with_entries}
+pub use Rattle.book.specs.RunningNumbers.{Accepts, Becomes, Counts, CountsAll, HasEntry, IsChangedField, IsUpToDate, MayBecome, MayGiveBack, Puts, entry_row, expired_lines, share_numbers, share_of, share_on, with_entries}
 pub use Rattle.book.specs.Sums.{AreLinesOnFields, AreMovesOnFields, AreOnFields, AreOrdersOnFields, IsField, added, entry_name, lines_numbers, numbers_on, only_on, part_of_line}
 pub use Rattle.book.specs.Tables.{field_cells, firm_cells, kept_cells, line_cells, move_cells, order_cells, rows_among}
 pub use Rattle.book.specs.RowEntries.{AreNumbered, AreOthers, BeginsOther, HasNumbers, HaveNumbers, IsBounded, IsFieldTold, IsKeptTold, IsLineTold, IsMoveByItself, IsMoveTold, IsOrderByItself, IsWhole, TellHeads, TellOrders, TellsField, head_of, head_row, mark_rows, told_ledger}

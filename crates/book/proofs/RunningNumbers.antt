@@ -24,6 +24,13 @@ pub bounds_at : (A : Ledger) (f : Field) → Good A → Contains A.fields f
     → (pos f.lo ≤ℤ (settled A f -ℤ held_to_take A f.name)) × ((settled A f -ℤ held_to_take A f.name) ≤ℤ settled A f) × (settled A f ≤ℤ (settled A f +ℤ held_to_add A f.name)) × ((settled A f +ℤ held_to_add A f.name) ≤ℤ pos f.hi) × (f.hi ≤ 1000000000)
 bounds_at A f good there = each-at _ A.fields there.0 f there.1 (sym there.2) (in_order A good)
 
+-- ---- an entry that is up to date
+
+pub numbers_up : (A : Ledger) (n : Name) (e : FieldEntry) → IsUpToDate A (n, e) → (pos e.quantity.value ≡ settled A (field_of (n, e))) × (pos e.quantity.held_to_take ≡ held_to_take A n) × (pos e.quantity.held_to_add ≡ held_to_add A n)
+numbers_up A n e up =
+    let value = ap (λ (r : FieldCells). r.value) up in let inf = ap (λ (r : FieldCells). r.inf) up in let sup = ap (λ (r : FieldCells). r.sup) up in
+    (value, omega (arith, ints), omega (arith, ints))
+
 -- ---- the check of a bound
 
 not_above : (a b : ℤ) → (a ≤ℤ b → ⊥) → b <ℤ a

@@ -8,7 +8,7 @@ use Rattle.book.proofs.Lists.{some_is, total-not_negative}
 use Rattle.book.proofs.Futures.{all_pass, one_on}
 use Rattle.book.proofs.Goodness.{quantities}
 use Rattle.book.proofs.CommandOrder.{each-found, left_out, made_there, none_opened, total-next, total_parts}
-use Rattle.book.proofs.RunningNumbers.{bounds_at, off}
+use Rattle.book.proofs.RunningNumbers.{numbers_up, off}
 use Rattle.book.proofs.Sums.{each, each-imp, each-map, total-eq, total-zero, least_if}
 use Rattle.book.proofs.OutcomeTests.{total-push}
 
@@ -246,19 +246,8 @@ abbrev pub HoldsMore : Ledger → Ledger → Field → Way → ℕ → Type 0
 HoldsMore A B f w q = (settled B f ≡ settled A f) × (held_to_take B f.name ≡ held_to_take A f.name +ℤ pos (if_take w q)) × (held_to_add B f.name ≡ held_to_add A f.name +ℤ pos (if_add w q))
 
 pub holding_row : (A B : Ledger) (f : Name) (e : FieldEntry) (w : Way) (q : ℕ) → IsUpToDate A (f, e) → HoldsMore A B (field_of (f, e)) w q → entry_row (f, record { start = e.start; quantity = holding e.quantity w q }) ≡ field_row B (field_of (f, e))
-holding_row A B f e w q up more = by w more
-  where
-    by : (w : Way) → HoldsMore A B (field_of (f, e)) w q → entry_row (f, record { start = e.start; quantity = holding e.quantity w q }) ≡ field_row B (field_of (f, e))
-    by Take more =
-        let value = ap (λ (row : FieldCells). row.value) up in
-        let inf = ap (λ (row : FieldCells). row.inf) up in
-        let sup = ap (λ (row : FieldCells). row.sup) up in
-        entry_is B f e (holding e.quantity Take q) refl refl (omega (arith, ints)) (omega (arith, ints)) (omega (arith, ints))
-    by Add more =
-        let value = ap (λ (row : FieldCells). row.value) up in
-        let inf = ap (λ (row : FieldCells). row.inf) up in
-        let sup = ap (λ (row : FieldCells). row.sup) up in
-        entry_is B f e (holding e.quantity Add q) refl refl (omega (arith, ints)) (omega (arith, ints)) (omega (arith, ints))
+holding_row A B f e Take q up more = let n = numbers_up A f e up in entry_is B f e (holding e.quantity Take q) refl refl (omega (arith, ints)) (omega (arith, ints)) (omega (arith, ints))
+holding_row A B f e Add q up more = let n = numbers_up A f e up in entry_is B f e (holding e.quantity Add q) refl refl (omega (arith, ints)) (omega (arith, ints)) (omega (arith, ints))
 
 -- with its line changed, the field is that of the next ledger
 pub stock_changed : (A : Ledger) (r : Request) (n : ℕ) (o : Order) (f : Name) (e : FieldEntry) (l : Line) (new : Stock) → Good A → Good (accept A r) → IsAccepted A r → AsksNoStock r.command → order_number r.command ≡ Some n → order_after A r.command ≡ Some o
@@ -269,9 +258,7 @@ stock_changed A r n o f e l new good after ok asks number made up there becomes 
   where
     stock_row : (A B : Ledger) (f : Name) (e : FieldEntry) (new : Stock) (was is : Numbers) → IsUpToDate A (f, e) → Changes A B (field_of (f, e)) was is → Becomes e.quantity was is new → entry_row (f, record { start = e.start; quantity = new }) ≡ field_row B (field_of (f, e))
     stock_row A B f e new was is up sums becomes =
-        let value = ap (λ (row : FieldCells). row.value) up in
-        let inf = ap (λ (row : FieldCells). row.inf) up in
-        let sup = ap (λ (row : FieldCells). row.sup) up in
+        let n = numbers_up A f e up in
         let adds_sum = sums.adds in
         let value_is = becomes.value in
         let takes_is = becomes.takes in

@@ -20,8 +20,7 @@ use Rattle.book.specs.declared.book.FieldEntry.{FieldEntry}
 
 -- the refusal and the line of the first of the checks that fails, or else something with the property
 abbrev pub Finds : {T : Type 0} → List Check → (T → Type 0) → Result T (Refusal × ℕ) → Type 0
-Finds cs P result =
-    MatchResult result (λ found. FirstFailure cs None × P found) (λ failure. FirstFailure cs (Some failure))
+Finds cs P result = MatchResult result (λ x. FirstFailure cs None × P x) (λ failure. FirstFailure cs (Some failure))
 
 -- the entries of the fields that the command, once accepted, makes or changes, as they are then; or nothing of a command
 -- that asks for no stock

@@ -120,7 +120,7 @@ pub record Puts (A : Ledger) (r : Request) (n : Name) (old new : List (Name × F
   pub changed : IsChangedField A r (n, entry)
   pub put : new ≡ insert_entry name_cmp old n entry
 
--- ---- what orders that end give back
+-- ---- what lines give back or hold
 
 -- what the lines hold on a field to take, and to add
 abbrev pub lines_take : Name → List Line → ℤ
@@ -129,35 +129,21 @@ lines_take f ls = total (λ l. if on f l then pos (if_take l.way l.held) else po
 abbrev pub lines_add : Name → List Line → ℤ
 lines_add f ls = total (λ l. if on f l then pos (if_add l.way l.held) else pos 0) ls
 
--- the entry is that of a field of the ledger, with what these lines hold given back
-pub record GivenBack (A : Ledger) (ls : List Line) (e : Name × FieldEntry) : Type 0 where
+-- the entry is that of a field of the ledger, with what these lines hold given back, or else held too
+pub record Counts (sum : ℤ → ℤ → ℤ) (A : Ledger) (ls : List Line) (e : Name × FieldEntry) : Type 0 where
   pub there : find (λ g. same_name e.0 g.name) A.fields ≡ Some (field_of e)
   pub value : pos e.1.quantity.value ≡ settled A (field_of e)
-  pub takes : pos e.1.quantity.held_to_take ≡ (held_to_take A e.0 -ℤ lines_take e.0 ls)
-  pub adds : pos e.1.quantity.held_to_add ≡ (held_to_add A e.0 -ℤ lines_add e.0 ls)
+  pub takes : pos e.1.quantity.held_to_take ≡ sum (held_to_take A e.0) (lines_take e.0 ls)
+  pub adds : pos e.1.quantity.held_to_add ≡ sum (held_to_add A e.0) (lines_add e.0 ls)
 
--- the entries are those of the fields of these lines, with what they hold given back
-pub record GivesBack (A : Ledger) (ls : List Line) (entries : List (Name × FieldEntry)) : Type 0 where
-  pub each : Each (GivenBack A ls) entries
+-- the entries are those of the fields of these lines, with what they hold given back, or else held too
+pub record CountsAll (sum : ℤ → ℤ → ℤ) (A : Ledger) (ls : List Line) (entries : List (Name × FieldEntry)) : Type 0 where
+  pub each : Each (Counts sum A ls) entries
   pub all : (n : Name) → is_some (lookup (is_at (name_cmp n)) entries) ≡ list_any (on n) ls
 
 -- so much is held
 abbrev pub MayGiveBack : Ledger → List Line → Type 0
 MayGiveBack A ls = (n : Name) → (lines_take n ls ≤ℤ held_to_take A n) × (lines_add n ls ≤ℤ held_to_add A n)
-
--- ---- what a new order holds
-
--- the entry is that of a field of the ledger, with what these lines hold held too
-pub record Held (A : Ledger) (ls : List Line) (e : Name × FieldEntry) : Type 0 where
-  pub there : find (λ g. same_name e.0 g.name) A.fields ≡ Some (field_of e)
-  pub value : pos e.1.quantity.value ≡ settled A (field_of e)
-  pub takes : pos e.1.quantity.held_to_take ≡ (held_to_take A e.0 +ℤ lines_take e.0 ls)
-  pub adds : pos e.1.quantity.held_to_add ≡ (held_to_add A e.0 +ℤ lines_add e.0 ls)
-
--- the entries are those of the fields of these lines, with what they hold held too
-pub record Holds (A : Ledger) (ls : List Line) (entries : List (Name × FieldEntry)) : Type 0 where
-  pub each : Each (Held A ls) entries
-  pub all : (n : Name) → is_some (lookup (is_at (name_cmp n)) entries) ≡ list_any (on n) ls
 
 -- the lines of the orders that expire
 abbrev pub expired_lines : ℕ → List Order → List Line

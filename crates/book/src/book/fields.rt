@@ -1,6 +1,6 @@
 //! The fields that an accepted command makes or changes, as they are then.
 
-ghost use Rattle.std.specs.Prelude.{◌≡◌, ℕ, ◌∷◌, ◌++◌, [], List, Some, IsSome, IfOk, OnOk, false, find, flat_map, map, option_map, true};
+ghost use Rattle.std.specs.Prelude.{◌≡◌, ℕ, ◌∷◌, ◌++◌, [], List, Some, IsSome, IfOk, OnOk, false, find, flat_map, map, option_map, true, ◌-ℤ◌};
 ghost use Rattle.std.specs.BTreeMap.{insert_entry};
 ghost use Rattle.std.specs.List.{AllByRecursion as Each};
 ghost use Rattle.std.specs.List.Sorted.{IsStrictlySortedBy};
@@ -11,7 +11,7 @@ ghost use Rattle.book.specs.Checking.{IsFound};
 ghost use Rattle.book.specs.Future.{AsksNoStock};
 ghost use Rattle.std.specs.Result.{IsOkAnd};
 ghost use Rattle.book.specs.Ledger.{field_named, line_name, name_cmp, on, order_numbered};
-ghost use Rattle.book.specs.RunningNumbers.{Accepts, GivenBack, GivesBack, MayGiveBack, Puts, entry_row, share_numbers, share_on, Becomes, MayBecome};
+ghost use Rattle.book.specs.RunningNumbers.{Accepts, Counts, CountsAll, MayGiveBack, Puts, entry_row, share_numbers, share_on, Becomes, MayBecome};
 ghost use Rattle.book.specs.Model.{order_of};
 ghost use Rattle.book.specs.declared.order.Line.{Line};
 
@@ -147,8 +147,8 @@ impl Book {
     /// The field of the line, as the lines so far leave it that give back what they hold.
     fn field_so_far(&self, fields: &Fields, line: &Line) -> FieldEntry
         requires { IsSome (field_named self.now.ledger (line_name line.now)) }
-        ensures { (ls : List Line) → GivesBack self.now.ledger ls fields.now.entries
-            → GivenBack self.now.ledger ls (line_name line.now, result) }
+        ensures { (ls : List Line) → CountsAll ◌-ℤ◌ self.now.ledger ls fields.now.entries
+            → Counts ◌-ℤ◌ self.now.ledger ls (line_name line.now, result) }
     {
         let (branch, article) = (line.branch, line.article);
         let name = FieldName { branch, article };
@@ -164,10 +164,10 @@ impl Book {
     /// Gives back what the line of an order that expires holds, and puts its field in.
     fn give_back_line(&self, fields: &mut Fields, line: &Line) -> Result<(), Memory>
         requires there { IsSome (field_named self.now.ledger (line_name line.now)) }
-        requires held { (ls : List Line) × GivesBack self.now.ledger ls fields.old.entries
+        requires held { (ls : List Line) × CountsAll ◌-ℤ◌ self.now.ledger ls fields.old.entries
             × MayGiveBack self.now.ledger (ls ++ line.now ∷ []) }
-        ensures { OnOk result ((ls : List Line) → GivesBack self.now.ledger ls fields.old.entries
-            → MayGiveBack self.now.ledger (ls ++ line.now ∷ []) → GivesBack self.now.ledger
+        ensures { OnOk result ((ls : List Line) → CountsAll ◌-ℤ◌ self.now.ledger ls fields.old.entries
+            → MayGiveBack self.now.ledger (ls ++ line.now ∷ []) → CountsAll ◌-ℤ◌ self.now.ledger
             (ls ++ line.now ∷ []) fields.new.entries) }
     {
         let mut entry = self.field_so_far(fields, line);
@@ -179,10 +179,10 @@ impl Book {
     /// Gives back what these lines hold, and puts their fields in.
     fn give_back_lines(&self, fields: &mut Fields, lines: &[Line]) -> Result<(), Memory>
         requires there { Each (λ l. IsSome (field_named self.now.ledger (line_name l))) lines.now }
-        requires held { (ls : List Line) × GivesBack self.now.ledger ls fields.old.entries
+        requires held { (ls : List Line) × CountsAll ◌-ℤ◌ self.now.ledger ls fields.old.entries
             × MayGiveBack self.now.ledger (ls ++ lines.now) }
-        ensures { OnOk result ((ls : List Line) → GivesBack self.now.ledger ls fields.old.entries
-            → MayGiveBack self.now.ledger (ls ++ lines.now) → GivesBack self.now.ledger
+        ensures { OnOk result ((ls : List Line) → CountsAll ◌-ℤ◌ self.now.ledger ls fields.old.entries
+            → MayGiveBack self.now.ledger (ls ++ lines.now) → CountsAll ◌-ℤ◌ self.now.ledger
             (ls ++ lines.now) fields.new.entries) }
     {
         for line in lines {
@@ -193,11 +193,11 @@ impl Book {
 
     /// Gives back what the order of that number holds, if there is one.
     fn give_back_order(&self, fields: &mut Fields, number: OrderNo) -> Result<(), Memory>
-        requires { (ls : List Line) × GivesBack self.now.ledger ls fields.old.entries
+        requires { (ls : List Line) × CountsAll ◌-ℤ◌ self.now.ledger ls fields.old.entries
             × MayGiveBack self.now.ledger (ls ++ of_numbered self.now.ledger (λ o. o.lines) number) }
-        ensures { OnOk result ((ls : List Line) → GivesBack self.now.ledger ls fields.old.entries
+        ensures { OnOk result ((ls : List Line) → CountsAll ◌-ℤ◌ self.now.ledger ls fields.old.entries
             → MayGiveBack self.now.ledger (ls ++ of_numbered self.now.ledger (λ o. o.lines) number)
-            → GivesBack self.now.ledger (ls ++ of_numbered self.now.ledger (λ o. o.lines) number) fields.new.entries) }
+            → CountsAll ◌-ℤ◌ self.now.ledger (ls ++ of_numbered self.now.ledger (λ o. o.lines) number) fields.new.entries) }
     {
         // so that the proof has the invariant
         let _ = &self.orders;
@@ -210,7 +210,7 @@ impl Book {
     /// The fields of the orders of these numbers, once they have given back what they hold.
     fn fields_given_back(&self, alloc: Global, numbers: &[OrderNo]) -> Result<Fields, Memory>
         requires { MayGiveBack self.now.ledger (flat_map (of_numbered self.now.ledger (λ o. o.lines)) numbers.now) }
-        ensures { IfOk result (λ fields. IsStrictlySortedBy name_cmp (keys_of fields.entries) × GivesBack self.now.ledger
+        ensures { IfOk result (λ fields. IsStrictlySortedBy name_cmp (keys_of fields.entries) × CountsAll ◌-ℤ◌ self.now.ledger
             (flat_map (of_numbered self.now.ledger (λ o. o.lines)) numbers.now) fields.entries) }
     {
         let mut fields = InOrder::new(alloc);

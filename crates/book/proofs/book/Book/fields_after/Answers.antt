@@ -1,4 +1,4 @@
-use Rattle.book.proofs.Prelude.{AsksNoStock, Command, FieldEntry, FirstFailure, GivesBack, Good, IfOk-weaker, IsFound, Ledger, Line, List, MayGiveBack, Name, None, [], ap, arith, checks, expired_lines, expired_numbers, expires, flat_map, of_numbered, option_map, order_after, order_of, refl, subst, sym, ℕ, ◌∙◌, ◌≡◌}
+use Rattle.book.proofs.Prelude.{AsksNoStock, Command, FieldEntry, FirstFailure, CountsAll, Good, IfOk-weaker, IsFound, Ledger, Line, List, MayGiveBack, Name, None, [], ap, arith, checks, expired_lines, expired_numbers, expires, flat_map, of_numbered, option_map, order_after, order_of, refl, subst, sym, ℕ, ◌∙◌, ◌≡◌, ◌-ℤ◌}
 use Rattle.index.specs.declared.in_order.InOrder.{InOrder}
 use Rattle.words.specs.declared.command.Command.TheVariants as command
 use Rattle.book.proofs.ChangedFields.{may_all}
@@ -27,4 +27,4 @@ returns-in-None c =
     let A : Ledger = c.args.self.now.ledger in
     let d : Command = c.args.request.now.command in
     let e = expiry A d c.requires.accepts.accepted.1 (subst (IsFound A d) c.in_default.is c.requires.found) (sym c.requires.made ∙ ap (option_map order_of) c.in-None.is) in
-    IfOk-weaker _ _ _ (λ (fields : InOrder Name FieldEntry) is. expired_rows A c.args.request.now e.0 fields.entries c.requires.accepts e.1 is.0 (subst (λ (ls : List Line). GivesBack A ls fields.entries) (given A d e.0 c.args.expired.now c.requires.accepts.before e.1 c.requires.expired) is.1)) c.fields_given_back.ensures
+    IfOk-weaker _ _ _ (λ (fields : InOrder Name FieldEntry) is. expired_rows A c.args.request.now e.0 fields.entries c.requires.accepts e.1 is.0 (subst (λ (ls : List Line). CountsAll ◌-ℤ◌ A ls fields.entries) (given A d e.0 c.args.expired.now c.requires.accepts.before e.1 c.requires.expired) is.1)) c.fields_given_back.ensures

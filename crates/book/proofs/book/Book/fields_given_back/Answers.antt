@@ -1,4 +1,4 @@
-use Rattle.book.proofs.Prelude.{GivesBack, Ledger, Line, List, flat_map, of_numbered, subst, sym, take}
+use Rattle.book.proofs.Prelude.{CountsAll, Ledger, Line, List, flat_map, of_numbered, subst, sym, take, ◌-ℤ◌}
 use Rattle.book.proofs.ExpiredOrders.{flat_next, may_next}
 use Rattle.book.proofs.book.Book.fields_given_back.Goals as goal
 
@@ -14,5 +14,5 @@ loop-number-preserved c =
     let i = c.loop-number.number-index in
     let ns = c.args.numbers.now in
     let lines = of_numbered A (λ o. o.lines) in
-    subst (λ (ls : List Line). GivesBack A ls c.give_back_order.new.fields.entries) (sym (flat_next lines ns i c.number-item.result c.loop-number-test.true c.number-item.is))
+    subst (λ (ls : List Line). CountsAll ◌-ℤ◌ A ls c.give_back_order.new.fields.entries) (sym (flat_next lines ns i c.number-item.result c.loop-number-test.true c.number-item.is))
     (c.in_ok-give_back_order.ensures (flat_map lines (take i ns)) c.loop-number.invariant (may_next A lines ns i c.number-item.result c.loop-number-test.true c.number-item.is c.requires))
