@@ -93,15 +93,9 @@ more_decides A n w f q o e found good room ordered numbered opened loose plain t
     inr (
       room,
       go_on (loose_checks A n) (check (OfOrder A n (λ o. IsTrue (is_transfer o))) TransferFixed ∷ no_field A f 0 ∷ of_line A n w f ++ of_bound A n w f q) found ordered
-          (inr (no_transfer, inr (field, holds decides))),
+          (inr (rw numbered (λ h. true≢false (sym h ∙ plain)), inr (rw there (λ h. true≢false h), holds decides))),
     )
   where
-    no_transfer : OfOrder A n (λ o. IsTrue (is_transfer o)) → ⊥
-    no_transfer = rw numbered (λ h. true≢false (sym h ∙ plain))
-
-    field : IsNone (field_named A f) → ⊥
-    field = rw there (λ h. true≢false h)
-
     asked : OpenLine
     asked = record { way = w; branch = f.branch; article = f.article; qty = q }
 

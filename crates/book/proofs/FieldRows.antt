@@ -1,5 +1,5 @@
 -- The rows of the fields that a request makes or changes, for each kind of command.
-use Rattle.book.proofs.Prelude.{Accepts, Bool, Command, Each, Err, Field, FieldCells, FieldEntry, FirstFailure, Counts, CountsAll, Good, HasEntry, IfOk, IsChangedField, IsNone, IsSome, IsSomeAnd, IsStrictlySortedBy, IsUpToDate, Kind, Ledger, Line, List, Name, None, Ok, OpenLine, Option, Order, Plain, Puts, Request, Result, Some, State, Stock, Transfer, Way, [], accept, add_hold, added_part, ap, arith, change_lines, changes_field, checks, common_steps, entry_row, expired_lines, expires, false, field_named, field_of, field_row, field_rows, find, has_line_on, held_to_add, held_to_take, if◌then◌else◌, insert_entry, ints, is_lt, is_open, is_some, is_transfer, keys_of, line_name, line_on, list_any, list_any-append, lower_held, map, moved_by, moved_by_command, moved_part, name_cmp, name_of, nat_le, new_line, new_order, next, not, on, open_state, option_map, order_after, order_is, order_numbered, pos, raise_held, raise_used, refl, same_name, settled, settled_state, signed, some_has_line, subst, sym, taken_part, total, transfer_lines, true, true≢false, with_order, ℕ, ℤ, ◌&&◌, ◌+ℤ◌, ◌-ℤ◌, ◌||◌, ◌∙◌, ◌∷◌, ◌≡◌}
+use Rattle.book.proofs.Prelude.{AsksNoStock, Accepts, Bool, Command, Each, Err, Field, FieldCells, FieldEntry, FirstFailure, Counts, CountsAll, Good, HasEntry, IfOk, IsChangedField, IsNone, IsSome, IsSomeAnd, IsStrictlySortedBy, IsUpToDate, Kind, Ledger, Line, List, Name, None, Ok, OpenLine, Option, Order, Plain, Puts, Request, Result, Some, State, Stock, Transfer, Way, [], accept, add_hold, added_part, ap, arith, change_lines, changes_field, checks, common_steps, entry_row, expired_lines, expires, false, field_named, field_of, field_row, field_rows, find, has_line_on, held_to_add, held_to_take, if◌then◌else◌, insert_entry, ints, is_lt, is_open, is_some, is_transfer, keys_of, line_name, line_on, list_any, list_any-append, lower_held, map, moved_by, moved_by_command, moved_part, name_cmp, name_of, nat_le, new_line, new_order, next, not, on, open_state, option_map, order_after, order_is, order_numbered, pos, raise_held, raise_used, refl, same_name, settled, settled_state, signed, some_has_line, subst, sym, taken_part, total, transfer_lines, true, true≢false, with_order, ℕ, ℤ, ◌&&◌, ◌+ℤ◌, ◌-ℤ◌, ◌||◌, ◌∙◌, ◌∷◌, ◌≡◌}
 use Rattle.words.specs.declared.command.Command.TheVariants as command
 use Rattle.book.specs.After.{changes_own_stock, moved_at_once}
 use Rattle.book.specs.Checking.{IsFound}
@@ -70,21 +70,15 @@ moved_found A c n w q e new is up there moves key accepts =
 
 pub new_found : (A : Ledger) (n : Name) (lo hi start : ℕ) (q : Stock) → q ≡ record { lo = lo; hi = hi; value = start; held_to_take = 0; held_to_add = 0 } → IsOnly A (command.Field n.branch n.article lo hi start) (n, record { start = start; quantity = q })
 new_found A n lo hi start q is key accepts =
+    let c : Command = command.Field n.branch n.article lo hi start in
+    let new : Field = record { name = n; lo = lo; hi = hi; start = start } in
+    let none = none_if_not_some (field_named A n) (all_pass (checks A c) accepts.accepted.1).1.1.0 in
     one_row A (record { key = key; command = c }) (n, record { start = start; quantity = q }) accepts.after (record {
       field = new;
       there = find-new (λ g. same_name n g.name) (λ f g. is_lt (name_cmp f.name g.name)) new A.fields (same_self n) (none_found (λ g. same_name n g.name) A.fields none);
       passes = same_self n;
       has_row = ap (λ (q : Stock). entry_row (n, record { start = start; quantity = q })) is ∙ new_field A (next A c) n lo hi start accepts.before none refl refl;
     }) (λ f. refl)
-  where
-    c : Command
-    c = command.Field n.branch n.article lo hi start
-
-    new : Field
-    new = record { name = n; lo = lo; hi = hi; start = start }
-
-    none : field_named A n ≡ None
-    none = none_if_not_some (field_named A n) (all_pass (checks A c) accepts.accepted.1).1.1.0
 
 -- ---- other bounds
 
@@ -119,12 +113,6 @@ any_line P f (l ∷ ls) all e = by (on f l) refl e (λ k. any_line P f ls all.1 
     by : (b : Bool) → on f l ≡ b → (b || list_any (on f) ls) ≡ true → (list_any (on f) ls ≡ true → P f) → P f
     by b is e more = grind (arith, name_is)
 
-raised_on : (b : Bool) (f : Name) (q : ℕ) (l : Line) → on f (if b then raise_held q l else l) ≡ on f l
-raised_on b f q l = grind arith
-
-held_on : (f : Name) (ol : OpenLine) (o : Order) → f ≡ line_name (new_line ol) → list_any (on f) (add_hold ol o).lines ≡ true
-held_on f ol o is = grind (arith, (each (λ m. raised_on (on (line_name (new_line ol)) m) f ol.qty m) o.lines), (any_there (line_name (new_line ol)) o.lines), any-append, any-map, raised_on, same_self)
-
 second_true : (a b : Bool) → (a && b) ≡ true → b ≡ true
 second_true x b e = grind arith
 
@@ -137,25 +125,18 @@ part_has_line A n f g p held there e = by (same_name f g) refl e
     by false is e = second_true (is_transfer p) (has_line_on f p) e
 
 -- a field that the request changes has a line of the order that it makes
-changed_has_line : (A : Ledger) (c : Command) (f : Name) (o : Order) → Good A → FirstFailure (checks A c) None → order_after A c ≡ Some o → changes_field A c f ≡ true → list_any (on f) o.lines ≡ true
-changed_has_line A (command.More n way b a q) f o good h made e = by (order_numbered A n) made
-  where
-    by : (x : Option Order) → option_map (add_hold (record { way = way; branch = b; article = a; qty = q })) x ≡ Some o → list_any (on f) o.lines ≡ true
-    by None k = absurd (true≢false (sym (ap is_some k)))
-    by (Some p) k = subst (λ (m : Order). list_any (on f) m.lines ≡ true) (some_is _ o k) (held_on f (record { way = way; branch = b; article = a; qty = q }) p (name_is f (name_of b a) e))
-changed_has_line A (command.Release n b a q) f o good h made e = grind (arith, some_is, changed_on, part_has_line, all_pass, any_one)
-changed_has_line A (command.Use n b a q) f o good h made e = grind (arith, some_is, changed_on, part_has_line, all_pass, second_true, any_one)
-changed_has_line A (command.Field b a lo hi start) f o good h made e = absurd (true≢false (sym (ap is_some made)))
-changed_has_line A (command.Deliver b a q) f o good h made e = absurd (true≢false (sym (ap is_some made)))
-changed_has_line A (command.Writeoff b a q) f o good h made e = absurd (true≢false (sym (ap is_some made)))
-changed_has_line A (command.Rebound b a lo hi) f o good h made e = absurd (true≢false (sym (ap is_some made)))
-changed_has_line A (command.Expire now) f o good h made e = absurd (true≢false (sym (ap is_some made)))
-changed_has_line A (command.Firm n) f o good h made e = ap (some_has_line f) (sym made) ∙ lined_firm A n f good ∙ e
-changed_has_line A c f o good h made e = ap (some_has_line f) (sym made) ∙ lined A c f good refl ∙ e
+changed_has_line : (A : Ledger) (c : Command) (f : Name) (o : Order) → Good A → AsksNoStock c → FirstFailure (checks A c) None → order_after A c ≡ Some o → changes_field A c f ≡ true → list_any (on f) o.lines ≡ true
+changed_has_line A (command.Release n b a q) f o good asks h made e = grind (arith, some_is, changed_on, part_has_line, all_pass, any_one)
+changed_has_line A (command.Use n b a q) f o good asks h made e = grind (arith, some_is, changed_on, part_has_line, all_pass, second_true, any_one)
+changed_has_line A (command.Expire now) f o good asks h made e = absurd (true≢false (sym (ap is_some made)))
+changed_has_line A (command.Firm n) f o good asks h made e = ap (some_has_line f) (sym made) ∙ lined_firm A n f good ∙ e
+changed_has_line A (command.Commit n) f o good asks h made e = ap (some_has_line f) (sym made) ∙ lined A (command.Commit n) f good refl ∙ e
+changed_has_line A (command.Abort n) f o good asks h made e = ap (some_has_line f) (sym made) ∙ lined A (command.Abort n) f good refl ∙ e
+changed_has_line A c f o good asks h made e = absurd asks
 
 -- a command changes the field of a line of the order that it makes exactly where it changes the line's stock
-pub own_stock : (A : Ledger) (c : Command) (o : Order) (l : Line) → Good A → order_after A c ≡ Some o → find (on (line_name l)) o.lines ≡ Some l → changes_own_stock o.firm (is_transfer o) c l ≡ changes_field A c (line_name l)
-own_stock A c o l good made there = by c made
+pub own_stock : (A : Ledger) (c : Command) (o : Order) (l : Line) → Good A → AsksNoStock c → order_after A c ≡ Some o → find (on (line_name l)) o.lines ≡ Some l → changes_own_stock o.firm (is_transfer o) c l ≡ changes_field A c (line_name l)
+own_stock A c o l good asks made there = by c asks made
   where
     f : Name
     f = line_name l
@@ -186,22 +167,19 @@ own_stock A c o l good made there = by c made
         ap (λ (m : Order). m.firm && (is_transfer m || same_name f (name_of b a))) (sym same) ∙ ap (λ t. p.firm && t) (own (name_of b a) (raise_used q) p (λ k. refl) same)
         ∙ sym (any_one n (λ o. o.firm && (same_name f (name_of b a) || (is_transfer o && has_line_on f o))) p A.orders good.orders_in_order e)
 
-    by : (c : Command) → order_after A c ≡ Some o → changes_own_stock o.firm (is_transfer o) c l ≡ changes_field A c f
-    by (command.More n way b a q) made = refl
-    by (command.Use n b a q) made = used n b a q (order_numbered A n) refl made
-    by (command.Release n b a q) made = released n b a q (order_numbered A n) refl made
-    by (command.Field b a lo hi start) made = absurd (true≢false (sym (ap is_some made)))
-    by (command.Deliver b a q) made = absurd (true≢false (sym (ap is_some made)))
-    by (command.Writeoff b a q) made = absurd (true≢false (sym (ap is_some made)))
-    by (command.Rebound b a lo hi) made = absurd (true≢false (sym (ap is_some made)))
-    by (command.Expire now) made = absurd (true≢false (sym (ap is_some made)))
-    by (command.Firm n) made = sym has ∙ ap (some_has_line f) (sym made) ∙ lined_firm A n f good
-    by c made = sym has ∙ ap (some_has_line f) (sym made) ∙ lined A c f good refl
+    by : (c : Command) → AsksNoStock c → order_after A c ≡ Some o → changes_own_stock o.firm (is_transfer o) c l ≡ changes_field A c f
+    by (command.Use n b a q) asks made = used n b a q (order_numbered A n) refl made
+    by (command.Release n b a q) asks made = released n b a q (order_numbered A n) refl made
+    by (command.Expire now) asks made = absurd (true≢false (sym (ap is_some made)))
+    by (command.Firm n) asks made = sym has ∙ ap (some_has_line f) (sym made) ∙ lined_firm A n f good
+    by (command.Commit n) asks made = sym has ∙ ap (some_has_line f) (sym made) ∙ lined A (command.Commit n) f good refl
+    by (command.Abort n) asks made = sym has ∙ ap (some_has_line f) (sym made) ∙ lined A (command.Abort n) f good refl
+    by c asks made = absurd asks
 
-pub lines_rows : (A : Ledger) (r : Request) (o : Order) (D : List (Name × FieldEntry)) → Accepts A r → order_after A r.command ≡ Some o → IsStrictlySortedBy name_cmp (keys_of D) → Each (IsChangedField A r) D → Each (λ l. changes_field A r.command (line_name l) ≡ true → HasEntry D (line_name l)) o.lines → map entry_row D ≡ field_rows A r
-lines_rows A r o D accepts made rising each all =
+pub lines_rows : (A : Ledger) (r : Request) (o : Order) (D : List (Name × FieldEntry)) → Accepts A r → AsksNoStock r.command → order_after A r.command ≡ Some o → IsStrictlySortedBy name_cmp (keys_of D) → Each (IsChangedField A r) D → Each (λ l. changes_field A r.command (line_name l) ≡ true → HasEntry D (line_name l)) o.lines → map entry_row D ≡ field_rows A r
+lines_rows A r o D accepts asks made rising each all =
     changed_rows A r D accepts.after rising each
-    (λ f changes. any_line (λ n. changes_field A r.command n ≡ true → HasEntry D n) f.name o.lines all (changed_has_line A r.command f.name o accepts.before accepts.accepted.1 made changes) changes)
+    (λ f changes. any_line (λ n. changes_field A r.command n ≡ true → HasEntry D n) f.name o.lines all (changed_has_line A r.command f.name o accepts.before asks accepts.accepted.1 made changes) changes)
 
 -- ---- a new order
 
@@ -211,10 +189,8 @@ entry_itself (e ∷ D) = let more = entry_itself D in grind (arith, each-imp, se
 
 opened_row : (A : Ledger) (n : ℕ) (k : Kind) (u : ℕ) (ls : List OpenLine) (e : Name × FieldEntry) → Counts ◌+ℤ◌ A (map new_line ls) e → entry_row e ≡ field_row (with_order (new_order n k u ls) A) (field_of e)
 opened_row A n k u ls e held =
-    let takes_sum = held_take-order A n k u ls e.0 in
-    let takes_is = held.takes in
-    let adds_sum = held_add-order A n k u ls e.0 in
-    let adds_is = held.adds in
+    let takes_sum = held_take-order A n k u ls e.0 in let takes_is = held.takes in
+    let adds_sum = held_add-order A n k u ls e.0 in let adds_is = held.adds in
     entry_is (with_order (new_order n k u ls) A) e.0 e.1 e.1.quantity refl refl (held.value ∙ sym (settled-order A n k u ls (field_of e))) (omega (arith, ints)) (omega (arith, ints))
 
 pub opened_found : (A : Ledger) (c : Command) (n : ℕ) (k : Kind) (u : ℕ) (ls : List OpenLine) (found : Option (Result (InOrder Name FieldEntry) Memory)) → next A c ≡ with_order (new_order n k u ls) A → ((f : Name) → changes_field A c f ≡ list_any (on f) (map new_line ls))

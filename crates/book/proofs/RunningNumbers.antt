@@ -53,12 +53,12 @@ move_granted s Add q safe = let greatest = (safe 0 s.held_to_add (omega arith) (
 pub grants : (A : Ledger) (n : Name) (e : FieldEntry) (w : Way) (q : ℕ) → IsUpToDate A (n, e) → field_named A n ≡ Some (field_of (n, e)) → HasRoom w e.quantity q → BreaksBound w A n q → ⊥
 grants A n e Take q up there room breaks =
     let f : Field = field_of (n, e) in
-    let inf = ap (λ (r : FieldCells). r.inf) up in
+    let numbers = numbers_up A n e up in
     let below : ((settled A f -ℤ held_to_take A n) -ℤ pos q) <ℤ pos e.quantity.lo = subst (λ (o : Option Field). IsSomeAnd o (λ f. ((settled A f -ℤ held_to_take A f.name) -ℤ pos q) <ℤ pos f.lo)) there breaks in
     omega (arith, ints)
 grants A n e Add q up there room breaks =
     let f : Field = field_of (n, e) in
-    let sup = ap (λ (r : FieldCells). r.sup) up in
+    let numbers = numbers_up A n e up in
     let above : pos e.quantity.hi <ℤ ((settled A f +ℤ held_to_add A n) +ℤ pos q) = subst (λ (o : Option Field). IsSomeAnd o (λ f. pos f.hi <ℤ ((settled A f +ℤ held_to_add A f.name) +ℤ pos q))) there breaks in
     omega (arith, ints)
 
@@ -67,15 +67,13 @@ pub refuses : (A : Ledger) (n : Name) (e : FieldEntry) (way : Way) (q : ℕ) →
 refuses A n e Take q good up there unsafe =
     let f : Field = field_of (n, e) in
     let r = bounds_at A f good (Contains-of_find (λ g. same_name n g.name) A.fields f there) in
-    let inf = ap (λ (r : FieldCells). r.inf) up in
-    let sup = ap (λ (r : FieldCells). r.sup) up in
+    let numbers = numbers_up A n e up in
     subst (λ (o : Option Field). IsSomeAnd o (λ f. ((settled A f -ℤ held_to_take A f.name) -ℤ pos q) <ℤ pos f.lo)) (sym there)
     (not_above (pos e.quantity.lo) ((settled A f -ℤ held_to_take A n) -ℤ pos q) (λ low. unsafe ((λ taken added t a. (omega (arith, ints), omega (arith, ints))), (λ taken added t a. (omega (arith, ints), omega (arith, ints))))))
 refuses A n e Add q good up there unsafe =
     let f : Field = field_of (n, e) in
     let r = bounds_at A f good (Contains-of_find (λ g. same_name n g.name) A.fields f there) in
-    let inf = ap (λ (r : FieldCells). r.inf) up in
-    let sup = ap (λ (r : FieldCells). r.sup) up in
+    let numbers = numbers_up A n e up in
     subst (λ (o : Option Field). IsSomeAnd o (λ f. pos f.hi <ℤ ((settled A f +ℤ held_to_add A f.name) +ℤ pos q))) (sym there)
     (not_above ((settled A f +ℤ held_to_add A n) +ℤ pos q) (pos e.quantity.hi) (λ high. unsafe ((λ taken added t a. (omega (arith, ints), omega (arith, ints))), (λ taken added t a. (omega (arith, ints), omega (arith, ints))))))
 

@@ -145,18 +145,18 @@ changed_goes : (A : Ledger) (n : ℕ) (f : Name) (change : Order → Order) (o :
     → option_map change (order_numbered A n) ≡ Some o → find (on f) o.lines ≡ Some l → LineGoes (line_before (order_numbered A n) f) (share_on (order_numbered A n) f) l (share_of o.state o.firm l)
 changed_goes A n f change o l is goes e there = grind arith
 
+-- a part of what the order's lines hold changes
+part_goes : (A : Ledger) (m n : ℕ) (f h : Name) (g : Line → Line) (o : Order) (l : Line) → ((k : Line) → on f (g k) ≡ on f k) → ((k : Line) → (g k).way ≡ k.way) → ((m b : Bool) (k : Line) → (if b then g k else k).used ≤ (if b then g k else k).held → Goes (share_of Open m k) (share_of Open m (if b then g k else k))) → m ≡ n → IsBefore f (order_numbered A n)
+    → option_map (change_lines h g) (order_numbered A m) ≡ Some o → find (on f) o.lines ≡ Some l → l.used ≤ l.held → LineGoes (line_before (order_numbered A n) f) (share_on (order_numbered A n) f) l (share_of o.state o.firm l)
+part_goes A m n f h g o l keeps ways goes e is made there within =
+    changed_goes A n f (change_lines h g) o l is
+    (λ p k unended. each_goes f (λ x. if is_transfer p || on h x then g x else x) p p l (λ x. on_kept f (is_transfer p || on h x) g x (keeps x)) (λ x. way_kept (is_transfer p || on h x) g x (ways x)) (λ x within. goes p.firm (is_transfer p || on h x) x within) unended within)
+    (subst (λ k. option_map (change_lines h g) (order_numbered A k) ≡ Some o) e made) there
+
 pub line_goes : (A : Ledger) (c : Command) (n : ℕ) (f : Name) (o : Order) (l : Line) → AsksNoStock c → FirstFailure (checks A c) None → order_number c ≡ Some n → IsBefore f (order_numbered A n) → order_after A c ≡ Some o → find (on f) o.lines ≡ Some l → l.used ≤ l.held
     → LineGoes (line_before (order_numbered A n) f) (share_on (order_numbered A n) f) l (share_of o.state o.firm l)
-line_goes A (command.Use m b a q) n f o l asks h e is made there within =
-    changed_goes A n f (change_lines (name_of b a) (raise_used q)) o l is
-    (λ p k unended. each_goes f (λ x. if is_transfer p || on (name_of b a) x then raise_used q x else x) p p l (λ x. on_kept f (is_transfer p || on (name_of b a) x) (raise_used q) x refl) (λ x. way_kept (is_transfer p || on (name_of b a) x) (raise_used q) x refl)
-    (λ x within. used_more p.firm (is_transfer p || on (name_of b a) x) q x within) unended within)
-    (subst (λ k. option_map (change_lines (name_of b a) (raise_used q)) (order_numbered A k) ≡ Some o) (some_is m n e) made) there
-line_goes A (command.Release m b a q) n f o l asks h e is made there within =
-    changed_goes A n f (change_lines (name_of b a) (lower_held q)) o l is
-    (λ p k unended. each_goes f (λ x. if is_transfer p || on (name_of b a) x then lower_held q x else x) p p l (λ x. on_kept f (is_transfer p || on (name_of b a) x) (lower_held q) x refl) (λ x. way_kept (is_transfer p || on (name_of b a) x) (lower_held q) x refl)
-    (λ x within. lowered p.firm (is_transfer p || on (name_of b a) x) q x) unended within)
-    (subst (λ k. option_map (change_lines (name_of b a) (lower_held q)) (order_numbered A k) ≡ Some o) (some_is m n e) made) there
+line_goes A (command.Use m b a q) n f o l asks h e is made there within = part_goes A m n f (name_of b a) (raise_used q) o l (λ k. refl) (λ k. refl) (λ m b k within. used_more m b q k within) (some_is m n e) is made there within
+line_goes A (command.Release m b a q) n f o l asks h e is made there within = part_goes A m n f (name_of b a) (lower_held q) o l (λ k. refl) (λ k. refl) (λ m b k within. lowered m b q k) (some_is m n e) is made there within
 line_goes A (command.Commit m) n f o l asks h e is made there within = grind arith
 line_goes A (command.Abort m) n f o l asks h e is made there within = grind arith
 line_goes A (command.Firm m) n f o l asks h e is made there within = grind arith

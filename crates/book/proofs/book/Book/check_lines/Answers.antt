@@ -11,31 +11,22 @@ loop-i-init c = record { held = subst (CountsAll ◌+ℤ◌ c.args.self.now.ledg
 
 pub returns-in_err-field : goal.returns-in_err-field
 returns-in_err-field c n kind until =
-    let A = c.args.self.now.ledger in
-    let l : OpenLine = c.index-lines-i.result in
-    let f = name_of l.branch l.article in
-    let x = c.in_err-field.field-0.0 in
+    let A = c.args.self.now.ledger in let l : OpenLine = c.index-lines-i.result in let f = name_of l.branch l.article in let x = c.in_err-field.field-0.0 in
     let e = c.in_err-field.ensures in
     fails_with _ _ c.from_residual.result x c.from_residual.ensures.1 (line_fails A c.args.lines.now c.loop-i.i l c.loop-i-test.true c.index-lines-i.is e.good c.loop-i.invariant.apart (sym c.has_line_on.ensures ∙ c.if-has_line_on.false) x
     (cut_short (no_field A f (c.loop-i.i + 1) ∷ []) (bound_checks l.way A f l.qty (c.loop-i.i + 1)) x e.found) c.loop-i.invariant.rest n kind until)
 
 pub returns-in_err-field-2 : goal.returns-in_err-field-2
 returns-in_err-field-2 c n kind until =
-    let A = c.args.self.now.ledger in
-    let l : OpenLine = c.index-lines-i.result in
-    let f = name_of l.branch l.article in
-    let x = c.in_err-field-2.field-0.0 in
+    let A = c.args.self.now.ledger in let l : OpenLine = c.index-lines-i.result in let f = name_of l.branch l.article in let x = c.in_err-field-2.field-0.0 in
     let e = c.in_ok-field.ensures in
     fails_with _ _ c.from_residual-in_err-field-2.result x c.from_residual-in_err-field-2.ensures.1 (line_fails A c.args.lines.now c.loop-i.i l c.loop-i-test.true c.index-lines-i.is e.good c.loop-i.invariant.apart (sym c.has_line_on.ensures ∙ c.if-has_line_on.false) x
     (go_on (no_field A f (c.loop-i.i + 1) ∷ []) (bound_checks l.way A f l.qty (c.loop-i.i + 1)) (Some x) e.found.0 (c.in_err-field-2.ensures A f e.good (grind (arith, e.up_to_date)) (grind (arith, e.found.1)))) c.loop-i.invariant.rest n kind until)
 
 pub loop-i-preserved : goal.loop-i-preserved
 loop-i-preserved c =
-    let A = c.args.self.now.ledger in
-    let l : OpenLine = c.index-lines-i.result in
-    let f = name_of l.branch l.article in
-    let alone = sym c.has_line_on.ensures ∙ c.if-has_line_on.false in
-    let e = c.in_ok-field.ensures in
+    let A = c.args.self.now.ledger in let l : OpenLine = c.index-lines-i.result in let f = name_of l.branch l.article in
+    let alone = sym c.has_line_on.ensures ∙ c.if-has_line_on.false in let e = c.in_ok-field.ensures in
     let asked = c.in_ok-field-2.ensures A f e.good (grind (arith, e.up_to_date)) (grind (arith, e.found.1)) in
     record {
       held = held_step A c.args.lines.now c.loop-i.i l c.in_ok-field.field c.in_ok-field-2.field c.loop-i.fields c.with_field-fields.result c.loop-i-test.true c.index-lines-i.is alone e.up_to_date e.found.1 (grind (arith, asked.1)) c.loop-i.invariant.held c.with_field-fields.ensures;

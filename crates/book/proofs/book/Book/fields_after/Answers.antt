@@ -17,14 +17,12 @@ given A c now ns good is numbers = ap (flat_map (of_numbered A (λ o. o.lines)))
 
 pub fields_given_back-requires : goal.fields_given_back-requires
 fields_given_back-requires c =
-    let A : Ledger = c.args.self.now.ledger in
-    let d : Command = c.args.request.now.command in
+    let A : Ledger = c.args.self.now.ledger in let d : Command = c.args.request.now.command in
     let e = expiry A d c.requires.accepts.accepted.1 (subst (IsFound A d) c.in_default.is c.requires.found) (sym c.requires.made ∙ ap (option_map order_of) c.in-None.is) in
     subst (MayGiveBack A) (sym (given A d e.0 c.args.expired.now c.requires.accepts.before e.1 c.requires.expired)) (may_all A e.0)
 
 pub returns-in-None : goal.returns-in-None
 returns-in-None c =
-    let A : Ledger = c.args.self.now.ledger in
-    let d : Command = c.args.request.now.command in
+    let A : Ledger = c.args.self.now.ledger in let d : Command = c.args.request.now.command in
     let e = expiry A d c.requires.accepts.accepted.1 (subst (IsFound A d) c.in_default.is c.requires.found) (sym c.requires.made ∙ ap (option_map order_of) c.in-None.is) in
     IfOk-weaker _ _ _ (λ (fields : InOrder Name FieldEntry) is. expired_rows A c.args.request.now e.0 fields.entries c.requires.accepts e.1 is.0 (subst (λ (ls : List Line). CountsAll ◌-ℤ◌ A ls fields.entries) (given A d e.0 c.args.expired.now c.requires.accepts.before e.1 c.requires.expired) is.1)) c.fields_given_back.ensures

@@ -11,27 +11,15 @@ unreachable-requires c =
 
 pub change_stock-requires : goal.change_stock-requires
 change_stock-requires c =
-    let A : Ledger = c.args.self.now.ledger in
-    let r = c.args.request.now in
-    let o : Order = order_of c.args.order.now in
-    let made = c.requires.made in
-    let l = c.args.line.now in
-    let f : Name = line_name l in
-    let e = c.in-Some.entry.now in
-    let a = c.requires.accepts in
+    let A : Ledger = c.args.self.now.ledger in let r = c.args.request.now in let o : Order = order_of c.args.order.now in let made = c.requires.made in
+    let l = c.args.line.now in let f : Name = line_name l in let e = c.in-Some.entry.now in let a = c.requires.accepts in
     rw (c.share_before-before.ensures, c.share_of-after.ensures)
     (stock_may A r c.args.order.now.0 o f e l a.before a.after a.accepted c.requires.asks (number_of_made A r.command o a.accepted.1 made) made c.in-Some.ensures.up_to_date c.requires.line)
 
 pub returns-clause-changed : goal.returns-clause-changed
 returns-clause-changed c = on_ok c.put.result (λ put changes.
-    let A : Ledger = c.args.self.now.ledger in
-    let r = c.args.request.now in
-    let o : Order = order_of c.args.order.now in
-    let made = c.requires.made in
-    let l = c.args.line.now in
-    let f : Name = line_name l in
-    let e = c.in-Some.entry.now in
-    let a = c.requires.accepts in
+    let A : Ledger = c.args.self.now.ledger in let r = c.args.request.now in let o : Order = order_of c.args.order.now in let made = c.requires.made in
+    let l = c.args.line.now in let f : Name = line_name l in let e = c.in-Some.entry.now in let a = c.requires.accepts in
     let becomes = rw (c.share_before-before.ensures, c.share_of-after.ensures) at c.change_stock.ensures in
     record {
       entry = record { start = e.start; quantity = c.change_stock.new.quantity };
