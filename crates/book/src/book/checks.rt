@@ -1,4 +1,4 @@
-//! Which check of a command fails first.
+//! Which check of a command fails first, or else which fields the command changes, as they are then.
 
 ghost use Rattle.std.specs.Bool.{OnTrue};
 ghost use Rattle.std.specs.Prelude.{◌≡◌, ℕ, None, Some, IfOk, IsFalse, IsSome, IsSomeAnd, IsTrue, ◌∷◌, [], find, is_some, map, ◌++◌, ◌+◌, ◌≤◌, ◌<◌, ◌↔◌, ◌+ℤ◌};
