@@ -1,16 +1,19 @@
 -- The fields that a request makes or changes, and what the lines of orders that end give back to them.
-use Rattle.book.proofs.Prelude.{Accepts, Add, Bool, Command, Each, Equal, Field, FieldCells, FieldEntry, FirstFailure, GivenBack, GivesBack, Good, Greater, HasEntry, IsChangedField, IsGoodLine, IsGoodOrder, IsSome, IsStrictlySortedBy, IsUpToDate, Ledger, Less, Line, List, MayGiveBack, Name, None, OnOk, Option, Order, Ordering, Puts, Request, Result, Some, Stock, Take, Way, [], accept, ap, arith, changes_field, checks, common_steps, cond, drop, entry_row, expired_lines, false, field_named, field_of, find, flat_map, get_or, giving_back, held_of, if_add, if_take, if◌then◌else◌, insert_entry, ints, is_at, is_eq, is_open, is_some, keys_of, length, line_name, list_any, lookup, map, match_ordering, name_cmp, next, not, on, order_after, order_number, order_numbered, ordering_reverse, pos, refl, same_name, subst, sym, take, tied_itself, total, true, true≢false, ℕ, ℤ, ◌&&◌, ◌++◌, ◌+ℤ◌, ◌+◌, ◌<◌, ◌==◌, ◌||◌, ◌∙◌, ◌∷◌, ◌≡◌, ◌≤ℤ◌, ◌≤◌}
-use Rattle.book.specs.RunningNumbers.{IsOneOf}
-use Rattle.book.proofs.OutcomeTests.{same_self, total-push}
+use Rattle.book.proofs.Prelude.{held_to_add, held_to_take, Accepts, Add, Bool, Command, Each, Equal, Err, Field, FieldCells, FieldEntry, FirstFailure, Counts, CountsAll, Good, Greater, HasEntry, IfOk, IsChangedField, IsGoodLine, IsGoodOrder, IsSome, IsStrictlySortedBy, IsUpToDate, Ledger, Less, Line, List, MayGiveBack, Name, None, Ok, OnOk, OpenLine, Option, Order, Ordering, Puts, Request, Result, Some, Stock, Take, Way, [], accept, ap, arith, changes_field, checks, common_steps, cond, drop, entry_row, expired_lines, false, field_named, field_of, find, flat_map, get_or, giving_back, held_of, holding, if_add, if_take, if◌then◌else◌, insert_entry, ints, is_at, is_eq, is_open, is_some, keys_of, length, line_name, list_any, lookup, map, match_ordering, name_cmp, new_line, next, not, on, order_after, order_number, order_numbered, ordering_reverse, pos, refl, same_name, subst, sym, take, tied_itself, total, true, true≢false, ℕ, ℤ, ◌&&◌, ◌++◌, ◌+ℤ◌, ◌+◌, ◌<◌, ◌==◌, ◌||◌, ◌∙◌, ◌∷◌, ◌≡◌, ◌≤ℤ◌, ◌≤◌, ◌-ℤ◌}
+use Rattle.book.specs.RunningNumbers.{IsOneOf, lines_add, lines_take}
+use Rattle.book.proofs.OutcomeTests.{map-push, same_self, total-push}
+use Rattle.std.specs.Result.{IsOkAnd}
+use Rattle.index.specs.declared.in_order.InOrder.{InOrder}
+use Rattle.words.specs.declared.reply.Memory.{Memory}
 use Rattle.book.proofs.Bounds.{OneOn, adds, adds-not_negative, takes, takes-not_negative}
-use Rattle.book.proofs.Lists.{any_none, cut_at, each-next, found_passes, number_is, or_right, some_is}
+use Rattle.book.proofs.Lists.{any_none, cut_at, each-next, found_passes, number_is, or_right, some_is, take-step}
 use Rattle.book.proofs.Futures.{name_is}
 use Rattle.book.proofs.Safety.{other_way}
 use Rattle.book.proofs.KeyPlaces.{equal_field, same_field}
 use Rattle.book.proofs.CommandOrder.{each-found, made_there, no_number}
 use Rattle.book.proofs.GoodParts.{name_cmp_total}
 use Rattle.book.proofs.Sums.{each, each-both, each-imp, total-le, total-zero}
-use Rattle.book.proofs.RunningNumbers.{off}
+use Rattle.book.proofs.RunningNumbers.{numbers_up, off}
 
 -- ---- the fields that a request makes or changes, put in one after the other by their names
 
@@ -216,24 +219,26 @@ pub any-append : {X : Type 0} (t : X → Bool) (xs : List X) (y : X) → list_an
 any-append t [] y = grind arith
 any-append t (x ∷ xs) y = let more = any-append t xs y in grind arith
 
+pub any_there : (f : Name) (ls : List Line) → is_some (find (on f) ls) ≡ list_any (on f) ls
+any_there f [] = refl
+any_there f (l ∷ ls) = let more = any_there f ls in grind arith
+
 -- no line on the field holds anything there
 none_held : (n : Name) (g : Line → ℤ) (ls : List Line) → list_any (on n) ls ≡ false → total (λ l. if on n l then g l else pos 0) ls ≡ pos 0
 none_held n g ls e = total-zero (λ l. if on n l then g l else pos 0) ls (each-imp (λ l k. off (on n l) (g l) k) ls (any_none (on n) ls e))
 
 -- ---- the entry so far
 
-pub from_entries : (A : Ledger) (ls : List Line) (C : List (Name × FieldEntry)) (n : Name) (v : FieldEntry) → GivesBack A ls C → lookup (is_at (name_cmp n)) C ≡ Some v → GivenBack A ls (n, v)
-from_entries A ls C n v gives there = each_at_name (GivenBack A ls) n C v gives.each there
+pub from_entries : (A : Ledger) (ls : List Line) (C : List (Name × FieldEntry)) (n : Name) (v : FieldEntry) → CountsAll ◌-ℤ◌ A ls C → lookup (is_at (name_cmp n)) C ≡ Some v → Counts ◌-ℤ◌ A ls (n, v)
+from_entries A ls C n v gives there = each_at_name (Counts ◌-ℤ◌ A ls) n C v gives.each there
 
-pub from_book : (A : Ledger) (ls : List Line) (C : List (Name × FieldEntry)) (n : Name) (v : FieldEntry) → GivesBack A ls C → lookup (is_at (name_cmp n)) C ≡ None → IsUpToDate A (n, v) → field_named A n ≡ Some (field_of (n, v)) → GivenBack A ls (n, v)
+pub from_book : (A : Ledger) (ls : List Line) (C : List (Name × FieldEntry)) (n : Name) (v : FieldEntry) → CountsAll ◌-ℤ◌ A ls C → lookup (is_at (name_cmp n)) C ≡ None → IsUpToDate A (n, v) → field_named A n ≡ Some (field_of (n, v)) → Counts ◌-ℤ◌ A ls (n, v)
 from_book A ls C n v gives none up there =
     let not = sym (gives.all n) ∙ ap is_some none in
     let takes = none_held n (λ l. pos (if_take l.way l.held)) ls not in
     let adds = none_held n (λ l. pos (if_add l.way l.held)) ls not in
-    let value = ap (λ (row : FieldCells). row.value) up in
-    let inf = ap (λ (row : FieldCells). row.inf) up in
-    let sup = ap (λ (row : FieldCells). row.sup) up in
-    record { there = there; value = value; takes = omega (arith, ints); adds = omega (arith, ints) }
+    let numbers = numbers_up A n v up in
+    record { there = there; value = numbers.0; takes = omega (arith, ints); adds = omega (arith, ints) }
 
 -- ---- one line gives back
 
@@ -243,15 +248,18 @@ part b z = if b then z else pos 0
 on_itself : (l : Line) (z : ℤ) → part (on (line_name l) l) z ≡ z
 on_itself l z = ap (λ b. part b z) (same_self (line_name l))
 
-pub held_there : (A : Ledger) (ls : List Line) (l : Line) (v : FieldEntry) → GivenBack A ls (line_name l, v) → MayGiveBack A (ls ++ l ∷ []) → l.held ≤ held_of v.quantity l.way
+pub held_there : (A : Ledger) (ls : List Line) (l : Line) (v : FieldEntry) → Counts ◌-ℤ◌ A ls (line_name l, v) → MayGiveBack A (ls ++ l ∷ []) → l.held ≤ held_of v.quantity l.way
 held_there A ls l v given may = grind (arith, ints, (total-push (λ m. if on (line_name l) m then pos (if_take m.way m.held) else pos 0) ls l), (total-push (λ m. if on (line_name l) m then pos (if_add m.way m.held) else pos 0) ls l), on_itself)
 
-given_itself : (A : Ledger) (ls : List Line) (l : Line) (v : FieldEntry) (w : Way) → l.way ≡ w → l.held ≤ held_of v.quantity w → GivenBack A ls (line_name l, v) → GivenBack A (ls ++ l ∷ []) (line_name l, record { start = v.start; quantity = giving_back v.quantity w l.held })
+given_itself : (A : Ledger) (ls : List Line) (l : Line) (v : FieldEntry) (w : Way) → l.way ≡ w → l.held ≤ held_of v.quantity w → Counts ◌-ℤ◌ A ls (line_name l, v) → Counts ◌-ℤ◌ A (ls ++ l ∷ []) (line_name l, record { start = v.start; quantity = giving_back v.quantity w l.held })
 given_itself A ls l v Take is held given = grind (arith, common_steps, total-push, on_itself, takes, adds)
 given_itself A ls l v Add is held given = grind (arith, common_steps, total-push, on_itself, takes, adds)
 
-given_other : (A : Ledger) (ls : List Line) (l : Line) (e : Name × FieldEntry) → same_name e.0 (line_name l) ≡ false → GivenBack A ls e → GivenBack A (ls ++ l ∷ []) e
-given_other A ls l e other given = grind (arith, (total-push (λ m. if on e.0 m then pos (if_take m.way m.held) else pos 0) ls l), (off (on e.0 l) (pos (if_take l.way l.held)) other), (total-push (λ m. if on e.0 m then pos (if_add m.way m.held) else pos 0) ls l), (off (on e.0 l) (pos (if_add l.way l.held)) other))
+counted_other : (sum : ℤ → ℤ → ℤ) (A : Ledger) (ls : List Line) (l : Line) (e : Name × FieldEntry) → same_name e.0 (line_name l) ≡ false → Counts sum A ls e → Counts sum A (ls ++ l ∷ []) e
+counted_other sum A ls l e other counts = record { there = counts.there; value = counts.value; takes = counts.takes ∙ ap (sum (held_to_take A e.0)) (sym (same (λ m. pos (if_take m.way m.held)))); adds = counts.adds ∙ ap (sum (held_to_add A e.0)) (sym (same (λ m. pos (if_add m.way m.held)))) }
+  where
+    same : (g : Line → ℤ) → total (λ m. if on e.0 m then g m else pos 0) (ls ++ l ∷ []) ≡ total (λ m. if on e.0 m then g m else pos 0) ls
+    same g = let all = total-push (λ m. if on e.0 m then g m else pos 0) ls l in let none = off (on e.0 l) (g l) other in omega (arith, ints)
 
 -- one put among others in their order
 put_other : (P Q : Name × FieldEntry → Type 0) (n : Name) (v : FieldEntry) → Q (n, v) → ((e : Name × FieldEntry) → same_name e.0 n ≡ false → P e → Q e) → (C : List (Name × FieldEntry)) → IsStrictlySortedBy name_cmp (keys_of C) → Each P C → Each Q (insert_entry name_cmp C n v)
@@ -275,15 +283,43 @@ put_other P Q n v own other (e ∷ C) sorted all = by (name_cmp n e.0) refl (put
     by Equal is more = (subst (λ (k : Name). Q (k, v)) (equal_field n e.0 is) own, same C (equal_field n e.0 is) sorted.0 all.1)
     by Greater is more = (other e (not_equal Greater is refl) all.0, more)
 
-pub line_given : (A : Ledger) (ls : List Line) (l : Line) (v : FieldEntry) (new : Stock) (C D : List (Name × FieldEntry)) → IsStrictlySortedBy name_cmp (keys_of C) → GivesBack A ls C → MayGiveBack A (ls ++ l ∷ []) → GivenBack A ls (line_name l, v)
-    → new ≡ giving_back v.quantity l.way l.held → D ≡ insert_entry name_cmp C (line_name l) (record { start = v.start; quantity = new }) → GivesBack A (ls ++ l ∷ []) D
+-- the field of one line more is put in
+counted : (sum : ℤ → ℤ → ℤ) (A : Ledger) (ls : List Line) (l : Line) (v : FieldEntry) (C D : List (Name × FieldEntry)) → IsStrictlySortedBy name_cmp (keys_of C) → CountsAll sum A ls C → Counts sum A (ls ++ l ∷ []) (line_name l, v) → D ≡ insert_entry name_cmp C (line_name l) v → CountsAll sum A (ls ++ l ∷ []) D
+counted sum A ls l v C D sorted all own put = subst (CountsAll sum A (ls ++ l ∷ [])) (sym put) (record {
+  each = put_other (Counts sum A ls) (Counts sum A (ls ++ l ∷ [])) (line_name l) v own (λ e other c. counted_other sum A ls l e other c) C sorted all.each;
+  all = λ n. put_has C (line_name l) n v ∙ (λ i. all.all n i || sym (same_field n (line_name l)) i) ∙ sym (any-append (on n) ls l);
+})
+
+pub line_given : (A : Ledger) (ls : List Line) (l : Line) (v : FieldEntry) (new : Stock) (C D : List (Name × FieldEntry)) → IsStrictlySortedBy name_cmp (keys_of C) → CountsAll ◌-ℤ◌ A ls C → MayGiveBack A (ls ++ l ∷ []) → Counts ◌-ℤ◌ A ls (line_name l, v)
+    → new ≡ giving_back v.quantity l.way l.held → D ≡ insert_entry name_cmp C (line_name l) (record { start = v.start; quantity = new }) → CountsAll ◌-ℤ◌ A (ls ++ l ∷ []) D
 line_given A ls l v new C D sorted gives may given is put =
-    let f : Name = line_name l in
-    let own = given_itself A ls l v l.way refl (held_there A ls l v given may) given in
-    subst (GivesBack A (ls ++ l ∷ [])) (sym (put ∙ ap (λ (q : Stock). insert_entry name_cmp C f (record { start = v.start; quantity = q })) is)) (record {
-      each = put_other (GivenBack A ls) (GivenBack A (ls ++ l ∷ [])) f (record { start = v.start; quantity = giving_back v.quantity l.way l.held }) own (λ e other given. given_other A ls l e other given) C sorted gives.each;
-      all = λ n. put_has C f n (record { start = v.start; quantity = giving_back v.quantity l.way l.held }) ∙ (λ i. gives.all n i || sym (same_field n f) i) ∙ sym (any-append (on n) ls l);
-    })
+    counted ◌-ℤ◌ A ls l (record { start = v.start; quantity = giving_back v.quantity l.way l.held }) C D sorted gives (given_itself A ls l v l.way refl (held_there A ls l v given may) given)
+    (put ∙ ap (λ (q : Stock). insert_entry name_cmp C (line_name l) (record { start = v.start; quantity = q })) is)
+
+-- ---- one line of a new order
+
+held_itself : (A : Ledger) (ls : List Line) (l : Line) (v : FieldEntry) (w : Way) → l.way ≡ w → list_any (on (line_name l)) ls ≡ false → IsUpToDate A (line_name l, v) → field_named A (line_name l) ≡ Some (field_of (line_name l, v)) → Counts ◌+ℤ◌ A (ls ++ l ∷ []) (line_name l, record { start = v.start; quantity = holding v.quantity w l.held })
+held_itself A ls l v w is none up there =
+    let g = λ (m : Line). if on (line_name l) m then pos (if_take m.way m.held) else pos 0 in
+    let h = λ (m : Line). if on (line_name l) m then pos (if_add m.way m.held) else pos 0 in
+    by w (total-push g ls l ∙ (λ i. none_held (line_name l) (λ m. pos (if_take m.way m.held)) ls none i +ℤ (on_itself l (pos (if_take l.way l.held)) ∙ ap (λ w. pos (if_take w l.held)) is) i))
+    (total-push h ls l ∙ (λ i. none_held (line_name l) (λ m. pos (if_add m.way m.held)) ls none i +ℤ (on_itself l (pos (if_add l.way l.held)) ∙ ap (λ w. pos (if_add w l.held)) is) i))
+  where
+    by : (w : Way) → lines_take (line_name l) (ls ++ l ∷ []) ≡ pos 0 +ℤ pos (if_take w l.held) → lines_add (line_name l) (ls ++ l ∷ []) ≡ pos 0 +ℤ pos (if_add w l.held) → Counts ◌+ℤ◌ A (ls ++ l ∷ []) (line_name l, record { start = v.start; quantity = holding v.quantity w l.held })
+    by Take take add = let n = numbers_up A (line_name l) v up in record { there = there; value = n.0; takes = omega (arith, ints); adds = omega (arith, ints) }
+    by Add take add = let n = numbers_up A (line_name l) v up in record { there = there; value = n.0; takes = omega (arith, ints); adds = omega (arith, ints) }
+
+pub line_held : (A : Ledger) (ls : List Line) (l : Line) (v new : FieldEntry) (C D : List (Name × FieldEntry)) → IsStrictlySortedBy name_cmp (keys_of C) → CountsAll ◌+ℤ◌ A ls C → is_some (find (on (line_name l)) ls) ≡ false → IsUpToDate A (line_name l, v) → field_named A (line_name l) ≡ Some (field_of (line_name l, v))
+    → new ≡ record { start = v.start; quantity = holding v.quantity l.way l.held } → D ≡ insert_entry name_cmp C (line_name l) new → CountsAll ◌+ℤ◌ A (ls ++ l ∷ []) D
+line_held A ls l v new C D sorted holds alone up there is put =
+    counted ◌+ℤ◌ A ls l new C D sorted holds (subst (λ (v : FieldEntry). Counts ◌+ℤ◌ A (ls ++ l ∷ []) (line_name l, v)) (sym is) (held_itself A ls l v l.way refl (sym (any_there (line_name l) ls) ∙ alone) up there)) put
+
+pub held_step : (A : Ledger) (lines : List OpenLine) (i : ℕ) (l : OpenLine) (v new : FieldEntry) (before after : Result (InOrder Name FieldEntry) Memory) → i < length lines → l ≡ get_or lines i l → is_some (find (on (line_name (new_line l))) (map new_line (take i lines))) ≡ false → IsUpToDate A (line_name (new_line l), v)
+    → field_named A (line_name (new_line l)) ≡ Some (field_of (line_name (new_line l), v)) → new ≡ record { start = v.start; quantity = holding v.quantity l.way l.qty } → IfOk before (λ C. CountsAll ◌+ℤ◌ A (map new_line (take i lines)) C.entries)
+    → IfOk after (λ D. IsOkAnd before (λ C. IsStrictlySortedBy name_cmp (keys_of C.entries) × (D.entries ≡ insert_entry name_cmp C.entries (line_name (new_line l)) new))) → IfOk after (λ D. CountsAll ◌+ℤ◌ A (map new_line (take (i + 1) lines)) D.entries)
+held_step A lines i l v new before (Err x) h e alone up there is holds put = tt
+held_step A lines i l v new (Err y) (Ok D) h e alone up there is holds put = absurd put
+held_step A lines i l v new (Ok C) (Ok D) h e alone up there is holds put = subst (λ ls. CountsAll ◌+ℤ◌ A ls D.entries) (sym (ap (map new_line) (take-step lines i l h e) ∙ map-push (take i lines) l)) (line_held A (map new_line (take i lines)) (new_line l) v new C.entries D.entries put.0 holds alone up there is put.1)
 
 -- ---- all lines of an order, and of all orders that expire
 

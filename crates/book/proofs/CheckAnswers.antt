@@ -1,8 +1,9 @@
 -- What the comparisons of a program say of the checks of a command.
-use Rattle.book.proofs.Prelude.{Add, Bool, BreaksBound, Check, Command, Deliver, Each, FallsBelow, Field, FieldEntry, FirstFailure, Good, IsDistinct, IsFalse, IsNone, IsSome, IsTrue, IsUpToDate, Kind, Ledger, Line, List, MAX_ORDER_LINES, More, Name, None, OpenLine, Option, Order, Refusal, RisesAbove, Some, Take, Way, Writeoff, [], ap, arith, bound, checks, drop, false, field_named, field_of, find, full, get_or, inl, inr, is_open, is_some, is_transfer, length, length-take, line_checks, line_name, line_on, loose_checks, map, name_of, new_line, new_order, next, no_field, on, order_numbered, pos, refl, same_name, stock_checks, subst, sym, take, true, true≢false, with_order, ℕ, ◌++◌, ◌+ℤ◌, ◌+◌, ◌-ℤ◌, ◌<ℤ◌, ◌<◌, ◌↔◌, ◌∙◌, ◌∷◌, ◌≡◌, ◌≢◌, ◌≤◌}
+use Rattle.book.proofs.Prelude.{Add, Bool, BreaksBound, Check, Command, Deliver, Each, Err, FallsBelow, Field, FieldEntry, Finds, FirstFailure, Good, IsDistinct, IsFalse, IsFound, IsNone, IsSome, IsTrue, IsUpToDate, Kind, Ledger, Line, List, MAX_ORDER_LINES, More, Name, None, Ok, OpenLine, Option, Order, Refusal, Result, RisesAbove, Some, Take, Way, Writeoff, [], ap, arith, bound, checks, drop, false, field_named, field_of, find, full, get_or, inl, inr, is_open, is_some, is_transfer, length, length-take, line_checks, line_name, line_on, loose_checks, map, name_of, new_line, new_order, next, no_field, on, order_numbered, pos, refl, same_name, subst, sym, take, true, true≢false, with_order, ℕ, ◌++◌, ◌+ℤ◌, ◌+◌, ◌-ℤ◌, ◌<ℤ◌, ◌<◌, ◌↔◌, ◌∙◌, ◌∷◌, ◌≡◌, ◌≢◌, ◌≤◌}
 use Rattle.words.specs.declared.reply.Refusal.TheVariants.{Full, OtherWay, TooManyLines, TransferFixed}
+use Rattle.std.specs.Result.{IsErrAnd}
 use Rattle.book.specs.After.{moved_at_once}
-use Rattle.book.specs.Answers.{OfLine, OfOrder, check}
+use Rattle.book.specs.Answers.{OfLine, OfOrder, bounds_checks, check}
 use Rattle.book.specs.Checking.{bound_checks, hold_checks}
 use Rattle.book.proofs.OutcomeTests.{delivery_test, map-push, none_found, write_off_test}
 use Rattle.book.proofs.Lists.{some_is, take-step}
@@ -22,15 +23,24 @@ cut_short [] ds x e = cc
 cut_short (c ∷ cs) ds x (inl h) = inl h
 cut_short (c ∷ cs) ds x (inr h) = inr (h.0, cut_short cs ds x h.1)
 
-pub cut_off : (cs ds : List Check) (found : Option (Refusal × ℕ)) → FirstFailure cs found → is_some found ≡ true → FirstFailure (cs ++ ds) found
-cut_off cs ds found h e = grind (arith, cut_short)
-
 -- where it finds nothing, those after it decide
-pub go_on : (cs ds : List Check) (first found : Option (Refusal × ℕ)) → FirstFailure cs first → is_some first ≡ false → FirstFailure ds found → FirstFailure (cs ++ ds) found
-go_on cs ds (Some x) found e none k = absurd (true≢false none)
-go_on [] ds None found e none k = k
-go_on (c ∷ cs) ds None found (inl h) none k = let e = h.1 in cc
-go_on (c ∷ cs) ds None found (inr h) none k = inr (h.0, go_on cs ds None found h.1 refl k)
+pub go_on : (cs ds : List Check) (found : Option (Refusal × ℕ)) → FirstFailure cs None → FirstFailure ds found → FirstFailure (cs ++ ds) found
+go_on [] ds found e k = k
+go_on (c ∷ cs) ds found (inl h) k = let e = h.1 in cc
+go_on (c ∷ cs) ds found (inr h) k = inr (h.0, go_on cs ds found h.1 k)
+
+pub finds_too : {T : Type 0} (cs ds : List Check) (P Q : T → Type 0) (r : Result T (Refusal × ℕ)) → ((found : Option (Refusal × ℕ)) → FirstFailure cs found → FirstFailure ds found) → ((t : T) → P t → Q t) → Finds cs P r → Finds ds Q r
+finds_too cs ds P Q (Ok t) f g k = (f None k.0, g t k.1)
+finds_too cs ds P Q (Err x) f g k = f (Some x) k
+
+-- a failure that `?` passes up
+pub fails_with : {T : Type 0} (cs : List Check) (P : T → Type 0) (r : Result T (Refusal × ℕ)) (x : Refusal × ℕ) → IsErrAnd r (λ y. y ≡ x) → FirstFailure cs (Some x) → Finds cs P r
+fails_with cs P (Err y) x is k = subst (λ (y : Refusal × ℕ). FirstFailure cs (Some y)) (sym is) k
+fails_with cs P (Ok t) x is k = absurd is
+
+-- that a field is there, and that an amount breaks no bound of it
+abbrev pub stock_checks : Way → Ledger → Name → ℕ → ℕ → List Check
+stock_checks w A f q line = no_field A f line ∷ bound_checks w A f q line
 
 -- the check of a bound, of a ledger that has the amount, as one comparison with the ledger before
 has_bound : (A B : Ledger) (w : Way) (f : Name) (q line : ℕ) (found : Option (Refusal × ℕ)) → (bound w B f line).fails ↔ BreaksBound w A f q
@@ -76,30 +86,23 @@ abbrev of_bound : Ledger → ℕ → Way → Name → ℕ → List Check
 of_bound A n w f q = bound w (next A (More n w f.branch f.article q)) f 0 ∷ []
 
 -- The check of the bound decides.
-pub more_decides : (A : Ledger) (n : ℕ) (w : Way) (f : Name) (q : ℕ) (o : Order) (e : Field) (fault found : Option (Refusal × ℕ)) → Good A
+pub more_decides : (A : Ledger) (n : ℕ) (w : Way) (f : Name) (q : ℕ) (o : Order) (e : Field) (found : Option (Refusal × ℕ)) → Good A
     → ((full A 1).fails → ⊥) → FirstFailure (loose_checks A n) None → order_numbered A n ≡ Some o → IsTrue (is_open o) → IsFalse o.firm → IsFalse (is_transfer o) → field_named A f ≡ Some e
-    → FirstFailure (hold_checks o w f) fault → is_some fault ≡ false → FirstFailure (bound_checks w A f q 0) found → FirstFailure (checks A (More n w f.branch f.article q)) found
-more_decides A n w f q o e fault found good room ordered numbered opened loose plain there held none bounded =
+    → FirstFailure (hold_checks o w f ++ bound_checks w A f q 0) found → FirstFailure (checks A (More n w f.branch f.article q)) found
+more_decides A n w f q o e found good room ordered numbered opened loose plain there decides =
     inr (
       room,
-      go_on (loose_checks A n) (check (OfOrder A n (λ o. IsTrue (is_transfer o))) TransferFixed ∷ no_field A f 0 ∷ of_line A n w f ++ of_bound A n w f q) None found ordered refl
-          (inr (no_transfer, inr (field, go_on (of_line A n w f) (of_bound A n w f q) fault found holds none more))),
+      go_on (loose_checks A n) (check (OfOrder A n (λ o. IsTrue (is_transfer o))) TransferFixed ∷ no_field A f 0 ∷ of_line A n w f ++ of_bound A n w f q) found ordered
+          (inr (rw numbered (λ h. true≢false (sym h ∙ plain)), inr (rw there (λ h. true≢false h), holds decides))),
     )
   where
-    no_transfer : OfOrder A n (λ o. IsTrue (is_transfer o)) → ⊥
-    no_transfer = rw numbered (λ h. true≢false (sym h ∙ plain))
-
-    field : IsNone (field_named A f) → ⊥
-    field = rw there (λ h. true≢false h)
-
-    holds : FirstFailure (of_line A n w f) fault
-    holds = rw numbered held
-
     asked : OpenLine
     asked = record { way = w; branch = f.branch; article = f.article; qty = q }
 
-    more : FirstFailure (of_bound A n w f q) found
-    more = has_bound A (next A (More n w f.branch f.article q)) w f q 0 found (more_test A n asked 0 good (rw numbered (grind arith))) bounded
+    holds : FirstFailure (hold_checks o w f ++ bound_checks w A f q 0) found → FirstFailure (of_line A n w f ++ of_bound A n w f q) found
+    holds (inl h) = rw numbered (inl h)
+    holds (inr (h0, inl h)) = rw numbered (inr (h0, inl h))
+    holds (inr (h0, inr (h1, h))) = rw numbered (inr (h0, inr (h1, has_bound A (next A (More n w f.branch f.article q)) w f q 0 found (more_test A n asked 0 good (rw numbered (grind arith))) h)))
 
 -- ---- other bounds
 
@@ -107,6 +110,9 @@ more_decides A n w f q o e fault found good room ordered numbered opened loose p
 pub bounds_decide : (A : Ledger) (n : Name) (e : FieldEntry) (lo hi : ℕ) → Good A → IsUpToDate A (n, e) → field_named A n ≡ Some (field_of (n, e))
     → (FallsBelow (next A (Rebound n.branch n.article lo hi)) n ↔ (pos e.quantity.value -ℤ pos e.quantity.held_to_take) <ℤ pos lo) × (RisesAbove (next A (Rebound n.branch n.article lo hi)) n ↔ pos hi <ℤ (pos e.quantity.value +ℤ pos e.quantity.held_to_add))
 bounds_decide A n e lo hi good up there = grind (arith, sounds_from_good, low_test, high_test)
+
+pub rebound_decides : (A : Ledger) (n : Name) (lo hi : ℕ) (found : Option (Refusal × ℕ)) → ((full A 1).fails → ⊥) → FirstFailure (no_field A n 0 ∷ []) None → FirstFailure (bounds_checks A n lo hi) found → FirstFailure (checks A (Rebound n.branch n.article lo hi)) found
+rebound_decides A n lo hi found room there decides = inr (room, go_on (no_field A n 0 ∷ []) (bounds_checks A n lo hi) found there decides)
 
 -- ---- the checks of the lines of a new order, one line at a time
 
@@ -165,11 +171,10 @@ module _ (A : Ledger) (lines : List OpenLine) (i : ℕ) (l : OpenLine) (h : i < 
   here n kind until found k = subst (λ ls. FirstFailure (line_checks A (new_order n kind until) (take i lines) ls) found) (sym (drop_more lines i l h ∙ ap (λ m. m ∷ drop (i + 1) lines) (sym e))) (inr ((λ there. true≢false (sym there ∙ alone)), k))
 
   -- the line's own checks decide
-  pub line_fails : (fault : Option (Refusal × ℕ)) → FirstFailure (stock_checks l.way A (line_field l) l.qty (i + 1)) fault → is_some fault ≡ true → RestDecides A lines i
-      → (n : ℕ) (kind : Kind) (until : ℕ) → FirstFailure (line_checks A (new_order n kind until) [] lines) fault
-  line_fails b k some rest n kind until = grind (arith, cut_short, has_own, here)
+  pub line_fails : (x : Refusal × ℕ) → FirstFailure (stock_checks l.way A (line_field l) l.qty (i + 1)) (Some x) → RestDecides A lines i
+      → (n : ℕ) (kind : Kind) (until : ℕ) → FirstFailure (line_checks A (new_order n kind until) [] lines) (Some x)
+  line_fails x k rest n kind until = grind (arith, cut_short, has_own, here)
 
   -- they pass, and those after them decide
-  pub line_passes : (fault : Option (Refusal × ℕ)) → FirstFailure (stock_checks l.way A (line_field l) l.qty (i + 1)) fault → is_some fault ≡ false → RestDecides A lines i → RestDecides A lines (i + 1)
-  line_passes (Some x) k some rest n kind until found after = absurd (true≢false some)
-  line_passes None k some rest n kind until found after = grind (arith, (has_own n kind until None k), go_on, here, take-step)
+  pub line_passes : FirstFailure (stock_checks l.way A (line_field l) l.qty (i + 1)) None → RestDecides A lines i → RestDecides A lines (i + 1)
+  line_passes k rest n kind until found after = grind (arith, (has_own n kind until None k), go_on, here, take-step)

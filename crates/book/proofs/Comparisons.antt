@@ -1,5 +1,5 @@
 -- Each test of a check by all outcomes is one comparison with the numbers of the ledger as it is.
-use Rattle.book.proofs.Prelude.{[], ◌++◌, ◌+ℤ◌, ◌+◌, ◌==◌, ◌↔◌, ◌∙◌, ◌∷◌, ◌≡◌, Add, Bool, BreaksBound, Each, Field, Good, IsDistinct, IsNone, IsSomeAnd, IsStrictlySortedBy, Kind, Ledger, Line, List, MatchOption, MayHoldMore, Name, None, OpenLine, Option, Order, Some, State, Take, Way, add_hold, ap, arith, bound, change_order, common_steps, false, find, held_to_add, held_to_take, if_add, if_take, if◌then◌else◌, ints, is_open, line_name, line_on, map, nat_cmp, new_line, new_order, on, open_state, order_numbered, pos, raise_held, refl, same_name, subst, sym, total, true, with_order, ℕ, ℤ}
+use Rattle.book.proofs.Prelude.{[], ◌++◌, ◌+ℤ◌, ◌+◌, ◌==◌, ◌↔◌, ◌∙◌, ◌∷◌, ◌≡◌, Add, Bool, BreaksBound, Each, Field, Good, IsDistinct, IsNone, IsSomeAnd, IsStrictlySortedBy, Kind, Ledger, Line, List, MatchOption, MayHoldMore, Name, None, OpenLine, Option, Order, Some, State, Take, Way, add_hold, ap, arith, bound, change_order, common_steps, false, find, held_to_add, held_to_take, if_add, if_take, if◌then◌else◌, ints, is_open, line_name, line_on, map, nat_cmp, new_line, new_order, on, open_state, order_numbered, pos, raise_held, refl, same_name, settled, subst, sym, total, true, with_order, ℕ, ℤ}
 use Rattle.book.proofs.OutcomeTests.{HasMore, Passes, compared, line_compared, same_self, total-push}
 use Rattle.book.proofs.Bounds.{OneOn, Sound}
 use Rattle.book.proofs.Futures.{at_number, one_on, sounds_from_good}
@@ -78,6 +78,15 @@ held_more : (p : Way → ℕ → ℕ) → IsSum p → (A : Ledger) (n : ℕ) (l 
     ≡ total (λ o. if is_open o then total (held_part o.firm p (line_name (new_line l))) o.lines else pos 0) A.orders +ℤ pos (p l.way l.qty)
 held_more p sum A n l good may = grind (arith, total_changed, held_part, found_is, Sound, sounds_from_good, raised, more_if, part_more)
 
+-- with an amount more on a line of it, so much more is held, and its value stays
+pub more_sums : (A : Ledger) (n : ℕ) (l : OpenLine) → Good A → IsSomeAnd (order_numbered A n) (MayHoldMore (line_name (new_line l)) l.way) → (f : Field) → f.name ≡ line_name (new_line l)
+    → (settled (change_order n (add_hold l) A) f ≡ settled A f) × (held_to_take (change_order n (add_hold l) A) f.name ≡ held_to_take A f.name +ℤ pos (if_take l.way l.qty)) × (held_to_add (change_order n (add_hold l) A) f.name ≡ held_to_add A f.name +ℤ pos (if_add l.way l.qty))
+more_sums A n l good may f is = (
+  same_settled A n l (each-both (λ o s k e. ((k e).0, (k e).1, raised l o s (k e))) A.orders (sounds_from_good A good) (at_number (MayHoldMore (line_name (new_line l)) l.way) n A.orders good.orders_in_order may)) f,
+  subst (λ g. held_to_take (change_order n (add_hold l) A) g ≡ held_to_take A g +ℤ pos (if_take l.way l.qty)) (sym is) (held_more if_take take_sum A n l good may),
+  subst (λ g. held_to_add (change_order n (add_hold l) A) g ≡ held_to_add A g +ℤ pos (if_add l.way l.qty)) (sym is) (held_more if_add add_sum A n l good may),
+)
+
 pub more_test : (A : Ledger) (n : ℕ) (l : OpenLine) (i : ℕ) → Good A → IsSomeAnd (order_numbered A n) (MayHoldMore (line_name (new_line l)) l.way)
     → (bound l.way (change_order n (add_hold l) A) (line_name (new_line l)) i).fails ↔ BreaksBound l.way A (line_name (new_line l)) l.qty
 more_test A n l i good may = fails_so l.way B name i (compared l.way A A.moves B.orders name l.qty (sound-more A n l sound rising) (more l.way refl))
@@ -94,12 +103,6 @@ more_test A n l i good may = fails_so l.way B name i (compared l.way A A.moves B
     rising : Each (Rising n l) A.orders
     rising = each-both (λ o s k e. ((k e).0, (k e).1, raised l o s (k e))) A.orders sound (at_number (MayHoldMore name l.way) n A.orders good.orders_in_order may)
 
-    takes : l.way ≡ Take → held_to_take B name ≡ held_to_take A name +ℤ pos l.qty
-    takes e = held_more if_take take_sum A n l good may ∙ ap (λ w. held_to_take A name +ℤ pos (if_take w l.qty)) e
-
-    adds : l.way ≡ Add → held_to_add B name ≡ held_to_add A name +ℤ pos l.qty
-    adds e = held_more if_add add_sum A n l good may ∙ ap (λ w. held_to_add A name +ℤ pos (if_add w l.qty)) e
-
     more : (w : Way) → l.way ≡ w → (f : Field) → f.name ≡ name → HasMore w A B f l.qty
-    more Take e f is = let s = same_settled A n l rising f in let t = subst (λ g. held_to_take B g ≡ held_to_take A g +ℤ pos l.qty) (sym is) (takes e) in omega (arith, ints)
-    more Add e f is = let s = same_settled A n l rising f in let t = subst (λ g. held_to_add B g ≡ held_to_add A g +ℤ pos l.qty) (sym is) (adds e) in omega (arith, ints)
+    more Take e f is = let s = more_sums A n l good may f is in let t = s.1 ∙ ap (λ w. held_to_take A f.name +ℤ pos (if_take w l.qty)) e in omega (arith, ints)
+    more Add e f is = let s = more_sums A n l good may f is in let t = s.2 ∙ ap (λ w. held_to_add A f.name +ℤ pos (if_add w l.qty)) e in omega (arith, ints)

@@ -1,21 +1,23 @@
 -- The rows of the fields that a request makes or changes, for each kind of command.
-use Rattle.book.proofs.Prelude.{[], ◌&&◌, ◌+ℤ◌, ◌-ℤ◌, ◌||◌, ◌∙◌, ◌∷◌, ◌≡◌, Accepts, Bool, Command, Each, Field, FieldCells, FieldEntry, FirstFailure, GivenBack, GivesBack, Good, HasEntry, IsChangedField, IsNone, IsSome, IsSomeAnd, IsUpToDate, Stock, is_lt, IsStrictlySortedBy, Ledger, Line, List, Name, None, OpenLine, Option, Order, Puts, Request, Some, State, Way, accept, add_hold, added_part, ap, arith, change_lines, changes_field, checks, common_steps, entry_row, expired_lines, expires, false, field_named, field_of, field_row, field_rows, find, has_line_on, held_to_add, held_to_take, if◌then◌else◌, insert_entry, ints, is_open, is_some, is_transfer, keys_of, line_name, line_on, list_any, list_any-append, lower_held, map, moved_by, moved_by_command, moved_part, name_cmp, name_of, nat_le, new_line, next, not, on, open_state, option_map, order_after, order_is, order_numbered, pos, raise_held, raise_used, refl, same_name, settled, settled_state, signed, some_has_line, subst, sym, taken_part, total, true, true≢false, ℕ, ℤ}
+use Rattle.book.proofs.Prelude.{AsksNoStock, Accepts, Bool, Command, Each, Err, Field, FieldCells, FieldEntry, FirstFailure, Counts, CountsAll, Good, HasEntry, IfOk, IsChangedField, IsNone, IsSome, IsSomeAnd, IsStrictlySortedBy, IsUpToDate, Kind, Ledger, Line, List, Name, None, Ok, OpenLine, Option, Order, Plain, Puts, Request, Result, Some, State, Stock, Transfer, Way, [], accept, add_hold, added_part, ap, arith, change_lines, changes_field, checks, common_steps, entry_row, expired_lines, expires, false, field_named, field_of, field_row, field_rows, find, has_line_on, held_to_add, held_to_take, if◌then◌else◌, insert_entry, ints, is_lt, is_open, is_some, is_transfer, keys_of, line_name, line_on, list_any, list_any-append, lower_held, map, moved_by, moved_by_command, moved_part, name_cmp, name_of, nat_le, new_line, new_order, next, not, on, open_state, option_map, order_after, order_is, order_numbered, pos, raise_held, raise_used, refl, same_name, settled, settled_state, signed, some_has_line, subst, sym, taken_part, total, transfer_lines, true, true≢false, with_order, ℕ, ℤ, ◌&&◌, ◌+ℤ◌, ◌-ℤ◌, ◌||◌, ◌∙◌, ◌∷◌, ◌≡◌}
 use Rattle.words.specs.declared.command.Command.TheVariants as command
 use Rattle.book.specs.After.{changes_own_stock, moved_at_once}
-use Rattle.book.specs.RunningNumbers.{HasLines, MovesField, lines_add, lines_take}
-use Rattle.book.proofs.OutcomeTests.{none_found, same_self}
+use Rattle.book.specs.Checking.{IsFound}
+use Rattle.book.specs.RunningNumbers.{lines_add, lines_take}
+use Rattle.index.specs.declared.in_order.InOrder.{InOrder}
+use Rattle.words.specs.declared.reply.Memory.{Memory}
+use Rattle.book.proofs.OutcomeTests.{held_add-order, held_take-order, none_found, same_self, settled-order}
 use Rattle.book.proofs.Bounds.{adds, takes}
-use Rattle.book.proofs.ChangedFields.{all_rows, put_self, self_eq, any-append, total-flat}
-use Rattle.book.proofs.CheckAnswers.{bounds_decide}
+use Rattle.book.proofs.ChangedFields.{all_rows, any_there, put_self, self_eq, any-append, total-flat}
 use Rattle.book.proofs.Lists.{any-map, find-new, some_is}
 use Rattle.book.proofs.Futures.{all_pass, name_is}
-use Rattle.book.proofs.Safety.{none_if_not_some, not_less, bounding, found_bounded}
+use Rattle.book.proofs.Safety.{none_if_not_some, bounding, found_bounded, takes_more}
+use Rattle.book.proofs.Comparisons.{more_sums}
 use Rattle.book.proofs.CommandOrder.{any_one, changed_on, left_out, lined, lined_firm, total-next}
 use Rattle.book.proofs.RunningNumbers.{new_field}
-use Rattle.escrow.specs.Choices.{IsSafe}
-use Rattle.escrow.specs.Escrow.{bounded}
+use Rattle.escrow.specs.Escrow.{MovesValue, bounded, holding}
 use Rattle.book.specs.Next.{with_bounds}
-use Rattle.book.proofs.StockChanges.{entry_is, settled_moved}
+use Rattle.book.proofs.StockChanges.{entry_is, holding_row, settled_moved, value_moved}
 use Rattle.book.proofs.Sums.{each, each-both, each-imp, total-eq}
 
 -- ---- the rows, from the entries
@@ -25,11 +27,19 @@ changed_rows A r D good rising changed all = all_rows (changes_field A r.command
 
 -- ---- one field
 
-pub one_row : (A : Ledger) (r : Request) (n : Name) (old D : List (Name × FieldEntry)) → Good (accept A r) → old ≡ [] → IsStrictlySortedBy name_cmp (keys_of D) → Puts A r n old D → ((f : Name) → changes_field A r.command f ≡ same_name f n) → map entry_row D ≡ field_rows A r
-one_row A r n old D good empty rising puts only =
-    let is = puts.put ∙ ap (λ (C : List (Name × FieldEntry)). insert_entry name_cmp C n puts.entry) empty in
-    changed_rows A r D good rising (subst (Each (IsChangedField A r)) (sym is) (puts.changed, tt))
-    (λ f changes. subst (λ (k : Name). HasEntry D k) (sym (name_is f.name n (sym (only f.name) ∙ changes))) (subst (λ (C : List (Name × FieldEntry)). HasEntry C n) (sym is) (put_self [] n puts.entry)))
+one_row : (A : Ledger) (r : Request) (e : Name × FieldEntry) → Good (accept A r) → IsChangedField A r e → ((f : Name) → changes_field A r.command f ≡ same_name f e.0) → entry_row e ∷ [] ≡ field_rows A r
+unfolding IsStrictlySortedBy
+one_row A r e good changed only =
+    changed_rows A r (e ∷ []) good (tt, tt) (changed, tt) (λ f changes. subst (λ (k : Name). HasEntry (e ∷ []) k) (sym (name_is f.name e.0 (sym (only f.name) ∙ changes))) (put_self [] e.0 e.1))
+
+-- the entry is that of the one field that the command, once accepted, makes or changes
+abbrev pub IsOnly : Ledger → Command → Name × FieldEntry → Type 0
+IsOnly A c e = (key : List ℕ) → Accepts A (record { key = key; command = c }) → entry_row e ∷ [] ≡ field_rows A (record { key = key; command = c })
+
+-- the fields are that one
+pub only_found : (A : Ledger) (c : Command) (e : Name × FieldEntry) (made : Result (InOrder Name FieldEntry) Memory) → IfOk made (λ fields. fields.entries ≡ e ∷ []) → IsOnly A c e → IsFound A c (Some made)
+only_found A c e (Ok fields) is only = λ key accepts rising. ap (map entry_row) is ∙ only key accepts
+only_found A c e (Err fault) is only = tt
 
 some_there : {X : Type 0} (o : Option X) → (IsNone o → ⊥) → IsSome o
 some_there b h = grind arith
@@ -45,67 +55,54 @@ record MovesAtOnce (A : Ledger) (c : Command) (n : Name) (w : Way) (q : ℕ) : T
 moves_at_once : (A : Ledger) (c : Command) (n : Name) (w : Way) (q : ℕ) → FirstFailure (checks A c) None → moved_at_once c ≡ Some (n, w, q) → MovesAtOnce A c n w q
 moves_at_once A c n w q h e = grind arith
 
-pub moving : (A : Ledger) (r : Request) (n : Name) (w : Way) (q : ℕ) → Accepts A r → moved_at_once r.command ≡ Some (n, w, q) → MovesField A r n w q
-moving A r n w q accepts is = grind (arith, moves_at_once, same_self, settled_moved, takes, adds)
-
-pub moving_rows : (A : Ledger) (r : Request) (n : Name) (w : Way) (q : ℕ) (old D : List (Name × FieldEntry)) → Accepts A r → moved_at_once r.command ≡ Some (n, w, q) → old ≡ [] → IsStrictlySortedBy name_cmp (keys_of D) → Puts A r n old D → map entry_row D ≡ field_rows A r
-moving_rows A r n w q old D accepts is empty rising puts =
-    let m = moves_at_once A r.command n w q accepts.accepted.1 is in
-    one_row A r n old D accepts.after empty rising puts m.names
+pub moved_found : (A : Ledger) (c : Command) (n : Name) (w : Way) (q : ℕ) (e : FieldEntry) (new : Stock) → moved_at_once c ≡ Some (n, w, q) → IsUpToDate A (n, e) → field_named A n ≡ Some (field_of (n, e)) → MovesValue e.quantity w q new → IsOnly A c (n, record { start = e.start; quantity = new })
+moved_found A c n w q e new is up there moves key accepts =
+    let m = moves_at_once A c n w q accepts.accepted.1 is in
+    let value = settled_moved A (field_of (n, e)) c w q (m.moves n ∙ ap (λ b. if b then signed w q else pos 0) (same_self n)) m.orders in
+    one_row A (record { key = key; command = c }) (n, record { start = e.start; quantity = new }) accepts.after (record {
+      field = field_of (n, e);
+      there = ap (find (λ g. same_name n g.name)) m.fields ∙ there;
+      passes = m.names n ∙ same_self n;
+      has_row = value_moved A (next A c) n e w q new up value (ap (total (taken_part n)) m.orders) (ap (total (added_part n)) m.orders) moves;
+    }) m.names
 
 -- ---- a new field
 
-pub new_rows : (A : Ledger) (r : Request) (b a : List ℕ) (lo hi start : ℕ) (old D : List (Name × FieldEntry)) (e : FieldEntry) → Accepts A r → r.command ≡ command.Field b a lo hi start → old ≡ [] → IsStrictlySortedBy name_cmp (keys_of D) → D ≡ insert_entry name_cmp old (name_of b a) e
-    → e ≡ record { start = start; quantity = record { lo = lo; hi = hi; value = start; held_to_take = 0; held_to_add = 0 } } → map entry_row D ≡ field_rows A r
-new_rows A r b a lo hi start old D e accepts is empty rising put entry =
-    one_row A r n old D accepts.after empty rising (record { entry = e; changed = changed; put = put }) (λ f. ap (λ (c : Command). changes_field A c f) is)
-  where
-    n : Name
-    n = name_of b a
-
-    new : Field
-    new = record { name = n; lo = lo; hi = hi; start = start }
-
-    none : field_named A n ≡ None
-    none = none_if_not_some (field_named A n) (all_pass (checks A (command.Field b a lo hi start)) (subst (λ (c : Command). FirstFailure (checks A c) None) is accepts.accepted.1)).1.1.0
-
-    B : Command → Ledger
-    B c = accept A (record { key = r.key; command = c })
-
-    changed : IsChangedField A r (n, e)
-    changed = record {
+pub new_found : (A : Ledger) (n : Name) (lo hi start : ℕ) (q : Stock) → q ≡ record { lo = lo; hi = hi; value = start; held_to_take = 0; held_to_add = 0 } → IsOnly A (command.Field n.branch n.article lo hi start) (n, record { start = start; quantity = q })
+new_found A n lo hi start q is key accepts =
+    let c : Command = command.Field n.branch n.article lo hi start in
+    let new : Field = record { name = n; lo = lo; hi = hi; start = start } in
+    let none = none_if_not_some (field_named A n) (all_pass (checks A c) accepts.accepted.1).1.1.0 in
+    one_row A (record { key = key; command = c }) (n, record { start = start; quantity = q }) accepts.after (record {
       field = new;
-      there = ap (λ (c : Command). field_named (B c) n) is ∙ find-new (λ g. same_name n g.name) (λ f g. is_lt (name_cmp f.name g.name)) new A.fields (same_self n) (none_found (λ g. same_name n g.name) A.fields none);
-      passes = ap (λ (c : Command). changes_field A c n) is ∙ same_self n;
-      has_row = ap (λ (v : FieldEntry). entry_row (n, v)) entry ∙ new_field A (accept A r) n lo hi start accepts.before none (ap (λ (c : Command). (B c).moves) is) (ap (λ (c : Command). (B c).orders) is);
-    }
+      there = find-new (λ g. same_name n g.name) (λ f g. is_lt (name_cmp f.name g.name)) new A.fields (same_self n) (none_found (λ g. same_name n g.name) A.fields none);
+      passes = same_self n;
+      has_row = ap (λ (q : Stock). entry_row (n, record { start = start; quantity = q })) is ∙ new_field A (next A c) n lo hi start accepts.before none refl refl;
+    }) (λ f. refl)
 
 -- ---- other bounds
 
--- every outcome lies within them
-pub bounds_safe : (A : Ledger) (r : Request) (n : Name) (lo hi : ℕ) (e : FieldEntry) → Accepts A r → r.command ≡ command.Rebound n.branch n.article lo hi → IsUpToDate A (n, e) → field_named A n ≡ Some (field_of (n, e)) → IsSafe (bounded e.quantity lo hi)
-bounds_safe A r n lo hi e accepts is up there taken added t a =
-    let d = bounds_decide A n e lo hi accepts.before up there in
-    let p = all_pass (checks A (command.Rebound n.branch n.article lo hi)) (subst (λ (c : Command). FirstFailure (checks A c) None) is accepts.accepted.1) in
-    let low = not_less (pos e.quantity.value -ℤ pos e.quantity.held_to_take) (pos lo) (λ k. p.1.1.1.0 (d.0.1 k)) in
-    let high = not_less (pos hi) (pos e.quantity.value +ℤ pos e.quantity.held_to_add) (λ k. p.1.1.1.1.0 (d.1.1 k)) in
-    (omega (arith, ints), omega (arith, ints))
-
--- the field that gets other bounds, as it is then
-pub bounds_changed : (A : Ledger) (r : Request) (n : Name) (lo hi : ℕ) (e : FieldEntry) (new : Stock) → Accepts A r → r.command ≡ command.Rebound n.branch n.article lo hi → IsUpToDate A (n, e) → field_named A n ≡ Some (field_of (n, e)) → new ≡ bounded e.quantity lo hi
-    → IsChangedField A r (n, record { start = e.start; quantity = new })
-bounds_changed A r n lo hi e new accepts is up there bounds = record {
+pub bounds_found : (A : Ledger) (n : Name) (lo hi : ℕ) (e new : FieldEntry) → IsUpToDate A (n, e) → field_named A n ≡ Some (field_of (n, e)) → new ≡ record { start = e.start; quantity = bounded e.quantity lo hi } → IsOnly A (command.Rebound n.branch n.article lo hi) (n, new)
+bounds_found A n lo hi e new up there bounds key accepts = one_row A (record { key = key; command = command.Rebound n.branch n.article lo hi }) (n, new) accepts.after (record {
   field = record { name = n; lo = lo; hi = hi; start = e.start };
-  there = ap (λ (c : Command). field_named (B c) n) is ∙ found_bounded n n lo hi A.fields ∙ ap (option_map (bounding n lo hi)) there ∙ ap (λ b. Some (if b then with_bounds lo hi (field_of (n, e)) else field_of (n, e))) (same_self n);
-  passes = ap (λ (c : Command). changes_field A c n) is ∙ same_self n;
-  has_row = ap (λ (q : Stock). entry_row (n, record { start = e.start; quantity = q })) bounds ∙ row ∙ ap (λ (c : Command). field_row (B c) (record { name = n; lo = lo; hi = hi; start = e.start })) (sym is);
-}
-  where
-    B : Command → Ledger
-    B c = accept A (record { key = r.key; command = c })
+  there = found_bounded n n lo hi A.fields ∙ ap (option_map (bounding n lo hi)) there ∙ ap (λ b. Some (if b then with_bounds lo hi (field_of (n, e)) else field_of (n, e))) (same_self n);
+  passes = same_self n;
+  has_row = ap (λ (v : FieldEntry). entry_row (n, v)) bounds ∙ ap (λ (c : FieldCells). record c { lo = pos lo; hi = pos hi }) up;
+}) (λ f. refl)
 
-    row : entry_row (n, record { start = e.start; quantity = bounded e.quantity lo hi }) ≡ field_row A (record { name = n; lo = lo; hi = hi; start = e.start })
-    row = ap (λ (c : FieldCells). record c { lo = pos lo; hi = pos hi }) up
+-- ---- more on an order
+
+pub more_found : (A : Ledger) (n : ℕ) (w : Way) (f : Name) (q : ℕ) (e new : FieldEntry) → IsUpToDate A (f, e) → field_named A f ≡ Some (field_of (f, e)) → new ≡ record { start = e.start; quantity = holding e.quantity w q } → IsOnly A (command.More n w f.branch f.article q) (f, new)
+more_found A n w f q e new up there is key accepts =
+    let c : Command = command.More n w f.branch f.article q in
+    let p = all_pass (checks A c) accepts.accepted.1 in
+    let may = takes_more f w (order_numbered A n) p.1.0 p.1.1.0 p.1.1.1.0 p.1.1.1.1.0 p.1.1.1.1.1.1.0 in
+    one_row A (record { key = key; command = c }) (f, new) accepts.after (record {
+      field = field_of (f, e);
+      there = there;
+      passes = same_self f;
+      has_row = ap (λ (v : FieldEntry). entry_row (f, v)) is ∙ holding_row A (next A c) f e w q up (more_sums A n (record { way = w; branch = f.branch; article = f.article; qty = q }) accepts.before may (field_of (f, e)) refl);
+    }) (λ f. refl)
 
 -- ---- the lines of an order
 
@@ -115,16 +112,6 @@ any_line P f (l ∷ ls) all e = by (on f l) refl e (λ k. any_line P f ls all.1 
   where
     by : (b : Bool) → on f l ≡ b → (b || list_any (on f) ls) ≡ true → (list_any (on f) ls ≡ true → P f) → P f
     by b is e more = grind (arith, name_is)
-
-any_there : (f : Name) (ls : List Line) → is_some (find (on f) ls) ≡ list_any (on f) ls
-any_there f [] = refl
-any_there f (l ∷ ls) = let more = any_there f ls in grind arith
-
-raised_on : (b : Bool) (f : Name) (q : ℕ) (l : Line) → on f (if b then raise_held q l else l) ≡ on f l
-raised_on b f q l = grind arith
-
-held_on : (f : Name) (ol : OpenLine) (o : Order) → f ≡ line_name (new_line ol) → list_any (on f) (add_hold ol o).lines ≡ true
-held_on f ol o is = grind (arith, (each (λ m. raised_on (on (line_name (new_line ol)) m) f ol.qty m) o.lines), (any_there (line_name (new_line ol)) o.lines), any-append, any-map, raised_on, same_self)
 
 second_true : (a b : Bool) → (a && b) ≡ true → b ≡ true
 second_true x b e = grind arith
@@ -138,25 +125,18 @@ part_has_line A n f g p held there e = by (same_name f g) refl e
     by false is e = second_true (is_transfer p) (has_line_on f p) e
 
 -- a field that the request changes has a line of the order that it makes
-changed_has_line : (A : Ledger) (c : Command) (f : Name) (o : Order) → Good A → FirstFailure (checks A c) None → order_after A c ≡ Some o → changes_field A c f ≡ true → list_any (on f) o.lines ≡ true
-changed_has_line A (command.More n way b a q) f o good h made e = by (order_numbered A n) made
-  where
-    by : (x : Option Order) → option_map (add_hold (record { way = way; branch = b; article = a; qty = q })) x ≡ Some o → list_any (on f) o.lines ≡ true
-    by None k = absurd (true≢false (sym (ap is_some k)))
-    by (Some p) k = subst (λ (m : Order). list_any (on f) m.lines ≡ true) (some_is _ o k) (held_on f (record { way = way; branch = b; article = a; qty = q }) p (name_is f (name_of b a) e))
-changed_has_line A (command.Release n b a q) f o good h made e = grind (arith, some_is, changed_on, part_has_line, all_pass, any_one)
-changed_has_line A (command.Use n b a q) f o good h made e = grind (arith, some_is, changed_on, part_has_line, all_pass, second_true, any_one)
-changed_has_line A (command.Field b a lo hi start) f o good h made e = absurd (true≢false (sym (ap is_some made)))
-changed_has_line A (command.Deliver b a q) f o good h made e = absurd (true≢false (sym (ap is_some made)))
-changed_has_line A (command.Writeoff b a q) f o good h made e = absurd (true≢false (sym (ap is_some made)))
-changed_has_line A (command.Rebound b a lo hi) f o good h made e = absurd (true≢false (sym (ap is_some made)))
-changed_has_line A (command.Expire now) f o good h made e = absurd (true≢false (sym (ap is_some made)))
-changed_has_line A (command.Firm n) f o good h made e = ap (some_has_line f) (sym made) ∙ lined_firm A n f good ∙ e
-changed_has_line A c f o good h made e = ap (some_has_line f) (sym made) ∙ lined A c f good refl ∙ e
+changed_has_line : (A : Ledger) (c : Command) (f : Name) (o : Order) → Good A → AsksNoStock c → FirstFailure (checks A c) None → order_after A c ≡ Some o → changes_field A c f ≡ true → list_any (on f) o.lines ≡ true
+changed_has_line A (command.Release n b a q) f o good asks h made e = grind (arith, some_is, changed_on, part_has_line, all_pass, any_one)
+changed_has_line A (command.Use n b a q) f o good asks h made e = grind (arith, some_is, changed_on, part_has_line, all_pass, second_true, any_one)
+changed_has_line A (command.Expire now) f o good asks h made e = absurd (true≢false (sym (ap is_some made)))
+changed_has_line A (command.Firm n) f o good asks h made e = ap (some_has_line f) (sym made) ∙ lined_firm A n f good ∙ e
+changed_has_line A (command.Commit n) f o good asks h made e = ap (some_has_line f) (sym made) ∙ lined A (command.Commit n) f good refl ∙ e
+changed_has_line A (command.Abort n) f o good asks h made e = ap (some_has_line f) (sym made) ∙ lined A (command.Abort n) f good refl ∙ e
+changed_has_line A c f o good asks h made e = absurd asks
 
 -- a command changes the field of a line of the order that it makes exactly where it changes the line's stock
-pub own_stock : (A : Ledger) (c : Command) (o : Order) (l : Line) → Good A → order_after A c ≡ Some o → find (on (line_name l)) o.lines ≡ Some l → changes_own_stock o.firm (is_transfer o) c l ≡ changes_field A c (line_name l)
-own_stock A c o l good made there = by c made
+pub own_stock : (A : Ledger) (c : Command) (o : Order) (l : Line) → Good A → AsksNoStock c → order_after A c ≡ Some o → find (on (line_name l)) o.lines ≡ Some l → changes_own_stock o.firm (is_transfer o) c l ≡ changes_field A c (line_name l)
+own_stock A c o l good asks made there = by c asks made
   where
     f : Name
     f = line_name l
@@ -187,28 +167,53 @@ own_stock A c o l good made there = by c made
         ap (λ (m : Order). m.firm && (is_transfer m || same_name f (name_of b a))) (sym same) ∙ ap (λ t. p.firm && t) (own (name_of b a) (raise_used q) p (λ k. refl) same)
         ∙ sym (any_one n (λ o. o.firm && (same_name f (name_of b a) || (is_transfer o && has_line_on f o))) p A.orders good.orders_in_order e)
 
-    by : (c : Command) → order_after A c ≡ Some o → changes_own_stock o.firm (is_transfer o) c l ≡ changes_field A c f
-    by (command.More n way b a q) made = refl
-    by (command.Use n b a q) made = used n b a q (order_numbered A n) refl made
-    by (command.Release n b a q) made = released n b a q (order_numbered A n) refl made
-    by (command.Field b a lo hi start) made = absurd (true≢false (sym (ap is_some made)))
-    by (command.Deliver b a q) made = absurd (true≢false (sym (ap is_some made)))
-    by (command.Writeoff b a q) made = absurd (true≢false (sym (ap is_some made)))
-    by (command.Rebound b a lo hi) made = absurd (true≢false (sym (ap is_some made)))
-    by (command.Expire now) made = absurd (true≢false (sym (ap is_some made)))
-    by (command.Firm n) made = sym has ∙ ap (some_has_line f) (sym made) ∙ lined_firm A n f good
-    by c made = sym has ∙ ap (some_has_line f) (sym made) ∙ lined A c f good refl
+    by : (c : Command) → AsksNoStock c → order_after A c ≡ Some o → changes_own_stock o.firm (is_transfer o) c l ≡ changes_field A c f
+    by (command.Use n b a q) asks made = used n b a q (order_numbered A n) refl made
+    by (command.Release n b a q) asks made = released n b a q (order_numbered A n) refl made
+    by (command.Expire now) asks made = absurd (true≢false (sym (ap is_some made)))
+    by (command.Firm n) asks made = sym has ∙ ap (some_has_line f) (sym made) ∙ lined_firm A n f good
+    by (command.Commit n) asks made = sym has ∙ ap (some_has_line f) (sym made) ∙ lined A (command.Commit n) f good refl
+    by (command.Abort n) asks made = sym has ∙ ap (some_has_line f) (sym made) ∙ lined A (command.Abort n) f good refl
+    by c asks made = absurd asks
 
-pub lines_rows : (A : Ledger) (r : Request) (o : Order) (D : List (Name × FieldEntry)) → Accepts A r → order_after A r.command ≡ Some o → IsStrictlySortedBy name_cmp (keys_of D) → HasLines A r o.lines D → map entry_row D ≡ field_rows A r
-lines_rows A r o D accepts made rising has =
-    changed_rows A r D accepts.after rising has.each
-    (λ f changes. any_line (λ n. changes_field A r.command n ≡ true → HasEntry D n) f.name o.lines has.all (changed_has_line A r.command f.name o accepts.before accepts.accepted.1 made changes) changes)
+pub lines_rows : (A : Ledger) (r : Request) (o : Order) (D : List (Name × FieldEntry)) → Accepts A r → AsksNoStock r.command → order_after A r.command ≡ Some o → IsStrictlySortedBy name_cmp (keys_of D) → Each (IsChangedField A r) D → Each (λ l. changes_field A r.command (line_name l) ≡ true → HasEntry D (line_name l)) o.lines → map entry_row D ≡ field_rows A r
+lines_rows A r o D accepts asks made rising each all =
+    changed_rows A r D accepts.after rising each
+    (λ f changes. any_line (λ n. changes_field A r.command n ≡ true → HasEntry D n) f.name o.lines all (changed_has_line A r.command f.name o accepts.before asks accepts.accepted.1 made changes) changes)
 
--- ---- an expiry
+-- ---- a new order
 
 entry_itself : (D : List (Name × FieldEntry)) → Each (λ e. HasEntry D e.0) D
 entry_itself [] = tt
 entry_itself (e ∷ D) = let more = entry_itself D in grind (arith, each-imp, self_eq)
+
+opened_row : (A : Ledger) (n : ℕ) (k : Kind) (u : ℕ) (ls : List OpenLine) (e : Name × FieldEntry) → Counts ◌+ℤ◌ A (map new_line ls) e → entry_row e ≡ field_row (with_order (new_order n k u ls) A) (field_of e)
+opened_row A n k u ls e held =
+    let takes_sum = held_take-order A n k u ls e.0 in let takes_is = held.takes in
+    let adds_sum = held_add-order A n k u ls e.0 in let adds_is = held.adds in
+    entry_is (with_order (new_order n k u ls) A) e.0 e.1 e.1.quantity refl refl (held.value ∙ sym (settled-order A n k u ls (field_of e))) (omega (arith, ints)) (omega (arith, ints))
+
+pub opened_found : (A : Ledger) (c : Command) (n : ℕ) (k : Kind) (u : ℕ) (ls : List OpenLine) (found : Option (Result (InOrder Name FieldEntry) Memory)) → next A c ≡ with_order (new_order n k u ls) A → ((f : Name) → changes_field A c f ≡ list_any (on f) (map new_line ls))
+    → IsSomeAnd found (λ made. IfOk made (λ fields. CountsAll ◌+ℤ◌ A (map new_line ls) fields.entries)) → IsFound A c found
+opened_found A c n k u ls None is names holds = absurd holds
+opened_found A c n k u ls (Some (Err fault)) is names holds = tt
+opened_found A c n k u ls (Some (Ok fields)) is names holds = λ key accepts rising.
+    changed_rows A (record { key = key; command = c }) fields.entries accepts.after rising
+    (each-both (λ e held has. record {
+      field = field_of e;
+      there = ap (λ (B : Ledger). find (λ g. same_name e.0 g.name) B.fields) is ∙ held.there;
+      passes = names e.0 ∙ sym (holds.all e.0) ∙ has;
+      has_row = opened_row A n k u ls e held ∙ ap (λ (B : Ledger). field_row B (field_of e)) (sym is);
+    }) fields.entries holds.each (entry_itself fields.entries))
+    (λ f changes. holds.all f.name ∙ sym (names f.name) ∙ changes)
+
+pub open_found : (A : Ledger) (n u : ℕ) (ls : List OpenLine) (found : Option (Result (InOrder Name FieldEntry) Memory)) → IsSomeAnd found (λ made. IfOk made (λ fields. CountsAll ◌+ℤ◌ A (map new_line ls) fields.entries)) → IsFound A (command.Open n u ls) found
+open_found A n u ls found holds = opened_found A (command.Open n u ls) n Plain u ls found refl (λ f. sym (any-map (on f) new_line ls)) holds
+
+pub transfer_found : (A : Ledger) (n u : ℕ) (a b d : List ℕ) (q : ℕ) (found : Option (Result (InOrder Name FieldEntry) Memory)) → IsSomeAnd found (λ made. IfOk made (λ fields. CountsAll ◌+ℤ◌ A (map new_line (transfer_lines a b d q)) fields.entries)) → IsFound A (command.Transfer n u a b d q) found
+transfer_found A n u a b d q found holds = opened_found A (command.Transfer n u a b d q) n Transfer u (transfer_lines a b d q) found refl (λ f. grind arith) holds
+
+-- ---- an expiry
 
 any_if : (b : Bool) (f : Name) (ls : List Line) → list_any (on f) (if b then ls else []) ≡ (b && list_any (on f) ls)
 any_if b f ls = grind arith
@@ -254,10 +259,10 @@ expired_sums A now f good h =
     let adds_given = expired_part now (λ m. adds m f.name) A.orders in
     (omega (arith, ints), omega (arith, ints), omega (arith, ints))
 
-given_row : (A B : Ledger) (now : ℕ) (e : Name × FieldEntry) → GivenBack A (expired_lines now A.orders) e → Left A B now (field_of e) → entry_row e ≡ field_row B (field_of e)
+given_row : (A B : Ledger) (now : ℕ) (e : Name × FieldEntry) → Counts ◌-ℤ◌ A (expired_lines now A.orders) e → Left A B now (field_of e) → entry_row e ≡ field_row B (field_of e)
 given_row A B now e given left = entry_is B e.0 e.1 e.1.quantity refl refl (given.value ∙ sym left.0) (given.takes ∙ sym left.1) (given.adds ∙ sym left.2)
 
-pub expired_rows : (A : Ledger) (r : Request) (now : ℕ) (D : List (Name × FieldEntry)) → Accepts A r → r.command ≡ command.Expire now → IsStrictlySortedBy name_cmp (keys_of D) → GivesBack A (expired_lines now A.orders) D → map entry_row D ≡ field_rows A r
+pub expired_rows : (A : Ledger) (r : Request) (now : ℕ) (D : List (Name × FieldEntry)) → Accepts A r → r.command ≡ command.Expire now → IsStrictlySortedBy name_cmp (keys_of D) → CountsAll ◌-ℤ◌ A (expired_lines now A.orders) D → map entry_row D ≡ field_rows A r
 expired_rows A r now D accepts is rising gives =
     let passed = subst (λ (c : Command). FirstFailure (checks A c) None) is accepts.accepted.1 in
     changed_rows A r D accepts.after rising

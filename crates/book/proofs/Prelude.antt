@@ -2,7 +2,7 @@
 pub use Rattle.book.specs.After.{IsShort, aborted_rows, added_part, changed_orders, changes_own_line, changes_state, expired_numbers, field_row, field_rows, is_touched, line_rows, moved_by_command, moved_part, of_numbered, order_after, order_number, some_has_line, some_part, taken_part, with_fields, with_firms, with_kept, with_lines, with_moves, with_orders}
 pub use Rattle.book.specs.Answers.{Answers, AnswersNew, Check, FirstFailure, IsAccepted, Runs, bound, checks, full, line_checks, loose_checks, no_field, order_checks, same_command}
 pub use Rattle.book.specs.Changes.{changed_rows, changes_field, changes_firm, changes_line, changes_move, changes_order, has_line_on, order_is, put_content, put_row, put_rows}
-pub use Rattle.book.specs.Checking.{stock_checks}
+pub use Rattle.book.specs.Checking.{Finds, IsFound}
 pub use Rattle.book.specs.Future.{AsksNoStock, IsFuture, IsHonoured}
 pub use Rattle.book.specs.Good.{Good, IsGoodField, IsGoodKept, IsGoodLine, IsGoodMove, IsGoodOrder, IsTransferPair}
 pub use Rattle.book.specs.Held.{BreaksBound, MayHoldMore, held_to_add, held_to_take, if_add, if_take}
@@ -13,7 +13,7 @@ pub use Rattle.escrow.specs.Choices.{IsWithin}
 pub use Rattle.book.specs.Outcomes.{FallsBelow, IsInfimum, IsSafe, IsSupremum, RisesAbove, article_total, moved_by, settled, signed, total}
 pub use Rattle.book.specs.Plans.{ChangesTo}
 pub use Rattle.book.specs.Rows.{Content, DeskCells, FieldCells, FirmCells, IsFieldRow, IsRowsOf, KeptCells, LineCells, OrderCells, desk_row, field_cmp, firm_cmp, firm_row, firm_rows, kept_cmp, kept_row, line_cmp, line_row, lines_from, move_cmp, move_row, order_cmp, order_lines, order_row}
-pub use Rattle.book.specs.RunningNumbers.{Accepts, Becomes, GivenBack, GivesBack, HasEntry, IsChangedField, IsUpToDate, MayBecome, MayGiveBack, Puts, entry_row, expired_lines, share_numbers, share_of, share_on, with_entries}
+pub use Rattle.book.specs.RunningNumbers.{Accepts, Becomes, Counts, CountsAll, HasEntry, IsChangedField, IsUpToDate, MayBecome, MayGiveBack, Puts, entry_row, expired_lines, share_numbers, share_of, share_on, with_entries}
 pub use Rattle.book.specs.Sums.{AreLinesOnFields, AreMovesOnFields, AreOnFields, AreOrdersOnFields, IsField, added, entry_name, lines_numbers, numbers_on, only_on, part_of_line}
 pub use Rattle.book.specs.Tables.{field_cells, firm_cells, kept_cells, line_cells, move_cells, order_cells, rows_among}
 pub use Rattle.book.specs.RowEntries.{AreNumbered, AreOthers, BeginsOther, HasNumbers, HaveNumbers, IsBounded, IsFieldTold, IsKeptTold, IsLineTold, IsMoveByItself, IsMoveTold, IsOrderByItself, IsWhole, TellHeads, TellOrders, TellsField, head_of, head_row, mark_rows, told_ledger}

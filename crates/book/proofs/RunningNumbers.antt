@@ -1,5 +1,5 @@
 -- Running numbers: what the entries of fields say of a ledger, and what becomes of them.
-use Rattle.book.proofs.Prelude.{[], ◌+ℤ◌, ◌+◌, ◌-ℤ◌, ◌<ℤ◌, ◌∙◌, ◌∷◌, ◌≡◌, ◌≤ℤ◌, ◌≤◌, Add, Bool, BreaksBound, Contains, Content, Each, Equal, Field, FieldCells, FieldEntry, Global, Good, Greater, IsSome, IsSomeAnd, IsUpToDate, Ledger, Less, List, Name, None, Option, Ordering, Some, Stock, String, Take, Way, accept, ap, arith, common_steps, entry_row, false, field_cells, field_cmp, field_named, field_of, field_row, held_to_add, held_to_take, holding, if_add, if_take, if◌then◌else◌, insert_entry, ints, is_settled, is_eq, is_lt, is_open, is_some, map, match_ordering, moved_by, name_cmp, next, pos, put_row, put_rows, refl, same_name, settled, signed, string_bytes, subst, sym, total, true≢false, unsettled, with_entries, ℕ, ℤ}
+use Rattle.book.proofs.Prelude.{[], ◌+ℤ◌, ◌+◌, ◌-ℤ◌, ◌<ℤ◌, ◌∙◌, ◌∷◌, ◌≡◌, ◌≤ℤ◌, ◌≤◌, Add, Bool, BreaksBound, Contains, Content, Each, Equal, Field, FieldCells, FieldEntry, Global, Good, Greater, IsSome, IsSafeMoved, IsSomeAnd, IsUpToDate, Ledger, Less, List, Name, None, Option, Ordering, Some, Stock, String, Take, Way, accept, ap, arith, common_steps, entry_row, false, field_cells, field_cmp, field_named, field_of, field_row, held_to_add, held_to_take, holding, if_add, if_take, if◌then◌else◌, insert_entry, ints, is_settled, is_eq, is_lt, is_open, is_some, map, match_ordering, moved_by, name_cmp, next, pos, put_row, put_rows, refl, same_name, settled, signed, string_bytes, subst, sym, total, true≢false, unsettled, with_entries, ℕ, ℤ}
 use Rattle.escrow.specs.Choices.{IsInfimum as IsLeastOf, IsSafe as IsSafeStock, IsSupremum as IsGreatestOf}
 use Rattle.book.specs.Plans.{Fits, PlanView}
 use Rattle.book.proofs.EqualRows.{rows_are, rows_of, same_first, same_rest}
@@ -18,44 +18,64 @@ least_is s z h = grind (arith, (h.least s.held_to_take 0 (omega arith) (omega ar
 pub greatest_is : (s : Stock) (z : ℤ) → IsGreatestOf s z → z ≡ pos s.value +ℤ pos s.held_to_add
 greatest_is s z h = grind (arith, common_steps, h.greatest, s.held_to_add, h.reached.3, h.reached.4)
 
+-- ---- what a good ledger's field keeps to
+
+pub bounds_at : (A : Ledger) (f : Field) → Good A → Contains A.fields f
+    → (pos f.lo ≤ℤ (settled A f -ℤ held_to_take A f.name)) × ((settled A f -ℤ held_to_take A f.name) ≤ℤ settled A f) × (settled A f ≤ℤ (settled A f +ℤ held_to_add A f.name)) × ((settled A f +ℤ held_to_add A f.name) ≤ℤ pos f.hi) × (f.hi ≤ 1000000000)
+bounds_at A f good there = each-at _ A.fields there.0 f there.1 (sym there.2) (in_order A good)
+
+-- ---- an entry that is up to date
+
+pub numbers_up : (A : Ledger) (n : Name) (e : FieldEntry) → IsUpToDate A (n, e) → (pos e.quantity.value ≡ settled A (field_of (n, e))) × (pos e.quantity.held_to_take ≡ held_to_take A n) × (pos e.quantity.held_to_add ≡ held_to_add A n)
+numbers_up A n e up =
+    let value = ap (λ (r : FieldCells). r.value) up in let inf = ap (λ (r : FieldCells). r.inf) up in let sup = ap (λ (r : FieldCells). r.sup) up in
+    (value, omega (arith, ints), omega (arith, ints))
+
 -- ---- the check of a bound
 
 not_above : (a b : ℤ) → (a ≤ℤ b → ⊥) → b <ℤ a
 not_above a b h = grind (arith, ints)
 
--- an amount that the quantity grants breaks no bound
-pub grants : (A : Ledger) (n : Name) (e : FieldEntry) (way : Way) (q : ℕ) → IsUpToDate A (n, e) → field_named A n ≡ Some (field_of (n, e)) → IsSafeStock (holding e.quantity way q) → BreaksBound way A n q → ⊥
-grants A n e Take q up there safe breaks =
+-- so much fits between the least or the greatest value and its bound
+abbrev pub HasRoom : Way → Stock → ℕ → Type 0
+HasRoom Take s q = s.lo + (s.held_to_take + q) ≤ s.value
+HasRoom Add s q = s.value + (s.held_to_add + q) ≤ s.hi
+
+pub ask_granted : (s : Stock) (w : Way) (q : ℕ) → IsSafeStock (holding s w q) → HasRoom w s q
+ask_granted s Take q safe = let least = (safe (s.held_to_take + q) 0 (omega arith) (omega arith)).0 in omega (arith, ints)
+ask_granted s Add q safe = let greatest = (safe 0 (s.held_to_add + q) (omega arith) (omega arith)).1 in omega (arith, ints)
+
+pub move_granted : (s : Stock) (w : Way) (q : ℕ) → IsSafeMoved s w q → HasRoom w s q
+move_granted s Take q safe = let least = (safe s.held_to_take 0 (omega arith) (omega arith)).0 in omega (arith, ints)
+move_granted s Add q safe = let greatest = (safe 0 s.held_to_add (omega arith) (omega arith)).1 in omega (arith, ints)
+
+-- where an amount has room the check of the bound passes
+pub grants : (A : Ledger) (n : Name) (e : FieldEntry) (w : Way) (q : ℕ) → IsUpToDate A (n, e) → field_named A n ≡ Some (field_of (n, e)) → HasRoom w e.quantity q → BreaksBound w A n q → ⊥
+grants A n e Take q up there room breaks =
     let f : Field = field_of (n, e) in
-    let inf = ap (λ (r : FieldCells). r.inf) up in
-    let least = (safe (e.quantity.held_to_take + q) 0 (omega arith) (omega arith)).0 in
+    let numbers = numbers_up A n e up in
     let below : ((settled A f -ℤ held_to_take A n) -ℤ pos q) <ℤ pos e.quantity.lo = subst (λ (o : Option Field). IsSomeAnd o (λ f. ((settled A f -ℤ held_to_take A f.name) -ℤ pos q) <ℤ pos f.lo)) there breaks in
     omega (arith, ints)
-grants A n e Add q up there safe breaks =
+grants A n e Add q up there room breaks =
     let f : Field = field_of (n, e) in
-    let sup = ap (λ (r : FieldCells). r.sup) up in
-    let greatest = (safe 0 (e.quantity.held_to_add + q) (omega arith) (omega arith)).1 in
+    let numbers = numbers_up A n e up in
     let above : pos e.quantity.hi <ℤ ((settled A f +ℤ held_to_add A n) +ℤ pos q) = subst (λ (o : Option Field). IsSomeAnd o (λ f. pos f.hi <ℤ ((settled A f +ℤ held_to_add A f.name) +ℤ pos q))) there breaks in
     omega (arith, ints)
 
--- and one that it refuses breaks one
-pub refuses : (A : Ledger) (n : Name) (e : FieldEntry) (way : Way) (q : ℕ) → Good A → IsUpToDate A (n, e) → field_named A n ≡ Some (field_of (n, e)) → (IsSafeStock (holding e.quantity way q) → ⊥) → BreaksBound way A n q
+-- what a field that is up to date grants where the bound is not broken
+pub refuses : (A : Ledger) (n : Name) (e : FieldEntry) (way : Way) (q : ℕ) → Good A → IsUpToDate A (n, e) → field_named A n ≡ Some (field_of (n, e)) → (IsSafeStock (holding e.quantity way q) × IsSafeMoved e.quantity way q → ⊥) → BreaksBound way A n q
 refuses A n e Take q good up there unsafe =
     let f : Field = field_of (n, e) in
-    let here = Contains-of_find (λ g. same_name n g.name) A.fields f there in
-    let r = each-at _ A.fields here.0 f here.1 (sym here.2) (in_order A good) in
-    let inf = ap (λ (r : FieldCells). r.inf) up in
-    let sup = ap (λ (r : FieldCells). r.sup) up in
+    let r = bounds_at A f good (Contains-of_find (λ g. same_name n g.name) A.fields f there) in
+    let numbers = numbers_up A n e up in
     subst (λ (o : Option Field). IsSomeAnd o (λ f. ((settled A f -ℤ held_to_take A f.name) -ℤ pos q) <ℤ pos f.lo)) (sym there)
-    (not_above (pos e.quantity.lo) ((settled A f -ℤ held_to_take A n) -ℤ pos q) (λ low. unsafe (λ taken added t a. (omega (arith, ints), omega (arith, ints)))))
+    (not_above (pos e.quantity.lo) ((settled A f -ℤ held_to_take A n) -ℤ pos q) (λ low. unsafe ((λ taken added t a. (omega (arith, ints), omega (arith, ints))), (λ taken added t a. (omega (arith, ints), omega (arith, ints))))))
 refuses A n e Add q good up there unsafe =
     let f : Field = field_of (n, e) in
-    let here = Contains-of_find (λ g. same_name n g.name) A.fields f there in
-    let r = each-at _ A.fields here.0 f here.1 (sym here.2) (in_order A good) in
-    let inf = ap (λ (r : FieldCells). r.inf) up in
-    let sup = ap (λ (r : FieldCells). r.sup) up in
+    let r = bounds_at A f good (Contains-of_find (λ g. same_name n g.name) A.fields f there) in
+    let numbers = numbers_up A n e up in
     subst (λ (o : Option Field). IsSomeAnd o (λ f. pos f.hi <ℤ ((settled A f +ℤ held_to_add A f.name) +ℤ pos q))) (sym there)
-    (not_above ((settled A f +ℤ held_to_add A n) +ℤ pos q) (pos e.quantity.hi) (λ high. unsafe (λ taken added t a. (omega (arith, ints), omega (arith, ints)))))
+    (not_above ((settled A f +ℤ held_to_add A n) +ℤ pos q) (pos e.quantity.hi) (λ high. unsafe ((λ taken added t a. (omega (arith, ints), omega (arith, ints))), (λ taken added t a. (omega (arith, ints), omega (arith, ints))))))
 
 -- ---- rows of entries
 
@@ -132,9 +152,3 @@ new_field A B n lo hi start good none same_moves same_orders = grind (arith, add
 
     value : pos start ≡ (pos start +ℤ total (λ m. if same_name n m.field then m.amount else pos 0) A.moves) +ℤ total (λ o. if is_settled o then moved_by n (λ l. l.used) o else pos 0) A.orders
     value = let m = moves in let u = used in omega (arith, ints)
-
--- ---- what a good ledger's field keeps to
-
-pub bounds_at : (A : Ledger) (f : Field) → Good A → Contains A.fields f
-    → (pos f.lo ≤ℤ (settled A f -ℤ held_to_take A f.name)) × ((settled A f -ℤ held_to_take A f.name) ≤ℤ settled A f) × (settled A f ≤ℤ (settled A f +ℤ held_to_add A f.name)) × ((settled A f +ℤ held_to_add A f.name) ≤ℤ pos f.hi) × (f.hi ≤ 1000000000)
-bounds_at A f good there = each-at _ A.fields there.0 f there.1 (sym there.2) (in_order A good)

@@ -1,5 +1,5 @@
 -- What becomes of a field's stock, as an accepted command changes an order's line on it.
-use Rattle.book.proofs.Prelude.{[], ◌++◌, ◌+ℤ◌, ◌+◌, ◌-ℤ◌, ◌-◌, ◌<◌, ◌==◌, ◌||◌, ◌∙◌, ◌∷◌, ◌≡◌, ◌≤ℤ◌, ◌≤◌, Aborted, Add, Becomes, Bool, Command, Contains, Each, Field, FieldCells, FieldEntry, FirstFailure, Good, IsAccepted, IsFalse, IsGoodLine, IsGoodOrder, IsInRange, IsQty, IsSafeMoved, IsSomeAnd, IsTrue, IsUpToDate, Ledger, Line, List, MatchOption, MayBecome, Move, Name, None, Numbers, Open, OpenLine, Option, Order, Request, Share, Some, State, Stock, Take, Way, accept, add_hold, added_part, ap, arith, change_lines, checks, common_steps, entry_row, false, field_of, field_row, find, held_of, held_to_add, held_to_take, hold_more, holding, if_add, if_take, if◌then◌else◌, ints, is_open, is_settled, is_some, is_touched, is_transfer, line_name, line_on, lower_held, map, moved_by_command, moved_part, name_of, new_line, next, on, open_state, option_map, option_map_or, order_after, order_number, order_numbered, pos, raise_held, raise_used, refl, same_name, set_state, settled, settled_state, share_numbers, share_of, share_on, signed, some_part, subst, sym, taken_part, total, transfer_lines, true, true≢false, unsettled, ℕ, ℤ}
+use Rattle.book.proofs.Prelude.{AsksNoStock, [], ◌++◌, ◌+ℤ◌, ◌+◌, ◌-ℤ◌, ◌-◌, ◌<◌, ◌==◌, ◌||◌, ◌∙◌, ◌∷◌, ◌≡◌, ◌≤ℤ◌, ◌≤◌, Aborted, Add, Becomes, Bool, Command, Contains, Each, Field, FieldCells, FieldEntry, FirstFailure, Good, IsAccepted, IsFalse, IsGoodLine, IsGoodOrder, IsInRange, IsQty, IsSafeMoved, IsSomeAnd, IsTrue, IsUpToDate, Ledger, Line, List, MatchOption, MayBecome, Move, Name, None, Numbers, Open, OpenLine, Option, Order, Request, Share, Some, State, Stock, Take, Way, accept, add_hold, added_part, ap, arith, change_lines, checks, common_steps, entry_row, false, field_of, field_row, find, held_of, held_to_add, held_to_take, hold_more, holding, if_add, if_take, if◌then◌else◌, ints, is_open, is_settled, is_some, is_touched, is_transfer, line_name, line_on, lower_held, map, moved_by_command, moved_part, name_of, new_line, next, on, open_state, option_map, option_map_or, order_after, order_number, order_numbered, pos, raise_held, raise_used, refl, same_name, set_state, settled, settled_state, share_numbers, share_of, share_on, signed, some_part, subst, sym, taken_part, total, transfer_lines, true, true≢false, unsettled, ℕ, ℤ}
 use Rattle.escrow.specs.Choices.{IsSafe}
 use Rattle.escrow.specs.Escrow.{moved, MovesValue}
 use Rattle.words.specs.declared.command.Command.TheVariants as command
@@ -8,7 +8,7 @@ use Rattle.book.proofs.Lists.{some_is, total-not_negative}
 use Rattle.book.proofs.Futures.{all_pass, one_on}
 use Rattle.book.proofs.Goodness.{quantities}
 use Rattle.book.proofs.CommandOrder.{each-found, left_out, made_there, none_opened, total-next, total_parts}
-use Rattle.book.proofs.RunningNumbers.{bounds_at, off}
+use Rattle.book.proofs.RunningNumbers.{numbers_up, off}
 use Rattle.book.proofs.Sums.{each, each-imp, each-map, total-eq, total-zero, least_if}
 use Rattle.book.proofs.OutcomeTests.{total-push}
 
@@ -86,13 +86,10 @@ no_share = record { settled = 0; held = 0 }
 abbrev some_share : State → Bool → Option Line → Share
 some_share s m x = option_map_or (share_of s m) x no_share
 
--- What is settled stays settled. Where more is held then, that is a quantity, and as much is settled; else what is settled
--- then was settled or held.
+-- What is settled stays settled, and what is settled then was settled or held.
 pub record Goes (before after : Share) : Type 0 where
   pub settled : before.settled ≤ after.settled
-  pub used : after.held ≤ before.held → after.settled + after.held ≤ before.settled + before.held
-  pub same : before.held < after.held → after.settled ≡ before.settled
-  pub qty : before.held < after.held → IsQty (after.held - before.held)
+  pub used : after.settled + after.held ≤ before.settled + before.held
 
 -- the line before, if there is one, has the way
 abbrev HasWay : Way → Option Line → Type 0
@@ -103,17 +100,9 @@ pub record LineGoes (x : Option Line) (before : Share) (l : Line) (after : Share
   pub way : HasWay l.way x
   pub goes : Goes before after
 
--- a line that is new
-fresh : (l : Line) → IsQty l.held → Goes no_share (share_of Open false l)
-fresh l range = record { settled = omega arith; used = λ h. omega arith; same = λ h. refl; qty = λ h. (omega arith, omega arith) }
-
 -- one that stays as it was
 stays : (s : Share) → Goes s s
-stays s = record { settled = omega arith; used = λ h. omega arith; same = λ h. refl; qty = λ h. absurd (omega arith) }
-
--- one of which more is held
-raised : (m b : Bool) (q : ℕ) (k : Line) → IsQty q → Goes (share_of Open m k) (share_of Open m (if b then raise_held q k else k))
-raised m b q k range = grind arith
+stays s = record { settled = omega arith; used = omega arith }
 
 -- one of which less is held
 lowered : (m b : Bool) (q : ℕ) (k : Line) → Goes (share_of Open m k) (share_of Open m (if b then lower_held q k else k))
@@ -122,10 +111,6 @@ lowered m b q k = grind arith
 -- one of which more is used
 used_more : (m b : Bool) (q : ℕ) (k : Line) → (if b then raise_used q k else k).used ≤ (if b then raise_used q k else k).held → Goes (share_of Open m k) (share_of Open m (if b then raise_used q k else k))
 used_more m b q k within = grind arith
-
--- a line of a new order
-new_goes : (f : Name) (ls : List OpenLine) (l : Line) → Each (λ l. IsQty l.qty) ls → find (on f) (map new_line ls) ≡ Some l → LineGoes None no_share l (share_of Open false l)
-new_goes f ls l range there = record { way = tt; goes = fresh l (each-found (λ l. IsQty l.held) (on f) l (map new_line ls) (each-map (λ l. IsQty l.held) new_line ls range) there) }
 
 -- a line that stays on its field, its way the same
 kept_goes : (f : Name) (g : Line → Line) (ls : List Line) (m n : Bool) (s : State) (l : Line) → ((k : Line) → on f (g k) ≡ on f k) → ((k : Line) → (g k).way ≡ k.way) → ((k : Line) → (g k).used ≤ (g k).held → Goes (share_of Open m k) (share_of s n (g k)))
@@ -141,15 +126,6 @@ on_kept f b g k e = grind arith
 way_kept : (b : Bool) (g : Line → Line) (k : Line) → (g k).way ≡ k.way → (if b then g k else k).way ≡ k.way
 way_kept b g k e = grind arith
 
--- one line more at the end
-pushed_goes : (f : Name) (ol : OpenLine) (ls : List Line) (l : Line) → IsQty ol.qty → find (on f) (ls ++ new_line ol ∷ []) ≡ Some l → LineGoes (find (on f) ls) (some_share Open false (find (on f) ls)) l (share_of Open false l)
-pushed_goes f ol [] l range there = new_goes f (ol ∷ []) l (range, tt) there
-pushed_goes f ol (k ∷ ls) l range there = by (on f k) there (λ h. pushed_goes f ol ls l range h)
-  where
-    by : (b : Bool) → (if b then Some k else find (on f) (ls ++ new_line ol ∷ [])) ≡ Some l → (find (on f) (ls ++ new_line ol ∷ []) ≡ Some l → LineGoes (find (on f) ls) (some_share Open false (find (on f) ls)) l (share_of Open false l))
-        → LineGoes (if b then Some k else find (on f) ls) (some_share Open false (if b then Some k else find (on f) ls)) l (share_of Open false l)
-    by b e more = grind arith
-
 pub state_is : (s : State) → open_state s ≡ true → Open ≡ s
 state_is c e = grind arith
 
@@ -164,53 +140,28 @@ each_goes : (f : Name) (g : Line → Line) (new p : Order) (l : Line) → ((k : 
     → find (on f) (map g p.lines) ≡ Some l → LineGoes (line_on p f) (some_share Open p.firm (line_on p f)) l (share_of p.state p.firm l)
 each_goes f g new p l keeps ways goes unended within there = subst (λ s. LineGoes (line_on p f) (some_share Open p.firm (line_on p f)) l (share_of s p.firm l)) (state_is p.state unended) (kept_goes f g p.lines p.firm p.firm Open l keeps ways goes there within)
 
-held_goes : (f : Name) (ol : OpenLine) (p : Order) (l : Line) → IsQty ol.qty → is_open p ≡ true → p.firm ≡ false → l.used ≤ l.held → ChangeGoes f (add_hold ol) p l
-held_goes f ol p l range unended loose within there = by (is_some (line_on p (line_name (new_line ol)))) there
-  where
-    by : (b : Bool) → find (on f) (if b then hold_more (line_name (new_line ol)) ol.qty p else record p { lines = p.lines ++ new_line ol ∷ [] }).lines ≡ Some l
-        → LineGoes (line_on p f) (some_share Open p.firm (line_on p f)) l (share_of (if b then hold_more (line_name (new_line ol)) ol.qty p else record p { lines = p.lines ++ new_line ol ∷ [] }).state (if b then hold_more (line_name (new_line ol)) ol.qty p else record p { lines = p.lines ++ new_line ol ∷ [] }).firm l)
-    by true h = each_goes f (λ x. if on (line_name (new_line ol)) x then raise_held ol.qty x else x) p p l (λ k. on_kept f (on (line_name (new_line ol)) k) (raise_held ol.qty) k refl) (λ k. way_kept (on (line_name (new_line ol)) k) (raise_held ol.qty) k refl)
-        (λ k within. raised p.firm (on (line_name (new_line ol)) k) ol.qty k range) unended within h
-    by false h = subst (λ m. LineGoes (line_on p f) (some_share Open m (line_on p f)) l (share_of p.state m l)) (sym loose) (subst (λ s. LineGoes (line_on p f) (some_share Open false (line_on p f)) l (share_of s false l)) (state_is p.state unended) (pushed_goes f ol p.lines l range h))
-
 -- what an order under the number becomes
 changed_goes : (A : Ledger) (n : ℕ) (f : Name) (change : Order → Order) (o : Order) (l : Line) → IsBefore f (order_numbered A n) → ((p : Order) → order_numbered A n ≡ Some p → is_open p ≡ true → ChangeGoes f change p l)
     → option_map change (order_numbered A n) ≡ Some o → find (on f) o.lines ≡ Some l → LineGoes (line_before (order_numbered A n) f) (share_on (order_numbered A n) f) l (share_of o.state o.firm l)
 changed_goes A n f change o l is goes e there = grind arith
 
-opened_goes : (f : Name) (new o : Order) (ls : List OpenLine) (l : Line) (x : Option Order) → x ≡ None → new.lines ≡ map new_line ls → new.state ≡ Open → new.firm ≡ false → Each (λ l. IsQty l.qty) ls → Some new ≡ Some o → find (on f) o.lines ≡ Some l
-    → LineGoes (line_before x f) (share_on x f) l (share_of o.state o.firm l)
-opened_goes f new o ls l x none lines state firm range e there = grind (arith, some_is, line_before, no_share, new_goes)
+-- a part of what the order's lines hold changes
+part_goes : (A : Ledger) (m n : ℕ) (f h : Name) (g : Line → Line) (o : Order) (l : Line) → ((k : Line) → on f (g k) ≡ on f k) → ((k : Line) → (g k).way ≡ k.way) → ((m b : Bool) (k : Line) → (if b then g k else k).used ≤ (if b then g k else k).held → Goes (share_of Open m k) (share_of Open m (if b then g k else k))) → m ≡ n → IsBefore f (order_numbered A n)
+    → option_map (change_lines h g) (order_numbered A m) ≡ Some o → find (on f) o.lines ≡ Some l → l.used ≤ l.held → LineGoes (line_before (order_numbered A n) f) (share_on (order_numbered A n) f) l (share_of o.state o.firm l)
+part_goes A m n f h g o l keeps ways goes e is made there within =
+    changed_goes A n f (change_lines h g) o l is
+    (λ p k unended. each_goes f (λ x. if is_transfer p || on h x then g x else x) p p l (λ x. on_kept f (is_transfer p || on h x) g x (keeps x)) (λ x. way_kept (is_transfer p || on h x) g x (ways x)) (λ x within. goes p.firm (is_transfer p || on h x) x within) unended within)
+    (subst (λ k. option_map (change_lines h g) (order_numbered A k) ≡ Some o) e made) there
 
--- the order that is found is not firm
-loose : (x : Option Order) (p : Order) → (IsSomeAnd x (λ o. IsTrue o.firm) → ⊥) → x ≡ Some p → p.firm ≡ false
-loose x p not is = grind arith
-
-pub line_goes : (A : Ledger) (c : Command) (n : ℕ) (f : Name) (o : Order) (l : Line) → IsInRange c → FirstFailure (checks A c) None → order_number c ≡ Some n → IsBefore f (order_numbered A n) → order_after A c ≡ Some o → find (on f) o.lines ≡ Some l → l.used ≤ l.held
+pub line_goes : (A : Ledger) (c : Command) (n : ℕ) (f : Name) (o : Order) (l : Line) → AsksNoStock c → FirstFailure (checks A c) None → order_number c ≡ Some n → IsBefore f (order_numbered A n) → order_after A c ≡ Some o → find (on f) o.lines ≡ Some l → l.used ≤ l.held
     → LineGoes (line_before (order_numbered A n) f) (share_on (order_numbered A n) f) l (share_of o.state o.firm l)
-line_goes A (command.Open m until lines) n f o l range h e is made there within = opened_goes f _ o lines l (order_numbered A n) (none_opened A (command.Open m until lines) n h e refl) refl refl refl (quantities lines range.2) made there
-line_goes A (command.Transfer m until a from to q) n f o l range h e is made there within = opened_goes f _ o (transfer_lines a from to q) l (order_numbered A n) (none_opened A (command.Transfer m until a from to q) n h e refl) refl refl refl (range.5, (range.5, tt)) made there
-line_goes A (command.More m way b a q) n f o l range h e is made there within = at m (some_is m n e) (all_pass (checks A (command.More m way b a q)) h).1.1.1.0 made
-  where
-    ol : OpenLine
-    ol = record { way = way; branch = b; article = a; qty = q }
-
-    at : (m : ℕ) → m ≡ n → (IsSomeAnd (order_numbered A m) (λ o. IsTrue o.firm) → ⊥) → option_map (add_hold ol) (order_numbered A m) ≡ Some o → LineGoes (line_before (order_numbered A n) f) (share_on (order_numbered A n) f) l (share_of o.state o.firm l)
-    at m e not made = changed_goes A n f (add_hold ol) o l is (λ p k unended. held_goes f ol p l range.3 unended (loose (order_numbered A n) p (subst (λ m. IsSomeAnd (order_numbered A m) (λ o. IsTrue o.firm) → ⊥) e not) k) within) (subst (λ k. option_map (add_hold ol) (order_numbered A k) ≡ Some o) e made) there
-line_goes A (command.Use m b a q) n f o l range h e is made there within =
-    changed_goes A n f (change_lines (name_of b a) (raise_used q)) o l is
-    (λ p k unended. each_goes f (λ x. if is_transfer p || on (name_of b a) x then raise_used q x else x) p p l (λ x. on_kept f (is_transfer p || on (name_of b a) x) (raise_used q) x refl) (λ x. way_kept (is_transfer p || on (name_of b a) x) (raise_used q) x refl)
-    (λ x within. used_more p.firm (is_transfer p || on (name_of b a) x) q x within) unended within)
-    (subst (λ k. option_map (change_lines (name_of b a) (raise_used q)) (order_numbered A k) ≡ Some o) (some_is m n e) made) there
-line_goes A (command.Release m b a q) n f o l range h e is made there within =
-    changed_goes A n f (change_lines (name_of b a) (lower_held q)) o l is
-    (λ p k unended. each_goes f (λ x. if is_transfer p || on (name_of b a) x then lower_held q x else x) p p l (λ x. on_kept f (is_transfer p || on (name_of b a) x) (lower_held q) x refl) (λ x. way_kept (is_transfer p || on (name_of b a) x) (lower_held q) x refl)
-    (λ x within. lowered p.firm (is_transfer p || on (name_of b a) x) q x) unended within)
-    (subst (λ k. option_map (change_lines (name_of b a) (lower_held q)) (order_numbered A k) ≡ Some o) (some_is m n e) made) there
-line_goes A (command.Commit m) n f o l range h e is made there within = grind arith
-line_goes A (command.Abort m) n f o l range h e is made there within = grind arith
-line_goes A (command.Firm m) n f o l range h e is made there within = grind arith
-line_goes A c n f o l range h e is made there within = absurd (true≢false (sym (ap is_some e)))
+line_goes A (command.Use m b a q) n f o l asks h e is made there within = part_goes A m n f (name_of b a) (raise_used q) o l (λ k. refl) (λ k. refl) (λ m b k within. used_more m b q k within) (some_is m n e) is made there within
+line_goes A (command.Release m b a q) n f o l asks h e is made there within = part_goes A m n f (name_of b a) (lower_held q) o l (λ k. refl) (λ k. refl) (λ m b k within. lowered m b q k) (some_is m n e) is made there within
+line_goes A (command.Commit m) n f o l asks h e is made there within = grind arith
+line_goes A (command.Abort m) n f o l asks h e is made there within = grind arith
+line_goes A (command.Firm m) n f o l asks h e is made there within = grind arith
+line_goes A (command.Expire now) n f o l asks h e is made there within = absurd (true≢false (sym (ap is_some e)))
+line_goes A c n f o l asks h e is made there within = absurd asks
 
 -- ---- what the order adds before and after
 
@@ -259,19 +210,19 @@ record Changes (A B : Ledger) (fld : Field) (before after : Numbers) : Type 0 wh
 made_line : (A : Ledger) (r : Request) (n : ℕ) (o : Order) → Good (accept A r) → IsAccepted A r → order_number r.command ≡ Some n → order_after A r.command ≡ Some o → IsGoodOrder (accept A r) o
 made_line A r n o after ok number made = each-found (IsGoodOrder (accept A r)) (λ o. o.number == n) o (accept A r).orders after.orders (made_there A r.command n ok.1 number ∙ made)
 
-goes_of : (A : Ledger) (r : Request) (n : ℕ) (o : Order) (f : Name) (l : Line) → Good A → Good (accept A r) → IsAccepted A r → IsInRange r.command → order_number r.command ≡ Some n → order_after A r.command ≡ Some o → find (on f) o.lines ≡ Some l
+goes_of : (A : Ledger) (r : Request) (n : ℕ) (o : Order) (f : Name) (l : Line) → Good A → Good (accept A r) → IsAccepted A r → AsksNoStock r.command → order_number r.command ≡ Some n → order_after A r.command ≡ Some o → find (on f) o.lines ≡ Some l
     → LineGoes (line_before (order_numbered A n) f) (share_on (order_numbered A n) f) l (share_of o.state o.firm l)
-goes_of A r n o f l good after ok range number made there =
+goes_of A r n o f l good after ok asks number made there =
     let line = each-found (IsGoodLine (accept A r)) (on f) l o.lines (made_line A r n o after ok number made).lines there in
-    line_goes A r.command n f o l range ok.1 number (before A r.command n f good ok.1 number) made there line.used
+    line_goes A r.command n f o l asks ok.1 number (before A r.command n f good ok.1 number) made there line.used
 
-changes : (A : Ledger) (r : Request) (n : ℕ) (o : Order) (fld : Field) (l : Line) → Good A → Good (accept A r) → IsAccepted A r → IsInRange r.command → order_number r.command ≡ Some n → order_after A r.command ≡ Some o → find (on fld.name) o.lines ≡ Some l
+changes : (A : Ledger) (r : Request) (n : ℕ) (o : Order) (fld : Field) (l : Line) → Good A → Good (accept A r) → IsAccepted A r → AsksNoStock r.command → order_number r.command ≡ Some n → order_after A r.command ≡ Some o → find (on fld.name) o.lines ≡ Some l
     → Changes A (accept A r) fld (share_numbers l.way (share_on (order_numbered A n) fld.name)) (share_numbers l.way (share_of o.state o.firm l))
-changes A r n o fld l good after ok range number made there =
+changes A r n o fld l good after ok asks number made there =
     let f = fld.name in
     let c = r.command in
     let x = order_numbered A n in
-    let goes = goes_of A r n o f l good after ok range number made there in
+    let goes = goes_of A r n o f l good after ok asks number made there in
     let was = parts_before f l.way x (before A c n f good ok.1 number) goes.way in
     let one = one_on f o.lines (made_line A r n o after ok number made).apart in
     let is = subst (λ (y : Option Order). PartsAre f y (share_numbers l.way (share_of o.state o.firm l))) (sym made) (parts_after f o l one there) in
@@ -290,18 +241,24 @@ pub entry_is : (B : Ledger) (f : Name) (e : FieldEntry) (new : Stock) → new.lo
     → entry_row (f, record { start = e.start; quantity = new }) ≡ field_row B (field_of (f, e))
 entry_is B f e new lo hi value takes adds = cc
 
+-- with so much more held the one way, the sums are those of the other ledger
+abbrev pub HoldsMore : Ledger → Ledger → Field → Way → ℕ → Type 0
+HoldsMore A B f w q = (settled B f ≡ settled A f) × (held_to_take B f.name ≡ held_to_take A f.name +ℤ pos (if_take w q)) × (held_to_add B f.name ≡ held_to_add A f.name +ℤ pos (if_add w q))
+
+pub holding_row : (A B : Ledger) (f : Name) (e : FieldEntry) (w : Way) (q : ℕ) → IsUpToDate A (f, e) → HoldsMore A B (field_of (f, e)) w q → entry_row (f, record { start = e.start; quantity = holding e.quantity w q }) ≡ field_row B (field_of (f, e))
+holding_row A B f e Take q up more = let n = numbers_up A f e up in entry_is B f e (holding e.quantity Take q) refl refl (omega (arith, ints)) (omega (arith, ints)) (omega (arith, ints))
+holding_row A B f e Add q up more = let n = numbers_up A f e up in entry_is B f e (holding e.quantity Add q) refl refl (omega (arith, ints)) (omega (arith, ints)) (omega (arith, ints))
+
 -- with its line changed, the field is that of the next ledger
-pub stock_changed : (A : Ledger) (r : Request) (n : ℕ) (o : Order) (f : Name) (e : FieldEntry) (l : Line) (new : Stock) → Good A → Good (accept A r) → IsAccepted A r → IsInRange r.command → order_number r.command ≡ Some n → order_after A r.command ≡ Some o
+pub stock_changed : (A : Ledger) (r : Request) (n : ℕ) (o : Order) (f : Name) (e : FieldEntry) (l : Line) (new : Stock) → Good A → Good (accept A r) → IsAccepted A r → AsksNoStock r.command → order_number r.command ≡ Some n → order_after A r.command ≡ Some o
     → IsUpToDate A (f, e) → find (on f) o.lines ≡ Some l → Becomes e.quantity (share_numbers l.way (share_on (order_numbered A n) f)) (share_numbers l.way (share_of o.state o.firm l)) new → entry_row (f, record { start = e.start; quantity = new }) ≡ field_row (accept A r) (field_of (f, e))
-stock_changed A r n o f e l new good after ok range number made up there becomes =
-    let sums = changes A r n o (field_of (f, e)) l good after ok range number made there in
+stock_changed A r n o f e l new good after ok asks number made up there becomes =
+    let sums = changes A r n o (field_of (f, e)) l good after ok asks number made there in
     stock_row A (accept A r) f e new (share_numbers l.way (share_on (order_numbered A n) f)) (share_numbers l.way (share_of o.state o.firm l)) up sums becomes
   where
     stock_row : (A B : Ledger) (f : Name) (e : FieldEntry) (new : Stock) (was is : Numbers) → IsUpToDate A (f, e) → Changes A B (field_of (f, e)) was is → Becomes e.quantity was is new → entry_row (f, record { start = e.start; quantity = new }) ≡ field_row B (field_of (f, e))
     stock_row A B f e new was is up sums becomes =
-        let value = ap (λ (row : FieldCells). row.value) up in
-        let inf = ap (λ (row : FieldCells). row.inf) up in
-        let sup = ap (λ (row : FieldCells). row.sup) up in
+        let n = numbers_up A f e up in
         let adds_sum = sums.adds in
         let value_is = becomes.value in
         let takes_is = becomes.takes in
@@ -311,40 +268,15 @@ stock_changed A r n o f e l new good after ok range number made up there becomes
 held_there : (A : Ledger) (n : ℕ) (f : Name) (e : FieldEntry) (w : Way) → Good A → IsUpToDate A (f, e) → PartsAre f (order_numbered A n) (share_numbers w (share_on (order_numbered A n) f)) → (share_on (order_numbered A n) f).held ≤ held_of e.quantity w
 held_there A n f e w good up parts = grind (arith, (total_most (taken_part f) (λ o. least_if (is_open o) _ (takes-not_negative o.firm f o.lines)) A n good), (total_most (added_part f) (λ o. least_if (is_open o) _ (adds-not_negative o.firm f o.lines)) A n good))
 
--- what is held more is safe, since the next ledger is
-more_safe : (A B : Ledger) (f : Name) (e : FieldEntry) (w : Way) (was is : Share) → Good B → Contains B.fields (field_of (f, e)) → IsUpToDate A (f, e) → Changes A B (field_of (f, e)) (share_numbers w was) (share_numbers w is) → is.settled ≡ was.settled → was.held < is.held → was.held ≤ held_of e.quantity w → IsSafe (holding e.quantity w (is.held - was.held))
-more_safe A B f e Take was is good there up sums same more within taken added t a =
-    let bounds = bounds_at B (field_of (f, e)) good there in
-    let inf = ap (λ (row : FieldCells). row.inf) up in
-    let sup = ap (λ (row : FieldCells). row.sup) up in
-    let value_sum = sums.value in
-    let takes_sum = sums.takes in
-    let adds_sum = sums.adds in
-    (omega (arith, ints), omega (arith, ints))
-more_safe A B f e Add was is good there up sums same more within taken added t a =
-    let bounds = bounds_at B (field_of (f, e)) good there in
-    let inf = ap (λ (row : FieldCells). row.inf) up in
-    let sup = ap (λ (row : FieldCells). row.sup) up in
-    let value_sum = sums.value in
-    let takes_sum = sums.takes in
-    let adds_sum = sums.adds in
-    (omega (arith, ints), omega (arith, ints))
-
 -- the line of the field may change so
-pub stock_may : (A : Ledger) (r : Request) (n : ℕ) (o : Order) (f : Name) (e : FieldEntry) (l : Line) → Good A → Good (accept A r) → IsAccepted A r → IsInRange r.command → order_number r.command ≡ Some n → order_after A r.command ≡ Some o
-    → IsUpToDate A (f, e) → Contains (accept A r).fields (field_of (f, e)) → find (on f) o.lines ≡ Some l → MayBecome e.quantity l.way (share_on (order_numbered A n) f) (share_of o.state o.firm l)
-stock_may A r n o f e l good after ok range number made up there found =
-    let line = goes_of A r n o f l good after ok range number made found in
-    let goes = line.goes in
-    let sums = changes A r n o (field_of (f, e)) l good after ok range number made found in
-    let within = held_there A n f e l.way good up (parts_before f l.way (order_numbered A n) (before A r.command n f good ok.1 number) line.way) in
+pub stock_may : (A : Ledger) (r : Request) (n : ℕ) (o : Order) (f : Name) (e : FieldEntry) (l : Line) → Good A → Good (accept A r) → IsAccepted A r → AsksNoStock r.command → order_number r.command ≡ Some n → order_after A r.command ≡ Some o
+    → IsUpToDate A (f, e) → find (on f) o.lines ≡ Some l → MayBecome e.quantity l.way (share_on (order_numbered A n) f) (share_of o.state o.firm l)
+stock_may A r n o f e l good after ok asks number made up found =
+    let line = goes_of A r n o f l good after ok asks number made found in
     record {
-      there = within;
-      settled = goes.settled;
-      used = goes.used;
-      same = goes.same;
-      qty = goes.qty;
-      safe = λ more. more_safe A (accept A r) f e l.way (share_on (order_numbered A n) f) (share_of o.state o.firm l) after there up sums (goes.same more) more within;
+      there = held_there A n f e l.way good up (parts_before f l.way (order_numbered A n) (before A r.command n f good ok.1 number) line.way);
+      settled = line.goes.settled;
+      used = line.goes.used;
     }
 
 -- ---- a delivery or a write-off
@@ -353,12 +285,6 @@ stock_may A r n o f e l good after ok range number made up there found =
 pub value_moved : (A B : Ledger) (f : Name) (e : FieldEntry) (w : Way) (q : ℕ) (new : Stock) → IsUpToDate A (f, e) → settled B (field_of (f, e)) ≡ moved w q (settled A (field_of (f, e))) → held_to_take B f ≡ held_to_take A f → held_to_add B f ≡ held_to_add A f
     → MovesValue e.quantity w q new → entry_row (f, record { start = e.start; quantity = new }) ≡ field_row B (field_of (f, e))
 value_moved A B f e w q new up value takes adds moves = grind (arith, common_steps, entry_is, e.quantity.held_to_take, e.quantity.held_to_add, moves.others, moves.value)
-
--- it may be moved, since the next ledger is safe
-pub value_may : (A B : Ledger) (f : Name) (e : FieldEntry) (w : Way) (q : ℕ) → Good B → Contains B.fields (field_of (f, e)) → IsUpToDate A (f, e) → settled B (field_of (f, e)) ≡ moved w q (settled A (field_of (f, e))) → held_to_take B f ≡ held_to_take A f → held_to_add B f ≡ held_to_add A f
-    → IsSafeMoved e.quantity w q
-value_may A B f e Take q good there up value takes adds taken added t a = grind (arith, ints, common_steps, (bounds_at B (field_of (f, e)) good there))
-value_may A B f e Add q good there up value takes adds taken added t a = grind (arith, common_steps, (bounds_at B (field_of (f, e)) good there))
 
 moved_is : (w : Way) (q : ℕ) (z : ℤ) → z +ℤ signed w q ≡ moved w q z
 moved_is w q z = grind arith

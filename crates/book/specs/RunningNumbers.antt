@@ -83,15 +83,11 @@ pub record Becomes (old : Stock) (before after : Numbers) (new : Stock) : Type 0
   pub takes : pos new.held_to_take ≡ ((pos old.held_to_take -ℤ before.takes) +ℤ after.takes)
   pub adds : pos new.held_to_add ≡ ((pos old.held_to_add -ℤ before.adds) +ℤ after.adds)
 
--- So much is held; where more is held then, it is a quantity that may be held, and as much is settled; else what is
--- settled then was settled or held.
+-- So much is held, and what is settled then was settled or held.
 pub record MayBecome (old : Stock) (way : Way) (before after : Share) : Type 0 where
   pub there : before.held ≤ held_of old way
   pub settled : before.settled ≤ after.settled
-  pub used : after.held ≤ before.held → after.settled + after.held ≤ before.settled + before.held
-  pub same : before.held < after.held → after.settled ≡ before.settled
-  pub qty : before.held < after.held → IsQty (after.held - before.held)
-  pub safe : before.held < after.held → IsSafe (holding old way (after.held - before.held))
+  pub used : after.settled + after.held ≤ before.settled + before.held
 
 -- ---- the fields that a request changes
 
@@ -124,22 +120,7 @@ pub record Puts (A : Ledger) (r : Request) (n : Name) (old new : List (Name × F
   pub changed : IsChangedField A r (n, entry)
   pub put : new ≡ insert_entry name_cmp old n entry
 
--- the request moves the value of the field, and nothing else of it
-pub record MovesField (A : Ledger) (r : Request) (n : Name) (w : Way) (q : ℕ) : Type 0 where
-  pub accepts : Accepts A r
-  pub there : IsSome (field_named A n)
-  pub fields : (accept A r).fields ≡ A.fields
-  pub changes : changes_field A r.command n ≡ true
-  pub value : (f : Field) → f.name ≡ n → settled (accept A r) f ≡ moved w q (settled A f)
-  pub takes : held_to_take (accept A r) n ≡ held_to_take A n
-  pub adds : held_to_add (accept A r) n ≡ held_to_add A n
-
--- each field of a line of the order that the request changes is there, and nothing else
-pub record HasLines (A : Ledger) (r : Request) (ls : List Line) (entries : List (Name × FieldEntry)) : Type 0 where
-  pub each : Each (IsChangedField A r) entries
-  pub all : Each (λ l. changes_field A r.command (line_name l) ≡ true → HasEntry entries (line_name l)) ls
-
--- ---- what orders that end give back
+-- ---- what lines give back or hold
 
 -- what the lines hold on a field to take, and to add
 abbrev pub lines_take : Name → List Line → ℤ
@@ -148,16 +129,16 @@ lines_take f ls = total (λ l. if on f l then pos (if_take l.way l.held) else po
 abbrev pub lines_add : Name → List Line → ℤ
 lines_add f ls = total (λ l. if on f l then pos (if_add l.way l.held) else pos 0) ls
 
--- the entry is that of a field of the ledger, with what these lines hold given back
-pub record GivenBack (A : Ledger) (ls : List Line) (e : Name × FieldEntry) : Type 0 where
+-- the entry is that of a field of the ledger, with what these lines hold given back, or else held too
+pub record Counts (sum : ℤ → ℤ → ℤ) (A : Ledger) (ls : List Line) (e : Name × FieldEntry) : Type 0 where
   pub there : find (λ g. same_name e.0 g.name) A.fields ≡ Some (field_of e)
   pub value : pos e.1.quantity.value ≡ settled A (field_of e)
-  pub takes : pos e.1.quantity.held_to_take ≡ (held_to_take A e.0 -ℤ lines_take e.0 ls)
-  pub adds : pos e.1.quantity.held_to_add ≡ (held_to_add A e.0 -ℤ lines_add e.0 ls)
+  pub takes : pos e.1.quantity.held_to_take ≡ sum (held_to_take A e.0) (lines_take e.0 ls)
+  pub adds : pos e.1.quantity.held_to_add ≡ sum (held_to_add A e.0) (lines_add e.0 ls)
 
--- the entries are those of the fields of these lines, with what they hold given back
-pub record GivesBack (A : Ledger) (ls : List Line) (entries : List (Name × FieldEntry)) : Type 0 where
-  pub each : Each (GivenBack A ls) entries
+-- the entries are those of the fields of these lines, with what they hold given back, or else held too
+pub record CountsAll (sum : ℤ → ℤ → ℤ) (A : Ledger) (ls : List Line) (entries : List (Name × FieldEntry)) : Type 0 where
+  pub each : Each (Counts sum A ls) entries
   pub all : (n : Name) → is_some (lookup (is_at (name_cmp n)) entries) ≡ list_any (on n) ls
 
 -- so much is held

@@ -1,30 +1,38 @@
-//! Which check of a command fails first.
+//! Which check of a command fails first, or else which fields the command changes, as they are then.
 
 ghost use Rattle.std.specs.Bool.{OnTrue};
-ghost use Rattle.std.specs.Prelude.{◌≡◌, ℕ, None, Some, IfOk, IsFalse, IsSome, IsTrue, MatchResult, [], find, is_some, map, ◌++◌, ◌+◌, ◌≤◌, ◌<◌, ◌↔◌};
+ghost use Rattle.std.specs.Prelude.{◌≡◌, ℕ, None, Some, IfOk, IsFalse, IsSome, IsSomeAnd, IsTrue, ◌∷◌, [], find, is_some, map, ◌++◌, ◌+◌, ◌≤◌, ◌<◌, ◌↔◌, ◌+ℤ◌};
 ghost use Rattle.words.specs.Kinds.{is_change, is_opening};
-ghost use Rattle.words.specs.declared.command.Command.TheVariants.{Expire, Field, More};
 ghost use Rattle.words.specs.declared.command.Command.TheVariants as command;
 ghost use Rattle.book.specs.After.{moved_at_once};
-ghost use Rattle.book.specs.Answers.{FirstFailure, bounds_checks, checks, loose_checks, open_checks, order_checks, part_checks, line_checks};
-ghost use Rattle.book.specs.Checking.{hold_checks, bound_checks, refusal_of, stock_checks};
+ghost use Rattle.book.specs.Answers.{bounds_checks, checks, loose_checks, no_field, open_checks, order_checks, part_checks, line_checks};
+ghost use Rattle.book.specs.Checking.{Finds, IsFound, bound_checks, hold_checks, refusal_of};
 ghost use Rattle.book.specs.Ledger.{is_open, order_numbered, name_of, Ledger, Name, field_named, on, open_orders, places};
 ghost use Rattle.book.specs.Model.{order_of, field_of};
-ghost use Rattle.escrow.specs.Escrow.{bound_of};
+ghost use Rattle.escrow.specs.Escrow.{bound_of, bounded, holding};
 ghost use Rattle.book.specs.Good.{Good};
 ghost use Rattle.book.specs.Next.{new_line, new_order};
-ghost use Rattle.book.specs.RunningNumbers.{IsUpToDate};
+ghost use Rattle.book.specs.RunningNumbers.{CountsAll, IsUpToDate};
 ghost use Rattle.book.specs.declared.order.Kind.{Kind};
 
-use super::plan::{moved_at_once, name_of, transfer_lines};
+use super::fields::{Fields, one_field, with_field};
+use super::plan::{moved_at_once, transfer_lines};
 use super::{Book, FieldEntry};
 use crate::limits::{MAX_FIELDS, MAX_ORDERS, MAX_PLACES};
 use crate::order::{Kind, OrderEntry, State, line_in};
-use escrow::{Article, Bound, Branch, FieldName, Level, Moment, OrderNo, Qty, Rebound, Way};
-use words::{Command, MAX_ORDER_LINES, OpenLine, Refusal};
+use escrow::{
+    Article, Bound, Branch, FieldName, Level, Moment, OrderNo, Qty, Quantity, Rebound, Way,
+};
+use index::InOrder;
+use std::alloc::Global;
+use words::{Command, MAX_ORDER_LINES, Memory, OpenLine, Refusal};
 
 /// A refusal, with the number of the line at fault, from 1; 0 where no line is.
 type Failure = (Refusal, u64);
+
+/// The fields that a command makes or changes, as they are then, or that memory for them was refused; nothing of a
+/// command that asks for no stock.
+pub(super) type Found = Option<Result<Fields, Memory>>;
 
 impl Book {
     /// Whether so many more places do not fit.
@@ -35,9 +43,10 @@ impl Book {
         self.kept.len() + self.open_count + more > MAX_PLACES
     }
 
-    /// The refusal and the line of the first check of the command that fails, or `None`. Takes no memory.
-    pub(super) fn check(&self, command: &Command) -> Option<Failure>
-        ensures { FirstFailure (checks self.now.ledger command.now) result }
+    /// The refusal and the line of the first check of the command that fails, or else what was found. No check fails for
+    /// want of memory.
+    pub(super) fn check(&self, alloc: Global, command: &Command) -> Result<Found, Failure>
+        ensures { Finds (checks self.now.ledger command.now) (IsFound self.now.ledger command.now) result }
     {
         match *command {
             Command::Field {
@@ -46,47 +55,53 @@ impl Book {
                 lo,
                 hi,
                 start,
-            } => self.check_field(&FieldName { branch, article }, lo, hi, start),
-            Command::Deliver { .. } | Command::Writeoff { .. } => self.check_moving(command),
+            } => self.check_field(alloc, &FieldName { branch, article }, lo, hi, start),
+            Command::Deliver { .. } | Command::Writeoff { .. } => self.check_moving(alloc, command),
             Command::Rebound {
                 branch,
                 article,
                 lo,
                 hi,
-            } => self.check_rebound(&FieldName { branch, article }, lo, hi),
-            Command::Open { .. } | Command::Transfer { .. } => self.check_opening(command),
-            Command::More { .. } => self.check_change(command),
-            Command::Use { .. } | Command::Release { .. } => self.check_change(command),
+            } => self.check_rebound(alloc, &FieldName { branch, article }, lo, hi),
+            Command::Open { .. } | Command::Transfer { .. } => self.check_opening(alloc, command),
+            Command::More { .. } => self.check_change(alloc, command),
+            Command::Use { .. } | Command::Release { .. } => self.check_change(alloc, command),
             Command::Commit { number } => self.check_commit(number),
-            Command::Abort { number } => self.loose_order(number).err(),
+            Command::Abort { number } => self.check_abort(number),
             Command::Firm { number } => self.check_firm(number),
             Command::Expire { now } => self.check_expire(now),
         }
     }
 
     /// The same for a command that moves a value at once.
-    fn check_moving(&self, command: &Command) -> Option<Failure>
-        ensures { IsSome (moved_at_once command.now) → FirstFailure (checks self.now.ledger command.now) result }
+    fn check_moving(&self, alloc: Global, command: &Command) -> Result<Found, Failure>
+        ensures { IsSome (moved_at_once command.now) → Finds (checks self.now.ledger command.now)
+            (IsFound self.now.ledger command.now) result }
     {
         let Some(moved) = moved_at_once(command) else {
-            return None;
+            return Ok(None);
         };
         if self.is_full(1) {
-            return Some((Refusal::Full, 0));
+            return Err((Refusal::Full, 0));
         }
-        self.check_stock(&moved.0, moved.1, moved.2, 0)
+        let mut field = self.field_there(&moved.0, 0)?;
+        match field.quantity.at_once(moved.1, moved.2) {
+            Ok(()) => Ok(Some(one_field(alloc, moved.0, field))),
+            Err(bound) => Err((refusal_of(bound), 0)),
+        }
     }
 
     /// The same for a command that opens an order.
-    fn check_opening(&self, command: &Command) -> Option<Failure>
-        ensures { OnTrue (is_opening command.now) (FirstFailure (checks self.now.ledger command.now) result) }
+    fn check_opening(&self, alloc: Global, command: &Command) -> Result<Found, Failure>
+        ensures { OnTrue (is_opening command.now) (Finds (checks self.now.ledger command.now)
+            (IsFound self.now.ledger command.now) result) }
     {
         match command {
             Command::Open {
                 number,
                 until,
                 lines,
-            } => self.check_open(*number, *until, lines.as_slice()),
+            } => self.check_open(alloc, *number, *until, lines.as_slice()),
             Command::Transfer {
                 number,
                 until,
@@ -96,15 +111,16 @@ impl Book {
                 qty,
             } => {
                 let lines = transfer_lines(*article, *from, *to, *qty);
-                self.check_open(*number, *until, &lines)
+                self.check_open(alloc, *number, *until, &lines)
             }
-            _ => None,
+            _ => Ok(None),
         }
     }
 
     /// The same for a command that changes what an order holds.
-    fn check_change(&self, command: &Command) -> Option<Failure>
-        ensures { OnTrue (is_change command.now) (FirstFailure (checks self.now.ledger command.now) result) }
+    fn check_change(&self, alloc: Global, command: &Command) -> Result<Found, Failure>
+        ensures { OnTrue (is_change command.now) (Finds (checks self.now.ledger command.now)
+            (IsFound self.now.ledger command.now) result) }
     {
         match *command {
             Command::More {
@@ -113,7 +129,7 @@ impl Book {
                 branch,
                 article,
                 qty,
-            } => self.check_more(number, way, &FieldName { branch, article }, qty),
+            } => self.check_more(alloc, number, way, &FieldName { branch, article }, qty),
             Command::Use {
                 number,
                 branch,
@@ -126,141 +142,163 @@ impl Book {
                 article,
                 qty,
             } => self.check_part(number, &FieldName { branch, article }, qty),
-            _ => None,
+            _ => Ok(None),
         }
     }
 
-    fn check_field(&self, name: &FieldName, lo: Level, hi: Level, start: Level) -> Option<Failure>
-        ensures { FirstFailure (checks self.now.ledger (Field name.now.branch name.now.article lo hi start)) result }
+    fn check_field(
+        &self,
+        alloc: Global,
+        name: &FieldName,
+        lo: Level,
+        hi: Level,
+        start: Level,
+    ) -> Result<Found, Failure>
+        ensures { let c = command.Field name.now.branch name.now.article lo hi start in
+            Finds (checks self.now.ledger c) (IsFound self.now.ledger c) result }
     {
         if self.is_full(1) || self.fields.len() >= MAX_FIELDS {
-            return Some((Refusal::Full, 0));
+            return Err((Refusal::Full, 0));
         }
         if self.field_entry(name).is_some() {
-            return Some((Refusal::FieldThere, 0));
+            return Err((Refusal::FieldThere, 0));
         }
-        if lo > start || start > hi {
-            return Some((Refusal::BadBounds, 0));
+        match Quantity::start(lo, hi, start) {
+            Ok(quantity) => Ok(Some(one_field(alloc, *name, FieldEntry { start, quantity }))),
+            Err(_) => Err((Refusal::BadBounds, 0)),
         }
-        None
     }
 
-    fn check_rebound(&self, name: &FieldName, lo: Level, hi: Level) -> Option<Failure>
-        ensures { FirstFailure (checks self.now.ledger (command.Rebound name.now.branch name.now.article lo hi))
-            result }
+    fn check_rebound(
+        &self,
+        alloc: Global,
+        name: &FieldName,
+        lo: Level,
+        hi: Level,
+    ) -> Result<Found, Failure>
+        ensures { let c = command.Rebound name.now.branch name.now.article lo hi in
+            Finds (checks self.now.ledger c) (IsFound self.now.ledger c) result }
     {
         if self.is_full(1) {
-            return Some((Refusal::Full, 0));
+            return Err((Refusal::Full, 0));
         }
-        match self.field_entry(name) {
-            None => Some((Refusal::NoField, 0)),
-            Some(field) => check_bounds(field, lo, hi),
-        }
+        let field = self.field_there(name, 0)?;
+        let field = rebound(field, lo, hi)?;
+        Ok(Some(one_field(alloc, *name, field)))
     }
 
     /// A new order of these lines, whatever its kind.
-    fn check_open(&self, number: OrderNo, until: Moment, lines: &[OpenLine]) -> Option<Failure>
-        ensures { (kind : Kind) → FirstFailure (order_checks self.now.ledger number until ++ line_checks self.now.ledger
-            (new_order number kind until) [] lines.now) result }
+    fn check_open(
+        &self,
+        alloc: Global,
+        number: OrderNo,
+        until: Moment,
+        lines: &[OpenLine],
+    ) -> Result<Found, Failure>
+        ensures { (kind : Kind) → Finds (order_checks self.now.ledger number until ++ line_checks self.now.ledger
+            (new_order number kind until) [] lines.now) (λ found. IsSomeAnd found (λ made. IfOk made
+            (λ fields. CountsAll ◌+ℤ◌ self.now.ledger (map new_line lines.now) fields.entries))) result }
     {
-        let fault = self.check_order(number, until);
-        if fault.is_some() {
-            return fault;
-        }
-        self.check_lines(lines)
+        self.check_order(number, until)?;
+        Ok(Some(self.check_lines(alloc, lines)?))
     }
 
-    fn check_more(&self, number: OrderNo, way: Way, name: &FieldName, qty: Qty) -> Option<Failure>
-        ensures { FirstFailure (checks self.now.ledger (More number way name.now.branch name.now.article qty)) result }
+    fn check_more(
+        &self,
+        alloc: Global,
+        number: OrderNo,
+        way: Way,
+        name: &FieldName,
+        qty: Qty,
+    ) -> Result<Found, Failure>
+        ensures { let c = command.More number way name.now.branch name.now.article qty in
+            Finds (checks self.now.ledger c) (IsFound self.now.ledger c) result }
     {
         if self.is_full(1) {
-            return Some((Refusal::Full, 0));
+            return Err((Refusal::Full, 0));
         }
-        let order = match self.loose_order(number) {
-            Ok(order) => order,
-            Err(failure) => return Some(failure),
-        };
+        let order = self.loose_order(number)?;
         if order.kind == Kind::Transfer {
-            return Some((Refusal::TransferFixed, 0));
+            return Err((Refusal::TransferFixed, 0));
         }
-        let Some(field) = self.field_entry(name) else {
-            return Some((Refusal::NoField, 0));
-        };
-        let fault = check_hold(order, way, name);
-        if fault.is_some() {
-            return fault;
-        }
-        check_bound(field, way, qty, 0)
+        let field = self.field_there(name, 0)?;
+        check_hold(order, way, name)?;
+        let field = ask(field, way, qty, 0)?;
+        Ok(Some(one_field(alloc, *name, field)))
     }
 
-    fn check_expire(&self, now: Moment) -> Option<Failure>
-        ensures { FirstFailure (checks self.now.ledger (Expire now)) result }
+    fn check_expire(&self, now: Moment) -> Result<Found, Failure>
+        ensures { Finds (checks self.now.ledger (command.Expire now)) (λ found. found ≡ None) result }
     {
         if self.is_full(1) {
-            return Some((Refusal::Full, 0));
+            return Err((Refusal::Full, 0));
         }
         if now < self.clock {
-            return Some((Refusal::ClockBack, 0));
+            return Err((Refusal::ClockBack, 0));
         }
-        None
+        Ok(None)
     }
 
     /// A use or a release of a part of what the order's line on the field holds.
-    fn check_part(&self, number: OrderNo, name: &FieldName, qty: Qty) -> Option<Failure>
-        ensures { FirstFailure (part_checks self.now.ledger number name.now qty) result }
+    fn check_part(&self, number: OrderNo, name: &FieldName, qty: Qty) -> Result<Found, Failure>
+        ensures { Finds (part_checks self.now.ledger number name.now qty) (λ found. found ≡ None) result }
     {
         if self.is_full(1) {
-            return Some((Refusal::Full, 0));
+            return Err((Refusal::Full, 0));
         }
-        let order = match self.open_order(number) {
-            Ok(order) => order,
-            Err(failure) => return Some(failure),
-        };
+        let order = self.open_order(number)?;
         match line_in(&order.lines, name) {
-            None => Some((Refusal::NotHeld, 0)),
+            None => Err((Refusal::NotHeld, 0)),
             Some(line) if line.held.get() < line.used.get() + qty.get() => {
-                Some((Refusal::OverUse, 0))
+                Err((Refusal::OverUse, 0))
             }
-            Some(_) => None,
+            Some(_) => Ok(None),
         }
     }
 
     /// It takes the place that its order has set aside.
-    fn check_commit(&self, number: OrderNo) -> Option<Failure>
-        ensures { FirstFailure (checks self.now.ledger (command.Commit number)) result }
+    fn check_commit(&self, number: OrderNo) -> Result<Found, Failure>
+        ensures { Finds (checks self.now.ledger (command.Commit number)) (λ found. found ≡ None) result }
     {
-        self.open_order(number).err()
+        self.open_order(number)?;
+        Ok(None)
     }
 
-    fn check_firm(&self, number: OrderNo) -> Option<Failure>
-        ensures { FirstFailure (checks self.now.ledger (command.Firm number)) result }
+    fn check_abort(&self, number: OrderNo) -> Result<Found, Failure>
+        ensures { Finds (checks self.now.ledger (command.Abort number)) (λ found. found ≡ None) result }
+    {
+        self.loose_order(number)?;
+        Ok(None)
+    }
+
+    fn check_firm(&self, number: OrderNo) -> Result<Found, Failure>
+        ensures { Finds (checks self.now.ledger (command.Firm number)) (λ found. found ≡ None) result }
     {
         if self.is_full(1) {
-            return Some((Refusal::Full, 0));
+            return Err((Refusal::Full, 0));
         }
-        self.loose_order(number).err()
+        self.check_abort(number)
     }
 
     /// A new order, apart from its lines.
-    fn check_order(&self, number: OrderNo, until: Moment) -> Option<Failure>
-        ensures { FirstFailure (order_checks self.now.ledger number until) result }
+    fn check_order(&self, number: OrderNo, until: Moment) -> Result<(), Failure>
+        ensures { Finds (order_checks self.now.ledger number until) (λ found. Unit) result }
     {
         if self.is_full(2) || self.orders.len() >= MAX_ORDERS {
-            return Some((Refusal::Full, 0));
+            return Err((Refusal::Full, 0));
         }
         if self.order_entry(number).is_some() {
-            return Some((Refusal::OrderThere, 0));
+            return Err((Refusal::OrderThere, 0));
         }
         if until <= self.clock {
-            return Some((Refusal::Past, 0));
+            return Err((Refusal::Past, 0));
         }
-        None
+        Ok(())
     }
 
     /// The open order of that number, or why there is none.
     fn open_order(&self, number: OrderNo) -> Result<&OrderEntry, Failure>
-        ensures found { MatchResult result (λ order. FirstFailure (open_checks self.now.ledger number) None)
-            (λ failure. FirstFailure (open_checks self.now.ledger number) (Some failure)) }
+        ensures found { Finds (open_checks self.now.ledger number) (λ order. Unit) result }
         ensures order { IfOk result (λ order. order_numbered self.now.ledger number ≡ Some
             (order_of (number, order.now))) }
         ensures open { IfOk result (λ order. IsTrue (is_open (order_of (number, order.now)))) }
@@ -274,8 +312,7 @@ impl Book {
 
     /// The open order of that number that is not firm, or why there is none.
     fn loose_order(&self, number: OrderNo) -> Result<&OrderEntry, Failure>
-        ensures found { MatchResult result (λ order. FirstFailure (loose_checks self.now.ledger number) None)
-            (λ failure. FirstFailure (loose_checks self.now.ledger number) (Some failure)) }
+        ensures found { Finds (loose_checks self.now.ledger number) (λ order. Unit) result }
         ensures order { IfOk result (λ order. order_numbered self.now.ledger number ≡ Some
             (order_of (number, order.now))) }
         ensures open { IfOk result (λ order. IsTrue (is_open (order_of (number, order.now)))) }
@@ -288,70 +325,82 @@ impl Book {
     }
 
     /// The first check that fails of the lines of a new order, whatever its number, its kind and its end.
-    fn check_lines(&self, lines: &[OpenLine]) -> Option<Failure>
-        ensures { (n : ℕ) (kind : Kind) (until : ℕ) → FirstFailure (line_checks self.now.ledger
-            (new_order n kind until) [] lines.now) result }
+    fn check_lines(
+        &self,
+        alloc: Global,
+        lines: &[OpenLine],
+    ) -> Result<Result<Fields, Memory>, Failure>
+        ensures { (n : ℕ) (kind : Kind) (until : ℕ) → Finds (line_checks self.now.ledger
+            (new_order n kind until) [] lines.now) (λ made. IfOk made
+            (λ fields. CountsAll ◌+ℤ◌ self.now.ledger (map new_line lines.now) fields.entries)) result }
     {
+        let mut fields = Ok(InOrder::new(alloc));
         for (i, line) in lines.iter().enumerate() {
             let number = i as u64 + 1;
             if has_line_on(&lines[..i], line.branch, line.article) {
-                return Some((Refusal::SameField, number));
+                return Err((Refusal::SameField, number));
             }
-            let name = name_of(line.branch, line.article);
-            let fault = self.check_stock(&name, line.way, line.qty, number);
-            if fault.is_some() {
-                return fault;
-            }
+            let (branch, article) = (line.branch, line.article);
+            let name = FieldName { branch, article };
+            let field = self.field_there(&name, number)?;
+            let field = ask(field, line.way, line.qty, number)?;
+            fields = with_field(fields, name, field);
         }
-        None
+        Ok(fields)
     }
 
-    /// The field is there, and has so much more room the one way.
-    fn check_stock(&self, name: &FieldName, way: Way, qty: Qty, line: u64) -> Option<Failure>
+    /// The field of that name, for the line at fault where it is not there.
+    fn field_there(&self, name: &FieldName, line: u64) -> Result<FieldEntry, Failure>
         ensures good { Good self.now.ledger }
-        ensures found { FirstFailure (stock_checks way self.now.ledger name.now qty line) result }
+        ensures found { Finds (no_field self.now.ledger name.now line ∷ []) (λ entry. field_named self.now.ledger
+            name.now ≡ Some (field_of (name.now, entry))) result }
+        ensures up_to_date { IfOk result (λ entry. IsUpToDate self.now.ledger (name.now, entry)) }
     {
         match self.field_entry(name) {
-            None => Some((Refusal::NoField, line)),
-            Some(field) => check_bound(field, way, qty, line),
+            Some(field) => Ok(*field),
+            None => Err((Refusal::NoField, line)),
         }
     }
 }
 
 /// What keeps the order, whatever its number, from holding more on the field.
-fn check_hold(order: &OrderEntry, way: Way, name: &FieldName) -> Option<Failure>
-    ensures { FirstFailure (hold_checks (order_of (0, order.now)) way name.now) result }
+fn check_hold(order: &OrderEntry, way: Way, name: &FieldName) -> Result<(), Failure>
+    ensures { Finds (hold_checks (order_of (0, order.now)) way name.now) (λ found. Unit) result }
 {
     match line_in(&order.lines, name) {
-        Some(line) if line.way != way => Some((Refusal::OtherWay, 0)),
-        None if order.lines.len() >= MAX_ORDER_LINES => Some((Refusal::TooManyLines, 0)),
-        _ => None,
+        Some(line) if line.way != way => Err((Refusal::OtherWay, 0)),
+        None if order.lines.len() >= MAX_ORDER_LINES => Err((Refusal::TooManyLines, 0)),
+        _ => Ok(()),
     }
 }
 
-/// No outcome passes the field's bound with so much more held the one way, or its value moved so much.
-fn check_bound(field: &FieldEntry, way: Way, qty: Qty, line: u64) -> Option<Failure>
-    ensures { (A : Ledger) (name : Name) → Good A → IsUpToDate A (name, field.now) → field_named A name ≡ Some
-        (field_of (name, field.now)) → FirstFailure (bound_checks way A name qty line) result }
+/// The field with so much more held the one way, where no outcome passes its bound.
+fn ask(mut field: FieldEntry, way: Way, qty: Qty, line: u64) -> Result<FieldEntry, Failure>
+    ensures { (A : Ledger) (name : Name) → Good A → IsUpToDate A (name, field) → field_named A name ≡ Some
+        (field_of (name, field)) → Finds (bound_checks way A name qty line) (λ entry. entry ≡ record {
+          start = field.start;
+          quantity = holding field.quantity way qty;
+        }) result }
 {
-    let mut quantity = field.quantity;
-    match quantity.ask(way, qty) {
-        Ok(()) => None,
-        Err(bound) => Some((refusal_of(bound), line)),
+    match field.quantity.ask(way, qty) {
+        Ok(()) => Ok(field),
+        Err(bound) => Err((refusal_of(bound), line)),
     }
 }
 
-/// Every outcome of the field lies within these bounds.
-fn check_bounds(field: &FieldEntry, lo: Level, hi: Level) -> Option<Failure>
-    ensures { (A : Ledger) (name : Name) → Good A → IsUpToDate A (name, field.now) → field_named A name ≡ Some
-        (field_of (name, field.now)) → FirstFailure (bounds_checks A name lo hi) result }
+/// The field with these bounds, where every outcome of it lies within them.
+fn rebound(mut field: FieldEntry, lo: Level, hi: Level) -> Result<FieldEntry, Failure>
+    ensures { (A : Ledger) (name : Name) → Good A → IsUpToDate A (name, field) → field_named A name ≡ Some
+        (field_of (name, field)) → Finds (bounds_checks A name lo hi) (λ entry. entry ≡ record {
+          start = field.start;
+          quantity = bounded field.quantity lo hi;
+        }) result }
 {
-    let mut bounded = field.quantity;
-    match bounded.rebound(lo, hi) {
-        Ok(()) => None,
-        Err(Rebound::BadBounds) => Some((Refusal::BadBounds, 0)),
-        Err(Rebound::TooLittle) => Some((Refusal::TooLittle, 0)),
-        Err(Rebound::TooMuch) => Some((Refusal::TooMuch, 0)),
+    match field.quantity.rebound(lo, hi) {
+        Ok(()) => Ok(field),
+        Err(Rebound::BadBounds) => Err((Refusal::BadBounds, 0)),
+        Err(Rebound::TooLittle) => Err((Refusal::TooLittle, 0)),
+        Err(Rebound::TooMuch) => Err((Refusal::TooMuch, 0)),
     }
 }
 

@@ -1,43 +1,38 @@
 //! The fields that an accepted command makes or changes, as they are then.
 
-ghost use Rattle.std.specs.Prelude.{◌≡◌, ℕ, ◌∷◌, ◌++◌, [], List, Some, IsSome, IfOk, OnOk, false, find, flat_map, map, option_map, true};
+ghost use Rattle.std.specs.Prelude.{◌≡◌, ℕ, ◌∷◌, ◌++◌, [], List, Some, IsSome, IfOk, OnOk, false, find, flat_map, map, option_map, true, ◌-ℤ◌};
 ghost use Rattle.std.specs.BTreeMap.{insert_entry};
 ghost use Rattle.std.specs.List.{AllByRecursion as Each};
 ghost use Rattle.std.specs.List.Sorted.{IsStrictlySortedBy};
 ghost use Rattle.std.specs.Map.{keys_of};
 ghost use Rattle.book.specs.After.{expired_numbers, field_rows, of_numbered, order_after};
 ghost use Rattle.book.specs.Changes.{changes_field};
+ghost use Rattle.book.specs.Checking.{IsFound};
+ghost use Rattle.book.specs.Future.{AsksNoStock};
+ghost use Rattle.std.specs.Result.{IsOkAnd};
 ghost use Rattle.book.specs.Ledger.{field_named, line_name, name_cmp, on, order_numbered};
-ghost use Rattle.book.specs.RunningNumbers.{Accepts, GivenBack, GivesBack, HasLines, MayGiveBack, MovesField, Puts, entry_row, share_numbers, share_on, Becomes, MayBecome};
+ghost use Rattle.book.specs.RunningNumbers.{Accepts, Counts, CountsAll, MayGiveBack, Puts, entry_row, share_numbers, share_on, Becomes, MayBecome};
 ghost use Rattle.book.specs.Model.{order_of};
 ghost use Rattle.book.specs.declared.order.Line.{Line};
-ghost use Rattle.words.specs.declared.command.Command.TheVariants.{Rebound};
-ghost use Rattle.words.specs.declared.command.Request.{Request};
 
-use super::plan::moved_at_once;
+use super::checks::Found;
 use super::{Book, FieldEntry};
 use crate::order::{Line, NO_SHARE, Order, OrderEntry, Share, line_in, share_of};
-use escrow::{FieldName, Level, OrderNo, Qty, Quantity, Way};
+use escrow::{FieldName, OrderNo, Quantity, Way};
 use index::InOrder;
 use std::alloc::Global;
-use words::{Command, Memory, Request};
+use words::{Memory, Request};
 
 /// What a line counts for changes from the one to the other.
 fn change_stock(quantity: &mut Quantity, way: Way, before: Share, after: Share)
     requires { MayBecome quantity.old way before after }
     ensures { Becomes quantity.old (share_numbers way before) (share_numbers way after) quantity.new }
 {
-    match Qty::new(after.held.saturating_sub(before.held)) {
-        Some(more) => match quantity.ask(way, more) {
-            Ok(()) => {}
-            Err(_) => unreachable!(),
-        },
-        None => quantity.settle(
-            way,
-            before.held.saturating_sub(after.held),
-            after.settled.saturating_sub(before.settled),
-        ),
-    }
+    quantity.settle(
+        way,
+        before.held - after.held,
+        after.settled - before.settled,
+    );
 }
 
 /// What the order's line on that field counts for, if there is one.
@@ -63,6 +58,27 @@ fn put(fields: &mut Fields, name: FieldName, entry: FieldEntry) -> Result<(), Me
     Ok(())
 }
 
+/// With the field put in.
+pub(super) fn with_field(
+    fields: Result<Fields, Memory>,
+    name: FieldName,
+    entry: FieldEntry,
+) -> Result<Fields, Memory>
+    ensures { IfOk result (λ new. IsOkAnd fields (λ old. IsStrictlySortedBy name_cmp (keys_of old.entries)
+        × (new.entries ≡ insert_entry name_cmp old.entries name entry))) }
+{
+    let mut fields = fields?;
+    put(&mut fields, name, entry)?;
+    Ok(fields)
+}
+
+/// That field alone.
+pub(super) fn one_field(alloc: Global, name: FieldName, entry: FieldEntry) -> Result<Fields, Memory>
+    ensures { IfOk result (λ fields. fields.entries ≡ (name, entry) ∷ []) }
+{
+    with_field(Ok(InOrder::new(alloc)), name, entry)
+}
+
 impl Book {
     /// What the line on that field of the order of that number counts for so far.
     fn share_before(&self, number: OrderNo, name: &FieldName) -> Share
@@ -85,6 +101,7 @@ impl Book {
     ) -> Result<(), Memory>
         requires accepts { Accepts self.now.ledger request.now }
         requires made { order_after self.now.ledger request.now.command ≡ Some (order_of order.now) }
+        requires asks { AsksNoStock request.now.command }
         requires line { find (on (line_name line.now)) order.now.1.lines.items ≡ Some line.now }
         ensures changed { OnOk result (changes_field self.now.ledger request.now.command (line_name line.now) ≡ true
             → Puts self.now.ledger request.now (line_name line.now) fields.old.entries fields.new.entries) }
@@ -106,69 +123,32 @@ impl Book {
         put(fields, name, entry)
     }
 
-    /// Puts in the fields of the lines of the order that the request makes, where it changes them.
-    fn put_lines(&self, fields: &mut Fields, request: &Request, order: &Order) -> Result<(), Memory>
+    /// The fields of the lines of the order that the request makes, where it changes them.
+    fn fields_of_order(
+        &self,
+        alloc: Global,
+        request: &Request,
+        order: &Order,
+    ) -> Result<Fields, Memory>
         requires accepts { Accepts self.now.ledger request.now }
         requires made { order_after self.now.ledger request.now.command ≡ Some (order_of order.now) }
-        requires none { fields.old.entries ≡ [] }
-        ensures { OnOk result (HasLines self.now.ledger request.now order.now.1.lines.items fields.new.entries) }
+        requires asks { AsksNoStock request.now.command }
+        ensures { IfOk result (λ fields. map entry_row fields.entries ≡ field_rows self.now.ledger request.now) }
     {
+        let mut fields = InOrder::new(alloc);
         for line in order.1.lines.iter() {
-            self.put_line(fields, request, order, line)?;
+            self.put_line(&mut fields, request, order, line)?;
         }
-        Ok(())
-    }
-
-    /// Puts in the field of a delivery or a write-off.
-    fn put_moved(
-        &self,
-        fields: &mut Fields,
-        name: &FieldName,
-        way: Way,
-        qty: Qty,
-    ) -> Result<(), Memory>
-        requires { (r : Request) × MovesField self.now.ledger r name.now way qty }
-        ensures { OnOk result ((r : Request) → MovesField self.now.ledger r name.now way qty
-            → Puts self.now.ledger r name.now fields.old.entries fields.new.entries) }
-    {
-        let Some(entry) = self.field_entry(name) else {
-            unreachable!()
-        };
-        let mut entry = *entry;
-        let Ok(()) = entry.quantity.at_once(way, qty) else {
-            unreachable!()
-        };
-        put(fields, *name, entry)
-    }
-
-    /// Puts in the field that gets other bounds.
-    fn put_bounds(
-        &self,
-        fields: &mut Fields,
-        request: &Request,
-        name: &FieldName,
-        lo: Level,
-        hi: Level,
-    ) -> Result<(), Memory>
-        requires accepts { Accepts self.now.ledger request.now }
-        requires command { request.now.command ≡ Rebound name.now.branch name.now.article lo hi }
-        ensures { OnOk result (Puts self.now.ledger request.now name.now fields.old.entries fields.new.entries) }
-    {
-        let Some(entry) = self.field_entry(name) else {
-            unreachable!()
-        };
-        let mut entry = *entry;
-        let Ok(()) = entry.quantity.rebound(lo, hi) else {
-            unreachable!()
-        };
-        put(fields, *name, entry)
+        // so that the proof has their order
+        let _ = fields.len();
+        Ok(fields)
     }
 
     /// The field of the line, as the lines so far leave it that give back what they hold.
     fn field_so_far(&self, fields: &Fields, line: &Line) -> FieldEntry
         requires { IsSome (field_named self.now.ledger (line_name line.now)) }
-        ensures { (ls : List Line) → GivesBack self.now.ledger ls fields.now.entries
-            → GivenBack self.now.ledger ls (line_name line.now, result) }
+        ensures { (ls : List Line) → CountsAll ◌-ℤ◌ self.now.ledger ls fields.now.entries
+            → Counts ◌-ℤ◌ self.now.ledger ls (line_name line.now, result) }
     {
         let (branch, article) = (line.branch, line.article);
         let name = FieldName { branch, article };
@@ -184,10 +164,10 @@ impl Book {
     /// Gives back what the line of an order that expires holds, and puts its field in.
     fn give_back_line(&self, fields: &mut Fields, line: &Line) -> Result<(), Memory>
         requires there { IsSome (field_named self.now.ledger (line_name line.now)) }
-        requires held { (ls : List Line) × GivesBack self.now.ledger ls fields.old.entries
+        requires held { (ls : List Line) × CountsAll ◌-ℤ◌ self.now.ledger ls fields.old.entries
             × MayGiveBack self.now.ledger (ls ++ line.now ∷ []) }
-        ensures { OnOk result ((ls : List Line) → GivesBack self.now.ledger ls fields.old.entries
-            → MayGiveBack self.now.ledger (ls ++ line.now ∷ []) → GivesBack self.now.ledger
+        ensures { OnOk result ((ls : List Line) → CountsAll ◌-ℤ◌ self.now.ledger ls fields.old.entries
+            → MayGiveBack self.now.ledger (ls ++ line.now ∷ []) → CountsAll ◌-ℤ◌ self.now.ledger
             (ls ++ line.now ∷ []) fields.new.entries) }
     {
         let mut entry = self.field_so_far(fields, line);
@@ -199,10 +179,10 @@ impl Book {
     /// Gives back what these lines hold, and puts their fields in.
     fn give_back_lines(&self, fields: &mut Fields, lines: &[Line]) -> Result<(), Memory>
         requires there { Each (λ l. IsSome (field_named self.now.ledger (line_name l))) lines.now }
-        requires held { (ls : List Line) × GivesBack self.now.ledger ls fields.old.entries
+        requires held { (ls : List Line) × CountsAll ◌-ℤ◌ self.now.ledger ls fields.old.entries
             × MayGiveBack self.now.ledger (ls ++ lines.now) }
-        ensures { OnOk result ((ls : List Line) → GivesBack self.now.ledger ls fields.old.entries
-            → MayGiveBack self.now.ledger (ls ++ lines.now) → GivesBack self.now.ledger
+        ensures { OnOk result ((ls : List Line) → CountsAll ◌-ℤ◌ self.now.ledger ls fields.old.entries
+            → MayGiveBack self.now.ledger (ls ++ lines.now) → CountsAll ◌-ℤ◌ self.now.ledger
             (ls ++ lines.now) fields.new.entries) }
     {
         for line in lines {
@@ -213,11 +193,11 @@ impl Book {
 
     /// Gives back what the order of that number holds, if there is one.
     fn give_back_order(&self, fields: &mut Fields, number: OrderNo) -> Result<(), Memory>
-        requires { (ls : List Line) × GivesBack self.now.ledger ls fields.old.entries
+        requires { (ls : List Line) × CountsAll ◌-ℤ◌ self.now.ledger ls fields.old.entries
             × MayGiveBack self.now.ledger (ls ++ of_numbered self.now.ledger (λ o. o.lines) number) }
-        ensures { OnOk result ((ls : List Line) → GivesBack self.now.ledger ls fields.old.entries
+        ensures { OnOk result ((ls : List Line) → CountsAll ◌-ℤ◌ self.now.ledger ls fields.old.entries
             → MayGiveBack self.now.ledger (ls ++ of_numbered self.now.ledger (λ o. o.lines) number)
-            → GivesBack self.now.ledger (ls ++ of_numbered self.now.ledger (λ o. o.lines) number) fields.new.entries) }
+            → CountsAll ◌-ℤ◌ self.now.ledger (ls ++ of_numbered self.now.ledger (λ o. o.lines) number) fields.new.entries) }
     {
         // so that the proof has the invariant
         let _ = &self.orders;
@@ -227,84 +207,44 @@ impl Book {
         }
     }
 
-    /// Gives back what the orders of these numbers hold, and puts their fields in.
-    fn put_expired(&self, fields: &mut Fields, numbers: &[OrderNo]) -> Result<(), Memory>
-        requires none { fields.old.entries ≡ [] }
-        requires held { MayGiveBack self.now.ledger
-            (flat_map (of_numbered self.now.ledger (λ o. o.lines)) numbers.now) }
-        ensures { OnOk result (GivesBack self.now.ledger
-            (flat_map (of_numbered self.now.ledger (λ o. o.lines)) numbers.now) fields.new.entries) }
+    /// The fields of the orders of these numbers, once they have given back what they hold.
+    fn fields_given_back(&self, alloc: Global, numbers: &[OrderNo]) -> Result<Fields, Memory>
+        requires { MayGiveBack self.now.ledger (flat_map (of_numbered self.now.ledger (λ o. o.lines)) numbers.now) }
+        ensures { IfOk result (λ fields. IsStrictlySortedBy name_cmp (keys_of fields.entries) × CountsAll ◌-ℤ◌ self.now.ledger
+            (flat_map (of_numbered self.now.ledger (λ o. o.lines)) numbers.now) fields.entries) }
     {
+        let mut fields = InOrder::new(alloc);
         for number in numbers {
-            self.give_back_order(fields, *number)?;
+            self.give_back_order(&mut fields, *number)?;
         }
-        Ok(())
+        let _ = fields.len();
+        Ok(fields)
     }
 
-    /// Puts in the fields that the request makes or changes, with the order that it makes and those that expire.
-    fn put_changed(
-        &self,
-        fields: &mut Fields,
-        request: &Request,
-        made: &Option<Order>,
-        expired: &[OrderNo],
-    ) -> Result<(), Memory>
-        requires accepts { Accepts self.now.ledger request.now }
-        requires made { option_map order_of made.now ≡ order_after self.now.ledger request.now.command }
-        requires expired { expired.now ≡ expired_numbers self.now.ledger request.now.command }
-        requires none { fields.old.entries ≡ [] }
-        ensures { OnOk result (IsStrictlySortedBy name_cmp (keys_of fields.new.entries)
-            → map entry_row fields.new.entries ≡ field_rows self.now.ledger request.now) }
-    {
-        if let Some(moved) = moved_at_once(&request.command) {
-            return self.put_moved(fields, &moved.0, moved.1, moved.2);
-        }
-        match request.command {
-            Command::Field {
-                branch,
-                article,
-                lo,
-                hi,
-                start,
-            } => {
-                let Ok(quantity) = Quantity::start(lo, hi, start) else {
-                    unreachable!()
-                };
-                let name = FieldName { branch, article };
-                put(fields, name, FieldEntry { start, quantity })
-            }
-            Command::Rebound {
-                branch,
-                article,
-                lo,
-                hi,
-            } => self.put_bounds(fields, request, &FieldName { branch, article }, lo, hi),
-            Command::Expire { .. } => self.put_expired(fields, expired),
-            _ => match made {
-                Some(order) => self.put_lines(fields, request, order),
-                None => Ok(()),
-            },
-        }
-    }
-
-    /// The fields that the accepted request makes or changes, as they are then, with the order that it makes and those
-    /// that expire.
+    /// The fields that the accepted request makes or changes, as they are then: those that its check found, else those
+    /// of the order that it makes or of those that expire.
     pub(super) fn fields_after(
         &self,
         alloc: Global,
         request: &Request,
+        found: Found,
         made: &Option<Order>,
         expired: &[OrderNo],
     ) -> Result<Fields, Memory>
         requires accepts { Accepts self.now.ledger request.now }
+        requires found { IsFound self.now.ledger request.now.command found }
         requires made { option_map order_of made.now ≡ order_after self.now.ledger request.now.command }
         requires expired { expired.now ≡ expired_numbers self.now.ledger request.now.command }
         ensures { IfOk result (λ fields. map entry_row fields.entries ≡ field_rows self.now.ledger request.now) }
     {
-        let mut fields = InOrder::new(alloc);
-        self.put_changed(&mut fields, request, made, expired)?;
-        // so that the proof has their order
-        let _ = fields.len();
-        Ok(fields)
+        if let Some(fields) = found {
+            let fields = fields?;
+            let _ = fields.len();
+            return Ok(fields);
+        }
+        match made {
+            Some(order) => self.fields_of_order(alloc, request, order),
+            None => self.fields_given_back(alloc, expired),
+        }
     }
 }

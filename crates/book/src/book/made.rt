@@ -3,6 +3,7 @@
 
 ghost use Rattle.book.specs.After.{order_after, changes_own_line, changes_own_stock, changes_state, expired_numbers};
 ghost use Rattle.book.specs.Changes.{changes_field};
+ghost use Rattle.book.specs.Future.{AsksNoStock};
 ghost use Rattle.book.specs.InPlace.{MayChange, MayChangeOrder, changed_line, changed_order, held_lines, order_change_of, abort_all, abort_one};
 ghost use Rattle.book.specs.Ledger.{line_name, name_of, on, is_transfer, order_numbered, same_name, open_state};
 ghost use Rattle.book.specs.Next.{new_line, new_order, expires};
@@ -102,10 +103,7 @@ fn hold_more(lines: &mut Vec<Line>, more: &OpenLine)
         change_lines(lines, false, &name, &LineChange::Hold(more.qty));
         return;
     }
-    match lines.push(new_line(more)) {
-        Ok(()) => {}
-        Err(_) => unreachable!(),
-    }
+    lines.push_reserved(new_line(more));
 }
 
 /// A line that holds its amount and has used nothing.
@@ -265,6 +263,7 @@ impl Book {
     pub(super) fn changes_field(&self, request: &Request, order: &Order, line: &Line) -> bool
         requires accepts { Accepts self.now.ledger request.now }
         requires made { order_after self.now.ledger request.now.command ≡ Some (order_of order.now) }
+        requires asks { AsksNoStock request.now.command }
         requires line { find (on (line_name line.now)) order.now.1.lines.items ≡ Some line.now }
         ensures { result ≡ changes_field self.now.ledger request.now.command (line_name line.now) }
     {

@@ -2,6 +2,7 @@
 
 ghost use Rattle.book.specs.After.{move_made, moved_at_once};
 ghost use Rattle.book.specs.Answers.{IsAccepted};
+ghost use Rattle.book.specs.Checking.{IsFound};
 ghost use Rattle.book.specs.Ledger.{kept_under, name_of};
 ghost use Rattle.book.specs.Next.{new_line, transfer_lines};
 ghost use Rattle.book.specs.PlanAnswers.{Plans};
@@ -11,6 +12,7 @@ ghost use Rattle.book.specs.Tables.{rows_among};
 ghost use Rattle.book.specs.Model.{move_of};
 ghost use Rattle.std.specs.Prelude.{◌≡◌, length, option_map, ◌⊎◌, IfOk, IsSome, OnErr, map};
 
+use super::checks::Found;
 use super::made::new_line;
 use super::{Book, FieldEntry, MoveEntry};
 use crate::kept_words::KeptWords;
@@ -201,11 +203,12 @@ impl Book {
                 Ok(Planned::Refused(Refusal::KeyReused, 0))
             };
         }
-        if let Some(failure) = self.check(&request.command) {
-            return Ok(Planned::Refused(failure.0, failure.1));
-        }
+        let found = match self.check(alloc, &request.command) {
+            Ok(found) => found,
+            Err(failure) => return Ok(Planned::Refused(failure.0, failure.1)),
+        };
         self.accepts(request);
-        let parts = self.parts_of(alloc, request)?;
+        let parts = self.parts_of(alloc, request, found)?;
         let changes = self.changes_of(alloc, request, &parts)?;
         Ok(Planned::Accept(Plan { parts, changes }))
     }
@@ -220,9 +223,10 @@ impl Book {
         request.in_range();
     }
 
-    /// What the accepted request puts into the book.
-    fn parts_of(&self, alloc: Global, request: &Request) -> Result<PlanParts, Memory>
-        requires { Accepts self.now.ledger request.now }
+    /// What the accepted request puts into the book, with what its check found.
+    fn parts_of(&self, alloc: Global, request: &Request, found: Found) -> Result<PlanParts, Memory>
+        requires accepts { Accepts self.now.ledger request.now }
+        requires found { IsFound self.now.ledger request.now.command found }
         ensures { IfOk result (λ parts. Makes self.now.ledger request.now parts) }
     {
         let command = &request.command;
@@ -230,7 +234,7 @@ impl Book {
         let place = self.kept.len() as u64 + 1;
         let made = self.order_after(alloc, request)?;
         let expired = self.expired(alloc, command)?;
-        let fields = self.fields_after(alloc, request, &made, &expired)?;
+        let fields = self.fields_after(alloc, request, found, &made, &expired)?;
         Ok(PlanParts {
             key: request.key,
             words,

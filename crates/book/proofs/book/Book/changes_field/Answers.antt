@@ -7,4 +7,4 @@ pub returns : goal.returns
 returns c =
     let a = c.requires.accepts in
     c.changes_stock.ensures ∙ ap (λ t. changes_own_stock c.args.order.now.1.firm t c.args.request.now.command c.args.line.now) c.is_transfer.ensures
-    ∙ own_stock c.args.self.now.ledger c.args.request.now.command (order_of c.args.order.now) c.args.line.now a.before c.requires.made c.requires.line
+    ∙ own_stock c.args.self.now.ledger c.args.request.now.command (order_of c.args.order.now) c.args.line.now a.before c.requires.asks c.requires.made c.requires.line

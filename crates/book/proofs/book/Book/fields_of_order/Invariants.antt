@@ -1,6 +1,6 @@
 -- the fields so far that the request changes are there
 use Rattle.book.proofs.Prelude.{◌≡◌, Each, HasEntry, IsChangedField, changes_field, line_name, take, true}
-use Rattle.book.proofs.book.Book.put_lines.Given as goal
+use Rattle.book.proofs.book.Book.fields_of_order.Given as goal
 
 abbrev pub invariant-loop-line : goal.invariant-loop-line
 invariant-loop-line l = record {
