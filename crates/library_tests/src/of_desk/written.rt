@@ -3,12 +3,14 @@
 use super::headline::{ANSWERS, three_orders};
 use crate::desks::{answer_together, opened, requests};
 use crate::keepers::{plain_keeper, sql_keeper};
+use crate::of_keep::loaded;
+use crate::scripts::{Played, scripts};
 use crate::streams::Sink;
 use desk::{Desk, ScriptFault};
 use keep::Keep;
 use std::alloc::Global;
 use std::test::Fail;
-use words::Request;
+use words::{Item, Request, read_item};
 
 /// What was written, and how that ended, where the writer fails behind so many writes.
 #[derive(Drop)]
@@ -115,5 +117,59 @@ fn lines_are_written_when_their_batch_is_kept(rt: HostRuntime) -> Result<(), Fai
     assert!(rt; at_each_write(rt.alloc(), 1)? == 9);
     // all that may stand together: 86 bytes with the refusal, and the line of the commit behind it
     assert!(rt; at_each_write(rt.alloc(), 8)? == 7);
+    Ok(())
+}
+
+/// The requests of a script, and the lines of the replies to them.
+fn requests_of(alloc: Global, played: Played) -> Result<(Vec<Request>, Vec<u8>), Fail> {
+    let mut requests = Vec::new(alloc);
+    let mut answers: Vec<u8> = Vec::new(alloc);
+    for (line, answer) in played.0.lines().zip(played.1.lines()) {
+        if let Item::Request(request) = read_item(alloc, line.as_bytes())? {
+            requests.push(request)?;
+            answers.extend_from_slice(answer.as_bytes())?;
+            answers.extend_from_slice(b"\n")?;
+        }
+    }
+    Ok((requests, answers))
+}
+
+/// The rows that the keeper holds when its desk has answered the requests so, so many together.
+fn rows_behind<K: Keep + Drop>(
+    alloc: Global,
+    keep: K,
+    requests: &[Request],
+    answers: &[u8],
+    most: usize,
+) -> Result<String, Fail> {
+    let mut desk = opened(alloc, keep)?;
+    let written = write(alloc, &mut desk, requests, most, usize::MAX);
+    let mut keep = desk.into_keep();
+    let written = written?;
+    if written.ended != Ok(()) || written.taken.as_slice() != answers {
+        Err("other answers")?;
+    }
+    loaded(alloc, &mut keep)
+}
+
+/// Lists of every length from 1 to its own give the script's replies, and the rows of one by one.
+fn each_length(alloc: Global, played: Played) -> Result<(), Fail> {
+    let (requests, answers) = requests_of(alloc, played)?;
+    let singly = rows_behind(alloc, sql_keeper(alloc)?, &requests, &answers, 1)?;
+    for fewer in 0..requests.len() {
+        let rows = rows_behind(alloc, sql_keeper(alloc)?, &requests, &answers, fewer + 1)?;
+        let others = rows_behind(alloc, plain_keeper(alloc), &requests, &answers, fewer + 1)?;
+        if rows.as_str() != singly.as_str() || others.as_str() != singly.as_str() {
+            Err("other rows")?;
+        }
+    }
+    Ok(())
+}
+
+#[test]
+fn scripts_are_answered_by_lists_of_every_length(rt: HostRuntime) -> Result<(), Fail> {
+    for played in scripts() {
+        each_length(rt.alloc(), played)?;
+    }
     Ok(())
 }
