@@ -147,7 +147,8 @@ fn requests_command<'a>(
     ensures local { IfOk result (λ command. (fields_of command).has_globals ≡ false) }
 {
     let command = file_command(alloc, name, about, "CSV", help)?;
-    let help = "How many requests are kept together, 1 to 1000: their lines are written when all of them are kept";
+    let help =
+        "How many requests are kept together, 1 to 1000: their lines are written when all of them are kept";
     with_option(alloc, command, "together", false, help)
 }
 
