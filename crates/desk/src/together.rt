@@ -305,9 +305,9 @@ fn answer_batch<K: Keep, W: Write>(
 ///
 /// After a fault the first of the requests are answered, and what is written is their lines, but after a failing write
 /// for a rest of those of the last batch. So want of memory leaves nothing done and not told. `Stopped` is answered only
-/// where the desk is stopped, and `Read` never. Of a desk that was not stopped before, a stop then leaves the rows behind
-/// the requests whose lines are written, or those behind a batch more, which is what the stopped desk shows; in every
-/// other case the rows of the desk's ledger alone. A desk that was stopped before answers none and changes nothing.
+/// where the desk is stopped, and `Read` never. Of a desk that was not stopped before, a stop then leaves the rows
+/// behind the requests whose lines are written, or those behind a batch more, which is what the stopped desk shows; in
+/// every other case the rows of the desk's ledger alone. A desk that was stopped before answers none and changes nothing.
 pub fn answer_together<K: Keep, W: Write>(
     alloc: Global,
     requests: &[Request],

@@ -18,7 +18,7 @@ use Rattle.web.specs.Serving.{stand}
 use Rattle.web.specs.Web.{Stand}
 use Rattle.stockdesk.specs.Connections.{AreServed, IsFoundAfterService, IsServed, ServesSome, Streams}
 use Rattle.desk.specs.Text.{items_of}
-use Rattle.stockdesk.specs.Requests.{at_once}
+use Rattle.stockdesk.specs.Requests.{most_together}
 use Rattle.std.specs.declared.num.NonZeroUsize.{NonZeroUsize}
 use Rattle.stockdesk.specs.Sessions.{IsNoDesk}
 use Rattle.stockdesk.specs.Work.{IsFoundAfterWork, WorkCut, WorkDone}
@@ -67,7 +67,7 @@ module _ (A : Ledger) (W w : Option (List ℕ)) (writes : Keeps W w) where
   pub nothing_found : (H : Type 0) (L : List Content → Type 0) (R r : Option (List ℕ)) → Keeps R r → (work : Work) → IsFoundAfterWork work H L A R r W w A
   nothing_found H L R r reads Script =
       ([], [], Consumes-kept _ _ _ _ (Consumes-nil R) reads, record { ended = []; rest = Some []; feeds = (refl, refl); all = refl }, no_items 1)
-  nothing_found H L R r reads (Requests kind csv together) = ([], no_items (at_once together))
+  nothing_found H L R r reads (Requests kind csv together) = ([], no_items (most_together together))
   nothing_found H L R r reads (Sheet shown) = refl
   nothing_found H L R r reads (Serve service) = (A, false, ([], omega arith, refl), inl refl)
 
@@ -83,7 +83,7 @@ module _ (H : Type 0) (holds : Content → Type 0) (leaves : List Content → Ty
 
   done_left : (work : Work) → is_stopped ≡ false → WorkDone work H leaves R r W w first last → LeavesRowsOf leaves (Found work)
   done_left Script going ends = only_last Script going (found_whole first last R r W w ends)
-  done_left (Requests kind csv together) going (kept, (requests, answered)) = only_last (Requests kind csv together) going (requests, found_all (at_once together) first W w (items_of requests) last answered)
+  done_left (Requests kind csv together) going (kept, (requests, answered)) = only_last (Requests kind csv together) going (requests, found_all (most_together together) first W w (items_of requests) last answered)
   done_left (Sheet shown) going (kept, same, sheet) = only_last (Sheet shown) going same
   done_left (Serve service) going (kept, told, (streams, size, served)) =
       service_left H leaves service.connections false holds first last good honest (streams, omega (arith, size), served) (λ e. stored going)
@@ -102,8 +102,8 @@ module _ (H : Type 0) (holds : Content → Type 0) (leaves : List Content → Ty
         left_as leaves (IsFoundAfterItems 1 first (items_of requests) W w) (Found (Requests kind csv None)) (λ B found. (requests, found))
         (cut_left first W w (items_of requests) (false ≡ false) H leaves last cause holds written good refl honest writes cut (λ other. stored (going (λ e. other (told.store.0 e)))))
     work_cut_left (Requests kind csv (Some most)) (reads, inr (requests, (cause, told, cut))) =
-        left_as leaves (IsFoundAfterItems (at_once (Some most)) first (items_of requests) W w) (Found (Requests kind csv (Some most))) (λ B found. (requests, found))
-        (lists_left cause (false ≡ false) H leaves holds (at_once (Some most)) first last requests W w good refl honest cut (λ other. stored (going (λ e. other (told.store.0 e)))))
+        left_as leaves (IsFoundAfterItems (most_together (Some most)) first (items_of requests) W w) (Found (Requests kind csv (Some most))) (λ B found. (requests, found))
+        (lists_left cause (false ≡ false) H leaves holds (most_together (Some most)) first last requests W w good refl honest cut (λ other. stored (going (λ e. other (told.store.0 e)))))
     work_cut_left (Sheet shown) (reads, same, inl (is, nothing)) = only_last (Sheet shown) (going (λ e. cc)) same
     work_cut_left (Sheet shown) (reads, same, inr (is, begun)) = only_last (Sheet shown) (going (λ e. cc)) same
     work_cut_left (Serve service) (reads, inl (inl is, begun, same)) = only_last (Serve service) (going (λ e. cc)) (first, false, ([], omega arith, refl), inl same)

@@ -48,9 +48,9 @@ RequestsAnswered requests writer_old writer_new first last =
     AnswersAll first (items_of requests) last writer_old writer_new
 
 -- how many are carried out together, where that is asked for; else each is alone
-abbrev pub at_once : Option NonZeroUsize → ℕ
-at_once None = 1
-at_once (Some most) = non_zero_usize_get most
+abbrev pub most_together : Option NonZeroUsize → ℕ
+most_together None = 1
+most_together (Some most) = non_zero_usize_get most
 
 -- the answers to the requests, one after the other or so many together, are cut, by a fault that is told so
 abbrev pub RequestsCut : Option NonZeroUsize → List Request → Fault → (is_honest : Type 0) → (List Content → Type 0)

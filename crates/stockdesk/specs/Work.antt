@@ -9,7 +9,7 @@ use Rattle.desk.specs.Script.{EndsWhole}
 use Rattle.words.specs.declared.command.Request.{Request}
 use Rattle.stockdesk.specs.Connections.{IsFoundAfterService, PortTold, ServesAll, ServiceCut}
 use Rattle.desk.specs.Text.{items_of}
-use Rattle.stockdesk.specs.Requests.{FileCut, RequestsAnswered, at_once}
+use Rattle.stockdesk.specs.Requests.{FileCut, RequestsAnswered, most_together}
 use Rattle.stockdesk.specs.Sessions.{IsNoDesk, ScriptCut, SessionInPart, SessionWhole}
 use Rattle.stockdesk.specs.Sheets.{SheetCut, SheetWritten}
 use Rattle.stockdesk.specs.declared.session.Fault.{Fault}
@@ -71,7 +71,7 @@ abbrev pub IsFoundAfterWork : Work → (is_honest : Type 0) → (leaves : List C
 IsFoundAfterWork Script is_honest leaves A reader_old reader_new writer_old writer_new B =
     IsFoundAfterLines A reader_old reader_new writer_old writer_new B
 IsFoundAfterWork (Requests kind csv together) is_honest leaves A reader_old reader_new writer_old writer_new B =
-    (requests : List Request) × IsFoundAfterItems (at_once together) A (items_of requests) writer_old writer_new B
+    (requests : List Request) × IsFoundAfterItems (most_together together) A (items_of requests) writer_old writer_new B
 IsFoundAfterWork (Sheet shown) is_honest leaves A reader_old reader_new writer_old writer_new B = B ≡ A
 IsFoundAfterWork (Serve service) is_honest leaves A reader_old reader_new writer_old writer_new B =
     IsFoundAfterService service.connections is_honest leaves A B

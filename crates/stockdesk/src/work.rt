@@ -68,9 +68,9 @@ fn work_on<K: Keep, R: Read, W: Write>(
 ///
 /// With Ok the work is done, from the desk's ledger on; a stop leaves the rows of the ledger behind it. After a fault a
 /// beginning of what was to be written is, and a stop leaves the rows of the ledger behind the answers, or, where the
-/// store failed, those or the rows after one request more, or after so many as are carried out together. Where no desk was opened nothing is read or written, the
-/// keeper holds what it held, and nothing is added to what a stop may leave. A keeper that was stopped comes back as it
-/// was.
+/// store failed, those or the rows after one request more, or after so many as are carried out together. Where no desk
+/// was opened nothing is read or written, the keeper holds what it held, and nothing is added to what a stop may leave.
+/// A keeper that was stopped comes back as it was.
 pub fn session<K: Keep, R: Read, W: Write>(
     rt: &HostRuntime,
     keep: K,
