@@ -1,5 +1,5 @@
 -- Rows among changes, as changes are appended.
-use Rattle.book.proofs.Prelude.{[], ◌++◌, ◌+◌, ◌<◌, ◌∙◌, ◌∷◌, ◌≡◌, Bool, Change, Content, FieldCells, FieldRow, FirmRow, KeptCells, KeptRow, Line, LineCells, LineRow, List, MoveRow, OrderCells, OrderRow, ap, append_assoc, arith, field_cells, firm_cells, firm_row, get_or, kept_cells, length, length-take-le, line_cells, line_rows, move_cells, order_cells, pos, refl, rows_among, sym, take, with_fields, with_firms, with_kept, with_lines, with_moves, with_orders, ℕ}
+use Rattle.book.proofs.Prelude.{[], ◌++◌, ◌+◌, ◌<◌, ◌∙◌, ◌∷◌, ◌≡◌, Bool, Change, Content, FieldCells, FieldRow, FirmRow, KeptCells, KeptRow, Line, LineCells, LineRow, List, MoveRow, OrderCells, OrderRow, ap, append_assoc, arith, field_cells, firm_cells, firm_row, get_or, kept_cells, length, length-take-le, line_cells, move_cells, order_cells, pos, refl, rows_among, sym, take, with_fields, with_firms, with_kept, with_lines, with_moves, with_orders, ℕ}
 use Rattle.book.specs.Rows.{MoveCells}
 use Rattle.book.specs.declared.rows.Change.TheVariants as change
 use Rattle.book.proofs.Lists.{take-step}
@@ -57,12 +57,3 @@ firm_last (c ∷ cs) r = let more = firm_last cs r in grind arith
 -- one row more in that table
 pub firm_pushed : (old new : List Change) (r : FirmRow) (n : ℕ) → new ≡ old ++ change.Firm r ∷ [] → r.number ≡ pos n → rows_among new ≡ with_firms (firm_row n ∷ []) (rows_among old)
 firm_pushed old new r n e is = ap rows_among e ∙ firm_last old r ∙ ap (λ z. with_firms (record { number = z } ∷ []) (rows_among old)) is
-
--- ---- rows of lines, one more at a time
-
-line_rows-push : (t : Line → Bool) (n nr : ℕ) (ls : List Line) (l : Line) → line_rows t n nr (ls ++ l ∷ []) ≡ line_rows t n nr ls ++ line_rows t n (nr + length ls) (l ∷ [])
-line_rows-push t n nr [] l = ap (λ k. line_rows t n k (l ∷ [])) (omega arith)
-line_rows-push t n nr (m ∷ ms) l = let more = line_rows-push t n (nr + 1) ms l in grind arith
-
-pub line_rows-step : (t : Line → Bool) (n : ℕ) (ls : List Line) (i : ℕ) (l : Line) → i < length ls → l ≡ get_or ls i l → line_rows t n 1 (take (i + 1) ls) ≡ line_rows t n 1 (take i ls) ++ line_rows t n (i + 1) (l ∷ [])
-line_rows-step t n ls i l h e = grind (arith, (take-step ls i l h e), length-take-le, line_rows-push)

@@ -1,19 +1,18 @@
--- The fields that a request makes or changes, and what the lines of orders that end give back to them.
-use Rattle.book.proofs.Prelude.{held_to_add, held_to_take, Accepts, Add, Bool, Command, Each, Equal, Err, Field, FieldCells, FieldEntry, FirstFailure, Counts, CountsAll, Good, Greater, HasEntry, IfOk, IsChangedField, IsGoodLine, IsGoodOrder, IsSome, IsStrictlySortedBy, IsUpToDate, Ledger, Less, Line, List, MayGiveBack, Name, None, Ok, OnOk, OpenLine, Option, Order, Ordering, Puts, Request, Result, Some, Stock, Take, Way, [], accept, ap, arith, changes_field, checks, common_steps, cond, drop, entry_row, expired_lines, false, field_named, field_of, find, flat_map, get_or, giving_back, held_of, holding, if_add, if_take, if◌then◌else◌, insert_entry, ints, is_at, is_eq, is_open, is_some, keys_of, length, line_name, list_any, lookup, map, match_ordering, name_cmp, new_line, next, not, on, order_after, order_number, order_numbered, ordering_reverse, pos, refl, same_name, subst, sym, take, tied_itself, total, true, true≢false, ℕ, ℤ, ◌&&◌, ◌++◌, ◌+ℤ◌, ◌+◌, ◌<◌, ◌==◌, ◌||◌, ◌∙◌, ◌∷◌, ◌≡◌, ◌≤ℤ◌, ◌≤◌, ◌-ℤ◌}
-use Rattle.book.specs.RunningNumbers.{IsOneOf, lines_add, lines_take}
-use Rattle.book.proofs.OutcomeTests.{map-push, same_self, total-push}
+-- The fields that a request makes or changes, put in one after the other, and what lines add to them.
+use Rattle.book.proofs.Prelude.{held_to_add, held_to_take, Accepts, Add, Bool, Command, Each, Equal, Err, Field, FieldCells, FieldEntry, FirstFailure, Counts, CountsAll, Good, Greater, HasEntry, IfOk, IsChangedField, IsGoodLine, IsGoodOrder, IsSome, IsStrictlySortedBy, IsUpToDate, Ledger, Less, Line, List, Name, None, Ok, OnOk, OpenLine, Option, Order, Ordering, Request, Result, Some, Stock, Take, Way, [], accept, ap, arith, changes_field, checks, common_steps, cond, drop, entry_row, false, field_named, field_of, find, flat_map, get_or, giving_back, held_of, holding, if_add, if_take, if◌then◌else◌, insert_entry, ints, is_at, is_eq, is_open, is_some, keys_of, length, line_name, list_any, lookup, map, match_ordering, name_cmp, new_line, next, not, on, order_numbered, ordering_reverse, pos, refl, same_name, subst, sym, take, tied_itself, total, true, true≢false, ℕ, ℤ, ◌&&◌, ◌++◌, ◌+ℤ◌, ◌+◌, ◌<◌, ◌==◌, ◌||◌, ◌∙◌, ◌∷◌, ◌≡◌, ◌≤ℤ◌, ◌≤◌, ◌-ℤ◌, AreHeld, Becomes, CountsMore, MayCount, Share, ShareStep, add_part, added_on, before_on, new_share, no_share, settled, settled_part, share_numbers, take_part, append-nil, append_assoc, name_of}
+use Rattle.book.specs.RunningNumbers.{IsOneOf}
+use Rattle.book.proofs.OutcomeTests.{same_self, total-push}
 use Rattle.std.specs.Result.{IsOkAnd}
 use Rattle.index.specs.declared.in_order.InOrder.{InOrder}
 use Rattle.words.specs.declared.reply.Memory.{Memory}
-use Rattle.book.proofs.Bounds.{OneOn, adds, adds-not_negative, takes, takes-not_negative}
-use Rattle.book.proofs.Lists.{any_none, cut_at, each-next, found_passes, number_is, or_right, some_is, take-step}
+use Rattle.book.proofs.Lists.{or_right, some_is, take-step}
 use Rattle.book.proofs.Futures.{name_is}
 use Rattle.book.proofs.Safety.{other_way}
 use Rattle.book.proofs.KeyPlaces.{equal_field, same_field}
-use Rattle.book.proofs.CommandOrder.{each-found, made_there, no_number}
 use Rattle.book.proofs.GoodParts.{name_cmp_total}
-use Rattle.book.proofs.Sums.{each, each-both, each-imp, total-le, total-zero}
+use Rattle.book.proofs.Sums.{each, each-imp}
 use Rattle.book.proofs.RunningNumbers.{numbers_up, off}
+use Rattle.book.proofs.Steps.{StaysAlike, each-append, none_added, total-append}
 
 -- ---- the fields that a request makes or changes, put in one after the other by their names
 
@@ -156,110 +155,146 @@ each_at_name P name (e ∷ l) v all there = by (name_cmp name e.0) refl there (�
     by Equal o is more = subst (λ (v : FieldEntry). P (name, v)) (some_is e.1 v is) (subst (λ (k : Name). P (k, e.1)) (sym (equal_field name e.0 o)) all.0)
     by c o is more = more is
 
--- ---- the lines of the order that the request makes
+-- ---- sums over the lines so far
 
--- each line is the one that is found on its field
-pub found_itself : (ls : List Line) → ((f : Name) → OneOn f ls) → Each (λ l. find (on (line_name l)) ls ≡ Some l) ls
-found_itself [] one = tt
-found_itself (l ∷ ls) one = (
-  ap (λ b. if b then Some l else find (on (line_name l)) ls) (same_self (line_name l)),
-  each-both (λ m other there. ap (λ b. if b then Some l else find (on (line_name m)) ls) other ∙ there) ls (others ls (λ m. m) (one (line_name l)).0) (found_itself ls (λ f. (one f).1)),
-)
+on_itself : (f : Name) (z : ℤ) → (if same_name f f then z else pos 0) ≡ z
+on_itself f z = ap (λ b. if b then z else pos 0) (same_self f)
+
+abbrev added : (Way → Share → ℤ) → Name → ShareStep → ℤ
+added part f s = if same_name f s.name then part s.way s.after -ℤ part s.way s.before else pos 0
+
+-- what is added is at least the loss of all that there was
+pub after_on : (part : Way → Share → ℤ) → ((w : Way) (s : Share) → pos 0 ≤ℤ part w s) → (f : Name) (xs : List ShareStep) → pos 0 ≤ℤ (added_on part f xs +ℤ before_on part f xs)
+after_on part least f [] = omega (arith, ints)
+after_on part least f (x ∷ xs) = by (same_name f x.name) (least x.way x.after) (after_on part least f xs)
   where
-    others : (ms : List Line) → (Line → Line) → (on (line_name l) l ≡ true → Each (λ m. on (line_name l) m ≡ false) ms) → Each (λ m. on (line_name m) l ≡ false) ms
-    others ms g apart = each-imp (λ m e. other_way (line_name l) (line_name m) e) ms (apart (same_self (line_name l)))
+    by : (b : Bool) → pos 0 ≤ℤ part x.way x.after → pos 0 ≤ℤ (added_on part f xs +ℤ before_on part f xs)
+        → pos 0 ≤ℤ (((if b then part x.way x.after -ℤ part x.way x.before else pos 0) +ℤ added_on part f xs) +ℤ ((if b then part x.way x.before else pos 0) +ℤ before_on part f xs))
+    by true one more = omega (arith, ints)
+    by false one more = omega (arith, ints)
 
--- what the request makes under a number has that number
-pub number_of_made : (A : Ledger) (c : Command) (o : Order) → FirstFailure (checks A c) None → order_after A c ≡ Some o → order_number c ≡ Some o.number
-number_of_made A c o passed made = grind (arith, no_number, number_is, found_passes, made_there)
-
--- the order that is made is a good one of the next ledger
-pub made_good : (A : Ledger) (r : Request) (o : Order) → Accepts A r → order_after A r.command ≡ Some o → IsGoodOrder (accept A r) o
-made_good A r o a made = each-found (IsGoodOrder (accept A r)) (λ m. m.number == o.number) o (accept A r).orders a.after.orders (made_there A r.command o.number a.accepted.1 (number_of_made A r.command o a.accepted.1 made) ∙ made)
-
--- it makes no field and changes no bounds
-pub made_keeps : (A : Ledger) (c : Command) (o : Order) → order_after A c ≡ Some o → (next A c).fields ≡ A.fields
-made_keeps x c o made = grind arith
-
--- the field of one of its lines is there
-pub line_there : (A : Ledger) (r : Request) (o : Order) (l : Line) → Accepts A r → order_after A r.command ≡ Some o → find (on (line_name l)) o.lines ≡ Some l → IsSome (field_named A (line_name l))
-line_there A r o l a made found = subst (λ fs. IsSome (find (λ e. same_name (line_name l) e.name) fs)) (made_keeps A r.command o made) (each-found (IsGoodLine (accept A r)) (on (line_name l)) l o.lines (made_good A r o a made).lines found).field
-
--- one line more
-pub lines_step : (A : Ledger) (r : Request) (lines ls : List Line) (i : ℕ) (x : Line) (C D : List (Name × FieldEntry)) → lines ≡ ls → i < length ls → x ≡ get_or ls i x → Each (IsChangedField A r) C
-    → Each (λ y. changes_field A r.command (line_name y) ≡ true → HasEntry C (line_name y)) (take i lines) → (changes_field A r.command (line_name x) ≡ true → Puts A r (line_name x) C D) → (changes_field A r.command (line_name x) ≡ false → D ≡ C)
-    → Each (IsChangedField A r) D × Each (λ y. changes_field A r.command (line_name y) ≡ true → HasEntry D (line_name y)) (take (i + 1) lines)
-lines_step A r lines ls i x C D same within is each all changed left = subst (λ (ls : List Line). i < length ls → x ≡ get_or ls i x → Each (IsChangedField A r) D × Each (λ y. changes_field A r.command (line_name y) ≡ true → HasEntry D (line_name y)) (take (i + 1) lines)) same
-    (λ within is. by (changes_field A r.command (line_name x)) refl within is) within is
+before_least : (part : Way → Share → ℤ) → ((w : Way) (s : Share) → pos 0 ≤ℤ part w s) → (f : Name) (xs : List ShareStep) → pos 0 ≤ℤ before_on part f xs
+before_least part least f [] = omega (arith, ints)
+before_least part least f (x ∷ xs) = by (same_name f x.name) (least x.way x.before) (before_least part least f xs)
   where
-    by : (b : Bool) → changes_field A r.command (line_name x) ≡ b → i < length lines → x ≡ get_or lines i x → Each (IsChangedField A r) D × Each (λ y. changes_field A r.command (line_name y) ≡ true → HasEntry D (line_name y)) (take (i + 1) lines)
-    by true e within is =
-        let put = changed e in
-        let new = put.put in (
-          subst (Each (IsChangedField A r)) (sym new) (each_put (IsChangedField A r) C (line_name x) put.entry put.changed each),
-          each-next (λ y. changes_field A r.command (line_name y) ≡ true → HasEntry D (line_name y)) lines i x within is
-              (each-imp (λ y has c. subst (λ (E : List (Name × FieldEntry)). HasEntry E (line_name y)) (sym new) (put_there C (line_name x) (line_name y) put.entry (has c))) (take i lines) all)
-              (λ c. subst (λ (E : List (Name × FieldEntry)). HasEntry E (line_name x)) (sym new) (put_self C (line_name x) put.entry)),
-        )
-    by false e within is = grind (arith, ints, common_steps, each-imp, each-next)
+    by : (b : Bool) → pos 0 ≤ℤ part x.way x.before → pos 0 ≤ℤ before_on part f xs → pos 0 ≤ℤ ((if b then part x.way x.before else pos 0) +ℤ before_on part f xs)
+    by true one more = omega (arith, ints)
+    by false one more = omega (arith, ints)
 
--- ---- what lines give back, as the orders end that hold it
+take_least : (w : Way) (s : Share) → pos 0 ≤ℤ take_part w s
+take_least w s = omega (arith, ints)
 
--- ---- sums over lines
+add_least : (w : Way) (s : Share) → pos 0 ≤ℤ add_part w s
+add_least w s = omega (arith, ints)
 
-total-append : {X : Type 0} (g : X → ℤ) (xs ys : List X) → total g (xs ++ ys) ≡ total g xs +ℤ total g ys
-total-append g [] ys = omega (arith, ints)
-total-append g (x ∷ xs) ys = let more = total-append g xs ys in omega (arith, ints)
+-- of steps that are held, those in front are
+pub held_front : (A : Ledger) (xs ys : List ShareStep) → AreHeld A (xs ++ ys) → AreHeld A xs
+held_front A xs ys held n =
+    let h = held n in
+    let takes = total-append (λ (s : ShareStep). if same_name n s.name then take_part s.way s.before else pos 0) xs ys in
+    let adds = total-append (λ (s : ShareStep). if same_name n s.name then add_part s.way s.before else pos 0) xs ys in
+    let more_takes = before_least take_part take_least n ys in let more_adds = before_least add_part add_least n ys in
+    let t = h.0 in let a = h.1 in
+    (omega (arith, ints), omega (arith, ints))
 
-pub total-flat : {X Y : Type 0} (g : Y → ℤ) (f : X → List Y) (xs : List X) → total g (flat_map f xs) ≡ total (λ x. total g (f x)) xs
-total-flat g f [] = refl
-total-flat g f (x ∷ xs) = let first = total-append g (f x) (flat_map f xs) in let more = total-flat g f xs in omega (arith, ints)
+-- ---- the entry so far
+
+pub from_entries : (A : Ledger) (done : List ShareStep) (C : List (Name × FieldEntry)) (n : Name) (v : FieldEntry) → CountsAll A done C → lookup (is_at (name_cmp n)) C ≡ Some v → Counts A done (n, v)
+from_entries A done C n v counts there = each_at_name (Counts A done) n C v counts.each there
+
+-- none of these lines changes the stock of the field
+not_counted : (A : Ledger) (done : List ShareStep) (n : Name) (v : FieldEntry) → Each StaysAlike done → list_any (λ s. same_name n s.name && s.changes) done ≡ false → IsUpToDate A (n, v) → field_named A n ≡ Some (field_of (n, v)) → Counts A done (n, v)
+not_counted A done n v alike none up there =
+    let numbers = numbers_up A n v up in
+    let value = none_added settled_part n done alike none in let takes = none_added take_part n done alike none in let adds = none_added add_part n done alike none in
+    record { there = there; value = omega (arith, ints); takes = omega (arith, ints); adds = omega (arith, ints) }
+
+pub from_book : (A : Ledger) (done : List ShareStep) (C : List (Name × FieldEntry)) (n : Name) (v : FieldEntry) → CountsAll A done C → lookup (is_at (name_cmp n)) C ≡ None → IsUpToDate A (n, v) → field_named A n ≡ Some (field_of (n, v)) → Counts A done (n, v)
+from_book A done C n v counts none up there = not_counted A done n v counts.alike (sym (counts.all n) ∙ ap is_some none) up there
+
+-- ---- one line more
+
+-- so much is held of what the line counted for
+pub line_held : (A : Ledger) (done : List ShareStep) (s : ShareStep) (v : FieldEntry) → Counts A done (s.name, v) → AreHeld A (done ++ s ∷ []) → s.before.held ≤ held_of v.quantity s.way
+line_held A done s v counts held = by s.way refl
+  where
+    by : (w : Way) → s.way ≡ w → s.before.held ≤ held_of v.quantity w
+    by Take is =
+        let h = (held s.name).0 in
+        let all = total-push (λ (x : ShareStep). if same_name s.name x.name then take_part x.way x.before else pos 0) done s in
+        let own = on_itself s.name (take_part s.way s.before) in
+        let way : take_part s.way s.before ≡ pos s.before.held = ap (λ w. pos (if_take w s.before.held)) is in
+        let least = after_on take_part take_least s.name done in
+        let takes = counts.takes in
+        omega (arith, ints)
+    by Add is =
+        let h = (held s.name).1 in
+        let all = total-push (λ (x : ShareStep). if same_name s.name x.name then add_part x.way x.before else pos 0) done s in
+        let own = on_itself s.name (add_part s.way s.before) in
+        let way : add_part s.way s.before ≡ pos s.before.held = ap (λ w. pos (if_add w s.before.held)) is in
+        let least = after_on add_part add_least s.name done in
+        let adds = counts.adds in
+        omega (arith, ints)
+
+counted_itself : (A : Ledger) (done : List ShareStep) (s : ShareStep) (v : FieldEntry) (new : Stock) → Becomes v.quantity (share_numbers s.way s.before) (share_numbers s.way s.after) new → Counts A done (s.name, v) → Counts A (done ++ s ∷ []) (s.name, record { start = v.start; quantity = new })
+counted_itself A done s v new becomes counts =
+    let value = total-push (added settled_part s.name) done s in let own_value = on_itself s.name (settled_part s.way s.after -ℤ settled_part s.way s.before) in
+    let takes = total-push (added take_part s.name) done s in let own_takes = on_itself s.name (take_part s.way s.after -ℤ take_part s.way s.before) in
+    let adds = total-push (added add_part s.name) done s in let own_adds = on_itself s.name (add_part s.way s.after -ℤ add_part s.way s.before) in
+    let value_was = counts.value in let takes_was = counts.takes in let adds_was = counts.adds in
+    let value_is = becomes.value in let takes_is = becomes.takes in let adds_is = becomes.adds in
+    record {
+      there = counts.there ∙ ap (λ (b : ℕ × ℕ). Some (record { name = s.name; lo = b.0; hi = b.1; start = v.start })) (λ i. (sym becomes.lo i, sym becomes.hi i));
+      value = omega (arith, ints);
+      takes = omega (arith, ints);
+      adds = omega (arith, ints);
+    }
+
+-- an entry for which a line more counts nothing
+nothing_more : (A : Ledger) (done : List ShareStep) (s : ShareStep) (e : Name × FieldEntry) → ((part : Way → Share → ℤ) → added part e.0 s ≡ pos 0) → Counts A done e → Counts A (done ++ s ∷ []) e
+nothing_more A done s e none counts = record {
+  there = counts.there;
+  value = counts.value ∙ ap (λ z. settled A (field_of e) +ℤ z) (sym (same settled_part));
+  takes = counts.takes ∙ ap (λ z. held_to_take A e.0 +ℤ z) (sym (same take_part));
+  adds = counts.adds ∙ ap (λ z. held_to_add A e.0 +ℤ z) (sym (same add_part));
+}
+  where
+    same : (part : Way → Share → ℤ) → added_on part e.0 (done ++ s ∷ []) ≡ added_on part e.0 done
+    same part = let all = total-push (added part e.0) done s in let no = none part in omega (arith, ints)
+
+counted_other : (A : Ledger) (done : List ShareStep) (s : ShareStep) (e : Name × FieldEntry) → same_name e.0 s.name ≡ false → Counts A done e → Counts A (done ++ s ∷ []) e
+counted_other A done s e other counts = nothing_more A done s e (λ part. off (same_name e.0 s.name) _ other) counts
+
+alike-push : (done : List ShareStep) (s : ShareStep) → Each StaysAlike done → StaysAlike s → Each StaysAlike (done ++ s ∷ [])
+alike-push done s all one = each-append StaysAlike done (s ∷ []) all (one, tt)
 
 pub any-append : {X : Type 0} (t : X → Bool) (xs : List X) (y : X) → list_any t (xs ++ y ∷ []) ≡ (list_any t xs || t y)
 any-append t [] y = grind arith
 any-append t (x ∷ xs) y = let more = any-append t xs y in grind arith
 
-pub any_there : (f : Name) (ls : List Line) → is_some (find (on f) ls) ≡ list_any (on f) ls
-any_there f [] = refl
-any_there f (l ∷ ls) = let more = any_there f ls in grind arith
+pub any-push : (n : Name) (done : List ShareStep) (s : ShareStep) → list_any (λ x. same_name n x.name && x.changes) (done ++ s ∷ []) ≡ (list_any (λ x. same_name n x.name && x.changes) done || (same_name n s.name && s.changes))
+any-push n done s = any-append (λ (x : ShareStep). same_name n x.name && x.changes) done s
 
--- no line on the field holds anything there
-none_held : (n : Name) (g : Line → ℤ) (ls : List Line) → list_any (on n) ls ≡ false → total (λ l. if on n l then g l else pos 0) ls ≡ pos 0
-none_held n g ls e = total-zero (λ l. if on n l then g l else pos 0) ls (each-imp (λ l k. off (on n l) (g l) k) ls (any_none (on n) ls e))
-
--- ---- the entry so far
-
-pub from_entries : (A : Ledger) (ls : List Line) (C : List (Name × FieldEntry)) (n : Name) (v : FieldEntry) → CountsAll ◌-ℤ◌ A ls C → lookup (is_at (name_cmp n)) C ≡ Some v → Counts ◌-ℤ◌ A ls (n, v)
-from_entries A ls C n v gives there = each_at_name (Counts ◌-ℤ◌ A ls) n C v gives.each there
-
-pub from_book : (A : Ledger) (ls : List Line) (C : List (Name × FieldEntry)) (n : Name) (v : FieldEntry) → CountsAll ◌-ℤ◌ A ls C → lookup (is_at (name_cmp n)) C ≡ None → IsUpToDate A (n, v) → field_named A n ≡ Some (field_of (n, v)) → Counts ◌-ℤ◌ A ls (n, v)
-from_book A ls C n v gives none up there =
-    let not = sym (gives.all n) ∙ ap is_some none in
-    let takes = none_held n (λ l. pos (if_take l.way l.held)) ls not in
-    let adds = none_held n (λ l. pos (if_add l.way l.held)) ls not in
-    let numbers = numbers_up A n v up in
-    record { there = there; value = numbers.0; takes = omega (arith, ints); adds = omega (arith, ints) }
-
--- ---- one line gives back
-
-abbrev part : Bool → ℤ → ℤ
-part b z = if b then z else pos 0
-
-on_itself : (l : Line) (z : ℤ) → part (on (line_name l) l) z ≡ z
-on_itself l z = ap (λ b. part b z) (same_self (line_name l))
-
-pub held_there : (A : Ledger) (ls : List Line) (l : Line) (v : FieldEntry) → Counts ◌-ℤ◌ A ls (line_name l, v) → MayGiveBack A (ls ++ l ∷ []) → l.held ≤ held_of v.quantity l.way
-held_there A ls l v given may = grind (arith, ints, (total-push (λ m. if on (line_name l) m then pos (if_take m.way m.held) else pos 0) ls l), (total-push (λ m. if on (line_name l) m then pos (if_add m.way m.held) else pos 0) ls l), on_itself)
-
-given_itself : (A : Ledger) (ls : List Line) (l : Line) (v : FieldEntry) (w : Way) → l.way ≡ w → l.held ≤ held_of v.quantity w → Counts ◌-ℤ◌ A ls (line_name l, v) → Counts ◌-ℤ◌ A (ls ++ l ∷ []) (line_name l, record { start = v.start; quantity = giving_back v.quantity w l.held })
-given_itself A ls l v Take is held given = grind (arith, common_steps, total-push, on_itself, takes, adds)
-given_itself A ls l v Add is held given = grind (arith, common_steps, total-push, on_itself, takes, adds)
-
-counted_other : (sum : ℤ → ℤ → ℤ) (A : Ledger) (ls : List Line) (l : Line) (e : Name × FieldEntry) → same_name e.0 (line_name l) ≡ false → Counts sum A ls e → Counts sum A (ls ++ l ∷ []) e
-counted_other sum A ls l e other counts = record { there = counts.there; value = counts.value; takes = counts.takes ∙ ap (sum (held_to_take A e.0)) (sym (same (λ m. pos (if_take m.way m.held)))); adds = counts.adds ∙ ap (sum (held_to_add A e.0)) (sym (same (λ m. pos (if_add m.way m.held)))) }
+-- one that does not change its stock
+pub line_skipped : (A : Ledger) (s : ShareStep) (C : List (Name × FieldEntry)) → s.changes ≡ false → StaysAlike s → CountsMore A (s ∷ []) C C
+line_skipped A s C not alike done counts held = record {
+  each = each-imp (λ e c. nothing_more A done s e (λ part. zero part e) c) C counts.each;
+  all = λ n. counts.all n ∙ sym (any-push n done s ∙ skipped n (list_any (λ x. same_name n x.name && x.changes) done) (same_name n s.name));
+  alike = alike-push done s counts.alike alike;
+}
   where
-    same : (g : Line → ℤ) → total (λ m. if on e.0 m then g m else pos 0) (ls ++ l ∷ []) ≡ total (λ m. if on e.0 m then g m else pos 0) ls
-    same g = let all = total-push (λ m. if on e.0 m then g m else pos 0) ls l in let none = off (on e.0 l) (g l) other in omega (arith, ints)
+    zero : (part : Way → Share → ℤ) (e : Name × FieldEntry) → added part e.0 s ≡ pos 0
+    zero part e = by (same_name e.0 s.name)
+      where
+        by : (b : Bool) → (if b then part s.way s.after -ℤ part s.way s.before else pos 0) ≡ pos 0
+        by true = let same = ap (part s.way) (alike not) in omega (arith, ints)
+        by false = refl
+
+    skipped : (n : Name) (x y : Bool) → (x || (y && s.changes)) ≡ x
+    skipped n x y = rw not (by x y)
+      where
+        by : (x y : Bool) → (x || (y && false)) ≡ x
+        by x y = grind arith
 
 -- one put among others in their order
 put_other : (P Q : Name × FieldEntry → Type 0) (n : Name) (v : FieldEntry) → Q (n, v) → ((e : Name × FieldEntry) → same_name e.0 n ≡ false → P e → Q e) → (C : List (Name × FieldEntry)) → IsStrictlySortedBy name_cmp (keys_of C) → Each P C → Each Q (insert_entry name_cmp C n v)
@@ -283,62 +318,68 @@ put_other P Q n v own other (e ∷ C) sorted all = by (name_cmp n e.0) refl (put
     by Equal is more = (subst (λ (k : Name). Q (k, v)) (equal_field n e.0 is) own, same C (equal_field n e.0 is) sorted.0 all.1)
     by Greater is more = (other e (not_equal Greater is refl) all.0, more)
 
--- the field of one line more is put in
-counted : (sum : ℤ → ℤ → ℤ) (A : Ledger) (ls : List Line) (l : Line) (v : FieldEntry) (C D : List (Name × FieldEntry)) → IsStrictlySortedBy name_cmp (keys_of C) → CountsAll sum A ls C → Counts sum A (ls ++ l ∷ []) (line_name l, v) → D ≡ insert_entry name_cmp C (line_name l) v → CountsAll sum A (ls ++ l ∷ []) D
-counted sum A ls l v C D sorted all own put = subst (CountsAll sum A (ls ++ l ∷ [])) (sym put) (record {
-  each = put_other (Counts sum A ls) (Counts sum A (ls ++ l ∷ [])) (line_name l) v own (λ e other c. counted_other sum A ls l e other c) C sorted all.each;
-  all = λ n. put_has C (line_name l) n v ∙ (λ i. all.all n i || sym (same_field n (line_name l)) i) ∙ sym (any-append (on n) ls l);
+-- one that changes it, its field put in
+counted : (A : Ledger) (done : List ShareStep) (s : ShareStep) (v : FieldEntry) (C D : List (Name × FieldEntry)) → s.changes ≡ true → IsStrictlySortedBy name_cmp (keys_of C) → CountsAll A done C → Counts A (done ++ s ∷ []) (s.name, v) → D ≡ insert_entry name_cmp C s.name v → CountsAll A (done ++ s ∷ []) D
+counted A done s v C D changes sorted all own put = subst (CountsAll A (done ++ s ∷ [])) (sym put) (record {
+  each = put_other (Counts A done) (Counts A (done ++ s ∷ [])) s.name v own (λ e other c. counted_other A done s e other c) C sorted all.each;
+  all = λ n. put_has C s.name n v ∙ (λ i. all.all n i || sym (same_field n s.name) i) ∙ (λ i. list_any (λ x. same_name n x.name && x.changes) done || (sym (and_true (same_name n s.name)) ∙ ap (λ b. same_name n s.name && b) (sym changes)) i) ∙ sym (any-push n done s);
+  alike = alike-push done s all.alike (λ e. absurd (true≢false (sym changes ∙ e)));
 })
+  where
+    and_true : (b : Bool) → (b && true) ≡ b
+    and_true b = grind arith
 
-pub line_given : (A : Ledger) (ls : List Line) (l : Line) (v : FieldEntry) (new : Stock) (C D : List (Name × FieldEntry)) → IsStrictlySortedBy name_cmp (keys_of C) → CountsAll ◌-ℤ◌ A ls C → MayGiveBack A (ls ++ l ∷ []) → Counts ◌-ℤ◌ A ls (line_name l, v)
-    → new ≡ giving_back v.quantity l.way l.held → D ≡ insert_entry name_cmp C (line_name l) (record { start = v.start; quantity = new }) → CountsAll ◌-ℤ◌ A (ls ++ l ∷ []) D
-line_given A ls l v new C D sorted gives may given is put =
-    counted ◌-ℤ◌ A ls l (record { start = v.start; quantity = giving_back v.quantity l.way l.held }) C D sorted gives (given_itself A ls l v l.way refl (held_there A ls l v given may) given)
-    (put ∙ ap (λ (q : Stock). insert_entry name_cmp C (line_name l) (record { start = v.start; quantity = q })) is)
+pub line_counted : (A : Ledger) (s : ShareStep) (v : FieldEntry) (new : Stock) (C D : List (Name × FieldEntry)) → s.changes ≡ true → IsStrictlySortedBy name_cmp (keys_of C) → ((done : List ShareStep) → CountsAll A done C → Counts A done (s.name, v)) → Becomes v.quantity (share_numbers s.way s.before) (share_numbers s.way s.after) new
+    → D ≡ insert_entry name_cmp C s.name (record { start = v.start; quantity = new }) → CountsMore A (s ∷ []) C D
+line_counted A s v new C D changes sorted so_far becomes put done counts held = counted A done s (record { start = v.start; quantity = new }) C D changes sorted counts (counted_itself A done s v new becomes (so_far done counts)) put
+
+-- ---- lines one after the other
+
+pub counts-nothing : (A : Ledger) (C : List (Name × FieldEntry)) → CountsMore A [] C C
+counts-nothing A C done counts held = subst (λ (xs : List ShareStep). CountsAll A xs C) (sym (append-nil done)) counts
+
+pub counts-then : (A : Ledger) (xs ys : List ShareStep) (C D E : List (Name × FieldEntry)) → CountsMore A xs C D → CountsMore A ys D E → CountsMore A (xs ++ ys) C E
+counts-then A xs ys C D E first second done counts held =
+    let joined = append_assoc done xs ys in
+    let all = subst (AreHeld A) (sym joined) held in
+    subst (λ (zs : List ShareStep). CountsAll A zs E) joined (second (done ++ xs) (first done counts (held_front A (done ++ xs) ys all)) all)
+
+-- what may be counted may be in parts
+pub may-first : (A : Ledger) (xs ys : List ShareStep) (C : List (Name × FieldEntry)) → MayCount A (xs ++ ys) C → MayCount A xs C
+may-first A xs ys C may = (may.0, may.1, held_front A (may.0 ++ xs) ys (subst (AreHeld A) (sym (append_assoc may.0 xs ys)) may.2))
+
+pub may-then : (A : Ledger) (xs ys : List ShareStep) (C D : List (Name × FieldEntry)) → MayCount A (xs ++ ys) C → CountsMore A xs C D → MayCount A ys D
+may-then A xs ys C D may first = let held = subst (AreHeld A) (sym (append_assoc may.0 xs ys)) may.2 in (may.0 ++ xs, first may.0 may.1 (held_front A (may.0 ++ xs) ys held), held)
 
 -- ---- one line of a new order
 
-held_itself : (A : Ledger) (ls : List Line) (l : Line) (v : FieldEntry) (w : Way) → l.way ≡ w → list_any (on (line_name l)) ls ≡ false → IsUpToDate A (line_name l, v) → field_named A (line_name l) ≡ Some (field_of (line_name l, v)) → Counts ◌+ℤ◌ A (ls ++ l ∷ []) (line_name l, record { start = v.start; quantity = holding v.quantity w l.held })
-held_itself A ls l v w is none up there =
-    let g = λ (m : Line). if on (line_name l) m then pos (if_take m.way m.held) else pos 0 in
-    let h = λ (m : Line). if on (line_name l) m then pos (if_add m.way m.held) else pos 0 in
-    by w (total-push g ls l ∙ (λ i. none_held (line_name l) (λ m. pos (if_take m.way m.held)) ls none i +ℤ (on_itself l (pos (if_take l.way l.held)) ∙ ap (λ w. pos (if_take w l.held)) is) i))
-    (total-push h ls l ∙ (λ i. none_held (line_name l) (λ m. pos (if_add m.way m.held)) ls none i +ℤ (on_itself l (pos (if_add l.way l.held)) ∙ ap (λ w. pos (if_add w l.held)) is) i))
-  where
-    by : (w : Way) → lines_take (line_name l) (ls ++ l ∷ []) ≡ pos 0 +ℤ pos (if_take w l.held) → lines_add (line_name l) (ls ++ l ∷ []) ≡ pos 0 +ℤ pos (if_add w l.held) → Counts ◌+ℤ◌ A (ls ++ l ∷ []) (line_name l, record { start = v.start; quantity = holding v.quantity w l.held })
-    by Take take add = let n = numbers_up A (line_name l) v up in record { there = there; value = n.0; takes = omega (arith, ints); adds = omega (arith, ints) }
-    by Add take add = let n = numbers_up A (line_name l) v up in record { there = there; value = n.0; takes = omega (arith, ints); adds = omega (arith, ints) }
+holding_becomes : (q : Stock) (w : Way) (held : ℕ) → Becomes q (share_numbers w no_share) (share_numbers w (record { settled = 0; held = held })) (holding q w held)
+holding_becomes q Take held = record { lo = refl; hi = refl; value = omega (arith, ints); takes = omega (arith, ints); adds = omega (arith, ints) }
+holding_becomes q Add held = record { lo = refl; hi = refl; value = omega (arith, ints); takes = omega (arith, ints); adds = omega (arith, ints) }
 
-pub line_held : (A : Ledger) (ls : List Line) (l : Line) (v new : FieldEntry) (C D : List (Name × FieldEntry)) → IsStrictlySortedBy name_cmp (keys_of C) → CountsAll ◌+ℤ◌ A ls C → is_some (find (on (line_name l)) ls) ≡ false → IsUpToDate A (line_name l, v) → field_named A (line_name l) ≡ Some (field_of (line_name l, v))
-    → new ≡ record { start = v.start; quantity = holding v.quantity l.way l.held } → D ≡ insert_entry name_cmp C (line_name l) new → CountsAll ◌+ℤ◌ A (ls ++ l ∷ []) D
-line_held A ls l v new C D sorted holds alone up there is put =
-    counted ◌+ℤ◌ A ls l new C D sorted holds (subst (λ (v : FieldEntry). Counts ◌+ℤ◌ A (ls ++ l ∷ []) (line_name l, v)) (sym is) (held_itself A ls l v l.way refl (sym (any_there (line_name l) ls) ∙ alone) up there)) put
+-- the lines so far are all new, and none is on the field
+none_new : (f : Name) (ls : List OpenLine) → is_some (find (on f) (map new_line ls)) ≡ false → list_any (λ s. same_name f s.name && s.changes) (map new_share ls) ≡ false
+none_new f [] e = refl
+none_new f (l ∷ ls) e = by (same_name f (name_of l.branch l.article)) e (none_new f ls)
+  where
+    by : (b : Bool) → is_some (if b then Some (new_line l) else find (on f) (map new_line ls)) ≡ false → (is_some (find (on f) (map new_line ls)) ≡ false → list_any (λ s. same_name f s.name && s.changes) (map new_share ls) ≡ false)
+        → ((b && true) || list_any (λ s. same_name f s.name && s.changes) (map new_share ls)) ≡ false
+    by b e more = grind arith
+
+new_held : (A : Ledger) (done : List ShareStep) (l : OpenLine) (v new : FieldEntry) (C D : List (Name × FieldEntry)) → IsStrictlySortedBy name_cmp (keys_of C) → CountsAll A done C → list_any (λ s. same_name (name_of l.branch l.article) s.name && s.changes) done ≡ false → IsUpToDate A (name_of l.branch l.article, v)
+    → field_named A (name_of l.branch l.article) ≡ Some (field_of (name_of l.branch l.article, v)) → new ≡ record { start = v.start; quantity = holding v.quantity l.way l.qty } → D ≡ insert_entry name_cmp C (name_of l.branch l.article) new → CountsAll A (done ++ new_share l ∷ []) D
+new_held A done l v new C D sorted counts alone up there is put =
+    counted A done (new_share l) new C D refl sorted counts
+    (subst (λ (v : FieldEntry). Counts A (done ++ new_share l ∷ []) (name_of l.branch l.article, v)) (sym is) (counted_itself A done (new_share l) v (holding v.quantity l.way l.qty) (holding_becomes v.quantity l.way l.qty) (not_counted A done (name_of l.branch l.article) v counts.alike alone up there))) put
 
 pub held_step : (A : Ledger) (lines : List OpenLine) (i : ℕ) (l : OpenLine) (v new : FieldEntry) (before after : Result (InOrder Name FieldEntry) Memory) → i < length lines → l ≡ get_or lines i l → is_some (find (on (line_name (new_line l))) (map new_line (take i lines))) ≡ false → IsUpToDate A (line_name (new_line l), v)
-    → field_named A (line_name (new_line l)) ≡ Some (field_of (line_name (new_line l), v)) → new ≡ record { start = v.start; quantity = holding v.quantity l.way l.qty } → IfOk before (λ C. CountsAll ◌+ℤ◌ A (map new_line (take i lines)) C.entries)
-    → IfOk after (λ D. IsOkAnd before (λ C. IsStrictlySortedBy name_cmp (keys_of C.entries) × (D.entries ≡ insert_entry name_cmp C.entries (line_name (new_line l)) new))) → IfOk after (λ D. CountsAll ◌+ℤ◌ A (map new_line (take (i + 1) lines)) D.entries)
+    → field_named A (line_name (new_line l)) ≡ Some (field_of (line_name (new_line l), v)) → new ≡ record { start = v.start; quantity = holding v.quantity l.way l.qty } → IfOk before (λ C. CountsAll A (map new_share (take i lines)) C.entries)
+    → IfOk after (λ D. IsOkAnd before (λ C. IsStrictlySortedBy name_cmp (keys_of C.entries) × (D.entries ≡ insert_entry name_cmp C.entries (line_name (new_line l)) new))) → IfOk after (λ D. CountsAll A (map new_share (take (i + 1) lines)) D.entries)
 held_step A lines i l v new before (Err x) h e alone up there is holds put = tt
 held_step A lines i l v new (Err y) (Ok D) h e alone up there is holds put = absurd put
-held_step A lines i l v new (Ok C) (Ok D) h e alone up there is holds put = subst (λ ls. CountsAll ◌+ℤ◌ A ls D.entries) (sym (ap (map new_line) (take-step lines i l h e) ∙ map-push (take i lines) l)) (line_held A (map new_line (take i lines)) (new_line l) v new C.entries D.entries put.0 holds alone up there is put.1)
-
--- ---- all lines of an order, and of all orders that expire
-
-pub may_prefix : (A : Ledger) (ls ms ns : List Line) → MayGiveBack A (ls ++ (ms ++ ns)) → MayGiveBack A (ls ++ ms)
-may_prefix A ls ms ns may n = grind (arith, ints, (total-append (λ l. if on n l then pos (if_take l.way l.held) else pos 0) ls (ms ++ ns)), (total-append (λ l. if on n l then pos (if_take l.way l.held) else pos 0) ms ns), (total-append (λ l. if on n l then pos (if_take l.way l.held) else pos 0) ls ms), (takes-not_negative false n ns), (total-append (λ l. if on n l then pos (if_add l.way l.held) else pos 0) ls (ms ++ ns)), (total-append (λ l. if on n l then pos (if_add l.way l.held) else pos 0) ms ns), (total-append (λ l. if on n l then pos (if_add l.way l.held) else pos 0) ls ms), (adds-not_negative false n ns))
-
--- an order that expires is not firm, and holds all that its lines hold
-order_most : (a m t : Bool) (g : Bool → Line → ℤ) → ((m : Bool) (ls : List Line) → pos 0 ≤ℤ total (g m) ls) → (ls : List Line) → total (g false) (if a && not m && t then ls else []) ≤ℤ (if a then total (g m) ls else pos 0)
-order_most a m t g least ls = let some = least m ls in grind (arith, ints)
-
-expired_most : (now : ℕ) (g : Bool → Line → ℤ) → ((m : Bool) (ls : List Line) → pos 0 ≤ℤ total (g m) ls) → (os : List Order) → total (g false) (expired_lines now os) ≤ℤ total (λ o. if is_open o then total (g o.firm) o.lines else pos 0) os
-expired_most now g least os = grind (arith, total-flat, total-le, each, order_most)
-
-pub may_all : (A : Ledger) (now : ℕ) → MayGiveBack A (expired_lines now A.orders)
-may_all A now n = (expired_most now (λ m. takes m n) (λ m. takes-not_negative m n) A.orders, expired_most now (λ m. adds m n) (λ m. adds-not_negative m n) A.orders)
-
-pub may_step : (A : Ledger) (ls lines : List Line) (i : ℕ) (x : Line) → i < length lines → x ≡ get_or lines i x → MayGiveBack A (ls ++ lines) → MayGiveBack A ((ls ++ take i lines) ++ x ∷ [])
-may_step A ls lines i x within is may = grind (arith, common_steps, (may_prefix A ls (take i lines ++ x ∷ []) (drop (i + 1) lines) (subst (λ (ms : List Line). MayGiveBack A (ls ++ ms)) (cut_at lines i x within is) may)), cut_at)
-
--- the fields of the lines of an order are there
-pub lines_there : (A : Ledger) (n : ℕ) (o : Order) → Good A → order_numbered A n ≡ Some o → Each (λ l. IsSome (field_named A (line_name l))) o.lines
-lines_there A n o good found = each-imp (λ l x. x.field) o.lines (each-found (IsGoodOrder A) (λ m. m.number == n) o A.orders good.orders found).lines
+held_step A lines i l v new (Ok C) (Ok D) h e alone up there is holds put =
+    subst (λ (xs : List ShareStep). CountsAll A xs D.entries) (sym (ap (map new_share) (take-step lines i l h e) ∙ map-push (take i lines) l)) (new_held A (map new_share (take i lines)) l v new C.entries D.entries put.0 holds (none_new (line_name (new_line l)) (take i lines) alone) up there is put.1)
+  where
+    map-push : (ls : List OpenLine) (l : OpenLine) → map new_share (ls ++ l ∷ []) ≡ map new_share ls ++ new_share l ∷ []
+    map-push [] l = refl
+    map-push (m ∷ ms) l = ap (λ (xs : List ShareStep). new_share m ∷ xs) (map-push ms l)

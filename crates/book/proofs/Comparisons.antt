@@ -1,10 +1,10 @@
 -- Each test of a check by all outcomes is one comparison with the numbers of the ledger as it is.
-use Rattle.book.proofs.Prelude.{[], ◌++◌, ◌+ℤ◌, ◌+◌, ◌==◌, ◌↔◌, ◌∙◌, ◌∷◌, ◌≡◌, Add, Bool, BreaksBound, Each, Field, Good, IsDistinct, IsNone, IsSomeAnd, IsStrictlySortedBy, Kind, Ledger, Line, List, MatchOption, MayHoldMore, Name, None, OpenLine, Option, Order, Some, State, Take, Way, add_hold, ap, arith, bound, change_order, common_steps, false, find, held_to_add, held_to_take, if_add, if_take, if◌then◌else◌, ints, is_open, line_name, line_on, map, nat_cmp, new_line, new_order, on, open_state, order_numbered, pos, raise_held, refl, same_name, settled, subst, sym, total, true, with_order, ℕ, ℤ}
+use Rattle.book.proofs.Prelude.{[], ◌++◌, ◌+ℤ◌, ◌+◌, ◌==◌, ◌↔◌, ◌∙◌, ◌∷◌, ◌≡◌, Add, Bool, BreaksBound, Each, Field, Good, IsDistinct, IsNone, IsSomeAnd, IsStrictlySortedBy, Kind, Ledger, Line, List, MatchOption, MayHoldMore, Name, None, OpenLine, Option, Order, Some, State, Take, Way, add_hold, ap, arith, bound, common_steps, false, find, held_to_add, held_to_take, if_add, if_take, if◌then◌else◌, ints, is_open, line_name, line_on, map, nat_cmp, new_line, new_order, on, open_state, order_numbered, pos, raise_held, refl, same_name, settled, subst, sym, total, true, with_order, ℕ, ℤ}
 use Rattle.book.proofs.OutcomeTests.{HasMore, Passes, compared, line_compared, same_self, total-push}
 use Rattle.book.proofs.Bounds.{OneOn, Sound}
 use Rattle.book.proofs.Futures.{at_number, one_on, sounds_from_good}
 use Rattle.book.proofs.Safety.{Rising, held_part, part, raised, same_settled, sound-more}
-use Rattle.book.proofs.Sums.{each-both}
+use Rattle.book.proofs.Sums.{change_order, each-both}
 use Rattle.book.proofs.Transfers.{found_is}
 use Rattle.book.proofs.CommandOrder.{total-changed, total_parts}
 

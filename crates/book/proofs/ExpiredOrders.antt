@@ -1,12 +1,11 @@
--- The orders that an expiry aborts, by their numbers.
-use Rattle.book.proofs.Prelude.{[], ◌&&◌, ◌++◌, ◌+◌, ◌<◌, ◌==◌, ◌∙◌, ◌∷◌, ◌≡◌, ◌≤◌, Aborted, Bool, Each, Good, IsNonDecreasingBy, IsPermutation, IsPermutation-map, IsStrictlySortedBy, Ledger, Less, Line, List, MayGiveBack, Order, OrderEntry, Some, abort_all, abort_one, ap, append-nil, append_assoc, arith, cases_lt, common_steps, count_by, drop, expires, false, filter, flat_map, flat_map-append, get_or, if◌then◌else◌, inl, inr, length, list_any, map, nat_cmp, of_numbered, order_numbered, order_of, refl, set_state, subst, suc, sym, take, ℕ}
+-- The orders that a command changes, by their numbers.
+use Rattle.book.proofs.Prelude.{[], ◌&&◌, ◌++◌, ◌+◌, ◌<◌, ◌==◌, ◌∙◌, ◌∷◌, ◌≡◌, ◌≤◌, Bool, Changes, Each, Good, IsNonDecreasingBy, IsPermutation, IsPermutation-map, IsStrictlySortedBy, Ledger, Less, List, Order, OrderEntry, Some, ap, append-nil, arith, cases_lt, changed_order, common_steps, count_by, expires, false, filter, flat_map, flat_map-append, get_or, if◌then◌else◌, inl, inr, length, made_of, map, nat_cmp, option_map_or, order_numbered, order_of, refl, steps, suc, sym, take, true, ℕ}
+use Rattle.book.specs.declared.book.made.OrderChange.{OrderChange}
 use Rattle.std.proofs.lemmas.List.Sorted.{sum_by-IsPermutation}
-use Rattle.std.specs.List.{fold}
-use Rattle.book.proofs.Lists.{none_any, same_number, counted, each-two, each-unmap, cut_at, take-step}
+use Rattle.book.proofs.Lists.{same_number, counted, each-unmap, take-step}
 use Rattle.book.proofs.Futures.{less_is, find_self}
-use Rattle.book.proofs.ChangedFields.{may_prefix}
 use Rattle.book.proofs.Sums.{each-imp, each-map}
-use Rattle.book.proofs.Puts.{each-filter}
+
 
 above : (m n : ℕ) → m < n → (n == m) ≡ false
 above m n h = grind arith
@@ -75,6 +74,10 @@ from_sort (x ∷ xs) h = (each_above x xs (λ j lt. h 0 (suc j) 0 (omega arith) 
 
 -- ---- those of the orders that pass a test
 
+each-filter : {X : Type 0} (P : X → Type 0) (t : X → Bool) (xs : List X) → Each P xs → Each P (filter t xs)
+each-filter P t [] h = tt
+each-filter P t (x ∷ xs) h = let more = each-filter P t xs h.1 in grind arith
+
 module _ (p : Order → Bool) where
   abbrev numbers : List Order → List ℕ
   numbers os = map (λ o. o.number) (filter p os)
@@ -91,35 +94,18 @@ module _ (p : Order → Bool) where
   count_numbers n [] = refl
   count_numbers n (o ∷ os) = let more = count_numbers n os in grind (arith, common_steps, counted, o.number)
 
-  pub length_numbers : (os : List Order) → length (numbers os) ≡ count_by p os
-  length_numbers [] = refl
-  length_numbers (o ∷ os) = let more = length_numbers os in grind (arith, counted)
-
-  -- a number is among them exactly where its order passes
-  own_number : (os : List Order) → IsStrictlySortedBy nat_cmp (map (λ o. o.number) os) → Each (λ o. list_any (λ n. o.number == n) (numbers os) ≡ p o) os
-  unfolding IsStrictlySortedBy
-  own_number [] sorted = tt
-  own_number (o ∷ os) sorted = (
-    first (p o),
-    each-imp (λ m e. later m (p o) e.0 ∙ e.1) os (each-two (λ m. nat_cmp o.number m.number ≡ Less) _ os (each-unmap (λ k. nat_cmp o.number k ≡ Less) (λ m. m.number) os sorted.0) (own_number os sorted.1)),
-  )
+  -- the orders that pass, changed, by their numbers
+  pub numbered_made : (A : Ledger) (change : OrderChange) → Good A → flat_map (made_of A change) (numbers A.orders) ≡ map (λ s. s.after) (steps (Changes p (changed_order change)) A.orders)
+  numbered_made A change good = go A.orders (find_self A.orders good.orders_in_order)
     where
-      none : list_any (λ n. o.number == n) (numbers os) ≡ false
-      none = none_any (λ n. o.number == n) (numbers os) (each-imp (λ k e. below o.number k (less_is o.number k e)) (numbers os) (each_number (λ k. nat_cmp o.number k ≡ Less) os sorted.0))
-
-      first : (b : Bool) → list_any (λ n. o.number == n) (map (λ o. o.number) (if b then o ∷ filter p os else filter p os)) ≡ b
-      first x = grind (arith, same_number, none)
-
-      later : (m : Order) (b : Bool) → nat_cmp o.number m.number ≡ Less → list_any (λ n. m.number == n) (map (λ o. o.number) (if b then o ∷ filter p os else filter p os)) ≡ list_any (λ n. m.number == n) (numbers os)
-      later m x e = grind arith
-
-  -- what the orders have that pass, by their numbers
-  pub numbered_flat : {X : Type 0} (A : Ledger) (parts : Order → List X) → Good A → flat_map (of_numbered A parts) (numbers A.orders) ≡ flat_map (λ o. if p o then parts o else []) A.orders
-  numbered_flat {X = X} A parts good = go A.orders (find_self A.orders good.orders_in_order)
-    where
-      go : (os : List Order) → Each (λ o. order_numbered A o.number ≡ Some o) os → flat_map (of_numbered A parts) (numbers os) ≡ flat_map (λ o. if p o then parts o else []) os
+      go : (os : List Order) → Each (λ o. order_numbered A o.number ≡ Some o) os → flat_map (made_of A change) (numbers os) ≡ map (λ s. s.after) (steps (Changes p (changed_order change)) os)
       go [] h = refl
-      go (o ∷ os) h = grind (arith, (go os h.1))
+      go (o ∷ os) h = by (p o) h.0 (go os h.1)
+        where
+          by : (b : Bool) → order_numbered A o.number ≡ Some o → flat_map (made_of A change) (numbers os) ≡ map (λ s. s.after) (steps (Changes p (changed_order change)) os)
+              → flat_map (made_of A change) (map (λ o. o.number) (if b then o ∷ filter p os else filter p os)) ≡ map (λ s. s.after) ((if b then record { before = Some o; after = changed_order change o } ∷ [] else []) ++ steps (Changes p (changed_order change)) os)
+          by true own more = λ i. option_map_or (λ o. changed_order change o ∷ []) (own i) [] ++ more i
+          by false own more = more
 
 -- the numbers of those that expire, found in any order of the entries and then put in theirs
 pub numbers_sorted : (now : ℕ) (es lying : List (ℕ × OrderEntry)) (ns : List ℕ) → IsStrictlySortedBy nat_cmp (map (λ o. o.number) (map order_of es)) → IsPermutation es lying → IsPermutation (numbers (expires now) (map order_of lying)) ns → IsNonDecreasingBy (λ x. x) ns
@@ -130,41 +116,8 @@ numbers_sorted now es lying ns sorted moved put up =
     (λ n. sum_by-IsPermutation (λ m. if m == n then 1 else 0) (numbers p (map order_of lying)) ns put ∙ count_numbers p n (map order_of lying)
     ∙ sum_by-IsPermutation (λ o. if p o && (o.number == n) then 1 else 0) (map order_of es) (map order_of lying) (IsPermutation-map order_of es lying moved) ∙ sym (count_numbers p n (map order_of es)))
 
--- ---- aborted one after the other
-
-abbrev one_fate : Order → ℕ → Order
-one_fate o n = if o.number == n then set_state Aborted o else o
-
-fates : (ns : List ℕ) (o : Order) (os : List Order) → abort_all ns (o ∷ os) ≡ fold one_fate o ns ∷ abort_all ns os
-fates [] o os = refl
-fates (n ∷ ns) o os = fates ns (one_fate o n) (abort_one os n)
-
-no_fates : (ns : List ℕ) → abort_all ns [] ≡ []
-no_fates [] = refl
-no_fates (n ∷ ns) = no_fates ns
-
-fate : (ns : List ℕ) (o : Order) → fold one_fate o ns ≡ (if list_any (λ n. o.number == n) ns then set_state Aborted o else o)
-fate [] o = refl
-fate (n ∷ ns) o = let more = fate ns (set_state Aborted o) in let rest = fate ns o in grind arith
-
-pub all_aborted : (A : Ledger) (now : ℕ) → Good A → abort_all (numbers (expires now) A.orders) A.orders ≡ map (λ o. if expires now o then set_state Aborted o else o) A.orders
-all_aborted A now good = go A.orders (own_number (expires now) A.orders good.orders_in_order)
-  where
-    ns : List ℕ
-    ns = numbers (expires now) A.orders
-
-    go : (os : List Order) → Each (λ o. list_any (λ n. o.number == n) ns ≡ expires now o) os → abort_all ns os ≡ map (λ o. if expires now o then set_state Aborted o else o) os
-    go [] h = no_fates ns
-    go (o ∷ os) h = fates ns o os ∙ (λ i. (fate ns o ∙ ap (λ b. if b then set_state Aborted o else o) h.0) i ∷ go os h.1 i)
-
--- ---- given back one after the other
+-- ---- orders pushed one after the other
 
 -- what the numbers so far have, and one more
 pub flat_next : {X : Type 0} (f : ℕ → List X) (ns : List ℕ) (i n : ℕ) → i < length ns → n ≡ get_or ns i n → flat_map f (take (i + 1) ns) ≡ flat_map f (take i ns) ++ f n
 flat_next f ns i n within is = ap (flat_map f) (take-step ns i n within is) ∙ flat_map-append f (take i ns) (n ∷ []) ∙ ap (λ xs. flat_map f (take i ns) ++ xs) (append-nil (f n))
-
-pub may_next : (A : Ledger) (f : ℕ → List Line) (ns : List ℕ) (i n : ℕ) → i < length ns → n ≡ get_or ns i n → MayGiveBack A (flat_map f ns) → MayGiveBack A (flat_map f (take i ns) ++ f n)
-may_next A f ns i n within is may =
-    let rest = flat_map f (drop (i + 1) ns) in
-    let parts = ap (flat_map f) (cut_at ns i n within is ∙ append_assoc (take i ns) (n ∷ []) (drop (i + 1) ns)) ∙ flat_map-append f (take i ns) (n ∷ drop (i + 1) ns) in
-    may_prefix A (flat_map f (take i ns)) (f n) rest (subst (MayGiveBack A) parts may)

@@ -1,9 +1,9 @@
 -- From a good ledger every accepted command leaves a good one.
-use Rattle.book.proofs.Prelude.{[], ◌++◌, ◌+ℤ◌, ◌+◌, ◌-ℤ◌, ◌<◌, ◌==◌, ◌∙◌, ◌∷◌, ◌≡◌, ◌≢◌, ◌≤ℤ◌, ◌≤◌, Aborted, Answers, Bool, Command, Committed, Each, Field, FirstFailure, Good, IsGoodField, IsGoodKept, IsGoodLine, IsGoodOrder, IsInRange, IsKey, IsLevel, IsMoment, IsNone, IsOpenLine, IsQty, IsSafe, IsSome, IsSomeAnd, IsStrictlySortedBy, IsTransferPair, IsTrue, Kept, Kind, Ledger, Line, List, MayHoldMore, Name, None, OpenLine, Option, Order, Plain, Reply, Request, Some, Transfer, Way, accept, add_hold, append-nil, append_assoc, arith, bytes_eq, change_order, checks, false, field_named, find, held_to_add, held_to_take, hold_more, if_add, if_take, if◌then◌else◌, insert_in_order, ints, is_lt, is_open, is_some, is_transfer, kept_under, length, line_checks, line_name, line_on, lower_held, map, name_cmp, nat_abs, nat_cmp, nat_cmp_total, nat_list_cmp_total, nat_lt, neg_ℤ, new_line, new_order, on, open_orders, order_numbered, places, pos, raise_held, raise_used, recursion_from_All, refl, same_name, slice_cmp, subst, sym, total, transfer_lines, true, true≢false, with_move, with_order, ℕ, ℤ}
+use Rattle.book.proofs.Prelude.{[], ◌++◌, ◌+ℤ◌, ◌+◌, ◌-ℤ◌, ◌<◌, ◌==◌, ◌∙◌, ◌∷◌, ◌≡◌, ◌≢◌, ◌≤ℤ◌, ◌≤◌, Aborted, Answers, Bool, Command, Committed, Each, Field, FirstFailure, Good, IsGoodField, IsGoodKept, IsGoodLine, IsGoodOrder, IsInRange, IsKey, IsLevel, IsMoment, IsNone, IsOpenLine, IsQty, IsSafe, IsSome, IsSomeAnd, IsStrictlySortedBy, IsTransferPair, IsTrue, Kept, Kind, Ledger, Line, List, MayHoldMore, Name, None, OpenLine, Option, Order, Plain, Reply, Request, Some, Transfer, Way, accept, add_hold, append-nil, append_assoc, arith, bytes_eq, checks, false, field_named, find, held_to_add, held_to_take, hold_more, if_add, if_take, if◌then◌else◌, insert_in_order, ints, is_lt, is_open, is_some, is_transfer, kept_under, length, line_checks, line_name, line_on, lower_held, map, name_cmp, nat_abs, nat_cmp, nat_cmp_total, nat_list_cmp_total, nat_lt, neg_ℤ, new_line, new_order, on, open_orders, order_numbered, places, pos, raise_held, raise_used, recursion_from_All, refl, same_name, slice_cmp, subst, sym, total, transfer_lines, true, true≢false, with_order, ℕ, ℤ}
 use Rattle.escrow.specs.Ranges.{IsOrderNo}
 use Rattle.words.specs.declared.command.Command.TheVariants as command
 use Rattle.words.specs.OpenLines.{AreOpenLines}
-use Rattle.book.proofs.Sums.{each, each-imp, each-both, each-map, each-of-push, least_if}
+use Rattle.book.proofs.Sums.{change_order, with_move, each, each-imp, each-both, each-map, each-of-push, least_if}
 use Rattle.book.proofs.GoodParts.{name_cmp_total, equal_name, other_number, other_key, lt_is, StillThere, line_kept, order_kept, same_number, move_kept, apart_lines, Parts, not_many, changing, stating, expiring, firming, using}
 use Rattle.book.proofs.Bounds.{OneOn, Sound, takes, adds, takes-not_negative, adds-not_negative, room_from_safe, HasRoom}
 use Rattle.book.proofs.Futures.{fit_from_good, fit-accept, all_pass, AllPass, name_is, sounds_from_good, at_number, changed, open_there}

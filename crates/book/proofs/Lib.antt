@@ -24,6 +24,8 @@ pub mod Marks
 pub mod EqualRows
 pub mod KeyPlaces
 pub mod Puts
+pub mod Steps
+pub mod Falls
 pub mod NextContent
 pub mod Among
 pub mod Texts
@@ -31,7 +33,6 @@ pub mod Lists
 pub mod CommandOrder
 pub mod NextRows
 pub mod RunningNumbers
-pub mod StockChanges
 pub mod ChangedFields
 pub mod FieldRows
 pub mod ExpiredOrders

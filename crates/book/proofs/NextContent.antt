@@ -1,18 +1,16 @@
--- The rows that an accepted command names, put into the ledger's rows, give the rows of the next ledger.
-use Rattle.book.proofs.Prelude.{[], ◌&&◌, ◌++◌, ◌+◌, ◌==◌, ◌||◌, ◌∙◌, ◌∷◌, ◌≡◌, Aborted, AllZip, Bool, Command, Committed, Content, DeskCells, Each, Equal, Field, FieldCells, FirmCells, FirstFailure, Good, IsFalse, IsFieldRow, IsInRange, IsKey, IsNone, IsRowsOf, IsSomeAnd, IsStrictlySortedBy, IsTotalOrder, Kept, Ledger, Line, LineCells, List, Move, Name, None, OpenLine, Order, OrderCells, Ordering, Plain, Request, State, Transfer, Way, accept, add_hold, ap, arith, bytes_decides, bytes_eq, change_lines, changed_rows, changes_field, changes_firm, changes_line, changes_move, changes_order, checks, desk_row, expires, false, field_cmp, filter, firm_cmp, firm_rows, flat_map, has_line_on, held_to_add, held_to_take, hold_more, if_add, if_take, if◌then◌else◌, inl, inr, insert_in_order, int_cmp_total, int_eq, ints, is_eq, is_lt, is_open, is_settled, is_some, is_transfer, kept_cmp, kept_row, kept_under, line_cmp, line_name, line_on, line_row, lines_from, list_any, lower_held, map, move_cmp, move_row, moved_by, name_cmp, name_of, nat_cmp, nat_list_cmp_total, nat_lt, neg_ℤ, new_line, new_order, on, on_total, open_state, order_cmp, order_is, order_lines, order_numbered, order_row, places, pos, put_content, put_rows, raise_held, raise_used, refl, same_name, set_firm, set_state, settled, settled_state, signed, slice_cmp, subst, sym, then_total, tied_itself, total, transfer_lines, true, true≢false, unsettled, with_order, ℕ, ℤ}
+-- The rows that an accepted command changes, put into the ledger's rows, give the rows of the next ledger.
+use Rattle.book.proofs.Prelude.{[], ◌&&◌, ◌++◌, ◌+◌, ◌+ℤ◌, ◌-ℤ◌, IsStrictlySortedBy, ◌==◌, ◌||◌, ◌∙◌, ◌∷◌, ◌≡◌, ◌≤◌, ◌⊎◌, Bool, OrderEntry, cond, is_at, is_some, length, lookup, order_of, Changes, Command, Content, DeskCells, Each, Effect, Equal, Field, FieldCells, FirmCells, FirstFailure, Good, IsInRange, IsKey, IsRowsOf, IsTotalOrder, Ledger, Less, Line, LineCells, List, Move, Name, None, Nothing, Opens, Option, Order, OrderCells, Ordering, Request, Some, State, Step, accept, amount_row, amount_rows, ap, arith, becomes_firm, changed_rows, changes_field, changes_held, changes_line, changes_state, checks, desk_row, effect, false, field_cmp, field_row, filter, firm_cmp, firm_rows, flat_map, if◌then◌else◌, inl, inr, insert_in_order, int_cmp_total, int_eq, is_eq, is_lt, is_open, kept_cmp, kept_row, kept_under, line_cmp, line_name, line_row, line_steps, lines_from, map, map-map, mark_row, move_cmp, move_made, move_row, moved_at_once, moves_after, name_cmp, name_of, nat_cmp, nat_list_cmp_total, new_key, next, not, number_cmp, nat_cmp_total, on_total, open_state, option_map, order_cmp, order_lines, order_row, orders_after, orders_made, places, pos, put_content, put_rows, refl, same_name, slice_cmp, state_row, steps, steps_of, subst, sym, then_total, tied_itself, true, true≢false, ℕ, ℤ}
 use Rattle.words.specs.declared.command.Command.TheVariants as command
 use Rattle.book.specs.Rows.{desk_cmp}
-use Rattle.book.proofs.Sums.{each, each-imp, each-both, each-map, total-kept}
-use Rattle.book.proofs.Bounds.{takes, adds, none-total, inf_is, sup_is, inf_unique, sup_unique}
-use Rattle.book.proofs.Futures.{all_pass, at_number, name_is, sounds_from_good, changed}
-use Rattle.book.proofs.OutcomeTests.{same_self, total-push, settled-order, held_take-order, held_add-order}
-use Rattle.book.proofs.Goodness.{good_accept}
 use Rattle.book.specs.Next.{with_bounds}
+use Rattle.book.proofs.Sums.{each, each-imp, each-map}
+use Rattle.book.proofs.OutcomeTests.{same_self}
+use Rattle.book.proofs.Goodness.{good_accept}
 use Rattle.book.proofs.Safety.{other_way, bounding, bounding_name}
-use Rattle.book.proofs.Puts.{Follows, put_all, follows-flat, follows-same, follows-before, follows-join, follows-map, follows-insert, follows-push}
-use Rattle.book.proofs.EqualRows.{fields_sorted, firms_sorted, kept_sorted, lines_sorted, moves_sorted, orders_sorted}
-use Rattle.book.proofs.Lists.{any_none, or_false, or_right}
-use Rattle.book.proofs.GoodParts.{both_true}
+use Rattle.book.proofs.Puts.{EffectFollows, Follows, follows-insert, follows-join, follows-map, follows-new, follows-one, follows-push, follows-same, put_all, steps_put}
+use Rattle.book.proofs.EqualRows.{fields_sorted, firms_sorted, kept_sorted, lines_sorted, moves_sorted, one_content, orders_sorted, rows_are, rows_of}
+use Rattle.book.proofs.Lists.{each-unmap, length-of-map, number_is, or_false}
+use Rattle.book.proofs.Steps.{EffectGoes, Goes, Grows, SameNumbers, and_not, effect_goes, not_not, same_numbers, state_same}
 
 -- orders of the seven tables
 
@@ -37,361 +35,201 @@ kept_cmp_total = on_total (λ r. r.reqkey) nat_list_cmp_total
 firm_cmp_total : IsTotalOrder firm_cmp
 firm_cmp_total = on_total (λ r. r.number) int_cmp_total
 
--- tests over lists
+number_cmp_total : IsTotalOrder number_cmp
+number_cmp_total = on_total (λ o. o.number) nat_cmp_total
 
-any_has : {X : Type 0} (P : X → Type 0) (t : X → X → Bool) → ((x : X) → P x → t x x ≡ true) → (xs : List X) → Each (λ x. P x → list_any (t x) xs ≡ true) xs
-any_has P t h [] = tt
-any_has P t h (x ∷ xs) = ((λ p. rw (h x p) refl), each-imp (λ y k p. or_right (t y x) (list_any (t y) xs) (k p)) xs (any_has P t h xs))
+-- ---- what an effect puts in
 
--- moves
+-- of each step of an effect
+effect_follows : {R : Type 0} (cmp : R → R → Ordering) (rows : Order → List R) (new : Step → List R) → ((o : Order) → Follows cmp (new (record { before = None; after = o })) [] (rows o)) → ((b a : Order) → Goes b a → Follows cmp (new (record { before = Some b; after = a })) (rows b) (rows a))
+    → (e : Effect) (os : List Order) → EffectGoes e os → EffectFollows cmp rows new e os
+effect_follows cmp rows new opened changed Nothing os goes = tt
+effect_follows cmp rows new opened changed (Opens o) os goes = opened o
+effect_follows cmp rows new opened changed (Changes names change) os goes = each-imp (λ o go e. changed o (change o) (go e)) os goes
 
-moves_follow : (A : Ledger) (key : List ℕ) (c : Command) → Follows move_cmp (λ row. changes_move A c row.place) (map move_row A.moves) (map move_row (accept A (record { key = key; command = c })).moves)
-moves_follow b key c = grind (arith, follows-push, follows-same, int_same, move_cmp_total)
+pub flat-one : {X R : Type 0} (f : X → R) (xs : List X) → flat_map (λ x. f x ∷ []) xs ≡ map f xs
+flat-one f [] = refl
+flat-one f (x ∷ xs) = ap (λ rows. f x ∷ rows) (flat-one f xs)
 
--- orders
+map-id : {X : Type 0} (xs : List X) → map (λ x. x) xs ≡ xs
+map-id [] = refl
+map-id (x ∷ xs) = ap (λ ys. x ∷ ys) (map-id xs)
 
--- what a row is to the row in its place
-abbrev RowStep : {R : Type 0} → (R → R → Ordering) → (R → Bool) → R → R → Type 0
-RowStep cmp chosen x y = (cmp y x ≡ Equal) × (chosen y ≡ false → x ≡ y)
+-- ---- orders, and their rows
 
-as_was : {R : Type 0} (cmp : R → R → Ordering) → IsTotalOrder cmp → (chosen : R → Bool) (x y : R) → y ≡ x → RowStep cmp chosen x y
-as_was cmp o chosen x y e = (subst (λ z. cmp z x ≡ Equal) (sym e) (tied_itself o x), λ _. sym e)
+order_follows : (b a : Order) → Goes b a → Follows number_cmp (a ∷ []) (b ∷ []) (a ∷ [])
+order_follows b a goes = follows-one number_cmp true b a (ap (λ n. nat_cmp n b.number) goes.number ∙ tied_itself nat_cmp_total b.number) (λ e. absurd (true≢false e))
 
-order_chosen : (chosen : OrderCells → Bool) (s : State) (o : Order) → chosen (order_row (set_state s o)) ≡ true → RowStep order_cmp chosen (order_row o) (order_row (set_state s o))
-order_chosen chosen s o e = (tied_itself int_cmp_total (pos o.number), λ d. absurd (true≢false (sym e ∙ d)))
+numbers_sorted : (os : List Order) → IsStrictlySortedBy nat_cmp (map (λ o. o.number) os) → IsStrictlySortedBy number_cmp os
+unfolding IsStrictlySortedBy
+numbers_sorted [] s = tt
+numbers_sorted (o ∷ os) s = (each-unmap (λ n. nat_cmp o.number n ≡ Less) (λ o. o.number) os s.0, numbers_sorted os s.1)
 
-order_if : (chosen : OrderCells → Bool) (b : Bool) (o new : Order) → (b ≡ true → RowStep order_cmp chosen (order_row o) (order_row new)) → RowStep order_cmp chosen (order_row o) (order_row (if b then new else o))
-order_if chosen b o new h = grind arith
-
-same_order_row : (b : Bool) (o new : Order) → order_row new ≡ order_row o → order_row (if b then new else o) ≡ order_row o
-same_order_row b o new e = grind arith
-
-numbered : (n : ℕ) (o : Order) → (o.number == n) ≡ true → int_eq (pos o.number) (pos n) ≡ true
-numbered n o e = subst (λ m. int_eq (pos o.number) (pos m) ≡ true) (grind arith) (int_same (pos o.number))
-
-orders_follow : (A : Ledger) (key : List ℕ) (c : Command) → Follows order_cmp (λ row. changes_order A c row.number) (map order_row A.orders) (map order_row (accept A (record { key = key; command = c })).orders)
-orders_follow A key (command.Open n until lines) = follows-insert order_cmp order_cmp_total (λ row. int_eq row.number (pos n)) order_row (λ a b. nat_lt a.number b.number) _ A.orders (int_same (pos n))
-orders_follow A key (command.Transfer n until a from to q) = follows-insert order_cmp order_cmp_total (λ row. int_eq row.number (pos n)) order_row (λ a b. nat_lt a.number b.number) _ A.orders (int_same (pos n))
-orders_follow A key (command.More n way b a q) = follows-map order_cmp (λ row. false) order_row _ A.orders (each (λ o. as_was order_cmp order_cmp_total (λ row. false) (order_row o) _ (same_order_row (o.number == n) o (add_hold (record { way = way; branch = b; article = a; qty = q }) o) (grind arith))) A.orders)
-orders_follow A key (command.Use n b a q) = follows-map order_cmp (λ row. false) order_row _ A.orders (each (λ o. as_was order_cmp order_cmp_total (λ row. false) (order_row o) _ (same_order_row (o.number == n) o (change_lines (name_of b a) (raise_used q) o) refl)) A.orders)
-orders_follow A key (command.Release n b a q) = follows-map order_cmp (λ row. false) order_row _ A.orders (each (λ o. as_was order_cmp order_cmp_total (λ row. false) (order_row o) _ (same_order_row (o.number == n) o (change_lines (name_of b a) (lower_held q) o) refl)) A.orders)
-orders_follow A key (command.Commit n) = follows-map order_cmp (λ row. int_eq row.number (pos n)) order_row _ A.orders (each (λ o. order_if (λ row. int_eq row.number (pos n)) (o.number == n) o (set_state Committed o) (λ e. order_chosen (λ row. int_eq row.number (pos n)) Committed o (numbered n o e))) A.orders)
-orders_follow A key (command.Abort n) = follows-map order_cmp (λ row. int_eq row.number (pos n)) order_row _ A.orders (each (λ o. order_if (λ row. int_eq row.number (pos n)) (o.number == n) o (set_state Aborted o) (λ e. order_chosen (λ row. int_eq row.number (pos n)) Aborted o (numbered n o e))) A.orders)
-orders_follow A key (command.Firm n) = follows-map order_cmp (λ row. false) order_row _ A.orders (each (λ o. as_was order_cmp order_cmp_total (λ row. false) (order_row o) _ (same_order_row (o.number == n) o (set_firm o) refl)) A.orders)
-orders_follow A key (command.Expire now) = follows-map order_cmp (λ row. changes_order A (command.Expire now) row.number) order_row _ A.orders
-    (each-imp (λ o k. order_if (λ row. changes_order A (command.Expire now) row.number) (expires now o) o (set_state Aborted o) (λ e. order_chosen (λ row. changes_order A (command.Expire now) row.number) Aborted o (k e))) A.orders
-    (any_has (λ o. expires now o ≡ true) (λ o p. expires now p && int_eq (pos o.number) (pos p.number)) (λ o e. both_true _ _ e (int_same (pos o.number))) A.orders))
-orders_follow A key c = follows-same order_cmp order_cmp_total _ (map order_row A.orders)
-
--- lines
-
-follows-flat_insert : (chosen : LineCells → Bool) (p : Order → Order → Bool) (o : Order) (os : List Order) → Each (λ r. chosen r ≡ true) (order_lines o) → Follows line_cmp chosen (flat_map order_lines os) (flat_map order_lines (insert_in_order p o os))
-follows-flat_insert chosen p o [] h = follows-before line_cmp chosen [] (order_lines o) [] h refl
-follows-flat_insert chosen p o (m ∷ ms) h = let more = follows-flat_insert chosen p o ms h in grind (arith, (follows-same line_cmp line_cmp_total chosen (flat_map order_lines (m ∷ ms))), (follows-same line_cmp line_cmp_total chosen (order_lines m)), Follows, follows-before, follows-join, line_cmp_total)
-
-new_lines_chosen : (n nr : ℕ) (ls : List Line) → Each (λ r. int_eq r.number (pos n) ≡ true) (lines_from n nr ls)
-new_lines_chosen n nr [] = tt
-new_lines_chosen n nr (l ∷ ls) = (int_same (pos n), new_lines_chosen n (nr + 1) ls)
-
-same_place : (n nr : ℕ) (l m : Line) → line_cmp (line_row n nr m) (line_row n nr l) ≡ Equal
-same_place n nr l m = rw (tied_itself int_cmp_total (pos n)) (tied_itself int_cmp_total (pos nr))
-
-lines_step : (chosen : LineCells → Bool) (n nr : ℕ) (c : Line → Line) (ls : List Line) → Each (λ l. (nr : ℕ) → chosen (line_row n nr (c l)) ≡ false → l ≡ c l) ls → Follows line_cmp chosen (lines_from n nr ls) (lines_from n nr (map c ls))
-lines_step chosen n nr c [] h = refl
-lines_step chosen n nr c (l ∷ ls) h = inr (line_row n nr l, lines_from n (nr + 1) ls, refl, same_place n nr l (c l), (λ e. ap (line_row n nr) (h.0 nr e)), lines_step chosen n (nr + 1) c ls h.1)
-
-lines_push : (chosen : LineCells → Bool) (n nr : ℕ) (l : Line) (ls : List Line) → ((nr : ℕ) → chosen (line_row n nr l) ≡ true) → Follows line_cmp chosen (lines_from n nr ls) (lines_from n nr (ls ++ l ∷ []))
-lines_push chosen n nr l [] h = inl (h nr, refl)
-lines_push chosen n nr l (m ∷ ms) h = inr (line_row n nr m, lines_from n (nr + 1) ms, refl, same_place n nr m m, (λ _. refl), lines_push chosen n (nr + 1) l ms h)
-
-same_lines_if : (chosen : LineCells → Bool) (b : Bool) (o new : Order) → (b ≡ true → Follows line_cmp chosen (order_lines o) (order_lines new)) → Follows line_cmp chosen (order_lines o) (order_lines (if b then new else o))
-same_lines_if chosen b o new h = grind (arith, follows-same, line_cmp_total)
-
--- a use and a release name each line that they change
-keeps_line : (f : Name) (change : Line → Line) (t : Bool) (l : Line) → line_name (change l) ≡ line_name l → (x y : Bool) → x ≡ true → (t ≡ true → y ≡ true)
-    → (x && (y || same_name (line_name (if t || on f l then change l else l)) f)) ≡ false → l ≡ (if t || on f l then change l else l)
-keeps_line f change t l same x y e k h = by t (on f l) refl k h
+-- the orders that a command makes, put in by their numbers
+pub orders_put : (A : Ledger) (c : Command) → Good A → IsStrictlySortedBy nat_cmp (map (λ o. o.number) (next A c).orders) → FirstFailure (checks A c) None → put_rows number_cmp (orders_made A c) A.orders ≡ (next A c).orders
+orders_put A c good sorted passed =
+    (λ i. put_rows number_cmp (sym (flat-one (λ (s : Step). s.after) (steps_of A c)) i) (sym (flat-one (λ (o : Order). o) A.orders ∙ map-id A.orders) i))
+    ∙ steps_put number_cmp number_cmp_total (λ o. o ∷ []) (λ s. s.after ∷ []) (effect c) A.orders (subst (IsStrictlySortedBy number_cmp) (sym same) (numbers_sorted (next A c).orders sorted))
+    (effect_follows number_cmp (λ o. o ∷ []) (λ s. s.after ∷ []) (λ o. follows-new number_cmp (o ∷ [])) order_follows (effect c) A.orders (effect_goes A c good passed))
+    ∙ same
   where
-    by : (t c : Bool) → on f l ≡ c → (t ≡ true → y ≡ true) → (x && (y || same_name (line_name (if t || c then change l else l)) f)) ≡ false → l ≡ (if t || c then change l else l)
-    by false false d k h = refl
-    by true c d k h = absurd (true≢false (sym (both_true x _ e (rw (k refl) refl)) ∙ h))
-    by false true d k h = absurd (true≢false (sym (both_true x _ e (or_right y _ (subst (λ n. same_name n f ≡ true) (sym same) (turn d)))) ∙ h))
-      where
-        turn : on f l ≡ true → same_name (line_name l) f ≡ true
-        turn d = subst (λ g. same_name (line_name l) g ≡ true) (sym (name_is f (line_name l) d)) (same_self (line_name l))
+    same : flat_map (λ o. o ∷ []) (next A c).orders ≡ (next A c).orders
+    same = flat-one (λ (o : Order). o) (next A c).orders ∙ map-id (next A c).orders
 
-changed_lines : (A : Ledger) (n : ℕ) (f : Name) (change : Line → Line) → ((l : Line) → line_name (change l) ≡ line_name l)
-    → Follows line_cmp (λ row. int_eq row.number (pos n) && (order_is A n is_transfer || same_name (name_of row.branch row.article) f)) (flat_map order_lines A.orders) (flat_map order_lines (map (λ o. if o.number == n then change_lines f change o else o) A.orders))
-changed_lines A n f change same = follows-flat line_cmp _ order_lines _ A.orders (each-imp (λ o k. same_lines_if _ (o.number == n) o (change_lines f change o)
-    (λ e. lines_step _ o.number 1 (λ l. if is_transfer o || on f l then change l else l) o.lines
-    (each (λ l nr h. keeps_line f change (is_transfer o) l (same l) (int_eq (pos o.number) (pos n)) (order_is A n is_transfer) (numbered n o e) (λ t. k (e, t)) h) o.lines))) A.orders
-    (any_has (λ o. ((o.number == n) ≡ true) × (is_transfer o ≡ true)) (λ o p. p.number == n && is_transfer p) (λ o e. both_true _ _ e.0 e.1) A.orders))
-
-lines_follow : (A : Ledger) (key : List ℕ) (c : Command) → ((n : ℕ) (l : OpenLine) → c ≡ command.More n l.way l.branch l.article l.qty → Each (λ o. (o.number == n) ≡ true → is_transfer o ≡ false) A.orders)
-    → Follows line_cmp (λ row. changes_line A c row.number (name_of row.branch row.article)) (flat_map order_lines A.orders) (flat_map order_lines (accept A (record { key = key; command = c })).orders)
-lines_follow A key (command.Open n until lines) m = follows-flat_insert (λ row. int_eq row.number (pos n)) (λ a b. nat_lt a.number b.number) (new_order n Plain until lines) A.orders (new_lines_chosen n 1 (map new_line lines))
-lines_follow A key (command.Transfer n until a from to q) m = follows-flat_insert (λ row. int_eq row.number (pos n)) (λ a b. nat_lt a.number b.number) (new_order n Transfer until (transfer_lines a from to q)) A.orders (new_lines_chosen n 1 (map new_line (transfer_lines a from to q)))
-lines_follow A key (command.More n way b a q) m = follows-flat line_cmp _ order_lines _ A.orders (each-imp (λ o plain. same_lines_if _ (o.number == n) o (add_hold l o) (λ e. held_more o e (plain e) (is_some (line_on o f)))) A.orders (m n l refl))
+-- each entry is found under its number
+entries_found : (l : List (ℕ × OrderEntry)) → Each (λ e. is_some (lookup (is_at (nat_cmp e.0)) l) ≡ true) l
+entries_found [] = tt
+entries_found (e ∷ l) = (ap (λ o. is_some (cond (is_eq o) (Some e.1) (lookup (is_at (nat_cmp e.0)) l))) (tied_itself nat_cmp_total e.0), each-imp (λ x h. later x (is_eq (nat_cmp x.0 e.0)) h) l (entries_found l))
   where
-    f : Name
-    f = name_of b a
+    later : (x : ℕ × OrderEntry) (b : Bool) → is_some (lookup (is_at (nat_cmp x.0)) l) ≡ true → is_some (cond b (Some e.1) (lookup (is_at (nat_cmp x.0)) l)) ≡ true
+    later x true h = refl
+    later x false h = h
 
-    l : OpenLine
-    l = record { way = way; branch = b; article = a; qty = q }
-
-    chosen : LineCells → Bool
-    chosen row = int_eq row.number (pos n) && same_name (name_of row.branch row.article) f
-
-    held_more : (o : Order) → (o.number == n) ≡ true → is_transfer o ≡ false → (c : Bool) → Follows line_cmp (λ row. int_eq row.number (pos n) && same_name (name_of row.branch row.article) f) (order_lines o) (order_lines (if c then hold_more f q o else record o { lines = o.lines ++ new_line l ∷ [] }))
-    held_more o e plain true = lines_step _ o.number 1 (λ m. if on f m then raise_held q m else m) o.lines
-        (each (λ m nr h. keeps_line f (raise_held q) false m refl (int_eq (pos o.number) (pos n)) false (numbered n o e) (λ t. absurd (true≢false (sym t))) h) o.lines)
-    held_more o e plain false = lines_push _ o.number 1 (new_line l) o.lines (λ nr. both_true _ _ (numbered n o e) (same_self f))
-lines_follow A key (command.Use n b a q) m = changed_lines A n (name_of b a) (raise_used q) (λ l. refl)
-lines_follow A key (command.Release n b a q) m = changed_lines A n (name_of b a) (lower_held q) (λ l. refl)
-lines_follow A key (command.Commit n) m = follows-flat line_cmp _ order_lines _ A.orders (each (λ o. same_lines_if _ (o.number == n) o (set_state Committed o) (λ _. follows-same line_cmp line_cmp_total _ (order_lines o))) A.orders)
-lines_follow A key (command.Abort n) m = follows-flat line_cmp _ order_lines _ A.orders (each (λ o. same_lines_if _ (o.number == n) o (set_state Aborted o) (λ _. follows-same line_cmp line_cmp_total _ (order_lines o))) A.orders)
-lines_follow A key (command.Firm n) m = follows-flat line_cmp _ order_lines _ A.orders (each (λ o. same_lines_if _ (o.number == n) o (set_firm o) (λ _. follows-same line_cmp line_cmp_total _ (order_lines o))) A.orders)
-lines_follow A key (command.Expire now) m = follows-flat line_cmp _ order_lines _ A.orders (each (λ o. same_lines_if _ (expires now o) o (set_state Aborted o) (λ _. follows-same line_cmp line_cmp_total _ (order_lines o))) A.orders)
-lines_follow A key c m = follows-same line_cmp line_cmp_total _ (flat_map order_lines A.orders)
-
--- firm orders
-
-marks_insert : (p : Order → Order → Bool) (o : Order) (os : List Order) → o.firm ≡ false → flat_map firm_rows (insert_in_order p o os) ≡ flat_map firm_rows os
-marks_insert p o [] e = rw e refl
-marks_insert p o (m ∷ ms) e = grind (arith, (marks_insert p o ms e))
-
-marks_kept : (test : Order → Bool) (change : Order → Order) (os : List Order) → ((o : Order) → firm_rows (change o) ≡ firm_rows o) → flat_map firm_rows (map (λ o. if test o then change o else o) os) ≡ flat_map firm_rows os
-marks_kept test change [] same = refl
-marks_kept test change (o ∷ os) same = grind (arith, (marks_kept test change os same))
-
-held_mark : (l : OpenLine) (o : Order) → firm_rows (add_hold l o) ≡ firm_rows o
-held_mark l o = grind arith
-
--- the new row of an order that was not firm; one that was has its row
-marked_follows : (n : ℕ) (o : Order) → (o.number == n) ≡ true → Follows firm_cmp (λ row. int_eq row.number (pos n)) (firm_rows o) (firm_rows (set_firm o))
-marked_follows n o e = grind arith
-
-follows-if : (chosen : FirmCells → Bool) (b : Bool) (o new : Order) → (b ≡ true → Follows firm_cmp chosen (firm_rows o) (firm_rows new)) → Follows firm_cmp chosen (firm_rows o) (firm_rows (if b then new else o))
-follows-if chosen b o new h = grind arith
-
-marks_follow : (chosen : FirmCells → Bool) (xs ys : List FirmCells) → ys ≡ xs → Follows firm_cmp chosen xs ys
-marks_follow chosen xs ys e = subst (Follows firm_cmp chosen xs) (sym e) (follows-same firm_cmp firm_cmp_total chosen xs)
-
-firms_follow : (A : Ledger) (key : List ℕ) (c : Command) → Follows firm_cmp (λ row. changes_firm c row.number) (flat_map firm_rows A.orders) (flat_map firm_rows (accept A (record { key = key; command = c })).orders)
-firms_follow A key c = grind (arith, marks_follow, marks_insert, marks_kept, held_mark, follows-flat, each, follows-if, marked_follows, follows-same, firm_cmp_total)
-
--- fields
-
-abbrev SameNumbers : Ledger → Ledger → Field → Type 0
-SameNumbers A B f = (settled B f ≡ settled A f) × (held_to_take B f.name ≡ held_to_take A f.name) × (held_to_add B f.name ≡ held_to_add A f.name)
-
-abbrev SameParts : Name → Order → Order → Type 0
-SameParts f o p = ((if is_settled p then moved_by f (λ l. l.used) p else pos 0) ≡ (if is_settled o then moved_by f (λ l. l.used) o else pos 0))
-    × ((if is_open p then total (takes p.firm f) p.lines else pos 0) ≡ (if is_open o then total (takes o.firm f) o.lines else pos 0))
-    × ((if is_open p then total (adds p.firm f) p.lines else pos 0) ≡ (if is_open o then total (adds o.firm f) o.lines else pos 0))
-
-same_numbers : (A : Ledger) (h : Order → Order) (clock : ℕ) (kept : List Kept) (f : Field) → Each (λ o. SameParts f.name o (h o)) A.orders → SameNumbers A (changed h clock kept A) f
-same_numbers A h clock kept f e = grind (arith, total-kept, each-imp, takes, adds)
-
-parts_if : (f : Name) (b : Bool) (o new : Order) → (b ≡ true → SameParts f o new) → SameParts f o (if b then new else o)
-parts_if f b o new h = grind arith
-
-zero_if : (b c : Bool) (y z : ℤ) → y ≡ pos 0 → z ≡ pos 0 → (if b then y else pos 0) ≡ (if c then z else pos 0)
-zero_if b x y z d e = grind arith
-
--- an order without a line on the field has no part in its numbers, whatever its state and its mark
-parts_none : (f : Name) (s : State) (m : Bool) (o : Order) → has_line_on f o ≡ false → SameParts f o (record o { state = s; firm = m })
-parts_none f s m o e =
-    let k = any_none (on f) o.lines e in
-    let used = none-total f (λ l. signed l.way l.used) o.lines k in (
-      zero_if (settled_state s m) (is_settled o) _ _ used used,
-      zero_if (open_state s) (is_open o) _ _ (none-total f (λ l. pos (if_take l.way (unsettled m l l.held))) o.lines k) (none-total f (λ l. pos (if_take l.way (unsettled o.firm l l.held))) o.lines k),
-      zero_if (open_state s) (is_open o) _ _ (none-total f (λ l. pos (if_add l.way (unsettled m l l.held))) o.lines k) (none-total f (λ l. pos (if_add l.way (unsettled o.firm l l.held))) o.lines k),
-    )
-
--- what the lines of an open order hold stays, and, where it is firm, what they have moved
-record SameLines (f : Name) (o : Order) (ls : List Line) : Type 0 where
-  open_is : is_open o ≡ true
-  used : o.firm ≡ true → moved_by f (λ l. l.used) (record o { lines = ls }) ≡ moved_by f (λ l. l.used) o
-  take : total (takes o.firm f) ls ≡ total (takes o.firm f) o.lines
-  add : total (adds o.firm f) ls ≡ total (adds o.firm f) o.lines
-
-parts_lines : (f : Name) (o : Order) (ls : List Line) → SameLines f o ls → SameParts f o (record o { lines = ls })
-parts_lines f o ls same = grind arith
-
--- a line that is not on f holds nothing on it, and still does not once its amounts are changed
-off : (f : Name) (change : Line → Line) (part : Line → ℤ) → ((l : Line) → line_name (change l) ≡ line_name l) → ((l : Line) → on f l ≡ false → part l ≡ pos 0) → (b : Bool) (l : Line) → (b ≡ true → on f l ≡ false) → part (if b then change l else l) ≡ part l
-off f change part same zero_off b l h = grind arith
-
--- where each part that lines on f alone have stays
-off_lines : (f : Name) (o : Order) (ls : List Line) → is_open o ≡ true → ((part : Line → ℤ) → ((l : Line) → on f l ≡ false → part l ≡ pos 0) → total part ls ≡ total part o.lines) → SameParts f o (record o { lines = ls })
-off_lines f o ls open_is same = grind arith
-
-parts_off : (f g : Name) (change : Line → Line) (o : Order) → ((l : Line) → line_name (change l) ≡ line_name l) → is_open o ≡ true → Each (λ l. (is_transfer o || on g l) ≡ true → on f l ≡ false) o.lines → SameParts f o (change_lines g change o)
-parts_off f g change o same open_is h = off_lines f o _ open_is (λ part zero. total-kept part (λ l. if is_transfer o || on g l then change l else l) o.lines (each-imp (λ l k. off f change part same zero (is_transfer o || on g l) l k) o.lines h))
-
-apart : (f g : Name) (l : Line) → same_name f g ≡ false → on g l ≡ true → on f l ≡ false
-apart f g l e h = subst (λ n. same_name f n ≡ false) (name_is g (line_name l) h) e
-
-off_each : (f g : Name) (t : Bool) (ls : List Line) → same_name f g ≡ false → (t && list_any (on f) ls) ≡ false → Each (λ l. (t || on g l) ≡ true → on f l ≡ false) ls
-off_each f g true ls e h = each-imp (λ l k _. k) ls (any_none (on f) ls h)
-off_each f g false ls e h = each (λ l k. apart f g l e k) ls
-
--- a use changes what is held of a firm order alone
-use_parts : (f g : Name) (q : ℕ) (o : Order) → is_open o ≡ true → (o.firm && (same_name f g || (is_transfer o && has_line_on f o))) ≡ false → SameParts f o (change_lines g (raise_used q) o)
-use_parts f g q o open_is h = by o.firm refl h
+changed_found : (P : ℕ → Type 0) (names : Order → Bool) (change : Order → Order) (os : List Order) → Each (λ o. P o.number) os → EffectGoes (Changes names change) os → Each (λ o. P o.number) (map (λ s. s.after) (steps (Changes names change) os))
+changed_found P names change [] all goes = tt
+changed_found P names change (o ∷ os) all goes = by (names o) goes.0 (changed_found P names change os all.1 goes.1)
   where
-    one : (part : Line → ℤ) → ((l : Line) → part (raise_used q l) ≡ part l) → (b : Bool) (l : Line) → part (if b then raise_used q l else l) ≡ part l
-    one part same b l = grind arith
+    by : (b : Bool) → (b ≡ true → Goes o (change o)) → Each (λ o. P o.number) (map (λ s. s.after) (steps (Changes names change) os)) → Each (λ o. P o.number) (map (λ s. s.after) ((if b then record { before = Some o; after = change o } ∷ [] else []) ++ steps (Changes names change) os))
+    by true go more = (subst P (sym (go refl).number) all.0, more)
+    by false go more = more
 
-    kept : (part : Line → ℤ) → ((l : Line) → part (raise_used q l) ≡ part l) → total part (map (λ l. if is_transfer o || on g l then raise_used q l else l) o.lines) ≡ total part o.lines
-    kept part same = total-kept part (λ l. if is_transfer o || on g l then raise_used q l else l) o.lines (each (λ l. one part same (is_transfer o || on g l) l) o.lines)
+-- an effect makes one order at most, or those that are there
+pub made_there : (e : Effect) (os : List Order) (l made : List (ℕ × OrderEntry)) → map order_of l ≡ os → EffectGoes e os → map order_of made ≡ map (λ s. s.after) (steps e os) → (length made ≤ 1) ⊎ Each (λ o. is_some (lookup (is_at (nat_cmp o.0)) l) ≡ true) made
+made_there Nothing os l made is goes e = inl (let n = length-of-map order_of made in let m = ap (λ (os : List Order). length os) e in omega arith)
+made_there (Opens o) os l made is goes e = inl (let n = length-of-map order_of made in let m = ap (λ (os : List Order). length os) e in omega arith)
+made_there (Changes names change) os l made is goes e = inr (each-unmap (λ (o : Order). there o.number) order_of made (subst (Each (λ o. there o.number)) (sym e) (changed_found there names change os (subst (Each (λ (o : Order). there o.number)) is (each-map (λ (o : Order). there o.number) order_of l (entries_found l))) goes)))
+  where
+    there : ℕ → Type 0
+    there n = is_some (lookup (is_at (nat_cmp n)) l) ≡ true
 
-    by : (m : Bool) → o.firm ≡ m → (m && (same_name f g || (is_transfer o && has_line_on f o))) ≡ false → SameParts f o (change_lines g (raise_used q) o)
-    by true e k = let off_both = or_false _ _ k in parts_off f g (raise_used q) o (λ l. refl) open_is (off_each f g (is_transfer o) o.lines off_both.0 off_both.1)
-    by false e k = parts_lines f o _ (record { open_is = open_is; used = λ t. absurd (true≢false (sym t ∙ e)); take = kept (takes o.firm f) (λ l. rw e refl); add = kept (adds o.firm f) (λ l. rw e refl) })
+state_follows : (b a : Order) → Goes b a → Follows order_cmp (state_row (record { before = Some b; after = a })) (order_row b ∷ []) (order_row a ∷ [])
+state_follows b a goes = follows-one order_cmp (is_open b && not (is_open a)) (order_row b) (order_row a) (ap (λ n. order_key n b) goes.number ∙ tied_itself int_cmp_total (pos b.number)) same
+  where
+    order_key : ℕ → Order → Ordering
+    order_key n b = order_cmp (record { number = pos n; kind = pos 0; until = pos 0; state = pos 0 }) (order_row b)
 
-opened : (A : Ledger) (n : ℕ) → Good A → (IsNone (order_numbered A n) → ⊥) → (IsSomeAnd (order_numbered A n) (λ o. IsFalse (is_open o)) → ⊥) → Each (λ o. (o.number == n) ≡ true → is_open o ≡ true) A.orders
-opened A n g p q = at_number (λ o. is_open o ≡ true) n A.orders g.orders_in_order (grind arith)
+    same : (is_open b && not (is_open a)) ≡ false → order_row b ≡ order_row a
+    same e = let state = state_same b.state a.state goes.unended (and_not (is_open b) (is_open a) goes.unended e) in λ i. order_row (record b { number = sym goes.number i; kind = sym goes.kind i; until = sym goes.until i; state = sym state i })
 
-plain_there : (A : Ledger) (n : ℕ) (w : Way) (b a : List ℕ) (q : ℕ) → Good A → FirstFailure (checks A (command.More n w b a q)) None → Each (λ o. (o.number == n) ≡ true → is_transfer o ≡ false) A.orders
-plain_there A n w b a q g h = let p = all_pass (checks A (command.More n w b a q)) h in at_number (λ o. is_transfer o ≡ false) n A.orders g.orders_in_order (grind arith)
+-- ---- lines
 
-no_new : (f : Name) (ls : List OpenLine) → list_any (λ l. same_name f (name_of l.branch l.article)) ls ≡ false → Each (λ m. on f m ≡ false) (map new_line ls)
-no_new f ls e = each-map (λ m. on f m ≡ false) new_line ls (any_none (λ l. same_name f (name_of l.branch l.article)) ls e)
+line_follows : (n nr : ℕ) (b l : Line) → l.way ≡ b.way → line_name l ≡ line_name b → Follows line_cmp (amount_row n (record { nr = nr; before = Some b; after = l })) (line_row n nr b ∷ []) (line_row n nr l ∷ [])
+line_follows n nr b l way name = follows-one line_cmp (not (b.held == l.held) || not (b.used == l.used)) (line_row n nr b) (line_row n nr l) (rw (tied_itself int_cmp_total (pos n)) (tied_itself int_cmp_total (pos nr))) same
+  where
+    same : (not (b.held == l.held) || not (b.used == l.used)) ≡ false → line_row n nr b ≡ line_row n nr l
+    same e =
+        let both = or_false _ _ e in
+        let held = number_is b.held l.held (not_not _ both.0) in
+        let used = number_is b.used l.used (not_not _ both.1) in
+        λ i. line_row n nr (record { way = sym way i; branch = (sym name i).branch; article = (sym name i).article; held = held i; used = used i })
 
-other_order : (A : Ledger) (n : ℕ) (k : _) (u : ℕ) (ls : List OpenLine) (f : Field) → list_any (λ l. same_name f.name (name_of l.branch l.article)) ls ≡ false → SameNumbers A (with_order (new_order n k u ls) A) f
-other_order A n k u ls f e = grind (arith, (none-total f.name (λ l. pos (if_take l.way l.held)) (map new_line ls) (no_new f.name ls e)), (none-total f.name (λ l. pos (if_add l.way l.held)) (map new_line ls) (no_new f.name ls e)), (held_take-order A n k u ls f.name), (held_add-order A n k u ls f.name), no_new, settled-order)
+new_amounts : (n nr : ℕ) (ls : List Line) → flat_map (amount_row n) (line_steps nr [] ls) ≡ lines_from n nr ls
+new_amounts n nr [] = refl
+new_amounts n nr (l ∷ ls) = ap (λ (rows : List LineCells). line_row n nr l ∷ rows) (new_amounts n (nr + 1) ls)
 
-other_move : (A : Ledger) (g : Name) (z : ℤ) (f : Field) (ms : List Move) → ms ≡ A.moves ++ record { place = places A + 1; field = g; amount = z } ∷ [] → same_name f.name g ≡ false
-    → total (λ m. if same_name f.name m.field then m.amount else pos 0) ms ≡ total (λ m. if same_name f.name m.field then m.amount else pos 0) A.moves
-other_move A g z f ms e h = grind (arith, total-push)
+amounts_follow : (n nr : ℕ) (bs ls : List Line) → Grows bs ls → Follows line_cmp (flat_map (amount_row n) (line_steps nr bs ls)) (lines_from n nr bs) (lines_from n nr ls)
+amounts_follow n nr [] ls grows = subst (λ (rows : List LineCells). Follows line_cmp rows [] (lines_from n nr ls)) (sym (new_amounts n nr ls)) (follows-new line_cmp (lines_from n nr ls))
+amounts_follow n nr (b ∷ bs) [] grows = absurd grows
+amounts_follow n nr (b ∷ bs) (l ∷ ls) grows = follows-join line_cmp (amount_row n (record { nr = nr; before = Some b; after = l })) (line_row n nr b ∷ []) (line_row n nr l ∷ []) _ _ _ (line_follows n nr b l grows.0.0 grows.0.1) (amounts_follow n (nr + 1) bs ls grows.1)
 
-hold_parts : (f g : Name) (l : OpenLine) (o : Order) → line_name (new_line l) ≡ g → same_name f g ≡ false → is_open o ≡ true → (b : Bool) → SameParts f o (if b then hold_more g l.qty o else record o { lines = o.lines ++ new_line l ∷ [] })
-hold_parts f g l o i e open_is b = grind (arith, off_lines, total-kept, each, off, apart, total-push)
+lines_follow : (b a : Order) → Goes b a → Follows line_cmp (amount_rows (record { before = Some b; after = a })) (order_lines b) (order_lines a)
+lines_follow b a goes = subst (λ n. Follows line_cmp (amount_rows (record { before = Some b; after = a })) (lines_from n 1 b.lines) (order_lines a)) goes.number (amounts_follow a.number 1 b.lines a.lines goes.lines)
 
-same_field : (A : Ledger) (key : List ℕ) (c : Command) → Good A → FirstFailure (checks A c) None → (f : Field) → changes_field A c f.name ≡ false → SameNumbers A (accept A (record { key = key; command = c })) f
-same_field A key (command.Field b a lo hi start) g h f e = (refl, refl, refl)
-same_field A key (command.Deliver b a q) g h f e = let m = other_move A (name_of b a) (pos q) f _ refl e in ((omega (arith, ints)), refl, refl)
-same_field A key (command.Writeoff b a q) g h f e = let m = other_move A (name_of b a) (neg_ℤ (pos q)) f _ refl e in ((omega (arith, ints)), refl, refl)
-same_field A key (command.Rebound b a lo hi) g h f e = (refl, refl, refl)
-same_field A key (command.Open n until lines) g h f e = other_order A n Plain until lines f e
-same_field A key (command.Transfer n until a from to q) g h f e = other_order A n Transfer until (transfer_lines a from to q) f (grind arith)
-same_field A key (command.More n way b a q) g h f e = let p = all_pass (checks A (command.More n way b a q)) h in
-    same_numbers A (λ o. if o.number == n then add_hold (record { way = way; branch = b; article = a; qty = q }) o else o) A.clock A.kept f
-    (each-imp (λ o x. parts_if f.name (o.number == n) o (add_hold (record { way = way; branch = b; article = a; qty = q }) o) (λ t. hold_parts f.name (name_of b a) (record { way = way; branch = b; article = a; qty = q }) o refl e (x t) (is_some (line_on o (name_of b a)))))
-    A.orders (opened A n g p.1.0 p.1.1.0))
-same_field A key (command.Use n b a q) g h f e = let p = all_pass (checks A (command.Use n b a q)) h in
-    same_numbers A (λ o. if o.number == n then change_lines (name_of b a) (raise_used q) o else o) A.clock A.kept f
-    (each-both (λ o x y. parts_if f.name (o.number == n) o (change_lines (name_of b a) (raise_used q) o) (λ t. use_parts f.name (name_of b a) q o (x t) (cc)))
-    A.orders (opened A n g p.1.0 p.1.1.0) (any_none (λ o. o.number == n && (o.firm && (same_name f.name (name_of b a) || (is_transfer o && has_line_on f.name o)))) A.orders e))
-same_field A key (command.Release n b a q) g h f e = let p = all_pass (checks A (command.Release n b a q)) h in let k = or_false _ _ e in
-    same_numbers A (λ o. if o.number == n then change_lines (name_of b a) (lower_held q) o else o) A.clock A.kept f
-    (each-both (λ o x y. parts_if f.name (o.number == n) o (change_lines (name_of b a) (lower_held q) o) (λ t. parts_off f.name (name_of b a) (lower_held q) o (λ m. refl) (x t) (off_each f.name (name_of b a) (is_transfer o) o.lines k.0 (cc))))
-    A.orders (opened A n g p.1.0 p.1.1.0) (any_none (λ o. o.number == n && (is_transfer o && has_line_on f.name o)) A.orders k.1))
-same_field A key (command.Commit n) g h f e =
-    same_numbers A (λ o. if o.number == n then set_state Committed o else o) A.clock A.kept f
-    (each-imp (λ o y. parts_if f.name (o.number == n) o (set_state Committed o) (λ t. parts_none f.name Committed o.firm o (cc))) A.orders (any_none (λ o. o.number == n && has_line_on f.name o) A.orders e))
-same_field A key (command.Abort n) g h f e =
-    same_numbers A (λ o. if o.number == n then set_state Aborted o else o) A.clock A.kept f
-    (each-imp (λ o y. parts_if f.name (o.number == n) o (set_state Aborted o) (λ t. parts_none f.name Aborted o.firm o (cc))) A.orders (any_none (λ o. o.number == n && has_line_on f.name o) A.orders e))
-same_field A key (command.Firm n) g h f e =
-    same_numbers A (λ o. if o.number == n then set_firm o else o) A.clock A.kept f
-    (each-imp (λ o y. parts_if f.name (o.number == n) o (set_firm o) (λ t. parts_none f.name o.state true o (cc))) A.orders (any_none (λ o. o.number == n && has_line_on f.name o) A.orders e))
-same_field A key (command.Expire now) g h f e =
-    same_numbers A (λ o. if expires now o then set_state Aborted o else o) now A.kept f
-    (each-imp (λ o y. parts_if f.name (expires now o) o (set_state Aborted o) (λ t. parts_none f.name Aborted o.firm o (cc))) A.orders (any_none (λ o. expires now o && has_line_on f.name o) A.orders e))
+new_lines_follow : (o : Order) → Follows line_cmp (amount_rows (record { before = None; after = o })) [] (order_lines o)
+new_lines_follow o = amounts_follow o.number 1 [] o.lines tt
 
-pub same_field_row : (A B : Ledger) (f : Field) (x y : FieldCells) → Good A → Good B → SameNumbers A B f → IsFieldRow A f x → IsFieldRow B f y → x ≡ y
-same_field_row A B f x y g k s h j =
-    let v : x.value ≡ y.value = h.value ∙ sym s.0 ∙ sym j.value in
-    let a = inf_unique A f x.inf _ h.inf (inf_is A (sounds_from_good A g) f) in let b = inf_unique B f y.inf _ j.inf (inf_is B (sounds_from_good B k) f) in
-    let c = sup_unique A f x.sup _ h.sup (sup_is A (sounds_from_good A g) f) in let d = sup_unique B f y.sup _ j.sup (sup_is B (sounds_from_good B k) f) in
-    let i : x.inf ≡ y.inf = omega (arith, ints) in let u : x.sup ≡ y.sup = omega (arith, ints) in
-    let n = h.branch ∙ sym j.branch in let m = h.article ∙ sym j.article in let l = h.lo ∙ sym j.lo in let t = h.hi ∙ sym j.hi in let r = h.start ∙ sym j.start in
-    λ z. record { branch = n z; article = m z; lo = l z; hi = t z; start = r z; value = v z; inf = i z; sup = u z }
+-- ---- marks of firm orders
+
+mark_follows : (b a : Order) → Goes b a → Follows firm_cmp (mark_row (record { before = Some b; after = a })) (firm_rows b) (firm_rows a)
+mark_follows b a goes = subst (λ n. Follows firm_cmp (mark_row (record { before = Some b; after = a })) (if b.firm then record { number = pos n } ∷ [] else []) (firm_rows a)) goes.number (by b.firm a.firm goes.firm)
+  where
+    by : (x y : Bool) → (x ≡ true → y ≡ true) → Follows firm_cmp (if y && not x then record { number = pos a.number } ∷ [] else []) (if x then record { number = pos a.number } ∷ [] else []) (if y then record { number = pos a.number } ∷ [] else [])
+    by true true k = follows-same firm_cmp (record { number = pos a.number } ∷ [])
+    by true false k = absurd (true≢false (sym (k refl)))
+    by false true k = follows-new firm_cmp (record { number = pos a.number } ∷ [])
+    by false false k = follows-same firm_cmp []
+
+new_mark_follows : (o : Order) → Follows firm_cmp (mark_row (record { before = None; after = o })) [] (firm_rows o)
+new_mark_follows o = by o.firm
+  where
+    by : (x : Bool) → Follows firm_cmp (if x && true then record { number = pos o.number } ∷ [] else []) [] (if x then record { number = pos o.number } ∷ [] else [])
+    by true = follows-new firm_cmp (record { number = pos o.number } ∷ [])
+    by false = follows-same firm_cmp []
+
+-- ---- moves
+
+moves_follow : (A : Ledger) (c : Command) → Follows move_cmp (map move_row (moves_after (move_made (places A + 1) c) [])) (map move_row A.moves) (map move_row (next A c).moves)
+moves_follow A c = by (move_made (places A + 1) c)
+  where
+    by : (x : Option Move) → Follows move_cmp (map move_row (moves_after x [])) (map move_row A.moves) (map move_row (moves_after x A.moves))
+    by None = follows-same move_cmp (map move_row A.moves)
+    by (Some m) = follows-push move_cmp move_row m A.moves
+
+-- ---- fields
 
 abbrev RowChosen : (Name → Bool) → FieldCells → Bool
 RowChosen chosen row = chosen (name_of row.branch row.article)
 
--- a field that is another one under its name, where that is chosen
-record Goes (chosen : Name → Bool) (f new : Field) : Type 0 where
-  name : new.name ≡ f.name
-  same : chosen f.name ≡ false → new ≡ f
+same_row : (A B : Ledger) (f : Field) → SameNumbers A B f → field_row A f ≡ field_row B f
+same_row A B f same = λ i. record {
+  branch = f.name.branch;
+  article = f.name.article;
+  lo = pos f.lo;
+  hi = pos f.hi;
+  start = pos f.start;
+  value = sym same.0 i;
+  inf = sym same.0 i -ℤ sym same.1 i;
+  sup = sym same.0 i +ℤ sym same.2 i;
+}
 
-field_step : (A B : Ledger) (chosen : Name → Bool) (f new : Field) (x y : FieldCells) → Good A → Good B → Goes chosen f new → (chosen f.name ≡ false → SameNumbers A B f) → IsFieldRow A f x → IsFieldRow B new y → (field_cmp y x ≡ Equal) × (RowChosen chosen y ≡ false → x ≡ y)
-field_step A B chosen f new x y g k goes s h j = (same_key, λ e. let left = subst (λ n. chosen n ≡ false) named e in same_field_row A B f x y g k (s left) h (subst (λ f. IsFieldRow B f y) (goes.same left) j))
+same_key : (A B : Ledger) (f g : Field) → g.name ≡ f.name → field_cmp (field_row B g) (field_row A f) ≡ Equal
+same_key A B f g e = ap (λ (n : Name). field_cmp (record (field_row B g) { branch = n.branch; article = n.article }) (field_row A f)) e ∙ tied_itself field_cmp_total (field_row A f)
+
+field_inserted : (chosen : Name → Bool) (old new : Field → FieldCells) (p : Field → Field → Bool) (n : Field) (fs : List Field) → RowChosen chosen (new n) ≡ true → Each (λ f. (field_cmp (new f) (old f) ≡ Equal) × (RowChosen chosen (new f) ≡ false → old f ≡ new f)) fs
+    → Follows field_cmp (filter (RowChosen chosen) (map new (insert_in_order p n fs))) (map old fs) (map new (insert_in_order p n fs))
+field_inserted chosen old new p n [] is all = grind (arith, follows-new)
+field_inserted chosen old new p n (f ∷ fs) is all = grind (arith, follows-join, follows-new, follows-one, follows-map, (field_inserted chosen old new p n fs is all.1))
+
+fields_follow : (A : Ledger) (key : List ℕ) (c : Command) → Good A → FirstFailure (checks A c) None
+    → Follows field_cmp (filter (RowChosen (changes_field A c)) (map (field_row (accept A (record { key = key; command = c }))) (accept A (record { key = key; command = c })).fields)) (map (field_row A) A.fields) (map (field_row (accept A (record { key = key; command = c }))) (accept A (record { key = key; command = c })).fields)
+fields_follow A key c good passed = by c passed (λ f e. same_numbers A c f good passed e)
   where
-    named : name_of y.branch y.article ≡ f.name
-    named = (λ i. record { branch = j.branch i; article = j.article i }) ∙ goes.name
+    rows : (c : Command) (new : Field → Field) → ((f : Field) → (new f).name ≡ f.name) → ((f : Field) → changes_field A c f.name ≡ false → new f ≡ f) → ((f : Field) → changes_field A c f.name ≡ false → SameNumbers A (next A c) f)
+        → Each (λ f. (field_cmp (field_row (next A c) (new f)) (field_row A f) ≡ Equal) × (changes_field A c (new f).name ≡ false → field_row A f ≡ field_row (next A c) (new f))) A.fields
+    rows c new name same numbers = each (λ f. (same_key A (next A c) f (new f) (name f), λ e. let off = subst (λ (n : Name). changes_field A c n ≡ false) (name f) e in same_row A (next A c) f (numbers f off) ∙ ap (field_row (next A c)) (sym (same f off)))) A.fields
 
-    same_key : field_cmp y x ≡ Equal
-    same_key = rw (j.branch, j.article, h.branch, h.article, goes.name, tied_itself nat_list_cmp_total f.name.branch) (tied_itself nat_list_cmp_total f.name.article)
+    by : (c : Command) → FirstFailure (checks A c) None → ((f : Field) → changes_field A c f.name ≡ false → SameNumbers A (next A c) f)
+        → Follows field_cmp (filter (RowChosen (changes_field A c)) (map (field_row (next A c)) (next A c).fields)) (map (field_row A) A.fields) (map (field_row (next A c)) (next A c).fields)
+    by (command.Field b a lo hi start) passed numbers = field_inserted (changes_field A (command.Field b a lo hi start)) (field_row A) (field_row (next A (command.Field b a lo hi start))) (λ f g. is_lt (name_cmp f.name g.name)) _ A.fields (rw (same_self (name_of b a)) refl) (rows (command.Field b a lo hi start) (λ f. f) (λ f. refl) (λ f e. refl) numbers)
+    by (command.Rebound b a lo hi) passed numbers =
+        subst (λ (ys : List FieldCells). Follows field_cmp (filter (RowChosen (changes_field A (command.Rebound b a lo hi))) ys) (map (field_row A) A.fields) ys) (sym (map-map (field_row (next A (command.Rebound b a lo hi))) (bounding (name_of b a) lo hi) A.fields))
+        (follows-map field_cmp (RowChosen (changes_field A (command.Rebound b a lo hi))) (field_row A) (λ f. field_row (next A (command.Rebound b a lo hi)) (bounding (name_of b a) lo hi f)) A.fields
+        (rows (command.Rebound b a lo hi) (bounding (name_of b a) lo hi) (bounding_name (name_of b a) lo hi) (λ f e. ap (λ t. if t then with_bounds lo hi f else f) (other_way f.name (name_of b a) (or_false _ _ e).0)) numbers))
+    by c passed numbers = follows-map field_cmp (RowChosen (changes_field A c)) (field_row A) (field_row (next A c)) A.fields (rows c (λ f. f) (λ f. refl) (λ f e. refl) numbers)
 
-fields_map : (A B : Ledger) (chosen : Name → Bool) (change : Field → Field) (fs : List Field) (xs ys : List FieldCells) → Good A → Good B → ((f : Field) → Goes chosen f (change f)) → ((f : Field) → chosen f.name ≡ false → SameNumbers A B f)
-    → AllZip (IsFieldRow A) fs xs → AllZip (IsFieldRow B) (map change fs) ys → Follows field_cmp (RowChosen chosen) xs ys
-fields_map A B chosen change [] [] [] g k goes s h j = refl
-fields_map A B chosen change [] (x ∷ xs) ys g k goes s h j = absurd h
-fields_map A B chosen change [] [] (y ∷ ys) g k goes s h j = absurd j
-fields_map A B chosen change (f ∷ fs) [] ys g k goes s h j = absurd h
-fields_map A B chosen change (f ∷ fs) (x ∷ xs) [] g k goes s h j = absurd j
-fields_map A B chosen change (f ∷ fs) (x ∷ xs) (y ∷ ys) g k goes s h j = let t = field_step A B chosen f (change f) x y g k (goes f) (s f) h.0 j.0 in inr (x, xs, refl, t.0, t.1, fields_map A B chosen change fs xs ys g k goes s h.1 j.1)
-
-map-same : (fs : List Field) → map (λ f. f) fs ≡ fs
-map-same [] = refl
-map-same (f ∷ fs) = λ i. f ∷ map-same fs i
-
-fields_zip : (A B : Ledger) (chosen : Name → Bool) (fs : List Field) (xs ys : List FieldCells) → Good A → Good B → ((f : Field) → chosen f.name ≡ false → SameNumbers A B f) → AllZip (IsFieldRow A) fs xs → AllZip (IsFieldRow B) fs ys → Follows field_cmp (RowChosen chosen) xs ys
-fields_zip A B chosen fs xs ys g k s h j = fields_map A B chosen (λ f. f) fs xs ys g k (λ f. record { name = refl; same = λ _. refl }) s h (subst (λ fs. AllZip (IsFieldRow B) fs ys) (sym (map-same fs)) j)
-
--- other bounds
-bounds_go : (n : Name) (lo hi : ℕ) (f : Field) → Goes (λ m. same_name m n) f (bounding n lo hi f)
-bounds_go n lo hi f = record { name = bounding_name n lo hi f; same = λ e. ap (λ b. if b then with_bounds lo hi f else f) (other_way f.name n e) }
-
-fields_insert : (A B : Ledger) (chosen : Name → Bool) (p : Field → Field → Bool) (n : Field) (fs : List Field) (xs ys : List FieldCells) → Good A → Good B → ((f : Field) → chosen f.name ≡ false → SameNumbers A B f) → chosen n.name ≡ true
-    → AllZip (IsFieldRow A) fs xs → AllZip (IsFieldRow B) (insert_in_order p n fs) ys → Follows field_cmp (RowChosen chosen) xs ys
-fields_insert A B chosen p n [] xs [] g k s e h j = absurd j
-fields_insert A B chosen p n [] [] (y ∷ []) g k s e h j = inl (subst (λ m. chosen m ≡ true) (λ i. record { branch = sym j.0.branch i; article = sym j.0.article i }) e, refl)
-fields_insert A B chosen p n [] (x ∷ xs) (y ∷ ys) g k s e h j = absurd h
-fields_insert A B chosen p n [] [] (y ∷ z ∷ ys) g k s e h j = absurd j.1
-fields_insert A B chosen p n (f ∷ fs) [] ys g k s e h j = absurd h
-fields_insert A B chosen p n (f ∷ fs) (x ∷ xs) ys g k s e h j = step (p n f) ys j (λ zs i. fields_insert A B chosen p n fs xs zs g k s e h.1 i)
-  where
-    step : (b : Bool) (ys : List FieldCells) → AllZip (IsFieldRow B) (if b then n ∷ f ∷ fs else f ∷ insert_in_order p n fs) ys → ((zs : List FieldCells) → AllZip (IsFieldRow B) (insert_in_order p n fs) zs → Follows field_cmp (RowChosen chosen) xs zs) → Follows field_cmp (RowChosen chosen) (x ∷ xs) ys
-    step true [] j more = absurd j
-    step true (y ∷ ys) j more = inl (subst (λ m. chosen m ≡ true) (λ i. record { branch = sym j.0.branch i; article = sym j.0.article i }) e, fields_zip A B chosen (f ∷ fs) (x ∷ xs) ys g k s h j.1)
-    step false [] j more = absurd j
-    step false (y ∷ ys) j more = let t = field_step A B chosen f f x y g k (record { name = refl; same = λ _. refl }) (s f) h.0 j.0 in inr (x, xs, refl, t.0, t.1, more ys j.1)
-
-fields_follow : (A : Ledger) (key : List ℕ) (c : Command) (xs ys : List FieldCells) → Good A → Good (accept A (record { key = key; command = c })) → FirstFailure (checks A c) None → AllZip (IsFieldRow A) A.fields xs → AllZip (IsFieldRow (accept A (record { key = key; command = c }))) (accept A (record { key = key; command = c })).fields ys
-    → Follows field_cmp (RowChosen (changes_field A c)) xs ys
-fields_follow A key (command.Field b a lo hi start) xs ys g k h x y = fields_insert A _ (changes_field A (command.Field b a lo hi start)) (λ f g. is_lt (name_cmp f.name g.name)) _ A.fields xs ys g k (same_field A key (command.Field b a lo hi start) g h) (same_self (name_of b a)) x y
-fields_follow A key (command.Rebound b a lo hi) xs ys g k h x y =
-    fields_map A _ (changes_field A (command.Rebound b a lo hi)) (bounding (name_of b a) lo hi) A.fields xs ys g k (bounds_go (name_of b a) lo hi) (same_field A key (command.Rebound b a lo hi) g h) x y
-fields_follow A key c xs ys g k h x y = fields_zip A _ (changes_field A c) A.fields xs ys g k (same_field A key c g h) x y
-
--- the rows of a good ledger stand in the order of their keys
-
--- the law
-
-two_tables : {R : Type 0} (cmp : R → R → Ordering) → IsTotalOrder cmp → (chosen : R → Bool) (xs ys us vs : List R) → us ≡ xs → vs ≡ ys → IsStrictlySortedBy cmp ys → Follows cmp chosen xs ys → put_rows cmp (filter chosen vs) us ≡ vs
-two_tables cmp o chosen xs ys us vs e d s f = (λ i. put_rows cmp (filter chosen (d i)) (e i)) ∙ put_all cmp o chosen xs ys s f ∙ sym d
+-- ---- the law
 
 desk_put : (a b : DeskCells) (us vs : List DeskCells) → a.one ≡ pos 1 → b.one ≡ pos 1 → us ≡ a ∷ [] → vs ≡ b ∷ [] → put_rows desk_cmp vs us ≡ vs
 desk_put a b us vs p q e d = cc
+
+placed : {R : Type 0} (cmp : R → R → Ordering) → IsTotalOrder cmp → (new xs ys us vs : List R) → us ≡ xs → vs ≡ ys → IsStrictlySortedBy cmp ys → Follows cmp new xs ys → put_rows cmp new us ≡ vs
+placed cmp o new xs ys us vs e d s f = ap (put_rows cmp new) e ∙ put_all cmp o new xs ys s f ∙ sym d
 
 pub changes_suffice : (A : Ledger) (r : Request) (C D : Content) → Good A → IsKey r.key → IsInRange r.command → kept_under A r.key ≡ None → FirstFailure (checks A r.command) None
     → IsRowsOf A C → IsRowsOf (accept A r) D → put_content (changed_rows A r D) C ≡ D
 changes_suffice A r C D g key range none h x y =
     let B : Ledger = accept A r in
     let k : Good B = good_accept A r g key range none h in
+    let goes = effect_goes A r.command g h in
     let desk = desk_put (desk_row A) (desk_row B) C.desk D.desk refl refl x.desk y.desk in
-    let fields = put_all field_cmp field_cmp_total (RowChosen (changes_field A r.command)) C.fields D.fields (fields_sorted B B.fields D.fields k.fields_in_order y.fields) (fields_follow A r.key r.command C.fields D.fields g k h x.fields y.fields) in
-    let moves = two_tables move_cmp move_cmp_total (λ row. changes_move A r.command row.place) (map move_row A.moves) (map move_row B.moves) C.moves D.moves x.moves y.moves (moves_sorted B k) (moves_follow A r.key r.command) in
-    let orders = two_tables order_cmp order_cmp_total (λ row. changes_order A r.command row.number) (map order_row A.orders) (map order_row B.orders) C.orders D.orders x.orders y.orders (orders_sorted B k) (orders_follow A r.key r.command) in
-    let lines = two_tables line_cmp line_cmp_total (λ row. changes_line A r.command row.number (name_of row.branch row.article)) (flat_map order_lines A.orders) (flat_map order_lines B.orders) C.lines D.lines x.lines y.lines (lines_sorted B.orders k.orders_in_order)
-    (lines_follow A r.key r.command (λ n l e. plain_there A n l.way l.branch l.article l.qty g (subst (λ c. FirstFailure (checks A c) None) e h))) in
-    let kept = two_tables kept_cmp kept_cmp_total (λ row. bytes_eq row.reqkey r.key) (map kept_row A.kept) (map kept_row B.kept) C.kept D.kept x.kept y.kept (kept_sorted B k)
-    (follows-insert kept_cmp kept_cmp_total (λ row. bytes_eq row.reqkey r.key) kept_row (λ a b. is_lt (slice_cmp nat_cmp a.key b.key)) (record { key = r.key; place = places A + 1; command = r.command }) A.kept ((bytes_decides r.key r.key).1 refl)) in
-    let firms = two_tables firm_cmp firm_cmp_total (λ row. changes_firm r.command row.number) (flat_map firm_rows A.orders) (flat_map firm_rows B.orders) C.firms D.firms x.firms y.firms (firms_sorted B.orders k.orders_in_order) (firms_follow A r.key r.command) in
+    let before : C.fields ≡ map (field_row A) A.fields = ap (λ (C : Content). C.fields) (one_content A C (rows_of A) x (rows_are A g)) in
+    let after : D.fields ≡ map (field_row B) B.fields = ap (λ (C : Content). C.fields) (one_content B D (rows_of B) y (rows_are B k)) in
+    let fields = (λ i. put_rows field_cmp (filter (RowChosen (changes_field A r.command)) (after i)) (before i)) ∙ put_all field_cmp field_cmp_total _ _ _ (subst (IsStrictlySortedBy field_cmp) after (fields_sorted B B.fields D.fields k.fields_in_order y.fields)) (fields_follow A r.key r.command g h) ∙ sym after in
+    let moves = placed move_cmp move_cmp_total _ (map move_row A.moves) (map move_row B.moves) C.moves D.moves x.moves y.moves (moves_sorted B k) (moves_follow A r.command) in
+    let single = flat-one order_row B.orders in
+    let orders = ap (put_rows order_cmp (flat_map state_row (steps_of A r.command))) (x.orders ∙ sym (flat-one order_row A.orders)) ∙ steps_put order_cmp order_cmp_total (λ o. order_row o ∷ []) state_row (effect r.command) A.orders (subst (IsStrictlySortedBy order_cmp) (sym single) (orders_sorted B k))
+        (effect_follows order_cmp (λ o. order_row o ∷ []) state_row (λ o. follows-new order_cmp (order_row o ∷ [])) state_follows (effect r.command) A.orders goes) ∙ single ∙ sym y.orders in
+    let lines = ap (put_rows line_cmp (flat_map amount_rows (steps_of A r.command))) x.lines ∙ steps_put line_cmp line_cmp_total order_lines amount_rows (effect r.command) A.orders (lines_sorted B.orders k.orders_in_order) (effect_follows line_cmp order_lines amount_rows new_lines_follow lines_follow (effect r.command) A.orders goes) ∙ sym y.lines in
+    let kept = placed kept_cmp kept_cmp_total _ (map kept_row A.kept) (map kept_row B.kept) C.kept D.kept x.kept y.kept (kept_sorted B k) (follows-insert kept_cmp kept_row (λ a b. is_lt (slice_cmp nat_cmp a.key b.key)) (new_key A r) A.kept) in
+    let firms = ap (put_rows firm_cmp (flat_map mark_row (steps_of A r.command))) x.firms ∙ steps_put firm_cmp firm_cmp_total firm_rows mark_row (effect r.command) A.orders (firms_sorted B.orders k.orders_in_order) (effect_follows firm_cmp firm_rows mark_row new_mark_follows mark_follows (effect r.command) A.orders goes) ∙ sym y.firms in
     λ i. record { desk = desk i; fields = fields i; moves = moves i; orders = orders i; lines = lines i; kept = kept i; firms = firms i }

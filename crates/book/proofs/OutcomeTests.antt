@@ -1,8 +1,8 @@
 -- The model's tests of a request, over all outcomes, as the comparisons that a program makes.
-use Rattle.book.proofs.Prelude.{[], ◌++◌, ◌+ℤ◌, ◌-ℤ◌, ◌<ℤ◌, ◌↔◌, ◌∙◌, ◌∷◌, ◌≡◌, ◌≤◌, Add, Bool, BreaksBound, Each, FallsBelow, Field, IsSomeAnd, Kind, Ledger, Line, List, Move, Name, None, OpenLine, Order, RisesAbove, Some, Take, Way, ap, arith, bytes_decides, common_steps, false, field_named, find, held_to_add, held_to_take, if_add, if_take, if◌then◌else◌, insert_in_order, ints, is_open, is_settled, line_name, map, moved_by, nat_lt, neg_ℤ, new_line, new_order, on, pos, refl, same_name, settled, subst, sym, total, true, true≢false, with_move, with_order, ℕ, ℤ}
+use Rattle.book.proofs.Prelude.{[], ◌++◌, ◌+ℤ◌, ◌-ℤ◌, ◌<ℤ◌, ◌↔◌, ◌∙◌, ◌∷◌, ◌≡◌, ◌≤◌, Add, Bool, BreaksBound, Each, FallsBelow, Field, IsSomeAnd, Kind, Ledger, Line, List, Move, Name, None, OpenLine, Order, RisesAbove, Some, Take, Way, ap, arith, bytes_decides, common_steps, false, field_named, find, held_to_add, held_to_take, if_add, if_take, if◌then◌else◌, insert_in_order, ints, is_open, is_settled, line_name, map, moved_by, nat_lt, neg_ℤ, new_line, new_order, on, pos, refl, same_name, settled, subst, sym, total, true, true≢false, with_order, ℕ, ℤ}
 use Rattle.book.proofs.Bounds.{OneOn, Sound, takes, adds, none-total, falls_below_iff, rises_above_iff}
 use Rattle.book.proofs.Futures.{name_is}
-use Rattle.book.proofs.Sums.{each-of-push}
+use Rattle.book.proofs.Sums.{with_move, each-of-push}
 
 pub total-insert : {X : Type 0} (g : X → ℤ) (p : X → X → Bool) (x : X) (xs : List X) → total g (insert_in_order p x xs) ≡ g x +ℤ total g xs
 total-insert g p x [] = refl

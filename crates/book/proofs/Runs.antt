@@ -1,10 +1,10 @@
 -- What is answered: each request once, at a good ledger always, and in whole runs.
-use Rattle.book.proofs.Prelude.{Add, Answers, AnswersNew, AsksNoStock, Check, Command, Done, Each, Field, FirstFailure, Good, IsAccepted, IsDistinct, IsFuture, IsGoodField, IsHonoured, IsInRange, IsKey, IsNone, IsSomeAnd, IsStrictlySortedBy, Kept, KeyReused, Kind, Ledger, List, MatchOption, MayHoldMore, Name, None, OpenLine, Option, Plain, Refusal, Refused, Reply, Request, Runs, Some, Take, Transfer, Way, [], accept, add_hold, ap, arith, bound, bytes_decides, change_order, checks, dec_le, find, held_to_add, held_to_take, if◌then◌else◌, inl, inr, ints, is_open, kept_under, length, line_checks, line_name, map, nat_lt, new_ledger, new_line, new_order, next, on, order_numbered, places, pos, refl, same_command, settled, spelling, spelling_one, subst, suc, sym, take, total, transfer_lines, true, with_order, zero, ℕ, ◌++◌, ◌+ℤ◌, ◌+◌, ◌-ℤ◌, ◌<◌, ◌↔◌, ◌∙◌, ◌∷◌, ◌≡◌, ◌≤ℤ◌, ◌≤◌, ◌⊎◌}
+use Rattle.book.proofs.Prelude.{Add, Answers, AnswersNew, AsksNoStock, Check, Command, Done, Each, Field, FirstFailure, Good, IsAccepted, IsDistinct, IsFuture, IsGoodField, IsHonoured, IsInRange, IsKey, IsNone, IsSomeAnd, IsStrictlySortedBy, Kept, KeyReused, Kind, Ledger, List, MatchOption, MayHoldMore, Name, None, OpenLine, Option, Plain, Refusal, Refused, Reply, Request, Runs, Some, Take, Transfer, Way, [], accept, add_hold, ap, arith, bound, bytes_decides, checks, dec_le, find, held_to_add, held_to_take, if◌then◌else◌, inl, inr, ints, is_open, kept_under, length, line_checks, line_name, map, nat_lt, new_ledger, new_line, new_order, next, on, order_numbered, places, pos, refl, same_command, settled, spelling, spelling_one, subst, suc, sym, take, total, transfer_lines, true, with_order, zero, ℕ, ◌++◌, ◌+ℤ◌, ◌+◌, ◌-ℤ◌, ◌<◌, ◌↔◌, ◌∙◌, ◌∷◌, ◌≡◌, ◌≤ℤ◌, ◌≤◌, ◌⊎◌}
 use Rattle.book.specs.Future.{Honours}
 use Rattle.book.proofs.Futures.{Fit, at_number, fit-answer, fit_from_good, sounds_from_good, stands_if_fit}
 use native.Mathlib.Decide.{dec_lt}
 use Rattle.words.specs.declared.command.Command.TheVariants as command
-use Rattle.book.proofs.Sums.{each-both, least_if}
+use Rattle.book.proofs.Sums.{change_order, each-both, least_if}
 use Rattle.book.proofs.Bounds.{HasRoom, OneOn, Sound, adds, adds-not_negative, falls_below_iff, rises_above_iff, room_from_safe, takes, takes-not_negative}
 use Rattle.book.proofs.OutcomeTests.{each-insert, fresh-push, fresh-sound}
 use Rattle.book.proofs.Safety.{none_if_not_some, raised, sound-more, takes_more}

@@ -1,6 +1,6 @@
 -- Every accepted command leaves a good ledger safe.
-use Rattle.book.proofs.Prelude.{Add, Bool, Command, Each, Equal, FallsBelow, Field, FirstFailure, Good, IsFalse, IsGoodLine, IsGoodOrder, IsNone, IsSafe, IsSome, IsSomeAnd, IsStrictlySortedBy, IsTrue, Kind, Ledger, Less, Line, List, MatchOption, MayHoldMore, Name, None, OpenLine, Option, Order, Request, RisesAbove, Some, State, Take, Transfer, Way, [], accept, add_hold, ap, append-nil, append_assoc, arith, bound, by_lt_z, change_order, checks, common_steps, false, field_named, find, held_to_add, held_to_take, if_add, if_take, if◌then◌else◌, ints, is_lt, is_open, is_settled, is_transfer, length, line_checks, line_name, line_on, map, name_cmp, nat_cmp, nat_lt, neg_ℤ, new_line, new_order, next, on, open_state, option_map, order_numbered, pos, raise_held, refl, same_name, settled, settled_state, signed, slice_cmp, subst, sym, total, transfer_lines, true, true≢false, unsettled, with_move, with_order, ℕ, ℤ, ◌++◌, ◌+ℤ◌, ◌+◌, ◌-ℤ◌, ◌<ℤ◌, ◌==◌, ◌↔◌, ◌∙◌, ◌∷◌, ◌≡◌, ◌≢◌, ◌≤ℤ◌, ◌≤◌}
-use Rattle.book.proofs.Sums.{each, each-both, each-imp, each-map, each-of-push, total-kept, total-zero}
+use Rattle.book.proofs.Prelude.{Add, Bool, Command, Each, Equal, FallsBelow, Field, FirstFailure, Good, IsFalse, IsGoodLine, IsGoodOrder, IsNone, IsSafe, IsSome, IsSomeAnd, IsStrictlySortedBy, IsTrue, Kind, Ledger, Less, Line, List, MatchOption, MayHoldMore, Name, None, OpenLine, Option, Order, Request, RisesAbove, Some, State, Take, Transfer, Way, [], accept, add_hold, ap, append-nil, append_assoc, arith, bound, by_lt_z, checks, common_steps, false, field_named, find, held_to_add, held_to_take, if_add, if_take, if◌then◌else◌, ints, is_lt, is_open, is_settled, is_transfer, length, line_checks, line_name, line_on, map, name_cmp, nat_cmp, nat_lt, neg_ℤ, new_line, new_order, next, on, open_state, option_map, order_numbered, pos, raise_held, refl, same_name, settled, settled_state, signed, slice_cmp, subst, sym, total, transfer_lines, true, true≢false, unsettled, with_order, ℕ, ℤ, ◌++◌, ◌+ℤ◌, ◌+◌, ◌-ℤ◌, ◌<ℤ◌, ◌==◌, ◌↔◌, ◌∙◌, ◌∷◌, ◌≡◌, ◌≢◌, ◌≤ℤ◌, ◌≤◌}
+use Rattle.book.proofs.Sums.{change_order, with_move, each, each-both, each-imp, each-map, each-of-push, total-kept, total-zero}
 use Rattle.book.proofs.Bounds.{HasRoom, OneOn, Sound, adds, falls_below_iff, rises_above_iff, safe_from_room, takes}
 use Rattle.book.proofs.Futures.{AllPass, all_pass, at_line, at_number, fit-accept, fit_from_good, name_is, one_on-map, sounds_from_good}
 use Rattle.book.proofs.OutcomeTests.{each-insert, fresh-push, fresh-sound, held_add-order, held_take-order, map-push, moved-settled, none_found, one_on-push, same_self, settled-order, total-push}

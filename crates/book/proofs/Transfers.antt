@@ -1,8 +1,8 @@
 -- The commit of a transfer, a `firm` on it and a use leave every article's total as it was.
-use Rattle.book.proofs.Prelude.{[], ◌+ℤ◌, ◌+◌, ◌<◌, ◌==◌, ◌||◌, ◌∙◌, ◌∷◌, ◌≡◌, Answers, AnswersNew, Bool, Command, Committed, Done, Each, Field, FirstFailure, Good, IsGoodOrder, IsSome, IsSomeAnd, IsStrictlySortedBy, IsTransferPair, IsTrue, Kept, KeyReused, Ledger, Less, Line, List, MatchOption, Name, None, Option, Order, Refusal, Refused, Reply, Request, Some, accept, ap, arith, article_total, bytes_eq, change_lines, change_order, checks, false, field_named, find, if◌then◌else◌, ints, is_settled, is_some, is_transfer, kept_under, line_name, map, moved_by, name_cmp, name_of, nat_cmp, on, order_numbered, places, pos, raise_used, refl, same_command, same_name, set_firm, set_state, settled, signed, subst, sym, total, true, true≢false, ℕ, ℤ}
+use Rattle.book.proofs.Prelude.{[], ◌+ℤ◌, ◌+◌, ◌<◌, ◌==◌, ◌||◌, ◌∙◌, ◌∷◌, ◌≡◌, Answers, AnswersNew, Bool, Command, Committed, Done, Each, Field, FirstFailure, Good, IsGoodOrder, IsSome, IsSomeAnd, IsStrictlySortedBy, IsTransferPair, IsTrue, Kept, KeyReused, Ledger, Less, Line, List, MatchOption, Name, None, Option, Order, Refusal, Refused, Reply, Request, Some, accept, ap, arith, article_total, bytes_eq, change_lines, checks, false, field_named, find, if◌then◌else◌, ints, is_settled, is_some, is_transfer, kept_under, line_name, map, moved_by, name_cmp, name_of, nat_cmp, on, order_numbered, places, pos, raise_used, refl, same_command, same_name, set_firm, set_state, settled, signed, subst, sym, total, true, true≢false, ℕ, ℤ}
 use Rattle.words.specs.declared.command.Command.TheVariants as command
 use Rattle.book.specs.Future.{Settles}
-use Rattle.book.proofs.Sums.{each, each-imp, each-map, total-eq, total-sum, total-zero}
+use Rattle.book.proofs.Sums.{change_order, each, each-imp, each-map, total-eq, total-sum, total-zero}
 use Rattle.book.proofs.Futures.{Fine, Fit, fit-accept, fit_from_good, less_is, name_is}
 use Rattle.book.proofs.Lists.{each-unmap}
 use Rattle.book.proofs.Safety.{not_before_itself}

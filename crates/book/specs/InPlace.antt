@@ -1,31 +1,33 @@
 -- How lines and orders change in place, and when they may.
-use Rattle.std.specs.Prelude.{ℕ, ◌+◌, ◌<◌, ◌≤◌, ◌≡◌, ◌||◌, ◌==◌, true, List, [], ◌∷◌, ◌++◌, MatchOption, None, Option, Some, find, if◌then◌else◌, is_some, map}
-use Rattle.std.specs.List.{AllByRecursion as Each, fold}
+use Rattle.std.specs.Prelude.{ℕ, ◌+◌, ◌<◌, ◌≤◌, ◌≡◌, ◌||◌, true, List, [], ◌∷◌, ◌++◌, MatchOption, Some, find, if◌then◌else◌, is_some, map}
+use Rattle.std.specs.List.{AllByRecursion as Each}
+use Rattle.std.specs.Option.{option_map_or}
 use Rattle.std.specs.Vec.{vec_capacity, vec_len}
 use Rattle.escrow.specs.Ranges.{IsLevel}
-use Rattle.words.specs.declared.command.Command.{Command}
-use Rattle.words.specs.declared.command.Command.TheVariants as command
 use Rattle.words.specs.declared.open_line.OpenLine.{OpenLine}
+use Rattle.book.specs.declared.book.made.Effect.{Effect as Seen}
+use Rattle.book.specs.declared.book.made.Effect.TheVariants as seen
 use Rattle.book.specs.declared.book.made.LineChange.{LineChange}
 use Rattle.book.specs.declared.book.made.LineChange.TheVariants.{Hold, Release, Use}
 use Rattle.book.specs.declared.book.made.OrderChange.{OrderChange}
 use Rattle.book.specs.declared.book.made.OrderChange.TheVariants.{ChangeLines, End, HoldMore, MakeFirm}
 use Rattle.book.specs.declared.order.OrderEntry.{OrderEntry}
 use Rattle.book.specs.declared.order.Line.{Line}
-use Rattle.book.specs.declared.order.State.TheVariants.{Aborted, Committed}
-use Rattle.book.specs.Ledger.{Order, line_name, name_of, on, transfer_kind}
-use Rattle.book.specs.Next.{add_hold, change_lines, lower_held, new_line, raise_held, raise_used, set_firm, set_state}
+use Rattle.book.specs.declared.order.State.TheVariants.{Aborted}
+use Rattle.book.specs.Ledger.{Ledger, Order, line_name, on, order_numbered, transfer_kind}
+use Rattle.book.specs.Model.{order_of}
+use Rattle.book.specs.Next.{Changes, Effect, Nothing, Opens, add_hold, change_lines, expires, lower_held, new_line, numbered, raise_held, raise_used, set_firm, set_state}
 
 abbrev pub changed_line : LineChange → Line → Line
 changed_line (Hold q) l = raise_held q l
 changed_line (Use q) l = raise_used q l
 changed_line (Release q) l = lower_held q l
 
--- what is held stays a level, and no more is used than is held
+-- what is held stays a level, and no more is used than is held; what is given back may be any amount
 abbrev pub MayChange : LineChange → Line → Type 0
 MayChange (Hold q) l = IsLevel (l.held + q)
 MayChange (Use q) l = l.used + q ≤ l.held
-MayChange (Release q) l = l.used + q ≤ l.held
+MayChange (Release q) l = Unit {0}
 
 abbrev pub changed_order : OrderChange → Order → Order
 changed_order (HoldMore l) o = add_hold l o
@@ -49,20 +51,18 @@ MayChangeOrder (ChangeLines f change) o =
 MayChangeOrder (End state) o = Unit {0}
 MayChangeOrder MakeFirm o = Unit {0}
 
--- the order that a command changes, and how; none for a command that changes no one order
-abbrev pub order_change_of : Command → Option (ℕ × OrderChange)
-order_change_of (command.More n way b a q) = Some (n, HoldMore (record { way = way; branch = b; article = a; qty = q }))
-order_change_of (command.Use n b a q) = Some (n, ChangeLines (name_of b a) (Use q))
-order_change_of (command.Release n b a q) = Some (n, ChangeLines (name_of b a) (Release q))
-order_change_of (command.Commit n) = Some (n, End Committed)
-order_change_of (command.Abort n) = Some (n, End Aborted)
-order_change_of (command.Firm n) = Some (n, MakeFirm)
-order_change_of c = None
+-- what the command does to the orders
+abbrev pub effect_seen : Seen → Effect
+effect_seen seen.Nothing = Nothing
+effect_seen (seen.Opens o) = Opens (order_of o)
+effect_seen (seen.Changes n change) = Changes (numbered n) (changed_order change)
+effect_seen (seen.Expires now) = Changes (expires now) (set_state Aborted)
 
--- the order under the number aborted, and all others as they were
-abbrev pub abort_one : List Order → ℕ → List Order
-abort_one os n = map (λ o. if o.number == n then set_state Aborted o else o) os
+-- the order under that number, changed, if there is one
+abbrev pub made_of : Ledger → OrderChange → ℕ → List Order
+made_of A change n = option_map_or (λ o. changed_order change o ∷ []) (order_numbered A n) []
 
--- the orders under these numbers aborted, one after the other
-abbrev pub abort_all : List ℕ → List Order → List Order
-abort_all ns os = fold abort_one os ns
+-- a copy with room for one more line may be changed so
+abbrev pub MayChangeUnder : Ledger → ℕ → OrderChange → Type 0
+MayChangeUnder A n change = (entry : OrderEntry) → order_numbered A n ≡ Some (order_of (n, entry))
+    → vec_len entry.lines < vec_capacity entry.lines → MayChangeOrder change entry

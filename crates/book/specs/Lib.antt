@@ -15,6 +15,8 @@ pub mod Views
 pub mod Checking
 pub mod PlanAnswers
 pub mod Rows
+pub mod Steps
+pub mod StepsSeen
 pub mod Changes
 pub mod Tables
 pub mod RowEntries

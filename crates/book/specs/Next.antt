@@ -1,7 +1,8 @@
 -- The ledger after an accepted command: the entries that it adds or changes. It looks at no stock.
-use Rattle.std.specs.Prelude.{ℕ, ◌+◌, ◌-◌, ℤ, Bool, pos, neg_ℤ, ◌&&◌, ◌||◌, not, false, true, ◌==◌, nat_lt, nat_le, List, [], ◌∷◌, ◌++◌, map, is_some, if◌then◌else◌}
+use Rattle.std.specs.Prelude.{ℕ, ◌+◌, ◌-◌, ℤ, Bool, pos, neg_ℤ, Option, None, Some, option_map, ◌&&◌, ◌||◌, not, false, true, ◌==◌, nat_lt, nat_le, List, [], ◌∷◌, ◌++◌, map, is_some, if◌then◌else◌}
 use Rattle.std.specs.Ordering.{is_lt, nat_cmp}
 use Rattle.std.specs.Cmp.Lexicographic.{slice_cmp}
+use Rattle.escrow.specs.declared.quantity.Way.{Way}
 use Rattle.escrow.specs.declared.quantity.Way.TheVariants as way
 use Rattle.words.specs.declared.open_line.OpenLine.{OpenLine}
 use Rattle.words.specs.declared.command.Command.{Command}
@@ -12,11 +13,8 @@ use Rattle.book.specs.declared.order.Kind.TheVariants as kind
 use Rattle.book.specs.declared.order.State.{State}
 use Rattle.book.specs.declared.order.State.TheVariants as state
 use Rattle.book.specs.declared.order.Line.{Line}
-use Rattle.book.specs.Ledger.{Name, Field as FieldOf, Order, Ledger, places, name_cmp, on, is_open, is_transfer, line_on, insert_in_order, name_of, same_name}
-
--- one move more, at the next place
-abbrev pub with_move : Name → ℤ → Ledger → Ledger
-with_move f amount A = record A { moves = A.moves ++ record { place = places A + 1; field = f; amount = amount } ∷ [] }
+use Rattle.book.specs.Ledger.{Kept, Name, Field as FieldOf, Move, Order, Ledger, places, name_cmp, on, is_open, is_transfer, line_on, insert_in_order, name_of, same_name}
+use Rattle.book.specs.Outcomes.{signed}
 
 -- the field with other bounds; its start stays, and may then lie outside them
 abbrev pub with_bounds : ℕ → ℕ → FieldOf → FieldOf
@@ -25,10 +23,6 @@ with_bounds lo hi f = record f { lo = lo; hi = hi }
 -- one order more
 abbrev pub with_order : Order → Ledger → Ledger
 with_order o A = record A { orders = insert_in_order (λ a b. nat_lt a.number b.number) o A.orders }
-
--- the order with this number changed, and all others as they were
-abbrev pub change_order : ℕ → (Order → Order) → Ledger → Ledger
-change_order n change A = record A { orders = map (λ o. if o.number == n then change o else o) A.orders }
 
 -- a line that holds its amount, of which nothing is used
 abbrev pub new_line : OpenLine → Line
@@ -73,36 +67,85 @@ set_state state o = record o { state = state }
 abbrev pub set_firm : Order → Order
 set_firm o = record o { firm = true }
 
+-- the order is the one under the number
+abbrev pub numbered : ℕ → Order → Bool
+numbered n o = o.number == n
+
 -- the expiry aborts the order: it is open and not firm, and its moment has come
 abbrev pub expires : ℕ → Order → Bool
 expires now o = is_open o && not o.firm && nat_le o.until now
 
+-- ---- what a command does
+
+-- what a command does to the orders: nothing, or it opens one, or changes those that a test names
+pub data Effect : Type 0 where
+  Nothing : Effect
+  Opens : Order → Effect
+  Changes : (Order → Bool) → (Order → Order) → Effect
+
+abbrev pub effect : Command → Effect
+effect (Open n until lines) = Opens (new_order n kind.Plain until lines)
+effect (Transfer n until a from to q) = Opens (new_order n kind.Transfer until (transfer_lines a from to q))
+effect (More n way b a q) = Changes (numbered n) (add_hold (record { way = way; branch = b; article = a; qty = q }))
+effect (Use n b a q) = Changes (numbered n) (change_lines (name_of b a) (raise_used q))
+effect (Release n b a q) = Changes (numbered n) (change_lines (name_of b a) (lower_held q))
+effect (Commit n) = Changes (numbered n) (set_state state.Committed)
+effect (Abort n) = Changes (numbered n) (set_state state.Aborted)
+effect (Firm n) = Changes (numbered n) set_firm
+effect (Expire now) = Changes (expires now) (set_state state.Aborted)
+effect c = Nothing
+
+-- the field whose value the command moves at once, the way, and how much
+abbrev pub moved_at_once : Command → Option (Name × Way × ℕ)
+moved_at_once (Deliver b a q) = Some (name_of b a, way.Add, q)
+moved_at_once (Writeoff b a q) = Some (name_of b a, way.Take, q)
+moved_at_once c = None
+
+-- the fields, with the one that the command makes, or gives other bounds
+abbrev pub fields_after : Command → List FieldOf → List FieldOf
+fields_after (Field b a lo hi start) fields = insert_in_order (λ f g. is_lt (name_cmp f.name g.name))
+    (record { name = name_of b a; lo = lo; hi = hi; start = start }) fields
+fields_after (Rebound b a lo hi) fields =
+    map (λ f. if same_name (name_of b a) f.name then with_bounds lo hi f else f) fields
+fields_after c fields = fields
+
+abbrev pub clock_after : Command → ℕ → ℕ
+clock_after (Expire now) clock = now
+clock_after c clock = clock
+
+-- ---- the next ledger
+
+-- the orders, with what the command does to them
+abbrev pub orders_after : Effect → List Order → List Order
+orders_after Nothing orders = orders
+orders_after (Opens o) orders = insert_in_order (λ a b. nat_lt a.number b.number) o orders
+orders_after (Changes names change) orders = map (λ o. if names o then change o else o) orders
+
+-- the move that the command makes at that place, if it makes one
+abbrev pub move_made : ℕ → Command → Option Move
+move_made place c = option_map (λ m. record { place = place; field = m.0; amount = signed m.1 m.2 }) (moved_at_once c)
+
+-- the moves, with one more, if there is one
+abbrev pub moves_after : Option Move → List Move → List Move
+moves_after None moves = moves
+moves_after (Some m) moves = moves ++ m ∷ []
+
 -- the ledger that a command makes of another
 abbrev pub next : Ledger → Command → Ledger
-next A (Field b a lo hi start) = record A {
-  fields = insert_in_order (λ f g. is_lt (name_cmp f.name g.name))
-      (record { name = name_of b a; lo = lo; hi = hi; start = start }) A.fields;
-}
-next A (Deliver b a q) = with_move (name_of b a) (pos q) A
-next A (Writeoff b a q) = with_move (name_of b a) (neg_ℤ (pos q)) A
-next A (Rebound b a lo hi) =
-    record A { fields = map (λ f. if same_name (name_of b a) f.name then with_bounds lo hi f else f) A.fields }
-next A (Open n until lines) = with_order (new_order n kind.Plain until lines) A
-next A (Transfer n until a from to q) = with_order (new_order n kind.Transfer until (transfer_lines a from to q)) A
-next A (More n way b a q) = change_order n (add_hold (record { way = way; branch = b; article = a; qty = q })) A
-next A (Use n b a q) = change_order n (change_lines (name_of b a) (raise_used q)) A
-next A (Release n b a q) = change_order n (change_lines (name_of b a) (lower_held q)) A
-next A (Commit n) = change_order n (set_state state.Committed) A
-next A (Abort n) = change_order n (set_state state.Aborted) A
-next A (Firm n) = change_order n set_firm A
-next A (Expire now) = record A {
-  clock = now;
-  orders = map (λ o. if expires now o then set_state state.Aborted o else o) A.orders;
+next A c = record {
+  clock = clock_after c A.clock;
+  fields = fields_after c A.fields;
+  moves = moves_after (move_made (places A + 1) c) A.moves;
+  orders = orders_after (effect c) A.orders;
+  kept = A.kept;
 }
 
--- the next ledger, with the request's key kept at the next place
+-- the request's key, kept at the next place
+abbrev pub new_key : Ledger → Request → Kept
+new_key A r = record { key = r.key; place = places A + 1; command = r.command }
+
+-- the next ledger, with that key
 abbrev pub accept : Ledger → Request → Ledger
 accept A r = record (next A r.command) {
-  kept = insert_in_order (λ a b. is_lt (slice_cmp nat_cmp a.key b.key))
-      (record { key = r.key; place = places A + 1; command = r.command }) A.kept;
+  kept = insert_in_order (λ a b. is_lt (slice_cmp nat_cmp a.key b.key)) (new_key A r) A.kept;
 }

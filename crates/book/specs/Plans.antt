@@ -1,16 +1,14 @@
 -- Plans of accepted requests, and what carrying one out needs.
 use Rattle.std.specs.Prelude.{ℕ, ◌+◌, ◌≤◌, ◌≡◌, List, [], ◌∷◌, None, Option, length, map, option_map}
-use Rattle.words.specs.declared.command.Command.{Command}
-use Rattle.words.specs.declared.command.Command.TheVariants as command
 use Rattle.words.specs.declared.command.Request.{Request}
-use Rattle.words.specs.declared.open_line.OpenLine.{OpenLine}
-use Rattle.book.specs.After.{expired_numbers, field_rows, move_made, order_after}
-use Rattle.book.specs.Answers.{FirstFailure, IsAccepted, checks}
+use Rattle.book.specs.After.{field_rows}
+use Rattle.book.specs.Answers.{IsAccepted}
 use Rattle.book.specs.Changes.{changed_rows, put_content}
 use Rattle.book.specs.Ledger.{Ledger, Move, Name, Order, open_orders, places}
-use Rattle.book.specs.Next.{accept, next, transfer_lines}
+use Rattle.book.specs.Next.{accept, move_made, next}
 use Rattle.book.specs.Rows.{Content, IsRowsOf, desk_row}
 use Rattle.book.specs.RunningNumbers.{entry_row}
+use Rattle.book.specs.Steps.{orders_made}
 use Rattle.book.specs.Model.{BookView, move_of, order_of}
 use Rattle.book.specs.declared.book.FieldEntry.{FieldEntry}
 use Rattle.book.specs.declared.book.plan.PlanParts.{PlanParts}
@@ -26,10 +24,8 @@ pub record PlanView : Type 0 where
   pub fields : List (Name × FieldEntry)
   -- the move that the command makes
   pub moved : Option Move
-  -- the order that the command opens or changes, as it is then
-  pub made : Option Order
-  -- the numbers of the orders that the command aborts as expired
-  pub expired : List ℕ
+  -- the orders that the command opens or changes, as they are then
+  pub orders : List Order
   pub changes : Content
 
 -- the plan of these parts, which changes these rows
@@ -41,8 +37,7 @@ plan_of p changes = record {
   open_count = p.open_count;
   fields = p.fields.entries;
   moved = option_map move_of p.moved;
-  made = option_map order_of p.made;
-  expired = p.expired.items;
+  orders = map order_of p.orders.items;
   changes = changes;
 }
 
@@ -56,16 +51,14 @@ pub record ChangesTo (A : Ledger) (r : Request) (rows : Content) : Type 0 where
   pub desk : rows.desk ≡ desk_row (accept A r) ∷ []
 
 -- The plan fits the ledger: its request is accepted there, at that place, leaves that clock and so many open orders,
--- makes that move and that order, ends those as expired, and its rows are those that change; those of fields are the
--- rows of its entries.
+-- makes that move and those orders, and its rows are those that change; those of fields are the rows of its entries.
 pub record Fits (A : Ledger) (plan : PlanView) : Type 0 where
   pub accepted : IsAccepted A plan.request
   pub place : plan.place ≡ places A + 1
   pub clock : plan.clock ≡ (next A plan.request.command).clock
   pub open_count : plan.open_count ≡ open_orders (next A plan.request.command)
   pub moved : plan.moved ≡ move_made plan.place plan.request.command
-  pub made : plan.made ≡ order_after A plan.request.command
-  pub expired : plan.expired ≡ expired_numbers A plan.request.command
+  pub orders : plan.orders ≡ orders_made A plan.request.command
   pub changes : ChangesTo A plan.request plan.changes
   pub fields : map entry_row plan.fields ≡ plan.changes.fields
 
@@ -77,21 +70,8 @@ pub record Makes (A : Ledger) (r : Request) (p : PlanParts) : Type 0 where
   pub clock : p.clock ≡ (next A r.command).clock
   pub open_count : p.open_count ≡ open_orders (next A r.command)
   pub moved : option_map move_of p.moved ≡ move_made p.place r.command
-  pub made : option_map order_of p.made ≡ order_after A r.command
-  pub expired : p.expired.items ≡ expired_numbers A r.command
+  pub orders : map order_of p.orders.items ≡ orders_made A r.command
   pub fields : map entry_row p.fields.entries ≡ field_rows A r
-
--- The command passes its checks, and makes that order or aborts those as expired.
-pub record Leaves (A : Ledger) (c : Command) (made : Option Order) (expired : List ℕ) : Type 0 where
-  pub passed : FirstFailure (checks A c) None
-  pub made_is : made ≡ order_after A c
-  pub expired_is : expired ≡ expired_numbers A c
-
--- the lines of the order that a command opens
-abbrev pub opened_lines : Command → List OpenLine
-opened_lines (command.Open n until lines) = lines
-opened_lines (command.Transfer n until a from to q) = transfer_lines a from to q
-opened_lines c = []
 
 -- The book has room for the plan: for the fields that change, and for an entry more of each other kind.
 pub record HasRoomFor (book : BookView) (plan : PlanView) : Type 0 where

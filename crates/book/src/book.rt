@@ -1,18 +1,20 @@
 //! The ledger in memory.
 
-ghost use Rattle.book.specs.After.{move_made, open_among};
 ghost use Rattle.book.specs.Future.{Honours, HonoursAlways, Settles};
 ghost use Rattle.book.specs.Good.{Good};
-ghost use Rattle.book.specs.Ledger.{new_ledger, field_named, kept_under, order_numbered, Ledger, is_transfer, open_state, places, insert_in_order, open_orders};
-ghost use Rattle.book.specs.Next.{accept, next};
+ghost use Rattle.book.specs.Ledger.{name_of, new_ledger, field_named, kept_under, order_numbered, Ledger, is_open, is_transfer, places, insert_in_order, open_orders};
+ghost use Rattle.book.specs.Next.{accept, move_made, next};
 ghost use Rattle.book.specs.Outcomes.{article_total};
-ghost use Rattle.book.specs.Plans.{Fits, HasRoomFor, RoomStays, NoRoomGrows, Leaves};
+ghost use Rattle.book.specs.Plans.{Fits, HasRoomFor, RoomStays, NoRoomGrows};
+ghost use Rattle.book.specs.StepsSeen.{Leaves, MayPut, number_cmp};
+ghost use Rattle.book.specs.Changes.{put_rows};
 ghost use Rattle.book.specs.RunningNumbers.{IsUpToDate, with_entries};
 ghost use Rattle.book.specs.Tables.{rows_among};
 ghost use Rattle.book.specs.Model.{field_of, kept_of, order_of, move_of};
 ghost use Rattle.std.specs.Cmp.Lexicographic.{slice_cmp};
+ghost use Rattle.std.specs.Option.{option_map_or};
 ghost use Rattle.std.specs.Ordering.{nat_cmp, is_lt};
-ghost use Rattle.std.specs.Prelude.{◌≡◌, IfSome, MatchOption, find, OnErr, OnOk, ◌<◌, ◌≤◌, ◌+◌, ◌-◌, None, ℕ, List, IsSomeAnd, IsTrue, if◌then◌else◌, length, map, option_map};
+ghost use Rattle.std.specs.Prelude.{◌≡◌, IfSome, MatchOption, find, OnErr, OnOk, ◌<◌, ◌≤◌, ◌+◌, ◌-◌, None, ℕ, List, IsSomeAnd, IsTrue, false, length, map, option_map};
 ghost use Rattle.std.specs.Str.{bytes_eq};
 ghost use Rattle.std.specs.Vec.{vec_capacity, vec_len};
 ghost use Rattle.words.specs.declared.command.Command.{Command};
@@ -22,12 +24,12 @@ mod checks;
 mod fields;
 mod made;
 mod plan;
+mod steps;
 mod tables;
 mod views;
 
-use self::made::abort_all;
 use crate::kept_words::KeptWords;
-use crate::order::{Order, OrderEntry, State};
+use crate::order::{Order, OrderEntry, count_open, is_open};
 use crate::rows::Change;
 use escrow::{Article, Branch, FieldName, Key, Level, Moment, OrderNo, Quantity};
 use index::InOrder;
@@ -55,6 +57,18 @@ pub struct MoveEntry {
     pub branch: Branch,
     pub article: Article,
     pub amount: i64,
+}
+
+impl MoveEntry {
+    /// The name of its field.
+    pub(crate) fn name(&self) -> FieldName
+        ensures { result ≡ name_of self.now.branch self.now.article }
+    {
+        FieldName {
+            branch: self.branch,
+            article: self.article,
+        }
+    }
 }
 
 /// What is kept under an accepted key: its place and the words of its command.
@@ -184,50 +198,37 @@ fn adopt_move(moves: &mut Vec<MoveEntry>, moved: Option<MoveEntry>)
     }
 }
 
-/// Puts the order in that the command makes, or else aborts those that expire.
-fn adopt_orders(orders: &mut InOrder<OrderNo, OrderEntry>, made: Option<Order>, expired: &[OrderNo])
-    requires room { 1 ≤ orders.old.room }
-    ensures orders { (A : Ledger) (c : Command) → Good A → Leaves A c (option_map order_of made) expired.now
-        → map order_of orders.old.entries ≡ A.orders → map order_of orders.new.entries ≡ (next A c).orders }
+/// Puts the orders in, each by its number.
+fn adopt_orders(orders: &mut InOrder<OrderNo, OrderEntry>, made: Vec<Order>)
+    requires { MayPut made.items orders.old }
+    ensures orders { map order_of orders.new.entries ≡ put_rows number_cmp (map order_of made.items)
+        (map order_of orders.old.entries) }
     ensures room { orders.new.room ≤ orders.old.room }
 {
-    match made {
-        Some(order) => orders.put(order.0, order.1),
-        None => abort_all(orders, expired),
-    }
-}
-
-/// How many orders of that state are open, for one of them.
-fn open_one(state: State) -> usize
-    ensures { result ≡ (if open_state state then 1 else 0) }
-{
-    match state {
-        State::Open => 1,
-        State::Committed | State::Aborted => 0,
+    for order in made {
+        orders.put(order.0, order.1);
     }
 }
 
 impl Book {
-    /// How many orders of that number are open, none or one.
-    fn open_before(&self, number: OrderNo) -> usize
-        ensures { result ≡ open_among (order_numbered self.now.ledger number) }
+    /// Whether the order of that number is open, if there is one.
+    fn was_open(&self, number: OrderNo) -> bool
+        ensures { result ≡ option_map_or is_open (order_numbered self.now.ledger number) false }
     {
         match self.order_entry(number) {
-            Some(order) => open_one(order.state),
-            None => 0,
+            Some(order) => is_open(order.state),
+            None => false,
         }
     }
 
-    /// How many orders are open once a command is carried out that makes this order, or else aborts these as expired.
-    fn open_after(&self, made: &Option<Order>, expired: &[OrderNo]) -> usize
-        requires { (c : Command) × Leaves self.now.ledger c (option_map order_of made.now) expired.now }
-        ensures { (c : Command) → Leaves self.now.ledger c (option_map order_of made.now) expired.now
+    /// How many orders are open once these are put in.
+    fn open_after(&self, made: &[Order]) -> usize
+        requires { (c : Command) × Leaves self.now.ledger c (map order_of made.now) }
+        ensures { (c : Command) → Leaves self.now.ledger c (map order_of made.now)
             → result ≡ open_orders (next self.now.ledger c) }
     {
-        match made {
-            Some(order) => self.open_count + open_one(order.1.state) - self.open_before(order.0),
-            None => self.open_count - expired.len(),
-        }
+        let before = made.iter().filter(|order| self.was_open(order.0)).count();
+        self.open_count + count_open(made) - before
     }
 
     /// Carries the plan out, and gives its rows. Takes no memory, and always succeeds. The ledger stays good, and honours
@@ -252,7 +253,7 @@ impl Book {
         self.open_count = parts.open_count;
         adopt_fields(&mut self.fields, &parts.fields);
         adopt_move(&mut self.moves, parts.moved);
-        adopt_orders(&mut self.orders, parts.made, &parts.expired);
+        adopt_orders(&mut self.orders, parts.orders);
         insert_kept(&mut self.kept, key, KeptEntry { place, words });
         changes
     }

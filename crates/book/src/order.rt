@@ -1,7 +1,7 @@
 //! Orders, which hold amounts on fields until they end.
 
-ghost use Rattle.std.specs.Prelude.{◌≡◌, MatchOption, find};
-ghost use Rattle.book.specs.Ledger.{on};
+ghost use Rattle.std.specs.Prelude.{◌≡◌, MatchOption, count_by, find};
+ghost use Rattle.book.specs.Ledger.{line_name, on, open_state};
 ghost use Rattle.book.specs.RunningNumbers.{share_of};
 
 use escrow::{Article, Branch, FieldName, Level, Moment, OrderNo, Way};
@@ -93,8 +93,34 @@ pub(crate) fn share_of(line: &Line, state: State, firm: bool) -> Share
     }
 }
 
+/// Whether an order in that state is open.
+pub(crate) fn is_open(state: State) -> bool
+    ensures { result ≡ open_state state }
+{
+    matches!(state, State::Open)
+}
+
+impl Line {
+    /// The name of the field that the line is on.
+    pub(crate) fn name(&self) -> FieldName
+        ensures { result ≡ line_name self.now }
+    {
+        FieldName {
+            branch: self.branch,
+            article: self.article,
+        }
+    }
+}
+
 /// An order under its number.
 pub type Order = (OrderNo, OrderEntry);
+
+/// How many of the orders are open.
+pub(crate) fn count_open(orders: &[Order]) -> usize
+    ensures { result ≡ count_by (λ order. open_state order.1.state) orders.now }
+{
+    orders.iter().filter(|order| is_open(order.1.state)).count()
+}
 
 /// The first line on that field.
 pub(crate) fn line_in<'a>(lines: &'a [Line], name: &FieldName) -> Option<&'a Line>

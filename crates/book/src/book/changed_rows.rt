@@ -1,19 +1,21 @@
 //! The rows that an accepted request changes.
 
-ghost use Rattle.std.specs.Prelude.{◌≡◌, ◌≤◌, pos, string_bytes, IfOk, IfSome, ◌∷◌, ◌++◌, [], flat_map, map, option_map, OnOk};
+ghost use Rattle.std.specs.List.{AllByRecursion as Each};
+ghost use Rattle.std.specs.Option.{option_copied};
+ghost use Rattle.std.specs.Prelude.{◌≡◌, ◌≤◌, ℕ, pos, string_bytes, IfOk, IfSome, ◌∷◌, ◌++◌, [], length, map, option_map, OnOk};
 ghost use Rattle.std.specs.Str.{IsUtf8};
 ghost use Rattle.words.specs.declared.limits.TheConstants.{MAX_ORDER_LINES};
-ghost use Rattle.book.specs.Ledger.{is_transfer};
-ghost use Rattle.book.specs.Next.{set_state, next};
+ghost use Rattle.book.specs.Changes.{amount_row, amount_rows, mark_row, state_row};
+ghost use Rattle.book.specs.Next.{moves_after, next};
 ghost use Rattle.book.specs.Rows.{kept_row, kind_code, line_row, move_row, order_row, state_code, way_code};
 ghost use Rattle.book.specs.RunningNumbers.{Accepts, entry_row};
+ghost use Rattle.book.specs.StepsSeen.{line_seen, step_seen, step_to, with_fields, with_firms, with_kept, with_lines, with_moves, with_orders, with_steps};
 ghost use Rattle.book.specs.Tables.{desk_cells, field_cells, kept_cells, line_cells, move_cells, order_cells, rows_among};
 ghost use Rattle.book.specs.Model.{move_of, order_of};
-ghost use Rattle.book.specs.After.{aborted_rows, changes_own_line, line_rows, move_rows, of_numbered, own_firm_rows, own_line_rows, own_order_rows, with_fields, with_firms, with_kept, with_lines, with_moves, with_orders, IsShort};
 ghost use Rattle.book.specs.Plans.{ChangesTo, Makes};
 
-use super::made::{changes_line, changes_state, is_transfer};
 use super::plan::PlanParts;
+use super::steps::{becomes_firm, changes_line, changes_state, line_before};
 use super::{Book, FieldEntry, MoveEntry};
 use crate::kept_words::KeptWords;
 use crate::limits::MAX_PLACES;
@@ -99,15 +101,16 @@ fn field_row(alloc: Global, field: &(FieldName, FieldEntry)) -> Result<FieldRow,
     })
 }
 
-/// The row of the order of that number, in that state.
-fn order_row(number: OrderNo, order: &OrderEntry, state: State) -> OrderRow
-    ensures { order_cells result ≡ order_row (set_state state (order_of (number, order.now))) }
+/// The row of the order.
+fn order_row(order: &Order) -> OrderRow
+    ensures { order_cells result ≡ order_row (order_of order.now) }
 {
+    let (number, entry) = order;
     OrderRow {
         number: number.get() as i64,
-        kind: kind_code(order.kind),
-        until: order.until.get() as i64,
-        state: state_code(state),
+        kind: kind_code(entry.kind),
+        until: entry.until.get() as i64,
+        state: state_code(entry.state),
     }
 }
 
@@ -189,63 +192,71 @@ fn push_fields(
     Ok(())
 }
 
-/// Appends the row of the order that the command makes, where it is new or its state changes.
+/// Appends the row of the order, if it is new or its state changes.
 fn push_order(
     changes: &mut Vec<Change>,
-    command: &Command,
-    made: &Option<Order>,
+    before: Option<&OrderEntry>,
+    after: &Order,
 ) -> Result<(), Memory>
-    ensures { OnOk result (rows_among changes.new.items ≡ with_orders (own_order_rows command.now
-        (option_map order_of made.now)) (rows_among changes.old.items)) }
+    ensures { OnOk result (rows_among changes.new.items ≡ with_orders
+        (state_row (step_seen (option_copied before.entry) after.now)) (rows_among changes.old.items)) }
 {
-    let Some(order) = made else {
-        return Ok(());
-    };
-    if changes_state(command) {
-        let row = order_row(order.0, &order.1, order.1.state);
-        push(changes, Change::Order(row))?;
+    if changes_state(before, after) {
+        push(changes, Change::Order(order_row(after)))?;
     }
     Ok(())
 }
 
-/// Appends the row of the line, where it is new or its amounts change.
+/// Appends the row of the line, if it is new or one of its amounts changes.
 fn push_line(
     alloc: Global,
     changes: &mut Vec<Change>,
-    command: &Command,
-    order: &Order,
+    number: OrderNo,
     nr: usize,
+    before: Option<&Line>,
     line: &Line,
 ) -> Result<(), Memory>
     requires { nr ≤ MAX_ORDER_LINES }
-    ensures { OnOk result (rows_among changes.new.items ≡ with_lines (line_rows
-        (changes_own_line (is_transfer (order_of order.now)) command.now) order.now.0 nr (line.now ∷ []))
-        (rows_among changes.old.items)) }
+    ensures { OnOk result (rows_among changes.new.items ≡ with_lines
+        (amount_row number (line_seen nr (option_copied before.entry) line.now)) (rows_among changes.old.items)) }
 {
-    if changes_line(command, is_transfer(order), line) {
-        let row = line_row(alloc, order.0, nr, line)?;
+    if changes_line(before, line) {
+        let row = line_row(alloc, number, nr, line)?;
         push(changes, Change::Line(row))?;
     }
     Ok(())
 }
 
-/// Appends the rows of the lines that are new or whose amounts change of the order that the command makes, if it
-/// makes one.
-fn push_own_lines(
+/// Appends the rows of the lines of the order that are new or of which an amount changes.
+fn push_lines(
     alloc: Global,
     changes: &mut Vec<Change>,
-    command: &Command,
-    made: &Option<Order>,
+    before: Option<&OrderEntry>,
+    after: &Order,
 ) -> Result<(), Memory>
-    requires { IsShort (option_map order_of made.now) }
-    ensures { OnOk result (rows_among changes.new.items ≡ with_lines (own_line_rows command.now
-        (option_map order_of made.now)) (rows_among changes.old.items)) }
+    requires { length after.now.1.lines.items ≤ MAX_ORDER_LINES }
+    ensures { OnOk result (rows_among changes.new.items ≡ with_lines
+        (amount_rows (step_seen (option_copied before.entry) after.now)) (rows_among changes.old.items)) }
 {
-    let Some(order) = made else {
-        return Ok(());
-    };
-    for (index, line) in order.1.lines.iter().enumerate() {
-        push_line(alloc, changes, command, order, index + 1, line)?;
+    for (place, line) in after.1.lines.iter().enumerate() {
+        let old = line_before(before, place);
+        push_line(alloc, changes, after.0, place + 1, old, line)?;
+    }
+    Ok(())
+}
+
+/// Appends the row that marks the order as firm, if that is new.
+fn push_mark(
+    changes: &mut Vec<Change>,
+    before: Option<&OrderEntry>,
+    after: &Order,
+) -> Result<(), Memory>
+    ensures { OnOk result (rows_among changes.new.items ≡ with_firms
+        (mark_row (step_seen (option_copied before.entry) after.now)) (rows_among changes.old.items)) }
+{
+    if becomes_firm(before, after) {
+        let number = after.0.get() as i64;
+        push(changes, Change::Firm(FirmRow { number }))?;
     }
     Ok(())
 }
@@ -257,8 +268,8 @@ fn push_move(
     moved: &Option<MoveEntry>,
 ) -> Result<(), Memory>
     requires { IfSome moved.now (λ entry. entry.place ≤ MAX_PLACES) }
-    ensures { OnOk result (rows_among changes.new.items ≡ with_moves (move_rows (option_map move_of moved.now))
-        (rows_among changes.old.items)) }
+    ensures { OnOk result (rows_among changes.new.items ≡ with_moves
+        (map move_row (moves_after (option_map move_of moved.now) [])) (rows_among changes.old.items)) }
 {
     let Some(entry) = moved else {
         return Ok(());
@@ -278,20 +289,6 @@ fn push_kept(alloc: Global, changes: &mut Vec<Change>, parts: &PlanParts) -> Res
     push(changes, Change::Kept(row))
 }
 
-/// Appends the row that marks the order as firm, where the command does that.
-fn push_firm(changes: &mut Vec<Change>, command: &Command) -> Result<(), Memory>
-    ensures { OnOk result (rows_among changes.new.items ≡ with_firms (own_firm_rows command.now)
-        (rows_among changes.old.items)) }
-{
-    let Command::Firm { number } = command else {
-        return Ok(());
-    };
-    let row = FirmRow {
-        number: number.get() as i64,
-    };
-    push(changes, Change::Firm(row))
-}
-
 impl Book {
     /// The clock once the command is carried out.
     pub(super) fn clock_after(&self, command: &Command) -> Moment
@@ -303,25 +300,36 @@ impl Book {
         }
     }
 
-    /// Appends the row of the order of that number, aborted, if there is one.
-    fn push_aborted(&self, changes: &mut Vec<Change>, number: OrderNo) -> Result<(), Memory>
-        ensures { OnOk result (rows_among changes.new.items ≡ with_orders
-            (of_numbered self.now.ledger aborted_rows number) (rows_among changes.old.items)) }
+    /// Appends the rows that change as the order becomes this one.
+    fn push_step(
+        &self,
+        alloc: Global,
+        changes: &mut Vec<Change>,
+        order: &Order,
+    ) -> Result<(), Memory>
+        requires { length order.now.1.lines.items ≤ MAX_ORDER_LINES }
+        ensures { OnOk result (rows_among changes.new.items ≡ with_steps
+            (step_to self.now.ledger (order_of order.now) ∷ []) (rows_among changes.old.items)) }
     {
-        let Some(order) = self.order_entry(number) else {
-            return Ok(());
-        };
-        let row = order_row(number, order, State::Aborted);
-        push(changes, Change::Order(row))
+        let before = self.order_entry(order.0);
+        push_order(changes, before, order)?;
+        push_lines(alloc, changes, before, order)?;
+        push_mark(changes, before, order)
     }
 
-    /// Appends the rows of the orders of these numbers, aborted.
-    fn push_all_aborted(&self, changes: &mut Vec<Change>, numbers: &[OrderNo]) -> Result<(), Memory>
-        ensures { OnOk result (rows_among changes.new.items ≡ with_orders
-            (flat_map (of_numbered self.now.ledger aborted_rows) numbers.now) (rows_among changes.old.items)) }
+    /// Appends the rows that change as the orders become these.
+    fn push_steps(
+        &self,
+        alloc: Global,
+        changes: &mut Vec<Change>,
+        orders: &[Order],
+    ) -> Result<(), Memory>
+        requires { Each (λ o. length o.1.lines.items ≤ MAX_ORDER_LINES) orders.now }
+        ensures { OnOk result (rows_among changes.new.items ≡ with_steps
+            (map (step_to self.now.ledger) (map order_of orders.now)) (rows_among changes.old.items)) }
     {
-        for number in numbers {
-            self.push_aborted(changes, *number)?;
+        for order in orders {
+            self.push_step(alloc, changes, order)?;
         }
         Ok(())
     }
@@ -340,17 +348,13 @@ impl Book {
         ensures fields { IfOk result (λ changes. map entry_row parts.now.fields.entries
             ≡ (rows_among changes.items).fields) }
     {
-        let command = &request.command;
         let mut changes = Vec::new(alloc);
         let desk = desk_row(parts.clock, parts.place);
         push(&mut changes, Change::Desk(desk))?;
         push_fields(alloc, &mut changes, &parts.fields)?;
         push_move(alloc, &mut changes, &parts.moved)?;
-        push_order(&mut changes, command, &parts.made)?;
-        self.push_all_aborted(&mut changes, &parts.expired)?;
-        push_own_lines(alloc, &mut changes, command, &parts.made)?;
+        self.push_steps(alloc, &mut changes, &parts.orders)?;
         push_kept(alloc, &mut changes, parts)?;
-        push_firm(&mut changes, command)?;
         Ok(changes)
     }
 }

@@ -1,10 +1,10 @@
 //! Which check of a command fails first, or else which fields the command changes, as they are then.
 
 ghost use Rattle.std.specs.Bool.{OnTrue};
-ghost use Rattle.std.specs.Prelude.{◌≡◌, ℕ, None, Some, IfOk, IsFalse, IsSome, IsSomeAnd, IsTrue, ◌∷◌, [], find, is_some, map, ◌++◌, ◌+◌, ◌≤◌, ◌<◌, ◌↔◌, ◌+ℤ◌};
+ghost use Rattle.std.specs.Prelude.{◌≡◌, ℕ, None, Some, IfOk, IsFalse, IsSome, IsSomeAnd, IsTrue, ◌∷◌, [], find, is_some, map, ◌++◌, ◌+◌, ◌≤◌, ◌<◌, ◌↔◌};
 ghost use Rattle.words.specs.Kinds.{is_change, is_opening};
 ghost use Rattle.words.specs.declared.command.Command.TheVariants as command;
-ghost use Rattle.book.specs.After.{moved_at_once};
+ghost use Rattle.book.specs.Next.{moved_at_once};
 ghost use Rattle.book.specs.Answers.{bounds_checks, checks, loose_checks, no_field, open_checks, order_checks, part_checks, line_checks};
 ghost use Rattle.book.specs.Checking.{Finds, IsFound, bound_checks, hold_checks, refusal_of};
 ghost use Rattle.book.specs.Ledger.{is_open, order_numbered, name_of, Ledger, Name, field_named, on, open_orders, places};
@@ -12,7 +12,7 @@ ghost use Rattle.book.specs.Model.{order_of, field_of};
 ghost use Rattle.escrow.specs.Escrow.{bound_of, bounded, holding};
 ghost use Rattle.book.specs.Good.{Good};
 ghost use Rattle.book.specs.Next.{new_line, new_order};
-ghost use Rattle.book.specs.RunningNumbers.{CountsAll, IsUpToDate};
+ghost use Rattle.book.specs.RunningNumbers.{CountsAll, IsUpToDate, new_share};
 ghost use Rattle.book.specs.declared.order.Kind.{Kind};
 
 use super::fields::{Fields, one_field, with_field};
@@ -197,7 +197,7 @@ impl Book {
     ) -> Result<Found, Failure>
         ensures { (kind : Kind) → Finds (order_checks self.now.ledger number until ++ line_checks self.now.ledger
             (new_order number kind until) [] lines.now) (λ found. IsSomeAnd found (λ made. IfOk made
-            (λ fields. CountsAll ◌+ℤ◌ self.now.ledger (map new_line lines.now) fields.entries))) result }
+            (λ fields. CountsAll self.now.ledger (map new_share lines.now) fields.entries))) result }
     {
         self.check_order(number, until)?;
         Ok(Some(self.check_lines(alloc, lines)?))
@@ -332,7 +332,7 @@ impl Book {
     ) -> Result<Result<Fields, Memory>, Failure>
         ensures { (n : ℕ) (kind : Kind) (until : ℕ) → Finds (line_checks self.now.ledger
             (new_order n kind until) [] lines.now) (λ made. IfOk made
-            (λ fields. CountsAll ◌+ℤ◌ self.now.ledger (map new_line lines.now) fields.entries)) result }
+            (λ fields. CountsAll self.now.ledger (map new_share lines.now) fields.entries)) result }
     {
         let mut fields = Ok(InOrder::new(alloc));
         for (i, line) in lines.iter().enumerate() {

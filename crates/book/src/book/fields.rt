@@ -1,24 +1,25 @@
 //! The fields that an accepted command makes or changes, as they are then.
 
-ghost use Rattle.std.specs.Prelude.{◌≡◌, ℕ, ◌∷◌, ◌++◌, [], List, Some, IsSome, IfOk, OnOk, false, find, flat_map, map, option_map, true, ◌-ℤ◌};
+ghost use Rattle.std.specs.Prelude.{◌≡◌, ℕ, ◌∷◌, [], List, IsSome, IfOk, OnOk, flat_map, map, option_map, slice_get};
 ghost use Rattle.std.specs.BTreeMap.{insert_entry};
 ghost use Rattle.std.specs.List.{AllByRecursion as Each};
 ghost use Rattle.std.specs.List.Sorted.{IsStrictlySortedBy};
 ghost use Rattle.std.specs.Map.{keys_of};
-ghost use Rattle.book.specs.After.{expired_numbers, field_rows, of_numbered, order_after};
-ghost use Rattle.book.specs.Changes.{changes_field};
-ghost use Rattle.book.specs.Checking.{IsFound};
-ghost use Rattle.book.specs.Future.{AsksNoStock};
+ghost use Rattle.std.specs.Option.{option_copied};
 ghost use Rattle.std.specs.Result.{IsOkAnd};
-ghost use Rattle.book.specs.Ledger.{field_named, line_name, name_cmp, on, order_numbered};
-ghost use Rattle.book.specs.RunningNumbers.{Accepts, Counts, CountsAll, MayGiveBack, Puts, entry_row, share_numbers, share_on, Becomes, MayBecome};
+ghost use Rattle.book.specs.After.{field_rows};
+ghost use Rattle.book.specs.Checking.{IsFound};
+ghost use Rattle.book.specs.Ledger.{field_named, line_name, name_cmp};
 ghost use Rattle.book.specs.Model.{order_of};
-ghost use Rattle.book.specs.declared.order.Line.{Line};
+ghost use Rattle.book.specs.RunningNumbers.{Accepts, Becomes, Counts, CountsAll, CountsMore, Falls, MayBecome, AreHeld, MayCount, ShareStep, entry_row, share_before, share_numbers, share_of, share_step, shares_of_step};
+ghost use Rattle.book.specs.Steps.{orders_made};
+ghost use Rattle.book.specs.StepsSeen.{line_seen, lines_before, step_seen, step_to};
 
 use super::checks::Found;
+use super::steps::{changes_stock, line_before};
 use super::{Book, FieldEntry};
-use crate::order::{Line, NO_SHARE, Order, OrderEntry, Share, line_in, share_of};
-use escrow::{FieldName, OrderNo, Quantity, Way};
+use crate::order::{Line, NO_SHARE, Order, OrderEntry, Share, share_of};
+use escrow::{FieldName, Quantity, Way};
 use index::InOrder;
 use std::alloc::Global;
 use words::{Memory, Request};
@@ -35,13 +36,14 @@ fn change_stock(quantity: &mut Quantity, way: Way, before: Share, after: Share)
     );
 }
 
-/// What the order's line on that field counts for, if there is one.
-fn share_in(order: &OrderEntry, name: &FieldName) -> Share
-    ensures { (n : ℕ) → result ≡ share_on (Some (order_of (n, order.now))) name.now }
+/// What the line counted for, if there were such an order and such a line.
+fn share_before(before: Option<&OrderEntry>, old: Option<&Line>) -> Share
+    ensures { (n : ℕ) → result ≡ share_before (option_map (λ e. order_of (n, e)) (option_copied before.entry))
+        (option_copied old.entry) }
 {
-    match line_in(&order.lines, name) {
-        Some(line) => share_of(line, order.state, order.firm),
-        None => NO_SHARE,
+    match (before, old) {
+        (Some(order), Some(line)) => share_of(line, order.state, order.firm),
+        _ => NO_SHARE,
     }
 }
 
@@ -80,161 +82,101 @@ pub(super) fn one_field(alloc: Global, name: FieldName, entry: FieldEntry) -> Re
 }
 
 impl Book {
-    /// What the line on that field of the order of that number counts for so far.
-    fn share_before(&self, number: OrderNo, name: &FieldName) -> Share
-        ensures { result ≡ share_on (order_numbered self.now.ledger number) name.now }
+    /// The field of that name, as the lines counted so far leave it.
+    fn field_so_far(&self, fields: &Fields, name: &FieldName) -> FieldEntry
+        requires { IsSome (field_named self.now.ledger name.now) }
+        ensures { (done : List ShareStep) → CountsAll self.now.ledger done fields.now.entries
+            → Counts self.now.ledger done (name.now, result) }
     {
-        match self.order_entry(number) {
-            Some(order) => share_in(order, name),
-            None => NO_SHARE,
+        if let Some(entry) = fields.get(name) {
+            return *entry;
+        }
+        match self.field_entry(name) {
+            Some(entry) => *entry,
+            None => unreachable!(),
         }
     }
 
-    /// Puts in the field of a line of the order that the request makes, as the line leaves it, where the request
-    /// changes it.
-    fn put_line(
+    /// Puts in the field of the line at that place of the order, as the line leaves it, where its stock changes.
+    fn count_line(
         &self,
         fields: &mut Fields,
-        request: &Request,
-        order: &Order,
+        before: Option<&OrderEntry>,
+        after: &Order,
+        place: usize,
         line: &Line,
     ) -> Result<(), Memory>
-        requires accepts { Accepts self.now.ledger request.now }
-        requires made { order_after self.now.ledger request.now.command ≡ Some (order_of order.now) }
-        requires asks { AsksNoStock request.now.command }
-        requires line { find (on (line_name line.now)) order.now.1.lines.items ≡ Some line.now }
-        ensures changed { OnOk result (changes_field self.now.ledger request.now.command (line_name line.now) ≡ true
-            → Puts self.now.ledger request.now (line_name line.now) fields.old.entries fields.new.entries) }
-        ensures same { OnOk result (changes_field self.now.ledger request.now.command (line_name line.now) ≡ false
-            → fields.new.entries ≡ fields.old.entries) }
+        requires there { IsSome (field_named self.now.ledger (line_name line.now)) }
+        requires falls { (nr : ℕ) → Falls (share_step (step_seen (option_copied before) after.now)
+            (line_seen nr (slice_get (lines_before (option_copied before)) place) line.now)) }
+        requires may { (nr : ℕ) → MayCount self.now.ledger (share_step (step_seen (option_copied before) after.now)
+            (line_seen nr (slice_get (lines_before (option_copied before)) place) line.now) ∷ []) fields.old.entries }
+        ensures { OnOk result ((nr : ℕ) → CountsMore self.now.ledger
+            (share_step (step_seen (option_copied before.entry) after.now)
+            (line_seen nr (slice_get (lines_before (option_copied before.entry)) place) line.now) ∷ [])
+            fields.old.entries fields.new.entries) }
     {
-        if !self.changes_field(request, order, line) {
+        let old = line_before(before, place);
+        if !changes_stock(before, after, old, line) {
             return Ok(());
         }
-        let (branch, article) = (line.branch, line.article);
-        let name = FieldName { branch, article };
-        let before = self.share_before(order.0, &name);
-        let after = share_of(line, order.1.state, order.1.firm);
-        let Some(entry) = self.field_entry(&name) else {
-            unreachable!()
-        };
-        let mut entry = *entry;
-        change_stock(&mut entry.quantity, line.way, before, after);
+        let name = line.name();
+        let mut entry = self.field_so_far(fields, &name);
+        let counted = share_before(before, old);
+        let counts = share_of(line, after.1.state, after.1.firm);
+        change_stock(&mut entry.quantity, line.way, counted, counts);
         put(fields, name, entry)
     }
 
-    /// The fields of the lines of the order that the request makes, where it changes them.
-    fn fields_of_order(
-        &self,
-        alloc: Global,
-        request: &Request,
-        order: &Order,
-    ) -> Result<Fields, Memory>
-        requires accepts { Accepts self.now.ledger request.now }
-        requires made { order_after self.now.ledger request.now.command ≡ Some (order_of order.now) }
-        requires asks { AsksNoStock request.now.command }
-        ensures { IfOk result (λ fields. map entry_row fields.entries ≡ field_rows self.now.ledger request.now) }
+    /// Puts in the fields of the lines of the order whose stock changes as it becomes this one.
+    fn count_order(&self, fields: &mut Fields, order: &Order) -> Result<(), Memory>
+        requires there { Each (λ l. IsSome (field_named self.now.ledger (line_name l))) order.now.1.lines.items }
+        requires falls { Each Falls (shares_of_step (step_to self.now.ledger (order_of order.now))) }
+        requires may { MayCount self.now.ledger (shares_of_step (step_to self.now.ledger (order_of order.now)))
+            fields.old.entries }
+        ensures { OnOk result (CountsMore self.now.ledger
+            (shares_of_step (step_to self.now.ledger (order_of order.now))) fields.old.entries fields.new.entries) }
+    {
+        let before = self.order_entry(order.0);
+        for (place, line) in order.1.lines.iter().enumerate() {
+            self.count_line(fields, before, order, place, line)?;
+        }
+        Ok(())
+    }
+
+    /// The fields of the lines of the orders whose stock changes as they become these.
+    fn count_orders(&self, alloc: Global, orders: &[Order]) -> Result<Fields, Memory>
+        requires there { Each (λ o. Each (λ l. IsSome (field_named self.now.ledger (line_name l))) o.1.lines.items)
+            orders.now }
+        requires falls { Each Falls (flat_map shares_of_step (map (step_to self.now.ledger)
+            (map order_of orders.now))) }
+        requires may { AreHeld self.now.ledger (flat_map shares_of_step (map (step_to self.now.ledger)
+            (map order_of orders.now))) }
+        ensures counted { IfOk result (λ fields. CountsAll self.now.ledger (flat_map shares_of_step
+            (map (step_to self.now.ledger) (map order_of orders.now))) fields.entries) }
+        ensures rising { IfOk result (λ fields. IsStrictlySortedBy name_cmp (keys_of fields.entries)) }
     {
         let mut fields = InOrder::new(alloc);
-        for line in order.1.lines.iter() {
-            self.put_line(&mut fields, request, order, line)?;
+        for order in orders {
+            self.count_order(&mut fields, order)?;
         }
         // so that the proof has their order
         let _ = fields.len();
         Ok(fields)
     }
 
-    /// The field of the line, as the lines so far leave it that give back what they hold.
-    fn field_so_far(&self, fields: &Fields, line: &Line) -> FieldEntry
-        requires { IsSome (field_named self.now.ledger (line_name line.now)) }
-        ensures { (ls : List Line) → CountsAll ◌-ℤ◌ self.now.ledger ls fields.now.entries
-            → Counts ◌-ℤ◌ self.now.ledger ls (line_name line.now, result) }
-    {
-        let (branch, article) = (line.branch, line.article);
-        let name = FieldName { branch, article };
-        if let Some(entry) = fields.get(&name) {
-            return *entry;
-        }
-        match self.field_entry(&name) {
-            Some(entry) => *entry,
-            None => unreachable!(),
-        }
-    }
-
-    /// Gives back what the line of an order that expires holds, and puts its field in.
-    fn give_back_line(&self, fields: &mut Fields, line: &Line) -> Result<(), Memory>
-        requires there { IsSome (field_named self.now.ledger (line_name line.now)) }
-        requires held { (ls : List Line) × CountsAll ◌-ℤ◌ self.now.ledger ls fields.old.entries
-            × MayGiveBack self.now.ledger (ls ++ line.now ∷ []) }
-        ensures { OnOk result ((ls : List Line) → CountsAll ◌-ℤ◌ self.now.ledger ls fields.old.entries
-            → MayGiveBack self.now.ledger (ls ++ line.now ∷ []) → CountsAll ◌-ℤ◌ self.now.ledger
-            (ls ++ line.now ∷ []) fields.new.entries) }
-    {
-        let mut entry = self.field_so_far(fields, line);
-        entry.quantity.give_back(line.way, line.held.get());
-        let (branch, article) = (line.branch, line.article);
-        put(fields, FieldName { branch, article }, entry)
-    }
-
-    /// Gives back what these lines hold, and puts their fields in.
-    fn give_back_lines(&self, fields: &mut Fields, lines: &[Line]) -> Result<(), Memory>
-        requires there { Each (λ l. IsSome (field_named self.now.ledger (line_name l))) lines.now }
-        requires held { (ls : List Line) × CountsAll ◌-ℤ◌ self.now.ledger ls fields.old.entries
-            × MayGiveBack self.now.ledger (ls ++ lines.now) }
-        ensures { OnOk result ((ls : List Line) → CountsAll ◌-ℤ◌ self.now.ledger ls fields.old.entries
-            → MayGiveBack self.now.ledger (ls ++ lines.now) → CountsAll ◌-ℤ◌ self.now.ledger
-            (ls ++ lines.now) fields.new.entries) }
-    {
-        for line in lines {
-            self.give_back_line(fields, line)?;
-        }
-        Ok(())
-    }
-
-    /// Gives back what the order of that number holds, if there is one.
-    fn give_back_order(&self, fields: &mut Fields, number: OrderNo) -> Result<(), Memory>
-        requires { (ls : List Line) × CountsAll ◌-ℤ◌ self.now.ledger ls fields.old.entries
-            × MayGiveBack self.now.ledger (ls ++ of_numbered self.now.ledger (λ o. o.lines) number) }
-        ensures { OnOk result ((ls : List Line) → CountsAll ◌-ℤ◌ self.now.ledger ls fields.old.entries
-            → MayGiveBack self.now.ledger (ls ++ of_numbered self.now.ledger (λ o. o.lines) number)
-            → CountsAll ◌-ℤ◌ self.now.ledger (ls ++ of_numbered self.now.ledger (λ o. o.lines) number) fields.new.entries) }
-    {
-        // so that the proof has the invariant
-        let _ = &self.orders;
-        match self.order_entry(number) {
-            Some(order) => self.give_back_lines(fields, &order.lines),
-            None => Ok(()),
-        }
-    }
-
-    /// The fields of the orders of these numbers, once they have given back what they hold.
-    fn fields_given_back(&self, alloc: Global, numbers: &[OrderNo]) -> Result<Fields, Memory>
-        requires { MayGiveBack self.now.ledger (flat_map (of_numbered self.now.ledger (λ o. o.lines)) numbers.now) }
-        ensures { IfOk result (λ fields. IsStrictlySortedBy name_cmp (keys_of fields.entries) × CountsAll ◌-ℤ◌ self.now.ledger
-            (flat_map (of_numbered self.now.ledger (λ o. o.lines)) numbers.now) fields.entries) }
-    {
-        let mut fields = InOrder::new(alloc);
-        for number in numbers {
-            self.give_back_order(&mut fields, *number)?;
-        }
-        let _ = fields.len();
-        Ok(fields)
-    }
-
     /// The fields that the accepted request makes or changes, as they are then: those that its check found, else those
-    /// of the order that it makes or of those that expire.
+    /// of the orders that it changes.
     pub(super) fn fields_after(
         &self,
         alloc: Global,
         request: &Request,
         found: Found,
-        made: &Option<Order>,
-        expired: &[OrderNo],
+        orders: &[Order],
     ) -> Result<Fields, Memory>
         requires accepts { Accepts self.now.ledger request.now }
         requires found { IsFound self.now.ledger request.now.command found }
-        requires made { option_map order_of made.now ≡ order_after self.now.ledger request.now.command }
-        requires expired { expired.now ≡ expired_numbers self.now.ledger request.now.command }
+        requires orders { map order_of orders.now ≡ orders_made self.now.ledger request.now.command }
         ensures { IfOk result (λ fields. map entry_row fields.entries ≡ field_rows self.now.ledger request.now) }
     {
         if let Some(fields) = found {
@@ -242,9 +184,6 @@ impl Book {
             let _ = fields.len();
             return Ok(fields);
         }
-        match made {
-            Some(order) => self.fields_of_order(alloc, request, order),
-            None => self.fields_given_back(alloc, expired),
-        }
+        self.count_orders(alloc, orders)
     }
 }

@@ -1,26 +1,25 @@
-//! The orders that an accepted command opens, changes or aborts, as they are then, and what that changes of their
-//! lines.
+//! What a command does to the orders: those that it opens or changes, as they are then.
 
-ghost use Rattle.book.specs.After.{order_after, changes_own_line, changes_own_stock, changes_state, expired_numbers};
-ghost use Rattle.book.specs.Changes.{changes_field};
-ghost use Rattle.book.specs.Future.{AsksNoStock};
-ghost use Rattle.book.specs.InPlace.{MayChange, MayChangeOrder, changed_line, changed_order, held_lines, order_change_of, abort_all, abort_one};
-ghost use Rattle.book.specs.Ledger.{line_name, name_of, on, is_transfer, order_numbered, same_name, open_state};
-ghost use Rattle.book.specs.Next.{new_line, new_order, expires};
+ghost use Rattle.book.specs.InPlace.{MayChange, MayChangeOrder, changed_line, changed_order, effect_seen, held_lines, made_of, MayChangeUnder};
+ghost use Rattle.book.specs.Ledger.{line_name, on, order_numbered, open_state};
+ghost use Rattle.book.specs.Next.{Changes, Opens, change_lines, effect, expires, new_line, new_order, numbered};
 ghost use Rattle.book.specs.RunningNumbers.{Accepts};
+ghost use Rattle.book.specs.Steps.{orders_made};
 ghost use Rattle.book.specs.Model.{order_of};
 ghost use Rattle.book.specs.declared.book.made.LineChange.TheVariants as LineChange;
+ghost use Rattle.book.specs.declared.book.made.OrderChange.TheVariants as OrderChange;
+ghost use Rattle.book.specs.declared.order.State.TheVariants.{Aborted};
 ghost use Rattle.escrow.specs.Ranges.{IsLevel};
+ghost use Rattle.words.specs.Kinds.{is_opening};
 ghost use Rattle.words.specs.declared.open_line.OpenLine.{OpenLine};
 ghost use Rattle.std.specs.List.{AllByRecursion as Each, filter};
-ghost use Rattle.std.specs.Prelude.{◌≡◌, ℕ, ◌<◌, ◌||◌, List, true, MatchOption, find, if◌then◌else◌, map, option_map, IfOk, Some, ◌∷◌, ◌++◌, [], ◌&&◌, not, nat_le, OnOk};
+ghost use Rattle.std.specs.Prelude.{◌≡◌, ℕ, ◌<◌, ◌||◌, List, true, false, MatchOption, find, if◌then◌else◌, map, option_map, IfOk, Some, ◌∷◌, ◌++◌, [], ◌&&◌, not, nat_le, OnOk, flat_map};
 ghost use Rattle.std.specs.Vec.{vec_capacity, vec_len};
 
 use super::Book;
-use super::plan::lines_of;
+use super::plan::transfer_lines;
 use crate::order::{Kind, Line, Order, OrderEntry, State, is_on, line_in};
-use escrow::{Article, Branch, FieldName, Level, Moment, OrderNo, Qty};
-use index::InOrder;
+use escrow::{FieldName, Level, Moment, OrderNo, Qty};
 use std::alloc::Global;
 use words::{Command, Memory, OpenLine, Request};
 
@@ -48,6 +47,19 @@ pub enum OrderChange {
     MakeFirm,
 }
 
+/// What a command does to the orders.
+#[derive(Drop)]
+pub enum Effect {
+    /// Nothing.
+    Nothing,
+    /// It opens one.
+    Opens(Order),
+    /// It changes the one of that number.
+    Changes(OrderNo, OrderChange),
+    /// It aborts those that expire at that moment.
+    Expires(Moment),
+}
+
 /// A level that is known to be one.
 fn level(number: u64) -> Level
     requires { IsLevel number }
@@ -67,7 +79,7 @@ fn change_line(line: &mut Line, change: &LineChange)
     match change {
         LineChange::Hold(qty) => line.held = level(held + qty.get()),
         LineChange::Use(qty) => line.used = level(used + qty.get()),
-        LineChange::Release(qty) => line.held = level(held - qty.get()),
+        LineChange::Release(qty) => line.held = level(held.saturating_sub(qty.get())),
     }
 }
 
@@ -134,24 +146,65 @@ fn change_order(order: &mut OrderEntry, change: &OrderChange)
     }
 }
 
+/// The lines of an order, which hold their amounts and have used nothing.
+fn new_lines(alloc: Global, lines: &[OpenLine]) -> Result<Vec<Line>, Memory>
+    ensures { IfOk result (λ made. made.items ≡ map new_line lines.now) }
+{
+    let mut made = Vec::new(alloc);
+    for line in lines {
+        made.push(new_line(line))?;
+    }
+    Ok(made)
+}
+
 /// An open order of these lines.
-fn opened(number: OrderNo, kind: Kind, until: Moment, lines: Vec<Line>) -> Order
-    ensures { (made : List OpenLine) → lines.items ≡ map new_line made → order_of result
-        ≡ new_order number kind until made }
+fn opened(
+    alloc: Global,
+    number: OrderNo,
+    kind: Kind,
+    until: Moment,
+    lines: &[OpenLine],
+) -> Result<Effect, Memory>
+    ensures { IfOk result (λ made. effect_seen made ≡ Opens (new_order number kind until lines.now)) }
 {
     let entry = OrderEntry {
         kind,
         until,
         state: State::Open,
         firm: false,
-        lines,
+        lines: new_lines(alloc, lines)?,
     };
-    (number, entry)
+    Ok(Effect::Opens((number, entry)))
 }
 
-/// The order that the command changes, and how; none for a command that changes no one order.
-fn order_change(command: &Command) -> Option<(OrderNo, OrderChange)>
-    ensures { result ≡ order_change_of command.now }
+/// What the command does to the orders.
+fn effect_of(alloc: Global, command: &Command) -> Result<Effect, Memory>
+    ensures { IfOk result (λ made. effect_seen made ≡ effect command.now) }
+{
+    match command {
+        Command::Open {
+            number,
+            until,
+            lines,
+        } => opened(alloc, *number, Kind::Plain, *until, lines.as_slice()),
+        Command::Transfer {
+            number,
+            until,
+            article,
+            from,
+            to,
+            qty,
+        } => {
+            let lines = transfer_lines(*article, *from, *to, *qty);
+            opened(alloc, *number, Kind::Transfer, *until, &lines)
+        }
+        _ => Ok(change_of(command)),
+    }
+}
+
+/// What a command that opens no order does to the orders.
+fn change_of(command: &Command) -> Effect
+    ensures { is_opening command.now ≡ false → effect_seen result ≡ effect command.now }
 {
     match *command {
         Command::More {
@@ -167,34 +220,35 @@ fn order_change(command: &Command) -> Option<(OrderNo, OrderChange)>
                 article,
                 qty,
             };
-            Some((number, OrderChange::HoldMore(line)))
+            Effect::Changes(number, OrderChange::HoldMore(line))
         }
         Command::Use {
             number,
             branch,
             article,
             qty,
-        } => {
-            let name = FieldName { branch, article };
-            Some((number, OrderChange::ChangeLines(name, LineChange::Use(qty))))
-        }
+        } => lines_change(number, FieldName { branch, article }, LineChange::Use(qty)),
         Command::Release {
             number,
             branch,
             article,
             qty,
-        } => {
-            let name = FieldName { branch, article };
-            Some((
-                number,
-                OrderChange::ChangeLines(name, LineChange::Release(qty)),
-            ))
+        } => lines_change(number, FieldName { branch, article }, LineChange::Release(qty)),
+        Command::Commit { number } => {
+            Effect::Changes(number, OrderChange::End(State::Committed))
         }
-        Command::Commit { number } => Some((number, OrderChange::End(State::Committed))),
-        Command::Abort { number } => Some((number, OrderChange::End(State::Aborted))),
-        Command::Firm { number } => Some((number, OrderChange::MakeFirm)),
-        _ => None,
+        Command::Abort { number } => Effect::Changes(number, OrderChange::End(State::Aborted)),
+        Command::Firm { number } => Effect::Changes(number, OrderChange::MakeFirm),
+        Command::Expire { now } => Effect::Expires(now),
+        _ => Effect::Nothing,
     }
+}
+
+/// A change of the order's line on that field, on a transfer of both lines.
+fn lines_change(number: OrderNo, name: FieldName, change: LineChange) -> Effect
+    ensures { effect_seen result ≡ Changes (numbered number) (change_lines name (changed_line change)) }
+{
+    Effect::Changes(number, OrderChange::ChangeLines(name, change))
 }
 
 /// A copy of the order, with room for a line more.
@@ -214,134 +268,71 @@ fn copy_of_order(alloc: Global, entry: &OrderEntry) -> Result<OrderEntry, Memory
 }
 
 impl Book {
-    /// The order under that number, changed.
-    fn order_changed(
+    /// Appends the order under that number, changed, if there is one.
+    fn push_changed(
         &self,
         alloc: Global,
-        change: (OrderNo, OrderChange),
-    ) -> Result<Option<Order>, Memory>
-        requires { (entry : OrderEntry) → order_numbered self.now.ledger change.0 ≡ Some (order_of (change.0, entry))
-            → vec_len entry.lines < vec_capacity entry.lines → MayChangeOrder change.1 entry }
-        ensures { IfOk result (λ made. option_map order_of made ≡ option_map (changed_order change.1)
-            (order_numbered self.now.ledger change.0)) }
+        orders: &mut Vec<Order>,
+        number: OrderNo,
+        change: &OrderChange,
+    ) -> Result<(), Memory>
+        requires { MayChangeUnder self.now.ledger number change.now }
+        ensures { OnOk result (map order_of orders.new.items ≡ map order_of orders.old.items
+            ++ made_of self.now.ledger change.now number) }
     {
-        let Some(entry) = self.order_entry(change.0) else {
-            return Ok(None);
+        let Some(entry) = self.order_entry(number) else {
+            return Ok(());
         };
         let mut copy = copy_of_order(alloc, entry)?;
-        change_order(&mut copy, &change.1);
-        Ok(Some((change.0, copy)))
+        change_order(&mut copy, change);
+        Ok(orders.push((number, copy))?)
     }
 
-    /// The order that the accepted command opens or changes, as it is then; none where it is about no one order.
-    pub(super) fn order_after(
+    /// Appends the orders under these numbers, aborted.
+    fn push_aborted(
         &self,
         alloc: Global,
-        request: &Request,
-    ) -> Result<Option<Order>, Memory>
-        requires { Accepts self.now.ledger request.now }
-        ensures { IfOk result (λ made. option_map order_of made ≡ order_after self.now.ledger request.now.command) }
+        orders: &mut Vec<Order>,
+        numbers: &[OrderNo],
+    ) -> Result<(), Memory>
+        ensures { OnOk result (map order_of orders.new.items ≡ map order_of orders.old.items
+            ++ flat_map (made_of self.now.ledger (OrderChange.End Aborted)) numbers.now) }
     {
-        let command = &request.command;
-        match command {
-            Command::Open { number, until, .. } => {
-                let lines = lines_of(alloc, command)?;
-                Ok(Some(opened(*number, Kind::Plain, *until, lines)))
-            }
-            Command::Transfer { number, until, .. } => {
-                let lines = lines_of(alloc, command)?;
-                Ok(Some(opened(*number, Kind::Transfer, *until, lines)))
-            }
-            _ => match order_change(command) {
-                Some(change) => self.order_changed(alloc, change),
-                None => Ok(None),
-            },
+        for number in numbers {
+            self.push_changed(alloc, orders, *number, &OrderChange::End(State::Aborted))?;
         }
+        Ok(())
     }
 
-    /// Whether the request changes the numbers of the field of a line of the order that it makes.
-    pub(super) fn changes_field(&self, request: &Request, order: &Order, line: &Line) -> bool
-        requires accepts { Accepts self.now.ledger request.now }
-        requires made { order_after self.now.ledger request.now.command ≡ Some (order_of order.now) }
-        requires asks { AsksNoStock request.now.command }
-        requires line { find (on (line_name line.now)) order.now.1.lines.items ≡ Some line.now }
-        ensures { result ≡ changes_field self.now.ledger request.now.command (line_name line.now) }
+    /// The orders that the accepted request opens or changes, as they are then, by their numbers.
+    pub(super) fn orders_made(&self, alloc: Global, request: &Request) -> Result<Vec<Order>, Memory>
+        requires { Accepts self.now.ledger request.now }
+        ensures { IfOk result (λ orders. map order_of orders.items ≡ orders_made self.now.ledger request.now.command) }
     {
-        changes_stock(&request.command, order.1.firm, is_transfer(order), line)
+        let mut orders = Vec::new(alloc);
+        match effect_of(alloc, &request.command)? {
+            Effect::Nothing => {}
+            Effect::Opens(order) => orders.push(order)?,
+            Effect::Changes(number, change) => {
+                self.push_changed(alloc, &mut orders, number, &change)?;
+            }
+            Effect::Expires(now) => {
+                let numbers = self.expired(alloc, now)?;
+                self.push_aborted(alloc, &mut orders, &numbers)?;
+            }
+        }
+        Ok(orders)
     }
 
-    /// The numbers of the orders that the command aborts as expired, in their order. It looks at all orders as they
-    /// lie, and is the one that does.
-    pub(super) fn expired(&self, alloc: Global, command: &Command) -> Result<Vec<OrderNo>, Memory>
-        ensures { IfOk result (λ numbers. numbers.items ≡ expired_numbers self.now.ledger command.now) }
+    /// The numbers of the orders that expire at that moment, in their order. It looks at all orders as they lie, and is
+    /// the one that does.
+    fn expired(&self, alloc: Global, now: Moment) -> Result<Vec<OrderNo>, Memory>
+        ensures { IfOk result (λ numbers. numbers.items ≡ map (λ o. o.number)
+            (filter (expires now) self.now.ledger.orders)) }
     {
-        let Command::Expire { now } = command else {
-            return Ok(Vec::new(alloc));
-        };
-        let mut numbers = expiring(alloc, self.orders.arrived(), *now)?;
+        let mut numbers = expiring(alloc, self.orders.arrived(), now)?;
         numbers.sort_unstable();
         Ok(numbers)
-    }
-}
-
-/// Whether the line is on the field of that name.
-fn is_same_field(line: &Line, branch: &Branch, article: &Article) -> bool
-    ensures { result ≡ same_name (line_name line.now) (name_of branch.now article.now) }
-{
-    line.branch == *branch && line.article == *article
-}
-
-/// Whether the order is a transfer.
-pub(super) fn is_transfer(order: &Order) -> bool
-    ensures { result ≡ is_transfer (order_of order.now) }
-{
-    matches!(order.1.kind, Kind::Transfer)
-}
-
-/// Whether the command opens an order or ends one.
-pub(super) fn changes_state(command: &Command) -> bool
-    ensures { result ≡ changes_state command.now }
-{
-    match command {
-        Command::Open { .. } | Command::Transfer { .. } => true,
-        Command::Commit { .. } | Command::Abort { .. } => true,
-        _ => false,
-    }
-}
-
-/// Whether the row of the line of the order that the command makes is new, or its amounts change.
-pub(super) fn changes_line(command: &Command, is_transfer: bool, line: &Line) -> bool
-    ensures { result ≡ changes_own_line is_transfer command.now line.now }
-{
-    match command {
-        Command::Open { .. } | Command::Transfer { .. } => true,
-        Command::More {
-            branch,
-            article,
-            ..
-        } => is_same_field(line, branch, article),
-        Command::Use {
-            branch,
-            article,
-            ..
-        } => is_transfer || is_same_field(line, branch, article),
-        Command::Release {
-            branch,
-            article,
-            ..
-        } => is_transfer || is_same_field(line, branch, article),
-        _ => false,
-    }
-}
-
-/// Whether the command changes the stock of the field of a line of the order that it makes, which is firm or not.
-fn changes_stock(command: &Command, is_firm: bool, is_transfer: bool, line: &Line) -> bool
-    ensures { result ≡ changes_own_stock is_firm is_transfer command.now line.now }
-{
-    match command {
-        Command::Use { .. } => is_firm && changes_line(command, is_transfer, line),
-        Command::Commit { .. } | Command::Abort { .. } | Command::Firm { .. } => true,
-        _ => changes_line(command, is_transfer, line),
     }
 }
 
@@ -374,24 +365,4 @@ fn expiring(alloc: Global, orders: &[Order], now: Moment) -> Result<Vec<OrderNo>
         push_expiring(&mut numbers, order, now)?;
     }
     Ok(numbers)
-}
-
-/// The order of that number is aborted, if there is one.
-fn abort(orders: &mut InOrder<OrderNo, OrderEntry>, number: OrderNo)
-    ensures aborted { map order_of orders.new.entries ≡ abort_one (map order_of orders.old.entries) number }
-    ensures room { orders.new.room ≡ orders.old.room }
-{
-    if let Some(order) = orders.get_mut(&number) {
-        order.state = State::Aborted;
-    }
-}
-
-/// The orders of these numbers are aborted.
-pub(super) fn abort_all(orders: &mut InOrder<OrderNo, OrderEntry>, numbers: &[OrderNo])
-    ensures aborted { map order_of orders.new.entries ≡ abort_all numbers.now (map order_of orders.old.entries) }
-    ensures room { orders.new.room ≡ orders.old.room }
-{
-    for number in numbers {
-        abort(orders, *number);
-    }
 }

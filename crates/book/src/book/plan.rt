@@ -1,31 +1,30 @@
 //! What is answered to a request, before it is carried out; plans of accepted requests.
 
-ghost use Rattle.book.specs.After.{move_made, moved_at_once};
+
 ghost use Rattle.book.specs.Answers.{IsAccepted};
 ghost use Rattle.book.specs.Checking.{IsFound};
-ghost use Rattle.book.specs.Ledger.{kept_under, name_of};
-ghost use Rattle.book.specs.Next.{new_line, transfer_lines};
+ghost use Rattle.book.specs.Ledger.{kept_under};
+ghost use Rattle.book.specs.Next.{move_made, moved_at_once, transfer_lines};
 ghost use Rattle.book.specs.PlanAnswers.{Plans};
-ghost use Rattle.book.specs.Plans.{plan_of, Makes, opened_lines};
+ghost use Rattle.book.specs.Plans.{plan_of, Makes};
 ghost use Rattle.book.specs.RunningNumbers.{Accepts};
 ghost use Rattle.book.specs.Tables.{rows_among};
 ghost use Rattle.book.specs.Model.{move_of};
-ghost use Rattle.std.specs.Prelude.{◌≡◌, length, option_map, ◌⊎◌, IfOk, IsSome, OnErr, map};
+ghost use Rattle.std.specs.Prelude.{◌≡◌, length, option_map, ◌⊎◌, IfOk, IsSome, OnErr};
 
 use super::checks::Found;
-use super::made::new_line;
 use super::{Book, FieldEntry, MoveEntry};
 use crate::kept_words::KeptWords;
-use crate::order::{Line, Order};
+use crate::order::Order;
 use crate::rows::Change;
-use escrow::{Article, Branch, FieldName, Key, Moment, OrderNo, Qty, Way};
+use escrow::{Article, Branch, FieldName, Key, Moment, Qty, Way};
 use index::InOrder;
 use std::alloc::Global;
 use std::marker::Model;
 use words::{Command, Memory, OpenLine, Refusal, Request};
 
 /// What an accepted request puts into the book: its key, its words and its place, the clock and how many orders are
-/// open then, the fields, the move and the order that it makes or changes, and the orders that expire.
+/// open then, and the fields, the move and the orders that it makes or changes.
 #[derive(Drop)]
 pub(crate) struct PlanParts {
     pub key: Key,
@@ -35,8 +34,7 @@ pub(crate) struct PlanParts {
     pub open_count: usize,
     pub fields: InOrder<FieldName, FieldEntry>,
     pub moved: Option<MoveEntry>,
-    pub made: Option<Order>,
-    pub expired: Vec<OrderNo>,
+    pub orders: Vec<Order>,
 }
 
 /// An accepted request with its place, what it puts into the book, and the rows that change.
@@ -98,17 +96,6 @@ pub enum Planned {
     Accept(Plan),
 }
 
-/// The lines of an order, which hold their amounts and have used nothing.
-fn new_lines(alloc: Global, lines: &[OpenLine]) -> Result<Vec<Line>, Memory>
-    ensures { IfOk result (λ made. made.items ≡ map new_line lines.now) }
-{
-    let mut made = Vec::new(alloc);
-    for line in lines {
-        made.push(new_line(line))?;
-    }
-    Ok(made)
-}
-
 /// The lines of a transfer: a take at the one branch, an add at the other.
 pub(super) fn transfer_lines(article: Article, from: Branch, to: Branch, qty: Qty) -> [OpenLine; 2]
     ensures { result ≡ transfer_lines article from to qty }
@@ -125,23 +112,6 @@ pub(super) fn transfer_lines(article: Article, from: Branch, to: Branch, qty: Qt
         ..take
     };
     [take, add]
-}
-
-/// The lines of the order that the command opens.
-pub(super) fn lines_of(alloc: Global, command: &Command) -> Result<Vec<Line>, Memory>
-    ensures { IfOk result (λ made. made.items ≡ map new_line (opened_lines command.now)) }
-{
-    match command {
-        Command::Open { lines, .. } => new_lines(alloc, lines.as_slice()),
-        Command::Transfer {
-            article,
-            from,
-            to,
-            qty,
-            ..
-        } => new_lines(alloc, &transfer_lines(*article, *from, *to, *qty)),
-        _ => Ok(Vec::new(alloc)),
-    }
 }
 
 /// The field whose value the command moves at once, the way, and how much.
@@ -161,13 +131,6 @@ pub(super) fn moved_at_once(command: &Command) -> Option<(FieldName, Way, Qty)>
         } => Some((FieldName { branch, article }, Way::Take, qty)),
         _ => None,
     }
-}
-
-/// The name of the field of that branch and article.
-pub(super) fn name_of(branch: Branch, article: Article) -> FieldName
-    ensures { result ≡ name_of branch article }
-{
-    FieldName { branch, article }
 }
 
 /// The move that the command makes at that place, if it makes one.
@@ -232,19 +195,17 @@ impl Book {
         let command = &request.command;
         let words = KeptWords::of(alloc, command)?;
         let place = self.kept.len() as u64 + 1;
-        let made = self.order_after(alloc, request)?;
-        let expired = self.expired(alloc, command)?;
-        let fields = self.fields_after(alloc, request, found, &made, &expired)?;
+        let orders = self.orders_made(alloc, request)?;
+        let fields = self.fields_after(alloc, request, found, &orders)?;
         Ok(PlanParts {
             key: request.key,
             words,
             place,
             clock: self.clock_after(command),
-            open_count: self.open_after(&made, &expired),
+            open_count: self.open_after(&orders),
             fields,
             moved: move_made(place, command),
-            made,
-            expired,
+            orders,
         })
     }
 }

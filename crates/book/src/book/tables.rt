@@ -1,9 +1,8 @@
 //! A ledger from the rows of its tables.
 
-ghost use Rattle.std.specs.Prelude.{◌≡◌, ◌↔◌, ℕ, count_by, IfErr, IfOk, IsTrue, MatchOption};
+ghost use Rattle.std.specs.Prelude.{◌≡◌, ◌↔◌, ℕ, IfErr, IfOk, IsTrue, MatchOption};
 ghost use Rattle.std.specs.List.{AllByRecursion as Each, AllZip};
 ghost use Rattle.book.specs.Good.{Good};
-ghost use Rattle.book.specs.Ledger.{open_state};
 ghost use Rattle.book.specs.Tables.{content_of, desk_cells};
 ghost use Rattle.book.specs.RowEntries.{AreGood, AreInOrder, IsBounded, IsFieldTold, IsInForm, IsWhole, IsWithinLimits, TellsLedger, desk_of, told_ledger};
 ghost use Rattle.escrow.specs.Ranges.{IsMoment};
@@ -25,7 +24,7 @@ use self::sums::are_up_to_date;
 use self::told::{moment, natural, read_all};
 use crate::book::{Book, FieldEntry, KeptEntry, MoveEntry};
 use crate::limits::{MAX_FIELDS, MAX_ORDERS, MAX_PLACES};
-use crate::order::{Line, Order, State};
+use crate::order::{Line, Order, count_open};
 use crate::rows::{DeskRow, Tables};
 use escrow::{FieldName, Key, Moment};
 use index::InOrder;
@@ -102,16 +101,6 @@ fn are_in_order(entries: &Entries) -> bool
         return false;
     }
     are_keys_in_order(&entries.orders) && are_keys_in_order(&entries.kept)
-}
-
-/// How many of the orders are open.
-fn count_open(orders: &[Order]) -> usize
-    ensures { result ≡ count_by (λ order. open_state order.1.state) orders.now }
-{
-    orders
-        .iter()
-        .filter(|order| matches!(order.1.state, State::Open))
-        .count()
 }
 
 /// Whether they keep the limits.

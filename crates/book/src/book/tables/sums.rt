@@ -12,7 +12,6 @@ ghost use Rattle.std.specs.List.{AllByRecursion as Each};
 ghost use Rattle.std.specs.Prelude.{◌≡◌, ◌+◌, ◌≤◌, ◌↔◌, length, IsTrue, ℕ, [], ◌∷◌, map, nat_abs, replicate, IfOk, IsNone, MatchOption};
 ghost use Rattle.words.specs.declared.limits.TheConstants.{MAX_ORDER_LINES};
 
-use crate::book::plan::name_of;
 use crate::book::{Field, FieldEntry, MoveEntry};
 use crate::order::{Line, Order, State, share_of};
 use escrow::{FieldName, Way};
@@ -124,7 +123,7 @@ fn add_move(fields: &[Field], sums: &mut [Numbers], entry: &MoveEntry) -> bool
         takes: 0,
         adds: 0,
     };
-    add_on(fields, sums, name_of(entry.branch, entry.article), &part)
+    add_on(fields, sums, entry.name(), &part)
 }
 
 /// Adds the orders, each line to the sum of its field. Whether all lines are on fields.
@@ -174,7 +173,7 @@ fn add_line(fields: &[Field], sums: &mut [Numbers], line: &Line, state: State, f
     ensures small { (k : ℕ) → Each (IsSmall k) sums.old → Each (IsSmall (k + most_of_line)) sums.new }
 {
     let part = part_of(line, state, firm);
-    add_on(fields, sums, name_of(line.branch, line.article), &part)
+    add_on(fields, sums, line.name(), &part)
 }
 
 /// What the line adds to its field, where its order has the state, and is firm or not.

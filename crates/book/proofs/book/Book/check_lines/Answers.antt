@@ -1,4 +1,4 @@
-use Rattle.book.proofs.Prelude.{[], FieldEntry, IfOk, List, ap, common_steps, map, new_line, subst, take_all, ◌+◌, ◌∙◌, ◌∷◌, Name, None, OpenLine, Some, arith, name_of, no_field, refl, sym, ◌+ℤ◌}
+use Rattle.book.proofs.Prelude.{[], FieldEntry, IfOk, List, ap, common_steps, map, new_share, subst, take_all, ◌+◌, ◌∙◌, ◌∷◌, Name, None, OpenLine, Some, arith, name_of, no_field, refl, sym}
 use Rattle.book.specs.Checking.{bound_checks}
 use Rattle.book.specs.RunningNumbers.{CountsAll}
 use Rattle.index.specs.InOrder.{Entries}
@@ -7,7 +7,7 @@ use Rattle.book.proofs.CheckAnswers.{fails_with, apart-step, cut_short, go_on, l
 use Rattle.book.proofs.book.Book.check_lines.Goals as goal
 
 pub loop-i-init : goal.loop-i-init
-loop-i-init c = record { held = subst (CountsAll ◌+ℤ◌ c.args.self.now.ledger []) (sym (ap (λ (m : Entries Name FieldEntry). m.entries) c.new.ensures)) (record { each = tt; all = λ n. refl }); apart = none_apart; rest = λ n kind until found k. k }
+loop-i-init c = record { held = subst (CountsAll c.args.self.now.ledger []) (sym (ap (λ (m : Entries Name FieldEntry). m.entries) c.new.ensures)) (record { each = tt; all = λ n. refl; alike = tt }); apart = none_apart; rest = λ n kind until found k. k }
 
 pub returns-in_err-field : goal.returns-in_err-field
 returns-in_err-field c n kind until =
@@ -38,5 +38,5 @@ loop-i-preserved c =
 pub returns : goal.returns
 returns c n kind until = (
   grind (arith, common_steps, c.loop-i.invariant.rest n kind until None),
-  subst (λ (ls : List OpenLine). IfOk c.loop-i.fields (λ fields. CountsAll ◌+ℤ◌ c.args.self.now.ledger (map new_line ls) fields.entries)) (take_all c.loop-i.i c.args.lines.now (omega arith)) c.loop-i.invariant.held,
+  subst (λ (ls : List OpenLine). IfOk c.loop-i.fields (λ fields. CountsAll c.args.self.now.ledger (map new_share ls) fields.entries)) (take_all c.loop-i.i c.args.lines.now (omega arith)) c.loop-i.invariant.held,
 )

@@ -1,11 +1,11 @@
-use Rattle.book.proofs.Prelude.{IfOk, map, new_line, take, ◌+ℤ◌}
+use Rattle.book.proofs.Prelude.{IfOk, map, new_share, take}
 use Rattle.book.specs.RunningNumbers.{CountsAll}
 use Rattle.book.proofs.CheckAnswers.{AreApart, RestDecides}
 use Rattle.book.proofs.book.Book.check_lines.Given as goal
 
 abbrev pub invariant-loop-i : goal.invariant-loop-i
 invariant-loop-i l = record {
-  held : IfOk l.fields (λ fields. CountsAll ◌+ℤ◌ l.self.ledger (map new_line (take l.i l.lines)) fields.entries);
+  held : IfOk l.fields (λ fields. CountsAll l.self.ledger (map new_share (take l.i l.lines)) fields.entries);
   apart : AreApart (take l.i l.lines);
   rest : RestDecides l.self.ledger l.lines l.i;
 }

@@ -1,4 +1,4 @@
-use Rattle.book.proofs.Prelude.{Finds, IfOk, IsFound, IsSomeAnd, Ledger, List, OpenLine, Plain, Transfer, checks, map, new_line, subst, transfer_lines, ◌+ℤ◌}
+use Rattle.book.proofs.Prelude.{Finds, IfOk, IsFound, IsSomeAnd, Ledger, List, OpenLine, Plain, Transfer, checks, map, new_share, subst, transfer_lines}
 use Rattle.words.specs.declared.command.Command.TheVariants as command
 use Rattle.book.specs.RunningNumbers.{CountsAll}
 use Rattle.book.proofs.CheckAnswers.{finds_too}
@@ -9,11 +9,11 @@ pub returns-in-Open : goal.returns-in-Open
 returns-in-Open c =
     let A : Ledger = c.args.self.now.ledger in let o = c.in-Open in let ls = c.as_slice.result.now in let d = command.Open o.number o.until ls in
     rw o.is (subst (λ (ls : List OpenLine). Finds (checks A (command.Open o.number o.until ls)) (IsFound A (command.Open o.number o.until ls)) c.check_open.result) c.as_slice.ensures.value
-    (finds_too (checks A d) (checks A d) (λ found. IsSomeAnd found (λ made. IfOk made (λ fields. CountsAll ◌+ℤ◌ A (map new_line ls) fields.entries))) (IsFound A d) c.check_open.result (λ found h. h) (λ found holds. open_found A o.number o.until ls found holds) (c.check_open.ensures Plain)))
+    (finds_too (checks A d) (checks A d) (λ found. IsSomeAnd found (λ made. IfOk made (λ fields. CountsAll A (map new_share ls) fields.entries))) (IsFound A d) c.check_open.result (λ found h. h) (λ found holds. open_found A o.number o.until ls found holds) (c.check_open.ensures Plain)))
 
 pub returns-in-Transfer : goal.returns-in-Transfer
 returns-in-Transfer c =
     let A : Ledger = c.args.self.now.ledger in let o = c.in-Transfer in let d = command.Transfer o.number o.until o.article o.from o.to o.qty in
     let ls = transfer_lines o.article o.from o.to o.qty in
-    rw o.is (finds_too (checks A d) (checks A d) (λ found. IsSomeAnd found (λ made. IfOk made (λ fields. CountsAll ◌+ℤ◌ A (map new_line ls) fields.entries))) (IsFound A d) c.check_open-in-Transfer.result (λ found h. h) (λ found holds. transfer_found A o.number o.until o.article o.from o.to o.qty found holds)
+    rw o.is (finds_too (checks A d) (checks A d) (λ found. IsSomeAnd found (λ made. IfOk made (λ fields. CountsAll A (map new_share ls) fields.entries))) (IsFound A d) c.check_open-in-Transfer.result (λ found h. h) (λ found holds. transfer_found A o.number o.until o.article o.from o.to o.qty found holds)
     (rw c.transfer_lines-lines.ensures at (c.check_open-in-Transfer.ensures Transfer)))

@@ -1,9 +1,12 @@
-use Rattle.book.proofs.Prelude.{◌∙◌, refl}
+use Rattle.book.proofs.Prelude.{◌∙◌, List, Order, OrderEntry, ap, map, order_of, refl, ℕ}
 use Rattle.book.proofs.NextRows.{place_is}
 use Rattle.book.proofs.book.Book.parts_of.Goals as goal
 
+pub fields_after-requires-clause-orders : goal.fields_after-requires-clause-orders
+fields_after-requires-clause-orders c = ap (map order_of) c.deref.ensures.value ∙ c.in_ok-orders.ensures
+
 pub open_after-requires : goal.open_after-requires
-open_after-requires c = (c.args.request.now.command, record { passed = c.requires.accepts.accepted.1; made_is = c.in_ok-made.ensures; expired_is = c.deref-2.ensures.value ∙ c.in_ok-expired.ensures })
+open_after-requires c = (c.args.request.now.command, record { passed = c.requires.accepts.accepted.1; made_are = ap (map order_of) c.deref-2.ensures.value ∙ c.in_ok-orders.ensures })
 
 pub returns : goal.returns
 returns c = record {
@@ -11,9 +14,8 @@ returns c = record {
   command = c.in_ok-words.ensures;
   place = place_is c.self.inside c.args.self.now c.len.result c.self.view_is c.len.ensures.len;
   clock = c.clock_after.ensures;
-  open_count = c.open_after.ensures _ (record { passed = c.requires.accepts.accepted.1; made_is = c.in_ok-made.ensures; expired_is = c.deref-2.ensures.value ∙ c.in_ok-expired.ensures });
+  open_count = c.open_after.ensures c.args.request.now.command (record { passed = c.requires.accepts.accepted.1; made_are = ap (map order_of) c.deref-2.ensures.value ∙ c.in_ok-orders.ensures });
   moved = c.move_made.ensures;
-  made = c.in_ok-made.ensures;
-  expired = c.in_ok-expired.ensures;
+  orders = c.in_ok-orders.ensures;
   fields = c.in_ok-fields.ensures;
 }

@@ -1,5 +1,4 @@
-use Rattle.book.proofs.Prelude.{◌∙◌, ◌≡◌, ChangesTo, Command, IsAccepted, Request, ap, expired_numbers, is_some, next, open_orders, order_after, rows_among, subst, sym}
-use Rattle.book.specs.After.{move_made}
+use Rattle.book.proofs.Prelude.{◌∙◌, ◌≡◌, ChangesTo, Command, IsAccepted, Request, ap, is_some, move_made, next, open_orders, orders_made, rows_among, subst, sym}
 use Rattle.book.specs.Plans.{Fits, plan_of}
 use Rattle.book.proofs.book.Book.plan.Goals as goal
 
@@ -16,8 +15,7 @@ returns c =
       clock = makes.clock ∙ ap (λ (k : Command). (next A k).clock) (sym makes.command);
       open_count = makes.open_count ∙ ap (λ (k : Command). open_orders (next A k)) (sym makes.command);
       moved = makes.moved ∙ ap (move_made c.in_ok-parts.parts.place) (sym makes.command);
-      made = makes.made ∙ ap (order_after A) (sym makes.command);
-      expired = makes.expired ∙ ap (expired_numbers A) (sym makes.command);
+      orders = makes.orders ∙ ap (orders_made A) (sym makes.command);
       changes = subst (λ (r : Request). ChangesTo A r rows) (sym same) c.in_ok-changes.ensures.changes;
       fields = c.in_ok-changes.ensures.fields;
     } in record {

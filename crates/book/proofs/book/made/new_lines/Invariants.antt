@@ -1,6 +1,6 @@
 -- the lines so far are made
 use Rattle.book.proofs.Prelude.{◌≡◌, map, new_line, take}
-use Rattle.book.proofs.book.plan.new_lines.Given as goal
+use Rattle.book.proofs.book.made.new_lines.Given as goal
 
 abbrev pub invariant-loop-line : goal.invariant-loop-line
 invariant-loop-line l = l.made.items ≡ map new_line (take l.line-index l.lines)

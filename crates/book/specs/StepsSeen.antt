@@ -1,0 +1,75 @@
+-- Steps as the book sees them: the order before is looked up by its number.
+use Rattle.std.specs.Prelude.{ℕ, ◌++◌, ◌≡◌, ◌≤◌, ◌⊎◌, true, List, [], None, Option, flat_map, is_some, length, map, option_map}
+use Rattle.std.specs.BTreeMap.{is_at}
+use Rattle.std.specs.List.{AllByRecursion as Each}
+use Rattle.std.specs.Map.{lookup}
+use Rattle.std.specs.Option.{option_map_or}
+use Rattle.std.specs.Ordering.{nat_cmp}
+use Rattle.std.specs.declared.cmp.Ordering.{Ordering}
+use Rattle.index.specs.declared.in_order.InOrder.{InOrder}
+use Rattle.words.specs.declared.command.Command.{Command}
+use Rattle.book.specs.Answers.{FirstFailure, checks}
+use Rattle.book.specs.Changes.{amount_row, amount_rows, state_row, mark_row}
+use Rattle.book.specs.Ledger.{Ledger, Order, order_numbered}
+use Rattle.book.specs.Model.{order_of}
+use Rattle.book.specs.Rows.{Content, FieldCells, FirmCells, KeptCells, LineCells, MoveCells, OrderCells}
+use Rattle.book.specs.Steps.{LineStep, Step, orders_made}
+use Rattle.book.specs.declared.order.Line.{Line}
+use Rattle.book.specs.declared.order.OrderEntry.{OrderEntry}
+
+abbrev pub step_seen : Option OrderEntry → ℕ × OrderEntry → Step
+step_seen before after = record { before = option_map (λ e. order_of (after.0, e)) before; after = order_of after }
+
+abbrev pub lines_before : Option OrderEntry → List Line
+lines_before before = option_map_or (λ e. e.lines.items) before []
+
+abbrev pub line_seen : ℕ → Option Line → Line → LineStep
+line_seen nr before after = record { nr = nr; before = before; after = after }
+
+-- the step to the order from the one under its number
+abbrev pub step_to : Ledger → Order → Step
+step_to A o = record { before = order_numbered A o.number; after = o }
+
+-- ---- orders put in
+
+-- orders by their numbers
+abbrev pub number_cmp : Order → Order → Ordering
+number_cmp a b = nat_cmp a.number b.number
+
+-- there is room for one entry more, and there is no more than one, or all of them are there already
+pub record MayPut (made : List (ℕ × OrderEntry)) (orders : InOrder ℕ OrderEntry) : Type 0 where
+  pub room : 1 ≤ orders.room
+  pub there : (length made ≤ 1) ⊎ Each (λ o. is_some (lookup (is_at (nat_cmp o.0)) orders.entries) ≡ true) made
+
+-- The command passes its checks, and opens or changes these orders.
+pub record Leaves (A : Ledger) (c : Command) (made : List Order) : Type 0 where
+  pub passed : FirstFailure (checks A c) None
+  pub made_are : made ≡ orders_made A c
+
+-- ---- rows after those that are there
+
+abbrev pub with_fields : List FieldCells → Content → Content
+with_fields rows C = record C { fields = C.fields ++ rows }
+
+abbrev pub with_moves : List MoveCells → Content → Content
+with_moves rows C = record C { moves = C.moves ++ rows }
+
+abbrev pub with_orders : List OrderCells → Content → Content
+with_orders rows C = record C { orders = C.orders ++ rows }
+
+abbrev pub with_lines : List LineCells → Content → Content
+with_lines rows C = record C { lines = C.lines ++ rows }
+
+abbrev pub with_kept : List KeptCells → Content → Content
+with_kept rows C = record C { kept = C.kept ++ rows }
+
+abbrev pub with_firms : List FirmCells → Content → Content
+with_firms rows C = record C { firms = C.firms ++ rows }
+
+-- with the rows that these steps change
+abbrev pub with_steps : List Step → Content → Content
+with_steps steps C = record C {
+  orders = C.orders ++ flat_map state_row steps;
+  lines = C.lines ++ flat_map amount_rows steps;
+  firms = C.firms ++ flat_map mark_row steps;
+}
