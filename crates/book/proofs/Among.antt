@@ -1,5 +1,5 @@
 -- Rows among changes, as changes are appended.
-use Rattle.book.proofs.Prelude.{[], ◌++◌, ◌+◌, ◌<◌, ◌∙◌, ◌∷◌, ◌≡◌, Bool, Change, Content, FieldCells, FieldRow, FirmRow, KeptCells, KeptRow, Line, LineCells, LineRow, List, MoveRow, OrderCells, OrderRow, ap, append_assoc, arith, field_cells, firm_cells, firm_row, get_or, kept_cells, length, length-take-le, line_cells, move_cells, order_cells, pos, refl, rows_among, sym, take, with_fields, with_firms, with_kept, with_lines, with_moves, with_orders, ℕ}
+use Rattle.book.proofs.Prelude.{[], ◌++◌, ◌+◌, ◌<◌, ◌∙◌, ◌∷◌, ◌≡◌, Bool, Change, Content, FieldCells, FieldRow, FirmRow, KeptCells, KeptRow, Line, LineCells, LineRow, List, MoveRow, OrderCells, OrderRow, ap, append_assoc, arith, field_cells, firm_cells, firm_row, get_or, kept_cells, length, length-take-le, line_cells, move_cells, order_cells, pos, refl, rows_among, sym, take, with_fields, with_firms, with_kept, with_lines, with_moves, with_orders, ℕ, Step, FirmCells, with_steps, flat_map, flat_map-append, amount_rows, state_row, mark_row}
 use Rattle.book.specs.Rows.{MoveCells}
 use Rattle.book.specs.declared.rows.Change.TheVariants as change
 use Rattle.book.proofs.Lists.{take-step}
@@ -57,3 +57,11 @@ firm_last (c ∷ cs) r = let more = firm_last cs r in grind arith
 -- one row more in that table
 pub firm_pushed : (old new : List Change) (r : FirmRow) (n : ℕ) → new ≡ old ++ change.Firm r ∷ [] → r.number ≡ pos n → rows_among new ≡ with_firms (firm_row n ∷ []) (rows_among old)
 firm_pushed old new r n e is = ap rows_among e ∙ firm_last old r ∙ ap (λ z. with_firms (record { number = z } ∷ []) (rows_among old)) is
+
+-- the rows of one step more
+pub steps_joined : (first mid last : Content) (xs : List Step) (s : Step) (zs : List Step) → mid ≡ with_steps xs first → last ≡ with_steps (s ∷ []) mid → zs ≡ xs ++ s ∷ [] → last ≡ with_steps zs first
+steps_joined first mid last xs s zs e f is = f ∙ ap (with_steps (s ∷ [])) e ∙ (λ i. record first {
+  orders = (append_assoc first.orders (flat_map state_row xs) (flat_map state_row (s ∷ [])) ∙ ap (λ (rows : List OrderCells). first.orders ++ rows) (sym (flat_map-append state_row xs (s ∷ [])))) i;
+  lines = (append_assoc first.lines (flat_map amount_rows xs) (flat_map amount_rows (s ∷ [])) ∙ ap (λ (rows : List LineCells). first.lines ++ rows) (sym (flat_map-append amount_rows xs (s ∷ [])))) i;
+  firms = (append_assoc first.firms (flat_map mark_row xs) (flat_map mark_row (s ∷ [])) ∙ ap (λ (rows : List FirmCells). first.firms ++ rows) (sym (flat_map-append mark_row xs (s ∷ [])))) i;
+}) ∙ ap (λ (ss : List Step). with_steps ss first) (sym is)

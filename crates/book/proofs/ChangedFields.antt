@@ -1,18 +1,18 @@
 -- The fields that a request makes or changes, put in one after the other, and what lines add to them.
-use Rattle.book.proofs.Prelude.{held_to_add, held_to_take, Accepts, Add, Bool, Command, Each, Equal, Err, Field, FieldCells, FieldEntry, FirstFailure, Counts, CountsAll, Good, Greater, HasEntry, IfOk, IsChangedField, IsGoodLine, IsGoodOrder, IsSome, IsStrictlySortedBy, IsUpToDate, Ledger, Less, Line, List, Name, None, Ok, OnOk, OpenLine, Option, Order, Ordering, Request, Result, Some, Stock, Take, Way, [], accept, ap, arith, changes_field, checks, common_steps, cond, drop, entry_row, false, field_named, field_of, find, flat_map, get_or, giving_back, held_of, holding, if_add, if_take, if◌then◌else◌, insert_entry, ints, is_at, is_eq, is_open, is_some, keys_of, length, line_name, list_any, lookup, map, match_ordering, name_cmp, new_line, next, not, on, order_numbered, ordering_reverse, pos, refl, same_name, subst, sym, take, tied_itself, total, true, true≢false, ℕ, ℤ, ◌&&◌, ◌++◌, ◌+ℤ◌, ◌+◌, ◌<◌, ◌==◌, ◌||◌, ◌∙◌, ◌∷◌, ◌≡◌, ◌≤ℤ◌, ◌≤◌, ◌-ℤ◌, AreHeld, Becomes, CountsMore, MayCount, Share, ShareStep, add_part, added_on, before_on, new_share, no_share, settled, settled_part, share_numbers, take_part, append-nil, append_assoc, name_of}
+use Rattle.book.proofs.Prelude.{held_to_add, held_to_take, Accepts, Add, Bool, Command, Each, Equal, Err, Field, FieldCells, FieldEntry, FirstFailure, Counts, CountsAll, Good, Greater, HasEntry, IfOk, IsChangedField, IsGoodLine, IsGoodOrder, IsSome, IsStrictlySortedBy, IsUpToDate, Ledger, Less, Line, List, Name, None, Ok, OnOk, OpenLine, Option, Order, Ordering, Request, Result, Some, Stock, Take, Way, [], accept, ap, arith, changes_field, checks, common_steps, cond, drop, entry_row, false, field_named, field_of, find, flat_map, get_or, giving_back, held_of, holding, if_add, if_take, if◌then◌else◌, insert_entry, ints, is_at, is_eq, is_open, is_some, keys_of, length, line_name, list_any, lookup, map, match_ordering, name_cmp, new_line, next, not, on, order_numbered, ordering_reverse, pos, refl, same_name, subst, sym, take, tied_itself, total, true, true≢false, ℕ, ℤ, ◌&&◌, ◌++◌, ◌+ℤ◌, ◌+◌, ◌<◌, ◌==◌, ◌||◌, ◌∙◌, ◌∷◌, ◌≡◌, ◌≤ℤ◌, ◌≤◌, ◌-ℤ◌, AreHeld, Becomes, CountsMore, MayCount, Share, ShareStep, add_part, added_on, before_on, new_share, no_share, settled, settled_part, share_numbers, take_part, append-nil, append_assoc, name_of, Bor, MatchOption, LineStep, Falls, OrderEntry, Step, flat_map-append, line_steps, lines_before, map-append, option_copied, option_map_or, order_of, share_step, shares_of_step, step_seen, step_to}
 use Rattle.book.specs.RunningNumbers.{IsOneOf}
 use Rattle.book.proofs.OutcomeTests.{same_self, total-push}
 use Rattle.std.specs.Result.{IsOkAnd}
 use Rattle.index.specs.declared.in_order.InOrder.{InOrder}
 use Rattle.words.specs.declared.reply.Memory.{Memory}
-use Rattle.book.proofs.Lists.{or_right, some_is, take-step}
+use Rattle.book.proofs.Lists.{cut_at, or_right, some_is, take-step}
 use Rattle.book.proofs.Futures.{name_is}
 use Rattle.book.proofs.Safety.{other_way}
 use Rattle.book.proofs.KeyPlaces.{equal_field, same_field}
 use Rattle.book.proofs.GoodParts.{name_cmp_total}
 use Rattle.book.proofs.Sums.{each, each-imp}
 use Rattle.book.proofs.RunningNumbers.{numbers_up, off}
-use Rattle.book.proofs.Steps.{StaysAlike, each-append, none_added, total-append}
+use Rattle.book.proofs.Steps.{IsStepAt, StaysAlike, each-append, none_added, total-append}
 
 -- ---- the fields that a request makes or changes, put in one after the other by their names
 
@@ -383,3 +383,70 @@ held_step A lines i l v new (Ok C) (Ok D) h e alone up there is holds put =
     map-push : (ls : List OpenLine) (l : OpenLine) → map new_share (ls ++ l ∷ []) ≡ map new_share ls ++ new_share l ∷ []
     map-push [] l = refl
     map-push (m ∷ ms) l = ap (λ (xs : List ShareStep). new_share m ∷ xs) (map-push ms l)
+
+-- ---- the lines of an order, one after the other
+
+-- the order before is the one under the number
+pub seen_is : (A : Ledger) (o : ℕ × OrderEntry) (x : Option (Bor OrderEntry)) → MatchOption x (order_numbered A o.0 ≡ None) (λ e. order_numbered A o.0 ≡ Some (order_of (o.0, e.now))) → step_seen (option_copied x) o ≡ step_to A (order_of o)
+seen_is A o None is = λ i. record { before = sym is i; after = order_of o }
+seen_is A o (Some e) is = λ i. record { before = sym is i; after = order_of o }
+
+pub lines_seen : (x : Option OrderEntry) (o : ℕ × OrderEntry) → option_map_or (λ o. o.lines) (step_seen x o).before [] ≡ lines_before x
+lines_seen None o = refl
+lines_seen (Some e) o = refl
+
+-- so are its lines as they were
+pub seen_both : (A : Ledger) (o : ℕ × OrderEntry) (x : Option (Bor OrderEntry)) → MatchOption x (order_numbered A o.0 ≡ None) (λ e. order_numbered A o.0 ≡ Some (order_of (o.0, e.now)))
+    → ◌≡◌ {A = Step × List Line} (step_to A (order_of o), option_map_or (λ o. o.lines) (step_to A (order_of o)).before []) (step_seen (option_copied x) o, lines_before (option_copied x))
+seen_both A o x is = let e = seen_is A o x is in λ i. (sym e i, (ap (λ (s : Step). option_map_or (λ o. o.lines) s.before []) (sym e) ∙ lines_seen (option_copied x) o) i)
+
+each_mid : {X Y : Type 0} (P : Y → Type 0) (f : X → Y) (xs : List X) (x : X) (rest : List X) → Each P (map f (xs ++ x ∷ rest)) → P (f x)
+each_mid P f [] x rest all = all.0
+each_mid P f (y ∷ ys) x rest all = each_mid P f ys x rest all.1
+
+module _ (A : Ledger) (s : Step) (bs ls : List Line) (i : ℕ) (x : LineStep) (at : IsStepAt 1 bs ls i x) where
+  pub line_falls : Each Falls (map (share_step s) (line_steps 1 bs ls)) → Falls (share_step s x)
+  line_falls falls = each_mid Falls (share_step s) (line_steps 1 bs (take i ls)) x at.rest (subst (λ (ts : List LineStep). Each Falls (map (share_step s) ts)) at.all falls)
+
+  pub line_may : (C D : List (Name × FieldEntry)) → MayCount A (map (share_step s) (line_steps 1 bs ls)) C → CountsMore A (map (share_step s) (line_steps 1 bs (take i ls))) C D → MayCount A (share_step s x ∷ []) D
+  line_may C D may first =
+      let all = subst (λ (xs : List ShareStep). MayCount A xs C) (ap (map (share_step s)) at.all ∙ map-append (share_step s) (line_steps 1 bs (take i ls)) (x ∷ at.rest)) may in
+      may-first A (share_step s x ∷ []) (map (share_step s) at.rest) D (may-then A (map (share_step s) (line_steps 1 bs (take i ls))) (share_step s x ∷ map (share_step s) at.rest) C D all first)
+
+  pub line_more : (C D E : List (Name × FieldEntry)) → CountsMore A (map (share_step s) (line_steps 1 bs (take i ls))) C D → CountsMore A (share_step s x ∷ []) D E → CountsMore A (map (share_step s) (line_steps 1 bs (take (i + 1) ls))) C E
+  line_more C D E first last =
+      subst (λ (xs : List ShareStep). CountsMore A xs C E) (sym (ap (map (share_step s)) at.next ∙ map-append (share_step s) (line_steps 1 bs (take i ls)) (x ∷ [])))
+      (counts-then A (map (share_step s) (line_steps 1 bs (take i ls))) (share_step s x ∷ []) C D E first last)
+
+-- ---- the orders, one after the other
+
+-- what the lines of these orders count for
+abbrev pub all_shares : Ledger → List (ℕ × OrderEntry) → List ShareStep
+all_shares A os = flat_map shares_of_step (map (step_to A) (map order_of os))
+
+all_shares-append : (A : Ledger) (xs ys : List (ℕ × OrderEntry)) → all_shares A (xs ++ ys) ≡ all_shares A xs ++ all_shares A ys
+all_shares-append A xs ys = ap (λ (os : List Order). flat_map shares_of_step (map (step_to A) os)) (map-append order_of xs ys) ∙ ap (flat_map shares_of_step) (map-append (step_to A) (map order_of xs) (map order_of ys)) ∙ flat_map-append shares_of_step (map (step_to A) (map order_of xs)) (map (step_to A) (map order_of ys))
+
+module _ (A : Ledger) (os : List (ℕ × OrderEntry)) (i : ℕ) (o : ℕ × OrderEntry) (within : i < length os) (is : o ≡ get_or os i o) where
+  abbrev own : List ShareStep
+  own = shares_of_step (step_to A (order_of o))
+
+  pub next_shares : all_shares A (take (i + 1) os) ≡ all_shares A (take i os) ++ own
+  next_shares = ap (all_shares A) (take-step os i o within is) ∙ all_shares-append A (take i os) (o ∷ []) ∙ ap (λ (xs : List ShareStep). all_shares A (take i os) ++ xs) (append-nil own)
+
+  cut_shares : all_shares A os ≡ (all_shares A (take i os) ++ own) ++ all_shares A (drop (i + 1) os)
+  cut_shares = ap (all_shares A) (cut_at os i o within is) ∙ all_shares-append A (take i os ++ o ∷ []) (drop (i + 1) os) ∙ ap (λ (xs : List ShareStep). xs ++ all_shares A (drop (i + 1) os)) (all_shares-append A (take i os) (o ∷ []) ∙ ap (λ (xs : List ShareStep). all_shares A (take i os) ++ xs) (append-nil own))
+
+  pub order_held : AreHeld A (all_shares A os) → AreHeld A (all_shares A (take i os) ++ own)
+  order_held held = held_front A (all_shares A (take i os) ++ own) (all_shares A (drop (i + 1) os)) (subst (AreHeld A) cut_shares held)
+
+  pub order_falls : Each Falls (all_shares A os) → Each Falls own
+  order_falls falls = second (all_shares A (take i os)) own (first (all_shares A (take i os) ++ own) (all_shares A (drop (i + 1) os)) (subst (Each Falls) cut_shares falls))
+    where
+      first : (xs ys : List ShareStep) → Each Falls (xs ++ ys) → Each Falls xs
+      first [] ys all = tt
+      first (x ∷ xs) ys all = (all.0, first xs ys all.1)
+
+      second : (xs ys : List ShareStep) → Each Falls (xs ++ ys) → Each Falls ys
+      second [] ys all = all
+      second (x ∷ xs) ys all = second xs ys all.1

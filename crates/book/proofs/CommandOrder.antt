@@ -48,7 +48,7 @@ total_parts g n os sorted = ap (total g) (sym (same_orders n os)) ∙ total-chan
 -- ---- an order put in by its number
 
 -- put among entries, it is put among orders
-put_viewed : (n : ℕ) (v : OrderEntry) (l : List (ℕ × OrderEntry)) → map order_of (insert_entry nat_cmp l n v) ≡ put_row number_cmp (order_of (n, v)) (map order_of l)
+pub put_viewed : (n : ℕ) (v : OrderEntry) (l : List (ℕ × OrderEntry)) → map order_of (insert_entry nat_cmp l n v) ≡ put_row number_cmp (order_of (n, v)) (map order_of l)
 put_viewed n v [] = refl
 put_viewed n v (e ∷ l) = let more = put_viewed n v l in grind arith
 

@@ -1,8 +1,9 @@
 -- The orders that a command changes, by their numbers.
-use Rattle.book.proofs.Prelude.{[], ◌&&◌, ◌++◌, ◌+◌, ◌<◌, ◌==◌, ◌∙◌, ◌∷◌, ◌≡◌, ◌≤◌, Bool, Changes, Each, Good, IsNonDecreasingBy, IsPermutation, IsPermutation-map, IsStrictlySortedBy, Ledger, Less, List, Order, OrderEntry, Some, ap, append-nil, arith, cases_lt, changed_order, common_steps, count_by, expires, false, filter, flat_map, flat_map-append, get_or, if◌then◌else◌, inl, inr, length, made_of, map, nat_cmp, option_map_or, order_numbered, order_of, refl, steps, suc, sym, take, true, ℕ}
+use Rattle.book.proofs.Prelude.{[], ◌&&◌, ◌++◌, ◌+◌, ◌<◌, ◌==◌, ◌∙◌, ◌∷◌, ◌≡◌, ◌≤◌, Bool, Changes, Each, Good, IsNonDecreasingBy, IsPermutation, IsPermutation-map, IsStrictlySortedBy, Ledger, Less, List, Order, OrderEntry, Some, ap, append-nil, arith, cases_lt, changed_order, common_steps, count_by, expires, false, filter, flat_map, flat_map-append, get_or, if◌then◌else◌, inl, inr, length, made_of, map, nat_cmp, find, None, Option, numbered, option_map_or, order_numbered, order_of, refl, Step, steps, suc, sym, take, true, ℕ}
 use Rattle.book.specs.declared.book.made.OrderChange.{OrderChange}
 use Rattle.std.proofs.lemmas.List.Sorted.{sum_by-IsPermutation}
 use Rattle.book.proofs.Lists.{same_number, counted, each-unmap, take-step}
+use Rattle.book.proofs.FieldRows.{one_step}
 use Rattle.book.proofs.Futures.{less_is, find_self}
 use Rattle.book.proofs.Sums.{each-imp, each-map}
 
@@ -106,6 +107,14 @@ module _ (p : Order → Bool) where
               → flat_map (made_of A change) (map (λ o. o.number) (if b then o ∷ filter p os else filter p os)) ≡ map (λ s. s.after) ((if b then record { before = Some o; after = changed_order change o } ∷ [] else []) ++ steps (Changes p (changed_order change)) os)
           by true own more = λ i. option_map_or (λ o. changed_order change o ∷ []) (own i) [] ++ more i
           by false own more = more
+
+-- the one under a number, changed
+pub number_made : (A : Ledger) (n : ℕ) (change : OrderChange) → Good A → made_of A change n ≡ map (λ s. s.after) (steps (Changes (numbered n) (changed_order change)) A.orders)
+number_made A n change good = by (find (numbered n) A.orders) ∙ ap (map (λ (s : Step). s.after)) (sym (one_step n (changed_order change) A.orders good.orders_in_order))
+  where
+    by : (x : Option Order) → option_map_or (λ o. changed_order change o ∷ []) x [] ≡ map (λ (s : Step). s.after) (option_map_or (λ o. record { before = Some o; after = changed_order change o } ∷ []) x [])
+    by None = refl
+    by (Some o) = refl
 
 -- the numbers of those that expire, found in any order of the entries and then put in theirs
 pub numbers_sorted : (now : ℕ) (es lying : List (ℕ × OrderEntry)) (ns : List ℕ) → IsStrictlySortedBy nat_cmp (map (λ o. o.number) (map order_of es)) → IsPermutation es lying → IsPermutation (numbers (expires now) (map order_of lying)) ns → IsNonDecreasingBy (λ x. x) ns

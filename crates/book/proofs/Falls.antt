@@ -94,9 +94,9 @@ effect_falls A key (command.Use n b a q) good after h asks = each-both (λ o go 
     (effect_goes A (command.Use n b a q) good h) (changed_within n (change_lines (name_of b a) (raise_used q)) A.orders (within_each _ after))
 effect_falls A key (command.Release n b a q) good after h asks = each-both (λ o go within e. let g = go e in record { unended = g.unended; firm = g.firm; loose = λ s. absurd (true≢false (sym g.unended ∙ ap open_state s)); lines = lines_fall _ o.lines (λ l w. lowered_falls (is_transfer o || on (name_of b a) l) q l w) (each-unmap (λ l. l.used ≤ l.held) _ o.lines (within e)) }) A.orders
     (effect_goes A (command.Release n b a q) good h) (changed_within n (change_lines (name_of b a) (lower_held q)) A.orders (within_each _ after))
-effect_falls A key (command.Commit n) good after h asks = each-both (λ o go within e. let g = go e in record { unended = g.unended; firm = g.firm; loose = λ s. absurd (committed s); lines = lines_stay o.lines within }) A.orders (effect_goes A (command.Commit n) good h) (within_each A good)
+effect_falls A key (command.Commit n) good after h asks = each-both {P = λ o. (o.number == n) ≡ true → Goes o (set_state Committed o)} {Q = λ o. Each (λ l. l.used ≤ l.held) o.lines} {R = λ o. (o.number == n) ≡ true → OrderFalls o (set_state Committed o)} (λ o go within e. let g = go e in record { unended = g.unended; firm = g.firm; loose = λ s. absurd (committed s); lines = lines_stay o.lines within }) A.orders (effect_goes A (command.Commit n) good h) (within_each A good)
 effect_falls A key (command.Abort n) good after h asks = let p = all_pass (checks A (command.Abort n)) h in
-    each-both (λ o go (x : ((o.number == n) ≡ true → o.firm ≡ false) × Each (λ l. l.used ≤ l.held) o.lines) e. let g = go e in record { unended = g.unended; firm = g.firm; loose = λ s. x.0 e; lines = lines_stay o.lines x.1 }) A.orders (effect_goes A (command.Abort n) good h) (each-both {R = λ o. ((o.number == n) ≡ true → o.firm ≡ false) × Each (λ l. l.used ≤ l.held) o.lines} (λ o x y. (x, y)) A.orders (not_firm A n good p.0 p.1.1.0) (within_each A good))
+    each-both {P = λ o. (o.number == n) ≡ true → Goes o (set_state Aborted o)} {Q = λ o. ((o.number == n) ≡ true → o.firm ≡ false) × Each (λ l. l.used ≤ l.held) o.lines} {R = λ o. (o.number == n) ≡ true → OrderFalls o (set_state Aborted o)} (λ o go (x : ((o.number == n) ≡ true → o.firm ≡ false) × Each (λ l. l.used ≤ l.held) o.lines) e. let g = go e in record { unended = g.unended; firm = g.firm; loose = λ s. x.0 e; lines = lines_stay o.lines x.1 }) A.orders (effect_goes A (command.Abort n) good h) (each-both {R = λ o. ((o.number == n) ≡ true → o.firm ≡ false) × Each (λ l. l.used ≤ l.held) o.lines} (λ o x y. (x, y)) A.orders (not_firm A n good p.0 p.1.1.0) (within_each A good))
 effect_falls A key (command.Firm n) good after h asks = each-both (λ o go within e. let g = go e in record { unended = g.unended; firm = g.firm; loose = λ s. absurd (true≢false (sym g.unended ∙ ap open_state s)); lines = lines_stay o.lines within }) A.orders (effect_goes A (command.Firm n) good h) (within_each A good)
 effect_falls A key (command.Expire now) good after h asks = each-both (λ o go within e. let g = go e in record { unended = g.unended; firm = g.firm; loose = λ s. expired_loose now o e; lines = lines_stay o.lines within }) A.orders (effect_goes A (command.Expire now) good h) (within_each A good)
 effect_falls A key c good after h asks = absurd asks

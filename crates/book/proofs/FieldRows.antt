@@ -240,7 +240,7 @@ counted_row A c e good passed own counts =
     not_moved : (c : Command) → own_field c ≡ None → moved_by_command e.0 c ≡ pos 0
     not_moved c own = grind arith
 
-keeps_fields : (A : Ledger) (c : Command) → own_field c ≡ None → (next A c).fields ≡ A.fields
+pub keeps_fields : (A : Ledger) (c : Command) → own_field c ≡ None → (next A c).fields ≡ A.fields
 keeps_fields A c own = grind arith
 
 changes_lines : (A : Ledger) (c : Command) (f : Name) → own_field c ≡ None → changes_field A c f ≡ list_any (λ s. same_name f s.name && s.changes) (share_steps A c)

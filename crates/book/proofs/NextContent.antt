@@ -1,15 +1,15 @@
 -- The rows that an accepted command changes, put into the ledger's rows, give the rows of the next ledger.
-use Rattle.book.proofs.Prelude.{[], ◌&&◌, ◌++◌, ◌+◌, ◌+ℤ◌, ◌-ℤ◌, IsStrictlySortedBy, ◌==◌, ◌||◌, ◌∙◌, ◌∷◌, ◌≡◌, ◌≤◌, ◌⊎◌, Bool, OrderEntry, cond, is_at, is_some, length, lookup, order_of, Changes, Command, Content, DeskCells, Each, Effect, Equal, Field, FieldCells, FirmCells, FirstFailure, Good, IsInRange, IsKey, IsRowsOf, IsTotalOrder, Ledger, Less, Line, LineCells, List, Move, Name, None, Nothing, Opens, Option, Order, OrderCells, Ordering, Request, Some, State, Step, accept, amount_row, amount_rows, ap, arith, becomes_firm, changed_rows, changes_field, changes_held, changes_line, changes_state, checks, desk_row, effect, false, field_cmp, field_row, filter, firm_cmp, firm_rows, flat_map, if◌then◌else◌, inl, inr, insert_in_order, int_cmp_total, int_eq, is_eq, is_lt, is_open, kept_cmp, kept_row, kept_under, line_cmp, line_name, line_row, line_steps, lines_from, map, map-map, mark_row, move_cmp, move_made, move_row, moved_at_once, moves_after, name_cmp, name_of, nat_cmp, nat_list_cmp_total, new_key, next, not, number_cmp, nat_cmp_total, on_total, open_state, option_map, order_cmp, order_lines, order_row, orders_after, orders_made, places, pos, put_content, put_rows, refl, same_name, slice_cmp, state_row, steps, steps_of, subst, sym, then_total, tied_itself, true, true≢false, ℕ, ℤ}
+use Rattle.book.proofs.Prelude.{[], ◌&&◌, ◌++◌, ◌+◌, ◌+ℤ◌, ◌-ℤ◌, IsStrictlySortedBy, ◌==◌, ◌||◌, ◌∙◌, ◌∷◌, ◌≡◌, Bool, Changes, Command, Content, DeskCells, Each, Effect, Equal, Field, FieldCells, FirmCells, FirstFailure, Good, IsInRange, IsKey, IsRowsOf, IsTotalOrder, Ledger, Less, Line, LineCells, List, Move, Name, None, Nothing, Opens, Option, Order, OrderCells, Ordering, Request, Some, State, Step, accept, amount_row, amount_rows, ap, arith, becomes_firm, changed_rows, changes_field, changes_held, changes_line, changes_state, checks, desk_row, effect, false, field_cmp, field_row, filter, firm_cmp, firm_rows, flat_map, if◌then◌else◌, inl, inr, insert_in_order, int_cmp_total, int_eq, is_eq, is_lt, is_open, kept_cmp, kept_row, kept_under, line_cmp, line_name, line_row, line_steps, lines_from, map, map-map, mark_row, move_cmp, move_made, move_row, moved_at_once, moves_after, name_cmp, name_of, nat_cmp, nat_list_cmp_total, new_key, next, not, number_cmp, nat_cmp_total, on_total, open_state, option_map, order_cmp, order_lines, order_row, orders_after, orders_made, places, pos, put_content, put_rows, refl, same_name, slice_cmp, state_row, steps, steps_of, subst, sym, then_total, tied_itself, true, true≢false, ℕ, ℤ}
 use Rattle.words.specs.declared.command.Command.TheVariants as command
 use Rattle.book.specs.Rows.{desk_cmp}
 use Rattle.book.specs.Next.{with_bounds}
-use Rattle.book.proofs.Sums.{each, each-imp, each-map}
+use Rattle.book.proofs.Sums.{each, each-imp}
 use Rattle.book.proofs.OutcomeTests.{same_self}
 use Rattle.book.proofs.Goodness.{good_accept}
 use Rattle.book.proofs.Safety.{other_way, bounding, bounding_name}
 use Rattle.book.proofs.Puts.{EffectFollows, Follows, follows-insert, follows-join, follows-map, follows-new, follows-one, follows-push, follows-same, put_all, steps_put}
 use Rattle.book.proofs.EqualRows.{fields_sorted, firms_sorted, kept_sorted, lines_sorted, moves_sorted, one_content, orders_sorted, rows_are, rows_of}
-use Rattle.book.proofs.Lists.{each-unmap, length-of-map, number_is, or_false}
+use Rattle.book.proofs.Lists.{each-unmap, number_is, or_false}
 use Rattle.book.proofs.Steps.{EffectGoes, Goes, Grows, SameNumbers, and_not, effect_goes, not_not, same_numbers, state_same}
 
 -- orders of the seven tables
@@ -75,32 +75,6 @@ orders_put A c good sorted passed =
   where
     same : flat_map (λ o. o ∷ []) (next A c).orders ≡ (next A c).orders
     same = flat-one (λ (o : Order). o) (next A c).orders ∙ map-id (next A c).orders
-
--- each entry is found under its number
-entries_found : (l : List (ℕ × OrderEntry)) → Each (λ e. is_some (lookup (is_at (nat_cmp e.0)) l) ≡ true) l
-entries_found [] = tt
-entries_found (e ∷ l) = (ap (λ o. is_some (cond (is_eq o) (Some e.1) (lookup (is_at (nat_cmp e.0)) l))) (tied_itself nat_cmp_total e.0), each-imp (λ x h. later x (is_eq (nat_cmp x.0 e.0)) h) l (entries_found l))
-  where
-    later : (x : ℕ × OrderEntry) (b : Bool) → is_some (lookup (is_at (nat_cmp x.0)) l) ≡ true → is_some (cond b (Some e.1) (lookup (is_at (nat_cmp x.0)) l)) ≡ true
-    later x true h = refl
-    later x false h = h
-
-changed_found : (P : ℕ → Type 0) (names : Order → Bool) (change : Order → Order) (os : List Order) → Each (λ o. P o.number) os → EffectGoes (Changes names change) os → Each (λ o. P o.number) (map (λ s. s.after) (steps (Changes names change) os))
-changed_found P names change [] all goes = tt
-changed_found P names change (o ∷ os) all goes = by (names o) goes.0 (changed_found P names change os all.1 goes.1)
-  where
-    by : (b : Bool) → (b ≡ true → Goes o (change o)) → Each (λ o. P o.number) (map (λ s. s.after) (steps (Changes names change) os)) → Each (λ o. P o.number) (map (λ s. s.after) ((if b then record { before = Some o; after = change o } ∷ [] else []) ++ steps (Changes names change) os))
-    by true go more = (subst P (sym (go refl).number) all.0, more)
-    by false go more = more
-
--- an effect makes one order at most, or those that are there
-pub made_there : (e : Effect) (os : List Order) (l made : List (ℕ × OrderEntry)) → map order_of l ≡ os → EffectGoes e os → map order_of made ≡ map (λ s. s.after) (steps e os) → (length made ≤ 1) ⊎ Each (λ o. is_some (lookup (is_at (nat_cmp o.0)) l) ≡ true) made
-made_there Nothing os l made is goes e = inl (let n = length-of-map order_of made in let m = ap (λ (os : List Order). length os) e in omega arith)
-made_there (Opens o) os l made is goes e = inl (let n = length-of-map order_of made in let m = ap (λ (os : List Order). length os) e in omega arith)
-made_there (Changes names change) os l made is goes e = inr (each-unmap (λ (o : Order). there o.number) order_of made (subst (Each (λ o. there o.number)) (sym e) (changed_found there names change os (subst (Each (λ (o : Order). there o.number)) is (each-map (λ (o : Order). there o.number) order_of l (entries_found l))) goes)))
-  where
-    there : ℕ → Type 0
-    there n = is_some (lookup (is_at (nat_cmp n)) l) ≡ true
 
 state_follows : (b a : Order) → Goes b a → Follows order_cmp (state_row (record { before = Some b; after = a })) (order_row b ∷ []) (order_row a ∷ [])
 state_follows b a goes = follows-one order_cmp (is_open b && not (is_open a)) (order_row b) (order_row a) (ap (λ n. order_key n b) goes.number ∙ tied_itself int_cmp_total (pos b.number)) same

@@ -1,5 +1,5 @@
 -- The steps of an accepted command: what stays of an order, and what the lines add up to.
-use Rattle.book.proofs.Prelude.{[], ◌&&◌, ◌++◌, ◌+ℤ◌, ◌+◌, ◌-ℤ◌, ◌-◌, ◌==◌, ◌||◌, ◌∙◌, ◌∷◌, ◌≡◌, Aborted, Add, Bool, Changes, Command, Committed, Each, Effect, Field, FirstFailure, Good, IsFalse, IsNone, IsSomeAnd, IsStrictlySortedBy, Ledger, Line, LineStep, List, Name, None, Nothing, Open, OpenLine, Opens, Option, Order, Share, ShareStep, Some, State, Step, Take, Way, add_hold, add_part, added_on, added_part, ap, arith, becomes_firm, change_lines, changes_field, changes_held, changes_line, changes_state, changes_stock, checks, common_steps, effect, expires, false, find, flat_map, hold_more, if_add, if_take, if◌then◌else◌, insert_in_order, ints, is_open, is_settled, is_some, line_name, line_on, line_steps, lines_of, list_any, list_any-append, option_map, move_made, moves_after, places, Move, lower_held, map, map-map, moved_at_once, moved_by, moved_by_command, moved_part, name_of, nat_cmp, nat_lt, new_line, new_order, next, no_share, not, on, open_state, option_map_or, order_numbered, orders_after, orders_made, own_field, Plain, pos, raise_held, raise_used, refl, same_name, set_firm, set_state, settled, settled_part, settled_state, share_before, share_of, share_step, share_steps, shares_of_step, signed, step_to, steps, steps_of, subst, sym, take_part, taken_part, total, Transfer, transfer_lines, true, true≢false, unsettled, ℕ, ℤ}
+use Rattle.book.proofs.Prelude.{[], ◌&&◌, ◌++◌, ◌+ℤ◌, ◌+◌, ◌-ℤ◌, ◌-◌, ◌<◌, ◌==◌, ◌||◌, ◌∙◌, ◌∷◌, ◌≡◌, Aborted, Add, Bool, Changes, Command, Committed, Each, Effect, Field, FirstFailure, Good, IsFalse, IsNone, IsSomeAnd, IsStrictlySortedBy, Ledger, Line, LineStep, List, Name, None, Nothing, Open, OpenLine, Opens, Option, Order, Share, ShareStep, Some, State, Step, Take, Way, add_hold, add_part, added_on, added_part, ap, arith, becomes_firm, change_lines, changes_field, changes_held, changes_line, changes_state, changes_stock, checks, common_steps, effect, expires, false, find, flat_map, hold_more, if_add, if_take, if◌then◌else◌, insert_in_order, ints, is_open, is_settled, is_some, line_name, line_on, line_steps, lines_of, list_any, list_any-append, option_map, move_made, moves_after, places, Move, lower_held, map, map-map, moved_at_once, moved_by, moved_by_command, moved_part, name_of, nat_cmp, nat_lt, get_or, length, slice_get, suc, take, zero, new_line, new_order, next, no_share, not, on, open_state, option_map_or, order_numbered, orders_after, orders_made, own_field, Plain, pos, raise_held, raise_used, refl, same_name, set_firm, set_state, settled, settled_part, settled_state, share_before, share_of, share_step, share_steps, shares_of_step, signed, step_to, steps, steps_of, subst, sym, take_part, taken_part, total, Transfer, transfer_lines, true, true≢false, unsettled, ℕ, ℤ}
 use Rattle.words.specs.declared.command.Command.TheVariants as command
 use Rattle.book.specs.Held.{held_to_add, held_to_take}
 use Rattle.book.proofs.Futures.{all_pass, at_number, find_self}
@@ -398,3 +398,39 @@ same_numbers A c f good passed e =
     not_moved (command.Deliver b a q) k = off_field (name_of b a) (pos q) k
     not_moved (command.Writeoff b a q) k = off_field (name_of b a) (signed Take q) k
     not_moved c k = grind arith
+
+-- ---- one line after the other
+
+-- the step of a line in its place among those of an order, which the others follow
+pub record IsStepAt (nr : ℕ) (bs ls : List Line) (i : ℕ) (x : LineStep) : Type 0 where
+  pub rest : List LineStep
+  pub all : line_steps nr bs ls ≡ line_steps nr bs (take i ls) ++ x ∷ rest
+  pub next : line_steps nr bs (take (i + 1) ls) ≡ line_steps nr bs (take i ls) ++ x ∷ []
+
+step_suc : (nr : ℕ) (bs ls : List Line) (i : ℕ) (l : Line) → i < length ls → l ≡ get_or ls i l
+    → (rest : List LineStep) × (line_steps nr bs ls ≡ line_steps nr bs (take i ls) ++ record { nr = nr + i; before = slice_get bs i; after = l } ∷ rest) × (line_steps nr bs (take (suc i) ls) ≡ line_steps nr bs (take i ls) ++ record { nr = nr + i; before = slice_get bs i; after = l } ∷ [])
+step_suc nr bs [] i l h e = absurd (omega arith)
+step_suc nr [] (m ∷ ms) zero l h e = (line_steps (nr + 1) [] ms, (λ i. record { nr = zero_more nr i; before = None; after = sym e i } ∷ line_steps (nr + 1) [] ms), (λ i. record { nr = zero_more nr i; before = None; after = sym e i } ∷ []))
+  where
+    zero_more : (n : ℕ) → n ≡ n + 0
+    zero_more n = omega arith
+step_suc nr (b ∷ bs) (m ∷ ms) zero l h e = (line_steps (nr + 1) bs ms, (λ i. record { nr = zero_more nr i; before = Some b; after = sym e i } ∷ line_steps (nr + 1) bs ms), (λ i. record { nr = zero_more nr i; before = Some b; after = sym e i } ∷ []))
+  where
+    zero_more : (n : ℕ) → n ≡ n + 0
+    zero_more n = omega arith
+step_suc nr [] (m ∷ ms) (suc k) l h e =
+    let more = step_suc (nr + 1) [] ms k l (omega arith) e in
+    let same : (nr + 1) + k ≡ nr + suc k = omega arith in
+    (more.0, ap (λ (xs : List LineStep). record { nr = nr; before = None; after = m } ∷ xs) (more.1 ∙ (λ i. line_steps (nr + 1) [] (take k ms) ++ record { nr = same i; before = None; after = l } ∷ more.0)),
+    ap (λ (xs : List LineStep). record { nr = nr; before = None; after = m } ∷ xs) (more.2 ∙ (λ i. line_steps (nr + 1) [] (take k ms) ++ record { nr = same i; before = None; after = l } ∷ [])))
+step_suc nr (b ∷ bs) (m ∷ ms) (suc k) l h e =
+    let more = step_suc (nr + 1) bs ms k l (omega arith) e in
+    let same : (nr + 1) + k ≡ nr + suc k = omega arith in
+    (more.0, ap (λ (xs : List LineStep). record { nr = nr; before = Some b; after = m } ∷ xs) (more.1 ∙ (λ i. line_steps (nr + 1) bs (take k ms) ++ record { nr = same i; before = slice_get bs k; after = l } ∷ more.0)),
+    ap (λ (xs : List LineStep). record { nr = nr; before = Some b; after = m } ∷ xs) (more.2 ∙ (λ i. line_steps (nr + 1) bs (take k ms) ++ record { nr = same i; before = slice_get bs k; after = l } ∷ [])))
+
+pub step_at : (nr : ℕ) (bs ls : List Line) (i : ℕ) (l : Line) → i < length ls → l ≡ get_or ls i l → IsStepAt nr bs ls i (record { nr = nr + i; before = slice_get bs i; after = l })
+step_at nr bs ls i l h e =
+    let is = step_suc nr bs ls i l h e in
+    let same : suc i ≡ i + 1 = omega arith in
+    record { rest = is.0; all = is.1; next = ap (λ k. line_steps nr bs (take k ls)) (sym same) ∙ is.2 }

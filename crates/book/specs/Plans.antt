@@ -73,11 +73,11 @@ pub record Makes (A : Ledger) (r : Request) (p : PlanParts) : Type 0 where
   pub orders : map order_of p.orders.items ≡ orders_made A r.command
   pub fields : map entry_row p.fields.entries ≡ field_rows A r
 
--- The book has room for the plan: for the fields that change, and for an entry more of each other kind.
+-- The book has room for the plan: for the fields and the orders that change, a move and a kept key.
 pub record HasRoomFor (book : BookView) (plan : PlanView) : Type 0 where
   pub fields : length plan.fields ≤ book.room.fields
   pub moves : 1 ≤ book.room.moves
-  pub orders : 1 ≤ book.room.orders
+  pub orders : length plan.orders ≤ book.room.orders
   pub kept : 1 ≤ book.room.kept
 
 -- The room that there was for any plan is still there.

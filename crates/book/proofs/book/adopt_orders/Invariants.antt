@@ -1,9 +1,10 @@
--- the orders so far are in, and there is room for one that is not there
-use Rattle.book.proofs.Prelude.{◌≡◌, ◌≤◌, map, number_cmp, order_of, put_rows}
+-- put in, the orders that are left give what all of them give, and there is room for them
+use Rattle.book.proofs.Prelude.{◌≡◌, ◌≤◌, length, map, number_cmp, order_of, put_rows}
 use Rattle.book.proofs.book.adopt_orders.Given as goal
 
 abbrev pub invariant-loop-order : goal.invariant-loop-order
 invariant-loop-order l = record {
-  put : map order_of l.orders.entries ≡ put_rows number_cmp (map order_of l.yielded) (map order_of l.initial.orders.entries);
+  put : put_rows number_cmp (map order_of l.order-iterator.rest.items) (map order_of l.orders.entries) ≡ put_rows number_cmp (map order_of l.fn.made.items) (map order_of l.initial.orders.entries);
+  room : length l.order-iterator.rest.items ≤ l.orders.room;
   no_more : l.orders.room ≤ l.initial.orders.room;
 }

@@ -1,9 +1,8 @@
-use Rattle.book.proofs.Prelude.{◌+◌, ◌∙◌, ◌≡◌, ◌≤◌, BookView, Done, Each, Good, IsUpToDate, Ledger, accept, effect, number_cmp, order_of, orders_made, put_rows, ap, article_total, field_of, map, places, rules, subst, sym, with_entries}
+use Rattle.book.proofs.Prelude.{◌+◌, ◌∙◌, ◌≡◌, BookView, Done, Each, Good, IsUpToDate, Ledger, accept, number_cmp, order_of, orders_made, put_rows, ap, article_total, field_of, map, places, rules, subst, sym, with_entries}
 use Rattle.book.specs.Plans.{PlanView}
 use Rattle.book.proofs.Futures.{honours_always}
 use Rattle.book.proofs.Goodness.{good_accept}
-use Rattle.book.proofs.NextContent.{made_there, orders_put}
-use Rattle.book.proofs.Steps.{effect_goes}
+use Rattle.book.proofs.NextContent.{orders_put}
 use Rattle.book.proofs.RunningNumbers.{adopted}
 use Rattle.book.proofs.Transfers.{total_answer}
 use Rattle.book.proofs.Runs.{accepted_answered, honours_if_good, no_key}
@@ -24,15 +23,6 @@ made c = ap (λ (p : PlanView). p.orders) c.into_parts-parts.ensures ∙ c.requi
 
 orders : (c : goal.After-drop-parts-2) → map order_of c.adopt_orders.new.orders.entries ≡ (accept c.args.self.now.ledger c.args.plan.request).orders
 orders c = c.adopt_orders.ensures.orders ∙ (λ i. put_rows number_cmp (made c i) (c.self.view_is i).ledger.orders) ∙ orders_put c.args.self.now.ledger c.args.plan.request.command (good c) (good_after c).orders_in_order c.requires.fits.accepted.1
-
-pub adopt_orders-requires : goal.adopt_orders-requires
-adopt_orders-requires c =
-    let A : Ledger = c.args.self.now.ledger in
-    let g = subst (λ (v : BookView). Good v.ledger) c.self.view_is c.self.invariant.0 in
-    record {
-      room = subst (λ (v : BookView). 1 ≤ v.room.orders) (sym c.self.view_is) c.requires.room.orders;
-      there = made_there (effect c.args.plan.request.command) A.orders c.self.inside.orders.entries c.into_parts-parts.result.0.orders.items (ap (λ (v : BookView). v.ledger.orders) c.self.view_is) (effect_goes A c.args.plan.request.command g c.requires.fits.accepted.1) (ap (λ (p : PlanView). p.orders) c.into_parts-parts.ensures ∙ c.requires.fits.orders);
-    }
 
 -- the fields as they are then
 put : (c : goal.After-drop-parts-2) → (map field_of c.adopt_fields.new.fields.entries ≡ (accept c.args.self.now.ledger c.args.plan.request).fields) × Each (IsUpToDate (accept c.args.self.now.ledger c.args.plan.request)) c.adopt_fields.new.fields.entries
