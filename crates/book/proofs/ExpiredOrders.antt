@@ -7,7 +7,6 @@ use Rattle.book.proofs.FieldRows.{one_step}
 use Rattle.book.proofs.Futures.{less_is, find_self}
 use Rattle.book.proofs.Sums.{each-imp, each-map}
 
-
 above : (m n : ℕ) → m < n → (n == m) ≡ false
 above m n h = grind arith
 

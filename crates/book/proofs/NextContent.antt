@@ -202,7 +202,7 @@ changes_suffice A r C D g key range none h x y =
     let moves = placed move_cmp move_cmp_total _ (map move_row A.moves) (map move_row B.moves) C.moves D.moves x.moves y.moves (moves_sorted B k) (moves_follow A r.command) in
     let single = flat-one order_row B.orders in
     let orders = ap (put_rows order_cmp (flat_map state_row (steps_of A r.command))) (x.orders ∙ sym (flat-one order_row A.orders)) ∙ steps_put order_cmp order_cmp_total (λ o. order_row o ∷ []) state_row (effect r.command) A.orders (subst (IsStrictlySortedBy order_cmp) (sym single) (orders_sorted B k))
-        (effect_follows order_cmp (λ o. order_row o ∷ []) state_row (λ o. follows-new order_cmp (order_row o ∷ [])) state_follows (effect r.command) A.orders goes) ∙ single ∙ sym y.orders in
+    (effect_follows order_cmp (λ o. order_row o ∷ []) state_row (λ o. follows-new order_cmp (order_row o ∷ [])) state_follows (effect r.command) A.orders goes) ∙ single ∙ sym y.orders in
     let lines = ap (put_rows line_cmp (flat_map amount_rows (steps_of A r.command))) x.lines ∙ steps_put line_cmp line_cmp_total order_lines amount_rows (effect r.command) A.orders (lines_sorted B.orders k.orders_in_order) (effect_follows line_cmp order_lines amount_rows new_lines_follow lines_follow (effect r.command) A.orders goes) ∙ sym y.lines in
     let kept = placed kept_cmp kept_cmp_total _ (map kept_row A.kept) (map kept_row B.kept) C.kept D.kept x.kept y.kept (kept_sorted B k) (follows-insert kept_cmp kept_row (λ a b. is_lt (slice_cmp nat_cmp a.key b.key)) (new_key A r) A.kept) in
     let firms = ap (put_rows firm_cmp (flat_map mark_row (steps_of A r.command))) x.firms ∙ steps_put firm_cmp firm_cmp_total firm_rows mark_row (effect r.command) A.orders (firms_sorted B.orders k.orders_in_order) (effect_follows firm_cmp firm_rows mark_row new_mark_follows mark_follows (effect r.command) A.orders goes) ∙ sym y.firms in

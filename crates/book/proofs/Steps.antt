@@ -420,14 +420,18 @@ step_suc nr (b ∷ bs) (m ∷ ms) zero l h e = (line_steps (nr + 1) bs ms, (λ i
     zero_more n = omega arith
 step_suc nr [] (m ∷ ms) (suc k) l h e =
     let more = step_suc (nr + 1) [] ms k l (omega arith) e in
-    let same : (nr + 1) + k ≡ nr + suc k = omega arith in
-    (more.0, ap (λ (xs : List LineStep). record { nr = nr; before = None; after = m } ∷ xs) (more.1 ∙ (λ i. line_steps (nr + 1) [] (take k ms) ++ record { nr = same i; before = None; after = l } ∷ more.0)),
-    ap (λ (xs : List LineStep). record { nr = nr; before = None; after = m } ∷ xs) (more.2 ∙ (λ i. line_steps (nr + 1) [] (take k ms) ++ record { nr = same i; before = None; after = l } ∷ [])))
+    let same : (nr + 1) + k ≡ nr + suc k = omega arith in (
+      more.0,
+      ap (λ (xs : List LineStep). record { nr = nr; before = None; after = m } ∷ xs) (more.1 ∙ (λ i. line_steps (nr + 1) [] (take k ms) ++ record { nr = same i; before = None; after = l } ∷ more.0)),
+      ap (λ (xs : List LineStep). record { nr = nr; before = None; after = m } ∷ xs) (more.2 ∙ (λ i. line_steps (nr + 1) [] (take k ms) ++ record { nr = same i; before = None; after = l } ∷ [])),
+    )
 step_suc nr (b ∷ bs) (m ∷ ms) (suc k) l h e =
     let more = step_suc (nr + 1) bs ms k l (omega arith) e in
-    let same : (nr + 1) + k ≡ nr + suc k = omega arith in
-    (more.0, ap (λ (xs : List LineStep). record { nr = nr; before = Some b; after = m } ∷ xs) (more.1 ∙ (λ i. line_steps (nr + 1) bs (take k ms) ++ record { nr = same i; before = slice_get bs k; after = l } ∷ more.0)),
-    ap (λ (xs : List LineStep). record { nr = nr; before = Some b; after = m } ∷ xs) (more.2 ∙ (λ i. line_steps (nr + 1) bs (take k ms) ++ record { nr = same i; before = slice_get bs k; after = l } ∷ [])))
+    let same : (nr + 1) + k ≡ nr + suc k = omega arith in (
+      more.0,
+      ap (λ (xs : List LineStep). record { nr = nr; before = Some b; after = m } ∷ xs) (more.1 ∙ (λ i. line_steps (nr + 1) bs (take k ms) ++ record { nr = same i; before = slice_get bs k; after = l } ∷ more.0)),
+      ap (λ (xs : List LineStep). record { nr = nr; before = Some b; after = m } ∷ xs) (more.2 ∙ (λ i. line_steps (nr + 1) bs (take k ms) ++ record { nr = same i; before = slice_get bs k; after = l } ∷ [])),
+    )
 
 pub step_at : (nr : ℕ) (bs ls : List Line) (i : ℕ) (l : Line) → i < length ls → l ≡ get_or ls i l → IsStepAt nr bs ls i (record { nr = nr + i; before = slice_get bs i; after = l })
 step_at nr bs ls i l h e =

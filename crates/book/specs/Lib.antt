@@ -18,6 +18,7 @@ pub mod Rows
 pub mod Steps
 pub mod StepsSeen
 pub mod Changes
+pub mod Table
 pub mod Tables
 pub mod RowEntries
 pub mod Sums

@@ -233,7 +233,11 @@ fn change_of(command: &Command) -> Effect
             branch,
             article,
             qty,
-        } => lines_change(number, FieldName { branch, article }, LineChange::Release(qty)),
+        } => lines_change(
+            number,
+            FieldName { branch, article },
+            LineChange::Release(qty),
+        ),
         Command::Commit { number } => {
             Effect::Changes(number, OrderChange::End(State::Committed))
         }

@@ -1,6 +1,5 @@
 //! What is answered to a request, before it is carried out; plans of accepted requests.
 
-
 ghost use Rattle.book.specs.Answers.{IsAccepted};
 ghost use Rattle.book.specs.Checking.{IsFound};
 ghost use Rattle.book.specs.Ledger.{kept_under};
