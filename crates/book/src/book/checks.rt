@@ -16,12 +16,13 @@ ghost use Rattle.book.specs.RunningNumbers.{CountsAll, IsUpToDate, new_share};
 ghost use Rattle.book.specs.declared.order.Kind.{Kind};
 
 use super::fields::{Fields, one_field, with_field};
+use super::made::new_line;
 use super::plan::{moved_at_once, transfer_lines};
 use super::{Book, FieldEntry};
 use crate::limits::{MAX_FIELDS, MAX_ORDERS, MAX_PLACES};
-use crate::order::{Kind, OrderEntry, State, line_in};
+use crate::order::{Kind, OrderEntry, State, is_on, line_in};
 use escrow::{
-    Article, Bound, Branch, FieldName, Level, Moment, OrderNo, Qty, Quantity, Rebound, Way,
+    Bound, FieldName, Level, Moment, OrderNo, Qty, Quantity, Rebound, Way,
 };
 use index::InOrder;
 use std::alloc::Global;
@@ -337,11 +338,10 @@ impl Book {
         let mut fields = Ok(InOrder::new(alloc));
         for (i, line) in lines.iter().enumerate() {
             let number = i as u64 + 1;
-            if has_line_on(&lines[..i], line.branch, line.article) {
+            let name = new_line(line).name();
+            if has_line_on(&lines[..i], &name) {
                 return Err((Refusal::SameField, number));
             }
-            let (branch, article) = (line.branch, line.article);
-            let name = FieldName { branch, article };
             let field = self.field_there(&name, number)?;
             let field = ask(field, line.way, line.qty, number)?;
             fields = with_field(fields, name, field);
@@ -415,14 +415,8 @@ fn refusal_of(bound: Bound) -> Refusal
 }
 
 /// Whether one of the lines is on the field.
-fn has_line_on(lines: &[OpenLine], branch: Branch, article: Article) -> bool
-    ensures { result ≡ is_some (find (on (name_of branch article)) (map new_line lines.now)) }
+fn has_line_on(lines: &[OpenLine], name: &FieldName) -> bool
+    ensures { result ≡ is_some (find (on name.now) (map new_line lines.now)) }
 {
-    lines.iter().any(|line| is_line_on(line, branch, article))
-}
-
-fn is_line_on(line: &OpenLine, branch: Branch, article: Article) -> bool
-    ensures { result ≡ on (name_of branch article) (new_line line.now) }
-{
-    branch == line.branch && article == line.article
+    lines.iter().any(|line| is_on(&new_line(line), name))
 }

@@ -1,4 +1,8 @@
-use Rattle.std.proofs.Common.{◌≡◌, ◌∙◌, false, ap, subst, sym}
+use Rattle.std.proofs.Common.{◌≡◌, ◌∙◌, false, ap, subst, sym, ℕ}
+use Rattle.words.specs.declared.reply.Reply.TheVariants.{Done}
+use Rattle.book.specs.Answers.{Answers}
+use Rattle.book.specs.Ledger.{Ledger}
+use Rattle.book.proofs.Runs.{accepted_answered}
 use Rattle.book.specs.Next.{accept}
 use Rattle.book.specs.Plans.{Fits}
 use Rattle.desk.specs.Desk.{LeavesEither}
@@ -29,3 +33,11 @@ returns-clause-stored g c going honest = returns-clause-lasting g c honest
 
 pub invariant_of-self-2 : goal.invariant_of-self-2
 invariant_of-self-2 g c = record { good = c.adopt.ensures.good; stored = λ going honest. returns-clause-lasting g c honest }
+
+pub returns-clause-answer : goal.returns-clause-answer
+returns-clause-answer g c =
+    let A = c.args.self.now.ledger in
+    let r = c.args.plan.request in
+    let place = c.place-place.ensures ∙ c.requires.fits.place in
+    let next = c.adopt.ensures.next ∙ ap (λ (A : Ledger). accept A r) (c.make_room.ensures.same ∙ ap (λ d. d.ledger) c.self.view_is) in
+    subst (λ (x : ℕ × Ledger). Answers A r (Done x.0) x.1) (λ i. (sym place i, sym next i)) (accepted_answered A r c.requires.fits.accepted)
