@@ -340,7 +340,7 @@ impl Book {
         ensures fields { IfOk result (λ changes. map entry_row parts.now.fields.entries
             ≡ (rows_among changes.items).fields) }
     {
-        let command = &request.command;
+        let command = request.command.command();
         let mut changes = Vec::new(alloc);
         let desk = desk_row(parts.clock, parts.place);
         push(&mut changes, Change::Desk(desk))?;

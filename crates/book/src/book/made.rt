@@ -242,7 +242,7 @@ impl Book {
         requires { Accepts self.now.ledger request.now }
         ensures { IfOk result (λ made. option_map order_of made ≡ order_after self.now.ledger request.now.command) }
     {
-        let command = &request.command;
+        let command = request.command.command();
         match command {
             Command::Open { number, until, .. } => {
                 let lines = lines_of(alloc, command)?;
@@ -267,7 +267,8 @@ impl Book {
         requires line { find (on (line_name line.now)) order.now.1.lines.items ≡ Some line.now }
         ensures { result ≡ changes_field self.now.ledger request.now.command (line_name line.now) }
     {
-        changes_stock(&request.command, order.1.firm, is_transfer(order), line)
+        let command = request.command.command();
+        changes_stock(command, order.1.firm, is_transfer(order), line)
     }
 
     /// The numbers of the orders that the command aborts as expired, in their order. It looks at all orders as they
