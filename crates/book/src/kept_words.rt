@@ -8,7 +8,7 @@ ghost use Rattle.words.specs.declared.read.WordsFault.TheVariants as WordsFault;
 
 use std::alloc::Global;
 use std::marker::Model;
-use words::{Command, Memory, WordsFault, read_command, write_command};
+use words::{Memory, SpelledCommand, WordsFault, read_command};
 
 /// The one spelling of a command. Contracts see it as the command.
 #[derive(Drop)]
@@ -29,12 +29,10 @@ impl KeptWords {
     ghost use Rattle.book.specs.Answers.{same_command};
 
     /// The words of the command.
-    pub fn of(alloc: Global, command: &Command) -> Result<KeptWords, Memory>
+    pub fn of(alloc: Global, command: &SpelledCommand) -> Result<KeptWords, Memory>
         ensures { IfOk result (λ words. words ≡ command.now) }
     {
-        command.in_range();
-        let mut bytes = Vec::new(alloc);
-        write_command(command, &mut bytes)?;
+        let bytes = Vec::from_slice(alloc, command.words())?;
         Ok(KeptWords { bytes })
     }
 
@@ -58,10 +56,10 @@ impl KeptWords {
         &self.bytes
     }
 
-    /// Whether they are the same words.
-    pub fn is_same(&self, other: &KeptWords) -> bool
-        ensures { result ≡ same_command self.now other.now }
+    /// Whether they are the words of the command.
+    pub fn is_same(&self, command: &SpelledCommand) -> bool
+        ensures { result ≡ same_command self.now command.now }
     {
-        self.as_bytes() == other.as_bytes()
+        self.as_bytes() == command.words()
     }
 }

@@ -1,12 +1,12 @@
 //! A ledger, and the keeper of its rows.
 
-ghost use Rattle.std.specs.Prelude.{◌≡◌, ◌≢◌, ◌⊎◌, ◌<◌, ◌≤◌, [], false, length, take, List, IsTrue, IfOk, IfErr, IsSome, IsSomeAnd, MatchOption, Err};
+ghost use Rattle.std.specs.Prelude.{◌≡◌, ◌≢◌, ◌⊎◌, ◌<◌, ◌≤◌, [], false, length, take, List, IsTrue, IfOk, IfErr, IsSomeAnd, MatchOption, Err};
 ghost use Rattle.escrow.specs.Codes.{IsKey};
 ghost use Rattle.words.specs.Spelling.{IsInRange};
 ghost use Rattle.book.specs.Answers.{Answers, IsAccepted};
 ghost use Rattle.book.specs.Future.{Honours, HonoursAlways};
 ghost use Rattle.book.specs.Good.{Good};
-ghost use Rattle.book.specs.Ledger.{Ledger, field_named, kept_under, name_of, order_numbered};
+ghost use Rattle.book.specs.Ledger.{Ledger, field_named, name_of, order_numbered};
 ghost use Rattle.book.specs.Next.{accept};
 ghost use Rattle.book.specs.PlanAnswers.{Plans};
 ghost use Rattle.book.specs.Plans.{Fits};
@@ -96,10 +96,10 @@ impl<K: Keep> Desk<K> {
     /// Answers a request, and keeps what it changes before it answers `Done`. A request that is not accepted changes
     /// nothing.
     ///
-    /// `Memory` where memory is refused, and nothing has changed then; it is wanted only for a repeated key and for a
-    /// request that is accepted. `Stopped` where the keeper is stopped, by a fault in this call or earlier: the ledger
-    /// is as it was, and every later call answers `Stopped`. Where it is this call that stopped it, a stop leaves the
-    /// ledger's rows or those after the request.
+    /// `Memory` where memory is refused, and nothing has changed then; it is wanted only for a request that is accepted.
+    /// `Stopped` where the keeper is stopped, by a fault in this call or earlier: the ledger is as it was, and every
+    /// later call answers `Stopped`. Where it is this call that stopped it, a stop leaves the ledger's rows or those
+    /// after the request.
     pub fn call(&mut self, alloc: Global, request: &Request) -> Result<Reply, CallFault>
         ensures refused { IsTrue (K.stopped self.old.keep) → (result ≡ Err CallFault.Stopped) × (self.new ≡ self.old) }
         ensures answer { IfOk result (λ reply. Answers self.old.ledger request.now reply self.new.ledger) }
@@ -107,8 +107,7 @@ impl<K: Keep> Desk<K> {
         ensures stored { StaysStored K.Keep self.new }
         ensures others { (IsAccepted self.old.ledger request.now → ⊥) → self.new ≡ self.old }
         ensures memory { result ≡ Err CallFault.Memory → self.new ≡ self.old }
-        ensures wanted { result ≡ Err CallFault.Memory → IsSome (kept_under self.old.ledger request.now.key)
-            ⊎ IsAccepted self.old.ledger request.now }
+        ensures wanted { result ≡ Err CallFault.Memory → IsAccepted self.old.ledger request.now }
         ensures stopped { result ≡ Err CallFault.Stopped → IsTrue (K.stopped self.new.keep)
             × (self.new.ledger ≡ self.old.ledger) }
         ensures accepted { result ≡ Err CallFault.Stopped → K.stopped self.old.keep ≡ false
@@ -134,11 +133,13 @@ impl<K: Keep> Desk<K> {
         ensures key { IsKey request.now.key }
         ensures command { IsInRange request.now.command }
         ensures wanted { result ≡ Err CallFault.Memory → (K.stopped self.now.keep ≡ false)
-            × (IsSome (kept_under self.now.ledger request.now.key) ⊎ IsAccepted self.now.ledger request.now) }
+            × IsAccepted self.now.ledger request.now }
         ensures stopped { result ≡ Err CallFault.Stopped → IsTrue (K.stopped self.now.keep) }
         ensures refused { IsTrue (K.stopped self.now.keep) → result ≡ Err CallFault.Stopped }
     {
-        request.in_range();
+        // so that the proof has the invariants
+        request.key.as_bytes();
+        request.command.words();
         if self.keep.is_stopped() {
             return Err(CallFault::Stopped);
         }

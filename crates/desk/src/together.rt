@@ -155,7 +155,9 @@ fn join(alloc: Global, batch: &mut Batch, book: &mut Book, request: &Request) ->
     ensures others { result ≢ Joined.In → IsAsBefore book.old.ledger batch.old batch.new book.new.ledger }
     ensures behind { result ≡ Joined.Behind → IsTrue batch.old.has_refused }
 {
-    request.in_range();
+    // so that the proof has the invariants
+    request.key.as_bytes();
+    request.command.words();
     match book.plan(alloc, request) {
         Ok(Planned::Again(place)) => {
             let Ok(()) = batch.tell(alloc, request.key, Reply::Done(place)) else {

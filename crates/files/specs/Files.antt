@@ -2,6 +2,7 @@
 use Rattle.std.specs.Prelude.{◌≡◌, ◌≢◌, ◌⊎◌, ℕ, suc, List, [], ◌∷◌, ◌++◌, length}
 use Rattle.csv.specs.Reading.{AreRecords, default_config, strip_bom}
 use Rattle.csv.specs.declared.parser.State.TheVariants.{StartRecord}
+use Rattle.words.specs.declared.command.Command.{Command}
 use Rattle.words.specs.declared.command.Request.{Request}
 use Rattle.files.specs.declared.fault.FileFault.{FileFault}
 use Rattle.files.specs.declared.fault.FileFault.TheVariants.{BadRecord, Io, Memory}
@@ -9,6 +10,10 @@ use Rattle.files.specs.declared.fault.FileFault.TheVariants.{BadRecord, Io, Memo
 -- a record: its fields, as bytes
 abbrev pub Record : Type 0
 Record = List (List ℕ)
+
+-- the request of that key and that command
+abbrev pub under_key : List ℕ → Command → Request
+under_key key command = record { key = key; command = command }
 
 -- these are all the records of the text
 abbrev pub AreRecordsOf : List ℕ → List Record → Type 0

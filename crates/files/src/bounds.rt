@@ -3,7 +3,7 @@
 ghost use Rattle.std.specs.Prelude.{IfErr, IfNone, IfOk, IfSome};
 ghost use Rattle.csv.specs.Records.{fields_of};
 ghost use Rattle.files.specs.Bounds.{IsRebound, SayBounds, bounds_header};
-ghost use Rattle.files.specs.Files.{IsFile, NamesFirst};
+ghost use Rattle.files.specs.Files.{IsFile, NamesFirst, under_key};
 ghost use Rattle.words.specs.declared.command.Request.{Request};
 
 use crate::fault::FileFault;
@@ -16,9 +16,9 @@ use std::alloc::Global;
 use std::io::Read;
 use words::{Command, Request};
 
-/// The command that a record says, other bounds of a field.
-fn rebound_of(row: &ByteRecord) -> Option<Request>
-    ensures some { IfSome result (IsRebound (fields_of row.now)) }
+/// The command that a record says, other bounds of a field, and its key.
+fn rebound_of(row: &ByteRecord) -> Option<(Key, Command)>
+    ensures some { IfSome result (λ r. IsRebound (fields_of row.now) (under_key r.0 r.1)) }
     ensures none { IfNone result ((request : Request) → IsRebound (fields_of row.now) request → ⊥) }
 {
     let (key, branch, article, lo, hi) = five_fields(row)?;
@@ -33,7 +33,7 @@ fn rebound_of(row: &ByteRecord) -> Option<Request>
         lo,
         hi,
     };
-    Some(Request { key, command })
+    Some((key, command))
 }
 
 /// The kind of a file of bounds.
@@ -60,7 +60,7 @@ impl Single for Bounds {
         }
     }
 
-    fn request_of(row: &ByteRecord) -> Option<Request> {
+    fn command_of(row: &ByteRecord) -> Option<(Key, Command)> {
         rebound_of(row)
     }
 }

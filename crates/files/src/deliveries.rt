@@ -3,7 +3,7 @@
 ghost use Rattle.std.specs.Prelude.{IfErr, IfNone, IfOk, IfSome};
 ghost use Rattle.csv.specs.Records.{fields_of};
 ghost use Rattle.files.specs.Deliveries.{IsDelivery, SayDeliveries, delivery_header};
-ghost use Rattle.files.specs.Files.{IsFile, NamesFirst};
+ghost use Rattle.files.specs.Files.{IsFile, NamesFirst, under_key};
 ghost use Rattle.words.specs.declared.command.Request.{Request};
 
 use crate::fault::FileFault;
@@ -16,9 +16,9 @@ use std::alloc::Global;
 use std::io::Read;
 use words::{Command, Request};
 
-/// The delivery that a record says.
-fn delivery_of(row: &ByteRecord) -> Option<Request>
-    ensures some { IfSome result (IsDelivery (fields_of row.now)) }
+/// The delivery that a record says, and its key.
+fn delivery_of(row: &ByteRecord) -> Option<(Key, Command)>
+    ensures some { IfSome result (λ r. IsDelivery (fields_of row.now) (under_key r.0 r.1)) }
     ensures none { IfNone result ((request : Request) → IsDelivery (fields_of row.now) request → ⊥) }
 {
     let (key, branch, article, qty) = four_fields(row)?;
@@ -31,7 +31,7 @@ fn delivery_of(row: &ByteRecord) -> Option<Request>
         article,
         qty,
     };
-    Some(Request { key, command })
+    Some((key, command))
 }
 
 /// The kind of a delivery file.
@@ -57,7 +57,7 @@ impl Single for Deliveries {
         }
     }
 
-    fn request_of(row: &ByteRecord) -> Option<Request> {
+    fn command_of(row: &ByteRecord) -> Option<(Key, Command)> {
         delivery_of(row)
     }
 }

@@ -17,7 +17,7 @@ use csv::ByteRecord;
 use escrow::{Article, Branch, Key, Moment, OrderNo};
 use std::alloc::Global;
 use std::io::Read;
-use words::{Command, Memory, OpenLine, OpenLines, Request, read_way};
+use words::{Command, Memory, OpenLine, OpenLines, Request, SpelledCommand, read_way};
 
 /// What one record says: a line of an order.
 #[derive(Clone, Copy)]
@@ -137,8 +137,8 @@ impl OpenOrder {
     }
 
     /// The order as a request.
-    fn into_request(self) -> Request
-        ensures { result ≡ request_of self }
+    fn into_request(self, alloc: Global) -> Result<Request, Memory>
+        ensures { IfOk result (λ request. request ≡ request_of self) }
     {
         let OpenOrder {
             key,
@@ -151,7 +151,8 @@ impl OpenOrder {
             until,
             lines,
         };
-        Request { key, command }
+        let command = SpelledCommand::of(alloc, command)?;
+        Ok(Request { key, command })
     }
 }
 
@@ -190,7 +191,8 @@ impl Orders {
         let Some(order) = last else {
             return Ok(done);
         };
-        match done.push(order.into_request()) {
+        let request = order.into_request(*done.allocator())?;
+        match done.push(request) {
             Ok(()) => Ok(done),
             Err(_) => Err(Memory),
         }
@@ -234,7 +236,8 @@ impl Intake for Orders {
         if order.has_key(&row.key) {
             return self.go_on(order, &row);
         }
-        match self.done.push(order.into_request()) {
+        let request = order.into_request(alloc)?;
+        match self.done.push(request) {
             Ok(()) => {}
             Err(_) => return Err(Memory),
         }

@@ -3,15 +3,16 @@
 ghost use Rattle.std.specs.Prelude.{◌≡◌, ◌↔◌, IfErr, IfNone, IfOk, IfSome, IsTrue};
 ghost use Rattle.std.specs.List.{AllZip};
 ghost use Rattle.csv.specs.Records.{fields_of};
-ghost use Rattle.files.specs.Files.{IsFile, NamesFirst, Record};
+ghost use Rattle.files.specs.Files.{IsFile, NamesFirst, Record, under_key};
 ghost use Rattle.words.specs.declared.command.Request.{Request};
 
 use crate::fault::FileFault;
 use crate::intake::{Intake, read_file};
 use csv::ByteRecord;
+use escrow::Key;
 use std::alloc::Global;
 use std::io::Read;
-use words::{Memory, Request};
+use words::{Command, Memory, Request, SpelledCommand};
 
 /// A kind of file of which each record behind the header is one request.
 pub trait Single: Sized + Drop {
@@ -25,9 +26,9 @@ pub trait Single: Sized + Drop {
     fn is_header(row: &ByteRecord) -> bool
         ensures { IsTrue result ↔ (fields_of row.now ≡ header) };
 
-    /// The request that a record says.
-    fn request_of(row: &ByteRecord) -> Option<Request>
-        ensures some { IfSome result (says (fields_of row.now)) }
+    /// The key and the command of the request that a record says.
+    fn command_of(row: &ByteRecord) -> Option<(Key, Command)>
+        ensures some { IfSome result (λ r. says (fields_of row.now) (under_key r.0 r.1)) }
         ensures none { IfNone result ((request : Request) → says (fields_of row.now) request → ⊥) };
 }
 
@@ -52,8 +53,14 @@ impl<S: Single> Intake for Singles<S> {
     }
 
     fn take(&mut self, row: &ByteRecord) -> Result<bool, Memory> {
-        let Some(request) = S::request_of(row) else {
+        let Some(said) = S::command_of(row) else {
             return Ok(false);
+        };
+        let alloc = *self.requests.allocator();
+        let command = SpelledCommand::of(alloc, said.1)?;
+        let request = Request {
+            key: said.0,
+            command,
         };
         match self.requests.push(request) {
             Ok(()) => Ok(true),

@@ -5,7 +5,7 @@ use escrow::Key;
 use std::alloc::Global;
 use std::process::Abort;
 use std::test::Fail;
-use words::{Request, read_command};
+use words::{Request, SpelledCommand};
 
 /// A row of each table: its texts, and then its numbers, in the order of their columns.
 pub(crate) enum Row {
@@ -70,7 +70,7 @@ fn are_rows(changes: &[Change], rows: &[Row]) -> bool {
 
 pub(crate) fn request(alloc: Global, key: &str, command: &str) -> Result<Request, Fail> {
     let key = Key::read(key.as_bytes())?;
-    let command = read_command(alloc, command.as_bytes())?;
+    let command = SpelledCommand::read(alloc, command.as_bytes())?;
     Ok(Request { key, command })
 }
 

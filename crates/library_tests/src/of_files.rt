@@ -10,7 +10,7 @@ use files::{
 use std::alloc::Global;
 use std::process::Abort;
 use std::test::Fail;
-use words::{Request, write_command};
+use words::Request;
 
 /// The laws hold of every file and every ledger; a call of one costs nothing.
 #[test]
@@ -30,33 +30,26 @@ const DELIVERIES: &[u8] = b"key,branch,article,qty\nD1,N1,A-1,10\n";
 const BOUNDS: &[u8] = b"key,branch,article,lo,hi\nB1,N1,A-1,5,40\n";
 
 /// There is one request, of this key and this command.
-fn is_one(alloc: Global, requests: &[Request], key: &[u8], command: &[u8]) -> Result<bool, Fail> {
-    let [request] = requests else {
-        return Ok(false);
-    };
-    let mut out = Vec::new(alloc);
-    write_command(&request.command, &mut out)?;
-    Ok(request.key.as_bytes() == key && out.as_slice() == command)
+fn is_one(requests: &[Request], key: &[u8], command: &[u8]) -> bool {
+    match requests {
+        [request] => request.key.as_bytes() == key && request.command.words() == command,
+        _ => false,
+    }
 }
 
 fn orders_open(alloc: Global) -> Result<bool, Fail> {
     let orders = read_orders(alloc, ORDERS)?;
-    is_one(
-        alloc,
-        &orders,
-        b"G1",
-        b"open 50 500 take N1 A-1 5 add N1 B-2 1",
-    )
+    Ok(is_one(&orders, b"G1", b"open 50 500 take N1 A-1 5 add N1 B-2 1"))
 }
 
 fn deliveries_deliver(alloc: Global) -> Result<bool, Fail> {
     let deliveries = read_deliveries(alloc, DELIVERIES)?;
-    is_one(alloc, &deliveries, b"D1", b"deliver N1 A-1 10")
+    Ok(is_one(&deliveries, b"D1", b"deliver N1 A-1 10"))
 }
 
 fn bounds_rebound(alloc: Global) -> Result<bool, Fail> {
     let bounds = read_bounds(alloc, BOUNDS)?;
-    is_one(alloc, &bounds, b"B1", b"rebound N1 A-1 5 40")
+    Ok(is_one(&bounds, b"B1", b"rebound N1 A-1 5 40"))
 }
 
 #[test]

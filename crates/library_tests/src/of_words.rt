@@ -6,9 +6,10 @@ use std::alloc::Global;
 use std::io::Read;
 use std::test::Fail;
 use words::{
-    Command, Item, Lines, Memory, OpenLine, OpenLines, ReadFault, Refusal, Reply, WordsFault,
-    WriteFault, cuts_do_not_matter, exactly_one_item, no_request_is_too_long, read_command,
-    read_item, read_number, read_piece, read_way, write_command, write_reply, write_whole,
+    Command, Item, Lines, Memory, OpenLine, OpenLines, ReadFault, Refusal, Reply, SpelledCommand,
+    WordsFault, WriteFault, cuts_do_not_matter, exactly_one_item, no_request_is_too_long,
+    read_command, read_item, read_number, read_piece, read_way, write_command, write_reply,
+    write_whole,
 };
 
 /// The laws hold of every line; a call of one costs nothing.
@@ -44,16 +45,26 @@ const COMMANDS: [&str; 14] = [
 /// The text is read as a command, and written back behind what is there.
 fn is_written_back(alloc: Global, text: &str) -> Result<bool, Fail> {
     let command = read_command(alloc, text.as_bytes())?;
-    command.in_range();
     let mut out = Vec::from_slice(alloc, b"K1 ")?;
     write_command(&command, &mut out)?;
     Ok(out.strip_prefix(b"K1 ".as_slice()) == Some(text.as_bytes()))
+}
+
+/// The text is the words of the command that it is read as, and of the same command spelled anew.
+fn has_its_words(alloc: Global, text: &str) -> Result<bool, Fail> {
+    let read = SpelledCommand::read(alloc, text.as_bytes())?;
+    let made = SpelledCommand::of(alloc, read_command(alloc, text.as_bytes())?)?;
+    let mut out = Vec::new(alloc);
+    write_command(read.command(), &mut out)?;
+    let written = out.as_slice();
+    Ok([read.words(), made.words(), written] == [text.as_bytes(); 3])
 }
 
 #[test]
 fn each_kind_is_read_and_written_back(rt: HostRuntime) -> Result<(), Fail> {
     for text in commands() {
         assert!(rt; is_written_back(rt.alloc(), text)?, "{text}");
+        assert!(rt; has_its_words(rt.alloc(), text)?, "{text}");
     }
     let bad = read_command(rt.alloc(), b"commit 07").err();
     assert!(rt; bad == Some(WordsFault::BadCommand));
@@ -64,7 +75,6 @@ fn each_kind_is_read_and_written_back(rt: HostRuntime) -> Result<(), Fail> {
 fn are_the_lines(lines: &[OpenLine]) -> bool {
     match lines {
         [first, second] => {
-            first.in_range();
             first.way == Way::Take
                 && second.way == Way::Add
                 && second.branch.as_bytes() == b"N2".as_slice()
@@ -91,10 +101,7 @@ fn an_order_has_its_lines(rt: HostRuntime) -> Result<(), Fail> {
 /// The key of a request, `?` and what is asked for, and `-` for a bad line.
 fn mark(item: &Item) -> &[u8] {
     match item {
-        Item::Request(request) => {
-            request.in_range();
-            request.key.as_bytes()
-        }
+        Item::Request(request) => request.key.as_bytes(),
         Item::AskField(_, _) => b"?field",
         Item::AskOrder(_) => b"?order",
         Item::Bad => b"-",

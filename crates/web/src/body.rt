@@ -10,7 +10,7 @@ use escrow::Key;
 use serde_json::Value;
 use serde_json::error::Category;
 use std::alloc::{AllocError, Global};
-use words::{Request, WordsFault, read_command};
+use words::{Request, SpelledCommand, WordsFault};
 
 /// The key and the text of the command, of an object that has these two members and no other.
 fn command_parts(value: &Value) -> Option<(&str, &str)>
@@ -42,7 +42,7 @@ fn request_of(alloc: Global, value: &Value) -> Result<Option<Request>, AllocErro
     let Ok(key) = Key::read(parts.0.as_bytes()) else {
         return Ok(None);
     };
-    match read_command(alloc, parts.1.as_bytes()) {
+    match SpelledCommand::read(alloc, parts.1.as_bytes()) {
         Ok(command) => Ok(Some(Request { key, command })),
         Err(WordsFault::BadCommand) => Ok(None),
         Err(WordsFault::Memory) => Err(AllocError),

@@ -1,8 +1,8 @@
 -- What a line says, by its words.
-use Rattle.std.proofs.Common.{◌≡◌, ◌∙◌, ℕ, List, [], ◌∷◌, ◌++◌, ap, codes, decimal, refl, sym}
+use Rattle.std.proofs.Common.{◌≡◌, ◌∙◌, ◌⊎◌, ℕ, List, [], ◌∷◌, ◌++◌, ap, codes, decimal, inl, inr, refl, sym}
 use Rattle.escrow.specs.Codes.{IsArticle, IsBranch, IsKey}
 use Rattle.escrow.specs.Ranges.{IsOrderNo}
-use Rattle.words.specs.Items.{IsOpeningLine, IsRequest, Says}
+use Rattle.words.specs.Items.{IsOpeningLine, IsRequest, Says, WantsMemory}
 use Rattle.words.specs.OpenLines.{line_words, way_word}
 use Rattle.words.specs.Spelling.{IsOpening, Spells, command_words}
 use Rattle.words.specs.Words.{spaced, words_of}
@@ -52,13 +52,18 @@ request_bad line rest key e bad r h =
     bad r.command (h.1, line_of rest (command_words r.command) (behind (words_of line) e (words_of_request line r h)))
 
 -- a key stands first, and what begins as an `open` does behind it
-pub request_opening : (line rest key : List ℕ) → IsKey key → words_of line ≡ key ∷ words_of rest → IsOpening rest → IsOpeningLine line
+request_opening : (line rest key : List ℕ) → IsKey key → words_of line ≡ key ∷ words_of rest → IsOpening rest → IsOpeningLine line
 request_opening line rest key h e opening = (key, rest, h, opening, by (words_of rest) (parts_some 32 rest) refl)
   where
     by : (ws : List (List ℕ)) → (ws ≡ [] → ⊥) → words_of rest ≡ ws → line ≡ spaced (key ∷ rest ∷ [])
     by [] some f = absurd (some refl)
     by (w ∷ ws) some f =
         line_of line (key ∷ w ∷ ws) (e ∙ ap (λ (x : List (List ℕ)). key ∷ x) f) ∙ ap (λ (bytes : List ℕ). key ++ 32 ∷ bytes) (sym (line_of rest (w ∷ ws) f))
+
+-- a key stands first, and a command behind it or what begins as an `open` does
+pub request_wanted : (line rest key : List ℕ) → IsKey key → words_of line ≡ key ∷ words_of rest → ((c : Command) × Spells c rest) ⊎ IsOpening rest → WantsMemory line
+request_wanted line rest key h e (inl (c, s)) = inl (record { key = key; command = c }, request_found line rest key c h e s)
+request_wanted line rest key h e (inr opening) = inr (request_opening line rest key h e opening)
 
 -- a line that is no ask and no request says nothing
 pub says_none : (line : List ℕ)

@@ -1,5 +1,5 @@
 -- What a line is.
-use Rattle.std.specs.Prelude.{◌≡◌, ℕ, ◌≤◌, List, [], ◌∷◌, codes, decimal, length}
+use Rattle.std.specs.Prelude.{◌≡◌, ◌⊎◌, ℕ, ◌≤◌, List, [], ◌∷◌, codes, decimal, length}
 use Rattle.escrow.specs.Codes.{IsArticle, IsBranch, IsKey}
 use Rattle.escrow.specs.Ranges.{IsOrderNo}
 use Rattle.words.specs.Spelling.{IsInRange, IsOpening, command_words}
@@ -19,6 +19,10 @@ IsRequest line r = IsKey r.key × IsInRange r.command × (line ≡ spaced (r.key
 -- a key, a space and what begins as an `open` does
 abbrev pub IsOpeningLine : List ℕ → Type 0
 IsOpeningLine line = (key : List ℕ) × (rest : List ℕ) × IsKey key × IsOpening rest × (line ≡ spaced (key ∷ rest ∷ []))
+
+-- memory is wanted for the line: it is a request, or a key with what begins as an `open` does behind it
+abbrev pub WantsMemory : List ℕ → Type 0
+WantsMemory line = ((r : RequestOf) × IsRequest line r) ⊎ IsOpeningLine line
 
 -- what the line says
 abbrev pub Says : List ℕ → Item → Type 0

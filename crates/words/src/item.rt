@@ -3,7 +3,7 @@
 ghost use Rattle.std.specs.Prelude.{◌≡◌, ◌≤◌, ◌∷◌, [], List, ℕ, IfNone, IfOk, IfSome, OnErr, codes, decimal, length};
 ghost use Rattle.escrow.specs.Codes.{IsArticle, IsBranch};
 ghost use Rattle.escrow.specs.Ranges.{IsOrderNo};
-ghost use Rattle.words.specs.Items.{IsItem, IsOpeningLine, IsRequest};
+ghost use Rattle.words.specs.Items.{IsItem, IsRequest, WantsMemory};
 ghost use Rattle.words.specs.Words.{words_of};
 ghost use Rattle.words.specs.declared.command.Request.{Request};
 ghost use Rattle.words.specs.declared.item.Item.{Item};
@@ -11,8 +11,9 @@ ghost use Rattle.words.specs.declared.item.Item.{Item};
 use crate::command::Request;
 use crate::cut::cut;
 use crate::limits::MAX_LINE_LEN;
-use crate::read::{WordsFault, read_command};
+use crate::read::WordsFault;
 use crate::reply::Memory;
+use crate::spelled::SpelledCommand;
 use crate::word::{last_word, word_then};
 use escrow::{Article, Branch, Key, OrderNo};
 use std::alloc::Global;
@@ -77,12 +78,12 @@ fn read_ask_order(bytes: &[u8]) -> Option<OrderNo>
 fn read_request(alloc: Global, bytes: &[u8]) -> Result<Option<Request>, Memory>
     ensures found { IfOk result (λ found. IfSome found (IsRequest bytes.now)) }
     ensures none { IfOk result (λ found. IfNone found ((r : Request) → IsRequest bytes.now r → ⊥)) }
-    ensures memory { OnErr result (IsOpeningLine bytes.now) }
+    ensures memory { OnErr result (WantsMemory bytes.now) }
 {
     let Some(key) = word_then::<Key>(bytes) else {
         return Ok(None);
     };
-    match read_command(alloc, key.1) {
+    match SpelledCommand::read(alloc, key.1) {
         Ok(command) => Ok(Some(Request {
             key: key.0,
             command,
@@ -92,11 +93,11 @@ fn read_request(alloc: Global, bytes: &[u8]) -> Result<Option<Request>, Memory>
     }
 }
 
-/// The item that a line is; the line stands without its newline. Memory is wanted only for a key with an
-/// `open` behind it.
+/// The item that a line is; the line stands without its newline. Memory is wanted only for a request, and for a key
+/// with an `open` behind it.
 pub fn read_item(alloc: Global, line: &[u8]) -> Result<Item, Memory>
     ensures item { IfOk result (λ item. IsItem line.now item) }
-    ensures memory { OnErr result (IsOpeningLine line.now) }
+    ensures memory { OnErr result (WantsMemory line.now) }
 {
     if line.len() > MAX_LINE_LEN {
         return Ok(Item::Bad);

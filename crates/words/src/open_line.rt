@@ -17,19 +17,6 @@ pub struct OpenLine {
     pub qty: Qty,
 }
 
-impl OpenLine {
-    ghost use Rattle.words.specs.OpenLines.{IsOpenLine};
-
-    /// Its codes are codes, and its quantity is in range.
-    pub fn in_range(&self)
-        ensures { IsOpenLine self.now }
-    {
-        self.branch.as_bytes();
-        self.article.as_bytes();
-        self.qty.get();
-    }
-}
-
 /// 1 to 64 lines of an order, in their order.
 #[derive(Drop)]
 pub struct OpenLines {
@@ -85,6 +72,8 @@ fn all_in_range(lines: &[OpenLine])
     ensures { All IsOpenLine lines.now }
 {
     for line in lines {
-        line.in_range();
+        line.branch.as_bytes();
+        line.article.as_bytes();
+        line.qty.get();
     }
 }

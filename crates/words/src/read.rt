@@ -244,7 +244,7 @@ pub enum WordsFault {
     /// The bytes are no spelling of a command.
     #[error("not a command")]
     BadCommand,
-    /// Memory for the lines of an `open` was refused.
+    /// Memory for the lines of an `open`, or for the words to be kept, was refused.
     #[error("out of memory")]
     Memory,
 }

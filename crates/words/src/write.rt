@@ -1,9 +1,12 @@
 //! Commands, written in their one spelling.
 
 ghost use Rattle.std.specs.Prelude.{◌≡◌, ◌++◌, ◌∷◌, [], OnErr, OnOk, codes, decimal, if◌then◌else◌};
+ghost use Rattle.std.specs.Bool.{OnTrue};
+ghost use Rattle.escrow.specs.Codes.{IsArticle, IsBranch};
+ghost use Rattle.escrow.specs.Ranges.{IsMoment, IsOrderNo, IsQty};
 ghost use Rattle.words.specs.Kinds.{is_change, is_opening, is_stock};
 ghost use Rattle.words.specs.OpenLines.{line_words, way_word};
-ghost use Rattle.words.specs.Spelling.{spelling};
+ghost use Rattle.words.specs.Spelling.{IsInRange, spelling};
 ghost use Rattle.words.specs.Words.{after_space, spaced};
 
 use crate::command::Command;
@@ -36,7 +39,8 @@ fn push_move(
     article: Article,
     qty: Qty,
 ) -> Result<(), AllocError>
-    ensures { OnOk result (out.new.items ≡ out.old.items ++ after_space (branch ∷ article ∷ decimal qty ∷ [])) }
+    ensures text { OnOk result (out.new.items ≡ out.old.items ++ after_space (branch ∷ article ∷ decimal qty ∷ [])) }
+    ensures range { OnOk result (IsBranch branch × IsArticle article × IsQty qty) }
 {
     push_word(out, branch.as_bytes())?;
     push_word(out, article.as_bytes())?;
@@ -78,8 +82,9 @@ fn push_open(
     until: Moment,
     lines: &[OpenLine],
 ) -> Result<(), AllocError>
-    ensures { OnOk result (out.new.items ≡ out.old.items ++ (codes "open" ++ after_space
+    ensures text { OnOk result (out.new.items ≡ out.old.items ++ (codes "open" ++ after_space
         (decimal number ∷ decimal until ∷ line_words lines.now))) }
+    ensures range { OnOk result (IsOrderNo number × IsMoment until) }
 {
     out.extend_from_slice(b"open")?;
     push_number(out, number.get())?;
@@ -96,8 +101,9 @@ fn push_part(
     article: Article,
     qty: Qty,
 ) -> Result<(), AllocError>
-    ensures { OnOk result (out.new.items ≡ out.old.items ++ spaced (verb.now ∷ decimal number ∷ branch ∷ article
+    ensures text { OnOk result (out.new.items ≡ out.old.items ++ spaced (verb.now ∷ decimal number ∷ branch ∷ article
         ∷ decimal qty ∷ [])) }
+    ensures range { OnOk result (IsOrderNo number × IsBranch branch × IsArticle article × IsQty qty) }
 {
     out.extend_from_slice(verb)?;
     push_number(out, number.get())?;
@@ -120,7 +126,9 @@ fn push_stock_move(
     article: Article,
     qty: Qty,
 ) -> Result<(), AllocError>
-    ensures { OnOk result (out.new.items ≡ out.old.items ++ spaced (verb.now ∷ branch ∷ article ∷ decimal qty ∷ [])) }
+    ensures text { OnOk result (out.new.items ≡ out.old.items
+        ++ spaced (verb.now ∷ branch ∷ article ∷ decimal qty ∷ [])) }
+    ensures range { OnOk result (IsBranch branch × IsArticle article × IsQty qty) }
 {
     out.extend_from_slice(verb)?;
     push_move(out, branch, article, qty)
@@ -128,8 +136,9 @@ fn push_stock_move(
 
 /// Appends the spelling of a command about stock, and nothing for another.
 fn push_stock(out: &mut Vec<u8>, command: &Command) -> Result<(), AllocError>
-    ensures { OnOk result (out.new.items ≡ out.old.items
+    ensures text { OnOk result (out.new.items ≡ out.old.items
         ++ (if is_stock command.now then spelling command.now else [])) }
+    ensures range { OnOk result (OnTrue (is_stock command.now) (IsInRange command.now)) }
 {
     match command {
         Command::Field {
@@ -180,7 +189,8 @@ fn push_goods(
     to: Branch,
     qty: Qty,
 ) -> Result<(), AllocError>
-    ensures { OnOk result (out.new.items ≡ out.old.items ++ after_space (article ∷ from ∷ to ∷ decimal qty ∷ [])) }
+    ensures text { OnOk result (out.new.items ≡ out.old.items ++ after_space (article ∷ from ∷ to ∷ decimal qty ∷ [])) }
+    ensures range { OnOk result (IsArticle article × IsBranch from × IsBranch to × IsQty qty) }
 {
     push_word(out, article.as_bytes())?;
     push_word(out, from.as_bytes())?;
@@ -190,8 +200,9 @@ fn push_goods(
 
 /// Appends the spelling of a command that opens an order, and nothing for another.
 fn push_opening(out: &mut Vec<u8>, command: &Command) -> Result<(), AllocError>
-    ensures { OnOk result (out.new.items ≡ out.old.items
+    ensures text { OnOk result (out.new.items ≡ out.old.items
         ++ (if is_opening command.now then spelling command.now else [])) }
+    ensures range { OnOk result (OnTrue (is_opening command.now) (IsInRange command.now)) }
 {
     match command {
         Command::Open {
@@ -218,8 +229,9 @@ fn push_opening(out: &mut Vec<u8>, command: &Command) -> Result<(), AllocError>
 
 /// Appends the spelling of a command that changes what an order holds, and nothing for another.
 fn push_change(out: &mut Vec<u8>, command: &Command) -> Result<(), AllocError>
-    ensures { OnOk result (out.new.items ≡ out.old.items
+    ensures text { OnOk result (out.new.items ≡ out.old.items
         ++ (if is_change command.now then spelling command.now else [])) }
+    ensures range { OnOk result (OnTrue (is_change command.now) (IsInRange command.now)) }
 {
     match command {
         Command::More {
@@ -252,7 +264,8 @@ fn push_change(out: &mut Vec<u8>, command: &Command) -> Result<(), AllocError>
 
 /// Appends the spelling of a command.
 fn push_command(out: &mut Vec<u8>, command: &Command) -> Result<(), AllocError>
-    ensures { OnOk result (out.new.items ≡ out.old.items ++ spelling command.now) }
+    ensures text { OnOk result (out.new.items ≡ out.old.items ++ spelling command.now) }
+    ensures range { OnOk result (IsInRange command.now) }
 {
     match command {
         Command::Field { .. }
@@ -273,6 +286,7 @@ fn push_command(out: &mut Vec<u8>, command: &Command) -> Result<(), AllocError>
 /// Appends the one spelling of a command. After a refusal the vector's content is as it was.
 pub fn write_command(command: &Command, out: &mut Vec<u8>) -> Result<(), Memory>
     ensures ok { OnOk result (out.new.items ≡ out.old.items ++ spelling command.now) }
+    ensures range { OnOk result (IsInRange command.now) }
     ensures err { OnErr result (out.new.items ≡ out.old.items) }
 {
     let mut text = Vec::new(*out.allocator());

@@ -338,7 +338,8 @@ impl Book {
         let mut fields = Ok(InOrder::new(alloc));
         for (i, line) in lines.iter().enumerate() {
             let number = i as u64 + 1;
-            let name = new_line(line).name();
+            let (branch, article) = (line.branch, line.article);
+            let name = FieldName { branch, article };
             if has_line_on(&lines[..i], &name) {
                 return Err((Refusal::SameField, number));
             }

@@ -314,7 +314,7 @@ impl Book {
         ensures { IfOk result (λ orders. map order_of orders.items ≡ orders_made self.now.ledger request.now.command) }
     {
         let mut orders = Vec::new(alloc);
-        match effect_of(alloc, &request.command)? {
+        match effect_of(alloc, request.command.command())? {
             Effect::Nothing => {}
             Effect::Opens(order) => orders.push(order)?,
             Effect::Changes(number, change) => {

@@ -2,14 +2,13 @@
 
 ghost use Rattle.book.specs.Answers.{IsAccepted};
 ghost use Rattle.book.specs.Checking.{IsFound};
-ghost use Rattle.book.specs.Ledger.{kept_under};
 ghost use Rattle.book.specs.Next.{move_made, moved_at_once, transfer_lines};
 ghost use Rattle.book.specs.PlanAnswers.{Plans};
 ghost use Rattle.book.specs.Plans.{plan_of, Makes};
 ghost use Rattle.book.specs.RunningNumbers.{Accepts};
 ghost use Rattle.book.specs.Tables.{rows_among};
 ghost use Rattle.book.specs.Model.{move_of};
-ghost use Rattle.std.specs.Prelude.{◌≡◌, length, option_map, ◌⊎◌, IfOk, IsSome, OnErr};
+ghost use Rattle.std.specs.Prelude.{◌≡◌, length, option_map, IfOk, OnErr};
 
 use super::checks::Found;
 use super::{Book, FieldEntry, MoveEntry};
@@ -157,22 +156,19 @@ fn move_made(place: u64, command: &Command) -> Option<MoveEntry>
 }
 
 impl Book {
-    /// What is answered to the request. The book is as it was. Memory is wanted only for a repeated key, whose
-    /// commands are compared, and for a command that is accepted.
+    /// What is answered to the request. The book is as it was. Memory is wanted only for a command that is accepted.
     pub fn plan(&self, alloc: Global, request: &Request) -> Result<Planned, Memory>
         ensures planned { IfOk result (λ planned. Plans self.now.ledger request.now planned) }
-        ensures memory { OnErr result (IsSome (kept_under self.now.ledger request.now.key)
-            ⊎ IsAccepted self.now.ledger request.now) }
+        ensures memory { OnErr result (IsAccepted self.now.ledger request.now) }
     {
         if let Some(kept) = self.kept_entry(request.key) {
-            let words = KeptWords::of(alloc, &request.command)?;
-            return if kept.words.is_same(&words) {
+            return if kept.words.is_same(&request.command) {
                 Ok(Planned::Again(kept.place))
             } else {
                 Ok(Planned::Refused(Refusal::KeyReused, 0))
             };
         }
-        let found = match self.check(alloc, &request.command) {
+        let found = match self.check(alloc, request.command.command()) {
             Ok(found) => found,
             Err(failure) => return Ok(Planned::Refused(failure.0, failure.1)),
         };
@@ -187,9 +183,10 @@ impl Book {
         requires { IsAccepted self.now.ledger request.now }
         ensures { Accepts self.now.ledger request.now }
     {
-        // so that the proof has the invariant
+        // so that the proof has the invariants
         let _ = &self.kept;
-        request.in_range();
+        request.key.as_bytes();
+        request.command.words();
     }
 
     /// What the accepted request puts into the book, with what its check found.
@@ -198,8 +195,8 @@ impl Book {
         requires found { IsFound self.now.ledger request.now.command found }
         ensures { IfOk result (λ parts. Makes self.now.ledger request.now parts) }
     {
-        let command = &request.command;
-        let words = KeptWords::of(alloc, command)?;
+        let command = request.command.command();
+        let words = KeptWords::of(alloc, &request.command)?;
         let place = self.kept.len() as u64 + 1;
         let orders = self.orders_made(alloc, request)?;
         let fields = self.fields_after(alloc, request, found, &orders)?;

@@ -1,5 +1,5 @@
 use Rattle.std.proofs.Common.{Err, ap}
-use Rattle.words.proofs.ByItem.{request_bad, request_found, request_none, request_opening}
+use Rattle.words.proofs.ByItem.{request_bad, request_found, request_none, request_wanted}
 use Rattle.words.proofs.item.read_request.Goals as goal
 
 pub returns-in_default-clause-none : goal.returns-in_default-clause-none
@@ -16,5 +16,5 @@ returns-in-Err-BadCommand-clause-none c =
 
 pub returns-in-Err-Memory-clause-memory : goal.returns-in-Err-Memory-clause-memory
 returns-in-Err-Memory-clause-memory c =
-    request_opening c.args.bytes.now c.in-Some.key.1.now c.in-Some.key.0 c.in-Some.ensures.form c.in-Some.ensures.found
+    request_wanted c.args.bytes.now c.in-Some.key.1.now c.in-Some.key.0 c.in-Some.ensures.form c.in-Some.ensures.found
     (c.in-Err-Memory.ensures.memory (ap Err c.in-Err-Memory.field-0-is))

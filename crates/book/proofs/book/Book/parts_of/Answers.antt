@@ -1,4 +1,4 @@
-use Rattle.book.proofs.Prelude.{◌∙◌, List, Order, OrderEntry, ap, map, order_of, refl, ℕ}
+use Rattle.book.proofs.Prelude.{◌∙◌, Command, ap, map, move_made, next, order_of, refl}
 use Rattle.book.proofs.NextRows.{place_is}
 use Rattle.book.proofs.book.Book.parts_of.Goals as goal
 
@@ -9,13 +9,15 @@ pub open_after-requires : goal.open_after-requires
 open_after-requires c = (c.args.request.now.command, record { passed = c.requires.accepts.accepted.1; made_are = ap (map order_of) c.deref-2.ensures.value ∙ c.in_ok-orders.ensures })
 
 pub returns : goal.returns
-returns c = record {
-  key = refl;
-  command = c.in_ok-words.ensures;
-  place = place_is c.self.inside c.args.self.now c.len.result c.self.view_is c.len.ensures.len;
-  clock = c.clock_after.ensures;
-  open_count = c.open_after.ensures c.args.request.now.command (record { passed = c.requires.accepts.accepted.1; made_are = ap (map order_of) c.deref-2.ensures.value ∙ c.in_ok-orders.ensures });
-  moved = c.move_made.ensures;
-  orders = c.in_ok-orders.ensures;
-  fields = c.in_ok-fields.ensures;
-}
+returns c =
+    let A = c.args.self.now.ledger in
+    let command = c.command-command.ensures.value in record {
+      key = refl;
+      command = c.in_ok-words.ensures;
+      place = place_is c.self.inside c.args.self.now c.len.result c.self.view_is c.len.ensures.len;
+      clock = c.clock_after.ensures ∙ ap (λ (k : Command). (next A k).clock) command;
+      open_count = c.open_after.ensures c.args.request.now.command (record { passed = c.requires.accepts.accepted.1; made_are = ap (map order_of) c.deref-2.ensures.value ∙ c.in_ok-orders.ensures });
+      moved = c.move_made.ensures ∙ ap (move_made _) command;
+      orders = c.in_ok-orders.ensures;
+      fields = c.in_ok-fields.ensures;
+    }

@@ -1,4 +1,4 @@
-use Rattle.book.proofs.Prelude.{◌∙◌, ◌≡◌, ChangesTo, Command, IsAccepted, Request, ap, is_some, move_made, next, open_orders, orders_made, rows_among, subst, sym}
+use Rattle.book.proofs.Prelude.{◌∙◌, ◌≡◌, ChangesTo, Command, FirstFailure, IsAccepted, None, Request, ap, checks, is_some, move_made, next, open_orders, orders_made, rows_among, subst, sym}
 use Rattle.book.specs.Plans.{Fits, plan_of}
 use Rattle.book.proofs.book.Book.plan.Goals as goal
 
@@ -10,7 +10,7 @@ returns c =
     let makes = c.in_ok-parts.ensures in
     let same : ◌≡◌ {A = Request} (plan_of c.in_ok-parts.parts rows).request r = λ i. record { key = makes.key i; command = makes.command i } in
     let fits : Fits A (plan_of c.in_ok-parts.parts rows) = record {
-      accepted = subst (IsAccepted A) (sym same) (ap is_some c.in_default.ensures, c.in-Ok.ensures.0);
+      accepted = subst (IsAccepted A) (sym same) (ap is_some c.in_default.ensures, subst (λ (k : Command). FirstFailure (checks A k) None) c.command.ensures.value c.in-Ok.ensures.0);
       place = makes.place;
       clock = makes.clock ∙ ap (λ (k : Command). (next A k).clock) (sym makes.command);
       open_count = makes.open_count ∙ ap (λ (k : Command). open_orders (next A k)) (sym makes.command);

@@ -24,7 +24,7 @@ returns-then-has_key-clause-fault c =
 
 pub returns-clause-good : goal.returns-clause-good
 returns-clause-good c = λ good rows took.
-    took_next c.args.self.now.done.items c.push.new.self.items c.args.self.now.last c.in-Some-take.order c.in_ok-begin-2.field-0 c.into_request.result c.in-Some.row (fields_of c.args.row.now)
+    took_next c.args.self.now.done.items c.push.new.self.items c.args.self.now.last c.in-Some-take.order c.in_ok-begin-2.field-0 c.in_ok-request.request c.in-Some.row (fields_of c.args.row.now)
     (sym c.take.ensures.value ∙ c.in-Some-take.is)
     (λ key. true≢false (sym (c.has_key.ensures.1 (sym key)) ∙ c.if-has_key.false))
-    c.into_request.ensures c.in-Ok.ensures.items c.in_ok-begin-2.ensures c.in-Some.ensures.some rows took
+    c.in_ok-request.ensures c.in-Ok.ensures.items c.in_ok-begin-2.ensures c.in-Some.ensures.some rows took
