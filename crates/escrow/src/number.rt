@@ -40,13 +40,12 @@ impl Level {
     }
 
     /// The level of an amount that is known to be one.
-    pub(crate) fn of(amount: u64) -> Level
+    pub fn of(amount: u64) -> Level
         requires { IsLevel amount }
         ensures { result ≡ amount }
     {
-        Level {
-            amount: amount as u32,
-        }
+        let small = amount as u32;
+        Level { amount: small }
     }
 
     /// The amount, in pieces.

@@ -9,7 +9,6 @@ ghost use Rattle.book.specs.Model.{order_of};
 ghost use Rattle.book.specs.declared.book.made.LineChange.TheVariants as LineChange;
 ghost use Rattle.book.specs.declared.book.made.OrderChange.TheVariants as OrderChange;
 ghost use Rattle.book.specs.declared.order.State.TheVariants.{Aborted};
-ghost use Rattle.escrow.specs.Ranges.{IsLevel};
 ghost use Rattle.words.specs.Kinds.{is_opening};
 ghost use Rattle.words.specs.declared.open_line.OpenLine.{OpenLine};
 ghost use Rattle.std.specs.List.{AllByRecursion as Each, filter};
@@ -60,26 +59,15 @@ pub enum Effect {
     Expires(Moment),
 }
 
-/// A level that is known to be one.
-fn level(number: u64) -> Level
-    requires { IsLevel number }
-    ensures { result ≡ number }
-{
-    match Level::new(number) {
-        Some(level) => level,
-        None => unreachable!(),
-    }
-}
-
 fn change_line(line: &mut Line, change: &LineChange)
     requires { MayChange change.now line.old }
     ensures { line.new ≡ changed_line change.now line.old }
 {
     let (held, used) = (line.held.get(), line.used.get());
     match change {
-        LineChange::Hold(qty) => line.held = level(held + qty.get()),
-        LineChange::Use(qty) => line.used = level(used + qty.get()),
-        LineChange::Release(qty) => line.held = level(held.saturating_sub(qty.get())),
+        LineChange::Hold(qty) => line.held = Level::of(held + qty.get()),
+        LineChange::Use(qty) => line.used = Level::of(used + qty.get()),
+        LineChange::Release(qty) => line.held = Level::of(held.saturating_sub(qty.get())),
     }
 }
 
@@ -126,8 +114,8 @@ pub(super) fn new_line(line: &OpenLine) -> Line
         way: line.way,
         branch: line.branch,
         article: line.article,
-        held: level(line.qty.get()),
-        used: level(0),
+        held: Level::of(line.qty.get()),
+        used: Level::of(0),
     }
 }
 
