@@ -18,15 +18,6 @@ use Rattle.book.proofs.Steps.{IsStepAt, StaysAlike, each-append, none_added, tot
 
 -- ---- what is put in
 
-pub each_put : (P : Name × FieldEntry → Type 0) (C : List (Name × FieldEntry)) (n : Name) (v : FieldEntry) → P (n, v) → Each P C → Each P (insert_entry name_cmp C n v)
-each_put P [] n v p all = (p, tt)
-each_put P (e ∷ C) n v p all = by (name_cmp n e.0) refl (each_put P C n v p all.1)
-  where
-    by : (o : Ordering) → name_cmp n e.0 ≡ o → Each P (insert_entry name_cmp C n v) → Each P (match_ordering o ((n, v) ∷ e ∷ C) ((e.0, v) ∷ C) (e ∷ insert_entry name_cmp C n v))
-    by Less is more = (p, all)
-    by Equal is more = (subst (λ (k : Name). P (k, v)) (equal_field n e.0 is) p, all.1)
-    by Greater is more = (all.0, more)
-
 pub self_eq : (n : Name) → is_eq (name_cmp n n) ≡ true
 self_eq n = ap is_eq (tied_itself name_cmp_total n)
 
@@ -49,10 +40,6 @@ put_has (e ∷ C) n m v = by (name_cmp n e.0) refl (put_has C n m v)
     by Less is more = first (is_eq (name_cmp m n)) (lookup (is_at (name_cmp m)) (e ∷ C))
     by Equal is more = replaced (is_eq (name_cmp m e.0)) (lookup (is_at (name_cmp m)) C) ∙ ap (λ (k : Name). is_some (lookup (is_at (name_cmp m)) (e ∷ C)) || is_eq (name_cmp m k)) (sym (equal_field n e.0 is))
     by Greater is more = later (is_eq (name_cmp m e.0)) (lookup (is_at (name_cmp m)) C) _ (is_eq (name_cmp m n)) more
-
--- what was there is there still, and what is put in is
-pub put_there : (C : List (Name × FieldEntry)) (n m : Name) (v : FieldEntry) → is_some (lookup (is_at (name_cmp m)) C) ≡ true → is_some (lookup (is_at (name_cmp m)) (insert_entry name_cmp C n v)) ≡ true
-put_there C n m v there = put_has C n m v ∙ ap (λ b. b || is_eq (name_cmp m n)) there
 
 pub put_self : (C : List (Name × FieldEntry)) (n : Name) (v : FieldEntry) → is_some (lookup (is_at (name_cmp n)) (insert_entry name_cmp C n v)) ≡ true
 put_self C n v = put_has C n n v ∙ or_right (is_some (lookup (is_at (name_cmp n)) C)) (is_eq (name_cmp n n)) (self_eq n)
@@ -139,10 +126,6 @@ module _ (t : Name → Bool) (row : Field → FieldCells) where
       by false is C rising each all more = more C rising (skipped f fs C is each) all.1
       by true is [] rising each all more = absurd (true≢false (sym (all.0 is)))
       by true is (x ∷ C) rising each all more = first x C is rising each all more (same_name x.0 f.name) refl
-
--- what holds where an error does not come
-pub on_ok : {T E : Type 0} {P Q : Type 0} (r : Result T E) → (P → Q) → OnOk r P → OnOk r Q
-on_ok b f p = grind arith
 
 pub on_ok_both : {T E : Type 0} {P Q R : Type 0} (r : Result T E) → (P → Q → R) → OnOk r P → OnOk r Q → OnOk r R
 on_ok_both b f p q = grind arith

@@ -49,9 +49,6 @@ pub only_found : (A : Ledger) (c : Command) (e : Name × FieldEntry) (made : Res
 only_found A c e (Ok fields) is only = λ key accepts rising. ap (map entry_row) is ∙ only key accepts
 only_found A c e (Err fault) is only = tt
 
-some_there : {X : Type 0} (o : Option X) → (IsNone o → ⊥) → IsSome o
-some_there b h = grind arith
-
 pub or_nothing : (b : Bool) → (b || false) ≡ b
 or_nothing b = grind arith
 

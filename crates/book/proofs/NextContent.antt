@@ -12,11 +12,6 @@ use Rattle.book.proofs.EqualRows.{fields_sorted, firms_sorted, kept_sorted, line
 use Rattle.book.proofs.Lists.{each-unmap, number_is, or_false}
 use Rattle.book.proofs.Steps.{EffectGoes, Goes, Grows, SameNumbers, and_not, effect_goes, not_not, same_numbers, state_same}
 
--- orders of the seven tables
-
-int_same : (z : ℤ) → int_eq z z ≡ true
-int_same z = ap is_eq (tied_itself int_cmp_total z)
-
 field_cmp_total : IsTotalOrder field_cmp
 field_cmp_total = then_total (on_total (λ r. r.branch) nat_list_cmp_total) (on_total (λ r. r.article) nat_list_cmp_total)
 
