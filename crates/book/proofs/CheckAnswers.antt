@@ -4,7 +4,7 @@ use Rattle.words.specs.declared.reply.Refusal.TheVariants.{Full, OtherWay, TooMa
 use Rattle.std.specs.Result.{IsErrAnd}
 use Rattle.book.specs.Next.{moved_at_once}
 use Rattle.book.specs.Answers.{OfLine, OfOrder, bounds_checks, check}
-use Rattle.book.specs.Checking.{bound_checks, hold_checks}
+use Rattle.book.specs.inner.Checking.{bound_checks, hold_checks}
 use Rattle.book.proofs.OutcomeTests.{delivery_test, map-push, none_found, write_off_test}
 use Rattle.book.proofs.Lists.{some_is, take-step}
 use Rattle.book.proofs.Futures.{sounds_from_good}

@@ -3,7 +3,7 @@ use Rattle.book.proofs.Prelude.{[], ◌+ℤ◌, ◌+◌, ◌-◌, ◌<◌, ◌==
 use Rattle.book.proofs.Futures.{at_number}
 use Rattle.book.proofs.Lists.{each-unmap, found_passes, none_after}
 use Rattle.book.proofs.Sums.{each-imp, total-eq, total-map}
-use Rattle.book.specs.InPlace.{MayChange, MayChangeUnder}
+use Rattle.book.specs.inner.InPlace.{MayChange, MayChangeUnder}
 use Rattle.book.specs.declared.book.made.LineChange.{LineChange}
 use Rattle.book.specs.declared.book.made.LineChange.TheVariants.{Hold, Release, Use}
 use Rattle.book.specs.declared.book.made.OrderChange.{OrderChange}

@@ -1,6 +1,6 @@
 -- The rows of a good ledger: one content, in the order of their keys, and equal rows of equal ledgers.
 use Rattle.book.proofs.Prelude.{AllZip, AreOthers, Bool, Content, Each, Field, FieldCells, FirmCells, Good, IsFieldRow, IsGoodKept, IsRowsOf, IsStrictlySortedBy, Kept, Kind, Ledger, Less, Line, LineCells, List, Move, Order, Ordering, State, TellsField, [], ap, arith, desk_row, field_cmp, field_row, firm_cmp, firm_row, firm_rows, flat_map, if◌then◌else◌, int_cmp_total, ints, kept_cmp, kept_row, line_cmp, line_row, lines_from, map, move_cmp, move_row, name_cmp, nat_cmp, order_cmp, order_lines, order_row, pos, refl, slice_cmp, spelling_one, subst, sym, tied_itself, ℕ, ◌++◌, ◌+◌, ◌<◌, ◌∙◌, ◌∷◌, ◌≡◌}
-use Rattle.book.specs.RowEntries.{TellsLedger}
+use Rattle.book.specs.inner.RowEntries.{TellsLedger}
 use Rattle.book.specs.Rows.{IsInKeyOrder, kind_code, state_code}
 use Rattle.book.proofs.Sums.{each-imp, each-map}
 use Rattle.book.proofs.Futures.{less_is, sounds_from_good}

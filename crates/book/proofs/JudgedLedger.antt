@@ -1,7 +1,7 @@
 -- What makes a told ledger good, and that rows tell one good ledger at the most.
 use Rattle.book.proofs.Prelude.{[], ◌+ℤ◌, ◌↔◌, ◌∷◌, ◌≡◌, ◌≤◌, AreMovesOnFields, AreOnFields, AreOrdersOnFields, Each, Field, FieldEntry, Good, HasNumbers, HaveNumbers, IsBounded, IsField, IsGoodLine, IsGoodMove, IsGoodOrder, IsMoveByItself, IsOrderByItself, IsSafe, IsStrictlySortedBy, IsUpToDate, IsWhole, List, MAX_PLACES, Name, Numbers, Order, arith, common_steps, field_of, held_to_add, held_to_take, length, line_name, map, move_of, name_cmp, nat_cmp, numbers_on, order_of, places, pos, settled, slice_cmp, subst, sym, told_ledger}
 use Rattle.book.specs.declared.book.tables.Entries.{Entries}
-use Rattle.book.specs.RowEntries.{AreGood, AreInOrder, IsInForm}
+use Rattle.book.specs.inner.RowEntries.{AreGood, AreInOrder, IsInForm}
 use Rattle.book.proofs.InRow.{told_keys, told_names, told_numbers}
 use Rattle.book.proofs.Bounds.{HasRoom, safe_from_room}
 use Rattle.book.proofs.Lists.{each-two, each-unmap, few_sorted}

@@ -3,7 +3,7 @@ use Rattle.book.proofs.Prelude.{[], ◌++◌, ◌+◌, ◌<◌, ◌∙◌, ◌�
 use Rattle.std.proofs.Math.ListN.{drop_of_length-le}
 use Rattle.std.proofs.Math.Seq.{map-set_same}
 use Rattle.std.proofs.lemmas.List.{take_more_set}
-use Rattle.book.specs.RowEntries.{Marks}
+use Rattle.book.specs.inner.RowEntries.{Marks}
 use Rattle.book.proofs.Futures.{less_is}
 use Rattle.book.proofs.LineGroups.{drop-step}
 use Rattle.book.proofs.Lists.{each-unmap, length-of-map, read-step, get-of-map}

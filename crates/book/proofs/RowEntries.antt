@@ -1,6 +1,6 @@
 -- Rows of a good ledger each tell something in range, and rows that each tell something tell a ledger.
 use Rattle.book.proofs.Prelude.{[], ◌++◌, ◌+ℤ◌, ◌+◌, ◌-ℤ◌, ◌∙◌, ◌∷◌, ◌≡◌, ◌≤ℤ◌, ◌≤◌, AllZip, Bool, Each, Field, FieldEntry, FieldRow, Good, Head, IsArticle, IsBounded, IsBranch, IsFieldRow, IsFieldTold, IsGoodField, IsGoodKept, IsGoodLine, IsGoodMove, IsGoodOrder, IsKeptTold, IsLevel, IsLineTold, IsMoveTold, IsSome, IsStrictlySortedBy, KeptEntry, KeptRow, Ledger, Line, LineCells, LineRow, List, MoveEntry, MoveRow, Name, Order, OrderRow, Some, TellHeads, TellsField, ap, arith, entry_row, false, field_cells, field_of, find, firm_rows, flat_map, head_of, held_to_add, held_to_take, if◌then◌else◌, ints, kept_cells, kept_row, line_cells, line_name, lines_from, map, mark_rows, move_cells, move_row, nat_abs, nat_cmp, order_cells, order_lines, order_row, pos, refl, same_name, settled, subst, sym, true, true≢false, ℕ}
-use Rattle.book.specs.RowEntries.{IsHeadTold, TellsLine, head_row}
+use Rattle.book.specs.inner.RowEntries.{IsHeadTold, TellsLine, head_row}
 use Rattle.book.proofs.Bounds.{inf_is, inf_unique, sup_is, sup_unique}
 use Rattle.book.proofs.Futures.{name_is, sounds_from_good}
 use Rattle.book.proofs.Lists.{each-two, each-unmap}

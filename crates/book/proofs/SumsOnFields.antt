@@ -1,9 +1,9 @@
 -- Sums on each of the fields: where a field stands among those in order, and what an entry more adds.
 use Rattle.book.proofs.Prelude.{[], ◌+◌, ◌<◌, ◌∙◌, ◌∷◌, ◌≡◌, ◌≤◌, Bool, Each, Equal, FieldEntry, IsBinarySearchResult, IsField, IsNonDecreasingBy, IsNone, IsSearchInRange, IsSmall, IsStrictlySortedBy, Less, Line, List, MatchResult, MoveEntry, Name, Numbers, OrderEntry, Ordering, Result, Some, State, added, ap, arith, common_steps, entry_name, false, field_of, get_or, if◌then◌else◌, ints, is_lt, is_some, length, lines_numbers, map, moved_by_move, moved_by_order, name_cmp, nothing, numbers_on, only_on, ordering_index, ordering_reverse, plus, refl, same_name, set, subst, suc, sym, take, tied_itself, true, true≢false, zero, ℕ}
 use Rattle.std.proofs.lemmas.List.Sorted.{searchable_from_sorted}
-use Rattle.book.specs.Walk.{added_by_line, added_by_order, moved_by_line, taken_by_line, taken_by_order}
+use Rattle.book.specs.inner.Walk.{added_by_line, added_by_order, moved_by_line, taken_by_line, taken_by_order}
 use Rattle.std.specs.Prelude.{replicate}
-use Rattle.book.specs.Sums.{field_among, AreFieldsInOrder, AreSums, IsFieldAt}
+use Rattle.book.specs.inner.Sums.{field_among, AreFieldsInOrder, AreSums, IsFieldAt}
 use Rattle.book.proofs.OutcomeTests.{same_self}
 use Rattle.book.proofs.Futures.{name_is}
 use Rattle.book.proofs.GoodParts.{equal_name, name_cmp_total}

@@ -1,13 +1,13 @@
 -- Plans of accepted requests, and what carrying one out needs.
 use Rattle.std.specs.Prelude.{ℕ, ◌+◌, ◌≤◌, ◌≡◌, List, [], ◌∷◌, None, Option, length, map, option_map}
 use Rattle.words.specs.declared.command.Request.{Request}
-use Rattle.book.specs.After.{field_rows}
+use Rattle.book.specs.inner.After.{field_rows}
 use Rattle.book.specs.Answers.{IsAccepted}
 use Rattle.book.specs.Changes.{changed_rows, put_content}
 use Rattle.book.specs.Ledger.{Ledger, Move, Name, Order, open_orders, places}
 use Rattle.book.specs.Next.{accept, move_made, next}
 use Rattle.book.specs.Rows.{Content, IsRowsOf, desk_row}
-use Rattle.book.specs.RunningNumbers.{entry_row}
+use Rattle.book.specs.inner.RunningNumbers.{entry_row}
 use Rattle.book.specs.Steps.{orders_made}
 use Rattle.book.specs.Model.{BookView, move_of, order_of}
 use Rattle.book.specs.declared.book.FieldEntry.{FieldEntry}

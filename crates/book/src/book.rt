@@ -6,9 +6,9 @@ ghost use Rattle.book.specs.Ledger.{name_of, new_ledger, field_named, kept_under
 ghost use Rattle.book.specs.Next.{accept, move_made, next};
 ghost use Rattle.book.specs.Outcomes.{article_total};
 ghost use Rattle.book.specs.Plans.{Fits, HasRoomFor, RoomStays, NoRoomGrows};
-ghost use Rattle.book.specs.StepsSeen.{Leaves, number_cmp};
+ghost use Rattle.book.specs.inner.StepsSeen.{Leaves, number_cmp};
 ghost use Rattle.book.specs.Changes.{put_rows};
-ghost use Rattle.book.specs.RunningNumbers.{IsUpToDate, with_entries};
+ghost use Rattle.book.specs.inner.RunningNumbers.{IsUpToDate, with_entries};
 ghost use Rattle.book.specs.Tables.{rows_among};
 ghost use Rattle.book.specs.Model.{field_of, kept_of, order_of, move_of};
 ghost use Rattle.std.specs.Cmp.Lexicographic.{slice_cmp};
@@ -92,7 +92,7 @@ pub struct Book {
 }
 
 impl Model for Book {
-    ghost use Rattle.book.specs.RunningNumbers.{Stands};
+    ghost use Rattle.book.specs.inner.RunningNumbers.{Stands};
     ghost use Rattle.book.specs.Model.{BookView, view_of};
 
     ghost Value = { BookView };

@@ -1,7 +1,7 @@
 //! The words of a command, as they are kept.
 
 ghost use Rattle.std.specs.Prelude.{◌≡◌, IfErr, IfOk};
-ghost use Rattle.book.specs.KeptWords.{Spelled, Spelled-prop};
+ghost use Rattle.book.specs.inner.KeptWords.{Spelled, Spelled-prop};
 ghost use Rattle.words.specs.Spelling.{IsInRange, Spells, spelling};
 ghost use Rattle.words.specs.declared.command.Command.{Command};
 ghost use Rattle.words.specs.declared.read.WordsFault.TheVariants as WordsFault;

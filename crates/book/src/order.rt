@@ -2,7 +2,7 @@
 
 ghost use Rattle.std.specs.Prelude.{◌≡◌, MatchOption, count_by, find};
 ghost use Rattle.book.specs.Ledger.{line_name, on, open_state};
-ghost use Rattle.book.specs.RunningNumbers.{share_of};
+ghost use Rattle.book.specs.inner.RunningNumbers.{share_of};
 
 use escrow::{Article, Branch, FieldName, Level, Moment, OrderNo, Way};
 

@@ -1,9 +1,9 @@
 //! What a command does to the orders: those that it opens or changes, as they are then.
 
-ghost use Rattle.book.specs.InPlace.{MayChange, MayChangeOrder, changed_line, changed_order, effect_seen, held_lines, made_of, MayChangeUnder};
+ghost use Rattle.book.specs.inner.InPlace.{MayChange, MayChangeOrder, changed_line, changed_order, effect_seen, held_lines, made_of, MayChangeUnder};
 ghost use Rattle.book.specs.Ledger.{line_name, on, order_numbered, open_state};
 ghost use Rattle.book.specs.Next.{Changes, Opens, change_lines, effect, expires, new_line, new_order, numbered};
-ghost use Rattle.book.specs.RunningNumbers.{Accepts};
+ghost use Rattle.book.specs.inner.RunningNumbers.{Accepts};
 ghost use Rattle.book.specs.Steps.{orders_made};
 ghost use Rattle.book.specs.Model.{order_of};
 ghost use Rattle.book.specs.declared.book.made.LineChange.TheVariants as LineChange;

@@ -1,7 +1,7 @@
 //! What differs between an order as it was, if it was there, and as an accepted command leaves it.
 
 ghost use Rattle.book.specs.Steps.{becomes_firm, changes_held, changes_line, changes_state, changes_stock};
-ghost use Rattle.book.specs.StepsSeen.{line_seen, lines_before, step_seen};
+ghost use Rattle.book.specs.inner.StepsSeen.{line_seen, lines_before, step_seen};
 ghost use Rattle.std.specs.Option.{option_copied};
 ghost use Rattle.std.specs.Prelude.{◌≡◌, ℕ, slice_get};
 

@@ -4,7 +4,7 @@ ghost use Rattle.std.specs.Prelude.{◌≡◌, ◌↔◌, ℕ, IfErr, IfOk, IsTr
 ghost use Rattle.std.specs.List.{AllByRecursion as Each, AllZip};
 ghost use Rattle.book.specs.Good.{Good};
 ghost use Rattle.book.specs.Tables.{content_of, desk_cells};
-ghost use Rattle.book.specs.RowEntries.{AreGood, AreInOrder, IsBounded, IsFieldTold, IsInForm, IsWhole, IsWithinLimits, TellsLedger, desk_of, told_ledger};
+ghost use Rattle.book.specs.inner.RowEntries.{AreGood, AreInOrder, IsBounded, IsFieldTold, IsInForm, IsWhole, IsWithinLimits, TellsLedger, desk_of, told_ledger};
 ghost use Rattle.escrow.specs.Ranges.{IsMoment};
 ghost use Rattle.book.specs.Rows.{IsDamaged, IsRowsOf};
 ghost use Rattle.book.specs.declared.book.tables.TablesFault.TheVariants as TablesFault;

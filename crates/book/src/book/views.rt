@@ -4,7 +4,7 @@ ghost use Rattle.std.specs.Prelude.{◌≡◌, length, map, slice_get, IsSomeAnd
 ghost use Rattle.std.specs.List.Sorted.{IsStrictlySortedBy};
 ghost use Rattle.book.specs.Good.{Good};
 ghost use Rattle.book.specs.Ledger.{Ledger, field_named, name_cmp, order_numbered, name_of, shown_state};
-ghost use Rattle.book.specs.RunningNumbers.{IsUpToDate};
+ghost use Rattle.book.specs.inner.RunningNumbers.{IsUpToDate};
 ghost use Rattle.book.specs.Model.{field_of};
 ghost use Rattle.book.specs.Views.{ShowsField, ShowsOrder};
 

@@ -2,7 +2,7 @@
 
 ghost use Rattle.book.specs.Good.{IsTransferPair};
 ghost use Rattle.book.specs.Ledger.{line_name, same_name};
-ghost use Rattle.book.specs.RowEntries.{IsMoveByItself, IsOrderByItself};
+ghost use Rattle.book.specs.inner.RowEntries.{IsMoveByItself, IsOrderByItself};
 ghost use Rattle.book.specs.Model.{kept_of, move_of, order_of};
 ghost use Rattle.escrow.specs.Ranges.{IsLevel};
 ghost use Rattle.std.specs.List.Sorted.{IsStrictlySortedBy};

@@ -7,7 +7,7 @@ ghost use Rattle.std.specs.Ordering.{nat_cmp};
 ghost use Rattle.book.specs.Ledger.{Order};
 ghost use Rattle.book.specs.Rows.{LineCells, lines_from};
 ghost use Rattle.book.specs.Tables.{line_cells};
-ghost use Rattle.book.specs.RowEntries.{AreNumbered, AreOthers, BeginsOther, IsLineTold, TellOrders};
+ghost use Rattle.book.specs.inner.RowEntries.{AreNumbered, AreOthers, BeginsOther, IsLineTold, TellOrders};
 ghost use Rattle.book.specs.Model.{order_of};
 ghost use Rattle.book.specs.declared.book.tables.TablesFault.TheVariants as TablesFault;
 ghost use Rattle.book.specs.declared.order.Line.{Line};

@@ -7,7 +7,7 @@ ghost use Rattle.book.specs.Good.{Good};
 ghost use Rattle.book.specs.Ledger.{Ledger};
 ghost use Rattle.book.specs.Rows.{firm_rows, order_row};
 ghost use Rattle.book.specs.Tables.{firm_cells, order_cells};
-ghost use Rattle.book.specs.RowEntries.{head_row, mark_rows, Marks, TellHeads};
+ghost use Rattle.book.specs.inner.RowEntries.{head_row, mark_rows, Marks, TellHeads};
 ghost use Rattle.book.specs.declared.book.tables.TablesFault.TheVariants as TablesFault;
 ghost use Rattle.book.specs.declared.book.tables.group.Head.{Head};
 

@@ -2,10 +2,10 @@
 //! numbers.
 
 ghost use Rattle.book.specs.Ledger.{line_name, Name};
-ghost use Rattle.book.specs.Sums.{added, entry_name, field_among, lines_numbers, numbers_on, only_on, part_of_line, AreFewMoves, AreFewOrders, AreFieldsInOrder, AreLinesOnFields, AreMovesOnFields, AreOnFields, AreOrdersOnFields, AreSums, IsField, IsFieldAt};
-ghost use Rattle.book.specs.RowEntries.{HasNumbers, HaveNumbers};
+ghost use Rattle.book.specs.inner.Sums.{added, entry_name, field_among, lines_numbers, numbers_on, only_on, part_of_line, AreFewMoves, AreFewOrders, AreFieldsInOrder, AreLinesOnFields, AreMovesOnFields, AreOnFields, AreOrdersOnFields, AreSums, IsField, IsFieldAt};
+ghost use Rattle.book.specs.inner.RowEntries.{HasNumbers, HaveNumbers};
 ghost use Rattle.book.specs.Model.{move_of};
-ghost use Rattle.book.specs.Walk.{most_of_all, plus, IsSmall, most_of_line, most_of_lines, most_of_move, most_of_moves, nothing};
+ghost use Rattle.book.specs.inner.Walk.{most_of_all, plus, IsSmall, most_of_line, most_of_lines, most_of_move, most_of_moves, nothing};
 ghost use Rattle.book.specs.declared.book.tables.sums.Numbers.{Numbers};
 ghost use Rattle.escrow.specs.Ranges.{IsQty};
 ghost use Rattle.std.specs.List.{AllByRecursion as Each};

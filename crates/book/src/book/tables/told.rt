@@ -5,7 +5,7 @@ ghost use Rattle.std.specs.List.{AllByRecursion as Each, AllZip};
 ghost use Rattle.escrow.specs.Ranges.{IsLevel, IsMoment};
 ghost use Rattle.book.specs.Ledger.{Name};
 ghost use Rattle.book.specs.Rows.{kind_code, state_code, way_code};
-ghost use Rattle.book.specs.RowEntries.{IsFieldTold, IsHeadTold, IsKeptTold, IsLineTold, IsMoveTold, IsQuantityTold};
+ghost use Rattle.book.specs.inner.RowEntries.{IsFieldTold, IsHeadTold, IsKeptTold, IsLineTold, IsMoveTold, IsQuantityTold};
 ghost use Rattle.escrow.specs.Stock.{Stock};
 ghost use Rattle.book.specs.declared.book.tables.TablesFault.TheVariants as TablesFault;
 ghost use Rattle.book.specs.declared.book.tables.group.Head.{Head};

@@ -1,6 +1,6 @@
 use Rattle.book.proofs.Prelude.{[], FieldEntry, IfOk, List, ap, common_steps, map, new_share, subst, take_all, ◌+◌, ◌∙◌, ◌∷◌, Name, None, OpenLine, Some, arith, name_of, no_field, refl, sym}
-use Rattle.book.specs.Checking.{bound_checks}
-use Rattle.book.specs.RunningNumbers.{CountsAll}
+use Rattle.book.specs.inner.Checking.{bound_checks}
+use Rattle.book.specs.inner.RunningNumbers.{CountsAll}
 use Rattle.index.specs.InOrder.{Entries}
 use Rattle.book.proofs.ChangedFields.{held_step}
 use Rattle.book.proofs.CheckAnswers.{fails_with, apart-step, cut_short, go_on, line_fails, line_passes, none_apart}

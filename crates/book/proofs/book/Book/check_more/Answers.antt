@@ -1,7 +1,7 @@
 use Rattle.book.proofs.Prelude.{IsFound, More, None, Some, arith, checks, field_of, order_of}
 use Rattle.book.proofs.CheckAnswers.{fails_with, go_on, more_decides, no}
 use Rattle.book.proofs.FieldRows.{more_found, only_found}
-use Rattle.book.specs.Checking.{bound_checks, hold_checks}
+use Rattle.book.specs.inner.Checking.{bound_checks, hold_checks}
 use Rattle.book.proofs.book.Book.check_more.Goals as goal
 
 pub returns-in_err-field-2 : goal.returns-in_err-field-2

@@ -2,7 +2,7 @@ use Rattle.book.proofs.Prelude.{[], ◌∙◌, ◌∷◌, None, Some, Refusal, a
 use Rattle.book.proofs.CheckAnswers.{fails_with, cut_short, full_decides, go_on, moving_decides, no}
 use Rattle.book.proofs.FieldRows.{moved_found, only_found}
 use Rattle.book.proofs.RunningNumbers.{grants, move_granted, refuses}
-use Rattle.book.specs.Checking.{bound_checks}
+use Rattle.book.specs.inner.Checking.{bound_checks}
 use Rattle.book.proofs.book.Book.check_moving.Goals as goal
 
 pub returns-then-is_full : goal.returns-then-is_full

@@ -1,6 +1,6 @@
 use Rattle.book.proofs.Prelude.{Finds, IfOk, IsFound, IsSomeAnd, Ledger, List, OpenLine, Plain, Transfer, checks, map, new_share, subst, transfer_lines}
 use Rattle.words.specs.declared.command.Command.TheVariants as command
-use Rattle.book.specs.RunningNumbers.{CountsAll}
+use Rattle.book.specs.inner.RunningNumbers.{CountsAll}
 use Rattle.book.proofs.CheckAnswers.{finds_too}
 use Rattle.book.proofs.FieldRows.{open_found, transfer_found}
 use Rattle.book.proofs.book.Book.check_opening.Goals as goal

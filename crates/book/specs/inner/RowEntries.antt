@@ -28,7 +28,7 @@ use Rattle.book.specs.declared.rows.OrderRow.{OrderRow}
 use Rattle.book.specs.Good.{Good, IsGoodField, IsGoodKept, IsTransferPair}
 use Rattle.book.specs.Ledger.{Field, Ledger, Move, Name, Order, is_transfer, line_name, name_cmp, open_orders, places, same_name}
 use Rattle.book.specs.Rows.{Content, DeskCells, FieldCells, FirmCells, LineCells, OrderCells, desk_row, firm_row, firm_rows, kind_code, kept_row, move_row, order_lines, order_row, state_code, way_code}
-use Rattle.book.specs.RunningNumbers.{IsUpToDate}
+use Rattle.book.specs.inner.RunningNumbers.{IsUpToDate}
 use Rattle.book.specs.Tables.{kept_cells, line_cells, move_cells, order_cells}
 use Rattle.book.specs.Model.{field_of, kept_of, move_of, order_of}
 

@@ -16,7 +16,7 @@ use Rattle.book.specs.Ledger.{Field, Name, line_name, name_cmp, open_state, same
 use Rattle.book.specs.Outcomes.{signed, total}
 use Rattle.book.specs.Held.{if_add, if_take}
 use Rattle.book.specs.Model.{field_of, move_of}
-use Rattle.book.specs.Walk.{added_by_line, added_by_order, moved_by_line, moved_by_move, moved_by_order, nothing, IsSmall, plus, taken_by_line, taken_by_order}
+use Rattle.book.specs.inner.Walk.{added_by_line, added_by_order, moved_by_line, moved_by_move, moved_by_order, nothing, IsSmall, plus, taken_by_line, taken_by_order}
 
 -- what the moves and the orders add up to on the field
 abbrev pub numbers_on : List MoveEntry → List (ℕ × OrderEntry) → Name → Numbers
