@@ -52,7 +52,7 @@ only_found A c e (Err fault) is only = tt
 some_there : {X : Type 0} (o : Option X) → (IsNone o → ⊥) → IsSome o
 some_there b h = grind arith
 
-or_nothing : (b : Bool) → (b || false) ≡ b
+pub or_nothing : (b : Bool) → (b || false) ≡ b
 or_nothing b = grind arith
 
 -- ---- a delivery or a write-off

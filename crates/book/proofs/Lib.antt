@@ -36,3 +36,4 @@ pub mod RunningNumbers
 pub mod ChangedFields
 pub mod FieldRows
 pub mod ExpiredOrders
+pub mod Table

@@ -97,7 +97,7 @@ line_follows n nr b l way name = follows-one line_cmp (not (b.held == l.held) ||
         let used = number_is b.used l.used (not_not _ both.1) in
         λ i. line_row n nr (record { way = sym way i; branch = (sym name i).branch; article = (sym name i).article; held = held i; used = used i })
 
-new_amounts : (n nr : ℕ) (ls : List Line) → flat_map (amount_row n) (line_steps nr [] ls) ≡ lines_from n nr ls
+pub new_amounts : (n nr : ℕ) (ls : List Line) → flat_map (amount_row n) (line_steps nr [] ls) ≡ lines_from n nr ls
 new_amounts n nr [] = refl
 new_amounts n nr (l ∷ ls) = ap (λ (rows : List LineCells). line_row n nr l ∷ rows) (new_amounts n (nr + 1) ls)
 

@@ -1,5 +1,5 @@
 -- The table of the rows that each command changes. A law says that these are the rows of `changed_rows`.
-use Rattle.std.specs.Prelude.{ℕ, ◌+◌, ◌≡◌, Bool, false, ◌&&◌, ◌||◌, List, [], ◌∷◌, flat_map, map, None}
+use Rattle.std.specs.Prelude.{◌+◌, ◌≡◌, Bool, false, ◌&&◌, ◌||◌, List, [], flat_map, map, None}
 use Rattle.std.specs.List.{filter, list_any}
 use Rattle.words.specs.Spelling.{IsInRange}
 use Rattle.words.specs.declared.command.Command.{Command}

@@ -140,13 +140,13 @@ pub fn each_command_changes_its_rows()
     ensures field { (A : Ledger) (b a : List ℕ) (lo hi start : ℕ) → ChangesRows A (Field b a lo hi start)
         (record no_rows { fields = λ f. same_name f (name_of b a) }) }
     ensures deliver { (A : Ledger) (b a : List ℕ) (q : ℕ) → ChangesRows A (Deliver b a q) (record no_rows {
-          fields = λ f. same_name f (name_of b a);
-          moves = move_row (record { place = places A + 1; field = name_of b a; amount = pos q }) ∷ [];
-        }) }
+      fields = λ f. same_name f (name_of b a);
+      moves = move_row (record { place = places A + 1; field = name_of b a; amount = pos q }) ∷ [];
+    }) }
     ensures writeoff { (A : Ledger) (b a : List ℕ) (q : ℕ) → ChangesRows A (Writeoff b a q) (record no_rows {
-          fields = λ f. same_name f (name_of b a);
-          moves = move_row (record { place = places A + 1; field = name_of b a; amount = neg_ℤ (pos q) }) ∷ [];
-        }) }
+      fields = λ f. same_name f (name_of b a);
+      moves = move_row (record { place = places A + 1; field = name_of b a; amount = neg_ℤ (pos q) }) ∷ [];
+    }) }
     ensures rebound { (A : Ledger) (b a : List ℕ) (lo hi : ℕ) → ChangesRows A (Rebound b a lo hi)
         (record no_rows { fields = λ f. same_name f (name_of b a) }) }
     ensures open { (A : Ledger) (n until : ℕ) (lines : List OpenLine) → let o = new_order n Plain until lines in
@@ -184,9 +184,9 @@ pub fn each_command_changes_its_rows()
     ensures firm { (A : Ledger) (n : ℕ) (o : Order) → order_numbered A n ≡ Some o → ChangesRows A (Firm n)
         (record no_rows { fields = λ f. has_line_on f o; firms = firm_row n ∷ [] }) }
     ensures expire { (A : Ledger) (now : ℕ) → ChangesRows A (Expire now) (record no_rows {
-          fields = λ f. list_any (has_line_on f) (filter (expires now) A.orders);
-          orders = map (λ o. order_row (set_state Aborted o)) (filter (expires now) A.orders);
-        }) }
+      fields = λ f. list_any (has_line_on f) (filter (expires now) A.orders);
+      orders = map (λ o. order_row (set_state Aborted o)) (filter (expires now) A.orders);
+    }) }
 {}
 
 /// The rows of two lists of changes, put in together, are those of the first put in, and then those of the second.
