@@ -1,7 +1,8 @@
 -- The rows that each command changes, told from the steps that it makes.
-use Rattle.book.proofs.Prelude.{[], ◌&&◌, ◌++◌, ◌+◌, ◌-◌, ◌==◌, ◌||◌, ◌∙◌, ◌∷◌, ◌≡◌, ◌≤◌, ◌<◌, Aborted, Bool, Changes, Command, Each, FirstFailure, Good, IsFalse, IsNone, IsSomeAnd, IsTrue, Ledger, Line, LineCells, List, Move, Name, None, OpenLine, Opens, Option, Order, Some, State, Step, add_hold, amount_row, amount_rows, ap, append-nil, arith, becomes_firm, change_lines, changes_held, changes_line, changes_state, changes_stock, checks, effect, expires, false, filter, firm_row, flat_map, hold_more, if◌then◌else◌, is_open, is_some, is_transfer, line_name, line_on, line_row, line_steps, lines_from, lines_of, list_any, lower_held, map, mark_row, move_made, move_row, moves_after, name_of, new_line, not, numbered, on, open_state, option_map_or, order_lines, order_numbered, order_row, own_field, places, raise_held, raise_used, refl, same_name, set_firm, set_state, state_row, steps, steps_of, subst, sym, true, ℕ}
+use Rattle.book.proofs.Prelude.{[], ◌&&◌, ◌++◌, ◌+◌, ◌-◌, ◌==◌, ◌||◌, ◌∙◌, ◌∷◌, ◌≡◌, ◌≤◌, ◌<◌, Aborted, Bool, Changes, Command, Content, Each, FirstFailure, Good, IsFalse, IsNone, IsSomeAnd, IsTrue, Ledger, Line, LineCells, List, Move, Name, None, Nothing, OpenLine, Opens, Option, Order, Some, State, Step, add_hold, amount_row, amount_rows, ap, append-nil, arith, becomes_firm, change_lines, changed_rows, changes_field, changes_held, changes_line, changes_state, changes_stock, checks, effect, expires, false, filter, firm_row, flat_map, hold_more, if◌then◌else◌, is_open, is_some, is_transfer, kept_row, line_name, line_on, line_row, line_steps, lines_from, lines_of, list_any, lower_held, map, mark_row, move_made, move_row, moves_after, name_of, new_key, new_line, not, numbered, on, open_state, option_map_or, order_lines, order_numbered, order_row, own_field, places, raise_held, raise_used, refl, same_name, set_firm, set_state, state_row, steps, steps_of, subst, sym, true, ℕ}
 use Rattle.words.specs.declared.command.Command.TheVariants as command
-use Rattle.book.specs.Table.{HasRows, TableRows, has_line_on, has_part_on, no_rows, part_rows}
+use Rattle.book.specs.Rows.{MoveCells}
+use Rattle.book.specs.Table.{TableRows, has_line_on, has_part_on, no_rows, part_rows, rows_told}
 use Rattle.book.proofs.CommandOrder.{each-found}
 use Rattle.book.proofs.FieldRows.{held_fields, one_step, or_nothing, step_more}
 use Rattle.book.proofs.Futures.{Usable, all_pass, fit_from_good, left_on, loose_there, open_there, usable_there}
@@ -9,6 +10,36 @@ use Rattle.book.proofs.Lists.{found_passes, number_is, same_number}
 use Rattle.book.proofs.NextContent.{flat-one, new_amounts}
 use Rattle.book.proofs.OutcomeTests.{none_found, same_self}
 use Rattle.book.proofs.Sums.{each, each-imp}
+
+-- ---- the changed rows, table by table
+
+pub record HasRows (A : Ledger) (c : Command) (t : TableRows) : Type 0 where
+  pub fields : (f : Name) → changes_field A c f ≡ t.fields f
+  pub moves : map move_row (moves_after (move_made (places A + 1) c) []) ≡ t.moves
+  pub orders : flat_map state_row (steps_of A c) ≡ t.orders
+  pub lines : flat_map amount_rows (steps_of A c) ≡ t.lines
+  pub firms : flat_map mark_row (steps_of A c) ≡ t.firms
+
+pub all_told : (A : Ledger) (c : Command) (t : TableRows) → HasRows A c t → (key : List ℕ) (next : Content) → changed_rows A (record { key = key; command = c }) next ≡ rows_told t A (record { key = key; command = c }) next
+all_told A c t has key next = λ i. record {
+  desk = next.desk;
+  fields = filter (λ row. has.fields (name_of row.branch row.article) i) next.fields;
+  moves = has.moves i;
+  orders = has.orders i;
+  lines = has.lines i;
+  kept = kept_row (new_key A (record { key = key; command = c })) ∷ [];
+  firms = has.firms i;
+}
+
+-- a command that changes no order
+pub own_rows : (A : Ledger) (c : Command) (n : Name) (moves : List MoveCells) → own_field c ≡ Some n → effect c ≡ Nothing → map move_row (moves_after (move_made (places A + 1) c) []) ≡ moves → HasRows A c (record no_rows { fields = λ f. same_name f n; moves = moves })
+own_rows A c n moves own unordered moved = record {
+  fields = λ f. (λ i. option_map_or (same_name f) (own i) false || list_any (λ s. list_any (λ l. on f l.after && changes_stock s l) (lines_of s)) (steps (unordered i) A.orders)) ∙ or_nothing (same_name f n);
+  moves = moved;
+  orders = ap (λ e. flat_map state_row (steps e A.orders)) unordered;
+  lines = ap (λ e. flat_map amount_rows (steps e A.orders)) unordered;
+  firms = ap (λ e. flat_map mark_row (steps e A.orders)) unordered;
+}
 
 -- ---- commands of one step
 
