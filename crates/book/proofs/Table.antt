@@ -1,7 +1,8 @@
 -- The rows that each command changes, told from the steps that it makes.
-use Rattle.book.proofs.Prelude.{[], ◌&&◌, ◌++◌, ◌+◌, ◌-◌, ◌==◌, ◌||◌, ◌∙◌, ◌∷◌, ◌≡◌, ◌≤◌, ◌<◌, Aborted, Bool, Changes, Command, Each, FirstFailure, Good, IsFalse, IsNone, IsSomeAnd, IsTrue, Ledger, Line, LineCells, List, Move, Name, None, OpenLine, Opens, Option, Order, Some, State, Step, add_hold, amount_row, amount_rows, ap, append-nil, arith, becomes_firm, change_lines, changes_held, changes_line, changes_state, changes_stock, checks, effect, expires, false, filter, firm_row, flat_map, hold_more, if◌then◌else◌, is_open, is_some, is_transfer, line_name, line_on, line_row, line_steps, lines_from, lines_of, list_any, lower_held, map, mark_row, move_made, move_row, moves_after, name_of, new_line, not, numbered, on, open_state, option_map_or, order_lines, order_numbered, order_row, own_field, places, raise_held, raise_used, refl, same_name, set_firm, set_state, state_row, steps, steps_of, subst, sym, true, ℕ}
+use Rattle.book.proofs.Prelude.{[], ◌&&◌, ◌++◌, ◌+◌, ◌-◌, ◌==◌, ◌||◌, ◌∙◌, ◌∷◌, ◌≡◌, ◌≤◌, ◌<◌, Aborted, Bool, Changes, Command, Content, Each, FirstFailure, Good, IsFalse, IsNone, IsSomeAnd, IsTrue, Ledger, Line, LineCells, List, Move, Name, None, Nothing, OpenLine, Opens, Option, Order, Some, State, Step, add_hold, amount_row, amount_rows, ap, append-nil, arith, becomes_firm, change_lines, changed_rows, changes_field, changes_held, changes_line, changes_state, changes_stock, checks, effect, expires, false, filter, firm_row, flat_map, hold_more, if◌then◌else◌, is_open, is_some, is_transfer, kept_row, line_name, line_on, line_row, line_steps, lines_from, lines_of, list_any, lower_held, map, mark_row, move_made, move_row, moves_after, name_of, new_key, new_line, not, numbered, on, open_state, option_map_or, order_lines, order_numbered, order_row, own_field, places, raise_held, raise_used, refl, same_name, set_firm, set_state, state_row, steps, steps_of, subst, sym, true, ℕ}
 use Rattle.words.specs.declared.command.Command.TheVariants as command
-use Rattle.book.specs.Table.{HasRows, TableRows, has_line_on, has_part_on, no_rows, part_rows}
+use Rattle.book.specs.Rows.{MoveCells}
+use Rattle.book.specs.Table.{TableRows, has_line_on, has_part_on, no_rows, part_rows, rows_told}
 use Rattle.book.proofs.CommandOrder.{each-found}
 use Rattle.book.proofs.FieldRows.{held_fields, one_step, or_nothing, step_more}
 use Rattle.book.proofs.Futures.{Usable, all_pass, fit_from_good, left_on, loose_there, open_there, usable_there}
@@ -9,6 +10,36 @@ use Rattle.book.proofs.Lists.{found_passes, number_is, same_number}
 use Rattle.book.proofs.NextContent.{flat-one, new_amounts}
 use Rattle.book.proofs.OutcomeTests.{none_found, same_self}
 use Rattle.book.proofs.Sums.{each, each-imp}
+
+-- ---- the changed rows, table by table
+
+pub record HasRows (A : Ledger) (c : Command) (t : TableRows) : Type 0 where
+  pub fields : (f : Name) → changes_field A c f ≡ t.fields f
+  pub moves : map move_row (moves_after (move_made (places A + 1) c) []) ≡ t.moves
+  pub orders : flat_map state_row (steps_of A c) ≡ t.orders
+  pub lines : flat_map amount_rows (steps_of A c) ≡ t.lines
+  pub firms : flat_map mark_row (steps_of A c) ≡ t.firms
+
+pub all_told : (A : Ledger) (c : Command) (t : TableRows) → HasRows A c t → (key : List ℕ) (next : Content) → changed_rows A (record { key = key; command = c }) next ≡ rows_told t A (record { key = key; command = c }) next
+all_told A c t has key next = λ i. record {
+  desk = next.desk;
+  fields = filter (λ row. has.fields (name_of row.branch row.article) i) next.fields;
+  moves = has.moves i;
+  orders = has.orders i;
+  lines = has.lines i;
+  kept = kept_row (new_key A (record { key = key; command = c })) ∷ [];
+  firms = has.firms i;
+}
+
+-- a command that changes no order
+pub own_rows : (A : Ledger) (c : Command) (n : Name) (moves : List MoveCells) → own_field c ≡ Some n → effect c ≡ Nothing → map move_row (moves_after (move_made (places A + 1) c) []) ≡ moves → HasRows A c (record no_rows { fields = λ f. same_name f n; moves = moves })
+own_rows A c n moves own unordered moved = record {
+  fields = λ f. (λ i. option_map_or (same_name f) (own i) false || list_any (λ s. list_any (λ l. on f l.after && changes_stock s l) (lines_of s)) (steps (unordered i) A.orders)) ∙ or_nothing (same_name f n);
+  moves = moved;
+  orders = ap (λ e. flat_map state_row (steps e A.orders)) unordered;
+  lines = ap (λ e. flat_map amount_rows (steps e A.orders)) unordered;
+  firms = ap (λ e. flat_map mark_row (steps e A.orders)) unordered;
+}
 
 -- ---- commands of one step
 
@@ -175,11 +206,11 @@ lines_rows n new chosen nr (l ∷ ls) h = (λ i. (if h.0 i then line_row n nr (n
     by true rows = refl
     by false rows = refl
 
--- what a use and a release do to the amounts of a line
-record IsPartly (change : Line → Line) (q : ℕ) (told : Bool) : Type 0 where
+-- what a use and a release do to the amounts of a line of which so much is left: a release changes what it holds
+record IsPartly (change : Line → Line) (q : ℕ) (releases : Bool) : Type 0 where
   name : (l : Line) → line_name (change l) ≡ line_name l
-  line : (nr : ℕ) (l : Line) → l.used + q ≤ l.held → changes_line (record { nr = nr; before = Some l; after = change l }) ≡ true
-  held : (nr : ℕ) (l : Line) → l.used + q ≤ l.held → changes_held (record { nr = nr; before = Some l; after = change l }) ≡ told
+  line : (l : Line) → l.used + q ≤ l.held → changes_line (record { nr = 0; before = Some l; after = change l }) ≡ true
+  held : (l : Line) → l.used + q ≤ l.held → changes_held (record { nr = 0; before = Some l; after = change l }) ≡ releases
 
 other_below : (q u h : ℕ) → 1 ≤ q → u + q ≤ h → (h == h - q) ≡ false
 other_below q u h some left = grind arith
@@ -188,12 +219,12 @@ other_above : (q u : ℕ) → 1 ≤ q → (u == u + q) ≡ false
 other_above q u some = grind arith
 
 used_partly : (q : ℕ) → 1 ≤ q → IsPartly (raise_used q) q false
-used_partly q some = record { name = λ l. refl; line = λ nr l left. grind (arith, other_above); held = λ nr l left. grind (arith, same_number) }
+used_partly q some = record { name = λ l. refl; line = λ l left. grind (arith, other_above); held = λ l left. grind (arith, same_number) }
 
 released_partly : (q : ℕ) → 1 ≤ q → IsPartly (lower_held q) q true
-released_partly q some = record { name = λ l. refl; line = λ nr l left. grind (arith, other_below); held = λ nr l left. grind (arith, other_below) }
+released_partly q some = record { name = λ l. refl; line = λ l left. grind (arith, other_below); held = λ l left. grind (arith, other_below) }
 
-module _ (change : Line → Line) (q : ℕ) (told : Bool) (is : IsPartly change q told) (part : Name) (o : Order) where
+module _ (change : Line → Line) (q : ℕ) (releases : Bool) (is : IsPartly change q releases) (part : Name) (o : Order) where
   abbrev new : Line → Line
   new l = if is_transfer o || on part l then change l else l
 
@@ -211,23 +242,23 @@ module _ (change : Line → Line) (q : ℕ) (told : Bool) (is : IsPartly change 
   new_amount l left = by (is_transfer o || on part l) left
     where
       by : (b : Bool) → (b ≡ true → l.used + q ≤ l.held) → changes_line (record { nr = 0; before = Some l; after = if b then change l else l }) ≡ b
-      by true left = is.line 0 l (left refl)
+      by true left = is.line l (left refl)
       by false left = grind (arith, same_number)
 
-  new_stock : (l : Line) → ((is_transfer o || on part l) ≡ true → l.used + q ≤ l.held) → changes_stock step (record { nr = 0; before = Some l; after = new l }) ≡ ((told || o.firm) && (is_transfer o || on part l))
+  new_stock : (l : Line) → ((is_transfer o || on part l) ≡ true → l.used + q ≤ l.held) → changes_stock step (record { nr = 0; before = Some l; after = new l }) ≡ ((releases || o.firm) && (is_transfer o || on part l))
   new_stock l left = by (is_transfer o || on part l) left
     where
       sides : (a m h c t b : Bool) → h ≡ (t && b) → c ≡ b → (((a && not a) || (m && not m)) || h || (m && c)) ≡ ((t || m) && b)
       sides a m h c t b e d = grind arith
 
-      by : (b : Bool) → (b ≡ true → l.used + q ≤ l.held) → changes_stock step (record { nr = 0; before = Some l; after = if b then change l else l }) ≡ ((told || o.firm) && b)
-      by true left = sides (is_open o) o.firm _ _ told true (is.held 0 l (left refl) ∙ sym (and_true told)) (is.line 0 l (left refl))
-      by false left = sides (is_open o) o.firm _ _ told false (grind (arith, same_number)) (grind (arith, same_number))
+      by : (b : Bool) → (b ≡ true → l.used + q ≤ l.held) → changes_stock step (record { nr = 0; before = Some l; after = if b then change l else l }) ≡ ((releases || o.firm) && b)
+      by true left = sides (is_open o) o.firm _ _ releases true (is.held l (left refl) ∙ sym (and_true releases)) (is.line l (left refl))
+      by false left = sides (is_open o) o.firm _ _ releases false (grind (arith, same_number)) (grind (arith, same_number))
 
   part_step : (left : Each (λ l. (is_transfer o || on part l) ≡ true → l.used + q ≤ l.held) o.lines)
-      → StepRows step (record no_rows { fields = λ f. (told || o.firm) && has_part_on part f o; lines = part_rows part (change_lines part change o) })
+      → StepRows step (record no_rows { fields = λ f. (releases || o.firm) && has_part_on part f o; lines = part_rows part (change_lines part change o) })
   part_step left = record {
-    fields = λ f. lines_fields step f new (λ l. (told || o.firm) && (is_transfer o || on part l)) 1 o.lines (λ l. ap (same_name f) (new_name l)) (each-imp (λ l left. new_stock l left) o.lines left) ∙ apart f (told || o.firm) o.lines;
+    fields = λ f. lines_fields step f new (λ l. (releases || o.firm) && (is_transfer o || on part l)) 1 o.lines (λ l. ap (same_name f) (new_name l)) (each-imp (λ l left. new_stock l left) o.lines left) ∙ apart f (releases || o.firm) o.lines;
     orders = ap (λ b. if b then order_row (change_lines part change o) ∷ [] else []) (not_both (is_open o));
     lines = lines_rows o.number new (λ g. is_transfer o || same_name part g) 1 o.lines (each-imp (λ l left. new_amount l left ∙ ap (λ g. is_transfer o || same_name part g) (sym (new_name l))) o.lines left);
     firms = ap (λ b. if b then firm_row o.number ∷ [] else []) (not_both o.firm);

@@ -1,15 +1,15 @@
 -- The table of the rows that each command changes. A law says that these are the rows of `changed_rows`.
-use Rattle.std.specs.Prelude.{◌+◌, ◌≡◌, Bool, false, ◌&&◌, ◌||◌, List, [], flat_map, map, None}
+use Rattle.std.specs.Prelude.{ℕ, ◌≡◌, Bool, false, ◌&&◌, ◌||◌, List, [], ◌∷◌, None}
 use Rattle.std.specs.List.{filter, list_any}
 use Rattle.words.specs.Spelling.{IsInRange}
 use Rattle.words.specs.declared.command.Command.{Command}
+use Rattle.words.specs.declared.command.Request.{Request}
 use Rattle.book.specs.Answers.{FirstFailure, checks}
-use Rattle.book.specs.Changes.{amount_rows, changes_field, mark_row, state_row}
+use Rattle.book.specs.Changes.{changed_rows}
 use Rattle.book.specs.Good.{Good}
-use Rattle.book.specs.Ledger.{Ledger, Name, Order, is_transfer, name_of, on, places, same_name}
-use Rattle.book.specs.Next.{move_made, moves_after}
-use Rattle.book.specs.Rows.{FirmCells, LineCells, MoveCells, OrderCells, move_row, order_lines}
-use Rattle.book.specs.Steps.{steps_of}
+use Rattle.book.specs.Ledger.{Ledger, Name, Order, is_transfer, name_of, on, same_name}
+use Rattle.book.specs.Next.{new_key}
+use Rattle.book.specs.Rows.{Content, FirmCells, LineCells, MoveCells, OrderCells, kept_row, order_lines}
 
 -- the fields whose rows change, and the rows that change of the other tables; besides these the row of the desk and the
 -- new row of the key
@@ -23,17 +23,22 @@ pub record TableRows : Type 0 where
 abbrev pub no_rows : TableRows
 no_rows = record { fields = λ f. false; moves = []; orders = []; lines = []; firms = [] }
 
--- the rows that the command changes are these
-pub record HasRows (A : Ledger) (c : Command) (t : TableRows) : Type 0 where
-  pub fields : (f : Name) → changes_field A c f ≡ t.fields f
-  pub moves : map move_row (moves_after (move_made (places A + 1) c) []) ≡ t.moves
-  pub orders : flat_map state_row (steps_of A c) ≡ t.orders
-  pub lines : flat_map amount_rows (steps_of A c) ≡ t.lines
-  pub firms : flat_map mark_row (steps_of A c) ≡ t.firms
+-- the rows that the request changes, told so, where these are the next ledger's
+abbrev pub rows_told : TableRows → Ledger → Request → Content → Content
+rows_told t A r next = record {
+  desk = next.desk;
+  fields = filter (λ row. t.fields (name_of row.branch row.article)) next.fields;
+  moves = t.moves;
+  orders = t.orders;
+  lines = t.lines;
+  kept = kept_row (new_key A r) ∷ [];
+  firms = t.firms;
+}
 
--- so it is of an accepted command in range, at a good ledger
+-- of an accepted request in range, at a good ledger, these are the changed rows
 abbrev pub ChangesRows : Ledger → Command → TableRows → Type 0
-ChangesRows A c t = Good A → IsInRange c → FirstFailure (checks A c) None → HasRows A c t
+ChangesRows A c t = Good A → IsInRange c → FirstFailure (checks A c) None → (key : List ℕ) (next : Content)
+    → changed_rows A (record { key = key; command = c }) next ≡ rows_told t A (record { key = key; command = c }) next
 
 -- some line of the order is on the field
 abbrev pub has_line_on : Name → Order → Bool
