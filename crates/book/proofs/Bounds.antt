@@ -2,6 +2,7 @@
 use Rattle.book.proofs.Prelude.{[], ◌&&◌, ◌+ℤ◌, ◌-ℤ◌, ◌-◌, ◌<ℤ◌, ◌||◌, ◌↔◌, ◌∙◌, ◌∷◌, ◌≡◌, ◌≤ℤ◌, ◌≤◌, Add, Bool, Each, FallsBelow, Field, IsInfimum, IsSafe, IsSomeAnd, IsSupremum, IsTrue, IsWithin, Ledger, Line, List, Name, None, Option, Order, RisesAbove, Some, Take, Way, ap, arith, false, field_named, held_to_add, held_to_take, if_add, if_take, if◌then◌else◌, ints, is_open, list_any, moved_by, neg_ℤ, on, pos, refl, settled, signed, subst, sym, total, true, true≢false, unsettled, ℕ, ℤ}
 use Rattle.book.specs.Outcomes.{Outcome, IsOutcome, commits_in, outcome_result}
 use Rattle.book.proofs.Sums.{each-imp}
+pub use Rattle.book.specs.Held.{added_by_line as adds, taken_by_line as takes}
 
 -- at most one line is on the field
 abbrev pub OneOn : Name → List Line → Type 0
@@ -32,13 +33,6 @@ if_way Add = if_add
 abbrev toward : Way → ℤ → ℤ
 toward Take z = neg_ℤ z
 toward Add z = z
-
--- what a line holds beyond what is settled, in an order that is firm or not
-abbrev pub takes : Bool → Name → Line → ℤ
-takes m f l = if on f l then pos (if_take l.way (unsettled m l l.held)) else pos 0
-
-abbrev pub adds : Bool → Name → Line → ℤ
-adds m f l = if on f l then pos (if_add l.way (unsettled m l l.held)) else pos 0
 
 has : (Way → Bool) → Name → List Line → Bool
 has w f ls = list_any (λ l. on f l && w l.way) ls

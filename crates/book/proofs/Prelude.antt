@@ -1,16 +1,16 @@
 -- The words that lemmas and answers speak in: definitions and lemmas from elsewhere that several files name.
-pub use Rattle.book.specs.inner.After.{added_part, field_row, field_rows, moved_by_command, moved_part, taken_part}
+pub use Rattle.book.specs.inner.After.{field_row, field_rows, moved_by_command}
 pub use Rattle.book.specs.Answers.{Answers, AnswersNew, Check, FirstFailure, IsAccepted, Runs, bound, checks, full, line_checks, loose_checks, no_field, order_checks, same_command}
 pub use Rattle.book.specs.Changes.{amount_row, amount_rows, changed_rows, changes_field, mark_row, own_field, put_content, put_row, put_rows, state_row}
 pub use Rattle.book.specs.inner.Checking.{Finds, IsFound}
 pub use Rattle.book.specs.Future.{AsksNoStock, IsFuture, IsHonoured}
 pub use Rattle.book.specs.Good.{Good, IsGoodField, IsGoodKept, IsGoodLine, IsGoodMove, IsGoodOrder, IsTransferPair}
-pub use Rattle.book.specs.Held.{BreaksBound, MayHoldMore, held_to_add, held_to_take, if_add, if_take}
+pub use Rattle.book.specs.Held.{BreaksBound, MayHoldMore, added_by_order, taken_by_order, held_to_add, held_to_take, if_add, if_take}
 pub use Rattle.book.specs.inner.InPlace.{MayChangeOrder, changed_line, changed_order, effect_seen, made_of}
 pub use Rattle.book.specs.Ledger.{Field, Kept, Ledger, Move, Name, Order, field_named, insert_in_order, is_open, is_settled, is_transfer, kept_under, line_name, line_on, name_cmp, name_of, new_ledger, on, open_orders, open_state, order_numbered, places, same_name, settled_state, shown_state, transfer_kind, unsettled}
 pub use Rattle.book.specs.Next.{Changes, Effect, Nothing, Opens, accept, add_hold, change_lines, effect, expires, hold_more, lower_held, move_made, moved_at_once, moves_after, new_key, new_line, new_order, next, numbered, orders_after, raise_held, raise_used, set_firm, set_state, transfer_lines, with_order}
 pub use Rattle.escrow.specs.Choices.{IsWithin}
-pub use Rattle.book.specs.Outcomes.{FallsBelow, IsInfimum, IsSafe, IsSupremum, RisesAbove, article_total, moved_by, settled, signed, total}
+pub use Rattle.book.specs.Outcomes.{FallsBelow, IsInfimum, IsSafe, IsSupremum, RisesAbove, article_total, moved_by, moved_by_order, settled, signed, total}
 pub use Rattle.book.specs.Plans.{ChangesTo}
 pub use Rattle.book.specs.Rows.{Content, DeskCells, FieldCells, FirmCells, IsFieldRow, IsRowsOf, KeptCells, LineCells, OrderCells, desk_row, field_cmp, firm_cmp, firm_row, firm_rows, kept_cmp, kept_row, line_cmp, line_row, lines_from, move_cmp, move_row, order_cmp, order_lines, order_row}
 pub use Rattle.book.specs.inner.RunningNumbers.{Accepts, AreHeld, Becomes, Counts, CountsAll, CountsMore, Falls, HasEntry, IsChangedField, IsUpToDate, MayBecome, MayCount, ShareStep, add_part, added_on, before_on, entry_row, new_share, no_share, settled_part, share_before, share_numbers, share_of, share_step, share_steps, shares_of_step, take_part, with_entries}
@@ -20,7 +20,7 @@ pub use Rattle.book.specs.inner.Sums.{AreLinesOnFields, AreMovesOnFields, AreOnF
 pub use Rattle.book.specs.Tables.{field_cells, firm_cells, kept_cells, line_cells, move_cells, order_cells, rows_among}
 pub use Rattle.book.specs.inner.RowEntries.{AreNumbered, AreOthers, BeginsOther, HasNumbers, HaveNumbers, IsBounded, IsFieldTold, IsKeptTold, IsLineTold, IsMoveByItself, IsMoveTold, IsOrderByItself, IsWhole, TellHeads, TellOrders, TellsField, head_of, head_row, mark_rows, told_ledger}
 pub use Rattle.book.specs.Model.{BookView, field_of, kept_of, ledger_of, move_of, order_of, view_of}
-pub use Rattle.book.specs.inner.Walk.{IsSmall, most_of_all, most_of_line, most_of_lines, most_of_move, most_of_moves, moved_by_move, moved_by_order, nothing, plus}
+pub use Rattle.book.specs.inner.Walk.{IsSmall, most_of_all, most_of_line, most_of_lines, most_of_move, most_of_moves, moved_by_move, moved_by_entry, nothing, plus}
 pub use Rattle.book.specs.declared.book.Book.TheInside.{Inside}
 pub use Rattle.book.specs.declared.book.tables.sums.Numbers.{Numbers}
 pub use Rattle.book.specs.declared.book.tables.group.Head.{Head}

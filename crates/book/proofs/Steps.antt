@@ -1,5 +1,5 @@
 -- The steps of an accepted command: what stays of an order, and what the lines add up to.
-use Rattle.book.proofs.Prelude.{[], ◌&&◌, ◌++◌, ◌+ℤ◌, ◌+◌, ◌-ℤ◌, ◌-◌, ◌<◌, ◌==◌, ◌||◌, ◌∙◌, ◌∷◌, ◌≡◌, Aborted, Add, Bool, Changes, Command, Committed, Each, Effect, Field, FirstFailure, Good, IsFalse, IsNone, IsSomeAnd, IsStrictlySortedBy, Ledger, Line, LineStep, List, Name, None, Nothing, Open, OpenLine, Opens, Option, Order, Share, ShareStep, Some, State, Step, Take, Way, add_hold, add_part, added_on, added_part, ap, arith, becomes_firm, change_lines, changes_field, changes_held, changes_line, changes_state, changes_stock, checks, common_steps, effect, expires, false, find, flat_map, hold_more, if_add, if_take, if◌then◌else◌, insert_in_order, ints, is_open, is_settled, is_some, line_name, line_on, line_steps, lines_of, list_any, list_any-append, option_map, move_made, moves_after, places, Move, lower_held, map, map-map, moved_at_once, moved_by, moved_by_command, moved_part, name_of, nat_cmp, nat_lt, get_or, length, slice_get, suc, take, zero, new_line, new_order, next, no_share, not, on, open_state, option_map_or, order_numbered, orders_after, orders_made, own_field, Plain, pos, raise_held, raise_used, refl, same_name, set_firm, set_state, settled, settled_part, settled_state, share_before, share_of, share_step, share_steps, shares_of_step, signed, step_to, steps, steps_of, subst, sym, take_part, taken_part, total, Transfer, transfer_lines, true, true≢false, unsettled, ℕ, ℤ}
+use Rattle.book.proofs.Prelude.{[], ◌&&◌, ◌++◌, ◌+ℤ◌, ◌+◌, ◌-ℤ◌, ◌-◌, ◌<◌, ◌==◌, ◌||◌, ◌∙◌, ◌∷◌, ◌≡◌, Aborted, Add, Bool, Changes, Command, Committed, Each, Effect, Field, FirstFailure, Good, IsFalse, IsNone, IsSomeAnd, IsStrictlySortedBy, Ledger, Line, LineStep, List, Name, None, Nothing, Open, OpenLine, Opens, Option, Order, Share, ShareStep, Some, State, Step, Take, Way, add_hold, add_part, added_on, added_by_order, ap, arith, becomes_firm, change_lines, changes_field, changes_held, changes_line, changes_state, changes_stock, checks, common_steps, effect, expires, false, find, flat_map, hold_more, if_add, if_take, if◌then◌else◌, insert_in_order, ints, is_open, is_settled, is_some, line_name, line_on, line_steps, lines_of, list_any, list_any-append, option_map, move_made, moves_after, places, Move, lower_held, map, map-map, moved_at_once, moved_by, moved_by_command, moved_by_order, name_of, nat_cmp, nat_lt, get_or, length, slice_get, suc, take, zero, new_line, new_order, next, no_share, not, on, open_state, option_map_or, order_numbered, orders_after, orders_made, own_field, Plain, pos, raise_held, raise_used, refl, same_name, set_firm, set_state, settled, settled_part, settled_state, share_before, share_of, share_step, share_steps, shares_of_step, signed, step_to, steps, steps_of, subst, sym, take_part, taken_by_order, total, Transfer, transfer_lines, true, true≢false, unsettled, ℕ, ℤ}
 use Rattle.words.specs.declared.command.Command.TheVariants as command
 use Rattle.book.specs.Held.{held_to_add, held_to_take}
 use Rattle.book.proofs.Futures.{all_pass, at_number, find_self}
@@ -141,21 +141,21 @@ no_add : (w : Way) → pos (if_add w 0) ≡ pos 0
 no_add Take = refl
 no_add Add = refl
 
-pub moved_is : (f : Name) (o : Order) → moved_part f o ≡ part_of settled_part f o
+pub moved_is : (f : Name) (o : Order) → moved_by_order f o ≡ part_of settled_part f o
 moved_is f o = by (is_settled o)
   where
     by : (b : Bool) → (if b then moved_by f (λ l. l.used) o else pos 0) ≡ total (λ l. if on f l then signed l.way (if b then l.used else 0) else pos 0) o.lines
     by true = refl
     by false = sym (total-zero _ o.lines (each (λ l. if_zero (on f l) _ (no_settled l.way)) o.lines))
 
-pub taken_is : (f : Name) (o : Order) → taken_part f o ≡ part_of take_part f o
+pub taken_is : (f : Name) (o : Order) → taken_by_order f o ≡ part_of take_part f o
 taken_is f o = by (is_open o)
   where
     by : (b : Bool) → (if b then total (λ l. if on f l then pos (if_take l.way (unsettled o.firm l l.held)) else pos 0) o.lines else pos 0) ≡ total (λ l. if on f l then pos (if_take l.way (if b then unsettled o.firm l l.held else 0)) else pos 0) o.lines
     by true = refl
     by false = sym (total-zero _ o.lines (each (λ l. if_zero (on f l) _ (no_take l.way)) o.lines))
 
-pub added_is : (f : Name) (o : Order) → added_part f o ≡ part_of add_part f o
+pub added_is : (f : Name) (o : Order) → added_by_order f o ≡ part_of add_part f o
 added_is f o = by (is_open o)
   where
     by : (b : Bool) → (if b then total (λ l. if on f l then pos (if_add l.way (unsettled o.firm l l.held)) else pos 0) o.lines else pos 0) ≡ total (λ l. if on f l then pos (if_add l.way (if b then unsettled o.firm l l.held else 0)) else pos 0) o.lines
@@ -261,14 +261,14 @@ module _ (A : Ledger) (c : Command) (good : Good A) (passed : FirstFailure (chec
   pub value_next : (f : Field) → settled (next A c) f ≡ (settled A f +ℤ moved_by_command f.name c) +ℤ added_on settled_part f.name (share_steps A c)
   value_next f =
       let moves = moves_next f.name in
-      let used = parts_next settled_part (moved_part f.name) f.name settled_counts (moved_is f.name) in
+      let used = parts_next settled_part (moved_by_order f.name) f.name settled_counts (moved_is f.name) in
       omega (arith, ints)
 
   pub takes_next : (f : Name) → held_to_take (next A c) f ≡ held_to_take A f +ℤ added_on take_part f (share_steps A c)
-  takes_next f = parts_next take_part (taken_part f) f take_counts (taken_is f)
+  takes_next f = parts_next take_part (taken_by_order f) f take_counts (taken_is f)
 
   pub adds_next : (f : Name) → held_to_add (next A c) f ≡ held_to_add A f +ℤ added_on add_part f (share_steps A c)
-  adds_next f = parts_next add_part (added_part f) f add_counts (added_is f)
+  adds_next f = parts_next add_part (added_by_order f) f add_counts (added_is f)
 
 -- ---- a stock that does not change
 

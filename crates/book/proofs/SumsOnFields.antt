@@ -1,7 +1,8 @@
 -- Sums on each of the fields: where a field stands among those in order, and what an entry more adds.
-use Rattle.book.proofs.Prelude.{[], ◌+◌, ◌<◌, ◌∙◌, ◌∷◌, ◌≡◌, ◌≤◌, Bool, Each, Equal, FieldEntry, IsBinarySearchResult, IsField, IsNonDecreasingBy, IsNone, IsSearchInRange, IsSmall, IsStrictlySortedBy, Less, Line, List, MatchResult, MoveEntry, Name, Numbers, OrderEntry, Ordering, Result, Some, State, added, ap, arith, common_steps, entry_name, false, field_of, get_or, if◌then◌else◌, ints, is_lt, is_some, length, lines_numbers, map, moved_by_move, moved_by_order, name_cmp, nothing, numbers_on, only_on, ordering_index, ordering_reverse, plus, refl, same_name, set, subst, suc, sym, take, tied_itself, true, true≢false, zero, ℕ}
+use Rattle.book.proofs.Prelude.{[], ◌+◌, ◌<◌, ◌∙◌, ◌∷◌, ◌≡◌, ◌≤◌, Bool, Each, Equal, FieldEntry, IsBinarySearchResult, IsField, IsNonDecreasingBy, IsNone, IsSearchInRange, IsSmall, IsStrictlySortedBy, Less, Line, List, MatchResult, MoveEntry, Name, Numbers, OrderEntry, Ordering, Result, Some, State, added, ap, arith, common_steps, entry_name, false, field_of, get_or, if◌then◌else◌, ints, is_lt, is_some, length, lines_numbers, map, moved_by_move, moved_by_entry, name_cmp, nothing, numbers_on, only_on, ordering_index, ordering_reverse, plus, refl, same_name, set, subst, suc, sym, take, tied_itself, true, true≢false, zero, ℕ}
 use Rattle.std.proofs.lemmas.List.Sorted.{searchable_from_sorted}
-use Rattle.book.specs.inner.Walk.{added_by_line, added_by_order, moved_by_line, taken_by_line, taken_by_order}
+use Rattle.book.specs.inner.Walk.{added_by_entry, moved_by_line, taken_by_entry}
+use Rattle.book.specs.Held.{added_by_line, taken_by_line}
 use Rattle.std.specs.Prelude.{replicate}
 use Rattle.book.specs.inner.Sums.{field_among, AreFieldsInOrder, AreSums, IsFieldAt}
 use Rattle.book.proofs.OutcomeTests.{same_self}
@@ -180,7 +181,7 @@ line-step s firm ls i l h e f = grind (arith, common_steps, (total-step (taken_b
 
 -- one order more
 pub order-step : (os : List (ℕ × OrderEntry)) (i : ℕ) (o : ℕ × OrderEntry) → i < length os → o ≡ get_or os i o → (f : Name) → plus (numbers_on [] (take i os) f) (lines_numbers o.1.state o.1.firm o.1.lines.items f) ≡ numbers_on [] (take (i + 1) os) f
-order-step os i o h e f = grind (arith, (total-step (moved_by_order f) os i o h e), (total-step (taken_by_order f) os i o h e), (total-step (added_by_order f) os i o h e), same-numbers)
+order-step os i o h e f = grind (arith, (total-step (moved_by_entry f) os i o h e), (total-step (taken_by_entry f) os i o h e), (total-step (added_by_entry f) os i o h e), same-numbers)
 
 -- the moves' sums, and then the orders', from nothing
 pub added-all : (ms : List MoveEntry) (os : List (ℕ × OrderEntry)) (fs : List (Name × FieldEntry)) → added (numbers_on [] os) fs (added (numbers_on ms []) fs (replicate (length fs) nothing)) ≡ map (λ f. numbers_on ms os (entry_name f)) fs

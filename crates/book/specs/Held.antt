@@ -1,7 +1,8 @@
 -- What open orders hold on a field beyond what is settled, added up. Laws tie these sums to the outcomes.
-use Rattle.std.specs.Prelude.{ℕ, ◌-ℤ◌, ℤ, pos, ◌+ℤ◌, ◌<ℤ◌, ◌≡◌, if◌then◌else◌, IsFalse, IsSomeAnd, IsTrue, MatchOption}
+use Rattle.std.specs.Prelude.{ℕ, Bool, ◌-ℤ◌, ℤ, pos, ◌+ℤ◌, ◌<ℤ◌, ◌≡◌, if◌then◌else◌, IsFalse, IsSomeAnd, IsTrue, MatchOption}
 use Rattle.escrow.specs.declared.quantity.Way.{Way}
 use Rattle.escrow.specs.declared.quantity.Way.TheVariants.{Take, Add}
+use Rattle.book.specs.declared.order.Line.{Line}
 use Rattle.book.specs.Ledger.{Name, Ledger, Order, field_named, is_open, is_transfer, line_on, on, unsettled}
 use Rattle.book.specs.Outcomes.{total, settled}
 
@@ -15,17 +16,26 @@ abbrev pub if_add : Way → ℕ → ℕ
 if_add Take n = 0
 if_add Add n = n
 
--- all that open orders hold to take on the field
-abbrev pub held_to_take : Ledger → Name → ℤ
-held_to_take A f =
-    total (λ o. if is_open o then total (λ l. if on f l then pos (if_take l.way (unsettled o.firm l l.held))
-    else pos 0) o.lines else pos 0) A.orders
+-- what a line of an order that is firm or not holds to take on the field, and what it holds to add
+abbrev pub taken_by_line : Bool → Name → Line → ℤ
+taken_by_line firm f l = if on f l then pos (if_take l.way (unsettled firm l l.held)) else pos 0
 
--- all that they hold to add
+abbrev pub added_by_line : Bool → Name → Line → ℤ
+added_by_line firm f l = if on f l then pos (if_add l.way (unsettled firm l l.held)) else pos 0
+
+-- what an order holds to take, and to add, if it is open
+abbrev pub taken_by_order : Name → Order → ℤ
+taken_by_order f o = if is_open o then total (taken_by_line o.firm f) o.lines else pos 0
+
+abbrev pub added_by_order : Name → Order → ℤ
+added_by_order f o = if is_open o then total (added_by_line o.firm f) o.lines else pos 0
+
+-- all that open orders hold to take on the field, and all that they hold to add
+abbrev pub held_to_take : Ledger → Name → ℤ
+held_to_take A f = total (taken_by_order f) A.orders
+
 abbrev pub held_to_add : Ledger → Name → ℤ
-held_to_add A f =
-    total (λ o. if is_open o then total (λ l. if on f l then pos (if_add l.way (unsettled o.firm l l.held))
-    else pos 0) o.lines else pos 0) A.orders
+held_to_add A f = total (added_by_order f) A.orders
 
 -- Said with the ledger as it is: with so much less the infimum would be below the field's lower bound, with so much
 -- more the supremum would be above its upper one.

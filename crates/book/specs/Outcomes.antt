@@ -23,11 +23,15 @@ signed Take n = neg_ℤ (pos n)
 abbrev pub moved_by : Name → (Line → ℕ) → Order → ℤ
 moved_by f amount o = total (λ l. if on f l then signed l.way (amount l) else pos 0) o.lines
 
+-- what an order has moved on the field, if that is settled
+abbrev pub moved_by_order : Name → Order → ℤ
+moved_by_order f o = if is_settled o then moved_by f (λ l. l.used) o else pos 0
+
 -- The settled value: the start, all deliveries and write-offs, and what committed and open firm orders used.
 abbrev pub settled : Ledger → Field → ℤ
 settled A f = pos f.start
     +ℤ total (λ m. if same_name f.name m.field then m.amount else pos 0) A.moves
-    +ℤ total (λ o. if is_settled o then moved_by f.name (λ l. l.used) o else pos 0) A.orders
+    +ℤ total (moved_by_order f.name) A.orders
 
 -- An outcome: the orders that commit, and the amount of each of their lines. A firm order commits in every outcome; the
 -- other open orders abort.

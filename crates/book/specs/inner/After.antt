@@ -4,31 +4,15 @@ use Rattle.std.specs.Option.{option_map_or}
 use Rattle.words.specs.declared.command.Command.{Command}
 use Rattle.words.specs.declared.command.Request.{Request}
 use Rattle.book.specs.Changes.{changes_field}
-use Rattle.book.specs.Held.{held_to_add, held_to_take, if_add, if_take}
-use Rattle.book.specs.Ledger.{Field as FieldOf, Ledger, Name, Order, is_open, is_settled, on, same_name, unsettled}
+use Rattle.book.specs.Held.{held_to_add, held_to_take}
+use Rattle.book.specs.Ledger.{Field as FieldOf, Ledger, Name, same_name}
 use Rattle.book.specs.Next.{accept, moved_at_once}
-use Rattle.book.specs.Outcomes.{moved_by, settled, signed, total}
+use Rattle.book.specs.Outcomes.{settled, signed}
 use Rattle.book.specs.Rows.{FieldCells}
 
 -- what the command itself moves on the field
 abbrev pub moved_by_command : Name → Command → ℤ
 moved_by_command f c = option_map_or (λ m. if same_name f m.0 then signed m.1 m.2 else pos 0) (moved_at_once c) (pos 0)
-
--- what an order has moved on the field, if that is settled
-abbrev pub moved_part : Name → Order → ℤ
-moved_part f o = if is_settled o then moved_by f (λ l. l.used) o else pos 0
-
--- what it holds there to take beyond what is settled, if it is open
-abbrev pub taken_part : Name → Order → ℤ
-taken_part f o =
-    if is_open o then total (λ l. if on f l then pos (if_take l.way (unsettled o.firm l l.held)) else pos 0) o.lines
-    else pos 0
-
--- what it holds there to add
-abbrev pub added_part : Name → Order → ℤ
-added_part f o =
-    if is_open o then total (λ l. if on f l then pos (if_add l.way (unsettled o.firm l l.held)) else pos 0) o.lines
-    else pos 0
 
 -- the row of a field: the infimum is the value less all that is held to take, the supremum the value plus all that is
 -- held to add

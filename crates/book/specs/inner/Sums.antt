@@ -16,14 +16,15 @@ use Rattle.book.specs.Ledger.{Field, Name, line_name, name_cmp, open_state, same
 use Rattle.book.specs.Outcomes.{signed, total}
 use Rattle.book.specs.Held.{if_add, if_take}
 use Rattle.book.specs.Model.{field_of, move_of}
-use Rattle.book.specs.inner.Walk.{added_by_line, added_by_order, moved_by_line, moved_by_move, moved_by_order, nothing, IsSmall, plus, taken_by_line, taken_by_order}
+use Rattle.book.specs.inner.Walk.{added_by_entry, moved_by_line, moved_by_move, moved_by_entry, nothing, IsSmall, plus, taken_by_entry}
+use Rattle.book.specs.Held.{added_by_line, taken_by_line}
 
 -- what the moves and the orders add up to on the field
 abbrev pub numbers_on : List MoveEntry → List (ℕ × OrderEntry) → Name → Numbers
 numbers_on ms os f = record {
-  moved = total (moved_by_move f) ms +ℤ total (moved_by_order f) os;
-  takes = total (taken_by_order f) os;
-  adds = total (added_by_order f) os;
+  moved = total (moved_by_move f) ms +ℤ total (moved_by_entry f) os;
+  takes = total (taken_by_entry f) os;
+  adds = total (added_by_entry f) os;
 }
 
 -- ---- the fields that entries are on

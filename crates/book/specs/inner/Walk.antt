@@ -7,10 +7,10 @@ use Rattle.book.specs.declared.book.tables.sums.Numbers.{Numbers}
 use Rattle.book.specs.declared.book.MoveEntry.{MoveEntry}
 use Rattle.book.specs.declared.order.OrderEntry.{OrderEntry}
 use Rattle.book.specs.declared.order.Line.{Line}
-use Rattle.book.specs.Ledger.{Name, on, open_state, same_name, settled_state, unsettled}
-use Rattle.book.specs.Outcomes.{signed, total}
-use Rattle.book.specs.Held.{if_add, if_take}
-use Rattle.book.specs.Model.{move_of}
+use Rattle.book.specs.Ledger.{Name, on, same_name}
+use Rattle.book.specs.Outcomes.{moved_by_order, signed}
+use Rattle.book.specs.Held.{added_by_order, taken_by_order}
+use Rattle.book.specs.Model.{move_of, order_of}
 
 -- what a delivery or a write-off moves on the field
 abbrev pub moved_by_move : Name → MoveEntry → ℤ
@@ -20,25 +20,15 @@ moved_by_move f e = if same_name f (move_of e).field then e.amount else pos 0
 abbrev pub moved_by_line : Name → Line → ℤ
 moved_by_line f l = if on f l then signed l.way l.used else pos 0
 
--- what a line of an order that is firm or not holds to take on the field, beyond what is settled
-abbrev pub taken_by_line : Bool → Name → Line → ℤ
-taken_by_line firm f l = if on f l then pos (if_take l.way (unsettled firm l l.held)) else pos 0
+-- what an order has moved, if that is settled, and what it holds to take and to add, if it is open
+abbrev pub moved_by_entry : Name → ℕ × OrderEntry → ℤ
+moved_by_entry f o = moved_by_order f (order_of o)
 
--- what it holds to add
-abbrev pub added_by_line : Bool → Name → Line → ℤ
-added_by_line firm f l = if on f l then pos (if_add l.way (unsettled firm l l.held)) else pos 0
+abbrev pub taken_by_entry : Name → ℕ × OrderEntry → ℤ
+taken_by_entry f o = taken_by_order f (order_of o)
 
--- what an order has moved, if that is settled
-abbrev pub moved_by_order : Name → ℕ × OrderEntry → ℤ
-moved_by_order f o = if settled_state o.1.state o.1.firm then total (moved_by_line f) o.1.lines.items else pos 0
-
--- what an order holds to take, if it is open
-abbrev pub taken_by_order : Name → ℕ × OrderEntry → ℤ
-taken_by_order f o = if open_state o.1.state then total (taken_by_line o.1.firm f) o.1.lines.items else pos 0
-
--- what it holds to add, if it is open
-abbrev pub added_by_order : Name → ℕ × OrderEntry → ℤ
-added_by_order f o = if open_state o.1.state then total (added_by_line o.1.firm f) o.1.lines.items else pos 0
+abbrev pub added_by_entry : Name → ℕ × OrderEntry → ℤ
+added_by_entry f o = added_by_order f (order_of o)
 
 -- ---- numbers together
 
