@@ -1,8 +1,7 @@
 -- Rows among changes, as changes are appended.
-use Rattle.book.proofs.Prelude.{[], ◌++◌, ◌+◌, ◌<◌, ◌∙◌, ◌∷◌, ◌≡◌, Bool, Change, Content, FieldCells, FieldRow, FirmRow, KeptCells, KeptRow, Line, LineCells, LineRow, List, MoveRow, OrderCells, OrderRow, ap, append_assoc, arith, field_cells, firm_cells, firm_row, get_or, kept_cells, length, length-take-le, line_cells, move_cells, order_cells, pos, refl, rows_among, sym, take, with_fields, with_firms, with_kept, with_lines, with_moves, with_orders, ℕ, Step, FirmCells, with_steps, flat_map, flat_map-append, amount_rows, state_row, mark_row}
+use Rattle.book.proofs.Prelude.{[], ◌++◌, ◌∙◌, ◌∷◌, ◌≡◌, Change, Content, FieldCells, FieldRow, FirmRow, KeptCells, KeptRow, LineCells, LineRow, List, MoveRow, OrderCells, OrderRow, ap, append_assoc, arith, field_cells, firm_cells, firm_row, kept_cells, line_cells, move_cells, order_cells, pos, refl, rows_among, sym, with_fields, with_firms, with_kept, with_lines, with_moves, with_orders, ℕ, Step, FirmCells, with_steps, flat_map, flat_map-append, amount_rows, state_row, mark_row}
 use Rattle.book.specs.Rows.{MoveCells}
 use Rattle.book.specs.declared.rows.Change.TheVariants as change
-use Rattle.book.proofs.Lists.{take-step}
 
 field_last : (cs : List Change) (r : FieldRow) → rows_among (cs ++ change.Field r ∷ []) ≡ with_fields (field_cells r ∷ []) (rows_among cs)
 field_last [] r = refl

@@ -1,5 +1,5 @@
 -- The fields that a request makes or changes, put in one after the other, and what lines add to them.
-use Rattle.book.proofs.Prelude.{held_to_add, held_to_take, Accepts, Add, Bool, Command, Each, Equal, Err, Field, FieldCells, FieldEntry, FirstFailure, Counts, CountsAll, Good, Greater, HasEntry, IfOk, IsChangedField, IsGoodLine, IsGoodOrder, IsSome, IsStrictlySortedBy, IsUpToDate, Ledger, Less, Line, List, Name, None, Ok, OnOk, OpenLine, Option, Order, Ordering, Request, Result, Some, Stock, Take, Way, [], accept, ap, arith, changes_field, checks, common_steps, cond, drop, entry_row, false, field_named, field_of, find, flat_map, get_or, giving_back, held_of, holding, if_add, if_take, if◌then◌else◌, insert_entry, ints, is_at, is_eq, is_open, is_some, keys_of, length, line_name, list_any, lookup, map, match_ordering, name_cmp, new_line, next, not, on, order_numbered, ordering_reverse, pos, refl, same_name, subst, sym, take, tied_itself, total, true, true≢false, ℕ, ℤ, ◌&&◌, ◌++◌, ◌+ℤ◌, ◌+◌, ◌<◌, ◌==◌, ◌||◌, ◌∙◌, ◌∷◌, ◌≡◌, ◌≤ℤ◌, ◌≤◌, ◌-ℤ◌, AreHeld, Becomes, CountsMore, MayCount, Share, ShareStep, add_part, added_on, before_on, new_share, no_share, settled, settled_part, share_numbers, take_part, append-nil, append_assoc, name_of, Bor, MatchOption, LineStep, Falls, OrderEntry, Step, flat_map-append, line_steps, lines_before, map-append, option_copied, option_map_or, order_of, share_step, shares_of_step, step_seen, step_to}
+use Rattle.book.proofs.Prelude.{held_to_add, held_to_take, Add, Bool, Each, Equal, Err, Field, FieldCells, FieldEntry, Counts, CountsAll, Greater, IfOk, IsStrictlySortedBy, IsUpToDate, Ledger, Less, Line, List, Name, None, Ok, OnOk, OpenLine, Option, Order, Ordering, Result, Some, Stock, Take, Way, [], ap, arith, cond, drop, entry_row, false, field_named, field_of, find, flat_map, get_or, held_of, holding, if_add, if_take, if◌then◌else◌, insert_entry, ints, is_at, is_eq, is_some, keys_of, length, line_name, list_any, lookup, map, match_ordering, name_cmp, new_line, not, on, order_numbered, ordering_reverse, pos, refl, same_name, subst, sym, take, tied_itself, true, true≢false, ℕ, ℤ, ◌&&◌, ◌++◌, ◌+ℤ◌, ◌+◌, ◌<◌, ◌||◌, ◌∙◌, ◌∷◌, ◌≡◌, ◌≤ℤ◌, ◌≤◌, ◌-ℤ◌, AreHeld, Becomes, CountsMore, MayCount, Share, ShareStep, add_part, added_on, before_on, new_share, no_share, settled, settled_part, share_numbers, take_part, append-nil, append_assoc, name_of, Bor, MatchOption, LineStep, Falls, OrderEntry, Step, flat_map-append, line_steps, lines_before, map-append, option_copied, option_map_or, order_of, share_step, shares_of_step, step_seen, step_to}
 use Rattle.book.specs.inner.RunningNumbers.{IsOneOf}
 use Rattle.book.proofs.OutcomeTests.{same_self, total-push}
 use Rattle.std.specs.Result.{IsOkAnd}

@@ -1,5 +1,5 @@
 -- What the comparisons of a program say of the checks of a command.
-use Rattle.book.proofs.Prelude.{Add, Bool, BreaksBound, Check, Command, Deliver, Each, Err, FallsBelow, Field, FieldEntry, Finds, FirstFailure, Good, IsDistinct, IsFalse, IsFound, IsNone, IsSome, IsTrue, IsUpToDate, Kind, Ledger, Line, List, MAX_ORDER_LINES, More, Name, None, Ok, OpenLine, Option, Order, Refusal, Result, RisesAbove, Some, Take, Way, Writeoff, [], ap, arith, bound, checks, drop, false, field_named, field_of, find, full, get_or, inl, inr, is_open, is_some, is_transfer, length, length-take, line_checks, line_name, line_on, loose_checks, map, name_of, new_line, new_order, next, no_field, on, order_numbered, pos, refl, same_name, subst, sym, take, true, true≢false, with_order, ℕ, ◌++◌, ◌+ℤ◌, ◌+◌, ◌-ℤ◌, ◌<ℤ◌, ◌<◌, ◌↔◌, ◌∙◌, ◌∷◌, ◌≡◌, ◌≢◌, ◌≤◌}
+use Rattle.book.proofs.Prelude.{Add, Bool, BreaksBound, Check, Command, Deliver, Each, Err, FallsBelow, Field, FieldEntry, Finds, FirstFailure, Good, IsDistinct, IsFalse, IsNone, IsSome, IsTrue, IsUpToDate, Kind, Ledger, Line, List, MAX_ORDER_LINES, More, Name, None, Ok, OpenLine, Option, Order, Refusal, Result, RisesAbove, Some, Take, Way, Writeoff, [], ap, arith, bound, checks, drop, false, field_named, field_of, find, full, get_or, inl, inr, is_open, is_some, is_transfer, length, length-take, line_checks, line_name, line_on, loose_checks, map, name_of, new_line, new_order, next, no_field, on, order_numbered, pos, same_name, subst, sym, take, true≢false, with_order, ℕ, ◌++◌, ◌+ℤ◌, ◌+◌, ◌-ℤ◌, ◌<ℤ◌, ◌<◌, ◌↔◌, ◌∙◌, ◌∷◌, ◌≡◌, ◌≢◌, ◌≤◌}
 use Rattle.words.specs.declared.reply.Refusal.TheVariants.{Full, OtherWay, TooManyLines, TransferFixed}
 use Rattle.std.specs.Result.{IsErrAnd}
 use Rattle.book.specs.Next.{moved_at_once}

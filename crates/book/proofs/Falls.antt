@@ -1,9 +1,8 @@
 -- A command that asks for no stock: what its lines count for only falls, and is held.
-use Rattle.book.proofs.Prelude.{[], ◌++◌, ◌+ℤ◌, ◌+◌, ◌-ℤ◌, ◌-◌, ◌==◌, ◌||◌, ◌∙◌, ◌∷◌, ◌≡◌, ◌≤ℤ◌, ◌≤◌, Aborted, Accepts, AreHeld, AsksNoStock, Bool, Changes, Command, Committed, Each, Effect, Falls, FirstFailure, Good, IsFalse, IsGoodLine, IsGoodOrder, IsNone, IsSome, IsSomeAnd, IsTrue, Ledger, Line, List, Name, None, Nothing, Open, Opens, Option, Order, Request, Share, ShareStep, Some, State, Step, Way, accept, add_part, ap, arith, before_on, change_lines, checks, effect, expires, false, field_named, find, flat_map, held_to_add, held_to_take, if_add, if_take, if◌then◌else◌, insert_in_order, ints, is_open, is_transfer, line_name, line_steps, lower_held, map, name_of, nat_lt, new_order, next, no_share, on, open_state, order_numbered, orders_after, pos, raise_used, refl, same_name, set_firm, set_state, share_before, share_of, share_step, share_steps, shares_of_step, steps, subst, sym, take_part, total, true, true≢false, unsettled, ℕ, ℤ}
+use Rattle.book.proofs.Prelude.{[], ◌++◌, ◌+ℤ◌, ◌+◌, ◌==◌, ◌||◌, ◌∙◌, ◌∷◌, ◌≡◌, ◌≤ℤ◌, ◌≤◌, Aborted, Accepts, AreHeld, AsksNoStock, Bool, Changes, Command, Committed, Each, Effect, Falls, FirstFailure, Good, IsNone, IsSome, IsSomeAnd, IsTrue, Ledger, Line, List, Name, None, Nothing, Open, Opens, Option, Order, Request, Share, ShareStep, Some, State, Way, accept, add_part, ap, arith, before_on, change_lines, checks, effect, expires, false, field_named, find, flat_map, held_to_add, held_to_take, if◌then◌else◌, insert_in_order, ints, is_open, is_transfer, line_name, line_steps, lower_held, map, name_of, nat_lt, next, on, open_state, order_numbered, orders_after, pos, raise_used, refl, same_name, set_state, share_of, share_step, share_steps, shares_of_step, steps, subst, sym, take_part, total, true, true≢false, ℕ, ℤ}
 use Rattle.words.specs.declared.command.Command.TheVariants as command
 use Rattle.book.proofs.Futures.{all_pass, at_number}
 use Rattle.book.proofs.Lists.{each-unmap, total-not_negative}
-use Rattle.book.proofs.OutcomeTests.{each-insert}
 use Rattle.book.proofs.Steps.{EffectGoes, Goes, Grows, StaysAlike, added_is, alike, each-append, effect_goes, part_of, state_same, taken_is, total-append}
 use Rattle.book.proofs.Sums.{each, each-both, each-imp, least_if, total-eq}
 

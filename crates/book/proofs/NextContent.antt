@@ -1,5 +1,5 @@
 -- The rows that an accepted command changes, put into the ledger's rows, give the rows of the next ledger.
-use Rattle.book.proofs.Prelude.{[], ◌&&◌, ◌++◌, ◌+◌, ◌+ℤ◌, ◌-ℤ◌, IsStrictlySortedBy, ◌==◌, ◌||◌, ◌∙◌, ◌∷◌, ◌≡◌, Bool, Changes, Command, Content, DeskCells, Each, Effect, Equal, Field, FieldCells, FirmCells, FirstFailure, Good, IsInRange, IsKey, IsRowsOf, IsTotalOrder, Ledger, Less, Line, LineCells, List, Move, Name, None, Nothing, Opens, Option, Order, OrderCells, Ordering, Request, Some, State, Step, accept, amount_row, amount_rows, ap, arith, becomes_firm, changed_rows, changes_field, changes_held, changes_line, changes_state, checks, desk_row, effect, false, field_cmp, field_row, filter, firm_cmp, firm_rows, flat_map, if◌then◌else◌, inl, inr, insert_in_order, int_cmp_total, int_eq, is_eq, is_lt, is_open, kept_cmp, kept_row, kept_under, line_cmp, line_name, line_row, line_steps, lines_from, map, map-map, mark_row, move_cmp, move_made, move_row, moved_at_once, moves_after, name_cmp, name_of, nat_cmp, nat_list_cmp_total, new_key, next, not, number_cmp, nat_cmp_total, on_total, open_state, option_map, order_cmp, order_lines, order_row, orders_after, orders_made, places, pos, put_content, put_rows, refl, same_name, slice_cmp, state_row, steps, steps_of, subst, sym, then_total, tied_itself, true, true≢false, ℕ, ℤ}
+use Rattle.book.proofs.Prelude.{[], ◌&&◌, ◌+◌, ◌+ℤ◌, ◌-ℤ◌, IsStrictlySortedBy, ◌==◌, ◌||◌, ◌∙◌, ◌∷◌, ◌≡◌, Bool, Changes, Command, Content, DeskCells, Each, Effect, Equal, Field, FieldCells, FirstFailure, Good, IsInRange, IsKey, IsRowsOf, IsTotalOrder, Ledger, Less, Line, LineCells, List, Move, Name, None, Nothing, Opens, Option, Order, Ordering, Request, Some, Step, accept, amount_row, amount_rows, ap, arith, changed_rows, changes_field, checks, desk_row, effect, false, field_cmp, field_row, filter, firm_cmp, firm_rows, flat_map, if◌then◌else◌, insert_in_order, int_cmp_total, is_lt, is_open, kept_cmp, kept_row, kept_under, line_cmp, line_name, line_row, line_steps, lines_from, map, map-map, mark_row, move_cmp, move_made, move_row, moves_after, name_cmp, name_of, nat_cmp, nat_list_cmp_total, new_key, next, not, number_cmp, nat_cmp_total, on_total, order_cmp, order_lines, order_row, orders_made, places, pos, put_content, put_rows, refl, slice_cmp, state_row, steps_of, subst, sym, then_total, tied_itself, true, true≢false, ℕ}
 use Rattle.words.specs.declared.command.Command.TheVariants as command
 use Rattle.book.specs.Rows.{desk_cmp}
 use Rattle.book.specs.Next.{with_bounds}

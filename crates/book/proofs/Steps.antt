@@ -1,11 +1,11 @@
 -- The steps of an accepted command: what stays of an order, and what the lines add up to.
-use Rattle.book.proofs.Prelude.{[], ◌&&◌, ◌++◌, ◌+ℤ◌, ◌+◌, ◌-ℤ◌, ◌-◌, ◌<◌, ◌==◌, ◌||◌, ◌∙◌, ◌∷◌, ◌≡◌, Aborted, Add, Bool, Changes, Command, Committed, Each, Effect, Field, FirstFailure, Good, IsFalse, IsNone, IsSomeAnd, IsStrictlySortedBy, Ledger, Line, LineStep, List, Name, None, Nothing, Open, OpenLine, Opens, Option, Order, Share, ShareStep, Some, State, Step, Take, Way, add_hold, add_part, added_on, added_by_order, ap, arith, becomes_firm, change_lines, changes_field, changes_held, changes_line, changes_state, changes_stock, checks, common_steps, effect, expires, false, find, flat_map, hold_more, if_add, if_take, if◌then◌else◌, insert_in_order, ints, is_open, is_settled, is_some, line_name, line_on, line_steps, lines_of, list_any, list_any-append, option_map, move_made, moves_after, places, Move, lower_held, map, map-map, moved_at_once, moved_by, moved_by_command, moved_by_order, name_of, nat_cmp, nat_lt, get_or, length, slice_get, suc, take, zero, new_line, new_order, next, no_share, not, on, open_state, option_map_or, order_numbered, orders_after, orders_made, own_field, Plain, pos, raise_held, raise_used, refl, same_name, set_firm, set_state, settled, settled_part, settled_state, share_before, share_of, share_step, share_steps, shares_of_step, signed, step_to, steps, steps_of, subst, sym, take_part, taken_by_order, total, Transfer, transfer_lines, true, true≢false, unsettled, ℕ, ℤ}
+use Rattle.book.proofs.Prelude.{[], ◌&&◌, ◌++◌, ◌+ℤ◌, ◌+◌, ◌-ℤ◌, ◌-◌, ◌<◌, ◌==◌, ◌||◌, ◌∙◌, ◌∷◌, ◌≡◌, Aborted, Add, Bool, Changes, Command, Committed, Each, Effect, Field, FirstFailure, Good, IsFalse, IsNone, IsSomeAnd, Ledger, Line, LineStep, List, Name, None, Nothing, Open, OpenLine, Opens, Option, Order, Share, ShareStep, Some, State, Take, Way, add_hold, add_part, added_on, added_by_order, ap, arith, change_lines, changes_field, changes_stock, checks, effect, expires, false, find, flat_map, hold_more, if_add, if_take, if◌then◌else◌, ints, is_open, is_settled, is_some, line_name, line_on, line_steps, lines_of, list_any, list_any-append, option_map, moves_after, places, lower_held, map, moved_at_once, moved_by, moved_by_command, moved_by_order, name_of, nat_lt, get_or, length, slice_get, suc, take, zero, new_line, next, no_share, not, on, open_state, option_map_or, order_numbered, orders_after, orders_made, own_field, pos, raise_held, raise_used, refl, same_name, set_firm, set_state, settled, settled_part, share_of, share_step, share_steps, shares_of_step, signed, step_to, steps, steps_of, subst, sym, take_part, taken_by_order, total, true, true≢false, unsettled, ℕ, ℤ}
 use Rattle.words.specs.declared.command.Command.TheVariants as command
 use Rattle.book.specs.Held.{held_to_add, held_to_take}
 use Rattle.book.proofs.Futures.{all_pass, at_number, find_self}
 use Rattle.book.proofs.Lists.{any-map, any_none, any_same, number_is, or_false, same_number}
 use Rattle.book.proofs.OutcomeTests.{total-insert, total-push}
-use Rattle.book.proofs.Sums.{each, each-imp, each-both, total-eq, total-map, total-zero}
+use Rattle.book.proofs.Sums.{each, each-imp, each-both, total-eq, total-zero}
 
 -- ---- what stays of an order
 

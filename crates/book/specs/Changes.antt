@@ -1,13 +1,13 @@
 -- Which rows an accepted command changes, and rows put in by their keys.
 use Rattle.std.specs.Prelude.{ℕ, ◌+◌, Bool, false, ◌&&◌, ◌||◌, List, [], ◌∷◌, flat_map, map, Option, Some, option_map, if◌then◌else◌}
 use Rattle.std.specs.declared.cmp.Ordering.{Ordering}
-use Rattle.std.specs.Ordering.{is_eq, is_lt, nat_cmp}
+use Rattle.std.specs.Ordering.{is_eq, is_lt}
 use Rattle.std.specs.List.{list_any, filter, fold}
 use Rattle.std.specs.Option.{option_map_or}
 use Rattle.words.specs.declared.command.Command.{Command}
 use Rattle.words.specs.declared.command.Command.TheVariants.{Field, Rebound}
 use Rattle.words.specs.declared.command.Request.{Request}
-use Rattle.book.specs.Ledger.{Name, Order, Ledger, same_name, on, places, name_of}
+use Rattle.book.specs.Ledger.{Name, Ledger, same_name, on, places, name_of}
 use Rattle.book.specs.Next.{move_made, moved_at_once, moves_after, new_key}
 use Rattle.book.specs.Rows.{Content, FirmCells, LineCells, OrderCells, desk_cmp, field_cmp, firm_cmp, firm_row, kept_cmp, kept_row, line_cmp, line_row, move_cmp, move_row, order_cmp, order_row}
 use Rattle.book.specs.Steps.{LineStep, Step, becomes_firm, changes_line, changes_state, changes_stock, lines_of, steps_of}

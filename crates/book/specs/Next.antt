@@ -1,5 +1,5 @@
 -- The ledger after an accepted command: the entries that it adds or changes. It looks at no stock.
-use Rattle.std.specs.Prelude.{ℕ, ◌+◌, ◌-◌, ℤ, Bool, pos, neg_ℤ, Option, None, Some, option_map, ◌&&◌, ◌||◌, not, false, true, ◌==◌, nat_lt, nat_le, List, [], ◌∷◌, ◌++◌, map, is_some, if◌then◌else◌}
+use Rattle.std.specs.Prelude.{ℕ, ◌+◌, ◌-◌, Bool, Option, None, Some, option_map, ◌&&◌, ◌||◌, not, false, true, ◌==◌, nat_lt, nat_le, List, [], ◌∷◌, ◌++◌, map, is_some, if◌then◌else◌}
 use Rattle.std.specs.Ordering.{is_lt, nat_cmp}
 use Rattle.std.specs.Cmp.Lexicographic.{slice_cmp}
 use Rattle.escrow.specs.declared.quantity.Way.{Way}

@@ -1,5 +1,5 @@
 -- Plans of accepted requests, and what carrying one out needs.
-use Rattle.std.specs.Prelude.{ℕ, ◌+◌, ◌≤◌, ◌≡◌, List, [], ◌∷◌, None, Option, length, map, option_map}
+use Rattle.std.specs.Prelude.{ℕ, ◌+◌, ◌≤◌, ◌≡◌, List, [], ◌∷◌, Option, length, map, option_map}
 use Rattle.words.specs.declared.command.Request.{Request}
 use Rattle.book.specs.inner.After.{field_rows}
 use Rattle.book.specs.Answers.{IsAccepted}

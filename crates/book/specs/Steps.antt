@@ -1,6 +1,6 @@
 -- What an accepted command does to the orders, step by step: each order as it was, if it was there, and as it is then.
 -- Which rows change, and which stock, is told from the two alone.
-use Rattle.std.specs.Prelude.{ℕ, ◌+◌, Bool, false, true, ◌&&◌, ◌||◌, not, ◌==◌, List, [], ◌∷◌, flat_map, map, Option, None, Some, if◌then◌else◌}
+use Rattle.std.specs.Prelude.{ℕ, ◌+◌, Bool, true, ◌&&◌, ◌||◌, not, ◌==◌, List, [], ◌∷◌, flat_map, map, Option, None, Some, if◌then◌else◌}
 use Rattle.std.specs.Option.{option_map_or}
 use Rattle.words.specs.declared.command.Command.{Command}
 use Rattle.book.specs.declared.order.Line.{Line}

@@ -1,5 +1,5 @@
 -- Running numbers: the entry of each field keeps its quantity, whose numbers are those of the ledger.
-use Rattle.std.specs.Prelude.{◌≡◌, ℕ, ◌+◌, ◌≤◌, ℤ, pos, ◌-ℤ◌, ◌+ℤ◌, ◌≤ℤ◌, Bool, false, true, ◌&&◌, ◌++◌, List, Option, None, Some, find, flat_map, map, if◌then◌else◌, is_some}
+use Rattle.std.specs.Prelude.{◌≡◌, ◌+◌, ◌≤◌, ℤ, pos, ◌-ℤ◌, ◌+ℤ◌, ◌≤ℤ◌, Bool, false, true, ◌&&◌, ◌++◌, List, Option, None, Some, find, flat_map, map, if◌then◌else◌, is_some}
 use Rattle.std.specs.BTreeMap.{insert_entry, is_at}
 use Rattle.std.specs.Map.{lookup}
 use Rattle.std.specs.Option.{option_map_or}

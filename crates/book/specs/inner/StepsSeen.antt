@@ -1,11 +1,11 @@
 -- Steps as the book sees them: the order before is looked up by its number.
-use Rattle.std.specs.Prelude.{ℕ, ◌++◌, ◌≡◌, List, [], None, Option, flat_map, map, option_map}
+use Rattle.std.specs.Prelude.{ℕ, ◌++◌, ◌≡◌, List, [], None, Option, flat_map, option_map}
 use Rattle.std.specs.Option.{option_map_or}
 use Rattle.std.specs.Ordering.{nat_cmp}
 use Rattle.std.specs.declared.cmp.Ordering.{Ordering}
 use Rattle.words.specs.declared.command.Command.{Command}
 use Rattle.book.specs.Answers.{FirstFailure, checks}
-use Rattle.book.specs.Changes.{amount_row, amount_rows, state_row, mark_row}
+use Rattle.book.specs.Changes.{amount_rows, state_row, mark_row}
 use Rattle.book.specs.Ledger.{Ledger, Order, order_numbered}
 use Rattle.book.specs.Model.{order_of}
 use Rattle.book.specs.Rows.{Content, FieldCells, FirmCells, KeptCells, LineCells, MoveCells, OrderCells}

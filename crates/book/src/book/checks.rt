@@ -21,9 +21,7 @@ use super::plan::{moved_at_once, transfer_lines};
 use super::{Book, FieldEntry};
 use crate::limits::{MAX_FIELDS, MAX_ORDERS, MAX_PLACES};
 use crate::order::{Kind, OrderEntry, State, is_on, line_in};
-use escrow::{
-    Bound, FieldName, Level, Moment, OrderNo, Qty, Quantity, Rebound, Way,
-};
+use escrow::{Bound, FieldName, Level, Moment, OrderNo, Qty, Quantity, Rebound, Way};
 use index::InOrder;
 use std::alloc::Global;
 use words::{Command, MAX_ORDER_LINES, Memory, OpenLine, Refusal};

@@ -1,4 +1,4 @@
-use Rattle.book.proofs.Prelude.{◌∙◌, ◌∷◌, ap, arith, length, map, number_cmp, order_of, put_row, put_rows, sym}
+use Rattle.book.proofs.Prelude.{◌∙◌, ap, arith, length, map, number_cmp, order_of, put_rows, sym}
 use Rattle.book.proofs.CommandOrder.{put_viewed}
 use Rattle.book.proofs.book.adopt_orders.Goals as goal
 

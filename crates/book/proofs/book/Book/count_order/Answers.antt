@@ -1,4 +1,4 @@
-use Rattle.book.proofs.Prelude.{[], ◌+◌, ◌<◌, ◌∙◌, ◌∷◌, ◌≡◌, CountsMore, Each, Falls, FieldEntry, Ledger, Line, LineStep, List, MayCount, Name, ShareStep, Step, ap, arith, get_or, length, line_seen, line_steps, map, option_map_or, order_of, share_step, slice_get, step_to, subst, sym, take, take_all, ℕ}
+use Rattle.book.proofs.Prelude.{[], ◌+◌, ◌<◌, ◌∷◌, ◌≡◌, CountsMore, Falls, Ledger, Line, List, MayCount, Step, ap, arith, get_or, length, line_seen, line_steps, map, option_map_or, order_of, share_step, slice_get, step_to, subst, sym, take_all, ℕ}
 use Rattle.book.proofs.ChangedFields.{counts-nothing, line_falls, line_may, line_more, seen_both}
 use Rattle.book.proofs.Steps.{IsStepAt, step_at}
 use Rattle.book.proofs.book.Book.count_order.Goals as goal

@@ -1,4 +1,4 @@
-use Rattle.book.proofs.Prelude.{◌∙◌, ◌≡◌, Accepts, AreHeld, AsksNoStock, Command, CountsAll, Each, Err, Falls, IfOk, IsFound, IsSome, Ledger, List, None, Ok, Option, Order, OrderEntry, Request, Result, ShareStep, ap, field_named, flat_map, line_name, map, order_of, orders_made, share_steps, shares_of_step, step_to, subst, sym, ℕ}
+use Rattle.book.proofs.Prelude.{◌∙◌, ◌≡◌, Accepts, AreHeld, CountsAll, Each, Err, Falls, IfOk, IsFound, IsSome, Ledger, List, Ok, Order, OrderEntry, Request, Result, ShareStep, ap, field_named, flat_map, line_name, map, order_of, orders_made, share_steps, shares_of_step, step_to, subst, sym, ℕ}
 use Rattle.book.proofs.ChangedFields.{all_shares}
 use Rattle.book.proofs.FieldRows.{asks_none, counted_rows, keeps_fields}
 use Rattle.book.proofs.Falls.{all_fall, all_held, fields_there}

@@ -1,4 +1,4 @@
-use Rattle.book.proofs.Prelude.{◌∙◌, ◌+◌, BookView, Good, Ledger, Leaves, List, Order, arith, ap, count_by, false, is_open, map, open_orders, option_map_or, order_numbered, order_of, subst, sym}
+use Rattle.book.proofs.Prelude.{◌∙◌, BookView, Good, Ledger, Order, arith, ap, false, is_open, map, open_orders, option_map_or, order_numbered, order_of, subst, sym}
 use Rattle.book.proofs.NextRows.{orders_open, viewed}
 use Rattle.book.proofs.book.Book.open_after.Goals as goal
 

@@ -1,4 +1,4 @@
-use Rattle.book.proofs.Prelude.{[], ◌++◌, ◌∙◌, ◌∷◌, Effect, OrderEntry, Step, ap, changed_order, effect, effect_seen, expires, flat_map, made_of, map, map-append, numbered, order_of, orders_made, steps, sym}
+use Rattle.book.proofs.Prelude.{[], ◌++◌, ◌∙◌, ◌∷◌, Effect, OrderEntry, Step, ap, effect, effect_seen, expires, flat_map, made_of, map, order_of, steps, sym}
 use Rattle.std.proofs.Common.{Global, Vec}
 use Rattle.escrow.specs.declared.number.OrderNo.{OrderNo}
 use Rattle.book.specs.declared.book.made.OrderChange.TheVariants.{End}

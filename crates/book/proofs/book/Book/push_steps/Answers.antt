@@ -1,4 +1,4 @@
-use Rattle.book.proofs.Prelude.{[], ◌++◌, ◌∙◌, ◌∷◌, List, Order, OrderEntry, Step, ap, map, map-append, order_of, rows_among, step_to, take, ℕ}
+use Rattle.book.proofs.Prelude.{[], ◌∙◌, ◌∷◌, List, OrderEntry, ap, map, map-append, order_of, rows_among, step_to, take, ℕ}
 use Rattle.book.proofs.Among.{steps_joined}
 use Rattle.book.proofs.Lists.{take-step}
 use Rattle.book.proofs.book.Book.push_steps.Goals as goal

@@ -1,4 +1,4 @@
-use Rattle.book.proofs.Prelude.{[], ◌++◌, ◌∙◌, ◌∷◌, List, Line, LineCells, LineStep, amount_row, ap, append-nil, flat_map, flat_map-append, line_steps, lines_before, option_copied, rows_among, slice_get, subst, arith, sym, take, with_lines, ℕ, ◌+◌, ◌≡◌}
+use Rattle.book.proofs.Prelude.{[], ◌++◌, ◌∙◌, ◌∷◌, List, Line, LineCells, LineStep, amount_row, ap, append-nil, flat_map, flat_map-append, line_steps, lines_before, option_copied, rows_among, slice_get, subst, arith, take, with_lines, ℕ, ◌+◌, ◌≡◌}
 use Rattle.book.proofs.Among.{line_joined}
 use Rattle.book.proofs.Steps.{step_at}
 use Rattle.book.proofs.book.changed_rows.push_lines.Goals as goal
