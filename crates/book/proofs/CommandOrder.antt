@@ -1,8 +1,8 @@
 -- An order, changed in a copy and put in by its number.
-use Rattle.book.proofs.Prelude.{[], ◌+ℤ◌, ◌-◌, ◌<◌, ◌==◌, ◌∙◌, ◌∷◌, ◌≡◌, ◌≤◌, Bool, Changes, Each, Effect, Good, IsGoodLine, IsGoodOrder, IsStrictlySortedBy, Ledger, Line, List, MayChangeOrder, None, OpenLine, Option, Order, OrderEntry, Request, Some, accept, add_hold, ap, arith, changed_line, changed_order, common_steps, effect, false, find, if◌then◌else◌, insert_entry, is_some, map, nat_cmp, number_cmp, numbered, option_map, order_of, orders_after, pos, put_row, refl, subst, sym, total, true, true≢false, vec_capacity, vec_len, ℕ, ℤ}
+use Rattle.book.proofs.Prelude.{[], ◌+ℤ◌, ◌+◌, ◌-◌, ◌<◌, ◌==◌, ◌∙◌, ◌∷◌, ◌≡◌, ◌≤◌, Bool, Changes, Each, Effect, Good, IsGoodLine, IsGoodOrder, IsStrictlySortedBy, Ledger, Line, List, MayChangeOrder, None, OpenLine, Option, Order, OrderEntry, Request, Some, accept, add_hold, ap, arith, changed_line, changed_order, common_steps, effect, false, find, if◌then◌else◌, insert_entry, is_some, map, nat_cmp, number_cmp, numbered, option_map, order_of, orders_after, pos, put_row, refl, subst, sym, total, true, true≢false, vec_capacity, vec_len, ℕ, ℤ}
 use Rattle.book.proofs.Lists.{each-unmap, found_passes, none_after}
 use Rattle.book.proofs.Sums.{each-imp, total-eq, total-map}
-use Rattle.book.specs.inner.InPlace.{MayChange, MayChangeUnder}
+use Rattle.book.specs.inner.InPlace.{MayChange, MayChangeUnder, lines_wanted}
 use Rattle.book.specs.declared.book.made.LineChange.{LineChange}
 use Rattle.book.specs.declared.book.made.LineChange.TheVariants.{Hold, Release, Use}
 use Rattle.book.specs.declared.book.made.OrderChange.{OrderChange}
@@ -69,7 +69,7 @@ line_may B (Release q) l good = tt
 lines_may : (B : Ledger) (change : LineChange) (t : Line → Bool) (ls : List Line) → Each (IsGoodLine B) (map (λ l. if t l then changed_line change l else l) ls) → Each (λ l. t l ≡ true → MayChange change l) ls
 lines_may B change t ls all = each-imp (λ l good e. line_may B change l (subst (λ b. IsGoodLine B (if b then changed_line change l else l)) e good)) ls (each-unmap (IsGoodLine B) _ ls all)
 
-order_may : (B : Ledger) (n : ℕ) (change : OrderChange) (o : OrderEntry) → vec_len o.lines < vec_capacity o.lines → IsGoodOrder B (changed_order change (order_of (n, o))) → MayChangeOrder change o
+order_may : (B : Ledger) (n : ℕ) (change : OrderChange) (o : OrderEntry) → vec_len o.lines + lines_wanted change ≤ vec_capacity o.lines → IsGoodOrder B (changed_order change (order_of (n, o))) → MayChangeOrder change o
 order_may B n (HoldMore l) o room good = hold_allowed B n l o (omega arith) good
 order_may B n (ChangeLines f change) o room good = lines_may B change _ o.lines.items good.lines
 order_may B n (End state) o room good = tt

@@ -62,7 +62,12 @@ effect_seen (seen.Expires now) = Changes (expires now) (set_state Aborted)
 abbrev pub made_of : Ledger → OrderChange → ℕ → List Order
 made_of A change n = option_map_or (λ o. changed_order change o ∷ []) (order_numbered A n) []
 
--- a copy with room for one more line may be changed so
+-- how many lines more the change may want
+abbrev pub lines_wanted : OrderChange → ℕ
+lines_wanted (HoldMore l) = 1
+lines_wanted change = 0
+
+-- a copy with room for these may be changed so
 abbrev pub MayChangeUnder : Ledger → ℕ → OrderChange → Type 0
 MayChangeUnder A n change = (entry : OrderEntry) → order_numbered A n ≡ Some (order_of (n, entry))
-    → vec_len entry.lines < vec_capacity entry.lines → MayChangeOrder change entry
+    → vec_len entry.lines + lines_wanted change ≤ vec_capacity entry.lines → MayChangeOrder change entry

@@ -1,6 +1,6 @@
 //! What a command does to the orders: those that it opens or changes, as they are then.
 
-ghost use Rattle.book.specs.inner.InPlace.{MayChange, MayChangeOrder, changed_line, changed_order, effect_seen, held_lines, made_of, MayChangeUnder};
+ghost use Rattle.book.specs.inner.InPlace.{MayChange, MayChangeOrder, changed_line, changed_order, effect_seen, held_lines, lines_wanted, made_of, MayChangeUnder};
 ghost use Rattle.book.specs.Ledger.{line_name, on, order_numbered, open_state};
 ghost use Rattle.book.specs.Next.{Changes, Opens, change_lines, effect, expires, new_line, new_order, numbered};
 ghost use Rattle.book.specs.inner.RunningNumbers.{Accepts};
@@ -12,7 +12,7 @@ ghost use Rattle.book.specs.declared.order.State.TheVariants.{Aborted};
 ghost use Rattle.words.specs.Kinds.{is_opening};
 ghost use Rattle.words.specs.declared.open_line.OpenLine.{OpenLine};
 ghost use Rattle.std.specs.List.{AllByRecursion as Each, filter};
-ghost use Rattle.std.specs.Prelude.{◌≡◌, ℕ, ◌<◌, ◌||◌, List, true, false, MatchOption, find, if◌then◌else◌, map, option_map, IfOk, Some, ◌∷◌, ◌++◌, [], ◌&&◌, not, nat_le, OnOk, flat_map};
+ghost use Rattle.std.specs.Prelude.{◌≡◌, ℕ, ◌<◌, ◌≤◌, ◌+◌, ◌||◌, List, true, false, MatchOption, find, if◌then◌else◌, map, option_map, IfOk, Some, ◌∷◌, ◌++◌, [], ◌&&◌, not, nat_le, OnOk, flat_map};
 ghost use Rattle.std.specs.Vec.{vec_capacity, vec_len};
 
 use super::Book;
@@ -243,13 +243,23 @@ fn lines_change(number: OrderNo, name: FieldName, change: LineChange) -> Effect
     Effect::Changes(number, OrderChange::ChangeLines(name, change))
 }
 
-/// A copy of the order, with room for a line more.
-fn copy_of_order(alloc: Global, entry: &OrderEntry) -> Result<OrderEntry, Memory>
+/// How many lines more the change may want.
+fn lines_wanted(change: &OrderChange) -> usize
+    ensures { result ≡ lines_wanted change.now }
+{
+    match change {
+        OrderChange::HoldMore(_) => 1,
+        _ => 0,
+    }
+}
+
+/// A copy of the order, with room for so many lines more.
+fn copy_of_order(alloc: Global, entry: &OrderEntry, more: usize) -> Result<OrderEntry, Memory>
     ensures same { IfOk result (λ copy. (n : ℕ) → order_of (n, copy) ≡ order_of (n, entry.now)) }
-    ensures room { IfOk result (λ copy. vec_len copy.lines < vec_capacity copy.lines) }
+    ensures room { IfOk result (λ copy. vec_len copy.lines + more ≤ vec_capacity copy.lines) }
 {
     let mut lines = Vec::from_slice(alloc, &entry.lines)?;
-    lines.reserve(1)?;
+    lines.reserve(more)?;
     Ok(OrderEntry {
         kind: entry.kind,
         until: entry.until,
@@ -275,7 +285,7 @@ impl Book {
         let Some(entry) = self.order_entry(number) else {
             return Ok(());
         };
-        let mut copy = copy_of_order(alloc, entry)?;
+        let mut copy = copy_of_order(alloc, entry, lines_wanted(change))?;
         change_order(&mut copy, change);
         Ok(orders.push((number, copy))?)
     }

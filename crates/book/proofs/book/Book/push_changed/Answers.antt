@@ -1,8 +1,8 @@
-use Rattle.book.proofs.Prelude.{[], ◌++◌, ◌∙◌, ◌∷◌, Order, Some, ap, changed_order, map, map-append, option_map_or, order_of, sym}
+use Rattle.book.proofs.Prelude.{[], ◌++◌, ◌∙◌, ◌∷◌, ◌+◌, ◌≤◌, Order, Some, ap, changed_order, map, map-append, option_map_or, order_of, subst, sym, vec_capacity, vec_len}
 use Rattle.book.proofs.book.Book.push_changed.Goals as goal
 
 pub change_order-requires : goal.change_order-requires
-change_order-requires c = c.requires c.in_ok-copy.copy (c.in-Some.ensures ∙ ap Some (sym (c.in_ok-copy.ensures.same c.args.number))) c.in_ok-copy.ensures.room
+change_order-requires c = c.requires c.in_ok-copy.copy (c.in-Some.ensures ∙ ap Some (sym (c.in_ok-copy.ensures.same c.args.number))) (subst (λ n. vec_len c.in_ok-copy.copy.lines + n ≤ vec_capacity c.in_ok-copy.copy.lines) c.lines_wanted.ensures c.in_ok-copy.ensures.room)
 
 pub returns : goal.returns
 returns c =
