@@ -135,12 +135,12 @@ class Desk:
         firms = [("firm", order.number) for order in self.orders if order.is_firm]
         return dict(zip(TABLES, [[self.row()], fields, self.moves, orders, lines, self.kept, firms]))
 
-    def keep(self, key, words, fields=(), others=(), last=()):
+    def keep(self, key, words, fields=(), others=()):
         """Keeps the command under its key. Its rows are in the order in which the program puts them in."""
         place = len(self.kept) + 1
         kept = ("kept", key, place, words)
         self.kept.append(kept)
-        rows = [self.row(), *sorted(field.row() for field in fields), *others, kept, *last]
+        rows = [self.row(), *sorted(field.row() for field in fields), *others, kept]
         return Step(f"{key} {words}", f"{key} done {place}", rows)
 
     def ask(self, field):
@@ -218,7 +218,7 @@ class Desk:
         order.is_firm = True
         for line in order.lines:
             line.settle(line.used)
-        return self.keep(key, f"firm {order.number}", order.fields(), last=[("firm", order.number)])
+        return self.keep(key, f"firm {order.number}", order.fields(), [("firm", order.number)])
 
     def end(self, key, verb, order):
         """A commit or an abort."""

@@ -236,8 +236,8 @@ static FIRM: [Step; 9] = [
             Row::Desk([1, 2, 0, 5]),
             Row::Field("N1", "A-1", [0, 100, 40, 30, 25, 30]),
             Row::Field("S1", "A-1", [0, 50, 10, 10, 10, 18]),
-            Row::Kept("K5", "firm 7", 5),
             Row::Firm(7),
+            Row::Kept("K5", "firm 7", 5),
         ],
     ),
     (
@@ -301,8 +301,8 @@ static FIRM_TRANSFER: [Step; 5] = [
             Row::Desk([1, 2, 0, 4]),
             Row::Field("N1", "A-1", [0, 100, 40, 40, 34, 40]),
             Row::Field("S1", "A-1", [0, 50, 10, 10, 10, 16]),
-            Row::Kept("K4", "firm 8", 4),
             Row::Firm(8),
+            Row::Kept("K4", "firm 8", 4),
         ],
     ),
     (
