@@ -1,6 +1,6 @@
 -- The next ledger: how many of its orders are open, and the rows that an accepted request changes.
 use Rattle.book.proofs.Prelude.{[], ◌++◌, ◌+◌, ◌∙◌, ◌∷◌, ◌≡◌, ◌≤◌, BookView, Bool, Changes, ChangesTo, Command, Content, DeskCells, Effect, FieldCells, FirstFailure, Good, IfSome, Inside, IsAccepted, IsInRange, IsKey, IsRowsOf, Ledger, Leaves, List, MAX_PLACES, MoveEntry, None, Nothing, Opens, Option, Order, Request, Some, Step, accept, amount_rows, ap, arith, changed_rows, changes_field, checks, count_by, desk_row, effect, entry_row, false, field_row, field_rows, filter, flat_map, if◌then◌else◌, insert_in_order, is_open, kept_of, kept_row, ledger_of, length, map, mark_row, move_made, move_of, move_row, moves_after, name_of, nat_lt, new_key, next, open_orders, option_map, option_map_or, order_numbered, order_of, orders_after, places, pos, put_content, refl, state_row, step_to, steps, steps_of, subst, sym, true, view_of, with_fields, with_kept, with_moves, with_steps, ℕ}
-use Rattle.book.specs.Plans.{Makes}
+use Rattle.book.specs.inner.StepsSeen.{Makes}
 use Rattle.book.specs.Tables.{no_content}
 use Rattle.book.specs.declared.book.plan.PlanParts.{PlanParts}
 use Rattle.book.proofs.EqualRows.{one_content, rows_are, rows_of}

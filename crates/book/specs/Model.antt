@@ -1,7 +1,8 @@
 -- How contracts see a book: as its ledger, and the room that has been made.
-use Rattle.std.specs.Prelude.{ℕ, ◌-◌, List, map}
+use Rattle.std.specs.Prelude.{ℕ, ◌-◌, ◌+ℤ◌, ◌-ℤ◌, pos, List, map}
 use Rattle.std.specs.Vec.{vec_capacity, vec_len}
 use Rattle.book.specs.Ledger.{Field, Kept, Ledger, Move, Name, Order, name_of}
+use Rattle.book.specs.Rows.{FieldCells}
 use Rattle.book.specs.declared.book.Book.TheInside.{Inside}
 use Rattle.book.specs.declared.book.FieldEntry.{FieldEntry}
 use Rattle.book.specs.declared.book.KeptEntry.{KeptEntry}
@@ -22,6 +23,19 @@ pub record BookView : Type 0 where
 
 abbrev pub field_of : Name × FieldEntry → Field
 field_of e = record { name = e.0; lo = e.1.quantity.lo; hi = e.1.quantity.hi; start = e.1.start }
+
+-- the row that the entry of a field gives
+abbrev pub entry_row : Name × FieldEntry → FieldCells
+entry_row e = record {
+  branch = e.0.branch;
+  article = e.0.article;
+  lo = pos e.1.quantity.lo;
+  hi = pos e.1.quantity.hi;
+  start = pos e.1.start;
+  value = pos e.1.quantity.value;
+  inf = pos e.1.quantity.value -ℤ pos e.1.quantity.held_to_take;
+  sup = pos e.1.quantity.value +ℤ pos e.1.quantity.held_to_add;
+}
 
 abbrev pub move_of : MoveEntry → Move
 move_of e = record { place = e.place; field = name_of e.branch e.article; amount = e.amount }

@@ -1,4 +1,4 @@
--- The ledger after an accepted command: the entries that it adds or changes. It looks at no stock.
+-- What a command does to the orders, and the ledger after it. It looks at no stock.
 use Rattle.std.specs.Prelude.{ℕ, ◌+◌, ◌-◌, Bool, Option, None, Some, option_map, ◌&&◌, ◌||◌, not, false, true, ◌==◌, nat_lt, nat_le, List, [], ◌∷◌, ◌++◌, map, is_some, if◌then◌else◌}
 use Rattle.std.specs.Ordering.{is_lt, nat_cmp}
 use Rattle.std.specs.Cmp.Lexicographic.{slice_cmp}

@@ -1,15 +1,13 @@
 -- Plans of accepted requests, and what carrying one out needs.
 use Rattle.std.specs.Prelude.{ℕ, ◌+◌, ◌≤◌, ◌≡◌, List, [], ◌∷◌, Option, length, map, option_map}
 use Rattle.words.specs.declared.command.Request.{Request}
-use Rattle.book.specs.inner.After.{field_rows}
 use Rattle.book.specs.Answers.{IsAccepted}
 use Rattle.book.specs.Changes.{changed_rows, put_content}
 use Rattle.book.specs.Ledger.{Ledger, Move, Name, Order, open_orders, places}
 use Rattle.book.specs.Next.{accept, move_made, next}
 use Rattle.book.specs.Rows.{Content, IsRowsOf, desk_row}
-use Rattle.book.specs.inner.RunningNumbers.{entry_row}
 use Rattle.book.specs.Steps.{orders_made}
-use Rattle.book.specs.Model.{BookView, move_of, order_of}
+use Rattle.book.specs.Model.{BookView, entry_row, move_of, order_of}
 use Rattle.book.specs.declared.book.FieldEntry.{FieldEntry}
 use Rattle.book.specs.declared.book.plan.PlanParts.{PlanParts}
 
@@ -43,7 +41,6 @@ plan_of p changes = record {
 
 -- The rows are those that the request changes.
 pub record ChangesTo (A : Ledger) (r : Request) (rows : Content) : Type 0 where
-  -- of the next ledger's rows they are those that the request changes
   pub changed : (D : Content) → IsRowsOf (accept A r) D → rows ≡ changed_rows A r D
   -- put into the rows of the ledger by their keys, they give those of the next one
   pub suffice : (C D : Content) → IsRowsOf A C → IsRowsOf (accept A r) D → put_content rows C ≡ D
@@ -61,17 +58,6 @@ pub record Fits (A : Ledger) (plan : PlanView) : Type 0 where
   pub orders : plan.orders ≡ orders_made A plan.request.command
   pub changes : ChangesTo A plan.request plan.changes
   pub fields : map entry_row plan.fields ≡ plan.changes.fields
-
--- The parts are what the request makes of the ledger.
-pub record Makes (A : Ledger) (r : Request) (p : PlanParts) : Type 0 where
-  pub key : p.key ≡ r.key
-  pub command : p.words ≡ r.command
-  pub place : p.place ≡ places A + 1
-  pub clock : p.clock ≡ (next A r.command).clock
-  pub open_count : p.open_count ≡ open_orders (next A r.command)
-  pub moved : option_map move_of p.moved ≡ move_made p.place r.command
-  pub orders : map order_of p.orders.items ≡ orders_made A r.command
-  pub fields : map entry_row p.fields.entries ≡ field_rows A r
 
 -- The book has room for the plan: for the fields and the orders that change, a move and a kept key.
 pub record HasRoomFor (book : BookView) (plan : PlanView) : Type 0 where

@@ -1,6 +1,6 @@
--- What private clauses alone cite.
-pub mod After
+-- What no clause of a public function cites.
 pub mod Checking
+pub mod FieldRows
 pub mod InPlace
 pub mod KeptWords
 pub mod RowEntries

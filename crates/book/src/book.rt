@@ -144,9 +144,9 @@ impl Book {
         self.kept.get(&key)
     }
 
-    /// Makes room for the plan: for the fields and the orders that it changes, a move and a kept key. Room made before
-    /// stays, and the ledger is as it was, also after a refusal. Memory is wanted only where there was no room for the
-    /// plan.
+    /// Makes room for the plan: for the fields and the orders that it changes (an expiry each order that it aborts), a
+    /// move and a kept key. Room made before stays, and the ledger is as it was, also after a refusal. Memory is wanted
+    /// only where there was no room for the plan.
     pub fn make_room(&mut self, plan: &Plan) -> Result<(), Memory>
         requires { Fits self.old.ledger plan.now }
         ensures ok { OnOk result (HasRoomFor self.new plan.now) }

@@ -133,9 +133,9 @@ pub fn changes_suffice()
         → IsRowsOf A C → IsRowsOf (accept A r) D → put_content (changed_rows A r D) C ≡ D }
 {}
 
-/// The rows that an accepted command changes, command by command: of fields whose numbers change (also where they come
-/// out as they were), of moves, of orders that are new or end, of lines that are new or whose amounts change, and of new
-/// marks.
+/// The rows that an accepted command changes, command by command, besides the row of the desk and that of the key: of
+/// fields whose numbers are made anew (also where they come out as they were), of moves, of orders that are new or end,
+/// of lines that are new or whose amounts change, and of new marks.
 pub fn each_command_changes_its_rows()
     ensures field { (A : Ledger) (b a : List ℕ) (lo hi start : ℕ) → ChangesRows A (Field b a lo hi start)
         (record no_rows { fields = λ f. same_name f (name_of b a) }) }

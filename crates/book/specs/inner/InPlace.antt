@@ -1,4 +1,4 @@
--- How lines and orders change in place, and when they may.
+-- How lines and orders change in place, and when they may; a command's effect as the code has it.
 use Rattle.std.specs.Prelude.{ℕ, ◌+◌, ◌<◌, ◌≤◌, ◌≡◌, ◌||◌, true, List, [], ◌∷◌, ◌++◌, MatchOption, Some, find, if◌then◌else◌, is_some, map}
 use Rattle.std.specs.List.{AllByRecursion as Each}
 use Rattle.std.specs.Option.{option_map_or}

@@ -12,7 +12,7 @@ use Rattle.words.specs.Spelling.{IsInRange}
 use Rattle.words.specs.declared.command.Command.{Command}
 use Rattle.words.specs.declared.command.Request.{Request}
 use Rattle.words.specs.declared.open_line.OpenLine.{OpenLine}
-use Rattle.book.specs.inner.After.{field_row}
+use Rattle.book.specs.inner.FieldRows.{field_row}
 use Rattle.book.specs.Answers.{IsAccepted}
 use Rattle.book.specs.Changes.{changes_field}
 use Rattle.book.specs.Good.{Good}
@@ -22,26 +22,13 @@ use Rattle.book.specs.Next.{accept}
 use Rattle.book.specs.Outcomes.{settled, signed, total}
 use Rattle.book.specs.Rows.{FieldCells}
 use Rattle.book.specs.Steps.{LineStep, Step, changes_stock, lines_of, steps_of}
-use Rattle.book.specs.Model.{field_of, ledger_of}
+use Rattle.book.specs.Model.{entry_row, field_of, ledger_of}
 use Rattle.book.specs.declared.book.Book.TheInside.{Inside}
 use Rattle.book.specs.declared.book.FieldEntry.{FieldEntry}
 use Rattle.book.specs.declared.book.tables.sums.Numbers.{Numbers}
 use Rattle.book.specs.declared.order.Line.{Line}
 use Rattle.book.specs.declared.order.Share.{Share}
 use Rattle.book.specs.declared.order.State.{State}
-
--- the row that the entry of a field gives
-abbrev pub entry_row : Name × FieldEntry → FieldCells
-entry_row e = record {
-  branch = e.0.branch;
-  article = e.0.article;
-  lo = pos e.1.quantity.lo;
-  hi = pos e.1.quantity.hi;
-  start = pos e.1.start;
-  value = pos e.1.quantity.value;
-  inf = pos e.1.quantity.value -ℤ pos e.1.quantity.held_to_take;
-  sup = pos e.1.quantity.value +ℤ pos e.1.quantity.held_to_add;
-}
 
 -- The entry's quantity has the field's settled value, and what it holds is what the open orders hold on the field.
 abbrev pub IsUpToDate : Ledger → Name × FieldEntry → Type 0

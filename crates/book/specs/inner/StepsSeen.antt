@@ -1,16 +1,20 @@
--- Steps as the book sees them: the order before is looked up by its number.
-use Rattle.std.specs.Prelude.{ℕ, ◌++◌, ◌≡◌, List, [], None, Option, flat_map, option_map}
+-- Steps and the parts of a plan as the book sees them (an order before is looked up), and rows behind others.
+use Rattle.std.specs.Prelude.{ℕ, ◌+◌, ◌++◌, ◌≡◌, List, [], None, Option, flat_map, map, option_map}
 use Rattle.std.specs.Option.{option_map_or}
 use Rattle.std.specs.Ordering.{nat_cmp}
 use Rattle.std.specs.declared.cmp.Ordering.{Ordering}
 use Rattle.words.specs.declared.command.Command.{Command}
+use Rattle.words.specs.declared.command.Request.{Request}
 use Rattle.book.specs.Answers.{FirstFailure, checks}
 use Rattle.book.specs.Changes.{amount_rows, state_row, mark_row}
-use Rattle.book.specs.Ledger.{Ledger, Order, order_numbered}
-use Rattle.book.specs.Model.{order_of}
+use Rattle.book.specs.Ledger.{Ledger, Order, open_orders, order_numbered, places}
+use Rattle.book.specs.Model.{entry_row, move_of, order_of}
+use Rattle.book.specs.Next.{move_made, next}
 use Rattle.book.specs.Rows.{Content, FieldCells, FirmCells, KeptCells, LineCells, MoveCells, OrderCells}
 use Rattle.book.specs.Steps.{LineStep, Step, orders_made}
+use Rattle.book.specs.declared.book.plan.PlanParts.{PlanParts}
 use Rattle.book.specs.declared.order.Line.{Line}
+use Rattle.book.specs.inner.FieldRows.{field_rows}
 use Rattle.book.specs.declared.order.OrderEntry.{OrderEntry}
 
 abbrev pub step_seen : Option OrderEntry → ℕ × OrderEntry → Step
@@ -64,3 +68,14 @@ with_steps steps C = record C {
   lines = C.lines ++ flat_map amount_rows steps;
   firms = C.firms ++ flat_map mark_row steps;
 }
+
+-- The parts are what the request makes of the ledger.
+pub record Makes (A : Ledger) (r : Request) (p : PlanParts) : Type 0 where
+  pub key : p.key ≡ r.key
+  pub command : p.words ≡ r.command
+  pub place : p.place ≡ places A + 1
+  pub clock : p.clock ≡ (next A r.command).clock
+  pub open_count : p.open_count ≡ open_orders (next A r.command)
+  pub moved : option_map move_of p.moved ≡ move_made p.place r.command
+  pub orders : map order_of p.orders.items ≡ orders_made A r.command
+  pub fields : map entry_row p.fields.entries ≡ field_rows A r

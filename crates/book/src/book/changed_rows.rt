@@ -2,17 +2,17 @@
 
 ghost use Rattle.std.specs.List.{AllByRecursion as Each};
 ghost use Rattle.std.specs.Option.{option_copied};
-ghost use Rattle.std.specs.Prelude.{◌≡◌, ◌≤◌, ℕ, pos, string_bytes, IfOk, IfSome, ◌∷◌, ◌++◌, [], length, map, option_map, OnOk};
+ghost use Rattle.std.specs.Prelude.{◌≡◌, ◌≤◌, pos, string_bytes, IfOk, IfSome, ◌∷◌, ◌++◌, [], length, map, option_map, OnOk};
 ghost use Rattle.std.specs.Str.{IsUtf8};
 ghost use Rattle.words.specs.declared.limits.TheConstants.{MAX_ORDER_LINES};
 ghost use Rattle.book.specs.Changes.{amount_row, amount_rows, mark_row, state_row};
 ghost use Rattle.book.specs.Next.{moves_after, next};
 ghost use Rattle.book.specs.Rows.{kept_row, kind_code, line_row, move_row, order_row, state_code, way_code};
-ghost use Rattle.book.specs.inner.RunningNumbers.{Accepts, entry_row};
-ghost use Rattle.book.specs.inner.StepsSeen.{line_seen, step_seen, step_to, with_fields, with_firms, with_kept, with_lines, with_moves, with_orders, with_steps};
+ghost use Rattle.book.specs.inner.RunningNumbers.{Accepts};
+ghost use Rattle.book.specs.inner.StepsSeen.{Makes, line_seen, step_seen, step_to, with_fields, with_firms, with_kept, with_lines, with_moves, with_orders, with_steps};
 ghost use Rattle.book.specs.Tables.{desk_cells, field_cells, kept_cells, line_cells, move_cells, order_cells, rows_among};
-ghost use Rattle.book.specs.Model.{move_of, order_of};
-ghost use Rattle.book.specs.Plans.{ChangesTo, Makes};
+ghost use Rattle.book.specs.Model.{entry_row, move_of, order_of};
+ghost use Rattle.book.specs.Plans.{ChangesTo};
 
 use super::plan::PlanParts;
 use super::steps::{becomes_firm, changes_line, changes_state, line_before};

@@ -7,7 +7,7 @@ ghost use Rattle.words.specs.declared.command.Command.TheVariants as command;
 ghost use Rattle.book.specs.Next.{moved_at_once};
 ghost use Rattle.book.specs.Answers.{bounds_checks, checks, loose_checks, no_field, open_checks, order_checks, part_checks, line_checks};
 ghost use Rattle.book.specs.inner.Checking.{Finds, IsFound, bound_checks, hold_checks, refusal_of};
-ghost use Rattle.book.specs.Ledger.{is_open, order_numbered, name_of, Ledger, Name, field_named, on, open_orders, places};
+ghost use Rattle.book.specs.Ledger.{is_open, order_numbered, Ledger, Name, field_named, on, open_orders, places};
 ghost use Rattle.book.specs.Model.{order_of, field_of};
 ghost use Rattle.escrow.specs.Escrow.{bound_of, bounded, holding};
 ghost use Rattle.book.specs.Good.{Good};

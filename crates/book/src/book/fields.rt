@@ -7,11 +7,11 @@ ghost use Rattle.std.specs.List.Sorted.{IsStrictlySortedBy};
 ghost use Rattle.std.specs.Map.{keys_of};
 ghost use Rattle.std.specs.Option.{option_copied};
 ghost use Rattle.std.specs.Result.{IsOkAnd};
-ghost use Rattle.book.specs.inner.After.{field_rows};
+ghost use Rattle.book.specs.inner.FieldRows.{field_rows};
 ghost use Rattle.book.specs.inner.Checking.{IsFound};
 ghost use Rattle.book.specs.Ledger.{field_named, line_name, name_cmp};
-ghost use Rattle.book.specs.Model.{order_of};
-ghost use Rattle.book.specs.inner.RunningNumbers.{Accepts, Becomes, Counts, CountsAll, CountsMore, Falls, MayBecome, AreHeld, MayCount, ShareStep, entry_row, share_before, share_numbers, share_of, share_step, shares_of_step};
+ghost use Rattle.book.specs.Model.{entry_row, order_of};
+ghost use Rattle.book.specs.inner.RunningNumbers.{Accepts, Becomes, Counts, CountsAll, CountsMore, Falls, MayBecome, AreHeld, MayCount, ShareStep, share_before, share_numbers, share_of, share_step, shares_of_step};
 ghost use Rattle.book.specs.Steps.{orders_made};
 ghost use Rattle.book.specs.inner.StepsSeen.{line_seen, lines_before, step_seen, step_to};
 

@@ -1,7 +1,7 @@
 //! What a command does to the orders: those that it opens or changes, as they are then.
 
 ghost use Rattle.book.specs.inner.InPlace.{MayChange, MayChangeOrder, changed_line, changed_order, effect_seen, held_lines, lines_wanted, made_of, MayChangeUnder};
-ghost use Rattle.book.specs.Ledger.{line_name, on, order_numbered, open_state};
+ghost use Rattle.book.specs.Ledger.{line_name, on, open_state};
 ghost use Rattle.book.specs.Next.{Changes, Opens, change_lines, effect, expires, new_line, new_order, numbered};
 ghost use Rattle.book.specs.inner.RunningNumbers.{Accepts};
 ghost use Rattle.book.specs.Steps.{orders_made};
@@ -12,7 +12,7 @@ ghost use Rattle.book.specs.declared.order.State.TheVariants.{Aborted};
 ghost use Rattle.words.specs.Kinds.{is_opening};
 ghost use Rattle.words.specs.declared.open_line.OpenLine.{OpenLine};
 ghost use Rattle.std.specs.List.{AllByRecursion as Each, filter};
-ghost use Rattle.std.specs.Prelude.{◌≡◌, ℕ, ◌<◌, ◌≤◌, ◌+◌, ◌||◌, List, true, false, MatchOption, find, if◌then◌else◌, map, option_map, IfOk, Some, ◌∷◌, ◌++◌, [], ◌&&◌, not, nat_le, OnOk, flat_map};
+ghost use Rattle.std.specs.Prelude.{◌≡◌, ℕ, ◌<◌, ◌≤◌, ◌+◌, ◌||◌, true, false, MatchOption, find, if◌then◌else◌, map, IfOk, Some, ◌∷◌, ◌++◌, [], ◌&&◌, not, nat_le, OnOk, flat_map};
 ghost use Rattle.std.specs.Vec.{vec_capacity, vec_len};
 
 use super::Book;

@@ -1,10 +1,11 @@
 //! What is answered to a request, before it is carried out; plans of accepted requests.
 
 ghost use Rattle.book.specs.Answers.{IsAccepted};
+ghost use Rattle.book.specs.inner.StepsSeen.{Makes};
 ghost use Rattle.book.specs.inner.Checking.{IsFound};
 ghost use Rattle.book.specs.Next.{move_made, moved_at_once, transfer_lines};
 ghost use Rattle.book.specs.PlanAnswers.{Plans};
-ghost use Rattle.book.specs.Plans.{plan_of, Makes};
+ghost use Rattle.book.specs.Plans.{plan_of};
 ghost use Rattle.book.specs.inner.RunningNumbers.{Accepts};
 ghost use Rattle.book.specs.Tables.{rows_among};
 ghost use Rattle.book.specs.Model.{move_of};
