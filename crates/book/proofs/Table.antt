@@ -1,8 +1,8 @@
 -- The rows that each command changes, told from the steps that it makes.
-use Rattle.book.proofs.Prelude.{[], ◌&&◌, ◌++◌, ◌+◌, ◌-◌, ◌==◌, ◌||◌, ◌∙◌, ◌∷◌, ◌≡◌, ◌≤◌, ◌<◌, Aborted, Bool, Changes, Command, Content, Each, FirstFailure, Good, IsFalse, IsNone, IsSomeAnd, IsTrue, Ledger, Line, LineCells, List, Move, Name, None, Nothing, OpenLine, Opens, Option, Order, Some, State, Step, add_hold, amount_row, amount_rows, ap, append-nil, arith, becomes_firm, change_lines, changed_rows, changes_field, changes_held, changes_line, changes_state, changes_stock, checks, effect, expires, false, filter, firm_row, flat_map, hold_more, if◌then◌else◌, is_open, is_some, is_transfer, kept_row, line_name, line_on, line_row, line_steps, lines_from, lines_of, list_any, lower_held, map, mark_row, move_made, move_row, moves_after, name_of, new_key, new_line, not, numbered, on, open_state, option_map_or, order_lines, order_numbered, order_row, own_field, places, raise_held, raise_used, refl, same_name, set_firm, set_state, state_row, steps, steps_of, subst, sym, true, ℕ}
+use Rattle.book.proofs.Prelude.{[], ◌&&◌, ◌++◌, ◌+◌, ◌-◌, ◌==◌, ◌||◌, ◌∙◌, ◌∷◌, ◌≡◌, ◌≤◌, ◌<◌, Aborted, Bool, Changes, Command, Committed, Content, Each, FirstFailure, Good, IsFalse, IsInRange, IsNone, IsSomeAnd, IsTrue, Ledger, Line, LineCells, List, Move, Name, None, Nothing, OpenLine, Opens, Option, Order, Request, Some, State, Step, add_hold, amount_row, amount_rows, ap, append-nil, arith, becomes_firm, change_lines, changed_rows, changes_field, changes_held, changes_line, changes_state, changes_stock, checks, effect, expires, false, filter, firm_row, flat_map, hold_more, if◌then◌else◌, is_open, is_some, is_transfer, kept_row, line_name, line_on, line_row, line_steps, lines_from, lines_of, list_any, lower_held, map, mark_row, move_made, move_row, moves_after, name_of, new_key, new_line, not, numbered, on, open_state, option_map_or, order_lines, order_numbered, order_row, own_field, places, raise_held, raise_used, refl, same_name, set_firm, set_state, state_row, steps, steps_of, subst, sym, true, ℕ}
 use Rattle.words.specs.declared.command.Command.TheVariants as command
 use Rattle.book.specs.Rows.{MoveCells}
-use Rattle.book.specs.Table.{TableRows, has_line_on, has_part_on, no_rows, part_rows, rows_told}
+use Rattle.book.specs.RowsByCommand.{TableRows, has_line_on, has_part_on, no_rows, of_order, opened_rows, part_rows, rows_by_command, rows_told}
 use Rattle.book.proofs.CommandOrder.{each-found}
 use Rattle.book.proofs.FieldRows.{held_fields, one_step, or_nothing, step_more}
 use Rattle.book.proofs.Futures.{Usable, all_pass, fit_from_good, left_on, loose_there, open_there, usable_there}
@@ -20,19 +20,19 @@ pub record HasRows (A : Ledger) (c : Command) (t : TableRows) : Type 0 where
   pub lines : flat_map amount_rows (steps_of A c) ≡ t.lines
   pub firms : flat_map mark_row (steps_of A c) ≡ t.firms
 
-pub all_told : (A : Ledger) (c : Command) (t : TableRows) → HasRows A c t → (key : List ℕ) (next : Content) → changed_rows A (record { key = key; command = c }) next ≡ rows_told t A (record { key = key; command = c }) next
-all_told A c t has key next = λ i. record {
+pub all_told : (A : Ledger) (r : Request) → HasRows A r.command (rows_by_command A r.command) → (next : Content) → changed_rows A r next ≡ rows_told A r next
+all_told A r has next = λ i. record {
   desk = next.desk;
   fields = filter (λ row. has.fields (name_of row.branch row.article) i) next.fields;
   moves = has.moves i;
   orders = has.orders i;
   lines = has.lines i;
-  kept = kept_row (new_key A (record { key = key; command = c })) ∷ [];
+  kept = kept_row (new_key A r) ∷ [];
   firms = has.firms i;
 }
 
 -- a command that changes no order
-pub own_rows : (A : Ledger) (c : Command) (n : Name) (moves : List MoveCells) → own_field c ≡ Some n → effect c ≡ Nothing → map move_row (moves_after (move_made (places A + 1) c) []) ≡ moves → HasRows A c (record no_rows { fields = λ f. same_name f n; moves = moves })
+own_rows : (A : Ledger) (c : Command) (n : Name) (moves : List MoveCells) → own_field c ≡ Some n → effect c ≡ Nothing → map move_row (moves_after (move_made (places A + 1) c) []) ≡ moves → HasRows A c (record no_rows { fields = λ f. same_name f n; moves = moves })
 own_rows A c n moves own unordered moved = record {
   fields = λ f. (λ i. option_map_or (same_name f) (own i) false || list_any (λ s. list_any (λ l. on f l.after && changes_stock s l) (lines_of s)) (steps (unordered i) A.orders)) ∙ or_nothing (same_name f n);
   moves = moved;
@@ -90,9 +90,9 @@ no_amounts n nr (l ∷ ls) = let more = no_amounts n (nr + 1) ls in grind (arith
 
 -- ---- a new order
 
-pub opened_rows : (A : Ledger) (c : Command) (o : Order) → own_field c ≡ None → move_made (places A + 1) c ≡ None → effect c ≡ Opens o → o.firm ≡ false
-    → HasRows A c (record no_rows { fields = λ f. has_line_on f o; orders = order_row o ∷ []; lines = order_lines o })
-opened_rows A c o own unmoved opens loose = one_rows A c (record { before = None; after = o }) _ own unmoved refl (ap (λ e. steps e A.orders) opens) (record {
+opens_rows : (A : Ledger) (c : Command) (o : Order) → own_field c ≡ None → move_made (places A + 1) c ≡ None → effect c ≡ Opens o → o.firm ≡ false
+    → HasRows A c (opened_rows o)
+opens_rows A c o own unmoved opens loose = one_rows A c (record { before = None; after = o }) _ own unmoved refl (ap (λ e. steps e A.orders) opens) (record {
   fields = λ f. all_fields (record { before = None; after = o }) f 1 [] o.lines refl;
   orders = refl;
   lines = new_amounts o.number 1 o.lines;
@@ -115,13 +115,13 @@ end_step o state unended ends = record {
     or_true : (x y z : Bool) → x ≡ true → y ≡ false → ((x && not y) || z) ≡ true
     or_true x y z d e = grind arith
 
-pub ended_rows : (A : Ledger) (c : Command) (n : ℕ) (state : State) (o : Order) → own_field c ≡ None → move_made (places A + 1) c ≡ None → effect c ≡ Changes (numbered n) (set_state state) → open_state state ≡ false → order_numbered A n ≡ Some o → Good A
+ended_rows : (A : Ledger) (c : Command) (n : ℕ) (state : State) (o : Order) → own_field c ≡ None → move_made (places A + 1) c ≡ None → effect c ≡ Changes (numbered n) (set_state state) → open_state state ≡ false → order_numbered A n ≡ Some o → Good A
     → (IsNone (order_numbered A n) → ⊥) → (IsSomeAnd (order_numbered A n) (λ o. IsFalse (is_open o)) → ⊥) → HasRows A c (record no_rows { fields = λ f. has_line_on f o; orders = order_row (set_state state o) ∷ [] })
 ended_rows A c n state o own unmoved changes ends there good found unended =
     one_rows A c (record { before = Some o; after = set_state state o }) _ own unmoved refl (ap (λ e. steps e A.orders) changes ∙ found_step A n (set_state state) o good there)
     (end_step o state (of_found (λ o. is_open o ≡ true) (order_numbered A n) o there (open_there (order_numbered A n) found unended)) ends)
 
-pub firmed_rows : (A : Ledger) (n : ℕ) (o : Order) → order_numbered A n ≡ Some o → Good A → FirstFailure (checks A (command.Firm n)) None → HasRows A (command.Firm n) (record no_rows { fields = λ f. has_line_on f o; firms = firm_row n ∷ [] })
+firmed_rows : (A : Ledger) (n : ℕ) (o : Order) → order_numbered A n ≡ Some o → Good A → FirstFailure (checks A (command.Firm n)) None → HasRows A (command.Firm n) (record no_rows { fields = λ f. has_line_on f o; firms = firm_row n ∷ [] })
 firmed_rows A n o there good passed =
     let p = all_pass (checks A (command.Firm n)) passed in
     let may = of_found (λ o. (is_open o ≡ true) × (o.firm ≡ false)) (order_numbered A n) o there (loose_there (order_numbered A n) p.1.0 p.1.1.0 p.1.1.1.0) in
@@ -176,7 +176,7 @@ module _ (now : ℕ) where
       by true e more = λ i. none o e i ++ more i
       by false e more = more
 
-  pub expired_rows : (A : Ledger) → HasRows A (command.Expire now) (record no_rows {
+  expired_rows : (A : Ledger) → HasRows A (command.Expire now) (record no_rows {
     fields = λ f. list_any (has_line_on f) (filter (expires now) A.orders);
     orders = map (λ o. order_row (set_state Aborted o)) (filter (expires now) A.orders);
   })
@@ -274,14 +274,14 @@ part_left : (A : Ledger) (n : ℕ) (part : Name) (q : ℕ) (o : Order) → order
 part_left A n part q o there good found unended held within =
     left_on part q o (each-found _ (numbered n) o A.orders (fit_from_good A good).orders there) (of_found (Usable part q) (order_numbered A n) o there (usable_there part q (order_numbered A n) found unended held within))
 
-pub used_rows : (A : Ledger) (n : ℕ) (b a : List ℕ) (q : ℕ) (o : Order) → order_numbered A n ≡ Some o → Good A → 1 ≤ q → FirstFailure (checks A (command.Use n b a q)) None
+used_rows : (A : Ledger) (n : ℕ) (b a : List ℕ) (q : ℕ) (o : Order) → order_numbered A n ≡ Some o → Good A → 1 ≤ q → FirstFailure (checks A (command.Use n b a q)) None
     → HasRows A (command.Use n b a q) (record no_rows { fields = λ f. o.firm && has_part_on (name_of b a) f o; lines = part_rows (name_of b a) (change_lines (name_of b a) (raise_used q) o) })
 used_rows A n b a q o there good some passed =
     let p = all_pass (checks A (command.Use n b a q)) passed in
     one_rows A (command.Use n b a q) (record { before = Some o; after = change_lines (name_of b a) (raise_used q) o }) _ refl refl refl (found_step A n (change_lines (name_of b a) (raise_used q)) o good there)
     (part_step (raise_used q) q false (used_partly q some) (name_of b a) o (part_left A n (name_of b a) q o there good p.1.0 p.1.1.0 p.1.1.1.0 p.1.1.1.1.0))
 
-pub released_rows : (A : Ledger) (n : ℕ) (b a : List ℕ) (q : ℕ) (o : Order) → order_numbered A n ≡ Some o → Good A → 1 ≤ q → FirstFailure (checks A (command.Release n b a q)) None
+released_rows : (A : Ledger) (n : ℕ) (b a : List ℕ) (q : ℕ) (o : Order) → order_numbered A n ≡ Some o → Good A → 1 ≤ q → FirstFailure (checks A (command.Release n b a q)) None
     → HasRows A (command.Release n b a q) (record no_rows { fields = λ f. has_part_on (name_of b a) f o; lines = part_rows (name_of b a) (change_lines (name_of b a) (lower_held q) o) })
 released_rows A n b a q o there good some passed =
     let p = all_pass (checks A (command.Release n b a q)) passed in
@@ -340,7 +340,7 @@ more_step l o some unended loose plain =
       unmarked true,
     )
 
-pub more_rows : (A : Ledger) (n : ℕ) (l : OpenLine) (o : Order) → order_numbered A n ≡ Some o → Good A → 1 ≤ l.qty → FirstFailure (checks A (command.More n l.way l.branch l.article l.qty)) None
+more_rows : (A : Ledger) (n : ℕ) (l : OpenLine) (o : Order) → order_numbered A n ≡ Some o → Good A → 1 ≤ l.qty → FirstFailure (checks A (command.More n l.way l.branch l.article l.qty)) None
     → HasRows A (command.More n l.way l.branch l.article l.qty) (record no_rows { fields = λ f. same_name f (name_of l.branch l.article); lines = part_rows (name_of l.branch l.article) (add_hold l o) })
 more_rows A n l o there good some passed =
     let p = all_pass (checks A (command.More n l.way l.branch l.article l.qty)) passed in
@@ -350,3 +350,40 @@ more_rows A n l o there good some passed =
   where
     plain_there : (x : Option Order) → (IsNone x → ⊥) → (IsSomeAnd x (λ o. IsTrue (is_transfer o)) → ⊥) → IsSomeAnd x (λ o. is_transfer o ≡ false)
     plain_there x found plain = grind arith
+
+-- ---- the table
+
+-- what holds of the order that the command's checks find
+of_there : (A : Ledger) (c : Command) (n : ℕ) (rows : Order → TableRows) → (IsNone (order_numbered A n) → ⊥) → ((o : Order) → order_numbered A n ≡ Some o → HasRows A c (rows o)) → HasRows A c (of_order A n rows)
+of_there A c n rows found has = by (order_numbered A n) refl
+  where
+    by : (x : Option Order) → order_numbered A n ≡ x → HasRows A c (option_map_or rows x no_rows)
+    by None e = absurd (found (subst IsNone (sym e) tt))
+    by (Some o) e = has o e
+
+pub table_holds : (A : Ledger) (c : Command) → Good A → IsInRange c → FirstFailure (checks A c) None → HasRows A c (rows_by_command A c)
+table_holds A (command.Field b a lo hi start) good range passed = own_rows A (command.Field b a lo hi start) (name_of b a) _ refl refl refl
+table_holds A (command.Deliver b a q) good range passed = own_rows A (command.Deliver b a q) (name_of b a) _ refl refl refl
+table_holds A (command.Writeoff b a q) good range passed = own_rows A (command.Writeoff b a q) (name_of b a) _ refl refl refl
+table_holds A (command.Rebound b a lo hi) good range passed = own_rows A (command.Rebound b a lo hi) (name_of b a) _ refl refl refl
+table_holds A (command.Open n until lines) good range passed = opens_rows A (command.Open n until lines) _ refl refl refl refl
+table_holds A (command.Transfer n until a from to q) good range passed = opens_rows A (command.Transfer n until a from to q) _ refl refl refl refl
+table_holds A (command.More n way b a q) good range passed =
+    let p = all_pass (checks A (command.More n way b a q)) passed in
+    of_there A (command.More n way b a q) n _ p.1.0 (λ o there. more_rows A n (record { way = way; branch = b; article = a; qty = q }) o there good range.3.0 passed)
+table_holds A (command.Use n b a q) good range passed =
+    let p = all_pass (checks A (command.Use n b a q)) passed in
+    of_there A (command.Use n b a q) n _ p.1.0 (λ o there. used_rows A n b a q o there good range.3.0 passed)
+table_holds A (command.Release n b a q) good range passed =
+    let p = all_pass (checks A (command.Release n b a q)) passed in
+    of_there A (command.Release n b a q) n _ p.1.0 (λ o there. released_rows A n b a q o there good range.3.0 passed)
+table_holds A (command.Commit n) good range passed =
+    let p = all_pass (checks A (command.Commit n)) passed in
+    of_there A (command.Commit n) n _ p.0 (λ o there. ended_rows A (command.Commit n) n Committed o refl refl refl refl there good p.0 p.1.0)
+table_holds A (command.Abort n) good range passed =
+    let p = all_pass (checks A (command.Abort n)) passed in
+    of_there A (command.Abort n) n _ p.0 (λ o there. ended_rows A (command.Abort n) n Aborted o refl refl refl refl there good p.0 p.1.0)
+table_holds A (command.Firm n) good range passed =
+    let p = all_pass (checks A (command.Firm n)) passed in
+    of_there A (command.Firm n) n _ p.1.0 (λ o there. firmed_rows A n o there good passed)
+table_holds A (command.Expire now) good range passed = expired_rows now A

@@ -13,6 +13,6 @@ pub mod PlanAnswers
 pub mod Rows
 pub mod Steps
 pub mod Changes
-pub mod Table
+pub mod RowsByCommand
 pub mod Tables
 pub mod inner

@@ -84,6 +84,10 @@ pub data Effect : Type 0 where
   Changes : (Order → Bool) → (Order → Order) → Effect
 
 abbrev pub effect : Command → Effect
+effect (Field b a lo hi start) = Nothing
+effect (Deliver b a q) = Nothing
+effect (Writeoff b a q) = Nothing
+effect (Rebound b a lo hi) = Nothing
 effect (Open n until lines) = Opens (new_order n kind.Plain until lines)
 effect (Transfer n until a from to q) = Opens (new_order n kind.Transfer until (transfer_lines a from to q))
 effect (More n way b a q) = Changes (numbered n) (add_hold (record { way = way; branch = b; article = a; qty = q }))
@@ -93,7 +97,6 @@ effect (Commit n) = Changes (numbered n) (set_state state.Committed)
 effect (Abort n) = Changes (numbered n) (set_state state.Aborted)
 effect (Firm n) = Changes (numbered n) set_firm
 effect (Expire now) = Changes (expires now) (set_state state.Aborted)
-effect c = Nothing
 
 -- the field whose value the command moves at once, the way, and how much
 abbrev pub moved_at_once : Command → Option (Name × Way × ℕ)

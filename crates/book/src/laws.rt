@@ -1,6 +1,6 @@
 //! Laws of ledgers, answers and runs, and worked examples of the rules.
 
-ghost use Rattle.book.specs.Answers.{After, Answers, IsAccepted, Runs, bound, same_command};
+ghost use Rattle.book.specs.Answers.{After, Answers, FirstFailure, IsAccepted, Runs, bound, checks, same_command};
 ghost use Rattle.book.specs.Changes.{changed_rows, put_content};
 ghost use Rattle.book.specs.Examples.{Plays, firm_order, firm_transfer, long_script, other_bounds, release_and_abort, tight_bounds, transfer};
 ghost use Rattle.book.specs.Future.{Honours, HonoursAlways, Settles, StaysFirm};
@@ -10,7 +10,7 @@ ghost use Rattle.book.specs.Ledger.{Field as FieldOf, Ledger, Name, Order, is_tr
 ghost use Rattle.book.specs.Next.{accept, add_hold, change_lines, expires, lower_held, new_line, new_order, next, raise_used, set_state, transfer_lines, with_order};
 ghost use Rattle.book.specs.Outcomes.{FallsBelow, IsInfimum, IsSupremum, RisesAbove, article_total, settled};
 ghost use Rattle.book.specs.Rows.{Content, IsInKeyOrder, IsRowsOf, firm_row, move_row, order_lines, order_row};
-ghost use Rattle.book.specs.Table.{ChangesRows, has_line_on, has_part_on, no_rows, part_rows};
+ghost use Rattle.book.specs.RowsByCommand.{rows_told};
 ghost use Rattle.book.specs.Tables.{rows_among};
 ghost use Rattle.book.specs.declared.order.Kind.{Kind};
 ghost use Rattle.book.specs.declared.rows.Change.{Change};
@@ -133,60 +133,11 @@ pub fn changes_suffice()
         → IsRowsOf A C → IsRowsOf (accept A r) D → put_content (changed_rows A r D) C ≡ D }
 {}
 
-/// The rows that an accepted command changes, command by command, besides the row of the desk and that of the key: of
-/// fields whose numbers are made anew (also where they come out as they were), of moves, of orders that are new or end,
-/// of lines that are new or whose amounts change, and of new marks.
+/// The rows that an accepted request in range changes at a good ledger are those of the table, in which each command
+/// has a line.
 pub fn each_command_changes_its_rows()
-    ensures field { (A : Ledger) (b a : List ℕ) (lo hi start : ℕ) → ChangesRows A (Field b a lo hi start)
-        (record no_rows { fields = λ f. same_name f (name_of b a) }) }
-    ensures deliver { (A : Ledger) (b a : List ℕ) (q : ℕ) → ChangesRows A (Deliver b a q) (record no_rows {
-      fields = λ f. same_name f (name_of b a);
-      moves = move_row (record { place = places A + 1; field = name_of b a; amount = pos q }) ∷ [];
-    }) }
-    ensures writeoff { (A : Ledger) (b a : List ℕ) (q : ℕ) → ChangesRows A (Writeoff b a q) (record no_rows {
-      fields = λ f. same_name f (name_of b a);
-      moves = move_row (record { place = places A + 1; field = name_of b a; amount = neg_ℤ (pos q) }) ∷ [];
-    }) }
-    ensures rebound { (A : Ledger) (b a : List ℕ) (lo hi : ℕ) → ChangesRows A (Rebound b a lo hi)
-        (record no_rows { fields = λ f. same_name f (name_of b a) }) }
-    ensures open { (A : Ledger) (n until : ℕ) (lines : List OpenLine) → let o = new_order n Plain until lines in
-        ChangesRows A (Open n until lines) (record no_rows {
-          fields = λ f. has_line_on f o;
-          orders = order_row o ∷ [];
-          lines = order_lines o;
-        }) }
-    ensures transfer { (A : Ledger) (n until : ℕ) (a from to : List ℕ) (q : ℕ)
-        → let o = new_order n Transfer until (transfer_lines a from to q) in
-        ChangesRows A (command.Transfer n until a from to q) (record no_rows {
-          fields = λ f. has_line_on f o;
-          orders = order_row o ∷ [];
-          lines = order_lines o;
-        }) }
-    ensures more { (A : Ledger) (n : ℕ) (l : OpenLine) (o : Order) → order_numbered A n ≡ Some o
-        → ChangesRows A (More n l.way l.branch l.article l.qty) (record no_rows {
-          fields = λ f. same_name f (name_of l.branch l.article);
-          lines = part_rows (name_of l.branch l.article) (add_hold l o);
-        }) }
-    ensures uses { (A : Ledger) (n : ℕ) (b a : List ℕ) (q : ℕ) (o : Order) → order_numbered A n ≡ Some o
-        → ChangesRows A (Use n b a q) (record no_rows {
-          fields = λ f. o.firm && has_part_on (name_of b a) f o;
-          lines = part_rows (name_of b a) (change_lines (name_of b a) (raise_used q) o);
-        }) }
-    ensures release { (A : Ledger) (n : ℕ) (b a : List ℕ) (q : ℕ) (o : Order) → order_numbered A n ≡ Some o
-        → ChangesRows A (Release n b a q) (record no_rows {
-          fields = λ f. has_part_on (name_of b a) f o;
-          lines = part_rows (name_of b a) (change_lines (name_of b a) (lower_held q) o);
-        }) }
-    ensures commit { (A : Ledger) (n : ℕ) (o : Order) → order_numbered A n ≡ Some o → ChangesRows A (Commit n)
-        (record no_rows { fields = λ f. has_line_on f o; orders = order_row (set_state Committed o) ∷ [] }) }
-    ensures abort { (A : Ledger) (n : ℕ) (o : Order) → order_numbered A n ≡ Some o → ChangesRows A (Abort n)
-        (record no_rows { fields = λ f. has_line_on f o; orders = order_row (set_state Aborted o) ∷ [] }) }
-    ensures firm { (A : Ledger) (n : ℕ) (o : Order) → order_numbered A n ≡ Some o → ChangesRows A (Firm n)
-        (record no_rows { fields = λ f. has_line_on f o; firms = firm_row n ∷ [] }) }
-    ensures expire { (A : Ledger) (now : ℕ) → ChangesRows A (Expire now) (record no_rows {
-      fields = λ f. list_any (has_line_on f) (filter (expires now) A.orders);
-      orders = map (λ o. order_row (set_state Aborted o)) (filter (expires now) A.orders);
-    }) }
+    ensures { (A : Ledger) (r : Request) (next : Content) → Good A → IsInRange r.command
+        → FirstFailure (checks A r.command) None → changed_rows A r next ≡ rows_told A r next }
 {}
 
 /// The rows of two lists of changes, put in together, are those of the first put in, and then those of the second.
