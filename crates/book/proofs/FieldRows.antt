@@ -13,7 +13,7 @@ use Rattle.book.proofs.Futures.{all_pass, name_is}
 use Rattle.book.proofs.Safety.{none_if_not_some, bounding, found_bounded, takes_more}
 use Rattle.book.proofs.Comparisons.{more_sums}
 use Rattle.book.proofs.RunningNumbers.{new_field, numbers_up}
-use Rattle.book.proofs.Steps.{adds_next, changes_share, takes_next, value_next}
+use Rattle.book.proofs.Steps.{adds_next, changes_share, moves_alone, takes_next, value_next}
 use Rattle.book.proofs.Sums.{each, each-both, each-imp}
 
 pub entry_is : (B : Ledger) (f : Name) (e : FieldEntry) (new : Stock) → new.lo ≡ e.quantity.lo → new.hi ≡ e.quantity.hi → pos new.value ≡ settled B (field_of (f, e)) → pos new.held_to_take ≡ held_to_take B f → pos new.held_to_add ≡ held_to_add B f
@@ -70,9 +70,12 @@ record MovesAtOnce (A : Ledger) (c : Command) (n : Name) (w : Way) (q : ℕ) : T
   fields : (next A c).fields ≡ A.fields
 
 moves_at_once : (A : Ledger) (c : Command) (n : Name) (w : Way) (q : ℕ) → moved_at_once c ≡ Some (n, w, q) → MovesAtOnce A c n w q
-moves_at_once A (command.Deliver b a p) n w q e = subst (λ (m : Name × Way × ℕ). MovesAtOnce A (command.Deliver b a p) m.0 m.1 m.2) (some_is _ (n, w, q) e) (record { names = λ f. or_nothing (same_name f (name_of b a)); moves = ap (λ t. if t then pos p else pos 0) (same_self (name_of b a)); steps = refl; fields = refl })
-moves_at_once A (command.Writeoff b a p) n w q e = subst (λ (m : Name × Way × ℕ). MovesAtOnce A (command.Writeoff b a p) m.0 m.1 m.2) (some_is _ (n, w, q) e) (record { names = λ f. or_nothing (same_name f (name_of b a)); moves = ap (λ t. if t then signed Take p else pos 0) (same_self (name_of b a)); steps = refl; fields = refl })
-moves_at_once A c n w q e = absurd (true≢false (sym (ap is_some e)))
+moves_at_once A c n w q e = let alone = moves_alone c (n, w, q) e in record {
+  names = λ f. (λ i. option_map_or (same_name f) (alone.own i) false || list_any (λ s. list_any (λ l. on f l.after && changes_stock s l) (lines_of s)) (steps (alone.unordered i) A.orders)) ∙ or_nothing (same_name f n);
+  moves = ap (λ (x : Option (Name × Way × ℕ)). option_map_or (λ m. if same_name n m.0 then signed m.1 m.2 else pos 0) x (pos 0)) e ∙ ap (λ t. if t then signed w q else pos 0) (same_self n);
+  steps = ap (λ (e : Effect). flat_map shares_of_step (steps e A.orders)) alone.unordered;
+  fields = alone.fields A.fields;
+}
 
 pub moved_found : (A : Ledger) (c : Command) (n : Name) (w : Way) (q : ℕ) (e : FieldEntry) (new : Stock) → moved_at_once c ≡ Some (n, w, q) → IsUpToDate A (n, e) → field_named A n ≡ Some (field_of (n, e)) → MovesValue e.quantity w q new → IsOnly A c (n, record { start = e.start; quantity = new })
 moved_found A c n w q e new is up there moves key accepts =

@@ -240,6 +240,17 @@ orders_add part is f (Opens o) os goes =
     omega (arith, ints)
 orders_add part is f (Changes names change) os goes = changed_add part is f names change os goes
 
+-- ---- a move at once
+
+-- The command does nothing but move the value of that field, which is its own.
+pub record MovesAlone (c : Command) (m : Name × Way × ℕ) : Type 0 where
+  pub own : own_field c ≡ Some m.0
+  pub unordered : effect c ≡ Nothing
+  pub fields : (fields : List Field) → fields_after c fields ≡ fields
+
+pub moves_alone : (c : Command) (m : Name × Way × ℕ) → moved_at_once c ≡ Some m → MovesAlone c m
+moves_alone c m e = record { own = grind arith; unordered = grind arith; fields = λ fields. grind arith }
+
 -- ---- the numbers of the next ledger
 
 module _ (A : Ledger) (c : Command) (good : Good A) (passed : FirstFailure (checks A c) None) where
@@ -391,13 +402,12 @@ same_numbers A c f good passed e =
     let no_adds = none_added add_part f.name (share_steps A c) same none in
     (omega (arith, ints), omega (arith, ints), omega (arith, ints))
   where
-    off_field : (g : Name) (z : ℤ) → same_name f.name g ≡ false → (if same_name f.name g then z else pos 0) ≡ pos 0
-    off_field g z k = ap (λ b. if b then z else pos 0) k
-
     not_moved : (c : Command) → option_map_or (same_name f.name) (own_field c) false ≡ false → moved_by_command f.name c ≡ pos 0
-    not_moved (command.Deliver b a q) k = off_field (name_of b a) (pos q) k
-    not_moved (command.Writeoff b a q) k = off_field (name_of b a) (signed Take q) k
-    not_moved c k = grind arith
+    not_moved c k = by (moved_at_once c) refl
+      where
+        by : (x : Option (Name × Way × ℕ)) → moved_at_once c ≡ x → option_map_or (λ m. if same_name f.name m.0 then signed m.1 m.2 else pos 0) x (pos 0) ≡ pos 0
+        by None e = refl
+        by (Some m) e = ap (λ b. if b then signed m.1 m.2 else pos 0) (sym (ap (λ x. option_map_or (same_name f.name) x false) (moves_alone c m e).own) ∙ k)
 
 -- ---- one line after the other
 

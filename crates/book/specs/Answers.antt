@@ -99,6 +99,10 @@ abbrev pub bounds_checks : Ledger → Name → ℕ → ℕ → List Check
 bounds_checks A f lo hi = let B = next A (Rebound f.branch f.article lo hi) in
     check (hi < lo) refusal.BadBounds ∷ bound way.Take B f 0 ∷ bound way.Add B f 0 ∷ []
 
+-- the checks of a command that moves a field's value at once; the ledger tested is the next one
+abbrev pub moving_checks : Ledger → Command → Way → Name → List Check
+moving_checks A c w f = full A 1 ∷ no_field A f 0 ∷ bound w (next A c) f 0 ∷ []
+
 -- the checks of a use and of a release, both of a part of what the order's line holds
 abbrev pub part_checks : Ledger → ℕ → Name → ℕ → List Check
 part_checks A n f q = full A 1 ∷ no_order A n ∷ ended A n ∷ not_held A n f ∷ over_use A n f q ∷ []
@@ -116,10 +120,8 @@ abbrev pub checks : Ledger → Command → List Check
 checks A (Field b a lo hi start) = full A 1 ∷ check (MAX_FIELDS ≤ length A.fields) refusal.Full
     ∷ check (IsSome (field_named A (name_of b a))) refusal.FieldThere
     ∷ check ((lo ≤ start) × (start ≤ hi) → ⊥) refusal.BadBounds ∷ []
-checks A (Deliver b a q) = let f = name_of b a in
-    full A 1 ∷ no_field A f 0 ∷ bound way.Add (next A (Deliver b a q)) f 0 ∷ []
-checks A (Writeoff b a q) = let f = name_of b a in
-    full A 1 ∷ no_field A f 0 ∷ bound way.Take (next A (Writeoff b a q)) f 0 ∷ []
+checks A (Deliver b a q) = moving_checks A (Deliver b a q) way.Add (name_of b a)
+checks A (Writeoff b a q) = moving_checks A (Writeoff b a q) way.Take (name_of b a)
 checks A (Rebound b a lo hi) = let f = name_of b a in full A 1 ∷ no_field A f 0 ∷ bounds_checks A f lo hi
 checks A (Open n until lines) = order_checks A n until ++ line_checks A (new_order n kind.Plain until) [] lines
 checks A (Transfer n until a from to q) = order_checks A n until
