@@ -1,6 +1,6 @@
 //! Entries in the order of their keys: found by halving, and put in by moving indexes alone.
 
-ghost use Rattle.std.specs.Prelude.{◌≡◌, ◌≤◌, ◌<◌, ◌+◌, ◌-◌, ◌^◌, [], length, slice_get, IfOk, IfErr, OnOk, OnErr, vec_len};
+ghost use Rattle.std.specs.Prelude.{◌≡◌, ◌≤◌, ◌<◌, ◌+◌, ◌-◌, ◌^◌, [], length, slice_get, IfOk, IfErr, IsSome, OnOk, OnErr, vec_len};
 ghost use Rattle.std.specs.List.Sorted.{IsPermutation, IsStrictlySortedBy};
 ghost use Rattle.std.specs.Borrow.{sem};
 ghost use Rattle.std.specs.Option.{option_copied, option_copied_mut};
@@ -167,15 +167,18 @@ impl<K: Ord, V> InOrder<K, V> {
         };
     }
 
-    /// Puts an entry in: in place of the one under its key, or else at its place. Takes no memory.
+    /// Puts an entry in: in place of the one under its key, or else at its place. Takes no memory: that for a new
+    /// entry must have been reserved. Where the key is there, no room is needed and none is taken.
     pub fn put(&mut self, key: K, value: V)
     where
         K: Drop,
         V: Drop,
-        requires { 1 ≤ self.old.room }
+        requires { lookup (is_at (K.cmp key)) self.old.entries ≡ None → 1 ≤ self.old.room }
         ensures entries { self.new.entries ≡ insert_entry K.cmp self.old.entries key value }
         ensures room { self.old.room ≤ self.new.room + 1 }
         ensures no_more { self.new.room ≤ self.old.room }
+        ensures kept { IsSome (lookup (is_at (K.cmp key)) self.old.entries) → self.new.room ≡ self.old.room }
+        ensures taken { lookup (is_at (K.cmp key)) self.old.entries ≡ None → self.new.room + 1 ≡ self.old.room }
         ensures rising { IsStrictlySortedBy K.cmp (keys_of self.old.entries) }
     {
         match self.get_mut(&key) {
