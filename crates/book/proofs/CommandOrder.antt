@@ -1,7 +1,8 @@
 -- An order, changed in a copy and put in by its number.
-use Rattle.book.proofs.Prelude.{[], ◌+ℤ◌, ◌+◌, ◌-◌, ◌<◌, ◌==◌, ◌∙◌, ◌∷◌, ◌≡◌, ◌≤◌, Bool, Changes, Each, Effect, Good, IsGoodLine, IsGoodOrder, IsStrictlySortedBy, Ledger, Line, List, MayChangeOrder, None, OpenLine, Option, Order, OrderEntry, Request, Some, accept, add_hold, ap, arith, changed_line, changed_order, common_steps, effect, false, find, if◌then◌else◌, insert_entry, is_some, map, nat_cmp, number_cmp, numbered, option_map, order_of, orders_after, pos, put_row, refl, subst, sym, total, true, true≢false, vec_capacity, vec_len, ℕ, ℤ}
+use Rattle.book.proofs.Prelude.{[], ◌+ℤ◌, ◌+◌, ◌-◌, ◌<◌, ◌==◌, ◌∙◌, ◌∷◌, ◌≡◌, ◌≤◌, Bool, Changes, Each, Effect, Good, IsGoodLine, IsGoodOrder, IsStrictlySortedBy, Ledger, Line, List, MayChangeOrder, None, OpenLine, Option, Order, OrderEntry, Request, Some, accept, add_hold, ap, arith, changed_line, changed_order, common_steps, effect, false, find, if◌then◌else◌, insert_entry, is_some, map, nat_cmp, number_cmp, numbered, option_map, order_of, orders_after, pos, put_row, refl, subst, sym, total, true, true≢false, vec_capacity, vec_len, ℕ, ℤ, IsSome, Ordering, inl, inr, is_at, lookup, length, ◌⊎◌, is_eq, cond, match_ordering, Less, Equal, Greater}
 use Rattle.book.proofs.Lists.{each-unmap, found_passes, none_after}
 use Rattle.book.proofs.Sums.{each-imp, total-eq, total-map}
+use Rattle.book.specs.inner.StepsSeen.{MayBePut}
 use Rattle.book.specs.inner.InPlace.{MayChange, MayChangeUnder, lines_wanted}
 use Rattle.book.specs.declared.book.made.LineChange.{LineChange}
 use Rattle.book.specs.declared.book.made.LineChange.TheVariants.{Hold, Release, Use}
@@ -50,6 +51,36 @@ total_parts g n os sorted = ap (total g) (sym (same_orders n os)) ∙ total-chan
 pub put_viewed : (n : ℕ) (v : OrderEntry) (l : List (ℕ × OrderEntry)) → map order_of (insert_entry nat_cmp l n v) ≡ put_row number_cmp (order_of (n, v)) (map order_of l)
 put_viewed n v [] = refl
 put_viewed n v (e ∷ l) = let more = put_viewed n v l in grind arith
+
+-- what is there stays there
+still_there : (n m : ℕ) (v : OrderEntry) (l : List (ℕ × OrderEntry)) → IsSome (lookup (is_at (nat_cmp m)) l) → IsSome (lookup (is_at (nat_cmp m)) (insert_entry nat_cmp l n v))
+still_there n m v [] there = absurd (true≢false (sym there))
+still_there n m v (e ∷ l) there = by (nat_cmp n e.0) (still_there n m v l)
+  where
+    first : (b : Bool) (v : OrderEntry) (x : Option OrderEntry) → IsSome x → IsSome (cond b (Some v) x)
+    first b v x h = grind arith
+
+    replaced : (b : Bool) (x : Option OrderEntry) → IsSome (cond b (Some e.1) x) → IsSome (cond b (Some v) x)
+    replaced b x h = grind arith
+
+    later : (b : Bool) (x y : Option OrderEntry) → (IsSome x → IsSome y) → IsSome (cond b (Some e.1) x) → IsSome (cond b (Some e.1) y)
+    later b x y more h = grind arith
+
+    by : (o : Ordering) → (IsSome (lookup (is_at (nat_cmp m)) l) → IsSome (lookup (is_at (nat_cmp m)) (insert_entry nat_cmp l n v)))
+        → IsSome (lookup (is_at (nat_cmp m)) (match_ordering o ((n, v) ∷ e ∷ l) ((e.0, v) ∷ l) (e ∷ insert_entry nat_cmp l n v)))
+    by Less more = first (is_eq (nat_cmp m n)) v _ there
+    by Equal more = replaced (is_eq (nat_cmp m e.0)) (lookup (is_at (nat_cmp m)) l) there
+    by Greater more = later (is_eq (nat_cmp m e.0)) (lookup (is_at (nat_cmp m)) l) _ more there
+
+-- what is left of the orders that may be put in
+pub room_if_new : (room : ℕ) (o : ℕ × OrderEntry) (rest entries : List (ℕ × OrderEntry)) → MayBePut room (o ∷ rest) entries → lookup (is_at (nat_cmp o.0)) entries ≡ None → 1 ≤ room
+room_if_new room o rest entries (inl one) new = one.1
+room_if_new room o rest entries (inr there) new = absurd (true≢false (sym (subst IsSome new there.0)))
+
+pub rest_may : (room room' : ℕ) (o : ℕ × OrderEntry) (rest entries : List (ℕ × OrderEntry)) → MayBePut room (o ∷ rest) entries → MayBePut room' rest (insert_entry nat_cmp entries o.0 o.1)
+rest_may room room' o [] entries may = inr tt
+rest_may room room' o (p ∷ rest) entries (inl one) = absurd (let few = one.0 in omega arith)
+rest_may room room' o (p ∷ rest) entries (inr there) = inr (each-imp (λ q h. still_there o.0 q.0 o.1 entries h) (p ∷ rest) there.1)
 
 -- ---- an order that an accepted command changes
 

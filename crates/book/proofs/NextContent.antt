@@ -1,5 +1,5 @@
 -- The rows that an accepted command changes, put into the ledger's rows, give the rows of the next ledger.
-use Rattle.book.proofs.Prelude.{[], ◌&&◌, ◌+◌, ◌+ℤ◌, ◌-ℤ◌, IsStrictlySortedBy, ◌==◌, ◌||◌, ◌∙◌, ◌∷◌, ◌≡◌, Bool, Changes, Command, Content, DeskCells, Each, Effect, Equal, Field, FieldCells, FirstFailure, Good, IsInRange, IsKey, IsRowsOf, IsTotalOrder, Ledger, Less, Line, LineCells, List, Move, Name, None, Nothing, Opens, Option, Order, Ordering, Request, Some, Step, accept, amount_row, amount_rows, ap, arith, changed_rows, changes_field, checks, desk_row, effect, false, field_cmp, field_row, filter, firm_cmp, firm_rows, flat_map, if◌then◌else◌, insert_in_order, int_cmp_total, is_lt, is_open, kept_cmp, kept_row, kept_under, line_cmp, line_name, line_row, line_steps, lines_from, map, map-map, mark_row, move_cmp, move_made, move_row, moves_after, name_cmp, name_of, nat_cmp, nat_list_cmp_total, new_key, next, not, number_cmp, nat_cmp_total, on_total, order_cmp, order_lines, order_row, orders_made, places, pos, put_content, put_rows, refl, slice_cmp, state_row, steps_of, subst, sym, then_total, tied_itself, true, true≢false, ℕ}
+use Rattle.book.proofs.Prelude.{[], ◌≤◌, ◌&&◌, ◌+◌, ◌+ℤ◌, ◌-ℤ◌, IsStrictlySortedBy, ◌==◌, ◌||◌, ◌∙◌, ◌∷◌, ◌≡◌, Bool, Changes, Command, Content, DeskCells, Each, Effect, Equal, Field, FieldCells, FirstFailure, Good, IsInRange, IsKey, IsRowsOf, IsTotalOrder, Ledger, Less, Line, LineCells, List, Move, Name, None, Nothing, Opens, Option, Order, Ordering, Request, Some, Step, accept, amount_row, amount_rows, ap, arith, changed_rows, changes_field, checks, desk_row, effect, false, field_cmp, field_row, filter, firm_cmp, firm_rows, flat_map, if◌then◌else◌, insert_in_order, int_cmp_total, is_lt, is_open, kept_cmp, kept_row, kept_under, line_cmp, line_name, line_row, line_steps, lines_from, map, map-map, mark_row, move_cmp, move_made, move_row, moves_after, name_cmp, name_of, nat_cmp, nat_list_cmp_total, new_key, next, not, number_cmp, nat_cmp_total, on_total, order_cmp, order_lines, order_row, orders_made, places, pos, put_content, put_rows, refl, slice_cmp, state_row, steps_of, subst, sym, then_total, tied_itself, true, true≢false, ℕ, IsSome, OrderEntry, find, inl, inr, is_at, length, lookup, order_numbered, order_of, ◌++◌, steps, option_map}
 use Rattle.words.specs.declared.command.Command.TheVariants as command
 use Rattle.book.specs.Rows.{desk_cmp}
 use Rattle.book.specs.Next.{with_bounds}
@@ -9,8 +9,11 @@ use Rattle.book.proofs.Goodness.{good_accept}
 use Rattle.book.proofs.Safety.{other_way, bounding, bounding_name}
 use Rattle.book.proofs.Puts.{EffectFollows, Follows, follows-insert, follows-join, follows-map, follows-new, follows-one, follows-push, follows-same, put_all, steps_put}
 use Rattle.book.proofs.EqualRows.{fields_sorted, firms_sorted, kept_sorted, lines_sorted, moves_sorted, one_content, orders_sorted, rows_are, rows_of}
-use Rattle.book.proofs.Lists.{each-unmap, number_is, or_false}
+use Rattle.book.proofs.Lists.{each-unmap, number_is, or_false, length-of-map}
 use Rattle.book.proofs.Steps.{EffectGoes, Goes, Grows, SameNumbers, and_not, effect_goes, not_not, same_numbers, state_same}
+use Rattle.book.specs.inner.StepsSeen.{MayBePut}
+use Rattle.book.proofs.Futures.{find_self}
+use Rattle.book.proofs.KeyPlaces.{order_found}
 
 field_cmp_total : IsTotalOrder field_cmp
 field_cmp_total = then_total (on_total (λ r. r.branch) nat_list_cmp_total) (on_total (λ r. r.article) nat_list_cmp_total)
@@ -59,6 +62,31 @@ numbers_sorted : (os : List Order) → IsStrictlySortedBy nat_cmp (map (λ o. o.
 unfolding IsStrictlySortedBy
 numbers_sorted [] s = tt
 numbers_sorted (o ∷ os) s = (each-unmap (λ n. nat_cmp o.number n ≡ Less) (λ o. o.number) os s.0, numbers_sorted os s.1)
+
+-- an order that a command changes is there, and it makes one at most
+pub may_be_put : (A : Ledger) (c : Command) (room : ℕ) (made entries : List (ℕ × OrderEntry)) → 1 ≤ room → Good A → FirstFailure (checks A c) None → map order_of entries ≡ A.orders → map order_of made ≡ orders_made A c → MayBePut room made entries
+may_be_put A c room made entries some good passed is makes = by (effect c) makes (effect_goes A c good passed)
+  where
+    mapped : {X Y : Type 0} (h : X → Y) (x : Option X) → IsSome (option_map h x) → IsSome x
+    mapped h None some = some
+    mapped h (Some x) some = refl
+
+    has : (e : ℕ × OrderEntry) → IsSome (order_numbered A e.0) → IsSome (lookup (is_at (nat_cmp e.0)) entries)
+    has e there = mapped (λ v. order_of (e.0, v)) (lookup (is_at (nat_cmp e.0)) entries) (subst IsSome (sym (ap (find (λ o. o.number == e.0)) is) ∙ order_found e.0 entries) there)
+
+    changed : (names : Order → Bool) (change : Order → Order) (os : List Order) → Each (λ o. order_numbered A o.number ≡ Some o) os → Each (λ o. names o ≡ true → Goes o (change o)) os → Each (λ o. IsSome (order_numbered A o.number)) (map (λ s. s.after) (steps (Changes names change) os))
+    changed names change [] found goes = tt
+    changed names change (o ∷ os) found goes = by (names o) goes.0 (changed names change os found.1 goes.1)
+      where
+        by : (b : Bool) → (b ≡ true → Goes o (change o)) → Each (λ o. IsSome (order_numbered A o.number)) (map (λ s. s.after) (steps (Changes names change) os))
+            → Each (λ o. IsSome (order_numbered A o.number)) (map (λ s. s.after) ((if b then record { before = Some o; after = change o } ∷ [] else []) ++ steps (Changes names change) os))
+        by true go more = (subst (λ n. IsSome (order_numbered A n)) (sym (go refl).number) (subst IsSome (sym found.0) refl), more)
+        by false go more = more
+
+    by : (e : Effect) → map order_of made ≡ map (λ s. s.after) (steps e A.orders) → EffectGoes e A.orders → MayBePut room made entries
+    by Nothing m goes = inl ((let same = length-of-map order_of made in let none = ap (λ os. length os) m in omega arith), some)
+    by (Opens o) m goes = inl ((let same = length-of-map order_of made in let one = ap (λ os. length os) m in omega arith), some)
+    by (Changes names change) m goes = inr (each-imp has made (each-unmap (λ o. IsSome (order_numbered A o.number)) order_of made (subst (Each (λ o. IsSome (order_numbered A o.number))) (sym m) (changed names change A.orders (find_self A.orders good.orders_in_order) goes))))
 
 -- the orders that a command makes, put in by their numbers
 pub orders_put : (A : Ledger) (c : Command) → Good A → IsStrictlySortedBy nat_cmp (map (λ o. o.number) (next A c).orders) → FirstFailure (checks A c) None → put_rows number_cmp (orders_made A c) A.orders ≡ (next A c).orders

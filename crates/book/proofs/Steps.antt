@@ -6,6 +6,7 @@ use Rattle.book.proofs.Futures.{all_pass, at_number, find_self}
 use Rattle.book.proofs.Lists.{any-map, any_none, any_same, number_is, or_false, same_number}
 use Rattle.book.proofs.OutcomeTests.{total-insert, total-push}
 use Rattle.book.proofs.Sums.{each, each-imp, each-both, total-eq, total-zero}
+use Rattle.book.specs.Next.{fields_after}
 
 -- ---- what stays of an order
 

@@ -358,7 +358,7 @@ of_there : (A : Ledger) (c : Command) (n : ℕ) (rows : Order → TableRows) →
 of_there A c n rows found has = by (order_numbered A n) refl
   where
     by : (x : Option Order) → order_numbered A n ≡ x → HasRows A c (option_map_or rows x no_rows)
-    by None e = absurd (found (subst IsNone (sym e) tt))
+    by None e = absurd (found (subst IsNone (sym e) refl))
     by (Some o) e = has o e
 
 pub table_holds : (A : Ledger) (c : Command) → Good A → IsInRange c → FirstFailure (checks A c) None → HasRows A c (rows_by_command A c)

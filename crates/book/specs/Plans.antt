@@ -11,11 +11,12 @@ use Rattle.book.specs.Model.{BookView, entry_row, move_of, order_of}
 use Rattle.book.specs.declared.book.FieldEntry.{FieldEntry}
 use Rattle.book.specs.declared.book.plan.PlanParts.{PlanParts}
 
--- a plan as it is seen: the request that it carries out, the place that its command gets, the clock and how many orders
--- are open then, the fields, the move and the orders that it makes or changes, and the rows that change
+-- a plan as it is seen
 pub record PlanView : Type 0 where
+  -- the request that it carries out, and the place that its command gets
   pub request : Request
   pub place : ℕ
+  -- the clock and how many orders are open then
   pub clock : ℕ
   pub open_count : ℕ
   -- the entries of the fields that change, as they are then
@@ -24,6 +25,7 @@ pub record PlanView : Type 0 where
   pub moved : Option Move
   -- the orders that the command opens or changes, as they are then
   pub orders : List Order
+  -- the rows that change
   pub changes : Content
 
 -- the plan of these parts, which changes these rows
@@ -59,11 +61,11 @@ pub record Fits (A : Ledger) (plan : PlanView) : Type 0 where
   pub changes : ChangesTo A plan.request plan.changes
   pub fields : map entry_row plan.fields ≡ plan.changes.fields
 
--- The book has room for the plan: for the fields and the orders that change, a move and a kept key.
+-- The book has room for the plan: for the fields that change, and for a move, an order and a kept key more.
 pub record HasRoomFor (book : BookView) (plan : PlanView) : Type 0 where
   pub fields : length plan.fields ≤ book.room.fields
   pub moves : 1 ≤ book.room.moves
-  pub orders : length plan.orders ≤ book.room.orders
+  pub orders : 1 ≤ book.room.orders
   pub kept : 1 ≤ book.room.kept
 
 -- The room that there was for any plan is still there.

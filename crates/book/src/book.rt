@@ -6,7 +6,7 @@ ghost use Rattle.book.specs.Ledger.{name_of, new_ledger, field_named, kept_under
 ghost use Rattle.book.specs.Next.{accept, move_made, next};
 ghost use Rattle.book.specs.Outcomes.{article_total};
 ghost use Rattle.book.specs.Plans.{Fits, HasRoomFor, RoomStays, NoRoomGrows};
-ghost use Rattle.book.specs.inner.StepsSeen.{Leaves, number_cmp};
+ghost use Rattle.book.specs.inner.StepsSeen.{Leaves, MayBePut, number_cmp};
 ghost use Rattle.book.specs.Changes.{put_rows};
 ghost use Rattle.book.specs.inner.RunningNumbers.{IsUpToDate, with_entries};
 ghost use Rattle.book.specs.Tables.{rows_among};
@@ -144,9 +144,9 @@ impl Book {
         self.kept.get(&key)
     }
 
-    /// Makes room for the plan: for the fields and the orders that it changes (an expiry each order that it aborts), a
-    /// move and a kept key. Room made before stays, and the ledger is as it was, also after a refusal. Memory is wanted
-    /// only where there was no room for the plan.
+    /// Makes room for the plan: for the fields that it changes, and for a move, an order and a kept key more. Room made
+    /// before stays, and the ledger is as it was, also after a refusal. Memory is wanted only where there was no room for
+    /// the plan.
     pub fn make_room(&mut self, plan: &Plan) -> Result<(), Memory>
         requires { Fits self.old.ledger plan.now }
         ensures ok { OnOk result (HasRoomFor self.new plan.now) }
@@ -156,7 +156,7 @@ impl Book {
     {
         self.fields.reserve(plan.field_count())?;
         self.moves.reserve(1)?;
-        self.orders.reserve(plan.order_count())?;
+        self.orders.reserve(1)?;
         Ok(self.kept.reserve(1)?)
     }
 }
@@ -200,7 +200,7 @@ fn adopt_move(moves: &mut Vec<MoveEntry>, moved: Option<MoveEntry>)
 
 /// Puts the orders in, each by its number.
 fn adopt_orders(orders: &mut InOrder<OrderNo, OrderEntry>, made: Vec<Order>)
-    requires { length made.items ≤ orders.old.room }
+    requires { MayBePut orders.old.room made.items orders.old.entries }
     ensures orders { map order_of orders.new.entries ≡ put_rows number_cmp (map order_of made.items)
         (map order_of orders.old.entries) }
     ensures room { orders.new.room ≤ orders.old.room }

@@ -44,8 +44,8 @@ impl Level {
         requires { IsLevel amount }
         ensures { result ≡ amount }
     {
-        let small = amount as u32;
-        Level { amount: small }
+        let amount = amount as u32;
+        Level { amount }
     }
 
     /// The amount, in pieces.

@@ -1,5 +1,8 @@
 -- Steps and the parts of a plan as the book sees them (an order before is looked up), and rows behind others.
-use Rattle.std.specs.Prelude.{ℕ, ◌+◌, ◌++◌, ◌≡◌, List, [], None, Option, flat_map, map, option_map}
+use Rattle.std.specs.Prelude.{ℕ, ◌+◌, ◌++◌, ◌≡◌, ◌≤◌, ◌⊎◌, IsSome, List, [], None, Option, flat_map, length, map, option_map}
+use Rattle.std.specs.BTreeMap.{is_at}
+use Rattle.std.specs.List.{AllByRecursion as Each}
+use Rattle.std.specs.Map.{lookup}
 use Rattle.std.specs.Option.{option_map_or}
 use Rattle.std.specs.Ordering.{nat_cmp}
 use Rattle.std.specs.declared.cmp.Ordering.{Ordering}
@@ -40,6 +43,11 @@ number_cmp a b = nat_cmp a.number b.number
 pub record Leaves (A : Ledger) (c : Command) (made : List Order) : Type 0 where
   pub passed : FirstFailure (checks A c) None
   pub made_are : made ≡ orders_made A c
+
+-- the orders may be put in: all of them are there, or it is one, for which there is room
+abbrev pub MayBePut : ℕ → List (ℕ × OrderEntry) → List (ℕ × OrderEntry) → Type 0
+MayBePut room made entries =
+    ((length made ≤ 1) × (1 ≤ room)) ⊎ Each (λ o. IsSome (lookup (is_at (nat_cmp o.0)) entries)) made
 
 -- ---- rows after those that are there
 

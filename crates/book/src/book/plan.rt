@@ -76,13 +76,6 @@ impl Plan {
         self.parts.fields.len()
     }
 
-    /// How many orders it opens or changes.
-    pub(crate) fn order_count(&self) -> usize
-        ensures { result ≡ length self.now.orders }
-    {
-        self.parts.orders.len()
-    }
-
     /// What it puts into the book, and the rows that change.
     pub(crate) fn into_parts(self) -> (PlanParts, Vec<Change>)
         ensures { plan_of result.0 (rows_among result.1.items) ≡ self }

@@ -1,8 +1,8 @@
-use Rattle.book.proofs.Prelude.{◌+◌, ◌∙◌, ◌≡◌, BookView, Done, Each, Good, IsUpToDate, Ledger, accept, number_cmp, order_of, orders_made, put_rows, ap, article_total, field_of, map, places, rules, subst, sym, with_entries}
+use Rattle.book.proofs.Prelude.{◌+◌, ◌∙◌, ◌≡◌, ◌≤◌, BookView, Done, Each, Good, IsUpToDate, Ledger, accept, number_cmp, order_of, orders_made, put_rows, ap, article_total, field_of, map, places, rules, subst, sym, with_entries}
 use Rattle.book.specs.Plans.{PlanView}
 use Rattle.book.proofs.Futures.{honours_always}
 use Rattle.book.proofs.Goodness.{good_accept}
-use Rattle.book.proofs.NextContent.{orders_put}
+use Rattle.book.proofs.NextContent.{may_be_put, orders_put}
 use Rattle.book.proofs.RunningNumbers.{adopted}
 use Rattle.book.proofs.Transfers.{total_answer}
 use Rattle.book.proofs.Runs.{accepted_answered, honours_if_good, no_key}
@@ -20,6 +20,11 @@ good_after c = search (rules, good_accept, good, no_key)
 -- the orders as they are then
 made : (c : goal.After-drop-parts-2) → map order_of c.into_parts-parts.result.0.orders.items ≡ orders_made c.args.self.now.ledger c.args.plan.request.command
 made c = ap (λ (p : PlanView). p.orders) c.into_parts-parts.ensures ∙ c.requires.fits.orders
+
+pub adopt_orders-requires : goal.adopt_orders-requires
+adopt_orders-requires c =
+    may_be_put c.args.self.now.ledger c.args.plan.request.command _ _ _ (subst (λ (v : BookView). 1 ≤ v.room.orders) (sym c.self.view_is) c.requires.room.orders) (subst (λ (v : BookView). Good v.ledger) c.self.view_is c.self.invariant.0) c.requires.fits.accepted.1 (ap (λ (v : BookView). v.ledger.orders) c.self.view_is)
+    (ap (λ (p : PlanView). p.orders) c.into_parts-parts.ensures ∙ c.requires.fits.orders)
 
 orders : (c : goal.After-drop-parts-2) → map order_of c.adopt_orders.new.orders.entries ≡ (accept c.args.self.now.ledger c.args.plan.request).orders
 orders c = c.adopt_orders.ensures.orders ∙ (λ i. put_rows number_cmp (made c i) (c.self.view_is i).ledger.orders) ∙ orders_put c.args.self.now.ledger c.args.plan.request.command (good c) (good_after c).orders_in_order c.requires.fits.accepted.1
