@@ -2,7 +2,7 @@
 use Rattle.std.proofs.Common.{◌≡◌, ◌∙◌, ◌⊎◌, ℕ, List, [], ◌∷◌, ◌++◌, ap, codes, decimal, inl, inr, refl, sym}
 use Rattle.escrow.specs.Codes.{IsArticle, IsBranch, IsKey}
 use Rattle.escrow.specs.Ranges.{IsOrderNo}
-use Rattle.words.specs.Items.{IsOpeningLine, IsRequest, Says, WantsMemory}
+use Rattle.words.specs.Items.{IsOpeningLine, IsRequest, MayWantMemory, Says}
 use Rattle.words.specs.OpenLines.{line_words, way_word}
 use Rattle.words.specs.Spelling.{IsOpening, Spells, command_words}
 use Rattle.words.specs.Words.{spaced, words_of}
@@ -61,7 +61,7 @@ request_opening line rest key h e opening = (key, rest, h, opening, by (words_of
         line_of line (key ∷ w ∷ ws) (e ∙ ap (λ (x : List (List ℕ)). key ∷ x) f) ∙ ap (λ (bytes : List ℕ). key ++ 32 ∷ bytes) (sym (line_of rest (w ∷ ws) f))
 
 -- a key stands first, and a command behind it or what begins as an `open` does
-pub request_wanted : (line rest key : List ℕ) → IsKey key → words_of line ≡ key ∷ words_of rest → ((c : Command) × Spells c rest) ⊎ IsOpening rest → WantsMemory line
+pub request_wanted : (line rest key : List ℕ) → IsKey key → words_of line ≡ key ∷ words_of rest → ((c : Command) × Spells c rest) ⊎ IsOpening rest → MayWantMemory line
 request_wanted line rest key h e (inl (c, s)) = inl (record { key = key; command = c }, request_found line rest key c h e s)
 request_wanted line rest key h e (inr opening) = inr (request_opening line rest key h e opening)
 

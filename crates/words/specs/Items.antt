@@ -20,9 +20,9 @@ IsRequest line r = IsKey r.key × IsInRange r.command × (line ≡ spaced (r.key
 abbrev pub IsOpeningLine : List ℕ → Type 0
 IsOpeningLine line = (key : List ℕ) × (rest : List ℕ) × IsKey key × IsOpening rest × (line ≡ spaced (key ∷ rest ∷ []))
 
--- memory is wanted for the line: it is a request, or a key with what begins as an `open` does behind it
-abbrev pub WantsMemory : List ℕ → Type 0
-WantsMemory line = ((r : RequestOf) × IsRequest line r) ⊎ IsOpeningLine line
+-- memory may be wanted for the line: it is a request, or a key with what begins as an `open` does behind it
+abbrev pub MayWantMemory : List ℕ → Type 0
+MayWantMemory line = ((r : RequestOf) × IsRequest line r) ⊎ IsOpeningLine line
 
 -- what the line says
 abbrev pub Says : List ℕ → Item → Type 0

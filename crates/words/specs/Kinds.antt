@@ -1,10 +1,8 @@
 -- The kinds of commands.
 use Rattle.std.specs.Prelude.{◌≡◌, ℕ, Bool, true, false, List}
-use Rattle.escrow.specs.declared.quantity.Way.{Way}
 use Rattle.words.specs.Spelling.{IsInRange, command_words}
 use Rattle.words.specs.declared.command.Command.{Command}
 use Rattle.words.specs.declared.command.Command.TheVariants.{Abort, Commit, Deliver, Expire, Field, Firm, More, Open, Rebound, Release, Transfer, Use, Writeoff}
-use Rattle.words.specs.declared.open_line.OpenLine.{OpenLine}
 
 -- ---- groups of kinds
 
@@ -29,47 +27,25 @@ is_change (Use n b a qty) = true
 is_change (Release n b a qty) = true
 is_change c = false
 
--- ---- words that are those of no command of a kind
+-- a transfer, or a command that changes what an order holds
+abbrev pub is_order : Command → Bool
+is_order (Transfer n until a from to qty) = true
+is_order c = is_change c
 
--- the words are not those of the command, or it is not in range
-abbrev pub AreNot : List (List ℕ) → Command → Type 0
-AreNot words c = IsInRange c → words ≡ command_words c → ⊥
+-- a command that ends an order or makes it firm, or moves the clock on
+abbrev pub is_end : Command → Bool
+is_end (Commit n) = true
+is_end (Abort n) = true
+is_end (Firm n) = true
+is_end (Expire now) = true
+is_end c = false
 
-abbrev pub NoField : List (List ℕ) → Type 0
-NoField words = (b a : List ℕ) (lo hi start : ℕ) → AreNot words (Field b a lo hi start)
+-- ---- words that no command has
 
-abbrev pub NoDeliver : List (List ℕ) → Type 0
-NoDeliver words = (b a : List ℕ) (qty : ℕ) → AreNot words (Deliver b a qty)
+-- the words are those of no command in range
+abbrev pub AreNoCommand : List (List ℕ) → Type 0
+AreNoCommand words = (c : Command) → IsInRange c → words ≡ command_words c → ⊥
 
-abbrev pub NoWriteoff : List (List ℕ) → Type 0
-NoWriteoff words = (b a : List ℕ) (qty : ℕ) → AreNot words (Writeoff b a qty)
-
-abbrev pub NoRebound : List (List ℕ) → Type 0
-NoRebound words = (b a : List ℕ) (lo hi : ℕ) → AreNot words (Rebound b a lo hi)
-
-abbrev pub NoOpen : List (List ℕ) → Type 0
-NoOpen words = (n until : ℕ) (lines : List OpenLine) → AreNot words (Open n until lines)
-
-abbrev pub NoTransfer : List (List ℕ) → Type 0
-NoTransfer words = (n until : ℕ) (a from to : List ℕ) (qty : ℕ) → AreNot words (Transfer n until a from to qty)
-
-abbrev pub NoMore : List (List ℕ) → Type 0
-NoMore words = (n : ℕ) (way : Way) (b a : List ℕ) (qty : ℕ) → AreNot words (More n way b a qty)
-
-abbrev pub NoUse : List (List ℕ) → Type 0
-NoUse words = (n : ℕ) (b a : List ℕ) (qty : ℕ) → AreNot words (Use n b a qty)
-
-abbrev pub NoRelease : List (List ℕ) → Type 0
-NoRelease words = (n : ℕ) (b a : List ℕ) (qty : ℕ) → AreNot words (Release n b a qty)
-
-abbrev pub NoCommit : List (List ℕ) → Type 0
-NoCommit words = (n : ℕ) → AreNot words (Commit n)
-
-abbrev pub NoAbort : List (List ℕ) → Type 0
-NoAbort words = (n : ℕ) → AreNot words (Abort n)
-
-abbrev pub NoFirm : List (List ℕ) → Type 0
-NoFirm words = (n : ℕ) → AreNot words (Firm n)
-
-abbrev pub NoExpire : List (List ℕ) → Type 0
-NoExpire words = (now : ℕ) → AreNot words (Expire now)
+-- the words are those of no command in range that is of the kind
+abbrev pub AreNoneOf : (Command → Bool) → List (List ℕ) → Type 0
+AreNoneOf kind words = (c : Command) → kind c ≡ true → IsInRange c → words ≡ command_words c → ⊥

@@ -3,7 +3,7 @@
 ghost use Rattle.std.specs.Prelude.{◌≡◌, ◌≤◌, ◌∷◌, [], List, ℕ, IfNone, IfOk, IfSome, OnErr, codes, decimal, length};
 ghost use Rattle.escrow.specs.Codes.{IsArticle, IsBranch};
 ghost use Rattle.escrow.specs.Ranges.{IsOrderNo};
-ghost use Rattle.words.specs.Items.{IsItem, IsRequest, WantsMemory};
+ghost use Rattle.words.specs.Items.{IsItem, IsRequest, MayWantMemory};
 ghost use Rattle.words.specs.Words.{words_of};
 ghost use Rattle.words.specs.declared.command.Request.{Request};
 ghost use Rattle.words.specs.declared.item.Item.{Item};
@@ -78,7 +78,7 @@ fn read_ask_order(bytes: &[u8]) -> Option<OrderNo>
 fn read_request(alloc: Global, bytes: &[u8]) -> Result<Option<Request>, Memory>
     ensures found { IfOk result (λ found. IfSome found (IsRequest bytes.now)) }
     ensures none { IfOk result (λ found. IfNone found ((r : Request) → IsRequest bytes.now r → ⊥)) }
-    ensures memory { OnErr result (WantsMemory bytes.now) }
+    ensures memory { OnErr result (MayWantMemory bytes.now) }
 {
     let Some(key) = word_then::<Key>(bytes) else {
         return Ok(None);
@@ -97,7 +97,7 @@ fn read_request(alloc: Global, bytes: &[u8]) -> Result<Option<Request>, Memory>
 /// with an `open` behind it.
 pub fn read_item(alloc: Global, line: &[u8]) -> Result<Item, Memory>
     ensures item { IfOk result (λ item. IsItem line.now item) }
-    ensures memory { OnErr result (WantsMemory line.now) }
+    ensures memory { OnErr result (MayWantMemory line.now) }
 {
     if line.len() > MAX_LINE_LEN {
         return Ok(Item::Bad);

@@ -3,7 +3,7 @@
 ghost use Rattle.std.specs.Prelude.{◌≡◌, ◌≢◌, ◌<◌, ◌↔◌, ◌++◌, ◌∷◌, [], List, ℕ, IfErr, IfNone, IfOk, IfSome, IsErrOf, codes, decimal, length};
 ghost use Rattle.escrow.specs.Codes.{IsArticle, IsBranch};
 ghost use Rattle.escrow.specs.Ranges.{IsLevel, IsMoment, IsOrderNo, IsQty};
-ghost use Rattle.words.specs.Kinds.{AreNot, NoAbort, NoCommit, NoDeliver, NoExpire, NoField, NoFirm, NoMore, NoOpen, NoRebound, NoRelease, NoTransfer, NoUse, NoWriteoff};
+ghost use Rattle.words.specs.Kinds.{AreNoCommand, AreNoneOf, is_end, is_order, is_stock};
 ghost use Rattle.words.specs.OpenLines.{IsOpenLine, AreOpenLines, line_words, way_word};
 ghost use Rattle.words.specs.Spelling.{IsInRange, IsOpening, Spells, command_words};
 ghost use Rattle.words.specs.Words.{words_of};
@@ -56,7 +56,7 @@ fn read_move(bytes: &[u8]) -> Option<(Branch, Article, Qty)>
 fn read_field(bytes: &[u8]) -> Option<Command>
     ensures form { IfSome result IsInRange }
     ensures found { IfSome result (λ c. codes "field" ∷ words_of bytes.now ≡ command_words c) }
-    ensures none { IfNone result (NoField (codes "field" ∷ words_of bytes.now)) }
+    ensures none { IfNone result (AreNoCommand (codes "field" ∷ words_of bytes.now)) }
 {
     let Some((branch, rest)) = word_then::<Branch>(bytes) else {
         return None;
@@ -78,7 +78,7 @@ fn read_field(bytes: &[u8]) -> Option<Command>
 fn read_rebound(bytes: &[u8]) -> Option<Command>
     ensures form { IfSome result IsInRange }
     ensures found { IfSome result (λ c. codes "rebound" ∷ words_of bytes.now ≡ command_words c) }
-    ensures none { IfNone result (NoRebound (codes "rebound" ∷ words_of bytes.now)) }
+    ensures none { IfNone result (AreNoCommand (codes "rebound" ∷ words_of bytes.now)) }
 {
     let Some((branch, rest)) = word_then::<Branch>(bytes) else {
         return None;
@@ -116,7 +116,7 @@ fn read_part(bytes: &[u8]) -> Option<(OrderNo, Branch, Article, Qty)>
 fn read_more(bytes: &[u8]) -> Option<Command>
     ensures form { IfSome result IsInRange }
     ensures found { IfSome result (λ c. codes "more" ∷ words_of bytes.now ≡ command_words c) }
-    ensures none { IfNone result (NoMore (codes "more" ∷ words_of bytes.now)) }
+    ensures none { IfNone result (AreNoCommand (codes "more" ∷ words_of bytes.now)) }
 {
     let Some((number, rest)) = word_then::<OrderNo>(bytes) else {
         return None;
@@ -174,7 +174,7 @@ fn terms_then(bytes: &[u8]) -> Option<(OrderNo, Moment, &[u8])>
 fn read_transfer(bytes: &[u8]) -> Option<Command>
     ensures form { IfSome result IsInRange }
     ensures found { IfSome result (λ c. codes "transfer" ∷ words_of bytes.now ≡ command_words c) }
-    ensures none { IfNone result (NoTransfer (codes "transfer" ∷ words_of bytes.now)) }
+    ensures none { IfNone result (AreNoCommand (codes "transfer" ∷ words_of bytes.now)) }
 {
     let Some((number, until, rest)) = terms_then(bytes) else {
         return None;
@@ -276,7 +276,7 @@ fn read_lines(alloc: Global, bytes: &[u8]) -> Result<Vec<OpenLine>, WordsFault>
 fn read_open(alloc: Global, bytes: &[u8]) -> Result<Command, WordsFault>
     ensures form { IfOk result IsInRange }
     ensures found { IfOk result (λ c. codes "open" ∷ words_of bytes.now ≡ command_words c) }
-    ensures bad { IsErrOf result WordsFault.BadCommand → NoOpen (codes "open" ∷ words_of bytes.now) }
+    ensures bad { IsErrOf result WordsFault.BadCommand → AreNoCommand (codes "open" ∷ words_of bytes.now) }
 {
     let Some(terms) = terms_then(bytes) else {
         return Err(WordsFault::BadCommand);
@@ -299,10 +299,7 @@ fn read_open(alloc: Global, bytes: &[u8]) -> Result<Command, WordsFault>
 fn read_stock(verb: &[u8], rest: &[u8]) -> Option<Command>
     ensures form { IfSome result IsInRange }
     ensures found { IfSome result (λ c. verb.now ∷ words_of rest.now ≡ command_words c) }
-    ensures field { IfNone result (NoField (verb.now ∷ words_of rest.now)) }
-    ensures deliver { IfNone result (NoDeliver (verb.now ∷ words_of rest.now)) }
-    ensures writeoff { IfNone result (NoWriteoff (verb.now ∷ words_of rest.now)) }
-    ensures rebound { IfNone result (NoRebound (verb.now ∷ words_of rest.now)) }
+    ensures none { IfNone result (AreNoneOf is_stock (verb.now ∷ words_of rest.now)) }
 {
     if verb == b"field".as_slice() {
         return read_field(rest);
@@ -333,9 +330,7 @@ fn read_stock(verb: &[u8], rest: &[u8]) -> Option<Command>
 fn read_order(verb: &[u8], rest: &[u8]) -> Option<Command>
     ensures form { IfSome result IsInRange }
     ensures found { IfSome result (λ c. verb.now ∷ words_of rest.now ≡ command_words c) }
-    ensures transfer { IfNone result (NoTransfer (verb.now ∷ words_of rest.now)) }
-    ensures more { IfNone result (NoMore (verb.now ∷ words_of rest.now)) }
-    ensures part { IfNone result (NoUse (verb.now ∷ words_of rest.now) × NoRelease (verb.now ∷ words_of rest.now)) }
+    ensures none { IfNone result (AreNoneOf is_order (verb.now ∷ words_of rest.now)) }
 {
     if verb == b"transfer".as_slice() {
         return read_transfer(rest);
@@ -368,10 +363,7 @@ fn read_order(verb: &[u8], rest: &[u8]) -> Option<Command>
 fn read_end(verb: &[u8], rest: &[u8]) -> Option<Command>
     ensures form { IfSome result IsInRange }
     ensures found { IfSome result (λ c. verb.now ∷ words_of rest.now ≡ command_words c) }
-    ensures commit { IfNone result (NoCommit (verb.now ∷ words_of rest.now)) }
-    ensures abort { IfNone result (NoAbort (verb.now ∷ words_of rest.now)) }
-    ensures firm { IfNone result (NoFirm (verb.now ∷ words_of rest.now)) }
-    ensures expire { IfNone result (NoExpire (verb.now ∷ words_of rest.now)) }
+    ensures none { IfNone result (AreNoneOf is_end (verb.now ∷ words_of rest.now)) }
 {
     if verb == b"commit".as_slice() {
         let number = last_word::<OrderNo>(rest)?;
@@ -416,7 +408,7 @@ fn read_plain(verb: &[u8], rest: &[u8]) -> Option<Command>
     requires { verb.now ≢ codes "open" }
     ensures form { IfSome result IsInRange }
     ensures found { IfSome result (λ c. verb.now ∷ words_of rest.now ≡ command_words c) }
-    ensures none { IfNone result ((c : Command) → AreNot (verb.now ∷ words_of rest.now) c) }
+    ensures none { IfNone result (AreNoCommand (verb.now ∷ words_of rest.now)) }
 {
     if let Some(command) = read_stock(verb, rest) {
         return Some(command);

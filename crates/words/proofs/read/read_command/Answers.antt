@@ -1,7 +1,7 @@
 use Rattle.std.proofs.Common.{◌≡◌, ◌∷◌, ◌∙◌, List, ℕ, ap, codes, sym}
 use Rattle.std.proofs.lemmas.Slice.Eq.{bytes_eq-Decides}
 use Rattle.words.specs.Words.{words_of}
-use Rattle.words.proofs.ByKind.{none_spelled, open_bad, open_found, opening, spelled}
+use Rattle.words.proofs.ByKind.{none_spelled, open_found, opening, spelled}
 use Rattle.words.proofs.read.read_command.Goals as goal
 use Rattle.words.proofs.read.read_command.Goals.{After-read_open}
 
@@ -15,7 +15,7 @@ pub returns-then-eq-clause-found : goal.returns-then-eq-clause-found
 returns-then-eq-clause-found c = open_found _ _ _ (words c) c.read_open.ensures.form c.read_open.ensures.found
 
 pub returns-then-eq-clause-bad : goal.returns-then-eq-clause-bad
-returns-then-eq-clause-bad c = open_bad _ _ _ (words c) c.read_open.ensures.bad
+returns-then-eq-clause-bad c bad = none_spelled _ _ (words c) (c.read_open.ensures.bad bad)
 
 pub returns-then-eq-clause-memory : goal.returns-then-eq-clause-memory
 returns-then-eq-clause-memory c refused = opening c.args.bytes.now c.in-Some.rest.now (words c)
