@@ -12,36 +12,37 @@ use Rattle.sqlite.proofs.Callers.{one_permutation}
 use Rattle.sqlite_keyed.proofs.ListLemmas.{all_unmap, map-map}
 use Rattle.sqlite_trees.specs.View.{is_int}
 use Rattle.book.specs.declared.rows.DeskRow.{DeskRow}
-use Rattle.book.specs.Rows.{DeskCells, desk_cmp}
+use Rattle.book.specs.Rows.{DeskCells}
 use Rattle.book.specs.Tables.{desk_cells}
-use Rattle.keep.specs.Columns.{desk_columns, desk_selected, desk_shown, desk_stored}
-use Rattle.keep.specs.Content.{AreRows, IsOneRow, IsVersion}
-use Rattle.keep.specs.Loads.{FindsOver, IsOfAVersion, IsOneAnswer}
+use Rattle.keep.specs.Description.{columns, key_cmp, selected, shown, stored}
+use Rattle.keep.specs.declared.description.TableName.TheVariants as table
+use Rattle.keep.specs.Content.{IsOneRow, IsVersion, Stores}
+use Rattle.keep.specs.Loads.{FindsOver, IsOneAnswer, IsSchemaWith}
 
-alone : (x : DeskCells) → IsStrictlySortedBy desk_cmp (x ∷ [])
+alone : (x : DeskCells) → IsStrictlySortedBy (key_cmp table.Desk) (x ∷ [])
 unfolding IsStrictlySortedBy
 alone x = (tt, tt)
 
 -- the one answer is the one row
-one_row : (version : ℤ) (tree answers : List Row) (row : DeskCells) → IsPermutation (map desk_selected tree) answers → IsOneAnswer version answers row → AreRows desk_cmp desk_stored desk_columns tree (row ∷ [])
+one_row : (version : ℤ) (tree answers : List Row) (row : DeskCells) → IsPermutation (map (selected table.Desk) tree) answers → IsOneAnswer version answers row → Stores table.Desk tree (row ∷ [])
 one_row version tree answers row same is =
-    let stored : IsPermutation (map desk_stored tree) (desk_columns row ∷ []) = subst (IsPermutation (map desk_stored tree)) is.same (subst (λ l. IsPermutation l (map desk_shown answers)) (map-map desk_shown desk_selected tree) (IsPermutation-map desk_shown _ _ same)) in
+    let stored : IsPermutation (map (stored table.Desk) tree) (columns table.Desk row ∷ []) = subst (IsPermutation (map (stored table.Desk) tree)) is.same (subst (λ l. IsPermutation l (map (shown table.Desk) answers)) (map-map (shown table.Desk) (selected table.Desk) tree) (IsPermutation-map (shown table.Desk) _ _ same)) in
     let P = λ (c : Row). IsTrue (is_int (column c 0)) in
-    let one : AllByRecursion P (desk_columns row ∷ []) = (refl, tt) in
+    let one : AllByRecursion P (columns table.Desk row ∷ []) = (refl, tt) in
     record {
       same = stored;
       sorted = alone row;
-      numbers = all_unmap P desk_stored tree (recursion_from_All P (map desk_stored tree) (All-permutation P (desk_columns row ∷ []) (map desk_stored tree) (IsPermutation-sym _ _ stored) (All-from_recursion P (desk_columns row ∷ []) one)));
+      numbers = all_unmap P (stored table.Desk) tree (recursion_from_All P (map (stored table.Desk) tree) (All-permutation P (columns table.Desk row ∷ []) (map (stored table.Desk) tree) (IsPermutation-sym _ _ stored) (All-from_recursion P (columns table.Desk row ∷ []) one)));
     }
 
 -- rows of the tree that are one row of that version are what is answered
-answered : (version : ℤ) (tree answers : List Row) (row : DeskCells) → IsPermutation (map desk_selected tree) answers → AreRows desk_cmp desk_stored desk_columns tree (row ∷ []) → IsVersion version row → IsOneAnswer version answers row
+answered : (version : ℤ) (tree answers : List Row) (row : DeskCells) → IsPermutation (map (selected table.Desk) tree) answers → Stores table.Desk tree (row ∷ []) → IsVersion version row → IsOneAnswer version answers row
 answered version tree answers row same are is = record {
-  same = ap (map desk_shown) (one_permutation (desk_columns row) answers (IsPermutation-trans _ _ _ (IsPermutation-sym _ _ are.same) same));
+  same = ap (map (shown table.Desk)) (one_permutation (columns table.Desk row) answers (IsPermutation-trans _ _ _ (IsPermutation-sym _ _ are.same) same));
   is_version = is;
 }
 
-module _ (version : ℤ) (old new : State) (answers : List Row) (rows : HasCleanDisk new → IsOfAVersion old.now.schema → IsPermutation (map desk_selected (old.now.trees 0)) answers) (same : HasCleanDisk new → IsOfAVersion old.now.schema → IsUnchanged old new) where
+module _ (version : ℤ) (old new : State) (answers : List Row) (rows : HasCleanDisk new → (IsSchemaWith table.Desk) old.now.schema → IsPermutation (map (selected table.Desk) (old.now.trees 0)) answers) (same : HasCleanDisk new → (IsSchemaWith table.Desk) old.now.schema → IsUnchanged old new) where
   abbrev Told : Result (Option DeskRow) Error → Type 0
   Told r = IfOk r (λ found. MatchOption found (¬ ((row : DeskCells) × IsOneAnswer version answers row)) (λ row. IsOneAnswer version answers (desk_cells row)))
 
@@ -50,16 +51,16 @@ module _ (version : ℤ) (old new : State) (answers : List Row) (rows : HasClean
   version_if (Ok None) h = tt
   version_if (Err e) h = tt
 
-  pub found_if : (r : Result (Option DeskRow) Error) → Told r → IfOk r (λ found. IfSome found (λ row. FindsOver IsOfAVersion old new (λ trees. AreRows desk_cmp desk_stored desk_columns (trees 0) (desk_cells row ∷ []))))
+  pub found_if : (r : Result (Option DeskRow) Error) → Told r → IfOk r (λ found. IfSome found (λ row. FindsOver (IsSchemaWith table.Desk) old new (λ trees. Stores table.Desk (trees 0) (desk_cells row ∷ []))))
   found_if (Ok (Some row)) h = λ clean has. (same clean has, one_row version _ _ (desk_cells row) (rows clean has) h)
   found_if (Ok None) h = tt
   found_if (Err e) h = tt
 
-  pub none_if : (r : Result (Option DeskRow) Error) → Told r → IfOk r (λ found. found ≡ None → FindsOver IsOfAVersion old new (λ trees. (xs : List DeskCells) → AreRows desk_cmp desk_stored desk_columns (trees 0) xs → ¬ IsOneRow version xs))
+  pub none_if : (r : Result (Option DeskRow) Error) → Told r → IfOk r (λ found. found ≡ None → FindsOver (IsSchemaWith table.Desk) old new (λ trees. (xs : List DeskCells) → Stores table.Desk (trees 0) xs → ¬ IsOneRow version xs))
   none_if (Ok None) h = λ none clean has. (
     same clean has,
     λ xs are one.
-        h (one.0, answered version _ _ one.0 (rows clean has) (subst (AreRows desk_cmp desk_stored desk_columns (old.now.trees 0)) one.1 are) one.2),
+        h (one.0, answered version _ _ one.0 (rows clean has) (subst (Stores table.Desk (old.now.trees 0)) one.1 are) one.2),
   )
   none_if (Ok (Some row)) h = λ none. absurd (let e = none in cc)
   none_if (Err e) h = tt

@@ -5,15 +5,7 @@ pub mod OneRow
 pub mod Upsert
 pub mod Insert
 pub mod UpsertRows
-pub mod Texts
-pub mod Meanings
-pub mod DeskPut
-pub mod FieldPut
-pub mod MovePut
-pub mod OrderPut
-pub mod LinePut
-pub mod KeptPut
-pub mod FirmPut
+pub mod Upserts
 pub mod Puts
 pub mod Selects
 pub mod Steps

@@ -26,13 +26,17 @@ use Rattle.sqlite_rules.specs.Edit.{Applies, edit_of, numbered, put_all, without
 use Rattle.sqlite_rules.specs.declared.error.Rowids.TheVariants.{Chosen}
 use Rattle.sqlite_trees.specs.Objects.{catalog_tree}
 use Rattle.sqlite_trees.specs.Tree.{Trees}
-use Rattle.book.specs.Rows.{desk_cmp}
-use Rattle.keep.specs.Columns.{desk_columns, desk_stored}
-use Rattle.keep.specs.Content.{AreRows, HaveNumbers, Holds, new_content, new_row}
-use Rattle.keep.specs.Schema.{desk_schema, desk_table}
+use Rattle.keep.specs.Content.{AreRows, HaveNumbers, Holds, Stores, new_content, new_row}
+use Rattle.keep.specs.Laws.{is_among}
+use Rattle.keep.specs.OneContent.{is_now}
+use Rattle.keep.specs.Schema.{desk_table}
+use Rattle.keep.specs.Description.{columns, declared, desk_schema, key_cmp, rows_of, stored}
+use Rattle.keep.specs.declared.description.TableName.{TableName}
+use Rattle.keep.specs.declared.description.TableName.TheVariants as table
 use Rattle.keep.specs.Stages.{IsBare}
 use Rattle.keep.specs.Transactions.{Makes}
 use Rattle.keep.proofs.NewTables.{same_value, went}
+use Rattle.keep.proofs.Schemas.{of_each}
 use Rattle.keep.proofs.NewTexts.{row_is, row_plain, row_terms, row_text}
 
 -- the row as it is stored, its rowid first
@@ -68,7 +72,7 @@ record PutsRow (old new : Trees) : Type 0 where
 
 module _ (limit : Option ℕ) (mode : Mode) where
   abbrev params : Row
-  params = desk_columns new_row
+  params = columns table.Desk new_row
 
   abbrev task : Task
   task = record { limit = limit; keys = mode.keys; schema = desk_schema; table = desk_table; params = params }
@@ -99,9 +103,13 @@ pub none : {X : Type 0} (cmp : X → X → Ordering) (stored : Row → Row) (col
 unfolding IsStrictlySortedBy
 none cmp stored columns rows is = record { same = IsPermutation-same _ _ (ap (map stored) is); sorted = tt; numbers = subst HaveNumbers (sym is) tt }
 
-the_one : (rows : List Row) → rows ≡ stored_row ∷ [] → AreRows desk_cmp desk_stored desk_columns rows (new_row ∷ [])
+the_one : (rows : List Row) → rows ≡ stored_row ∷ [] → Stores table.Desk rows (new_row ∷ [])
 unfolding IsStrictlySortedBy
-the_one rows is = record { same = IsPermutation-same _ _ (ap (map desk_stored) is); sorted = (tt, tt); numbers = subst HaveNumbers (sym is) (refl, tt) }
+the_one rows is = record { same = IsPermutation-same _ _ (ap (map (stored table.Desk)) is); sorted = (tt, tt); numbers = subst HaveNumbers (sym is) (refl, tt) }
+
+new_rows : (t : TableName) (old new : Trees) → PutsRow old new → AllByRecursion (λ t. old t.tree ≡ []) desk_schema.tables → Stores t (new (declared t).tree) (rows_of t new_content)
+new_rows table.Desk old new put bare = the_one _ put.desk
+new_rows t old new put bare = none (key_cmp t) (stored t) (columns t) _ (of_each (λ u. u.tree ≢ 0 → new u.tree ≡ old u.tree) desk_schema.tables (declared t) put.others (is_among t) (λ e. omega (arith, e)) ∙ of_each (λ u. old u.tree ≡ []) desk_schema.tables (declared t) bare (is_among t))
 
 -- the row of a new desk, and nothing else
 holds_new : (old new : Database) → IsBare desk_schema old → IsDatabase new → (new.schema ≡ desk_schema) × PutsRow old.trees new.trees → Holds new new_content
@@ -109,19 +117,14 @@ holds_new old new bare sound put = record {
   schema_is = put.0;
   content = record {
     lists = subst (Lists (new.trees catalog_tree)) put.0 sound.lists;
-    desk = the_one _ put.1.desk;
-    fields = none _ _ _ _ (put.1.others.1.0 (λ e. omega (arith, e)) ∙ bare.no_rows.1.0);
-    moves = none _ _ _ _ (put.1.others.1.1.0 (λ e. omega (arith, e)) ∙ bare.no_rows.1.1.0);
-    orders = none _ _ _ _ (put.1.others.1.1.1.0 (λ e. omega (arith, e)) ∙ bare.no_rows.1.1.1.0);
-    lines = none _ _ _ _ (put.1.others.1.1.1.1.0 (λ e. omega (arith, e)) ∙ bare.no_rows.1.1.1.1.0);
-    kept = none _ _ _ _ (put.1.others.1.1.1.1.1.0 (λ e. omega (arith, e)) ∙ bare.no_rows.1.1.1.1.1.0);
-    firms = none _ _ _ _ (put.1.others.1.1.1.1.1.1.0 (λ e. omega (arith, e)) ∙ bare.no_rows.1.1.1.1.1.1.0);
+    rows = λ t now. new_rows t old.trees new.trees put.1 bare.no_rows;
+    none = λ t late. absurd (let now = is_now t in omega (arith, now, late));
   };
 }
 
-pub started : (old new : State) (r : Result ℕ Error) → IsBare desk_schema old.now → ExecutesInside 0 row_text (desk_columns new_row) old new r → OnOk r (Makes (λ db. Holds db new_content) old new)
+pub started : (old new : State) (r : Result ℕ Error) → IsBare desk_schema old.now → ExecutesInside 0 row_text (columns table.Desk new_row) old new r → OnOk r (Makes (λ db. Holds db new_content) old new)
 started old new (Err e) bare h = tt
 started old new (Ok count) bare h =
-    let w = runs_as row_text (desk_columns new_row) old new desk_schema bare.schema_is (Insert 0 (Values row_terms 5)) row_is row_plain count h.0 in
+    let w = runs_as row_text (columns table.Desk new_row) old new desk_schema bare.schema_is (Insert 0 (Values row_terms 5)) row_is row_plain count h.0 in
     let put = puts_row old.step_limit (mode_of old) (statement_of row_text (understood desk_schema row_text)) old.now w.tally new.now bare w.changed in
     record { mode = h.1.mode; committed = h.1.committed_is; is = holds_new old.now new.now bare w.sound put }

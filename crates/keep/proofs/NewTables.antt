@@ -1,6 +1,7 @@
 -- What the statements that make a new desk do.
-use Rattle.std.proofs.Common.{◌≡◌, ◌⊎◌, inl, inr, ℕ, false, List, [], ◌∷◌, ◌++◌, Ok, Err, Result, None, sym, ap, subst, ◌∙◌}
-use Rattle.std.specs.Prelude.{OnOk}
+use Rattle.std.proofs.Common.{refl, ◌≡◌, ◌⊎◌, inl, inr, ℕ, false, List, [], ◌∷◌, ◌++◌, Ok, Err, Result, None, sym, ap, subst, ◌∙◌}
+use Rattle.std.specs.Prelude.{OnOk, map}
+use Rattle.std.proofs.lemmas.List.{map-append}
 use Rattle.std.specs.List.{AllByRecursion}
 use Rattle.sqlite.specs.Change.{next_tree, created, KeepsRows}
 use Rattle.sqlite.specs.Command.TheVariants.{CreateTable}
@@ -14,9 +15,12 @@ use Rattle.sqlite_schema.specs.declared.schema.Schema.{Schema}
 use Rattle.sqlite_trees.specs.Tree.{Trees}
 use Rattle.sqlite_trees.specs.Objects.{catalog_tree}
 use Rattle.sqlite_catalog.specs.Listing.{Lists}
-use Rattle.keep.specs.Stages.{IsBare}
+use Rattle.keep.specs.Description.{before, declared, schema_with}
+use Rattle.keep.specs.Stages.{AddsTable, IsBare}
+use Rattle.keep.specs.Statements.{MakesTable}
+use Rattle.keep.specs.declared.description.TableName.{TableName}
+use Rattle.keep.specs.declared.description.TableName.TheVariants as table
 use Rattle.keep.specs.Transactions.{Makes}
-use Rattle.keep.proofs.NewTexts.{MeansTable}
 
 pub went : {B E R : Type 0} {b : B} {Stops : E → Type 0} → ((stop : E) × Stops stop × (Ok b ≡ Err stop)) ⊎ R → R
 went (inl stopped) = absurd (let e = stopped.2 in cc)
@@ -30,47 +34,70 @@ still_none : (tables : List Table) (table : Table) (old new : Trees) → KeepsRo
 still_none [] table old new same none empty = (empty, tt)
 still_none (t ∷ tables) table old new same none empty = (same.0 ∙ none.0, still_none tables table old new same.1 none.1 empty)
 
--- a table more is declared, it has no rows, and the others have theirs
-pub record Adds (before after : Schema) (old new : Database) : Type 0 where
-  pub schema_is : new.schema ≡ after
-  pub lists : Lists (new.trees catalog_tree) after
-  pub others : KeepsRows before.tables old.trees new.trees
-  pub empty : new.trees (next_tree before) ≡ []
+-- no table counts its rows
+uncounted : (t : TableName) → lacks_sequence (schema_with (before t ++ t ∷ [])) ≡ false
+uncounted table.Desk = refl
+uncounted table.Field = refl
+uncounted table.Move = refl
+uncounted table.Orders = refl
+uncounted table.Line = refl
+uncounted table.Kept = refl
+uncounted table.Firm = refl
+
+-- the trees are taken one after the other
+next_is : (t : TableName) → next_tree (schema_with (before t)) ≡ (declared t).tree
+next_is table.Desk = refl
+next_is table.Field = refl
+next_is table.Move = refl
+next_is table.Orders = refl
+next_is table.Line = refl
+next_is table.Kept = refl
+next_is table.Firm = refl
 
 -- a table is made beside the others
-module _ (text : List ℕ) (before after : Schema) (table : Table) (means : MeansTable text before after table) (uncounted : lacks_sequence after ≡ false) where
-  abbrev made_in : Table
-  made_in = record table { tree = next_tree before }
+module _ (t : TableName) (text : List ℕ) (means : MakesTable t text) where
+  abbrev prior : Schema
+  prior = schema_with (before t)
 
-  -- it has no rows, and the others have theirs
-  pub adds_table : (old new : State) (count : ℕ) → old.now.schema ≡ before → Executes text [] old new (Ok count) → Adds before after old.now new.now
+  abbrev after : Schema
+  after = schema_with (before t ++ t ∷ [])
+
+  abbrev new_table : Table
+  new_table = record (declared t) { tree = 0 }
+
+  adds_table : (old new : State) (count : ℕ) → old.now.schema ≡ prior → Executes text [] old new (Ok count) → AddsTable t old.now new.now
   adds_table old new count is h =
-      let run = runs_as text [] old new before is CreateTable means.command means.plain count h in
+      let run = runs_as text [] old new prior is CreateTable means.command means.plain count h in
       let w = subst (λ t. Writes old new None CreateTable t [] count) means.whole run in
       let all = went w.changed in
       let first = went all.1 in
       let made = first.1 in
-      let both : Ok made.table ≡ Ok table = sym made.defined ∙ means.defined in
-      let same : made.table ≡ table = cc in
-      let reads : first.0.schema ≡ after = made.is ∙ ap (λ s. created s made.table) is ∙ ap (created before) same ∙ means.next in
-      let steady : lacks_sequence first.0.schema ≡ false = ap lacks_sequence reads ∙ uncounted in
+      let both : Ok made.table ≡ Ok new_table = sym made.defined ∙ means.defined in
+      let same : made.table ≡ new_table = cc in
+      let reads : first.0.schema ≡ after = made.is ∙ ap (λ s. created s made.table) is ∙ ap (created prior) same ∙ means.next in
+      let steady : lacks_sequence first.0.schema ≡ false = ap lacks_sequence reads ∙ uncounted t in
       let now : new.now ≡ first.0 = ap (λ (p : Tally × Database). p.1) (same_value all.2) ∙ same_value (rw steady at first.2) in
       let schema : new.now.schema ≡ after = ap (λ (d : Database). d.schema) now ∙ reads in
       record {
         schema_is = schema;
         lists = subst (Lists (new.now.trees catalog_tree)) schema w.sound.lists;
-        others = subst (λ (d : Database). KeepsRows before.tables old.now.trees d.trees) (sym now) (subst (λ s. KeepsRows s.tables old.now.trees first.0.trees) is made.others);
-        empty = ap (λ (d : Database). d.trees (next_tree before)) now ∙ subst (λ s. first.0.trees (next_tree s) ≡ []) is made.empty;
+        others = subst (λ (d : Database). KeepsRows prior.tables old.now.trees d.trees) (sym now) (subst (λ s. KeepsRows s.tables old.now.trees first.0.trees) is made.others);
+        empty = ap (λ n. new.now.trees n) (sym (next_is t)) ∙ ap (λ (d : Database). d.trees (next_tree prior)) now ∙ subst (λ s. first.0.trees (next_tree s) ≡ []) is made.empty;
       }
 
-  created_table : (old new : State) (count : ℕ) → IsBare before old.now → Executes text [] old new (Ok count) → IsBare after new.now
-  created_table old new count bare h =
-      let adds = adds_table old new count bare.schema_is h in
-      record {
-        schema_is = adds.schema_is;
-        no_rows = subst (λ (s : Schema). AllByRecursion (λ t. new.now.trees t.tree ≡ []) s.tables) means.next (still_none before.tables made_in old.now.trees new.now.trees adds.others bare.no_rows adds.empty);
-      }
+  pub added_table : (old new : State) (r : Result ℕ Error) → old.now.schema ≡ prior → ExecutesInside 0 text [] old new r → OnOk r (Makes (AddsTable t old.now) old new)
+  added_table old new (Err e) is h = tt
+  added_table old new (Ok count) is h = record { mode = h.1.mode; committed = h.1.committed_is; is = adds_table old new count is h.0 }
 
-  pub made_table : (old new : State) (r : Result ℕ Error) → IsBare before old.now → ExecutesInside 0 text [] old new r → OnOk r (Makes (IsBare after) old new)
+  pub made_table : (old new : State) (r : Result ℕ Error) → IsBare prior old.now → ExecutesInside 0 text [] old new r → OnOk r (Makes (IsBare after) old new)
   made_table old new (Err e) bare h = tt
-  made_table old new (Ok count) bare h = record { mode = h.1.mode; committed = h.1.committed_is; is = created_table old new count bare h.0 }
+  made_table old new (Ok count) bare h =
+      let adds = adds_table old new count bare.schema_is h.0 in
+      record {
+        mode = h.1.mode;
+        committed = h.1.committed_is;
+        is = record {
+          schema_is = adds.schema_is;
+          no_rows = subst (λ tables. AllByRecursion (λ u. new.now.trees u.tree ≡ []) tables) (sym (map-append declared (before t) (t ∷ []))) (still_none prior.tables (declared t) old.now.trees new.now.trees adds.others bare.no_rows adds.empty);
+        };
+      }

@@ -22,7 +22,7 @@ use Rattle.book.specs.declared.rows.Tables.{Tables}
 use Rattle.book.specs.Rows.{Content}
 use Rattle.book.specs.Tables.{content_of}
 use Rattle.keep.specs.Old.{HoldsOld, IsOldContent}
-use Rattle.keep.specs.Schema.{desk_schema, old_schema}
+use Rattle.keep.specs.Description.{desk_schema, old_schema}
 use Rattle.keep.specs.declared.keep.KeepFault.{KeepFault}
 use Rattle.keep.specs.Content.{Holds, IsAmong, IsContent, IsDesk, LeavesOnly}
 

@@ -1,41 +1,34 @@
 -- The tables in a schema: each has its name there, and in that of a desk as it is made `desk` lies where it says.
-use Rattle.std.proofs.Common.{◌≡◌, ◌≢◌, ◌<◌, inl, inr, ℕ, zero, suc, pos, List, [], ◌∷◌, ap, arith, get_or, length, refl, subst, sym}
+use Rattle.std.proofs.Common.{◌≡◌, ◌≢◌, ◌<◌, ◌≤◌, inl, inr, ℕ, zero, suc, pos, List, [], ◌∷◌, ap, arith, get_or, length, refl, subst, sym}
 use Rattle.std.specs.List.{AllByRecursion, Any}
 use Rattle.sqlite.specs.Effect.{Database}
 use Rattle.sqlite_schema.specs.declared.schema.Table.{Table}
 use Rattle.sqlite_schema.specs.declared.schema.Schema.{Schema}
-use Rattle.std.specs.Prelude.{⊤}
-use Rattle.book.specs.Rows.{Content, DeskCells, desk_cmp}
-use Rattle.keep.specs.Schema.{desk_table, field_table, move_table, orders_table, line_table, kept_table, firm_table, desk_schema, old_schema}
-use Rattle.keep.specs.Columns.{desk_stored, desk_columns}
-use Rattle.keep.specs.Content.{AreRows, HasTable, HasTables, IsAmong}
+use Rattle.book.specs.Rows.{Content, DeskCells}
+use Rattle.keep.specs.Schema.{desk_table, field_table, move_table, orders_table, line_table, kept_table, firm_table}
+use Rattle.keep.specs.Description.{declared, desk_schema, old_schema, since}
+use Rattle.keep.specs.declared.description.TableName.{TableName}
+use Rattle.keep.specs.declared.description.TableName.TheVariants as table
+use Rattle.keep.specs.Content.{HasTables, IsAmong, Stores}
 use Rattle.keep.specs.Laws.{named}
 use Rattle.keep.specs.Names.{HasNames}
 use Rattle.keep.specs.Old.{IsOld}
 
+-- what holds of each holds of one of them
+pub of_each : {X : Type 0} (P : X → Type 0) (xs : List X) (x : X) → AllByRecursion P xs → IsAmong xs x → P x
+of_each P [] x all among = absurd among
+of_each P (y ∷ ys) x all (inl is) = subst P (sym is) all.0
+of_each P (y ∷ ys) x all (inr more) = of_each P ys x all.1 more
+
 have_names : (db : Database) (x : Content) → HasTables db x → HasNames db.schema
-have_names db x h = record {
-  desk = named _ _ h.desk.1;
-  field = named _ _ h.fields.1;
-  move = named _ _ h.moves.1;
-  orders = named _ _ h.orders.1;
-  line = named _ _ h.lines.1;
-  kept = named _ _ h.kept.1;
-}
+have_names db x h t early = named _ _ (h t).1
 
 pub nameless : (db : Database) (x : Content) → ¬ HasNames db.schema → HasTables db x → ⊥
 nameless db x none h = none (have_names db x h)
 
--- each version has the six names
+-- each version has the names of version 1
 pub old_names : (db : Database) → IsOld db → HasNames db.schema
-old_names db h = record {
-  desk = named _ _ h.desk.1.1;
-  field = named _ _ h.field.1;
-  move = named _ _ h.move.1;
-  orders = named _ _ h.orders.1;
-  line = named _ _ h.line.1;
-  kept = named _ _ h.kept.1;
-}
+old_names db h t early = named _ _ (h.tables t early).1
 
 -- ---- the table `firm`
 
@@ -58,12 +51,12 @@ not_named (t ∷ tables) other (suc k) u few is = not_named tables other.1 k u (
 -- the schema of version 1 has none
 pub no_firm : (db : Database) (x : Content) → db.schema ≡ old_schema → HasTables db x → ⊥
 no_firm db x is has =
-    no_other old_schema.tables has.firms.0 old_letters
-    (subst (λ (s : Schema). IsAmong s.tables (record firm_table { tree = has.firms.0 })) is has.firms.1)
+    no_other old_schema.tables (has table.Firm).0 old_letters
+    (subst (λ (s : Schema). IsAmong s.tables (record firm_table { tree = (has table.Firm).0 })) is (has table.Firm).1)
 
 -- that of a desk as it is made has one
 pub has_firm : (db : Database) → db.schema ≡ desk_schema → IsOld db → ⊥
-has_firm db is old = old.no_firm (subst (λ (s : Schema). Any (λ u. u.name ≡ firm_table.name) s.tables) (sym is) (6, firm_table, omega arith, refl, refl))
+has_firm db is old = old.no_later table.Firm (omega arith) (subst (λ (s : Schema). Any (λ u. u.name ≡ firm_table.name) s.tables) (sym is) (6, firm_table, omega arith, refl, refl))
 
 -- ---- the table `desk`
 
@@ -84,35 +77,39 @@ desk_lies tables tree other (inr more) = absurd (not_there tables tree other mor
 in_desk : (tree : ℕ) → IsAmong desk_schema.tables (record desk_table { tree = tree }) → tree ≡ desk_table.tree
 in_desk tree = desk_lies (field_table ∷ move_table ∷ orders_table ∷ line_table ∷ kept_table ∷ firm_table ∷ []) tree (λ e. omega (arith, e), (λ e. omega (arith, e), (λ e. omega (arith, e), (λ e. omega (arith, e), (λ e. omega (arith, e), (λ e. omega (arith, e), tt))))))
 
-pub desk_rows : (db : Database) (x : Content) → db.schema ≡ desk_schema → HasTables db x → AreRows desk_cmp desk_stored desk_columns (db.trees desk_table.tree) x.desk
+pub desk_rows : (db : Database) (x : Content) → db.schema ≡ desk_schema → HasTables db x → Stores table.Desk (db.trees desk_table.tree) x.desk
 desk_rows db x is has =
-    let among : IsAmong desk_schema.tables (record desk_table { tree = has.desk.0 }) = subst (λ (s : Schema). IsAmong s.tables (record desk_table { tree = has.desk.0 })) is has.desk.1 in
-    subst (λ (tree : ℕ). AreRows desk_cmp desk_stored desk_columns (db.trees tree) x.desk) (in_desk has.desk.0 among) has.desk.2
+    let among : IsAmong desk_schema.tables (record desk_table { tree = (has table.Desk).0 }) = subst (λ (s : Schema). IsAmong s.tables (record desk_table { tree = (has table.Desk).0 })) is (has table.Desk).1 in
+    subst (λ (tree : ℕ). Stores table.Desk (db.trees tree) x.desk) (in_desk (has table.Desk).0 among) (has table.Desk).2
 
 in_old : (tree : ℕ) → IsAmong old_schema.tables (record desk_table { tree = tree }) → tree ≡ desk_table.tree
 in_old tree = desk_lies (field_table ∷ move_table ∷ orders_table ∷ line_table ∷ kept_table ∷ []) tree (λ e. omega (arith, e), (λ e. omega (arith, e), (λ e. omega (arith, e), (λ e. omega (arith, e), (λ e. omega (arith, e), tt)))))
 
 -- in a store of version 1 the one row lies there too
-pub old_rows : (db : Database) → db.schema ≡ old_schema → (old : IsOld db) → AreRows desk_cmp desk_stored desk_columns (db.trees desk_table.tree) (old.desk.0 ∷ [])
+pub old_rows : (db : Database) → db.schema ≡ old_schema → (old : IsOld db) → Stores table.Desk (db.trees desk_table.tree) (old.desk.0 ∷ [])
 old_rows db is old =
     let tree = old.desk.1.0 in
     let among : IsAmong old_schema.tables (record desk_table { tree = tree }) = subst (λ (s : Schema). IsAmong s.tables (record desk_table { tree = tree })) is old.desk.1.1 in
-    subst (λ (tree : ℕ). AreRows desk_cmp desk_stored desk_columns (db.trees tree) (old.desk.0 ∷ [])) (in_old tree among) old.desk.1.2
+    subst (λ (tree : ℕ). Stores table.Desk (db.trees tree) (old.desk.0 ∷ [])) (in_old tree among) old.desk.1.2
 
-there : (db : Database) (table : Table) → db.schema ≡ old_schema → IsAmong old_schema.tables table → HasTable db.schema db.trees table (λ _. ⊤)
-there db table is among = (table.tree, subst (λ (s : Schema). IsAmong s.tables table) (sym is) among, tt)
+pub in_old_schema : (t : TableName) → since t ≤ 1 → IsAmong old_schema.tables (declared t)
+in_old_schema table.Desk early = inl refl
+in_old_schema table.Field early = inr (inl refl)
+in_old_schema table.Move early = inr (inr (inl refl))
+in_old_schema table.Orders early = inr (inr (inr (inl refl)))
+in_old_schema table.Line early = inr (inr (inr (inr (inl refl))))
+in_old_schema table.Kept early = inr (inr (inr (inr (inr (inl refl)))))
+in_old_schema table.Firm early = absurd (omega (arith, early))
+
+-- no table of the schema of version 1 is named as a later one
+none_later : (t : TableName) → 1 < since t → Any (λ u. u.name ≡ (declared t).name) old_schema.tables → ⊥
+none_later table.Firm later found = not_named old_schema.tables old_letters found.0 found.1 found.2 found.3 (ap (λ (name : List ℕ). get_or name 2 0) found.4)
+none_later t later found = absurd (omega (arith, later))
 
 -- a store with the schema of version 1 and one row of that version is of it
-pub is_old : (db : Database) (row : DeskCells) → db.schema ≡ old_schema → AreRows desk_cmp desk_stored desk_columns (db.trees desk_table.tree) (row ∷ []) → row.version ≡ pos 1 → IsOld db
+pub is_old : (db : Database) (row : DeskCells) → db.schema ≡ old_schema → Stores table.Desk (db.trees desk_table.tree) (row ∷ []) → row.version ≡ pos 1 → IsOld db
 is_old db row is are version = record {
   desk = (row, (desk_table.tree, subst (λ (s : Schema). IsAmong s.tables desk_table) (sym is) (inl refl), are), version);
-  field = there db field_table is (inr (inl refl));
-  move = there db move_table is (inr (inr (inl refl)));
-  orders = there db orders_table is (inr (inr (inr (inl refl))));
-  line = there db line_table is (inr (inr (inr (inr (inl refl)))));
-  kept = there db kept_table is (inr (inr (inr (inr (inr (inl refl))))));
-  no_firm = λ named. none_named (subst (λ (s : Schema). Any (λ u. u.name ≡ firm_table.name) s.tables) is named);
+  tables = λ t early. ((declared t).tree, subst (λ (s : Schema). IsAmong s.tables (declared t)) (sym is) (in_old_schema t early), tt);
+  no_later = λ t later named. none_later t later (subst (λ (s : Schema). Any (λ u. u.name ≡ (declared t).name) s.tables) is named);
 }
-  where
-    none_named : Any (λ u. u.name ≡ firm_table.name) old_schema.tables → ⊥
-    none_named found = not_named old_schema.tables old_letters found.0 found.1 found.2 found.3 (ap (λ (name : List ℕ). get_or name 2 0) found.4)

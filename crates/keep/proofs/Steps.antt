@@ -5,7 +5,7 @@ use Rattle.sqlite.specs.State.{State, HasCleanDisk, IsUnchanged, Survives}
 use Rattle.sqlite.proofs.Callers.{unchanged_then}
 use Rattle.sqlite.proofs.StateLemmas.{survives_then}
 use Rattle.sqlite_trees.specs.Tree.{Trees}
-use Rattle.keep.specs.Schema.{desk_schema}
+use Rattle.keep.specs.Description.{desk_schema}
 use Rattle.keep.specs.Loads.{Finds}
 
 pub survives_itself : (s : State) (P : Trees → Type 0) → Survives s s P

@@ -1,60 +1,48 @@
 -- What an upgrade does: the table `firm` is made beside the others, and the row of `desk` is put in.
 use Rattle.std.proofs.Common.{◌≡◌, ◌∙◌, ℕ, List, [], ◌∷◌, Ok, Err, Result, IsTrue, ap, arith, inr, pos, map, refl, subst, sym}
 use Rattle.std.specs.Prelude.{OnOk}
-use Rattle.std.specs.declared.cmp.Ordering.{Ordering}
 use Rattle.std.proofs.lemmas.Cmp.{int_cmp_total, tied_itself}
 use Rattle.sqlite.specs.declared.error.Error.{Error}
 use Rattle.sqlite.specs.Effect.{Database}
-use Rattle.sqlite.specs.Order.{Row}
 use Rattle.sqlite.specs.State.{State, ExecutesInside, HasCleanDisk, IsUnchanged, Survives}
 use Rattle.sqlite.proofs.StateLemmas.{survives_then}
 use Rattle.sqlite_trees.specs.Tree.{Trees}
 use Rattle.book.specs.declared.rows.Change.TheVariants as change
 use Rattle.book.specs.declared.rows.DeskRow.{DeskRow}
 use Rattle.book.specs.Changes.{put_row}
-use Rattle.book.specs.Rows.{Content, DeskCells, desk_cmp, field_cmp, firm_cmp, kept_cmp, line_cmp, move_cmp, order_cmp}
+use Rattle.book.specs.Rows.{Content, DeskCells, desk_cmp, firm_cmp}
 use Rattle.book.specs.Tables.{desk_cells}
-use Rattle.keep.specs.Columns.{desk_stored, field_stored, move_stored, order_stored, line_stored, kept_stored, firm_stored, desk_columns, field_columns, move_columns, order_columns, line_columns, kept_columns, firm_columns}
-use Rattle.keep.specs.Content.{AreRows, HasTables, Holds, IsContent, IsDesk, IsOneRow, IsVersion}
+use Rattle.keep.specs.Content.{HasTables, Holds, IsContent, IsContentOf, IsDesk, IsOneRow, IsVersion, Stores}
 use Rattle.keep.specs.Loads.{FindsOver, IsOfAVersion}
 use Rattle.keep.specs.Old.{AreUpgraded, HoldsOld, IsOld, IsUpgraded, raised, upgraded}
-use Rattle.keep.specs.OneContent.{desk_once}
+use Rattle.keep.specs.OneContent.{is_now, rows_once}
 use Rattle.keep.specs.UpgradeSteps.{AreRaised, Raised, RaisesIn, with_row}
-use Rattle.keep.specs.Schema.{desk_schema, firm_table, old_schema}
+use Rattle.keep.specs.Schema.{firm_table}
+use Rattle.keep.specs.Description.{columns, declared, desk_schema, old_schema, rows_of, stored}
+use Rattle.keep.specs.declared.description.TableName.{TableName}
+use Rattle.keep.specs.declared.description.TableName.TheVariants as table
 use Rattle.keep.specs.Transactions.{Makes, PutsIn}
-use Rattle.keep.proofs.NewTables.{Adds, adds_table}
+use Rattle.keep.specs.Stages.{AddsTable}
 use Rattle.keep.proofs.NewRow.{none}
-use Rattle.keep.proofs.NewTexts.{firm_means, firm_text}
-use Rattle.keep.proofs.Schemas.{desk_rows, is_old, old_rows}
+use Rattle.keep.proofs.Schemas.{desk_rows, in_old_schema, is_old, of_each, old_rows}
 
--- the rows of a tree that is as it was
-stay : {X : Type 0} (cmp : X → X → Ordering) (stored : Row → Row) (columns : X → Row) (old new : List Row) (xs : List X) → new ≡ old → AreRows cmp stored columns old xs → AreRows cmp stored columns new xs
-stay cmp stored columns old new xs same are = subst (λ rows. AreRows cmp stored columns rows xs) (sym same) are
+-- the tables of version 1 have their rows, and a later one has none
+rows_more : (t : TableName) (old new : Database) (x : Content) → AddsTable table.Firm old new → IsContentOf 1 old.trees x → Stores t (new.trees (declared t).tree) (rows_of t x)
+rows_more table.Firm old new x adds was = subst (Stores table.Firm (new.trees firm_table.tree)) (sym (was.none table.Firm (omega arith))) (none firm_cmp (stored table.Firm) (columns table.Firm) (new.trees firm_table.tree) adds.empty)
+rows_more t old new x adds was = subst (λ rows. Stores t rows (rows_of t x)) (sym (of_each (λ u. new.trees u.tree ≡ old.trees u.tree) old_schema.tables (declared t) adds.others (in_old_schema t (omega arith)))) (was.rows t (omega arith))
 
-holds_more : (old new : Database) → Adds old_schema desk_schema old new → (x : Content) → HoldsOld old x → Holds new x
-holds_more old new adds x held =
-    let was = held.content in
-    let same = adds.others in record {
-      schema_is = adds.schema_is;
-      content = record {
-        lists = adds.lists;
-        desk = stay desk_cmp desk_stored desk_columns (old.trees 0) (new.trees 0) x.desk same.0 was.desk;
-        fields = stay field_cmp field_stored field_columns (old.trees 1) (new.trees 1) x.fields same.1.0 was.fields;
-        moves = stay move_cmp move_stored move_columns (old.trees 3) (new.trees 3) x.moves same.1.1.0 was.moves;
-        orders = stay order_cmp order_stored order_columns (old.trees 4) (new.trees 4) x.orders same.1.1.1.0 was.orders;
-        lines = stay line_cmp line_stored line_columns (old.trees 5) (new.trees 5) x.lines same.1.1.1.1.0 was.lines;
-        kept = stay kept_cmp kept_stored kept_columns (old.trees 7) (new.trees 7) x.kept same.1.1.1.1.1.0 was.kept;
-        firms = subst (AreRows firm_cmp firm_stored firm_columns (new.trees 9)) (sym was.firms) (none firm_cmp firm_stored firm_columns (new.trees 9) adds.empty);
-      };
-    }
-
-pub firm_added : (old new : State) (r : Result ℕ Error) → ExecutesInside 0 firm_text [] old new r → OnOk r (Makes (λ db. (x : Content) → HoldsOld old.now x → Holds db x) old new)
-firm_added old new (Err e) h = tt
-firm_added old new (Ok count) h = record {
-  mode = h.1.mode;
-  committed = h.1.committed_is;
-  is = λ x held. holds_more old.now new.now (adds_table firm_text old_schema desk_schema (record firm_table { tree = 0 }) firm_means refl old new count held.schema_is h.0) x held;
+holds_more : (old new : Database) → AddsTable table.Firm old new → (x : Content) → HoldsOld old x → Holds new x
+holds_more old new adds x held = record {
+  schema_is = adds.schema_is;
+  content = record {
+    lists = adds.lists;
+    rows = λ t now. rows_more t old new x adds held.content;
+    none = λ t late. absurd (let now = is_now t in omega (arith, now, late));
+  };
 }
+
+raised_table : (old new : State) → Makes (AddsTable table.Firm old.now) old new → Makes (λ db. (x : Content) → HoldsOld old.now x → Holds db x) old new
+raised_table old new h = record { mode = h.mode; committed = h.committed; is = λ x held. holds_more old.now new.now h.is x held }
 
 raises : (a b c : State) (row : DeskRow) → Makes (λ db. (x : Content) → HoldsOld a.now x → Holds db x) a b → PutsIn b c (change.Desk row ∷ []) → RaisesIn a c row
 raises a b c row made put = record {
@@ -64,10 +52,10 @@ raises a b c row made put = record {
 }
 
 -- the one after the other
-pub raises_in : (a b c : State) (row : DeskRow) → Survives b c (λ _. ⊥) → (HasCleanDisk b → IsTrue a.in_transaction → Makes (λ db. (x : Content) → HoldsOld a.now x → Holds db x) a b)
-    → (HasCleanDisk c → IsTrue b.in_transaction → PutsIn b c (change.Desk row ∷ [])) → HasCleanDisk c → IsTrue a.in_transaction → RaisesIn a c row
-raises_in a b c row second make put clean begun =
-    let made = make (omega (arith, clean, second.clean)) begun in
+pub raises_in : (a b c : State) (row : DeskRow) → Survives b c (λ _. ⊥) → (HasCleanDisk b → IsTrue a.in_transaction → a.now.schema ≡ old_schema → Makes (AddsTable table.Firm a.now) a b)
+    → (HasCleanDisk c → IsTrue b.in_transaction → PutsIn b c (change.Desk row ∷ [])) → HasCleanDisk c → IsTrue a.in_transaction → a.now.schema ≡ old_schema → RaisesIn a c row
+raises_in a b c row second make put clean begun is =
+    let made = raised_table a b (make (omega (arith, clean, second.clean)) begun is) in
     raises a b c row made (put clean made.mode)
 
 -- ---- the row of version 1 is replaced
@@ -75,10 +63,10 @@ raises_in a b c row second make put clean begun =
 replaced : (old new : DeskCells) → new.one ≡ old.one → put_row desk_cmp new (old ∷ []) ≡ new ∷ []
 replaced old new same = rw (same, tied_itself int_cmp_total old.one) refl
 
-module _ (db : Database) (was : DeskCells) (row : DeskRow) (is : desk_cells row ≡ raised was) (are : AreRows desk_cmp desk_stored desk_columns (db.trees 0) (was ∷ [])) where
+module _ (db : Database) (was : DeskCells) (row : DeskRow) (is : desk_cells row ≡ raised was) (are : Stores table.Desk (db.trees 0) (was ∷ [])) where
   same_row : (x : Content) → HoldsOld db x → put_row desk_cmp (desk_cells row) x.desk ≡ map raised x.desk
   same_row x held =
-      let one : x.desk ≡ was ∷ [] = desk_once (db.trees 0) (was ∷ []) x.desk are held.content.desk in
+      let one : x.desk ≡ was ∷ [] = rows_once table.Desk (db.trees 0) (was ∷ []) x.desk are (held.content.rows table.Desk (omega arith)) in
       (λ i. put_row desk_cmp (is i) (one i)) ∙ replaced was (raised was) refl ∙ sym (ap (map raised) one)
 
   pub with_it : (x : Content) → HoldsOld db x → with_row row x ≡ upgraded x
@@ -93,9 +81,9 @@ module _ (db : Database) (was : DeskCells) (row : DeskRow) (is : desk_cells row 
 -- ---- the whole of it: the row was read, and then the two statements were done
 
 module _ (old mid new : State) (was row : DeskRow) (is : desk_cells row ≡ raised (desk_cells was)) (has : old.now.schema ≡ old_schema) (version : IsVersion (pos 1) (desk_cells was))
-    (found : FindsOver IsOfAVersion old mid (λ trees. AreRows desk_cmp desk_stored desk_columns (trees 0) (desk_cells was ∷ []))) (second : Survives mid new (AreRaised mid.now row)) where
+    (found : FindsOver IsOfAVersion old mid (λ trees. Stores table.Desk (trees 0) (desk_cells was ∷ []))) (second : Survives mid new (AreRaised mid.now row)) where
   module _ (clean : HasCleanDisk new) where
-    read : IsUnchanged old mid × AreRows desk_cmp desk_stored desk_columns (old.now.trees 0) (desk_cells was ∷ [])
+    read : IsUnchanged old mid × Stores table.Desk (old.now.trees 0) (desk_cells was ∷ [])
     read = found (omega (arith, clean, second.clean)) (inr has)
 
     held_still : (x : Content) → HoldsOld old.now x → HoldsOld mid.now x
@@ -120,8 +108,8 @@ module _ (old mid new : State) (was row : DeskRow) (is : desk_cells row ≡ rais
 
 -- ---- where nothing is upgraded
 
-pub not_old : (db : Database) → db.schema ≡ old_schema → ((rows : List DeskCells) → AreRows desk_cmp desk_stored desk_columns (db.trees 0) rows → ¬ IsOneRow (pos 1) rows) → IsOld db → ⊥
+pub not_old : (db : Database) → db.schema ≡ old_schema → ((rows : List DeskCells) → Stores table.Desk (db.trees 0) rows → ¬ IsOneRow (pos 1) rows) → IsOld db → ⊥
 not_old db is none old = none (old.desk.0 ∷ []) (old_rows db is old) (old.desk.0, refl, old.desk.2)
 
-pub not_current : (db : Database) (x : Content) → db.schema ≡ desk_schema → ((rows : List DeskCells) → AreRows desk_cmp desk_stored desk_columns (db.trees 0) rows → ¬ IsOneRow (pos 2) rows) → HasTables db x → IsDesk x → ⊥
+pub not_current : (db : Database) (x : Content) → db.schema ≡ desk_schema → ((rows : List DeskCells) → Stores table.Desk (db.trees 0) rows → ¬ IsOneRow (pos 2) rows) → HasTables db x → IsDesk x → ⊥
 not_current db x is none has = none x.desk (desk_rows db x is has)

@@ -1,5 +1,5 @@
 -- The content of a store: what its seven tables hold, and what a stop leaves of it.
-use Rattle.std.specs.Prelude.{◌≡◌, ◌⊎◌, ℕ, ℤ, pos, List, [], ◌∷◌, map, IsTrue, IsPermutation}
+use Rattle.std.specs.Prelude.{◌≡◌, ◌<◌, ◌≤◌, ◌⊎◌, ℕ, ℤ, pos, List, [], ◌∷◌, map, IsTrue, IsPermutation}
 use Rattle.std.specs.List.{AllByRecursion}
 use Rattle.std.specs.List.Sorted.{IsStrictlySortedBy}
 use Rattle.std.specs.declared.cmp.Ordering.{Ordering}
@@ -11,9 +11,9 @@ use Rattle.sqlite_trees.specs.Tree.{Trees, rowid}
 use Rattle.sqlite_trees.specs.Objects.{catalog_tree}
 use Rattle.sqlite_trees.specs.View.{is_int}
 use Rattle.sqlite_catalog.specs.Listing.{Lists}
-use Rattle.book.specs.Rows.{Content, DeskCells, desk_cmp, field_cmp, move_cmp, order_cmp, line_cmp, kept_cmp, firm_cmp}
-use Rattle.keep.specs.Schema.{desk_table, field_table, move_table, orders_table, line_table, kept_table, firm_table, desk_schema}
-use Rattle.keep.specs.Columns.{desk_stored, field_stored, move_stored, order_stored, line_stored, kept_stored, firm_stored, desk_columns, field_columns, move_columns, order_columns, line_columns, kept_columns, firm_columns}
+use Rattle.book.specs.Rows.{Content, DeskCells}
+use Rattle.keep.specs.Description.{Cells, columns, declared, key_cmp, rows_of, schema_of, since, stored}
+use Rattle.keep.specs.declared.description.TableName.{TableName}
 
 -- it is one of these
 abbrev pub IsAmong : {X : Type 0} → List X → X → Type 0
@@ -31,37 +31,36 @@ pub record AreRows {X : Type 0} (cmp : X → X → Ordering) (stored : Row → R
   pub sorted : IsStrictlySortedBy cmp xs
   pub numbers : HaveNumbers rows
 
--- trees with the seven tables where the schema of a desk has them, and with these rows; their catalog lists that schema
-pub record IsContent (trees : Trees) (x : Content) : Type 0 where
-  pub lists : Lists (trees catalog_tree) desk_schema
-  pub desk : AreRows desk_cmp desk_stored desk_columns (trees desk_table.tree) x.desk
-  pub fields : AreRows field_cmp field_stored field_columns (trees field_table.tree) x.fields
-  pub moves : AreRows move_cmp move_stored move_columns (trees move_table.tree) x.moves
-  pub orders : AreRows order_cmp order_stored order_columns (trees orders_table.tree) x.orders
-  pub lines : AreRows line_cmp line_stored line_columns (trees line_table.tree) x.lines
-  pub kept : AreRows kept_cmp kept_stored kept_columns (trees kept_table.tree) x.kept
-  pub firms : AreRows firm_cmp firm_stored firm_columns (trees firm_table.tree) x.firms
+-- the rows of the table are these
+abbrev pub Stores : (t : TableName) → List Row → List (Cells t) → Type 0
+Stores t rows xs = AreRows (key_cmp t) (stored t) (columns t) rows xs
 
--- the schema is that of a desk as it is made, and nothing else is declared; this is what the seven tables hold
-pub record Holds (db : Database) (x : Content) : Type 0 where
-  pub schema_is : db.schema ≡ desk_schema
-  pub content : IsContent db.trees x
+-- trees with the tables of that version where its schema has them, and with these rows, none of them of another table;
+-- their catalog lists that schema
+pub record IsContentOf (version : ℕ) (trees : Trees) (x : Content) : Type 0 where
+  pub lists : Lists (trees catalog_tree) (schema_of version)
+  pub rows : (t : TableName) → since t ≤ version → Stores t (trees (declared t).tree) (rows_of t x)
+  pub none : (t : TableName) → version < since t → rows_of t x ≡ []
+
+-- of the version that is written here
+abbrev pub IsContent : Trees → Content → Type 0
+IsContent = IsContentOf 2
+
+-- the schema is that of a desk of that version, as it is made, and nothing else is declared; this is what the tables hold
+pub record HoldsOf (version : ℕ) (db : Database) (x : Content) : Type 0 where
+  pub schema_is : db.schema ≡ schema_of version
+  pub content : IsContentOf version db.trees x
+
+abbrev pub Holds : Database → Content → Type 0
+Holds = HoldsOf 2
 
 -- a table that is declared so, in whatever tree it lies, and its rows are such
 abbrev pub HasTable : Schema → Trees → Table → (List Row → Type 0) → Type 0
 HasTable schema trees table Are = (tree : ℕ) × IsAmong schema.tables (record table { tree = tree }) × Are (trees tree)
 
 -- the seven tables are declared, in whatever order and beside whatever others, and this is what they hold
-pub record HasTables (db : Database) (x : Content) : Type 0 where
-  pub desk : HasTable db.schema db.trees desk_table (λ rows. AreRows desk_cmp desk_stored desk_columns rows x.desk)
-  pub fields : HasTable db.schema db.trees field_table
-      (λ rows. AreRows field_cmp field_stored field_columns rows x.fields)
-  pub moves : HasTable db.schema db.trees move_table (λ rows. AreRows move_cmp move_stored move_columns rows x.moves)
-  pub orders : HasTable db.schema db.trees orders_table
-      (λ rows. AreRows order_cmp order_stored order_columns rows x.orders)
-  pub lines : HasTable db.schema db.trees line_table (λ rows. AreRows line_cmp line_stored line_columns rows x.lines)
-  pub kept : HasTable db.schema db.trees kept_table (λ rows. AreRows kept_cmp kept_stored kept_columns rows x.kept)
-  pub firms : HasTable db.schema db.trees firm_table (λ rows. AreRows firm_cmp firm_stored firm_columns rows x.firms)
+abbrev pub HasTables : Database → Content → Type 0
+HasTables db x = (t : TableName) → HasTable db.schema db.trees (declared t) (λ rows. Stores t rows (rows_of t x))
 
 -- whatever a stop leaves, it is a desk's seven tables alone, and their content is one of these
 abbrev pub LeavesOnly : (Trees → Type 0) → List Content → Type 0

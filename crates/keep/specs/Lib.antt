@@ -1,4 +1,5 @@
 pub mod Schema
+pub mod Description
 pub mod Columns
 pub mod Content
 pub mod Transactions
@@ -7,6 +8,7 @@ pub mod Old
 pub mod UpgradeSteps
 pub mod Loads
 pub mod Keeper
+pub mod Statements
 pub mod Stages
 pub mod Plain
 pub mod Starts

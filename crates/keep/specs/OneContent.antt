@@ -1,5 +1,5 @@
 -- Trees have one content: the rows that are put in and read could be no others.
-use Rattle.std.proofs.Common.{◌≡◌, ◌∙◌, ap, ap₂, inl, inr, List, [], ◌∷◌, map, refl, sym, Ordering, Less, IsPermutation, subst}
+use Rattle.std.proofs.Common.{◌≡◌, ◌≤◌, ◌∙◌, arith, ap, ap₂, inl, inr, List, [], ◌∷◌, map, refl, sym, Ordering, Less, IsPermutation, subst}
 use Rattle.std.specs.List.{AllByRecursion}
 use Rattle.std.specs.List.Sorted.{IsStrictlySortedBy}
 use Rattle.std.specs.Cmp.{IsTotalOrder}
@@ -12,10 +12,12 @@ use Rattle.sqlite_rules.specs.Edit.{id_in}
 use Rattle.sqlite_rules.specs.Lists.{Has}
 use Rattle.sqlite_rules.proofs.ListLemmas.{all_has, all_from}
 use Rattle.sqlite_trees.specs.Tree.{Trees}
-use Rattle.book.specs.Rows.{Content, DeskCells, FieldCells, MoveCells, OrderCells, LineCells, KeptCells, FirmCells, desk_cmp, field_cmp, move_cmp, order_cmp, line_cmp, kept_cmp, firm_cmp}
-use Rattle.keep.specs.Columns.{desk_stored, field_stored, move_stored, order_stored, line_stored, kept_stored, firm_stored, desk_columns, field_columns, move_columns, order_columns, line_columns, kept_columns, firm_columns}
-use Rattle.keep.specs.Content.{AreRows, IsContent}
-use Rattle.keep.specs.KeyOrders.{desk_cmp_total, field_cmp_total, firm_cmp_total, kept_cmp_total, line_cmp_total, move_cmp_total, order_cmp_total}
+use Rattle.book.specs.Rows.{Content}
+use Rattle.keep.specs.Description.{Cells, columns, declared, key_cmp, rows_of, since, stored}
+use Rattle.keep.specs.Content.{AreRows, IsContent, Stores}
+use Rattle.keep.specs.KeyOrders.{key_cmp_total}
+use Rattle.keep.specs.declared.description.TableName.{TableName}
+use Rattle.keep.specs.declared.description.TableName.TheVariants as table
 
 module _ {X : Type 0} (cmp : X → X → Ordering) (total : IsTotalOrder cmp) where
   never_both : (a b : X) → cmp a b ≡ Less → cmp b a ≡ Less → ⊥
@@ -63,16 +65,14 @@ module _ {X : Type 0} (cmp : X → X → Ordering) (total : IsTotalOrder cmp) wh
 
 -- ---- a row from its columns
 
-abbrev desk_of : Row → DeskCells
-desk_of c = record {
+abbrev pub from_columns : (t : TableName) → Row → Cells t
+from_columns table.Desk c = record {
   one = id_in (column c 0);
   version = id_in (column c 1);
   clock = id_in (column c 2);
   places = id_in (column c 3);
 }
-
-abbrev field_of : Row → FieldCells
-field_of c = record {
+from_columns table.Field c = record {
   branch = bytes (column c 0);
   article = bytes (column c 1);
   lo = id_in (column c 2);
@@ -82,25 +82,19 @@ field_of c = record {
   inf = id_in (column c 6);
   sup = id_in (column c 7);
 }
-
-abbrev move_of : Row → MoveCells
-move_of c = record {
+from_columns table.Move c = record {
   place = id_in (column c 0);
   branch = bytes (column c 1);
   article = bytes (column c 2);
   qty = id_in (column c 3);
 }
-
-abbrev order_of : Row → OrderCells
-order_of c = record {
+from_columns table.Orders c = record {
   number = id_in (column c 0);
   kind = id_in (column c 1);
   until = id_in (column c 2);
   state = id_in (column c 3);
 }
-
-abbrev line_of : Row → LineCells
-line_of c = record {
+from_columns table.Line c = record {
   number = id_in (column c 0);
   nr = id_in (column c 1);
   branch = bytes (column c 2);
@@ -109,46 +103,47 @@ line_of c = record {
   held = id_in (column c 5);
   used = id_in (column c 6);
 }
+from_columns table.Kept c =
+    record { reqkey = bytes (column c 0); place = id_in (column c 1); words = bytes (column c 2) }
+from_columns table.Firm c = record { number = id_in (column c 0) }
 
-abbrev kept_of : Row → KeptCells
-kept_of c = record { reqkey = bytes (column c 0); place = id_in (column c 1); words = bytes (column c 2) }
+pub there_and_back : (t : TableName) (x : Cells t) → from_columns t (columns t x) ≡ x
+there_and_back table.Desk x = refl
+there_and_back table.Field x = refl
+there_and_back table.Move x = refl
+there_and_back table.Orders x = refl
+there_and_back table.Line x = refl
+there_and_back table.Kept x = refl
+there_and_back table.Firm x = refl
 
-abbrev firm_of : Row → FirmCells
-firm_of c = record { number = id_in (column c 0) }
+-- the rows of a table are one list
+pub rows_once : (t : TableName) (rows : List Row) (xs ys : List (Cells t)) → Stores t rows xs → Stores t rows ys
+    → ys ≡ xs
+rows_once t = one_content (key_cmp t) (key_cmp_total t) (stored t) (columns t) (from_columns t) (there_and_back t)
 
--- rows of the table `desk` are one list
-pub desk_once : (rows : List Row) (xs ys : List DeskCells) → AreRows desk_cmp desk_stored desk_columns rows xs
-    → AreRows desk_cmp desk_stored desk_columns rows ys → ys ≡ xs
-desk_once = one_content desk_cmp desk_cmp_total desk_stored desk_columns desk_of (λ _. refl)
+-- contents with the same rows in each table are one
+pub same_content : (x y : Content) → ((t : TableName) → rows_of t x ≡ rows_of t y) → x ≡ y
+same_content x y same = λ i. record {
+  desk = same table.Desk i;
+  fields = same table.Field i;
+  moves = same table.Move i;
+  orders = same table.Orders i;
+  lines = same table.Line i;
+  kept = same table.Kept i;
+  firms = same table.Firm i;
+}
+
+-- each table is there now
+pub is_now : (t : TableName) → since t ≤ 2
+is_now table.Desk = omega arith
+is_now table.Field = omega arith
+is_now table.Move = omega arith
+is_now table.Orders = omega arith
+is_now table.Line = omega arith
+is_now table.Kept = omega arith
+is_now table.Firm = omega arith
 
 -- trees have one content
 pub only_content : (trees : Trees) (x y : Content) → IsContent trees x → IsContent trees y → y ≡ x
-only_content trees x y p q =
-    let desk_same : y.desk ≡ x.desk = desk_once (trees 0) x.desk y.desk p.desk q.desk in
-    let field_same : y.fields ≡ x.fields =
-    one_content field_cmp field_cmp_total field_stored field_columns field_of (λ _. refl)
-    (trees 1) x.fields y.fields p.fields q.fields in
-    let move_same : y.moves ≡ x.moves =
-    one_content move_cmp move_cmp_total move_stored move_columns move_of (λ _. refl)
-    (trees 3) x.moves y.moves p.moves q.moves in
-    let order_same : y.orders ≡ x.orders =
-    one_content order_cmp order_cmp_total order_stored order_columns order_of (λ _. refl)
-    (trees 4) x.orders y.orders p.orders q.orders in
-    let line_same : y.lines ≡ x.lines =
-    one_content line_cmp line_cmp_total line_stored line_columns line_of (λ _. refl)
-    (trees 5) x.lines y.lines p.lines q.lines in
-    let kept_same : y.kept ≡ x.kept =
-    one_content kept_cmp kept_cmp_total kept_stored kept_columns kept_of (λ _. refl)
-    (trees 7) x.kept y.kept p.kept q.kept in
-    let firm_same : y.firms ≡ x.firms =
-    one_content firm_cmp firm_cmp_total firm_stored firm_columns firm_of (λ _. refl)
-    (trees 9) x.firms y.firms p.firms q.firms in
-    λ i. record {
-      desk = desk_same i;
-      fields = field_same i;
-      moves = move_same i;
-      orders = order_same i;
-      lines = line_same i;
-      kept = kept_same i;
-      firms = firm_same i;
-    }
+only_content trees x y p q = same_content y x (λ t. rows_once t (trees (declared t).tree) (rows_of t x) (rows_of t y)
+    (p.rows t (is_now t)) (q.rows t (is_now t)))

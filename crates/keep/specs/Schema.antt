@@ -1,6 +1,6 @@
 -- The seven tables as SQL declares them, in the order in which they are made. All are STRICT, and each column is NOT
 -- NULL.
-use Rattle.std.specs.Prelude.{true, false, [], ◌∷◌, ◌++◌, Some, None, codes, List, ℕ}
+use Rattle.std.specs.Prelude.{true, false, [], ◌∷◌, ◌++◌, ◌+◌, Some, None, codes, List, map, ℕ}
 use Rattle.sqlite.specs.declared.types.Value.TheVariants.{Null}
 use Rattle.sqlite.specs.Collation.TheVariants.{Binary}
 use Rattle.sqlite.specs.Table.{Table}
@@ -58,10 +58,19 @@ keyed_table name tree columns places = record {
   is_counted = false;
 }
 
--- the index that SQLite makes for the key of such a table
-abbrev pub key_index : List ℕ → ℕ → ℕ → List ℕ → Index
-key_index name tree table places =
-    record { name = name; tree = tree; table = table; columns = places; order = plain_order; is_unique = true }
+-- the index that SQLite makes for the key of such a table, next to it
+abbrev pub key_index : Table → List ℕ → Index
+key_index table places = record {
+  name = codes "sqlite_autoindex_" ++ table.name ++ codes "_1";
+  tree = table.tree + 1;
+  table = table.tree;
+  columns = places;
+  order = plain_order;
+  is_unique = true;
+}
+
+abbrev pub key_indexes : Table → List Index
+key_indexes table = map (key_index table) table.uniques
 
 abbrev pub desk_table : Table
 desk_table = numbered_table (codes "desk") 0 (whole_number (codes "one") ∷ whole_number (codes "version")
@@ -73,9 +82,6 @@ field_table = keyed_table (codes "field") 1
     ∷ whole_number (codes "start")
     ∷ whole_number (codes "value") ∷ whole_number (codes "inf") ∷ whole_number (codes "sup") ∷ [])
     (1 ∷ 2 ∷ [])
-
-abbrev pub field_index : Index
-field_index = key_index (codes "sqlite_autoindex_field_1") 2 1 (1 ∷ 2 ∷ [])
 
 abbrev pub move_table : Table
 move_table = numbered_table (codes "move") 3 (whole_number (codes "place") ∷ text (codes "branch")
@@ -93,30 +99,12 @@ line_table = keyed_table (codes "line") 5
     ∷ whole_number (codes "held") ∷ whole_number (codes "used") ∷ [])
     (1 ∷ 2 ∷ [])
 
-abbrev pub line_index : Index
-line_index = key_index (codes "sqlite_autoindex_line_1") 6 5 (1 ∷ 2 ∷ [])
-
 abbrev pub kept_table : Table
 kept_table = keyed_table (codes "kept") 7 (text (codes "reqkey") ∷ whole_number (codes "place") ∷ text (codes "words")
     ∷ []) (1 ∷ [])
-
-abbrev pub kept_index : Index
-kept_index = key_index (codes "sqlite_autoindex_kept_1") 8 7 (1 ∷ [])
 
 abbrev pub firm_table : Table
 firm_table = numbered_table (codes "firm") 9 (whole_number (codes "number") ∷ [])
 
 abbrev pub no_schema : Schema
 no_schema = record { tables = []; indexes = []; views = [] }
-
--- the schema of a desk of version 1, as it was made
-abbrev pub old_schema : Schema
-old_schema = record {
-  tables = desk_table ∷ field_table ∷ move_table ∷ orders_table ∷ line_table ∷ kept_table ∷ [];
-  indexes = field_index ∷ line_index ∷ kept_index ∷ [];
-  views = [];
-}
-
--- the schema of a desk, as it is made: that of version 1, and `firm` last
-abbrev pub desk_schema : Schema
-desk_schema = record old_schema { tables = old_schema.tables ++ firm_table ∷ [] }

@@ -6,7 +6,6 @@ ghost use Rattle.sqlite.specs.Held.{state};
 ghost use Rattle.keep.specs.Transactions.{PutsIn, Committed, AreChanged};
 
 use crate::table::Table;
-use crate::tables::desk;
 use book::Change;
 use sqlite::{Alter, Connection, Error, Transaction};
 
@@ -18,7 +17,7 @@ fn put<S: Alter>(tx: &mut Transaction<'_, S>, change: &Change) -> Result<usize, 
     ensures survives { Survives (state S.Store tx.old.conn.now) (state S.Store tx.new.conn.now) (λ _. ⊥) }
 {
     match change {
-        Change::Desk(row) => desk::upsert(tx, row),
+        Change::Desk(row) => row.upsert(tx),
         Change::Field(row) => row.upsert(tx),
         Change::Move(row) => row.upsert(tx),
         Change::Order(row) => row.upsert(tx),

@@ -1,16 +1,17 @@
 //! A new desk.
 
-ghost use Rattle.std.specs.Prelude.{◌≡◌, ◌⊎◌, false, [], ◌∷◌, IsTrue, IfErr, OnOk, Err};
+ghost use Rattle.std.specs.Prelude.{◌≡◌, ◌⊎◌, false, [], ◌∷◌, ◌++◌, IsTrue, IfErr, OnOk, Err};
 ghost use Rattle.sqlite.specs.Held.{state};
 ghost use Rattle.sqlite.specs.State.{HasCleanDisk, Survives};
 ghost use Rattle.sqlite_trees.specs.Tree.{Trees};
 ghost use Rattle.book.specs.Rows.{Content};
 ghost use Rattle.keep.specs.Content.{Holds, IsContent, LeavesOnly, new_content};
-ghost use Rattle.keep.specs.Old.{HoldsOld};
-ghost use Rattle.keep.specs.Schema.{desk_schema, no_schema, old_schema};
-ghost use Rattle.keep.specs.Stages.{IsBare, with_desk, with_field, with_line, with_move, with_orders};
+ghost use Rattle.keep.specs.Schema.{no_schema};
+ghost use Rattle.keep.specs.Description.{before, desk_schema, schema_with};
+ghost use Rattle.keep.specs.Stages.{AddsTable, IsBare};
 ghost use Rattle.keep.specs.Transactions.{IsSettled, Makes};
 
+use crate::description::{TableName, create_text};
 use crate::keep::{KeepFault, fault_of};
 use crate::schema::is_empty;
 use crate::sql::SqlKeep;
@@ -18,105 +19,21 @@ use crate::tables::desk::VERSION;
 use sqlite::types::ValueRef;
 use sqlite::{Alter, Connection, Error, Transaction};
 
-/// Makes the table of the desk's own state.
-fn create_desk<S: Alter>(tx: &mut Transaction<'_, S>) -> Result<usize, Error>
+/// Makes the table, beside those before it.
+pub(crate) fn create_table<S: Alter>(
+    tx: &mut Transaction<'_, S>,
+    table: TableName,
+) -> Result<usize, Error>
     ensures same_reference { tx.new.conn.ghost_name ≡ tx.old.conn.ghost_name }
     ensures made { HasCleanDisk (state S.Store tx.new.conn.now) → IsTrue (state S.Store tx.old.conn.now).in_transaction
-        → IsBare no_schema (state S.Store tx.old.conn.now).now
-        → OnOk result (Makes (IsBare with_desk) (state S.Store tx.old.conn.now) (state S.Store tx.new.conn.now)) }
-    ensures survives { Survives (state S.Store tx.old.conn.now) (state S.Store tx.new.conn.now) (λ _. ⊥) }
-{
-    tx.execute(
-        "CREATE TABLE desk (one INTEGER NOT NULL PRIMARY KEY, version INTEGER NOT NULL, clock INTEGER NOT NULL, places INTEGER NOT NULL) STRICT",
-        &[],
-    )
-}
-
-/// Makes the table of the fields.
-fn create_field<S: Alter>(tx: &mut Transaction<'_, S>) -> Result<usize, Error>
-    ensures same_reference { tx.new.conn.ghost_name ≡ tx.old.conn.ghost_name }
-    ensures made { HasCleanDisk (state S.Store tx.new.conn.now) → IsTrue (state S.Store tx.old.conn.now).in_transaction
-        → IsBare with_desk (state S.Store tx.old.conn.now).now
-        → OnOk result (Makes (IsBare with_field) (state S.Store tx.old.conn.now) (state S.Store tx.new.conn.now)) }
-    ensures survives { Survives (state S.Store tx.old.conn.now) (state S.Store tx.new.conn.now) (λ _. ⊥) }
-{
-    tx.execute(
-        "CREATE TABLE field (branch TEXT NOT NULL, article TEXT NOT NULL, lo INTEGER NOT NULL, hi INTEGER NOT NULL, start INTEGER NOT NULL, value INTEGER NOT NULL, inf INTEGER NOT NULL, sup INTEGER NOT NULL, PRIMARY KEY (branch, article)) STRICT",
-        &[],
-    )
-}
-
-/// Makes the table of the moves.
-fn create_move<S: Alter>(tx: &mut Transaction<'_, S>) -> Result<usize, Error>
-    ensures same_reference { tx.new.conn.ghost_name ≡ tx.old.conn.ghost_name }
-    ensures made { HasCleanDisk (state S.Store tx.new.conn.now) → IsTrue (state S.Store tx.old.conn.now).in_transaction
-        → IsBare with_field (state S.Store tx.old.conn.now).now
-        → OnOk result (Makes (IsBare with_move) (state S.Store tx.old.conn.now) (state S.Store tx.new.conn.now)) }
-    ensures survives { Survives (state S.Store tx.old.conn.now) (state S.Store tx.new.conn.now) (λ _. ⊥) }
-{
-    tx.execute(
-        "CREATE TABLE move (place INTEGER NOT NULL PRIMARY KEY, branch TEXT NOT NULL, article TEXT NOT NULL, qty INTEGER NOT NULL) STRICT",
-        &[],
-    )
-}
-
-/// Makes the table of the orders.
-fn create_orders<S: Alter>(tx: &mut Transaction<'_, S>) -> Result<usize, Error>
-    ensures same_reference { tx.new.conn.ghost_name ≡ tx.old.conn.ghost_name }
-    ensures made { HasCleanDisk (state S.Store tx.new.conn.now) → IsTrue (state S.Store tx.old.conn.now).in_transaction
-        → IsBare with_move (state S.Store tx.old.conn.now).now
-        → OnOk result (Makes (IsBare with_orders) (state S.Store tx.old.conn.now) (state S.Store tx.new.conn.now)) }
-    ensures survives { Survives (state S.Store tx.old.conn.now) (state S.Store tx.new.conn.now) (λ _. ⊥) }
-{
-    tx.execute(
-        "CREATE TABLE orders (number INTEGER NOT NULL PRIMARY KEY, kind INTEGER NOT NULL, until INTEGER NOT NULL, state INTEGER NOT NULL) STRICT",
-        &[],
-    )
-}
-
-/// Makes the table of the lines of orders.
-fn create_line<S: Alter>(tx: &mut Transaction<'_, S>) -> Result<usize, Error>
-    ensures same_reference { tx.new.conn.ghost_name ≡ tx.old.conn.ghost_name }
-    ensures made { HasCleanDisk (state S.Store tx.new.conn.now) → IsTrue (state S.Store tx.old.conn.now).in_transaction
-        → IsBare with_orders (state S.Store tx.old.conn.now).now
-        → OnOk result (Makes (IsBare with_line) (state S.Store tx.old.conn.now) (state S.Store tx.new.conn.now)) }
-    ensures survives { Survives (state S.Store tx.old.conn.now) (state S.Store tx.new.conn.now) (λ _. ⊥) }
-{
-    tx.execute(
-        "CREATE TABLE line (number INTEGER NOT NULL, nr INTEGER NOT NULL, branch TEXT NOT NULL, article TEXT NOT NULL, way INTEGER NOT NULL, held INTEGER NOT NULL, used INTEGER NOT NULL, PRIMARY KEY (number, nr)) STRICT",
-        &[],
-    )
-}
-
-/// Makes the table of the kept keys.
-fn create_kept<S: Alter>(tx: &mut Transaction<'_, S>) -> Result<usize, Error>
-    ensures same_reference { tx.new.conn.ghost_name ≡ tx.old.conn.ghost_name }
-    ensures made { HasCleanDisk (state S.Store tx.new.conn.now) → IsTrue (state S.Store tx.old.conn.now).in_transaction
-        → IsBare with_line (state S.Store tx.old.conn.now).now
-        → OnOk result (Makes (IsBare old_schema) (state S.Store tx.old.conn.now) (state S.Store tx.new.conn.now)) }
-    ensures survives { Survives (state S.Store tx.old.conn.now) (state S.Store tx.new.conn.now) (λ _. ⊥) }
-{
-    tx.execute(
-        "CREATE TABLE kept (reqkey TEXT NOT NULL, place INTEGER NOT NULL, words TEXT NOT NULL, PRIMARY KEY (reqkey)) STRICT",
-        &[],
-    )
-}
-
-/// Makes the table of the firm orders, beside the others.
-pub(crate) fn create_firm<S: Alter>(tx: &mut Transaction<'_, S>) -> Result<usize, Error>
-    ensures same_reference { tx.new.conn.ghost_name ≡ tx.old.conn.ghost_name }
-    ensures made { HasCleanDisk (state S.Store tx.new.conn.now) → IsTrue (state S.Store tx.old.conn.now).in_transaction
-        → IsBare old_schema (state S.Store tx.old.conn.now).now
-        → OnOk result (Makes (IsBare desk_schema) (state S.Store tx.old.conn.now) (state S.Store tx.new.conn.now)) }
+        → IsBare (schema_with (before table)) (state S.Store tx.old.conn.now).now → OnOk result (Makes
+        (IsBare (schema_with (before table ++ table ∷ []))) (state S.Store tx.old.conn.now) (state S.Store tx.new.conn.now)) }
     ensures added { HasCleanDisk (state S.Store tx.new.conn.now) → IsTrue (state S.Store tx.old.conn.now).in_transaction
-        → OnOk result (Makes (λ db. (x : Content) → HoldsOld (state S.Store tx.old.conn.now).now x → Holds db x)
-        (state S.Store tx.old.conn.now) (state S.Store tx.new.conn.now)) }
+        → (state S.Store tx.old.conn.now).now.schema ≡ schema_with (before table) → OnOk result (Makes
+        (AddsTable table (state S.Store tx.old.conn.now).now) (state S.Store tx.old.conn.now) (state S.Store tx.new.conn.now)) }
     ensures survives { Survives (state S.Store tx.old.conn.now) (state S.Store tx.new.conn.now) (λ _. ⊥) }
 {
-    tx.execute(
-        "CREATE TABLE firm (number INTEGER NOT NULL PRIMARY KEY) STRICT",
-        &[],
-    )
+    tx.execute(create_text(table), &[])
 }
 
 /// Puts the one row of `desk` in.
@@ -147,13 +64,13 @@ fn create_tables<S: Alter>(tx: &mut Transaction<'_, S>) -> Result<(), Error>
         → OnOk result (Makes (IsBare desk_schema) (state S.Store tx.old.conn.now) (state S.Store tx.new.conn.now)) }
     ensures survives { Survives (state S.Store tx.old.conn.now) (state S.Store tx.new.conn.now) (λ _. ⊥) }
 {
-    create_desk(tx)?;
-    create_field(tx)?;
-    create_move(tx)?;
-    create_orders(tx)?;
-    create_line(tx)?;
-    create_kept(tx)?;
-    create_firm(tx)?;
+    create_table(tx, TableName::Desk)?;
+    create_table(tx, TableName::Field)?;
+    create_table(tx, TableName::Move)?;
+    create_table(tx, TableName::Orders)?;
+    create_table(tx, TableName::Line)?;
+    create_table(tx, TableName::Kept)?;
+    create_table(tx, TableName::Firm)?;
     Ok(())
 }
 

@@ -4,6 +4,7 @@
 mod answers;
 mod commit;
 mod create;
+mod description;
 mod keep;
 mod laws;
 mod load;

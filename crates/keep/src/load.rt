@@ -6,13 +6,13 @@ ghost use Rattle.sqlite.specs.State.{HasCleanDisk, IsLive, IsUnchanged, Survives
 ghost use Rattle.sqlite.specs.Held.{state};
 ghost use Rattle.book.specs.Rows.{Content, IsInKeyOrder, field_cmp, move_cmp, order_cmp, line_cmp, firm_cmp};
 ghost use Rattle.book.specs.Tables.{content_of, field_cells, move_cells, order_cells, line_cells, firm_cells};
-ghost use Rattle.keep.specs.Schema.{desk_schema};
-ghost use Rattle.keep.specs.Columns.{field_stored, move_stored, order_stored, line_stored, firm_stored, field_columns, move_columns, order_columns, line_columns, firm_columns};
-ghost use Rattle.keep.specs.Content.{AreRows, HasTables, Holds, IsDesk};
+ghost use Rattle.keep.specs.Description.{desk_schema};
+ghost use Rattle.keep.specs.Content.{HasTables, Holds, IsDesk, Stores};
 ghost use Rattle.keep.specs.Loads.{Finds};
+ghost use Rattle.keep.specs.declared.description.TableName.TheVariants as table;
 
 use crate::table::load;
-use crate::tables::desk;
+use crate::tables::desk::{VERSION, load_desk};
 use book::{FieldRow, FirmRow, LineRow, MoveRow, OrderRow, Rows, Tables};
 use sqlite::{Alter, Connection, Error};
 use std::alloc::Global;
@@ -26,8 +26,8 @@ fn load_stock<S: Alter>(
     ensures order { IfOk result (λ stock. IsStrictlySortedBy field_cmp (map field_cells stock.0.items)
         × IsStrictlySortedBy move_cmp (map move_cells stock.1.items)) }
     ensures found { IfOk result (λ stock. Finds (state S.Store conn.old) (state S.Store conn.new)
-        (λ trees. AreRows field_cmp field_stored field_columns (trees 1) (map field_cells stock.0.items)
-        × AreRows move_cmp move_stored move_columns (trees 3) (map move_cells stock.1.items))) }
+        (λ trees. Stores table.Field (trees 1) (map field_cells stock.0.items)
+        × Stores table.Move (trees 3) (map move_cells stock.1.items))) }
     ensures survives { Survives (state S.Store conn.old) (state S.Store conn.new)
         (λ _. ¬ ((state S.Store conn.old).now.schema ≡ desk_schema)) }
 {
@@ -46,9 +46,9 @@ fn load_orders<S: Alter>(
         × IsStrictlySortedBy line_cmp (map line_cells orders.1.items)
         × IsStrictlySortedBy firm_cmp (map firm_cells orders.2.items)) }
     ensures found { IfOk result (λ orders. Finds (state S.Store conn.old) (state S.Store conn.new)
-        (λ trees. (AreRows order_cmp order_stored order_columns (trees 4) (map order_cells orders.0.items)
-        × AreRows line_cmp line_stored line_columns (trees 5) (map line_cells orders.1.items))
-        × AreRows firm_cmp firm_stored firm_columns (trees 9) (map firm_cells orders.2.items))) }
+        (λ trees. (Stores table.Orders (trees 4) (map order_cells orders.0.items)
+        × Stores table.Line (trees 5) (map line_cells orders.1.items))
+        × Stores table.Firm (trees 9) (map firm_cells orders.2.items))) }
     ensures survives { Survives (state S.Store conn.old) (state S.Store conn.new)
         (λ _. ¬ ((state S.Store conn.old).now.schema ≡ desk_schema)) }
 {
@@ -78,7 +78,7 @@ pub(crate) fn load_all<S: Alter>(
         (λ found. found ≡ None → (x : Content) → HasTables (state S.Store conn.old).now x → ¬ IsDesk x) }
     ensures survives { Survives (state S.Store conn.old) (state S.Store conn.new) (λ _. ⊥) }
 {
-    let Some(desk) = desk::load(conn, desk::VERSION)? else {
+    let Some(desk) = load_desk(conn, VERSION)? else {
         return Ok(None);
     };
     let (fields, moves) = load_stock(alloc, conn)?;

@@ -3,7 +3,8 @@
 ghost use Rattle.std.specs.Prelude.{◌≡◌, ◌↔◌, IsTrue, None, Some, false, [], ◌∷◌, codes};
 ghost use Rattle.sqlite.specs.Kind.TheVariants.{Integer, Text};
 ghost use Rattle.keep.specs.Names.{HasNames, HasTableNamed};
-ghost use Rattle.keep.specs.Schema.{column, desk_schema, desk_table, field_table, firm_table, key_index, kept_table, keyed_table, line_table, move_table, no_schema, numbered_table, old_schema, orders_table, plain_order, text, whole_number};
+ghost use Rattle.keep.specs.Schema.{column, desk_table, field_table, firm_table, key_index, kept_table, keyed_table, line_table, move_table, no_schema, numbered_table, orders_table, plain_order, text, whole_number};
+ghost use Rattle.keep.specs.Description.{desk_schema, old_schema};
 
 use sqlite_items::Items;
 use sqlite_schema::code::Terms;

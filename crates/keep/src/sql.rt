@@ -10,13 +10,13 @@ ghost use Rattle.keep.specs.Content.{HasTables, Holds, IsDesk, IsTheRow, LeavesO
 ghost use Rattle.keep.specs.Names.{HasNames};
 ghost use Rattle.keep.specs.Transactions.{Committed, AreChanged, with_changes};
 ghost use Rattle.keep.specs.Old.{IsOld};
-ghost use Rattle.keep.specs.Schema.{desk_schema, old_schema};
+ghost use Rattle.keep.specs.Description.{desk_schema, old_schema};
 
 use crate::commit::commit_all;
 use crate::keep::{Keep, KeepFault, fault_of};
 use crate::load::load_all;
 use crate::schema::{Layout, is_desk_schema, layout_of};
-use crate::tables::desk;
+use crate::tables::desk::{OLD_VERSION, load_desk};
 use book::{Change, Tables};
 use sqlite::{Alter, Connection};
 use std::alloc::Global;
@@ -124,7 +124,7 @@ fn old_fault<S: Alter>(conn: &mut Connection<S>) -> KeepFault
         → result ≢ KeepFault.NotADesk }
     ensures survives { Survives (state S.Store conn.old) (state S.Store conn.new) (λ _. ⊥) }
 {
-    match desk::load(conn, desk::OLD_VERSION) {
+    match load_desk(conn, OLD_VERSION) {
         Ok(Some(_)) => KeepFault::OldVersion,
         Ok(None) => KeepFault::NotADesk,
         Err(error) => fault_of(error),

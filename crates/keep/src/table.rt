@@ -6,56 +6,42 @@ ghost use Rattle.std.specs.List.{AllZip};
 ghost use Rattle.std.specs.List.Sorted.{IsStrictlySortedBy};
 ghost use Rattle.sqlite.specs.Held.{state};
 ghost use Rattle.sqlite.specs.State.{HasCleanDisk, IsUnchanged, Survives};
-ghost use Rattle.keep.specs.Content.{AreRows};
-ghost use Rattle.keep.specs.Loads.{Finds, IsShown};
-ghost use Rattle.keep.specs.Schema.{desk_schema};
+ghost use Rattle.keep.specs.Content.{Stores};
+ghost use Rattle.keep.specs.Description.{declared, key_cmp, selected};
+ghost use Rattle.keep.specs.Loads.{FindsOver, IsSchemaWith, IsShown};
 
+use crate::answers::all_rows;
+use crate::description::{TableName, select_text};
 use sqlite::{Alter, Connection, Error, ErrorCode, Row, Transaction};
 use std::alloc::{AllocError, Global};
 use std::cmp::Ordering;
 
 /// A row of such a table, and the table.
 pub(crate) trait Table: Sized + Drop {
-    ghost use Rattle.std.specs.Prelude.{◌≡◌, [], ◌∷◌, false, map, ℕ, IfOk, IsPermutation, IsTrue, OnOk};
-    ghost use Rattle.std.specs.Cmp.{IsTotalOrder};
-    ghost use Rattle.std.specs.declared.cmp.Ordering.{Ordering};
+    ghost use Rattle.std.specs.Prelude.{◌≡◌, [], ◌∷◌, IfOk, IsTrue, OnOk};
     ghost use Rattle.sqlite.specs.Held.{state};
-    ghost use Rattle.sqlite.specs.Order.{Row, column};
-    ghost use Rattle.sqlite.specs.State.{HasCleanDisk, IsUnchanged, Survives};
-    ghost use Rattle.sqlite_trees.specs.Tree.{rowid};
+    ghost use Rattle.sqlite.specs.State.{HasCleanDisk, Survives};
     ghost use Rattle.book.specs.declared.rows.Change.{Change};
+    ghost use Rattle.keep.specs.Description.{Cells, key_cmp};
     ghost use Rattle.keep.specs.Loads.{IsShown};
-    ghost use Rattle.keep.specs.Schema.{desk_schema};
+    ghost use Rattle.keep.specs.declared.description.TableName.{TableName};
     ghost use Rattle.keep.specs.Transactions.{PutsIn};
 
+    ghost which: { TableName };
+
     // What a row holds.
-    ghost Cells: { Type 0 };
+    ghost cells: { Self → Cells which };
 
-    ghost cells: { Self → Cells };
-
-    // By the key alone.
-    ghost cmp: { Cells → Cells → Ordering };
-
-    // Where the rows are stored.
-    ghost tree: { ℕ };
-
-    // The columns of a stored row, and those of cells.
-    ghost stored: { Row → Row };
-
-    ghost columns: { Cells → Row };
-
-    // What the select shows of a stored row; those columns of it that are of the table, and the one that is the rowid.
-    ghost selected: { Row → Row };
-
-    ghost shown: { Row → Row };
-
-    ghost at: { ℕ };
-
+    // The change that puts it in.
     ghost change_of: { Self → Change };
+
+    /// Which table it is.
+    fn name() -> TableName
+        ensures { result ≡ which };
 
     /// How their keys stand to one another.
     fn compare(&self, other: &Self) -> Ordering
-        ensures { result ≡ cmp (cells self.now) (cells other.now) };
+        ensures { result ≡ key_cmp which (cells self.now) (cells other.now) };
 
     /// A row with the same cells.
     fn copy(&self, alloc: Global) -> Result<Self, AllocError>
@@ -70,31 +56,32 @@ pub(crate) trait Table: Sized + Drop {
             (change_of self.now ∷ [])) }
         ensures survives { Survives (state S.Store tx.old.conn.now) (state S.Store tx.new.conn.now) (λ _. ⊥) };
 
-    /// All rows of the table.
-    fn select<S: Alter>(alloc: Global, conn: &mut Connection<S>) -> Result<Vec<Row>, Error>
-        ensures mode { conn.old.in_transaction ≡ false → conn.new.in_transaction ≡ false }
-        ensures rows { HasCleanDisk (state S.Store conn.new) → (state S.Store conn.old).now.schema ≡ desk_schema
-            → IfOk result (λ rows. IsPermutation (map selected ((state S.Store conn.old).now.trees tree)) rows.items) }
-        ensures same { HasCleanDisk (state S.Store conn.new) → (state S.Store conn.old).now.schema ≡ desk_schema
-            → OnOk result (IsUnchanged (state S.Store conn.old) (state S.Store conn.new)) }
-        ensures survives { Survives (state S.Store conn.old) (state S.Store conn.new)
-            (λ _. ¬ ((state S.Store conn.old).now.schema ≡ desk_schema)) };
-
     /// The row that the answer shows.
     fn read(row: &Row) -> Result<Self, Error>
-        ensures { IfOk result (λ found. IsShown shown at row.now (columns (cells found))) };
+        ensures { IfOk result (λ found. IsShown which row.now (cells found)) };
+}
 
-    ghost total: { IsTotalOrder cmp };
-
-    ghost shows: { (r : Row) → shown (selected r) ≡ stored r };
-
-    ghost number: { (r : Row) → column (selected r) at ≡ rowid r };
+/// All rows of the table, by its key, with the rowid of each last where that is not the key.
+fn select<R: Table, S: Alter>(
+    alloc: Global,
+    conn: &mut Connection<S>,
+) -> Result<Vec<Row>, Error>
+    ensures mode { conn.old.in_transaction ≡ false → conn.new.in_transaction ≡ false }
+    ensures rows { HasCleanDisk (state S.Store conn.new) → IsSchemaWith R.which (state S.Store conn.old).now.schema
+        → IfOk result (λ rows. IsPermutation (map (selected R.which) ((state S.Store conn.old).now.trees
+        (declared R.which).tree)) rows.items) }
+    ensures same { HasCleanDisk (state S.Store conn.new) → IsSchemaWith R.which (state S.Store conn.old).now.schema
+        → OnOk result (IsUnchanged (state S.Store conn.old) (state S.Store conn.new)) }
+    ensures survives { Survives (state S.Store conn.old) (state S.Store conn.new)
+        (λ _. ¬ IsSchemaWith R.which (state S.Store conn.old).now.schema) }
+{
+    all_rows(alloc, conn, select_text(R::name()))
 }
 
 /// The rows that the answers show.
 fn read_all<R: Table>(alloc: Global, answers: &[Row]) -> Result<Vec<R>, Error>
-    ensures { IfOk result (λ rows. AllZip (λ answer row. IsShown R.shown R.at answer
-        (R.columns (R.cells row))) answers.now rows.items) }
+    ensures { IfOk result (λ rows. AllZip (λ answer row. IsShown R.which answer (R.cells row))
+        answers.now rows.items) }
 {
     let mut rows = Vec::new(alloc);
     for answer in answers {
@@ -105,7 +92,7 @@ fn read_all<R: Table>(alloc: Global, answers: &[Row]) -> Result<Vec<R>, Error>
 
 /// Whether the rows stand in the order of their keys, each once.
 fn are_in_order<R: Table>(rows: &[R]) -> bool
-    ensures { IsTrue result ↔ IsStrictlySortedBy R.cmp (map R.cells rows.now) }
+    ensures { IsTrue result ↔ IsStrictlySortedBy (key_cmp R.which) (map R.cells rows.now) }
 {
     rows.is_sorted_by(|one, other| one.compare(other).is_lt())
 }
@@ -116,13 +103,13 @@ pub(crate) fn load<R: Table, S: Alter>(
     conn: &mut Connection<S>,
 ) -> Result<Vec<R>, Error>
     ensures mode { conn.old.in_transaction ≡ false → conn.new.in_transaction ≡ false }
-    ensures order { IfOk result (λ rows. IsStrictlySortedBy R.cmp (map R.cells rows.items)) }
-    ensures found { IfOk result (λ rows. Finds (state S.Store conn.old) (state S.Store conn.new)
-        (λ trees. AreRows R.cmp R.stored R.columns (trees R.tree) (map R.cells rows.items))) }
+    ensures order { IfOk result (λ rows. IsStrictlySortedBy (key_cmp R.which) (map R.cells rows.items)) }
+    ensures found { IfOk result (λ rows. FindsOver (IsSchemaWith R.which) (state S.Store conn.old) (state S.Store conn.new)
+        (λ trees. Stores R.which (trees (declared R.which).tree) (map R.cells rows.items))) }
     ensures survives { Survives (state S.Store conn.old) (state S.Store conn.new)
-        (λ _. ¬ ((state S.Store conn.old).now.schema ≡ desk_schema)) }
+        (λ _. ¬ IsSchemaWith R.which (state S.Store conn.old).now.schema) }
 {
-    let answers = R::select(alloc, conn)?;
+    let answers = select::<R, S>(alloc, conn)?;
     let rows = read_all(alloc, answers.as_slice())?;
     if are_in_order(rows.as_slice()) {
         Ok(rows)

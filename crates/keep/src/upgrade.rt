@@ -10,19 +10,22 @@ ghost use Rattle.keep.specs.Content.{HasTables, Holds, IsDesk, LeavesOnly};
 ghost use Rattle.keep.specs.Names.{HasNames};
 ghost use Rattle.keep.specs.Old.{AreUpgraded, HoldsOld, IsCurrent, IsOld, IsUpgraded, raised, upgraded};
 ghost use Rattle.keep.specs.UpgradeSteps.{AreRaised, Raised};
-ghost use Rattle.keep.specs.Schema.{desk_schema, old_schema};
+ghost use Rattle.keep.specs.Description.{desk_schema, old_schema};
 
-use crate::create::create_firm;
+use crate::create::create_table;
+use crate::description::TableName;
 use crate::keep::{KeepFault, fault_of};
 use crate::schema::{Layout, layout_of};
 use crate::sql::SqlKeep;
-use crate::tables::desk;
+use crate::table::Table;
+use crate::tables::desk::{OLD_VERSION, VERSION, load_desk};
 use book::DeskRow;
 use sqlite::{Alter, Connection, Error};
 
 /// Makes the table of the firm orders and puts the row of `desk` in, both or neither, whenever it stops.
 fn raise<S: Alter>(conn: &mut Connection<S>, row: &DeskRow) -> Result<(), Error>
     requires idle { conn.old.in_transaction ≡ false }
+    requires old { (state S.Store conn.old).now.schema ≡ old_schema }
     ensures idle { conn.new.in_transaction ≡ false }
     ensures made { HasCleanDisk (state S.Store conn.new) → OnOk result
         (Raised (state S.Store conn.old) (state S.Store conn.new) row.now) }
@@ -30,8 +33,8 @@ fn raise<S: Alter>(conn: &mut Connection<S>, row: &DeskRow) -> Result<(), Error>
         (AreRaised (state S.Store conn.old).now row.now) }
 {
     let mut tx = conn.transaction();
-    create_firm(&mut tx)?;
-    desk::upsert(&mut tx, row)?;
+    create_table(&mut tx, TableName::Firm)?;
+    row.upsert(&mut tx)?;
     tx.commit()
 }
 
@@ -41,7 +44,7 @@ fn raised(row: &DeskRow) -> DeskRow
 {
     DeskRow {
         one: row.one,
-        version: desk::VERSION,
+        version: VERSION,
         clock: row.clock,
         places: row.places,
     }
@@ -61,7 +64,7 @@ fn upgrade<S: Alter>(conn: &mut Connection<S>) -> Result<(), KeepFault>
     ensures survives { Survives (state S.Store conn.old) (state S.Store conn.new)
         (AreUpgraded (state S.Store conn.old).now) }
 {
-    let row = match desk::load(conn, desk::OLD_VERSION) {
+    let row = match load_desk(conn, OLD_VERSION) {
         Ok(Some(row)) => row,
         Ok(None) => return Err(KeepFault::NotADesk),
         Err(error) => return Err(fault_of(error)),
@@ -92,7 +95,7 @@ fn expect_current<S: Alter>(conn: &mut Connection<S>) -> Result<(), KeepFault>
 {
     // between transactions an open store shows what is committed
     let _settled = conn.is_autocommit();
-    match desk::load(conn, desk::VERSION) {
+    match load_desk(conn, VERSION) {
         Ok(Some(_)) => Ok(()),
         Ok(None) => Err(KeepFault::NotADesk),
         Err(error) => Err(fault_of(error)),

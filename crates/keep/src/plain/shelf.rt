@@ -6,6 +6,7 @@ ghost use Rattle.std.specs.List.Sorted.{IsStrictlySortedBy};
 ghost use Rattle.book.specs.Changes.{put_content, put_row};
 ghost use Rattle.book.specs.Tables.{content_of, rows_among};
 ghost use Rattle.keep.specs.Content.{IsTheRow, new_content};
+ghost use Rattle.keep.specs.Description.{key_cmp};
 ghost use Rattle.keep.specs.Plain.{HasRoom, IsCopy, IsInOrder, row_of, shelf_content};
 ghost use Rattle.keep.specs.Transactions.{with_changes};
 
@@ -30,20 +31,20 @@ pub(super) struct Shelf {
 
 /// Where the row with that key stands, or the place for it among the others.
 fn place_of<R: Table>(rows: &BlockList<R>, row: &R) -> Result<usize, usize>
-    requires { IsStrictlySortedBy R.cmp (map R.cells rows.now.items) }
+    requires { IsStrictlySortedBy (key_cmp R.which) (map R.cells rows.now.items) }
     ensures there { IfOk result (λ i. (i < length rows.now.items) × (map R.cells (slice_set rows.now.items i row.now)
-        ≡ put_row R.cmp (R.cells row.now) (map R.cells rows.now.items))) }
+        ≡ put_row (key_cmp R.which) (R.cells row.now) (map R.cells rows.now.items))) }
     ensures between { IfErr result (λ i. (i ≤ length rows.now.items) × (map R.cells (insert rows.now.items i row.now)
-        ≡ put_row R.cmp (R.cells row.now) (map R.cells rows.now.items))) }
+        ≡ put_row (key_cmp R.which) (R.cells row.now) (map R.cells rows.now.items))) }
 {
     rows.binary_search_by(|other| other.compare(row))
 }
 
 /// Puts the row in by its key: in place of the row that has it, or else between the others.
 fn put_row<R: Table>(rows: &mut BlockList<R>, row: R)
-    requires sorted { IsStrictlySortedBy R.cmp (map R.cells rows.old.items) }
+    requires sorted { IsStrictlySortedBy (key_cmp R.which) (map R.cells rows.old.items) }
     requires room { length rows.old.items < rows.old.capacity }
-    ensures put { map R.cells rows.new.items ≡ put_row R.cmp (R.cells row) (map R.cells rows.old.items) }
+    ensures put { map R.cells rows.new.items ≡ put_row (key_cmp R.which) (R.cells row) (map R.cells rows.old.items) }
     ensures len { length rows.new.items ≤ length rows.old.items + 1 }
     ensures capacity { rows.new.capacity ≡ rows.old.capacity }
 {

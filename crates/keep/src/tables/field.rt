@@ -1,6 +1,6 @@
 //! The table `field`.
 
-use crate::answers::all_rows;
+use crate::description::{TableName, upsert_text};
 use crate::table::Table;
 use book::FieldRow;
 use sqlite::{Alter, Connection, Error, Row, Transaction, params};
@@ -8,38 +8,19 @@ use std::alloc::{AllocError, Global};
 use std::cmp::Ordering;
 
 impl Table for FieldRow {
-    ghost use Rattle.std.specs.Prelude.{refl};
     ghost use Rattle.book.specs.declared.rows.Change.TheVariants as change;
-    ghost use Rattle.book.specs.Rows.{FieldCells, field_cmp};
     ghost use Rattle.book.specs.Tables.{field_cells};
-    ghost use Rattle.keep.specs.Columns.{field_columns, field_selected, field_shown, field_stored};
-    ghost use Rattle.keep.specs.KeyOrders.{field_cmp_total};
+    ghost use Rattle.keep.specs.declared.description.TableName.TheVariants as table;
 
-    ghost Cells = { FieldCells };
+    ghost which = { table.Field };
 
     ghost cells = { field_cells };
 
-    ghost cmp = { field_cmp };
-
-    ghost tree = { 1 };
-
-    ghost stored = { field_stored };
-
-    ghost columns = { field_columns };
-
-    ghost selected = { field_selected };
-
-    ghost shown = { field_shown };
-
-    ghost at = { 8 };
-
     ghost change_of = { change.Field };
 
-    ghost total = { field_cmp_total };
-
-    ghost shows = { λ _. refl };
-
-    ghost number = { λ _. refl };
+    fn name() -> TableName {
+        TableName::Field
+    }
 
     fn compare(&self, other: &Self) -> Ordering {
         let by_branch = self.branch.cmp(&other.branch);
@@ -61,7 +42,7 @@ impl Table for FieldRow {
 
     fn upsert<S: Alter>(&self, tx: &mut Transaction<'_, S>) -> Result<usize, Error> {
         tx.execute(
-            "INSERT INTO field (branch, article, lo, hi, start, value, inf, sup) VALUES (?1, ?2, ?3, ?4, ?5, ?6, ?7, ?8) ON CONFLICT (branch, article) DO UPDATE SET lo = ?3, hi = ?4, start = ?5, value = ?6, inf = ?7, sup = ?8",
+            upsert_text(TableName::Field),
             params![
                 &self.branch,
                 &self.article,
@@ -72,15 +53,6 @@ impl Table for FieldRow {
                 self.inf,
                 self.sup
             ],
-        )
-    }
-
-    /// The rows of `field`, by branch and article, the rowid of each last.
-    fn select<S: Alter>(alloc: Global, conn: &mut Connection<S>) -> Result<Vec<Row>, Error> {
-        all_rows(
-            alloc,
-            conn,
-            "SELECT branch, article, lo, hi, start, value, inf, sup, rowid FROM field ORDER BY branch, article",
         )
     }
 

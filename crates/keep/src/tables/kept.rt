@@ -1,6 +1,6 @@
 //! The table `kept`.
 
-use crate::answers::all_rows;
+use crate::description::{TableName, upsert_text};
 use crate::table::Table;
 use book::KeptRow;
 use sqlite::{Alter, Connection, Error, Row, Transaction, params};
@@ -8,38 +8,19 @@ use std::alloc::{AllocError, Global};
 use std::cmp::Ordering;
 
 impl Table for KeptRow {
-    ghost use Rattle.std.specs.Prelude.{refl};
     ghost use Rattle.book.specs.declared.rows.Change.TheVariants as change;
-    ghost use Rattle.book.specs.Rows.{KeptCells, kept_cmp};
     ghost use Rattle.book.specs.Tables.{kept_cells};
-    ghost use Rattle.keep.specs.Columns.{kept_columns, kept_selected, kept_shown, kept_stored};
-    ghost use Rattle.keep.specs.KeyOrders.{kept_cmp_total};
+    ghost use Rattle.keep.specs.declared.description.TableName.TheVariants as table;
 
-    ghost Cells = { KeptCells };
+    ghost which = { table.Kept };
 
     ghost cells = { kept_cells };
 
-    ghost cmp = { kept_cmp };
-
-    ghost tree = { 7 };
-
-    ghost stored = { kept_stored };
-
-    ghost columns = { kept_columns };
-
-    ghost selected = { kept_selected };
-
-    ghost shown = { kept_shown };
-
-    ghost at = { 3 };
-
     ghost change_of = { change.Kept };
 
-    ghost total = { kept_cmp_total };
-
-    ghost shows = { λ _. refl };
-
-    ghost number = { λ _. refl };
+    fn name() -> TableName {
+        TableName::Kept
+    }
 
     fn compare(&self, other: &Self) -> Ordering {
         self.reqkey.cmp(&other.reqkey)
@@ -55,17 +36,8 @@ impl Table for KeptRow {
 
     fn upsert<S: Alter>(&self, tx: &mut Transaction<'_, S>) -> Result<usize, Error> {
         tx.execute(
-            "INSERT INTO kept (reqkey, place, words) VALUES (?1, ?2, ?3) ON CONFLICT (reqkey) DO UPDATE SET place = ?2, words = ?3",
+            upsert_text(TableName::Kept),
             params![&self.reqkey, self.place, &self.words],
-        )
-    }
-
-    /// The rows of `kept`, by key, the rowid of each last.
-    fn select<S: Alter>(alloc: Global, conn: &mut Connection<S>) -> Result<Vec<Row>, Error> {
-        all_rows(
-            alloc,
-            conn,
-            "SELECT reqkey, place, words, rowid FROM kept ORDER BY reqkey",
         )
     }
 

@@ -1,6 +1,6 @@
 //! The table `line`.
 
-use crate::answers::all_rows;
+use crate::description::{TableName, upsert_text};
 use crate::table::Table;
 use book::LineRow;
 use sqlite::{Alter, Connection, Error, Row, Transaction, params};
@@ -8,38 +8,19 @@ use std::alloc::{AllocError, Global};
 use std::cmp::Ordering;
 
 impl Table for LineRow {
-    ghost use Rattle.std.specs.Prelude.{refl};
     ghost use Rattle.book.specs.declared.rows.Change.TheVariants as change;
-    ghost use Rattle.book.specs.Rows.{LineCells, line_cmp};
     ghost use Rattle.book.specs.Tables.{line_cells};
-    ghost use Rattle.keep.specs.Columns.{line_columns, line_selected, line_shown, line_stored};
-    ghost use Rattle.keep.specs.KeyOrders.{line_cmp_total};
+    ghost use Rattle.keep.specs.declared.description.TableName.TheVariants as table;
 
-    ghost Cells = { LineCells };
+    ghost which = { table.Line };
 
     ghost cells = { line_cells };
 
-    ghost cmp = { line_cmp };
-
-    ghost tree = { 5 };
-
-    ghost stored = { line_stored };
-
-    ghost columns = { line_columns };
-
-    ghost selected = { line_selected };
-
-    ghost shown = { line_shown };
-
-    ghost at = { 7 };
-
     ghost change_of = { change.Line };
 
-    ghost total = { line_cmp_total };
-
-    ghost shows = { λ _. refl };
-
-    ghost number = { λ _. refl };
+    fn name() -> TableName {
+        TableName::Line
+    }
 
     fn compare(&self, other: &Self) -> Ordering {
         let by_number = self.number.cmp(&other.number);
@@ -60,7 +41,7 @@ impl Table for LineRow {
 
     fn upsert<S: Alter>(&self, tx: &mut Transaction<'_, S>) -> Result<usize, Error> {
         tx.execute(
-            "INSERT INTO line (number, nr, branch, article, way, held, used) VALUES (?1, ?2, ?3, ?4, ?5, ?6, ?7) ON CONFLICT (number, nr) DO UPDATE SET branch = ?3, article = ?4, way = ?5, held = ?6, used = ?7",
+            upsert_text(TableName::Line),
             params![
                 self.number,
                 self.nr,
@@ -70,15 +51,6 @@ impl Table for LineRow {
                 self.held,
                 self.used
             ],
-        )
-    }
-
-    /// The rows of `line`, by number and nr, the rowid of each last.
-    fn select<S: Alter>(alloc: Global, conn: &mut Connection<S>) -> Result<Vec<Row>, Error> {
-        all_rows(
-            alloc,
-            conn,
-            "SELECT number, nr, branch, article, way, held, used, rowid FROM line ORDER BY number, nr",
         )
     }
 

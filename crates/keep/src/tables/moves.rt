@@ -1,6 +1,6 @@
 //! The table `move`.
 
-use crate::answers::all_rows;
+use crate::description::{TableName, upsert_text};
 use crate::table::Table;
 use book::MoveRow;
 use sqlite::{Alter, Connection, Error, Row, Transaction, params};
@@ -8,38 +8,19 @@ use std::alloc::{AllocError, Global};
 use std::cmp::Ordering;
 
 impl Table for MoveRow {
-    ghost use Rattle.std.specs.Prelude.{refl};
     ghost use Rattle.book.specs.declared.rows.Change.TheVariants as change;
-    ghost use Rattle.book.specs.Rows.{MoveCells, move_cmp};
     ghost use Rattle.book.specs.Tables.{move_cells};
-    ghost use Rattle.keep.specs.Columns.{move_columns, move_selected, move_shown, move_stored};
-    ghost use Rattle.keep.specs.KeyOrders.{move_cmp_total};
+    ghost use Rattle.keep.specs.declared.description.TableName.TheVariants as table;
 
-    ghost Cells = { MoveCells };
+    ghost which = { table.Move };
 
     ghost cells = { move_cells };
 
-    ghost cmp = { move_cmp };
-
-    ghost tree = { 3 };
-
-    ghost stored = { move_stored };
-
-    ghost columns = { move_columns };
-
-    ghost selected = { move_selected };
-
-    ghost shown = { move_shown };
-
-    ghost at = { 0 };
-
     ghost change_of = { change.Move };
 
-    ghost total = { move_cmp_total };
-
-    ghost shows = { λ _. refl };
-
-    ghost number = { λ _. refl };
+    fn name() -> TableName {
+        TableName::Move
+    }
 
     fn compare(&self, other: &Self) -> Ordering {
         self.place.cmp(&other.place)
@@ -56,17 +37,8 @@ impl Table for MoveRow {
 
     fn upsert<S: Alter>(&self, tx: &mut Transaction<'_, S>) -> Result<usize, Error> {
         tx.execute(
-            "INSERT INTO move (place, branch, article, qty) VALUES (?1, ?2, ?3, ?4) ON CONFLICT (place) DO UPDATE SET branch = ?2, article = ?3, qty = ?4",
+            upsert_text(TableName::Move),
             params![self.place, &self.branch, &self.article, self.qty],
-        )
-    }
-
-    /// The rows of `move`, by place.
-    fn select<S: Alter>(alloc: Global, conn: &mut Connection<S>) -> Result<Vec<Row>, Error> {
-        all_rows(
-            alloc,
-            conn,
-            "SELECT place, branch, article, qty FROM move ORDER BY place",
         )
     }
 

@@ -1,16 +1,19 @@
-use Rattle.std.proofs.Common.{inl, map, subst, [], ◌∷◌}
+use Rattle.std.proofs.Common.{arith, inl, map, subst, [], ◌∷◌}
 use Rattle.sqlite.specs.Held.{state}
 use Rattle.sqlite.specs.State.{HasCleanDisk}
 use Rattle.sqlite_trees.specs.Tree.{Trees}
 use Rattle.sqlite_trees.specs.Objects.{catalog_tree}
 use Rattle.sqlite_catalog.specs.Listing.{Lists}
-use Rattle.book.specs.Rows.{desk_cmp, field_cmp, move_cmp, order_cmp, line_cmp, kept_cmp, firm_cmp}
+use Rattle.book.specs.Rows.{Content, desk_cmp, field_cmp, move_cmp, order_cmp, line_cmp, kept_cmp, firm_cmp}
 use Rattle.book.specs.Tables.{desk_cells, field_cells, move_cells, order_cells, line_cells, kept_cells, firm_cells}
 use Rattle.keep.specs.Columns.{desk_stored, field_stored, move_stored, order_stored, line_stored, kept_stored, firm_stored, desk_columns, field_columns, move_columns, order_columns, line_columns, kept_columns, firm_columns}
-use Rattle.keep.specs.Content.{AreRows, IsContent}
+use Rattle.keep.specs.Content.{AreRows, IsContent, Stores}
+use Rattle.keep.specs.Description.{declared, rows_of}
+use Rattle.keep.specs.declared.description.TableName.{TableName}
+use Rattle.keep.specs.declared.description.TableName.TheVariants as table
 use Rattle.keep.specs.Loads.{Finds, FindsOver, IsOfAVersion}
 use Rattle.keep.proofs.Steps.{finds_then}
-use Rattle.keep.specs.OneContent.{only_content}
+use Rattle.keep.specs.OneContent.{is_now, only_content}
 use Rattle.keep.proofs.load.load_all.Goals as goal
 
 module _ (g : _) (c : goal.After-new-6 g) where
@@ -41,20 +44,24 @@ module _ (g : _) (c : goal.After-new-6 g) where
       (finds_then s0 s1 s2 Desk Stock _ c.load_stock.ensures.survives desk c.in_ok-fields.ensures.found) c.in_ok-orders.ensures.found)
       c.in_ok-kept.ensures.found
 
-  holds : HasCleanDisk (state g.S.Store c.load-2.new.conn) → IsContent (state g.S.Store c.args.conn.now).now.trees
-      (record { desk = desk_cells c.in-Some.desk ∷ []; fields = map field_cells c.new.result; moves = map move_cells c.new-2.result; orders = map order_cells c.new-3.result; lines = map line_cells c.new-4.result; kept = map kept_cells c.new-5.result; firms = map firm_cells c.new-6.result })
-  holds clean =
-      let all = found clean c.requires.schema in
-      rw (c.new.ensures, c.new-2.ensures, c.new-3.ensures, c.new-4.ensures, c.new-5.ensures, c.new-6.ensures) (record {
-        lists = subst (Lists ((state g.S.Store c.args.conn.now).now.trees catalog_tree)) c.requires.schema (c.requires.live all.0.0.was_open).0.lists;
-        desk = all.1.0.0.0;
-        fields = all.1.0.0.1.0;
-        moves = all.1.0.0.1.1;
-        orders = all.1.0.1.0.0;
-        lines = all.1.0.1.0.1;
-        kept = all.1.1;
-        firms = all.1.0.1.1;
-      })
+  abbrev made : Content
+  made = record { desk = desk_cells c.in-Some.desk ∷ []; fields = map field_cells c.new.result; moves = map move_cells c.new-2.result; orders = map order_cells c.new-3.result; lines = map line_cells c.new-4.result; kept = map kept_cells c.new-5.result; firms = map firm_cells c.new-6.result }
+
+  rows : HasCleanDisk (state g.S.Store c.load-2.new.conn) → (t : TableName) → Stores t ((state g.S.Store c.args.conn.now).now.trees (declared t).tree) (rows_of t made)
+  rows clean table.Desk = (found clean c.requires.schema).1.0.0.0
+  rows clean table.Field = rw c.new.ensures (found clean c.requires.schema).1.0.0.1.0
+  rows clean table.Move = rw c.new-2.ensures (found clean c.requires.schema).1.0.0.1.1
+  rows clean table.Orders = rw c.new-3.ensures (found clean c.requires.schema).1.0.1.0.0
+  rows clean table.Line = rw c.new-4.ensures (found clean c.requires.schema).1.0.1.0.1
+  rows clean table.Kept = rw c.new-5.ensures (found clean c.requires.schema).1.1
+  rows clean table.Firm = rw c.new-6.ensures (found clean c.requires.schema).1.0.1.1
+
+  holds : HasCleanDisk (state g.S.Store c.load-2.new.conn) → IsContent (state g.S.Store c.args.conn.now).now.trees made
+  holds clean = record {
+    lists = subst (Lists ((state g.S.Store c.args.conn.now).now.trees catalog_tree)) c.requires.schema (c.requires.live (found clean c.requires.schema).0.0.was_open).0.lists;
+    rows = λ t now. rows clean t;
+    none = λ t late. absurd (let now = is_now t in omega (arith, now, late));
+  }
 
 pub returns-clause-content : goal.returns-clause-content
 returns-clause-content g c clean = (record { schema_is = c.requires.schema; content = holds g c clean }, (found g c clean c.requires.schema).0)

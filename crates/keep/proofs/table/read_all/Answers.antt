@@ -8,7 +8,7 @@ use Rattle.keep.proofs.table.read_all.Goals as goal
 
 pub loop-answer-preserved : goal.loop-answer-preserved
 loop-answer-preserved g c =
-    let shown : Row → g.row.R.Denot → Type 0 = λ answer row. IsShown g.R.Table.shown g.R.Table.at answer (g.R.Table.columns (g.R.Table.cells row)) in
+    let shown : Row → g.row.R.Denot → Type 0 = λ answer row. IsShown g.R.Table.which answer (g.R.Table.cells row) in
     let more : take (c.loop-answer.answer-index + 1) c.args.answers.now ≡ take c.loop-answer.answer-index c.args.answers.now ++ c.answer-item.result ∷ [] =
     take_more c.args.answers.now c.loop-answer.answer-index c.answer-item.result c.loop-answer-test.true ∙ ap (λ r. take c.loop-answer.answer-index c.args.answers.now ++ r ∷ []) (sym c.answer-item.is) in
     subst (λ rows. AllZip shown (take (c.loop-answer.answer-index + 1) c.args.answers.now) rows) (sym c.in_ok-push.ensures.items)

@@ -5,4 +5,4 @@ use Rattle.keep.specs.Loads.{IsShown}
 use Rattle.keep.proofs.table.read_all.Given as goal
 
 abbrev pub invariant-loop-answer : goal.invariant-loop-answer
-invariant-loop-answer g l = AllZip (λ answer row. IsShown g.R.Table.shown g.R.Table.at answer (g.R.Table.columns (g.R.Table.cells row))) (take l.answer-index l.answers) l.rows.items
+invariant-loop-answer g l = AllZip (λ answer row. IsShown g.R.Table.which answer (g.R.Table.cells row)) (take l.answer-index l.answers) l.rows.items

@@ -2,7 +2,8 @@ use Rattle.std.proofs.Common.{◌≡◌, rules}
 use Rattle.sqlite.specs.Held.{state}
 use Rattle.sqlite_value.specs.Value.{owned}
 use Rattle.sqlite.specs.declared.types.Value.TheVariants.{Int}
-use Rattle.keep.proofs.Puts.{order_upserted}
+use Rattle.book.specs.declared.rows.Change.TheVariants as change
+use Rattle.keep.proofs.Puts.{row_upserted}
 use Rattle.keep.proofs.tables.orders.OrderRowTable.upsert.Goals as goal
 
 pub returns-clause-put : goal.returns-clause-put
@@ -11,5 +12,5 @@ returns-clause-put g c clean begun =
     let v1 : owned c.params-to_sql-2.result ≡ Int c.args.self.now.kind = search rules in
     let v2 : owned c.params-to_sql-3.result ≡ Int c.args.self.now.until = search rules in
     let v3 : owned c.params-to_sql-4.result ≡ Int c.args.self.now.state = search rules in
-    order_upserted (state g.S.Store c.args.tx.now.conn.now) (state g.S.Store c.execute.new.self.conn.now) c.args.self.now c.execute.result
+    row_upserted (change.Order c.args.self.now) c.upsert_text.result.now c.upsert_text.ensures (state g.S.Store c.args.tx.now.conn.now) (state g.S.Store c.execute.new.self.conn.now) c.execute.result
     (rw (v0, v1, v2, v3) at (c.execute.ensures.runs clean begun))

@@ -1,0 +1,140 @@
+-- What a table of a desk is: the cells of its rows and their key, and how SQL keeps them. A table more is a line in each
+-- definition here, and its declaration in the schema.
+use Rattle.std.specs.Prelude.{ℕ, List, [], ◌∷◌, ◌++◌, ◌-◌, Option, None, Some, flat_map, length, map, nat_le, nat_lt}
+use Rattle.std.specs.declared.cmp.Ordering.{Ordering}
+use Rattle.std.specs.List.{filter, range_with_len}
+use Rattle.sqlite.specs.declared.types.Value.TheVariants.{Int, Text}
+use Rattle.sqlite.specs.Order.{Row, column}
+use Rattle.sqlite.specs.Table.{Table}
+use Rattle.sqlite.specs.Schema.{Schema}
+use Rattle.book.specs.Rows.{Content, DeskCells, FieldCells, FirmCells, KeptCells, LineCells, MoveCells, OrderCells, desk_cmp, field_cmp, firm_cmp, kept_cmp, line_cmp, move_cmp, order_cmp}
+use Rattle.keep.specs.Schema.{desk_table, field_table, firm_table, key_indexes, kept_table, line_table, move_table, orders_table}
+use Rattle.keep.specs.declared.description.TableName.{TableName}
+use Rattle.keep.specs.declared.description.TableName.TheVariants as table
+
+-- in the order in which they are made
+abbrev pub all_tables : List TableName
+all_tables = table.Desk ∷ table.Field ∷ table.Move ∷ table.Orders ∷ table.Line ∷ table.Kept ∷ table.Firm ∷ []
+
+-- the version of the schema that brought it
+abbrev pub since : TableName → ℕ
+since table.Desk = 1
+since table.Field = 1
+since table.Move = 1
+since table.Orders = 1
+since table.Line = 1
+since table.Kept = 1
+since table.Firm = 2
+
+-- as SQL declares it
+abbrev pub declared : TableName → Table
+declared table.Desk = desk_table
+declared table.Field = field_table
+declared table.Move = move_table
+declared table.Orders = orders_table
+declared table.Line = line_table
+declared table.Kept = kept_table
+declared table.Firm = firm_table
+
+-- what a row holds
+abbrev pub Cells : TableName → Type 0
+Cells table.Desk = DeskCells
+Cells table.Field = FieldCells
+Cells table.Move = MoveCells
+Cells table.Orders = OrderCells
+Cells table.Line = LineCells
+Cells table.Kept = KeptCells
+Cells table.Firm = FirmCells
+
+-- by the key alone
+abbrev pub key_cmp : (t : TableName) → Cells t → Cells t → Ordering
+key_cmp table.Desk = desk_cmp
+key_cmp table.Field = field_cmp
+key_cmp table.Move = move_cmp
+key_cmp table.Orders = order_cmp
+key_cmp table.Line = line_cmp
+key_cmp table.Kept = kept_cmp
+key_cmp table.Firm = firm_cmp
+
+-- the columns of a row, as values of SQL
+abbrev pub columns : (t : TableName) → Cells t → Row
+columns table.Desk x = Int x.one ∷ Int x.version ∷ Int x.clock ∷ Int x.places ∷ []
+columns table.Field x =
+    Text x.branch ∷ Text x.article ∷ Int x.lo ∷ Int x.hi ∷ Int x.start ∷ Int x.value ∷ Int x.inf ∷ Int x.sup ∷ []
+columns table.Move x = Int x.place ∷ Text x.branch ∷ Text x.article ∷ Int x.qty ∷ []
+columns table.Orders x = Int x.number ∷ Int x.kind ∷ Int x.until ∷ Int x.state ∷ []
+columns table.Line x =
+    Int x.number ∷ Int x.nr ∷ Text x.branch ∷ Text x.article ∷ Int x.way ∷ Int x.held ∷ Int x.used ∷ []
+columns table.Kept x = Text x.reqkey ∷ Int x.place ∷ Text x.words ∷ []
+columns table.Firm x = Int x.number ∷ []
+
+-- the rows of it in a content
+abbrev pub rows_of : (t : TableName) → Content → List (Cells t)
+rows_of table.Desk x = x.desk
+rows_of table.Field x = x.fields
+rows_of table.Move x = x.moves
+rows_of table.Orders x = x.orders
+rows_of table.Line x = x.lines
+rows_of table.Kept x = x.kept
+rows_of table.Firm x = x.firms
+
+-- ---- how a row is stored: its rowid first, and then its columns. An integer key is the rowid, and its own column is
+-- stored as NULL.
+
+abbrev pub stored_places : Option ℕ → ℕ → List ℕ
+stored_places None count = range_with_len 1 count
+stored_places (Some key) count = 0 ∷ range_with_len 2 (count - 1)
+
+-- the columns of a stored row
+abbrev pub stored : (t : TableName) → Row → Row
+stored t r = map (column r) (stored_places (declared t).key (length (declared t).columns))
+
+-- where the key is not the rowid, a SELECT shows the rowid too, last
+abbrev pub rowid_shown : Option ℕ → List ℕ
+rowid_shown None = 0 ∷ []
+rowid_shown (Some key) = []
+
+-- what a SELECT shows of a stored row
+abbrev pub selected : (t : TableName) → Row → Row
+selected t r = stored t r ++ map (column r) (rowid_shown (declared t).key)
+
+-- those columns of an answer that are of the table
+abbrev pub shown : (t : TableName) → Row → Row
+shown t answer = map (column answer) (range_with_len 0 (length (declared t).columns))
+
+-- where the rowid stands in an answer of so many columns
+abbrev pub rowid_place : Option ℕ → ℕ → ℕ
+rowid_place None count = count
+rowid_place (Some key) count = 0
+
+abbrev pub rowid_at : TableName → ℕ
+rowid_at t = rowid_place (declared t).key (length (declared t).columns)
+
+-- ---- versions
+
+-- the tables that a version has
+abbrev pub tables_of : ℕ → List TableName
+tables_of version = filter (λ t. nat_le (since t) version) all_tables
+
+-- the schema in which these tables are made, one after the other
+abbrev pub schema_with : List TableName → Schema
+schema_with tables = record {
+  tables = map declared tables;
+  indexes = flat_map (λ t. key_indexes (declared t)) tables;
+  views = [];
+}
+
+-- the tables that are made before it
+abbrev pub before : TableName → List TableName
+before t = filter (λ u. nat_lt (declared u).tree (declared t).tree) all_tables
+
+-- the schema of a desk of that version, as it is made
+abbrev pub schema_of : ℕ → Schema
+schema_of version = schema_with (tables_of version)
+
+-- that of version 1, and that which is made now
+abbrev pub old_schema : Schema
+old_schema = schema_of 1
+
+abbrev pub desk_schema : Schema
+desk_schema = schema_of 2

@@ -1,0 +1,98 @@
+//! The tables of a desk, and the texts of their statements.
+
+ghost use Rattle.std.specs.Prelude.{◌≤◌};
+ghost use Rattle.keep.specs.Description.{desk_schema, old_schema, since};
+ghost use Rattle.keep.specs.Statements.{ListsTable, MakesTable, PutsRow};
+
+/// A table of a desk, in the order in which they are made.
+#[derive(Clone, Copy)]
+pub(crate) enum TableName {
+    /// The desk's own state.
+    Desk,
+    /// The fields.
+    Field,
+    /// The moves.
+    Move,
+    /// The orders.
+    Orders,
+    /// The lines of orders.
+    Line,
+    /// The kept keys.
+    Kept,
+    /// The firm orders.
+    Firm,
+}
+
+/// Makes the table, beside those before it.
+pub(crate) fn create_text(table: TableName) -> &'static str
+    ensures { MakesTable table result.now }
+{
+    match table {
+        TableName::Desk => {
+            "CREATE TABLE desk (one INTEGER NOT NULL PRIMARY KEY, version INTEGER NOT NULL, clock INTEGER NOT NULL, places INTEGER NOT NULL) STRICT"
+        }
+        TableName::Field => {
+            "CREATE TABLE field (branch TEXT NOT NULL, article TEXT NOT NULL, lo INTEGER NOT NULL, hi INTEGER NOT NULL, start INTEGER NOT NULL, value INTEGER NOT NULL, inf INTEGER NOT NULL, sup INTEGER NOT NULL, PRIMARY KEY (branch, article)) STRICT"
+        }
+        TableName::Move => {
+            "CREATE TABLE move (place INTEGER NOT NULL PRIMARY KEY, branch TEXT NOT NULL, article TEXT NOT NULL, qty INTEGER NOT NULL) STRICT"
+        }
+        TableName::Orders => {
+            "CREATE TABLE orders (number INTEGER NOT NULL PRIMARY KEY, kind INTEGER NOT NULL, until INTEGER NOT NULL, state INTEGER NOT NULL) STRICT"
+        }
+        TableName::Line => {
+            "CREATE TABLE line (number INTEGER NOT NULL, nr INTEGER NOT NULL, branch TEXT NOT NULL, article TEXT NOT NULL, way INTEGER NOT NULL, held INTEGER NOT NULL, used INTEGER NOT NULL, PRIMARY KEY (number, nr)) STRICT"
+        }
+        TableName::Kept => {
+            "CREATE TABLE kept (reqkey TEXT NOT NULL, place INTEGER NOT NULL, words TEXT NOT NULL, PRIMARY KEY (reqkey)) STRICT"
+        }
+        TableName::Firm => "CREATE TABLE firm (number INTEGER NOT NULL PRIMARY KEY) STRICT",
+    }
+}
+
+/// Shows all rows of the table, by its key, with the rowid of each last where that is not the key.
+pub(crate) fn select_text(table: TableName) -> &'static str
+    ensures now { ListsTable desk_schema table result.now }
+    ensures old { since table ≤ 1 → ListsTable old_schema table result.now }
+{
+    match table {
+        TableName::Desk => "SELECT one, version, clock, places FROM desk ORDER BY one",
+        TableName::Field => {
+            "SELECT branch, article, lo, hi, start, value, inf, sup, rowid FROM field ORDER BY branch, article"
+        }
+        TableName::Move => "SELECT place, branch, article, qty FROM move ORDER BY place",
+        TableName::Orders => "SELECT number, kind, until, state FROM orders ORDER BY number",
+        TableName::Line => {
+            "SELECT number, nr, branch, article, way, held, used, rowid FROM line ORDER BY number, nr"
+        }
+        TableName::Kept => "SELECT reqkey, place, words, rowid FROM kept ORDER BY reqkey",
+        TableName::Firm => "SELECT number FROM firm ORDER BY number",
+    }
+}
+
+/// Puts a row in by its key. A row that has the key gets the other columns; where there is none, it is left.
+pub(crate) fn upsert_text(table: TableName) -> &'static str
+    ensures { PutsRow table result.now }
+{
+    match table {
+        TableName::Desk => {
+            "INSERT INTO desk (one, version, clock, places) VALUES (?1, ?2, ?3, ?4) ON CONFLICT (one) DO UPDATE SET version = ?2, clock = ?3, places = ?4"
+        }
+        TableName::Field => {
+            "INSERT INTO field (branch, article, lo, hi, start, value, inf, sup) VALUES (?1, ?2, ?3, ?4, ?5, ?6, ?7, ?8) ON CONFLICT (branch, article) DO UPDATE SET lo = ?3, hi = ?4, start = ?5, value = ?6, inf = ?7, sup = ?8"
+        }
+        TableName::Move => {
+            "INSERT INTO move (place, branch, article, qty) VALUES (?1, ?2, ?3, ?4) ON CONFLICT (place) DO UPDATE SET branch = ?2, article = ?3, qty = ?4"
+        }
+        TableName::Orders => {
+            "INSERT INTO orders (number, kind, until, state) VALUES (?1, ?2, ?3, ?4) ON CONFLICT (number) DO UPDATE SET kind = ?2, until = ?3, state = ?4"
+        }
+        TableName::Line => {
+            "INSERT INTO line (number, nr, branch, article, way, held, used) VALUES (?1, ?2, ?3, ?4, ?5, ?6, ?7) ON CONFLICT (number, nr) DO UPDATE SET branch = ?3, article = ?4, way = ?5, held = ?6, used = ?7"
+        }
+        TableName::Kept => {
+            "INSERT INTO kept (reqkey, place, words) VALUES (?1, ?2, ?3) ON CONFLICT (reqkey) DO UPDATE SET place = ?2, words = ?3"
+        }
+        TableName::Firm => "INSERT INTO firm (number) VALUES (?1) ON CONFLICT (number) DO NOTHING",
+    }
+}
