@@ -26,13 +26,13 @@ alone x = (tt, tt)
 -- the one answer is the one row
 one_row : (version : ℤ) (tree answers : List Row) (row : DeskCells) → IsPermutation (map (selected table.Desk) tree) answers → IsOneAnswer version answers row → Stores table.Desk tree (row ∷ [])
 one_row version tree answers row same is =
-    let stored : IsPermutation (map (stored table.Desk) tree) (columns table.Desk row ∷ []) = subst (IsPermutation (map (stored table.Desk) tree)) is.same (subst (λ l. IsPermutation l (map (shown table.Desk) answers)) (map-map (shown table.Desk) (selected table.Desk) tree) (IsPermutation-map (shown table.Desk) _ _ same)) in
+    let shows : IsPermutation (map (stored table.Desk) tree) (columns table.Desk row ∷ []) = subst (IsPermutation (map (stored table.Desk) tree)) is.same (subst (λ l. IsPermutation l (map (shown table.Desk) answers)) (map-map (shown table.Desk) (selected table.Desk) tree) (IsPermutation-map (shown table.Desk) _ _ same)) in
     let P = λ (c : Row). IsTrue (is_int (column c 0)) in
     let one : AllByRecursion P (columns table.Desk row ∷ []) = (refl, tt) in
     record {
-      same = stored;
+      same = shows;
       sorted = alone row;
-      numbers = all_unmap P (stored table.Desk) tree (recursion_from_All P (map (stored table.Desk) tree) (All-permutation P (columns table.Desk row ∷ []) (map (stored table.Desk) tree) (IsPermutation-sym _ _ stored) (All-from_recursion P (columns table.Desk row ∷ []) one)));
+      numbers = all_unmap P (stored table.Desk) tree (recursion_from_All P (map (stored table.Desk) tree) (All-permutation P (columns table.Desk row ∷ []) (map (stored table.Desk) tree) (IsPermutation-sym _ _ shows) (All-from_recursion P (columns table.Desk row ∷ []) one)));
     }
 
 -- rows of the tree that are one row of that version are what is answered

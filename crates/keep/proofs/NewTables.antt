@@ -85,9 +85,9 @@ module _ (t : TableName) (text : List ℕ) (means : MakesTable t text) where
         empty = ap (λ n. new.now.trees n) (sym (next_is t)) ∙ ap (λ (d : Database). d.trees (next_tree prior)) now ∙ subst (λ s. first.0.trees (next_tree s) ≡ []) is made.empty;
       }
 
-  pub added_table : (old new : State) (r : Result ℕ Error) → old.now.schema ≡ prior → ExecutesInside 0 text [] old new r → OnOk r (Makes (AddsTable t old.now) old new)
-  added_table old new (Err e) is h = tt
-  added_table old new (Ok count) is h = record { mode = h.1.mode; committed = h.1.committed_is; is = adds_table old new count is h.0 }
+  pub added_table : (old new : State) (r : Result ℕ Error) → ExecutesInside 0 text [] old new r → OnOk r (Makes (λ db. old.now.schema ≡ prior → AddsTable t old.now db) old new)
+  added_table old new (Err e) h = tt
+  added_table old new (Ok count) h = record { mode = h.1.mode; committed = h.1.committed_is; is = λ is. adds_table old new count is h.0 }
 
   pub made_table : (old new : State) (r : Result ℕ Error) → IsBare prior old.now → ExecutesInside 0 text [] old new r → OnOk r (Makes (IsBare after) old new)
   made_table old new (Err e) bare h = tt

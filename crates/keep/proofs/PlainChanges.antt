@@ -9,7 +9,8 @@ use Rattle.book.specs.Changes.{put_content, put_row}
 use Rattle.book.specs.Rows.{Content, DeskCells, IsInKeyOrder, desk_cmp, field_cmp, firm_cmp, kept_cmp, line_cmp, move_cmp, order_cmp}
 use Rattle.book.specs.Tables.{desk_cells, field_cells, firm_cells, kept_cells, line_cells, move_cells, order_cells, rows_among, with_change}
 use Rattle.keep.specs.Content.{IsTheRow, new_content}
-use Rattle.keep.specs.KeyOrders.{field_cmp_total, firm_cmp_total, kept_cmp_total, line_cmp_total, move_cmp_total, order_cmp_total}
+use Rattle.keep.specs.KeyOrders.{key_cmp_total}
+use Rattle.keep.specs.declared.description.TableName.TheVariants as table
 use Rattle.keep.specs.Plain.{IsCopy, IsInOrder, row_of, shelf_content}
 use Rattle.keep.specs.declared.plain.shelf.Shelf.{Shelf}
 use Rattle.keep.proofs.PlainRows.{put_sorted}
@@ -59,12 +60,12 @@ one_later (change.Firm r) cs h = h
 
 rows_stay : (c : Change) (x : Content) → IsInKeyOrder x → IsInKeyOrder (put_content (row_of c) x)
 rows_stay (change.Desk r) x h = record { fields = h.fields; moves = h.moves; orders = h.orders; lines = h.lines; kept = h.kept; firms = h.firms }
-rows_stay (change.Field r) x h = record { fields = put_sorted field_cmp field_cmp_total (field_cells r) x.fields h.fields; moves = h.moves; orders = h.orders; lines = h.lines; kept = h.kept; firms = h.firms }
-rows_stay (change.Move r) x h = record { fields = h.fields; moves = put_sorted move_cmp move_cmp_total (move_cells r) x.moves h.moves; orders = h.orders; lines = h.lines; kept = h.kept; firms = h.firms }
-rows_stay (change.Order r) x h = record { fields = h.fields; moves = h.moves; orders = put_sorted order_cmp order_cmp_total (order_cells r) x.orders h.orders; lines = h.lines; kept = h.kept; firms = h.firms }
-rows_stay (change.Line r) x h = record { fields = h.fields; moves = h.moves; orders = h.orders; lines = put_sorted line_cmp line_cmp_total (line_cells r) x.lines h.lines; kept = h.kept; firms = h.firms }
-rows_stay (change.Kept r) x h = record { fields = h.fields; moves = h.moves; orders = h.orders; lines = h.lines; kept = put_sorted kept_cmp kept_cmp_total (kept_cells r) x.kept h.kept; firms = h.firms }
-rows_stay (change.Firm r) x h = record { fields = h.fields; moves = h.moves; orders = h.orders; lines = h.lines; kept = h.kept; firms = put_sorted firm_cmp firm_cmp_total (firm_cells r) x.firms h.firms }
+rows_stay (change.Field r) x h = record { fields = put_sorted field_cmp (key_cmp_total table.Field) (field_cells r) x.fields h.fields; moves = h.moves; orders = h.orders; lines = h.lines; kept = h.kept; firms = h.firms }
+rows_stay (change.Move r) x h = record { fields = h.fields; moves = put_sorted move_cmp (key_cmp_total table.Move) (move_cells r) x.moves h.moves; orders = h.orders; lines = h.lines; kept = h.kept; firms = h.firms }
+rows_stay (change.Order r) x h = record { fields = h.fields; moves = h.moves; orders = put_sorted order_cmp (key_cmp_total table.Orders) (order_cells r) x.orders h.orders; lines = h.lines; kept = h.kept; firms = h.firms }
+rows_stay (change.Line r) x h = record { fields = h.fields; moves = h.moves; orders = h.orders; lines = put_sorted line_cmp (key_cmp_total table.Line) (line_cells r) x.lines h.lines; kept = h.kept; firms = h.firms }
+rows_stay (change.Kept r) x h = record { fields = h.fields; moves = h.moves; orders = h.orders; lines = h.lines; kept = put_sorted kept_cmp (key_cmp_total table.Kept) (kept_cells r) x.kept h.kept; firms = h.firms }
+rows_stay (change.Firm r) x h = record { fields = h.fields; moves = h.moves; orders = h.orders; lines = h.lines; kept = h.kept; firms = put_sorted firm_cmp (key_cmp_total table.Firm) (firm_cells r) x.firms h.firms }
 
 abbrev first_row : List DeskCells → DeskCells → DeskCells
 first_row [] d = d

@@ -74,16 +74,19 @@ module _ (t : TableName) (schema : Schema) (text : List ℕ) (lists : ListsTable
       let bare = subst IsPlain (sym known) lists.plain in
       (rw bare.0 at h.2).3
 
-  rows_if : (old new : State) (r : Result (Vec Answer Global) Error) → old.now.schema ≡ schema → IfOk r (λ rows. Shown text [] old new rows.items) → IfOk r (λ rows. IsPermutation (map (selected t) (tree old.now.trees)) rows.items)
+  pub rows_if : (old new : State) (r : Result (Vec Answer Global) Error) → old.now.schema ≡ schema → IfOk r (λ rows. Shown text [] old new rows.items) → IfOk r (λ rows. IsPermutation (map (selected t) (tree old.now.trees)) rows.items)
   rows_if old new (Ok rows) has h = selects old new rows.items has h
   rows_if old new (Err e) has h = tt
 
-  same_if : (old new : State) (r : Result (Vec Answer Global) Error) → old.now.schema ≡ schema → IfOk r (λ rows. Shown text [] old new rows.items) → OnOk r (IsUnchanged old new)
+  pub same_if : (old new : State) (r : Result (Vec Answer Global) Error) → old.now.schema ≡ schema → IfOk r (λ rows. Shown text [] old new rows.items) → OnOk r (IsUnchanged old new)
   same_if old new (Ok rows) has h = shown_same old new rows.items has h
   same_if old new (Err e) has h = tt
 
-  plain_if : (here : Schema) → here ≡ schema → IsPlain (understood here text)
+  pub plain_if : (here : Schema) → here ≡ schema → IsPlain (understood here text)
   plain_if here has = subst (λ s. IsPlain (understood s text)) (sym has) lists.plain
+
+  pub survives_if : (old new : State) → Survives old new (CommitsShowing text [] old) → Survives old new (λ _. ¬ (old.now.schema ≡ schema))
+  survives_if old new = survives_weaker old new _ _ (λ _ db commits has. never_commits text [] old db (plain_if old.now.schema has) commits)
 
 -- of each version that has the table
 module _ (t : TableName) (text : List ℕ) (now : ListsTable desk_schema t text) (old : since t ≤ 1 → ListsTable old_schema t text) where

@@ -13,7 +13,7 @@ use Rattle.book.specs.Changes.{put_row}
 use Rattle.book.specs.Rows.{Content, DeskCells, desk_cmp, firm_cmp}
 use Rattle.book.specs.Tables.{desk_cells}
 use Rattle.keep.specs.Content.{HasTables, Holds, IsContent, IsContentOf, IsDesk, IsOneRow, IsVersion, Stores}
-use Rattle.keep.specs.Loads.{FindsOver, IsOfAVersion}
+use Rattle.keep.specs.Loads.{FindsOver, IsSchemaWith}
 use Rattle.keep.specs.Old.{AreUpgraded, HoldsOld, IsOld, IsUpgraded, raised, upgraded}
 use Rattle.keep.specs.OneContent.{is_now, rows_once}
 use Rattle.keep.specs.UpgradeSteps.{AreRaised, Raised, RaisesIn, with_row}
@@ -41,8 +41,8 @@ holds_more old new adds x held = record {
   };
 }
 
-raised_table : (old new : State) → Makes (AddsTable table.Firm old.now) old new → Makes (λ db. (x : Content) → HoldsOld old.now x → Holds db x) old new
-raised_table old new h = record { mode = h.mode; committed = h.committed; is = λ x held. holds_more old.now new.now h.is x held }
+raised_table : (old new : State) → Makes (λ db. old.now.schema ≡ old_schema → AddsTable table.Firm old.now db) old new → Makes (λ db. (x : Content) → HoldsOld old.now x → Holds db x) old new
+raised_table old new h = record { mode = h.mode; committed = h.committed; is = λ x held. holds_more old.now new.now (h.is held.schema_is) x held }
 
 raises : (a b c : State) (row : DeskRow) → Makes (λ db. (x : Content) → HoldsOld a.now x → Holds db x) a b → PutsIn b c (change.Desk row ∷ []) → RaisesIn a c row
 raises a b c row made put = record {
@@ -52,10 +52,10 @@ raises a b c row made put = record {
 }
 
 -- the one after the other
-pub raises_in : (a b c : State) (row : DeskRow) → Survives b c (λ _. ⊥) → (HasCleanDisk b → IsTrue a.in_transaction → a.now.schema ≡ old_schema → Makes (AddsTable table.Firm a.now) a b)
-    → (HasCleanDisk c → IsTrue b.in_transaction → PutsIn b c (change.Desk row ∷ [])) → HasCleanDisk c → IsTrue a.in_transaction → a.now.schema ≡ old_schema → RaisesIn a c row
-raises_in a b c row second make put clean begun is =
-    let made = raised_table a b (make (omega (arith, clean, second.clean)) begun is) in
+pub raises_in : (a b c : State) (row : DeskRow) → Survives b c (λ _. ⊥) → (HasCleanDisk b → IsTrue a.in_transaction → Makes (λ db. a.now.schema ≡ old_schema → AddsTable table.Firm a.now db) a b)
+    → (HasCleanDisk c → IsTrue b.in_transaction → PutsIn b c (change.Desk row ∷ [])) → HasCleanDisk c → IsTrue a.in_transaction → RaisesIn a c row
+raises_in a b c row second make put clean begun =
+    let made = raised_table a b (make (omega (arith, clean, second.clean)) begun) in
     raises a b c row made (put clean made.mode)
 
 -- ---- the row of version 1 is replaced
@@ -81,10 +81,10 @@ module _ (db : Database) (was : DeskCells) (row : DeskRow) (is : desk_cells row 
 -- ---- the whole of it: the row was read, and then the two statements were done
 
 module _ (old mid new : State) (was row : DeskRow) (is : desk_cells row ≡ raised (desk_cells was)) (has : old.now.schema ≡ old_schema) (version : IsVersion (pos 1) (desk_cells was))
-    (found : FindsOver IsOfAVersion old mid (λ trees. Stores table.Desk (trees 0) (desk_cells was ∷ []))) (second : Survives mid new (AreRaised mid.now row)) where
+    (found : FindsOver (IsSchemaWith table.Desk) old mid (λ trees. Stores table.Desk (trees 0) (desk_cells was ∷ []))) (second : Survives mid new (AreRaised mid.now row)) where
   module _ (clean : HasCleanDisk new) where
     read : IsUnchanged old mid × Stores table.Desk (old.now.trees 0) (desk_cells was ∷ [])
-    read = found (omega (arith, clean, second.clean)) (inr has)
+    read = found (omega (arith, clean, second.clean)) (inr (has, omega arith))
 
     held_still : (x : Content) → HoldsOld old.now x → HoldsOld mid.now x
     held_still x held = subst (λ (d : Database). HoldsOld d x) (sym read.0.0.now_is) held
@@ -97,9 +97,9 @@ module _ (old mid new : State) (was row : DeskRow) (is : desk_cells row ≡ rais
     whole = whole_now old.now (desk_cells was) row is (read clean).1 new.now (λ x held. made.made x (held_still clean x held));
   }
 
-  pub survives_upgrade : Survives old mid (λ _. ¬ IsOfAVersion old.now.schema) → Survives old new (AreUpgraded old.now)
+  pub survives_upgrade : Survives old mid (λ _. ¬ IsSchemaWith table.Desk old.now.schema) → Survives old new (AreUpgraded old.now)
   survives_upgrade first =
-      survives_then old mid new _ _ _ (λ _ db other. absurd (other (inr has)))
+      survives_then old mid new _ _ _ (λ _ db other. absurd (other (inr (has, omega arith))))
       (λ clean db made. record {
         was = is_old old.now (desk_cells was) has (read clean).1 version;
         whole = whole_in old.now (desk_cells was) row is (read clean).1 db (λ x held. made x (held_still clean x held));

@@ -29,8 +29,9 @@ pub(crate) fn create_table<S: Alter>(
         → IsBare (schema_with (before table)) (state S.Store tx.old.conn.now).now → OnOk result (Makes
         (IsBare (schema_with (before table ++ table ∷ []))) (state S.Store tx.old.conn.now) (state S.Store tx.new.conn.now)) }
     ensures added { HasCleanDisk (state S.Store tx.new.conn.now) → IsTrue (state S.Store tx.old.conn.now).in_transaction
-        → (state S.Store tx.old.conn.now).now.schema ≡ schema_with (before table) → OnOk result (Makes
-        (AddsTable table (state S.Store tx.old.conn.now).now) (state S.Store tx.old.conn.now) (state S.Store tx.new.conn.now)) }
+        → OnOk result (Makes (λ db. (state S.Store tx.old.conn.now).now.schema ≡ schema_with (before table)
+        → AddsTable table (state S.Store tx.old.conn.now).now db) (state S.Store tx.old.conn.now)
+        (state S.Store tx.new.conn.now)) }
     ensures survives { Survives (state S.Store tx.old.conn.now) (state S.Store tx.new.conn.now) (λ _. ⊥) }
 {
     tx.execute(create_text(table), &[])

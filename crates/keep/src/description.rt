@@ -1,8 +1,11 @@
 //! The tables of a desk, and the texts of their statements.
 
-ghost use Rattle.std.specs.Prelude.{◌≤◌};
-ghost use Rattle.keep.specs.Description.{desk_schema, old_schema, since};
+ghost use Rattle.std.specs.Prelude.{◌≡◌, ◌≤◌, map};
+ghost use Rattle.keep.specs.Description.{declared, desk_schema, old_schema, since, tables_of};
+ghost use Rattle.keep.specs.Schema.{column};
 ghost use Rattle.keep.specs.Statements.{ListsTable, MakesTable, PutsRow};
+
+use sqlite_schema::schema::Kind;
 
 /// A table of a desk, in the order in which they are made.
 #[derive(Clone, Copy)]
@@ -94,5 +97,87 @@ pub(crate) fn upsert_text(table: TableName) -> &'static str
             "INSERT INTO kept (reqkey, place, words) VALUES (?1, ?2, ?3) ON CONFLICT (reqkey) DO UPDATE SET place = ?2, words = ?3"
         }
         TableName::Firm => "INSERT INTO firm (number) VALUES (?1) ON CONFLICT (number) DO NOTHING",
+    }
+}
+
+/// The tables of version 1, in the order in which they are made.
+pub(crate) fn old_tables() -> &'static [TableName]
+    ensures { result.now ≡ tables_of 1 }
+{
+    &[
+        TableName::Desk,
+        TableName::Field,
+        TableName::Move,
+        TableName::Orders,
+        TableName::Line,
+        TableName::Kept,
+    ]
+}
+
+/// Its name.
+pub(crate) fn name_of(table: TableName) -> &'static str
+    ensures { result.now ≡ (declared table).name }
+{
+    match table {
+        TableName::Desk => "desk",
+        TableName::Field => "field",
+        TableName::Move => "move",
+        TableName::Orders => "orders",
+        TableName::Line => "line",
+        TableName::Kept => "kept",
+        TableName::Firm => "firm",
+    }
+}
+
+/// Its columns, by name and kind.
+pub(crate) fn columns_of(table: TableName) -> &'static [(&'static str, Kind)]
+    ensures { map (λ c. column c.1 c.0.now) result.now ≡ (declared table).columns }
+{
+    match table {
+        TableName::Desk => &[
+            ("one", Kind::Integer),
+            ("version", Kind::Integer),
+            ("clock", Kind::Integer),
+            ("places", Kind::Integer),
+        ],
+        TableName::Field => &[
+            ("branch", Kind::Text),
+            ("article", Kind::Text),
+            ("lo", Kind::Integer),
+            ("hi", Kind::Integer),
+            ("start", Kind::Integer),
+            ("value", Kind::Integer),
+            ("inf", Kind::Integer),
+            ("sup", Kind::Integer),
+        ],
+        TableName::Move => &[
+            ("place", Kind::Integer),
+            ("branch", Kind::Text),
+            ("article", Kind::Text),
+            ("qty", Kind::Integer),
+        ],
+        TableName::Orders => &[
+            ("number", Kind::Integer),
+            ("kind", Kind::Integer),
+            ("until", Kind::Integer),
+            ("state", Kind::Integer),
+        ],
+        TableName::Line => &[
+            ("number", Kind::Integer),
+            ("nr", Kind::Integer),
+            ("branch", Kind::Text),
+            ("article", Kind::Text),
+            ("way", Kind::Integer),
+            ("held", Kind::Integer),
+            ("used", Kind::Integer),
+        ],
+        TableName::Kept => &[
+            ("reqkey", Kind::Text),
+            ("place", Kind::Integer),
+            ("words", Kind::Text),
+        ],
+        TableName::Firm => &[
+            ("number", Kind::Integer),
+        ],
     }
 }

@@ -1,11 +1,12 @@
 //! Whether a schema is that of a desk as it is made.
 
-ghost use Rattle.std.specs.Prelude.{◌≡◌, ◌↔◌, IsTrue, None, Some, false, [], ◌∷◌, codes};
+ghost use Rattle.std.specs.Prelude.{◌≡◌, ◌↔◌, IsTrue, None, Some, false, true, [], ◌∷◌, codes};
 ghost use Rattle.sqlite.specs.Kind.TheVariants.{Integer, Text};
 ghost use Rattle.keep.specs.Names.{HasNames, HasTableNamed};
-ghost use Rattle.keep.specs.Schema.{column, desk_table, field_table, firm_table, key_index, kept_table, keyed_table, line_table, move_table, no_schema, numbered_table, orders_table, plain_order, text, whole_number};
+ghost use Rattle.keep.specs.Schema.{column, desk_table, field_table, firm_table, kept_table, keyed_table, line_table, move_table, no_schema, numbered_table, orders_table, plain_order, text, whole_number};
 ghost use Rattle.keep.specs.Description.{desk_schema, old_schema};
 
+use crate::description::{name_of, old_tables};
 use sqlite_items::Items;
 use sqlite_schema::code::Terms;
 use sqlite_schema::schema::{Column, Index, Kind, Schema, Stamps, Table};
@@ -131,7 +132,14 @@ fn is_keyed_table(table: &Table, name: &[u8], tree: u32, places: &[usize]) -> bo
 }
 
 fn is_key_index(index: &Index, name: &[u8], tree: u32, table: u32, places: &[usize]) -> bool
-    ensures { IsTrue result ↔ (index.now ≡ key_index name.now tree table places.now) }
+    ensures { IsTrue result ↔ (index.now ≡ record {
+      name = name.now;
+      tree = tree;
+      table = table;
+      columns = places.now;
+      order = plain_order;
+      is_unique = true;
+    }) }
 {
     index.name.as_slice() == name
         && index.tree == tree
@@ -352,16 +360,13 @@ fn has_table(found: &Schema, name: &[u8]) -> bool
         .any(|table| is_named(table, name))
 }
 
-/// Whether each of the six names is the name of a table. Takes no memory.
+/// Whether each name of a table of version 1 is the name of a table. Takes no memory.
 fn has_names(found: &Schema) -> bool
     ensures { IsTrue result ↔ HasNames found.now }
 {
-    has_table(found, b"desk")
-        && has_table(found, b"field")
-        && has_table(found, b"move")
-        && has_table(found, b"orders")
-        && has_table(found, b"line")
-        && has_table(found, b"kept")
+    old_tables()
+        .iter()
+        .all(|table| has_table(found, name_of(*table).as_bytes()))
 }
 
 /// Which schema of a desk it is.

@@ -7,8 +7,8 @@ ghost use Rattle.std.specs.List.Sorted.{IsStrictlySortedBy};
 ghost use Rattle.sqlite.specs.Held.{state};
 ghost use Rattle.sqlite.specs.State.{HasCleanDisk, IsUnchanged, Survives};
 ghost use Rattle.keep.specs.Content.{Stores};
-ghost use Rattle.keep.specs.Description.{declared, key_cmp, selected};
-ghost use Rattle.keep.specs.Loads.{FindsOver, IsSchemaWith, IsShown};
+ghost use Rattle.keep.specs.Description.{declared, desk_schema, key_cmp, selected};
+ghost use Rattle.keep.specs.Loads.{Finds, IsShown};
 
 use crate::answers::all_rows;
 use crate::description::{TableName, select_text};
@@ -67,13 +67,13 @@ fn select<R: Table, S: Alter>(
     conn: &mut Connection<S>,
 ) -> Result<Vec<Row>, Error>
     ensures mode { conn.old.in_transaction ≡ false → conn.new.in_transaction ≡ false }
-    ensures rows { HasCleanDisk (state S.Store conn.new) → IsSchemaWith R.which (state S.Store conn.old).now.schema
+    ensures rows { HasCleanDisk (state S.Store conn.new) → (state S.Store conn.old).now.schema ≡ desk_schema
         → IfOk result (λ rows. IsPermutation (map (selected R.which) ((state S.Store conn.old).now.trees
         (declared R.which).tree)) rows.items) }
-    ensures same { HasCleanDisk (state S.Store conn.new) → IsSchemaWith R.which (state S.Store conn.old).now.schema
+    ensures same { HasCleanDisk (state S.Store conn.new) → (state S.Store conn.old).now.schema ≡ desk_schema
         → OnOk result (IsUnchanged (state S.Store conn.old) (state S.Store conn.new)) }
     ensures survives { Survives (state S.Store conn.old) (state S.Store conn.new)
-        (λ _. ¬ IsSchemaWith R.which (state S.Store conn.old).now.schema) }
+        (λ _. ¬ ((state S.Store conn.old).now.schema ≡ desk_schema)) }
 {
     all_rows(alloc, conn, select_text(R::name()))
 }
@@ -104,10 +104,10 @@ pub(crate) fn load<R: Table, S: Alter>(
 ) -> Result<Vec<R>, Error>
     ensures mode { conn.old.in_transaction ≡ false → conn.new.in_transaction ≡ false }
     ensures order { IfOk result (λ rows. IsStrictlySortedBy (key_cmp R.which) (map R.cells rows.items)) }
-    ensures found { IfOk result (λ rows. FindsOver (IsSchemaWith R.which) (state S.Store conn.old) (state S.Store conn.new)
+    ensures found { IfOk result (λ rows. Finds (state S.Store conn.old) (state S.Store conn.new)
         (λ trees. Stores R.which (trees (declared R.which).tree) (map R.cells rows.items))) }
     ensures survives { Survives (state S.Store conn.old) (state S.Store conn.new)
-        (λ _. ¬ IsSchemaWith R.which (state S.Store conn.old).now.schema) }
+        (λ _. ¬ ((state S.Store conn.old).now.schema ≡ desk_schema)) }
 {
     let answers = select::<R, S>(alloc, conn)?;
     let rows = read_all(alloc, answers.as_slice())?;

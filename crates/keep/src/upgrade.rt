@@ -25,7 +25,6 @@ use sqlite::{Alter, Connection, Error};
 /// Makes the table of the firm orders and puts the row of `desk` in, both or neither, whenever it stops.
 fn raise<S: Alter>(conn: &mut Connection<S>, row: &DeskRow) -> Result<(), Error>
     requires idle { conn.old.in_transaction ≡ false }
-    requires old { (state S.Store conn.old).now.schema ≡ old_schema }
     ensures idle { conn.new.in_transaction ≡ false }
     ensures made { HasCleanDisk (state S.Store conn.new) → OnOk result
         (Raised (state S.Store conn.old) (state S.Store conn.new) row.now) }

@@ -11,7 +11,8 @@ use Rattle.keep.specs.Content.{AreRows, IsContent, Stores}
 use Rattle.keep.specs.Description.{declared, rows_of}
 use Rattle.keep.specs.declared.description.TableName.{TableName}
 use Rattle.keep.specs.declared.description.TableName.TheVariants as table
-use Rattle.keep.specs.Loads.{Finds, FindsOver, IsOfAVersion}
+use Rattle.keep.specs.Loads.{Finds, FindsOver, IsSchemaWith}
+use Rattle.keep.proofs.Schemas.{desk_rows}
 use Rattle.keep.proofs.Steps.{finds_then}
 use Rattle.keep.specs.OneContent.{is_now, only_content}
 use Rattle.keep.proofs.load.load_all.Goals as goal
@@ -30,16 +31,16 @@ module _ (g : _) (c : goal.After-new-6 g) where
   abbrev Kept : Trees → Type 0
   Kept trees = AreRows kept_cmp kept_stored kept_columns (trees 7) (map kept_cells c.in_ok-kept.kept.items)
 
-  found : Finds (state g.S.Store c.args.conn.now) (state g.S.Store c.load-2.new.conn) (λ trees. ((Desk trees × Stock trees) × Orders trees) × Kept trees)
+  found : Finds (state g.S.Store c.args.conn.now) (state g.S.Store c.load.new.conn) (λ trees. ((Desk trees × Stock trees) × Orders trees) × Kept trees)
   found =
       let s0 = state g.S.Store c.args.conn.now in
-      let s1 = state g.S.Store c.load.new.conn in
+      let s1 = state g.S.Store c.load_desk.new.conn in
       let s2 = state g.S.Store c.load_stock.new.conn in
       let s3 = state g.S.Store c.load_orders.new.conn in
-      let s4 = state g.S.Store c.load-2.new.conn in
-      let read : FindsOver IsOfAVersion s0 s1 Desk = rw c.in-Some.is at c.in_ok-desk.ensures.found in
+      let s4 = state g.S.Store c.load.new.conn in
+      let read : FindsOver (IsSchemaWith table.Desk) s0 s1 Desk = rw c.in-Some.is at c.in_ok-desk.ensures.found in
       let desk : Finds s0 s1 Desk = λ clean has. read clean (inl has) in
-      finds_then s0 s3 s4 (λ trees. (Desk trees × Stock trees) × Orders trees) Kept _ c.load-2.ensures.survives
+      finds_then s0 s3 s4 (λ trees. (Desk trees × Stock trees) × Orders trees) Kept _ c.load.ensures.survives
       (finds_then s0 s2 s3 (λ trees. Desk trees × Stock trees) Orders _ c.load_orders.ensures.survives
       (finds_then s0 s1 s2 Desk Stock _ c.load_stock.ensures.survives desk c.in_ok-fields.ensures.found) c.in_ok-orders.ensures.found)
       c.in_ok-kept.ensures.found
@@ -47,7 +48,7 @@ module _ (g : _) (c : goal.After-new-6 g) where
   abbrev made : Content
   made = record { desk = desk_cells c.in-Some.desk ∷ []; fields = map field_cells c.new.result; moves = map move_cells c.new-2.result; orders = map order_cells c.new-3.result; lines = map line_cells c.new-4.result; kept = map kept_cells c.new-5.result; firms = map firm_cells c.new-6.result }
 
-  rows : HasCleanDisk (state g.S.Store c.load-2.new.conn) → (t : TableName) → Stores t ((state g.S.Store c.args.conn.now).now.trees (declared t).tree) (rows_of t made)
+  rows : HasCleanDisk (state g.S.Store c.load.new.conn) → (t : TableName) → Stores t ((state g.S.Store c.args.conn.now).now.trees (declared t).tree) (rows_of t made)
   rows clean table.Desk = (found clean c.requires.schema).1.0.0.0
   rows clean table.Field = rw c.new.ensures (found clean c.requires.schema).1.0.0.1.0
   rows clean table.Move = rw c.new-2.ensures (found clean c.requires.schema).1.0.0.1.1
@@ -56,7 +57,7 @@ module _ (g : _) (c : goal.After-new-6 g) where
   rows clean table.Kept = rw c.new-5.ensures (found clean c.requires.schema).1.1
   rows clean table.Firm = rw c.new-6.ensures (found clean c.requires.schema).1.0.1.1
 
-  holds : HasCleanDisk (state g.S.Store c.load-2.new.conn) → IsContent (state g.S.Store c.args.conn.now).now.trees made
+  holds : HasCleanDisk (state g.S.Store c.load.new.conn) → IsContent (state g.S.Store c.args.conn.now).now.trees made
   holds clean = record {
     lists = subst (Lists ((state g.S.Store c.args.conn.now).now.trees catalog_tree)) c.requires.schema (c.requires.live (found clean c.requires.schema).0.0.was_open).0.lists;
     rows = λ t now. rows clean t;
@@ -68,3 +69,7 @@ returns-clause-content g c clean = (record { schema_is = c.requires.schema; cont
 
 pub returns-clause-one : goal.returns-clause-one
 returns-clause-one g c clean x held = only_content (state g.S.Store c.args.conn.now).now.trees x _ held.content (holds g c clean)
+
+pub returns-in_default-clause-none : goal.returns-in_default-clause-none
+returns-in_default-clause-none g c clean none x has desk =
+    (c.in_ok-desk.ensures.none c.in_default.is clean (inl c.requires.schema)).1 x.desk (desk_rows (state g.S.Store c.args.conn.now).now x c.requires.schema has) desk

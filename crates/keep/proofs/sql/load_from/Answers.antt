@@ -1,6 +1,6 @@
 use Rattle.std.proofs.Common.{refl}
 use Rattle.sqlite.specs.Held.{state}
-use Rattle.keep.proofs.Schemas.{has_firm, nameless, old_names}
+use Rattle.keep.proofs.Schemas.{has_firm, nameless, no_firm, old_names}
 use Rattle.keep.proofs.sql.load_from.Goals as goal
 
 pub returns-in-Current-clause-only_old : goal.returns-in-Current-clause-only_old
@@ -28,3 +28,7 @@ returns-in-Nameless-clause-only_old g c clean old =
 pub returns-in-Nameless-clause-other : goal.returns-in-Nameless-clause-other
 returns-in-Nameless-clause-other g c names differ other =
     let none = rw c.schema.ensures.value at (c.in-Nameless.ensures.nameless refl) in absurd (none names)
+
+pub returns-in-Old-clause-desk : goal.returns-in-Old-clause-desk
+returns-in-Old-clause-desk g c clean fault x has desk =
+    no_firm (state g.S.Store c.args.conn.now).now x (rw c.schema.ensures.value at (c.in-Old.ensures.old refl).1) has

@@ -29,7 +29,7 @@ pub returns-clause-made : goal.returns-clause-made
 returns-clause-made g c clean =
     let same : c.commit.new.self.0 ≡ c.conn-2-1.given.0 = search rules in
     let ended : HasCleanDisk (state g.S.Store c.commit.new.self.0) = subst (λ h. HasCleanDisk (state g.S.Store h)) (sym same) clean in
-    let raised = raises_in (state g.S.Store (record c.args.conn.now { in_transaction = true })) (state g.S.Store c.create_table.new.tx.conn.now) (state g.S.Store c.upsert.new.tx.conn.now) c.args.row.now c.upsert.ensures.survives (rw c.transaction-tx.ensures.begun at c.in_ok-create_table.ensures.added) c.in_ok-upsert.ensures.put (omega (arith, ended, c.commit.ensures.survives.clean)) refl c.requires.old in
+    let raised = raises_in (state g.S.Store (record c.args.conn.now { in_transaction = true })) (state g.S.Store c.create_table.new.tx.conn.now) (state g.S.Store c.upsert.new.tx.conn.now) c.args.row.now c.upsert.ensures.survives (rw c.transaction-tx.ensures.begun at c.in_ok-create_table.ensures.added) c.in_ok-upsert.ensures.put (omega (arith, ended, c.commit.ensures.survives.clean)) refl in
     subst (λ h. OnOk c.commit.result (Raised (state g.S.Store c.args.conn.now) (state g.S.Store h) c.args.row.now)) same
     (on_ok _ (λ ok. done g.S.Store c.args.conn.now c.upsert.new.tx.conn.now c.commit.new.self.0 c.args.row.now raised ok.1) (c.commit.ensures.ok ended))
 
@@ -42,7 +42,7 @@ returns-clause-survives g c =
     let none = λ (clean : HasCleanDisk (state g.S.Store last)) (db : Trees) (no : ⊥). no in
     let two = survives_then (state g.S.Store (record old { in_transaction = true })) (state g.S.Store c.create_table.new.tx.conn.now) (state g.S.Store last) (λ _. ⊥) (λ _. ⊥) (λ _. ⊥) none none (rw begun at c.create_table.ensures.survives) c.upsert.ensures.survives in
     let both : HasCleanDisk (state g.S.Store last) → RaisesIn (state g.S.Store (record old { in_transaction = true })) (state g.S.Store last) row =
-    λ clean. raises_in (state g.S.Store (record c.args.conn.now { in_transaction = true })) (state g.S.Store c.create_table.new.tx.conn.now) (state g.S.Store c.upsert.new.tx.conn.now) c.args.row.now c.upsert.ensures.survives (rw c.transaction-tx.ensures.begun at c.in_ok-create_table.ensures.added) c.in_ok-upsert.ensures.put clean refl c.requires.old in
+    λ clean. raises_in (state g.S.Store (record c.args.conn.now { in_transaction = true })) (state g.S.Store c.create_table.new.tx.conn.now) (state g.S.Store c.upsert.new.tx.conn.now) c.args.row.now c.upsert.ensures.survives (rw c.transaction-tx.ensures.begun at c.in_ok-create_table.ensures.added) c.in_ok-upsert.ensures.put clean refl in
     let P = AreRaised (state g.S.Store old).now row in
     let whole = survives_then (state g.S.Store old) (state g.S.Store last) (state g.S.Store c.commit.new.self.0) _ _ P (λ _ db none. absurd none)
     (λ clean db is x held. held_by (state g.S.Store last).now db (with_row row x) is ((both (omega (arith, c.commit.ensures.survives.clean))).made x held))

@@ -2,7 +2,7 @@ use Rattle.std.proofs.Common.{refl, rules}
 use Rattle.std.proofs.lemmas.Result.{on_ok_weaker}
 use Rattle.sqlite.specs.Held.{state}
 use Rattle.keep.proofs.Stops.{settled_if}
-use Rattle.keep.proofs.Schemas.{has_firm, nameless, old_names}
+use Rattle.keep.proofs.Schemas.{has_firm, nameless, no_firm, old_names}
 use Rattle.keep.proofs.sql.SqlKeep.upgrade_over.Goals as goal
 
 pub returns-in-Current-clause-desk : goal.returns-in-Current-clause-desk
@@ -40,3 +40,8 @@ returns-in-Nameless-clause-other g c names differ other =
 
 pub returns-in-Nameless-clause-nameless : goal.returns-in-Nameless-clause-nameless
 returns-in-Nameless-clause-nameless g c = search rules
+
+pub returns-in-Old-clause-desk : goal.returns-in-Old-clause-desk
+returns-in-Old-clause-desk g c clean fault =
+    let is = rw c.schema.ensures.value at (c.in-Old.ensures.old refl).1 in
+    ((c.upgrade.ensures.desk clean fault).0, λ x has one. no_firm (state g.S.Store c.args.conn.now).now x is has)
