@@ -1,6 +1,5 @@
 pub mod Schema
 pub mod Description
-pub mod Columns
 pub mod Content
 pub mod Transactions
 pub mod Names

@@ -1,6 +1,6 @@
 -- The seven tables as SQL declares them, in the order in which they are made. All are STRICT, and each column is NOT
 -- NULL.
-use Rattle.std.specs.Prelude.{true, false, [], ◌∷◌, ◌++◌, ◌+◌, Some, None, codes, List, map, ℕ}
+use Rattle.std.specs.Prelude.{true, false, zero, [], ◌∷◌, ◌++◌, ◌+◌, Some, None, codes, List, map, ℕ}
 use Rattle.sqlite.specs.declared.types.Value.TheVariants.{Null}
 use Rattle.sqlite.specs.Collation.TheVariants.{Binary}
 use Rattle.sqlite.specs.Table.{Table}
@@ -21,14 +21,33 @@ whole_number = column Integer
 abbrev pub text : List ℕ → Column
 text = column Text
 
--- its key is its first column, a whole number, which SQLite keeps as the rowid
-abbrev pub numbered_table : List ℕ → ℕ → List Column → Table
-numbered_table name tree columns = record {
+abbrev pub plain_order : Order
+plain_order = record { digits = 0 }
+
+-- Its key is the columns at these places, counted from 1 past the rowid; or it is the one at place 0, a whole number,
+-- which SQLite keeps as the rowid.
+abbrev pub with_key : List ℕ → Table → Table
+with_key (zero ∷ places) table = record table { key = Some 0; primary = 0 ∷ []; uniques = []; orders = [] }
+with_key places table =
+    record table { key = None; primary = places; uniques = places ∷ []; orders = plain_order ∷ [] }
+
+-- it has no rule but its key and its columns
+abbrev pub without_rules : Table → Table
+without_rules table = record table {
+  checks = [];
+  references = [];
+  computed = [];
+  stamps = record { places = []; terms = []; formats = [] };
+  is_counted = false;
+}
+
+abbrev pub plain_table : List ℕ → ℕ → List ℕ → List Column → Table
+plain_table name tree places columns = with_key places (record {
   name = name;
   tree = tree;
   columns = columns;
-  key = Some 0;
-  primary = 0 ∷ [];
+  key = None;
+  primary = [];
   uniques = [];
   orders = [];
   checks = [];
@@ -36,27 +55,7 @@ numbered_table name tree columns = record {
   computed = [];
   stamps = record { places = []; terms = []; formats = [] };
   is_counted = false;
-}
-
-abbrev pub plain_order : Order
-plain_order = record { digits = 0 }
-
--- its key is the columns at these places, counted from 1 past the rowid
-abbrev pub keyed_table : List ℕ → ℕ → List Column → List ℕ → Table
-keyed_table name tree columns places = record {
-  name = name;
-  tree = tree;
-  columns = columns;
-  key = None;
-  primary = places;
-  uniques = places ∷ [];
-  orders = plain_order ∷ [];
-  checks = [];
-  references = [];
-  computed = [];
-  stamps = record { places = []; terms = []; formats = [] };
-  is_counted = false;
-}
+})
 
 -- the index that SQLite makes for the key of such a table, next to it
 abbrev pub key_index : Table → List ℕ → Index
@@ -73,38 +72,37 @@ abbrev pub key_indexes : Table → List Index
 key_indexes table = map (key_index table) table.uniques
 
 abbrev pub desk_table : Table
-desk_table = numbered_table (codes "desk") 0 (whole_number (codes "one") ∷ whole_number (codes "version")
+desk_table = plain_table (codes "desk") 0 (0 ∷ []) (whole_number (codes "one") ∷ whole_number (codes "version")
     ∷ whole_number (codes "clock") ∷ whole_number (codes "places") ∷ [])
 
 abbrev pub field_table : Table
-field_table = keyed_table (codes "field") 1
+field_table = plain_table (codes "field") 1 (1 ∷ 2 ∷ [])
     (text (codes "branch") ∷ text (codes "article") ∷ whole_number (codes "lo") ∷ whole_number (codes "hi")
     ∷ whole_number (codes "start")
     ∷ whole_number (codes "value") ∷ whole_number (codes "inf") ∷ whole_number (codes "sup") ∷ [])
-    (1 ∷ 2 ∷ [])
 
 abbrev pub move_table : Table
-move_table = numbered_table (codes "move") 3 (whole_number (codes "place") ∷ text (codes "branch")
+move_table = plain_table (codes "move") 3 (0 ∷ []) (whole_number (codes "place") ∷ text (codes "branch")
     ∷ text (codes "article") ∷ whole_number (codes "qty") ∷ [])
 
 abbrev pub orders_table : Table
 orders_table =
-    numbered_table (codes "orders") 4 (whole_number (codes "number") ∷ whole_number (codes "kind")
+    plain_table (codes "orders") 4 (0 ∷ []) (whole_number (codes "number") ∷ whole_number (codes "kind")
     ∷ whole_number (codes "until") ∷ whole_number (codes "state") ∷ [])
 
 abbrev pub line_table : Table
-line_table = keyed_table (codes "line") 5
+line_table = plain_table (codes "line") 5 (1 ∷ 2 ∷ [])
     (whole_number (codes "number") ∷ whole_number (codes "nr") ∷ text (codes "branch") ∷ text (codes "article")
     ∷ whole_number (codes "way")
     ∷ whole_number (codes "held") ∷ whole_number (codes "used") ∷ [])
-    (1 ∷ 2 ∷ [])
 
 abbrev pub kept_table : Table
-kept_table = keyed_table (codes "kept") 7 (text (codes "reqkey") ∷ whole_number (codes "place") ∷ text (codes "words")
-    ∷ []) (1 ∷ [])
+kept_table = plain_table (codes "kept") 7 (1 ∷ [])
+    (text (codes "reqkey") ∷ whole_number (codes "place") ∷ text (codes "words")
+    ∷ [])
 
 abbrev pub firm_table : Table
-firm_table = numbered_table (codes "firm") 9 (whole_number (codes "number") ∷ [])
+firm_table = plain_table (codes "firm") 9 (0 ∷ []) (whole_number (codes "number") ∷ [])
 
 abbrev pub no_schema : Schema
 no_schema = record { tables = []; indexes = []; views = [] }

@@ -1,7 +1,7 @@
 //! The tables of a desk, and the texts of their statements.
 
-ghost use Rattle.std.specs.Prelude.{◌≡◌, ◌≤◌, map};
-ghost use Rattle.keep.specs.Description.{declared, desk_schema, old_schema, since, tables_of};
+ghost use Rattle.std.specs.Prelude.{◌≡◌, ◌≤◌, is_some, map};
+ghost use Rattle.keep.specs.Description.{all_tables, declared, desk_schema, old_schema, since, tables_of};
 ghost use Rattle.keep.specs.Schema.{column};
 ghost use Rattle.keep.specs.Statements.{ListsTable, MakesTable, PutsRow};
 
@@ -100,6 +100,21 @@ pub(crate) fn upsert_text(table: TableName) -> &'static str
     }
 }
 
+/// The tables, in the order in which they are made.
+pub(crate) fn all_tables() -> &'static [TableName]
+    ensures { result.now ≡ all_tables }
+{
+    &[
+        TableName::Desk,
+        TableName::Field,
+        TableName::Move,
+        TableName::Orders,
+        TableName::Line,
+        TableName::Kept,
+        TableName::Firm,
+    ]
+}
+
 /// The tables of version 1, in the order in which they are made.
 pub(crate) fn old_tables() -> &'static [TableName]
     ensures { result.now ≡ tables_of 1 }
@@ -126,6 +141,42 @@ pub(crate) fn name_of(table: TableName) -> &'static str
         TableName::Line => "line",
         TableName::Kept => "kept",
         TableName::Firm => "firm",
+    }
+}
+
+/// The tree in which it lies.
+pub(crate) fn tree_of(table: TableName) -> u32
+    ensures { result ≡ (declared table).tree }
+{
+    match table {
+        TableName::Desk => 0,
+        TableName::Field => 1,
+        TableName::Move => 3,
+        TableName::Orders => 4,
+        TableName::Line => 5,
+        TableName::Kept => 7,
+        TableName::Firm => 9,
+    }
+}
+
+/// Whether its key is a whole number, which SQLite keeps as the rowid.
+pub(crate) fn is_numbered(table: TableName) -> bool
+    ensures { result ≡ is_some (declared table).key }
+{
+    matches!(
+        table,
+        TableName::Desk | TableName::Move | TableName::Orders | TableName::Firm
+    )
+}
+
+/// The places of the columns of its key, counted from 1; 0 where that is the rowid.
+pub(crate) fn key_of(table: TableName) -> &'static [usize]
+    ensures { result.now ≡ (declared table).primary }
+{
+    match table {
+        TableName::Desk | TableName::Move | TableName::Orders | TableName::Firm => &[0],
+        TableName::Field | TableName::Line => &[1, 2],
+        TableName::Kept => &[1],
     }
 }
 

@@ -4,10 +4,9 @@ use Rattle.sqlite.specs.State.{HasCleanDisk}
 use Rattle.sqlite_trees.specs.Tree.{Trees}
 use Rattle.sqlite_trees.specs.Objects.{catalog_tree}
 use Rattle.sqlite_catalog.specs.Listing.{Lists}
-use Rattle.book.specs.Rows.{Content, desk_cmp, field_cmp, move_cmp, order_cmp, line_cmp, kept_cmp, firm_cmp}
+use Rattle.book.specs.Rows.{Content}
 use Rattle.book.specs.Tables.{desk_cells, field_cells, move_cells, order_cells, line_cells, kept_cells, firm_cells}
-use Rattle.keep.specs.Columns.{desk_stored, field_stored, move_stored, order_stored, line_stored, kept_stored, firm_stored, desk_columns, field_columns, move_columns, order_columns, line_columns, kept_columns, firm_columns}
-use Rattle.keep.specs.Content.{AreRows, IsContent, Stores}
+use Rattle.keep.specs.Content.{IsContent, Stores}
 use Rattle.keep.specs.Description.{declared, rows_of}
 use Rattle.keep.specs.declared.description.TableName.{TableName}
 use Rattle.keep.specs.declared.description.TableName.TheVariants as table
@@ -19,17 +18,17 @@ use Rattle.keep.proofs.load.load_all.Goals as goal
 
 module _ (g : _) (c : goal.After-new-6 g) where
   abbrev Desk : Trees → Type 0
-  Desk trees = AreRows desk_cmp desk_stored desk_columns (trees 0) (desk_cells c.in-Some.desk ∷ [])
+  Desk trees = Stores table.Desk (trees 0) (desk_cells c.in-Some.desk ∷ [])
 
   abbrev Stock : Trees → Type 0
-  Stock trees = AreRows field_cmp field_stored field_columns (trees 1) (map field_cells c.in_ok-fields.fields.items) × AreRows move_cmp move_stored move_columns (trees 3) (map move_cells c.in_ok-fields.moves.items)
+  Stock trees = Stores table.Field (trees 1) (map field_cells c.in_ok-fields.fields.items) × Stores table.Move (trees 3) (map move_cells c.in_ok-fields.moves.items)
 
   abbrev Orders : Trees → Type 0
-  Orders trees = (AreRows order_cmp order_stored order_columns (trees 4) (map order_cells c.in_ok-orders.orders.items) × AreRows line_cmp line_stored line_columns (trees 5) (map line_cells c.in_ok-orders.lines.items))
-      × AreRows firm_cmp firm_stored firm_columns (trees 9) (map firm_cells c.in_ok-orders.firms.items)
+  Orders trees = (Stores table.Orders (trees 4) (map order_cells c.in_ok-orders.orders.items) × Stores table.Line (trees 5) (map line_cells c.in_ok-orders.lines.items))
+      × Stores table.Firm (trees 9) (map firm_cells c.in_ok-orders.firms.items)
 
   abbrev Kept : Trees → Type 0
-  Kept trees = AreRows kept_cmp kept_stored kept_columns (trees 7) (map kept_cells c.in_ok-kept.kept.items)
+  Kept trees = Stores table.Kept (trees 7) (map kept_cells c.in_ok-kept.kept.items)
 
   found : Finds (state g.S.Store c.args.conn.now) (state g.S.Store c.load.new.conn) (λ trees. ((Desk trees × Stock trees) × Orders trees) × Kept trees)
   found =

@@ -1,9 +1,8 @@
 use Rattle.std.proofs.Common.{map}
 use Rattle.sqlite.specs.Held.{state}
-use Rattle.book.specs.Rows.{field_cmp, move_cmp}
 use Rattle.book.specs.Tables.{field_cells, move_cells}
-use Rattle.keep.specs.Columns.{field_stored, field_columns, move_stored, move_columns}
-use Rattle.keep.specs.Content.{AreRows}
+use Rattle.keep.specs.Content.{Stores}
+use Rattle.keep.specs.declared.description.TableName.TheVariants as table
 use Rattle.keep.proofs.Steps.{finds_then, reads_only}
 use Rattle.keep.proofs.load.load_stock.Goals as goal
 
@@ -16,5 +15,5 @@ returns-clause-survives g c = reads_only (state g.S.Store c.args.conn.now) (stat
 pub returns-clause-found : goal.returns-clause-found
 returns-clause-found g c =
     finds_then (state g.S.Store c.args.conn.now) (state g.S.Store c.load.new.conn) (state g.S.Store c.load-2.new.conn)
-    (λ trees. AreRows field_cmp field_stored field_columns (trees 1) (map field_cells c.in_ok-fields.fields.items)) (λ trees. AreRows move_cmp move_stored move_columns (trees 3) (map move_cells c.in_ok-moves.moves.items)) _
+    (λ trees. Stores table.Field (trees 1) (map field_cells c.in_ok-fields.fields.items)) (λ trees. Stores table.Move (trees 3) (map move_cells c.in_ok-moves.moves.items)) _
     c.load-2.ensures.survives c.in_ok-fields.ensures.found c.in_ok-moves.ensures.found
