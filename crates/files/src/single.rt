@@ -53,12 +53,16 @@ impl<S: Single> Intake for Singles<S> {
     }
 
     fn take(&mut self, row: &ByteRecord) -> Result<bool, Memory> {
-        let Some((key, command)) = S::command_of(row) else {
+        let Some(said) = S::command_of(row) else {
             return Ok(false);
         };
         let alloc = *self.requests.allocator();
-        let command = SpelledCommand::of(alloc, command)?;
-        match self.requests.push(Request { key, command }) {
+        let command = SpelledCommand::of(alloc, said.1)?;
+        let request = Request {
+            key: said.0,
+            command,
+        };
+        match self.requests.push(request) {
             Ok(()) => Ok(true),
             Err(_) => Err(Memory),
         }
