@@ -38,7 +38,16 @@ abbrev pub Settles : Command → ℕ → Type 0
 Settles (Commit m) n = m ≡ n
 Settles (Firm m) n = m ≡ n
 Settles (Use m b a q) n = m ≡ n
-Settles c n = ⊥
+Settles (Field b a lo hi start) n = ⊥
+Settles (Deliver b a q) n = ⊥
+Settles (Writeoff b a q) n = ⊥
+Settles (Rebound b a lo hi) n = ⊥
+Settles (Open m until lines) n = ⊥
+Settles (Transfer m until a from to q) n = ⊥
+Settles (More m way b a q) n = ⊥
+Settles (Release m b a q) n = ⊥
+Settles (Abort m) n = ⊥
+Settles (Expire now) n = ⊥
 
 -- only uses, releases, commits, aborts, `firm` and expiries
 abbrev pub IsFuture : List Request → Type 0

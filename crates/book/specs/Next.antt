@@ -110,11 +110,32 @@ fields_after (Field b a lo hi start) fields = insert_in_order (λ f g. is_lt (na
     (record { name = name_of b a; lo = lo; hi = hi; start = start }) fields
 fields_after (Rebound b a lo hi) fields =
     map (λ f. if same_name (name_of b a) f.name then with_bounds lo hi f else f) fields
-fields_after c fields = fields
+fields_after (Deliver b a q) fields = fields
+fields_after (Writeoff b a q) fields = fields
+fields_after (Open n until lines) fields = fields
+fields_after (Transfer n until a from to q) fields = fields
+fields_after (More n way b a q) fields = fields
+fields_after (Use n b a q) fields = fields
+fields_after (Release n b a q) fields = fields
+fields_after (Commit n) fields = fields
+fields_after (Abort n) fields = fields
+fields_after (Firm n) fields = fields
+fields_after (Expire now) fields = fields
 
 abbrev pub clock_after : Command → ℕ → ℕ
+clock_after (Field b a lo hi start) clock = clock
+clock_after (Deliver b a q) clock = clock
+clock_after (Writeoff b a q) clock = clock
+clock_after (Rebound b a lo hi) clock = clock
+clock_after (Open n until lines) clock = clock
+clock_after (Transfer n until a from to q) clock = clock
+clock_after (More n way b a q) clock = clock
+clock_after (Use n b a q) clock = clock
+clock_after (Release n b a q) clock = clock
+clock_after (Commit n) clock = clock
+clock_after (Abort n) clock = clock
+clock_after (Firm n) clock = clock
 clock_after (Expire now) clock = now
-clock_after c clock = clock
 
 -- ---- the next ledger
 
