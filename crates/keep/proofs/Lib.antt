@@ -14,7 +14,6 @@ pub mod DeskAnswer
 pub mod Schemas
 pub mod Stops
 pub mod NextOpen
-pub mod NewTexts
 pub mod NewTables
 pub mod NewRow
 pub mod PlainRows

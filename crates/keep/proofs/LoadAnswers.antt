@@ -1,5 +1,5 @@
 -- Answers that were read are the rows that the tree holds.
-use Rattle.std.proofs.Common.{◌≡◌, List, [], ◌∷◌, ℕ, IsTrue, Ordering, ap₂, map, refl, subst, IsPermutation}
+use Rattle.std.proofs.Common.{arith, ◌≡◌, List, [], ◌∷◌, ℕ, IsTrue, Ordering, ap₂, map, refl, subst, IsPermutation}
 use Rattle.std.specs.List.{AllZip, AllByRecursion}
 use Rattle.std.specs.List.Sorted.{IsStrictlySortedBy}
 use Rattle.std.proofs.lemmas.List.Sorted.{IsPermutation-map, IsPermutation-sym, All-permutation}
@@ -16,22 +16,10 @@ use Rattle.keep.specs.declared.description.TableName.TheVariants as table
 
 -- an answer shows what is stored
 shows : (t : TableName) (r : Row) → shown t (selected t r) ≡ stored t r
-shows table.Desk r = refl
-shows table.Field r = refl
-shows table.Move r = refl
-shows table.Orders r = refl
-shows table.Line r = refl
-shows table.Kept r = refl
-shows table.Firm r = refl
+shows t r = grind arith
 
 number : (t : TableName) (r : Row) → column (selected t r) (rowid_at t) ≡ rowid r
-number table.Desk r = refl
-number table.Field r = refl
-number table.Move r = refl
-number table.Orders r = refl
-number table.Line r = refl
-number table.Kept r = refl
-number table.Firm r = refl
+number t r = grind arith
 
 module _ {R : Type 0} (t : TableName) (cells : R → Cells t) where
   abbrev Is : Row → R → Type 0

@@ -1,5 +1,5 @@
 -- What the statements that make a new desk do.
-use Rattle.std.proofs.Common.{refl, ◌≡◌, ◌⊎◌, inl, inr, ℕ, false, List, [], ◌∷◌, ◌++◌, Ok, Err, Result, None, sym, ap, subst, ◌∙◌}
+use Rattle.std.proofs.Common.{arith, refl, ◌≡◌, ◌⊎◌, inl, inr, ℕ, false, List, [], ◌∷◌, ◌++◌, Ok, Err, Result, None, sym, ap, subst, ◌∙◌}
 use Rattle.std.specs.Prelude.{OnOk, map}
 use Rattle.std.proofs.lemmas.List.{map-append}
 use Rattle.std.specs.List.{AllByRecursion}
@@ -36,23 +36,11 @@ still_none (t ∷ tables) table old new same none empty = (same.0 ∙ none.0, st
 
 -- no table counts its rows
 uncounted : (t : TableName) → lacks_sequence (schema_with (before t ++ t ∷ [])) ≡ false
-uncounted table.Desk = refl
-uncounted table.Field = refl
-uncounted table.Move = refl
-uncounted table.Orders = refl
-uncounted table.Line = refl
-uncounted table.Kept = refl
-uncounted table.Firm = refl
+uncounted t = grind arith
 
 -- the trees are taken one after the other
 next_is : (t : TableName) → next_tree (schema_with (before t)) ≡ (declared t).tree
-next_is table.Desk = refl
-next_is table.Field = refl
-next_is table.Move = refl
-next_is table.Orders = refl
-next_is table.Line = refl
-next_is table.Kept = refl
-next_is table.Firm = refl
+next_is t = grind arith
 
 -- a table is made beside the others
 module _ (t : TableName) (text : List ℕ) (means : MakesTable t text) where
@@ -98,6 +86,7 @@ module _ (t : TableName) (text : List ℕ) (means : MakesTable t text) where
         committed = h.1.committed_is;
         is = record {
           schema_is = adds.schema_is;
+          lists = inr adds.lists;
           no_rows = subst (λ tables. AllByRecursion (λ u. new.now.trees u.tree ≡ []) tables) (sym (map-append declared (before t) (t ∷ []))) (still_none prior.tables (declared t) old.now.trees new.now.trees adds.others bare.no_rows adds.empty);
         };
       }

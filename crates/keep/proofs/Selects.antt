@@ -1,5 +1,5 @@
 -- What the selects answer: each stored row once, and nothing is changed.
-use Rattle.std.proofs.Common.{◌≡◌, ◌∙◌, List, [], ◌∷◌, ℕ, Ok, Err, Result, refl, sym, ap, ap₂, ◌≤◌, subst, inl, inr, map, IsPermutation}
+use Rattle.std.proofs.Common.{arith, ◌≡◌, ◌∙◌, List, [], ◌∷◌, ℕ, Ok, Err, Result, refl, sym, ap, ap₂, ◌≤◌, subst, inl, inr, map, IsPermutation}
 use Rattle.std.specs.Prelude.{Vec, OnOk, IfOk, flat_map}
 use Rattle.std.specs.declared.alloc.Global.{Global}
 use Rattle.std.proofs.lemmas.List.Sorted.{IsPermutation-map, IsPermutation-trans}
@@ -29,23 +29,11 @@ shown_each query (r ∷ rows) = ap (λ l. eval_all query.project ([] ∷ r ∷ [
 
 -- what the query shows of a stored row
 project_is : (t : TableName) (r : Row) → eval_all (project (declared t)) ([] ∷ r ∷ []) ≡ selected t r
-project_is table.Desk r = refl
-project_is table.Field r = refl
-project_is table.Move r = refl
-project_is table.Orders r = refl
-project_is table.Line r = refl
-project_is table.Kept r = refl
-project_is table.Firm r = refl
+project_is t r = grind arith
 
 -- a table lies in its own tree
 own : (t : TableName) (trees : Trees) → overlay trees [] (declared t).tree ≡ trees (declared t).tree
-own table.Desk trees = refl
-own table.Field trees = refl
-own table.Move trees = refl
-own table.Orders trees = refl
-own table.Line trees = refl
-own table.Kept trees = refl
-own table.Firm trees = refl
+own t trees = grind arith
 
 map_is : {X Y : Type 0} (f g : X → Y) → ((x : X) → f x ≡ g x) → (xs : List X) → map f xs ≡ map g xs
 map_is f g same [] = refl

@@ -28,7 +28,7 @@ use Rattle.keep.proofs.Schemas.{desk_rows, in_old_schema, is_old, of_each, old_r
 
 -- the tables of version 1 have their rows, and a later one has none
 rows_more : (t : TableName) (old new : Database) (x : Content) → AddsTable table.Firm old new → IsContentOf 1 old.trees x → Stores t (new.trees (declared t).tree) (rows_of t x)
-rows_more table.Firm old new x adds was = subst (Stores table.Firm (new.trees firm_table.tree)) (sym (was.none table.Firm (omega arith))) (none firm_cmp (stored table.Firm) (columns table.Firm) (new.trees firm_table.tree) adds.empty)
+rows_more table.Firm old new x adds was = subst (Stores table.Firm (new.trees firm_table.tree)) (sym (was.none table.Firm (omega arith))) (none table.Firm (new.trees firm_table.tree) adds.empty)
 rows_more t old new x adds was = subst (λ rows. Stores t rows (rows_of t x)) (sym (of_each (λ u. new.trees u.tree ≡ old.trees u.tree) old_schema.tables (declared t) adds.others (in_old_schema t (omega arith)))) (was.rows t (omega arith))
 
 holds_more : (old new : Database) → AddsTable table.Firm old new → (x : Content) → HoldsOld old x → Holds new x

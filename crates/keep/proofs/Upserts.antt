@@ -1,5 +1,5 @@
 -- What the upserts do: the table of the row has it by its key, and the other tables have their rows.
-use Rattle.std.proofs.Common.{◌≡◌, ◌∙◌, ◌/◌, ◌+◌, ◌-◌, inl, inr, ℕ, ℤ, suc, zero, Bool, true, false, ◌&&◌, ◌||◌, List, [], ◌∷◌, ◌++◌, Some, None, Ok, Option, drop, length, map, refl, sym, ap, ap₂, subst, is_eq, take, IsTrue, Ordering, Equal, Greater, Less}
+use Rattle.std.proofs.Common.{arith, ◌≡◌, ◌∙◌, ◌/◌, ◌+◌, ◌-◌, inl, inr, ℕ, ℤ, suc, zero, Bool, true, false, ◌&&◌, ◌||◌, List, [], ◌∷◌, ◌++◌, Some, None, Ok, Option, drop, length, map, refl, sym, ap, ap₂, subst, is_eq, take, IsTrue, Ordering, Equal, Greater, Less}
 use Rattle.std.specs.List.{AllByRecursion}
 use Rattle.std.specs.Prelude.{◌≢◌, slice_get}
 use Rattle.std.proofs.lemmas.Cmp.{int_ranked, tied_itself}
@@ -118,23 +118,11 @@ pub steady_fresh : (t : TableName) (rows : List Row) (x : Cells t) → cast_row 
 steady_fresh t rows x = let is = fresh_is t rows x in subst (λ r. cast_row (declared t) r ≡ r) (sym is.1) (steady t (Int is.0) x (cast_int is.0))
 
 fresh_number : (t : TableName) (rows : List Row) (x : Cells t) → IsTrue (is_int (rowid (fresh t rows x)))
-fresh_number table.Desk rows x = refl
-fresh_number table.Field rows x = refl
-fresh_number table.Move rows x = refl
-fresh_number table.Orders rows x = refl
-fresh_number table.Line rows x = refl
-fresh_number table.Kept rows x = refl
-fresh_number table.Firm rows x = refl
+fresh_number t rows x = grind arith
 
 -- it shows the columns of the row
 shown_fresh : (t : TableName) (rows : List Row) (x : Cells t) → stored t (fresh t rows x) ≡ columns t x
-shown_fresh table.Desk rows x = refl
-shown_fresh table.Field rows x = refl
-shown_fresh table.Move rows x = refl
-shown_fresh table.Orders rows x = refl
-shown_fresh table.Line rows x = refl
-shown_fresh table.Kept rows x = refl
-shown_fresh table.Firm rows x = refl
+shown_fresh t rows x = grind arith
 
 -- ---- rows with its key
 
@@ -214,23 +202,11 @@ remade None count key c = key ++ drop count c
 remade (Some place) count key c = Null ∷ drop 1 c
 
 remade_is : (t : TableName) (x : Cells t) → remade (declared t).key (length (declared t).primary) (take (length (declared t).primary) (columns t x)) (columns t x) ≡ kept t x
-remade_is table.Desk x = refl
-remade_is table.Field x = refl
-remade_is table.Move x = refl
-remade_is table.Orders x = refl
-remade_is table.Line x = refl
-remade_is table.Kept x = refl
-remade_is table.Firm x = refl
+remade_is t x = grind arith
 
 -- what the SET list makes of it
 set_is : (t : TableName) (x : Cells t) (new was : Row) → eval_all (col 1 0 ∷ set_terms (declared t)) ((columns t x ++ rowid was ∷ shown_new (declared t) new) ∷ was ∷ []) ≡ rowid was ∷ remade (declared t).key (length (declared t).primary) (take (length (declared t).primary) (stored t was)) (columns t x)
-set_is table.Desk x new was = refl
-set_is table.Field x new was = refl
-set_is table.Move x new was = refl
-set_is table.Orders x new was = refl
-set_is table.Line x new was = refl
-set_is table.Kept x new was = refl
-set_is table.Firm x new was = refl
+set_is t x new was = grind arith
 
 again : (t : TableName) (x : Cells t) (was : Row) → take (length (declared t).primary) (stored t was) ≡ take (length (declared t).primary) (columns t x) → stored t (rowid was ∷ kept t x) ≡ columns t x
 again table.Desk x was e = ap (λ (k : Row). column k 0 ∷ drop 1 (columns table.Desk x)) e
@@ -252,13 +228,7 @@ record Facts (t : TableName) : Type 0 where
   placed : (x : Cells t) (v : Value) (more : Row) → column (columns t x ++ v ∷ more) (length (declared t).columns) ≡ v
 
 facts : (t : TableName) → Facts t
-facts table.Desk = record { at = refl; uncounted = refl; idle = λ mode gone news. refl; low = λ trees. refl; reads = λ x. refl; placed = λ x v more. refl }
-facts table.Field = record { at = refl; uncounted = refl; idle = λ mode gone news. refl; low = λ trees. refl; reads = λ x. refl; placed = λ x v more. refl }
-facts table.Move = record { at = refl; uncounted = refl; idle = λ mode gone news. refl; low = λ trees. refl; reads = λ x. refl; placed = λ x v more. refl }
-facts table.Orders = record { at = refl; uncounted = refl; idle = λ mode gone news. refl; low = λ trees. refl; reads = λ x. refl; placed = λ x v more. refl }
-facts table.Line = record { at = refl; uncounted = refl; idle = λ mode gone news. refl; low = λ trees. refl; reads = λ x. refl; placed = λ x v more. refl }
-facts table.Kept = record { at = refl; uncounted = refl; idle = λ mode gone news. refl; low = λ trees. refl; reads = λ x. refl; placed = λ x v more. refl }
-facts table.Firm = record { at = refl; uncounted = refl; idle = λ mode gone news. refl; low = λ trees. refl; reads = λ x. refl; placed = λ x v more. refl }
+facts t = record { at = grind arith; uncounted = grind arith; idle = λ mode gone news. grind arith; low = λ trees. grind arith; reads = λ x. grind arith; placed = λ x v more. grind arith }
 
 -- rows among which it is stay as they are where it is put in
 module _ {X : Type 0} (cmp : X → X → Ordering) (total : IsTotalOrder cmp) (x : X) where

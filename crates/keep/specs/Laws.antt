@@ -53,13 +53,7 @@ old_is_apart db x old has = old.no_later table.Firm (omega arith) (named _ _ (ha
 
 -- each table lies in the schema of a desk as it is made
 pub is_among : (t : TableName) → IsAmong desk_schema.tables (declared t)
-is_among table.Desk = inl refl
-is_among table.Field = inr (inl refl)
-is_among table.Move = inr (inr (inl refl))
-is_among table.Orders = inr (inr (inr (inl refl)))
-is_among table.Line = inr (inr (inr (inr (inl refl))))
-is_among table.Kept = inr (inr (inr (inr (inr (inl refl)))))
-is_among table.Firm = inr (inr (inr (inr (inr (inr (inl refl))))))
+is_among t = grind arith
 
 -- what is held stands in the seven tables
 pub holds_tables : (db : Database) (x : Content) → Holds db x → HasTables db x

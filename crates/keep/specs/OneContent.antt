@@ -135,13 +135,7 @@ same_content x y same = λ i. record {
 
 -- each table is there now
 pub is_now : (t : TableName) → since t ≤ 2
-is_now table.Desk = omega arith
-is_now table.Field = omega arith
-is_now table.Move = omega arith
-is_now table.Orders = omega arith
-is_now table.Line = omega arith
-is_now table.Kept = omega arith
-is_now table.Firm = omega arith
+is_now t = grind arith
 
 -- trees have one content
 pub only_content : (trees : Trees) (x y : Content) → IsContent trees x → IsContent trees y → y ≡ x

@@ -1,5 +1,5 @@
 -- The tables are made one after the other.
-use Rattle.std.specs.Prelude.{◌≡◌, ◌++◌, ℕ, List, [], ◌∷◌}
+use Rattle.std.specs.Prelude.{◌≡◌, ◌⊎◌, ◌++◌, ℕ, List, [], ◌∷◌}
 use Rattle.std.specs.List.{AllByRecursion}
 use Rattle.sqlite.specs.Change.{KeepsRows}
 use Rattle.sqlite.specs.Effect.{Database}
@@ -9,9 +9,10 @@ use Rattle.sqlite_trees.specs.Objects.{catalog_tree}
 use Rattle.keep.specs.Description.{before, declared, schema_with}
 use Rattle.keep.specs.declared.description.TableName.{TableName}
 
--- the tables of this schema are there, and have no rows
+-- the tables of this schema are there and listed, if there are any, and have no rows
 pub record IsBare (schema : Schema) (db : Database) : Type 0 where
   pub schema_is : db.schema ≡ schema
+  pub lists : (schema.tables ≡ []) ⊎ Lists (db.trees catalog_tree) schema
   pub no_rows : AllByRecursion (λ t. db.trees t.tree ≡ []) schema.tables
 
 -- the table is declared, it has no rows, and those before it have theirs

@@ -4,8 +4,8 @@ ghost use Rattle.std.specs.Prelude.{◌≡◌, ◌⊎◌, false, [], ◌∷◌, 
 ghost use Rattle.sqlite.specs.Held.{state};
 ghost use Rattle.sqlite.specs.State.{HasCleanDisk, Survives};
 ghost use Rattle.sqlite_trees.specs.Tree.{Trees};
-ghost use Rattle.book.specs.Rows.{Content};
-ghost use Rattle.keep.specs.Content.{Holds, IsContent, LeavesOnly, new_content};
+ghost use Rattle.book.specs.Tables.{desk_cells};
+ghost use Rattle.keep.specs.Content.{Holds, IsContent, LeavesOnly, new_content, new_row};
 ghost use Rattle.keep.specs.Schema.{no_schema};
 ghost use Rattle.keep.specs.Description.{before, desk_schema, schema_with};
 ghost use Rattle.keep.specs.Stages.{AddsTable, IsBare};
@@ -15,8 +15,9 @@ use crate::description::{TableName, create_text};
 use crate::keep::{KeepFault, fault_of};
 use crate::schema::is_empty;
 use crate::sql::SqlKeep;
+use crate::table::Table;
 use crate::tables::desk::VERSION;
-use sqlite::types::ValueRef;
+use book::DeskRow;
 use sqlite::{Alter, Connection, Error, Transaction};
 
 /// Makes the table, beside those before it.
@@ -37,6 +38,18 @@ pub(crate) fn create_table<S: Alter>(
     tx.execute(create_text(table), &[])
 }
 
+/// The row of a new desk.
+fn new_row() -> DeskRow
+    ensures { desk_cells result ≡ new_row }
+{
+    DeskRow {
+        one: 1,
+        version: VERSION,
+        clock: 0,
+        places: 0,
+    }
+}
+
 /// Puts the one row of `desk` in.
 fn start<S: Alter>(tx: &mut Transaction<'_, S>) -> Result<usize, Error>
     ensures same_reference { tx.new.conn.ghost_name ≡ tx.old.conn.ghost_name }
@@ -46,15 +59,7 @@ fn start<S: Alter>(tx: &mut Transaction<'_, S>) -> Result<usize, Error>
         (state S.Store tx.new.conn.now)) }
     ensures survives { Survives (state S.Store tx.old.conn.now) (state S.Store tx.new.conn.now) (λ _. ⊥) }
 {
-    tx.execute(
-        "INSERT INTO desk (one, version, clock, places) VALUES (?1, ?2, ?3, ?4)",
-        &[
-            ValueRef::Int(1),
-            ValueRef::Int(VERSION),
-            ValueRef::Int(0),
-            ValueRef::Int(0),
-        ],
-    )
+    new_row().upsert(tx)
 }
 
 /// Makes the seven tables, in the order of the schema.

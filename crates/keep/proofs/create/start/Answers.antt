@@ -4,4 +4,4 @@ use Rattle.keep.proofs.create.start.Goals as goal
 
 pub returns-clause-made : goal.returns-clause-made
 returns-clause-made g c clean begun bare =
-    started (state g.S.Store c.args.tx.now.conn.now) (state g.S.Store c.execute.new.self.conn.now) c.execute.result bare (c.execute.ensures.runs clean begun)
+    started (state g.S.Store c.args.tx.now.conn.now) (state g.S.Store c.upsert.new.tx.conn.now) c.new_row.result c.upsert.result c.new_row.ensures bare (c.upsert.ensures.put clean begun)
