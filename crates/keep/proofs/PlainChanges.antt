@@ -12,7 +12,7 @@ use Rattle.keep.specs.Content.{IsTheRow, new_content}
 use Rattle.keep.specs.KeyOrders.{key_cmp_total}
 use Rattle.keep.specs.declared.description.TableName.TheVariants as table
 use Rattle.keep.specs.Plain.{IsCopy, IsInOrder, row_of, shelf_content}
-use Rattle.keep.specs.declared.plain.shelf.Shelf.{Shelf}
+use Rattle.keep.specs.declared.trials.plain.shelf.Shelf.{Shelf}
 use Rattle.keep.proofs.PlainRows.{put_sorted}
 
 -- copies have the same rows

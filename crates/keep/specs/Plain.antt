@@ -5,7 +5,7 @@ use Rattle.book.specs.Rows.{Content, IsInKeyOrder}
 use Rattle.book.specs.Tables.{desk_cells, field_cells, firm_cells, kept_cells, line_cells, move_cells, no_content, order_cells, with_change}
 use Rattle.keep.specs.Content.{IsTheRow}
 use Rattle.keep.specs.Transactions.{with_changes}
-use Rattle.keep.specs.declared.plain.shelf.Shelf.{Shelf}
+use Rattle.keep.specs.declared.trials.plain.shelf.Shelf.{Shelf}
 
 -- what the lists hold
 abbrev pub shelf_content : Shelf → Content

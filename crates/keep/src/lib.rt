@@ -6,18 +6,18 @@ mod commit;
 mod create;
 mod description;
 mod keep;
-mod laws;
 mod load;
-mod plain;
-mod reopening;
+mod opening;
 mod schema;
 mod sql;
 mod table;
 mod tables;
+mod trials;
 mod upgrade;
 
 pub use keep::{Keep, KeepFault};
-pub use laws::{a_fuse_tells_no_lie, keepers_in_memory_are_honest};
-pub use plain::PlainKeep;
-pub use reopening::{Recover, open_path, reopen, reopen_and_load};
+pub use opening::open_path;
 pub use sql::SqlKeep;
+pub use trials::{
+    PlainKeep, Recover, a_fuse_tells_no_lie, keepers_in_memory_are_honest, reopen, reopen_and_load,
+};
