@@ -12,7 +12,7 @@ use Rattle.keep.specs.declared.description.TableName.TheVariants as table
 use Rattle.keep.specs.Content.{HasTables, IsAmong, Stores}
 use Rattle.keep.specs.Laws.{named}
 use Rattle.keep.specs.Names.{HasNames}
-use Rattle.keep.specs.Old.{IsOld}
+use Rattle.keep.specs.Old.{HoldsOld, IsOld}
 
 -- what holds of each holds of one of them
 pub of_each : {X : Type 0} (P : X → Type 0) (xs : List X) (x : X) → AllByRecursion P xs → IsAmong xs x → P x
@@ -113,3 +113,8 @@ is_old db row is are version = record {
   tables = λ t early. ((declared t).tree, subst (λ (s : Schema). IsAmong s.tables (declared t)) (sym is) (in_old_schema t early), tt);
   no_later = λ t later named. none_later t later (subst (λ (s : Schema). Any (λ u. u.name ≡ (declared t).name) s.tables) is named);
 }
+
+-- what holds a content of version 1 with one row of `desk` of that version is of it
+pub is_of_version_1 : (db : Database) (x : Content) (row : DeskCells) → HoldsOld db x → x.desk ≡ row ∷ [] → row.version ≡ pos 1 → IsOld db
+is_of_version_1 db x row held one version =
+    is_old db row held.schema_is (subst (Stores table.Desk (db.trees desk_table.tree)) one (held.content.rows table.Desk (omega arith))) version

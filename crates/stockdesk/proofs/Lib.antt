@@ -2,5 +2,4 @@ mod SessionParts
 mod Connections
 mod WorkParts
 mod PlainRun
-mod Versions
 mod NextSession

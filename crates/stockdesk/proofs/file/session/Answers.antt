@@ -2,7 +2,7 @@ use Rattle.std.proofs.lemmas.Result.{on_ok_weaker}
 use Rattle.desk.proofs.Cuts.{of_error}
 use Rattle.keep.specs.Laws.{holds_tables}
 use Rattle.stockdesk.proofs.SessionParts.{starts_part, starts_whole}
-use Rattle.stockdesk.proofs.Versions.{is_of_version_1}
+use Rattle.keep.proofs.Schemas.{is_of_version_1}
 use Rattle.stockdesk.proofs.file.session.Goals as goal
 
 pub returns-clause-whole : goal.returns-clause-whole

@@ -5,7 +5,7 @@ use Rattle.sqlite_trees.specs.Tree.{Trees}
 use Rattle.keep.specs.Content.{Holds}
 use Rattle.keep.specs.Laws.{holds_tables, old_is_apart}
 use Rattle.keep.specs.Old.{HoldsOld, IsOldContent}
-use Rattle.stockdesk.proofs.Versions.{is_of_version_1}
+use Rattle.keep.proofs.Schemas.{is_of_version_1}
 use Rattle.stockdesk.proofs.file.upgrade.Goals as goal
 
 pub returns-clause-made : goal.returns-clause-made
