@@ -1,5 +1,5 @@
 -- An order, changed in a copy and put in by its number.
-use Rattle.book.proofs.Prelude.{[], ◌+ℤ◌, ◌+◌, ◌-◌, ◌<◌, ◌==◌, ◌∙◌, ◌∷◌, ◌≡◌, ◌≤◌, Bool, Changes, Each, Effect, Good, IsGoodLine, IsGoodOrder, IsStrictlySortedBy, Ledger, Line, List, MayChangeOrder, None, OpenLine, Option, Order, OrderEntry, Request, Some, accept, add_hold, ap, arith, changed_line, changed_order, common_steps, effect, false, find, if◌then◌else◌, insert_entry, is_some, map, nat_cmp, number_cmp, numbered, option_map, order_of, orders_after, pos, put_row, refl, subst, sym, total, true, true≢false, vec_capacity, vec_len, ℕ, ℤ, IsSome, Ordering, inl, inr, is_at, lookup, length, ◌⊎◌, is_eq, cond, match_ordering, Less, Equal, Greater}
+use Rattle.book.proofs.Prelude.{[], ◌+ℤ◌, ◌+◌, ◌-◌, ◌==◌, ◌∙◌, ◌∷◌, ◌≡◌, ◌≤◌, Bool, Changes, Each, Effect, Good, IsGoodLine, IsGoodOrder, IsStrictlySortedBy, Ledger, Line, List, MayChangeOrder, None, OpenLine, Option, Order, OrderEntry, Request, Some, accept, add_hold, ap, arith, changed_line, changed_order, common_steps, effect, false, find, if◌then◌else◌, insert_entry, is_some, map, nat_cmp, number_cmp, numbered, option_map, order_of, orders_after, pos, put_row, refl, subst, sym, total, true, true≢false, vec_capacity, vec_len, ℕ, ℤ, IsSome, Ordering, inl, inr, is_at, lookup, is_eq, cond, match_ordering, Less, Equal, Greater}
 use Rattle.book.proofs.Lists.{each-unmap, found_passes, none_after}
 use Rattle.book.proofs.Sums.{each-imp, total-eq, total-map}
 use Rattle.book.specs.inner.StepsSeen.{MayBePut}

@@ -1,5 +1,5 @@
 -- The rows of the fields that a request makes or changes, for each kind of command.
-use Rattle.book.proofs.Prelude.{[], ◌&&◌, ◌++◌, ◌≤◌, append-nil, nat_cmp, no_share, share_of, ◌+ℤ◌, ◌+◌, ◌==◌, ◌||◌, ◌∙◌, ◌∷◌, ◌≡◌, Accepts, Add, AsksNoStock, Bool, Changes, Command, Counts, CountsAll, Each, Effect, Err, Field, FieldCells, FieldEntry, FirstFailure, Good, HasEntry, IfOk, IsChangedField, IsFalse, IsNone, IsSomeAnd, IsStrictlySortedBy, IsTrue, IsUpToDate, Kind, Ledger, Line, List, Name, None, Ok, OpenLine, Opens, Option, Order, Plain, Request, Result, ShareStep, Some, Step, Stock, Take, Transfer, Way, accept, add_hold, add_part, added_on, ap, arith, changes_field, changes_stock, checks, common_steps, effect, entry_row, false, field_named, field_of, field_row, field_rows, find, flat_map, held_to_add, held_to_take, hold_more, holding, if_add, if_take, if◌then◌else◌, ints, is_lt, is_open, is_some, keys_of, line_name, line_on, line_steps, lines_of, list_any, map, moved_at_once, moved_by_command, name_cmp, name_of, new_line, new_order, new_share, next, numbered, on, option_map, option_map_or, order_numbered, own_field, pos, raise_held, refl, same_name, settled, settled_part, share_step, share_steps, shares_of_step, signed, steps, steps_of, subst, sym, take_part, transfer_lines, true, true≢false, ℕ, ℤ, Nothing}
+use Rattle.book.proofs.Prelude.{[], ◌&&◌, ◌++◌, ◌≤◌, append-nil, nat_cmp, no_share, share_of, ◌+ℤ◌, ◌+◌, ◌==◌, ◌||◌, ◌∙◌, ◌∷◌, ◌≡◌, Accepts, Add, AsksNoStock, Bool, Changes, Command, Counts, CountsAll, Each, Effect, Err, Field, FieldCells, FieldEntry, FirstFailure, Good, HasEntry, IfOk, IsChangedField, IsFalse, IsNone, IsSomeAnd, IsStrictlySortedBy, IsTrue, IsUpToDate, Kind, Ledger, Line, List, Name, None, Ok, OpenLine, Opens, Option, Order, Plain, Request, Result, ShareStep, Some, Step, Stock, Take, Transfer, Way, accept, add_hold, add_part, added_on, ap, arith, changes_field, changes_stock, checks, common_steps, effect, entry_row, false, field_named, field_of, field_row, field_rows, find, flat_map, held_to_add, held_to_take, hold_more, holding, if_add, if_take, if◌then◌else◌, ints, is_lt, is_open, is_some, keys_of, line_name, line_on, line_steps, lines_of, list_any, map, moved_at_once, moved_by_command, name_cmp, name_of, new_line, new_order, new_share, next, numbered, on, option_map, option_map_or, order_numbered, own_field, pos, raise_held, refl, same_name, settled, settled_part, share_step, share_steps, shares_of_step, signed, steps, steps_of, subst, sym, take_part, transfer_lines, true, ℕ, ℤ}
 use Rattle.words.specs.declared.command.Command.TheVariants as command
 use Rattle.book.specs.inner.Checking.{IsFound}
 use Rattle.book.specs.Next.{with_bounds}
@@ -8,7 +8,7 @@ use Rattle.index.specs.declared.in_order.InOrder.{InOrder}
 use Rattle.words.specs.declared.reply.Memory.{Memory}
 use Rattle.book.proofs.OutcomeTests.{none_found, same_self}
 use Rattle.book.proofs.ChangedFields.{all_rows, put_self, self_eq}
-use Rattle.book.proofs.Lists.{find-new, none_after, some_is}
+use Rattle.book.proofs.Lists.{find-new, none_after}
 use Rattle.book.proofs.Futures.{all_pass, name_is}
 use Rattle.book.proofs.Safety.{none_if_not_some, bounding, found_bounded, takes_more}
 use Rattle.book.proofs.Comparisons.{more_sums}

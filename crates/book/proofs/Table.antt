@@ -1,5 +1,5 @@
 -- The rows that each command changes, told from the steps that it makes.
-use Rattle.book.proofs.Prelude.{[], ◌&&◌, ◌++◌, ◌+◌, ◌-◌, ◌==◌, ◌||◌, ◌∙◌, ◌∷◌, ◌≡◌, ◌≤◌, ◌<◌, Aborted, Bool, Changes, Command, Committed, Content, Each, FirstFailure, Good, IsFalse, IsInRange, IsNone, IsSomeAnd, IsTrue, Ledger, Line, LineCells, List, Move, Name, None, Nothing, OpenLine, Opens, Option, Order, Request, Some, State, Step, add_hold, amount_row, amount_rows, ap, append-nil, arith, becomes_firm, change_lines, changed_rows, changes_field, changes_held, changes_line, changes_state, changes_stock, checks, effect, expires, false, filter, firm_row, flat_map, hold_more, if◌then◌else◌, is_open, is_some, is_transfer, kept_row, line_name, line_on, line_row, line_steps, lines_from, lines_of, list_any, lower_held, map, mark_row, move_made, move_row, moves_after, name_of, new_key, new_line, not, numbered, on, open_state, option_map_or, order_lines, order_numbered, order_row, own_field, places, raise_held, raise_used, refl, same_name, set_firm, set_state, state_row, steps, steps_of, subst, sym, true, ℕ}
+use Rattle.book.proofs.Prelude.{[], ◌&&◌, ◌++◌, ◌+◌, ◌-◌, ◌==◌, ◌||◌, ◌∙◌, ◌∷◌, ◌≡◌, ◌≤◌, ◌<◌, Aborted, Bool, Changes, Command, Committed, Content, Each, FirstFailure, Good, IsFalse, IsInRange, IsNone, IsSomeAnd, IsTrue, Ledger, Line, LineCells, List, Move, Name, None, Nothing, OpenLine, Opens, Option, Order, Request, Some, State, Step, add_hold, amount_row, amount_rows, ap, append-nil, arith, becomes_firm, change_lines, changed_rows, changes_field, changes_held, changes_line, changes_state, changes_stock, checks, effect, expires, false, filter, firm_row, flat_map, hold_more, if◌then◌else◌, is_open, is_some, is_transfer, kept_row, line_name, line_on, line_row, line_steps, lines_from, lines_of, list_any, lower_held, map, mark_row, move_made, move_row, moves_after, name_of, new_key, new_line, not, numbered, on, open_state, option_map_or, order_numbered, order_row, own_field, places, raise_held, raise_used, refl, same_name, set_firm, set_state, state_row, steps, steps_of, subst, sym, true, ℕ}
 use Rattle.words.specs.declared.command.Command.TheVariants as command
 use Rattle.book.specs.Rows.{MoveCells}
 use Rattle.book.specs.RowsByCommand.{TableRows, has_line_on, has_part_on, no_rows, of_order, opened_rows, part_rows, rows_by_command, rows_told}

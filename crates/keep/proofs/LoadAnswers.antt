@@ -1,5 +1,5 @@
 -- Answers that were read are the rows that the tree holds.
-use Rattle.std.proofs.Common.{arith, ◌≡◌, List, [], ◌∷◌, ℕ, IsTrue, Ordering, ap₂, map, refl, subst, IsPermutation}
+use Rattle.std.proofs.Common.{arith, ◌≡◌, List, [], ◌∷◌, IsTrue, ap₂, map, refl, subst, IsPermutation}
 use Rattle.std.specs.List.{AllZip, AllByRecursion}
 use Rattle.std.specs.List.Sorted.{IsStrictlySortedBy}
 use Rattle.std.proofs.lemmas.List.Sorted.{IsPermutation-map, IsPermutation-sym, All-permutation}
@@ -12,7 +12,6 @@ use Rattle.keep.specs.Content.{Stores}
 use Rattle.keep.specs.Description.{Cells, columns, key_cmp, rowid_at, selected, shown, stored}
 use Rattle.keep.specs.Loads.{IsShown}
 use Rattle.keep.specs.declared.description.TableName.{TableName}
-use Rattle.keep.specs.declared.description.TableName.TheVariants as table
 
 -- an answer shows what is stored
 shows : (t : TableName) (r : Row) → shown t (selected t r) ≡ stored t r

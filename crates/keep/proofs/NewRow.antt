@@ -1,7 +1,6 @@
 -- A new desk: tables that have no rows, and the row of `desk`.
-use Rattle.std.proofs.Common.{◌≡◌, arith, false, List, [], ◌∷◌, Ok, Err, Result, ap, inl, inr, map, refl, subst, sym, true≢false, ℕ}
+use Rattle.std.proofs.Common.{◌≡◌, arith, List, [], ◌∷◌, Ok, Err, Result, ap, inl, inr, map, refl, subst, sym, ℕ}
 use Rattle.std.specs.Prelude.{OnOk, ◌⊎◌}
-use Rattle.std.specs.List.{AllByRecursion}
 use Rattle.std.specs.List.Sorted.{IsStrictlySortedBy}
 use Rattle.sqlite.specs.Effect.{Database}
 use Rattle.sqlite.specs.Order.{Row}
@@ -14,11 +13,11 @@ use Rattle.book.specs.Tables.{desk_cells, no_content}
 use Rattle.book.specs.declared.rows.Change.TheVariants as change
 use Rattle.book.specs.declared.rows.DeskRow.{DeskRow}
 use Rattle.keep.specs.Content.{HaveNumbers, Holds, Stores, new_content, new_row}
-use Rattle.keep.specs.Description.{columns, declared, desk_schema, key_cmp, rows_of, stored}
+use Rattle.keep.specs.Description.{declared, desk_schema, rows_of, stored}
 use Rattle.keep.specs.Laws.{is_among}
 use Rattle.keep.specs.OneContent.{is_now}
 use Rattle.keep.specs.Stages.{IsBare}
-use Rattle.keep.specs.Transactions.{Makes, PutsIn, with_changes}
+use Rattle.keep.specs.Transactions.{Makes, PutsIn}
 use Rattle.keep.specs.declared.description.TableName.{TableName}
 use Rattle.keep.specs.declared.description.TableName.TheVariants as table
 use Rattle.keep.proofs.Schemas.{of_each}

@@ -1,6 +1,6 @@
 -- What the statements that make a new desk do.
-use Rattle.std.proofs.Common.{arith, refl, ◌≡◌, ◌⊎◌, inl, inr, ℕ, false, List, [], ◌∷◌, ◌++◌, Ok, Err, Result, None, sym, ap, subst, ◌∙◌}
-use Rattle.std.specs.Prelude.{OnOk, map}
+use Rattle.std.proofs.Common.{arith, ◌≡◌, ◌⊎◌, inl, inr, ℕ, false, List, [], ◌∷◌, ◌++◌, Ok, Err, Result, None, sym, ap, subst, ◌∙◌}
+use Rattle.std.specs.Prelude.{OnOk}
 use Rattle.std.proofs.lemmas.List.{map-append}
 use Rattle.std.specs.List.{AllByRecursion}
 use Rattle.sqlite.specs.Change.{next_tree, created, KeepsRows}
@@ -19,7 +19,6 @@ use Rattle.keep.specs.Description.{before, declared, schema_with}
 use Rattle.keep.specs.Stages.{AddsTable, IsBare}
 use Rattle.keep.specs.Statements.{MakesTable}
 use Rattle.keep.specs.declared.description.TableName.{TableName}
-use Rattle.keep.specs.declared.description.TableName.TheVariants as table
 use Rattle.keep.specs.Transactions.{Makes}
 
 pub went : {B E R : Type 0} {b : B} {Stops : E → Type 0} → ((stop : E) × Stops stop × (Ok b ≡ Err stop)) ⊎ R → R

@@ -1,7 +1,6 @@
 -- What the upserts do to the content: the table of the row has it, and the others are as they were.
-use Rattle.std.proofs.Common.{◌≡◌, ◌∙◌, inl, inr, ℕ, Ok, Err, Result, refl, sym, ap, subst, arith, List, ◌∷◌, ◌++◌, [], IsTrue}
+use Rattle.std.proofs.Common.{◌≡◌, ◌∙◌, ℕ, Ok, Err, Result, refl, sym, ap, subst, arith, List, ◌∷◌, ◌++◌, [], IsTrue}
 use Rattle.std.specs.Prelude.{OnOk, ◌≢◌}
-use Rattle.std.specs.List.{AllByRecursion}
 use Rattle.sqlite.specs.declared.error.Error.{Error}
 use Rattle.sqlite.specs.Order.{Row}
 use Rattle.sqlite.specs.State.{State, Executes, ExecutesInside}
@@ -9,14 +8,12 @@ use Rattle.book.specs.declared.rows.Change.{Change}
 use Rattle.book.specs.declared.rows.Change.TheVariants as change
 use Rattle.book.specs.Rows.{Content}
 use Rattle.sqlite.specs.Effect.{Database}
-use Rattle.sqlite_trees.specs.Objects.{catalog_tree}
-use Rattle.sqlite_catalog.specs.Listing.{Lists}
 use Rattle.book.specs.Tables.{desk_cells, field_cells, move_cells, order_cells, line_cells, kept_cells, firm_cells}
 use Rattle.keep.specs.Description.{Cells, columns, declared, desk_schema, rows_of}
 use Rattle.keep.specs.Statements.{PutsRow}
 use Rattle.keep.specs.declared.description.TableName.{TableName}
 use Rattle.keep.specs.declared.description.TableName.TheVariants as table
-use Rattle.keep.specs.Content.{Holds, IsAmong, Stores}
+use Rattle.keep.specs.Content.{Holds, Stores}
 use Rattle.keep.specs.Laws.{is_among}
 use Rattle.keep.specs.OneContent.{is_now}
 use Rattle.keep.specs.Transactions.{PutsIn, with_changes}

@@ -20,7 +20,6 @@ use Rattle.sqlite.specs.Schema.{Schema}
 use Rattle.keep.specs.Description.{declared, desk_schema, old_schema, selected, since}
 use Rattle.keep.specs.Statements.{ListsTable, listing, project}
 use Rattle.keep.specs.declared.description.TableName.{TableName}
-use Rattle.keep.specs.declared.description.TableName.TheVariants as table
 use Rattle.keep.specs.Loads.{IsSchemaWith}
 
 shown_each : (query : Query) (rows : List Row) → map (λ (p : Output). p.1) (map (output query) (flat_map (λ r. ([] ∷ r ∷ []) ∷ []) rows)) ≡ map (λ r. eval_all query.project ([] ∷ r ∷ [])) rows

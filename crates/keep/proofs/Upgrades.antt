@@ -1,16 +1,14 @@
 -- What an upgrade does: the table `firm` is made beside the others, and the row of `desk` is put in.
-use Rattle.std.proofs.Common.{◌≡◌, ◌∙◌, ℕ, List, [], ◌∷◌, Ok, Err, Result, IsTrue, ap, arith, inr, pos, map, refl, subst, sym}
-use Rattle.std.specs.Prelude.{OnOk}
+use Rattle.std.proofs.Common.{◌≡◌, ◌∙◌, List, [], ◌∷◌, IsTrue, ap, arith, inr, pos, map, refl, subst, sym}
 use Rattle.std.proofs.lemmas.Cmp.{int_cmp_total, tied_itself}
-use Rattle.sqlite.specs.declared.error.Error.{Error}
 use Rattle.sqlite.specs.Effect.{Database}
-use Rattle.sqlite.specs.State.{State, ExecutesInside, HasCleanDisk, IsUnchanged, Survives}
+use Rattle.sqlite.specs.State.{State, HasCleanDisk, IsUnchanged, Survives}
 use Rattle.sqlite.proofs.StateLemmas.{survives_then}
 use Rattle.sqlite_trees.specs.Tree.{Trees}
 use Rattle.book.specs.declared.rows.Change.TheVariants as change
 use Rattle.book.specs.declared.rows.DeskRow.{DeskRow}
 use Rattle.book.specs.Changes.{put_row}
-use Rattle.book.specs.Rows.{Content, DeskCells, desk_cmp, firm_cmp}
+use Rattle.book.specs.Rows.{Content, DeskCells, desk_cmp}
 use Rattle.book.specs.Tables.{desk_cells}
 use Rattle.keep.specs.Content.{HasTables, Holds, IsContent, IsContentOf, IsDesk, IsOneRow, IsVersion, Stores}
 use Rattle.keep.specs.Loads.{FindsOver, IsSchemaWith}
@@ -18,7 +16,7 @@ use Rattle.keep.specs.Old.{AreUpgraded, HoldsOld, IsOld, IsUpgraded, raised, upg
 use Rattle.keep.specs.OneContent.{is_now, rows_once}
 use Rattle.keep.specs.UpgradeSteps.{AreRaised, Raised, RaisesIn, with_row}
 use Rattle.keep.specs.Schema.{firm_table}
-use Rattle.keep.specs.Description.{columns, declared, desk_schema, old_schema, rows_of, stored}
+use Rattle.keep.specs.Description.{declared, desk_schema, old_schema, rows_of}
 use Rattle.keep.specs.declared.description.TableName.{TableName}
 use Rattle.keep.specs.declared.description.TableName.TheVariants as table
 use Rattle.keep.specs.Transactions.{Makes, PutsIn}

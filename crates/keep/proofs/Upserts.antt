@@ -1,5 +1,5 @@
 -- What the upserts do: the table of the row has it by its key, and the other tables have their rows.
-use Rattle.std.proofs.Common.{arith, ◌≡◌, ◌∙◌, ◌/◌, ◌+◌, ◌-◌, inl, inr, ℕ, ℤ, suc, zero, Bool, true, false, ◌&&◌, ◌||◌, List, [], ◌∷◌, ◌++◌, Some, None, Ok, Option, drop, length, map, refl, sym, ap, ap₂, subst, is_eq, take, IsTrue, Ordering, Equal, Greater, Less}
+use Rattle.std.proofs.Common.{arith, ◌≡◌, ◌∙◌, ◌/◌, ◌+◌, inl, inr, ℕ, ℤ, suc, zero, Bool, true, false, ◌&&◌, ◌||◌, List, [], ◌∷◌, ◌++◌, Some, None, Ok, Option, drop, length, map, refl, sym, ap, ap₂, subst, is_eq, take, IsTrue, Ordering, Equal, Greater, Less}
 use Rattle.std.specs.List.{AllByRecursion}
 use Rattle.std.specs.Prelude.{◌≢◌, slice_get}
 use Rattle.std.proofs.lemmas.Cmp.{int_ranked, tied_itself}
@@ -273,9 +273,9 @@ module _ (t : TableName) (text : List ℕ) (means : PutsRow t text) (old new : S
       let done = upserts old.step_limit (mode_of old) (columns t x) desk_schema (length (before t)) (declared t) f.at f.uncounted (f.idle (mode_of old)) f.low (terms t) (width t) (source t x) (f.reads x) (declared t).primary (length (declared t).columns) (f.placed x) (set_terms (declared t))
       (statement_of text (understood desk_schema text)) old.now has w.tally new.now are.numbers (kept t x) settled
       (λ was there conflict.
-          let same_key = sym (meant t tree x was) ∙ subst (λ r. conflicts (Some (declared t).primary) desk_schema.indexes (declared t) r was ≡ true) in_place conflict in
-          ap (cast_row (declared t)) (set_is t x (with_rowid Chosen tree (cast_row (declared t) (source t x))) was ∙ ap (λ k. rowid was ∷ remade (declared t).key (length (declared t).primary) k (columns t x)) (has_key t tree x xs are was there same_key) ∙ ap (λ c. rowid was ∷ c) (remade_is t x))
-          ∙ steady t (rowid was) x (subst (λ v. cast Integer v ≡ v) (sym (number_is t tree x xs are was there same_key)) (cast_int (id_in (rowid was)))))
+      let same_key = sym (meant t tree x was) ∙ subst (λ r. conflicts (Some (declared t).primary) desk_schema.indexes (declared t) r was ≡ true) in_place conflict in
+      ap (cast_row (declared t)) (set_is t x (with_rowid Chosen tree (cast_row (declared t) (source t x))) was ∙ ap (λ k. rowid was ∷ remade (declared t).key (length (declared t).primary) k (columns t x)) (has_key t tree x xs are was there same_key) ∙ ap (λ c. rowid was ∷ c) (remade_is t x))
+      ∙ steady t (rowid was) x (subst (λ v. cast Integer v ≡ v) (sym (number_is t tree x xs are was there same_key)) (cast_int (id_in (rowid was)))))
       (subst (λ c. Does old.step_limit (mode_of old) (columns t x) old.now (statement_of text (understood desk_schema text)) None c (Ok (w.tally, new.now))) is w.changed) in
       let put : Upserted desk_schema (declared t) (declared t).primary (fresh t tree x) trees new.now.trees (kept t x) = subst (λ r. Upserted desk_schema (declared t) (declared t).primary r trees new.now.trees (kept t x)) in_place done.1 in
       record {

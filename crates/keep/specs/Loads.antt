@@ -6,7 +6,7 @@ use Rattle.sqlite.specs.State.{State, HasCleanDisk, IsUnchanged}
 use Rattle.sqlite_trees.specs.Tree.{Trees}
 use Rattle.sqlite_trees.specs.View.{is_int}
 use Rattle.book.specs.Rows.{DeskCells}
-use Rattle.keep.specs.Description.{Cells, columns, declared, desk_schema, old_schema, rowid_at, shown, since}
+use Rattle.keep.specs.Description.{Cells, columns, desk_schema, old_schema, rowid_at, shown, since}
 use Rattle.keep.specs.Content.{IsVersion}
 use Rattle.keep.specs.declared.description.TableName.{TableName}
 use Rattle.keep.specs.declared.description.TableName.TheVariants as table

@@ -1,5 +1,5 @@
 -- What the texts of a table's statements mean. SQLite's reading of a text over a schema is computed.
-use Rattle.std.specs.Prelude.{◌≡◌, ◌+◌, ◌-◌, ◌++◌, ℕ, List, [], ◌∷◌, Bool, false, Option, None, Some, Ok, codes, drop, length, map, negsuc, pos}
+use Rattle.std.specs.Prelude.{◌≡◌, ◌+◌, ◌-◌, ◌++◌, ℕ, List, [], ◌∷◌, false, Option, None, Some, Ok, codes, length, map, negsuc, pos}
 use Rattle.std.specs.List.{range_with_len}
 use Rattle.sqlite.specs.Change.{created}
 use Rattle.sqlite.specs.Command.{Command}

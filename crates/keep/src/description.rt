@@ -227,8 +227,6 @@ pub(crate) fn columns_of(table: TableName) -> &'static [(&'static str, Kind)]
             ("place", Kind::Integer),
             ("words", Kind::Text),
         ],
-        TableName::Firm => &[
-            ("number", Kind::Integer),
-        ],
+        TableName::Firm => &[("number", Kind::Integer)],
     }
 }

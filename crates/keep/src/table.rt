@@ -62,10 +62,7 @@ pub(crate) trait Table: Sized + Drop {
 }
 
 /// All rows of the table, by its key, with the rowid of each last where that is not the key.
-fn select<R: Table, S: Alter>(
-    alloc: Global,
-    conn: &mut Connection<S>,
-) -> Result<Vec<Row>, Error>
+fn select<R: Table, S: Alter>(alloc: Global, conn: &mut Connection<S>) -> Result<Vec<Row>, Error>
     ensures mode { conn.old.in_transaction ≡ false → conn.new.in_transaction ≡ false }
     ensures rows { HasCleanDisk (state S.Store conn.new) → (state S.Store conn.old).now.schema ≡ desk_schema
         → IfOk result (λ rows. IsPermutation (map (selected R.which) ((state S.Store conn.old).now.trees

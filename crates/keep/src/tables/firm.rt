@@ -31,10 +31,7 @@ impl Table for FirmRow {
     }
 
     fn upsert<S: Alter>(&self, tx: &mut Transaction<'_, S>) -> Result<usize, Error> {
-        tx.execute(
-            upsert_text(TableName::Firm),
-            params![self.number],
-        )
+        tx.execute(upsert_text(TableName::Firm), params![self.number])
     }
 
     fn read(row: &Row) -> Result<Self, Error> {

@@ -1,4 +1,4 @@
-use Rattle.book.proofs.Prelude.{◌∙◌, List, OrderEntry, ap, arith, insert_entry, map, nat_cmp, number_cmp, order_of, put_rows, subst, sym, ℕ}
+use Rattle.book.proofs.Prelude.{◌∙◌, List, OrderEntry, ap, arith, map, number_cmp, order_of, put_rows, subst, sym, ℕ}
 use Rattle.book.specs.inner.StepsSeen.{MayBePut}
 use Rattle.book.proofs.CommandOrder.{put_viewed, rest_may, room_if_new}
 use Rattle.book.proofs.book.adopt_orders.Goals as goal

@@ -1,9 +1,9 @@
-use Rattle.std.proofs.Common.{◌↔◌, ◌≤◌, IsTrue, arith, of_calls, rules, subst}
+use Rattle.std.proofs.Common.{◌↔◌, IsTrue, arith, of_calls, rules, subst}
 use Rattle.std.proofs.lemmas.Iterator.{YieldsList-from_slice, cases_from_all}
 use Rattle.std.specs.List.{AllByRecursion as Each}
 use Rattle.sqlite.specs.Schema.{Schema}
 use Rattle.book.proofs.Lists.{tested}
-use Rattle.keep.specs.Description.{declared, since, tables_of}
+use Rattle.keep.specs.Description.{declared, tables_of}
 use Rattle.keep.specs.Names.{HasNames, HasTableNamed}
 use Rattle.keep.specs.declared.description.TableName.{TableName}
 use Rattle.keep.specs.declared.description.TableName.TheVariants as table
