@@ -73,7 +73,7 @@ pub(crate) fn select_text(table: TableName) -> &'static str
     }
 }
 
-/// Puts a row in by its key. A row that has the key gets the other columns; where there is none, it is left.
+/// Puts a row in by its key. A row that has the key gets the other columns, and stays where the key is all.
 pub(crate) fn upsert_text(table: TableName) -> &'static str
     ensures { PutsRow table result.now }
 {

@@ -1,5 +1,4 @@
-//! What the tables of many rows have in common: the order and the copies of rows, the statements, and how all rows are
-//! read.
+//! What the tables have in common: the order and the copies of rows, how one is put in, and how all are read.
 
 ghost use Rattle.std.specs.Prelude.{◌≡◌, ◌↔◌, [], ◌∷◌, false, map, IfOk, IsPermutation, IsTrue, OnOk};
 ghost use Rattle.std.specs.List.{AllZip};
@@ -16,7 +15,7 @@ use sqlite::{Alter, Connection, Error, ErrorCode, Row, Transaction};
 use std::alloc::{AllocError, Global};
 use std::cmp::Ordering;
 
-/// A row of such a table, and the table.
+/// A row, and its table.
 pub(crate) trait Table: Sized + Drop {
     ghost use Rattle.std.specs.Prelude.{◌≡◌, [], ◌∷◌, IfOk, IsTrue, OnOk};
     ghost use Rattle.sqlite.specs.Held.{state};

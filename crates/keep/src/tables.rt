@@ -1,4 +1,4 @@
-//! The seven tables, a file a table: its rows, and its statements, of which one puts a row in and one reads all.
+//! The seven tables, a file a table: how its rows are ordered, copied, put in and read.
 
 pub(crate) mod desk;
 pub(crate) mod field;
