@@ -33,7 +33,10 @@ pub trait Keep {
     ghost use Rattle.std.specs.Prelude.{◌≡◌, ◌≢◌, ◌⊎◌, Bool, false, List, [], ◌∷◌, IsTrue, IfOk, OnOk, OnErr, Err, All};
     ghost use Rattle.book.specs.Rows.{Content, IsInKeyOrder};
     ghost use Rattle.book.specs.Tables.{content_of, rows_among};
+    ghost use Rattle.sqlite.specs.Schema.{Schema};
     ghost use Rattle.keep.specs.Content.{IsAmong, IsDesk, IsTheRow};
+    ghost use Rattle.keep.specs.Description.{desk_schema, old_schema};
+    ghost use Rattle.keep.specs.Names.{HasNames};
     ghost use Rattle.keep.specs.Transactions.{with_changes};
 
     // The disk has returned what was written so far.
@@ -61,6 +64,12 @@ pub trait Keep {
     // Beside what it holds it is set as it was.
     ghost same_settings: { Self → Self → Type 0 };
 
+    // How the tables of its store are declared.
+    ghost schema: { Self → Schema };
+
+    // The same keeper, once it is stopped.
+    ghost when_stopped: { Self → Self };
+
     /// Whether an earlier call failed. Takes no memory.
     fn is_stopped(&self) -> bool
         ensures { result ≡ stopped self.now };
@@ -70,7 +79,9 @@ pub trait Keep {
     ///
     /// `Stopped` on a stopped keeper; `OldVersion` only where the store is of version 1, and there nothing else but
     /// `Memory` and `Store`; `NotADesk` only where it does not hold the seven tables with one row of `desk` of version
-    /// 2; `Memory` and `Store` where that is refused or fails.
+    /// 2; `Memory` and `Store` where that is refused or fails. A store whose tables are not those of a desk as it is
+    /// made is left as it is, and named: `NotADesk` where one of the six names that each version has is no table's, and
+    /// else `Store`; unless they are those of version 1 as it was made.
     fn load(&mut self, alloc: Global) -> Result<Tables, KeepFault>
         ensures refused { IsTrue (stopped self.old) → (result ≡ Err KeepFault.Stopped) × (self.new ≡ self.old) }
         ensures going { stopped self.old ≡ false → result ≢ Err KeepFault.Stopped }
@@ -94,13 +105,17 @@ pub trait Keep {
         // nothing is added to what a stop may leave
         ensures adds_nothing { is_honest self.new → (these : List Content) → leaves self.old these
             → leaves self.new these }
-        ensures no_more { is_honest self.new → (x : Content) → may_leave self.new x → may_leave self.old x };
+        ensures no_more { is_honest self.new → (x : Content) → may_leave self.new x → may_leave self.old x }
+        ensures nameless { stopped self.old ≡ false → ¬ HasNames (schema self.old)
+            → (result ≡ Err KeepFault.NotADesk) × (self.new ≡ when_stopped self.old) }
+        ensures other { stopped self.old ≡ false → HasNames (schema self.old) → ¬ (schema self.old ≡ desk_schema)
+            → ¬ (schema self.old ≡ old_schema) → (result ≡ Err KeepFault.Store) × (self.new ≡ when_stopped self.old) };
 
     /// Puts the rows in by their keys, all or none. Each row of `desk` among them has one = 1 and the version of the
     /// schema. Whatever is answered, the keeper is set as it was.
     ///
-    /// `Stopped` on a stopped keeper; `Memory` and `Store` where that is refused or fails: a stop then leaves what was before
-    /// or the whole.
+    /// `Stopped` on a stopped keeper; `Memory` and `Store` where that is refused or fails: a stop then leaves what was
+    /// before or the whole. A store whose tables are not those of a desk as it is made is left as it is: `Store`.
     fn commit(&mut self, changes: &[Change]) -> Result<(), KeepFault>
         requires { All IsTheRow (rows_among changes.now).desk }
         ensures refused { IsTrue (stopped self.old) → (result ≡ Err KeepFault.Stopped) × (self.new ≡ self.old) }
@@ -115,7 +130,9 @@ pub trait Keep {
         ensures alone { is_honest self.new → OnOk result ((x : Content) → holds self.new x → leaves self.new (x ∷ [])) }
         ensures either { is_honest self.new → stopped self.old ≡ false → (x : Content) → holds self.old x
             → leaves self.old (x ∷ [])
-            → leaves self.new (x ∷ with_changes changes.now x ∷ []) };
+            → leaves self.new (x ∷ with_changes changes.now x ∷ []) }
+        ensures other { stopped self.old ≡ false → ¬ (schema self.old ≡ desk_schema)
+            → (result ≡ Err KeepFault.Store) × (self.new ≡ when_stopped self.old) };
 
     // What is held stands in the seven tables.
     ghost in_tables: { (k : Self) (x : Content) → holds k x → has_tables k x };

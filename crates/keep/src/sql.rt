@@ -205,84 +205,22 @@ impl<S: Alter> Keep for SqlKeep<S> {
     // how many steps a statement may take
     ghost same_settings = { λ old new. new.connection.step_limit ≡ old.connection.step_limit };
 
+    ghost schema = { λ k. (state S.Store k.connection).now.schema };
+
+    ghost when_stopped = { λ k. record k { stopped = true } };
+
     fn is_stopped(&self) -> bool {
         self.stopped
     }
 
-    /// As every keeper's. A store whose tables are not those of a desk as it is made is left as it is, and named:
-    /// `NotADesk` where one of the six names that each version has is no table's, and else `Store`; unless they are
-    /// those of version 1 as it was made.
-    fn load(&mut self, alloc: Global) -> Result<Tables, KeepFault>
-        ensures refused { IsTrue self.old.stopped → (result ≡ Err KeepFault.Stopped) × (self.new ≡ self.old) }
-        ensures going { self.old.stopped ≡ false → result ≢ Err KeepFault.Stopped }
-        ensures settings { self.new.connection.step_limit ≡ self.old.connection.step_limit }
-        ensures honest { HasCleanDisk (state S.Store self.new.connection)
-            → HasCleanDisk (state S.Store self.old.connection) }
-        ensures ok { OnOk result (self.new.stopped ≡ false) }
-        ensures err { OnErr result (IsTrue self.new.stopped) }
-        ensures content { HasCleanDisk (state S.Store self.new.connection)
-            → IfOk result (λ tables. Holds (state S.Store self.new.connection).now (content_of tables)) }
-        ensures one { HasCleanDisk (state S.Store self.new.connection)
-            → IfOk result (λ tables. (x : Content) → Holds (state S.Store self.old.connection).now x
-            → content_of tables ≡ x) }
-        ensures same { HasCleanDisk (state S.Store self.new.connection) → OnOk result ((x : Content)
-            → (Holds (state S.Store self.old.connection).now x → Holds (state S.Store self.new.connection).now x)
-            × (Holds (state S.Store self.new.connection).now x → Holds (state S.Store self.old.connection).now x)) }
-        ensures order { IfOk result (λ tables. IsInKeyOrder (content_of tables)) }
-        ensures version { IfOk result (λ tables. IsDesk (content_of tables)) }
-        ensures desk { HasCleanDisk (state S.Store self.new.connection) → result ≡ Err KeepFault.NotADesk
-            → (x : Content) → HasTables (state S.Store self.old.connection).now x → ¬ IsDesk x }
-        ensures old_version { HasCleanDisk (state S.Store self.new.connection) → result ≡ Err KeepFault.OldVersion
-            → IsOld (state S.Store self.old.connection).now }
-        ensures only_old { HasCleanDisk (state S.Store self.new.connection) → self.old.stopped ≡ false
-            → IsOld (state S.Store self.old.connection).now
-            → (result ≡ Err KeepFault.OldVersion) ⊎ ((result ≡ Err KeepFault.Memory) ⊎ (result ≡ Err KeepFault.Store)) }
-        ensures alone { HasCleanDisk (state S.Store self.new.connection)
-            → OnOk result ((x : Content) → Holds (state S.Store self.new.connection).now x
-            → LeavesOnly (state S.Store self.new.connection).may_leave (x ∷ [])) }
-        ensures adds_nothing { HasCleanDisk (state S.Store self.new.connection) → (these : List Content)
-            → LeavesOnly (state S.Store self.old.connection).may_leave these
-            → LeavesOnly (state S.Store self.new.connection).may_leave these }
-        ensures no_more { HasCleanDisk (state S.Store self.new.connection) → (x : Content)
-            → MayLeave (state S.Store self.new.connection).may_leave x
-            → MayLeave (state S.Store self.old.connection).may_leave x }
-        ensures nameless { self.old.stopped ≡ false → ¬ HasNames (state S.Store self.old.connection).now.schema
-            → (result ≡ Err KeepFault.NotADesk) × (self.new ≡ record self.old { stopped = true }) }
-        ensures other { self.old.stopped ≡ false → HasNames (state S.Store self.old.connection).now.schema
-            → ¬ ((state S.Store self.old.connection).now.schema ≡ desk_schema)
-            → ¬ ((state S.Store self.old.connection).now.schema ≡ old_schema) → (result ≡ Err KeepFault.Store)
-            × (self.new ≡ record self.old { stopped = true }) }
-    {
+    fn load(&mut self, alloc: Global) -> Result<Tables, KeepFault> {
         self.expect_going()?;
         let loaded = load_from(alloc, &mut self.conn);
         self.stopped = loaded.is_err();
         loaded
     }
 
-    /// As every keeper's. A store whose tables are not those of a desk as it is made is left as it is: `Store`.
-    fn commit(&mut self, changes: &[Change]) -> Result<(), KeepFault>
-        requires { All IsTheRow (rows_among changes.now).desk }
-        ensures refused { IsTrue self.old.stopped → (result ≡ Err KeepFault.Stopped) × (self.new ≡ self.old) }
-        ensures going { self.old.stopped ≡ false → result ≢ Err KeepFault.Stopped }
-        ensures desk { (result ≢ Err KeepFault.NotADesk) × (result ≢ Err KeepFault.OldVersion) }
-        ensures settings { self.new.connection.step_limit ≡ self.old.connection.step_limit }
-        ensures honest { HasCleanDisk (state S.Store self.new.connection)
-            → HasCleanDisk (state S.Store self.old.connection) }
-        ensures ok { OnOk result (self.new.stopped ≡ false) }
-        ensures err { OnErr result (IsTrue self.new.stopped) }
-        ensures put { HasCleanDisk (state S.Store self.new.connection)
-            → OnOk result ((x : Content) → Holds (state S.Store self.old.connection).now x
-            → Holds (state S.Store self.new.connection).now (with_changes changes.now x)) }
-        ensures alone { HasCleanDisk (state S.Store self.new.connection)
-            → OnOk result ((x : Content) → Holds (state S.Store self.new.connection).now x
-            → LeavesOnly (state S.Store self.new.connection).may_leave (x ∷ [])) }
-        ensures either { HasCleanDisk (state S.Store self.new.connection) → self.old.stopped ≡ false → (x : Content)
-            → Holds (state S.Store self.old.connection).now x → LeavesOnly (state S.Store self.old.connection).may_leave
-            (x ∷ [])
-            → LeavesOnly (state S.Store self.new.connection).may_leave (x ∷ with_changes changes.now x ∷ []) }
-        ensures other { self.old.stopped ≡ false → ¬ ((state S.Store self.old.connection).now.schema ≡ desk_schema)
-            → (result ≡ Err KeepFault.Store) × (self.new ≡ record self.old { stopped = true }) }
-    {
+    fn commit(&mut self, changes: &[Change]) -> Result<(), KeepFault> {
         self.expect_going()?;
         let done = commit_to(&mut self.conn, changes);
         self.stopped = done.is_err();

@@ -4,6 +4,7 @@ ghost use Rattle.std.specs.Prelude.{◌≡◌, ◌≢◌, ◌⊎◌, false, All,
 ghost use Rattle.book.specs.Rows.{IsInKeyOrder};
 ghost use Rattle.book.specs.Tables.{content_of, rows_among};
 ghost use Rattle.keep.specs.Content.{IsDesk, IsTheRow, new_content};
+ghost use Rattle.keep.specs.Description.{desk_schema};
 ghost use Rattle.keep.specs.Plain.{IsToFail, after_commit, after_error, after_failure};
 ghost use Rattle.keep.specs.Transactions.{with_changes};
 
@@ -87,6 +88,10 @@ impl Keep for PlainKeep {
 
     // whether the commit that fails lands
     ghost same_settings = { λ old new. new.lands ≡ old.lands };
+
+    ghost schema = { λ _. desk_schema };
+
+    ghost when_stopped = { after_error };
 
     fn is_stopped(&self) -> bool {
         self.stopped
