@@ -11,11 +11,12 @@ pub mod Selects
 pub mod Steps
 pub mod LoadAnswers
 pub mod DeskAnswer
+pub mod Versions
 pub mod Schemas
 pub mod Stops
 pub mod NextOpen
 pub mod NewTables
-pub mod NewRow
+pub mod LaterTables
 pub mod PlainRows
 pub mod PlainChanges
 pub mod Upgrades

@@ -12,7 +12,7 @@ use Rattle.sqlite_trees.specs.Objects.{catalog_tree}
 use Rattle.sqlite_trees.specs.View.{is_int}
 use Rattle.sqlite_catalog.specs.Listing.{Lists}
 use Rattle.book.specs.Rows.{Content, DeskCells}
-use Rattle.keep.specs.Description.{Cells, columns, declared, key_cmp, rows_of, schema_of, since, stored}
+use Rattle.keep.specs.Description.{Cells, columns, declared, key_cmp, newest, rows_of, schema_of, since, stored}
 use Rattle.keep.specs.declared.description.TableName.{TableName}
 
 -- it is one of these
@@ -35,16 +35,19 @@ pub record AreRows {X : Type 0} (cmp : X → X → Ordering) (stored : Row → R
 abbrev pub Stores : (t : TableName) → List Row → List (Cells t) → Type 0
 Stores t rows xs = AreRows (key_cmp t) (stored t) (columns t) rows xs
 
--- trees with the tables of that version where its schema has them, and with these rows, none of them of another table;
--- their catalog lists that schema
-pub record IsContentOf (version : ℕ) (trees : Trees) (x : Content) : Type 0 where
-  pub lists : Lists (trees catalog_tree) (schema_of version)
+-- the tables of that version have these rows, and there are none of another table
+pub record HasRowsOf (version : ℕ) (trees : Trees) (x : Content) : Type 0 where
   pub rows : (t : TableName) → since t ≤ version → Stores t (trees (declared t).tree) (rows_of t x)
   pub none : (t : TableName) → version < since t → rows_of t x ≡ []
 
+-- trees with these rows, whose catalog lists the schema of that version
+pub record IsContentOf (version : ℕ) (trees : Trees) (x : Content) : Type 0 where
+  pub lists : Lists (trees catalog_tree) (schema_of version)
+  pub has : HasRowsOf version trees x
+
 -- of the version that is written here
 abbrev pub IsContent : Trees → Content → Type 0
-IsContent = IsContentOf 2
+IsContent = IsContentOf newest
 
 -- the schema is that of a desk of that version, as it is made, and nothing else is declared; this is what the tables hold
 pub record HoldsOf (version : ℕ) (db : Database) (x : Content) : Type 0 where
@@ -52,7 +55,7 @@ pub record HoldsOf (version : ℕ) (db : Database) (x : Content) : Type 0 where
   pub content : IsContentOf version db.trees x
 
 abbrev pub Holds : Database → Content → Type 0
-Holds = HoldsOf 2
+Holds = HoldsOf newest
 
 -- a table that is declared so, in whatever tree it lies, and its rows are such
 abbrev pub HasTable : Schema → Trees → Table → (List Row → Type 0) → Type 0
@@ -78,16 +81,16 @@ IsVersion version row = row.version ≡ version
 abbrev pub IsOneRow : ℤ → List DeskCells → Type 0
 IsOneRow version rows = (row : DeskCells) × (rows ≡ row ∷ []) × IsVersion version row
 
--- the table `desk` has one row, of version 2
+-- the table `desk` has one row, of the newest version
 abbrev pub IsDesk : Content → Type 0
-IsDesk x = IsOneRow (pos 2) x.desk
+IsDesk x = IsOneRow (pos newest) x.desk
 
--- a row that may be put into `desk`: it is the one row, of version 2
+-- a row that may be put into `desk`: it is the one row, of the newest version
 abbrev pub IsTheRow : DeskCells → Type 0
-IsTheRow row = (row.one ≡ pos 1) × IsVersion (pos 2) row
+IsTheRow row = (row.one ≡ pos 1) × IsVersion (pos newest) row
 
 abbrev pub new_row : DeskCells
-new_row = record { one = pos 1; version = pos 2; clock = pos 0; places = pos 0 }
+new_row = record { one = pos 1; version = pos newest; clock = pos 0; places = pos 0 }
 
 -- a new desk: its clock is 0, it has accepted nothing, and no other table has a row
 abbrev pub new_content : Content

@@ -1,6 +1,6 @@
 -- What a table of a desk is: the cells of its rows and their key, and how SQL keeps them. A table more is a line in each
 -- definition here, and its declaration in the schema.
-use Rattle.std.specs.Prelude.{ℕ, List, [], ◌∷◌, ◌++◌, ◌-◌, Option, None, Some, flat_map, length, map, nat_le, nat_lt}
+use Rattle.std.specs.Prelude.{ℕ, ◌≡◌, ◌≤◌, List, [], ◌∷◌, ◌++◌, ◌-◌, Option, None, Some, flat_map, length, map, nat_le, nat_lt}
 use Rattle.std.specs.declared.cmp.Ordering.{Ordering}
 use Rattle.std.specs.List.{filter, range_with_len}
 use Rattle.sqlite.specs.declared.types.Value.TheVariants.{Int, Text}
@@ -112,9 +112,17 @@ rowid_at t = rowid_place (declared t).key (length (declared t).columns)
 
 -- ---- versions
 
+-- the newest, which is written here
+abbrev pub newest : ℕ
+newest = 2
+
 -- the tables that a version has
 abbrev pub tables_of : ℕ → List TableName
 tables_of version = filter (λ t. nat_le (since t) version) all_tables
+
+-- those that the versions after it have brought
+abbrev pub tables_after : ℕ → List TableName
+tables_after version = filter (λ t. nat_lt version (since t)) all_tables
 
 -- the schema in which these tables are made, one after the other
 abbrev pub schema_with : List TableName → Schema
@@ -132,9 +140,14 @@ before t = filter (λ u. nat_lt (declared u).tree (declared t).tree) all_tables
 abbrev pub schema_of : ℕ → Schema
 schema_of version = schema_with (tables_of version)
 
--- that of version 1, and that which is made now
-abbrev pub old_schema : Schema
-old_schema = schema_of 1
-
+-- that of a desk as it is made now
 abbrev pub desk_schema : Schema
-desk_schema = schema_of 2
+desk_schema = schema_of newest
+
+-- the schema is that of a desk as it is made, of a version that has the table
+abbrev pub IsSchemaWith : TableName → Schema → Type 0
+IsSchemaWith t schema = (version : ℕ) × (since t ≤ version) × (version ≤ newest) × (schema ≡ schema_of version)
+
+-- the same, of whatever version
+abbrev pub IsOfAVersion : Schema → Type 0
+IsOfAVersion schema = IsSchemaWith table.Desk schema

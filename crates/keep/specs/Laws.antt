@@ -47,9 +47,9 @@ named [] t h = absurd h
 named (u ∷ us) t (inl e) = (0, u, omega arith, refl, sym (ap (λ v. v.name) e))
 named (u ∷ us) t (inr h) = let more = named us t h in (suc more.0, more.1, omega (arith, more.2), more.3, more.4)
 
--- a store of version 1 lacks a table of a later one
+-- a store of an older version lacks a table of the newest
 pub old_is_apart : (db : Database) (x : Content) → IsOld db → HasTables db x → ⊥
-old_is_apart db x old has = old.no_later table.Firm (omega arith) (named _ _ (has table.Firm).1)
+old_is_apart db x old has = old.2.no_later table.Firm (omega (arith, old.1)) (named _ _ (has table.Firm).1)
 
 -- each table lies in the schema of a desk as it is made
 pub is_among : (t : TableName) → IsAmong desk_schema.tables (declared t)
@@ -60,5 +60,5 @@ pub holds_tables : (db : Database) (x : Content) → Holds db x → HasTables db
 holds_tables db x held t = (
   (declared t).tree,
   subst (λ (s : Schema). IsAmong s.tables (declared t)) (sym held.schema_is) (is_among t),
-  held.content.rows t (is_now t),
+  held.content.has.rows t (is_now t),
 )

@@ -1,19 +1,15 @@
 -- What a read of the store finds.
-use Rattle.std.specs.Prelude.{◌≡◌, ◌≤◌, ◌⊎◌, ℤ, List, [], ◌∷◌, map, IsTrue}
+use Rattle.std.specs.Prelude.{◌≡◌, ℤ, List, [], ◌∷◌, map, IsTrue}
 use Rattle.sqlite.specs.Order.{Row, column}
 use Rattle.sqlite.specs.Schema.{Schema}
 use Rattle.sqlite.specs.State.{State, HasCleanDisk, IsUnchanged}
 use Rattle.sqlite_trees.specs.Tree.{Trees}
 use Rattle.sqlite_trees.specs.View.{is_int}
 use Rattle.book.specs.Rows.{DeskCells}
-use Rattle.keep.specs.Description.{Cells, columns, desk_schema, old_schema, rowid_at, shown, since}
+use Rattle.keep.specs.Description.{Cells, columns, desk_schema, rowid_at, shown}
 use Rattle.keep.specs.Content.{IsVersion}
 use Rattle.keep.specs.declared.description.TableName.{TableName}
 use Rattle.keep.specs.declared.description.TableName.TheVariants as table
-
--- the schema is that of a desk as it is made, of a version that has the table
-abbrev pub IsSchemaWith : TableName → Schema → Type 0
-IsSchemaWith t schema = (schema ≡ desk_schema) ⊎ ((schema ≡ old_schema) × (since t ≤ 1))
 
 -- where the disk was honest and the schema is one of those: nothing is changed, and the trees are such
 abbrev pub FindsOver : (Schema → Type 0) → State → State → (Trees → Type 0) → Type 0

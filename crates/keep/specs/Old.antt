@@ -1,11 +1,11 @@
--- A store of version 1, and what is made of it.
-use Rattle.std.specs.Prelude.{◌≡◌, ◌<◌, ◌≤◌, ⊤, ℤ, IsTrue, pos, [], ◌∷◌, map}
+-- Stores of older versions, and what is made of them.
+use Rattle.std.specs.Prelude.{◌≡◌, ◌<◌, ◌≤◌, ⊤, ℕ, ℤ, IsTrue, pos, [], ◌∷◌, map}
 use Rattle.sqlite.specs.Effect.{Database}
 use Rattle.sqlite.specs.State.{State}
 use Rattle.sqlite_trees.specs.Tree.{Trees}
 use Rattle.book.specs.Rows.{Content, DeskCells}
 use Rattle.keep.specs.Schema.{desk_table}
-use Rattle.keep.specs.Description.{declared, desk_schema, since}
+use Rattle.keep.specs.Description.{declared, desk_schema, newest, since}
 use Rattle.keep.specs.Content.{HasTable, Holds, HoldsOf, IsContent, IsContentOf, IsVersion, Stores}
 use Rattle.keep.specs.Names.{HasTableNamed}
 use Rattle.keep.specs.declared.description.TableName.{TableName}
@@ -16,40 +16,44 @@ abbrev pub HasDesk : ℤ → Database → Type 0
 HasDesk version db = (row : DeskCells) × HasTable db.schema db.trees desk_table (λ rows. Stores table.Desk rows (row ∷ []))
     × IsVersion version row
 
--- The tables of version 1 are declared, in whatever order and beside whatever others, and hold whatever rows; none is
--- named as a later one; and `desk` has one row, of version 1.
-pub record IsOld (db : Database) : Type 0 where
-  pub desk : HasDesk (pos 1) db
-  pub tables : (t : TableName) → since t ≤ 1 → HasTable db.schema db.trees (declared t) (λ _. ⊤)
-  pub no_later : (t : TableName) → 1 < since t → ¬ HasTableNamed db.schema (declared t).name
+-- The tables of that version are declared, in whatever order and beside whatever others, and hold whatever rows; none is
+-- named as a later one; and `desk` has one row, of that version.
+pub record IsOfVersion (version : ℕ) (db : Database) : Type 0 where
+  pub desk : HasDesk (pos version) db
+  pub tables : (t : TableName) → since t ≤ version → HasTable db.schema db.trees (declared t) (λ _. ⊤)
+  pub no_later : (t : TableName) → version < since t → ¬ HasTableNamed db.schema (declared t).name
 
--- the schema is that of a desk as it is made, and `desk` has one row, of version 2
+-- it is of a version before the newest
+abbrev pub IsOld : Database → Type 0
+IsOld db = (version : ℕ) × (version < newest) × IsOfVersion version db
+
+-- the schema is that of a desk as it is made, and `desk` has one row, of the newest version
 pub record IsCurrent (db : Database) : Type 0 where
   pub schema_is : db.schema ≡ desk_schema
-  pub desk : (row : DeskCells) × Stores table.Desk (db.trees desk_table.tree) (row ∷ []) × IsVersion (pos 2) row
+  pub desk : (row : DeskCells) × Stores table.Desk (db.trees desk_table.tree) (row ∷ []) × IsVersion (pos newest) row
 
--- the content of a store of version 1
+-- this is the content, of such a version
 abbrev pub IsOldContent : Trees → Content → Type 0
-IsOldContent = IsContentOf 1
+IsOldContent trees x = (version : ℕ) × (version < newest) × IsContentOf version trees x
 
 abbrev pub HoldsOld : Database → Content → Type 0
-HoldsOld = HoldsOf 1
+HoldsOld db x = (version : ℕ) × (version < newest) × HoldsOf version db x
 
 -- ---- upgrades
 
 abbrev pub raised : DeskCells → DeskCells
-raised row = record row { version = pos 2 }
+raised row = record row { version = pos newest }
 
--- the row of `desk` is of version 2, and all other rows are as they were
+-- the row of `desk` is of the newest version, and all other rows are as they were
 abbrev pub upgraded : Content → Content
 upgraded x = record x { desk = map raised x.desk }
 
--- the database was of version 1, and these trees have all of it, and are of version 2
+-- the database was of an older version, and these trees have all of it, and are of the newest
 pub record AreUpgraded (db : Database) (trees : Trees) : Type 0 where
   pub was : IsOld db
   pub whole : (x : Content) → HoldsOld db x → IsContent trees (upgraded x)
 
--- the store was of version 1, and is of version 2, all of it, and committed
+-- the store was of an older version, and is of the newest, all of it, and committed
 pub record IsUpgraded (old new : State) : Type 0 where
   pub was : IsOld old.now
   pub is_open : IsTrue new.is_open

@@ -13,7 +13,7 @@ use Rattle.sqlite_rules.specs.Lists.{Has}
 use Rattle.sqlite_rules.proofs.ListLemmas.{all_has, all_from}
 use Rattle.sqlite_trees.specs.Tree.{Trees}
 use Rattle.book.specs.Rows.{Content}
-use Rattle.keep.specs.Description.{Cells, columns, declared, key_cmp, rows_of, since, stored}
+use Rattle.keep.specs.Description.{Cells, columns, declared, key_cmp, newest, rows_of, since, stored}
 use Rattle.keep.specs.Content.{AreRows, IsContent, Stores}
 use Rattle.keep.specs.KeyOrders.{key_cmp_total}
 use Rattle.keep.specs.declared.description.TableName.{TableName}
@@ -134,10 +134,10 @@ same_content x y same = λ i. record {
 }
 
 -- each table is there now
-pub is_now : (t : TableName) → since t ≤ 2
+pub is_now : (t : TableName) → since t ≤ newest
 is_now t = grind arith
 
 -- trees have one content
 pub only_content : (trees : Trees) (x y : Content) → IsContent trees x → IsContent trees y → y ≡ x
 only_content trees x y p q = same_content y x (λ t. rows_once t (trees (declared t).tree) (rows_of t x) (rows_of t y)
-    (p.rows t (is_now t)) (q.rows t (is_now t)))
+    (p.has.rows t (is_now t)) (q.has.rows t (is_now t)))

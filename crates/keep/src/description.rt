@@ -1,11 +1,14 @@
 //! The tables of a desk, and the texts of their statements.
 
-ghost use Rattle.std.specs.Prelude.{◌≡◌, ◌≤◌, is_some, map};
-ghost use Rattle.keep.specs.Description.{all_tables, declared, desk_schema, old_schema, since, tables_of};
+ghost use Rattle.std.specs.Prelude.{◌≡◌, ◌≤◌, ℕ, is_some, map};
+ghost use Rattle.keep.specs.Description.{all_tables, declared, newest, schema_of, since, tables_after, tables_of};
 ghost use Rattle.keep.specs.Schema.{column};
 ghost use Rattle.keep.specs.Statements.{ListsTable, MakesTable, PutsRow};
 
 use sqlite_schema::schema::Kind;
+
+/// The newest version of the schema.
+pub(crate) const NEWEST: usize = 2;
 
 /// A table of a desk, in the order in which they are made.
 #[derive(Clone, Copy)]
@@ -55,8 +58,7 @@ pub(crate) fn create_text(table: TableName) -> &'static str
 
 /// Shows all rows of the table, by its key, with the rowid of each last where that is not the key.
 pub(crate) fn select_text(table: TableName) -> &'static str
-    ensures now { ListsTable desk_schema table result.now }
-    ensures old { since table ≤ 1 → ListsTable old_schema table result.now }
+    ensures { (version : ℕ) → since table ≤ version → version ≤ newest → ListsTable (schema_of version) table result.now }
 {
     match table {
         TableName::Desk => "SELECT one, version, clock, places FROM desk ORDER BY one",
@@ -115,18 +117,24 @@ pub(crate) fn all_tables() -> &'static [TableName]
     ]
 }
 
-/// The tables of version 1, in the order in which they are made.
-pub(crate) fn old_tables() -> &'static [TableName]
-    ensures { result.now ≡ tables_of 1 }
+/// The tables that the version has, in the order in which they are made.
+pub(crate) fn tables_of(version: usize) -> &'static [TableName]
+    requires { version ≤ newest }
+    ensures { result.now ≡ tables_of version }
 {
-    &[
-        TableName::Desk,
-        TableName::Field,
-        TableName::Move,
-        TableName::Orders,
-        TableName::Line,
-        TableName::Kept,
-    ]
+    match version {
+        0 => &[],
+        1 => &all_tables()[..6],
+        _ => all_tables(),
+    }
+}
+
+/// Those that the versions after it have brought.
+pub(crate) fn tables_after(version: usize) -> &'static [TableName]
+    requires { version ≤ newest }
+    ensures { result.now ≡ tables_after version }
+{
+    &all_tables()[tables_of(version).len()..]
 }
 
 /// Its name.

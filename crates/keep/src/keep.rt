@@ -19,7 +19,8 @@ pub enum KeepFault {
     /// The store has no tables of a desk with one row of `desk` of their version.
     #[error("not a desk")]
     NotADesk,
-    /// The store is of version 1: it has the six tables without `firm`, and one row of `desk` of version 1.
+    /// The store is of an older version: it has the tables of that, none that a later one has brought, and one row of
+    /// `desk` of that version.
     #[error("old version")]
     OldVersion,
     /// An earlier call failed, and the keeper takes no more.
@@ -35,7 +36,7 @@ pub trait Keep {
     ghost use Rattle.book.specs.Tables.{content_of, rows_among};
     ghost use Rattle.sqlite.specs.Schema.{Schema};
     ghost use Rattle.keep.specs.Content.{IsAmong, IsDesk, IsTheRow};
-    ghost use Rattle.keep.specs.Description.{desk_schema, old_schema};
+    ghost use Rattle.keep.specs.Description.{IsOfAVersion, desk_schema};
     ghost use Rattle.keep.specs.Names.{HasNames};
     ghost use Rattle.keep.specs.Transactions.{with_changes};
 
@@ -48,8 +49,8 @@ pub trait Keep {
     // The seven tables are there, beside whatever else, and this is what they hold.
     ghost has_tables: { Self → Content → Type 0 };
 
-    // The store is of version 1: the six tables are there, beside whatever else but no `firm`, and one row of `desk` of
-    // version 1.
+    // The store is of an older version: its tables are there, beside whatever else but no table of a later one, and one
+    // row of `desk` of that version.
     ghost is_old: { Self → Type 0 };
 
     // Whatever a stop leaves now, it is the seven tables, and their content is one of these.
@@ -77,11 +78,11 @@ pub trait Keep {
     /// The content, each table in the order of its key. Changes nothing, and a stop then leaves that content alone.
     /// Whatever is answered, nothing is added to what a stop may leave, and the keeper is set as it was.
     ///
-    /// `Stopped` on a stopped keeper; `OldVersion` only where the store is of version 1, and there nothing else but
-    /// `Memory` and `Store`; `NotADesk` only where it does not hold the seven tables with one row of `desk` of version
-    /// 2; `Memory` and `Store` where that is refused or fails. A store whose tables are not those of a desk as it is
-    /// made is left as it is, and named: `NotADesk` where one of the six names that each version has is no table's, and
-    /// else `Store`; unless they are those of version 1 as it was made.
+    /// `Stopped` on a stopped keeper; `OldVersion` only where the store is of an older version, and there nothing else
+    /// but `Memory` and `Store`; `NotADesk` only where it does not hold the seven tables with one row of `desk` of the
+    /// newest version; `Memory` and `Store` where that is refused or fails. A store whose tables are not those of a
+    /// version as it was made is left as it is, and named: `NotADesk` where one of the six names that each version has
+    /// is no table's, and else `Store`.
     fn load(&mut self, alloc: Global) -> Result<Tables, KeepFault>
         ensures refused { IsTrue (stopped self.old) → (result ≡ Err KeepFault.Stopped) × (self.new ≡ self.old) }
         ensures going { stopped self.old ≡ false → result ≢ Err KeepFault.Stopped }
@@ -108,8 +109,8 @@ pub trait Keep {
         ensures no_more { is_honest self.new → (x : Content) → may_leave self.new x → may_leave self.old x }
         ensures nameless { stopped self.old ≡ false → ¬ HasNames (schema self.old)
             → (result ≡ Err KeepFault.NotADesk) × (self.new ≡ when_stopped self.old) }
-        ensures other { stopped self.old ≡ false → HasNames (schema self.old) → ¬ (schema self.old ≡ desk_schema)
-            → ¬ (schema self.old ≡ old_schema) → (result ≡ Err KeepFault.Store) × (self.new ≡ when_stopped self.old) };
+        ensures other { stopped self.old ≡ false → HasNames (schema self.old) → ¬ IsOfAVersion (schema self.old)
+            → (result ≡ Err KeepFault.Store) × (self.new ≡ when_stopped self.old) };
 
     /// Puts the rows in by their keys, all or none. Each row of `desk` among them has one = 1 and the version of the
     /// schema. Whatever is answered, the keeper is set as it was.
@@ -137,7 +138,7 @@ pub trait Keep {
     // What is held stands in the seven tables.
     ghost in_tables: { (k : Self) (x : Content) → holds k x → has_tables k x };
 
-    // A store of version 1 is none of version 2.
+    // A store of an older version is none of the newest.
     ghost apart: { (k : Self) (x : Content) → is_old k → has_tables k x → ⊥ };
 
     // A stop leaves something.

@@ -1,14 +1,13 @@
 //! A keeper over files.
 
-ghost use Rattle.std.specs.Prelude.{◌≡◌, [], ◌∷◌, false, None, IsTrue, IfErr, IfOk};
+ghost use Rattle.std.specs.Prelude.{◌≡◌, ℕ, [], ◌∷◌, false, None, IsTrue, IfErr, IfOk};
 ghost use Rattle.sqlite.specs.State.{HasCleanDisk};
 ghost use Rattle.sqlite.specs.Files.{file_state, HoldsDatabase};
 ghost use Rattle.sqlite.specs.Opening.{is_open_error};
 ghost use Rattle.sqlite.specs.WalFiles.{image_at};
 ghost use Rattle.sqlite_trees.specs.Tree.{Trees};
 ghost use Rattle.book.specs.Rows.{Content};
-ghost use Rattle.keep.specs.Content.{Holds, IsContent, LeavesOnly};
-ghost use Rattle.keep.specs.Old.{HoldsOld, IsOldContent};
+ghost use Rattle.keep.specs.Content.{Holds, HoldsOf, IsContentOf, LeavesOnly};
 
 use crate::sql::SqlKeep;
 use sqlite::{Connection, Error, FileFrom, FileStore, Start};
@@ -36,11 +35,10 @@ pub fn open_path<S: Start>(
 ) -> Result<SqlKeep<FileStore<FileFrom<S>>>, Error>
     ensures going { IfOk result (λ keep. keep.stopped ≡ false) }
     ensures settings { IfOk result (λ keep. keep.connection.step_limit ≡ None) }
-    ensures found { IfOk result (λ keep. HasCleanDisk (file_state keep.connection) → (trees : Trees) (x : Content)
-        → HoldsDatabase (image_at S.Start) trees → IsContent trees x → Holds (file_state keep.connection).now x) }
-    ensures old { IfOk result (λ keep. HasCleanDisk (file_state keep.connection) → (trees : Trees) (x : Content)
-        → HoldsDatabase (image_at S.Start) trees → IsOldContent trees x → HoldsOld (file_state keep.connection).now x) }
-    // of whatever version, a stop leaves what is shown
+    // of whatever version
+    ensures found { IfOk result (λ keep. HasCleanDisk (file_state keep.connection) → (version : ℕ) (trees : Trees)
+        (x : Content) → HoldsDatabase (image_at S.Start) trees → IsContentOf version trees x
+        → HoldsOf version (file_state keep.connection).now x) }
     ensures shown { IfOk result (λ keep. HasCleanDisk (file_state keep.connection) → (trees : Trees)
         → (file_state keep.connection).may_leave trees → trees ≡ (file_state keep.connection).now.trees) }
     ensures alone { IfOk result (λ keep. HasCleanDisk (file_state keep.connection) → (x : Content)

@@ -1,12 +1,12 @@
 //! Whether a schema is that of a desk as it is made.
 
-ghost use Rattle.std.specs.Prelude.{◌≡◌, ◌↔◌, ◌+◌, IsTrue, None, true, [], ◌∷◌, map};
+ghost use Rattle.std.specs.Prelude.{◌≡◌, ◌≤◌, ◌<◌, ◌↔◌, ◌+◌, ℕ, IsTrue, None, true, [], ◌∷◌, map};
 ghost use Rattle.keep.specs.Names.{HasNames, HasTableNamed};
 ghost use Rattle.keep.specs.Schema.{column, no_schema, plain_order, with_key, without_rules};
-ghost use Rattle.keep.specs.Description.{declared, desk_schema, old_schema};
+ghost use Rattle.keep.specs.Description.{IsOfAVersion, declared, desk_schema, newest, schema_of};
 
 use crate::description::{
-    TableName, all_tables, columns_of, is_numbered, key_of, name_of, old_tables, tree_of,
+    NEWEST, TableName, columns_of, is_numbered, key_of, name_of, tables_of, tree_of,
 };
 use sqlite_items::Items;
 use sqlite_schema::code::Terms;
@@ -187,20 +187,13 @@ fn are_key_indexes(indexes: &[Index]) -> bool
         && is_key_index(kept, "sqlite_autoindex_kept_1", TableName::Kept)
 }
 
-/// Whether it has the tables of version 1 as they were made, and nothing else. Takes no memory.
-fn is_old_schema(found: &Schema) -> bool
-    ensures { IsTrue result ↔ (found.now ≡ old_schema) }
+/// Whether it has the tables of that version as they are made, and nothing else. Takes no memory.
+pub(crate) fn is_schema_of(found: &Schema, version: usize) -> bool
+    requires some { 1 ≤ version }
+    requires old { version ≤ newest }
+    ensures { IsTrue result ↔ (found.now ≡ schema_of version) }
 {
-    are_tables(found.tables.as_slice(), old_tables())
-        && are_key_indexes(found.indexes.as_slice())
-        && found.views.is_empty()
-}
-
-/// Whether it has the tables of a desk as it is made, and nothing else. Takes no memory.
-pub(crate) fn is_desk_schema(found: &Schema) -> bool
-    ensures { IsTrue result ↔ (found.now ≡ desk_schema) }
-{
-    are_tables(found.tables.as_slice(), all_tables())
+    are_tables(found.tables.as_slice(), tables_of(version))
         && are_key_indexes(found.indexes.as_slice())
         && found.views.is_empty()
 }
@@ -232,7 +225,7 @@ fn has_table(found: &Schema, name: &[u8]) -> bool
 fn has_names(found: &Schema) -> bool
     ensures { IsTrue result ↔ HasNames found.now }
 {
-    old_tables()
+    tables_of(1)
         .iter()
         .all(|table| has_table(found, name_of(*table).as_bytes()))
 }
@@ -240,11 +233,11 @@ fn has_names(found: &Schema) -> bool
 /// Which schema of a desk it is.
 #[derive(Clone, Copy)]
 pub(crate) enum Layout {
-    /// That of version 2, as it is made.
+    /// That of the newest version, as it is made.
     Current,
-    /// That of version 1, as it was made.
-    Old,
-    /// Another one, in which each of the six names is a table's.
+    /// That of this older version, as it was made.
+    Old(usize),
+    /// Another one, in which each name of a table of version 1 is a table's.
     Other,
     /// One in which they are not.
     Nameless,
@@ -253,17 +246,21 @@ pub(crate) enum Layout {
 /// Which schema of a desk it is. Takes no memory.
 pub(crate) fn layout_of(found: &Schema) -> Layout
     ensures current { result ≡ Layout.Current → HasNames found.now × (found.now ≡ desk_schema) }
-    ensures old { result ≡ Layout.Old → HasNames found.now × (found.now ≡ old_schema) }
-    ensures other { result ≡ Layout.Other → HasNames found.now × (¬ (found.now ≡ desk_schema))
-        × (¬ (found.now ≡ old_schema)) }
+    ensures old { (version : ℕ) → result ≡ Layout.Old version → HasNames found.now × (1 ≤ version) × (version < newest)
+        × (found.now ≡ schema_of version) }
+    ensures other { result ≡ Layout.Other → HasNames found.now × ¬ IsOfAVersion found.now }
     ensures nameless { result ≡ Layout.Nameless → ¬ HasNames found.now }
 {
     if !has_names(found) {
-        Layout::Nameless
-    } else if is_desk_schema(found) {
+        return Layout::Nameless;
+    }
+    for version in 1..NEWEST {
+        if is_schema_of(found, version) {
+            return Layout::Old(version);
+        }
+    }
+    if is_schema_of(found, NEWEST) {
         Layout::Current
-    } else if is_old_schema(found) {
-        Layout::Old
     } else {
         Layout::Other
     }

@@ -1,6 +1,6 @@
 //! The keeper over SQLite.
 
-ghost use Rattle.std.specs.Prelude.{◌≡◌, ◌≢◌, ◌⊎◌, false, true, List, [], ◌∷◌, All, IsTrue, IfOk, IfErr, OnOk, OnErr, Err};
+ghost use Rattle.std.specs.Prelude.{◌≡◌, ◌≢◌, ◌⊎◌, ◌<◌, ◌≤◌, false, true, List, [], ◌∷◌, All, IsTrue, IfOk, IfErr, OnOk, OnErr, Err};
 ghost use Rattle.sqlite.specs.State.{HasCleanDisk, IsLive, IsUnchanged, Survives};
 ghost use Rattle.sqlite.specs.Held.{state};
 ghost use Rattle.sqlite_trees.specs.Tree.{Trees};
@@ -10,13 +10,14 @@ ghost use Rattle.keep.specs.Content.{HasTables, Holds, IsDesk, IsTheRow, LeavesO
 ghost use Rattle.keep.specs.Names.{HasNames};
 ghost use Rattle.keep.specs.Transactions.{Committed, AreChanged, with_changes};
 ghost use Rattle.keep.specs.Old.{IsOld};
-ghost use Rattle.keep.specs.Description.{desk_schema, old_schema};
+ghost use Rattle.keep.specs.Description.{IsOfAVersion, desk_schema, newest, schema_of};
 
 use crate::commit::commit_all;
 use crate::keep::{Keep, KeepFault, fault_of};
 use crate::load::load_all;
-use crate::schema::{Layout, is_desk_schema, layout_of};
-use crate::tables::desk::{OLD_VERSION, load_desk};
+use crate::description::NEWEST;
+use crate::schema::{Layout, is_schema_of, layout_of};
+use crate::tables::desk::load_desk;
 use book::{Change, Tables};
 use sqlite::{Alter, Connection};
 use std::alloc::Global;
@@ -112,10 +113,12 @@ fn load_current<S: Alter>(alloc: Global, conn: &mut Connection<S>) -> Result<Tab
     }
 }
 
-/// Why a store with the schema of version 1 is not loaded.
-fn old_fault<S: Alter>(conn: &mut Connection<S>) -> KeepFault
+/// Why a store with the schema of that version is not loaded.
+fn old_fault<S: Alter>(conn: &mut Connection<S>, version: usize) -> KeepFault
     requires idle { conn.old.in_transaction ≡ false }
-    requires schema { (state S.Store conn.old).now.schema ≡ old_schema }
+    requires some { 1 ≤ version }
+    requires old { version < newest }
+    requires schema { (state S.Store conn.old).now.schema ≡ schema_of version }
     ensures idle { conn.new.in_transaction ≡ false }
     ensures going { result ≢ KeepFault.Stopped }
     ensures old { HasCleanDisk (state S.Store conn.new) → result ≡ KeepFault.OldVersion
@@ -124,7 +127,7 @@ fn old_fault<S: Alter>(conn: &mut Connection<S>) -> KeepFault
         → result ≢ KeepFault.NotADesk }
     ensures survives { Survives (state S.Store conn.old) (state S.Store conn.new) (λ _. ⊥) }
 {
-    match load_desk(conn, OLD_VERSION) {
+    match load_desk(conn, version as i64) {
         Ok(Some(_)) => KeepFault::OldVersion,
         Ok(None) => KeepFault::NotADesk,
         Err(error) => fault_of(error),
@@ -154,14 +157,13 @@ fn load_from<S: Alter>(alloc: Global, conn: &mut Connection<S>) -> Result<Tables
         → (result ≡ Err KeepFault.OldVersion) ⊎ ((result ≡ Err KeepFault.Memory) ⊎ (result ≡ Err KeepFault.Store)) }
     ensures nameless { ¬ HasNames (state S.Store conn.old).now.schema → (result ≡ Err KeepFault.NotADesk)
         × (conn.new ≡ conn.old) }
-    ensures other { HasNames (state S.Store conn.old).now.schema → ¬ ((state S.Store conn.old).now.schema ≡ desk_schema)
-        → ¬ ((state S.Store conn.old).now.schema ≡ old_schema)
+    ensures other { HasNames (state S.Store conn.old).now.schema → ¬ IsOfAVersion (state S.Store conn.old).now.schema
         → (result ≡ Err KeepFault.Store) × (conn.new ≡ conn.old) }
     ensures survives { Survives (state S.Store conn.old) (state S.Store conn.new) (λ _. ⊥) }
 {
     match layout_of(conn.schema()) {
         Layout::Current => load_current(alloc, conn),
-        Layout::Old => Err(old_fault(conn)),
+        Layout::Old(version) => Err(old_fault(conn, version)),
         Layout::Other => Err(KeepFault::Store),
         Layout::Nameless => Err(KeepFault::NotADesk),
     }
@@ -179,7 +181,7 @@ fn commit_to<S: Alter>(conn: &mut Connection<S>, changes: &[Change]) -> Result<(
     ensures survives { Survives (state S.Store conn.old) (state S.Store conn.new)
         (AreChanged (state S.Store conn.old).now changes.now) }
 {
-    if !is_desk_schema(conn.schema()) {
+    if !is_schema_of(conn.schema(), NEWEST) {
         return Err(KeepFault::Store);
     }
     commit_all(conn, changes).map_err(fault_of)

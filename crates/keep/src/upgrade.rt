@@ -1,6 +1,6 @@
-//! From version 1 to version 2.
+//! From an older version to the newest.
 
-ghost use Rattle.std.specs.Prelude.{◌≡◌, ◌≢◌, ◌⊎◌, false, [], ◌∷◌, IsTrue, IfErr, OnOk, Err};
+ghost use Rattle.std.specs.Prelude.{◌≡◌, ◌≢◌, ◌⊎◌, ◌<◌, ◌≤◌, false, [], ◌∷◌, IsTrue, IfErr, OnOk, Err};
 ghost use Rattle.sqlite.specs.Held.{state};
 ghost use Rattle.sqlite.specs.State.{HasCleanDisk, IsUnchanged, Survives};
 ghost use Rattle.sqlite_trees.specs.Tree.{Trees};
@@ -9,50 +9,35 @@ ghost use Rattle.book.specs.Tables.{desk_cells};
 ghost use Rattle.keep.specs.Content.{HasTables, Holds, IsDesk, LeavesOnly};
 ghost use Rattle.keep.specs.Names.{HasNames};
 ghost use Rattle.keep.specs.Old.{AreUpgraded, HoldsOld, IsCurrent, IsOld, IsUpgraded, raised, upgraded};
-ghost use Rattle.keep.specs.UpgradeSteps.{AreRaised, Raised};
-ghost use Rattle.keep.specs.Description.{desk_schema, old_schema};
+ghost use Rattle.keep.specs.Description.{IsOfAVersion, desk_schema, newest, schema_of};
 
-use crate::create::create_table;
-use crate::description::TableName;
+use crate::create::raise;
+use crate::description::NEWEST;
 use crate::keep::{KeepFault, fault_of};
 use crate::schema::{Layout, layout_of};
 use crate::sql::SqlKeep;
-use crate::table::Table;
-use crate::tables::desk::{OLD_VERSION, VERSION, load_desk};
+use crate::tables::desk::load_desk;
 use book::DeskRow;
-use sqlite::{Alter, Connection, Error};
+use sqlite::{Alter, Connection};
 
-/// Makes the table of the firm orders and puts the row of `desk` in, both or neither, whenever it stops.
-fn raise<S: Alter>(conn: &mut Connection<S>, row: &DeskRow) -> Result<(), Error>
-    requires idle { conn.old.in_transaction ≡ false }
-    ensures idle { conn.new.in_transaction ≡ false }
-    ensures made { HasCleanDisk (state S.Store conn.new) → OnOk result
-        (Raised (state S.Store conn.old) (state S.Store conn.new) row.now) }
-    ensures survives { Survives (state S.Store conn.old) (state S.Store conn.new)
-        (AreRaised (state S.Store conn.old).now row.now) }
-{
-    let mut tx = conn.transaction();
-    create_table(&mut tx, TableName::Firm)?;
-    row.upsert(&mut tx)?;
-    tx.commit()
-}
-
-/// The row with version 2.
+/// The row with the newest version.
 fn raised(row: &DeskRow) -> DeskRow
     ensures { desk_cells result ≡ raised (desk_cells row.now) }
 {
     DeskRow {
         one: row.one,
-        version: VERSION,
+        version: NEWEST as i64,
         clock: row.clock,
         places: row.places,
     }
 }
 
-/// Upgrades a store with the schema of version 1, where its row of `desk` is of that version.
-fn upgrade<S: Alter>(conn: &mut Connection<S>) -> Result<(), KeepFault>
+/// Upgrades a store with the schema of that version, where its row of `desk` is of that version too.
+fn upgrade<S: Alter>(conn: &mut Connection<S>, version: usize) -> Result<(), KeepFault>
     requires idle { conn.old.in_transaction ≡ false }
-    requires old { (state S.Store conn.old).now.schema ≡ old_schema }
+    requires some { 1 ≤ version }
+    requires old { version < newest }
+    requires schema { (state S.Store conn.old).now.schema ≡ schema_of version }
     ensures idle { conn.new.in_transaction ≡ false }
     ensures fault { IfErr result (λ fault. (fault ≡ KeepFault.NotADesk)
         ⊎ ((fault ≡ KeepFault.Memory) ⊎ (fault ≡ KeepFault.Store))) }
@@ -63,18 +48,17 @@ fn upgrade<S: Alter>(conn: &mut Connection<S>) -> Result<(), KeepFault>
     ensures survives { Survives (state S.Store conn.old) (state S.Store conn.new)
         (AreUpgraded (state S.Store conn.old).now) }
 {
-    let row = match load_desk(conn, OLD_VERSION) {
+    // between transactions an open store shows what is committed
+    let _settled = conn.is_autocommit();
+    let row = match load_desk(conn, version as i64) {
         Ok(Some(row)) => row,
         Ok(None) => return Err(KeepFault::NotADesk),
         Err(error) => return Err(fault_of(error)),
     };
-    match raise(conn, &raised(&row)) {
-        Ok(()) => Ok(()),
-        Err(error) => Err(fault_of(error)),
-    }
+    raise(conn, version, &raised(&row)).map_err(fault_of)
 }
 
-/// Reads a store with the schema of version 2, and leaves it as it is.
+/// Reads a store with the schema of the newest version, and leaves it as it is.
 fn expect_current<S: Alter>(conn: &mut Connection<S>) -> Result<(), KeepFault>
     requires idle { conn.old.in_transaction ≡ false }
     requires desk { (state S.Store conn.old).now.schema ≡ desk_schema }
@@ -94,7 +78,7 @@ fn expect_current<S: Alter>(conn: &mut Connection<S>) -> Result<(), KeepFault>
 {
     // between transactions an open store shows what is committed
     let _settled = conn.is_autocommit();
-    match load_desk(conn, VERSION) {
+    match load_desk(conn, NEWEST as i64) {
         Ok(Some(_)) => Ok(()),
         Ok(None) => Err(KeepFault::NotADesk),
         Err(error) => Err(fault_of(error)),
@@ -102,10 +86,11 @@ fn expect_current<S: Alter>(conn: &mut Connection<S>) -> Result<(), KeepFault>
 }
 
 impl<S: Alter> SqlKeep<S> {
-    /// Makes a store of version 2 of one of version 1, in one transaction: the empty table `firm`, and version 2 in the
-    /// row of `desk`. All other rows are as they were, and are not checked. A store of version 2 is left alone. Any
-    /// other is `NotADesk` and left as it is; `Store` where its tables are not laid out as they were made. A stop
-    /// leaves what was before or the whole of version 2. The connection is set as it was.
+    /// Makes a store of the newest version of one of an older one, in one transaction: the tables that the versions
+    /// after that have brought, empty, and the newest version in the row of `desk`. All other rows are as they were, and
+    /// are not checked. A store of the newest version is left alone. Any other is `NotADesk` and left as it is; `Store`
+    /// where its tables are not laid out as they were made. A stop leaves what was before or the whole of the newest
+    /// version. The connection is set as it was.
     pub fn upgrade_over(conn: &mut Connection<S>) -> Result<(), KeepFault>
         requires { conn.old.in_transaction ≡ false }
         ensures idle { conn.new.in_transaction ≡ false }
@@ -134,13 +119,12 @@ impl<S: Alter> SqlKeep<S> {
             ⊎ AreUpgraded (state S.Store conn.old).now trees }
         ensures nameless { ¬ HasNames (state S.Store conn.old).now.schema → (result ≡ Err KeepFault.NotADesk)
             × (conn.new ≡ conn.old) }
-        ensures other { HasNames (state S.Store conn.old).now.schema → ¬ ((state S.Store conn.old).now.schema
-            ≡ desk_schema) → ¬ ((state S.Store conn.old).now.schema ≡ old_schema)
+        ensures other { HasNames (state S.Store conn.old).now.schema → ¬ IsOfAVersion (state S.Store conn.old).now.schema
             → (result ≡ Err KeepFault.Store) × (conn.new ≡ conn.old) }
     {
         match layout_of(conn.schema()) {
             Layout::Current => expect_current(conn),
-            Layout::Old => upgrade(conn),
+            Layout::Old(version) => upgrade(conn, version),
             Layout::Other => Err(KeepFault::Store),
             Layout::Nameless => Err(KeepFault::NotADesk),
         }

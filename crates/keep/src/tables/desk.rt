@@ -6,8 +6,8 @@ ghost use Rattle.sqlite.specs.Held.{state};
 ghost use Rattle.book.specs.Rows.{DeskCells};
 ghost use Rattle.book.specs.Tables.{desk_cells};
 ghost use Rattle.keep.specs.Content.{IsOneRow, IsVersion, Stores};
-ghost use Rattle.keep.specs.Description.{selected};
-ghost use Rattle.keep.specs.Loads.{FindsOver, IsOneAnswer, IsSchemaWith};
+ghost use Rattle.keep.specs.Description.{IsSchemaWith, selected};
+ghost use Rattle.keep.specs.Loads.{FindsOver, IsOneAnswer};
 ghost use Rattle.keep.specs.declared.description.TableName.TheVariants as table;
 
 use crate::description::{TableName, select_text, upsert_text};
@@ -16,12 +16,6 @@ use book::DeskRow;
 use sqlite::{Alter, Connection, Error, Row, Transaction, params};
 use std::alloc::{AllocError, Global};
 use std::cmp::Ordering;
-
-/// The version of the schema.
-pub(crate) const VERSION: i64 = 2;
-
-/// The version before it.
-pub(crate) const OLD_VERSION: i64 = 1;
 
 impl Table for DeskRow {
     ghost use Rattle.book.specs.declared.rows.Change.TheVariants as change;

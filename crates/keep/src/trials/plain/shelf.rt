@@ -11,7 +11,7 @@ ghost use Rattle.keep.specs.Plain.{HasRoom, IsCopy, IsInOrder, row_of, shelf_con
 ghost use Rattle.keep.specs.Transactions.{with_changes};
 
 use crate::table::Table;
-use crate::tables::desk::VERSION;
+use crate::create::new_row;
 use book::{Change, DeskRow, FieldRow, FirmRow, KeptRow, LineRow, MoveRow, OrderRow, Rows, Tables};
 use index::BlockList;
 use std::alloc::{AllocError, Global};
@@ -99,12 +99,7 @@ impl Shelf {
     {
         Shelf {
             alloc,
-            desk: DeskRow {
-                one: 1,
-                version: VERSION,
-                clock: 0,
-                places: 0,
-            },
+            desk: new_row(),
             fields: BlockList::new(alloc),
             moves: BlockList::new(alloc),
             orders: BlockList::new(alloc),
