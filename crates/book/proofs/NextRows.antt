@@ -1,8 +1,5 @@
 -- The next ledger: how many of its orders are open, and the rows that an accepted request changes.
-use Rattle.book.proofs.Prelude.{[], ◌++◌, ◌+◌, ◌∙◌, ◌∷◌, ◌≡◌, ◌≤◌, BookView, Bool, Changes, ChangesTo, Command, Content, DeskCells, Effect, FieldCells, FirstFailure, Good, IfSome, Inside, IsAccepted, IsInRange, IsKey, IsRowsOf, Ledger, Leaves, List, MAX_PLACES, MoveEntry, None, Nothing, Opens, Option, Order, Request, Some, Step, accept, amount_rows, ap, arith, changed_rows, changes_field, checks, count_by, desk_row, effect, entry_row, false, field_row, field_rows, filter, flat_map, if◌then◌else◌, insert_in_order, is_open, kept_of, kept_row, ledger_of, length, map, mark_row, move_made, move_of, move_row, moves_after, name_of, nat_lt, new_key, next, open_orders, option_map, option_map_or, order_numbered, order_of, orders_after, places, pos, put_content, refl, state_row, step_to, steps, steps_of, subst, sym, true, view_of, with_fields, with_kept, with_moves, with_steps, ℕ}
-use Rattle.book.specs.inner.StepsSeen.{Makes}
-use Rattle.book.specs.Tables.{no_content}
-use Rattle.book.specs.declared.book.plan.PlanParts.{PlanParts}
+use Rattle.book.proofs.Prelude.{[], ◌++◌, ◌+◌, ◌∙◌, ◌∷◌, ◌≡◌, ◌≤◌, BookView, Bool, Changes, ChangesTo, Command, Content, Effect, FieldCells, Good, Inside, IsAccepted, IsInRange, IsKey, IsRowsOf, Ledger, Leaves, List, MAX_PLACES, None, Nothing, Opens, Order, Request, Some, Step, accept, ap, arith, changed_rows, changes_field, count_by, desk_row, effect, false, field_row, field_rows, filter, if◌then◌else◌, insert_in_order, is_open, kept_of, ledger_of, length, map, name_of, nat_lt, next, open_orders, option_map_or, order_numbered, orders_after, places, put_content, refl, step_to, steps, steps_of, subst, sym, true, view_of, no_content, ℕ}
 use Rattle.book.proofs.EqualRows.{one_content, rows_are, rows_of}
 use Rattle.book.proofs.Goodness.{good_accept}
 use Rattle.book.proofs.Lists.{counted, filter-each, length-insert, length-of-map}
@@ -74,15 +71,7 @@ fields_changed A r = sym (filter-each (λ (row : FieldCells). changes_field A r.
 
 -- the rows that the book makes for the request
 abbrev pub rows_made : Ledger → Request → Content
-rows_made A r = record {
-  desk = desk_row (accept A r) ∷ [];
-  fields = field_rows A r;
-  moves = map move_row (moves_after (move_made (places A + 1) r.command) []);
-  orders = flat_map state_row (steps_of A r.command);
-  lines = flat_map amount_rows (steps_of A r.command);
-  kept = kept_row (new_key A r) ∷ [];
-  firms = flat_map mark_row (steps_of A r.command);
-}
+rows_made A r = record (changed_rows A r no_content) { desk = desk_row (accept A r) ∷ []; fields = field_rows A r }
 
 -- they are those that change
 pub changes_to : (A : Ledger) (r : Request) (rows : Content) → Good A → IsKey r.key → IsInRange r.command → IsAccepted A r → rows ≡ rows_made A r → ChangesTo A r rows
@@ -111,16 +100,3 @@ place_fits A r g = grind (arith, length-insert)
 
 pub place_is : (b : Inside) (v : BookView) (n : ℕ) → view_of b ≡ v → n ≡ length b.kept.entries → n + 1 ≡ places v.ledger + 1
 place_is b v n e is = cc ((length-of-map kept_of b.kept.entries))
-
--- the move that the command makes has it
-pub placed : (x : Option MoveEntry) (n : ℕ) (c : Command) → option_map move_of x ≡ move_made n c → n ≤ MAX_PLACES → IfSome x (λ e. e.place ≤ MAX_PLACES)
-placed x n c e fit = grind arith
-
--- the rows as they are made one after the other
-pub rows_in_turn : (A : Ledger) (r : Request) (p : PlanParts) (cells : DeskCells) (desk fields moves orders kept : Content) → Good A → FirstFailure (checks A r.command) None → Makes A r p
-    → cells ≡ record { one = pos 1; version = pos 2; clock = pos p.clock; places = pos p.place } → desk ≡ record no_content { desk = cells ∷ [] } → fields ≡ with_fields (map entry_row p.fields.entries) desk
-    → moves ≡ with_moves (map move_row (moves_after (option_map move_of p.moved) [])) fields → orders ≡ with_steps (map (step_to A) (map order_of p.orders.items)) moves
-    → kept ≡ with_kept (kept_row (record { key = p.key; place = p.place; command = p.words }) ∷ []) orders → kept ≡ rows_made A r
-rows_in_turn A r p cells desk fields moves orders kept good passed m is a b d f h =
-    let steps_are = ap (map (step_to A)) m.orders ∙ steps_seen A r.command good passed in
-    grind (arith, length-insert)

@@ -15,9 +15,9 @@ pub use Rattle.book.specs.Plans.{ChangesTo}
 pub use Rattle.book.specs.Rows.{Content, DeskCells, FieldCells, FirmCells, IsFieldRow, IsRowsOf, KeptCells, LineCells, OrderCells, desk_row, field_cmp, firm_cmp, firm_row, firm_rows, kept_cmp, kept_row, line_cmp, line_row, lines_from, move_cmp, move_row, order_cmp, order_lines, order_row}
 pub use Rattle.book.specs.inner.RunningNumbers.{Accepts, AreHeld, Becomes, Counts, CountsAll, CountsMore, Falls, HasEntry, IsChangedField, IsUpToDate, MayBecome, MayCount, ShareStep, add_part, added_on, before_on, new_share, no_share, settled_part, share_before, share_numbers, share_of, share_step, share_steps, shares_of_step, take_part, with_entries}
 pub use Rattle.book.specs.Steps.{LineStep, Step, becomes_firm, changes_held, changes_line, changes_state, changes_stock, line_steps, lines_of, orders_made, steps, steps_of}
-pub use Rattle.book.specs.inner.StepsSeen.{Leaves, line_seen, lines_before, number_cmp, step_seen, step_to, with_fields, with_firms, with_kept, with_lines, with_moves, with_orders, with_steps}
+pub use Rattle.book.specs.inner.StepsSeen.{Leaves, line_seen, lines_before, number_cmp, joined, step_rows, step_seen, step_to}
 pub use Rattle.book.specs.inner.Sums.{AreLinesOnFields, AreMovesOnFields, AreOnFields, AreOrdersOnFields, IsField, added, entry_name, lines_numbers, numbers_on, only_on, part_of_line}
-pub use Rattle.book.specs.Tables.{field_cells, firm_cells, kept_cells, line_cells, move_cells, order_cells, rows_among}
+pub use Rattle.book.specs.Tables.{field_cells, firm_cells, kept_cells, line_cells, move_cells, no_content, order_cells, rows_among}
 pub use Rattle.book.specs.inner.RowEntries.{AreNumbered, AreOthers, BeginsOther, HasNumbers, HaveNumbers, IsBounded, IsFieldTold, IsKeptTold, IsLineTold, IsMoveByItself, IsMoveTold, IsOrderByItself, IsWhole, TellHeads, TellOrders, TellsField, head_of, head_row, mark_rows, told_ledger}
 pub use Rattle.book.specs.Model.{entry_row, BookView, field_of, kept_of, ledger_of, move_of, order_of, view_of}
 pub use Rattle.book.specs.inner.Walk.{IsSmall, most_of_all, most_of_line, most_of_lines, most_of_move, most_of_moves, moved_by_move, moved_by_entry, nothing, plus}
@@ -61,7 +61,7 @@ pub use Rattle.std.proofs.lemmas.List.Sorted.{IsPermutation-map, IsPermutation-r
 pub use Rattle.std.proofs.lemmas.List.{append-nil, append_assoc, length-take-le, map-append, take-append-drop, take_all}
 pub use Rattle.std.proofs.lemmas.Map.Text.{is_eq-slice_cmp}
 pub use Rattle.std.proofs.lemmas.Option.{get_or_from_slice_get, none-some, same_Some, slice_get-map, slice_get_read, slice_get_within}
-pub use Rattle.std.proofs.lemmas.Result.{IfOk-weaker, on_ok_weaker}
+pub use Rattle.std.proofs.lemmas.Result.{IfOk-weaker}
 pub use Rattle.std.proofs.lemmas.Simd.{map-map}
 pub use Rattle.std.specs.BTreeMap.{insert_entry, is_at}
 pub use Rattle.std.specs.Cmp.Lexicographic.{slice_cmp}

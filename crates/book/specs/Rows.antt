@@ -8,6 +8,7 @@ use Rattle.std.specs.List.Sorted.{IsStrictlySortedBy}
 use Rattle.escrow.specs.declared.quantity.Way.{Way}
 use Rattle.escrow.specs.declared.quantity.Way.TheVariants.{Take, Add}
 use Rattle.words.specs.Spelling.{spelling}
+use Rattle.book.specs.declared.limits.TheConstants.{SCHEMA_VERSION}
 use Rattle.book.specs.declared.order.Kind.{Kind}
 use Rattle.book.specs.declared.order.Kind.TheVariants.{Plain, Transfer}
 use Rattle.book.specs.declared.order.State.{State}
@@ -132,8 +133,12 @@ firm_row number = record { number = pos number }
 abbrev pub firm_rows : Order → List FirmCells
 firm_rows o = if o.firm then firm_row o.number ∷ [] else []
 
+-- the row of a desk with that clock and so many places
+abbrev pub desk_of : ℕ → ℕ → DeskCells
+desk_of clock places = record { one = pos 1; version = SCHEMA_VERSION; clock = pos clock; places = pos places }
+
 abbrev pub desk_row : Ledger → DeskCells
-desk_row A = record { one = pos 1; version = pos 2; clock = pos A.clock; places = pos (places A) }
+desk_row A = desk_of A.clock (places A)
 
 -- the content is the ledger's rows
 pub record IsRowsOf (A : Ledger) (C : Content) : Type 0 where

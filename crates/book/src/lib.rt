@@ -15,7 +15,9 @@ pub use laws::{
     rows_are_one, rows_tell_all, runs_stay_good, spellings_tell_commands, tests_are_comparisons,
     transfers_even_out, worked_examples_hold,
 };
-pub use limits::{MAX_FIELDS, MAX_ORDERS, MAX_PLACES, limits_are_those_of_the_rules};
+pub use limits::{
+    MAX_FIELDS, MAX_ORDERS, MAX_PLACES, SCHEMA_VERSION, limits_are_those_of_the_rules,
+};
 pub use order::{Kind, Line, Standing};
 pub use rows::{
     Change, DeskRow, FieldRow, FirmRow, KeptRow, LineRow, MoveRow, OrderRow, Rows, Tables,

@@ -1,6 +1,6 @@
-//! The limits of the ledger.
+//! The limits of the ledger, and the version of its rows.
 
-ghost use Rattle.std.specs.Prelude.{◌≡◌};
+ghost use Rattle.std.specs.Prelude.{◌≡◌, pos};
 
 /// The greatest number of fields.
 pub const MAX_FIELDS: usize = 10_000;
@@ -11,9 +11,13 @@ pub const MAX_ORDERS: usize = 100_000;
 /// The greatest number of accepted commands. Each open order has one of them set aside for its end.
 pub const MAX_PLACES: usize = 200_000;
 
-/// The limits are the numbers of the rules.
+/// The version of the schema of the store.
+pub const SCHEMA_VERSION: i64 = 2;
+
+/// The limits and the version are the numbers of the rules.
 pub fn limits_are_those_of_the_rules()
     ensures fields { MAX_FIELDS ≡ 10000 }
     ensures orders { MAX_ORDERS ≡ 100000 }
     ensures places { MAX_PLACES ≡ 200000 }
+    ensures version { SCHEMA_VERSION ≡ pos 2 }
 {}

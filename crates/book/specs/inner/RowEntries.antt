@@ -27,7 +27,7 @@ use Rattle.book.specs.declared.rows.MoveRow.{MoveRow}
 use Rattle.book.specs.declared.rows.OrderRow.{OrderRow}
 use Rattle.book.specs.Good.{Good, IsGoodField, IsGoodKept, IsTransferPair}
 use Rattle.book.specs.Ledger.{Field, Ledger, Move, Name, Order, is_transfer, line_name, name_cmp, open_orders, places, same_name}
-use Rattle.book.specs.Rows.{Content, DeskCells, FieldCells, FirmCells, LineCells, OrderCells, desk_row, firm_row, firm_rows, kind_code, kept_row, move_row, order_lines, order_row, state_code, way_code}
+use Rattle.book.specs.Rows.{Content, FieldCells, FirmCells, LineCells, OrderCells, desk_row, firm_row, firm_rows, kind_code, kept_row, move_row, order_lines, order_row, state_code, way_code}
 use Rattle.book.specs.inner.RunningNumbers.{IsUpToDate}
 use Rattle.book.specs.Tables.{kept_cells, line_cells, move_cells, order_cells}
 use Rattle.book.specs.Model.{field_of, kept_of, move_of, order_of}
@@ -137,10 +137,6 @@ pub record TellOrders (orders : List Order) (heads : List Head) (lines : List Li
   pub lines_are : flat_map order_lines orders ≡ lines
 
 -- ---- ledgers from tables
-
--- the row of a desk with that clock and so many places
-abbrev pub desk_of : ℕ → ℕ → DeskCells
-desk_of clock places = record { one = pos 1; version = pos 2; clock = pos clock; places = pos places }
 
 abbrev pub told_ledger : Entries → Ledger
 told_ledger e = record {

@@ -1,4 +1,4 @@
--- Steps and the parts of a plan as the book sees them (an order before is looked up), and rows behind others.
+-- Steps and the parts of a plan as the book sees them (an order before is looked up), and the rows that change.
 use Rattle.std.specs.Prelude.{ℕ, ◌+◌, ◌++◌, ◌≡◌, ◌≤◌, ◌⊎◌, IsSome, List, [], None, Option, flat_map, length, map, option_map}
 use Rattle.std.specs.BTreeMap.{is_at}
 use Rattle.std.specs.List.{AllByRecursion as Each}
@@ -13,8 +13,9 @@ use Rattle.book.specs.Changes.{amount_rows, state_row, mark_row}
 use Rattle.book.specs.Ledger.{Ledger, Order, open_orders, order_numbered, places}
 use Rattle.book.specs.Model.{entry_row, move_of, order_of}
 use Rattle.book.specs.Next.{move_made, next}
-use Rattle.book.specs.Rows.{Content, FieldCells, FirmCells, KeptCells, LineCells, MoveCells, OrderCells}
+use Rattle.book.specs.Rows.{Content}
 use Rattle.book.specs.Steps.{LineStep, Step, orders_made}
+use Rattle.book.specs.Tables.{no_content}
 use Rattle.book.specs.declared.book.plan.PlanParts.{PlanParts}
 use Rattle.book.specs.declared.order.Line.{Line}
 use Rattle.book.specs.inner.FieldRows.{field_rows}
@@ -49,32 +50,26 @@ abbrev pub MayBePut : ℕ → List (ℕ × OrderEntry) → List (ℕ × OrderEnt
 MayBePut room made entries =
     ((length made ≤ 1) × (1 ≤ room)) ⊎ Each (λ o. IsSome (lookup (is_at (nat_cmp o.0)) entries)) made
 
--- ---- rows after those that are there
+-- ---- rows that change
 
-abbrev pub with_fields : List FieldCells → Content → Content
-with_fields rows C = record C { fields = C.fields ++ rows }
+-- the rows of each table one after the other
+abbrev pub joined : Content → Content → Content
+joined first more = record {
+  desk = first.desk ++ more.desk;
+  fields = first.fields ++ more.fields;
+  moves = first.moves ++ more.moves;
+  orders = first.orders ++ more.orders;
+  lines = first.lines ++ more.lines;
+  kept = first.kept ++ more.kept;
+  firms = first.firms ++ more.firms;
+}
 
-abbrev pub with_moves : List MoveCells → Content → Content
-with_moves rows C = record C { moves = C.moves ++ rows }
-
-abbrev pub with_orders : List OrderCells → Content → Content
-with_orders rows C = record C { orders = C.orders ++ rows }
-
-abbrev pub with_lines : List LineCells → Content → Content
-with_lines rows C = record C { lines = C.lines ++ rows }
-
-abbrev pub with_kept : List KeptCells → Content → Content
-with_kept rows C = record C { kept = C.kept ++ rows }
-
-abbrev pub with_firms : List FirmCells → Content → Content
-with_firms rows C = record C { firms = C.firms ++ rows }
-
--- with the rows that these steps change
-abbrev pub with_steps : List Step → Content → Content
-with_steps steps C = record C {
-  orders = C.orders ++ flat_map state_row steps;
-  lines = C.lines ++ flat_map amount_rows steps;
-  firms = C.firms ++ flat_map mark_row steps;
+-- the rows that these steps change
+abbrev pub step_rows : List Step → Content
+step_rows steps = record no_content {
+  orders = flat_map state_row steps;
+  lines = flat_map amount_rows steps;
+  firms = flat_map mark_row steps;
 }
 
 -- The parts are what the request makes of the ledger.

@@ -2,15 +2,15 @@
 
 ghost use Rattle.std.specs.List.{AllByRecursion as Each};
 ghost use Rattle.std.specs.Option.{option_copied};
-ghost use Rattle.std.specs.Prelude.{◌≡◌, ◌≤◌, pos, string_bytes, IfOk, IfSome, ◌∷◌, ◌++◌, [], length, map, option_map, OnOk};
+ghost use Rattle.std.specs.Prelude.{◌≡◌, ◌≤◌, string_bytes, IfOk, ◌∷◌, [], length, map, OnOk};
 ghost use Rattle.std.specs.Str.{IsUtf8};
 ghost use Rattle.words.specs.declared.limits.TheConstants.{MAX_ORDER_LINES};
-ghost use Rattle.book.specs.Changes.{amount_row, amount_rows, mark_row, state_row};
-ghost use Rattle.book.specs.Next.{moves_after, next};
-ghost use Rattle.book.specs.Rows.{kept_row, kind_code, line_row, move_row, order_row, state_code, way_code};
+ghost use Rattle.book.specs.Changes.{amount_rows};
+ghost use Rattle.book.specs.Next.{next};
+ghost use Rattle.book.specs.Rows.{desk_of, kept_row, kind_code, line_row, move_row, order_row, state_code, way_code};
 ghost use Rattle.book.specs.inner.RunningNumbers.{Accepts};
-ghost use Rattle.book.specs.inner.StepsSeen.{Makes, line_seen, step_seen, step_to, with_fields, with_firms, with_kept, with_lines, with_moves, with_orders, with_steps};
-ghost use Rattle.book.specs.Tables.{desk_cells, field_cells, kept_cells, line_cells, move_cells, order_cells, rows_among};
+ghost use Rattle.book.specs.inner.StepsSeen.{Makes, joined, step_rows, step_seen, step_to};
+ghost use Rattle.book.specs.Tables.{desk_cells, field_cells, kept_cells, line_cells, move_cells, no_content, order_cells, rows_among};
 ghost use Rattle.book.specs.Model.{entry_row, move_of, order_of};
 ghost use Rattle.book.specs.Plans.{ChangesTo};
 
@@ -18,7 +18,7 @@ use super::plan::PlanParts;
 use super::steps::{becomes_firm, changes_line, changes_state, line_before};
 use super::{Book, FieldEntry, MoveEntry};
 use crate::kept_words::KeptWords;
-use crate::limits::MAX_PLACES;
+use crate::limits::{MAX_PLACES, SCHEMA_VERSION};
 use crate::order::{Kind, Line, Order, OrderEntry, State};
 use crate::rows::{Change, DeskRow, FieldRow, FirmRow, KeptRow, LineRow, MoveRow, OrderRow};
 use escrow::{Article, Branch, FieldName, Key, Moment, OrderNo, Way};
@@ -159,21 +159,14 @@ fn kept_row(alloc: Global, key: Key, place: u64, words: &KeptWords) -> Result<Ke
 /// The row of a desk.
 fn desk_row(clock: Moment, places: u64) -> DeskRow
     requires { places ≤ MAX_PLACES }
-    ensures { desk_cells result ≡ record { one = pos 1; version = pos 2; clock = pos clock; places = pos places } }
+    ensures { desk_cells result ≡ desk_of clock places }
 {
     DeskRow {
         one: 1,
-        version: 2,
+        version: SCHEMA_VERSION,
         clock: clock.get() as i64,
         places: places as i64,
     }
-}
-
-/// Appends a change.
-fn push(changes: &mut Vec<Change>, change: Change) -> Result<(), Memory>
-    ensures { OnOk result (changes.new.items ≡ changes.old.items ++ change ∷ []) }
-{
-    Ok(changes.push(change)?)
 }
 
 /// Appends the rows of the fields.
@@ -182,47 +175,12 @@ fn push_fields(
     changes: &mut Vec<Change>,
     fields: &InOrder<FieldName, FieldEntry>,
 ) -> Result<(), Memory>
-    ensures { OnOk result (rows_among changes.new.items ≡ with_fields (map entry_row fields.now.entries)
-        (rows_among changes.old.items)) }
+    ensures { OnOk result (rows_among changes.new.items ≡ joined (rows_among changes.old.items)
+        (record no_content { fields = map entry_row fields.now.entries })) }
 {
     for place in 0..fields.len() {
         let row = field_row(alloc, fields.entry_at(place))?;
-        push(changes, Change::Field(row))?;
-    }
-    Ok(())
-}
-
-/// Appends the row of the order, if it is new or its state changes.
-fn push_order(
-    changes: &mut Vec<Change>,
-    before: Option<&OrderEntry>,
-    after: &Order,
-) -> Result<(), Memory>
-    ensures { OnOk result (rows_among changes.new.items ≡ with_orders
-        (state_row (step_seen (option_copied before.entry) after.now)) (rows_among changes.old.items)) }
-{
-    if changes_state(before, after) {
-        push(changes, Change::Order(order_row(after)))?;
-    }
-    Ok(())
-}
-
-/// Appends the row of the line, if it is new or one of its amounts changes.
-fn push_line(
-    alloc: Global,
-    changes: &mut Vec<Change>,
-    number: OrderNo,
-    nr: usize,
-    before: Option<&Line>,
-    line: &Line,
-) -> Result<(), Memory>
-    requires { nr ≤ MAX_ORDER_LINES }
-    ensures { OnOk result (rows_among changes.new.items ≡ with_lines
-        (amount_row number (line_seen nr (option_copied before.entry) line.now)) (rows_among changes.old.items)) }
-{
-    if changes_line(before, line) {
-        let row = line_row(alloc, number, nr, line)?;
-        push(changes, Change::Line(row))?;
+        changes.push(Change::Field(row))?;
     }
     Ok(())
 }
@@ -235,58 +193,16 @@ fn push_lines(
     after: &Order,
 ) -> Result<(), Memory>
     requires { length after.now.1.lines.items ≤ MAX_ORDER_LINES }
-    ensures { OnOk result (rows_among changes.new.items ≡ with_lines
-        (amount_rows (step_seen (option_copied before.entry) after.now)) (rows_among changes.old.items)) }
+    ensures { OnOk result (rows_among changes.new.items ≡ joined (rows_among changes.old.items)
+        (record no_content { lines = amount_rows (step_seen (option_copied before.entry) after.now) })) }
 {
     for (place, line) in after.1.lines.iter().enumerate() {
-        let old = line_before(before, place);
-        push_line(alloc, changes, after.0, place + 1, old, line)?;
+        if changes_line(line_before(before, place), line) {
+            let row = line_row(alloc, after.0, place + 1, line)?;
+            changes.push(Change::Line(row))?;
+        }
     }
     Ok(())
-}
-
-/// Appends the row that marks the order as firm, if that is new.
-fn push_mark(
-    changes: &mut Vec<Change>,
-    before: Option<&OrderEntry>,
-    after: &Order,
-) -> Result<(), Memory>
-    ensures { OnOk result (rows_among changes.new.items ≡ with_firms
-        (mark_row (step_seen (option_copied before.entry) after.now)) (rows_among changes.old.items)) }
-{
-    if becomes_firm(before, after) {
-        let number = after.0.get() as i64;
-        push(changes, Change::Firm(FirmRow { number }))?;
-    }
-    Ok(())
-}
-
-/// Appends the row of the move, if there is one.
-fn push_move(
-    alloc: Global,
-    changes: &mut Vec<Change>,
-    moved: &Option<MoveEntry>,
-) -> Result<(), Memory>
-    requires { IfSome moved.now (λ entry. entry.place ≤ MAX_PLACES) }
-    ensures { OnOk result (rows_among changes.new.items ≡ with_moves
-        (map move_row (moves_after (option_map move_of moved.now) [])) (rows_among changes.old.items)) }
-{
-    let Some(entry) = moved else {
-        return Ok(());
-    };
-    let row = move_row(alloc, entry)?;
-    push(changes, Change::Move(row))
-}
-
-/// Appends the row of the key that the parts put in.
-fn push_kept(alloc: Global, changes: &mut Vec<Change>, parts: &PlanParts) -> Result<(), Memory>
-    requires { parts.now.place ≤ MAX_PLACES }
-    ensures { OnOk result (rows_among changes.new.items ≡ with_kept (kept_row
-        (record { key = parts.now.key; place = parts.now.place; command = parts.now.words }) ∷ [])
-        (rows_among changes.old.items)) }
-{
-    let row = kept_row(alloc, parts.key, parts.place, &parts.words)?;
-    push(changes, Change::Kept(row))
 }
 
 impl Book {
@@ -300,7 +216,9 @@ impl Book {
         }
     }
 
-    /// Appends the rows that change as the order becomes this one.
+    /// Appends the rows that change as the order becomes this one: its own, if it is new or its state changes, those of
+    /// its lines, and the one that marks it as firm, if that is new.
+    #[tactic(auto, using(crate::proofs::Among::appended))]
     fn push_step(
         &self,
         alloc: Global,
@@ -308,13 +226,19 @@ impl Book {
         order: &Order,
     ) -> Result<(), Memory>
         requires { length order.now.1.lines.items ≤ MAX_ORDER_LINES }
-        ensures { OnOk result (rows_among changes.new.items ≡ with_steps
-            (step_to self.now.ledger (order_of order.now) ∷ []) (rows_among changes.old.items)) }
+        ensures { OnOk result (rows_among changes.new.items ≡ joined (rows_among changes.old.items)
+            (step_rows (step_to self.now.ledger (order_of order.now) ∷ []))) }
     {
         let before = self.order_entry(order.0);
-        push_order(changes, before, order)?;
+        if changes_state(before, order) {
+            changes.push(Change::Order(order_row(order)))?;
+        }
         push_lines(alloc, changes, before, order)?;
-        push_mark(changes, before, order)
+        if becomes_firm(before, order) {
+            let number = order.0.get() as i64;
+            changes.push(Change::Firm(FirmRow { number }))?;
+        }
+        Ok(())
     }
 
     /// Appends the rows that change as the orders become these.
@@ -325,8 +249,8 @@ impl Book {
         orders: &[Order],
     ) -> Result<(), Memory>
         requires { Each (λ o. length o.1.lines.items ≤ MAX_ORDER_LINES) orders.now }
-        ensures { OnOk result (rows_among changes.new.items ≡ with_steps
-            (map (step_to self.now.ledger) (map order_of orders.now)) (rows_among changes.old.items)) }
+        ensures { OnOk result (rows_among changes.new.items ≡ joined (rows_among changes.old.items)
+            (step_rows (map (step_to self.now.ledger) (map order_of orders.now)))) }
     {
         for order in orders {
             self.push_step(alloc, changes, order)?;
@@ -349,12 +273,14 @@ impl Book {
             ≡ (rows_among changes.items).fields) }
     {
         let mut changes = Vec::new(alloc);
-        let desk = desk_row(parts.clock, parts.place);
-        push(&mut changes, Change::Desk(desk))?;
+        changes.push(Change::Desk(desk_row(parts.clock, parts.place)))?;
         push_fields(alloc, &mut changes, &parts.fields)?;
-        push_move(alloc, &mut changes, &parts.moved)?;
+        if let Some(entry) = &parts.moved {
+            changes.push(Change::Move(move_row(alloc, entry)?))?;
+        }
         self.push_steps(alloc, &mut changes, &parts.orders)?;
-        push_kept(alloc, &mut changes, parts)?;
+        let kept = kept_row(alloc, parts.key, parts.place, &parts.words)?;
+        changes.push(Change::Kept(kept))?;
         Ok(changes)
     }
 }

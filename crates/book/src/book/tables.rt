@@ -4,9 +4,9 @@ ghost use Rattle.std.specs.Prelude.{◌≡◌, ◌↔◌, ℕ, IfErr, IfOk, IsTr
 ghost use Rattle.std.specs.List.{AllByRecursion as Each, AllZip};
 ghost use Rattle.book.specs.Good.{Good};
 ghost use Rattle.book.specs.Tables.{content_of, desk_cells};
-ghost use Rattle.book.specs.inner.RowEntries.{AreGood, AreInOrder, IsBounded, IsFieldTold, IsInForm, IsWhole, IsWithinLimits, TellsLedger, desk_of, told_ledger};
+ghost use Rattle.book.specs.inner.RowEntries.{AreGood, AreInOrder, IsBounded, IsFieldTold, IsInForm, IsWhole, IsWithinLimits, TellsLedger, told_ledger};
 ghost use Rattle.escrow.specs.Ranges.{IsMoment};
-ghost use Rattle.book.specs.Rows.{IsDamaged, IsRowsOf};
+ghost use Rattle.book.specs.Rows.{IsDamaged, IsRowsOf, desk_of};
 ghost use Rattle.book.specs.declared.book.tables.TablesFault.TheVariants as TablesFault;
 
 mod good;
@@ -23,7 +23,7 @@ use self::marks::read_heads;
 use self::sums::are_up_to_date;
 use self::told::{moment, natural, read_all};
 use crate::book::{Book, FieldEntry, KeptEntry, MoveEntry};
-use crate::limits::{MAX_FIELDS, MAX_ORDERS, MAX_PLACES};
+use crate::limits::{MAX_FIELDS, MAX_ORDERS, MAX_PLACES, SCHEMA_VERSION};
 use crate::order::{Line, Order, count_open};
 use crate::rows::{DeskRow, Tables};
 use escrow::{FieldName, Key, Moment};
@@ -59,7 +59,7 @@ fn read_desk(row: &DeskRow, places: usize) -> Option<Moment>
         (λ clock. IsMoment clock × (desk_cells row.now ≡ desk_of clock places)) }
 {
     let known = natural(row.places)?;
-    if row.one != 1 || row.version != 2 || known != places as u64 {
+    if row.one != 1 || row.version != SCHEMA_VERSION || known != places as u64 {
         return None;
     }
     moment(row.clock)

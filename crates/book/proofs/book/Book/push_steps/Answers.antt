@@ -1,5 +1,4 @@
-use Rattle.book.proofs.Prelude.{[], ◌∙◌, ◌∷◌, List, OrderEntry, ap, map, map-append, order_of, rows_among, step_to, take, ℕ}
-use Rattle.book.proofs.Among.{steps_joined}
+use Rattle.book.proofs.Prelude.{[], ◌∙◌, ◌∷◌, List, OrderEntry, ap, append_assoc, arith, flat_map-append, map, map-append, order_of, step_to, take, ℕ}
 use Rattle.book.proofs.Lists.{take-step}
 use Rattle.book.proofs.book.Book.push_steps.Goals as goal
 
@@ -8,4 +7,4 @@ loop-order-preserved c =
     let A = c.args.self.now.ledger in let i = c.loop-order.order-index in let x = c.order-item.result in
     let next = ap (λ (os : List (ℕ × OrderEntry)). map (step_to A) (map order_of os)) (take-step c.args.orders.now i x c.loop-order-test.true c.order-item.is)
     ∙ ap (map (step_to A)) (map-append order_of (take i c.args.orders.now) (x ∷ [])) ∙ map-append (step_to A) (map order_of (take i c.args.orders.now)) (order_of x ∷ []) in
-    steps_joined (rows_among c.args.changes.now.items) (rows_among c.loop-order.changes.items) (rows_among c.push_step.new.changes.items) (map (step_to A) (map order_of (take i c.args.orders.now))) (step_to A (order_of x)) _ c.loop-order.invariant c.in_ok-push_step.ensures next
+    grind (arith, append_assoc, flat_map-append)

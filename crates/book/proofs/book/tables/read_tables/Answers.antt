@@ -1,12 +1,10 @@
-use Rattle.book.proofs.Prelude.{[], ◌∙◌, ◌∷◌, ◌≡◌, AllZip, DeskCells, Each, FieldEntry, FieldRow, IsFieldRow, IsFieldTold, IsGoodField, IsGoodKept, IsKeptTold, IsMoveTold, KeptCells, KeptEntry, KeptRow, List, Name, Order, TellsField, ap, arith, field_cells, field_of, firm_cells, kept_cells, kept_of, kept_row, length, line_cells, map, move_cells, move_of, move_row, order_cells, order_of, places, pos, subst, sym, ℕ}
+use Rattle.book.proofs.Prelude.{[], ◌∙◌, ◌∷◌, ◌≡◌, AllZip, DeskCells, Each, FieldEntry, FieldRow, IsFieldRow, IsFieldTold, IsGoodField, IsGoodKept, IsKeptTold, IsMoveTold, KeptCells, KeptEntry, KeptRow, List, Name, Order, TellsField, ap, arith, field_cells, field_of, firm_cells, kept_cells, kept_of, kept_row, length, line_cells, map, move_cells, move_of, move_row, order_cells, order_of, places, subst, sym, ℕ}
+use Rattle.book.specs.Rows.{desk_of}
 use Rattle.book.proofs.RowEntries.{fields_told, good_field, heads_same, kept_told, lines_told, moves_told, orders_rows, rows_of, tells_field}
 use Rattle.book.proofs.Lists.{length-of-map, zip-length, zip-map}
 use Rattle.book.proofs.EqualRows.{same_first}
 use Rattle.book.proofs.TestResults.{passed_up}
 use Rattle.book.proofs.book.tables.read_tables.Goals as goal
-
-abbrev desk_at : ℕ → ℕ → DeskCells
-desk_at clock places = record { one = pos 1; version = pos 2; clock = pos clock; places = pos places }
 
 pub returns-in_err-fields-clause-damaged : goal.returns-in_err-fields-clause-damaged
 returns-in_err-fields-clause-damaged c = passed_up c.from_residual.result c.in_err-fields.field-0.0 _ c.from_residual.ensures.1
@@ -39,7 +37,7 @@ returns-in_default-clause-damaged c _ A g rows =
     let cells = length-of-map kept_cells c.as_slice-7.result.now in
     let ledger = length-of-map kept_row A.kept in
     let places : places A ≡ c.len.result = omega arith in
-    c.in_default.ensures A.clock g.clock (same_first _ _ _ _ rows.desk ∙ ap (desk_at A.clock) places)
+    c.in_default.ensures A.clock g.clock (same_first _ _ _ _ rows.desk ∙ ap (desk_of A.clock) places)
 
 pub returns-clause-told : goal.returns-clause-told
 returns-clause-told c =
@@ -51,7 +49,7 @@ returns-clause-told c =
     let seen = length-of-map kept_of c.in_ok-kept.kept.items in
     let places : c.len.result ≡ length (map kept_of c.in_ok-kept.kept.items) = omega arith in
     record {
-      desk = ap (λ (d : DeskCells). d ∷ []) (c.in-Some.ensures.1 ∙ ap (desk_at c.in-Some.clock) places);
+      desk = ap (λ (d : DeskCells). d ∷ []) (c.in-Some.ensures.1 ∙ ap (desk_of c.in-Some.clock) places);
       fields = subst (λ (rows : List FieldRow). AllZip TellsField (map field_of c.in_ok-fields.fields.items) (map field_cells rows)) c.as_slice.ensures
           (zip-map IsFieldTold TellsField field_of field_cells tells_field c.in_ok-fields.fields.items c.as_slice.result.now c.in_ok-fields.ensures.told);
       moves = sym (ap (map move_cells) c.as_slice-2.ensures) ∙ rows_of IsMoveTold move_of move_row move_cells (λ e row told. told.cells) c.in_ok-moves.moves.items c.as_slice-2.result.now c.in_ok-moves.ensures.told;
