@@ -135,7 +135,7 @@ firm_rows o = if o.firm then firm_row o.number ∷ [] else []
 
 -- the row of a desk with that clock and so many places
 abbrev pub desk_of : ℕ → ℕ → DeskCells
-desk_of clock places = record { one = pos 1; version = SCHEMA_VERSION; clock = pos clock; places = pos places }
+desk_of clock places = record { one = pos 1; version = pos SCHEMA_VERSION; clock = pos clock; places = pos places }
 
 abbrev pub desk_row : Ledger → DeskCells
 desk_row A = desk_of A.clock (places A)

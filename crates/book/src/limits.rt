@@ -12,12 +12,12 @@ pub const MAX_ORDERS: usize = 100_000;
 pub const MAX_PLACES: usize = 200_000;
 
 /// The version of the schema of the store.
-pub const SCHEMA_VERSION: i64 = 2;
+pub const SCHEMA_VERSION: usize = 2;
 
 /// The limits and the version are the numbers of the rules.
 pub fn limits_are_those_of_the_rules()
     ensures fields { MAX_FIELDS ≡ 10000 }
     ensures orders { MAX_ORDERS ≡ 100000 }
     ensures places { MAX_PLACES ≡ 200000 }
-    ensures version { SCHEMA_VERSION ≡ pos 2 }
+    ensures version { SCHEMA_VERSION ≡ 2 }
 {}

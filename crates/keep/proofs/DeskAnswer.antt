@@ -17,7 +17,7 @@ use Rattle.book.specs.Tables.{desk_cells}
 use Rattle.keep.specs.Description.{columns, key_cmp, selected, shown, stored}
 use Rattle.keep.specs.declared.description.TableName.TheVariants as table
 use Rattle.keep.specs.Content.{IsOneRow, IsVersion, Stores}
-use Rattle.keep.specs.Loads.{FindsOver, IsOneAnswer, IsSchemaWith}
+use Rattle.keep.specs.Loads.{IsOneAnswer, Reads}
 
 alone : (x : DeskCells) → IsStrictlySortedBy (key_cmp table.Desk) (x ∷ [])
 unfolding IsStrictlySortedBy
@@ -42,7 +42,7 @@ answered version tree answers row same are is = record {
   is_version = is;
 }
 
-module _ (version : ℤ) (old new : State) (answers : List Row) (rows : HasCleanDisk new → (IsSchemaWith table.Desk) old.now.schema → IsPermutation (map (selected table.Desk) (old.now.trees 0)) answers) (same : HasCleanDisk new → (IsSchemaWith table.Desk) old.now.schema → IsUnchanged old new) where
+module _ (version : ℤ) (old new : State) (answers : List Row) (rows : HasCleanDisk new → IsPermutation (map (selected table.Desk) (old.now.trees 0)) answers) (same : HasCleanDisk new → IsUnchanged old new) where
   abbrev Told : Result (Option DeskRow) Error → Type 0
   Told r = IfOk r (λ found. MatchOption found (¬ ((row : DeskCells) × IsOneAnswer version answers row)) (λ row. IsOneAnswer version answers (desk_cells row)))
 
@@ -51,16 +51,16 @@ module _ (version : ℤ) (old new : State) (answers : List Row) (rows : HasClean
   version_if (Ok None) h = tt
   version_if (Err e) h = tt
 
-  pub found_if : (r : Result (Option DeskRow) Error) → Told r → IfOk r (λ found. IfSome found (λ row. FindsOver (IsSchemaWith table.Desk) old new (λ trees. Stores table.Desk (trees 0) (desk_cells row ∷ []))))
-  found_if (Ok (Some row)) h = λ clean has. (same clean has, one_row version _ _ (desk_cells row) (rows clean has) h)
+  pub found_if : (r : Result (Option DeskRow) Error) → Told r → IfOk r (λ found. IfSome found (λ row. Reads old new (λ trees. Stores table.Desk (trees 0) (desk_cells row ∷ []))))
+  found_if (Ok (Some row)) h = λ clean. (same clean, one_row version _ _ (desk_cells row) (rows clean) h)
   found_if (Ok None) h = tt
   found_if (Err e) h = tt
 
-  pub none_if : (r : Result (Option DeskRow) Error) → Told r → IfOk r (λ found. found ≡ None → FindsOver (IsSchemaWith table.Desk) old new (λ trees. (xs : List DeskCells) → Stores table.Desk (trees 0) xs → ¬ IsOneRow version xs))
-  none_if (Ok None) h = λ none clean has. (
-    same clean has,
+  pub none_if : (r : Result (Option DeskRow) Error) → Told r → IfOk r (λ found. found ≡ None → Reads old new (λ trees. (xs : List DeskCells) → Stores table.Desk (trees 0) xs → ¬ IsOneRow version xs))
+  none_if (Ok None) h = λ none clean. (
+    same clean,
     λ xs are one.
-        h (one.0, answered version _ _ one.0 (rows clean has) (subst (Stores table.Desk (old.now.trees 0)) one.1 are) one.2),
+        h (one.0, answered version _ _ one.0 (rows clean) (subst (Stores table.Desk (old.now.trees 0)) one.1 are) one.2),
   )
   none_if (Ok (Some row)) h = λ none. absurd (let e = none in cc)
   none_if (Err e) h = tt

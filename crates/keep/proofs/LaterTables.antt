@@ -15,7 +15,7 @@ use Rattle.keep.specs.OneContent.{is_now}
 use Rattle.keep.specs.Stages.{AddsTables}
 use Rattle.keep.specs.declared.description.TableName.{TableName}
 use Rattle.keep.specs.declared.description.TableName.TheVariants as table
-use Rattle.keep.proofs.Versions.{brought, in_version, is_late, of_each}
+use Rattle.keep.proofs.Versions.{brought, in_version, is_late, of_each, upto-false, upto-true}
 
 -- what the catalog lists and the tables hold now is the content
 pub content_now : (trees : Trees) (x : Content) → Lists (trees catalog_tree) desk_schema → ((t : TableName) → Stores t (trees (declared t).tree) (rows_of t x)) → IsContent trees x
@@ -58,10 +58,10 @@ module _ (v : ℕ) (old new : Database) (adds : AddsTables (tables_of v) (tables
     where
       by : (b : Bool) → nat_le (since t) v ≡ b → Stores t (new.trees (declared t).tree) (rows_of t x)
       by true is =
-          let early : since t ≤ v = omega (arith, is) in
+          let early : since t ≤ v = upto-true (since t) v is in
           subst (λ rows. Stores t rows (rows_of t x)) (sym (of_each (λ u. new.trees u.tree ≡ old.trees u.tree) (schema_of v).tables (declared t) adds.others (in_version v t early))) (has.rows t early)
       by false is =
-          let late : v < since t = omega (arith, is) in
+          let late : v < since t = upto-false (since t) v is in
           subst (Stores t (new.trees (declared t).tree)) (sym (has.none t late)) (none t _ (of_each (λ u. new.trees (declared u).tree ≡ []) (tables_after v) t adds.empty (is_late v t late)))
 
   listed : v < newest → (tables_after v ≡ []) ⊎ Lists (new.trees catalog_tree) (schema_with (tables_of v ++ tables_after v)) → Lists (new.trees catalog_tree) (schema_with (tables_of v ++ tables_after v))

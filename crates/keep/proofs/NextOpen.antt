@@ -1,5 +1,5 @@
 -- What a stop left is found again.
-use Rattle.std.proofs.Common.{◌≡◌, inl, inr, List, [], ◌∷◌, Ok, Err, Result, IsTrue, subst, sym}
+use Rattle.std.proofs.Common.{◌≡◌, ℕ, inl, inr, List, [], ◌∷◌, Ok, Err, Result, IsTrue, subst, sym}
 use Rattle.std.specs.Prelude.{IfOk, OnOk}
 use Rattle.std.specs.List.{AllByRecursion}
 use Rattle.std.proofs.Math.Logic.{∥∥₁_map}
@@ -21,17 +21,13 @@ use Rattle.sqlite.proofs.Theorems.{next_run}
 use Rattle.book.specs.declared.rows.Tables.{Tables}
 use Rattle.book.specs.Rows.{Content}
 use Rattle.book.specs.Tables.{content_of}
-use Rattle.keep.specs.Old.{HoldsOld, IsOldContent}
-use Rattle.keep.specs.Description.{desk_schema, old_schema}
+use Rattle.keep.specs.Description.{newest, schema_of}
 use Rattle.keep.specs.declared.keep.KeepFault.{KeepFault}
-use Rattle.keep.specs.Content.{Holds, IsAmong, IsContent, IsDesk, LeavesOnly}
+use Rattle.keep.specs.Content.{Holds, HoldsOf, IsAmong, IsContentOf, IsDesk, LeavesOnly}
 
 -- a sound database over trees that have a content holds it
-pub holds_content : (db : Database) (x : Content) → IsSound db.schema db.trees → IsContent db.trees x → Holds db x
-holds_content db x sound has = record { schema_is = lists_once (db.trees catalog_tree) db.schema desk_schema sound.lists has.lists; content = has }
-
-pub holds_old : (db : Database) (x : Content) → IsSound db.schema db.trees → IsOldContent db.trees x → HoldsOld db x
-holds_old db x sound has = record { schema_is = lists_once (db.trees catalog_tree) db.schema old_schema sound.lists has.lists; content = has }
+pub holds_content : (v : ℕ) (db : Database) (x : Content) → IsSound db.schema db.trees → IsContentOf v db.trees x → HoldsOf v db x
+holds_content v db x sound has = record { schema_is = lists_once (db.trees catalog_tree) db.schema (schema_of v) sound.lists has.lists; content = has }
 
 -- The files hold what a stop could leave of this store. Then an open finds one of the contents that it could leave.
 pub found_again : {D : Type 0} {g : Ghosts D} (it : FileStore D g) → IsTrue (view it).is_numbered → AreDatabases (recovers it)
@@ -40,7 +36,7 @@ pub found_again : {D : Type 0} {g : Ghosts D} (it : FileStore D g) → IsTrue (v
 found_again it numbered sound left may these only opened db found =
     ∥∥₁_map (next_run it numbered sound left may opened found) (λ may_be.
     let has = only opened.committed.trees may_be in
-    let r : ((x : Content) × Holds opened.committed x × IsAmong these x) = (has.0, holds_content opened.committed has.0 db has.1, has.2) in r)
+    let r : ((x : Content) × Holds opened.committed x × IsAmong these x) = (has.0, holds_content newest opened.committed has.0 db has.1, has.2) in r)
 
 pub may_after : {D : Type 0} {g : Ghosts D} (it : FileStore D g) (log db : D) (image : Image) → (log, db) ≡ files it → AreClean g log db → outcomes g log db image → (state it).may_leave image
 may_after {g = g} it log db image same clean may = may_leave_is it.pool image (subst (λ p. AreClean g p.0 p.1) same clean) (subst (λ p. outcomes g p.0 p.1 image) same may)

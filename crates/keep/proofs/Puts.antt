@@ -17,7 +17,8 @@ use Rattle.keep.specs.Content.{Holds, Stores}
 use Rattle.keep.specs.Laws.{is_among}
 use Rattle.keep.specs.OneContent.{is_now}
 use Rattle.keep.specs.Transactions.{PutsIn, with_changes}
-use Rattle.keep.proofs.Schemas.{of_each}
+use Rattle.keep.proofs.LaterTables.{content_now}
+use Rattle.keep.proofs.Versions.{of_each}
 use Rattle.keep.proofs.Upserts.{PutsIntoTable, puts_into}
 
 -- where the statement has put them in, the transaction goes on
@@ -60,17 +61,13 @@ rows_put c t old new x puts was = subst (λ rows. Stores t rows (rows_of t x)) (
 pub holds_put : (c : Change) (old new : Database) (x : Content) → PutsIntoTable (table_of c) (cells_of c) old new → Holds old x → Holds new (with_changes (c ∷ []) x)
 holds_put c old new x puts held = record {
   schema_is = puts.schema_is;
-  content = record {
-    lists = puts.lists;
-    rows = λ t now. rows_put c t old new x puts (held.content.rows t now);
-    none = λ t late. absurd (let now = is_now t in omega (arith, now, late));
-  };
+  content = content_now new.trees (with_changes (c ∷ []) x) puts.lists (λ t. rows_put c t old new x puts (held.content.has.rows t (is_now t)));
 }
 
 -- what the statement of a row's table does
 pub row_upserted : (c : Change) (text : List ℕ) → PutsRow (table_of c) text → (old new : State) (r : Result ℕ Error) → ExecutesInside 0 text (columns (table_of c) (cells_of c)) old new r → OnOk r (PutsIn old new (c ∷ []))
 row_upserted c text means old new = upserted text (columns (table_of c) (cells_of c)) (c ∷ []) old new (λ count h x held.
-    holds_put c old.now new.now x (puts_into (table_of c) text means old new (cells_of c) count held.schema_is h (rows_of (table_of c) x) (held.content.rows (table_of c) (is_now (table_of c)))) held)
+    holds_put c old.now new.now x (puts_into (table_of c) text means old new (cells_of c) count held.schema_is h (rows_of (table_of c) x) (held.content.has.rows (table_of c) (is_now (table_of c)))) held)
 
 -- ---- rows put in one after another
 

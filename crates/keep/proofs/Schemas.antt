@@ -1,19 +1,18 @@
 -- Stores with the tables of a version: what is named there, and where it lies.
-use Rattle.std.proofs.Common.{◌≡◌, ◌<◌, ◌≤◌, ◌∙◌, ℕ, zero, suc, pos, List, [], ◌∷◌, arith, refl, subst, sym}
+use Rattle.std.proofs.Common.{◌≡◌, ◌<◌, ◌≤◌, ◌∙◌, ℕ, zero, suc, pos, List, [], ◌∷◌, arith, subst, sym}
 use Rattle.sqlite.specs.Effect.{Database}
 use Rattle.sqlite.specs.Order.{Row}
 use Rattle.sqlite.specs.Schema.{Schema}
-use Rattle.sqlite_trees.specs.Tree.{Trees}
 use Rattle.book.specs.Rows.{Content, DeskCells}
 use Rattle.keep.specs.Content.{HasTable, HasTables, HoldsOf, IsAmong, Stores}
-use Rattle.keep.specs.Description.{declared, newest, schema_of, since}
+use Rattle.keep.specs.Description.{declared, desk_schema, newest, schema_of, since}
 use Rattle.keep.specs.Laws.{named}
 use Rattle.keep.specs.Names.{HasNames}
 use Rattle.keep.specs.Old.{IsOfVersion, IsOld}
 use Rattle.keep.specs.Schema.{desk_table}
 use Rattle.keep.specs.declared.description.TableName.{TableName}
 use Rattle.keep.specs.declared.description.TableName.TheVariants as table
-use Rattle.keep.proofs.Versions.{HasNamesOf, brought, in_version, lies, names_of_version, one_version}
+use Rattle.keep.proofs.Versions.{HasNamesOf, brought, in_version, lies, names_of_version, one_schema, one_version}
 
 -- the seven tables are none without their names
 pub nameless : (db : Database) (x : Content) → ¬ HasNames db.schema → HasTables db x → ⊥
@@ -38,6 +37,11 @@ old_names db old t early =
 -- what is of a version has the schema of no other
 pub is_of : (db : Database) (v w : ℕ) → w ≤ newest → db.schema ≡ schema_of w → v ≤ newest → IsOfVersion v db → v ≡ w
 is_of db v w old is as_old of = one_version v w db.schema (names_of v db of) (names_of_version w db.schema is) as_old old
+
+-- the schema of an older version is not that of the newest
+pub older : (db : Database) (v : ℕ) → v < newest → db.schema ≡ schema_of v → db.schema ≡ desk_schema → ⊥
+older db v old is also =
+    let same : v ≡ newest = one_schema v newest (omega (arith, old)) (omega arith) (sym is ∙ also) in omega (arith, old, same)
 
 -- an older version lacks a table
 pub lacks_one : (db : Database) (x : Content) (v : ℕ) → v < newest → db.schema ≡ schema_of v → HasTables db x → ⊥

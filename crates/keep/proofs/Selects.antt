@@ -1,5 +1,5 @@
 -- What the selects answer: each stored row once, and nothing is changed.
-use Rattle.std.proofs.Common.{arith, ◌≡◌, ◌∙◌, List, [], ◌∷◌, ℕ, Ok, Err, Result, refl, sym, ap, ap₂, ◌≤◌, subst, inl, inr, map, IsPermutation}
+use Rattle.std.proofs.Common.{arith, ◌≡◌, ◌∙◌, List, [], ◌∷◌, ℕ, Ok, Err, Result, refl, sym, ap, ap₂, ◌≤◌, subst, map, IsPermutation}
 use Rattle.std.specs.Prelude.{Vec, OnOk, IfOk, flat_map}
 use Rattle.std.specs.declared.alloc.Global.{Global}
 use Rattle.std.proofs.lemmas.List.Sorted.{IsPermutation-map, IsPermutation-trans}
@@ -17,10 +17,9 @@ use Rattle.sqlite.proofs.Callers.{reads_as, never_commits, IsPlain}
 use Rattle.sqlite.proofs.StateLemmas.{survives_weaker}
 use Rattle.sqlite_trees.specs.Tree.{Trees}
 use Rattle.sqlite.specs.Schema.{Schema}
-use Rattle.keep.specs.Description.{declared, desk_schema, old_schema, selected, since}
+use Rattle.keep.specs.Description.{IsSchemaWith, declared, newest, schema_of, selected, since}
 use Rattle.keep.specs.Statements.{ListsTable, listing, project}
 use Rattle.keep.specs.declared.description.TableName.{TableName}
-use Rattle.keep.specs.Loads.{IsSchemaWith}
 
 shown_each : (query : Query) (rows : List Row) → map (λ (p : Output). p.1) (map (output query) (flat_map (λ r. ([] ∷ r ∷ []) ∷ []) rows)) ≡ map (λ r. eval_all query.project ([] ∷ r ∷ [])) rows
 shown_each query [] = refl
@@ -76,18 +75,15 @@ module _ (t : TableName) (schema : Schema) (text : List ℕ) (lists : ListsTable
   survives_if old new = survives_weaker old new _ _ (λ _ db commits has. never_commits text [] old db (plain_if old.now.schema has) commits)
 
 -- of each version that has the table
-module _ (t : TableName) (text : List ℕ) (now : ListsTable desk_schema t text) (old : since t ≤ 1 → ListsTable old_schema t text) where
+module _ (t : TableName) (text : List ℕ) (lists : (v : ℕ) → since t ≤ v → v ≤ newest → ListsTable (schema_of v) t text) where
   pub plain : (here : Schema) → IsSchemaWith t here → IsPlain (understood here text)
-  plain here (inl is) = plain_if t desk_schema text now here is
-  plain here (inr is) = plain_if t old_schema text (old is.1) here is.0
+  plain here is = plain_if t (schema_of is.0) text (lists is.0 is.1 is.2) here is.3
 
   pub rows : (before after : State) (r : Result (Vec Answer Global) Error) → IsSchemaWith t before.now.schema → IfOk r (λ rows. Shown text [] before after rows.items) → IfOk r (λ rows. IsPermutation (map (selected t) (before.now.trees (declared t).tree)) rows.items)
-  rows before after r (inl is) h = rows_if t desk_schema text now before after r is h
-  rows before after r (inr is) h = rows_if t old_schema text (old is.1) before after r is.0 h
+  rows before after r is h = rows_if t (schema_of is.0) text (lists is.0 is.1 is.2) before after r is.3 h
 
   pub same : (before after : State) (r : Result (Vec Answer Global) Error) → IsSchemaWith t before.now.schema → IfOk r (λ rows. Shown text [] before after rows.items) → OnOk r (IsUnchanged before after)
-  same before after r (inl is) h = same_if t desk_schema text now before after r is h
-  same before after r (inr is) h = same_if t old_schema text (old is.1) before after r is.0 h
+  same before after r is h = same_if t (schema_of is.0) text (lists is.0 is.1 is.2) before after r is.3 h
 
-  pub survives : (before after : State) → Survives before after (CommitsShowing text [] before) → Survives before after (λ _. ¬ IsSchemaWith t before.now.schema)
-  survives before after = survives_weaker before after _ _ (λ _ db commits has. never_commits text [] before db (plain before.now.schema has) commits)
+  pub survives : (before after : State) → IsSchemaWith t before.now.schema → Survives before after (CommitsShowing text [] before) → Survives before after (λ _. ⊥)
+  survives before after is = survives_weaker before after _ _ (λ _ db commits. never_commits text [] before db (plain before.now.schema is) commits)

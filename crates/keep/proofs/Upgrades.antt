@@ -1,25 +1,26 @@
 -- What an upgrade does: the tables of later versions are made beside the others, and the row of `desk` is put in.
-use Rattle.std.proofs.Common.{◌≡◌, ◌∙◌, ◌<◌, ◌≤◌, ℕ, List, [], ◌∷◌, IsTrue, ap, arith, pos, map, refl, subst, sym}
+use Rattle.std.proofs.Common.{◌≡◌, ◌∙◌, ◌<◌, ◌≤◌, Ok, Err, Result, ℕ, List, [], ◌∷◌, IsTrue, ap, arith, pos, map, refl, subst, sym}
 use Rattle.std.proofs.lemmas.Cmp.{int_cmp_total, tied_itself}
+use Rattle.std.specs.Prelude.{OnOk}
 use Rattle.sqlite.specs.Effect.{Database}
 use Rattle.sqlite.specs.State.{State, HasCleanDisk, IsUnchanged, Survives}
-use Rattle.sqlite.proofs.StateLemmas.{survives_then}
+use Rattle.sqlite.proofs.StateLemmas.{survives_then, survives_weaker}
 use Rattle.sqlite_trees.specs.Tree.{Trees}
 use Rattle.book.specs.declared.rows.Change.TheVariants as change
 use Rattle.book.specs.declared.rows.DeskRow.{DeskRow}
 use Rattle.book.specs.Changes.{put_row}
 use Rattle.book.specs.Rows.{Content, DeskCells, desk_cmp}
-use Rattle.book.specs.Tables.{desk_cells}
-use Rattle.keep.specs.Content.{HasRowsOf, HasTables, Holds, IsContent, IsDesk, IsOneRow, IsVersion, Stores}
-use Rattle.keep.specs.Loads.{FindsOver}
+use Rattle.book.specs.Tables.{desk_cells, no_content}
+use Rattle.keep.specs.Content.{HasRowsOf, HasTables, Holds, IsContent, IsDesk, IsOneRow, IsVersion, Stores, new_content, new_row}
+use Rattle.keep.specs.Loads.{Reads}
 use Rattle.keep.specs.Old.{AreUpgraded, HoldsOld, IsOld, IsUpgraded, raised, upgraded}
 use Rattle.keep.specs.OneContent.{rows_once}
 use Rattle.keep.specs.Stages.{AddsTables}
 use Rattle.keep.specs.UpgradeSteps.{AreRaised, IsRaised, with_row}
-use Rattle.keep.specs.Description.{IsSchemaWith, desk_schema, newest, schema_of, tables_after, tables_of}
+use Rattle.keep.specs.Description.{desk_schema, newest, schema_of, tables_after, tables_of}
 use Rattle.keep.specs.declared.description.TableName.TheVariants as table
 use Rattle.keep.specs.Transactions.{IsSettled, Makes, PutsIn}
-use Rattle.keep.proofs.LaterTables.{holds_later}
+use Rattle.keep.proofs.LaterTables.{holds_later, nothing}
 use Rattle.keep.proofs.Schemas.{is_of, is_of_version, rows_there}
 use Rattle.keep.proofs.Versions.{one_schema}
 
@@ -58,28 +59,28 @@ module _ (db : Database) (v : ℕ) (old : v < newest) (some : 1 ≤ v) (is_schem
 -- ---- the whole of it: the row was read, and then the two statements were done
 
 module _ (start mid new : State) (v : ℕ) (old : v < newest) (some : 1 ≤ v) (was row : DeskRow) (is : desk_cells row ≡ raised (desk_cells was)) (has : start.now.schema ≡ schema_of v) (version : IsVersion (pos v) (desk_cells was))
-    (found : FindsOver (IsSchemaWith table.Desk) start mid (λ trees. Stores table.Desk (trees 0) (desk_cells was ∷ []))) (second : Survives mid new (AreRaised v row mid.now)) where
-  there : IsSchemaWith table.Desk start.now.schema
-  there = (v, some, omega (arith, old), has)
-
+    (found : Reads start mid (λ trees. Stores table.Desk (trees 0) (desk_cells was ∷ []))) (second : Survives mid new (AreRaised v row mid.now)) where
   module _ (clean : HasCleanDisk new) where
     read : IsUnchanged start mid × Stores table.Desk (start.now.trees 0) (desk_cells was ∷ [])
-    read = found (omega (arith, clean, second.clean)) there
+    read = found (omega (arith, clean, second.clean))
 
     was_old : IsOld start.now
     was_old = (v, old, is_of_version start.now v (desk_cells was) some has read.1 version)
 
-  pub upgraded_to : HasCleanDisk new → IsSettled (IsRaised v row mid.now) new → IsUpgraded start new
-  upgraded_to clean made = record {
-    was = was_old clean;
-    is_open = made.is_open;
-    settled = made.settled;
-    whole = whole_now start.now v old some has (desk_cells was) row is (read clean).1 new.now (subst (λ db. IsRaised v row db new.now) (read clean).0.0.now_is made.is);
-  }
+  pub upgraded_to : HasCleanDisk new → (mid.now.schema ≡ schema_of v → IsSettled (IsRaised v row mid.now) new) → IsUpgraded start new
+  upgraded_to clean made =
+      let same : mid.now ≡ start.now = (read clean).0.0.now_is in
+      let raised = made (ap (λ (db : Database). db.schema) same ∙ has) in
+      record {
+        was = was_old clean;
+        is_open = raised.is_open;
+        settled = raised.settled;
+        whole = whole_now start.now v old some has (desk_cells was) row is (read clean).1 new.now (subst (λ db. IsRaised v row db new.now) same raised.is);
+      }
 
-  pub survives_upgrade : Survives start mid (λ _. ¬ IsSchemaWith table.Desk start.now.schema) → Survives start new (AreUpgraded start.now)
+  pub survives_upgrade : Survives start mid (λ _. ⊥) → Survives start new (AreUpgraded start.now)
   survives_upgrade first =
-      survives_then start mid new _ _ _ (λ _ db other. absurd (other there))
+      survives_then start mid new _ _ _ (λ _ db none. absurd none)
       (λ clean db made. record {
         was = was_old clean;
         whole = whole_in start.now v old some has (desk_cells was) row is (read clean).1 db (subst (λ now. AreRaised v row now db) (read clean).0.0.now_is made);
@@ -97,3 +98,16 @@ not_old db v late is none old =
 
 pub not_current : (db : Database) (x : Content) → db.schema ≡ desk_schema → ((rows : List DeskCells) → Stores table.Desk (db.trees 0) rows → ¬ IsOneRow (pos newest) rows) → HasTables db x → IsDesk x → ⊥
 not_current db x is none has = none x.desk (rows_there db newest table.Desk (λ rows. Stores table.Desk rows x.desk) is (has table.Desk))
+
+-- ---- a new desk
+
+-- it is nothing, and the row of a new desk
+is_new : (row : DeskRow) → desk_cells row ≡ new_row → with_row row no_content ≡ new_content
+is_new row is = ap (λ (cells : DeskCells). record no_content { desk = cells ∷ [] }) is
+
+pub settled_new : {U E : Type 0} (old : Database) (new : State) (row : DeskRow) (r : Result U E) → desk_cells row ≡ new_row → OnOk r (IsSettled (IsRaised 0 row old) new) → OnOk r (IsSettled (λ db. Holds db new_content) new)
+settled_new old new row (Ok done) is h = record { is_open = h.is_open; settled = h.settled; is = subst (Holds new.now) (is_new row is) (h.is no_content (nothing old.trees)) }
+settled_new old new row (Err e) is h = tt
+
+pub survives_new : (old new : State) (row : DeskRow) → desk_cells row ≡ new_row → old.now.schema ≡ schema_of 0 → Survives old new (AreRaised 0 row old.now) → Survives old new (λ trees. IsContent trees new_content)
+survives_new old new row is has = survives_weaker old new _ _ (λ _ trees made. subst (IsContent trees) (is_new row is) (made has no_content (nothing old.now.trees)))

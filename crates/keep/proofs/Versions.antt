@@ -1,5 +1,5 @@
 -- Which tables a version has, and which schema is that of which version.
-use Rattle.std.proofs.Common.{◌≡◌, ◌<◌, ◌≤◌, ◌∙◌, ◌+◌, Bool, false, true, if◌then◌else◌, inl, inr, ℕ, zero, suc, List, [], ◌∷◌, ap, arith, filter, get_or, length, map, nat_eq, nat_le, nat_lt, refl, subst, sym}
+use Rattle.std.proofs.Common.{◌≡◌, ◌<◌, ◌≤◌, ◌∙◌, Bool, false, true, if◌then◌else◌, inl, inr, ℕ, zero, suc, List, [], ◌∷◌, ap, arith, filter, get_or, length, map, nat_eq, nat_le, nat_lt, refl, subst, sym}
 use Rattle.std.specs.List.{AllByRecursion as Each, Any}
 use Rattle.sqlite.specs.Schema.{Schema}
 use Rattle.sqlite.specs.Table.{Table}
@@ -29,13 +29,13 @@ from_map f (x ∷ xs) y (inl is) = (x, inl refl, is)
 from_map f (x ∷ xs) y (inr more) = let found = from_map f xs y more in (found.0, inr found.1, found.2)
 
 kept : {X : Type 0} (P : X → Bool) (xs : List X) (x : X) → IsAmong xs x → P x ≡ true → IsAmong (filter P xs) x
-kept P [] x among yes = absurd among
-kept {X} P (y ∷ ys) x among yes = by (P y) refl (λ more. kept P ys x more yes) among
+kept P [] x among chosen = absurd among
+kept {X} P (y ∷ ys) x among chosen = by (P y) refl (λ more. kept P ys x more chosen) among
   where
     by : (b : Bool) → P y ≡ b → (IsAmong ys x → IsAmong (filter P ys) x) → IsAmong (y ∷ ys) x → IsAmong (if b then y ∷ filter P ys else filter P ys) x
     by true is more (inl first) = inl first
     by true is more (inr later) = inr (more later)
-    by false is more (inl first) = absurd (let no = sym is ∙ ap P (sym first) ∙ yes in cc)
+    by false is more (inl first) = absurd (let no = sym is ∙ ap P (sym first) ∙ chosen in cc)
     by false is more (inr later) = more later
 
 chosen : {X : Type 0} (P : X → Bool) (xs : List X) (x : X) → IsAmong (filter P xs) x → P x ≡ true
@@ -65,17 +65,29 @@ any_among {X} P xs found = (found.1, at xs found.0 found.1 found.2 found.3, foun
 
 -- ---- the tables of a version
 
+upto : (m n : ℕ) → m ≤ n → nat_le m n ≡ true
+upto m n h = grind arith
+
+below : (m n : ℕ) → m < n → nat_lt m n ≡ true
+below m n h = grind arith
+
+pub upto-true : (m n : ℕ) → nat_le m n ≡ true → m ≤ n
+upto-true m n e = grind arith
+
+pub upto-false : (m n : ℕ) → nat_le m n ≡ false → n < m
+upto-false m n e = grind arith
+
 in_all : (t : TableName) → IsAmong all_tables t
 in_all t = grind arith
 
 is_early : (v : ℕ) (t : TableName) → since t ≤ v → IsAmong (tables_of v) t
-is_early v t early = kept (λ t. nat_le (since t) v) all_tables t (in_all t) (omega (arith, early))
+is_early v t early = kept (λ t. nat_le (since t) v) all_tables t (in_all t) (upto (since t) v early)
 
 pub is_late : (v : ℕ) (t : TableName) → v < since t → IsAmong (tables_after v) t
-is_late v t late = kept (λ t. nat_lt v (since t)) all_tables t (in_all t) (omega (arith, late))
+is_late v t late = kept (λ t. nat_lt v (since t)) all_tables t (in_all t) (below v (since t) late)
 
 pub each_early : (v : ℕ) (P : TableName → Type 0) → ((t : TableName) → since t ≤ v → P t) → Each P (tables_of v)
-each_early v P all = each_kept (λ t. nat_le (since t) v) P all_tables (λ t yes. all t (omega (arith, yes)))
+each_early v P all = each_kept (λ t. nat_le (since t) v) P all_tables (λ t chosen. all t (upto-true (since t) v chosen))
 
 pub of_early : (v : ℕ) (P : TableName → Type 0) → Each P (tables_of v) → (t : TableName) → since t ≤ v → P t
 of_early v P all t early = of_each P (tables_of v) t all (is_early v t early)
@@ -86,12 +98,18 @@ in_version v t early = mapped declared (tables_of v) t (is_early v t early)
 -- ---- tables by their names
 
 -- the third letters of their names differ
-by_letter : ℕ → TableName
+abbrev by_letter : ℕ → TableName
 by_letter letter = if nat_eq letter 115 then table.Desk else (if nat_eq letter 101 then table.Field else (if nat_eq letter 118 then table.Move else (if nat_eq letter 100 then table.Orders
     else (if nat_eq letter 110 then table.Line else (if nat_eq letter 112 then table.Kept else table.Firm)))))
 
 by_its_letter : (t : TableName) → by_letter (get_or (declared t).name 2 0) ≡ t
-by_its_letter t = grind arith
+by_its_letter table.Desk = refl
+by_its_letter table.Field = refl
+by_its_letter table.Move = refl
+by_its_letter table.Orders = refl
+by_its_letter table.Line = refl
+by_its_letter table.Kept = refl
+by_its_letter table.Firm = refl
 
 alike : (t u : TableName) → (declared t).name ≡ (declared u).name → t ≡ u
 alike t u same = sym (by_its_letter t) ∙ ap (λ (name : List ℕ). by_letter (get_or name 2 0)) same ∙ by_its_letter u
@@ -101,7 +119,7 @@ is_since v t found is among =
     let u = from_map declared (tables_of v) found among in
     let same : u.0 ≡ t = alike u.0 t (sym (ap (λ (t : Table). t.name) u.2) ∙ is) in
     let early : nat_le (since t) v ≡ true = subst (λ t. nat_le (since t) v ≡ true) same (chosen (λ t. nat_le (since t) v) all_tables u.0 u.1) in
-    (omega (arith, early), u.2 ∙ ap declared same)
+    (upto-true (since t) v early, u.2 ∙ ap declared same)
 
 -- a table lies in the schema of a version where it says
 pub lies : (v : ℕ) (t : TableName) (tree : ℕ) → IsAmong (schema_of v).tables (record (declared t) { tree = tree }) → (since t ≤ v) × (tree ≡ (declared t).tree)

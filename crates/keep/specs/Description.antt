@@ -7,6 +7,7 @@ use Rattle.sqlite.specs.declared.types.Value.TheVariants.{Int, Text}
 use Rattle.sqlite.specs.Order.{Row, column}
 use Rattle.sqlite.specs.Table.{Table}
 use Rattle.sqlite.specs.Schema.{Schema}
+use Rattle.book.specs.declared.limits.TheConstants.{SCHEMA_VERSION}
 use Rattle.book.specs.Rows.{Content, DeskCells, FieldCells, FirmCells, KeptCells, LineCells, MoveCells, OrderCells, desk_cmp, field_cmp, firm_cmp, kept_cmp, line_cmp, move_cmp, order_cmp}
 use Rattle.keep.specs.Schema.{desk_table, field_table, firm_table, key_indexes, kept_table, line_table, move_table, orders_table}
 use Rattle.keep.specs.declared.description.TableName.{TableName}
@@ -114,7 +115,7 @@ rowid_at t = rowid_place (declared t).key (length (declared t).columns)
 
 -- the newest, which is written here
 abbrev pub newest : ℕ
-newest = 2
+newest = SCHEMA_VERSION
 
 -- the tables that a version has
 abbrev pub tables_of : ℕ → List TableName

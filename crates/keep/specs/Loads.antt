@@ -1,7 +1,6 @@
 -- What a read of the store finds.
 use Rattle.std.specs.Prelude.{◌≡◌, ℤ, List, [], ◌∷◌, map, IsTrue}
 use Rattle.sqlite.specs.Order.{Row, column}
-use Rattle.sqlite.specs.Schema.{Schema}
 use Rattle.sqlite.specs.State.{State, HasCleanDisk, IsUnchanged}
 use Rattle.sqlite_trees.specs.Tree.{Trees}
 use Rattle.sqlite_trees.specs.View.{is_int}
@@ -11,13 +10,13 @@ use Rattle.keep.specs.Content.{IsVersion}
 use Rattle.keep.specs.declared.description.TableName.{TableName}
 use Rattle.keep.specs.declared.description.TableName.TheVariants as table
 
--- where the disk was honest and the schema is one of those: nothing is changed, and the trees are such
-abbrev pub FindsOver : (Schema → Type 0) → State → State → (Trees → Type 0) → Type 0
-FindsOver Is old new Are = HasCleanDisk new → Is old.now.schema → IsUnchanged old new × Are old.now.trees
+-- where the disk was honest nothing is changed, and the trees are such
+abbrev pub Reads : State → State → (Trees → Type 0) → Type 0
+Reads old new Are = HasCleanDisk new → IsUnchanged old new × Are old.now.trees
 
--- the same where the schema is that of a desk as it is made
+-- the same where the schema is that of a desk as it is made now
 abbrev pub Finds : State → State → (Trees → Type 0) → Type 0
-Finds = FindsOver (λ schema. schema ≡ desk_schema)
+Finds old new Are = HasCleanDisk new → old.now.schema ≡ desk_schema → IsUnchanged old new × Are old.now.trees
 
 -- the answer shows the row, and its rowid is a whole number
 abbrev pub IsShown : (t : TableName) → Row → Cells t → Type 0

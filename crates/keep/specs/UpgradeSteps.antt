@@ -1,7 +1,6 @@
 -- What the statements do that make a desk, or make one of an older version new.
-use Rattle.std.specs.Prelude.{◌≡◌, ℕ, [], ◌∷◌, IsTrue}
+use Rattle.std.specs.Prelude.{◌≡◌, ℕ, [], ◌∷◌}
 use Rattle.sqlite.specs.Effect.{Database}
-use Rattle.sqlite.specs.State.{State}
 use Rattle.sqlite_trees.specs.Tree.{Trees}
 use Rattle.book.specs.declared.rows.DeskRow.{DeskRow}
 use Rattle.book.specs.declared.rows.Change.TheVariants as change

@@ -12,12 +12,12 @@ ghost use Rattle.keep.specs.Stages.{AddsTables};
 ghost use Rattle.keep.specs.Transactions.{IsSettled, Makes};
 ghost use Rattle.keep.specs.UpgradeSteps.{AreRaised, IsRaised};
 
-use crate::description::{NEWEST, TableName, create_text, tables_after};
+use crate::description::{TableName, create_text, tables_after};
 use crate::keep::{KeepFault, fault_of};
 use crate::schema::is_empty;
 use crate::sql::SqlKeep;
 use crate::table::Table;
-use book::DeskRow;
+use book::{DeskRow, SCHEMA_VERSION};
 use sqlite::{Alter, Connection, Error, Transaction};
 
 /// Makes the table, beside those before it.
@@ -56,11 +56,10 @@ pub(crate) fn raise<S: Alter>(
     row: &DeskRow,
 ) -> Result<(), Error>
     requires idle { conn.old.in_transaction ≡ false }
-    requires schema { (state S.Store conn.old).now.schema ≡ schema_of version }
     requires old { version < newest }
     ensures idle { conn.new.in_transaction ≡ false }
-    ensures made { HasCleanDisk (state S.Store conn.new) → OnOk result
-        (IsSettled (IsRaised version row.now (state S.Store conn.old).now) (state S.Store conn.new)) }
+    ensures made { HasCleanDisk (state S.Store conn.new) → (state S.Store conn.old).now.schema ≡ schema_of version
+        → OnOk result (IsSettled (IsRaised version row.now (state S.Store conn.old).now) (state S.Store conn.new)) }
     ensures survives { Survives (state S.Store conn.old) (state S.Store conn.new)
         (AreRaised version row.now (state S.Store conn.old).now) }
 {
@@ -76,10 +75,23 @@ pub(crate) fn new_row() -> DeskRow
 {
     DeskRow {
         one: 1,
-        version: NEWEST as i64,
+        version: SCHEMA_VERSION as i64,
         clock: 0,
         places: 0,
     }
+}
+
+/// Makes a new desk where there is nothing yet, in one transaction.
+fn create<S: Alter>(conn: &mut Connection<S>) -> Result<(), Error>
+    requires idle { conn.old.in_transaction ≡ false }
+    requires empty { (state S.Store conn.old).now.schema ≡ no_schema }
+    ensures idle { conn.new.in_transaction ≡ false }
+    ensures made { HasCleanDisk (state S.Store conn.new) → OnOk result
+        (IsSettled (λ db. Holds db new_content) (state S.Store conn.new)) }
+    ensures survives { Survives (state S.Store conn.old) (state S.Store conn.new)
+        (λ trees. IsContent trees new_content) }
+{
+    raise(conn, 0, &new_row())
 }
 
 impl<S: Alter> SqlKeep<S> {
@@ -105,6 +117,6 @@ impl<S: Alter> SqlKeep<S> {
         if !is_empty(conn.schema()) {
             return Err(KeepFault::Store);
         }
-        raise(conn, 0, &new_row()).map_err(fault_of)
+        create(conn).map_err(fault_of)
     }
 }

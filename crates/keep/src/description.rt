@@ -7,9 +7,6 @@ ghost use Rattle.keep.specs.Statements.{ListsTable, MakesTable, PutsRow};
 
 use sqlite_schema::schema::Kind;
 
-/// The newest version of the schema.
-pub(crate) const NEWEST: usize = 2;
-
 /// A table of a desk, in the order in which they are made.
 #[derive(Clone, Copy)]
 pub(crate) enum TableName {

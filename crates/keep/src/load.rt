@@ -11,10 +11,9 @@ ghost use Rattle.keep.specs.Content.{HasTables, Holds, IsDesk, Stores};
 ghost use Rattle.keep.specs.Loads.{Finds};
 ghost use Rattle.keep.specs.declared.description.TableName.TheVariants as table;
 
-use crate::description::NEWEST;
 use crate::table::load;
 use crate::tables::desk::load_desk;
-use book::{FieldRow, FirmRow, LineRow, MoveRow, OrderRow, Rows, Tables};
+use book::{FieldRow, FirmRow, LineRow, MoveRow, OrderRow, Rows, SCHEMA_VERSION, Tables};
 use sqlite::{Alter, Connection, Error};
 use std::alloc::Global;
 
@@ -79,7 +78,7 @@ pub(crate) fn load_all<S: Alter>(
         (λ found. found ≡ None → (x : Content) → HasTables (state S.Store conn.old).now x → ¬ IsDesk x) }
     ensures survives { Survives (state S.Store conn.old) (state S.Store conn.new) (λ _. ⊥) }
 {
-    let Some(desk) = load_desk(conn, NEWEST as i64)? else {
+    let Some(desk) = load_desk(conn, SCHEMA_VERSION)? else {
         return Ok(None);
     };
     let (fields, moves) = load_stock(alloc, conn)?;

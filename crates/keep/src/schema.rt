@@ -5,9 +5,8 @@ ghost use Rattle.keep.specs.Names.{HasNames, HasTableNamed};
 ghost use Rattle.keep.specs.Schema.{column, no_schema, plain_order, with_key, without_rules};
 ghost use Rattle.keep.specs.Description.{IsOfAVersion, declared, desk_schema, newest, schema_of};
 
-use crate::description::{
-    NEWEST, TableName, columns_of, is_numbered, key_of, name_of, tables_of, tree_of,
-};
+use crate::description::{TableName, columns_of, is_numbered, key_of, name_of, tables_of, tree_of};
+use book::SCHEMA_VERSION;
 use sqlite_items::Items;
 use sqlite_schema::code::Terms;
 use sqlite_schema::schema::{Column, Index, Kind, Schema, Stamps, Table};
@@ -254,12 +253,12 @@ pub(crate) fn layout_of(found: &Schema) -> Layout
     if !has_names(found) {
         return Layout::Nameless;
     }
-    for version in 1..NEWEST {
+    for version in 1..SCHEMA_VERSION {
         if is_schema_of(found, version) {
             return Layout::Old(version);
         }
     }
-    if is_schema_of(found, NEWEST) {
+    if is_schema_of(found, SCHEMA_VERSION) {
         Layout::Current
     } else {
         Layout::Other

@@ -15,10 +15,9 @@ ghost use Rattle.keep.specs.Description.{IsOfAVersion, desk_schema, newest, sche
 use crate::commit::commit_all;
 use crate::keep::{Keep, KeepFault, fault_of};
 use crate::load::load_all;
-use crate::description::NEWEST;
 use crate::schema::{Layout, is_schema_of, layout_of};
 use crate::tables::desk::load_desk;
-use book::{Change, Tables};
+use book::{Change, SCHEMA_VERSION, Tables};
 use sqlite::{Alter, Connection};
 use std::alloc::Global;
 use std::marker::Model;
@@ -127,7 +126,7 @@ fn old_fault<S: Alter>(conn: &mut Connection<S>, version: usize) -> KeepFault
         → result ≢ KeepFault.NotADesk }
     ensures survives { Survives (state S.Store conn.old) (state S.Store conn.new) (λ _. ⊥) }
 {
-    match load_desk(conn, version as i64) {
+    match load_desk(conn, version) {
         Ok(Some(_)) => KeepFault::OldVersion,
         Ok(None) => KeepFault::NotADesk,
         Err(error) => fault_of(error),
@@ -181,7 +180,7 @@ fn commit_to<S: Alter>(conn: &mut Connection<S>, changes: &[Change]) -> Result<(
     ensures survives { Survives (state S.Store conn.old) (state S.Store conn.new)
         (AreChanged (state S.Store conn.old).now changes.now) }
 {
-    if !is_schema_of(conn.schema(), NEWEST) {
+    if !is_schema_of(conn.schema(), SCHEMA_VERSION) {
         return Err(KeepFault::Store);
     }
     commit_all(conn, changes).map_err(fault_of)

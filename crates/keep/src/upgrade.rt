@@ -12,12 +12,11 @@ ghost use Rattle.keep.specs.Old.{AreUpgraded, HoldsOld, IsCurrent, IsOld, IsUpgr
 ghost use Rattle.keep.specs.Description.{IsOfAVersion, desk_schema, newest, schema_of};
 
 use crate::create::raise;
-use crate::description::NEWEST;
 use crate::keep::{KeepFault, fault_of};
 use crate::schema::{Layout, layout_of};
 use crate::sql::SqlKeep;
 use crate::tables::desk::load_desk;
-use book::DeskRow;
+use book::{DeskRow, SCHEMA_VERSION};
 use sqlite::{Alter, Connection};
 
 /// The row with the newest version.
@@ -26,7 +25,7 @@ fn raised(row: &DeskRow) -> DeskRow
 {
     DeskRow {
         one: row.one,
-        version: NEWEST as i64,
+        version: SCHEMA_VERSION as i64,
         clock: row.clock,
         places: row.places,
     }
@@ -50,12 +49,15 @@ fn upgrade<S: Alter>(conn: &mut Connection<S>, version: usize) -> Result<(), Kee
 {
     // between transactions an open store shows what is committed
     let _settled = conn.is_autocommit();
-    let row = match load_desk(conn, version as i64) {
+    let row = match load_desk(conn, version) {
         Ok(Some(row)) => row,
         Ok(None) => return Err(KeepFault::NotADesk),
         Err(error) => return Err(fault_of(error)),
     };
-    raise(conn, version, &raised(&row)).map_err(fault_of)
+    match raise(conn, version, &raised(&row)) {
+        Ok(()) => Ok(()),
+        Err(error) => Err(fault_of(error)),
+    }
 }
 
 /// Reads a store with the schema of the newest version, and leaves it as it is.
@@ -78,7 +80,7 @@ fn expect_current<S: Alter>(conn: &mut Connection<S>) -> Result<(), KeepFault>
 {
     // between transactions an open store shows what is committed
     let _settled = conn.is_autocommit();
-    match load_desk(conn, NEWEST as i64) {
+    match load_desk(conn, SCHEMA_VERSION) {
         Ok(Some(_)) => Ok(()),
         Ok(None) => Err(KeepFault::NotADesk),
         Err(error) => Err(fault_of(error)),

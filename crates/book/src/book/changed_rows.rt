@@ -163,7 +163,7 @@ fn desk_row(clock: Moment, places: u64) -> DeskRow
 {
     DeskRow {
         one: 1,
-        version: SCHEMA_VERSION,
+        version: SCHEMA_VERSION as i64,
         clock: clock.get() as i64,
         places: places as i64,
     }

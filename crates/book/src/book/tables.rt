@@ -59,7 +59,7 @@ fn read_desk(row: &DeskRow, places: usize) -> Option<Moment>
         (λ clock. IsMoment clock × (desk_cells row.now ≡ desk_of clock places)) }
 {
     let known = natural(row.places)?;
-    if row.one != 1 || row.version != SCHEMA_VERSION || known != places as u64 {
+    if row.one != 1 || row.version != SCHEMA_VERSION as i64 || known != places as u64 {
         return None;
     }
     moment(row.clock)

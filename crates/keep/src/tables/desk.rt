@@ -1,13 +1,13 @@
 //! The table `desk`, and its one row.
 
-ghost use Rattle.std.specs.Prelude.{◌≡◌, List, [], ◌∷◌, false, map, None, IfOk, IfSome, IsPermutation, MatchOption, OnOk};
+ghost use Rattle.std.specs.Prelude.{◌≡◌, ◌≤◌, pos, List, [], ◌∷◌, false, map, None, IfOk, IfSome, IsPermutation, MatchOption, OnOk};
 ghost use Rattle.sqlite.specs.State.{HasCleanDisk, IsUnchanged, Survives};
 ghost use Rattle.sqlite.specs.Held.{state};
 ghost use Rattle.book.specs.Rows.{DeskCells};
 ghost use Rattle.book.specs.Tables.{desk_cells};
 ghost use Rattle.keep.specs.Content.{IsOneRow, IsVersion, Stores};
-ghost use Rattle.keep.specs.Description.{IsSchemaWith, selected};
-ghost use Rattle.keep.specs.Loads.{FindsOver, IsOneAnswer};
+ghost use Rattle.keep.specs.Description.{IsSchemaWith, newest, selected};
+ghost use Rattle.keep.specs.Loads.{IsOneAnswer, Reads};
 ghost use Rattle.keep.specs.declared.description.TableName.TheVariants as table;
 
 use crate::description::{TableName, select_text, upsert_text};
@@ -59,14 +59,13 @@ impl Table for DeskRow {
 
 /// The rows of `desk`.
 fn select<S: Alter>(conn: &mut Connection<S>) -> Result<Vec<Row>, Error>
+    requires { IsSchemaWith table.Desk (state S.Store conn.old).now.schema }
     ensures mode { conn.old.in_transaction ≡ false → conn.new.in_transaction ≡ false }
-    ensures rows { HasCleanDisk (state S.Store conn.new) → IsSchemaWith table.Desk (state S.Store conn.old).now.schema
-        → IfOk result (λ rows. IsPermutation (map (selected table.Desk) ((state S.Store conn.old).now.trees 0))
-        rows.items) }
-    ensures same { HasCleanDisk (state S.Store conn.new) → IsSchemaWith table.Desk (state S.Store conn.old).now.schema
+    ensures rows { HasCleanDisk (state S.Store conn.new) → IfOk result (λ rows. IsPermutation
+        (map (selected table.Desk) ((state S.Store conn.old).now.trees 0)) rows.items) }
+    ensures same { HasCleanDisk (state S.Store conn.new)
         → OnOk result (IsUnchanged (state S.Store conn.old) (state S.Store conn.new)) }
-    ensures survives { Survives (state S.Store conn.old) (state S.Store conn.new)
-        (λ _. ¬ IsSchemaWith table.Desk (state S.Store conn.old).now.schema) }
+    ensures survives { Survives (state S.Store conn.old) (state S.Store conn.new) (λ _. ⊥) }
 {
     conn.query_all(select_text(TableName::Desk), &[])
 }
@@ -74,32 +73,33 @@ fn select<S: Alter>(conn: &mut Connection<S>) -> Result<Vec<Row>, Error>
 /// The one row of `desk`, or None where there is another number of rows or one of another version.
 pub(crate) fn load_desk<S: Alter>(
     conn: &mut Connection<S>,
-    version: i64,
+    version: usize,
 ) -> Result<Option<DeskRow>, Error>
+    requires schema { IsSchemaWith table.Desk (state S.Store conn.old).now.schema }
+    requires old { version ≤ newest }
     ensures mode { conn.old.in_transaction ≡ false → conn.new.in_transaction ≡ false }
-    ensures version { IfOk result (λ found. IfSome found (λ row. IsVersion version (desk_cells row))) }
-    ensures found { IfOk result (λ found. IfSome found (λ row. FindsOver (IsSchemaWith table.Desk)
-        (state S.Store conn.old) (state S.Store conn.new) (λ trees. Stores table.Desk (trees 0) (desk_cells row ∷ [])))) }
-    ensures none { IfOk result (λ found. found ≡ None → FindsOver (IsSchemaWith table.Desk) (state S.Store conn.old)
-        (state S.Store conn.new) (λ trees. (rows : List DeskCells) → Stores table.Desk (trees 0) rows
-        → ¬ IsOneRow version rows)) }
-    ensures survives { Survives (state S.Store conn.old) (state S.Store conn.new)
-        (λ _. ¬ IsSchemaWith table.Desk (state S.Store conn.old).now.schema) }
+    ensures version { IfOk result (λ found. IfSome found (λ row. IsVersion (pos version) (desk_cells row))) }
+    ensures found { IfOk result (λ found. IfSome found (λ row. Reads (state S.Store conn.old) (state S.Store conn.new)
+        (λ trees. Stores table.Desk (trees 0) (desk_cells row ∷ [])))) }
+    ensures none { IfOk result (λ found. found ≡ None → Reads (state S.Store conn.old) (state S.Store conn.new)
+        (λ trees. (rows : List DeskCells) → Stores table.Desk (trees 0) rows → ¬ IsOneRow (pos version) rows)) }
+    ensures survives { Survives (state S.Store conn.old) (state S.Store conn.new) (λ _. ⊥) }
 {
     let answers = select(conn)?;
     one_row(answers.as_slice(), version)
 }
 
 /// The one row that the answers show, or None where there is another number of rows or one of another version.
-fn one_row(answers: &[Row], version: i64) -> Result<Option<DeskRow>, Error>
-    ensures { IfOk result (λ found. MatchOption found (¬ ((row : DeskCells) × IsOneAnswer version answers.now row))
-        (λ row. IsOneAnswer version answers.now (desk_cells row))) }
+fn one_row(answers: &[Row], version: usize) -> Result<Option<DeskRow>, Error>
+    requires { version ≤ newest }
+    ensures { IfOk result (λ found. MatchOption found (¬ ((row : DeskCells) × IsOneAnswer (pos version) answers.now row))
+        (λ row. IsOneAnswer (pos version) answers.now (desk_cells row))) }
 {
     let [answer] = answers else {
         return Ok(None);
     };
     let row = DeskRow::read(answer)?;
-    if row.version == version {
+    if row.version == version as i64 {
         Ok(Some(row))
     } else {
         Ok(None)

@@ -1,4 +1,4 @@
-use Rattle.std.proofs.Common.{arith, inl, map, subst, [], ◌∷◌}
+use Rattle.std.proofs.Common.{arith, map, subst, [], ◌∷◌}
 use Rattle.sqlite.specs.Held.{state}
 use Rattle.sqlite.specs.State.{HasCleanDisk}
 use Rattle.sqlite_trees.specs.Tree.{Trees}
@@ -7,13 +7,14 @@ use Rattle.sqlite_catalog.specs.Listing.{Lists}
 use Rattle.book.specs.Rows.{Content}
 use Rattle.book.specs.Tables.{desk_cells, field_cells, move_cells, order_cells, line_cells, kept_cells, firm_cells}
 use Rattle.keep.specs.Content.{IsContent, Stores}
-use Rattle.keep.specs.Description.{declared, rows_of}
+use Rattle.keep.specs.Description.{declared, newest, rows_of}
 use Rattle.keep.specs.declared.description.TableName.{TableName}
 use Rattle.keep.specs.declared.description.TableName.TheVariants as table
-use Rattle.keep.specs.Loads.{Finds, FindsOver, IsSchemaWith}
-use Rattle.keep.proofs.Schemas.{desk_rows}
+use Rattle.keep.specs.Loads.{Finds, Reads}
+use Rattle.keep.proofs.LaterTables.{content_now}
+use Rattle.keep.proofs.Schemas.{rows_there}
 use Rattle.keep.proofs.Steps.{finds_then}
-use Rattle.keep.specs.OneContent.{is_now, only_content}
+use Rattle.keep.specs.OneContent.{only_content}
 use Rattle.keep.proofs.load.load_all.Goals as goal
 
 module _ (g : _) (c : goal.After-new-6 g) where
@@ -37,8 +38,8 @@ module _ (g : _) (c : goal.After-new-6 g) where
       let s2 = state g.S.Store c.load_stock.new.conn in
       let s3 = state g.S.Store c.load_orders.new.conn in
       let s4 = state g.S.Store c.load.new.conn in
-      let read : FindsOver (IsSchemaWith table.Desk) s0 s1 Desk = rw c.in-Some.is at c.in_ok-desk.ensures.found in
-      let desk : Finds s0 s1 Desk = λ clean has. read clean (inl has) in
+      let read : Reads s0 s1 Desk = rw c.in-Some.is at c.in_ok-desk.ensures.found in
+      let desk : Finds s0 s1 Desk = λ clean has. read clean in
       finds_then s0 s3 s4 (λ trees. (Desk trees × Stock trees) × Orders trees) Kept _ c.load.ensures.survives
       (finds_then s0 s2 s3 (λ trees. Desk trees × Stock trees) Orders _ c.load_orders.ensures.survives
       (finds_then s0 s1 s2 Desk Stock _ c.load_stock.ensures.survives desk c.in_ok-fields.ensures.found) c.in_ok-orders.ensures.found)
@@ -57,11 +58,12 @@ module _ (g : _) (c : goal.After-new-6 g) where
   rows clean table.Firm = rw c.new-6.ensures (found clean c.requires.schema).1.0.1.1
 
   holds : HasCleanDisk (state g.S.Store c.load.new.conn) → IsContent (state g.S.Store c.args.conn.now).now.trees made
-  holds clean = record {
-    lists = subst (Lists ((state g.S.Store c.args.conn.now).now.trees catalog_tree)) c.requires.schema (c.requires.live (found clean c.requires.schema).0.0.was_open).0.lists;
-    rows = λ t now. rows clean t;
-    none = λ t late. absurd (let now = is_now t in omega (arith, now, late));
-  }
+  holds clean =
+      let trees = (state g.S.Store c.args.conn.now).now.trees in
+      content_now trees made (subst (Lists (trees catalog_tree)) c.requires.schema (c.requires.live (found clean c.requires.schema).0.0.was_open).0.lists) (rows clean)
+
+pub load_desk-requires-clause-schema : goal.load_desk-requires-clause-schema
+load_desk-requires-clause-schema g c = (newest, omega arith, omega arith, c.requires.schema)
 
 pub returns-clause-content : goal.returns-clause-content
 returns-clause-content g c clean = (record { schema_is = c.requires.schema; content = holds g c clean }, (found g c clean c.requires.schema).0)
@@ -71,4 +73,4 @@ returns-clause-one g c clean x held = only_content (state g.S.Store c.args.conn.
 
 pub returns-in_default-clause-none : goal.returns-in_default-clause-none
 returns-in_default-clause-none g c clean none x has desk =
-    (c.in_ok-desk.ensures.none c.in_default.is clean (inl c.requires.schema)).1 x.desk (desk_rows (state g.S.Store c.args.conn.now).now x c.requires.schema has) desk
+    (c.in_ok-desk.ensures.none c.in_default.is clean).1 x.desk (rows_there (state g.S.Store c.args.conn.now).now newest table.Desk (λ rows. Stores table.Desk rows x.desk) c.requires.schema (has table.Desk)) desk

@@ -2,30 +2,19 @@ use Rattle.std.proofs.Common.{[], ◌∷◌, ◌≡◌, ap, rules, subst, sym}
 use Rattle.sqlite.specs.State.{HasCleanDisk}
 use Rattle.sqlite.specs.Files.{file_state}
 use Rattle.sqlite.specs.Effect.{Database}
-use Rattle.keep.specs.Content.{Holds, IsContent, LeavesOnly}
-use Rattle.keep.specs.Old.{HoldsOld, IsOldContent}
-use Rattle.keep.proofs.NextOpen.{holds_content, holds_old}
+use Rattle.keep.specs.Content.{Holds, HoldsOf, IsContentOf, LeavesOnly}
+use Rattle.keep.proofs.NextOpen.{holds_content}
 use Rattle.keep.proofs.opening.open_path.Goals as goal
 
 pub returns-in-Ok-clause-found : goal.returns-in-Ok-clause-found
-returns-in-Ok-clause-found g c clean trees x database content =
+returns-in-Ok-clause-found g c clean v trees x database content =
     let same : c.over_files.result.connection ≡ c.in-Ok.conn = ap (λ k. k.connection) c.over_files.ensures.keeper in
     let first : HasCleanDisk (file_state c.in-Ok.conn) = subst (λ h. HasCleanDisk (file_state h)) same clean in
     let found = c.in-Ok.ensures.found first in
     let opened = c.in-Ok.ensures.opened first in
     let live = opened.1 opened.0.is_open in
-    let held = holds_content (file_state c.in-Ok.conn).committed x live.1 (subst (λ t. IsContent t x) (sym (found.holds trees database)) content) in
-    subst (λ h. Holds (file_state h).now x) (sym same) (subst (λ (d : Database). Holds d x) (sym opened.0.clean) held)
-
-pub returns-in-Ok-clause-old : goal.returns-in-Ok-clause-old
-returns-in-Ok-clause-old g c clean trees x database content =
-    let same : c.over_files.result.connection ≡ c.in-Ok.conn = ap (λ k. k.connection) c.over_files.ensures.keeper in
-    let first : HasCleanDisk (file_state c.in-Ok.conn) = subst (λ h. HasCleanDisk (file_state h)) same clean in
-    let found = c.in-Ok.ensures.found first in
-    let opened = c.in-Ok.ensures.opened first in
-    let live = opened.1 opened.0.is_open in
-    let held = holds_old (file_state c.in-Ok.conn).committed x live.1 (subst (λ t. IsOldContent t x) (sym (found.holds trees database)) content) in
-    subst (λ h. HoldsOld (file_state h).now x) (sym same) (subst (λ (d : Database). HoldsOld d x) (sym opened.0.clean) held)
+    let held = holds_content v (file_state c.in-Ok.conn).committed x live.1 (subst (λ t. IsContentOf v t x) (sym (found.holds trees database)) content) in
+    subst (λ h. HoldsOf v (file_state h).now x) (sym same) (subst (λ (d : Database). HoldsOf v d x) (sym opened.0.clean) held)
 
 pub returns-in-Ok-clause-alone : goal.returns-in-Ok-clause-alone
 returns-in-Ok-clause-alone g c clean x held =

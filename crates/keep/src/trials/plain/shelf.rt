@@ -10,8 +10,8 @@ ghost use Rattle.keep.specs.Description.{key_cmp};
 ghost use Rattle.keep.specs.Plain.{HasRoom, IsCopy, IsInOrder, row_of, shelf_content};
 ghost use Rattle.keep.specs.Transactions.{with_changes};
 
-use crate::table::Table;
 use crate::create::new_row;
+use crate::table::Table;
 use book::{Change, DeskRow, FieldRow, FirmRow, KeptRow, LineRow, MoveRow, OrderRow, Rows, Tables};
 use index::BlockList;
 use std::alloc::{AllocError, Global};

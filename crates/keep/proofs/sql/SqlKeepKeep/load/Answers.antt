@@ -25,7 +25,12 @@ returns-clause-nameless g c going none =
     (told.0, stopped_over c.load_from-loaded.result _ _ _ _ c.is_err-self-inside.ensures.value told.0 told.1)
 
 pub returns-clause-other : goal.returns-clause-other
-returns-clause-other g c going names differ other =
+returns-clause-other g c going names other =
     let same : c.self.inside.conn ≡ c.args.self.now.connection = ap (λ k. k.connection) c.self.view_is in
-    let told = (rw same at c.load_from-loaded.ensures.other) names differ other in
+    let told = (rw same at c.load_from-loaded.ensures.other) names other in
     (told.0, stopped_over c.load_from-loaded.result _ _ _ _ c.is_err-self-inside.ensures.value told.0 told.1)
+
+pub returns-clause-only_old : goal.returns-clause-only_old
+returns-clause-only_old g c clean going old =
+    let same : c.self.inside.conn ≡ c.args.self.now.connection = ap (λ k. k.connection) c.self.view_is in
+    (rw same at c.load_from-loaded.ensures.only_old) clean old
