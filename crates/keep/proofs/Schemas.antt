@@ -22,17 +22,11 @@ nameless db x none has = none (λ t early. named _ _ (has t).1)
 names_of : (v : ℕ) (db : Database) → IsOfVersion v db → HasNamesOf v db.schema
 names_of v db is = record { early = λ t early. named _ _ (is.tables t early).1; late = is.no_later }
 
--- `desk` is there, so it is none before the first
-pub some_version : (db : Database) (v : ℕ) → IsOfVersion v db → 1 ≤ v
-some_version db zero is = absurd (is.no_later table.Desk (omega arith) (named _ _ is.desk.1.1))
-some_version db (suc v) is = omega arith
-
 -- and so those of version 1
 pub old_names : (db : Database) → IsOld db → HasNames db.schema
 old_names db old t early =
     let names = names_of old.0 db old.2 in
-    let first = some_version db old.0 old.2 in
-    names.early t (omega (arith, early, first))
+    names.early t (omega (arith, early, old.1.0))
 
 -- what is of a version has the schema of no other
 pub is_of : (db : Database) (v w : ℕ) → w ≤ newest → db.schema ≡ schema_of w → v ≤ newest → IsOfVersion v db → v ≡ w

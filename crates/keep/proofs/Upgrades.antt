@@ -40,7 +40,7 @@ replaced old new same = rw (same, tied_itself int_cmp_total old.one) refl
 
 module _ (db : Database) (v : ℕ) (old : v < newest) (some : 1 ≤ v) (is_schema : db.schema ≡ schema_of v) (was : DeskCells) (row : DeskRow) (is : desk_cells row ≡ raised was) (are : Stores table.Desk (db.trees 0) (was ∷ [])) where
   rows_of_v : (x : Content) → HoldsOld db x → HasRowsOf v db.trees x
-  rows_of_v x held = subst (λ w. HasRowsOf w db.trees x) (one_schema held.0 v (omega (arith, held.1)) (omega (arith, old)) (sym held.2.schema_is ∙ is_schema)) held.2.content.has
+  rows_of_v x held = subst (λ w. HasRowsOf w db.trees x) (one_schema held.0 v (omega (arith, held.1.1)) (omega (arith, old)) (sym held.2.schema_is ∙ is_schema)) held.2.content.has
 
   same_row : (x : Content) → HoldsOld db x → put_row desk_cmp (desk_cells row) x.desk ≡ map raised x.desk
   same_row x held =
@@ -65,7 +65,7 @@ module _ (start mid new : State) (v : ℕ) (old : v < newest) (some : 1 ≤ v) (
     read = found (omega (arith, clean, second.clean))
 
     was_old : IsOld start.now
-    was_old = (v, old, is_of_version start.now v (desk_cells was) some has read.1 version)
+    was_old = (v, (some, old), is_of_version start.now v (desk_cells was) some has read.1 version)
 
   pub upgraded_to : HasCleanDisk new → (mid.now.schema ≡ schema_of v → IsSettled (IsRaised v row mid.now) new) → IsUpgraded start new
   upgraded_to clean made =
@@ -93,7 +93,7 @@ module _ (start mid new : State) (v : ℕ) (old : v < newest) (some : 1 ≤ v) (
 pub not_old : (db : Database) (v : ℕ) → v ≤ newest → db.schema ≡ schema_of v → ((rows : List DeskCells) → Stores table.Desk (db.trees 0) rows → ¬ IsOneRow (pos v) rows) → IsOld db → ⊥
 not_old db v late is none old =
     let row = old.2.desk.0 in
-    let same : old.0 ≡ v = is_of db old.0 v late is (omega (arith, old.1)) old.2 in
+    let same : old.0 ≡ v = is_of db old.0 v late is (omega (arith, old.1.1)) old.2 in
     none (row ∷ []) (rows_there db v table.Desk (λ rows. Stores table.Desk rows (row ∷ [])) is old.2.desk.1) (row, refl, subst (λ v. IsVersion (pos v) row) same old.2.desk.2)
 
 pub not_current : (db : Database) (x : Content) → db.schema ≡ desk_schema → ((rows : List DeskCells) → Stores table.Desk (db.trees 0) rows → ¬ IsOneRow (pos newest) rows) → HasTables db x → IsDesk x → ⊥

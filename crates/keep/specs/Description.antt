@@ -1,6 +1,6 @@
 -- What a table of a desk is: the cells of its rows and their key, and how SQL keeps them. A table more is a line in each
 -- definition here, and its declaration in the schema.
-use Rattle.std.specs.Prelude.{ℕ, ◌≡◌, ◌≤◌, List, [], ◌∷◌, ◌++◌, ◌-◌, Option, None, Some, flat_map, length, map, nat_le, nat_lt}
+use Rattle.std.specs.Prelude.{ℕ, ◌≡◌, ◌<◌, ◌≤◌, List, [], ◌∷◌, ◌++◌, ◌-◌, Option, None, Some, flat_map, length, map, nat_le, nat_lt}
 use Rattle.std.specs.declared.cmp.Ordering.{Ordering}
 use Rattle.std.specs.List.{filter, range_with_len}
 use Rattle.sqlite.specs.declared.types.Value.TheVariants.{Int, Text}
@@ -116,6 +116,10 @@ rowid_at t = rowid_place (declared t).key (length (declared t).columns)
 -- the newest, which is written here
 abbrev pub newest : ℕ
 newest = SCHEMA_VERSION
+
+-- a version before it
+abbrev pub IsOlder : ℕ → Type 0
+IsOlder version = (1 ≤ version) × (version < newest)
 
 -- the tables that a version has
 abbrev pub tables_of : ℕ → List TableName

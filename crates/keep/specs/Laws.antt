@@ -49,7 +49,7 @@ named (u ∷ us) t (inr h) = let more = named us t h in (suc more.0, more.1, ome
 
 -- a store of an older version lacks a table of the newest
 pub old_is_apart : (db : Database) (x : Content) → IsOld db → HasTables db x → ⊥
-old_is_apart db x old has = old.2.no_later table.Firm (omega (arith, old.1)) (named _ _ (has table.Firm).1)
+old_is_apart db x old has = old.2.no_later table.Firm (omega (arith, old.1.1)) (named _ _ (has table.Firm).1)
 
 -- each table lies in the schema of a desk as it is made
 pub is_among : (t : TableName) → IsAmong desk_schema.tables (declared t)

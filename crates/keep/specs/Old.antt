@@ -5,7 +5,7 @@ use Rattle.sqlite.specs.State.{State}
 use Rattle.sqlite_trees.specs.Tree.{Trees}
 use Rattle.book.specs.Rows.{Content, DeskCells}
 use Rattle.keep.specs.Schema.{desk_table}
-use Rattle.keep.specs.Description.{declared, desk_schema, newest, since}
+use Rattle.keep.specs.Description.{IsOlder, declared, desk_schema, newest, since}
 use Rattle.keep.specs.Content.{HasTable, Holds, HoldsOf, IsContent, IsContentOf, IsVersion, Stores}
 use Rattle.keep.specs.Names.{HasTableNamed}
 use Rattle.keep.specs.declared.description.TableName.{TableName}
@@ -23,9 +23,9 @@ pub record IsOfVersion (version : ℕ) (db : Database) : Type 0 where
   pub tables : (t : TableName) → since t ≤ version → HasTable db.schema db.trees (declared t) (λ _. ⊤)
   pub no_later : (t : TableName) → version < since t → ¬ HasTableNamed db.schema (declared t).name
 
--- it is of a version before the newest
+-- it is of an older version
 abbrev pub IsOld : Database → Type 0
-IsOld db = (version : ℕ) × (version < newest) × IsOfVersion version db
+IsOld db = (version : ℕ) × IsOlder version × IsOfVersion version db
 
 -- the schema is that of a desk as it is made, and `desk` has one row, of the newest version
 pub record IsCurrent (db : Database) : Type 0 where
@@ -34,10 +34,10 @@ pub record IsCurrent (db : Database) : Type 0 where
 
 -- this is the content, of such a version
 abbrev pub IsOldContent : Trees → Content → Type 0
-IsOldContent trees x = (version : ℕ) × (version < newest) × IsContentOf version trees x
+IsOldContent trees x = (version : ℕ) × IsOlder version × IsContentOf version trees x
 
 abbrev pub HoldsOld : Database → Content → Type 0
-HoldsOld db x = (version : ℕ) × (version < newest) × HoldsOf version db x
+HoldsOld db x = (version : ℕ) × IsOlder version × HoldsOf version db x
 
 -- ---- upgrades
 

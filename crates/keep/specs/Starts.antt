@@ -1,15 +1,20 @@
 -- What the files of a store hold as it is opened.
+use Rattle.std.specs.Prelude.{ℕ}
 use Rattle.sqlite_trees.specs.Tree.{Trees}
 use Rattle.sqlite_wal.specs.Recovery.{Image}
 use Rattle.sqlite.specs.Files.{HoldsDatabase}
 use Rattle.book.specs.Rows.{Content}
-use Rattle.keep.specs.Content.{IsContent}
-use Rattle.keep.specs.Old.{IsOldContent}
+use Rattle.keep.specs.Content.{IsContentOf}
+use Rattle.keep.specs.Description.{IsOlder, newest}
 
--- the bytes of the two files hold a database with this content
+-- the bytes of the two files hold a database of that version with this content
+abbrev pub StartsOf : ℕ → Image → Content → Type 0
+StartsOf version image x = (trees : Trees) × HoldsDatabase image trees × IsContentOf version trees x
+
+-- of the version that is written here
 abbrev pub StartsWith : Image → Content → Type 0
-StartsWith image x = (trees : Trees) × HoldsDatabase image trees × IsContent trees x
+StartsWith = StartsOf newest
 
--- the bytes of the two files hold a store of version 1 with this content
+-- of an older one
 abbrev pub StartsOld : Image → Content → Type 0
-StartsOld image x = (trees : Trees) × HoldsDatabase image trees × IsOldContent trees x
+StartsOld image x = (version : ℕ) × IsOlder version × StartsOf version image x

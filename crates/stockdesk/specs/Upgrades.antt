@@ -7,9 +7,9 @@ use Rattle.keep.specs.Content.{HasTables, Holds, IsDesk, LeavesOnly}
 use Rattle.keep.specs.Old.{AreUpgraded, HoldsOld, IsCurrent, IsOld, upgraded}
 use Rattle.stockdesk.specs.declared.session.Fault.{Fault}
 
--- With Ok the store was of version 1 or 2, holds version 2 of all its rows, and a stop leaves that alone. `NotADesk` is
--- answered only where it was neither, and then it is as it was. Whatever is answered, a stop leaves what was before or
--- the whole of version 2.
+-- With Ok the store was of an older version or the newest, holds the newest of all its rows, and a stop leaves that
+-- alone. `NotADesk` is answered only where it was neither, and then it is as it was. Whatever is answered, a stop leaves
+-- what was before or the whole of the newest version.
 pub record Upgrades (old new : State) (ended : Result (Unit {0}) Fault) : Type 0 where
   pub version : OnOk ended (IsOld old.now ⊎ IsCurrent old.now)
   pub made : OnOk ended ((x : Content) → HoldsOld old.now x → Holds new.now (upgraded x))

@@ -1,6 +1,6 @@
 //! A desk in a file.
 
-ghost use Rattle.std.specs.Prelude.{◌≡◌, ◌≢◌, ◌⊎◌, ◌↔◌, ◌∷◌, [], false, pos, Err, IfErr, IfOk, OnErr, OnOk};
+ghost use Rattle.std.specs.Prelude.{◌≡◌, ◌≢◌, ◌⊎◌, ◌↔◌, ◌∷◌, ℕ, [], false, pos, Err, IfErr, IfOk, OnErr, OnOk};
 ghost use Rattle.std.specs.Io.KnownBytes.{Keeps};
 ghost use Rattle.sqlite.specs.WalFiles.{image_at};
 ghost use Rattle.sqlite.specs.Files.{file_state};
@@ -9,9 +9,10 @@ ghost use Rattle.sqlite_trees.specs.Tree.{Trees};
 ghost use Rattle.book.specs.Good.{Good};
 ghost use Rattle.book.specs.Ledger.{Ledger};
 ghost use Rattle.book.specs.Rows.{Content, DeskCells, IsRowsOf};
-ghost use Rattle.keep.specs.Content.{Holds, IsContent, LeavesOnly};
+ghost use Rattle.keep.specs.Content.{Holds, HoldsOf, IsContent, LeavesOnly};
+ghost use Rattle.keep.specs.Description.{IsOlder};
 ghost use Rattle.keep.specs.Old.{HoldsOld, IsOldContent, upgraded};
-ghost use Rattle.keep.specs.Starts.{StartsOld, StartsWith};
+ghost use Rattle.keep.specs.Starts.{StartsOf, StartsOld, StartsWith};
 ghost use Rattle.stockdesk.specs.Sessions.{IsNewDesk, IsNotOpened, OpensWith, StillHolds};
 ghost use Rattle.stockdesk.specs.Work.{GoesOnFrom, WorkInPart, WorkWhole};
 
@@ -131,8 +132,8 @@ pub fn open<S: Start>(
 ) -> Result<SqlKeep<FileStore<FileFrom<S>>>, Fault>
     ensures opened { IfOk result (OpensWith ⟦<SqlKeep<FileStore<FileFrom<S>>> as Keep>⟧
         (StartsWith (image_at S.Start))) }
-    ensures old { IfOk result (λ keep. HasCleanDisk (file_state keep.connection) → (x : Content)
-        → StartsOld (image_at S.Start) x → HoldsOld (file_state keep.connection).now x) }
+    ensures old { IfOk result (λ keep. HasCleanDisk (file_state keep.connection) → (version : ℕ) (x : Content)
+        → StartsOf version (image_at S.Start) x → HoldsOf version (file_state keep.connection).now x) }
     // of whatever version, a stop leaves what is shown
     ensures shown { IfOk result (λ keep. HasCleanDisk (file_state keep.connection) → (trees : Trees)
         → (file_state keep.connection).may_leave trees → trees ≡ (file_state keep.connection).now.trees) }
@@ -167,10 +168,11 @@ pub fn session<S: Start, R: Read, W: Write>(
         (StartsWith (image_at S.Start)) (StartsWith (image_at S.Start))
         (StillHolds ⟦<SqlKeep<FileStore<FileFrom<S>>> as Keep>⟧ (StartsWith (image_at S.Start)) r.0)
         (R.remaining reader.old) (R.remaining reader.new) (W.contents writer.old) (W.contents writer.new))) }
-    // what is of version 1 is told as that, and as nothing else but want of memory or the store
-    ensures old { IfOk result (λ r. HasCleanDisk (file_state r.0.connection) → (x : Content) (row : DeskCells)
-        → StartsOld (image_at S.Start) x → x.desk ≡ row ∷ [] → row.version ≡ pos 1 → (r.1 ≡ Err Fault.OldVersion)
-        ⊎ ((r.1 ≡ Err Fault.Memory) ⊎ (r.1 ≡ Err Fault.Store))) }
+    // what is of an older version is told as that, and as nothing else but want of memory or the store
+    ensures old { IfOk result (λ r. HasCleanDisk (file_state r.0.connection) → (version : ℕ) (x : Content)
+        (row : DeskCells) → IsOlder version → StartsOf version (image_at S.Start) x → x.desk ≡ row ∷ []
+        → row.version ≡ pos version
+        → (r.1 ≡ Err Fault.OldVersion) ⊎ ((r.1 ≡ Err Fault.Memory) ⊎ (r.1 ≡ Err Fault.Store))) }
     ensures unopened { OnErr result (Keeps (R.remaining reader.old) (R.remaining reader.new)
         × Keeps (W.contents writer.old) (W.contents writer.new)) }
     ensures fault { IfErr result IsNotOpened }
@@ -184,10 +186,10 @@ pub fn session<S: Start, R: Read, W: Write>(
     Ok(work::session(rt, keep, work, reader, writer))
 }
 
-/// Makes version 2 of the desk in the file at the path, whose bytes are named by `start`, where it is of version 1; one
-/// of version 2 is left alone. The keeper comes back over what the file holds then, and is still open. Whatever is
-/// answered, a stop leaves what was found or the whole of version 2. A file that is not there or has no bytes is
-/// `NotADesk`, and none is made.
+/// Makes the newest version of the desk in the file at the path, whose bytes are named by `start`, where it is of an
+/// older one; one of the newest is left alone. The keeper comes back over what the file holds then, and is still open.
+/// Whatever is answered, a stop leaves what was found or the whole of the newest version. A file that is not there or
+/// has no bytes is `NotADesk`, and none is made.
 pub fn upgrade<S: Start>(
     rt: &HostRuntime,
     path: &str,
@@ -210,10 +212,10 @@ pub fn upgrade<S: Start>(
     ensures unchanged { IfOk result (λ r. HasCleanDisk (file_state r.0.connection) → r.1 ≡ Err Fault.NotADesk
         → (x : Content) → (StartsWith (image_at S.Start) x → Holds (file_state r.0.connection).now x)
         × (StartsOld (image_at S.Start) x → HoldsOld (file_state r.0.connection).now x)) }
-    // what is of version 1 is never called no desk
+    // what is of an older version is never called no desk
     ensures desk { IfOk result (λ r. HasCleanDisk (file_state r.0.connection) → IfErr r.1
-        (λ fault. fault ≡ Fault.NotADesk → (x : Content) (row : DeskCells) → x.desk ≡ row ∷ [] → row.version ≡ pos 1
-        → ¬ StartsOld (image_at S.Start) x)) }
+        (λ fault. fault ≡ Fault.NotADesk → (version : ℕ) (x : Content) (row : DeskCells) → IsOlder version
+        → x.desk ≡ row ∷ [] → row.version ≡ pos version → ¬ StartsOf version (image_at S.Start) x)) }
     ensures fault { IfErr result IsNotOpened }
 {
     let keep = open(rt, path, start)?;

@@ -7,7 +7,7 @@ use Rattle.keep.proofs.sql.load_from.Goals as goal
 pub returns-in-Current-clause-only_old : goal.returns-in-Current-clause-only_old
 returns-in-Current-clause-only_old g c clean old =
     let is = rw c.schema.ensures.value at (c.in-Current.ensures.current refl) in
-    let same = is_of (state g.S.Store c.args.conn.now).now old.0 newest (omega arith) is.1 (omega (arith, old.1)) old.2 in absurd (omega (arith, same, old.1))
+    let same = is_of (state g.S.Store c.args.conn.now).now old.0 newest (omega arith) is.1 (omega (arith, old.1.1)) old.2 in absurd (omega (arith, same, old.1.1))
 
 -- in each layout but the last the six names are there
 pub returns-in-Current-clause-nameless : goal.returns-in-Current-clause-nameless

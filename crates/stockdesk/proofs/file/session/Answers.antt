@@ -2,7 +2,7 @@ use Rattle.std.proofs.lemmas.Result.{on_ok_weaker}
 use Rattle.desk.proofs.Cuts.{of_error}
 use Rattle.keep.specs.Laws.{holds_tables}
 use Rattle.stockdesk.proofs.SessionParts.{starts_part, starts_whole}
-use Rattle.keep.proofs.Schemas.{is_of_version_1}
+use Rattle.keep.proofs.Schemas.{holds_one_row}
 use Rattle.stockdesk.proofs.file.session.Goals as goal
 
 pub returns-clause-whole : goal.returns-clause-whole
@@ -16,9 +16,9 @@ returns-clause-cut g c =
     c.session.ensures.cut
 
 pub returns-clause-old : goal.returns-clause-old
-returns-clause-old g c clean x row there one version =
+returns-clause-old g c clean v x row late there one version =
     c.session.ensures.old clean c.in_ok-keep.ensures.opened.going
-    (is_of_version_1 _ x row (c.in_ok-keep.ensures.old (c.session.ensures.honest clean) x there) one version)
+    (v, late, holds_one_row _ v x row (c.in_ok-keep.ensures.old (c.session.ensures.honest clean) v x there) one version)
 
 pub returns-clause-goes_on : goal.returns-clause-goes_on
 returns-clause-goes_on g c clean A x good rows there =

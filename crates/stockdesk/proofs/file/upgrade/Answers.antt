@@ -5,12 +5,16 @@ use Rattle.sqlite_trees.specs.Tree.{Trees}
 use Rattle.keep.specs.Content.{Holds}
 use Rattle.keep.specs.Laws.{holds_tables, old_is_apart}
 use Rattle.keep.specs.Old.{HoldsOld, IsOldContent}
-use Rattle.keep.proofs.Schemas.{is_of_version_1}
+use Rattle.keep.proofs.Schemas.{holds_one_row}
 use Rattle.stockdesk.proofs.file.upgrade.Goals as goal
+
+-- what the bytes hold of an older version the store holds
+held_old : (g : _) (c : goal.After-upgrade g) (clean : HasCleanDisk (file_state c.in_ok-keep.keep.connection)) (x : Content) → StartsOld (image_at g.S.Start) x → HoldsOld (file_state c.in_ok-keep.keep.connection).now x
+held_old g c clean x there = (there.0, there.1, c.in_ok-keep.ensures.old clean there.0 x there.2)
 
 pub returns-clause-made : goal.returns-clause-made
 returns-clause-made g c clean =
-    on_ok_weaker c.upgrade.result.1 (λ made x there. made x (c.in_ok-keep.ensures.old (c.upgrade.ensures.clean clean) x there)) (c.upgrade.ensures.upgrades clean).made
+    on_ok_weaker c.upgrade.result.1 (λ made x there. made x (held_old g c (c.upgrade.ensures.clean clean) x there)) (c.upgrade.ensures.upgrades clean).made
 
 pub returns-clause-same : goal.returns-clause-same
 returns-clause-same g c clean =
@@ -22,9 +26,9 @@ returns-clause-alone g c clean = (c.upgrade.ensures.upgrades clean).alone
 pub returns-clause-either : goal.returns-clause-either
 returns-clause-either g c clean x there trees left =
     let was = c.upgrade.ensures.clean clean in
-    let held = c.in_ok-keep.ensures.old was x there in
+    let held = held_old g c was x there in
     elim ((c.upgrade.ensures.upgrades clean).either trees left) [
-      | inl before ↦ inl (subst (λ (t : Trees). IsOldContent t x) (sym (c.in_ok-keep.ensures.shown was trees before)) held.content)
+      | inl before ↦ inl (subst (λ (t : Trees). IsOldContent t x) (sym (c.in_ok-keep.ensures.shown was trees before)) (held.0, held.1, held.2.content))
       | inr made ↦ inr (made.whole x held)
     ]
 
@@ -41,7 +45,7 @@ pub returns-clause-unchanged : goal.returns-clause-unchanged
 returns-clause-unchanged g c clean told x =
     let was = c.upgrade.ensures.clean clean in
     let same = sym ((c.upgrade.ensures.upgrades clean).unchanged told).0 in
-    (λ there. subst (λ (d : Database). Holds d x) same (c.in_ok-keep.ensures.opened.held was x there), λ there. subst (λ (d : Database). HoldsOld d x) same (c.in_ok-keep.ensures.old was x there))
+    (λ there. subst (λ (d : Database). Holds d x) same (c.in_ok-keep.ensures.opened.held was x there), λ there. subst (λ (d : Database). HoldsOld d x) same (held_old g c was x there))
 
 on_error : {T E : Type 0} (r : Result T E) (P : E → Type 0) → ((e : E) → r ≡ Err e → P e) → IfErr r P
 on_error (Ok x) P on = tt
@@ -51,5 +55,5 @@ pub returns-clause-desk : goal.returns-clause-desk
 returns-clause-desk g c clean =
     let upgrades = c.upgrade.ensures.upgrades clean in
     on_error c.upgrade.result.1 _
-    (λ fault is told x row one version there.
-    (upgrades.desk (is ∙ ap (λ f. Err f) told)).0 (is_of_version_1 _ x row (c.in_ok-keep.ensures.old (c.upgrade.ensures.clean clean) x there) one version))
+    (λ fault is told v x row late one version there.
+    (upgrades.desk (is ∙ ap (λ f. Err f) told)).0 (v, late, holds_one_row _ v x row (c.in_ok-keep.ensures.old (c.upgrade.ensures.clean clean) v x there) one version))

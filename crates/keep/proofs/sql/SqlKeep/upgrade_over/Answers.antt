@@ -10,7 +10,7 @@ pub returns-in-Current-clause-desk : goal.returns-in-Current-clause-desk
 returns-in-Current-clause-desk g c clean fault =
     let is = rw c.schema.ensures.value at (c.in-Current.ensures.current refl) in
     let db = (state g.S.Store c.args.conn.now).now in
-    (λ old. let same = is_of db old.0 newest (omega arith) is.1 (omega (arith, old.1)) old.2 in omega (arith, same, old.1), (c.expect_current.ensures.desk clean fault).0)
+    (λ old. let same = is_of db old.0 newest (omega arith) is.1 (omega (arith, old.1.1)) old.2 in omega (arith, same, old.1.1), (c.expect_current.ensures.desk clean fault).0)
 
 pub returns-in-Current-clause-alone : goal.returns-in-Current-clause-alone
 returns-in-Current-clause-alone g c clean =
