@@ -24,7 +24,7 @@ use Rattle.keep.proofs.Upserts.{PutsIntoTable, puts_into}
 -- where the statement has put them in, the transaction goes on
 upserted : (text : List ℕ) (columns : Row) (changes : List Change) (old new : State) → ((count : ℕ) → Executes text columns old new (Ok count) → (x : Content) → Holds old.now x → Holds new.now (with_changes changes x))
     → (r : Result ℕ Error) → ExecutesInside 0 text columns old new r → OnOk r (PutsIn old new changes)
-upserted text columns changes old new holds (Ok count) h = record { mode = h.1.mode; committed = h.1.committed_is; put_in = holds count h.0 }
+upserted text columns changes old new holds (Ok count) h = record { mode = h.1.mode; committed = h.1.committed_is; is = holds count h.0 }
 upserted text columns changes old new holds (Err e) h = tt
 
 -- ---- a row put into its table
@@ -85,11 +85,11 @@ one_more [] c x = refl
 one_more (d ∷ cs) c x = first d (cs ++ c ∷ []) x ∙ one_more cs c (with_changes (d ∷ []) x) ∙ ap (with_changes (c ∷ [])) (sym (first d cs x))
 
 pub puts_none : (s : State) → IsTrue s.in_transaction → PutsIn s s []
-puts_none s begun = record { mode = begun; committed = refl; put_in = λ x held. held }
+puts_none s begun = record { mode = begun; committed = refl; is = λ x held. held }
 
 pub puts_then : (a b c : State) (xs : List Change) (x : Change) → PutsIn a b xs → PutsIn b c (x ∷ []) → PutsIn a c (xs ++ x ∷ [])
 puts_then a b c xs x p q = record {
   mode = q.mode;
   committed = q.committed ∙ p.committed;
-  put_in = λ y held. subst (Holds c.now) (sym (one_more xs x y)) (q.put_in _ (p.put_in y held));
+  is = λ y held. subst (Holds c.now) (sym (one_more xs x y)) (q.is _ (p.is y held));
 }

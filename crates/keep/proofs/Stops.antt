@@ -27,7 +27,7 @@ leaves_either old new changes x survives clean held alone trees left = elim (sur
 ]
 
 pub put_if : {U E : Type 0} (old new : State) (changes : List Change) (r : Result U E) → OnOk r (Committed old new changes) → OnOk r ((x : Content) → Holds old.now x → Holds new.now (with_changes changes x))
-put_if old new changes (Ok u) h = h.put_in
+put_if old new changes (Ok u) h = h.is
 put_if old new changes (Err e) h = tt
 
 pub alone_if : {U E : Type 0} (old new : State) (changes : List Change) (r : Result U E) → (IsTrue new.is_open → (trees : Trees) → new.may_leave trees → trees ≡ new.committed.trees)

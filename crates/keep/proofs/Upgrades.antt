@@ -31,7 +31,7 @@ pub raises_in : (a b c : State) (v : ℕ) (row : DeskRow) → v < newest → a.n
 raises_in a b c v row old has second make put clean begun =
     let made = make (omega (arith, clean, second.clean)) begun in
     let more = put clean made.mode in
-    record { mode = more.mode; committed = more.committed ∙ made.committed; is = λ x rows. more.put_in x (holds_later v a.now b.now (made.is has) old x rows) }
+    record { mode = more.mode; committed = more.committed ∙ made.committed; is = λ x rows. more.is x (holds_later v a.now b.now (made.is has) old x rows) }
 
 -- ---- the row of the older version is replaced
 

@@ -13,22 +13,6 @@ use Rattle.keep.specs.Content.{Holds, IsContent}
 abbrev pub with_changes : List Change → Content → Content
 with_changes changes x = put_content (rows_among changes) x
 
--- the transaction goes on with the rows put in, and nothing is committed
-pub record PutsIn (old new : State) (changes : List Change) : Type 0 where
-  pub mode : IsTrue new.in_transaction
-  pub committed : new.committed ≡ old.committed
-  pub put_in : (x : Content) → Holds old.now x → Holds new.now (with_changes changes x)
-
--- the rows are put in and committed
-pub record Committed (old new : State) (changes : List Change) : Type 0 where
-  pub is_open : IsTrue new.is_open
-  pub settled : new.committed ≡ new.now
-  pub put_in : (x : Content) → Holds old.now x → Holds new.now (with_changes changes x)
-
--- these trees hold the content with all the changes
-abbrev pub AreChanged : Database → List Change → Trees → Type 0
-AreChanged db changes trees = (x : Content) → Holds db x → IsContent trees (with_changes changes x)
-
 -- the transaction goes on, and such is made in it
 pub record Makes (Is : Database → Type 0) (old new : State) : Type 0 where
   pub mode : IsTrue new.in_transaction
@@ -40,3 +24,19 @@ pub record IsSettled (Is : Database → Type 0) (s : State) : Type 0 where
   pub is_open : IsTrue s.is_open
   pub settled : s.committed ≡ s.now
   pub is : Is s.now
+
+-- the rows are put in
+abbrev pub IsPut : List Change → Database → Database → Type 0
+IsPut changes old new = (x : Content) → Holds old x → Holds new (with_changes changes x)
+
+-- the transaction goes on with them
+abbrev pub PutsIn : State → State → List Change → Type 0
+PutsIn old new changes = Makes (IsPut changes old.now) old new
+
+-- they are committed
+abbrev pub Committed : State → State → List Change → Type 0
+Committed old new changes = IsSettled (IsPut changes old.now) new
+
+-- these trees hold the content with all the changes
+abbrev pub AreChanged : Database → List Change → Trees → Type 0
+AreChanged db changes trees = (x : Content) → Holds db x → IsContent trees (with_changes changes x)

@@ -20,7 +20,7 @@ done : {S : Type 0} (g : Ghosts S) (old last new : Held S) (changes : List Chang
 done g old last new changes puts h = record {
   is_open = h.is_open;
   settled = h.committed_is ∙ sym h.now_is;
-  put_in = λ x held. subst (λ d. Holds d (with_changes changes x)) (sym h.now_is) (puts.put_in x held);
+  is = λ x held. subst (λ d. Holds d (with_changes changes x)) (sym h.now_is) (puts.is x held);
 }
 
 pub returns-clause-put : goal.returns-clause-put
@@ -41,7 +41,7 @@ returns-clause-survives g c =
     λ clean. (rw begun at c.in_ok-put_all.ensures.put) clean refl in
     let P = AreChanged (state g.S.Store old).now changes in
     let whole = survives_then (state g.S.Store old) (state g.S.Store last) (state g.S.Store c.commit.new.self.0) _ _ P (λ _ db none. absurd none)
-    (λ clean db is x held. held_by (state g.S.Store last).now db (with_changes changes x) is ((puts (omega (arith, c.commit.ensures.survives.clean))).put_in x held))
+    (λ clean db is x held. held_by (state g.S.Store last).now db (with_changes changes x) is ((puts (omega (arith, c.commit.ensures.survives.clean))).is x held))
     (survives_begin g.S.Store old (state g.S.Store last) _ (rw begun at c.put_all.ensures.survives)) c.commit.ensures.survives in
     let same : c.commit.new.self.0 ≡ c.conn-2-1.given.0 = search rules in
     subst (λ h. Survives (state g.S.Store old) (state g.S.Store h) P) same whole
