@@ -1,10 +1,15 @@
 use Rattle.std.proofs.Common.{Err, IfErr, Ok, Result, ap, inl, inr, refl, subst, sym, ◌≡◌, ◌∙◌}
 use Rattle.std.proofs.lemmas.Result.{on_ok_weaker}
 use Rattle.sqlite.specs.Effect.{Database}
+use Rattle.sqlite.specs.Files.{file_state}
+use Rattle.sqlite.specs.State.{HasCleanDisk}
+use Rattle.sqlite.specs.WalFiles.{image_at}
 use Rattle.sqlite_trees.specs.Tree.{Trees}
+use Rattle.book.specs.Rows.{Content}
 use Rattle.keep.specs.Content.{Holds}
 use Rattle.keep.specs.Laws.{holds_tables, old_is_apart}
 use Rattle.keep.specs.Old.{HoldsOld, IsOldContent}
+use Rattle.keep.specs.Starts.{StartsOld}
 use Rattle.keep.proofs.Schemas.{holds_one_row}
 use Rattle.stockdesk.proofs.file.upgrade.Goals as goal
 
