@@ -1,15 +1,18 @@
 -- What a stop leaves of a store that is settled, and of one after a commit that may have failed.
-use Rattle.std.proofs.Common.{◌≡◌, ◌∙◌, Bool, ap₂, inl, inr, is_err, true, List, [], ◌∷◌, Ok, Err, Result, ap, refl, subst, sym}
+use Rattle.std.proofs.Common.{◌≡◌, ◌∙◌, Bool, ap₂, arith, false, inl, inr, is_err, true, List, [], ◌∷◌, Ok, Err, Result, ap, refl, subst, sym}
 use Rattle.std.specs.Prelude.{IsTrue, OnOk}
 use Rattle.sqlite.specs.Effect.{Database}
-use Rattle.sqlite.specs.Held.{Held}
-use Rattle.sqlite.specs.State.{State, HasCleanDisk, Survives}
+use Rattle.sqlite.specs.Held.{Held, state}
+use Rattle.sqlite.specs.State.{State, HasCleanDisk, Shows, Survives}
+use Rattle.sqlite.proofs.Callers.{survives_begin}
+use Rattle.sqlite.proofs.StateLemmas.{survives_then}
+use Rattle.sqlite_trees.specs.declared.store.Store.{Ghosts}
 use Rattle.sqlite_trees.specs.Tree.{Trees}
 use Rattle.book.specs.declared.rows.Change.{Change}
 use Rattle.book.specs.Rows.{Content}
 use Rattle.keep.specs.Content.{Holds, IsContent, LeavesOnly}
 use Rattle.keep.specs.Keeper.{Keeper}
-use Rattle.keep.specs.Transactions.{Committed, AreChanged, with_changes}
+use Rattle.keep.specs.Transactions.{AreChanged, Committed, IsSettled, Makes, with_changes}
 
 -- trees that are those of the database hold its content
 pub held_by : (db : Database) (trees : Trees) (x : Content) → trees ≡ db.trees → Holds db x → IsContent trees x
@@ -45,3 +48,18 @@ pub stopped_over : {S T E : Type 0} (r : Result T E) (fault : E) (connection was
     → let now : Keeper S = record { connection = connection; stopped = stopped } in now ≡ record { connection = was; stopped = true }
 stopped_over {S} r fault connection was stopped told is same =
     ap₂ (λ (c : Held S) (b : Bool). let k : Keeper S = record { connection = c; stopped = b } in k) same (told ∙ ap is_err is)
+
+-- ---- a transaction
+
+module _ {S : Type 0} (g : Ghosts S) (old last new : Held S) where
+  abbrev begun : State
+  begun = state g (record old { in_transaction = true })
+
+  -- what it has made is committed
+  pub committed : (Is : Database → Type 0) → Makes Is begun (state g last) → Shows (state g last) (state g new) (state g last).now (state g last).now false → IsSettled Is (state g new)
+  committed Is made h = record { is_open = h.is_open; settled = h.committed_is ∙ sym h.now_is; is = subst Is (sym h.now_is) made.is }
+
+  -- or a stop leaves what was before
+  pub survives_commit : (P : Trees → Type 0) → (HasCleanDisk (state g last) → P (state g last).now.trees) → Survives begun (state g last) (λ _. ⊥) → Survives (state g last) (state g new) (λ trees. trees ≡ (state g last).now.trees) → Survives (state g old) (state g new) P
+  survives_commit P made first second =
+      survives_then (state g old) (state g last) (state g new) _ _ P (λ _ trees none. absurd none) (λ clean trees is. subst P (sym is) (made (omega (arith, clean, second.clean)))) (survives_begin g old (state g last) _ first) second
