@@ -1,0 +1,17 @@
+-- What a dialogue reads and writes.
+use Rattle.std.specs.Prelude.{ℕ, List, Option}
+
+-- what there is to read, and what was written, before it and after it, where the reader and the writer tell their bytes
+pub record Streams : Type 0 where
+  pub reader_old : Option (List ℕ)
+  pub reader_new : Option (List ℕ)
+  pub writer_old : Option (List ℕ)
+  pub writer_new : Option (List ℕ)
+
+abbrev pub streams : (reader_old reader_new writer_old writer_new : Option (List ℕ)) → Streams
+streams reader_old reader_new writer_old writer_new = record {
+  reader_old = reader_old;
+  reader_new = reader_new;
+  writer_old = writer_old;
+  writer_new = writer_new;
+}
