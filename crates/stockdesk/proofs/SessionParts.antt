@@ -1,5 +1,5 @@
 -- What a session has read and written.
-use Rattle.std.proofs.Common.{◌≡◌, ◌⊎◌, ◌∙◌, [], ◌∷◌, Bool, Err, IfErr, List, ℕ, Ok, OnErr, OnOk, Option, Result, Some, ap, arith, false, refl, subst, sym, true, true≢false}
+use Rattle.std.proofs.Common.{◌≡◌, ◌≢◌, ◌⊎◌, ◌∙◌, [], ◌∷◌, Bool, Err, IfErr, List, ℕ, Ok, OnErr, OnOk, Option, Result, Some, ap, arith, false, refl, subst, sym, true, true≢false}
 use Rattle.std.proofs.Math.Logic.{inl, inr}
 use Rattle.std.proofs.KnownBytes.{Appends-kept, Appends-nil, Consumes-kept, Consumes-nil, Keeps-refl}
 use Rattle.book.specs.Good.{Good}
@@ -16,7 +16,7 @@ use Rattle.desk.specs.Streams.{IsSilent, Streams, streams}
 use Rattle.desk.specs.declared.fault.ScriptFault.{ScriptFault}
 use Rattle.desk.proofs.Cuts.{other_error}
 use Rattle.stockdesk.specs.Runs.{BeginsText, RunsSoFar, RunsWhole}
-use Rattle.stockdesk.specs.Sessions.{IsBadFile, IsNoDesk, IsToldAs, IsUnbegun, OpensWith, ScriptCut, Session, SessionCut, SessionInPart, SessionWhole, StillHolds, left_at, session_in, session_on}
+use Rattle.stockdesk.specs.Sessions.{IsBadFile, IsNoDesk, IsToldAs, IsUnbegun, IsBegun, OpensWith, ScriptCut, Session, SessionCut, SessionInPart, SessionWhole, StillHolds, left_at, session_in, session_on}
 use Rattle.stockdesk.specs.Work.{WorkInPart, WorkWhole}
 use Rattle.stockdesk.specs.declared.session.Fault.{Fault}
 use Rattle.stockdesk.specs.declared.work.Work.TheVariants.{Script}
@@ -120,91 +120,78 @@ module _ {K : Type 0} (on : Session K) (r : Result (Unit {0}) Fault) (first : De
       by : (ended : Result (Unit {0}) Fault) → r ≡ ended → OnOk ended (Done (desk_state on.ghosts first) (left_at on last)) → OnOk ended (SessionWhole on Done)
       by (Ok done) is ends =
           let going : on.ghosts.stopped on.keep ≡ false = stop.going (λ e. let both = sym is ∙ e in cc both) ∙ began in
-          record { first = first; last = last; began = began; good = good; rows = rows; ends = ends; going = going; kept = stored going }
+          record { on = record { first = first; last = last; began = began; good = good; rows = rows; done = ends }; going = going; kept = stored going }
       by (Err fault) is ends = tt
 
   -- what was done on it is cut by an error
   pub cut_by : (fault : Fault) → r ≡ Err fault → Done (desk_state on.ghosts first) (left_at on last) → IfErr r (λ f. ¬ IsNoDesk f) → SessionCut on fault Done
-  cut_by fault is ends desk = record {
-    first = first;
-    last = last;
-    began = began;
-    good = good;
-    rows = rows;
-    ends = ends;
-    desk = of_this_error r (λ f. ¬ IsNoDesk f) fault desk is;
-    stopped = λ e. stop.stopped (is ∙ ap (λ f. Err f) e);
-    going = λ other. stop.going (other_error r fault Fault.Store is other) ∙ began;
-    kept = λ other. stored (stop.going (other_error r fault Fault.Store is other) ∙ began);
-  }
+  cut_by fault is ends desk =
+      let going : fault ≢ Fault.Store → on.ghosts.stopped on.keep ≡ false = λ other. stop.going (other_error r fault Fault.Store is other) ∙ began in
+      record {
+        on = record { first = first; last = last; began = began; good = good; rows = rows; done = ends };
+        desk = of_this_error r (λ f. ¬ IsNoDesk f) fault desk is;
+        stopped = λ e. stop.stopped (is ∙ ap (λ f. Err f) e);
+        going = going;
+        kept = λ other. stored (going other);
+      }
 
 -- ---- scripts
 
-module _ {K : Type 0} (on : Session K) (s : Streams) where
-  pub cut_begins : (fault : Fault) (cut : SessionCut on fault (λ old new. ScriptCut fault old new s)) → BeginsText cut.first.ledger s
-  cut_begins fault cut = let (cause, told, ends) = cut.ends in record {
-    read = ends.read;
-    written = ends.written;
-    unwritten = ends.unwritten;
-    last = ends.last;
-    reads = ends.reads;
-    writes = ends.writes;
-    text = ends.text;
-    prompt = ends.prompt;
-  }
+-- a script that is cut has begun its text
+pub cut_begins : (fault : Fault) (old new : DeskState) (s : Streams) → ScriptCut fault old new s → BeginsText old.ledger s
+cut_begins fault old new s (cause, told, ends) =
+    record { read = ends.read; written = ends.written; unwritten = ends.unwritten; last = ends.last; reads = ends.reads; writes = ends.writes; text = ends.text; prompt = ends.prompt }
 
-  -- ---- over a new desk
+-- ---- over a new desk
 
-  module _ (honest : on.ghosts.is_honest on.keep) (new : on.held new_content) where
-    pub runs_whole : WorkWhole on Script s → RunsWhole s
-    runs_whole all = (all.last, subst (λ (A : Ledger). WritesText A all.last s) (is_new all.first.ledger all.good (all.rows honest new_content new)) all.ends.told)
+module _ {K : Type 0} (on : Session K) (s : Streams) (honest : on.ghosts.is_honest on.keep) (new : on.held new_content) where
+  -- it begins at the ledger of one
+  from_new : (Done : DeskState → DeskState → Type 0) (begun : IsBegun on Done) (Is : Ledger → Type 0) → Is begun.first.ledger → Is new_ledger
+  from_new Done begun Is h = subst Is (is_new begun.first.ledger begun.good (begun.rows honest new_content new)) h
 
-    module _ (fault : Fault) where
-      pub runs_part : WorkInPart on Script fault s → BeginsText new_ledger s
-      runs_part (inl (refused, silent)) = nothing_read new_ledger s silent
-      runs_part (inr cut) = subst (λ (A : Ledger). BeginsText A s) (is_new cut.first.ledger cut.good (cut.rows honest new_content new)) (cut_begins fault cut)
+  pub runs_whole : WorkWhole on Script s → RunsWhole s
+  runs_whole all = (all.on.last, from_new _ all.on (λ A. WritesText A all.on.last s) all.on.done.told)
 
-      pub runs_so_far : WorkInPart on Script fault s → fault ≡ Fault.Read → RunsSoFar new_ledger s
-      runs_so_far (inl (refused, silent)) is = nothing_so_far new_ledger s silent
-      runs_so_far (inr cut) is = let (cause, told, ends) = cut.ends in
-          subst (λ (A : Ledger). RunsSoFar A s) (is_new cut.first.ledger cut.good (cut.rows honest new_content new)) (record {
-            read = ends.read;
-            written = ends.written;
-            ended = ends.ended;
-            rest = ends.rest;
-            ledger = cut.last;
-            reads = ends.reads;
-            writes = ends.writes;
-            feeds = ends.feeds;
-            replies = ends.all_ended (told.read.0 is);
-          })
+  module _ (fault : Fault) where
+    pub runs_part : WorkInPart on Script fault s → BeginsText new_ledger s
+    runs_part (inl (refused, silent)) = nothing_read new_ledger s silent
+    runs_part (inr cut) = from_new _ cut.on (λ A. BeginsText A s) (cut_begins fault (desk_state on.ghosts cut.on.first) (left_at on cut.on.last) s cut.on.done)
 
-      -- a new desk is a desk, and not damaged
-      pub opens_new : on.tables new_content → WorkInPart on Script fault s → IsUnbegun fault → ⊥
-      opens_new there (inl (refused, silent)) un = by refused.opening
-        where
-          by : IsNoDesk fault ⊎ ((fault ≡ Fault.Memory) ⊎ (fault ≡ Fault.Store)) → ⊥
-          by (inl (inl is)) = refused.not_a_desk is honest new_content there (new_row, refl, refl)
-          by (inl (inr (inl is))) = refused.damaged is honest new_content new new_ledger good_new rows_new
-          by (inl (inr (inr is))) = refused.old_version is honest new_content there
-          by (inr (inl is)) = not_unbegun fault _ is refl un
-          by (inr (inr is)) = not_unbegun fault _ is refl un
-      opens_new there (inr cut) un = let (cause, told, ends) = cut.ends in told_begun cause fault told un
+    pub runs_so_far : WorkInPart on Script fault s → fault ≡ Fault.Read → RunsSoFar new_ledger s
+    runs_so_far (inl (refused, silent)) is = nothing_so_far new_ledger s silent
+    runs_so_far (inr cut) is = let (cause, told, ends) = cut.on.done in
+        from_new _ cut.on (λ A. RunsSoFar A s) (record {
+          read = ends.read;
+          written = ends.written;
+          ended = ends.ended;
+          rest = ends.rest;
+          ledger = cut.on.last;
+          reads = ends.reads;
+          writes = ends.writes;
+          feeds = ends.feeds;
+          replies = ends.all_ended (told.read.0 is);
+        })
+
+    -- a new desk is a desk, and not damaged
+    pub opens_new : on.tables new_content → WorkInPart on Script fault s → IsUnbegun fault → ⊥
+    opens_new there (inl (refused, silent)) un = by refused.opening
+      where
+        by : IsNoDesk fault ⊎ ((fault ≡ Fault.Memory) ⊎ (fault ≡ Fault.Store)) → ⊥
+        by (inl (inl is)) = refused.not_a_desk is honest new_content there (new_row, refl, refl)
+        by (inl (inr (inl is))) = refused.damaged is honest new_content new new_ledger good_new rows_new
+        by (inl (inr (inr is))) = refused.old_version is honest new_content there
+        by (inr (inl is)) = not_unbegun fault _ is refl un
+        by (inr (inr is)) = not_unbegun fault _ is refl un
+    opens_new there (inr cut) un = let (cause, told, ends) = cut.on.done in told_begun cause fault told un
 
 -- ---- over what the bytes of a file hold
 
 module _ {K : Type 0} (g : Ghosts K) (keep : K) (was : Content → Type 0) (opened : K) (opens : OpensWith g was opened) (back : g.is_honest keep → g.is_honest opened) where
+  abbrev begun : (Done : DeskState → DeskState → Type 0) → IsBegun (session_on g opened keep) Done → IsBegun (session_in g was keep) Done
+  begun Done s = record { first = s.first; last = s.last; began = s.began; good = s.good; rows = λ honest x there. s.rows honest x (opens.held (back honest) x there); done = s.done }
+
   pub starts_whole : (AllDone : DeskState → DeskState → Type 0) → SessionWhole (session_on g opened keep) AllDone → SessionWhole (session_in g was keep) AllDone
-  starts_whole AllDone s = record {
-    first = s.first;
-    last = s.last;
-    began = s.began;
-    good = s.good;
-    rows = λ honest x there. s.rows honest x (opens.held (back honest) x there);
-    ends = s.ends;
-    going = s.going;
-    kept = s.kept;
-  }
+  starts_whole AllDone s = record { on = begun AllDone s.on; going = s.going; kept = s.kept }
 
   stays : g.is_honest keep → IsLeft g opened keep → StillHolds g was keep
   stays honest left = record {
@@ -226,18 +213,7 @@ module _ {K : Type 0} (g : Ghosts K) (keep : K) (was : Content → Type 0) (open
     },
     kept,
   )
-  starts_part in_tables fault Untouched PartDone (inr s) = inr (record {
-    first = s.first;
-    last = s.last;
-    began = s.began;
-    good = s.good;
-    rows = λ honest x there. s.rows honest x (opens.held (back honest) x there);
-    ends = s.ends;
-    desk = s.desk;
-    stopped = s.stopped;
-    going = s.going;
-    kept = s.kept;
-  })
+  starts_part in_tables fault Untouched PartDone (inr s) = inr (record { on = begun PartDone s.on; desk = s.desk; stopped = s.stopped; going = s.going; kept = s.kept })
 
 pub runs_nothing : (R W : Option (List ℕ)) → BeginsText new_ledger (streams R R W W)
 runs_nothing R W = nothing_read new_ledger (streams R R W W) (Keeps-refl R, Keeps-refl W)

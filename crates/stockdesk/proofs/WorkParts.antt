@@ -22,7 +22,7 @@ use Rattle.stockdesk.specs.declared.session.Fault.{Fault}
 use Rattle.stockdesk.specs.declared.work.Work.{Work}
 use Rattle.stockdesk.specs.declared.work.Work.TheVariants.{Requests, Script, Serve, Sheet}
 use Rattle.stockdesk.proofs.Connections.{port_unwritten, port_whole}
-use Rattle.stockdesk.proofs.SessionParts.{not_unbegun, nothing_read, told_begun}
+use Rattle.stockdesk.proofs.SessionParts.{cut_begins, not_unbegun, nothing_read, told_begun}
 
 -- ---- nothing is read or written
 
@@ -103,11 +103,7 @@ module _ (fault : Fault) (old new : DeskState) (s : Streams) where
 
   -- what was written is a beginning
   pub cut_in_part : (work : Work) → Good old.ledger → WorkCut work fault old new s → DoesWorkInPart work s
-  cut_in_part Script good (cause, told, ends) = (
-    old.ledger,
-    good,
-    record { read = ends.read; written = ends.written; unwritten = ends.unwritten; last = ends.last; reads = ends.reads; writes = ends.writes; text = ends.text; prompt = ends.prompt },
-  )
+  cut_in_part Script good cut = (old.ledger, good, cut_begins fault old new s cut)
   cut_in_part (Requests kind csv together) good (reads, cut) = (reads, replies_in_part together good cut)
   cut_in_part (Sheet shown) good (reads, same, inl (is, nothing)) = (reads, inl nothing)
   cut_in_part (Sheet shown) good (reads, same, inr (is, begun)) = (reads, inr (old.ledger, good, begun))
@@ -131,17 +127,17 @@ module _ (fault : Fault) (old new : DeskState) (s : Streams) where
 
 module _ {K : Type 0} (on : Session K) (s : Streams) where
   pub works_whole : (work : Work) → WorkWhole on work s → DoesWork work s
-  works_whole Script all = (all.first.ledger, all.last, all.good, all.ends.told)
-  works_whole (Requests kind csv together) all = (all.ends.0, (all.first.ledger, all.last, all.ends.1.0, all.good, all.ends.1.1))
-  works_whole (Sheet shown) all = (all.ends.0, (all.first.ledger, all.good, all.ends.2))
-  works_whole (Serve service) all = (all.ends.0, all.ends.1)
+  works_whole Script all = (all.on.first.ledger, all.on.last, all.on.good, all.on.done.told)
+  works_whole (Requests kind csv together) all = (all.on.done.0, (all.on.first.ledger, all.on.last, all.on.done.1.0, all.on.good, all.on.done.1.1))
+  works_whole (Sheet shown) all = (all.on.done.0, (all.on.first.ledger, all.on.good, all.on.done.2))
+  works_whole (Serve service) all = (all.on.done.0, all.on.done.1)
 
   module _ (work : Work) (fault : Fault) where
     pub works_in_part : WorkInPart on work fault s → DoesWorkInPart work s
     works_in_part (inl (refused, silent)) = works_nothing work s silent
-    works_in_part (inr cut) = cut_in_part fault (desk_state on.ghosts cut.first) (left_at on cut.last) s work cut.good cut.ends
+    works_in_part (inr cut) = cut_in_part fault (desk_state on.ghosts cut.on.first) (left_at on cut.on.last) s work cut.on.good cut.on.done
 
     -- where nothing is begun, nothing is read or written
     pub works_untouched : WorkInPart on work fault s → IsUnbegun fault → IsSilent s
     works_untouched (inl (refused, silent)) un = silent
-    works_untouched (inr cut) un = cut_untouched fault (desk_state on.ghosts cut.first) (left_at on cut.last) s work cut.ends un
+    works_untouched (inr cut) un = cut_untouched fault (desk_state on.ghosts cut.on.first) (left_at on cut.on.last) s work cut.on.done un

@@ -85,17 +85,21 @@ session_in g was keep = record { ghosts = g; keep = keep; held = was; tables = w
 abbrev pub left_at : {K : Type 0} → Session K → Ledger → DeskState
 left_at s A = desk_state s.ghosts (record { ledger = A; keep = s.keep })
 
--- The desk whose rows were held was opened, and all was done. The keeper goes on; if the disk is honest, it keeps the
--- rows of the last ledger, and a stop leaves these alone.
-pub record SessionWhole {K : Type 0} (s : Session K) (AllDone : DeskState → DeskState → Type 0) : Type 0 where
+-- the desk whose rows were held was opened, and so much was done on it
+pub record IsBegun {K : Type 0} (s : Session K) (Done : DeskState → DeskState → Type 0) : Type 0 where
   pub first : DeskView K
   pub last : Ledger
   pub began : s.ghosts.stopped first.keep ≡ false
   pub good : Good first.ledger
   pub rows : s.ghosts.is_honest s.keep → (x : Content) → s.held x → IsRowsOf first.ledger x
-  pub ends : AllDone (desk_state s.ghosts first) (left_at s last)
+  pub done : Done (desk_state s.ghosts first) (left_at s last)
+
+-- All was done on it. The keeper goes on; if the disk is honest, it keeps the rows of the last ledger, and a stop leaves
+-- these alone.
+pub record SessionWhole {K : Type 0} (s : Session K) (AllDone : DeskState → DeskState → Type 0) : Type 0 where
+  pub on : IsBegun s AllDone
   pub going : s.ghosts.stopped s.keep ≡ false
-  pub kept : s.ghosts.is_honest s.keep → IsStored (s.ghosts.holds s.keep) (s.ghosts.leaves s.keep) last
+  pub kept : s.ghosts.is_honest s.keep → IsStored (s.ghosts.holds s.keep) (s.ghosts.leaves s.keep) on.last
 
 -- No desk was opened. If the disk is honest, what is held is no desk, of another version or damaged where that is told,
 -- and the keeper is left so.
@@ -109,21 +113,16 @@ pub record SessionRefused {K : Type 0} (s : Session K) (fault : Fault) : Type 0 
   pub going : fault ≡ Fault.Damaged → s.ghosts.stopped s.keep ≡ false
   pub left : s.ghosts.is_honest s.keep → s.is_left
 
--- The desk whose rows were held was opened, and what was done cut. A fault of the store has stopped the keeper; after
--- any other it goes on, and if the disk is honest it keeps the rows of the last ledger, which alone a stop leaves.
+-- What was done on it is cut. A fault of the store has stopped the keeper; after any other it goes on, and if the disk is
+-- honest it keeps the rows of the last ledger, which alone a stop leaves.
 pub record SessionCut {K : Type 0} (s : Session K) (fault : Fault) (PartDone : DeskState → DeskState → Type 0)
     : Type 0 where
-  pub first : DeskView K
-  pub last : Ledger
-  pub began : s.ghosts.stopped first.keep ≡ false
-  pub good : Good first.ledger
-  pub rows : s.ghosts.is_honest s.keep → (x : Content) → s.held x → IsRowsOf first.ledger x
-  pub ends : PartDone (desk_state s.ghosts first) (left_at s last)
+  pub on : IsBegun s PartDone
   pub desk : ¬ IsNoDesk fault
   pub stopped : fault ≡ Fault.Store → IsTrue (s.ghosts.stopped s.keep)
   pub going : fault ≢ Fault.Store → s.ghosts.stopped s.keep ≡ false
   pub kept : fault ≢ Fault.Store → s.ghosts.is_honest s.keep
-      → IsStored (s.ghosts.holds s.keep) (s.ghosts.leaves s.keep) last
+      → IsStored (s.ghosts.holds s.keep) (s.ghosts.leaves s.keep) on.last
 
 -- no desk was opened, and so much is untouched; or one was, and what was done cut
 abbrev pub SessionInPart : {K : Type 0} → Session K → Fault → (Untouched : Type 0) → (DeskState → DeskState → Type 0)

@@ -192,11 +192,9 @@ pub fn upgrade<S: Start>(
     path: &str,
     start: S,
 ) -> Result<(SqlKeep<FileStore<FileFrom<S>>>, Result<(), Fault>), Fault>
-    ensures made { IfOk result (λ r. HasCleanDisk (file_state r.0.connection)
-        → OnOk r.1 ((x : Content) → StartsOld (image_at S.Start) x → Holds (file_state r.0.connection).now
-        (upgraded x))) }
-    ensures same { IfOk result (λ r. HasCleanDisk (file_state r.0.connection)
-        → OnOk r.1 ((x : Content) → StartsWith (image_at S.Start) x → Holds (file_state r.0.connection).now x)) }
+    ensures made { IfOk result (λ r. HasCleanDisk (file_state r.0.connection) → OnOk r.1 ((x : Content)
+        → (StartsOld (image_at S.Start) x → Holds (file_state r.0.connection).now (upgraded x))
+        × (StartsWith (image_at S.Start) x → Holds (file_state r.0.connection).now x))) }
     ensures ended { IfOk result (λ r. IfErr r.1 IsNotOpened) }
     ensures alone { IfOk result (λ r. HasCleanDisk (file_state r.0.connection) → OnOk r.1 ((x : Content)
         → Holds (file_state r.0.connection).now x → LeavesOnly (file_state r.0.connection).may_leave (x ∷ []))) }
