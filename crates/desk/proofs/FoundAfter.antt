@@ -1,5 +1,5 @@
 -- What an opening finds after a run, after a script, and after many cuts.
-use Rattle.std.proofs.Common.{◌≡◌, ◌∙◌, ◌⊎◌, ◌<◌, ◌≤◌, ◌+◌, ◌++◌, ℕ, List, [], ◌∷◌, Option, None, Some, arith, drop, false, inl, inr, length, refl, subst, sym, take}
+use Rattle.std.proofs.Common.{◌≡◌, ◌∙◌, ◌⊎◌, ◌<◌, ◌≤◌, ◌+◌, ◌++◌, ℕ, List, [], ◌∷◌, Option, None, Some, arith, drop, inl, inr, length, refl, subst, sym, take}
 use native.Mathlib.Decide.{dec_lt}
 use Rattle.std.specs.Prelude.{◌≢◌, ◌↔◌, IfErr, IfOk, IfSome, Result, Ok, Err}
 use Rattle.std.proofs.lemmas.List.{length-take-le, take-append-drop, take_at}
@@ -82,16 +82,6 @@ pub opened_rows : {K : Type 0} (g : Ghosts K) (keep : K) (r : Result (DeskView K
 opened_rows g keep (Ok desk) these found opened honest =
     ∥∥₁_map found (λ f. let r : ((x : Content) × IsAmong these x × IsRowsOf desk.ledger x) = (f.0, f.2, opened.rows honest f.0 f.1) in r)
 opened_rows g keep (Err e) these found opened honest = tt
-
--- it is good, and every future of it is honoured
-pub opened_good : {K : Type 0} (g : Ghosts K) (keep : K) (r : Result (DeskView K) (OpenFault × K)) → IfOk r (λ desk. IsOpened g keep desk) → IfOk r (λ desk. Good desk.ledger × Honours desk.ledger × HonoursAlways desk.ledger)
-opened_good g keep (Ok desk) opened = (opened.good, opened.honours, opened.always)
-opened_good g keep (Err e) opened = tt
-
--- and it goes on
-pub opened_going : {K : Type 0} (g : Ghosts K) (keep : K) (r : Result (DeskView K) (OpenFault × K)) → IfOk r (λ desk. IsOpened g keep desk) → IfOk r (λ desk. g.stopped desk.keep ≡ false)
-opened_going g keep (Ok desk) opened = opened.going
-opened_going g keep (Err e) opened = tt
 
 -- with good ledgers left, a refusal is for memory or by the store
 pub refused_so : {K : Type 0} (r : Result (DeskView K) (OpenFault × K)) (leaves : List Content → Type 0) (Held : Content → Type 0) → (left : LeavesRowsOf leaves Good)

@@ -10,8 +10,8 @@ use Rattle.desk.specs.Desk.{DeskView, IsStored}
 use Rattle.desk.specs.declared.fault.OpenFault.{OpenFault}
 use Rattle.desk.specs.declared.fault.OpenFault.TheVariants.{Damaged, Memory, NotADesk, OldVersion, Store}
 
--- The desk is in order and goes on, over a keeper that was so before. If the disk is honest it stands at the rows that
--- were held, which a stop leaves alone.
+-- The desk's ledger is good, every future of it is honoured, and it goes on. If the disk is honest, its rows are those that
+-- the keeper held, and a stop leaves them alone.
 pub record IsOpened {K : Type 0} (g : Ghosts K) (keep : K) (desk : DeskView K) : Type 0 where
   pub good : Good desk.ledger
   pub honours : Honours desk.ledger

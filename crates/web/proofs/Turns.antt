@@ -4,12 +4,14 @@ use Rattle.std.specs.Io.KnownBytes.{Appends, Consumes, IsAtEnd}
 use Rattle.std.specs.List.{AllByRecursion as Each}
 use Rattle.std.proofs.KnownBytes.{Appends-nil, Appends-trans, Consumes-nil, Consumes-trans}
 use Rattle.std.proofs.lemmas.List.{length-append}
+use Rattle.std.proofs.lemmas.Result.{IfOk-weaker}
 use Rattle.book.specs.Good.{Good}
 use Rattle.web.specs.Answers.{Answer, answer_bytes, answers_bytes, message_answer}
 use Rattle.web.specs.Intake.{HasNoMessage, Holds, NoneComes}
 use Rattle.web.specs.Messages.{AreParts, BeginsWith, FirstParts, IsUnreadable, Message, Part, unreadable, whole}
 use Rattle.desk.specs.Desk.{DeskState}
 use Rattle.desk.specs.Streams.{Streams, streams}
+use Rattle.desk.proofs.Cuts.{of_error}
 use Rattle.web.specs.Serving.{EndsCut, EndsShort, EndsWhole, IsCut, IsWhole, Serves, Settles, count_of, stand}
 use Rattle.web.specs.Turns.{AnswersOne, HasServed, Passes, wholes}
 use Rattle.web.specs.Web.{AnswersAll, plain}
@@ -96,14 +98,6 @@ read_at Read q p held new most holds none any =
     let (piece, more, e) = holds (λ f. cc f) in (piece, more, λ f. inl (subst HasNoMessage e (none refl)))
 read_at Write q p held new most holds none any = (any.0, any.1, λ f. absurd (cc f))
 read_at Memory q p held new most holds none any = (any.0, any.1, λ f. absurd (cc f))
-
-pub if_ok : {A E : Type 0} (r : Result A E) (P Q : A → Type 0) → IfOk r P → ((a : A) → P a → Q a) → IfOk r Q
-if_ok (Ok a) P Q h f = f a h
-if_ok (Err e) P Q h f = tt
-
-pub if_err : {A E : Type 0} (r : Result A E) (P Q : E → Type 0) → ((e : E) → P e → Q e) → IfErr r P → IfErr r Q
-if_err (Ok a) P Q f h = tt
-if_err (Err e) P Q f h = f e h
 
 -- what goes on from a fault, at a good ledger
 pub ends_cut : (fault : WebFault) (old new : DeskState) (s : Streams) → Good new.ledger → EndsShort fault old new s → EndsCut fault old new s
@@ -231,16 +225,12 @@ module _ {old new : DeskState} {r q w v : Option (List ℕ)} {held : List ℕ} {
   pub ended_unreadable : Holds q p held all → NoneComes all p → IfOk result (λ served. (served ≡ record { answered = min (count + 1) (2 ^ 64 - 1); ending = BadMessage }) × Appends v u (answer_bytes message_answer))
       → IfOk result (λ served. EndsWhole served old new (streams r p w u))
   ended_unreadable holds none ends =
-      if_ok result _ _ ends (λ served one. subst (λ (s : Served). EndsWhole s old new (streams r p w u)) (sym one.0) (unreadable_served h all holds none one.1))
+      IfOk-weaker result _ _ (λ served one. subst (λ (s : Served). EndsWhole s old new (streams r p w u)) (sym one.0) (unreadable_served h all holds none one.1)) ends
 
   pub cut_unreadable : Holds q p held all → NoneComes all p
       → IfErr result (λ fault. (fault ≡ Write) × (begun : List ℕ) × (left : List ℕ) × (answer_bytes message_answer ≡ begun ++ left) × Appends v u begun) → IfErr result (λ fault. EndsShort fault old new (streams r p w u))
   cut_unreadable holds none cut =
-      if_err result _ _ (λ fault (is, begun, left, split, writes). subst (λ (f : WebFault). EndsShort f old new (streams r p w u)) (sym is) (unreadable_cut h all begun left holds none split writes)) cut
-
-pub on_err : {A E : Type 0} (r : Result A E) (P Q : Type 0) → OnErr r P → (P → Q) → OnErr r Q
-on_err (Ok a) P Q h f = tt
-on_err (Err e) P Q h f = f h
+      of_error result _ _ (λ fault same (is, begun, left, split, writes). subst (λ (f : WebFault). EndsShort f old new (streams r p w u)) (sym is) (unreadable_cut h all begun left holds none split writes)) cut
 
 -- the input ends
 pub end_served : {old new : DeskState} {r q p w v : Option (List ℕ)} {held : List ℕ} {count : ℕ} → HasServed old new (streams r q w v) held count → (all : List ℕ) → Holds q p held all → all ≡ [] → IsAtEnd p

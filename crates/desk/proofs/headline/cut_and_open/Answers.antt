@@ -1,6 +1,7 @@
 use Rattle.std.proofs.Common.{[], ◌∷◌}
+use Rattle.std.proofs.lemmas.Result.{IfOk-weaker}
 use Rattle.desk.specs.Opening.{keeper_after}
-use Rattle.desk.proofs.FoundAfter.{left_alone, opened_going, opened_good, opened_rows, refused_so}
+use Rattle.desk.proofs.FoundAfter.{left_alone, opened_rows, refused_so}
 use Rattle.desk.proofs.headline.cut_and_open.Goals as goal
 
 pub returns-clause-found : goal.returns-clause-found
@@ -20,7 +21,7 @@ returns-clause-refused g c honest left =
     refused_so c.open.result _ _ left (c.in_ok-again.ensures.found before left.these left.leaves_these) (c.open.ensures.nothing_else honest)
 
 pub returns-clause-honours : goal.returns-clause-honours
-returns-clause-honours g c = opened_good g.K.Keep _ c.open.result c.open.ensures.opened
+returns-clause-honours g c = IfOk-weaker c.open.result _ _ (λ again opened. (opened.good, opened.honours, opened.always)) c.open.ensures.opened
 
 pub returns-clause-going : goal.returns-clause-going
-returns-clause-going g c = opened_going g.K.Keep _ c.open.result c.open.ensures.opened
+returns-clause-going g c = IfOk-weaker c.open.result _ _ (λ again opened. opened.going) c.open.ensures.opened
