@@ -27,7 +27,7 @@ use Rattle.book.specs.Rows.{desk_row}
 use Rattle.desk.proofs.NextRows.{next_rows}
 use Rattle.keep.specs.Content.{IsTheRow}
 use Rattle.keep.specs.Transactions.{with_changes}
-use Rattle.desk.specs.Desk.{IsStored, LeavesEither}
+use Rattle.desk.specs.Desk.{DeskState, IsStored, LeavesEither}
 use Rattle.desk.specs.Replies.{request_line}
 use Rattle.desk.specs.Text.{RepliesAll, items_of}
 use Rattle.desk.proofs.Texts.{replies_more}
@@ -216,11 +216,11 @@ one_at_least : (ps : List Reply) → ps ≢ [] → 1 ≤ length ps
 one_at_least [] some = absurd (some refl)
 one_at_least (p ∷ ps) some = omega arith
 
-pub batch_fails : (H : Type 0) (holds : Content → Type 0) (before after : List Content → Type 0) (A B : Ledger) (rs : List Request) (batch : Batch) (changes : List Change)
-    → BatchSoFar A (take (length batch.replies.items) rs) batch B → length batch.replies.items ≤ length rs → Good A → changes ≡ batch.changes.items → changes ≢ [] → (H → IsStored holds before A)
-    → (H → (x : Content) → holds x → before (x ∷ []) → after (x ∷ with_changes changes x ∷ [])) → FailsAt H after A rs [] B
-batch_fails H holds before after A B rs batch changes so_far few good are some stored either = record {
-  mid = A;
+pub batch_fails : (old new : DeskState) (holds : Content → Type 0) (rs : List Request) (batch : Batch) (changes : List Change)
+    → BatchSoFar old.ledger (take (length batch.replies.items) rs) batch new.ledger → length batch.replies.items ≤ length rs → Good old.ledger → changes ≡ batch.changes.items → changes ≢ [] → (new.is_honest → IsStored holds old.leaves old.ledger)
+    → (new.is_honest → (x : Content) → holds x → old.leaves (x ∷ []) → new.leaves (x ∷ with_changes changes x ∷ [])) → FailsAt old rs [] new
+batch_fails old new holds rs batch changes so_far few good are some stored either = record {
+  mid = old.ledger;
   run = refl;
   count = length batch.replies.items;
   some = one_at_least batch.replies.items (λ none. some (are ∙ so_far.none none));
@@ -233,7 +233,7 @@ batch_fails H holds before after A B rs batch changes so_far few good are some s
     before = s.rows;
     after = with_changes changes s.rows;
     are_before = s.are_rows;
-    are_after = subst (λ (cs : List Change). IsRowsOf B (with_changes cs s.rows)) (sym are) (so_far.rows s.rows s.are_rows);
+    are_after = subst (λ (cs : List Change). IsRowsOf new.ledger (with_changes cs s.rows)) (sym are) (so_far.rows s.rows s.are_rows);
     either = either honest s.rows s.held s.alone;
   };
 }
@@ -241,21 +241,20 @@ batch_fails H holds before after A B rs batch changes so_far few good are some s
 -- ---- batch after batch
 
 -- the batch that fails stands behind requests that are answered
-pub fails_behind : (H : Type 0) (leaves : List Content → Type 0) (A M B : Ledger) (rs : List Request) (ps : List Reply) → Runs A (take (length ps) rs) ps M → length ps ≤ length rs → FailsAt H leaves M (drop (length ps) rs) [] B
-    → FailsAt H leaves A rs ps B
-fails_behind H leaves A M B rs ps run few fails =
+pub fails_behind : (old mid new : DeskState) (rs : List Request) (ps : List Reply) → Runs old.ledger (take (length ps) rs) ps mid.ledger → length ps ≤ length rs → FailsAt mid (drop (length ps) rs) [] new → FailsAt old rs ps new
+fails_behind old mid new rs ps run few fails =
     let dropped : length (drop (length ps) rs) ≡ length rs - length ps = length-drop (length ps) rs in
     let least = fails.some in
     let most = fails.none_unasked in
     record {
-      mid = M;
+      mid = mid.ledger;
       run = run;
       count = fails.count;
       some = fails.some;
       none_unasked = omega arith;
       untold = fails.untold;
-      batch = subst (λ L. IsBatch L (take fails.count (drop (length ps) rs)) fails.untold B) fails.run fails.batch;
-      either = λ honest. subst (λ L. LeavesEither leaves L B) fails.run (fails.either honest);
+      batch = subst (λ L. IsBatch L (take fails.count (drop (length ps) rs)) fails.untold new.ledger) fails.run fails.batch;
+      either = λ honest. subst (λ L. LeavesEither new.leaves L new.ledger) fails.run (fails.either honest);
     }
 
 pub none_told : (A : Ledger) (rs : List Request) (ps : List Reply) → ps ≡ [] → Runs A (take (length ps) rs) ps A

@@ -1,5 +1,5 @@
 -- What an opening finds after a run, after a script, and after many cuts.
-use Rattle.std.proofs.Common.{◌≡◌, ◌∙◌, ◌⊎◌, ◌<◌, ◌≤◌, ◌+◌, ◌-◌, ◌++◌, ℕ, List, [], ◌∷◌, Option, None, Some, arith, drop, inl, inr, length, refl, subst, sym, take}
+use Rattle.std.proofs.Common.{◌≡◌, ◌∙◌, ◌⊎◌, ◌<◌, ◌≤◌, ◌+◌, ◌++◌, ℕ, List, [], ◌∷◌, Option, None, Some, arith, drop, inl, inr, length, refl, subst, sym, take}
 use native.Mathlib.Decide.{dec_lt}
 use Rattle.std.specs.Prelude.{◌≢◌, ◌↔◌, IfErr, IfOk, IfSome, Result, Ok, Err}
 use Rattle.std.proofs.lemmas.List.{length-take-le, take-append-drop, take_at}
@@ -14,7 +14,9 @@ use Rattle.book.specs.Rows.{Content, IsRowsOf}
 use Rattle.book.proofs.EqualRows.{told_by_rows}
 use Rattle.book.proofs.Runs.{runs_once}
 use Rattle.keep.specs.Content.{IsAmong}
-use Rattle.desk.specs.Desk.{DeskView, IsStored, LeavesEither, OpensAt, keeper_after}
+use Rattle.keep.specs.declared.keep.Keep.{Ghosts}
+use Rattle.desk.specs.Desk.{DeskView, IsStored, LeavesEither}
+use Rattle.desk.specs.Opening.{IsOpened, OpensAt, keeper_after}
 use Rattle.desk.specs.Headline.{IsFoundAfter, LeavesRowsOf, answered}
 use Rattle.desk.specs.Resuming.{Resumes, StandsAt}
 use Rattle.desk.specs.declared.fault.OpenFault.{OpenFault}
@@ -75,12 +77,11 @@ one_of_two OldVersion h = absurd (∥∥₁_elim h (λ p q. absurd p) neither)
     neither (inr e) = cc
 
 -- the rows of what is opened are among those that the stop left
-pub opened_rows : {K : Type 0} (r : Result (DeskView K) (OpenFault × K)) (these : List Content) (Held : Content → Type 0) (Honest : K → Type 0) → ∥ ((x : Content) × Held x × IsAmong these x) ∥₁
-    → IfOk r (λ desk. Honest desk.keep → (x : Content) → Held x → IsRowsOf desk.ledger x) → Honest (keeper_after r)
-    → IfOk r (λ desk. ∥ ((x : Content) × IsAmong these x × IsRowsOf desk.ledger x) ∥₁)
-opened_rows (Ok desk) these Held Honest found rows honest =
-    ∥∥₁_map found (λ f. let r : ((x : Content) × IsAmong these x × IsRowsOf desk.ledger x) = (f.0, f.2, rows honest f.0 f.1) in r)
-opened_rows (Err e) these Held Honest found rows honest = tt
+pub opened_rows : {K : Type 0} (g : Ghosts K) (keep : K) (r : Result (DeskView K) (OpenFault × K)) (these : List Content) → ∥ ((x : Content) × g.holds keep x × IsAmong these x) ∥₁ → IfOk r (λ desk. IsOpened g keep desk)
+    → g.is_honest (keeper_after r) → IfOk r (λ desk. ∥ ((x : Content) × IsAmong these x × IsRowsOf desk.ledger x) ∥₁)
+opened_rows g keep (Ok desk) these found opened honest =
+    ∥∥₁_map found (λ f. let r : ((x : Content) × IsAmong these x × IsRowsOf desk.ledger x) = (f.0, f.2, opened.rows honest f.0 f.1) in r)
+opened_rows g keep (Err e) these found opened honest = tt
 
 -- with good ledgers left, a refusal is for memory or by the store
 pub refused_so : {K : Type 0} (r : Result (DeskView K) (OpenFault × K)) (leaves : List Content → Type 0) (Held : Content → Type 0) → (left : LeavesRowsOf leaves Good)

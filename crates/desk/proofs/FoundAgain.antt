@@ -1,5 +1,5 @@
 -- What is found after many cuts.
-use Rattle.std.proofs.Common.{◌≡◌, ◌∙◌, ◌≤◌, ◌+◌, ◌-◌, ◌++◌, ℕ, List, [], ◌∷◌, ap, arith, drop, drop-drop, flat_map, inl, inr, length, map, refl, subst, sym, take}
+use Rattle.std.proofs.Common.{◌≡◌, ◌∙◌, ◌≤◌, ◌+◌, ◌-◌, ◌++◌, ℕ, List, [], ◌∷◌, ap, arith, drop, drop-drop, flat_map, inl, length, map, refl, subst, sym, take}
 use native.Mathlib.Decide.{dec_lt}
 use Rattle.std.proofs.lemmas.List.{length-append, length-drop}
 use Rattle.words.specs.declared.command.Request.{Request}

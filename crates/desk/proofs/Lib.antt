@@ -1,4 +1,5 @@
 pub mod NextRows
+pub mod GoesOn
 pub mod RunsOn
 pub mod OrderWords
 pub mod Texts

@@ -1,183 +1,127 @@
--- Where a script stands, and how it goes on or ends from there.
-use Rattle.std.proofs.Common.{◌≢◌, ◌≤◌, ℕ, List, [], ◌++◌, Option, Some, append-nil, append_assoc, arith, length, refl, subst, sym}
-use Rattle.std.proofs.Math.Logic.{inl}
+-- Where a script is, and how it goes on or ends from there.
+use Rattle.std.proofs.Common.{◌≡◌, ◌≢◌, ◌≤◌, ◌∙◌, ℕ, List, [], ◌++◌, Option, Some, ap, append-nil, append_assoc, arith, length, refl, subst, sym}
 use Rattle.std.specs.Io.KnownBytes.{Appends, Consumes, IsAtEnd, Keeps}
 use Rattle.std.specs.List.{AllByRecursion as Each}
-use Rattle.std.proofs.KnownBytes.{Appends-trans, Consumes-kept, Consumes-trans}
+use Rattle.std.proofs.KnownBytes.{Appends-nil, Appends-trans, Consumes-kept, Consumes-nil, Consumes-trans}
 use Rattle.words.proofs.TwoPieces.{feeds_joined}
 use Rattle.words.specs.Stream.{Feeds}
 use Rattle.words.specs.declared.item.Item.{Item}
 use Rattle.book.specs.Good.{Good}
-use Rattle.book.specs.Ledger.{Ledger}
-use Rattle.book.specs.Rows.{Content}
-use Rattle.desk.specs.Script.{EndsCut, EndsWhole, IsCut, MayAnswer, MayRead, longest_piece}
+use Rattle.desk.specs.Desk.{DeskState}
+use Rattle.desk.specs.Script.{AnswersAll, EndsCut, EndsWhole, IsCut, MayAnswer, Writes, longest_piece}
+use Rattle.desk.specs.Streams.{Streams, streams}
 use Rattle.desk.specs.Text.{RepliesAll, unended}
 use Rattle.desk.specs.declared.fault.ScriptFault.{ScriptFault}
-use Rattle.desk.proofs.Cuts.{cut_behind, may_both, may_unended, read_stops_nothing}
+use Rattle.desk.proofs.Cuts.{cut_before, cut_behind, may_both, read_stops_nothing}
 use Rattle.desk.proofs.SomeText.{text_from}
 use Rattle.desk.proofs.Texts.{replies_joined}
 
 -- what was read is answered, and the answers are written
-pub record Stands (went_on : Type 0) (old : Ledger) (reader_old reader writer_old writer rest : Option (List ℕ)) (ledger : Ledger) : Type 0 where
+pub record Stands (old : DeskState) (s : Streams) (rest : Option (List ℕ)) (now : DeskState) : Type 0 where
   pub read : List ℕ
   pub written : List ℕ
   pub ended : List Item
-  pub reads : Consumes reader_old reader read
-  pub writes : Appends writer_old writer written
+  pub reads : Consumes s.reader_old s.reader_new read
+  pub writes : Appends s.writer_old s.writer_new written
   pub feeds : Feeds (Some []) read ended rest
-  pub replies : RepliesAll old ended written ledger
-  pub may : Each (MayAnswer went_on) ended
+  pub replies : RepliesAll old.ledger ended written now.ledger
+  pub may : Each (MayAnswer old) ended
+  pub same : now.is_stopped ≡ old.is_stopped
 
--- a piece more is read and answered
-pub stands_on : (U V : Type 0) (A : Ledger) (R r s W w v rest last : Option (List ℕ)) (mid new : Ledger) (piece out : List ℕ) (items : List Item) → (V → U) → Stands U A R r W w rest mid
-    → Consumes r s piece → Feeds rest piece items last → RepliesAll mid items out new → Each (MayAnswer V) items → Appends w v out → Stands U A R s W v last new
-stands_on U V A R r s W w v rest last mid new piece out items back stands more feeds replies may writes = record {
-  read = stands.read ++ piece;
-  written = stands.written ++ out;
-  ended = stands.ended ++ items;
-  reads = Consumes-trans _ _ _ _ _ stands.reads more;
-  writes = Appends-trans _ _ _ _ _ stands.writes writes;
-  feeds = feeds_joined (Some []) rest last stands.read piece stands.ended items stands.feeds feeds;
-  replies = replies_joined stands.ended items A mid new stands.written out stands.replies replies;
-  may = may_both U V stands.ended items back stands.may may;
-}
+-- nothing is read yet
+pub stands_first : (desk : DeskState) (R W : Option (List ℕ)) → Stands desk (streams R R W W) (Some []) desk
+stands_first desk R W = record { read = []; written = []; ended = []; reads = Consumes-nil R; writes = Appends-nil W; feeds = (refl, refl); replies = (refl, refl); may = tt; same = refl }
 
--- the answers to a piece are cut
-pub ends_in_piece : (fault : ScriptFault) (U V H : Type 0) (leaves : List Content → Type 0) (A : Ledger) (R r s W w v rest last : Option (List ℕ)) (mid new : Ledger) (piece written : List ℕ)
-    (items : List Item) → length piece ≤ longest_piece → Good A → fault ≢ ScriptFault.Read → (U → V) → (V → U) → Stands U A R r W w rest mid → Consumes r s piece → Feeds rest piece items last → Appends w v written
-    → IsCut fault V H leaves mid items written new → EndsCut fault U H leaves A new R s W v
-ends_in_piece fault U V H leaves A R r s W w v rest last mid new piece written items short good other on back stands more feeds writes cut =
-    let fed : Feeds (Some []) (stands.read ++ piece) (stands.ended ++ items) last =
-    feeds_joined (Some []) rest last stands.read piece stands.ended items stands.feeds feeds in
-    let all : IsCut fault U H leaves A ((stands.ended ++ items) ++ unended last) (stands.written ++ written) new =
-    subst (λ (xs : List Item). IsCut fault U H leaves A xs (stands.written ++ written) new) (sym (append_assoc stands.ended items (unended last)))
-    (cut_behind fault U V H leaves A mid new stands.ended items (unended last) stands.written written on back stands.replies stands.may cut) in
-    let text = text_from fault U H leaves A new (stands.read ++ piece) (stands.written ++ written) _ good (record { ended = stands.ended ++ items; rest = last; feeds = fed; all = refl }) all in
-    record {
-      read = stands.read ++ piece;
-      written = stands.written ++ written;
-      ended = stands.ended ++ items;
-      rest = last;
-      reads = Consumes-trans _ _ _ _ _ stands.reads more;
-      writes = Appends-trans _ _ _ _ _ stands.writes writes;
-      feeds = fed;
-      cut = all;
-      prompt = record {
-        before = stands.read;
-        piece = piece;
-        out = stands.written;
-        begun = written;
-        ended = stands.ended;
-        rest = rest;
-        ledger = mid;
-        read_is = refl;
-        short = short;
-        written_is = refl;
-        feeds = stands.feeds;
-        replies = stands.replies;
-      };
-      all_ended = λ e. absurd (other e);
-      unwritten = text.0;
-      last = text.1;
-      text = text.2;
-    }
+module _ {old mid : DeskState} {R r W w rest : Option (List ℕ)} (stands : Stands old (streams R r W w) rest mid) where
+  -- a piece more is read and answered
+  pub stands_on : {new : DeskState} {s v last : Option (List ℕ)} (piece : List ℕ) (items : List Item) → Consumes r s piece → Feeds rest piece items last → AnswersAll mid items new w v
+      → Stands old (streams R s W v) last new
+  stands_on {new} {s} {v} {last} piece items more feeds answers = record {
+    read = stands.read ++ piece;
+    written = stands.written ++ answers.told.0;
+    ended = stands.ended ++ items;
+    reads = Consumes-trans _ _ _ _ _ stands.reads more;
+    writes = Appends-trans _ _ _ _ _ stands.writes answers.told.2;
+    feeds = feeds_joined (Some []) rest last stands.read piece stands.ended items stands.feeds feeds;
+    replies = replies_joined stands.ended items old.ledger mid.ledger new.ledger stands.written answers.told.0 stands.replies answers.told.1;
+    may = may_both old mid stands.same stands.ended items stands.may answers.may;
+    same = answers.same ∙ stands.same;
+  }
 
--- the input has ended, and the answer to what stands behind its last newline is cut
-pub ends_behind : (fault : ScriptFault) (U V H : Type 0) (leaves : List Content → Type 0) (A : Ledger) (R r s W w v rest : Option (List ℕ)) (mid new : Ledger) (written : List ℕ)
-    → Good A → fault ≢ ScriptFault.Read → (U → V) → (V → U) → Stands U A R r W w rest mid → Consumes r s [] → Appends w v written
-    → IsCut fault V H leaves mid (unended rest) written new → EndsCut fault U H leaves A new R s W v
-ends_behind fault U V H leaves A R r s W w v rest mid new written good other on back stands more writes cut =
-    let all : IsCut fault U H leaves A (stands.ended ++ unended rest) (stands.written ++ written) new =
-    subst (λ (xs : List Item). IsCut fault U H leaves A (stands.ended ++ xs) (stands.written ++ written) new) (append-nil (unended rest))
-    (cut_behind fault U V H leaves A mid new stands.ended (unended rest) [] stands.written written on back stands.replies stands.may cut) in
-    let text = text_from fault U H leaves A new stands.read (stands.written ++ written) _ good (record { ended = stands.ended; rest = rest; feeds = stands.feeds; all = refl }) all in
-    record {
+  -- the answers to what stands behind are cut
+  ends_cut : {fault : ScriptFault} {new : DeskState} {s v : Option (List ℕ)} (last : Option (List ℕ)) (piece written : List ℕ) (items : List Item) → length piece ≤ longest_piece → Good old.ledger → Consumes r s piece → Feeds (Some []) (stands.read ++ piece) (stands.ended ++ items) last → Appends w v written
+      → IsCut fault mid (items ++ unended last) written new → (fault ≡ ScriptFault.Read → RepliesAll mid.ledger items written new.ledger) → EndsCut fault old new (streams R s W v)
+  ends_cut {fault} {new} {s} {v} last piece written items short good more fed writes cut unread =
+      let joined = ap (λ (xs : List Item). stands.ended ++ xs) (append-nil (items ++ unended last)) ∙ sym (append_assoc stands.ended items (unended last)) in
+      let all : IsCut fault old ((stands.ended ++ items) ++ unended last) (stands.written ++ written) new =
+      subst (λ (xs : List Item). IsCut fault old xs (stands.written ++ written) new) joined
+      (cut_behind old mid stands.same fault new stands.ended (items ++ unended last) [] stands.written written stands.replies stands.may cut) in
+      let text = text_from fault old new (stands.read ++ piece) (stands.written ++ written) _ good (record { ended = stands.ended ++ items; rest = last; feeds = fed; all = refl }) all in
+      record {
+        read = stands.read ++ piece;
+        written = stands.written ++ written;
+        ended = stands.ended ++ items;
+        rest = last;
+        reads = Consumes-trans _ _ _ _ _ stands.reads more;
+        writes = Appends-trans _ _ _ _ _ stands.writes writes;
+        feeds = fed;
+        cut = all;
+        prompt = record {
+          before = stands.read;
+          piece = piece;
+          out = stands.written;
+          begun = written;
+          ended = stands.ended;
+          rest = rest;
+          ledger = mid.ledger;
+          read_is = refl;
+          short = short;
+          written_is = refl;
+          feeds = stands.feeds;
+          replies = stands.replies;
+        };
+        all_ended = λ e. replies_joined stands.ended items old.ledger mid.ledger new.ledger stands.written written stands.replies (unread e);
+        unwritten = text.0;
+        last = text.1;
+        text = text.2;
+      }
+
+  -- those to a piece
+  pub ends_in_piece : {fault : ScriptFault} {new : DeskState} {s v : Option (List ℕ)} (last : Option (List ℕ)) (piece : List ℕ) (items : List Item) → length piece ≤ longest_piece → Good old.ledger → fault ≢ ScriptFault.Read → Consumes r s piece → Feeds rest piece items last
+      → Writes w v (λ written. IsCut fault mid items written new) → EndsCut fault old new (streams R s W v)
+  ends_in_piece {fault} {new} {s} {v} last piece items short good other more feeds (written, writes, cut) =
+      ends_cut last piece written items short good more (feeds_joined (Some []) rest last stands.read piece stands.ended items stands.feeds feeds) writes (cut_behind mid mid refl fault new [] items (unended last) [] written (refl, refl) tt cut) (λ e. absurd (other e))
+
+  -- where nothing more is read
+  feeds_still : Feeds (Some []) (stands.read ++ []) (stands.ended ++ []) rest
+  feeds_still = subst (λ (read : List ℕ). Feeds (Some []) read (stands.ended ++ []) rest) (sym (append-nil stands.read))
+      (subst (λ (xs : List Item). Feeds (Some []) stands.read xs rest) (sym (append-nil stands.ended)) stands.feeds)
+
+  -- the one to what stands behind the last newline, where the input has ended
+  pub ends_behind : {fault : ScriptFault} {new : DeskState} {s v : Option (List ℕ)} → Good old.ledger → fault ≢ ScriptFault.Read → Consumes r s [] → Writes w v (λ written. IsCut fault mid (unended rest) written new)
+      → EndsCut fault old new (streams R s W v)
+  ends_behind good other more (written, writes, cut) = ends_cut rest [] written [] (omega arith) good more feeds_still writes cut (λ e. absurd (other e))
+
+  -- a read fails
+  pub ends_unread : {s : Option (List ℕ)} → Good old.ledger → Keeps r s → EndsCut ScriptFault.Read old mid (streams R s W w)
+  ends_unread {s} good kept =
+      ends_cut rest [] [] [] (omega arith) good (Consumes-kept _ _ _ _ (Consumes-nil r) kept) feeds_still (Appends-nil w) (cut_before ScriptFault.Read mid mid (unended rest) read_stops_nothing refl refl) (λ e. (refl, refl))
+
+  -- all is read and answered
+  pub ends_whole : {new : DeskState} {s v : Option (List ℕ)} → Consumes r s [] → IsAtEnd s → AnswersAll mid (unended rest) new w v → EndsWhole old new (streams R s W v)
+  ends_whole {new} {s} {v} more end answers = record {
+    told = record {
       read = stands.read;
-      written = stands.written ++ written;
-      ended = stands.ended;
-      rest = rest;
+      out = stands.written ++ answers.told.0;
       reads = subst (λ (read : List ℕ). Consumes R s read) (append-nil stands.read) (Consumes-trans _ _ _ _ _ stands.reads more);
-      writes = Appends-trans _ _ _ _ _ stands.writes writes;
-      feeds = stands.feeds;
-      cut = all;
-      prompt = record {
-        before = stands.read;
-        piece = [];
-        out = stands.written;
-        begun = written;
-        ended = stands.ended;
-        rest = rest;
-        ledger = mid;
-        read_is = sym (append-nil stands.read);
-        short = omega arith;
-        written_is = refl;
-        feeds = stands.feeds;
-        replies = stands.replies;
+      ends = end;
+      text = record {
+        items = stands.ended ++ unended rest;
+        are_items = record { ended = stands.ended; rest = rest; feeds = stands.feeds; all = refl };
+        replies = replies_joined stands.ended (unended rest) old.ledger mid.ledger new.ledger stands.written answers.told.0 stands.replies answers.told.1;
       };
-      all_ended = λ e. absurd (other e);
-      unwritten = text.0;
-      last = text.1;
-      text = text.2;
-    }
-
--- a read fails
-pub ends_unread : (U H : Type 0) (leaves : List Content → Type 0) (A : Ledger) (R r s W w rest : Option (List ℕ)) (ledger : Ledger) → Good A → Stands U A R r W w rest ledger → Keeps r s
-    → EndsCut ScriptFault.Read U H leaves A ledger R s W w
-ends_unread U H leaves A R r s W w rest ledger good stands stored =
-    let all : IsCut ScriptFault.Read U H leaves A (stands.ended ++ unended rest) stands.written ledger =
-    record { answered = stands.ended; left = unended rest; split = refl; lines = inl stands.replies; told = λ e. stands.replies; may = stands.may; next = λ e. absurd (read_stops_nothing e); stopped = λ e went honest. absurd (read_stops_nothing e) } in
-    let text = text_from ScriptFault.Read U H leaves A ledger stands.read stands.written _ good (record { ended = stands.ended; rest = rest; feeds = stands.feeds; all = refl }) all in
-    record {
-      read = stands.read;
-      written = stands.written;
-      ended = stands.ended;
-      rest = rest;
-      reads = Consumes-kept _ _ _ _ stands.reads stored;
-      writes = stands.writes;
-      feeds = stands.feeds;
-      cut = all;
-      prompt = record {
-        before = stands.read;
-        piece = [];
-        out = stands.written;
-        begun = [];
-        ended = stands.ended;
-        rest = rest;
-        ledger = ledger;
-        read_is = sym (append-nil stands.read);
-        short = omega arith;
-        written_is = sym (append-nil stands.written);
-        feeds = stands.feeds;
-        replies = stands.replies;
-      };
-      all_ended = λ e. stands.replies;
-      unwritten = text.0;
-      last = text.1;
-      text = text.2;
-    }
-
--- all is read and answered
-pub ends_whole : (U : Type 0) (A : Ledger) (R r s W w v rest : Option (List ℕ)) (mid new : Ledger) (out : List ℕ) → Stands U A R r W w rest mid → Consumes r s [] → IsAtEnd s
-    → RepliesAll mid (unended rest) out new → Appends w v out → EndsWhole A new R s W v
-ends_whole U A R r s W w v rest mid new out stands more end replies writes = record {
-  read = stands.read;
-  out = stands.written ++ out;
-  reads = subst (λ (read : List ℕ). Consumes R s read) (append-nil stands.read) (Consumes-trans _ _ _ _ _ stands.reads more);
-  ends = end;
-  text = record {
-    items = stands.ended ++ unended rest;
-    are_items = record { ended = stands.ended; rest = rest; feeds = stands.feeds; all = refl };
-    replies = replies_joined stands.ended (unended rest) A mid new stands.written out stands.replies replies;
-  };
-  writes = Appends-trans _ _ _ _ _ stands.writes writes;
-}
-
--- what was read has a request only where the desk went on
-pub may_read : (U : Type 0) (A : Ledger) (R r s W w rest : Option (List ℕ)) (mid : Ledger) → Stands U A R r W w rest mid → Consumes r s [] → MayRead U R s
-may_read U A R r s W w rest mid stands more = (
-  stands.read,
-  stands.ended ++ unended rest,
-  subst (λ (read : List ℕ). Consumes R s read) (append-nil stands.read) (Consumes-trans _ _ _ _ _ stands.reads more),
-  record { ended = stands.ended; rest = rest; feeds = stands.feeds; all = refl },
-  may_both U U stands.ended (unended rest) (λ u. u) stands.may (may_unended U rest),
-)
+      writes = Appends-trans _ _ _ _ _ stands.writes answers.told.2;
+    };
+    may = may_both old mid stands.same stands.ended (unended rest) stands.may answers.may;
+    same = answers.same ∙ stands.same;
+  }

@@ -24,7 +24,7 @@ use Rattle.book.proofs.Runs.{answered_if_good}
 use Rattle.book.proofs.ShownNumbers.{Contains-of_find, levels_of}
 use Rattle.desk.specs.Replies.{AnswersField, bad_line, field_line, none_line, order_line, request_line}
 use Rattle.desk.specs.Text.{AreItems, IsText, Replies, RepliesAll, unended}
-use Rattle.book.specs.Rows.{Content}
+use Rattle.desk.specs.Desk.{DeskState}
 use Rattle.desk.specs.Script.{AlmostWritten, IsCut}
 use Rattle.desk.specs.declared.fault.ScriptFault.{ScriptFault}
 use Rattle.desk.proofs.Texts.{replies_joined, replies_more}
@@ -168,21 +168,21 @@ text_on old mid input lines items answered left good are split replies =
     )
 
 -- the text goes on behind what is written at a fault
-pub text_from : (fault : ScriptFault) (W H : Type 0) (leaves : List Content → Type 0) (old new : Ledger) (input written : List ℕ) (items : List Item) → Good old → AreItems input items
-    → IsCut fault W H leaves old items written new → (more : List ℕ) × (last : Ledger) × IsText old input (written ++ more) last
-text_from fault W H leaves old new input written items good are cut = by cut.lines
+pub text_from : (fault : ScriptFault) (before behind : DeskState) (input written : List ℕ) (items : List Item) → Good before.ledger → AreItems input items
+    → IsCut fault before items written behind → (more : List ℕ) × (last : Ledger) × IsText before.ledger input (written ++ more) last
+text_from fault before behind input written items good are cut = by cut.lines
   where
-    on : (lines : List ℕ) → RepliesAll old cut.answered lines new → (more : List ℕ) × (last : Ledger) × IsText old input (lines ++ more) last
+    on : (lines : List ℕ) → RepliesAll before.ledger cut.answered lines behind.ledger → (more : List ℕ) × (last : Ledger) × IsText before.ledger input (lines ++ more) last
     on lines all =
         let range = front_in_range cut.answered cut.left (subst (λ (xs : List Item). Each IsItemInRange xs) cut.split (items_in_range input items are)) in
-        text_on old new input lines items cut.answered cut.left (good_after_all cut.answered old lines new good range all) are cut.split all
+        text_on before.ledger behind.ledger input lines items cut.answered cut.left (good_after_all cut.answered before.ledger lines behind.ledger good range all) are cut.split all
 
-    by : AlmostWritten old cut.answered written new → (more : List ℕ) × (last : Ledger) × IsText old input (written ++ more) last
+    by : AlmostWritten before.ledger cut.answered written behind.ledger → (more : List ℕ) × (last : Ledger) × IsText before.ledger input (written ++ more) last
     by (inl all) = on written all
     by (inr l) =
-        let whole = subst (λ (xs : List Item). RepliesAll old xs (l.lines ++ (l.begun ++ l.left)) new) (sym l.split)
-        (replies_more l.before l.last old l.mid new l.lines (l.begun ++ l.left) l.replies l.reply) in
+        let whole = subst (λ (xs : List Item). RepliesAll before.ledger xs (l.lines ++ (l.begun ++ l.left)) behind.ledger) (sym l.split)
+        (replies_more l.before l.last before.ledger l.mid behind.ledger l.lines (l.begun ++ l.left) l.replies l.reply) in
         let (more, last, text) = on (l.lines ++ (l.begun ++ l.left)) whole in
         let same : (l.lines ++ (l.begun ++ l.left)) ++ more ≡ written ++ (l.left ++ more) =
         ap (λ (out : List ℕ). out ++ more) (sym (append_assoc l.lines l.begun l.left) ∙ ap (λ (out : List ℕ). out ++ l.left) (sym l.written_are)) ∙ append_assoc written l.left more in
-        (l.left ++ more, last, subst (λ (out : List ℕ). IsText old input out last) same text)
+        (l.left ++ more, last, subst (λ (out : List ℕ). IsText before.ledger input out last) same text)

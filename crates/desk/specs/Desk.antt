@@ -1,16 +1,33 @@
 -- A desk as it is seen, and what its keeper holds for it.
-use Rattle.std.specs.Prelude.{◌≡◌, ◌⊎◌, false, List, [], ◌∷◌, Result, Ok, Err}
+use Rattle.std.specs.Prelude.{◌≡◌, Bool, IsTrue, false, List, [], ◌∷◌}
+use Rattle.words.specs.declared.command.Request.{Request}
+use Rattle.book.specs.Answers.{IsAccepted}
 use Rattle.book.specs.Good.{Good}
 use Rattle.book.specs.Ledger.{Ledger}
+use Rattle.book.specs.Next.{accept}
 use Rattle.book.specs.Rows.{Content, IsRowsOf}
 use Rattle.keep.specs.declared.keep.Keep.{Ghosts}
-use Rattle.desk.specs.declared.fault.OpenFault.{OpenFault}
-use Rattle.desk.specs.declared.fault.OpenFault.TheVariants.{Memory, OldVersion, Store}
 
 -- a desk as it is seen: its ledger, and the keeper of its rows
 pub record DeskView (K : Type 0) : Type 0 where
   pub ledger : Ledger
   pub keep : K
+
+-- How a desk is, as definitions see it: its ledger, whether a fault of its keeper has stopped it, whether its disk is
+-- honest, and what a stop leaves.
+pub record DeskState : Type 1 where
+  pub ledger : Ledger
+  pub is_stopped : Bool
+  pub is_honest : Type 0
+  pub leaves : List Content → Type 0
+
+abbrev pub desk_state : {K : Type 0} → Ghosts K → DeskView K → DeskState
+desk_state g desk = record {
+  ledger = desk.ledger;
+  is_stopped = g.stopped desk.keep;
+  is_honest = g.is_honest desk.keep;
+  leaves = g.leaves desk.keep;
+}
 
 -- the rows of the ledger are held, and a stop leaves these alone
 pub record IsStored (holds : Content → Type 0) (leaves : List Content → Type 0) (A : Ledger) : Type 0 where
@@ -39,17 +56,21 @@ pub record LeavesEither (leaves : List Content → Type 0) (A B : Ledger) : Type
   pub are_after : IsRowsOf B after
   pub either : leaves (before ∷ after ∷ [])
 
--- opened at that ledger, or refused for memory or by the store, and nothing else
-abbrev pub OpensAt : {K : Type 0} → Ledger → Result (DeskView K) (OpenFault × K) → Type 0
-OpensAt A (Ok desk) = desk.ledger ≡ A
-OpensAt A (Err e) = (e.0 ≡ Memory) ⊎ (e.0 ≡ Store)
+-- ---- from one call to the next
 
--- refused as of an old version, for memory or by the store, and nothing else
-abbrev pub IsRefusedAsOld : {K : Type 0} → Result (DeskView K) (OpenFault × K) → Type 0
-IsRefusedAsOld (Ok desk) = ⊥
-IsRefusedAsOld (Err e) = (e.0 ≡ OldVersion) ⊎ ((e.0 ≡ Memory) ⊎ (e.0 ≡ Store))
+-- However a call ends: a stopped desk is left as it is, what comes of it is in order, and an honest disk was so before.
+pub record Goes {K : Type 0} (g : Ghosts K) (old new : DeskView K) : Type 0 where
+  pub untouched : IsTrue (g.stopped old.keep) → new ≡ old
+  pub good : Good new.ledger
+  pub stored : StaysStored g new
+  pub honest : g.is_honest new.keep → g.is_honest old.keep
 
--- the keeper after an opening: the desk's, or the one that is given back
-abbrev pub keeper_after : {K E : Type 0} → Result (DeskView K) (E × K) → K
-keeper_after (Ok desk) = desk.keep
-keeper_after (Err e) = e.1
+-- It is told where this has stopped the desk. Where that is not told, it goes on if it did before.
+pub record TellsStop (told : Type 0) (old new : DeskState) : Type 0 where
+  pub stopped : told → IsTrue new.is_stopped
+  pub going : ¬ told → new.is_stopped ≡ old.is_stopped
+
+-- the request, which is accepted, has stopped the desk: over an honest disk a stop leaves the rows before it or after it
+pub record StopsCall (request : Request) (old new : DeskState) : Type 0 where
+  pub accepted : IsAccepted old.ledger request
+  pub either : new.is_honest → LeavesEither new.leaves old.ledger (accept old.ledger request)

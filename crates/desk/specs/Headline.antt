@@ -1,6 +1,6 @@
 -- What an opening finds after a stop: the headline.
-use Rattle.std.specs.Prelude.{◌≡◌, ◌≢◌, ◌↔◌, ◌≤◌, ◌+◌, ◌++◌, ℕ, List, [], ◌∷◌, Option, drop, flat_map, length, take}
-use Rattle.std.specs.Io.KnownBytes.{Appends, Consumes}
+use Rattle.std.specs.Prelude.{◌≡◌, ◌≢◌, ◌↔◌, ◌≤◌, ◌+◌, ◌++◌, ℕ, List, [], ◌∷◌, drop, flat_map, length, take}
+use Rattle.std.specs.Io.KnownBytes.{Consumes}
 use Rattle.words.specs.declared.command.Request.{Request}
 use Rattle.words.specs.declared.item.Item.{Item}
 use Rattle.words.specs.declared.reply.Reply.{Reply}
@@ -9,6 +9,8 @@ use Rattle.book.specs.Good.{Good}
 use Rattle.book.specs.Ledger.{Ledger}
 use Rattle.book.specs.Rows.{Content, IsRowsOf}
 use Rattle.keep.specs.Content.{IsAmong}
+use Rattle.desk.specs.Script.{Writes}
+use Rattle.desk.specs.Streams.{Streams}
 use Rattle.desk.specs.Text.{AreItems, RepliesAll}
 use Rattle.desk.specs.declared.run.Ending.TheVariants.{All, Stopped}
 use Rattle.desk.specs.declared.run.Run.{Run}
@@ -34,10 +36,8 @@ pub record IsFoundAfter (A : Ledger) (requests : List Request) (run : Run) (B : 
 
 -- B is the ledger after a prefix of the items. That holds every one whose reply line was written whole, since what was
 -- written is a beginning of the reply lines to that prefix. At most so many more are done as are carried out together.
-pub record IsFoundAfterItems (most : ℕ) (A : Ledger) (items : List Item) (writer_old writer_new : Option (List ℕ))
-    (B : Ledger) : Type 0 where
-  pub written : List ℕ
-  pub writes : Appends writer_old writer_new written
+pub record IsFoundAfterItems (most : ℕ) (A : Ledger) (items : List Item) (written : List ℕ) (B : Ledger)
+    : Type 0 where
   -- what was written is the reply lines to so many of them, and a beginning of the next
   pub told : ℕ
   pub mid : Ledger
@@ -54,10 +54,10 @@ pub record IsFoundAfterItems (most : ℕ) (A : Ledger) (items : List Item) (writ
   pub after : RepliesAll A (take done items) (written ++ unwritten) B
 
 -- B is the ledger after such a prefix of the lines that were read
-abbrev pub IsFoundAfterLines : Ledger → (reader_old reader_new writer_old writer_new : Option (List ℕ)) → Ledger → Type 0
-IsFoundAfterLines A reader_old reader_new writer_old writer_new B =
-    (read : List ℕ) × (items : List Item) × Consumes reader_old reader_new read × AreItems read items
-    × IsFoundAfterItems 1 A items writer_old writer_new B
+abbrev pub IsFoundAfterLines : Ledger → Streams → Ledger → Type 0
+IsFoundAfterLines A s B =
+    (read : List ℕ) × (items : List Item) × Consumes s.reader_old s.reader_new read × AreItems read items
+    × Writes s.writer_old s.writer_new (λ written. IsFoundAfterItems 1 A items written B)
 
 -- a stop leaves nothing but the rows of good ledgers of this kind
 pub record LeavesRowsOf (leaves : List Content → Type 0) (Is : Ledger → Type 0) : Type 0 where

@@ -1,6 +1,5 @@
 -- Requests that are carried out together: a batch is kept in one transaction.
-use Rattle.std.specs.Prelude.{◌≡◌, ◌≢◌, ◌⊎◌, ◌≤◌, ◌+◌, ◌-◌, All, Option, false, true, ℕ, List, [], ◌∷◌, ◌++◌, drop, length, take}
-use Rattle.std.specs.Io.KnownBytes.{Appends}
+use Rattle.std.specs.Prelude.{◌≡◌, ◌≢◌, ◌⊎◌, ◌≤◌, ◌+◌, ◌-◌, All, IsTrue, false, true, ℕ, List, [], ◌∷◌, ◌++◌, drop, length, take}
 use Rattle.std.specs.List.{AllByRecursion as Each}
 use Rattle.words.specs.declared.command.Request.{Request}
 use Rattle.words.specs.declared.reply.Reply.{Reply}
@@ -13,7 +12,7 @@ use Rattle.book.specs.declared.rows.Change.{Change}
 use Rattle.book.specs.Tables.{rows_among}
 use Rattle.keep.specs.Content.{IsTheRow}
 use Rattle.keep.specs.Transactions.{with_changes}
-use Rattle.desk.specs.Desk.{LeavesEither}
+use Rattle.desk.specs.Desk.{DeskState, LeavesEither, TellsStop}
 use Rattle.desk.specs.Replies.{request_line}
 use Rattle.desk.specs.Text.{RepliesAll, items_of}
 use Rattle.desk.specs.declared.fault.ScriptFault.{ScriptFault}
@@ -36,18 +35,17 @@ pub record IsBatch (A : Ledger) (requests : List Request) (replies : List Reply)
   pub all_done : Each IsDone told
   pub rest : Runs B behind refused B
 
--- The replies are those to the first requests from A to M; then the store failed at the commit of a batch of those
--- behind, which led to B, and a stop leaves the rows of M or those of B.
-pub record FailsAt (is_honest : Type 0) (leaves : List Content → Type 0) (A : Ledger) (requests : List Request)
-    (replies : List Reply) (B : Ledger) : Type 0 where
+-- The replies are those to the first requests, up to the ledger `mid`; then the store failed at the commit of a batch of
+-- those behind, and a stop leaves the rows before it or behind it.
+pub record FailsAt (old : DeskState) (requests : List Request) (replies : List Reply) (new : DeskState) : Type 0 where
   pub mid : Ledger
-  pub run : Runs A (take (length replies) requests) replies mid
+  pub run : Runs old.ledger (take (length replies) requests) replies mid
   pub count : ℕ
   pub some : 1 ≤ count
   pub none_unasked : length replies + count ≤ length requests
   pub untold : List Reply
-  pub batch : IsBatch mid (take count (drop (length replies) requests)) untold B
-  pub either : is_honest → LeavesEither leaves mid B
+  pub batch : IsBatch mid (take count (drop (length replies) requests)) untold new.ledger
+  pub either : new.is_honest → LeavesEither new.leaves mid new.ledger
 
 -- B is the ledger after the requests before number k, counted from 1, or behind a batch of those from there on, of which
 -- the replies are not known: it may be kept or not.
@@ -79,12 +77,12 @@ RunsInLists A (requests ∷ lists) (replies ∷ given) B =
 RunsInLists A [] (replies ∷ given) B = ⊥
 RunsInLists A (requests ∷ lists) [] B = ⊥
 
--- How far the answers to requests have come at a fault, where at most so many are carried out together. The lines of
--- `answered` are written whole. Behind these may stand a batch, `last`: it is kept, and a beginning of its lines written,
--- or the store failed at its commit, and a stop leaves the rows before it or behind it. Want of memory leaves no request
--- done and not told.
-pub record IsCutTogether (fault : ScriptFault) (went_on is_honest : Type 0) (leaves : List Content → Type 0) (most : ℕ)
-    (old : Ledger) (requests : List Request) (written : List ℕ) (new : Ledger) : Type 0 where
+-- How far the answers to requests have come at a fault, where at most so many are carried out together. What is written is
+-- `lines ++ begun`: the lines of `answered` are written whole. Behind these may stand a batch, `last`: it is kept, and a
+-- beginning of its lines written, or the store failed at its commit, and a stop leaves the rows before it or behind it.
+-- Want of memory leaves no request done and not told.
+pub record IsCutTogether (fault : ScriptFault) (most : ℕ) (old : DeskState) (requests : List Request) (new : DeskState)
+    : Type 0 where
   pub answered : List Request
   pub last : List Request
   pub left : List Request
@@ -94,22 +92,17 @@ pub record IsCutTogether (fault : ScriptFault) (went_on is_honest : Type 0) (lea
   pub lines : List ℕ
   pub begun : List ℕ
   pub unwritten : List ℕ
-  pub replies : RepliesAll old (items_of answered) lines mid
-  pub rest : RepliesAll mid (items_of last) (begun ++ unwritten) new
-  pub batch : (untold : List Reply) × IsBatch mid last untold new
-  pub written_are : written ≡ lines ++ begun
+  pub replies : RepliesAll old.ledger (items_of answered) lines mid
+  pub rest : RepliesAll mid (items_of last) (begun ++ unwritten) new.ledger
+  pub batch : (untold : List Reply) × IsBatch mid last untold new.ledger
+  pub unread : fault ≢ ScriptFault.Read
   pub told : fault ≢ ScriptFault.Write → begun ≡ []
   pub memory : fault ≡ ScriptFault.Memory → last ≡ []
-  pub stopped : fault ≡ ScriptFault.Stopped → went_on
-      → (1 ≤ length last) × (is_honest → LeavesEither leaves mid new)
-  pub refused : ¬ went_on → (answered ++ last ≡ []) × (1 ≤ length left)
-
--- the answers to the requests are cut so, and what was written is the lines of the first of them
-abbrev pub AnswersCutTogether : ScriptFault → (went_on is_honest : Type 0) → (List Content → Type 0) → ℕ → Ledger
-    → List Request → Ledger → (writer_old writer_new : Option (List ℕ)) → Type 0
-AnswersCutTogether fault went_on is_honest leaves most old requests new writer_old writer_new =
-    (written : List ℕ) × Appends writer_old writer_new written
-    × IsCutTogether fault went_on is_honest leaves most old requests written new
+  pub stop : TellsStop (fault ≡ ScriptFault.Stopped) old new
+  pub stopped : fault ≡ ScriptFault.Stopped → old.is_stopped ≡ false
+      → (1 ≤ length last) × (new.is_honest → LeavesEither new.leaves mid new.ledger)
+  pub refused : IsTrue old.is_stopped
+      → (fault ≡ ScriptFault.Stopped) × (answered ++ last ≡ []) × (1 ≤ length left)
 
 -- ---- how a batch is made (private)
 

@@ -1,21 +1,20 @@
 //! A ledger, and the keeper of its rows.
 
-ghost use Rattle.std.specs.Prelude.{◌≡◌, ◌≢◌, ◌⊎◌, ◌<◌, ◌≤◌, [], false, length, take, List, IsTrue, IfOk, IfErr, IsSomeAnd, MatchOption, Err};
+ghost use Rattle.std.specs.Prelude.{◌≡◌, ◌≢◌, ◌<◌, ◌≤◌, [], false, length, take, IsTrue, IfOk, IfErr, IsSomeAnd, MatchOption, Err};
 ghost use Rattle.escrow.specs.Codes.{IsKey};
 ghost use Rattle.words.specs.Spelling.{IsInRange};
 ghost use Rattle.book.specs.Answers.{Answers, IsAccepted};
-ghost use Rattle.book.specs.Future.{Honours, HonoursAlways};
 ghost use Rattle.book.specs.Good.{Good};
 ghost use Rattle.book.specs.Ledger.{Ledger, field_named, name_of, order_numbered};
 ghost use Rattle.book.specs.Next.{accept};
 ghost use Rattle.book.specs.PlanAnswers.{Plans};
 ghost use Rattle.book.specs.Plans.{Fits};
-ghost use Rattle.book.specs.Rows.{Content, IsDamaged, IsRowsOf};
+ghost use Rattle.book.specs.Rows.{Content, IsRowsOf};
 ghost use Rattle.book.specs.Views.{ShowsField, ShowsOrder};
-ghost use Rattle.keep.specs.Content.{IsDesk};
 ghost use Rattle.desk.specs.Text.{RepliesAll, items_of};
 ghost use Rattle.desk.specs.Together.{FailsAt, IsBatch};
-ghost use Rattle.desk.specs.Desk.{IsRefusedAsOld, IsStored, LeavesEither, OpensAt, StaysStored, keeper_after};
+ghost use Rattle.desk.specs.Desk.{Goes, IsInOrder, LeavesEither, StaysStored, StopsCall, TellsStop, desk_state};
+ghost use Rattle.desk.specs.Opening.{IsLeft, IsOpened, IsRefusedAsOld, IsUnopened, OpensAt, keeper_after};
 
 use crate::fault::{CallFault, OpenFault, load_fault};
 use crate::run::Ending;
@@ -54,32 +53,14 @@ impl<K: Keep> Desk<K> {
     /// is refused.
     pub fn open(alloc: Global, keep: K) -> Result<Desk<K>, (OpenFault, K)>
         ensures refused { IsTrue (K.stopped keep) → result ≡ Err (OpenFault.Store, keep) }
-        ensures going { IfOk result (λ desk. K.stopped desk.keep ≡ false) }
-        ensures good { IfOk result (λ desk. Good desk.ledger × Honours desk.ledger × HonoursAlways desk.ledger) }
-        ensures honest { K.is_honest (keeper_after result) → K.is_honest keep }
-        ensures stored { IfOk result (λ desk. K.is_honest desk.keep → IsStored (K.holds keep)
-            (K.leaves desk.keep) desk.ledger) }
-        ensures rows { IfOk result (λ desk. K.is_honest desk.keep → (x : Content) → K.holds keep x
-            → IsRowsOf desk.ledger x) }
+        ensures opened { IfOk result (λ desk. IsOpened K.Keep keep desk) }
+        ensures unopened { IfErr result (λ e. IsUnopened K.Keep keep e.0 e.1) }
         ensures nothing_else { K.is_honest (keeper_after result) → (A : Ledger) (x : Content) → Good A → IsRowsOf A x
             → K.holds keep x → OpensAt A result }
-        ensures damaged { IfErr result (λ e. e.0 ≡ OpenFault.Damaged → K.is_honest e.1 → (x : Content) → K.holds keep x
-            → IsDamaged x) }
-        ensures loaded { IfErr result (λ e. e.0 ≡ OpenFault.Damaged → K.stopped e.1 ≡ false) }
-        ensures not_a_desk { IfErr result (λ e. e.0 ≡ OpenFault.NotADesk → K.is_honest e.1 → (x : Content)
-            → K.has_tables keep x → ¬ IsDesk x) }
-        ensures old_version { IfErr result (λ e. e.0 ≡ OpenFault.OldVersion → K.is_honest e.1 → K.is_old keep) }
         ensures only_old { K.is_honest (keeper_after result) → K.stopped keep ≡ false → K.is_old keep
             → IsRefusedAsOld result }
-        ensures stopped { IfErr result (λ e. (e.0 ≡ OpenFault.Store) ⊎ ((e.0 ≡ OpenFault.NotADesk)
-            ⊎ (e.0 ≡ OpenFault.OldVersion)) → IsTrue (K.stopped e.1)) }
-        ensures same { K.is_honest (keeper_after result) → K.stopped (keeper_after result) ≡ false → (x : Content)
-            → (K.holds keep x → K.holds (keeper_after result) x) × (K.holds (keeper_after result) x → K.holds keep x) }
-        // nothing is added to what a stop may leave
-        ensures adds_nothing { K.is_honest (keeper_after result) → (these : List Content) → K.leaves keep these
-            → K.leaves (keeper_after result) these }
-        ensures no_more { K.is_honest (keeper_after result) → (x : Content) → K.may_leave (keeper_after result) x
-            → K.may_leave keep x }
+        ensures left { K.is_honest (keeper_after result) → IsLeft K.Keep keep (keeper_after result) }
+        ensures honest { K.is_honest (keeper_after result) → K.is_honest keep }
     {
         let mut keep = keep;
         let tables = match keep.load(alloc) {
@@ -101,20 +82,17 @@ impl<K: Keep> Desk<K> {
     /// later call answers `Stopped`. Where it is this call that stopped it, a stop leaves the ledger's rows or those
     /// after the request.
     pub fn call(&mut self, alloc: Global, request: &Request) -> Result<Reply, CallFault>
-        ensures refused { IsTrue (K.stopped self.old.keep) → (result ≡ Err CallFault.Stopped) × (self.new ≡ self.old) }
+        ensures refused { IsTrue (K.stopped self.old.keep) → result ≡ Err CallFault.Stopped }
         ensures answer { IfOk result (λ reply. Answers self.old.ledger request.now reply self.new.ledger) }
         ensures going { IfOk result (λ reply. K.stopped self.new.keep ≡ false) }
-        ensures stored { StaysStored K.Keep self.new }
         ensures others { (IsAccepted self.old.ledger request.now → ⊥) → self.new ≡ self.old }
-        ensures memory { result ≡ Err CallFault.Memory → self.new ≡ self.old }
-        ensures wanted { result ≡ Err CallFault.Memory → IsAccepted self.old.ledger request.now }
+        ensures memory { result ≡ Err CallFault.Memory → (self.new ≡ self.old)
+            × IsAccepted self.old.ledger request.now }
         ensures stopped { result ≡ Err CallFault.Stopped → IsTrue (K.stopped self.new.keep)
             × (self.new.ledger ≡ self.old.ledger) }
-        ensures accepted { result ≡ Err CallFault.Stopped → K.stopped self.old.keep ≡ false
-            → IsAccepted self.old.ledger request.now }
-        ensures either { result ≡ Err CallFault.Stopped → K.stopped self.old.keep ≡ false → K.is_honest self.new.keep
-            → LeavesEither (K.leaves self.new.keep) self.old.ledger (accept self.old.ledger request.now) }
-        ensures honest { K.is_honest self.new.keep → K.is_honest self.old.keep }
+        ensures either { result ≡ Err CallFault.Stopped → K.stopped self.old.keep ≡ false
+            → StopsCall request.now (desk_state K.Keep self.old) (desk_state K.Keep self.new) }
+        ensures goes { Goes K.Keep self.old self.new }
     {
         self.in_order();
         match self.plan(alloc, request) {
@@ -159,15 +137,12 @@ impl<K: Keep> Desk<K> {
         ensures done { IfOk result (λ reply. reply ≡ Reply.Done plan.place) }
         ensures answer { IfOk result (λ reply. Answers self.old.ledger plan.request reply self.new.ledger) }
         ensures going { IfOk result (λ reply. K.stopped self.new.keep ≡ false) }
-        ensures lasting { IfOk result (λ reply. K.is_honest self.new.keep
-            → IsStored (K.holds self.new.keep) (K.leaves self.new.keep) self.new.ledger) }
-        ensures stored { StaysStored K.Keep self.new }
         ensures memory { result ≡ Err CallFault.Memory → self.new ≡ self.old }
         ensures stopped { result ≡ Err CallFault.Stopped → IsTrue (K.stopped self.new.keep)
             × (self.new.ledger ≡ self.old.ledger) }
         ensures either { result ≡ Err CallFault.Stopped → K.is_honest self.new.keep
             → LeavesEither (K.leaves self.new.keep) self.old.ledger (accept self.old.ledger plan.request) }
-        ensures honest { K.is_honest self.new.keep → K.is_honest self.old.keep }
+        ensures goes { Goes K.Keep self.old self.new }
     {
         let place = plan.place();
         let Ok(()) = self.book.make_room(&plan) else {
@@ -194,13 +169,11 @@ impl<K: Keep> Desk<K> {
         ensures some { result.run.ending ≡ Ending.All → 1 ≤ length requests.now
             → 1 ≤ length result.run.replies.items }
         ensures more { result.run.ending ≢ Ending.All → length result.run.replies.items < length requests.now }
-        ensures stored { StaysStored K.Keep self.new }
         ensures failed { result.run.ending ≡ Ending.Stopped → (result.run.replies.items ≡ [])
-            × FailsAt (K.is_honest self.new.keep) (K.leaves self.new.keep) self.old.ledger requests.now []
-            self.new.ledger }
-        ensures stopped { result.run.ending ≡ Ending.Stopped → IsTrue (K.stopped self.new.keep) }
-        ensures going { result.run.ending ≢ Ending.Stopped → K.stopped self.new.keep ≡ false }
-        ensures honest { K.is_honest self.new.keep → K.is_honest self.old.keep }
+            × FailsAt (desk_state K.Keep self.old) requests.now [] (desk_state K.Keep self.new) }
+        ensures stop { TellsStop (result.run.ending ≡ Ending.Stopped) (desk_state K.Keep self.old)
+            (desk_state K.Keep self.new) }
+        ensures goes { Goes K.Keep self.old self.new }
     {
         let (batch, joined) = plan_batch(alloc, &mut self.book, requests);
         if batch.changes.is_empty() {
@@ -234,7 +207,7 @@ impl<K: Keep> Desk<K> {
     /// a stop leaves these alone. Takes no memory.
     pub fn is_stopped(&self) -> bool
         ensures stopped { result ≡ K.stopped self.now.keep }
-        ensures stored { StaysStored K.Keep self.now }
+        ensures in_order { IsInOrder K.Keep self.now }
     {
         self.keep.is_stopped()
     }

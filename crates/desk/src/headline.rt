@@ -9,10 +9,12 @@ ghost use Rattle.book.specs.Future.{Honours, HonoursAlways};
 ghost use Rattle.book.specs.Good.{Good};
 ghost use Rattle.book.specs.Ledger.{Ledger};
 ghost use Rattle.book.specs.Rows.{Content, IsRowsOf};
-ghost use Rattle.desk.specs.Desk.{DeskView, keeper_after};
+ghost use Rattle.desk.specs.Desk.{DeskView, desk_state};
 ghost use Rattle.desk.specs.Headline.{IsFoundAfter, IsFoundAfterCuts, IsFoundAfterLines, IsRunOf, LeavesRowsOf, all_replies, answered};
+ghost use Rattle.desk.specs.Opening.{keeper_after};
 ghost use Rattle.desk.specs.Resuming.{Resumes, StandsAt};
-ghost use Rattle.desk.specs.Script.{EndsCut, EndsWhole};
+ghost use Rattle.desk.specs.Script.{EndsCut, WritesText};
+ghost use Rattle.desk.specs.Streams.{streams};
 ghost use Rattle.keep.specs.Content.{IsAmong};
 
 use crate::desk::Desk;
@@ -184,12 +186,13 @@ pub fn script_and_stop<K: Keep, R: Read, W: Write>(
 ) -> (Result<(), ScriptFault>, K)
     requires { K.stopped desk.keep ≡ false }
     ensures left { K.is_honest result.1 → LeavesRowsOf (K.leaves result.1) (IsFoundAfterLines desk.ledger
-        (R.remaining reader.old) (R.remaining reader.new) (W.contents writer.old) (W.contents writer.new)) }
-    ensures whole { K.is_honest result.1 → OnOk result.0 (LeavesRowsOf (K.leaves result.1) (λ B. EndsWhole desk.ledger B
-        (R.remaining reader.old) (R.remaining reader.new) (W.contents writer.old) (W.contents writer.new))) }
-    ensures cut { IfErr result.0 (λ fault. (last : Ledger) × EndsCut fault (K.stopped desk.keep ≡ false)
-        (K.is_honest result.1) (K.leaves result.1) desk.ledger last (R.remaining reader.old) (R.remaining reader.new)
-        (W.contents writer.old) (W.contents writer.new)) }
+        (streams (R.remaining reader.old) (R.remaining reader.new) (W.contents writer.old) (W.contents writer.new))) }
+    ensures whole { K.is_honest result.1 → OnOk result.0 (LeavesRowsOf (K.leaves result.1) (λ B.
+        WritesText desk.ledger B (streams (R.remaining reader.old) (R.remaining reader.new) (W.contents writer.old)
+        (W.contents writer.new)))) }
+    ensures cut { IfErr result.0 (λ fault. (last : Ledger) × EndsCut fault (desk_state K.Keep desk)
+        (desk_state K.Keep (record { ledger = last; keep = result.1 }))
+        (streams (R.remaining reader.old) (R.remaining reader.new) (W.contents writer.old) (W.contents writer.new))) }
     ensures going { result.0 ≢ Err ScriptFault.Stopped → K.stopped result.1 ≡ false }
     ensures stopped { result.0 ≡ Err ScriptFault.Stopped → IsTrue (K.stopped result.1) }
 {
@@ -217,16 +220,16 @@ pub fn script_cut_and_open<K: Recover, R: Read, W: Write>(
 )
     requires { K.stopped desk.keep ≡ false }
     ensures found { IfSome result.1 (λ r. K.is_honest (keeper_after r) → IfOk r (λ again.
-        ∥ IsFoundAfterLines desk.ledger (R.remaining reader.old) (R.remaining reader.new)
-        (W.contents writer.old) (W.contents writer.new) again.ledger ∥₁)) }
+        ∥ IsFoundAfterLines desk.ledger (streams (R.remaining reader.old) (R.remaining reader.new)
+        (W.contents writer.old) (W.contents writer.new)) again.ledger ∥₁)) }
     ensures whole { OnOk result.0 (IfSome result.1 (λ r. K.is_honest (keeper_after r) → IfOk r (λ again.
-        ∥ EndsWhole desk.ledger again.ledger (R.remaining reader.old) (R.remaining reader.new)
-        (W.contents writer.old) (W.contents writer.new) ∥₁))) }
+        ∥ WritesText desk.ledger again.ledger (streams (R.remaining reader.old) (R.remaining reader.new)
+        (W.contents writer.old) (W.contents writer.new)) ∥₁))) }
     ensures refused { IfSome result.1 (λ r. K.is_honest (keeper_after r)
         → IfErr r (λ e. (e.0 ≡ OpenFault.Memory) ⊎ (e.0 ≡ OpenFault.Store))) }
     ensures left { IfSome result.1 (λ r. K.is_honest (keeper_after r) → ∥ LeavesRowsOf (K.leaves (keeper_after r))
-        (IsFoundAfterLines desk.ledger (R.remaining reader.old) (R.remaining reader.new)
-        (W.contents writer.old) (W.contents writer.new)) ∥₁) }
+        (IsFoundAfterLines desk.ledger (streams (R.remaining reader.old) (R.remaining reader.new)
+        (W.contents writer.old) (W.contents writer.new))) ∥₁) }
     ensures honours { IfSome result.1 (λ r. IfOk r (λ again. Good again.ledger × Honours again.ledger
         × HonoursAlways again.ledger)) }
     ensures going { IfSome result.1 (λ r. IfOk r (λ again. K.stopped again.keep ≡ false)) }

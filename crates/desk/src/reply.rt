@@ -1,6 +1,7 @@
 //! What is written for an item.
 
-ghost use Rattle.std.specs.Prelude.{◌≡◌, ◌≢◌, ◌⊎◌, ◌∷◌, [], false, IfErr, IfOk, IsTrue, Err};
+ghost use Rattle.std.specs.Prelude.{◌≡◌, ◌⊎◌, ◌∷◌, [], false, IfErr, IfOk, OnOk, Err};
+ghost use Rattle.desk.specs.Desk.{Goes, desk_state};
 ghost use Rattle.desk.specs.Replies.{AnswersFieldAsk, AnswersOrderAsk, request_line};
 ghost use Rattle.desk.specs.Script.{IsCut, MayAnswer};
 ghost use Rattle.desk.specs.Text.{Replies};
@@ -71,16 +72,15 @@ fn line_of_request<K: Keep>(
     request: &Request,
 ) -> Result<Vec<u8>, ScriptFault>
     ensures line { IfOk result (λ out. Replies desk.old.ledger (item.Request request.now) out.items desk.new.ledger) }
-    ensures went_on { IfOk result (λ _. K.stopped desk.old.keep ≡ false) }
-    ensures cut { IfErr result (λ fault. IsCut fault (K.stopped desk.old.keep ≡ false) (K.is_honest desk.new.keep)
-        (K.leaves desk.new.keep) desk.old.ledger (item.Request request.now ∷ []) [] desk.new.ledger) }
+    ensures went_on { OnOk result (K.stopped desk.old.keep ≡ false) }
+    ensures going { OnOk result (K.stopped desk.new.keep ≡ false) }
+    ensures cut { IfErr result (λ fault. IsCut fault (desk_state K.Keep desk.old) (item.Request request.now ∷ []) []
+        (desk_state K.Keep desk.new)) }
     ensures fault { IfErr result (λ fault. (fault ≡ ScriptFault.Memory) ⊎ (fault ≡ ScriptFault.Stopped)) }
     ensures memory { result ≡ Err ScriptFault.Memory → desk.new ≡ desk.old }
-    ensures going { result ≢ Err ScriptFault.Stopped → K.stopped desk.new.keep ≡ K.stopped desk.old.keep }
-    ensures stopped { result ≡ Err ScriptFault.Stopped → IsTrue (K.stopped desk.new.keep) }
-    ensures untouched { IsTrue (K.stopped desk.old.keep) → desk.new ≡ desk.old }
-    ensures honest { K.is_honest desk.new.keep → K.is_honest desk.old.keep }
+    ensures goes { Goes K.Keep desk.old desk.new }
 {
+    desk.in_order();
     match desk.plan(alloc, request) {
         Ok(Planned::Again(place)) => line_told(alloc, request.key, &Reply::Done(place)),
         Ok(Planned::Refused(refusal, line)) => {
@@ -106,16 +106,15 @@ pub fn line_of<K: Keep>(
     item: &Item,
 ) -> Result<Vec<u8>, ScriptFault>
     ensures line { IfOk result (λ out. Replies desk.old.ledger item.now out.items desk.new.ledger) }
-    ensures may { IfOk result (λ _. MayAnswer (K.stopped desk.old.keep ≡ false) item.now) }
-    ensures cut { IfErr result (λ fault. IsCut fault (K.stopped desk.old.keep ≡ false) (K.is_honest desk.new.keep)
-        (K.leaves desk.new.keep) desk.old.ledger (item.now ∷ []) [] desk.new.ledger) }
+    ensures may { OnOk result (MayAnswer (desk_state K.Keep desk.old) item.now) }
+    ensures same { OnOk result (K.stopped desk.new.keep ≡ K.stopped desk.old.keep) }
+    ensures cut { IfErr result (λ fault. IsCut fault (desk_state K.Keep desk.old) (item.now ∷ []) []
+        (desk_state K.Keep desk.new)) }
     ensures fault { IfErr result (λ fault. (fault ≡ ScriptFault.Memory) ⊎ (fault ≡ ScriptFault.Stopped)) }
     ensures memory { result ≡ Err ScriptFault.Memory → desk.new ≡ desk.old }
-    ensures going { result ≢ Err ScriptFault.Stopped → K.stopped desk.new.keep ≡ K.stopped desk.old.keep }
-    ensures stopped { result ≡ Err ScriptFault.Stopped → IsTrue (K.stopped desk.new.keep) }
-    ensures untouched { IsTrue (K.stopped desk.old.keep) → desk.new ≡ desk.old }
-    ensures honest { K.is_honest desk.new.keep → K.is_honest desk.old.keep }
+    ensures goes { Goes K.Keep desk.old desk.new }
 {
+    desk.in_order();
     let line = match item {
         Item::Request(request) => return line_of_request(alloc, desk, request),
         Item::AskField(branch, article) => line_of_field(alloc, desk, *branch, *article),

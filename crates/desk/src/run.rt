@@ -3,7 +3,7 @@
 ghost use Rattle.std.specs.Prelude.{◌≡◌, ◌≢◌, ◌↔◌, ◌+◌, ◌-◌, ◌≤◌, ◌++◌, [], List, drop, false, length, take, IsTrue};
 ghost use Rattle.book.specs.Answers.{After, Runs};
 ghost use Rattle.book.specs.Ledger.{Ledger};
-ghost use Rattle.desk.specs.Desk.{LeavesEither, StaysStored};
+ghost use Rattle.desk.specs.Desk.{Goes, LeavesEither, TellsStop, desk_state};
 ghost use Rattle.desk.specs.Resuming.{LeavesResumable, Resumes, StandsAt};
 ghost use Rattle.words.specs.declared.reply.Reply.{Reply as ReplyOf};
 
@@ -42,14 +42,13 @@ impl<K: Keep> Desk<K> {
         ensures replies { Runs self.old.ledger (take
             (length result.replies.items) requests.now) result.replies.items self.new.ledger }
         ensures all { result.ending ≡ Ending.All ↔ length result.replies.items ≡ length requests.now }
-        ensures refused { IsTrue (K.stopped self.old.keep) → (result.replies.items ≡ []) × (self.new ≡ self.old) }
-        ensures stopped { result.ending ≡ Ending.Stopped → IsTrue (K.stopped self.new.keep) }
-        ensures going { result.ending ≢ Ending.Stopped → K.stopped self.new.keep ≡ K.stopped self.old.keep }
-        ensures stored { StaysStored K.Keep self.new }
+        ensures refused { IsTrue (K.stopped self.old.keep) → result.replies.items ≡ [] }
+        ensures stop { TellsStop (result.ending ≡ Ending.Stopped) (desk_state K.Keep self.old)
+            (desk_state K.Keep self.new) }
         ensures either { K.stopped self.old.keep ≡ false → result.ending ≡ Ending.Stopped → K.is_honest self.new.keep
             → (next : Ledger) × After self.old.ledger requests.now (length result.replies.items + 1) next
             × LeavesEither (K.leaves self.new.keep) self.new.ledger next }
-        ensures honest { K.is_honest self.new.keep → K.is_honest self.old.keep }
+        ensures goes { Goes K.Keep self.old self.new }
     {
         self.in_order();
         let mut replies = Vec::new(alloc);
@@ -98,11 +97,10 @@ impl<K: Keep> Desk<K> {
         ensures replies { Runs self.old.ledger (take (length result.replies.items)
             (drop (first - 1) requests.now)) result.replies.items self.new.ledger }
         ensures all { result.ending ≡ Ending.All ↔ first + length result.replies.items ≡ length requests.now + 1 }
-        ensures refused { IsTrue (K.stopped self.old.keep) → (result.replies.items ≡ []) × (self.new ≡ self.old) }
-        ensures stopped { result.ending ≡ Ending.Stopped → IsTrue (K.stopped self.new.keep) }
-        ensures going { result.ending ≢ Ending.Stopped → K.stopped self.new.keep ≡ K.stopped self.old.keep }
-        ensures stored { StaysStored K.Keep self.new }
-        ensures honest { K.is_honest self.new.keep → K.is_honest self.old.keep }
+        ensures refused { IsTrue (K.stopped self.old.keep) → result.replies.items ≡ [] }
+        ensures stop { TellsStop (result.ending ≡ Ending.Stopped) (desk_state K.Keep self.old)
+            (desk_state K.Keep self.new) }
+        ensures goes { Goes K.Keep self.old self.new }
     {
         self.run(alloc, &requests[first - 1..])
     }

@@ -1,12 +1,12 @@
 //! Lines in, lines out, a piece at a time.
 
-ghost use Rattle.std.specs.Prelude.{◌≡◌, ◌≢◌, ◌++◌, ◌∷◌, [], ℕ, List, Option, false, IfErr, OnErr, OnOk, IsTrue, Err};
+ghost use Rattle.std.specs.Prelude.{◌≡◌, ◌≢◌, ◌∷◌, [], ℕ, List, Option, IfErr, OnOk, Err};
 ghost use Rattle.std.specs.Io.KnownBytes.{Appends};
-ghost use Rattle.std.specs.List.{AllByRecursion as Each};
 ghost use Rattle.words.specs.Stream.{Feeds};
-ghost use Rattle.desk.specs.Desk.{StaysStored};
-ghost use Rattle.desk.specs.Script.{AnswersAll, AnswersCut, EndsCut, EndsWhole, IsCut, MayAnswer, MayRead};
-ghost use Rattle.desk.specs.Text.{Replies, RepliesAll, unended};
+ghost use Rattle.desk.specs.Desk.{Goes, desk_state};
+ghost use Rattle.desk.specs.Script.{AnswersAll, EndsCut, EndsWhole, IsCut, MayAnswer, Writes};
+ghost use Rattle.desk.specs.Streams.{streams};
+ghost use Rattle.desk.specs.Text.{Replies, unended};
 ghost use Rattle.words.specs.declared.item.Item.{Item};
 
 use crate::desk::Desk;
@@ -27,49 +27,20 @@ fn answer<K: Keep, W: Write>(
     desk: &mut Desk<K>,
     item: &Item,
 ) -> Result<(), ScriptFault>
-    ensures whole { OnOk result ((line : List ℕ) × Replies desk.old.ledger item.now line desk.new.ledger
-        × Appends (W.contents writer.old) (W.contents writer.new) line) }
-    ensures may { OnOk result (MayAnswer (K.stopped desk.old.keep ≡ false) item.now) }
-    ensures cut { IfErr result (λ fault. (written : List ℕ) × Appends (W.contents writer.old)
-        (W.contents writer.new) written
-        × IsCut fault (K.stopped desk.old.keep ≡ false) (K.is_honest desk.new.keep)
-        (K.leaves desk.new.keep) desk.old.ledger (item.now ∷ []) written desk.new.ledger) }
+    ensures whole { OnOk result (Writes (W.contents writer.old) (W.contents writer.new)
+        (λ line. Replies desk.old.ledger item.now line desk.new.ledger)) }
+    ensures may { OnOk result (MayAnswer (desk_state K.Keep desk.old) item.now) }
+    ensures same { OnOk result (K.stopped desk.new.keep ≡ K.stopped desk.old.keep) }
+    ensures cut { IfErr result (λ fault. Writes (W.contents writer.old) (W.contents writer.new) (λ written.
+        IsCut fault (desk_state K.Keep desk.old) (item.now ∷ []) written (desk_state K.Keep desk.new))) }
     ensures read { result ≢ Err ScriptFault.Read }
-    ensures going { result ≢ Err ScriptFault.Stopped → K.stopped desk.new.keep ≡ K.stopped desk.old.keep }
-    ensures stopped { result ≡ Err ScriptFault.Stopped → IsTrue (K.stopped desk.new.keep) }
-    ensures untouched { IsTrue (K.stopped desk.old.keep) → desk.new ≡ desk.old }
-    ensures honest { K.is_honest desk.new.keep → K.is_honest desk.old.keep }
+    ensures goes { Goes K.Keep desk.old desk.new }
 {
     let line = line_of(alloc, desk, item)?;
     match write_whole(writer, &line) {
         Ok(()) => Ok(()),
         Err(_) => Err(ScriptFault::Write),
     }
-}
-
-/// The same, but for what is always so of a desk.
-fn answer_items<K: Keep, W: Write>(
-    alloc: Global,
-    writer: &mut W,
-    desk: &mut Desk<K>,
-    items: &[Item],
-) -> Result<(), ScriptFault>
-    ensures whole { OnOk result (AnswersAll desk.old.ledger items.now desk.new.ledger (W.contents writer.old)
-        (W.contents writer.new)) }
-    ensures may { OnOk result (Each (MayAnswer (K.stopped desk.old.keep ≡ false)) items.now) }
-    ensures cut { IfErr result (λ fault. AnswersCut fault (K.stopped desk.old.keep ≡ false) (K.is_honest desk.new.keep)
-        (K.leaves desk.new.keep) desk.old.ledger items.now desk.new.ledger (W.contents writer.old)
-        (W.contents writer.new)) }
-    ensures read { result ≢ Err ScriptFault.Read }
-    ensures going { result ≢ Err ScriptFault.Stopped → K.stopped desk.new.keep ≡ K.stopped desk.old.keep }
-    ensures stopped { result ≡ Err ScriptFault.Stopped → IsTrue (K.stopped desk.new.keep) }
-    ensures untouched { IsTrue (K.stopped desk.old.keep) → desk.new ≡ desk.old }
-    ensures honest { K.is_honest desk.new.keep → K.is_honest desk.old.keep }
-{
-    for item in items {
-        answer(alloc, writer, desk, item)?;
-    }
-    Ok(())
 }
 
 /// Answers items in their order, and writes the line of each before the next is answered: requests that were read from
@@ -86,22 +57,18 @@ pub fn answer_all<K: Keep, W: Write>(
     writer: &mut W,
     desk: &mut Desk<K>,
 ) -> Result<(), ScriptFault>
-    ensures whole { OnOk result (AnswersAll desk.old.ledger items.now desk.new.ledger (W.contents writer.old)
-        (W.contents writer.new)) }
-    ensures may { OnOk result (Each (MayAnswer (K.stopped desk.old.keep ≡ false)) items.now) }
-    ensures cut { IfErr result (λ fault. AnswersCut fault (K.stopped desk.old.keep ≡ false) (K.is_honest desk.new.keep)
-        (K.leaves desk.new.keep) desk.old.ledger items.now desk.new.ledger (W.contents writer.old)
-        (W.contents writer.new)) }
+    ensures whole { OnOk result (AnswersAll (desk_state K.Keep desk.old) items.now (desk_state K.Keep desk.new)
+        (W.contents writer.old) (W.contents writer.new)) }
+    ensures cut { IfErr result (λ fault. Writes (W.contents writer.old) (W.contents writer.new) (λ written.
+        IsCut fault (desk_state K.Keep desk.old) items.now written (desk_state K.Keep desk.new))) }
     ensures read { result ≢ Err ScriptFault.Read }
-    ensures going { result ≢ Err ScriptFault.Stopped → K.stopped desk.new.keep ≡ K.stopped desk.old.keep }
-    ensures stopped { result ≡ Err ScriptFault.Stopped → IsTrue (K.stopped desk.new.keep) }
-    ensures untouched { IsTrue (K.stopped desk.old.keep) → desk.new ≡ desk.old }
-    ensures stored { StaysStored K.Keep desk.new }
-    ensures honest { K.is_honest desk.new.keep → K.is_honest desk.old.keep }
+    ensures goes { Goes K.Keep desk.old desk.new }
 {
-    let ended = answer_items(alloc, writer, desk, items);
     desk.in_order();
-    ended
+    for item in items {
+        answer(alloc, writer, desk, item)?;
+    }
+    Ok(())
 }
 
 /// Answers the lines that end in a piece.
@@ -112,22 +79,18 @@ fn answer_piece<K: Keep, W: Write>(
     desk: &mut Desk<K>,
     piece: &[u8],
 ) -> Result<(), ScriptFault>
-    ensures whole { OnOk result ((items : List Item) × (out : List ℕ) × Feeds lines.old piece.now items lines.new
-        × RepliesAll desk.old.ledger items out desk.new.ledger × Appends (W.contents writer.old)
-        (W.contents writer.new) out
-        × Each (MayAnswer (K.stopped desk.old.keep ≡ false)) items) }
-    ensures cut { IfErr result (λ fault. (items : List Item) × (rest : Option (List ℕ)) × (written : List ℕ)
-        × Feeds lines.old piece.now items rest × Appends (W.contents writer.old) (W.contents writer.new) written
-        × IsCut fault (K.stopped desk.old.keep ≡ false) (K.is_honest desk.new.keep)
-        (K.leaves desk.new.keep) desk.old.ledger items written desk.new.ledger) }
+    ensures whole { OnOk result ((items : List Item) × Feeds lines.old piece.now items lines.new
+        × AnswersAll (desk_state K.Keep desk.old) items (desk_state K.Keep desk.new)
+        (W.contents writer.old) (W.contents writer.new)) }
+    ensures cut { IfErr result (λ fault. (items : List Item) × (rest : Option (List ℕ))
+        × Feeds lines.old piece.now items rest × Writes (W.contents writer.old) (W.contents writer.new) (λ written.
+        IsCut fault (desk_state K.Keep desk.old) items written (desk_state K.Keep desk.new))) }
     ensures read { result ≢ Err ScriptFault.Read }
-    ensures going { result ≢ Err ScriptFault.Stopped → K.stopped desk.new.keep ≡ K.stopped desk.old.keep }
-    ensures stopped { result ≡ Err ScriptFault.Stopped → IsTrue (K.stopped desk.new.keep) }
-    ensures untouched { IsTrue (K.stopped desk.old.keep) → desk.new ≡ desk.old }
-    ensures honest { K.is_honest desk.new.keep → K.is_honest desk.old.keep }
+    ensures goes { Goes K.Keep desk.old desk.new }
 {
+    desk.in_order();
     match lines.feed(alloc, piece) {
-        Ok(items) => answer_items(alloc, writer, desk, &items),
+        Ok(items) => answer_all(alloc, &items, writer, desk),
         Err(Memory) => Err(ScriptFault::Memory),
     }
 }
@@ -139,18 +102,14 @@ fn answer_rest<K: Keep, W: Write>(
     writer: &mut W,
     desk: &mut Desk<K>,
 ) -> Result<(), ScriptFault>
-    ensures whole { OnOk result ((out : List ℕ) × RepliesAll desk.old.ledger (unended lines.old) out desk.new.ledger
-        × Appends (W.contents writer.old) (W.contents writer.new) out) }
-    ensures cut { IfErr result (λ fault. (written : List ℕ) × Appends (W.contents writer.old)
-        (W.contents writer.new) written
-        × IsCut fault (K.stopped desk.old.keep ≡ false) (K.is_honest desk.new.keep)
-        (K.leaves desk.new.keep) desk.old.ledger (unended lines.old) written desk.new.ledger) }
+    ensures whole { OnOk result (AnswersAll (desk_state K.Keep desk.old) (unended lines.old)
+        (desk_state K.Keep desk.new) (W.contents writer.old) (W.contents writer.new)) }
+    ensures cut { IfErr result (λ fault. Writes (W.contents writer.old) (W.contents writer.new) (λ written.
+        IsCut fault (desk_state K.Keep desk.old) (unended lines.old) written (desk_state K.Keep desk.new))) }
     ensures read { result ≢ Err ScriptFault.Read }
-    ensures going { result ≢ Err ScriptFault.Stopped → K.stopped desk.new.keep ≡ K.stopped desk.old.keep }
-    ensures stopped { result ≡ Err ScriptFault.Stopped → IsTrue (K.stopped desk.new.keep) }
-    ensures untouched { IsTrue (K.stopped desk.old.keep) → desk.new ≡ desk.old }
-    ensures honest { K.is_honest desk.new.keep → K.is_honest desk.old.keep }
+    ensures goes { Goes K.Keep desk.old desk.new }
 {
+    desk.in_order();
     match lines.finish() {
         Some(item) => answer(alloc, writer, desk, &item),
         None => Ok(()),
@@ -171,42 +130,11 @@ pub fn script<K: Keep, R: Read, W: Write>(
     writer: &mut W,
     desk: &mut Desk<K>,
 ) -> Result<(), ScriptFault>
-    ensures whole { OnOk result (EndsWhole desk.old.ledger desk.new.ledger (R.remaining reader.old)
-        (R.remaining reader.new) (W.contents writer.old) (W.contents writer.new)) }
-    ensures may { OnOk result (MayRead (K.stopped desk.old.keep ≡ false) (R.remaining reader.old)
-        (R.remaining reader.new)) }
-    ensures cut { IfErr result (λ fault. EndsCut fault (K.stopped desk.old.keep ≡ false) (K.is_honest desk.new.keep)
-        (K.leaves desk.new.keep) desk.old.ledger desk.new.ledger
-        (R.remaining reader.old) (R.remaining reader.new) (W.contents writer.old) (W.contents writer.new)) }
-    ensures going { result ≢ Err ScriptFault.Stopped → K.stopped desk.new.keep ≡ K.stopped desk.old.keep }
-    ensures stopped { result ≡ Err ScriptFault.Stopped → IsTrue (K.stopped desk.new.keep) }
-    ensures untouched { IsTrue (K.stopped desk.old.keep) → desk.new ≡ desk.old }
-    ensures stored { StaysStored K.Keep desk.new }
-    ensures honest { K.is_honest desk.new.keep → K.is_honest desk.old.keep }
-{
-    let ended = answer_input(alloc, reader, writer, desk);
-    desk.in_order();
-    ended
-}
-
-/// The same, but for what is always so of a desk.
-fn answer_input<K: Keep, R: Read, W: Write>(
-    alloc: Global,
-    reader: &mut R,
-    writer: &mut W,
-    desk: &mut Desk<K>,
-) -> Result<(), ScriptFault>
-    ensures whole { OnOk result (EndsWhole desk.old.ledger desk.new.ledger (R.remaining reader.old)
-        (R.remaining reader.new) (W.contents writer.old) (W.contents writer.new)) }
-    ensures may { OnOk result (MayRead (K.stopped desk.old.keep ≡ false) (R.remaining reader.old)
-        (R.remaining reader.new)) }
-    ensures cut { IfErr result (λ fault. EndsCut fault (K.stopped desk.old.keep ≡ false) (K.is_honest desk.new.keep)
-        (K.leaves desk.new.keep) desk.old.ledger desk.new.ledger
-        (R.remaining reader.old) (R.remaining reader.new) (W.contents writer.old) (W.contents writer.new)) }
-    ensures going { result ≢ Err ScriptFault.Stopped → K.stopped desk.new.keep ≡ K.stopped desk.old.keep }
-    ensures stopped { result ≡ Err ScriptFault.Stopped → IsTrue (K.stopped desk.new.keep) }
-    ensures untouched { IsTrue (K.stopped desk.old.keep) → desk.new ≡ desk.old }
-    ensures honest { K.is_honest desk.new.keep → K.is_honest desk.old.keep }
+    ensures whole { OnOk result (EndsWhole (desk_state K.Keep desk.old) (desk_state K.Keep desk.new)
+        (streams (R.remaining reader.old) (R.remaining reader.new) (W.contents writer.old) (W.contents writer.new))) }
+    ensures cut { IfErr result (λ fault. EndsCut fault (desk_state K.Keep desk.old) (desk_state K.Keep desk.new)
+        (streams (R.remaining reader.old) (R.remaining reader.new) (W.contents writer.old) (W.contents writer.new))) }
+    ensures goes { Goes K.Keep desk.old desk.new }
 {
     desk.in_order();
     let mut lines = Lines::new(alloc);

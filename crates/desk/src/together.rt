@@ -2,6 +2,7 @@
 
 ghost use Rattle.std.specs.Prelude.{◌≡◌, ◌≢◌, ◌↔◌, ◌+◌, ◌<◌, ◌≤◌, ◌++◌, ◌∷◌, [], false, Err, IfErr, IfOk, IsTrue, List, OnErr, OnOk, length, take};
 ghost use Rattle.std.specs.Int.NonZero.{non_zero_usize_get};
+ghost use Rattle.std.specs.Io.KnownBytes.{Appends};
 ghost use Rattle.std.specs.Vec.{vec_capacity, vec_len};
 ghost use Rattle.escrow.specs.Codes.{IsKey};
 ghost use Rattle.words.specs.Spelling.{IsInRange};
@@ -9,11 +10,11 @@ ghost use Rattle.book.specs.Answers.{Runs};
 ghost use Rattle.book.specs.Good.{Good};
 ghost use Rattle.book.specs.Ledger.{Ledger};
 ghost use Rattle.book.specs.Plans.{Fits};
-ghost use Rattle.desk.specs.Desk.{StaysStored};
+ghost use Rattle.desk.specs.Desk.{Goes, TellsStop, desk_state};
 ghost use Rattle.desk.specs.Replies.{request_line};
-ghost use Rattle.desk.specs.Script.{AnswersAll};
+ghost use Rattle.desk.specs.Script.{AnswersAll, WritesLines};
 ghost use Rattle.desk.specs.Text.{items_of};
-ghost use Rattle.desk.specs.Together.{AnswersCutTogether, BatchSoFar, FailsAt, IsAsBefore, Joins};
+ghost use Rattle.desk.specs.Together.{BatchSoFar, FailsAt, IsAsBefore, IsCutTogether, Joins};
 
 use crate::desk::Desk;
 use crate::fault::ScriptFault;
@@ -222,18 +223,16 @@ impl<K: Keep> Desk<K> {
             result.replies.items mid × (result.ending ≢ Ending.Stopped → self.new.ledger ≡ mid) }
         ensures all { result.ending ≡ Ending.All ↔ length result.replies.items ≡ length requests.now }
         ensures failed { K.stopped self.old.keep ≡ false → result.ending ≡ Ending.Stopped
-            → FailsAt (K.is_honest self.new.keep) (K.leaves self.new.keep) self.old.ledger requests.now
-            result.replies.items self.new.ledger }
-        ensures refused { IsTrue (K.stopped self.old.keep) → (result.replies.items ≡ []) × (self.new ≡ self.old)
+            → FailsAt (desk_state K.Keep self.old) requests.now result.replies.items (desk_state K.Keep self.new) }
+        ensures refused { IsTrue (K.stopped self.old.keep) → (result.replies.items ≡ [])
             × (1 ≤ length requests.now → result.ending ≡ Ending.Stopped) }
-        ensures stopped { result.ending ≡ Ending.Stopped → IsTrue (K.stopped self.new.keep) }
-        ensures going { result.ending ≢ Ending.Stopped → K.stopped self.new.keep ≡ K.stopped self.old.keep }
-        ensures stored { StaysStored K.Keep self.new }
-        ensures honest { K.is_honest self.new.keep → K.is_honest self.old.keep }
+        ensures stop { TellsStop (result.ending ≡ Ending.Stopped) (desk_state K.Keep self.old)
+            (desk_state K.Keep self.new) }
+        ensures goes { Goes K.Keep self.old self.new }
     {
+        self.in_order();
         let mut replies = Vec::new(alloc);
         if requests.is_empty() {
-            self.in_order();
             return Run {
                 replies,
                 ending: Ending::All,
@@ -277,17 +276,14 @@ fn answer_batch<K: Keep, W: Write>(
 ) -> Result<usize, ScriptFault>
     requires going { K.stopped desk.old.keep ≡ false }
     requires some { 1 ≤ length requests.now }
-    ensures whole { IfOk result (λ count. AnswersAll desk.old.ledger (items_of (take count requests.now))
+    ensures whole { IfOk result (λ count. WritesLines desk.old.ledger (items_of (take count requests.now))
         desk.new.ledger (W.contents writer.old) (W.contents writer.new)) }
     ensures some { IfOk result (λ count. (1 ≤ count) × (count ≤ length requests.now)) }
-    ensures cut { IfErr result (λ fault. AnswersCutTogether fault (K.stopped desk.old.keep ≡ false)
-        (K.is_honest desk.new.keep) (K.leaves desk.new.keep) (length requests.now) desk.old.ledger requests.now
-        desk.new.ledger (W.contents writer.old) (W.contents writer.new)) }
-    ensures read { result ≢ Err ScriptFault.Read }
-    ensures going { result ≢ Err ScriptFault.Stopped → K.stopped desk.new.keep ≡ false }
-    ensures stopped { result ≡ Err ScriptFault.Stopped → IsTrue (K.stopped desk.new.keep) }
-    ensures stored { StaysStored K.Keep desk.new }
-    ensures honest { K.is_honest desk.new.keep → K.is_honest desk.old.keep }
+    ensures going { OnOk result (K.stopped desk.new.keep ≡ false) }
+    ensures cut { IfErr result (λ fault. (cut : IsCutTogether fault (length requests.now) (desk_state K.Keep desk.old)
+        requests.now (desk_state K.Keep desk.new))
+        × Appends (W.contents writer.old) (W.contents writer.new) (cut.lines ++ cut.begun)) }
+    ensures goes { Goes K.Keep desk.old desk.new }
 {
     let told = desk.run_batch(alloc, requests);
     if told.run.ending == Ending::Stopped {
@@ -317,18 +313,12 @@ pub fn answer_together<K: Keep, W: Write>(
     writer: &mut W,
     desk: &mut Desk<K>,
 ) -> Result<(), ScriptFault>
-    ensures whole { OnOk result (AnswersAll desk.old.ledger (items_of requests.now) desk.new.ledger
-        (W.contents writer.old) (W.contents writer.new)) }
-    ensures cut { IfErr result (λ fault. AnswersCutTogether fault (K.stopped desk.old.keep ≡ false)
-        (K.is_honest desk.new.keep) (K.leaves desk.new.keep) (non_zero_usize_get most) desk.old.ledger requests.now
-        desk.new.ledger (W.contents writer.old) (W.contents writer.new)) }
-    ensures read { result ≢ Err ScriptFault.Read }
-    ensures going { result ≢ Err ScriptFault.Stopped → K.stopped desk.new.keep ≡ K.stopped desk.old.keep }
-    ensures stopped { result ≡ Err ScriptFault.Stopped → IsTrue (K.stopped desk.new.keep) }
-    ensures refused { IsTrue (K.stopped desk.old.keep) → (desk.new ≡ desk.old)
-        × (1 ≤ length requests.now → result ≡ Err ScriptFault.Stopped) }
-    ensures stored { StaysStored K.Keep desk.new }
-    ensures honest { K.is_honest desk.new.keep → K.is_honest desk.old.keep }
+    ensures whole { OnOk result (AnswersAll (desk_state K.Keep desk.old) (items_of requests.now)
+        (desk_state K.Keep desk.new) (W.contents writer.old) (W.contents writer.new)) }
+    ensures cut { IfErr result (λ fault. (cut : IsCutTogether fault (non_zero_usize_get most)
+        (desk_state K.Keep desk.old) requests.now (desk_state K.Keep desk.new))
+        × Appends (W.contents writer.old) (W.contents writer.new) (cut.lines ++ cut.begun)) }
+    ensures goes { Goes K.Keep desk.old desk.new }
 {
     desk.in_order();
     if requests.is_empty() {

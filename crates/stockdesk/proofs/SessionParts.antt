@@ -1,7 +1,6 @@
 -- What a session has read and written.
-use Rattle.std.proofs.Common.{◌≡◌, ◌≢◌, ◌⊎◌, ◌∙◌, [], ◌∷◌, Bool, Err, IfErr, IsTrue, List, ℕ, Ok, OnErr, Option, Result, Some, ap, arith, false, refl, subst, sym, true, true≢false}
+use Rattle.std.proofs.Common.{◌≡◌, ◌≢◌, ◌⊎◌, ◌∙◌, [], ◌∷◌, Bool, Err, IfErr, List, ℕ, Ok, OnErr, OnOk, Option, Result, Some, ap, arith, false, refl, subst, sym, true, true≢false}
 use Rattle.std.proofs.Math.Logic.{inl, inr}
-use Rattle.std.specs.Io.KnownBytes.{Keeps}
 use Rattle.std.proofs.KnownBytes.{Appends-kept, Appends-nil, Consumes-kept, Consumes-nil, Keeps-refl}
 use Rattle.book.specs.Good.{Good}
 use Rattle.book.specs.Ledger.{Ledger, new_ledger}
@@ -10,12 +9,14 @@ use Rattle.book.proofs.Runs.{good_new}
 use Rattle.book.proofs.EqualRows.{told_by_rows}
 use Rattle.keep.specs.Content.{new_content, new_row}
 use Rattle.keep.specs.declared.keep.Keep.{Ghosts}
-use Rattle.desk.specs.Desk.{IsStored}
-use Rattle.desk.specs.Script.{EndsWhole}
+use Rattle.desk.specs.Desk.{DeskState, DeskView, IsStored, TellsStop, desk_state}
+use Rattle.desk.specs.Opening.{IsLeft}
+use Rattle.desk.specs.Script.{WritesText}
+use Rattle.desk.specs.Streams.{IsSilent, Streams, streams}
 use Rattle.desk.specs.declared.fault.ScriptFault.{ScriptFault}
 use Rattle.desk.proofs.Cuts.{other_error}
 use Rattle.stockdesk.specs.Runs.{BeginsText, RunsSoFar, RunsWhole}
-use Rattle.stockdesk.specs.Sessions.{IsBadFile, IsLeft, IsNoDesk, IsToldAs, IsUnbegun, StillHolds, OpensWith, ScriptCut, SessionCut, SessionInPart, SessionWhole}
+use Rattle.stockdesk.specs.Sessions.{IsBadFile, IsNoDesk, IsToldAs, IsUnbegun, IsBegun, OpensWith, ScriptCut, Session, SessionCut, SessionInPart, SessionWhole, StillHolds, left_at, session_in, session_on}
 use Rattle.stockdesk.specs.Work.{WorkInPart, WorkWhole}
 use Rattle.stockdesk.specs.declared.session.Fault.{Fault}
 use Rattle.stockdesk.specs.declared.work.Work.TheVariants.{Script}
@@ -28,14 +29,14 @@ is_new : (A : Ledger) → Good A → IsRowsOf A new_content → A ≡ new_ledger
 is_new A good rows = told_by_rows A new_ledger new_content good good_new rows rows_new
 
 -- nothing is read, and nothing written
-pub nothing_read : (A : Ledger) (R r W w : Option (List ℕ)) → Keeps R r → Keeps W w → BeginsText A R r W w
-nothing_read A R r W w reads writes = record {
+pub nothing_read : (A : Ledger) (s : Streams) → IsSilent s → BeginsText A s
+nothing_read A s (reads, writes) = record {
   read = [];
   written = [];
   unwritten = [];
   last = A;
-  reads = Consumes-kept _ _ _ _ (Consumes-nil R) reads;
-  writes = Appends-kept _ _ _ _ (Appends-nil W) writes;
+  reads = Consumes-kept _ _ _ _ (Consumes-nil s.reader_old) reads;
+  writes = Appends-kept _ _ _ _ (Appends-nil s.writer_old) writes;
   text = record { items = []; are_items = record { ended = []; rest = Some []; feeds = (refl, refl); all = refl }; replies = (refl, refl) };
   prompt = record {
     before = [];
@@ -53,15 +54,15 @@ nothing_read A R r W w reads writes = record {
   };
 }
 
-nothing_so_far : (A : Ledger) (R r W w : Option (List ℕ)) → Keeps R r → Keeps W w → RunsSoFar A R r W w
-nothing_so_far A R r W w reads writes = record {
+nothing_so_far : (A : Ledger) (s : Streams) → IsSilent s → RunsSoFar A s
+nothing_so_far A s (reads, writes) = record {
   read = [];
   written = [];
   ended = [];
   rest = Some [];
   ledger = A;
-  reads = Consumes-kept _ _ _ _ (Consumes-nil R) reads;
-  writes = Appends-kept _ _ _ _ (Appends-nil W) writes;
+  reads = Consumes-kept _ _ _ _ (Consumes-nil s.reader_old) reads;
+  writes = Appends-kept _ _ _ _ (Appends-nil s.writer_old) writes;
   feeds = (refl, refl);
   replies = (refl, refl);
 }
@@ -109,57 +110,62 @@ told_unbegun status fault (inl one) (inr (inr e)) = absurd (omega arith)
 told_unbegun status fault (inr (inl (three, none))) h = inl none
 told_unbegun status fault (inr (inr (four, bad))) h = inr bad
 
--- what was done on a desk is cut by an error
-pub cut_by : {K : Type 0} (g : Ghosts K) (r : Result (Unit {0}) Fault) (fault : Fault) (keep : K) (held : Content → Type 0) (first last : Ledger) (PartDone : Ledger → Ledger → Type 0) → r ≡ Err fault
-    → Good first → (g.is_honest keep → (x : Content) → held x → IsRowsOf first x) → PartDone first last → IfErr r (λ f. ¬ IsNoDesk f)
-    → (r ≡ Err Fault.Store → IsTrue (g.stopped keep)) → (r ≢ Err Fault.Store → g.stopped keep ≡ false) → (g.stopped keep ≡ false → g.is_honest keep → IsStored (g.holds keep) (g.leaves keep) last)
-    → SessionCut g fault keep held PartDone
-cut_by g r fault keep held first last PartDone is good rows ends desk stopped going kept = record {
-  first = first;
-  last = last;
-  good = good;
-  rows = rows;
-  ends = ends;
-  desk = of_this_error r (λ f. ¬ IsNoDesk f) fault desk is;
-  stopped = λ e. stopped (is ∙ ap (λ f. Err f) e);
-  going = λ other. going (other_error r fault Fault.Store is other);
-  kept = λ other. kept (going (other_error r fault Fault.Store is other));
-}
+module _ {K : Type 0} (on : Session K) (r : Result (Unit {0}) Fault) (first : DeskView K) (last : Ledger) (Done : DeskState → DeskState → Type 0) (began : on.ghosts.stopped first.keep ≡ false) (good : Good first.ledger)
+    (rows : on.ghosts.is_honest on.keep → (x : Content) → on.held x → IsRowsOf first.ledger x) (stop : TellsStop (r ≡ Err Fault.Store) (desk_state on.ghosts first) (left_at on last))
+    (stored : on.ghosts.stopped on.keep ≡ false → on.ghosts.is_honest on.keep → IsStored (on.ghosts.holds on.keep) (on.ghosts.leaves on.keep) last) where
+  -- all was done on a desk
+  pub whole_by : OnOk r (Done (desk_state on.ghosts first) (left_at on last)) → OnOk r (SessionWhole on Done)
+  whole_by = by r refl
+    where
+      by : (ended : Result (Unit {0}) Fault) → r ≡ ended → OnOk ended (Done (desk_state on.ghosts first) (left_at on last)) → OnOk ended (SessionWhole on Done)
+      by (Ok done) is ends =
+          let going : on.ghosts.stopped on.keep ≡ false = stop.going (λ e. let both = sym is ∙ e in cc both) ∙ began in
+          record { on = record { first = first; last = last; began = began; good = good; rows = rows; done = ends }; going = going; kept = stored going }
+      by (Err fault) is ends = tt
+
+  -- what was done on it is cut by an error
+  pub cut_by : (fault : Fault) → r ≡ Err fault → Done (desk_state on.ghosts first) (left_at on last) → IfErr r (λ f. ¬ IsNoDesk f) → SessionCut on fault Done
+  cut_by fault is ends desk =
+      let going : fault ≢ Fault.Store → on.ghosts.stopped on.keep ≡ false = λ other. stop.going (other_error r fault Fault.Store is other) ∙ began in
+      record {
+        on = record { first = first; last = last; began = began; good = good; rows = rows; done = ends };
+        desk = of_this_error r (λ f. ¬ IsNoDesk f) fault desk is;
+        stopped = λ e. stop.stopped (is ∙ ap (λ f. Err f) e);
+        going = going;
+        kept = λ other. stored (going other);
+      }
 
 -- ---- scripts
 
-module _ {K : Type 0} (g : Ghosts K) (keep : K) (R r W w : Option (List ℕ)) where
-  pub cut_begins : (fault : Fault) (held : Content → Type 0) (s : SessionCut g fault keep held (ScriptCut fault (g.is_honest keep) (g.leaves keep) R r W w)) → BeginsText s.first R r W w
-  cut_begins fault held s = let (cause, told, ends) = s.ends in record {
-    read = ends.read;
-    written = ends.written;
-    unwritten = ends.unwritten;
-    last = ends.last;
-    reads = ends.reads;
-    writes = ends.writes;
-    text = ends.text;
-    prompt = ends.prompt;
-  }
+-- a script that is cut has begun its text
+pub cut_begins : (fault : Fault) (old new : DeskState) (s : Streams) → ScriptCut fault old new s → BeginsText old.ledger s
+cut_begins fault old new s (cause, told, ends) =
+    record { read = ends.read; written = ends.written; unwritten = ends.unwritten; last = ends.last; reads = ends.reads; writes = ends.writes; text = ends.text; prompt = ends.prompt }
 
-  -- ---- over a new desk
+-- ---- over a new desk
 
-  pub runs_whole : (held : Content → Type 0) → g.is_honest keep → held new_content → WorkWhole g Script keep held R r W w → RunsWhole R r W w
-  runs_whole held honest new s = (s.last, subst (λ (A : Ledger). EndsWhole A s.last R r W w) (is_new s.first s.good (s.rows honest new_content new)) s.ends)
+module _ {K : Type 0} (on : Session K) (s : Streams) (honest : on.ghosts.is_honest on.keep) (new : on.held new_content) where
+  -- it begins at the ledger of one
+  from_new : (Done : DeskState → DeskState → Type 0) (begun : IsBegun on Done) (Is : Ledger → Type 0) → Is begun.first.ledger → Is new_ledger
+  from_new Done begun Is h = subst Is (is_new begun.first.ledger begun.good (begun.rows honest new_content new)) h
 
-  module _ (fault : Fault) (held tables : Content → Type 0) (Left : Type 0) (honest : g.is_honest keep) (new : held new_content) where
-    pub runs_part : WorkInPart g Script fault keep held tables Left R r W w → BeginsText new_ledger R r W w
-    runs_part (inl (s, (reads, writes))) = nothing_read new_ledger R r W w reads writes
-    runs_part (inr s) = subst (λ (A : Ledger). BeginsText A R r W w) (is_new s.first s.good (s.rows honest new_content new)) (cut_begins fault held s)
+  pub runs_whole : WorkWhole on Script s → RunsWhole s
+  runs_whole all = (all.on.last, from_new _ all.on (λ A. WritesText A all.on.last s) all.on.done.told)
 
-    pub runs_so_far : WorkInPart g Script fault keep held tables Left R r W w → fault ≡ Fault.Read → RunsSoFar new_ledger R r W w
-    runs_so_far (inl (s, (reads, writes))) is = nothing_so_far new_ledger R r W w reads writes
-    runs_so_far (inr s) is = let (cause, told, ends) = s.ends in
-        subst (λ (A : Ledger). RunsSoFar A R r W w) (is_new s.first s.good (s.rows honest new_content new)) (record {
+  module _ (fault : Fault) where
+    pub runs_part : WorkInPart on Script fault s → BeginsText new_ledger s
+    runs_part (inl (refused, silent)) = nothing_read new_ledger s silent
+    runs_part (inr cut) = from_new _ cut.on (λ A. BeginsText A s) (cut_begins fault (desk_state on.ghosts cut.on.first) (left_at on cut.on.last) s cut.on.done)
+
+    pub runs_so_far : WorkInPart on Script fault s → fault ≡ Fault.Read → RunsSoFar new_ledger s
+    runs_so_far (inl (refused, silent)) is = nothing_so_far new_ledger s silent
+    runs_so_far (inr cut) is = let (cause, told, ends) = cut.on.done in
+        from_new _ cut.on (λ A. RunsSoFar A s) (record {
           read = ends.read;
           written = ends.written;
           ended = ends.ended;
           rest = ends.rest;
-          ledger = s.last;
+          ledger = cut.on.last;
           reads = ends.reads;
           writes = ends.writes;
           feeds = ends.feeds;
@@ -167,30 +173,25 @@ module _ {K : Type 0} (g : Ghosts K) (keep : K) (R r W w : Option (List ℕ)) wh
         })
 
     -- a new desk is a desk, and not damaged
-    pub opens_new : tables new_content → WorkInPart g Script fault keep held tables Left R r W w → IsUnbegun fault → ⊥
-    opens_new there (inl (s, kept)) un = by s.opening
+    pub opens_new : on.tables new_content → WorkInPart on Script fault s → IsUnbegun fault → ⊥
+    opens_new there (inl (refused, silent)) un = by refused.opening
       where
         by : IsNoDesk fault ⊎ ((fault ≡ Fault.Memory) ⊎ (fault ≡ Fault.Store)) → ⊥
-        by (inl (inl is)) = s.not_a_desk is honest new_content there (new_row, refl, refl)
-        by (inl (inr (inl is))) = s.damaged is honest new_content new new_ledger good_new rows_new
-        by (inl (inr (inr is))) = s.old_version is honest new_content there
+        by (inl (inl is)) = refused.not_a_desk is honest new_content there (new_row, refl, refl)
+        by (inl (inr (inl is))) = refused.damaged is honest new_content new new_ledger good_new rows_new
+        by (inl (inr (inr is))) = refused.old_version is honest new_content there
         by (inr (inl is)) = not_unbegun fault _ is refl un
         by (inr (inr is)) = not_unbegun fault _ is refl un
-    opens_new there (inr s) un = let (cause, told, ends) = s.ends in told_begun cause fault told un
+    opens_new there (inr cut) un = let (cause, told, ends) = cut.on.done in told_begun cause fault told un
 
 -- ---- over what the bytes of a file hold
 
 module _ {K : Type 0} (g : Ghosts K) (keep : K) (was : Content → Type 0) (opened : K) (opens : OpensWith g was opened) (back : g.is_honest keep → g.is_honest opened) where
-  pub starts_whole : (AllDone : Ledger → Ledger → Type 0) → SessionWhole g keep (g.holds opened) AllDone → SessionWhole g keep was AllDone
-  starts_whole AllDone s = record {
-    first = s.first;
-    last = s.last;
-    good = s.good;
-    rows = λ honest x there. s.rows honest x (opens.held (back honest) x there);
-    ends = s.ends;
-    going = s.going;
-    kept = s.kept;
-  }
+  abbrev begun : (Done : DeskState → DeskState → Type 0) → IsBegun (session_on g opened keep) Done → IsBegun (session_in g was keep) Done
+  begun Done s = record { first = s.first; last = s.last; began = s.began; good = s.good; rows = λ honest x there. s.rows honest x (opens.held (back honest) x there); done = s.done }
+
+  pub starts_whole : (AllDone : DeskState → DeskState → Type 0) → SessionWhole (session_on g opened keep) AllDone → SessionWhole (session_in g was keep) AllDone
+  starts_whole AllDone s = record { on = begun AllDone s.on; going = s.going; kept = s.kept }
 
   stays : g.is_honest keep → IsLeft g opened keep → StillHolds g was keep
   stays honest left = record {
@@ -198,8 +199,8 @@ module _ {K : Type 0} (g : Ghosts K) (keep : K) (was : Content → Type 0) (open
     alone = λ x there. left.adds_nothing (x ∷ []) (opens.alone (back honest) x there);
   }
 
-  pub starts_part : ((x : Content) → g.holds opened x → g.has_tables opened x) → (fault : Fault) (Untouched : Type 0) (PartDone : Ledger → Ledger → Type 0)
-      → SessionInPart g fault keep (g.holds opened) (g.has_tables opened) (IsLeft g opened keep) Untouched PartDone → SessionInPart g fault keep was was (StillHolds g was keep) Untouched PartDone
+  pub starts_part : ((x : Content) → g.holds opened x → g.has_tables opened x) → (fault : Fault) (Untouched : Type 0) (PartDone : DeskState → DeskState → Type 0)
+      → SessionInPart (session_on g opened keep) fault Untouched PartDone → SessionInPart (session_in g was keep) fault Untouched PartDone
   starts_part in_tables fault Untouched PartDone (inl (s, kept)) = inl (
     record {
       not_a_desk = λ is honest x there. s.not_a_desk is honest x (in_tables x (opens.held (back honest) x there));
@@ -212,20 +213,10 @@ module _ {K : Type 0} (g : Ghosts K) (keep : K) (was : Content → Type 0) (open
     },
     kept,
   )
-  starts_part in_tables fault Untouched PartDone (inr s) = inr (record {
-    first = s.first;
-    last = s.last;
-    good = s.good;
-    rows = λ honest x there. s.rows honest x (opens.held (back honest) x there);
-    ends = s.ends;
-    desk = s.desk;
-    stopped = s.stopped;
-    going = s.going;
-    kept = s.kept;
-  })
+  starts_part in_tables fault Untouched PartDone (inr s) = inr (record { on = begun PartDone s.on; desk = s.desk; stopped = s.stopped; going = s.going; kept = s.kept })
 
-pub runs_nothing : (R W : Option (List ℕ)) → BeginsText new_ledger R R W W
-runs_nothing R W = nothing_read new_ledger R R W W (Keeps-refl R) (Keeps-refl W)
+pub runs_nothing : (R W : Option (List ℕ)) → BeginsText new_ledger (streams R R W W)
+runs_nothing R W = nothing_read new_ledger (streams R R W W) (Keeps-refl R, Keeps-refl W)
 
 -- ---- answers and errors
 

@@ -1,9 +1,10 @@
 -- What the program does for a task, by what it reads and writes.
-use Rattle.std.specs.Prelude.{◌≡◌, ◌⊎◌, ℕ, List, [], ◌++◌, Option}
+use Rattle.std.specs.Prelude.{◌≡◌, ◌⊎◌, ℕ, List, [], ◌++◌}
 use Rattle.std.specs.Io.KnownBytes.{Appends, Keeps}
 use Rattle.book.specs.Good.{Good}
 use Rattle.book.specs.Ledger.{Ledger, new_ledger}
 use Rattle.clap.specs.Words.{Text, subcommand_of}
+use Rattle.desk.specs.Streams.{IsSilent, Streams}
 use Rattle.desk.specs.Text.{RepliesAll, items_of}
 use Rattle.words.specs.declared.command.Request.{Request}
 use Rattle.words.specs.declared.item.Item.{Item}
@@ -19,13 +20,12 @@ use Rattle.stockdesk.specs.declared.work.Work.{Work}
 -- ---- replies to requests
 
 -- the replies of the desk of some good ledger to some requests were written
-abbrev pub PrintsReplies : (writer_old writer_new : Option (List ℕ)) → Type 0
-PrintsReplies writer_old writer_new =
-    (first : Ledger) × (last : Ledger) × (requests : List Request) × Good first
-    × RequestsAnswered requests writer_old writer_new first last
+abbrev pub PrintsReplies : Streams → Type 0
+PrintsReplies s = (first : Ledger) × (last : Ledger) × (requests : List Request) × Good first
+    × RequestsAnswered requests first last s
 
 -- a beginning of the replies to the first of some requests was written
-pub record PrintsRepliesInPart (writer_old writer_new : Option (List ℕ)) : Type 0 where
+pub record PrintsRepliesInPart (s : Streams) : Type 0 where
   pub first : Ledger
   pub last : Ledger
   pub requests : List Request
@@ -36,42 +36,34 @@ pub record PrintsRepliesInPart (writer_old writer_new : Option (List ℕ)) : Typ
   pub good : Good first
   pub split : items_of requests ≡ answered ++ left
   pub replies : RepliesAll first answered (written ++ unwritten) last
-  pub writes : Appends writer_old writer_new written
+  pub writes : Appends s.writer_old s.writer_new written
 
 -- ---- sheets
 
 -- the sheet of some good ledger was written
-abbrev pub PrintsSheet : Shown → (writer_old writer_new : Option (List ℕ)) → Type 0
-PrintsSheet shown writer_old writer_new = (A : Ledger) × Good A × SheetWritten shown A writer_old writer_new
+abbrev pub PrintsSheet : Shown → Streams → Type 0
+PrintsSheet shown s = (A : Ledger) × Good A × SheetWritten shown A s.writer_old s.writer_new
 
 -- nothing, or a beginning of the sheet of some good ledger was written
-abbrev pub PrintsSheetInPart : Shown → (writer_old writer_new : Option (List ℕ)) → Type 0
-PrintsSheetInPart shown writer_old writer_new =
-    Appends writer_old writer_new [] ⊎ ((A : Ledger) × Good A × SheetBegun shown A writer_old writer_new)
+abbrev pub PrintsSheetInPart : Shown → Streams → Type 0
+PrintsSheetInPart shown s = Appends s.writer_old s.writer_new []
+    ⊎ ((A : Ledger) × Good A × SheetBegun shown A s.writer_old s.writer_new)
 
 -- ---- work on the desk of some good ledger
 
 -- the work is done
-abbrev pub DoesWork : Work → (reader_old reader_new writer_old writer_new : Option (List ℕ)) → Type 0
-DoesWork Work.Script reader_old reader_new writer_old writer_new =
-    PlaysWhole reader_old reader_new writer_old writer_new
-DoesWork (Work.Requests kind csv together) reader_old reader_new writer_old writer_new =
-    Keeps reader_old reader_new × PrintsReplies writer_old writer_new
-DoesWork (Work.Sheet shown) reader_old reader_new writer_old writer_new =
-    Keeps reader_old reader_new × PrintsSheet shown writer_old writer_new
-DoesWork (Work.Serve service) reader_old reader_new writer_old writer_new =
-    Keeps reader_old reader_new × PortTold writer_old writer_new
+abbrev pub DoesWork : Work → Streams → Type 0
+DoesWork Work.Script s = PlaysWhole s
+DoesWork (Work.Requests kind csv together) s = Keeps s.reader_old s.reader_new × PrintsReplies s
+DoesWork (Work.Sheet shown) s = Keeps s.reader_old s.reader_new × PrintsSheet shown s
+DoesWork (Work.Serve service) s = Keeps s.reader_old s.reader_new × PortTold s.writer_old s.writer_new
 
 -- the work is done in part: what was written is a beginning
-abbrev pub DoesWorkInPart : Work → (reader_old reader_new writer_old writer_new : Option (List ℕ)) → Type 0
-DoesWorkInPart Work.Script reader_old reader_new writer_old writer_new =
-    PlaysInPart reader_old reader_new writer_old writer_new
-DoesWorkInPart (Work.Requests kind csv together) reader_old reader_new writer_old writer_new =
-    Keeps reader_old reader_new × PrintsRepliesInPart writer_old writer_new
-DoesWorkInPart (Work.Sheet shown) reader_old reader_new writer_old writer_new =
-    Keeps reader_old reader_new × PrintsSheetInPart shown writer_old writer_new
-DoesWorkInPart (Work.Serve service) reader_old reader_new writer_old writer_new =
-    Keeps reader_old reader_new × PortBegun writer_old writer_new
+abbrev pub DoesWorkInPart : Work → Streams → Type 0
+DoesWorkInPart Work.Script s = PlaysInPart s
+DoesWorkInPart (Work.Requests kind csv together) s = Keeps s.reader_old s.reader_new × PrintsRepliesInPart s
+DoesWorkInPart (Work.Sheet shown) s = Keeps s.reader_old s.reader_new × PrintsSheetInPart shown s
+DoesWorkInPart (Work.Serve service) s = Keeps s.reader_old s.reader_new × PortBegun s.writer_old s.writer_new
 
 -- ---- tasks
 
@@ -86,27 +78,18 @@ ByTask (Task.Serve path service) on_file in_memory work = work (Work.Serve servi
 ByTask (Task.Upgrade path) on_file in_memory work = on_file
 
 -- the task is done
-abbrev pub Does : Task → (reader_old reader_new writer_old writer_new : Option (List ℕ)) → Type 0
-Does task reader_old reader_new writer_old writer_new =
-    ByTask task (Keeps reader_old reader_new × Keeps writer_old writer_new)
-    (RunsWhole reader_old reader_new writer_old writer_new)
-    (λ work. DoesWork work reader_old reader_new writer_old writer_new)
+abbrev pub Does : Task → Streams → Type 0
+Does task s = ByTask task (IsSilent s) (RunsWhole s) (λ work. DoesWork work s)
 
 -- the task is done in part: what was written is a beginning
-abbrev pub DoesInPart : Task → (reader_old reader_new writer_old writer_new : Option (List ℕ)) → Type 0
-DoesInPart task reader_old reader_new writer_old writer_new =
-    ByTask task (Keeps reader_old reader_new × Keeps writer_old writer_new)
-    (BeginsText new_ledger reader_old reader_new writer_old writer_new)
-    (λ work. DoesWorkInPart work reader_old reader_new writer_old writer_new)
+abbrev pub DoesInPart : Task → Streams → Type 0
+DoesInPart task s = ByTask task (IsSilent s) (BeginsText new_ledger s) (λ work. DoesWorkInPart work s)
 
 -- the words ask for a task, and it is done
-abbrev pub DoesAsked : List Text → (reader_old reader_new writer_old writer_new : Option (List ℕ)) → Type 0
-DoesAsked words reader_old reader_new writer_old writer_new =
-    (task : Task) × Asks (subcommand_of stockdesk words) task × Does task reader_old reader_new writer_old writer_new
+abbrev pub DoesAsked : List Text → Streams → Type 0
+DoesAsked words s = (task : Task) × Asks (subcommand_of stockdesk words) task × Does task s
 
 -- nothing is read or written; or the words ask for a task, and it is done in part
-abbrev pub DoesAskedInPart : List Text → (reader_old reader_new writer_old writer_new : Option (List ℕ)) → Type 0
-DoesAskedInPart words reader_old reader_new writer_old writer_new =
-    (Keeps reader_old reader_new × Keeps writer_old writer_new)
-    ⊎ ((task : Task) × Asks (subcommand_of stockdesk words) task
-    × DoesInPart task reader_old reader_new writer_old writer_new)
+abbrev pub DoesAskedInPart : List Text → Streams → Type 0
+DoesAskedInPart words s =
+    IsSilent s ⊎ ((task : Task) × Asks (subcommand_of stockdesk words) task × DoesInPart task s)

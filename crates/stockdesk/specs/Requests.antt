@@ -1,21 +1,21 @@
 -- What a desk does with a file of requests.
-use Rattle.std.specs.Prelude.{◌≡◌, ◌⊎◌, ◌↔◌, ℕ, List, None, Option, Some, false}
+use Rattle.std.specs.Prelude.{◌≡◌, ◌⊎◌, ◌↔◌, ◌++◌, ℕ, List, MatchOption, None, Option, Some}
 use Rattle.std.specs.Int.NonZero.{non_zero_usize_get}
 use Rattle.std.specs.declared.num.NonZeroUsize.{NonZeroUsize}
-use Rattle.std.specs.Io.KnownBytes.{Keeps}
+use Rattle.std.specs.Io.KnownBytes.{Appends, Keeps}
 use Rattle.book.specs.Ledger.{Ledger}
-use Rattle.book.specs.Rows.{Content}
 use Rattle.words.specs.declared.command.Request.{Request}
-use Rattle.desk.specs.Script.{AnswersAll, AnswersCut}
+use Rattle.desk.specs.Desk.{DeskState}
+use Rattle.desk.specs.Script.{IsCut, Writes, WritesLines}
+use Rattle.desk.specs.Streams.{Streams}
 use Rattle.desk.specs.Text.{items_of}
-use Rattle.desk.specs.Together.{AnswersCutTogether}
-use Rattle.desk.specs.declared.fault.ScriptFault.{ScriptFault}
+use Rattle.desk.specs.Together.{IsCutTogether}
 use Rattle.files.specs.Bounds.{SayBounds, bounds_header}
 use Rattle.files.specs.Deliveries.{SayDeliveries, delivery_header}
 use Rattle.files.specs.Files.{IsFile, NamesFirst}
 use Rattle.files.specs.Orders.{SayOrders, order_header}
 use Rattle.files.specs.declared.fault.FileFault.{FileFault}
-use Rattle.stockdesk.specs.Sessions.{IsBadFile, IsToldAs}
+use Rattle.stockdesk.specs.Sessions.{IsBadFile, IsCutAs}
 use Rattle.stockdesk.specs.declared.requests.Kind.{Kind}
 use Rattle.stockdesk.specs.declared.requests.Kind.TheVariants.{Bounds, Deliveries, Orders}
 use Rattle.stockdesk.specs.declared.session.Fault.{Fault}
@@ -43,33 +43,24 @@ pub record IsFileFault (cause : FileFault) (fault : Fault) : Type 0 where
 -- ---- answers
 
 -- the requests are answered in the form of script replies
-abbrev pub RequestsAnswered : List Request → (writer_old writer_new : Option (List ℕ)) → Ledger → Ledger → Type 0
-RequestsAnswered requests writer_old writer_new first last =
-    AnswersAll first (items_of requests) last writer_old writer_new
+abbrev pub RequestsAnswered : List Request → Ledger → Ledger → Streams → Type 0
+RequestsAnswered requests first last s = WritesLines first (items_of requests) last s.writer_old s.writer_new
 
 -- how many are carried out together, where that is asked for; else each is alone
 abbrev pub most_together : Option NonZeroUsize → ℕ
 most_together None = 1
 most_together (Some most) = non_zero_usize_get most
 
--- the answers to the requests, one after the other or so many together, are cut, by a fault that is told so
-abbrev pub RequestsCut : Option NonZeroUsize → List Request → Fault → (is_honest : Type 0) → (List Content → Type 0)
-    → (writer_old writer_new : Option (List ℕ)) → Ledger → Ledger → Type 0
-RequestsCut None requests fault is_honest leaves writer_old writer_new first last =
-    (cause : ScriptFault) × IsToldAs cause fault × AnswersCut cause (false ≡ false) is_honest leaves first
-    (items_of requests) last writer_old writer_new
-RequestsCut (Some most) requests fault is_honest leaves writer_old writer_new first last =
-    (cause : ScriptFault) × IsToldAs cause fault × AnswersCutTogether cause (false ≡ false) is_honest leaves
-    (non_zero_usize_get most) first requests last writer_old writer_new
+-- the file was not read, and nothing is done or written
+abbrev pub FileUnread : Fault → (old new : DeskState) → Streams → Type 0
+FileUnread fault old new s = ((fault ≡ Fault.Memory) ⊎ IsBadFile fault) × (new.ledger ≡ old.ledger)
+    × Keeps s.writer_old s.writer_new
 
--- nothing is done, and nothing written
-abbrev pub NothingDone : (writer_old writer_new : Option (List ℕ)) → Ledger → Ledger → Type 0
-NothingDone writer_old writer_new first last = (last ≡ first) × Keeps writer_old writer_new
-
--- the file was not read, and nothing is done; or some requests were read, and the answers to them are cut
-abbrev pub FileCut : Option NonZeroUsize → Fault → (is_honest : Type 0) → (List Content → Type 0)
-    → (writer_old writer_new : Option (List ℕ)) → Ledger → Ledger → Type 0
-FileCut together fault is_honest leaves writer_old writer_new first last =
-    (((fault ≡ Fault.Memory) ⊎ IsBadFile fault) × NothingDone writer_old writer_new first last)
-    ⊎ ((requests : List Request)
-    × RequestsCut together requests fault is_honest leaves writer_old writer_new first last)
+-- the file was not read, and nothing is done; or some requests were read, and the answers to them are cut, one after the
+-- other or so many together
+abbrev pub FileCut : Option NonZeroUsize → Fault → (old new : DeskState) → Streams → Type 0
+FileCut together fault old new s = FileUnread fault old new s ⊎ ((requests : List Request) × IsCutAs fault (λ cause.
+    MatchOption together
+    (Writes s.writer_old s.writer_new (λ written. IsCut cause old (items_of requests) written new))
+    (λ most. (cut : IsCutTogether cause (non_zero_usize_get most) old requests new)
+    × Appends s.writer_old s.writer_new (cut.lines ++ cut.begun))))

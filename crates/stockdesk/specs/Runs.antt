@@ -5,44 +5,42 @@ use Rattle.words.specs.Stream.{Feeds}
 use Rattle.words.specs.declared.item.Item.{Item}
 use Rattle.book.specs.Good.{Good}
 use Rattle.book.specs.Ledger.{Ledger, new_ledger}
-use Rattle.desk.specs.Script.{EndsWhole, IsPrompt}
+use Rattle.desk.specs.Script.{IsPrompt, WritesText}
+use Rattle.desk.specs.Streams.{Streams}
 use Rattle.desk.specs.Text.{IsText, RepliesAll}
 
 -- Some of it was read, and a beginning was written of the text for that from this ledger on; the answers to all but the
 -- last piece were written whole.
-pub record BeginsText (first : Ledger) (reader_old reader_new writer_old writer_new : Option (List ℕ)) : Type 0 where
+pub record BeginsText (first : Ledger) (s : Streams) : Type 0 where
   pub read : List ℕ
   pub written : List ℕ
   pub unwritten : List ℕ
   pub last : Ledger
-  pub reads : Consumes reader_old reader_new read
-  pub writes : Appends writer_old writer_new written
+  pub reads : Consumes s.reader_old s.reader_new read
+  pub writes : Appends s.writer_old s.writer_new written
   pub text : IsText first read (written ++ unwritten) last
   pub prompt : IsPrompt first read written
 
 -- some of it was read, and what was written is the answer to every line that ended in that
-pub record RunsSoFar (first : Ledger) (reader_old reader_new writer_old writer_new : Option (List ℕ)) : Type 0 where
+pub record RunsSoFar (first : Ledger) (s : Streams) : Type 0 where
   pub read : List ℕ
   pub written : List ℕ
   pub ended : List Item
   pub rest : Option (List ℕ)
   pub ledger : Ledger
-  pub reads : Consumes reader_old reader_new read
-  pub writes : Appends writer_old writer_new written
+  pub reads : Consumes s.reader_old s.reader_new read
+  pub writes : Appends s.writer_old s.writer_new written
   pub feeds : Feeds (Some []) read ended rest
   pub replies : RepliesAll first ended written ledger
 
 -- all that was there was read, and what a new desk answers was written
-abbrev pub RunsWhole : (reader_old reader_new writer_old writer_new : Option (List ℕ)) → Type 0
-RunsWhole reader_old reader_new writer_old writer_new =
-    (last : Ledger) × EndsWhole new_ledger last reader_old reader_new writer_old writer_new
+abbrev pub RunsWhole : Streams → Type 0
+RunsWhole s = (last : Ledger) × WritesText new_ledger last s
 
 -- all that was there was read, and what the desk of some good ledger answers was written
-abbrev pub PlaysWhole : (reader_old reader_new writer_old writer_new : Option (List ℕ)) → Type 0
-PlaysWhole reader_old reader_new writer_old writer_new =
-    (first : Ledger) × (last : Ledger) × Good first × EndsWhole first last reader_old reader_new writer_old writer_new
+abbrev pub PlaysWhole : Streams → Type 0
+PlaysWhole s = (first : Ledger) × (last : Ledger) × Good first × WritesText first last s
 
 -- some of it was read, and a beginning was written of what the desk of some good ledger answers
-abbrev pub PlaysInPart : (reader_old reader_new writer_old writer_new : Option (List ℕ)) → Type 0
-PlaysInPart reader_old reader_new writer_old writer_new =
-    (first : Ledger) × Good first × BeginsText first reader_old reader_new writer_old writer_new
+abbrev pub PlaysInPart : Streams → Type 0
+PlaysInPart s = (first : Ledger) × Good first × BeginsText first s

@@ -1,23 +1,18 @@
 -- What a session does with a desk that is held, and with what it reads and writes.
-use Rattle.std.specs.Prelude.{◌≡◌, ◌≢◌, ◌⊎◌, ◌↔◌, ℕ, List, [], ◌∷◌, Option, IsTrue, false}
+use Rattle.std.specs.Prelude.{◌≡◌, ◌≢◌, ◌⊎◌, ◌↔◌, ℕ, [], ◌∷◌, IsTrue, false}
 use Rattle.book.specs.Good.{Good}
 use Rattle.book.specs.Ledger.{Ledger}
 use Rattle.book.specs.Rows.{Content, IsDamaged, IsRowsOf}
 use Rattle.keep.specs.Content.{IsDesk, new_content}
 use Rattle.keep.specs.declared.keep.Keep.{Ghosts}
-use Rattle.desk.specs.Desk.{IsStored}
+use Rattle.desk.specs.Desk.{DeskState, DeskView, IsStored, desk_state}
+use Rattle.desk.specs.Opening.{IsLeft}
 use Rattle.desk.specs.Script.{EndsCut}
+use Rattle.desk.specs.Streams.{Streams}
 use Rattle.desk.specs.declared.fault.ScriptFault.{ScriptFault}
 use Rattle.stockdesk.specs.declared.session.Fault.{Fault}
 
 -- ---- keepers, by what they are seen as
-
--- The keeper has changed nothing of what it keeps: while it goes on its content is the same, and nothing is added to
--- what a stop may leave.
-pub record IsLeft {K : Type 0} (g : Ghosts K) (old new : K) : Type 0 where
-  pub same : g.stopped new ≡ false → (x : Content) → (g.holds old x → g.holds new x) × (g.holds new x → g.holds old x)
-  pub adds_nothing : (these : List Content) → g.leaves old these → g.leaves new these
-  pub no_more : (x : Content) → g.may_leave new x → g.may_leave old x
 
 -- it goes on, and if the disk is honest it holds a new desk, which alone a stop leaves
 pub record IsNewDesk {K : Type 0} (g : Ghosts K) (keep : K) : Type 0 where
@@ -61,58 +56,85 @@ IsBadFile fault = (fault ≡ Fault.Csv) ⊎ ((number : ℕ) × (fault ≡ Fault.
 abbrev pub IsUnbegun : Fault → Type 0
 IsUnbegun fault = IsNoDesk fault ⊎ IsBadFile fault
 
--- ---- sessions, whatever is done on the desk from its first ledger to its last
+-- ---- sessions, whatever is done on the desk from its first state to its last
 
--- The desk whose rows were held was opened, and all was done. The keeper goes on; if the disk is honest, it keeps the
--- rows of the last ledger, and a stop leaves these alone.
-pub record SessionWhole {K : Type 0} (g : Ghosts K) (keep : K) (held : Content → Type 0)
-    (AllDone : Ledger → Ledger → Type 0) : Type 0 where
-  pub first : Ledger
+-- A session as definitions see it: the keeper that it leaves, what was held when it began and what the tables held, and
+-- that the keeper is left so.
+pub record Session (K : Type 0) : Type 1 where
+  pub ghosts : Ghosts K
+  pub keep : K
+  pub held : Content → Type 0
+  pub tables : Content → Type 0
+  pub is_left : Type 0
+
+-- one that begins with a keeper
+abbrev pub session_on : {K : Type 0} → Ghosts K → (old new : K) → Session K
+session_on g old new = record {
+  ghosts = g;
+  keep = new;
+  held = g.holds old;
+  tables = g.has_tables old;
+  is_left = IsLeft g old new;
+}
+
+-- one that begins with what a file holds
+abbrev pub session_in : {K : Type 0} → Ghosts K → (was : Content → Type 0) → K → Session K
+session_in g was keep = record { ghosts = g; keep = keep; held = was; tables = was; is_left = StillHolds g was keep }
+
+-- a desk at that ledger, over the keeper that is left
+abbrev pub left_at : {K : Type 0} → Session K → Ledger → DeskState
+left_at s A = desk_state s.ghosts (record { ledger = A; keep = s.keep })
+
+-- the desk whose rows were held was opened, and so much was done on it
+pub record IsBegun {K : Type 0} (s : Session K) (Done : DeskState → DeskState → Type 0) : Type 0 where
+  pub first : DeskView K
   pub last : Ledger
-  pub good : Good first
-  pub rows : g.is_honest keep → (x : Content) → held x → IsRowsOf first x
-  pub ends : AllDone first last
-  pub going : g.stopped keep ≡ false
-  pub kept : g.is_honest keep → IsStored (g.holds keep) (g.leaves keep) last
+  pub began : s.ghosts.stopped first.keep ≡ false
+  pub good : Good first.ledger
+  pub rows : s.ghosts.is_honest s.keep → (x : Content) → s.held x → IsRowsOf first.ledger x
+  pub done : Done (desk_state s.ghosts first) (left_at s last)
+
+-- All was done on it. The keeper goes on; if the disk is honest, it keeps the rows of the last ledger, and a stop leaves
+-- these alone.
+pub record SessionWhole {K : Type 0} (s : Session K) (AllDone : DeskState → DeskState → Type 0) : Type 0 where
+  pub on : IsBegun s AllDone
+  pub going : s.ghosts.stopped s.keep ≡ false
+  pub kept : s.ghosts.is_honest s.keep → IsStored (s.ghosts.holds s.keep) (s.ghosts.leaves s.keep) on.last
 
 -- No desk was opened. If the disk is honest, what is held is no desk, of another version or damaged where that is told,
 -- and the keeper is left so.
-pub record SessionRefused {K : Type 0} (g : Ghosts K) (fault : Fault) (keep : K) (held tables : Content → Type 0)
-    (IsLeftSo : Type 0) : Type 0 where
-  pub not_a_desk : fault ≡ Fault.NotADesk → g.is_honest keep → (x : Content) → tables x → ¬ IsDesk x
-  pub old_version : fault ≡ Fault.OldVersion → g.is_honest keep → (x : Content) → tables x → ⊥
-  pub damaged : fault ≡ Fault.Damaged → g.is_honest keep → (x : Content) → held x → IsDamaged x
+pub record SessionRefused {K : Type 0} (s : Session K) (fault : Fault) : Type 0 where
+  pub not_a_desk : fault ≡ Fault.NotADesk → s.ghosts.is_honest s.keep → (x : Content) → s.tables x → ¬ IsDesk x
+  pub old_version : fault ≡ Fault.OldVersion → s.ghosts.is_honest s.keep → (x : Content) → s.tables x → ⊥
+  pub damaged : fault ≡ Fault.Damaged → s.ghosts.is_honest s.keep → (x : Content) → s.held x → IsDamaged x
   pub opening : IsNoDesk fault ⊎ ((fault ≡ Fault.Memory) ⊎ (fault ≡ Fault.Store))
   pub stopped : (fault ≡ Fault.Store) ⊎ ((fault ≡ Fault.NotADesk) ⊎ (fault ≡ Fault.OldVersion))
-      → IsTrue (g.stopped keep)
-  pub going : fault ≡ Fault.Damaged → g.stopped keep ≡ false
-  pub left : g.is_honest keep → IsLeftSo
+      → IsTrue (s.ghosts.stopped s.keep)
+  pub going : fault ≡ Fault.Damaged → s.ghosts.stopped s.keep ≡ false
+  pub left : s.ghosts.is_honest s.keep → s.is_left
 
--- The desk whose rows were held was opened, and what was done cut. A fault of the store has stopped the keeper; after
--- any other it goes on, and if the disk is honest it keeps the rows of the last ledger, which alone a stop leaves.
-pub record SessionCut {K : Type 0} (g : Ghosts K) (fault : Fault) (keep : K) (held : Content → Type 0)
-    (PartDone : Ledger → Ledger → Type 0) : Type 0 where
-  pub first : Ledger
-  pub last : Ledger
-  pub good : Good first
-  pub rows : g.is_honest keep → (x : Content) → held x → IsRowsOf first x
-  pub ends : PartDone first last
+-- What was done on it is cut. A fault of the store has stopped the keeper; after any other it goes on, and if the disk is
+-- honest it keeps the rows of the last ledger, which alone a stop leaves.
+pub record SessionCut {K : Type 0} (s : Session K) (fault : Fault) (PartDone : DeskState → DeskState → Type 0)
+    : Type 0 where
+  pub on : IsBegun s PartDone
   pub desk : ¬ IsNoDesk fault
-  pub stopped : fault ≡ Fault.Store → IsTrue (g.stopped keep)
-  pub going : fault ≢ Fault.Store → g.stopped keep ≡ false
-  pub kept : fault ≢ Fault.Store → g.is_honest keep → IsStored (g.holds keep) (g.leaves keep) last
+  pub stopped : fault ≡ Fault.Store → IsTrue (s.ghosts.stopped s.keep)
+  pub going : fault ≢ Fault.Store → s.ghosts.stopped s.keep ≡ false
+  pub kept : fault ≢ Fault.Store → s.ghosts.is_honest s.keep
+      → IsStored (s.ghosts.holds s.keep) (s.ghosts.leaves s.keep) on.last
 
 -- no desk was opened, and so much is untouched; or one was, and what was done cut
-abbrev pub SessionInPart : {K : Type 0} → Ghosts K → Fault → K → (held tables : Content → Type 0)
-    → (IsLeftSo Untouched : Type 0) → (Ledger → Ledger → Type 0) → Type 0
-SessionInPart g fault keep held tables IsLeftSo Untouched PartDone =
-    (SessionRefused g fault keep held tables IsLeftSo × Untouched) ⊎ SessionCut g fault keep held PartDone
+abbrev pub SessionInPart : {K : Type 0} → Session K → Fault → (Untouched : Type 0) → (DeskState → DeskState → Type 0)
+    → Type 0
+SessionInPart s fault Untouched PartDone = (SessionRefused s fault × Untouched) ⊎ SessionCut s fault PartDone
 
 -- ---- scripts
 
--- the script was cut, by a fault that is told so
-abbrev pub ScriptCut : Fault → (is_honest : Type 0) → (List Content → Type 0)
-    → (reader_old reader_new writer_old writer_new : Option (List ℕ)) → Ledger → Ledger → Type 0
-ScriptCut fault is_honest leaves reader_old reader_new writer_old writer_new first last =
-    (cause : ScriptFault) × IsToldAs cause fault
-    × EndsCut cause (false ≡ false) is_honest leaves first last reader_old reader_new writer_old writer_new
+-- what a desk does was cut, by a fault that is told so
+abbrev pub IsCutAs : Fault → (ScriptFault → Type 0) → Type 0
+IsCutAs fault Cut = (cause : ScriptFault) × IsToldAs cause fault × Cut cause
+
+-- the script was cut
+abbrev pub ScriptCut : Fault → (old new : DeskState) → Streams → Type 0
+ScriptCut fault old new s = IsCutAs fault (λ cause. EndsCut cause old new s)

@@ -1,16 +1,16 @@
 -- What a session does on the desk that a keeper holds.
-use Rattle.std.specs.Prelude.{◌≡◌, Bool, ℕ, List, Option, Result, IfErr}
+use Rattle.std.specs.Prelude.{◌≡◌, List, Result, IfErr}
 use Rattle.std.specs.Io.KnownBytes.{Keeps}
 use Rattle.book.specs.Ledger.{Ledger}
-use Rattle.book.specs.Rows.{Content}
-use Rattle.keep.specs.declared.keep.Keep.{Ghosts}
+use Rattle.desk.specs.Desk.{DeskState}
 use Rattle.desk.specs.Headline.{IsFoundAfterItems, IsFoundAfterLines, LeavesRowsOf}
-use Rattle.desk.specs.Script.{EndsWhole}
+use Rattle.desk.specs.Script.{EndsWhole, Writes}
+use Rattle.desk.specs.Streams.{IsSilent, Streams}
+use Rattle.desk.specs.Text.{items_of}
 use Rattle.words.specs.declared.command.Request.{Request}
 use Rattle.stockdesk.specs.Connections.{IsFoundAfterService, PortTold, ServesAll, ServiceCut}
-use Rattle.desk.specs.Text.{items_of}
 use Rattle.stockdesk.specs.Requests.{FileCut, RequestsAnswered, most_together}
-use Rattle.stockdesk.specs.Sessions.{IsNoDesk, ScriptCut, SessionInPart, SessionWhole}
+use Rattle.stockdesk.specs.Sessions.{IsNoDesk, ScriptCut, Session, SessionInPart, SessionWhole, left_at}
 use Rattle.stockdesk.specs.Sheets.{SheetCut, SheetWritten}
 use Rattle.stockdesk.specs.declared.session.Fault.{Fault}
 use Rattle.stockdesk.specs.declared.work.Work.{Work}
@@ -18,68 +18,52 @@ use Rattle.stockdesk.specs.declared.work.Work.TheVariants.{Requests, Script, Ser
 
 -- ---- what is done
 
--- The work is done, on a desk from the first ledger to the last: all of the input was read, and its text written; some
--- requests are answered; the sheet was written, and the ledger is as it was; the port was told, and so many connections
--- were served.
-abbrev pub WorkDone : Work → (is_honest : Type 0) → (leaves : List Content → Type 0)
-    → (reader_old reader_new writer_old writer_new : Option (List ℕ)) → Ledger → Ledger → Type 0
-WorkDone Script is_honest leaves reader_old reader_new writer_old writer_new first last =
-    EndsWhole first last reader_old reader_new writer_old writer_new
-WorkDone (Requests kind csv together) is_honest leaves reader_old reader_new writer_old writer_new first last =
-    Keeps reader_old reader_new
-    × ((requests : List Request) × RequestsAnswered requests writer_old writer_new first last)
-WorkDone (Sheet shown) is_honest leaves reader_old reader_new writer_old writer_new first last =
-    Keeps reader_old reader_new × (last ≡ first) × SheetWritten shown first writer_old writer_new
-WorkDone (Serve service) is_honest leaves reader_old reader_new writer_old writer_new first last =
-    Keeps reader_old reader_new × PortTold writer_old writer_new
-    × ServesAll service.connections is_honest leaves first last
+-- The work is done, on a desk that was so before and is so after it: all of the input was read, and its text written;
+-- some requests are answered; the sheet was written, and the ledger is as it was; the port was told, and so many
+-- connections were served.
+abbrev pub WorkDone : Work → (old new : DeskState) → Streams → Type 0
+WorkDone Script old new s = EndsWhole old new s
+WorkDone (Requests kind csv together) old new s =
+    Keeps s.reader_old s.reader_new × ((requests : List Request) × RequestsAnswered requests old.ledger new.ledger s)
+WorkDone (Sheet shown) old new s = Keeps s.reader_old s.reader_new × (new.ledger ≡ old.ledger)
+    × SheetWritten shown old.ledger s.writer_old s.writer_new
+WorkDone (Serve service) old new s = Keeps s.reader_old s.reader_new × PortTold s.writer_old s.writer_new
+    × ServesAll service.connections old new
 
 -- the work is cut
-abbrev pub WorkCut : Work → Fault → (is_stopped : Bool) → (is_honest : Type 0) → (leaves : List Content → Type 0)
-    → (reader_old reader_new writer_old writer_new : Option (List ℕ)) → Ledger → Ledger → Type 0
-WorkCut Script fault is_stopped is_honest leaves reader_old reader_new writer_old writer_new first last =
-    ScriptCut fault is_honest leaves reader_old reader_new writer_old writer_new first last
-WorkCut (Requests kind csv together) fault is_stopped is_honest leaves reader_old reader_new writer_old writer_new first last =
-    Keeps reader_old reader_new × FileCut together fault is_honest leaves writer_old writer_new first last
-WorkCut (Sheet shown) fault is_stopped is_honest leaves reader_old reader_new writer_old writer_new first last =
-    Keeps reader_old reader_new × (last ≡ first) × SheetCut shown fault first writer_old writer_new
-WorkCut (Serve service) fault is_stopped is_honest leaves reader_old reader_new writer_old writer_new first last =
-    Keeps reader_old reader_new
-    × ServiceCut fault service.connections is_stopped is_honest leaves writer_old writer_new first last
+abbrev pub WorkCut : Work → Fault → (old new : DeskState) → Streams → Type 0
+WorkCut Script fault old new s = ScriptCut fault old new s
+WorkCut (Requests kind csv together) fault old new s =
+    Keeps s.reader_old s.reader_new × FileCut together fault old new s
+WorkCut (Sheet shown) fault old new s = Keeps s.reader_old s.reader_new × (new.ledger ≡ old.ledger)
+    × SheetCut shown fault old.ledger s.writer_old s.writer_new
+WorkCut (Serve service) fault old new s =
+    Keeps s.reader_old s.reader_new × ServiceCut fault service.connections old new s
 
 -- the desk was opened, and the work done
-abbrev pub WorkWhole : {K : Type 0} → Ghosts K → Work → K → (Content → Type 0)
-    → (reader_old reader_new writer_old writer_new : Option (List ℕ)) → Type 0
-WorkWhole g work keep held reader_old reader_new writer_old writer_new =
-    SessionWhole g keep held
-    (WorkDone work (g.is_honest keep) (g.leaves keep) reader_old reader_new writer_old writer_new)
+abbrev pub WorkWhole : {K : Type 0} → Session K → Work → Streams → Type 0
+WorkWhole on work s = SessionWhole on (λ old new. WorkDone work old new s)
 
 -- no desk was opened, and nothing read or written; or one was, and the work cut
-abbrev pub WorkInPart : {K : Type 0} → Ghosts K → Work → Fault → K → (held tables : Content → Type 0)
-    → (IsLeftSo : Type 0) → (reader_old reader_new writer_old writer_new : Option (List ℕ)) → Type 0
-WorkInPart g work fault keep held tables IsLeftSo reader_old reader_new writer_old writer_new =
-    SessionInPart g fault keep held tables IsLeftSo (Keeps reader_old reader_new × Keeps writer_old writer_new)
-    (WorkCut work fault (g.stopped keep) (g.is_honest keep) (g.leaves keep) reader_old reader_new writer_old
-    writer_new)
+abbrev pub WorkInPart : {K : Type 0} → Session K → Work → Fault → Streams → Type 0
+WorkInPart on work fault s = SessionInPart on fault (IsSilent s) (λ old new. WorkCut work fault old new s)
 
 -- ---- what is found after a session
 
 -- B is the ledger after a prefix of what the work did from A, which holds all that was told of it whole, and at most one
--- accepted request more, or so many as are carried out together
-abbrev pub IsFoundAfterWork : Work → (is_honest : Type 0) → (leaves : List Content → Type 0) → Ledger
-    → (reader_old reader_new writer_old writer_new : Option (List ℕ)) → Ledger → Type 0
-IsFoundAfterWork Script is_honest leaves A reader_old reader_new writer_old writer_new B =
-    IsFoundAfterLines A reader_old reader_new writer_old writer_new B
-IsFoundAfterWork (Requests kind csv together) is_honest leaves A reader_old reader_new writer_old writer_new B =
-    (requests : List Request) × IsFoundAfterItems (most_together together) A (items_of requests) writer_old writer_new B
-IsFoundAfterWork (Sheet shown) is_honest leaves A reader_old reader_new writer_old writer_new B = B ≡ A
-IsFoundAfterWork (Serve service) is_honest leaves A reader_old reader_new writer_old writer_new B =
-    IsFoundAfterService service.connections is_honest leaves A B
+-- accepted request more, or so many as are carried out together; A is the ledger of `first`, which says of the disk what
+-- is so at the end
+abbrev pub IsFoundAfterWork : Work → (first : DeskState) → Streams → Ledger → Type 0
+IsFoundAfterWork Script first s B = IsFoundAfterLines first.ledger s B
+IsFoundAfterWork (Requests kind csv together) first s B =
+    (requests : List Request) × Writes s.writer_old s.writer_new
+    (λ written. IsFoundAfterItems (most_together together) first.ledger (items_of requests) written B)
+IsFoundAfterWork (Sheet shown) first s B = B ≡ first.ledger
+IsFoundAfterWork (Serve service) first s B = IsFoundAfterService service.connections first B
 
 -- A session on the rows of the ledger A opens its desk, or fails for memory or by the store; and a stop leaves nothing
 -- but what is found after its work.
-pub record GoesOnFrom {K : Type 0} (g : Ghosts K) (work : Work) (keep : K) (ended : Result (Unit {0}) Fault) (A : Ledger)
-    (reader_old reader_new writer_old writer_new : Option (List ℕ)) : Type 0 where
+pub record GoesOnFrom {K : Type 0} (on : Session K) (work : Work) (ended : Result (Unit {0}) Fault) (A : Ledger)
+    (s : Streams) : Type 0 where
   pub opens : IfErr ended (λ fault. ¬ IsNoDesk fault)
-  pub leaves : LeavesRowsOf (g.leaves keep) (IsFoundAfterWork work (g.is_honest keep) (g.leaves keep) A reader_old
-      reader_new writer_old writer_new)
+  pub leaves : LeavesRowsOf (on.ghosts.leaves on.keep) (IsFoundAfterWork work (left_at on A) s)

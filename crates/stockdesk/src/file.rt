@@ -1,7 +1,7 @@
 //! A desk in a file.
 
 ghost use Rattle.std.specs.Prelude.{◌≡◌, ◌≢◌, ◌⊎◌, ◌↔◌, ◌∷◌, ℕ, [], false, pos, Err, IfErr, IfOk, OnErr, OnOk};
-ghost use Rattle.std.specs.Io.KnownBytes.{Keeps};
+ghost use Rattle.desk.specs.Streams.{IsSilent, streams};
 ghost use Rattle.sqlite.specs.WalFiles.{image_at};
 ghost use Rattle.sqlite.specs.Files.{file_state};
 ghost use Rattle.sqlite.specs.State.{HasCleanDisk};
@@ -13,7 +13,7 @@ ghost use Rattle.keep.specs.Content.{Holds, HoldsOf, IsContent, LeavesOnly};
 ghost use Rattle.keep.specs.Description.{IsOlder};
 ghost use Rattle.keep.specs.Old.{HoldsOld, IsOldContent, upgraded};
 ghost use Rattle.keep.specs.Starts.{StartsOf, StartsOld, StartsWith};
-ghost use Rattle.stockdesk.specs.Sessions.{IsNewDesk, IsNotOpened, OpensWith, StillHolds};
+ghost use Rattle.stockdesk.specs.Sessions.{IsNewDesk, IsNotOpened, OpensWith, session_in};
 ghost use Rattle.stockdesk.specs.Work.{GoesOnFrom, WorkInPart, WorkWhole};
 
 use crate::new_desk::new_desk;
@@ -160,27 +160,26 @@ pub fn session<S: Start, R: Read, W: Write>(
     reader: &mut R,
     writer: &mut W,
 ) -> Result<(SqlKeep<FileStore<FileFrom<S>>>, Result<(), Fault>), Fault>
-    ensures whole { IfOk result (λ r. OnOk r.1 (WorkWhole ⟦<SqlKeep<FileStore<FileFrom<S>>> as Keep>⟧ work.now r.0
-        (StartsWith (image_at S.Start)) (R.remaining reader.old) (R.remaining reader.new) (W.contents writer.old)
-        (W.contents writer.new))) }
-    ensures cut { IfOk result (λ r. IfErr r.1
-        (λ fault. WorkInPart ⟦<SqlKeep<FileStore<FileFrom<S>>> as Keep>⟧ work.now fault r.0
-        (StartsWith (image_at S.Start)) (StartsWith (image_at S.Start))
-        (StillHolds ⟦<SqlKeep<FileStore<FileFrom<S>>> as Keep>⟧ (StartsWith (image_at S.Start)) r.0)
-        (R.remaining reader.old) (R.remaining reader.new) (W.contents writer.old) (W.contents writer.new))) }
+    ensures whole { IfOk result (λ r. OnOk r.1 (WorkWhole
+        (session_in ⟦<SqlKeep<FileStore<FileFrom<S>>> as Keep>⟧ (StartsWith (image_at S.Start)) r.0) work.now
+        (streams (R.remaining reader.old) (R.remaining reader.new) (W.contents writer.old) (W.contents writer.new)))) }
+    ensures cut { IfOk result (λ r. IfErr r.1 (λ fault. WorkInPart
+        (session_in ⟦<SqlKeep<FileStore<FileFrom<S>>> as Keep>⟧ (StartsWith (image_at S.Start)) r.0) work.now fault
+        (streams (R.remaining reader.old) (R.remaining reader.new) (W.contents writer.old) (W.contents writer.new)))) }
     // what is of an older version is told as that, and as nothing else but want of memory or the store
     ensures old { IfOk result (λ r. HasCleanDisk (file_state r.0.connection) → (version : ℕ) (x : Content)
         (row : DeskCells) → IsOlder version → StartsOf version (image_at S.Start) x → x.desk ≡ row ∷ []
         → row.version ≡ pos version
         → (r.1 ≡ Err Fault.OldVersion) ⊎ ((r.1 ≡ Err Fault.Memory) ⊎ (r.1 ≡ Err Fault.Store))) }
-    ensures unopened { OnErr result (Keeps (R.remaining reader.old) (R.remaining reader.new)
-        × Keeps (W.contents writer.old) (W.contents writer.new)) }
+    ensures unopened { OnErr result (IsSilent
+        (streams (R.remaining reader.old) (R.remaining reader.new) (W.contents writer.old) (W.contents writer.new))) }
     ensures fault { IfErr result IsNotOpened }
     // what a stop leaves of it the next session goes on from
     ensures goes_on { IfOk result (λ r. HasCleanDisk (file_state r.0.connection) → (A : Ledger) (x : Content) → Good A
         → IsRowsOf A x → StartsWith (image_at S.Start) x
-        → GoesOnFrom ⟦<SqlKeep<FileStore<FileFrom<S>>> as Keep>⟧ work.now r.0 r.1 A (R.remaining reader.old)
-        (R.remaining reader.new) (W.contents writer.old) (W.contents writer.new)) }
+        → GoesOnFrom (session_in ⟦<SqlKeep<FileStore<FileFrom<S>>> as Keep>⟧ (StartsWith (image_at S.Start)) r.0)
+        work.now r.1 A
+        (streams (R.remaining reader.old) (R.remaining reader.new) (W.contents writer.old) (W.contents writer.new))) }
 {
     let keep = open(rt, path, start)?;
     Ok(work::session(rt, keep, work, reader, writer))
@@ -195,11 +194,9 @@ pub fn upgrade<S: Start>(
     path: &str,
     start: S,
 ) -> Result<(SqlKeep<FileStore<FileFrom<S>>>, Result<(), Fault>), Fault>
-    ensures made { IfOk result (λ r. HasCleanDisk (file_state r.0.connection)
-        → OnOk r.1 ((x : Content) → StartsOld (image_at S.Start) x → Holds (file_state r.0.connection).now
-        (upgraded x))) }
-    ensures same { IfOk result (λ r. HasCleanDisk (file_state r.0.connection)
-        → OnOk r.1 ((x : Content) → StartsWith (image_at S.Start) x → Holds (file_state r.0.connection).now x)) }
+    ensures made { IfOk result (λ r. HasCleanDisk (file_state r.0.connection) → OnOk r.1 ((x : Content)
+        → (StartsOld (image_at S.Start) x → Holds (file_state r.0.connection).now (upgraded x))
+        × (StartsWith (image_at S.Start) x → Holds (file_state r.0.connection).now x))) }
     ensures ended { IfOk result (λ r. IfErr r.1 IsNotOpened) }
     ensures alone { IfOk result (λ r. HasCleanDisk (file_state r.0.connection) → OnOk r.1 ((x : Content)
         → Holds (file_state r.0.connection).now x → LeavesOnly (file_state r.0.connection).may_leave (x ∷ []))) }

@@ -1,9 +1,10 @@
 //! A desk, served to connections on this machine.
 
-ghost use Rattle.std.specs.Prelude.{◌≡◌, ◌≢◌, ◌≤◌, ◌⊎◌, false, Err, IfErr, IfOk, IsTrue, List, length, OnErr, OnOk};
-ghost use Rattle.desk.specs.Desk.{StaysStored};
+ghost use Rattle.std.specs.Prelude.{◌≡◌, ◌≤◌, ◌⊎◌, false, Err, IfErr, IfOk, List, length, OnErr, OnOk};
+ghost use Rattle.desk.specs.Desk.{Goes, TellsStop, desk_state};
+ghost use Rattle.desk.specs.Streams.{Streams, only_written, streams};
 ghost use Rattle.web.specs.Serving.{stand};
-ghost use Rattle.stockdesk.specs.Connections.{AreServed, IsServed, Pass, PortBegun, PortTold, ServesAll, ServiceCut, Streams, listening_line, streams};
+ghost use Rattle.stockdesk.specs.Connections.{AreServed, IsServed, Pass, PortBegun, PortTold, ServesAll, ServiceCut, listening, listening_line};
 ghost use Rattle.stockdesk.specs.Sessions.{IsNoDesk};
 
 use crate::session::Fault;
@@ -73,11 +74,10 @@ fn serve_one<K: Keep, R: Read, W: Write>(
     reader: &mut R,
     writer: &mut W,
 )
-    ensures served { IsServed (K.is_honest desk.new.keep) (K.leaves desk.new.keep)
-        (stand desk.old.ledger (K.stopped desk.old.keep))
+    ensures served { IsServed (desk_state K.Keep desk.new) (stand (desk_state K.Keep desk.old))
         (streams (R.remaining reader.old) (R.remaining reader.new) (W.contents writer.old) (W.contents writer.new))
-        (stand desk.new.ledger (K.stopped desk.new.keep)) }
-    ensures honest { K.is_honest desk.new.keep → K.is_honest desk.old.keep }
+        (stand (desk_state K.Keep desk.new)) }
+    ensures goes { Goes K.Keep desk.old desk.new }
 {
     let _ = web::serve(alloc, reader, writer, desk);
 }
@@ -93,18 +93,18 @@ pub fn serve_all<K: Keep, L: Listen>(
 ) -> Result<(), Fault>
     requires going { K.stopped desk.old.keep ≡ false }
     ensures whole { OnOk result ((streams : List Streams) × (length streams ≡ connections)
-        × AreServed (K.is_honest desk.new.keep) (K.leaves desk.new.keep) (stand desk.old.ledger false) streams
-        (stand desk.new.ledger false)
-        × Pass L.comes L.closes L.Reader.remaining L.Writer.contents listener.old streams listener.new) }
+        × AreServed (desk_state K.Keep desk.new) (stand (desk_state K.Keep desk.old)) streams
+        (stand (desk_state K.Keep desk.new))
+        × Pass (listening L.comes L.closes L.Reader.remaining L.Writer.contents) listener.old streams listener.new) }
     ensures cut { OnErr result ((streams : List Streams) × (length streams ≤ connections)
-        × AreServed (K.is_honest desk.new.keep) (K.leaves desk.new.keep) (stand desk.old.ledger false) streams
-        (stand desk.new.ledger (K.stopped desk.new.keep))
-        × (mid : L) × Pass L.comes L.closes L.Reader.remaining L.Writer.contents listener.old streams mid) }
+        × AreServed (desk_state K.Keep desk.new) (stand (desk_state K.Keep desk.old)) streams
+        (stand (desk_state K.Keep desk.new)) × (mid : L)
+        × Pass (listening L.comes L.closes L.Reader.remaining L.Writer.contents) listener.old streams mid) }
     ensures fault { IfErr result (λ fault. (fault ≡ Fault.Socket) ⊎ (fault ≡ Fault.Store)) }
-    ensures going { result ≢ Err Fault.Store → K.stopped desk.new.keep ≡ false }
-    ensures stopped { result ≡ Err Fault.Store → IsTrue (K.stopped desk.new.keep) }
-    ensures honest { K.is_honest desk.new.keep → K.is_honest desk.old.keep }
+    ensures stop { TellsStop (result ≡ Err Fault.Store) (desk_state K.Keep desk.old) (desk_state K.Keep desk.new) }
+    ensures goes { Goes K.Keep desk.old desk.new }
 {
+    desk.is_stopped();
     for _turn in 0..connections {
         let Ok(connection) = listener.next_connection() else {
             return Err(Fault::Socket);
@@ -171,21 +171,16 @@ pub fn serve_desk<K: Keep, W: Write>(
 ) -> Result<(), Fault>
     requires going { K.stopped desk.old.keep ≡ false }
     ensures whole { OnOk result (PortTold (W.contents writer.old) (W.contents writer.new)
-        × ServesAll service.now.connections (K.is_honest desk.new.keep)
-        (K.leaves desk.new.keep) desk.old.ledger desk.new.ledger) }
-    ensures cut { IfErr result (λ fault. ServiceCut fault service.now.connections (K.stopped desk.new.keep)
-        (K.is_honest desk.new.keep) (K.leaves desk.new.keep) (W.contents writer.old)
-        (W.contents writer.new) desk.old.ledger desk.new.ledger) }
+        × ServesAll service.now.connections (desk_state K.Keep desk.old) (desk_state K.Keep desk.new)) }
+    ensures cut { IfErr result (λ fault. ServiceCut fault service.now.connections (desk_state K.Keep desk.old)
+        (desk_state K.Keep desk.new) (only_written (W.contents writer.old) (W.contents writer.new))) }
     ensures desk { IfErr result (λ fault. ¬ IsNoDesk fault) }
-    ensures going { result ≢ Err Fault.Store → K.stopped desk.new.keep ≡ false }
-    ensures stopped { result ≡ Err Fault.Store → IsTrue (K.stopped desk.new.keep) }
-    ensures stored { StaysStored K.Keep desk.new }
-    ensures honest { K.is_honest desk.new.keep → K.is_honest desk.old.keep }
+    ensures stop { TellsStop (result ≡ Err Fault.Store) (desk_state K.Keep desk.old) (desk_state K.Keep desk.new) }
+    ensures goes { Goes K.Keep desk.old desk.new }
 {
-    let ended = match listen_at(rt, service.port, writer) {
+    desk.is_stopped();
+    match listen_at(rt, service.port, writer) {
         Ok(mut listener) => serve_all(rt.alloc(), desk, &mut listener, service.connections),
         Err(fault) => Err(fault),
-    };
-    desk.is_stopped();
-    ended
+    }
 }

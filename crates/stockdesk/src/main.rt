@@ -2,7 +2,7 @@
 #![tactic(auto)]
 
 ghost use Rattle.std.specs.Prelude.{◌≡◌, ◌≢◌, ◌≤◌, ◌⊎◌, map};
-ghost use Rattle.std.specs.Io.KnownBytes.{Keeps};
+ghost use Rattle.desk.specs.Streams.{IsSilent, streams};
 ghost use Rattle.book.specs.Ledger.{new_ledger};
 ghost use Rattle.clap.specs.Words.{kind_of};
 ghost use Rattle.stockdesk.specs.Done.{DoesAsked, DoesAskedInPart};
@@ -79,18 +79,18 @@ where
     W: Write,
     E: Write,
     ensures status { result ≤ 4 }
-    ensures done { result ≡ 0 → DoesAsked (map (λ s. s.now) words.entry.now) (R.remaining reader.old)
-        (R.remaining reader.new) (W.contents writer.old) (W.contents writer.new) }
-    ensures fault { result ≢ 0 → DoesAskedInPart (map (λ s. s.now) words.entry.now) (R.remaining reader.old)
-        (R.remaining reader.new) (W.contents writer.old) (W.contents writer.new) }
-    ensures untouched { (result ≡ 2) ⊎ ((result ≡ 3) ⊎ (result ≡ 4)) → Keeps (R.remaining reader.old)
-        (R.remaining reader.new) × Keeps (W.contents writer.old) (W.contents writer.new) }
+    ensures done { result ≡ 0 → DoesAsked (map (λ s. s.now) words.entry.now)
+        (streams (R.remaining reader.old) (R.remaining reader.new) (W.contents writer.old) (W.contents writer.new)) }
+    ensures fault { result ≢ 0 → DoesAskedInPart (map (λ s. s.now) words.entry.now)
+        (streams (R.remaining reader.old) (R.remaining reader.new) (W.contents writer.old) (W.contents writer.new)) }
+    ensures untouched { (result ≡ 2) ⊎ ((result ≡ 3) ⊎ (result ≡ 4)) → IsSilent
+        (streams (R.remaining reader.old) (R.remaining reader.new) (W.contents writer.old) (W.contents writer.new)) }
     // the one word `run`: status 0, and all that was there is answered, or status 1 and a beginning of that
     ensures plain { IsPlainRun (map (λ s. s.now) words.entry.now)
-        → ((result ≡ 0) × RunsWhole (R.remaining reader.old) (R.remaining reader.new) (W.contents writer.old)
-        (W.contents writer.new))
-        ⊎ ((result ≡ 1) × BeginsText new_ledger (R.remaining reader.old) (R.remaining reader.new)
-        (W.contents writer.old) (W.contents writer.new)) }
+        → ((result ≡ 0) × RunsWhole
+        (streams (R.remaining reader.old) (R.remaining reader.new) (W.contents writer.old) (W.contents writer.new)))
+        ⊎ ((result ≡ 1) × BeginsText new_ledger
+        (streams (R.remaining reader.old) (R.remaining reader.new) (W.contents writer.old) (W.contents writer.new))) }
 {
     let task = match read_task(rt.alloc(), words) {
         Ok(Some(task)) => task,

@@ -2,6 +2,7 @@
 
 ghost use Rattle.std.specs.Prelude.{◌≡◌, ◌⊎◌, IfErr, IfOk, OnErr, OnOk};
 ghost use Rattle.book.specs.Ledger.{new_ledger};
+ghost use Rattle.desk.specs.Streams.{streams};
 ghost use Rattle.stockdesk.specs.Runs.{BeginsText, RunsSoFar, RunsWhole};
 ghost use Rattle.stockdesk.specs.Sessions.{IsNewDesk, IsUnbegun};
 
@@ -31,13 +32,13 @@ fn new_keeper(alloc: Global) -> Result<SqlKeep<MemStore>, Fault>
 /// fault what is written is a beginning of the text for what was read, with the whole answer to all of that but the
 /// last piece, of 512 bytes at the most; after a failing read, the answer to each line that was read.
 pub fn run<R: Read, W: Write>(rt: &HostRuntime, reader: &mut R, writer: &mut W) -> Result<(), Fault>
-    ensures whole { OnOk result (RunsWhole (R.remaining reader.old) (R.remaining reader.new) (W.contents writer.old)
-        (W.contents writer.new)) }
-    ensures beginning { OnErr result (BeginsText new_ledger (R.remaining reader.old) (R.remaining reader.new)
-        (W.contents writer.old) (W.contents writer.new)) }
+    ensures whole { OnOk result (RunsWhole
+        (streams (R.remaining reader.old) (R.remaining reader.new) (W.contents writer.old) (W.contents writer.new))) }
+    ensures beginning { OnErr result (BeginsText new_ledger
+        (streams (R.remaining reader.old) (R.remaining reader.new) (W.contents writer.old) (W.contents writer.new))) }
     ensures desk { IfErr result (λ fault. ¬ IsUnbegun fault) }
-    ensures prompt { IfErr result (λ fault. fault ≡ Fault.Read → RunsSoFar new_ledger (R.remaining reader.old)
-        (R.remaining reader.new) (W.contents writer.old) (W.contents writer.new)) }
+    ensures prompt { IfErr result (λ fault. fault ≡ Fault.Read → RunsSoFar new_ledger
+        (streams (R.remaining reader.old) (R.remaining reader.new) (W.contents writer.old) (W.contents writer.new))) }
 {
     let keep = new_keeper(rt.alloc())?;
     let (_, ended) = session(rt, keep, &Work::Script, reader, writer);

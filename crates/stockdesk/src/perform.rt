@@ -1,7 +1,7 @@
 //! What each task does.
 
 ghost use Rattle.std.specs.Prelude.{◌≡◌, IfErr, OnErr, OnOk};
-ghost use Rattle.std.specs.Io.KnownBytes.{Keeps};
+ghost use Rattle.desk.specs.Streams.{IsSilent, streams};
 ghost use Rattle.stockdesk.specs.Done.{Does, DoesInPart, DoesWork, DoesWorkInPart};
 ghost use Rattle.stockdesk.specs.Sessions.{IsNotOpened, IsUnbegun};
 
@@ -28,12 +28,12 @@ fn work_in<R: Read, W: Write>(
     reader: &mut R,
     writer: &mut W,
 ) -> Result<(), Fault>
-    ensures whole { OnOk result (DoesWork work.now (R.remaining reader.old) (R.remaining reader.new)
-        (W.contents writer.old) (W.contents writer.new)) }
-    ensures beginning { OnErr result (DoesWorkInPart work.now (R.remaining reader.old) (R.remaining reader.new)
-        (W.contents writer.old) (W.contents writer.new)) }
-    ensures untouched { IfErr result (λ fault. IsUnbegun fault → Keeps (R.remaining reader.old) (R.remaining reader.new)
-        × Keeps (W.contents writer.old) (W.contents writer.new)) }
+    ensures whole { OnOk result (DoesWork work.now
+        (streams (R.remaining reader.old) (R.remaining reader.new) (W.contents writer.old) (W.contents writer.new))) }
+    ensures beginning { OnErr result (DoesWorkInPart work.now
+        (streams (R.remaining reader.old) (R.remaining reader.new) (W.contents writer.old) (W.contents writer.new))) }
+    ensures untouched { IfErr result (λ fault. IsUnbegun fault → IsSilent
+        (streams (R.remaining reader.old) (R.remaining reader.new) (W.contents writer.old) (W.contents writer.new))) }
 {
     let (keep, ended) = file::session(rt, path, Unknown, work, reader, writer)?;
     file::close(keep);
@@ -56,12 +56,12 @@ pub fn perform<R: Read, W: Write>(
     reader: &mut R,
     writer: &mut W,
 ) -> Result<(), Fault>
-    ensures whole { OnOk result (Does task.now (R.remaining reader.old) (R.remaining reader.new) (W.contents writer.old)
-        (W.contents writer.new)) }
-    ensures beginning { OnErr result (DoesInPart task.now (R.remaining reader.old) (R.remaining reader.new)
-        (W.contents writer.old) (W.contents writer.new)) }
-    ensures untouched { IfErr result (λ fault. IsUnbegun fault → Keeps (R.remaining reader.old) (R.remaining reader.new)
-        × Keeps (W.contents writer.old) (W.contents writer.new)) }
+    ensures whole { OnOk result (Does task.now
+        (streams (R.remaining reader.old) (R.remaining reader.new) (W.contents writer.old) (W.contents writer.new))) }
+    ensures beginning { OnErr result (DoesInPart task.now
+        (streams (R.remaining reader.old) (R.remaining reader.new) (W.contents writer.old) (W.contents writer.new))) }
+    ensures untouched { IfErr result (λ fault. IsUnbegun fault → IsSilent
+        (streams (R.remaining reader.old) (R.remaining reader.new) (W.contents writer.old) (W.contents writer.new))) }
     ensures new { task.now ≡ Task.Memory → IfErr result (λ fault. ¬ IsUnbegun fault) }
 {
     match task {

@@ -1,10 +1,15 @@
 //! A file of requests, answered by a desk.
 
-ghost use Rattle.std.specs.Prelude.{◌≡◌, ◌≢◌, ◌⊎◌, false, Err, IfErr, IfOk, IfSome, IsTrue, List, None, OnOk, Some};
-ghost use Rattle.desk.specs.Desk.{StaysStored};
+ghost use Rattle.std.specs.Prelude.{◌≡◌, ◌⊎◌, ◌++◌, Err, IfErr, IfOk, IfSome, List, OnOk};
+ghost use Rattle.std.specs.Int.NonZero.{non_zero_usize_get};
+ghost use Rattle.std.specs.Io.KnownBytes.{Appends};
+ghost use Rattle.desk.specs.Desk.{Goes, TellsStop, desk_state};
+ghost use Rattle.desk.specs.Script.{IsCut, Writes};
+ghost use Rattle.desk.specs.Streams.{only_written};
 ghost use Rattle.desk.specs.Text.{items_of};
-ghost use Rattle.stockdesk.specs.Requests.{FileCut, IsFileFault, IsFileOf, NamesFirstOf, RequestsAnswered, RequestsCut};
-ghost use Rattle.stockdesk.specs.Sessions.{IsBadFile, IsNoDesk, IsUnbegun};
+ghost use Rattle.desk.specs.Together.{IsCutTogether};
+ghost use Rattle.stockdesk.specs.Requests.{FileCut, IsFileFault, IsFileOf, NamesFirstOf, RequestsAnswered};
+ghost use Rattle.stockdesk.specs.Sessions.{IsBadFile, IsCutAs, IsNoDesk, IsUnbegun};
 ghost use Rattle.words.specs.declared.command.Request.{Request};
 ghost use Rattle.files.specs.declared.fault.FileFault.{FileFault};
 
@@ -80,17 +85,14 @@ fn answer_items<K: Keep, W: Write>(
     writer: &mut W,
 ) -> Result<(), Fault>
     ensures whole { (requests : List Request) → items.now ≡ items_of requests
-        → OnOk result (RequestsAnswered requests (W.contents writer.old)
-        (W.contents writer.new) desk.old.ledger desk.new.ledger) }
-    ensures cut { K.stopped desk.old.keep ≡ false → (requests : List Request) → items.now ≡ items_of requests
-        → IfErr result (λ fault.
-        RequestsCut None requests fault (K.is_honest desk.new.keep) (K.leaves desk.new.keep)
-        (W.contents writer.old) (W.contents writer.new) desk.old.ledger desk.new.ledger) }
+        → OnOk result (RequestsAnswered requests desk.old.ledger desk.new.ledger
+        (only_written (W.contents writer.old) (W.contents writer.new))) }
+    ensures cut { (requests : List Request) → items.now ≡ items_of requests → IfErr result (λ fault. IsCutAs fault
+        (λ cause. Writes (W.contents writer.old) (W.contents writer.new) (λ written.
+        IsCut cause (desk_state K.Keep desk.old) (items_of requests) written (desk_state K.Keep desk.new)))) }
     ensures begun { IfErr result (λ fault. ¬ IsUnbegun fault) }
-    ensures going { result ≢ Err Fault.Store → K.stopped desk.new.keep ≡ K.stopped desk.old.keep }
-    ensures stopped { result ≡ Err Fault.Store → IsTrue (K.stopped desk.new.keep) }
-    ensures stored { StaysStored K.Keep desk.new }
-    ensures honest { K.is_honest desk.new.keep → K.is_honest desk.old.keep }
+    ensures stop { TellsStop (result ≡ Err Fault.Store) (desk_state K.Keep desk.old) (desk_state K.Keep desk.new) }
+    ensures goes { Goes K.Keep desk.old desk.new }
 {
     match answer_all(alloc, items, writer, desk) {
         Ok(()) => Ok(()),
@@ -106,16 +108,15 @@ fn answer_lists<K: Keep, W: Write>(
     most: NonZeroUsize,
     writer: &mut W,
 ) -> Result<(), Fault>
-    ensures whole { OnOk result (RequestsAnswered requests.now (W.contents writer.old) (W.contents writer.new)
-        desk.old.ledger desk.new.ledger) }
-    ensures cut { K.stopped desk.old.keep ≡ false → IfErr result (λ fault. RequestsCut (Some most) requests.now fault
-        (K.is_honest desk.new.keep) (K.leaves desk.new.keep) (W.contents writer.old) (W.contents writer.new)
-        desk.old.ledger desk.new.ledger) }
+    ensures whole { OnOk result (RequestsAnswered requests.now desk.old.ledger desk.new.ledger
+        (only_written (W.contents writer.old) (W.contents writer.new))) }
+    ensures cut { IfErr result (λ fault. IsCutAs fault (λ cause.
+        (cut : IsCutTogether cause (non_zero_usize_get most) (desk_state K.Keep desk.old) requests.now
+        (desk_state K.Keep desk.new)) × Appends (W.contents writer.old) (W.contents writer.new)
+        (cut.lines ++ cut.begun))) }
     ensures begun { IfErr result (λ fault. ¬ IsUnbegun fault) }
-    ensures going { result ≢ Err Fault.Store → K.stopped desk.new.keep ≡ K.stopped desk.old.keep }
-    ensures stopped { result ≡ Err Fault.Store → IsTrue (K.stopped desk.new.keep) }
-    ensures stored { StaysStored K.Keep desk.new }
-    ensures honest { K.is_honest desk.new.keep → K.is_honest desk.old.keep }
+    ensures stop { TellsStop (result ≡ Err Fault.Store) (desk_state K.Keep desk.old) (desk_state K.Keep desk.new) }
+    ensures goes { Goes K.Keep desk.old desk.new }
 {
     match answer_together(alloc, requests, most, writer, desk) {
         Ok(()) => Ok(()),
@@ -131,16 +132,13 @@ fn answer_requests<K: Keep, W: Write>(
     together: Option<NonZeroUsize>,
     writer: &mut W,
 ) -> Result<(), Fault>
-    ensures whole { OnOk result (RequestsAnswered requests.items (W.contents writer.old) (W.contents writer.new)
-        desk.old.ledger desk.new.ledger) }
-    ensures cut { K.stopped desk.old.keep ≡ false → IfErr result (λ fault. FileCut together fault
-        (K.is_honest desk.new.keep) (K.leaves desk.new.keep) (W.contents writer.old) (W.contents writer.new)
-        desk.old.ledger desk.new.ledger) }
+    ensures whole { OnOk result (RequestsAnswered requests.items desk.old.ledger desk.new.ledger
+        (only_written (W.contents writer.old) (W.contents writer.new))) }
+    ensures cut { IfErr result (λ fault. FileCut together fault (desk_state K.Keep desk.old)
+        (desk_state K.Keep desk.new) (only_written (W.contents writer.old) (W.contents writer.new))) }
     ensures begun { IfErr result (λ fault. ¬ IsUnbegun fault) }
-    ensures going { result ≢ Err Fault.Store → K.stopped desk.new.keep ≡ K.stopped desk.old.keep }
-    ensures stopped { result ≡ Err Fault.Store → IsTrue (K.stopped desk.new.keep) }
-    ensures stored { StaysStored K.Keep desk.new }
-    ensures honest { K.is_honest desk.new.keep → K.is_honest desk.old.keep }
+    ensures stop { TellsStop (result ≡ Err Fault.Store) (desk_state K.Keep desk.old) (desk_state K.Keep desk.new) }
+    ensures goes { Goes K.Keep desk.old desk.new }
 {
     desk.is_stopped();
     match together {
@@ -165,18 +163,15 @@ fn answer_from<K: Keep, R: Read + Drop, W: Write>(
     writer: &mut W,
 ) -> Result<(), Fault>
     ensures whole { OnOk result ((requests : List Request) × IfSome (R.remaining reader)
-        (λ bytes. IsFileOf kind bytes requests) × RequestsAnswered requests (W.contents writer.old)
-        (W.contents writer.new) desk.old.ledger desk.new.ledger) }
+        (λ bytes. IsFileOf kind bytes requests) × RequestsAnswered requests desk.old.ledger desk.new.ledger
+        (only_written (W.contents writer.old) (W.contents writer.new))) }
     ensures unread { IfErr result (λ fault. IsBadFile fault → IfSome (R.remaining reader)
         (λ bytes. (cause : FileFault) × IsFileFault cause fault × NamesFirstOf kind bytes cause)) }
-    ensures cut { K.stopped desk.old.keep ≡ false → IfErr result (λ fault. FileCut together fault
-        (K.is_honest desk.new.keep) (K.leaves desk.new.keep) (W.contents writer.old) (W.contents writer.new)
-        desk.old.ledger desk.new.ledger) }
+    ensures cut { IfErr result (λ fault. FileCut together fault (desk_state K.Keep desk.old)
+        (desk_state K.Keep desk.new) (only_written (W.contents writer.old) (W.contents writer.new))) }
     ensures desk { IfErr result (λ fault. ¬ IsNoDesk fault) }
-    ensures going { result ≢ Err Fault.Store → K.stopped desk.new.keep ≡ K.stopped desk.old.keep }
-    ensures stopped { result ≡ Err Fault.Store → IsTrue (K.stopped desk.new.keep) }
-    ensures stored { StaysStored K.Keep desk.new }
-    ensures honest { K.is_honest desk.new.keep → K.is_honest desk.old.keep }
+    ensures stop { TellsStop (result ≡ Err Fault.Store) (desk_state K.Keep desk.old) (desk_state K.Keep desk.new) }
+    ensures goes { Goes K.Keep desk.old desk.new }
 {
     desk.is_stopped();
     let requests = match read(alloc, kind, reader) {
@@ -197,16 +192,13 @@ pub fn answer_file<K: Keep, W: Write>(
     together: Option<NonZeroUsize>,
     writer: &mut W,
 ) -> Result<(), Fault>
-    ensures whole { OnOk result ((requests : List Request) × RequestsAnswered requests (W.contents writer.old)
-        (W.contents writer.new) desk.old.ledger desk.new.ledger) }
-    ensures cut { K.stopped desk.old.keep ≡ false → IfErr result (λ fault. FileCut together fault
-        (K.is_honest desk.new.keep) (K.leaves desk.new.keep) (W.contents writer.old) (W.contents writer.new)
-        desk.old.ledger desk.new.ledger) }
+    ensures whole { OnOk result ((requests : List Request) × RequestsAnswered requests desk.old.ledger
+        desk.new.ledger (only_written (W.contents writer.old) (W.contents writer.new))) }
+    ensures cut { IfErr result (λ fault. FileCut together fault (desk_state K.Keep desk.old)
+        (desk_state K.Keep desk.new) (only_written (W.contents writer.old) (W.contents writer.new))) }
     ensures desk { IfErr result (λ fault. ¬ IsNoDesk fault) }
-    ensures going { result ≢ Err Fault.Store → K.stopped desk.new.keep ≡ K.stopped desk.old.keep }
-    ensures stopped { result ≡ Err Fault.Store → IsTrue (K.stopped desk.new.keep) }
-    ensures stored { StaysStored K.Keep desk.new }
-    ensures honest { K.is_honest desk.new.keep → K.is_honest desk.old.keep }
+    ensures stop { TellsStop (result ≡ Err Fault.Store) (desk_state K.Keep desk.old) (desk_state K.Keep desk.new) }
+    ensures goes { Goes K.Keep desk.old desk.new }
 {
     desk.is_stopped();
     match File::open(rt, path) {

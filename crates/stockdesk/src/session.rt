@@ -1,12 +1,14 @@
 //! The desk that a keeper holds: opened, and a script played on it.
 
-ghost use Rattle.std.specs.Prelude.{◌≡◌, ◌≢◌, ◌↔◌, ◌⊎◌, false, Err, IfErr, IfOk, IsTrue, OnOk};
+ghost use Rattle.std.specs.Prelude.{◌≡◌, ◌↔◌, ◌⊎◌, false, Err, IfErr, IfOk, IsTrue, OnOk};
 ghost use Rattle.book.specs.Good.{Good};
 ghost use Rattle.book.specs.Ledger.{Ledger};
 ghost use Rattle.book.specs.Rows.{Content, IsRowsOf};
-ghost use Rattle.desk.specs.Desk.{StaysStored};
+ghost use Rattle.desk.specs.Desk.{Goes, TellsStop, desk_state};
+ghost use Rattle.desk.specs.Opening.{IsOpened, keeper_after};
 ghost use Rattle.desk.specs.Script.{EndsWhole};
-ghost use Rattle.stockdesk.specs.Sessions.{IsLeft, IsNoDesk, IsToldAs, IsUnbegun, ScriptCut, SessionRefused};
+ghost use Rattle.desk.specs.Streams.{streams};
+ghost use Rattle.stockdesk.specs.Sessions.{IsNoDesk, IsToldAs, IsUnbegun, ScriptCut, SessionRefused, session_on};
 
 use desk::{Desk, OpenFault, ScriptFault, script};
 use keep::Keep;
@@ -75,21 +77,16 @@ pub fn script_fault(fault: ScriptFault) -> Fault
 /// a stop may leave. A keeper that was stopped comes back as it was. `OldVersion` only where the store is of version 1,
 /// and there nothing else but `Memory` and `Store`.
 pub fn open_desk<K: Keep>(alloc: Global, keep: K) -> Result<Desk<K>, (Fault, K)>
-    ensures good { IfOk result (λ desk. Good desk.ledger) }
-    ensures rows { IfOk result (λ desk. K.is_honest desk.keep → (x : Content) → K.holds keep x
-        → IsRowsOf desk.ledger x) }
-    ensures going { IfOk result (λ desk. K.stopped desk.keep ≡ false) }
-    ensures back { IfOk result (λ desk. K.is_honest desk.keep → K.is_honest keep) }
+    ensures opened { IfOk result (λ desk. IsOpened K.Keep keep desk) }
     ensures old_version { IfErr result (λ e. e.0 ≡ Fault.OldVersion → K.is_honest e.1 → K.is_old keep) }
     ensures not_old { IfOk result (λ desk. K.is_honest desk.keep → K.stopped keep ≡ false → K.is_old keep → ⊥) }
     ensures only_old { IfErr result (λ e. K.is_honest e.1 → K.stopped keep ≡ false → K.is_old keep
         → (e.0 ≡ Fault.OldVersion) ⊎ ((e.0 ≡ Fault.Memory) ⊎ (e.0 ≡ Fault.Store))) }
-    ensures held { IfErr result (λ e. SessionRefused K.Keep e.0 e.1 (K.holds keep) (K.has_tables keep)
-        (IsLeft K.Keep keep e.1)) }
+    ensures held { IfErr result (λ e. SessionRefused (session_on K.Keep keep e.1) e.0) }
     // what holds the rows of a good ledger is opened, but for want of memory and the store
     ensures nothing_else { IfErr result (λ e. K.is_honest e.1 → (A : Ledger) (x : Content) → Good A → IsRowsOf A x
         → K.holds keep x → (e.0 ≡ Fault.Memory) ⊎ (e.0 ≡ Fault.Store)) }
-    ensures honest { IfErr result (λ e. K.is_honest e.1 → K.is_honest keep) }
+    ensures honest { K.is_honest (keeper_after result) → K.is_honest keep }
     ensures refused { IsTrue (K.stopped keep) → result ≡ Err (Fault.Store, keep) }
 {
     match Desk::open(alloc, keep) {
@@ -105,17 +102,13 @@ pub fn play<K: Keep, R: Read, W: Write>(
     reader: &mut R,
     writer: &mut W,
 ) -> Result<(), Fault>
-    ensures whole { OnOk result (EndsWhole desk.old.ledger desk.new.ledger (R.remaining reader.old)
-        (R.remaining reader.new) (W.contents writer.old) (W.contents writer.new)) }
-    ensures cut { K.stopped desk.old.keep ≡ false → IfErr result (λ fault. ScriptCut fault (K.is_honest desk.new.keep)
-        (K.leaves desk.new.keep)
-        (R.remaining reader.old) (R.remaining reader.new) (W.contents writer.old)
-        (W.contents writer.new) desk.old.ledger desk.new.ledger) }
+    ensures whole { OnOk result (EndsWhole (desk_state K.Keep desk.old) (desk_state K.Keep desk.new)
+        (streams (R.remaining reader.old) (R.remaining reader.new) (W.contents writer.old) (W.contents writer.new))) }
+    ensures cut { IfErr result (λ fault. ScriptCut fault (desk_state K.Keep desk.old) (desk_state K.Keep desk.new)
+        (streams (R.remaining reader.old) (R.remaining reader.new) (W.contents writer.old) (W.contents writer.new))) }
     ensures desk { IfErr result (λ fault. ¬ IsNoDesk fault) }
-    ensures going { result ≢ Err Fault.Store → K.stopped desk.new.keep ≡ K.stopped desk.old.keep }
-    ensures stopped { result ≡ Err Fault.Store → IsTrue (K.stopped desk.new.keep) }
-    ensures stored { StaysStored K.Keep desk.new }
-    ensures honest { K.is_honest desk.new.keep → K.is_honest desk.old.keep }
+    ensures stop { TellsStop (result ≡ Err Fault.Store) (desk_state K.Keep desk.old) (desk_state K.Keep desk.new) }
+    ensures goes { Goes K.Keep desk.old desk.new }
 {
     match script(alloc, reader, writer, desk) {
         Ok(()) => Ok(()),

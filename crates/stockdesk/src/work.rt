@@ -1,11 +1,12 @@
 //! A session: work that is done on the desk that a keeper holds.
 
-ghost use Rattle.std.specs.Prelude.{◌≡◌, ◌≢◌, ◌⊎◌, ◌∷◌, [], false, Err, IfErr, IsTrue, OnOk};
+ghost use Rattle.std.specs.Prelude.{◌≡◌, ◌⊎◌, ◌∷◌, [], false, Err, IfErr, IsTrue, OnOk};
 ghost use Rattle.book.specs.Good.{Good};
 ghost use Rattle.book.specs.Ledger.{Ledger};
 ghost use Rattle.book.specs.Rows.{Content, IsRowsOf};
-ghost use Rattle.desk.specs.Desk.{StaysStored};
-ghost use Rattle.stockdesk.specs.Sessions.{IsLeft, IsNoDesk};
+ghost use Rattle.desk.specs.Desk.{Goes, TellsStop, desk_state};
+ghost use Rattle.desk.specs.Streams.{streams};
+ghost use Rattle.stockdesk.specs.Sessions.{IsNoDesk, session_on};
 ghost use Rattle.stockdesk.specs.Work.{GoesOnFrom, WorkCut, WorkDone, WorkInPart, WorkWhole};
 
 use crate::loopback::{Service, serve_desk};
@@ -39,17 +40,13 @@ fn work_on<K: Keep, R: Read, W: Write>(
     writer: &mut W,
 ) -> Result<(), Fault>
     requires { K.stopped desk.old.keep ≡ false }
-    ensures whole { OnOk result (WorkDone work.now (K.is_honest desk.new.keep) (K.leaves desk.new.keep)
-        (R.remaining reader.old) (R.remaining reader.new) (W.contents writer.old) (W.contents writer.new)
-        desk.old.ledger desk.new.ledger) }
-    ensures cut { IfErr result (λ fault. WorkCut work.now fault (K.stopped desk.new.keep) (K.is_honest desk.new.keep)
-        (K.leaves desk.new.keep) (R.remaining reader.old) (R.remaining reader.new) (W.contents writer.old)
-        (W.contents writer.new) desk.old.ledger desk.new.ledger) }
+    ensures whole { OnOk result (WorkDone work.now (desk_state K.Keep desk.old) (desk_state K.Keep desk.new)
+        (streams (R.remaining reader.old) (R.remaining reader.new) (W.contents writer.old) (W.contents writer.new))) }
+    ensures cut { IfErr result (λ fault. WorkCut work.now fault (desk_state K.Keep desk.old) (desk_state K.Keep desk.new)
+        (streams (R.remaining reader.old) (R.remaining reader.new) (W.contents writer.old) (W.contents writer.new))) }
     ensures desk { IfErr result (λ fault. ¬ IsNoDesk fault) }
-    ensures going { result ≢ Err Fault.Store → K.stopped desk.new.keep ≡ false }
-    ensures stopped { result ≡ Err Fault.Store → IsTrue (K.stopped desk.new.keep) }
-    ensures stored { StaysStored K.Keep desk.new }
-    ensures honest { K.is_honest desk.new.keep → K.is_honest desk.old.keep }
+    ensures stop { TellsStop (result ≡ Err Fault.Store) (desk_state K.Keep desk.old) (desk_state K.Keep desk.new) }
+    ensures goes { Goes K.Keep desk.old desk.new }
 {
     match work {
         Work::Script => play(rt.alloc(), desk, reader, writer),
@@ -78,11 +75,10 @@ pub fn session<K: Keep, R: Read, W: Write>(
     reader: &mut R,
     writer: &mut W,
 ) -> (K, Result<(), Fault>)
-    ensures whole { OnOk result.1 (WorkWhole K.Keep work.now result.0 (K.holds keep) (R.remaining reader.old)
-        (R.remaining reader.new) (W.contents writer.old) (W.contents writer.new)) }
-    ensures cut { IfErr result.1 (λ fault. WorkInPart K.Keep work.now fault result.0 (K.holds keep) (K.has_tables keep)
-        (IsLeft K.Keep keep result.0) (R.remaining reader.old) (R.remaining reader.new) (W.contents writer.old)
-        (W.contents writer.new)) }
+    ensures whole { OnOk result.1 (WorkWhole (session_on K.Keep keep result.0) work.now
+        (streams (R.remaining reader.old) (R.remaining reader.new) (W.contents writer.old) (W.contents writer.new))) }
+    ensures cut { IfErr result.1 (λ fault. WorkInPart (session_on K.Keep keep result.0) work.now fault
+        (streams (R.remaining reader.old) (R.remaining reader.new) (W.contents writer.old) (W.contents writer.new))) }
     // what is of version 1 is told as that, and as nothing else but want of memory or the store
     ensures old { K.is_honest result.0 → K.stopped keep ≡ false → K.is_old keep → (result.1 ≡ Err Fault.OldVersion)
         ⊎ ((result.1 ≡ Err Fault.Memory) ⊎ (result.1 ≡ Err Fault.Store)) }
@@ -90,8 +86,8 @@ pub fn session<K: Keep, R: Read, W: Write>(
     ensures honest { K.is_honest result.0 → K.is_honest keep }
     // what a stop leaves of it the next session goes on from
     ensures goes_on { K.is_honest result.0 → (A : Ledger) (x : Content) → Good A → IsRowsOf A x → K.holds keep x
-        → K.leaves keep (x ∷ []) → GoesOnFrom K.Keep work.now result.0 result.1 A (R.remaining reader.old)
-        (R.remaining reader.new) (W.contents writer.old) (W.contents writer.new) }
+        → K.leaves keep (x ∷ []) → GoesOnFrom (session_on K.Keep keep result.0) work.now result.1 A
+        (streams (R.remaining reader.old) (R.remaining reader.new) (W.contents writer.old) (W.contents writer.new)) }
 {
     let mut desk = match open_desk(rt.alloc(), keep) {
         Ok(desk) => desk,

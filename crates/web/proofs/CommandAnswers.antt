@@ -1,21 +1,21 @@
 -- The answer to an ask, and the answer to the message that asks for it.
-use Rattle.std.proofs.Common.{◌≡◌, ◌∙◌, Bool, true, false, true≢false, ℕ, List, inl, inr, refl, subst, sym}
+use Rattle.std.proofs.Common.{◌≡◌, ◌∙◌, Bool, MatchBool, true, false, true≢false, ℕ, List, ap, inl, inr, refl, subst, sym}
 use Rattle.words.specs.declared.command.Request.{Request}
 use Rattle.words.specs.declared.reply.Reply.{Reply}
 use Rattle.words.specs.declared.reply.Reply.TheVariants.{Done}
 use Rattle.book.specs.Answers.{Answers, IsAccepted}
-use Rattle.book.specs.Ledger.{Ledger}
 use Rattle.book.specs.Next.{accept}
-use Rattle.book.specs.Rows.{Content}
-use Rattle.desk.specs.Desk.{LeavesEither}
+use Rattle.desk.specs.Desk.{DeskState, LeavesEither, StopsCall}
 use Rattle.web.specs.Answers.{Answer, answer_bytes, memory_answer, reply_answer, stopped_answer}
 use Rattle.web.specs.Asks.{AsksFor}
 use Rattle.web.specs.Messages.{Message}
 use Rattle.web.specs.Replies.{Replies, reply_of_stopped}
 use Rattle.web.specs.Serving.{stand}
 use Rattle.web.specs.Turns.{AnswersAsk, AnswersOne, IsAnswered, IsTold, Shows, ToldBy}
+use Rattle.web.specs.declared.fixed.Fixed.TheVariants as fixed
 use Rattle.web.specs.declared.fixed.Ready.{Ready}
-use Rattle.web.specs.Web.{AnswersPart, Mark, Stand, memory, plain, stopped}
+use Rattle.web.specs.declared.fixed.Ready.TheVariants as ready
+use Rattle.web.specs.Web.{AnswersPart, Mark, RepliesAt, Stand, memory, plain, stopped}
 use Rattle.web.specs.Messages.{whole}
 use Rattle.web.specs.declared.ask.Ask.{Ask}
 use Rattle.web.specs.declared.ask.Ask.TheVariants as ask
@@ -26,75 +26,73 @@ asked_under old new m a answer memory asks told = told
 asked_under old new m a answer stopped asks (e, r, is, accepted, before, after, same) =
     (e, record { request = r; asks = subst (AsksFor m) is asks; accepted = accepted; before = before; after = after; same = same })
 
-module _ {H : Type 0} {L : List Content → Type 0} where
+-- the plain answer of a desk that is not stopped, and goes on
+pub replies_going : (old new : Stand) (a : Ask) (answer : Answer) → old.is_stopped ≡ false → new.is_stopped ≡ false → Replies old.ledger a answer new.ledger → RepliesAt old a answer new
+replies_going old new a answer e f h = subst (λ (b : Bool). MatchBool b ((answer ≡ reply_of_stopped a) × (new ≡ old)) (Replies old.ledger a answer new.ledger × (new.is_stopped ≡ false))) (sym e) (h, f)
+
+-- and that of one that is stopped
+pub replies_stopped : (at : Stand) (a : Ask) (answer : Answer) → at.is_stopped ≡ true → answer ≡ reply_of_stopped a → RepliesAt at a answer at
+replies_stopped at a answer e h = subst (λ (b : Bool). MatchBool b ((answer ≡ reply_of_stopped a) × (at ≡ at)) (Replies at.ledger a answer at.ledger × (at.is_stopped ≡ false))) (sym e) (h, refl)
+
+module _ (old new : DeskState) where
   -- a desk that is not stopped, and goes on, answers
-  pub goes_on : (A B : Ledger) (b c : Bool) (a : Ask) (answer : Answer) → b ≡ false → c ≡ false → Replies A a answer B → AnswersAsk H L (stand A b) a answer (stand B c)
-  goes_on A B true c a answer e f h = absurd (true≢false e)
-  goes_on A B false true a answer e f h = absurd (true≢false f)
-  goes_on A B false false a answer e f h = record { mark = plain; told = (h, refl); stops = λ going halted honest. absurd (true≢false (sym halted)) }
-
-  -- a desk that was stopped before answers so
-  pub was_stopped : (A : Ledger) (b : Bool) (a : Ask) (answer : Answer) → b ≡ true → answer ≡ reply_of_stopped a → AnswersAsk H L (stand A b) a answer (stand A b)
-  was_stopped A true a answer e h = record { mark = plain; told = (h, refl); stops = λ going halted honest. absurd (true≢false going) }
-  was_stopped A false a answer e h = absurd (true≢false (sym e))
-
-  -- an answer that is the same on a desk stopped or not
-  pub as_ever : (A : Ledger) (b : Bool) (a : Ask) (answer : Answer) → answer ≡ reply_of_stopped a → Replies A a answer A → AnswersAsk H L (stand A b) a answer (stand A b)
-  as_ever A true a answer e h = was_stopped A true a answer refl e
-  as_ever A false a answer e h = goes_on A A false false a answer refl refl h
+  goes_on : (a : Ask) (answer : Answer) → old.is_stopped ≡ false → new.is_stopped ≡ false → Replies old.ledger a answer new.ledger → AnswersAsk old a answer new
+  goes_on a answer e f h = record { mark = plain; told = replies_going (stand old) (stand new) a answer e f h; stops = λ going halted honest. absurd (true≢false (sym halted ∙ f)) }
 
   -- memory was refused, and nothing has changed
-  pub no_memory : (old new : Stand) (a : Ask) → new ≡ old → AnswersAsk H L old a memory_answer new
-  no_memory old new a e = record { mark = memory; told = (refl, e); stops = λ going halted honest. absurd (true≢false (sym halted ∙ subst (λ (s : Stand). s.is_stopped ≡ false) (sym e) going)) }
+  no_memory : (a : Ask) → new ≡ old → AnswersAsk old a memory_answer new
+  no_memory a e = record { mark = memory; told = (refl, ap stand e); stops = λ going halted honest. absurd (true≢false (sym halted ∙ ap (λ (d : DeskState). d.is_stopped) e ∙ going)) }
 
   -- a command stops the desk
-  pub stops_here : (A B : Ledger) (b c : Bool) (r : Request) → b ≡ false → c ≡ true → B ≡ A → IsAccepted A r → (H → LeavesEither L A (accept A r)) → AnswersAsk H L (stand A b) (ask.Call r) stopped_answer (stand B c)
-  stops_here A B b c r e f same accepted either = record {
+  stops_here : (r : Request) → old.is_stopped ≡ false → new.is_stopped ≡ true → new.ledger ≡ old.ledger → StopsCall r old new → AnswersAsk old (ask.Call r) stopped_answer new
+  stops_here r e f same call = record {
     mark = stopped;
-    told = (refl, r, refl, accepted, e, f, same);
-    stops = λ going halted honest. (r, refl, refl, subst (λ (C : Ledger). IsAccepted C r) (sym same) accepted, subst (λ (C : Ledger). LeavesEither L C (accept C r)) (sym same) (either honest));
+    told = (refl, r, refl, call.accepted, e, f, same);
+    stops = λ going halted honest. (r, refl, refl, subst (λ A. IsAccepted A r) (sym same) call.accepted, subst (λ A. LeavesEither new.leaves A (accept A r)) (sym same) (call.either honest));
   }
 
   -- the answer to what a message asks for is that to the message
-  pub asked : (old new : Stand) (m : Message) (a : Ask) (answer : Answer) → AsksFor m a → AnswersAsk H L old a answer new → AnswersOne H L old m answer new
-  asked old new m a answer asks h = record {
+  pub asked : (m : Message) (a : Ask) (answer : Answer) → AsksFor m a → AnswersAsk old a answer new → AnswersOne old m answer new
+  asked m a answer asks h = record {
     mark = h.mark;
-    part = asked_under old new m a answer h.mark asks h.told;
+    part = asked_under (stand old) (stand new) m a answer h.mark asks h.told;
     stops = λ going halted honest.
         let (r, is, mark, accepted, either) = h.stops going halted honest in
         (r, subst (AsksFor m) is asks, mark, accepted, either);
   }
 
   -- memory was refused before it was known what the message asks for
-  pub unasked : (old new : Stand) (m : Message) → new ≡ old → AnswersOne H L old m memory_answer new
-  unasked old new m e = record { mark = memory; part = (refl, e); stops = λ going halted honest. absurd (true≢false (sym halted ∙ subst (λ (s : Stand). s.is_stopped ≡ false) (sym e) going)) }
-
-  -- a request that changes nothing
-  pub replied : (A : Ledger) (b : Bool) (r : Request) (reply : Reply) (ready : Ready) → b ≡ false → Answers A r reply A → IsTold reply ready → IsAnswered H L (stand A b) (ask.Call r) ready (stand A b)
-  replied A b r reply ready e answers (inl bytes) = (reply_answer reply, goes_on A A b b (ask.Call r) (reply_answer reply) e e (reply, answers, refl), bytes)
-  replied A b r reply ready e answers (inr bytes) = (memory_answer, no_memory (stand A b) (stand A b) (ask.Call r) refl, bytes)
-
-  -- a request that is carried out
-  pub carried_out : (A B : Ledger) (b c : Bool) (r s : Request) (reply : Reply) (place : ℕ) (bytes : List ℕ) → b ≡ false → c ≡ false → s ≡ r → Answers A s reply B → reply ≡ Done place
-      → bytes ≡ answer_bytes (reply_answer (Done place)) → (answer : Answer) × AnswersAsk H L (stand A b) (ask.Call r) answer (stand B c) × (bytes ≡ answer_bytes answer)
-  carried_out A B b c r s reply place bytes e f same answers done made =
-      (reply_answer (Done place), goes_on A B b c (ask.Call r) (reply_answer (Done place)) e f (Done place, rw (same, done) at answers, refl), made)
+  pub unasked : (m : Message) → new ≡ old → AnswersOne old m memory_answer new
+  unasked m e = record { mark = memory; part = (refl, ap stand e); stops = λ going halted honest. absurd (true≢false (sym halted ∙ ap (λ (d : DeskState). d.is_stopped) e ∙ going)) }
 
   -- nothing is done
-  pub nothing_done : (A B : Ledger) (b c : Bool) (a : Ask) → B ≡ A → c ≡ b → (answer : Answer) × AnswersAsk H L (stand A b) a answer (stand B c) × (answer_bytes memory_answer ≡ answer_bytes answer)
-  nothing_done A B b c a e f = (memory_answer, no_memory (stand A b) (stand B c) a (λ i. record { ledger = e i; is_stopped = f i }), refl)
+  pub nothing_done : (a : Ask) → new ≡ old → (answer : Answer) × AnswersAsk old a answer new × (answer_bytes memory_answer ≡ answer_bytes answer)
+  nothing_done a e = (memory_answer, no_memory a e, refl)
 
-  -- the desk was stopped before
-  pub halted_before : (A : Ledger) (b : Bool) (r : Request) → b ≡ true → (answer : Answer) × AnswersAsk H L (stand A b) (ask.Call r) answer (stand A b) × (answer_bytes stopped_answer ≡ answer_bytes answer)
-  halted_before A b r e = (stopped_answer, was_stopped A b (ask.Call r) stopped_answer e refl, refl)
+  module _ (r s : Request) (is : s ≡ r) where
+    -- a request is carried out
+    pub carried_out : (reply : Reply) (place : ℕ) (bytes : List ℕ) → old.is_stopped ≡ false → new.is_stopped ≡ false → Answers old.ledger s reply new.ledger → reply ≡ Done place
+        → bytes ≡ answer_bytes (reply_answer (Done place)) → (answer : Answer) × AnswersAsk old (ask.Call r) answer new × (bytes ≡ answer_bytes answer)
+    carried_out reply place bytes e f answers done made = (reply_answer (Done place), goes_on (ask.Call r) (reply_answer (Done place)) e f (Done place, rw (is, done) at answers, refl), made)
 
-  -- the request stops it
-  pub halted_now : (A B : Ledger) (b c : Bool) (r s : Request) → b ≡ false → c ≡ true → B ≡ A → s ≡ r → IsAccepted A s → (H → LeavesEither L A (accept A s))
-      → (answer : Answer) × AnswersAsk H L (stand A b) (ask.Call r) answer (stand B c) × (answer_bytes stopped_answer ≡ answer_bytes answer)
-  halted_now A B b c r s e f same is accepted either =
-      (stopped_answer, stops_here A B b c r e f same (subst (IsAccepted A) is accepted) (λ honest. subst (λ (q : Request). LeavesEither L A (accept A q)) is (either honest)), refl)
+    -- a request stops the desk
+    pub halted_now : old.is_stopped ≡ false → new.is_stopped ≡ true → new.ledger ≡ old.ledger → IsAccepted old.ledger s → (new.is_honest → LeavesEither new.leaves old.ledger (accept old.ledger s))
+        → (answer : Answer) × AnswersAsk old (ask.Call r) answer new × (answer_bytes stopped_answer ≡ answer_bytes answer)
+    halted_now e f same accepted either = (
+      stopped_answer,
+      stops_here r e f same (record { accepted = subst (IsAccepted old.ledger) is accepted; either = λ honest. subst (λ (q : Request). LeavesEither new.leaves old.ledger (accept old.ledger q)) is (either honest) }),
+      refl,
+    )
 
-  -- what is shown is an answer
-  pub viewed : (A : Ledger) (b : Bool) (a : Ask) (ready : Ready) → Shows (stand A b) a ready → IsAnswered H L (stand A b) a ready (stand A b)
-  viewed A b a ready (answer, told, bytes) =
-      (answer, record { mark = plain; told = told; stops = λ going halted honest. absurd (true≢false (sym halted ∙ going)) }, bytes)
+-- a request changes nothing
+pub replied : (desk : DeskState) (r : Request) (reply : Reply) (ready : Ready) → desk.is_stopped ≡ false → Answers desk.ledger r reply desk.ledger → IsTold reply ready → IsAnswered desk (ask.Call r) ready desk
+replied desk r reply ready e answers (inl bytes) = (reply_answer reply, goes_on desk desk (ask.Call r) (reply_answer reply) e e (reply, answers, refl), bytes)
+replied desk r reply ready e answers (inr bytes) = (memory_answer, no_memory desk desk (ask.Call r) refl, bytes)
+
+-- what is shown is an answer
+pub viewed : (desk : DeskState) (a : Ask) (ready : Ready) → Shows (stand desk) a ready → IsAnswered desk a ready desk
+viewed desk a ready (answer, told, bytes) = (answer, record { mark = plain; told = told; stops = λ going halted honest. absurd (true≢false (sym halted ∙ going)) }, bytes)
+
+-- the desk was stopped before
+pub halted_before : (desk : DeskState) (r : Request) → desk.is_stopped ≡ true → (answer : Answer) × AnswersAsk desk (ask.Call r) answer desk × (answer_bytes stopped_answer ≡ answer_bytes answer)
+halted_before desk r e = viewed desk (ask.Call r) (ready.Fixed fixed.Stopped) (stopped_answer, replies_stopped (stand desk) (ask.Call r) stopped_answer e refl, refl)

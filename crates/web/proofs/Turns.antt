@@ -1,24 +1,26 @@
 -- One turn more of serving a connection, and how it ends.
-use Rattle.std.proofs.Common.{Err, IfErr, IfOk, Ok, OnErr, Result, ◌≡◌, ◌≢◌, ◌⊎◌, ◌∙◌, ◌+◌, ◌-◌, ◌^◌, ◌≤◌, Bool, true, ℕ, List, [], ◌∷◌, ◌++◌, Option, append-nil, ap, arith, inl, inr, min, refl, subst, sym}
+use Rattle.std.proofs.Common.{Err, IfErr, IfOk, Ok, OnErr, Result, ◌≡◌, ◌≢◌, ◌⊎◌, ◌∙◌, ◌+◌, ◌-◌, ◌^◌, ◌≤◌, true, ℕ, List, [], ◌∷◌, ◌++◌, Option, append-nil, ap, arith, inl, inr, min, refl, subst, sym}
 use Rattle.std.specs.Io.KnownBytes.{Appends, Consumes, IsAtEnd}
 use Rattle.std.specs.List.{AllByRecursion as Each}
 use Rattle.std.proofs.KnownBytes.{Appends-nil, Appends-trans, Consumes-nil, Consumes-trans}
 use Rattle.std.proofs.lemmas.List.{length-append}
+use Rattle.std.proofs.lemmas.Result.{IfOk-weaker}
 use Rattle.book.specs.Good.{Good}
-use Rattle.book.specs.Rows.{Content}
 use Rattle.web.specs.Answers.{Answer, answer_bytes, answers_bytes, message_answer}
 use Rattle.web.specs.Intake.{HasNoMessage, Holds, NoneComes}
 use Rattle.web.specs.Messages.{AreParts, BeginsWith, FirstParts, IsUnreadable, Message, Part, unreadable, whole}
-use Rattle.desk.specs.Desk.{DeskView}
+use Rattle.desk.specs.Desk.{DeskState}
+use Rattle.desk.specs.Streams.{Streams, streams}
+use Rattle.desk.proofs.Cuts.{of_error}
 use Rattle.web.specs.Serving.{EndsCut, EndsShort, EndsWhole, IsCut, IsWhole, Serves, Settles, count_of, stand}
 use Rattle.web.specs.Turns.{AnswersOne, HasServed, Passes, wholes}
-use Rattle.web.specs.Web.{AnswersAll, Stand, plain}
+use Rattle.web.specs.Web.{AnswersAll, plain}
 use Rattle.web.specs.declared.served.Ending.TheVariants.{BadMessage, Input}
 use Rattle.web.specs.declared.served.Served.{Served}
 use Rattle.web.specs.declared.served.WebFault.{WebFault}
 use Rattle.web.specs.declared.served.WebFault.TheVariants.{Memory, Read, Write}
 use Rattle.web.proofs.SomeParts.{some_parts}
-use Rattle.web.proofs.Steps.{StaysStopped, answers_on, bytes_on, cut_goes_on, first_behind, first_on, parts_behind, passes_more, passes_on, serves_more}
+use Rattle.web.proofs.Steps.{answers_on, bytes_on, cut_goes_on, first_behind, first_on, parts_behind, passes_more, passes_on, serves_more}
 use Rattle.web.proofs.Marks.{stopped_told}
 
 -- ---- the parts of messages alone
@@ -40,9 +42,9 @@ all_cut held [] h none = tt
 all_cut held (whole m ∷ parts) (rest, begins, more) none = absurd (none m rest begins)
 all_cut held (unreadable ∷ parts) h none = subst (λ (ps : List Part). Each IsCut (unreadable ∷ ps)) (sym h.1) (tt, tt)
 
-module _ {H : Type 0} {L : List Content → Type 0} {old : Stand} {r w : Option (List ℕ)} where
+module _ {old : DeskState} {r w : Option (List ℕ)} where
   -- nothing is served yet
-  pub none_served : HasServed H L old old r r w w [] 0
+  pub none_served : HasServed old old (streams r r w w) [] 0
   none_served = record {
     read = [];
     messages = [];
@@ -54,8 +56,8 @@ module _ {H : Type 0} {L : List Content → Type 0} {old : Stand} {r w : Option 
   }
 
   -- the input ends
-  pub served_whole : {new : Stand} {q v : Option (List ℕ)} {count : ℕ} → HasServed H L old new r q w v [] count → IsAtEnd q
-      → EndsWhole (record { answered = count; ending = Input }) H L old new r q w v
+  pub served_whole : {new : DeskState} {q v : Option (List ℕ)} {count : ℕ} → HasServed old new (streams r q w v) [] count → IsAtEnd q
+      → EndsWhole (record { answered = count; ending = Input }) old new (streams r q w v)
   served_whole {q} h end = record {
     read = h.read;
     parts = wholes h.messages;
@@ -69,8 +71,8 @@ module _ {H : Type 0} {L : List Content → Type 0} {old : Stand} {r w : Option 
   }
 
   -- a read or the growth of what is held fails
-  pub served_short : {new : Stand} {q p v : Option (List ℕ)} {held : List ℕ} {count : ℕ} (fault : WebFault) → HasServed H L old new r q w v held count
-      → (piece : List ℕ) × Consumes q p piece × (fault ≡ Read → HasNoMessage (held ++ piece) ⊎ (2 ^ 64 - 1 ≤ count)) → EndsShort fault H L old new r p w v
+  pub served_short : {new : DeskState} {q p v : Option (List ℕ)} {held : List ℕ} {count : ℕ} (fault : WebFault) → HasServed old new (streams r q w v) held count
+      → (piece : List ℕ) × Consumes q p piece × (fault ≡ Read → HasNoMessage (held ++ piece) ⊎ (2 ^ 64 - 1 ≤ count)) → EndsShort fault old new (streams r p w v)
   served_short {new} {q} {p} {v} {held} {count} fault h (piece, more, none) =
       let left = some_parts (held ++ piece) in
       let passes = passes_on h.messages h.read held piece h.passes in
@@ -97,18 +99,10 @@ read_at Read q p held new most holds none any =
 read_at Write q p held new most holds none any = (any.0, any.1, λ f. absurd (cc f))
 read_at Memory q p held new most holds none any = (any.0, any.1, λ f. absurd (cc f))
 
-pub if_ok : {A E : Type 0} (r : Result A E) (P Q : A → Type 0) → IfOk r P → ((a : A) → P a → Q a) → IfOk r Q
-if_ok (Ok a) P Q h f = f a h
-if_ok (Err e) P Q h f = tt
-
-pub if_err : {A E : Type 0} (r : Result A E) (P Q : E → Type 0) → ((e : E) → P e → Q e) → IfErr r P → IfErr r Q
-if_err (Ok a) P Q f h = tt
-if_err (Err e) P Q f h = f e h
-
 -- what goes on from a fault, at a good ledger
-pub ends_cut : (fault : WebFault) (H : Type 0) (L : List Content → Type 0) (old new : Stand) (r p w v : Option (List ℕ)) → Good new.ledger → EndsShort fault H L old new r p w v → EndsCut fault H L old new r p w v
-ends_cut fault H L old new r p w v good h =
-    let on = cut_goes_on old new h.read h.written h.answered h.left h.serves.marks h.serves.answers good h.are_parts h.serves.replies h.almost in
+pub ends_cut : (fault : WebFault) (old new : DeskState) (s : Streams) → Good new.ledger → EndsShort fault old new s → EndsCut fault old new s
+ends_cut fault old new s good h =
+    let on = cut_goes_on (stand old) (stand new) h.read h.written h.answered h.left h.serves.marks h.serves.answers good h.are_parts h.serves.replies h.almost in
     record { so_far = h; marks = on.marks; unwritten = on.unwritten; last = on.last; web = on.web }
 
 -- ---- one answer more
@@ -117,20 +111,20 @@ more_counted : (count : ℕ) (xs : List Answer) (x : Answer) → count ≡ count
 more_counted count xs x e = let size = length-append xs (x ∷ []) in omega (arith, e, size)
 
 -- one message more is answered
-serves_whole : (H G : Type 0) (L M : List Content → Type 0) (old mid new : Stand) (ms : List Message) (m : Message) (answer : Answer) (h : Serves H L old (wholes ms) mid) → AnswersOne G M mid m answer new
-    → (mid.is_stopped ≡ true → StaysStopped H G L M mid new) → (s : Serves G M old (wholes (ms ++ m ∷ [])) new) × (s.answers ≡ h.answers ++ answer ∷ [])
-serves_whole H G L M old mid new ms m answer h one stays =
-    subst (λ (ps : List Part). (s : Serves G M old ps new) × (s.answers ≡ h.answers ++ answer ∷ [])) (sym (wholes_more ms m)) (serves_more H G L M old mid new (wholes ms) m answer h one stays)
+serves_whole : (old mid new : DeskState) (ms : List Message) (m : Message) (answer : Answer) (h : Serves old (wholes ms) mid) → AnswersOne mid m answer new
+    → (mid.is_stopped ≡ true → new ≡ mid) → (s : Serves old (wholes (ms ++ m ∷ [])) new) × (s.answers ≡ h.answers ++ answer ∷ [])
+serves_whole old mid new ms m answer h one stays =
+    subst (λ (ps : List Part). (s : Serves old ps new) × (s.answers ≡ h.answers ++ answer ∷ [])) (sym (wholes_more ms m)) (serves_more old mid new (wholes ms) m answer h one stays)
 
 -- what is unreadable is answered
-serves_unreadable : (H : Type 0) (L : List Content → Type 0) (old mid : Stand) (parts : List Part) (h : Serves H L old parts mid)
-    → (s : Serves H L old (parts ++ unreadable ∷ []) mid) × (s.answers ≡ h.answers ++ message_answer ∷ [])
-serves_unreadable H L old mid parts h = (
+serves_unreadable : (old mid : DeskState) (parts : List Part) (h : Serves old parts mid)
+    → (s : Serves old (parts ++ unreadable ∷ []) mid) × (s.answers ≡ h.answers ++ message_answer ∷ [])
+serves_unreadable old mid parts h = (
   record {
     marks = h.marks ++ plain ∷ [];
     answers = h.answers ++ message_answer ∷ [];
     replies = replies;
-    told = λ going. stopped_told (parts ++ unreadable ∷ []) (h.marks ++ plain ∷ []) (h.answers ++ message_answer ∷ []) old mid replies going;
+    told = λ going. stopped_told (parts ++ unreadable ∷ []) (h.marks ++ plain ∷ []) (h.answers ++ message_answer ∷ []) (stand old) (stand mid) replies going;
     stops = λ before after honest.
         let was = h.stops before after honest in
         record { request = was.request; first = first_on parts (unreadable ∷ []) h.marks (plain ∷ []) was.request was.first; accepted = was.accepted; either = was.either };
@@ -138,18 +132,18 @@ serves_unreadable H L old mid parts h = (
   refl,
 )
   where
-    replies : AnswersAll old (parts ++ unreadable ∷ []) (h.marks ++ plain ∷ []) (h.answers ++ message_answer ∷ []) mid
-    replies = answers_on parts (unreadable ∷ []) h.marks (plain ∷ []) h.answers (message_answer ∷ []) old mid mid h.replies (mid, (refl, refl), refl)
+    replies : AnswersAll (stand old) (parts ++ unreadable ∷ []) (h.marks ++ plain ∷ []) (h.answers ++ message_answer ∷ []) (stand mid)
+    replies = answers_on parts (unreadable ∷ []) h.marks (plain ∷ []) h.answers (message_answer ∷ []) (stand old) (stand mid) (stand mid) h.replies (stand mid, (refl, refl), refl)
 
 last_bytes : (xs all : List Answer) (x : Answer) → all ≡ xs ++ x ∷ [] → answers_bytes all ≡ answers_bytes xs ++ answer_bytes x
 last_bytes xs all x e = ap answers_bytes e ∙ bytes_on xs (x ∷ []) ∙ ap (λ (t : List ℕ). answers_bytes xs ++ t) (append-nil (answer_bytes x))
 
-module _ {H G : Type 0} {L M : List Content → Type 0} {old mid new : Stand} {r q p w v u : Option (List ℕ)} {held : List ℕ} {count : ℕ} where
+module _ {old mid new : DeskState} {r q p w v u : Option (List ℕ)} {held : List ℕ} {count : ℕ} where
   -- a message is answered, and its answer written whole
-  pub message_served : (h : HasServed H L old mid r q w v held count) (all left : List ℕ) (m : Message) (answer : Answer) → Holds q p held all → BeginsWith all m left → AnswersOne G M mid m answer new
-      → (mid.is_stopped ≡ true → StaysStopped H G L M mid new) → Appends v u (answer_bytes answer) → HasServed G M old new r p w u left (min (count + 1) (2 ^ 64 - 1))
+  pub message_served : (h : HasServed old mid (streams r q w v) held count) (all left : List ℕ) (m : Message) (answer : Answer) → Holds q p held all → BeginsWith all m left → AnswersOne mid m answer new
+      → (mid.is_stopped ≡ true → new ≡ mid) → Appends v u (answer_bytes answer) → HasServed old new (streams r p w u) left (min (count + 1) (2 ^ 64 - 1))
   message_served h all left m answer (piece, more, e) begins one stays writes =
-      let s = serves_whole H G L M old mid new h.messages m answer h.serves one stays in
+      let s = serves_whole old mid new h.messages m answer h.serves one stays in
       record {
         read = h.read ++ piece;
         messages = h.messages ++ m ∷ [];
@@ -161,10 +155,10 @@ module _ {H G : Type 0} {L M : List Content → Type 0} {old mid new : Stand} {r
       }
 
   -- a message is answered, and writing the answer fails
-  pub message_cut : (h : HasServed H L old mid r q w v held count) (all left : List ℕ) (m : Message) (answer : Answer) (begun rest : List ℕ) → Holds q p held all → BeginsWith all m left → AnswersOne G M mid m answer new
-      → (mid.is_stopped ≡ true → StaysStopped H G L M mid new) → answer_bytes answer ≡ begun ++ rest → Appends v u begun → EndsShort Write G M old new r p w u
+  pub message_cut : (h : HasServed old mid (streams r q w v) held count) (all left : List ℕ) (m : Message) (answer : Answer) (begun rest : List ℕ) → Holds q p held all → BeginsWith all m left → AnswersOne mid m answer new
+      → (mid.is_stopped ≡ true → new ≡ mid) → answer_bytes answer ≡ begun ++ rest → Appends v u begun → EndsShort Write old new (streams r p w u)
   message_cut h all left m answer begun rest (piece, more, e) begins one stays cut writes =
-      let s = serves_whole H G L M old mid new h.messages m answer h.serves one stays in
+      let s = serves_whole old mid new h.messages m answer h.serves one stays in
       let passes = passes_more h.messages (h.read ++ piece) all left m (subst (Passes (h.read ++ piece) h.messages) (sym e) (passes_on h.messages h.read held piece h.passes)) begins in
       let others = some_parts left in
       record {
@@ -188,12 +182,12 @@ unread_here p all none = subst IsUnreadable (append-nil all) (none [] (λ e. ref
 settles_unread : (p : Option (List ℕ)) (ms : List Message) (read all : List ℕ) → Passes read ms all → NoneComes all p → Settles read p (wholes ms ++ unreadable ∷ [])
 settles_unread p ms read all h none = λ more end. first_behind ms (read ++ more) (all ++ more) (unreadable ∷ []) (passes_on ms read all more h) (none more end, refl)
 
-module _ {H : Type 0} {L : List Content → Type 0} {old new : Stand} {r q p w v u : Option (List ℕ)} {held : List ℕ} {count : ℕ} where
+module _ {old new : DeskState} {r q p w v u : Option (List ℕ)} {held : List ℕ} {count : ℕ} where
   -- what came is no message
-  pub unreadable_served : (h : HasServed H L old new r q w v held count) (all : List ℕ) → Holds q p held all → NoneComes all p → Appends v u (answer_bytes message_answer)
-      → EndsWhole (record { answered = min (count + 1) (2 ^ 64 - 1); ending = BadMessage }) H L old new r p w u
+  pub unreadable_served : (h : HasServed old new (streams r q w v) held count) (all : List ℕ) → Holds q p held all → NoneComes all p → Appends v u (answer_bytes message_answer)
+      → EndsWhole (record { answered = min (count + 1) (2 ^ 64 - 1); ending = BadMessage }) old new (streams r p w u)
   unreadable_served h all (piece, more, e) none writes =
-      let s = serves_unreadable H L old new (wholes h.messages) h.serves in
+      let s = serves_unreadable old new (wholes h.messages) h.serves in
       let passes = subst (Passes (h.read ++ piece) h.messages) (sym e) (passes_on h.messages h.read held piece h.passes) in
       record {
         read = h.read ++ piece;
@@ -208,9 +202,9 @@ module _ {H : Type 0} {L : List Content → Type 0} {old new : Stand} {r q p w v
       }
 
   -- and writing that fails
-  pub unreadable_cut : (h : HasServed H L old new r q w v held count) (all begun rest : List ℕ) → Holds q p held all → NoneComes all p → answer_bytes message_answer ≡ begun ++ rest → Appends v u begun → EndsShort Write H L old new r p w u
+  pub unreadable_cut : (h : HasServed old new (streams r q w v) held count) (all begun rest : List ℕ) → Holds q p held all → NoneComes all p → answer_bytes message_answer ≡ begun ++ rest → Appends v u begun → EndsShort Write old new (streams r p w u)
   unreadable_cut h all begun rest (piece, more, e) none cut writes =
-      let s = serves_unreadable H L old new (wholes h.messages) h.serves in
+      let s = serves_unreadable old new (wholes h.messages) h.serves in
       let passes = subst (Passes (h.read ++ piece) h.messages) (sym e) (passes_on h.messages h.read held piece h.passes) in
       record {
         read = h.read ++ piece;
@@ -227,35 +221,22 @@ module _ {H : Type 0} {L : List Content → Type 0} {old new : Stand} {r q p w v
         unread = λ f. absurd (cc f);
       }
 
-module _ {H : Type 0} {L : List Content → Type 0} {old new : Stand} {r q w v : Option (List ℕ)} {held : List ℕ} {count : ℕ} (result : Result Served WebFault) (h : HasServed H L old new r q w v held count) (p u : Option (List ℕ)) (all : List ℕ) where
+module _ {old new : DeskState} {r q w v : Option (List ℕ)} {held : List ℕ} {count : ℕ} (result : Result Served WebFault) (h : HasServed old new (streams r q w v) held count) (p u : Option (List ℕ)) (all : List ℕ) where
   pub ended_unreadable : Holds q p held all → NoneComes all p → IfOk result (λ served. (served ≡ record { answered = min (count + 1) (2 ^ 64 - 1); ending = BadMessage }) × Appends v u (answer_bytes message_answer))
-      → IfOk result (λ served. EndsWhole served H L old new r p w u)
+      → IfOk result (λ served. EndsWhole served old new (streams r p w u))
   ended_unreadable holds none ends =
-      if_ok result _ _ ends (λ served one. subst (λ (s : Served). EndsWhole s H L old new r p w u) (sym one.0) (unreadable_served h all holds none one.1))
+      IfOk-weaker result _ _ (λ served one. subst (λ (s : Served). EndsWhole s old new (streams r p w u)) (sym one.0) (unreadable_served h all holds none one.1)) ends
 
   pub cut_unreadable : Holds q p held all → NoneComes all p
-      → IfErr result (λ fault. (fault ≡ Write) × (begun : List ℕ) × (left : List ℕ) × (answer_bytes message_answer ≡ begun ++ left) × Appends v u begun) → IfErr result (λ fault. EndsShort fault H L old new r p w u)
+      → IfErr result (λ fault. (fault ≡ Write) × (begun : List ℕ) × (left : List ℕ) × (answer_bytes message_answer ≡ begun ++ left) × Appends v u begun) → IfErr result (λ fault. EndsShort fault old new (streams r p w u))
   cut_unreadable holds none cut =
-      if_err result _ _ (λ fault (is, begun, left, split, writes). subst (λ (f : WebFault). EndsShort f H L old new r p w u) (sym is) (unreadable_cut h all begun left holds none split writes)) cut
-
-pub on_err : {A E : Type 0} (r : Result A E) (P Q : Type 0) → OnErr r P → (P → Q) → OnErr r Q
-on_err (Ok a) P Q h f = tt
-on_err (Err e) P Q h f = f h
-
--- a desk that is the same stays as it is
-pub stays_of : {K : Type 0} (H : K → Type 0) (L : K → List Content → Type 0) (is_stopped : K → Bool) (old new : DeskView K) → (H new.keep → H old.keep) → new ≡ old
-    → StaysStopped (H old.keep) (H new.keep) (L old.keep) (L new.keep) (stand old.ledger (is_stopped old.keep)) (stand new.ledger (is_stopped new.keep))
-stays_of {K} H L is_stopped old new honest same = record {
-  ledger = ap (λ (d : DeskView K). d.ledger) same;
-  honest = honest;
-  leaves = λ these h. subst (λ (d : DeskView K). L d.keep these) (sym same) h;
-}
+      of_error result _ _ (λ fault same (is, begun, left, split, writes). subst (λ (f : WebFault). EndsShort f old new (streams r p w u)) (sym is) (unreadable_cut h all begun left holds none split writes)) cut
 
 -- the input ends
-pub end_served : {H : Type 0} {L : List Content → Type 0} {old new : Stand} {r q p w v : Option (List ℕ)} {held : List ℕ} {count : ℕ} → HasServed H L old new r q w v held count → (all : List ℕ) → Holds q p held all → all ≡ [] → IsAtEnd p
-    → EndsWhole (record { answered = count; ending = Input }) H L old new r p w v
-end_served {H} {L} {old} {new} {r} {q} {p} {w} {v} {held} {count} h all (piece, more, e) none end =
-    let on : HasServed H L old new r p w v all count = record {
+pub end_served : {old new : DeskState} {r q p w v : Option (List ℕ)} {held : List ℕ} {count : ℕ} → HasServed old new (streams r q w v) held count → (all : List ℕ) → Holds q p held all → all ≡ [] → IsAtEnd p
+    → EndsWhole (record { answered = count; ending = Input }) old new (streams r p w v)
+end_served {old} {new} {r} {q} {p} {w} {v} {held} {count} h all (piece, more, e) none end =
+    let on : HasServed old new (streams r p w v) all count = record {
       read = h.read ++ piece;
       messages = h.messages;
       reads = Consumes-trans r q p h.read piece h.reads more;
@@ -264,4 +245,4 @@ end_served {H} {L} {old} {new} {r} {q} {p} {w} {v} {held} {count} h all (piece, 
       writes = h.writes;
       counts = h.counts;
     } in
-    served_whole (subst (λ (t : List ℕ). HasServed H L old new r p w v t count) none on) end
+    served_whole (subst (λ (t : List ℕ). HasServed old new (streams r p w v) t count) none on) end

@@ -1,18 +1,18 @@
 -- How far the serving of a connection has come (private: how one is served).
-use Rattle.std.specs.Prelude.{◌≡◌, ◌⊎◌, false, true, ℕ, List, [], ◌∷◌, Option}
+use Rattle.std.specs.Prelude.{◌≡◌, ◌⊎◌, false, true, ℕ, List, [], ◌∷◌}
 use Rattle.std.specs.Io.KnownBytes.{Appends, Consumes}
 use Rattle.words.specs.declared.command.Request.{Request}
 use Rattle.words.specs.declared.reply.Reply.{Reply}
 use Rattle.book.specs.Answers.{IsAccepted}
 use Rattle.book.specs.Next.{accept}
-use Rattle.book.specs.Rows.{Content}
-use Rattle.desk.specs.Desk.{LeavesEither}
+use Rattle.desk.specs.Desk.{DeskState, LeavesEither}
+use Rattle.desk.specs.Streams.{Streams}
 use Rattle.web.specs.Answers.{Answer, answer_bytes, answers_bytes, memory_answer, reply_answer, stopped_answer}
 use Rattle.web.specs.Asks.{AsksFor}
 use Rattle.web.specs.Fixed.{ready_bytes}
 use Rattle.web.specs.declared.fixed.Ready.{Ready}
 use Rattle.web.specs.Messages.{BeginsWith, Message, Part, whole}
-use Rattle.web.specs.Serving.{Serves, count_of}
+use Rattle.web.specs.Serving.{Serves, count_of, stand}
 use Rattle.web.specs.Web.{AnswersPart, Mark, RepliesAt, Stand, memory, plain, stopped}
 use Rattle.web.specs.declared.ask.Ask.{Ask}
 use Rattle.web.specs.declared.ask.Ask.TheVariants as ask
@@ -35,12 +35,11 @@ ToldBy old a stopped answer new =
     × (new.is_stopped ≡ true) × (new.ledger ≡ old.ledger)
 
 -- The answer to an ask: under some mark, and where its command stopped the desk, it is known what a stop leaves.
-pub record AnswersAsk (is_honest : Type 0) (leaves : List Content → Type 0) (old : Stand) (a : Ask) (answer : Answer)
-    (new : Stand) : Type 0 where
+pub record AnswersAsk (old : DeskState) (a : Ask) (answer : Answer) (new : DeskState) : Type 0 where
   pub mark : Mark
-  pub told : ToldBy old a mark answer new
-  pub stops : old.is_stopped ≡ false → new.is_stopped ≡ true → is_honest → (r : Request) × (a ≡ ask.Call r)
-      × (mark ≡ stopped) × IsAccepted new.ledger r × LeavesEither leaves new.ledger (accept new.ledger r)
+  pub told : ToldBy (stand old) a mark answer (stand new)
+  pub stops : old.is_stopped ≡ false → new.is_stopped ≡ true → new.is_honest → (r : Request) × (a ≡ ask.Call r)
+      × (mark ≡ stopped) × IsAccepted new.ledger r × LeavesEither new.leaves new.ledger (accept new.ledger r)
 
 -- what is to be written for a request with that reply, where memory is not refused for it
 abbrev pub IsTold : Reply → Ready → Type 0
@@ -56,26 +55,23 @@ abbrev pub IsNoCall : Ask → Type 0
 IsNoCall a = (r : Request) → a ≡ ask.Call r → ⊥
 
 -- what is to be written for an ask
-abbrev pub IsAnswered : (is_honest : Type 0) (leaves : List Content → Type 0) (old : Stand) (a : Ask) → Ready
-    → (new : Stand) → Type 0
-IsAnswered is_honest leaves old a ready new =
-    (answer : Answer) × AnswersAsk is_honest leaves old a answer new × (ready_bytes ready ≡ answer_bytes answer)
+abbrev pub IsAnswered : DeskState → Ask → Ready → DeskState → Type 0
+IsAnswered old a ready new =
+    (answer : Answer) × AnswersAsk old a answer new × (ready_bytes ready ≡ answer_bytes answer)
 
 -- The answer to one message: under some mark, and where its command stopped the desk, it is known what a stop leaves.
-pub record AnswersOne (is_honest : Type 0) (leaves : List Content → Type 0) (old : Stand) (m : Message)
-    (answer : Answer) (new : Stand) : Type 0 where
+pub record AnswersOne (old : DeskState) (m : Message) (answer : Answer) (new : DeskState) : Type 0 where
   pub mark : Mark
-  pub part : AnswersPart old (whole m) mark answer new
-  pub stops : old.is_stopped ≡ false → new.is_stopped ≡ true → is_honest → (r : Request) × AsksFor m (ask.Call r)
-      × (mark ≡ stopped) × IsAccepted new.ledger r × LeavesEither leaves new.ledger (accept new.ledger r)
+  pub part : AnswersPart (stand old) (whole m) mark answer (stand new)
+  pub stops : old.is_stopped ≡ false → new.is_stopped ≡ true → new.is_honest → (r : Request) × AsksFor m (ask.Call r)
+      × (mark ≡ stopped) × IsAccepted new.ledger r × LeavesEither new.leaves new.ledger (accept new.ledger r)
 
 -- The messages that have come are answered, but for what is held behind them.
-pub record HasServed (is_honest : Type 0) (leaves : List Content → Type 0) (old new : Stand)
-    (reader_old reader_new writer_old writer_new : Option (List ℕ)) (held : List ℕ) (count : ℕ) : Type 0 where
+pub record HasServed (old new : DeskState) (s : Streams) (held : List ℕ) (count : ℕ) : Type 0 where
   pub read : List ℕ
   pub messages : List Message
-  pub reads : Consumes reader_old reader_new read
+  pub reads : Consumes s.reader_old s.reader_new read
   pub passes : Passes read messages held
-  pub serves : Serves is_honest leaves old (wholes messages) new
-  pub writes : Appends writer_old writer_new (answers_bytes serves.answers)
+  pub serves : Serves old (wholes messages) new
+  pub writes : Appends s.writer_old s.writer_new (answers_bytes serves.answers)
   pub counts : count ≡ count_of serves.answers

@@ -1,6 +1,7 @@
 //! What is answered to an ask.
 
-ghost use Rattle.std.specs.Prelude.{◌≡◌, IfOk, IsTrue};
+ghost use Rattle.std.specs.Prelude.{IfOk};
+ghost use Rattle.desk.specs.Desk.{Goes, desk_state};
 ghost use Rattle.web.specs.Serving.{stand};
 ghost use Rattle.web.specs.Turns.{IsAnswered, IsNoCall, IsTold, Shows};
 ghost use Rattle.web.specs.declared.ask.Ask.TheVariants as ask;
@@ -28,12 +29,10 @@ fn told(alloc: Global, reply: Reply) -> Ready
 /// The answer to a request, which is called. It is made before the request is carried out, so that want of memory hides
 /// nothing that is done.
 fn answer_call<K: Keep>(alloc: Global, desk: &mut Desk<K>, request: &Request) -> Ready
-    ensures answers { IsAnswered (K.is_honest desk.new.keep) (K.leaves desk.new.keep)
-        (stand desk.old.ledger (K.stopped desk.old.keep)) (ask.Call request.now) result
-        (stand desk.new.ledger (K.stopped desk.new.keep)) }
-    ensures untouched { IsTrue (K.stopped desk.old.keep) → desk.new ≡ desk.old }
-    ensures honest { K.is_honest desk.new.keep → K.is_honest desk.old.keep }
+    ensures answers { IsAnswered (desk_state K.Keep desk.old) (ask.Call request.now) result (desk_state K.Keep desk.new) }
+    ensures goes { Goes K.Keep desk.old desk.new }
 {
+    desk.is_stopped();
     match desk.plan(alloc, request) {
         Ok(Planned::Again(place)) => told(alloc, Reply::Done(place)),
         Ok(Planned::Refused(refusal, line)) => told(alloc, Reply::Refused(refusal, line)),
@@ -55,7 +54,7 @@ fn answer_call<K: Keep>(alloc: Global, desk: &mut Desk<K>, request: &Request) ->
 /// The answer to an ask that calls nothing.
 fn answer_view<K: Keep>(alloc: Global, desk: &Desk<K>, ask: &Ask) -> Result<Ready, AllocError>
     requires { IsNoCall ask.now }
-    ensures { IfOk result (λ ready. Shows (stand desk.now.ledger (K.stopped desk.now.keep)) ask.now ready) }
+    ensures { IfOk result (λ ready. Shows (stand (desk_state K.Keep desk.now)) ask.now ready) }
 {
     match ask {
         Ask::Call(_) => unreachable!(),
@@ -69,12 +68,10 @@ fn answer_view<K: Keep>(alloc: Global, desk: &Desk<K>, ask: &Ask) -> Result<Read
 
 /// The answer to an ask. Where memory is refused for it, nothing is done.
 pub fn answer_ask<K: Keep>(alloc: Global, desk: &mut Desk<K>, ask: &Ask) -> Ready
-    ensures answers { IsAnswered (K.is_honest desk.new.keep) (K.leaves desk.new.keep)
-        (stand desk.old.ledger (K.stopped desk.old.keep)) ask.now result
-        (stand desk.new.ledger (K.stopped desk.new.keep)) }
-    ensures untouched { IsTrue (K.stopped desk.old.keep) → desk.new ≡ desk.old }
-    ensures honest { K.is_honest desk.new.keep → K.is_honest desk.old.keep }
+    ensures answers { IsAnswered (desk_state K.Keep desk.old) ask.now result (desk_state K.Keep desk.new) }
+    ensures goes { Goes K.Keep desk.old desk.new }
 {
+    desk.is_stopped();
     if let Ask::Call(request) = ask {
         return answer_call(alloc, desk, request);
     }

@@ -1,13 +1,14 @@
 //! A connection, served.
 
-ghost use Rattle.std.specs.Prelude.{◌≡◌, ◌++◌, ◌+◌, ◌-◌, ◌^◌, ◌≤◌, drop, false, length, List, ℕ, IfErr, IfOk, OnErr, OnOk, IsTrue, min};
+ghost use Rattle.std.specs.Prelude.{◌≡◌, ◌++◌, ◌+◌, ◌-◌, ◌^◌, ◌≤◌, drop, length, List, ℕ, IfErr, IfOk, OnErr, OnOk, min};
 ghost use Rattle.std.specs.Io.KnownBytes.{Appends};
-ghost use Rattle.desk.specs.Desk.{StaysStored};
+ghost use Rattle.desk.specs.Desk.{Goes, desk_state};
+ghost use Rattle.desk.specs.Streams.{streams};
 ghost use Rattle.web.specs.Answers.{Answer, answer_bytes, message_answer};
 ghost use Rattle.web.specs.Fixed.{ready_bytes};
 ghost use Rattle.web.specs.Intake.{IsMessageAt, IsMessageWithin};
 ghost use Rattle.web.specs.Messages.{Message};
-ghost use Rattle.web.specs.Serving.{EndsCut, EndsShort, EndsWhole, stand};
+ghost use Rattle.web.specs.Serving.{EndsCut, EndsWhole};
 ghost use Rattle.web.specs.Routes.{routes};
 ghost use Rattle.web.specs.Turns.{AnswersOne};
 
@@ -35,12 +36,11 @@ fn ready_for<K: Keep>(
     requires made { router.now ≡ routes }
     requires within { IsMessageWithin held.now found.now }
     ensures answers { (m : Message) → IsMessageAt held.now found.now m → (answer : Answer)
-        × AnswersOne (K.is_honest desk.new.keep) (K.leaves desk.new.keep)
-        (stand desk.old.ledger (K.stopped desk.old.keep)) m answer (stand desk.new.ledger (K.stopped desk.new.keep))
+        × AnswersOne (desk_state K.Keep desk.old) m answer (desk_state K.Keep desk.new)
         × (ready_bytes result ≡ answer_bytes answer) }
-    ensures untouched { IsTrue (K.stopped desk.old.keep) → desk.new ≡ desk.old }
-    ensures honest { K.is_honest desk.new.keep → K.is_honest desk.old.keep }
+    ensures goes { Goes K.Keep desk.old desk.new }
 {
+    desk.is_stopped();
     match ask_of(alloc, router, held, found) {
         Ok(ask) => answer_ask(alloc, desk, &ask),
         Err(_) => Ready::Fixed(Fixed::Memory),
@@ -59,16 +59,13 @@ fn answer_message<K: Keep, W: Write>(
     requires made { router.now ≡ routes }
     requires within { IsMessageWithin held.now found.now }
     ensures whole { OnOk result ((m : Message) → IsMessageAt held.now found.now m → (answer : Answer)
-        × AnswersOne (K.is_honest desk.new.keep) (K.leaves desk.new.keep)
-        (stand desk.old.ledger (K.stopped desk.old.keep)) m answer (stand desk.new.ledger (K.stopped desk.new.keep))
+        × AnswersOne (desk_state K.Keep desk.old) m answer (desk_state K.Keep desk.new)
         × Appends (W.contents writer.old) (W.contents writer.new) (answer_bytes answer)) }
     ensures cut { OnErr result ((m : Message) → IsMessageAt held.now found.now m → (answer : Answer) × (begun : List ℕ)
         × (left : List ℕ)
-        × AnswersOne (K.is_honest desk.new.keep) (K.leaves desk.new.keep)
-        (stand desk.old.ledger (K.stopped desk.old.keep)) m answer (stand desk.new.ledger (K.stopped desk.new.keep))
+        × AnswersOne (desk_state K.Keep desk.old) m answer (desk_state K.Keep desk.new)
         × (answer_bytes answer ≡ begun ++ left) × Appends (W.contents writer.old) (W.contents writer.new) begun) }
-    ensures untouched { IsTrue (K.stopped desk.old.keep) → desk.new ≡ desk.old }
-    ensures honest { K.is_honest desk.new.keep → K.is_honest desk.old.keep }
+    ensures goes { Goes K.Keep desk.old desk.new }
 {
     let ready = ready_for(alloc, router, desk, held, found);
     write_whole(writer, ready.as_bytes())
@@ -123,38 +120,13 @@ pub fn serve<K: Keep, R: Read, W: Write>(
     writer: &mut W,
     desk: &mut Desk<K>,
 ) -> Result<Served, WebFault>
-    ensures whole { IfOk result (λ served. EndsWhole served (K.is_honest desk.new.keep) (K.leaves desk.new.keep)
-        (stand desk.old.ledger (K.stopped desk.old.keep)) (stand desk.new.ledger (K.stopped desk.new.keep))
-        (R.remaining reader.old) (R.remaining reader.new) (W.contents writer.old) (W.contents writer.new)) }
-    ensures cut { IfErr result (λ fault. EndsCut fault (K.is_honest desk.new.keep) (K.leaves desk.new.keep)
-        (stand desk.old.ledger (K.stopped desk.old.keep)) (stand desk.new.ledger (K.stopped desk.new.keep))
-        (R.remaining reader.old) (R.remaining reader.new) (W.contents writer.old) (W.contents writer.new)) }
-    ensures untouched { IsTrue (K.stopped desk.old.keep) → desk.new ≡ desk.old }
-    ensures stored { StaysStored K.Keep desk.new }
-    ensures honest { K.is_honest desk.new.keep → K.is_honest desk.old.keep }
+    ensures whole { IfOk result (λ served. EndsWhole served (desk_state K.Keep desk.old) (desk_state K.Keep desk.new)
+        (streams (R.remaining reader.old) (R.remaining reader.new) (W.contents writer.old) (W.contents writer.new))) }
+    ensures cut { IfErr result (λ fault. EndsCut fault (desk_state K.Keep desk.old) (desk_state K.Keep desk.new)
+        (streams (R.remaining reader.old) (R.remaining reader.new) (W.contents writer.old) (W.contents writer.new))) }
+    ensures goes { Goes K.Keep desk.old desk.new }
 {
-    let ended = serve_all(alloc, reader, writer, desk);
-    desk.book();
     desk.is_stopped();
-    ended
-}
-
-/// The same, but for what goes on from a fault and what is always so of a desk.
-fn serve_all<K: Keep, R: Read, W: Write>(
-    alloc: Global,
-    reader: &mut R,
-    writer: &mut W,
-    desk: &mut Desk<K>,
-) -> Result<Served, WebFault>
-    ensures whole { IfOk result (λ served. EndsWhole served (K.is_honest desk.new.keep) (K.leaves desk.new.keep)
-        (stand desk.old.ledger (K.stopped desk.old.keep)) (stand desk.new.ledger (K.stopped desk.new.keep))
-        (R.remaining reader.old) (R.remaining reader.new) (W.contents writer.old) (W.contents writer.new)) }
-    ensures cut { IfErr result (λ fault. EndsShort fault (K.is_honest desk.new.keep) (K.leaves desk.new.keep)
-        (stand desk.old.ledger (K.stopped desk.old.keep)) (stand desk.new.ledger (K.stopped desk.new.keep))
-        (R.remaining reader.old) (R.remaining reader.new) (W.contents writer.old) (W.contents writer.new)) }
-    ensures untouched { IsTrue (K.stopped desk.old.keep) → desk.new ≡ desk.old }
-    ensures honest { K.is_honest desk.new.keep → K.is_honest desk.old.keep }
-{
     let Ok(router) = router(alloc) else {
         return Err(WebFault::Memory);
     };

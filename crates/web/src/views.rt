@@ -1,6 +1,7 @@
 //! What is answered to a view.
 
 ghost use Rattle.std.specs.Prelude.{IfOk};
+ghost use Rattle.desk.specs.Desk.{desk_state};
 ghost use Rattle.web.specs.Serving.{stand};
 ghost use Rattle.web.specs.Turns.{Shows};
 ghost use Rattle.web.specs.declared.ask.Ask.TheVariants as ask;
@@ -20,8 +21,7 @@ pub fn show_field<K: Keep>(
     branch: Branch,
     article: Article,
 ) -> Result<Ready, AllocError>
-    ensures { IfOk result (λ ready. Shows (stand desk.now.ledger (K.stopped desk.now.keep))
-        (ask.Field branch article) ready) }
+    ensures { IfOk result (λ ready. Shows (stand (desk_state K.Keep desk.now)) (ask.Field branch article) ready) }
 {
     if desk.is_stopped() {
         return Ok(Ready::Fixed(Fixed::Stopped));
@@ -38,7 +38,7 @@ pub fn show_order<K: Keep>(
     desk: &Desk<K>,
     number: OrderNo,
 ) -> Result<Ready, AllocError>
-    ensures { IfOk result (λ ready. Shows (stand desk.now.ledger (K.stopped desk.now.keep)) (ask.Order number) ready) }
+    ensures { IfOk result (λ ready. Shows (stand (desk_state K.Keep desk.now)) (ask.Order number) ready) }
 {
     if desk.is_stopped() {
         return Ok(Ready::Fixed(Fixed::Stopped));
@@ -55,7 +55,7 @@ pub fn show_sheet<K: Keep>(
     desk: &Desk<K>,
     branch: Branch,
 ) -> Result<Ready, AllocError>
-    ensures { IfOk result (λ ready. Shows (stand desk.now.ledger (K.stopped desk.now.keep)) (ask.Sheet branch) ready) }
+    ensures { IfOk result (λ ready. Shows (stand (desk_state K.Keep desk.now)) (ask.Sheet branch) ready) }
 {
     if desk.is_stopped() {
         return Ok(Ready::Fixed(Fixed::Stopped));

@@ -11,7 +11,7 @@ returns-clause-left g c honest =
     let same = sym c.into_keep.ensures.keep in
     let still = subst g.K.Keep.is_honest c.into_keep.ensures.keep honest in
     let left = run_left A c.run-run.new.self.ledger rs run _ _ c.into_keep.ensures.good c.run-run.ensures.replies
-    (λ went. c.run-run.ensures.stored (c.run-run.ensures.going went ∙ c.requires) still)
+    (λ went. c.run-run.ensures.goes.stored (c.run-run.ensures.stop.going went ∙ c.requires) still)
     c.run-run.ensures.all
     (λ is. c.run-run.ensures.either c.requires is still) in
     subst (λ k. LeavesRowsOf (g.K.Keep.leaves k) (IsFoundAfter A rs run)) same left

@@ -1,6 +1,6 @@
 use Rattle.std.proofs.Common.{◌≡◌, arith, rules}
 use Rattle.std.specs.Prelude.{IfOk}
-use Rattle.desk.specs.Desk.{keeper_after}
+use Rattle.desk.specs.Opening.{keeper_after}
 use Rattle.desk.specs.Headline.{IsFoundAfter, answered}
 use Rattle.desk.proofs.FoundAfter.{rest_of, resumed_of, some_of, whole_of}
 use Rattle.desk.proofs.Resumption.{few}

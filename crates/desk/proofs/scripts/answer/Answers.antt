@@ -11,6 +11,6 @@ returns-clause-cut g c =
     let line = take-append-drop begun.0 text ∙ c.deref.ensures.value in (
       take begun.0 text,
       begun.2,
-      cut_within _ _ _ _ _ _ (take begun.0 text) (drop begun.0 text)
-          (subst (λ (l : List ℕ). Replies c.args.desk.now.ledger c.args.item.now l c.line_of.new.desk.ledger) (sym line) c.in_ok-line.ensures.line) c.in_ok-line.ensures.may,
+      cut_within _ _ _ (take begun.0 text) (drop begun.0 text)
+          (subst (λ (l : List ℕ). Replies c.args.desk.now.ledger c.args.item.now l c.line_of.new.desk.ledger) (sym line) c.in_ok-line.ensures.line) c.in_ok-line.ensures.may c.in_ok-line.ensures.same,
     )

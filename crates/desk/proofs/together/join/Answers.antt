@@ -1,5 +1,4 @@
-use Rattle.std.proofs.Common.{[], ◌++◌, ◌∙◌, ◌∷◌, List, ap, refl, subst, sym, true≢false}
-use Rattle.words.specs.declared.reply.Reply.{Reply}
+use Rattle.std.proofs.Common.{◌∙◌, ap, refl, subst, sym, true≢false}
 use Rattle.words.specs.declared.reply.Reply.TheVariants.{Done, Refused}
 use Rattle.book.specs.PlanAnswers.{Plans}
 use Rattle.book.specs.declared.book.plan.Planned.TheVariants as planned

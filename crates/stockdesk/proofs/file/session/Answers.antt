@@ -24,4 +24,5 @@ pub returns-clause-goes_on : goal.returns-clause-goes_on
 returns-clause-goes_on g c clean A x good rows there =
     let opened = c.in_ok-keep.ensures.opened in
     let was = c.session.ensures.honest clean in
-    c.session.ensures.goes_on clean A x good rows (opened.held was x there) (opened.alone was x there)
+    let goes = c.session.ensures.goes_on clean A x good rows (opened.held was x there) (opened.alone was x there) in
+    record { opens = goes.opens; leaves = goes.leaves }

@@ -1,5 +1,4 @@
-use Rattle.std.proofs.Common.{Err, IfErr, Ok, Result, ap, inl, inr, refl, subst, sym, ◌≡◌, ◌∙◌}
-use Rattle.std.proofs.lemmas.Result.{on_ok_weaker}
+use Rattle.std.proofs.Common.{Err, IfErr, Ok, OnOk, Result, ap, inl, inr, refl, subst, sym, ◌≡◌, ◌∙◌}
 use Rattle.sqlite.specs.Effect.{Database}
 use Rattle.sqlite.specs.Files.{file_state}
 use Rattle.sqlite.specs.State.{HasCleanDisk}
@@ -17,13 +16,15 @@ use Rattle.stockdesk.proofs.file.upgrade.Goals as goal
 held_old : (g : _) (c : goal.After-upgrade g) (clean : HasCleanDisk (file_state c.in_ok-keep.keep.connection)) (x : Content) → StartsOld (image_at g.S.Start) x → HoldsOld (file_state c.in_ok-keep.keep.connection).now x
 held_old g c clean x there = (there.0, there.1, c.in_ok-keep.ensures.old clean there.0 x there.2)
 
+both_ok : {T E A B C : Type 0} (r : Result T E) → (A → B → C) → OnOk r A → OnOk r B → OnOk r C
+both_ok (Ok x) both a b = both a b
+both_ok (Err e) both a b = tt
+
 pub returns-clause-made : goal.returns-clause-made
 returns-clause-made g c clean =
-    on_ok_weaker c.upgrade.result.1 (λ made x there. made x (held_old g c (c.upgrade.ensures.clean clean) x there)) (c.upgrade.ensures.upgrades clean).made
-
-pub returns-clause-same : goal.returns-clause-same
-returns-clause-same g c clean =
-    on_ok_weaker c.upgrade.result.1 (λ same x there. same x (c.in_ok-keep.ensures.opened.held (c.upgrade.ensures.clean clean) x there)) (c.upgrade.ensures.upgrades clean).same
+    let was = c.upgrade.ensures.clean clean in
+    let upgrades = c.upgrade.ensures.upgrades clean in
+    both_ok c.upgrade.result.1 (λ made same x. (λ there. made x (held_old g c was x there), λ there. same x (c.in_ok-keep.ensures.opened.held was x there))) upgrades.made upgrades.same
 
 pub returns-clause-alone : goal.returns-clause-alone
 returns-clause-alone g c clean = (c.upgrade.ensures.upgrades clean).alone

@@ -1,26 +1,37 @@
-use Rattle.std.proofs.Common.{◌∙◌, refl, rules, sym}
-use Rattle.stockdesk.proofs.Connections.{goes_on, passes, serves_none, serves_one, serves_so_far}
+use Rattle.std.proofs.Common.{[], ◌∙◌, refl, rules, sym}
+use Rattle.desk.proofs.GoesOn.{goes_on, goes_same}
+use Rattle.desk.specs.Desk.{desk_state}
+use Rattle.stockdesk.specs.Connections.{listening}
+use Rattle.stockdesk.proofs.Connections.{passes, serves_one, serves_so_far}
 use Rattle.stockdesk.proofs.loopback.serve_all.Goals as goal
 
 pub loop-turn-init : goal.loop-turn-init
-loop-turn-init g c = record { going = search rules; served = serves_none _ _ _ _; honest = λ h. h }
+loop-turn-init g c = record { going = search rules; served = ([], refl, refl, refl); goes = goes_same _ _ c.is_stopped.ensures.in_order.good c.is_stopped.ensures.in_order.stored }
 
 pub returns-in_default-clause-cut : goal.returns-in_default-clause-cut
-returns-in_default-clause-cut g c = serves_so_far _ _ _ _ _ _ _ _ (search rules) c.loop-turn.invariant.going c.loop-turn.invariant.served
+returns-in_default-clause-cut g c = serves_so_far _ _ _ (desk_state g.K.Keep c.loop-turn.desk) _ _ _ _ (search rules) c.loop-turn.invariant.served
+
+pub returns-in_default-clause-stop : goal.returns-in_default-clause-stop
+returns-in_default-clause-stop g c = record { stopped = λ is. absurd (cc is); going = λ other. c.loop-turn.invariant.going ∙ sym c.requires.going }
 
 pub returns-then-is_stopped-clause-cut : goal.returns-then-is_stopped-clause-cut
 returns-then-is_stopped-clause-cut g c =
-    let pass = passes g.L.Listen.comes g.L.Listen.closes g.L.Reader.Read.remaining g.L.Writer.Write.contents _ _ _ _ _ _ _ c.in-Ok.ensures c.close.ensures in
-    serves_so_far _ _ _ _ _ _ _ _ (search rules) refl
-    (serves_one _ _ _ _ _ _ _ _ _ _ _ _ _ _ c.loop-turn.invariant.going c.loop-turn.invariant.served pass c.serve_one.ensures.served)
+    let pass = passes (listening g.L.Listen.comes g.L.Listen.closes g.L.Reader.Read.remaining g.L.Writer.Write.contents) _ _ _ _ _ _ _ c.in-Ok.ensures c.close.ensures in
+    serves_so_far _ _ _ (desk_state g.K.Keep c.serve_one.new.desk) _ _ _ _ (search rules)
+    (serves_one _ _ _ (desk_state g.K.Keep c.loop-turn.desk) (desk_state g.K.Keep c.serve_one.new.desk) _ _ _ _ _ _ c.loop-turn.invariant.going c.loop-turn.invariant.served pass c.serve_one.ensures.served)
+
+pub returns-then-is_stopped-clause-stop : goal.returns-then-is_stopped-clause-stop
+returns-then-is_stopped-clause-stop g c = record { stopped = λ is. sym c.is_stopped-in-loop-turn.ensures.stopped ∙ c.if-is_stopped.true; going = λ other. absurd (other refl) }
+
+pub returns-then-is_stopped-clause-goes : goal.returns-then-is_stopped-clause-goes
+returns-then-is_stopped-clause-goes g c = goes_on _ _ _ _ c.loop-turn.invariant.goes c.serve_one.ensures.goes
 
 pub loop-turn-preserved : goal.loop-turn-preserved
 loop-turn-preserved g c =
-    let going = sym c.is_stopped.ensures.stopped ∙ c.if-is_stopped.false in
-    let pass = passes g.L.Listen.comes g.L.Listen.closes g.L.Reader.Read.remaining g.L.Writer.Write.contents _ _ _ _ _ _ _ c.in-Ok.ensures c.close.ensures in
+    let going = sym c.is_stopped-in-loop-turn.ensures.stopped ∙ c.if-is_stopped.false in
+    let pass = passes (listening g.L.Listen.comes g.L.Listen.closes g.L.Reader.Read.remaining g.L.Writer.Write.contents) _ _ _ _ _ _ _ c.in-Ok.ensures c.close.ensures in
     record {
       going = going;
-      served = goes_on _ _ _ _ _ _ going
-          (serves_one _ _ _ _ _ _ _ _ _ _ _ _ _ _ c.loop-turn.invariant.going c.loop-turn.invariant.served pass c.serve_one.ensures.served);
-      honest = λ h. c.loop-turn.invariant.honest (c.serve_one.ensures.honest h);
+      served = serves_one _ _ _ (desk_state g.K.Keep c.loop-turn.desk) (desk_state g.K.Keep c.serve_one.new.desk) _ _ _ _ _ _ c.loop-turn.invariant.going c.loop-turn.invariant.served pass c.serve_one.ensures.served;
+      goes = goes_on _ _ _ _ c.loop-turn.invariant.goes c.serve_one.ensures.goes;
     }

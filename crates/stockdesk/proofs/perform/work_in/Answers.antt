@@ -5,13 +5,13 @@ use Rattle.stockdesk.proofs.WorkParts.{works_in_part, works_nothing, works_untou
 use Rattle.stockdesk.proofs.perform.work_in.Goals as goal
 
 pub returns-in_err-keep-clause-beginning : goal.returns-in_err-keep-clause-beginning
-returns-in_err-keep-clause-beginning g c = on_err c.from_residual.result (works_nothing _ _ _ _ _ c.in_err-keep.ensures.unopened)
+returns-in_err-keep-clause-beginning g c = on_err c.from_residual.result (works_nothing _ _ c.in_err-keep.ensures.unopened)
 
 pub returns-clause-whole : goal.returns-clause-whole
-returns-clause-whole g c = on_ok_weaker c.in_ok-keep.ended (λ s. works_whole _ _ _ _ _ _ _ _ s) c.in_ok-keep.ensures.whole
+returns-clause-whole g c = on_ok_weaker c.in_ok-keep.ended (λ s. works_whole _ _ _ s) c.in_ok-keep.ensures.whole
 
 pub returns-clause-beginning : goal.returns-clause-beginning
-returns-clause-beginning g c = on_error c.in_ok-keep.ended _ _ (λ fault s. works_in_part _ _ _ _ _ _ _ fault _ _ _ s) c.in_ok-keep.ensures.cut
+returns-clause-beginning g c = on_error c.in_ok-keep.ended _ _ (λ fault s. works_in_part _ _ _ fault s) c.in_ok-keep.ensures.cut
 
 pub returns-clause-untouched : goal.returns-clause-untouched
-returns-clause-untouched g c = of_error c.in_ok-keep.ended _ _ (λ fault is s. works_untouched _ _ _ _ _ _ _ fault _ _ _ s) c.in_ok-keep.ensures.cut
+returns-clause-untouched g c = of_error c.in_ok-keep.ended _ _ (λ fault is s. works_untouched _ _ _ fault s) c.in_ok-keep.ensures.cut

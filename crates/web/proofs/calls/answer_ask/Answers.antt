@@ -1,6 +1,9 @@
 use Rattle.std.proofs.Common.{refl}
-use Rattle.web.proofs.CommandAnswers.{nothing_done}
+use Rattle.web.proofs.CommandAnswers.{nothing_done, viewed}
 use Rattle.web.proofs.calls.answer_ask.Goals as goal
 
-pub returns-in-Err : goal.returns-in-Err
-returns-in-Err g c = record { answers = nothing_done c.args.desk.now.ledger c.args.desk.now.ledger (g.K.Keep.stopped c.args.desk.now.keep) (g.K.Keep.stopped c.args.desk.now.keep) c.args.ask.now refl refl; untouched = λ e. refl; honest = λ h. h }
+pub returns-in-Ok-clause-answers : goal.returns-in-Ok-clause-answers
+returns-in-Ok-clause-answers g c = viewed _ c.args.ask.now c.in-Ok.ready c.in-Ok.ensures
+
+pub returns-in-Err-clause-answers : goal.returns-in-Err-clause-answers
+returns-in-Err-clause-answers g c = nothing_done _ _ c.args.ask.now refl

@@ -1,4 +1,5 @@
 use Rattle.std.proofs.Common.{refl, subst, sym}
+use Rattle.desk.specs.Desk.{desk_state}
 use Rattle.web.specs.Answers.{bad_answer, none_answer}
 use Rattle.web.specs.Turns.{Shows}
 use Rattle.web.specs.Serving.{stand}
@@ -11,10 +12,10 @@ use Rattle.web.proofs.calls.answer_view.Goals as goal
 
 pub returns-in-BadCall : goal.returns-in-BadCall
 returns-in-BadCall g c =
-    subst (λ (a : Ask). Shows (stand c.args.desk.now.ledger (g.K.Keep.stopped c.args.desk.now.keep)) a (ready.Fixed fixed.BadCommand)) (sym c.in-BadCall.is)
-    (always_given c.args.desk.now.ledger (g.K.Keep.stopped c.args.desk.now.keep) ask.BadCall bad_answer refl (refl, refl))
+    subst (λ (a : Ask). Shows (stand (desk_state g.K.Keep c.args.desk.now)) a (ready.Fixed fixed.BadCommand)) (sym c.in-BadCall.is)
+    (always_given (stand (desk_state g.K.Keep c.args.desk.now)) ask.BadCall bad_answer refl (refl, refl))
 
 pub returns-in-Nothing : goal.returns-in-Nothing
 returns-in-Nothing g c =
-    subst (λ (a : Ask). Shows (stand c.args.desk.now.ledger (g.K.Keep.stopped c.args.desk.now.keep)) a (ready.Fixed fixed.Nothing)) (sym c.in-Nothing.is)
-    (always_given c.args.desk.now.ledger (g.K.Keep.stopped c.args.desk.now.keep) ask.Nothing none_answer refl (refl, refl))
+    subst (λ (a : Ask). Shows (stand (desk_state g.K.Keep c.args.desk.now)) a (ready.Fixed fixed.Nothing)) (sym c.in-Nothing.is)
+    (always_given (stand (desk_state g.K.Keep c.args.desk.now)) ask.Nothing none_answer refl (refl, refl))

@@ -1,4 +1,4 @@
-use Rattle.std.proofs.Common.{◌≡◌, ◌∙◌, false, ap, subst, sym, ℕ}
+use Rattle.std.proofs.Common.{◌≡◌, ◌∙◌, false, true≢false, ap, subst, sym, ℕ}
 use Rattle.words.specs.declared.reply.Reply.TheVariants.{Done}
 use Rattle.book.specs.Answers.{Answers}
 use Rattle.book.specs.Ledger.{Ledger}
@@ -19,20 +19,25 @@ returns-in_default-commit-clause-either g c e honest =
     (g.K.Keep.holds c.self.inside.keep) (g.K.Keep.leaves c.self.inside.keep) (g.K.Keep.leaves c.commit.new.self)
     (c.self.invariant.stored going (c.commit.ensures.honest honest)) (c.commit.ensures.either honest going))
 
-pub returns-clause-lasting : goal.returns-clause-lasting
-returns-clause-lasting g c honest =
-    let same : c.args.self.now.ledger ≡ c.self.inside.book.ledger = sym (ap (λ d. d.ledger) c.self.view_is) in
-    let going : g.K.Keep.stopped c.self.inside.keep ≡ false = subst (λ k. g.K.Keep.stopped k ≡ false) (sym (ap (λ d. d.keep) c.self.view_is)) c.requires.going in
-    stored_next c.self.inside.book.ledger c.adopt.new.self.ledger c.args.plan c.changes.result.now c.self.invariant.good c.requires.key c.requires.command
-    (subst (λ A. Fits A c.args.plan) same c.requires.fits) c.changes.ensures (c.adopt.ensures.next ∙ ap (λ A. accept A c.args.plan.request) c.make_room.ensures.same)
-    (g.K.Keep.holds c.self.inside.keep) (g.K.Keep.holds c.commit.new.self) (g.K.Keep.leaves c.self.inside.keep) (g.K.Keep.leaves c.commit.new.self)
-    (c.self.invariant.stored going (c.commit.ensures.honest honest)) (c.in-Ok-commit.ensures.put honest) (c.in-Ok-commit.ensures.alone honest)
-
-pub returns-clause-stored : goal.returns-clause-stored
-returns-clause-stored g c going honest = returns-clause-lasting g c honest
-
 pub invariant_of-self-2 : goal.invariant_of-self-2
-invariant_of-self-2 g c = record { good = c.adopt.ensures.good; stored = λ going honest. returns-clause-lasting g c honest }
+invariant_of-self-2 g c = record {
+  good = c.adopt.ensures.good;
+  stored = λ still honest.
+      let same : c.args.self.now.ledger ≡ c.self.inside.book.ledger = sym (ap (λ d. d.ledger) c.self.view_is) in
+      let going : g.K.Keep.stopped c.self.inside.keep ≡ false = subst (λ k. g.K.Keep.stopped k ≡ false) (sym (ap (λ d. d.keep) c.self.view_is)) c.requires.going in
+      stored_next c.self.inside.book.ledger c.adopt.new.self.ledger c.args.plan c.changes.result.now c.self.invariant.good c.requires.key c.requires.command
+      (subst (λ A. Fits A c.args.plan) same c.requires.fits) c.changes.ensures (c.adopt.ensures.next ∙ ap (λ A. accept A c.args.plan.request) c.make_room.ensures.same)
+      (g.K.Keep.holds c.self.inside.keep) (g.K.Keep.holds c.commit.new.self) (g.K.Keep.leaves c.self.inside.keep) (g.K.Keep.leaves c.commit.new.self)
+      (c.self.invariant.stored going (c.commit.ensures.honest honest)) (c.in-Ok-commit.ensures.put honest) (c.in-Ok-commit.ensures.alone honest);
+}
+
+pub returns-clause-goes : goal.returns-clause-goes
+returns-clause-goes g c = record {
+  untouched = λ halted. absurd (true≢false (sym halted ∙ c.requires.going));
+  good = c.adopt.ensures.good;
+  stored = (invariant_of-self-2 g c).stored;
+  honest = λ h. subst (λ k. g.K.Keep.is_honest k) (ap (λ d. d.keep) c.self.view_is) (c.commit.ensures.honest h);
+}
 
 pub returns-clause-answer : goal.returns-clause-answer
 returns-clause-answer g c =

@@ -1,6 +1,7 @@
-use Rattle.std.proofs.Common.{◌≡◌, ◌≢◌, ◌∙◌, [], List, ap, false, length, rules, subst, sym, take, true≢false}
+use Rattle.std.proofs.Common.{◌≡◌, ◌∙◌, [], List, ap, false, length, rules, subst, sym, take, true≢false}
 use Rattle.std.specs.Prelude.{◌==◌}
 use Rattle.book.specs.declared.rows.Change.{Change}
+use Rattle.desk.specs.Desk.{desk_state}
 use Rattle.desk.specs.Text.{RepliesAll, items_of}
 use Rattle.desk.specs.Together.{FailsAt, IsBatch}
 use Rattle.desk.specs.declared.run.Ending.TheVariants.{Stopped}
@@ -40,8 +41,8 @@ returns-clause-failed g c is = elim c.match-commit.branch [
   | in-Ok w ↦ absurd (w.told-in-Ok.ensures.going (ap (λ (t : Told). t.run.ending) (sym w.result-is) ∙ is))
   | in-Err w ↦ (
     search rules,
-    subst (λ A. FailsAt (g.K.Keep.is_honest c.commit.new.self) (g.K.Keep.leaves c.commit.new.self) A c.args.requests.now [] c.plan_batch-batch.new.book.ledger) (ap (λ d. d.ledger) c.self.view_is)
-        (batch_fails _ (g.K.Keep.holds c.self.inside.keep) (g.K.Keep.leaves c.self.inside.keep) (g.K.Keep.leaves c.commit.new.self) c.self.inside.book.ledger c.plan_batch-batch.new.book.ledger c.args.requests.now _ c.deref.result.now
+    subst (λ d. FailsAt (desk_state g.K.Keep d) c.args.requests.now [] (desk_state g.K.Keep (record { ledger = c.plan_batch-batch.new.book.ledger; keep = c.commit.new.self }))) c.self.view_is
+        (batch_fails _ _ (g.K.Keep.holds c.self.inside.keep) c.args.requests.now _ c.deref.result.now
         c.plan_batch-batch.ensures.so_far c.plan_batch-batch.ensures.few c.self.invariant.good c.deref.ensures.value
         (λ none. let empty : c.deref.result.now ≡ [] = none in true≢false (sym (c.is_empty.ensures ∙ ap (λ n. n == 0) (sym c.deref.ensures.len ∙ ap (λ (cs : List Change). length cs) empty)) ∙ c.if-is_empty.false))
         (λ honest. c.self.invariant.stored (subst (λ k. g.K.Keep.stopped k ≡ false) (sym (ap (λ d. d.keep) c.self.view_is)) c.requires) (c.commit.ensures.honest honest))

@@ -4,6 +4,7 @@ use Rattle.words.specs.declared.command.Request.{Request}
 use Rattle.words.specs.declared.reply.Reply.{Reply}
 use Rattle.book.specs.Answers.{Runs}
 use Rattle.desk.specs.declared.run.Ending.TheVariants.{All, Stopped}
+use Rattle.desk.proofs.GoesOn.{goes_on}
 use Rattle.desk.proofs.Batches.{batch_runs, none_told, run_further, slice_is, told_so_far}
 use Rattle.desk.proofs.desk.Desk.run_together.Goals as goal
 
@@ -37,12 +38,14 @@ loop-alloc-preserved g c =
     let longer : length c.append.new.items.items ≡ length ps + length qs = ap (λ (xs : List Reply). length xs) c.append.ensures.items ∙ length-append ps qs in
     let len = c.append.ensures.len in
     let room = c.append.ensures.capacity in
-    let (run, within, fits, goes, honest, stored) = c.loop-alloc.invariant in (
+    let (run, within, fits, going_before, goes) = c.loop-alloc.invariant in (
       run_further c.args.self.now.ledger c.loop-alloc.self.ledger c.run_batch.new.self.ledger rs c.len-in-loop-alloc.result ps qs c.append.new.items.items size run c.append.ensures.items
           (subst (λ (xs : List Request). Runs c.loop-alloc.self.ledger (take (length qs) xs) qs c.run_batch.new.self.ledger) (slice_is rs c.len-in-loop-alloc.result) (batch_runs _ _ _ _ (c.run_batch.ensures.kept going))),
       omega arith,
       omega arith,
-      c.run_batch.ensures.going going,
-      λ is. honest (c.run_batch.ensures.honest is),
-      λ is. c.run_batch.ensures.stored (c.run_batch.ensures.going going) is,
+      c.run_batch.ensures.stop.going going ∙ going_before,
+      goes_on _ _ _ _ goes c.run_batch.ensures.goes,
     )
+
+pub returns-then-ne-clause-goes : goal.returns-then-ne-clause-goes
+returns-then-ne-clause-goes g c = goes_on _ _ _ _ c.loop-alloc.invariant.4 c.run_batch.ensures.goes

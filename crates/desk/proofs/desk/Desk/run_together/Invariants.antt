@@ -2,7 +2,7 @@
 use Rattle.std.proofs.Common.{◌≡◌, ◌+◌, ◌≤◌, ◌-◌, false, length, take}
 use Rattle.std.specs.Vec.{vec_capacity, vec_len}
 use Rattle.book.specs.Answers.{Runs}
-use Rattle.desk.specs.Desk.{IsStored}
+use Rattle.desk.specs.Desk.{Goes}
 use Rattle.desk.proofs.desk.Desk.run_together.Given as goal
 
 abbrev pub invariant-loop-alloc : goal.invariant-loop-alloc
@@ -11,8 +11,7 @@ invariant-loop-alloc g l =
     × (length l.replies.items ≤ length l.requests)
     × (vec_len l.replies + (length l.requests - length l.replies.items) ≤ vec_capacity l.replies)
     × (g.K.Keep.stopped l.self.keep ≡ false)
-    × (g.K.Keep.is_honest l.self.keep → g.K.Keep.is_honest l.fn.self.keep)
-    × (g.K.Keep.is_honest l.self.keep → IsStored (g.K.Keep.holds l.self.keep) (g.K.Keep.leaves l.self.keep) l.self.ledger)
+    × Goes g.K.Keep l.fn.self l.self
 
 abbrev pub decreases-loop-alloc : goal.decreases-loop-alloc
 decreases-loop-alloc g l = length l.requests - length l.replies.items

@@ -1,0 +1,26 @@
+-- What a dialogue reads and writes.
+use Rattle.std.specs.Prelude.{ℕ, List, None, Option}
+use Rattle.std.specs.Io.KnownBytes.{Keeps}
+
+-- what there is to read, and what was written, before it and after it, where the reader and the writer tell their bytes
+pub record Streams : Type 0 where
+  pub reader_old : Option (List ℕ)
+  pub reader_new : Option (List ℕ)
+  pub writer_old : Option (List ℕ)
+  pub writer_new : Option (List ℕ)
+
+abbrev pub streams : (reader_old reader_new writer_old writer_new : Option (List ℕ)) → Streams
+streams reader_old reader_new writer_old writer_new = record {
+  reader_old = reader_old;
+  reader_new = reader_new;
+  writer_old = writer_old;
+  writer_new = writer_new;
+}
+
+-- those of a dialogue that reads nothing
+abbrev pub only_written : (writer_old writer_new : Option (List ℕ)) → Streams
+only_written writer_old writer_new = streams None None writer_old writer_new
+
+-- nothing is read, and nothing written
+abbrev pub IsSilent : Streams → Type 0
+IsSilent s = Keeps s.reader_old s.reader_new × Keeps s.writer_old s.writer_new
