@@ -106,7 +106,8 @@ class Desk:
             found = []
         versions = [version for version, _ in found]
         if versions != [VERSION]:
-            raise NoDesk("old version" if versions == [VERSION - 1] else "not a desk")
+            older = len(versions) == 1 and versions[0] in range(1, VERSION)
+            raise NoDesk("old version" if older else "not a desk")
         self.clock = found[0][1]
 
     def rows(self, query: str) -> list[tuple]:

@@ -1,5 +1,5 @@
 -- What is true of every keeper.
-use Rattle.std.proofs.Common.{◌≡◌, inl, inr, suc, [], ◌∷◌, List, ap, arith, refl, subst, sym}
+use Rattle.std.proofs.Common.{◌≡◌, ◌-◌, get_or, length, inl, inr, suc, [], ◌∷◌, List, ap, arith, refl, subst, sym}
 use Rattle.std.specs.List.{Any}
 use Rattle.std.proofs.Math.Logic.{∥∥₁_elim, ∥∥₁_map}
 use Rattle.sqlite.specs.Table.{Table}
@@ -7,7 +7,7 @@ use Rattle.sqlite.specs.Schema.{Schema}
 use Rattle.sqlite.specs.Effect.{Database}
 use Rattle.sqlite_trees.specs.Tree.{Trees}
 use Rattle.book.specs.Rows.{Content}
-use Rattle.keep.specs.Description.{declared, desk_schema}
+use Rattle.keep.specs.Description.{all_tables, declared, desk_schema, newest, since}
 use Rattle.keep.specs.Content.{HasTables, Holds, IsAmong, LeavesOnly, MayLeave}
 use Rattle.keep.specs.Old.{IsOld}
 use Rattle.keep.specs.OneContent.{is_now, only_content}
@@ -47,9 +47,14 @@ named [] t h = absurd h
 named (u ∷ us) t (inl e) = (0, u, omega arith, refl, sym (ap (λ v. v.name) e))
 named (u ∷ us) t (inr h) = let more = named us t h in (suc more.0, more.1, omega (arith, more.2), more.3, more.4)
 
--- a store of an older version lacks a table of the newest
+-- the newest version has brought the table that is made last
+brought_last : (t : TableName) × (since t ≡ newest)
+brought_last = (get_or all_tables (length all_tables - 1) table.Desk, refl)
+
+-- a store of an older version lacks that
 pub old_is_apart : (db : Database) (x : Content) → IsOld db → HasTables db x → ⊥
-old_is_apart db x old has = old.2.no_later table.Firm (omega (arith, old.1.1)) (named _ _ (has table.Firm).1)
+old_is_apart db x old has =
+    let t = brought_last in old.2.no_later t.0 (omega (arith, old.1.1, t.1)) (named _ _ (has t.0).1)
 
 -- each table lies in the schema of a desk as it is made
 pub is_among : (t : TableName) → IsAmong desk_schema.tables (declared t)

@@ -1,7 +1,8 @@
 //! The tables of a desk, and the texts of their statements.
 
 ghost use Rattle.std.specs.Prelude.{◌≡◌, ◌≤◌, ℕ, is_some, map};
-ghost use Rattle.keep.specs.Description.{all_tables, declared, newest, schema_of, since, tables_after, tables_of};
+ghost use Rattle.keep.specs.Description.{all_tables, declared, desk_schema, newest, schema_of, tables_after, tables_of};
+ghost use Rattle.keep.specs.declared.description.TableName.TheVariants as TableName;
 ghost use Rattle.keep.specs.Schema.{column};
 ghost use Rattle.keep.specs.Statements.{ListsTable, MakesTable, PutsRow};
 
@@ -55,7 +56,9 @@ pub(crate) fn create_text(table: TableName) -> &'static str
 
 /// Shows all rows of the table, by its key, with the rowid of each last where that is not the key.
 pub(crate) fn select_text(table: TableName) -> &'static str
-    ensures { (version : ℕ) → since table ≤ version → version ≤ newest → ListsTable (schema_of version) table result.now }
+    ensures newest { ListsTable desk_schema table result.now }
+    ensures desk { table ≡ TableName.Desk → (version : ℕ) → 1 ≤ version → version ≤ newest
+        → ListsTable (schema_of version) TableName.Desk result.now }
 {
     match table {
         TableName::Desk => "SELECT one, version, clock, places FROM desk ORDER BY one",

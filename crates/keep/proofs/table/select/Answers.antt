@@ -1,13 +1,11 @@
 use Rattle.sqlite.specs.Held.{state}
-use Rattle.std.proofs.Common.{arith}
-use Rattle.keep.specs.Description.{desk_schema, newest}
-use Rattle.keep.specs.OneContent.{is_now}
+use Rattle.keep.specs.Description.{desk_schema}
 use Rattle.keep.specs.Statements.{ListsTable}
 use Rattle.keep.proofs.Selects.{plain_if, rows_if, same_if, survives_if}
 use Rattle.keep.proofs.table.select.Goals as goal
 
 lists : (g : _) (c : goal.After-all_rows g) → ListsTable desk_schema g.R.Table.which c.select_text.result.now
-lists g c = (rw c.name.ensures at c.select_text.ensures) newest (is_now g.R.Table.which) (omega arith)
+lists g c = rw c.name.ensures at c.select_text.ensures.newest
 
 pub returns-clause-rows : goal.returns-clause-rows
 returns-clause-rows g c clean has =
