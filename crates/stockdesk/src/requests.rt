@@ -13,7 +13,7 @@ ghost use Rattle.stockdesk.specs.Sessions.{IsBadFile, IsCutAs, IsNoDesk, IsUnbeg
 ghost use Rattle.words.specs.declared.command.Request.{Request};
 ghost use Rattle.files.specs.declared.fault.FileFault.{FileFault};
 
-use crate::session::{Fault, script_fault};
+use crate::session::Fault;
 use desk::{Desk, answer_all, answer_together};
 use files::{FileFault, read_bounds, read_deliveries, read_orders};
 use keep::Keep;
@@ -96,7 +96,7 @@ fn answer_items<K: Keep, W: Write>(
 {
     match answer_all(alloc, items, writer, desk) {
         Ok(()) => Ok(()),
-        Err(fault) => Err(script_fault(fault)),
+        Err(fault) => Err(Fault::from(fault)),
     }
 }
 
@@ -120,7 +120,7 @@ fn answer_lists<K: Keep, W: Write>(
 {
     match answer_together(alloc, requests, most, writer, desk) {
         Ok(()) => Ok(()),
-        Err(fault) => Err(script_fault(fault)),
+        Err(fault) => Err(Fault::from(fault)),
     }
 }
 

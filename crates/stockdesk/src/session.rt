@@ -10,10 +10,9 @@ ghost use Rattle.desk.specs.Script.{EndsWhole};
 ghost use Rattle.desk.specs.Streams.{streams};
 ghost use Rattle.stockdesk.specs.Sessions.{IsNoDesk, IsToldAs, IsUnbegun, ScriptCut, SessionRefused, session_on};
 
-use desk::{Desk, OpenFault, ScriptFault, script};
+use desk::{Desk, OpenFault, ScriptFault};
 use keep::Keep;
 use std::alloc::Global;
-use std::io::{Read, Write};
 use thiserror::Error;
 
 /// Why a session ended early.
@@ -60,16 +59,18 @@ fn open_fault(fault: OpenFault) -> Fault
     }
 }
 
-/// The fault that one of the script is told as.
-pub fn script_fault(fault: ScriptFault) -> Fault
-    ensures told { IsToldAs fault result }
-    ensures begun { ¬ IsUnbegun result }
-{
-    match fault {
-        ScriptFault::Memory => Fault::Memory,
-        ScriptFault::Stopped => Fault::Store,
-        ScriptFault::Read => Fault::Read,
-        ScriptFault::Write => Fault::Write,
+impl From<ScriptFault> for Fault {
+    ghost use Rattle.stockdesk.specs.Sessions.{IsToldAs};
+
+    ghost from_gives = { λ cause fault. IsToldAs cause fault };
+
+    fn from(cause: ScriptFault) -> Fault {
+        match cause {
+            ScriptFault::Memory => Fault::Memory,
+            ScriptFault::Stopped => Fault::Store,
+            ScriptFault::Read => Fault::Read,
+            ScriptFault::Write => Fault::Write,
+        }
     }
 }
 
@@ -92,26 +93,5 @@ pub fn open_desk<K: Keep>(alloc: Global, keep: K) -> Result<Desk<K>, (Fault, K)>
     match Desk::open(alloc, keep) {
         Ok(desk) => Ok(desk),
         Err((fault, keep)) => Err((open_fault(fault), keep)),
-    }
-}
-
-/// Plays a script on a desk.
-pub fn play<K: Keep, R: Read, W: Write>(
-    alloc: Global,
-    desk: &mut Desk<K>,
-    reader: &mut R,
-    writer: &mut W,
-) -> Result<(), Fault>
-    ensures whole { OnOk result (EndsWhole (desk_state K.Keep desk.old) (desk_state K.Keep desk.new)
-        (streams (R.remaining reader.old) (R.remaining reader.new) (W.contents writer.old) (W.contents writer.new))) }
-    ensures cut { IfErr result (λ fault. ScriptCut fault (desk_state K.Keep desk.old) (desk_state K.Keep desk.new)
-        (streams (R.remaining reader.old) (R.remaining reader.new) (W.contents writer.old) (W.contents writer.new))) }
-    ensures desk { IfErr result (λ fault. ¬ IsNoDesk fault) }
-    ensures stop { TellsStop (result ≡ Err Fault.Store) (desk_state K.Keep desk.old) (desk_state K.Keep desk.new) }
-    ensures goes { Goes K.Keep desk.old desk.new }
-{
-    match script(alloc, reader, writer, desk) {
-        Ok(()) => Ok(()),
-        Err(fault) => Err(script_fault(fault)),
     }
 }

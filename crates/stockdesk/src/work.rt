@@ -11,9 +11,9 @@ ghost use Rattle.stockdesk.specs.Work.{GoesOnFrom, WorkCut, WorkDone, WorkInPart
 
 use crate::loopback::{Service, serve_desk};
 use crate::requests::{Kind, answer_file};
-use crate::session::{Fault, open_desk, play};
+use crate::session::{Fault, open_desk};
 use crate::sheet::{Shown, show_book};
-use desk::Desk;
+use desk::{Desk, script};
 use keep::Keep;
 use std::io::{Read, Write};
 use std::num::NonZeroUsize;
@@ -49,7 +49,7 @@ fn work_on<K: Keep, R: Read, W: Write>(
     ensures goes { Goes K.Keep desk.old desk.new }
 {
     match work {
-        Work::Script => play(rt.alloc(), desk, reader, writer),
+        Work::Script => Ok(script(rt.alloc(), reader, writer, desk)?),
         Work::Requests(kind, path, together) => {
             answer_file(rt, desk, *kind, *path, *together, writer)
         }
