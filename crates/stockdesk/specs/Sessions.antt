@@ -9,6 +9,7 @@ use Rattle.desk.specs.Desk.{DeskState, DeskView, IsStored, desk_state}
 use Rattle.desk.specs.Opening.{IsLeft}
 use Rattle.desk.specs.Script.{EndsCut}
 use Rattle.desk.specs.Streams.{Streams}
+use Rattle.desk.specs.declared.fault.OpenFault.{OpenFault}
 use Rattle.desk.specs.declared.fault.ScriptFault.{ScriptFault}
 use Rattle.stockdesk.specs.declared.session.Fault.{Fault}
 
@@ -55,6 +56,15 @@ IsBadFile fault = (fault ≡ Fault.Csv) ⊎ ((number : ℕ) × (fault ≡ Fault.
 -- nothing is begun where there is no desk, or no file of requests
 abbrev pub IsUnbegun : Fault → Type 0
 IsUnbegun fault = IsNoDesk fault ⊎ IsBadFile fault
+
+-- a fault of the opening is told as the program's
+pub record IsOpenFault (cause : OpenFault) (fault : Fault) : Type 0 where
+  pub not_a_desk : fault ≡ Fault.NotADesk ↔ cause ≡ OpenFault.NotADesk
+  pub old_version : fault ≡ Fault.OldVersion ↔ cause ≡ OpenFault.OldVersion
+  pub damaged : fault ≡ Fault.Damaged ↔ cause ≡ OpenFault.Damaged
+  pub memory : fault ≡ Fault.Memory ↔ cause ≡ OpenFault.Memory
+  pub store : fault ≡ Fault.Store ↔ cause ≡ OpenFault.Store
+  pub opening : IsNoDesk fault ⊎ ((fault ≡ Fault.Memory) ⊎ (fault ≡ Fault.Store))
 
 -- ---- sessions, whatever is done on the desk from its first state to its last
 

@@ -54,7 +54,7 @@ fn look(rt: &HostRuntime, path: &str) -> Result<Found, Fault>
 }
 
 /// The fault that an error of an opening is told as.
-fn open_fault(error: Error) -> Fault
+fn store_fault(error: Error) -> Fault
     ensures memory { result ≡ Fault.Memory ↔ error ≡ Error.SqliteFailure ErrorCode.OutOfMemory }
     ensures store { (result ≡ Fault.Memory) ⊎ (result ≡ Fault.Store) }
 {
@@ -103,7 +103,7 @@ fn make<S: Start>(
 {
     match Connection::open_from(rt, path, false, start) {
         Ok(conn) => make_over(conn),
-        Err((error, _)) => Err(open_fault(error)),
+        Err((error, _)) => Err(store_fault(error)),
     }
 }
 
@@ -144,7 +144,7 @@ pub fn open<S: Start>(
         Found::Directory | Found::OneByte => Err(Fault::Store),
         Found::File => match open_path(rt, path, start) {
             Ok(keep) => Ok(keep),
-            Err(error) => Err(open_fault(error)),
+            Err(error) => Err(store_fault(error)),
         },
     }
 }

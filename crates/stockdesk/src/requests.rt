@@ -1,15 +1,11 @@
 //! A file of requests, answered by a desk.
 
-ghost use Rattle.std.specs.Prelude.{◌≡◌, ◌⊎◌, ◌++◌, Err, IfErr, IfOk, IfSome, List, OnOk};
-ghost use Rattle.std.specs.Int.NonZero.{non_zero_usize_get};
-ghost use Rattle.std.specs.Io.KnownBytes.{Appends};
+ghost use Rattle.std.specs.Prelude.{◌≡◌, ◌⊎◌, Err, IfErr, IfOk, IfSome, List, OnOk};
 ghost use Rattle.desk.specs.Desk.{Goes, TellsStop, desk_state};
-ghost use Rattle.desk.specs.Script.{IsCut, Writes};
 ghost use Rattle.desk.specs.Streams.{only_written};
 ghost use Rattle.desk.specs.Text.{items_of};
-ghost use Rattle.desk.specs.Together.{IsCutTogether};
 ghost use Rattle.stockdesk.specs.Requests.{FileCut, IsFileFault, IsFileOf, NamesFirstOf, RequestsAnswered};
-ghost use Rattle.stockdesk.specs.Sessions.{IsBadFile, IsCutAs, IsNoDesk, IsUnbegun};
+ghost use Rattle.stockdesk.specs.Sessions.{IsBadFile, IsNoDesk, IsUnbegun};
 ghost use Rattle.words.specs.declared.command.Request.{Request};
 ghost use Rattle.files.specs.declared.fault.FileFault.{FileFault};
 
@@ -43,20 +39,25 @@ fn read<R: Read + Drop>(alloc: Global, kind: Kind, reader: R) -> Result<Vec<Requ
     }
 }
 
-/// The fault that one of the file is told as.
-fn file_fault(fault: FileFault) -> Fault
-    ensures told { IsFileFault fault result }
-    ensures file { (result ≡ Fault.Memory) ⊎ IsBadFile result }
-{
-    match fault {
-        FileFault::BadRecord(number) => Fault::BadRecord(number),
-        FileFault::Memory => Fault::Memory,
-        FileFault::Io => Fault::Csv,
+impl From<FileFault> for Fault {
+    ghost use Rattle.std.specs.Prelude.{◌≡◌, ◌⊎◌};
+    ghost use Rattle.stockdesk.specs.Requests.{IsFileFault};
+    ghost use Rattle.stockdesk.specs.Sessions.{IsBadFile};
+    ghost use Rattle.stockdesk.specs.declared.session.Fault.{Fault};
+
+    ghost from_gives = { λ cause fault. IsFileFault cause fault × ((fault ≡ Fault.Memory) ⊎ IsBadFile fault) };
+
+    fn from(cause: FileFault) -> Fault {
+        match cause {
+            FileFault::BadRecord(number) => Fault::BadRecord(number),
+            FileFault::Memory => Fault::Memory,
+            FileFault::Io => Fault::Csv,
+        }
     }
 }
 
 /// The fault that an error of opening the file is told as.
-fn open_fault(kind: ErrorKind) -> Fault
+fn csv_fault(kind: ErrorKind) -> Fault
     ensures { (result ≡ Fault.Memory) ⊎ IsBadFile result }
 {
     match kind {
@@ -74,53 +75,6 @@ fn items_in(alloc: Global, requests: Vec<Request>) -> Result<Vec<Item>, Fault>
     match items.collect(alloc) {
         Ok(items) => Ok(items),
         Err(_) => Err(Fault::Memory),
-    }
-}
-
-/// Answers items on a desk, one after the other.
-fn answer_items<K: Keep, W: Write>(
-    alloc: Global,
-    desk: &mut Desk<K>,
-    items: &[Item],
-    writer: &mut W,
-) -> Result<(), Fault>
-    ensures whole { (requests : List Request) → items.now ≡ items_of requests
-        → OnOk result (RequestsAnswered requests desk.old.ledger desk.new.ledger
-        (only_written (W.contents writer.old) (W.contents writer.new))) }
-    ensures cut { (requests : List Request) → items.now ≡ items_of requests → IfErr result (λ fault. IsCutAs fault
-        (λ cause. Writes (W.contents writer.old) (W.contents writer.new) (λ written.
-        IsCut cause (desk_state K.Keep desk.old) (items_of requests) written (desk_state K.Keep desk.new)))) }
-    ensures begun { IfErr result (λ fault. ¬ IsUnbegun fault) }
-    ensures stop { TellsStop (result ≡ Err Fault.Store) (desk_state K.Keep desk.old) (desk_state K.Keep desk.new) }
-    ensures goes { Goes K.Keep desk.old desk.new }
-{
-    match answer_all(alloc, items, writer, desk) {
-        Ok(()) => Ok(()),
-        Err(fault) => Err(Fault::from(fault)),
-    }
-}
-
-/// Answers requests on a desk, so many together.
-fn answer_lists<K: Keep, W: Write>(
-    alloc: Global,
-    desk: &mut Desk<K>,
-    requests: &[Request],
-    most: NonZeroUsize,
-    writer: &mut W,
-) -> Result<(), Fault>
-    ensures whole { OnOk result (RequestsAnswered requests.now desk.old.ledger desk.new.ledger
-        (only_written (W.contents writer.old) (W.contents writer.new))) }
-    ensures cut { IfErr result (λ fault. IsCutAs fault (λ cause.
-        (cut : IsCutTogether cause (non_zero_usize_get most) (desk_state K.Keep desk.old) requests.now
-        (desk_state K.Keep desk.new)) × Appends (W.contents writer.old) (W.contents writer.new)
-        (cut.lines ++ cut.begun))) }
-    ensures begun { IfErr result (λ fault. ¬ IsUnbegun fault) }
-    ensures stop { TellsStop (result ≡ Err Fault.Store) (desk_state K.Keep desk.old) (desk_state K.Keep desk.new) }
-    ensures goes { Goes K.Keep desk.old desk.new }
-{
-    match answer_together(alloc, requests, most, writer, desk) {
-        Ok(()) => Ok(()),
-        Err(fault) => Err(Fault::from(fault)),
     }
 }
 
@@ -142,13 +96,10 @@ fn answer_requests<K: Keep, W: Write>(
 {
     desk.is_stopped();
     match together {
-        Some(most) => answer_lists(alloc, desk, &requests, most, writer),
+        Some(most) => Ok(answer_together(alloc, &requests, most, writer, desk)?),
         None => {
-            let items = match items_in(alloc, requests) {
-                Ok(items) => items,
-                Err(fault) => return Err(fault),
-            };
-            answer_items(alloc, desk, &items, writer)
+            let items = items_in(alloc, requests)?;
+            Ok(answer_all(alloc, &items, writer, desk)?)
         }
     }
 }
@@ -174,10 +125,7 @@ fn answer_from<K: Keep, R: Read + Drop, W: Write>(
     ensures goes { Goes K.Keep desk.old desk.new }
 {
     desk.is_stopped();
-    let requests = match read(alloc, kind, reader) {
-        Ok(requests) => requests,
-        Err(fault) => return Err(file_fault(fault)),
-    };
+    let requests = read(alloc, kind, reader)?;
     answer_requests(alloc, desk, requests, together, writer)
 }
 
@@ -203,6 +151,6 @@ pub fn answer_file<K: Keep, W: Write>(
     desk.is_stopped();
     match File::open(rt, path) {
         Ok(reader) => answer_from(rt.alloc(), desk, kind, reader, together, writer),
-        Err(error) => Err(open_fault(error.kind())),
+        Err(error) => Err(csv_fault(error.kind())),
     }
 }

@@ -1,14 +1,11 @@
-//! The desk that a keeper holds: opened, and a script played on it.
+//! The desk that a keeper holds, opened; and why a session ended early.
 
-ghost use Rattle.std.specs.Prelude.{◌≡◌, ◌↔◌, ◌⊎◌, false, Err, IfErr, IfOk, IsTrue, OnOk};
+ghost use Rattle.std.specs.Prelude.{◌≡◌, ◌⊎◌, false, Err, IfErr, IfOk, IsTrue};
 ghost use Rattle.book.specs.Good.{Good};
 ghost use Rattle.book.specs.Ledger.{Ledger};
 ghost use Rattle.book.specs.Rows.{Content, IsRowsOf};
-ghost use Rattle.desk.specs.Desk.{Goes, TellsStop, desk_state};
 ghost use Rattle.desk.specs.Opening.{IsOpened, keeper_after};
-ghost use Rattle.desk.specs.Script.{EndsWhole};
-ghost use Rattle.desk.specs.Streams.{streams};
-ghost use Rattle.stockdesk.specs.Sessions.{IsNoDesk, IsToldAs, IsUnbegun, ScriptCut, SessionRefused, session_on};
+ghost use Rattle.stockdesk.specs.Sessions.{SessionRefused, session_on};
 
 use desk::{Desk, OpenFault, ScriptFault};
 use keep::Keep;
@@ -41,21 +38,19 @@ pub enum Fault {
     Csv,
 }
 
-/// The fault that one of the opening is told as.
-fn open_fault(fault: OpenFault) -> Fault
-    ensures not_a_desk { result ≡ Fault.NotADesk ↔ fault ≡ OpenFault.NotADesk }
-    ensures old_version { result ≡ Fault.OldVersion ↔ fault ≡ OpenFault.OldVersion }
-    ensures damaged { result ≡ Fault.Damaged ↔ fault ≡ OpenFault.Damaged }
-    ensures memory { result ≡ Fault.Memory ↔ fault ≡ OpenFault.Memory }
-    ensures store { result ≡ Fault.Store ↔ fault ≡ OpenFault.Store }
-    ensures opening { IsNoDesk result ⊎ ((result ≡ Fault.Memory) ⊎ (result ≡ Fault.Store)) }
-{
-    match fault {
-        OpenFault::NotADesk => Fault::NotADesk,
-        OpenFault::OldVersion => Fault::OldVersion,
-        OpenFault::Damaged => Fault::Damaged,
-        OpenFault::Memory => Fault::Memory,
-        OpenFault::Store => Fault::Store,
+impl From<OpenFault> for Fault {
+    ghost use Rattle.stockdesk.specs.Sessions.{IsOpenFault};
+
+    ghost from_gives = { λ cause fault. IsOpenFault cause fault };
+
+    fn from(cause: OpenFault) -> Fault {
+        match cause {
+            OpenFault::NotADesk => Fault::NotADesk,
+            OpenFault::OldVersion => Fault::OldVersion,
+            OpenFault::Damaged => Fault::Damaged,
+            OpenFault::Memory => Fault::Memory,
+            OpenFault::Store => Fault::Store,
+        }
     }
 }
 
@@ -92,6 +87,6 @@ pub fn open_desk<K: Keep>(alloc: Global, keep: K) -> Result<Desk<K>, (Fault, K)>
 {
     match Desk::open(alloc, keep) {
         Ok(desk) => Ok(desk),
-        Err((fault, keep)) => Err((open_fault(fault), keep)),
+        Err((fault, keep)) => Err((Fault::from(fault), keep)),
     }
 }

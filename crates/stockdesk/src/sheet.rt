@@ -17,28 +17,23 @@ pub enum Shown {
     OfArticle(Article),
 }
 
-/// Writes a sheet of a book.
-fn write<W: Write>(
-    alloc: Global,
-    book: &Book,
-    shown: &Shown,
-    writer: &mut W,
-) -> Result<(), SheetFault>
-    ensures whole { OnOk result (SheetWritten shown.now book.now.ledger (W.contents writer.old)
-        (W.contents writer.new)) }
-    ensures cut { IfErr result (λ fault. ((fault ≡ SheetFault.Memory) → SheetCut shown.now Fault.Memory book.now.ledger
-        (W.contents writer.old) (W.contents writer.new))
-        × ((fault ≡ SheetFault.Io) → SheetCut shown.now Fault.Write book.now.ledger (W.contents writer.old)
-        (W.contents writer.new))) }
-{
-    match shown {
-        Shown::OfBranch(branch) => branch_sheet(alloc, book, *branch, writer),
-        Shown::OfArticle(article) => article_sheet(alloc, book, *article, writer),
+impl From<SheetFault> for Fault {
+    ghost use Rattle.std.specs.Prelude.{◌≡◌, ◌⊎◌};
+    ghost use Rattle.files.specs.declared.fault.SheetFault.{SheetFault};
+    ghost use Rattle.stockdesk.specs.declared.session.Fault.{Fault};
+
+    ghost from_gives = { λ cause fault. ((cause ≡ SheetFault.Memory) × (fault ≡ Fault.Memory))
+        ⊎ ((cause ≡ SheetFault.Io) × (fault ≡ Fault.Write)) };
+
+    fn from(cause: SheetFault) -> Fault {
+        match cause {
+            SheetFault::Memory => Fault::Memory,
+            SheetFault::Io => Fault::Write,
+        }
     }
 }
 
-/// The same, with the fault as the program tells it. Want of memory leaves nothing written, and a failing write a
-/// beginning.
+/// Writes a sheet of a book. Want of memory leaves nothing written, and a failing write a beginning.
 pub fn show_book<W: Write>(
     alloc: Global,
     book: &Book,
@@ -51,9 +46,8 @@ pub fn show_book<W: Write>(
         (W.contents writer.new)) }
     ensures fault { IfErr result (λ fault. (fault ≡ Fault.Memory) ⊎ (fault ≡ Fault.Write)) }
 {
-    match write(alloc, book, shown, writer) {
-        Ok(()) => Ok(()),
-        Err(SheetFault::Memory) => Err(Fault::Memory),
-        Err(SheetFault::Io) => Err(Fault::Write),
+    match shown {
+        Shown::OfBranch(branch) => Ok(branch_sheet(alloc, book, *branch, writer)?),
+        Shown::OfArticle(article) => Ok(article_sheet(alloc, book, *article, writer)?),
     }
 }

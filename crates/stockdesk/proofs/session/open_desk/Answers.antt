@@ -3,7 +3,7 @@ use Rattle.stockdesk.proofs.session.open_desk.Goals as goal
 
 pub returns-in-Err-clause-held : goal.returns-in-Err-clause-held
 returns-in-Err-clause-held g c =
-    let told = c.open_fault.ensures in
+    let told = c.from.ensures in
     let why = c.in-Err.ensures.unopened in
     record {
       not_a_desk = λ is. why.not_a_desk (told.not_a_desk.0 is);
@@ -16,8 +16,8 @@ returns-in-Err-clause-held g c =
     }
 
 pub returns-in-Err-clause-old_version : goal.returns-in-Err-clause-old_version
-returns-in-Err-clause-old_version g c is honest = c.in-Err.ensures.unopened.old_version (c.open_fault.ensures.old_version.0 is) honest
+returns-in-Err-clause-old_version g c is honest = c.in-Err.ensures.unopened.old_version (c.from.ensures.old_version.0 is) honest
 
 pub returns-in-Err-clause-nothing_else : goal.returns-in-Err-clause-nothing_else
 returns-in-Err-clause-nothing_else g c honest A x good rows held =
-    elim (c.in-Err.ensures.nothing_else honest A x good rows held) [ inl e ↦ inl (c.open_fault.ensures.memory.1 e) | inr e ↦ inr (c.open_fault.ensures.store.1 e) ]
+    elim (c.in-Err.ensures.nothing_else honest A x good rows held) [ inl e ↦ inl (c.from.ensures.memory.1 e) | inr e ↦ inr (c.from.ensures.store.1 e) ]
