@@ -21,7 +21,7 @@ pub record IsOpened {K : Type 0} (g : Ghosts K) (keep : K) (desk : DeskView K) :
   pub rows : g.is_honest desk.keep → (x : Content) → g.holds keep x → IsRowsOf desk.ledger x
 
 -- What a fault tells of a keeper, and of that keeper given back: if the disk is honest, what was held is damaged, no desk or
--- of version 1 where that is told. What could not be read has stopped it.
+-- of an older version where that is told. What could not be read has stopped it.
 pub record IsUnopened {K : Type 0} (g : Ghosts K) (keep : K) (fault : OpenFault) (back : K) : Type 0 where
   pub damaged : fault ≡ Damaged → g.is_honest back → (x : Content) → g.holds keep x → IsDamaged x
   pub loaded : fault ≡ Damaged → g.stopped back ≡ false

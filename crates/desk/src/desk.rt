@@ -47,10 +47,10 @@ impl<K: Keep> Model for Desk<K> {
 impl<K: Keep> Desk<K> {
     /// Opens the desk whose rows the keeper holds. An error gives the keeper back.
     ///
-    /// `NotADesk` only where the keeper does not hold the seven tables with one row of `desk` of version 2, `OldVersion` only
-    /// where what it holds is of version 1, and there nothing else but `Memory` and `Store`; `Damaged` only where the
-    /// rows are those of no good ledger; `Store` where the store fails or the keeper is stopped, `Memory` where memory
-    /// is refused.
+    /// `NotADesk` only where the keeper does not hold the seven tables with one row of `desk` of the newest version,
+    /// `OldVersion` only where what it holds is of an older one, and there nothing else but `Memory` and `Store`;
+    /// `Damaged` only where the rows are those of no good ledger; `Store` where the store fails or the keeper is
+    /// stopped, `Memory` where memory is refused.
     pub fn open(alloc: Global, keep: K) -> Result<Desk<K>, (OpenFault, K)>
         ensures refused { IsTrue (K.stopped keep) → result ≡ Err (OpenFault.Store, keep) }
         ensures opened { IfOk result (λ desk. IsOpened K.Keep keep desk) }

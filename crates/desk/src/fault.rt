@@ -11,10 +11,10 @@ pub enum OpenFault {
     /// The tables are the rows of no good ledger.
     #[error("damaged")]
     Damaged,
-    /// The keeper does not hold the seven tables with one row of `desk` of version 2, and is not of version 1.
+    /// The keeper does not hold the seven tables with one row of `desk` of the newest version, and is of no older one.
     #[error("not a desk")]
     NotADesk,
-    /// What the keeper holds is of version 1: the tables without `firm`, and one row of `desk` of version 1.
+    /// What the keeper holds is of an older version: its tables, and one row of `desk` of that version.
     #[error("old version")]
     OldVersion,
     /// There is no memory for it.

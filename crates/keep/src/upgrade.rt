@@ -47,8 +47,6 @@ fn upgrade<S: Alter>(conn: &mut Connection<S>, version: usize) -> Result<(), Kee
     ensures survives { Survives (state S.Store conn.old) (state S.Store conn.new)
         (AreUpgraded (state S.Store conn.old).now) }
 {
-    // between transactions an open store shows what is committed
-    let _settled = conn.is_autocommit();
     let row = match load_desk(conn, version) {
         Ok(Some(row)) => row,
         Ok(None) => return Err(KeepFault::NotADesk),

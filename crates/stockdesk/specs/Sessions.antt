@@ -45,7 +45,7 @@ pub record IsToldAs (cause : ScriptFault) (fault : Fault) : Type 0 where
 abbrev pub IsNotOpened : Fault → Type 0
 IsNotOpened fault = (fault ≡ Fault.NotADesk) ⊎ ((fault ≡ Fault.Memory) ⊎ (fault ≡ Fault.Store))
 
--- the file, or what else is held, is no desk, damaged or of version 1
+-- the file, or what else is held, is no desk, damaged or of an older version
 abbrev pub IsNoDesk : Fault → Type 0
 IsNoDesk fault = (fault ≡ Fault.NotADesk) ⊎ ((fault ≡ Fault.Damaged) ⊎ (fault ≡ Fault.OldVersion))
 

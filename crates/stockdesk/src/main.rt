@@ -65,8 +65,8 @@ fn tell<E: Write>(errors: &mut E, line: &[u8], status: u8) -> u8
 }
 
 /// Does what the words ask for, of which the first is the program's name, and gives the status to end with: 0 where it
-/// is done, 1 after a fault, 2 for words that ask for nothing, 3 where the file is no desk, damaged or of version 1, 4
-/// where a file of requests cannot be read or has a record at fault. All but 0 is told on `errors`.
+/// is done, 1 after a fault, 2 for words that ask for nothing, 3 where the file is no desk, damaged or of an older
+/// version, 4 where a file of requests cannot be read or has a record at fault. All but 0 is told on `errors`.
 pub fn go<'a, R, W, E>(
     rt: &HostRuntime,
     words: &'a [&'a str],

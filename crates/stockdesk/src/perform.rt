@@ -40,7 +40,7 @@ fn work_in<R: Read, W: Write>(
     ended
 }
 
-/// Makes version 2 of the desk in the file at the path, and closes it.
+/// Makes the newest version of the desk in the file at the path, and closes it.
 fn upgrade_file(rt: &HostRuntime, path: &str) -> Result<(), Fault>
     ensures { IfErr result IsNotOpened }
 {

@@ -70,8 +70,8 @@ impl From<ScriptFault> for Fault {
 }
 
 /// Opens the desk that a keeper holds. Where none is opened the keeper holds what it held, and nothing is added to what
-/// a stop may leave. A keeper that was stopped comes back as it was. `OldVersion` only where the store is of version 1,
-/// and there nothing else but `Memory` and `Store`.
+/// a stop may leave. A keeper that was stopped comes back as it was. `OldVersion` only where the store is of an older
+/// version, and there nothing else but `Memory` and `Store`.
 pub fn open_desk<K: Keep>(alloc: Global, keep: K) -> Result<Desk<K>, (Fault, K)>
     ensures opened { IfOk result (λ desk. IsOpened K.Keep keep desk) }
     ensures old_version { IfErr result (λ e. e.0 ≡ Fault.OldVersion → K.is_honest e.1 → K.is_old keep) }

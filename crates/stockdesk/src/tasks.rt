@@ -37,7 +37,7 @@ pub enum Task<'a> {
     Sheet(&'a str, Shown),
     /// The desk in this file, served.
     Serve(&'a str, Service),
-    /// The desk in this file, made one of version 2.
+    /// The desk in this file, made one of the newest version.
     Upgrade(&'a str),
 }
 

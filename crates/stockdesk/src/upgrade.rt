@@ -1,4 +1,4 @@
-//! A desk of version 2 in place of one of version 1.
+//! A desk of the newest version in place of one of an older.
 
 ghost use Rattle.std.specs.Prelude.{◌≡◌, ◌↔◌, false, IfErr};
 ghost use Rattle.sqlite.specs.Held.{state};
@@ -23,7 +23,7 @@ fn upgrade_fault(fault: KeepFault) -> Fault
     }
 }
 
-/// Makes version 2 of what the connection shows, where that is of version 1; version 2 is left alone.
+/// Makes the newest version of what the connection shows, where that is of an older one; the newest is left alone.
 fn upgrade_over<S: Alter>(conn: &mut Connection<S>) -> Result<(), Fault>
     requires { conn.old.in_transaction ≡ false }
     ensures idle { conn.new.in_transaction ≡ false }
@@ -38,8 +38,8 @@ fn upgrade_over<S: Alter>(conn: &mut Connection<S>) -> Result<(), Fault>
     }
 }
 
-/// Makes version 2 of what a keeper holds, where that is of version 1; version 2 is left alone. The keeper that comes
-/// back goes on, over what is held then.
+/// Makes the newest version of what a keeper holds, where that is of an older one; the newest is left alone. The keeper
+/// that comes back goes on, over what is held then.
 pub fn upgrade<S: Alter>(keep: SqlKeep<S>) -> (SqlKeep<S>, Result<(), Fault>)
     ensures going { result.0.stopped ≡ false }
     ensures clean { HasCleanDisk (state S.Store result.0.connection) → HasCleanDisk (state S.Store keep.connection) }

@@ -79,7 +79,7 @@ pub fn session<K: Keep, R: Read, W: Write>(
         (streams (R.remaining reader.old) (R.remaining reader.new) (W.contents writer.old) (W.contents writer.new))) }
     ensures cut { IfErr result.1 (λ fault. WorkInPart (session_on K.Keep keep result.0) work.now fault
         (streams (R.remaining reader.old) (R.remaining reader.new) (W.contents writer.old) (W.contents writer.new))) }
-    // what is of version 1 is told as that, and as nothing else but want of memory or the store
+    // what is of an older version is told as that, and as nothing else but want of memory or the store
     ensures old { K.is_honest result.0 → K.stopped keep ≡ false → K.is_old keep → (result.1 ≡ Err Fault.OldVersion)
         ⊎ ((result.1 ≡ Err Fault.Memory) ⊎ (result.1 ≡ Err Fault.Store)) }
     ensures refused { IsTrue (K.stopped keep) → result ≡ (keep, Err Fault.Store) }
