@@ -1,5 +1,5 @@
 -- One turn more of serving a connection, and how it ends.
-use Rattle.std.proofs.Common.{Err, IfErr, IfOk, Ok, OnErr, Result, ◌≡◌, ◌≢◌, ◌⊎◌, ◌∙◌, ◌+◌, ◌-◌, ◌^◌, ◌≤◌, true, ℕ, List, [], ◌∷◌, ◌++◌, Option, append-nil, ap, arith, inl, inr, min, refl, subst, sym}
+use Rattle.std.proofs.Common.{IfErr, IfOk, Result, ◌≡◌, ◌≢◌, ◌⊎◌, ◌∙◌, ◌+◌, ◌-◌, ◌^◌, ◌≤◌, true, ℕ, List, [], ◌∷◌, ◌++◌, Option, append-nil, ap, arith, inl, inr, min, refl, subst, sym}
 use Rattle.std.specs.Io.KnownBytes.{Appends, Consumes, IsAtEnd}
 use Rattle.std.specs.List.{AllByRecursion as Each}
 use Rattle.std.proofs.KnownBytes.{Appends-nil, Appends-trans, Consumes-nil, Consumes-trans}
@@ -7,13 +7,13 @@ use Rattle.std.proofs.lemmas.List.{length-append}
 use Rattle.std.proofs.lemmas.Result.{IfOk-weaker}
 use Rattle.book.specs.Good.{Good}
 use Rattle.web.specs.Answers.{Answer, answer_bytes, answers_bytes, message_answer}
-use Rattle.web.specs.Intake.{HasNoMessage, Holds, NoneComes}
+use Rattle.web.specs.Intake.{HasNoMessage}
 use Rattle.web.specs.Messages.{AreParts, BeginsWith, FirstParts, IsUnreadable, Message, Part, unreadable, whole}
 use Rattle.desk.specs.Desk.{DeskState}
 use Rattle.desk.specs.Streams.{Streams, streams}
 use Rattle.desk.proofs.Cuts.{of_error}
 use Rattle.web.specs.Serving.{EndsCut, EndsShort, EndsWhole, IsCut, IsWhole, Serves, Settles, count_of, stand}
-use Rattle.web.specs.Turns.{AnswersOne, HasServed, Passes, wholes}
+use Rattle.web.specs.Turns.{AnswersOne, HasServed, Holds, NoneComes, Passes, wholes}
 use Rattle.web.specs.Web.{AnswersAll, plain}
 use Rattle.web.specs.declared.served.Ending.TheVariants.{BadMessage, Input}
 use Rattle.web.specs.declared.served.Served.{Served}

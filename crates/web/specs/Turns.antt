@@ -1,6 +1,6 @@
 -- How far the serving of a connection has come (private: how one is served).
-use Rattle.std.specs.Prelude.{◌≡◌, ◌⊎◌, false, true, ℕ, List, [], ◌∷◌}
-use Rattle.std.specs.Io.KnownBytes.{Appends, Consumes}
+use Rattle.std.specs.Prelude.{◌≡◌, ◌⊎◌, false, true, ℕ, List, [], ◌∷◌, ◌++◌, Option}
+use Rattle.std.specs.Io.KnownBytes.{Appends, Consumes, IsAtEnd}
 use Rattle.words.specs.declared.command.Request.{Request}
 use Rattle.words.specs.declared.reply.Reply.{Reply}
 use Rattle.book.specs.Answers.{IsAccepted}
@@ -11,11 +11,19 @@ use Rattle.web.specs.Answers.{Answer, answer_bytes, answers_bytes, memory_answer
 use Rattle.web.specs.Asks.{AsksFor}
 use Rattle.web.specs.Fixed.{ready_bytes}
 use Rattle.web.specs.declared.fixed.Ready.{Ready}
-use Rattle.web.specs.Messages.{BeginsWith, Message, Part, whole}
+use Rattle.web.specs.Messages.{BeginsWith, IsUnreadable, Message, Part, whole}
 use Rattle.web.specs.Serving.{Serves, count_of, stand}
 use Rattle.web.specs.Web.{AnswersPart, Mark, RepliesAt, Stand, memory, plain, stopped}
 use Rattle.web.specs.declared.ask.Ask.{Ask}
 use Rattle.web.specs.declared.ask.Ask.TheVariants as ask
+
+-- these bytes were read, and are held behind what was held
+abbrev pub Holds : Option (List ℕ) → Option (List ℕ) → List ℕ → List ℕ → Type 0
+Holds before after old new = (piece : List ℕ) × Consumes before after piece × (new ≡ old ++ piece)
+
+-- whatever is left, no message stands there
+abbrev pub NoneComes : List ℕ → Option (List ℕ) → Type 0
+NoneComes held left = (more : List ℕ) → (IsAtEnd left → more ≡ []) → IsUnreadable (held ++ more)
 
 -- messages, and what stands behind them
 abbrev pub Passes : List ℕ → List Message → List ℕ → Type 0

@@ -1,16 +1,16 @@
 //! A connection, served.
 
-ghost use Rattle.std.specs.Prelude.{◌≡◌, ◌++◌, ◌+◌, ◌-◌, ◌^◌, ◌≤◌, drop, length, List, ℕ, IfErr, IfOk, OnErr, OnOk, min};
-ghost use Rattle.std.specs.Io.KnownBytes.{Appends};
+ghost use Rattle.std.specs.Prelude.{◌≡◌, ◌≢◌, ◌++◌, ◌+◌, ◌-◌, ◌^◌, ◌≤◌, drop, length, List, ℕ, Err, IfErr, IfOk, Ok, OnErr, OnOk, min};
+ghost use Rattle.std.specs.Io.KnownBytes.{Appends, Consumes, IsAtEnd};
 ghost use Rattle.desk.specs.Desk.{Goes, desk_state};
 ghost use Rattle.desk.specs.Streams.{streams};
 ghost use Rattle.web.specs.Answers.{Answer, answer_bytes, message_answer};
 ghost use Rattle.web.specs.Fixed.{ready_bytes};
-ghost use Rattle.web.specs.Intake.{IsMessageAt, IsMessageWithin};
+ghost use Rattle.web.specs.Intake.{HasNoMessage, IsMessageAt, IsMessageWithin, IsNext};
 ghost use Rattle.web.specs.Messages.{Message};
 ghost use Rattle.web.specs.Serving.{EndsCut, EndsWhole};
 ghost use Rattle.web.specs.Routes.{routes};
-ghost use Rattle.web.specs.Turns.{AnswersOne};
+ghost use Rattle.web.specs.Turns.{AnswersOne, Holds};
 
 use crate::ask::ask_of;
 use crate::calls::answer_ask;
@@ -23,7 +23,36 @@ use keep::Keep;
 use matchit::Router;
 use std::alloc::Global;
 use std::io::{Read, Write};
-use words::{WriteFault, write_whole};
+use words::{WriteFault, read_piece, write_whole};
+
+/// How many bytes are read at a time, at the most.
+const PIECE: usize = 512;
+
+/// Reads until a message is held, or none can come; `More` is there only at the end of the input.
+fn await_message<R: Read>(reader: &mut R, held: &mut Vec<u8>) -> Result<Next, WebFault>
+    ensures holds { result ≢ Err WebFault.Memory → Holds (R.remaining reader.old)
+        (R.remaining reader.new) held.old.items held.new.items }
+    ensures next { IfOk result (λ next. IsNext held.new.items next) }
+    ensures end { result ≡ Ok Next.More → IsAtEnd (R.remaining reader.new) }
+    ensures read { result ≡ Err WebFault.Read → HasNoMessage held.new.items }
+    ensures fault { OnErr result ((piece : List ℕ) × Consumes (R.remaining reader.old) (R.remaining reader.new) piece) }
+{
+    let mut piece = [0; PIECE];
+    let mut next = next_message(held);
+    while matches!(next, Next::More) {
+        let Ok(count) = read_piece(reader, &mut piece) else {
+            return Err(WebFault::Read);
+        };
+        if count == 0 {
+            break;
+        }
+        let Ok(()) = held.extend_from_slice(&piece[..count]) else {
+            return Err(WebFault::Memory);
+        };
+        next = next_message(held);
+    }
+    Ok(next)
+}
 
 /// What is to be written for a message. Where memory is refused for it, nothing is done.
 fn ready_for<K: Keep>(
@@ -133,23 +162,26 @@ pub fn serve<K: Keep, R: Read, W: Write>(
     let mut held = Vec::new(alloc);
     let mut answered: u64 = 0;
     for _turn in 0..u64::MAX {
-        match next_message(reader, &mut held) {
-            Ok(Next::Message(found)) => {
-                let Ok(()) = answer_message(alloc, &router, writer, desk, held.as_slice(), &found)
-                else {
+        let next = match await_message(reader, &mut held) {
+            Ok(next) => next,
+            Err(fault) => return Err(fault),
+        };
+        match next {
+            Next::Message(found) => {
+                let Ok(()) = answer_message(alloc, &router, writer, desk, &held, &found) else {
                     return Err(WebFault::Write);
                 };
                 let_go(&mut held, found.end);
                 answered = one_more(answered);
             }
-            Ok(Next::Unreadable) => return end_unreadable(writer, answered),
-            Ok(Next::End) => {
+            Next::More if held.is_empty() => {
                 return Ok(Served {
                     answered,
                     ending: Ending::Input,
                 });
             }
-            Err(fault) => return Err(fault),
+            Next::More => return end_unreadable(writer, answered),
+            Next::Unreadable => return end_unreadable(writer, answered),
         }
     }
     Err(WebFault::Read)
