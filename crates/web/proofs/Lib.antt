@@ -6,7 +6,6 @@ mod NoHead
 mod HeaderLines
 mod Heads
 mod OneStream
-mod Nothing
 mod OneAsk
 mod OneAnswer
 mod SomeParts
@@ -14,7 +13,7 @@ mod SomeAsk
 mod SomeAnswer
 mod Marks
 mod FourRoutes
-mod OnePlace
+mod OneView
 mod Ascii
 mod TwoMembers
 mod Bodies

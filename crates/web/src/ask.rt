@@ -4,13 +4,13 @@ ghost use Rattle.std.specs.Prelude.{◌≡◌, IfOk};
 ghost use Rattle.web.specs.Asks.{AsksFor};
 ghost use Rattle.web.specs.Intake.{IsMessageAt, IsMessageWithin};
 ghost use Rattle.web.specs.Messages.{Message};
-ghost use Rattle.web.specs.Reads.{IsCallOf, IsPosted, view_of};
+ghost use Rattle.web.specs.Reads.{IsCallOf};
 ghost use Rattle.web.specs.Routes.{routes};
 
 use crate::body::read_request;
 use crate::intake::Found;
-use crate::place::{Place, place_of};
 use crate::route::Resource;
+use crate::target::{takes_commands, view_of};
 use escrow::{Article, Branch, OrderNo};
 use matchit::Router;
 use std::alloc::{AllocError, Global};
@@ -44,30 +44,6 @@ fn call_of(alloc: Global, body: &[u8]) -> Result<Ask, AllocError>
     }
 }
 
-/// What a posted body asks for.
-fn posted(alloc: Global, place: Place, body: &[u8]) -> Result<Ask, AllocError>
-    ensures { IfOk result (λ ask. IsPosted place body.now ask) }
-{
-    match place {
-        Place::Commands => call_of(alloc, body),
-        Place::Field(_, _) => Ok(Ask::Nothing),
-        Place::Order(_) => Ok(Ask::Nothing),
-        Place::Sheet(_) => Ok(Ask::Nothing),
-    }
-}
-
-/// What a view asks for.
-fn viewed(place: Place) -> Ask
-    ensures { result ≡ view_of place }
-{
-    match place {
-        Place::Commands => Ask::Nothing,
-        Place::Field(branch, article) => Ask::Field(branch, article),
-        Place::Order(number) => Ask::Order(number),
-        Place::Sheet(branch) => Ask::Sheet(branch),
-    }
-}
-
 /// What the message at the front of the held bytes asks for. Only a body that is posted takes memory.
 pub fn ask_of(
     alloc: Global,
@@ -83,14 +59,11 @@ pub fn ask_of(
     let Ok(target) = str::from_utf8(&held[found.target.start..found.target.end]) else {
         return Ok(Ask::Nothing);
     };
-    let Some(place) = place_of(router, target) else {
-        return Ok(Ask::Nothing);
-    };
-    if method == b"POST".as_slice() {
-        return posted(alloc, place, &held[found.start..found.end]);
-    }
     if method == b"GET".as_slice() {
-        return Ok(viewed(place));
+        return Ok(view_of(router, target).unwrap_or(Ask::Nothing));
+    }
+    if method == b"POST".as_slice() && takes_commands(router, target) {
+        return call_of(alloc, &held[found.start..found.end]);
     }
     Ok(Ask::Nothing)
 }
