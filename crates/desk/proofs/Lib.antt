@@ -1,5 +1,7 @@
 pub mod NextRows
 pub mod GoesOn
+pub mod Faults
+pub mod Conversing
 pub mod RunsOn
 pub mod OrderWords
 pub mod Texts

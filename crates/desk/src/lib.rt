@@ -1,7 +1,9 @@
 //! The desk: a ledger that outlives its process.
 #![tactic(auto)]
 
+mod answer;
 mod desk;
+mod dialogue;
 mod fault;
 mod headline;
 mod laws;
@@ -11,7 +13,9 @@ mod run;
 mod scripts;
 mod together;
 
+pub use answer::Answer;
 pub use desk::Desk;
+pub use dialogue::{Dialogue, Next, converse};
 pub use fault::{CallFault, OpenFault, ScriptFault};
 pub use headline::{
     any_number_of_cuts, cut_and_open, run_and_stop, run_cut_and_open, run_cut_and_resume,
