@@ -9,6 +9,7 @@ mod lines;
 mod reply;
 mod run;
 mod scripts;
+mod telling;
 mod together;
 
 pub use desk::Desk;
@@ -22,4 +23,5 @@ pub use laws::{
 };
 pub use run::{Ending, Run};
 pub use scripts::{answer_all, script};
+pub use telling::Teller;
 pub use together::answer_together;
