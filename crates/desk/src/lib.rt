@@ -11,6 +11,7 @@ mod lines;
 mod reply;
 mod run;
 mod scripts;
+mod telling;
 mod together;
 
 pub use answer::Answer;
@@ -26,4 +27,5 @@ pub use laws::{
 };
 pub use run::{Ending, Run};
 pub use scripts::{answer_all, script};
+pub use telling::Teller;
 pub use together::answer_together;

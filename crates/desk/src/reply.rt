@@ -10,7 +10,7 @@ ghost use Rattle.words.specs.declared.item.Item.TheVariants as item;
 use crate::desk::Desk;
 use crate::fault::{CallFault, ScriptFault};
 use crate::lines::{field_text, order_text, push_text, text};
-use book::Planned;
+use crate::telling::AsLine;
 use escrow::{Article, Branch, Key, OrderNo};
 use keep::Keep;
 use std::alloc::Global;
@@ -56,14 +56,6 @@ fn line_of_order<K: Keep>(alloc: Global, desk: &Desk<K>, number: OrderNo) -> Res
     }
 }
 
-/// The same, as a script tells it.
-fn line_told(alloc: Global, key: Key, reply: &Reply) -> Result<Vec<u8>, ScriptFault>
-    ensures line { IfOk result (λ out. out.items ≡ request_line key reply.now) }
-    ensures memory { IfErr result (λ fault. fault ≡ ScriptFault.Memory) }
-{
-    line_of_reply(alloc, key, reply).map_err(|_| ScriptFault::Memory)
-}
-
 /// The line for a request, which is called. The line is made before the request is done, so that nothing is done and
 /// not told.
 fn line_of_request<K: Keep>(
@@ -80,20 +72,8 @@ fn line_of_request<K: Keep>(
     ensures memory { result ≡ Err ScriptFault.Memory → desk.new ≡ desk.old }
     ensures goes { Goes K.Keep desk.old desk.new }
 {
-    desk.in_order();
-    match desk.plan(alloc, request) {
-        Ok(Planned::Again(place)) => line_told(alloc, request.key, &Reply::Done(place)),
-        Ok(Planned::Refused(refusal, line)) => {
-            line_told(alloc, request.key, &Reply::Refused(refusal, line))
-        }
-        Ok(Planned::Accept(plan)) => {
-            let line = line_told(alloc, request.key, &Reply::Done(plan.place()))?;
-            match desk.carry_out(plan) {
-                Ok(_) => Ok(line),
-                Err(CallFault::Memory) => Err(ScriptFault::Memory),
-                Err(CallFault::Stopped) => Err(ScriptFault::Stopped),
-            }
-        }
+    match desk.call_and_tell(alloc, &AsLine, request) {
+        Ok(line) => Ok(line),
         Err(CallFault::Memory) => Err(ScriptFault::Memory),
         Err(CallFault::Stopped) => Err(ScriptFault::Stopped),
     }
