@@ -31,6 +31,21 @@ module _ {Q A : Type 0} (L : Language Q A) where
   text_on [] ys = refl
   text_on (x ∷ xs) ys = ap (λ (t : List ℕ). L.text x ++ t) (text_on xs ys) ∙ sym (append_assoc (L.text x) (text_of L xs) (text_of L ys))
 
+  -- the last answer, and those before it
+  pub last_answer : (questions : List Q) (kinds : List AnswerKind) (xs : List A) (x : A) (old new : Snapshot) → AreAnswers L old questions kinds (xs ++ x ∷ []) new
+      → (before : List Q) × (last : Q) × (more : List AnswerKind) × (kind : AnswerKind) × (mid : Snapshot) × (questions ≡ before ++ last ∷ []) × AreAnswers L old before more xs mid × L.answers mid last kind x new
+  last_answer [] [] [] x old new h = absurd h
+  last_answer [] [] (y ∷ xs) x old new h = absurd h
+  last_answer [] (kind ∷ kinds) xs x old new h = absurd h
+  last_answer (q ∷ questions) [] xs x old new h = absurd h
+  last_answer (q ∷ []) (kind ∷ []) [] x old new (mid, first, more) = ([], q, [], kind, old, refl, refl, subst (λ (s : Snapshot). L.answers old q kind x s) (sym more) first)
+  last_answer (q ∷ r ∷ questions) (kind ∷ []) [] x old new (mid, first, more) = absurd more
+  last_answer (q ∷ []) (kind ∷ other ∷ kinds) [] x old new (mid, first, more) = absurd more
+  last_answer (q ∷ r ∷ questions) (kind ∷ other ∷ kinds) [] x old new (mid, first, more) = absurd more
+  last_answer (q ∷ questions) (kind ∷ kinds) (y ∷ xs) x old new (mid, first, more) =
+      let (before, last, others, at, then, split, front, end) = last_answer questions kinds xs x mid new more in
+      (q ∷ before, last, kind ∷ others, at, then, ap (λ (qs : List Q). q ∷ qs) split, (mid, first, front), end)
+
   -- ---- the request that stopped the desk
 
   -- it stays the first

@@ -59,9 +59,10 @@ pub trait Dialogue {
     // How many questions it can find at the most, before more bytes are taken in.
     ghost size: { Self → ℕ };
 
-    /// Takes a piece of the input in; one without bytes is its end.
+    /// Takes a piece of the input in, where more is wanted; one without bytes is its end.
     fn take_in(&mut self, alloc: Global, piece: &[u8]) -> Result<(), Memory>
         ensures { OnOk result ((read : List ℕ) (questions : List Asked) → stands self.old read false questions
+            → language.have_come read questions
             → stands self.new (read ++ piece.now) (is_end piece.now) questions) };
 
     /// Finds the next question.

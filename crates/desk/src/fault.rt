@@ -70,6 +70,18 @@ impl From<CallFault> for ScriptFault {
     }
 }
 
+impl From<Memory> for CallFault {
+    ghost use Rattle.std.specs.Prelude.{◌≡◌};
+    ghost use Rattle.desk.specs.declared.fault.CallFault.{CallFault};
+
+    ghost from_gives = { λ cause fault. fault ≡ CallFault.Memory };
+
+    fn from(cause: Memory) -> CallFault {
+        let Memory = cause;
+        CallFault::Memory
+    }
+}
+
 impl From<Memory> for ScriptFault {
     ghost use Rattle.std.specs.Prelude.{◌≡◌};
     ghost use Rattle.desk.specs.declared.fault.ScriptFault.{ScriptFault};

@@ -26,6 +26,6 @@ pub use laws::{
     batches_are_invisible, batches_come_again, exactly_one_text, resuming_is_invisible,
 };
 pub use run::{Ending, Run};
-pub use scripts::{answer_all, script};
+pub use scripts::script;
 pub use telling::Teller;
 pub use together::answer_together;

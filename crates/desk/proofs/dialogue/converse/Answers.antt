@@ -47,7 +47,7 @@ returns-in_err-answer_come-clause-cut g c =
     let (on, stands, counts) = c.loop-turn.invariant.on in
     let buffer = c.read_piece.new.buffer in
     let size = c.read_piece.ensures.size ∙ c.loop-turn.invariant.size in
-    let (others, now, cut) = c.in_err-answer_come.ensures.cut _ _ _ (c.in_ok-take_in.ensures on.read on.questions stands) in
+    let (others, now, cut) = c.in_err-answer_come.ensures.cut _ _ _ (c.in_ok-take_in.ensures on.read on.questions stands on.come) in
     let goes = c.answer_come.ensures.goes in
     passed_up c.from_residual-in_err-answer_come.result c.in_err-answer_come.field-0.0 _ c.from_residual-in_err-answer_come.ensures.1
     (ends_within _ _ _ _ _ _ _ on _ (λ e. ap (desk_state g.K.Keep) (goes.untouched e)) _ _ _ c.in-Ok.ensures.taken others _ (λ e. c.in_err-answer_come.ensures.read (ap (λ f. Err f) e)) (short _ buffer size)
@@ -60,7 +60,7 @@ pub returns-then-branch-clause-whole : goal.returns-then-branch-clause-whole
 returns-then-branch-clause-whole g c =
     let (on, stands, counts) = c.loop-turn.invariant.on in
     let buffer = c.read_piece.new.buffer in
-    let taken = c.in_ok-take_in.ensures on.read on.questions stands in
+    let taken = c.in_ok-take_in.ensures on.read on.questions stands on.come in
     let (others, done, more, now, going, over) = c.in_ok-answer_come.ensures.whole _ _ _ taken in
     let (are, ends) = over c.if-branch.true in
     let goes = c.answer_come.ensures.goes in
@@ -75,7 +75,7 @@ returns-then-branch-clause-goes g c = goes_on _ _ _ _ c.loop-turn.invariant.goes
 pub loop-turn-preserved : goal.loop-turn-preserved
 loop-turn-preserved g c =
     let (on, stands, counts) = c.loop-turn.invariant.on in
-    let taken = c.in_ok-take_in.ensures on.read on.questions stands in
+    let taken = c.in_ok-take_in.ensures on.read on.questions stands on.come in
     let (others, done, more, now, going, over) = c.in_ok-answer_come.ensures.whole _ _ _ taken in
     let (still, come) = going c.if-branch.false in
     let goes = c.answer_come.ensures.goes in
