@@ -1,5 +1,5 @@
 -- What an opening finds after a script.
-use Rattle.std.proofs.Common.{◌≡◌, ◌⊎◌, false, ◌∙◌, ◌≤◌, ◌+◌, ◌++◌, ℕ, List, [], ◌∷◌, Option, append-nil, append_assoc, arith, ap, inl, inr, length, refl, subst, sym, take}
+use Rattle.std.proofs.Common.{◌≡◌, ◌≢◌, false, ◌∙◌, ◌≤◌, ◌+◌, ◌++◌, ℕ, List, [], ◌∷◌, Option, append-nil, append_assoc, arith, ap, inl, inr, length, refl, subst, sym, take}
 use Rattle.std.specs.Prelude.{Err, IfErr, IfOk, IfSome, Ok, OnOk, Result}
 use Rattle.std.proofs.lemmas.List.{length-append, length-map, take_at}
 use Rattle.std.proofs.lemmas.Result.{on_ok_weaker}
@@ -18,13 +18,15 @@ use Rattle.desk.specs.Desk.{DeskState, DeskView, IsStored}
 use Rattle.desk.specs.Headline.{IsFoundAfterItems, IsFoundAfterLines, LeavesRowsOf}
 use Rattle.desk.specs.Opening.{keeper_after}
 use Rattle.desk.specs.Replies.{request_line}
-use Rattle.desk.specs.Script.{EndsCut, EndsWhole, IsCut, LacksRest, Writes, WritesLines, WritesText}
+use Rattle.desk.specs.Dialogue.{EndsCut, EndsWhole, IsCut}
+use Rattle.desk.specs.Script.{Writes, WritesLines, WritesText, lines}
 use Rattle.desk.specs.Streams.{Streams}
-use Rattle.desk.specs.Text.{AreItems, RepliesAll, items_of, unended}
+use Rattle.desk.specs.Text.{RepliesAll, items_of}
 use Rattle.desk.specs.Together.{IsCutTogether}
 use Rattle.desk.specs.declared.fault.OpenFault.{OpenFault}
 use Rattle.desk.specs.declared.fault.ScriptFault.{ScriptFault}
-use Rattle.desk.proofs.Cuts.{is_stop, write_stops_nothing}
+use Rattle.desk.proofs.Faults.{is_stop, write_stops_nothing}
+use Rattle.desk.proofs.LineAnswers.{are_told, cut_goes_on, cut_told, stopped_next, text_written, whole_goes_on}
 use Rattle.desk.proofs.FoundAfter.{either_left, found_of, stored_left}
 use Rattle.desk.proofs.ListLines.{items_joined}
 use Rattle.desk.proofs.Texts.{replies_joined, replies_more}
@@ -97,38 +99,37 @@ left_as leaves Is So turn left = record {
 module _ (old new : DeskState) (holds : Content → Type 0) (good : Good new.ledger) (went : old.is_stopped ≡ false) (honest : new.is_honest) (stored : new.is_stopped ≡ false → IsStored holds new.leaves new.ledger)
     (fault : ScriptFault) where
   -- one after the other
-  module _ (items : List Item) (written : List ℕ) (cut : IsCut fault old items written new) where
+  module _ (items : List Item) (written : List ℕ) (cut : IsCut lines fault old items written new) where
     -- what is answered so far
     found_so_far : IsFoundAfterItems 1 old.ledger items written new.ledger
-    found_so_far = by cut.lines
-      where
-        by : RepliesAll old.ledger cut.answered written new.ledger ⊎ LacksRest old.ledger cut.answered written new.ledger → IsFoundAfterItems 1 old.ledger items written new.ledger
-        by (inl all) = found_told 1 old.ledger items new.ledger written cut.answered cut.left cut.split all
-        by (inr l) =
-            found_done 1 old.ledger items l.mid new.ledger written l.lines l.begun l.left l.before (l.last ∷ []) cut.left (subst (λ (xs : List Item). items ≡ xs ++ cut.left) l.split cut.split) (omega arith) l.replies l.written_are
-            (replies_more l.before l.last old.ledger l.mid new.ledger l.lines (l.begun ++ l.left) l.replies l.reply)
+    found_so_far =
+        let told = are_told fault old new items written cut in
+        let split = subst (λ (xs : List Item). items ≡ xs ++ cut.left) told.split cut.split in
+        let out = ap (λ (t : List ℕ). t ++ told.left) told.written_are ∙ append_assoc told.lines told.begun told.left in
+        found_done 1 old.ledger items told.mid new.ledger written told.lines told.begun told.left told.before told.last cut.left split told.one told.replies told.written_are
+        (subst (λ (t : List ℕ). RepliesAll old.ledger (told.before ++ told.last) t new.ledger) out (subst (λ (xs : List Item). RepliesAll old.ledger xs (written ++ told.left) new.ledger) told.split told.all))
 
     -- and what is left where the request that comes next stops the desk
     stop_left : fault ≡ ScriptFault.Stopped → LeavesRowsOf new.leaves (IsFoundAfterItems 1 old.ledger items written)
     stop_left is =
-        let stops = cut.stopped is went honest in
+        let stops = cut.stops went (cut.stopped is).0 honest in
         let request = stops.request in
         let next = item.Request request in
         let M = new.ledger in
-        let told : RepliesAll old.ledger cut.answered written M = cut.told (λ e. write_stops_nothing (sym e ∙ is)) in
-        let split : items ≡ (cut.answered ++ next ∷ []) ++ stops.more =
-        subst (λ (xs : List Item). items ≡ cut.answered ++ xs) stops.next cut.split ∙ sym (append_assoc cut.answered (next ∷ []) stops.more) in
+        let (behind, left) = stopped_next fault old new items written cut request stops.first in
+        let told = cut_told fault old new items written cut (λ e. write_stops_nothing (sym e ∙ is)) in
+        let split : items ≡ (cut.answered ++ next ∷ []) ++ behind = cut.split ∙ ap (λ (xs : List Item). cut.answered ++ xs) left ∙ sym (append_assoc cut.answered (next ∷ []) behind) in
         let line = request_line request.key (Done (places M + 1)) in
         let more : RepliesAll old.ledger (cut.answered ++ next ∷ []) (written ++ line) (accept M request) =
         replies_more cut.answered next old.ledger M (accept M request) written line told (Done (places M + 1), accepted_answered M request stops.accepted, refl) in
         either_left M (accept M request) (IsFoundAfterItems 1 old.ledger items written) new.leaves found_so_far
-        (found_done 1 old.ledger items M (accept M request) written written [] line cut.answered (next ∷ []) stops.more split (omega arith) told (sym (append-nil written)) more) stops.either
+        (found_done 1 old.ledger items M (accept M request) written written [] line cut.answered (next ∷ []) behind split (omega arith) told (sym (append-nil written)) more) stops.either
 
     -- what a stop leaves where the answers are cut
     pub cut_left : LeavesRowsOf new.leaves (IsFoundAfterItems 1 old.ledger items written)
     cut_left = elim (is_stop fault) [
       | inl is ↦ stop_left is
-      | inr other ↦ stored_left new.ledger (IsFoundAfterItems 1 old.ledger items written) holds new.leaves good found_so_far (stored (cut.stop.going other ∙ went))
+      | inr other ↦ stored_left new.ledger (IsFoundAfterItems 1 old.ledger items written) holds new.leaves good found_so_far (stored (cut_goes_on fault old new items written cut other ∙ went))
     ]
 
   -- in lists that are carried out together
@@ -157,11 +158,10 @@ module _ (old new : DeskState) (holds : Content → Type 0) (good : Good new.led
     ]
 
   -- and a script
-  pub ends_cut_left : (s : Streams) → EndsCut fault old new s → LeavesRowsOf new.leaves (IsFoundAfterLines old.ledger s)
+  pub ends_cut_left : (s : Streams) → EndsCut lines fault old new s → LeavesRowsOf new.leaves (IsFoundAfterLines old.ledger s)
   ends_cut_left s ends =
-      let items = ends.ended ++ unended ends.rest in
-      let are : AreItems ends.read items = record { ended = ends.ended; rest = ends.rest; feeds = ends.feeds; all = refl } in
-      left_as new.leaves (IsFoundAfterItems 1 old.ledger items ends.written) (IsFoundAfterLines old.ledger s) (λ B found. (ends.read, items, ends.reads, are, (ends.written, ends.writes, found))) (cut_left items ends.written ends.cut)
+      left_as new.leaves (IsFoundAfterItems 1 old.ledger ends.questions ends.written) (IsFoundAfterLines old.ledger s) (λ B found. (ends.read, ends.questions, ends.reads, ends.are_questions, (ends.written, ends.writes, found)))
+      (cut_left ends.questions ends.written ends.cut)
 
 -- ---- after a script
 
@@ -172,16 +172,22 @@ found_whole A M s ends = (ends.read, ends.text.items, ends.reads, ends.text.are_
 module _ {T : Type 0} (ended : Result T ScriptFault) (old new : DeskState) (s : Streams) (holds : Content → Type 0) (good : Good new.ledger) (went : old.is_stopped ≡ false)
     (stored : new.is_stopped ≡ false → new.is_honest → IsStored holds new.leaves new.ledger) (honest : new.is_honest) where
   -- what a stop leaves behind a script, however that ended
-  pub script_left : OnOk ended (EndsWhole old new s) → IfErr ended (λ fault. EndsCut fault old new s) → LeavesRowsOf new.leaves (IsFoundAfterLines old.ledger s)
+  pub script_left : OnOk ended (EndsWhole lines old new s) → IfErr ended (λ fault. EndsCut lines fault old new s) → LeavesRowsOf new.leaves (IsFoundAfterLines old.ledger s)
   script_left = by ended
     where
-      by : (r : Result T ScriptFault) → OnOk r (EndsWhole old new s) → IfErr r (λ fault. EndsCut fault old new s) → LeavesRowsOf new.leaves (IsFoundAfterLines old.ledger s)
-      by (Ok done) whole cut = stored_left new.ledger (IsFoundAfterLines old.ledger s) holds new.leaves good (found_whole old.ledger new.ledger s whole.told) (stored (whole.same ∙ went) honest)
+      by : (r : Result T ScriptFault) → OnOk r (EndsWhole lines old new s) → IfErr r (λ fault. EndsCut lines fault old new s) → LeavesRowsOf new.leaves (IsFoundAfterLines old.ledger s)
+      by (Ok done) whole cut = stored_left new.ledger (IsFoundAfterLines old.ledger s) holds new.leaves good (found_whole old.ledger new.ledger s (text_written old new s whole)) (stored (whole_goes_on old new s whole ∙ went) honest)
       by (Err fault) whole cut = ends_cut_left old new holds good went honest (λ going. stored going honest) fault s cut
 
   -- and behind one that ended whole
-  pub whole_left : OnOk ended (EndsWhole old new s) → OnOk ended (LeavesRowsOf new.leaves (λ B. WritesText old.ledger B s))
-  whole_left = on_ok_weaker ended (λ whole. stored_left new.ledger (λ B. WritesText old.ledger B s) holds new.leaves good whole.told (stored (whole.same ∙ went) honest))
+  pub whole_left : OnOk ended (EndsWhole lines old new s) → OnOk ended (LeavesRowsOf new.leaves (λ B. WritesText old.ledger B s))
+  whole_left = on_ok_weaker ended (λ whole. stored_left new.ledger (λ B. WritesText old.ledger B s) holds new.leaves good (text_written old new s whole) (stored (whole_goes_on old new s whole ∙ went) honest))
+
+-- a desk that is not stopped by a script goes on as it did
+pub script_goes_on : {T : Type 0} (ended : Result T ScriptFault) (old new : DeskState) (s : Streams) → OnOk ended (EndsWhole lines old new s) → IfErr ended (λ fault. EndsCut lines fault old new s) → ended ≢ Err ScriptFault.Stopped
+    → new.is_stopped ≡ old.is_stopped
+script_goes_on (Ok done) old new s whole cut other = whole_goes_on old new s whole
+script_goes_on (Err fault) old new s whole cut other = cut_goes_on fault old new cut.questions cut.written cut.cut (λ e. other (ap (λ (f : ScriptFault). Err f) e))
 
 -- what is opened then is the ledger of the whole
 pub whole_opened : {T K : Type 0} (Honest : K → Type 0) (leaves : List Content → Type 0) (Before : Type 0) (Is : Ledger → Type 0) (ended : Result T ScriptFault) (o : Option (Result (DeskView K) (OpenFault × K)))

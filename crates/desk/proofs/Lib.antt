@@ -1,12 +1,13 @@
 pub mod NextRows
 pub mod GoesOn
+pub mod Faults
+pub mod Conversing
+pub mod LineAnswers
 pub mod RunsOn
 pub mod OrderWords
 pub mod Texts
 pub mod SomeText
 pub mod OneText
-pub mod Cuts
-pub mod ScriptSteps
 pub mod Repeats
 pub mod Resumption
 pub mod FoundAfter

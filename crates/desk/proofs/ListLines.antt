@@ -10,14 +10,14 @@ use Rattle.words.specs.declared.item.Item.TheVariants as item
 use Rattle.words.specs.declared.reply.Reply.{Reply}
 use Rattle.book.specs.Answers.{Runs}
 use Rattle.book.specs.Ledger.{Ledger}
-use Rattle.desk.specs.Desk.{DeskState, LeavesEither}
+use Rattle.desk.specs.Desk.{DeskState, snapshot, LeavesEither}
 use Rattle.desk.specs.Replies.{request_line}
 use Rattle.desk.specs.Script.{MayAnswer, WritesLines}
 use Rattle.desk.specs.Text.{RepliesAll, items_of}
 use Rattle.desk.specs.Together.{FailsAt, IsBatch, IsCutTogether}
 use Rattle.desk.specs.declared.fault.ScriptFault.{ScriptFault}
 use Rattle.desk.proofs.Batches.{batch_runs}
-use Rattle.desk.proofs.Cuts.{memory_stops_nothing, read_stops_nothing, write_stops_nothing}
+use Rattle.desk.proofs.Faults.{memory_stops_nothing, read_stops_nothing, write_stops_nothing}
 use Rattle.desk.proofs.Texts.{replies_joined}
 
 -- the lines of a run
@@ -192,7 +192,7 @@ module _ (fault : ScriptFault) (old mid new : DeskState) (rs some : List Request
           ∙ ap (λ (xs : List Request). xs ++ (cut.left ++ drop k (drop n rs))) (sym (append_assoc (take n rs) cut.answered cut.last))
 
 -- nothing but requests was answered, by a desk that goes on
-pub may_requests : (desk : DeskState) (rs : List Request) → desk.is_stopped ≡ false → Each (MayAnswer desk) (items_of rs)
+pub may_requests : (desk : DeskState) (rs : List Request) → desk.is_stopped ≡ false → Each (MayAnswer (snapshot desk)) (items_of rs)
 may_requests desk [] going = tt
 may_requests desk (r ∷ rs) going = (going, may_requests desk rs going)
 

@@ -1,8 +1,7 @@
 -- For each input there is a text.
-use Rattle.std.proofs.Common.{◌≡◌, ℕ, ℤ, pos, negsuc, ◌≤ℤ◌, ◌+ℤ◌, ◌-ℤ◌, List, [], ◌∷◌, ◌++◌, Option, None, Some, MatchOption, ap, append_assoc, ◌∙◌, arith, refl, sym, subst}
+use Rattle.std.proofs.Common.{◌≡◌, ℕ, ℤ, pos, negsuc, ◌≤ℤ◌, ◌+ℤ◌, ◌-ℤ◌, List, [], ◌∷◌, ◌++◌, Option, None, Some, MatchOption, append_assoc, arith, refl, sym, subst}
 use Rattle.std.specs.List.{AllByRecursion as Each}
 use Rattle.std.proofs.lemmas.Int.{ints}
-use Rattle.std.proofs.Math.Logic.{inl, inr}
 use Rattle.escrow.specs.Codes.{IsKey}
 use Rattle.words.proofs.OneFeed.{feeds_some_items}
 use Rattle.words.specs.Items.{IsItem}
@@ -25,9 +24,11 @@ use Rattle.book.proofs.ShownNumbers.{Contains-of_find, levels_of}
 use Rattle.desk.specs.Replies.{AnswersField, bad_line, field_line, none_line, order_line, request_line}
 use Rattle.desk.specs.Text.{AreItems, IsText, Replies, RepliesAll, unended}
 use Rattle.desk.specs.Desk.{DeskState}
-use Rattle.desk.specs.Script.{AlmostWritten, IsCut}
+use Rattle.desk.specs.Dialogue.{IsCut}
+use Rattle.desk.specs.Script.{lines}
 use Rattle.desk.specs.declared.fault.ScriptFault.{ScriptFault}
-use Rattle.desk.proofs.Texts.{replies_joined, replies_more}
+use Rattle.desk.proofs.LineAnswers.{are_told}
+use Rattle.desk.proofs.Texts.{replies_joined}
 
 -- ---- the requests of a stream are in range
 
@@ -169,20 +170,9 @@ text_on old mid input lines items answered left good are split replies =
 
 -- the text goes on behind what is written at a fault
 pub text_from : (fault : ScriptFault) (before behind : DeskState) (input written : List ℕ) (items : List Item) → Good before.ledger → AreItems input items
-    → IsCut fault before items written behind → (more : List ℕ) × (last : Ledger) × IsText before.ledger input (written ++ more) last
-text_from fault before behind input written items good are cut = by cut.lines
-  where
-    on : (lines : List ℕ) → RepliesAll before.ledger cut.answered lines behind.ledger → (more : List ℕ) × (last : Ledger) × IsText before.ledger input (lines ++ more) last
-    on lines all =
-        let range = front_in_range cut.answered cut.left (subst (λ (xs : List Item). Each IsItemInRange xs) cut.split (items_in_range input items are)) in
-        text_on before.ledger behind.ledger input lines items cut.answered cut.left (good_after_all cut.answered before.ledger lines behind.ledger good range all) are cut.split all
-
-    by : AlmostWritten before.ledger cut.answered written behind.ledger → (more : List ℕ) × (last : Ledger) × IsText before.ledger input (written ++ more) last
-    by (inl all) = on written all
-    by (inr l) =
-        let whole = subst (λ (xs : List Item). RepliesAll before.ledger xs (l.lines ++ (l.begun ++ l.left)) behind.ledger) (sym l.split)
-        (replies_more l.before l.last before.ledger l.mid behind.ledger l.lines (l.begun ++ l.left) l.replies l.reply) in
-        let (more, last, text) = on (l.lines ++ (l.begun ++ l.left)) whole in
-        let same : (l.lines ++ (l.begun ++ l.left)) ++ more ≡ written ++ (l.left ++ more) =
-        ap (λ (out : List ℕ). out ++ more) (sym (append_assoc l.lines l.begun l.left) ∙ ap (λ (out : List ℕ). out ++ l.left) (sym l.written_are)) ∙ append_assoc written l.left more in
-        (l.left ++ more, last, subst (λ (out : List ℕ). IsText before.ledger input out last) same text)
+    → IsCut lines fault before items written behind → (more : List ℕ) × (last : Ledger) × IsText before.ledger input (written ++ more) last
+text_from fault before behind input written items good are cut =
+    let told = are_told fault before behind items written cut in
+    let range = front_in_range cut.answered cut.left (subst (λ (xs : List Item). Each IsItemInRange xs) cut.split (items_in_range input items are)) in
+    let (more, last, text) = text_on before.ledger behind.ledger input (written ++ told.left) items cut.answered cut.left (good_after_all cut.answered before.ledger (written ++ told.left) behind.ledger good range told.all) are cut.split told.all in
+    (told.left ++ more, last, subst (λ (out : List ℕ). IsText before.ledger input out last) (append_assoc written told.left more) text)

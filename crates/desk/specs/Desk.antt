@@ -29,6 +29,14 @@ desk_state g desk = record {
   leaves = g.leaves desk.keep;
 }
 
+-- a desk as who asks it sees it: its ledger, and whether it is stopped
+pub record Snapshot : Type 0 where
+  pub ledger : Ledger
+  pub is_stopped : Bool
+
+abbrev pub snapshot : DeskState → Snapshot
+snapshot desk = record { ledger = desk.ledger; is_stopped = desk.is_stopped }
+
 -- the rows of the ledger are held, and a stop leaves these alone
 pub record IsStored (holds : Content → Type 0) (leaves : List Content → Type 0) (A : Ledger) : Type 0 where
   pub rows : Content

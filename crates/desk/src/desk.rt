@@ -18,6 +18,7 @@ ghost use Rattle.desk.specs.Opening.{IsLeft, IsOpened, IsRefusedAsOld, IsUnopene
 
 use crate::fault::{CallFault, OpenFault, load_fault};
 use crate::run::Ending;
+use crate::telling::AsReply;
 use crate::together::{Told, none_told, plan_batch};
 use book::{Book, FieldView, OrderView, Plan, Planned, TablesFault};
 use escrow::{Article, Branch, OrderNo};
@@ -94,13 +95,7 @@ impl<K: Keep> Desk<K> {
             → StopsCall request.now (desk_state K.Keep self.old) (desk_state K.Keep self.new) }
         ensures goes { Goes K.Keep self.old self.new }
     {
-        self.in_order();
-        match self.plan(alloc, request) {
-            Ok(Planned::Again(place)) => Ok(Reply::Done(place)),
-            Ok(Planned::Refused(refusal, line)) => Ok(Reply::Refused(refusal, line)),
-            Ok(Planned::Accept(plan)) => self.carry_out(plan),
-            Err(fault) => Err(fault),
-        }
+        self.call_and_tell(alloc, &AsReply, request)
     }
 
     /// What is to be answered to a request, of which nothing is done yet: so what tells of it can be made before it is

@@ -4,6 +4,7 @@ ghost use Rattle.std.specs.Prelude.{◌≡◌, ◌≢◌, ◌↔◌, ◌⊎◌};
 
 use keep::KeepFault;
 use thiserror::Error;
+use words::{Memory, WriteFault};
 
 /// Why a desk was not opened.
 #[derive(Clone, Copy, Debug, PartialEq, Eq, Error)]
@@ -51,6 +52,58 @@ pub enum ScriptFault {
     /// A write failed, or took nothing.
     #[error("writing failed")]
     Write,
+}
+
+impl From<CallFault> for ScriptFault {
+    ghost use Rattle.std.specs.Prelude.{◌≡◌, ◌↔◌};
+    ghost use Rattle.desk.specs.declared.fault.CallFault.{CallFault};
+    ghost use Rattle.desk.specs.declared.fault.ScriptFault.{ScriptFault};
+
+    ghost from_gives = { λ cause fault. (fault ≡ ScriptFault.Memory ↔ cause ≡ CallFault.Memory)
+        × (fault ≡ ScriptFault.Stopped ↔ cause ≡ CallFault.Stopped) };
+
+    fn from(cause: CallFault) -> ScriptFault {
+        match cause {
+            CallFault::Memory => ScriptFault::Memory,
+            CallFault::Stopped => ScriptFault::Stopped,
+        }
+    }
+}
+
+impl From<Memory> for CallFault {
+    ghost use Rattle.std.specs.Prelude.{◌≡◌};
+    ghost use Rattle.desk.specs.declared.fault.CallFault.{CallFault};
+
+    ghost from_gives = { λ cause fault. fault ≡ CallFault.Memory };
+
+    fn from(cause: Memory) -> CallFault {
+        let Memory = cause;
+        CallFault::Memory
+    }
+}
+
+impl From<Memory> for ScriptFault {
+    ghost use Rattle.std.specs.Prelude.{◌≡◌};
+    ghost use Rattle.desk.specs.declared.fault.ScriptFault.{ScriptFault};
+
+    ghost from_gives = { λ cause fault. fault ≡ ScriptFault.Memory };
+
+    fn from(cause: Memory) -> ScriptFault {
+        let Memory = cause;
+        ScriptFault::Memory
+    }
+}
+
+impl From<WriteFault> for ScriptFault {
+    ghost use Rattle.std.specs.Prelude.{◌≡◌};
+    ghost use Rattle.desk.specs.declared.fault.ScriptFault.{ScriptFault};
+
+    ghost from_gives = { λ cause fault. fault ≡ ScriptFault.Write };
+
+    fn from(cause: WriteFault) -> ScriptFault {
+        let WriteFault = cause;
+        ScriptFault::Write
+    }
 }
 
 /// What a fault of the load is told as.

@@ -13,7 +13,8 @@ ghost use Rattle.desk.specs.Desk.{DeskView, desk_state};
 ghost use Rattle.desk.specs.Headline.{IsFoundAfter, IsFoundAfterCuts, IsFoundAfterLines, IsRunOf, LeavesRowsOf, all_replies, answered};
 ghost use Rattle.desk.specs.Opening.{keeper_after};
 ghost use Rattle.desk.specs.Resuming.{Resumes, StandsAt};
-ghost use Rattle.desk.specs.Script.{EndsCut, WritesText};
+ghost use Rattle.desk.specs.Dialogue.{EndsCut};
+ghost use Rattle.desk.specs.Script.{WritesText, lines};
 ghost use Rattle.desk.specs.Streams.{streams};
 ghost use Rattle.keep.specs.Content.{IsAmong};
 
@@ -190,7 +191,7 @@ pub fn script_and_stop<K: Keep, R: Read, W: Write>(
     ensures whole { K.is_honest result.1 → OnOk result.0 (LeavesRowsOf (K.leaves result.1) (λ B.
         WritesText desk.ledger B (streams (R.remaining reader.old) (R.remaining reader.new) (W.contents writer.old)
         (W.contents writer.new)))) }
-    ensures cut { IfErr result.0 (λ fault. (last : Ledger) × EndsCut fault (desk_state K.Keep desk)
+    ensures cut { IfErr result.0 (λ fault. (last : Ledger) × EndsCut lines fault (desk_state K.Keep desk)
         (desk_state K.Keep (record { ledger = last; keep = result.1 }))
         (streams (R.remaining reader.old) (R.remaining reader.new) (W.contents writer.old) (W.contents writer.new))) }
     ensures going { result.0 ≢ Err ScriptFault.Stopped → K.stopped result.1 ≡ false }

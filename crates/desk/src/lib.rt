@@ -1,7 +1,9 @@
 //! The desk: a ledger that outlives its process.
 #![tactic(auto)]
 
+mod answer;
 mod desk;
+mod dialogue;
 mod fault;
 mod headline;
 mod laws;
@@ -9,9 +11,12 @@ mod lines;
 mod reply;
 mod run;
 mod scripts;
+mod telling;
 mod together;
 
+pub use answer::Answer;
 pub use desk::Desk;
+pub use dialogue::{Dialogue, Next, converse};
 pub use fault::{CallFault, OpenFault, ScriptFault};
 pub use headline::{
     any_number_of_cuts, cut_and_open, run_and_stop, run_cut_and_open, run_cut_and_resume,
@@ -21,5 +26,6 @@ pub use laws::{
     batches_are_invisible, batches_come_again, exactly_one_text, resuming_is_invisible,
 };
 pub use run::{Ending, Run};
-pub use scripts::{answer_all, script};
+pub use scripts::script;
+pub use telling::Teller;
 pub use together::answer_together;

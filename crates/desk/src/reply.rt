@@ -1,23 +1,19 @@
 //! What is written for an item.
 
-ghost use Rattle.std.specs.Prelude.{◌≡◌, ◌⊎◌, ◌∷◌, [], false, IfErr, IfOk, OnOk, Err};
-ghost use Rattle.desk.specs.Desk.{Goes, desk_state};
+ghost use Rattle.std.specs.Prelude.{◌≡◌, IfOk};
+ghost use Rattle.desk.specs.Dialogue.{bytes_of};
 ghost use Rattle.desk.specs.Replies.{AnswersFieldAsk, AnswersOrderAsk, request_line};
-ghost use Rattle.desk.specs.Script.{IsCut, MayAnswer};
-ghost use Rattle.desk.specs.Text.{Replies};
-ghost use Rattle.words.specs.declared.item.Item.TheVariants as item;
 
+use crate::answer::Answer;
 use crate::desk::Desk;
-use crate::fault::{CallFault, ScriptFault};
 use crate::lines::{field_text, order_text, push_text, text};
-use book::Planned;
 use escrow::{Article, Branch, Key, OrderNo};
 use keep::Keep;
 use std::alloc::Global;
-use words::{Item, Memory, Reply, Request, write_reply};
+use words::{Memory, Reply, write_reply};
 
 /// What is written for a line that is bad.
-const BAD_LINE: &[u8] = b"- refused 20 BadCommand 0\n";
+pub const BAD_LINE: &[u8] = b"- refused 20 BadCommand 0\n";
 
 /// What is written where a field or an order is asked for that is not there.
 const NONE_LINE: &[u8] = b"? none\n";
@@ -33,96 +29,31 @@ pub fn line_of_reply(alloc: Global, key: Key, reply: &Reply) -> Result<Vec<u8>, 
     Ok(out)
 }
 
-fn line_of_field<K: Keep>(
+/// The line of a field.
+pub fn line_of_field<K: Keep>(
     alloc: Global,
     desk: &Desk<K>,
     branch: Branch,
     article: Article,
-) -> Result<Vec<u8>, Memory>
-    ensures { IfOk result (λ out. AnswersFieldAsk desk.now.ledger branch article out.items) }
+) -> Result<Answer, Memory>
+    ensures { IfOk result (λ line. AnswersFieldAsk desk.now.ledger branch article (bytes_of line)) }
 {
     match desk.field(branch, article) {
-        Some(view) => field_text(alloc, view),
-        None => text(alloc, NONE_LINE),
+        Some(view) => Ok(Answer::Made(field_text(alloc, view)?)),
+        None => Ok(Answer::Fixed(NONE_LINE)),
     }
 }
 
-fn line_of_order<K: Keep>(alloc: Global, desk: &Desk<K>, number: OrderNo) -> Result<Vec<u8>, Memory>
-    ensures { IfOk result (λ out. AnswersOrderAsk desk.now.ledger number out.items) }
+/// The line of an order.
+pub fn line_of_order<K: Keep>(
+    alloc: Global,
+    desk: &Desk<K>,
+    number: OrderNo,
+) -> Result<Answer, Memory>
+    ensures { IfOk result (λ line. AnswersOrderAsk desk.now.ledger number (bytes_of line)) }
 {
     match desk.order(number) {
-        Some(view) => order_text(alloc, &view),
-        None => text(alloc, NONE_LINE),
-    }
-}
-
-/// The same, as a script tells it.
-fn line_told(alloc: Global, key: Key, reply: &Reply) -> Result<Vec<u8>, ScriptFault>
-    ensures line { IfOk result (λ out. out.items ≡ request_line key reply.now) }
-    ensures memory { IfErr result (λ fault. fault ≡ ScriptFault.Memory) }
-{
-    line_of_reply(alloc, key, reply).map_err(|_| ScriptFault::Memory)
-}
-
-/// The line for a request, which is called. The line is made before the request is done, so that nothing is done and
-/// not told.
-fn line_of_request<K: Keep>(
-    alloc: Global,
-    desk: &mut Desk<K>,
-    request: &Request,
-) -> Result<Vec<u8>, ScriptFault>
-    ensures line { IfOk result (λ out. Replies desk.old.ledger (item.Request request.now) out.items desk.new.ledger) }
-    ensures went_on { OnOk result (K.stopped desk.old.keep ≡ false) }
-    ensures going { OnOk result (K.stopped desk.new.keep ≡ false) }
-    ensures cut { IfErr result (λ fault. IsCut fault (desk_state K.Keep desk.old) (item.Request request.now ∷ []) []
-        (desk_state K.Keep desk.new)) }
-    ensures fault { IfErr result (λ fault. (fault ≡ ScriptFault.Memory) ⊎ (fault ≡ ScriptFault.Stopped)) }
-    ensures memory { result ≡ Err ScriptFault.Memory → desk.new ≡ desk.old }
-    ensures goes { Goes K.Keep desk.old desk.new }
-{
-    desk.in_order();
-    match desk.plan(alloc, request) {
-        Ok(Planned::Again(place)) => line_told(alloc, request.key, &Reply::Done(place)),
-        Ok(Planned::Refused(refusal, line)) => {
-            line_told(alloc, request.key, &Reply::Refused(refusal, line))
-        }
-        Ok(Planned::Accept(plan)) => {
-            let line = line_told(alloc, request.key, &Reply::Done(plan.place()))?;
-            match desk.carry_out(plan) {
-                Ok(_) => Ok(line),
-                Err(CallFault::Memory) => Err(ScriptFault::Memory),
-                Err(CallFault::Stopped) => Err(ScriptFault::Stopped),
-            }
-        }
-        Err(CallFault::Memory) => Err(ScriptFault::Memory),
-        Err(CallFault::Stopped) => Err(ScriptFault::Stopped),
-    }
-}
-
-/// The line for an item. A request is called; where memory is refused it is not done.
-pub fn line_of<K: Keep>(
-    alloc: Global,
-    desk: &mut Desk<K>,
-    item: &Item,
-) -> Result<Vec<u8>, ScriptFault>
-    ensures line { IfOk result (λ out. Replies desk.old.ledger item.now out.items desk.new.ledger) }
-    ensures may { OnOk result (MayAnswer (desk_state K.Keep desk.old) item.now) }
-    ensures same { OnOk result (K.stopped desk.new.keep ≡ K.stopped desk.old.keep) }
-    ensures cut { IfErr result (λ fault. IsCut fault (desk_state K.Keep desk.old) (item.now ∷ []) []
-        (desk_state K.Keep desk.new)) }
-    ensures fault { IfErr result (λ fault. (fault ≡ ScriptFault.Memory) ⊎ (fault ≡ ScriptFault.Stopped)) }
-    ensures memory { result ≡ Err ScriptFault.Memory → desk.new ≡ desk.old }
-    ensures goes { Goes K.Keep desk.old desk.new }
-{
-    desk.in_order();
-    let line = match item {
-        Item::Request(request) => return line_of_request(alloc, desk, request),
-        Item::AskField(branch, article) => line_of_field(alloc, desk, *branch, *article),
-        Item::AskOrder(number) => line_of_order(alloc, desk, *number),
-        Item::Bad => text(alloc, BAD_LINE),
-    };
-    match line {
-        Ok(line) => Ok(line),
-        Err(Memory) => Err(ScriptFault::Memory),
+        Some(view) => Ok(Answer::Made(order_text(alloc, &view)?)),
+        None => Ok(Answer::Fixed(NONE_LINE)),
     }
 }

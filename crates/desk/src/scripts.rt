@@ -1,119 +1,96 @@
 //! Lines in, lines out, a piece at a time.
 
-ghost use Rattle.std.specs.Prelude.{◌≡◌, ◌≢◌, ◌∷◌, [], ℕ, List, Option, IfErr, OnOk, Err};
-ghost use Rattle.std.specs.Io.KnownBytes.{Appends};
-ghost use Rattle.words.specs.Stream.{Feeds};
+ghost use Rattle.std.specs.Prelude.{◌≡◌, ◌≢◌, false, Err, IfErr, IfOk, OnOk};
 ghost use Rattle.desk.specs.Desk.{Goes, desk_state};
-ghost use Rattle.desk.specs.Script.{AnswersAll, EndsCut, EndsWhole, IsCut, MayAnswer, Writes};
+ghost use Rattle.desk.specs.Dialogue.{EndsCut, EndsWhole};
+ghost use Rattle.desk.specs.Script.{lines};
 ghost use Rattle.desk.specs.Streams.{streams};
-ghost use Rattle.desk.specs.Text.{Replies, unended};
-ghost use Rattle.words.specs.declared.item.Item.{Item};
 
+use crate::answer::Answer;
 use crate::desk::Desk;
-use crate::fault::ScriptFault;
-use crate::reply::line_of;
+use crate::dialogue::{Dialogue, Next, converse};
+use crate::fault::{CallFault, ScriptFault};
+use crate::reply::{BAD_LINE, line_of_field, line_of_order};
+use crate::telling::AsLine;
 use keep::Keep;
 use std::alloc::Global;
 use std::io::{Read, Write};
-use words::{Item, Lines, Memory, read_piece, write_whole};
+use std::vec::IntoIter;
+use words::{Item, Lines, Memory};
 
-/// How many bytes are read at a time, at the most.
-const PIECE: usize = 512;
-
-/// Answers an item, and writes its line.
-fn answer<K: Keep, W: Write>(
-    alloc: Global,
-    writer: &mut W,
-    desk: &mut Desk<K>,
-    item: &Item,
-) -> Result<(), ScriptFault>
-    ensures whole { OnOk result (Writes (W.contents writer.old) (W.contents writer.new)
-        (λ line. Replies desk.old.ledger item.now line desk.new.ledger)) }
-    ensures may { OnOk result (MayAnswer (desk_state K.Keep desk.old) item.now) }
-    ensures same { OnOk result (K.stopped desk.new.keep ≡ K.stopped desk.old.keep) }
-    ensures cut { IfErr result (λ fault. Writes (W.contents writer.old) (W.contents writer.new) (λ written.
-        IsCut fault (desk_state K.Keep desk.old) (item.now ∷ []) written (desk_state K.Keep desk.new))) }
-    ensures read { result ≢ Err ScriptFault.Read }
-    ensures goes { Goes K.Keep desk.old desk.new }
-{
-    let line = line_of(alloc, desk, item)?;
-    match write_whole(writer, &line) {
-        Ok(()) => Ok(()),
-        Err(_) => Err(ScriptFault::Write),
-    }
+/// A dialogue in lines.
+#[derive(Drop)]
+struct LineDialogue {
+    lines: Lines,
+    /// The items of the lines that have ended, but for those that were found.
+    waiting: IntoIter<Item>,
+    has_ended: bool,
 }
 
-/// Answers items in their order, and writes the line of each before the next is answered: requests that were read from
-/// elsewhere are answered as those of a script.
-///
-/// After a fault the first of the items are answered, and what is written is their lines, but for an end of the last
-/// one after a failing write. So want of memory leaves nothing done and not told. `Stopped` is answered only where the
-/// desk is stopped, and `Read` never. Of a desk that was not stopped before, a stop then leaves the rows before the
-/// request that it is cut at, or after it, and in every other case the rows of the desk's ledger alone. A desk that was
-/// stopped before answers the items up to the first request, and changes nothing.
-pub fn answer_all<K: Keep, W: Write>(
-    alloc: Global,
-    items: &[Item],
-    writer: &mut W,
-    desk: &mut Desk<K>,
-) -> Result<(), ScriptFault>
-    ensures whole { OnOk result (AnswersAll (desk_state K.Keep desk.old) items.now (desk_state K.Keep desk.new)
-        (W.contents writer.old) (W.contents writer.new)) }
-    ensures cut { IfErr result (λ fault. Writes (W.contents writer.old) (W.contents writer.new) (λ written.
-        IsCut fault (desk_state K.Keep desk.old) items.now written (desk_state K.Keep desk.new))) }
-    ensures read { result ≢ Err ScriptFault.Read }
-    ensures goes { Goes K.Keep desk.old desk.new }
-{
-    desk.in_order();
-    for item in items {
-        answer(alloc, writer, desk, item)?;
-    }
-    Ok(())
-}
+impl Dialogue for LineDialogue {
+    ghost use Rattle.std.specs.Prelude.{◌≡◌, ◌+◌, ℕ, List, length};
+    ghost use Rattle.std.specs.Vec.Iter.{into_iter_items};
+    ghost use Rattle.words.specs.declared.item.Item.{Item};
+    ghost use Rattle.desk.specs.Laws.{fed_settles};
+    ghost use Rattle.desk.specs.Script.{HasFed, lines};
+    ghost use Rattle.desk.specs.Text.{unended};
 
-/// Answers the lines that end in a piece.
-fn answer_piece<K: Keep, W: Write>(
-    alloc: Global,
-    lines: &mut Lines,
-    writer: &mut W,
-    desk: &mut Desk<K>,
-    piece: &[u8],
-) -> Result<(), ScriptFault>
-    ensures whole { OnOk result ((items : List Item) × Feeds lines.old piece.now items lines.new
-        × AnswersAll (desk_state K.Keep desk.old) items (desk_state K.Keep desk.new)
-        (W.contents writer.old) (W.contents writer.new)) }
-    ensures cut { IfErr result (λ fault. (items : List Item) × (rest : Option (List ℕ))
-        × Feeds lines.old piece.now items rest × Writes (W.contents writer.old) (W.contents writer.new) (λ written.
-        IsCut fault (desk_state K.Keep desk.old) items written (desk_state K.Keep desk.new))) }
-    ensures read { result ≢ Err ScriptFault.Read }
-    ensures goes { Goes K.Keep desk.old desk.new }
-{
-    desk.in_order();
-    match lines.feed(alloc, piece) {
-        Ok(items) => answer_all(alloc, &items, writer, desk),
-        Err(Memory) => Err(ScriptFault::Memory),
-    }
-}
+    type Question = Item;
 
-/// Answers what stands behind the last newline, if it is anything.
-fn answer_rest<K: Keep, W: Write>(
-    alloc: Global,
-    lines: &mut Lines,
-    writer: &mut W,
-    desk: &mut Desk<K>,
-) -> Result<(), ScriptFault>
-    ensures whole { OnOk result (AnswersAll (desk_state K.Keep desk.old) (unended lines.old)
-        (desk_state K.Keep desk.new) (W.contents writer.old) (W.contents writer.new)) }
-    ensures cut { IfErr result (λ fault. Writes (W.contents writer.old) (W.contents writer.new) (λ written.
-        IsCut fault (desk_state K.Keep desk.old) (unended lines.old) written (desk_state K.Keep desk.new))) }
-    ensures read { result ≢ Err ScriptFault.Read }
-    ensures goes { Goes K.Keep desk.old desk.new }
-{
-    desk.in_order();
-    match lines.finish() {
-        Some(item) => answer(alloc, writer, desk, &item),
-        None => Ok(()),
+    ghost Asked = { Item };
+
+    ghost Told = { List ℕ };
+
+    ghost language = { lines };
+
+    ghost asks = { λ question asked. asked ≡ question };
+
+    ghost stands = { λ s read ended found. (s.has_ended ≡ ended) × HasFed s.lines (into_iter_items s.waiting) read ended found };
+
+    ghost may_stop = { Unit {0} };
+
+    ghost size = { λ s. length (into_iter_items s.waiting) + length (unended s.lines) };
+
+    fn take_in(&mut self, alloc: Global, piece: &[u8]) -> Result<(), Memory> {
+        if piece.is_empty() {
+            self.has_ended = true;
+        } else {
+            self.waiting = self.lines.feed(alloc, piece)?.into_iter();
+        }
+        Ok(())
     }
+
+    fn next(&mut self, _alloc: Global) -> Next<Item> {
+        if let Some(item) = self.waiting.next() {
+            return Next::Question(item);
+        }
+        if !self.has_ended {
+            return Next::More;
+        }
+        match self.lines.finish() {
+            Some(item) => Next::Question(item),
+            None => Next::Over,
+        }
+    }
+
+    fn answer<K: Keep>(
+        &self,
+        alloc: Global,
+        desk: &mut Desk<K>,
+        item: &Item,
+    ) -> Result<Answer, CallFault> {
+        desk.in_order();
+        match item {
+            Item::Request(request) => {
+                Ok(Answer::Made(desk.call_and_tell(alloc, &AsLine, request)?))
+            }
+            Item::AskField(branch, article) => Ok(line_of_field(alloc, desk, *branch, *article)?),
+            Item::AskOrder(number) => Ok(line_of_order(alloc, desk, *number)?),
+            Item::Bad => Ok(Answer::Fixed(BAD_LINE)),
+        }
+    }
+
+    ghost settled = { λ s read ended found h. fed_settles s.lines (into_iter_items s.waiting) read ended found h.1 };
 }
 
 /// To each line its reply line, until the input ends. It is read by pieces of at most 512 bytes, and each line is
@@ -130,23 +107,17 @@ pub fn script<K: Keep, R: Read, W: Write>(
     writer: &mut W,
     desk: &mut Desk<K>,
 ) -> Result<(), ScriptFault>
-    ensures whole { OnOk result (EndsWhole (desk_state K.Keep desk.old) (desk_state K.Keep desk.new)
+    ensures whole { OnOk result (EndsWhole lines (desk_state K.Keep desk.old) (desk_state K.Keep desk.new)
         (streams (R.remaining reader.old) (R.remaining reader.new) (W.contents writer.old) (W.contents writer.new))) }
-    ensures cut { IfErr result (λ fault. EndsCut fault (desk_state K.Keep desk.old) (desk_state K.Keep desk.new)
+    ensures cut { IfErr result (λ fault. EndsCut lines fault (desk_state K.Keep desk.old) (desk_state K.Keep desk.new)
         (streams (R.remaining reader.old) (R.remaining reader.new) (W.contents writer.old) (W.contents writer.new))) }
     ensures goes { Goes K.Keep desk.old desk.new }
 {
-    desk.in_order();
-    let mut lines = Lines::new(alloc);
-    let mut piece = [0; PIECE];
-    for _turn in 0..u64::MAX {
-        let Ok(count) = read_piece(reader, &mut piece) else {
-            return Err(ScriptFault::Read);
-        };
-        if count == 0 {
-            return answer_rest(alloc, &mut lines, writer, desk);
-        }
-        answer_piece(alloc, &mut lines, writer, desk, &piece[..count])?;
-    }
-    Err(ScriptFault::Read)
+    let mut dialogue = LineDialogue {
+        lines: Lines::new(alloc),
+        waiting: Vec::new(alloc).into_iter(),
+        has_ended: false,
+    };
+    converse(alloc, &mut dialogue, reader, writer, desk)?;
+    Ok(())
 }

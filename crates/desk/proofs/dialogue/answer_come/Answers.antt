@@ -1,0 +1,62 @@
+use Rattle.std.proofs.Common.{◌++◌, ◌∷◌, [], ap, append-nil, append_assoc, refl, subst, sym, true≢false}
+use Rattle.std.proofs.KnownBytes.{Appends-trans}
+use Rattle.book.proofs.TestResults.{passed_up}
+use Rattle.desk.specs.Desk.{desk_state}
+use Rattle.desk.proofs.Conversing.{counted_none, counted_on, cut_on}
+use Rattle.desk.proofs.GoesOn.{goes_on, goes_same}
+use Rattle.desk.proofs.dialogue.answer_come.Goals as goal
+
+pub loop-question-init : goal.loop-question-init
+loop-question-init g c = record {
+  come = λ read ended before stands. ([], subst (λ qs. g.D.Dialogue.stands c.args.dialogue.now read ended qs) (sym (append-nil before)) stands, counted_none _ _ _ _);
+  goes = goes_same _ _ c.in_order.ensures.good c.in_order.ensures.stored;
+}
+
+pub returns-in-More-clause-whole : goal.returns-in-More-clause-whole
+returns-in-More-clause-whole g c = λ read ended before stands.
+    let (questions, found, (done, counts)) = c.loop-question.invariant.come read ended before stands in
+    let (still, going, come) = c.in-More.ensures.more refl read ended (before ++ questions) found in
+    (questions, done, counts, still, (λ e. (going, come)), (λ e. absurd (true≢false (sym e))))
+
+pub returns-in-More-clause-goes : goal.returns-in-More-clause-goes
+returns-in-More-clause-goes g c = c.loop-question.invariant.goes
+
+pub returns-in-Over-clause-whole : goal.returns-in-Over-clause-whole
+returns-in-Over-clause-whole g c = λ read ended before stands.
+    let (questions, found, (done, counts)) = c.loop-question.invariant.come read ended before stands in
+    let (still, are, ends) = c.in-Over.ensures.over refl read ended (before ++ questions) found in
+    (questions, done, counts, still, (λ e. absurd (true≢false e)), (λ e. (are, ends)))
+
+pub returns-in-Over-clause-goes : goal.returns-in-Over-clause-goes
+returns-in-Over-clause-goes g c = c.loop-question.invariant.goes
+
+pub returns-in_err-answer_question-clause-cut : goal.returns-in_err-answer_question-clause-cut
+returns-in_err-answer_question-clause-cut g c = passed_up c.from_residual.result c.in_err-answer_question.field-0.0 _ c.from_residual.ensures.1 (λ read ended before stands.
+    let (questions, found, (done, counts)) = c.loop-question.invariant.come read ended before stands in
+    let (asked, asks, now) = c.in-Question.ensures.question c.in-Question.question refl read ended (before ++ questions) found in
+    let (written, writes, cut) = c.in_err-answer_question.ensures.cut asked asks in
+    let goes = c.answer_question.ensures.goes in (
+      questions ++ asked ∷ [],
+      subst (λ qs. g.D.Dialogue.stands c.next.new.self read ended qs) (append_assoc before questions (asked ∷ [])) now,
+      (_, Appends-trans _ _ _ _ _ done.writes writes, cut_on _ _ _ _ questions _ _ done (λ e. ap (desk_state g.K.Keep) (goes.untouched e)) _ (asked ∷ []) written cut),
+    ))
+
+pub returns-in_err-answer_question-clause-goes : goal.returns-in_err-answer_question-clause-goes
+returns-in_err-answer_question-clause-goes g c = goes_on _ _ _ _ c.loop-question.invariant.goes c.answer_question.ensures.goes
+
+pub loop-question-smaller : goal.loop-question-smaller
+loop-question-smaller g c = c.in-Question.ensures.fewer c.in-Question.question refl
+
+pub loop-question-preserved : goal.loop-question-preserved
+loop-question-preserved g c =
+    let goes = c.answer_question.ensures.goes in
+    record {
+      come = λ read ended before stands.
+          let (questions, found, done) = c.loop-question.invariant.come read ended before stands in
+          let (asked, asks, now) = c.in-Question.ensures.question c.in-Question.question refl read ended (before ++ questions) found in (
+            questions ++ asked ∷ [],
+            subst (λ qs. g.D.Dialogue.stands c.next.new.self read ended qs) (append_assoc before questions (asked ∷ [])) now,
+            counted_on _ _ _ _ questions asked _ _ _ _ _ _ (λ e. ap (desk_state g.K.Keep) (goes.untouched e)) done (c.in_ok-answer_question.ensures.whole asked asks) c.saturating_add.ensures,
+          );
+      goes = goes_on _ _ _ _ c.loop-question.invariant.goes goes;
+    }
