@@ -1,7 +1,6 @@
-mod Turns
+mod Parts
 mod CommandAnswers
 mod ViewAnswers
-mod Steps
 mod NoHead
 mod HeaderLines
 mod Heads
@@ -11,7 +10,7 @@ mod OneAnswer
 mod SomeParts
 mod SomeAsk
 mod SomeAnswer
-mod Marks
+mod AnswerKinds
 mod FourRoutes
 mod OneView
 mod Ascii

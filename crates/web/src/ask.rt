@@ -5,14 +5,12 @@ ghost use Rattle.web.specs.Asks.{AsksFor};
 ghost use Rattle.web.specs.Intake.{IsMessageAt, IsMessageWithin};
 ghost use Rattle.web.specs.Messages.{Message};
 ghost use Rattle.web.specs.Reads.{IsCallOf};
-ghost use Rattle.web.specs.Routes.{routes};
 
 use crate::body::read_request;
 use crate::intake::Found;
-use crate::route::Resource;
+use crate::route::Routes;
 use crate::target::{takes_commands, view_of};
 use escrow::{Article, Branch, OrderNo};
-use matchit::Router;
 use std::alloc::{AllocError, Global};
 use std::str;
 use words::Request;
@@ -45,14 +43,8 @@ fn call_of(alloc: Global, body: &[u8]) -> Result<Ask, AllocError>
 }
 
 /// What the message at the front of the held bytes asks for. Only a body that is posted takes memory.
-pub fn ask_of(
-    alloc: Global,
-    router: &Router<Resource>,
-    held: &[u8],
-    found: &Found,
-) -> Result<Ask, AllocError>
-    requires made { router.now ≡ routes }
-    requires within { IsMessageWithin held.now found.now }
+pub fn ask_of(alloc: Global, routes: &Routes, held: &[u8], found: &Found) -> Result<Ask, AllocError>
+    requires { IsMessageWithin held.now found.now }
     ensures { IfOk result (λ ask. (m : Message) → IsMessageAt held.now found.now m → AsksFor m ask) }
 {
     let method = &held[found.method.start..found.method.end];
@@ -60,9 +52,9 @@ pub fn ask_of(
         return Ok(Ask::Nothing);
     };
     if method == b"GET".as_slice() {
-        return Ok(view_of(router, target).unwrap_or(Ask::Nothing));
+        return Ok(view_of(routes.router(), target).unwrap_or(Ask::Nothing));
     }
-    if method == b"POST".as_slice() && takes_commands(router, target) {
+    if method == b"POST".as_slice() && takes_commands(routes.router(), target) {
         return call_of(alloc, &held[found.start..found.end]);
     }
     Ok(Ask::Nothing)
