@@ -1,6 +1,6 @@
 //! A ledger, and the keeper of its rows.
 
-ghost use Rattle.std.specs.Prelude.{◌≡◌, ◌≢◌, ◌<◌, ◌≤◌, [], false, length, take, IsTrue, IfOk, IfErr, IsSomeAnd, MatchOption, Err};
+ghost use Rattle.std.specs.Prelude.{◌≡◌, ◌≢◌, ◌*◌, ◌<◌, ◌≤◌, [], false, length, take, IsTrue, IfOk, IfErr, IsSomeAnd, MatchOption, Err};
 ghost use Rattle.escrow.specs.Codes.{IsKey};
 ghost use Rattle.words.specs.Spelling.{IsInRange};
 ghost use Rattle.book.specs.Answers.{Answers, IsAccepted};
@@ -12,14 +12,16 @@ ghost use Rattle.book.specs.Plans.{Fits};
 ghost use Rattle.book.specs.Rows.{Content, IsRowsOf};
 ghost use Rattle.book.specs.Views.{ShowsField, ShowsOrder};
 ghost use Rattle.desk.specs.Text.{RepliesAll, items_of};
+ghost use Rattle.desk.specs.Headline.{answered};
 ghost use Rattle.desk.specs.Together.{FailsAt, IsBatch};
+ghost use Rattle.desk.specs.declared.reply.TheConstants.{LONGEST_LINE};
 ghost use Rattle.desk.specs.Desk.{Goes, IsInOrder, LeavesEither, StaysStored, StopsCall, TellsStop, desk_state};
 ghost use Rattle.desk.specs.Opening.{IsLeft, IsOpened, IsRefusedAsOld, IsUnopened, OpensAt, keeper_after};
 
 use crate::fault::{CallFault, OpenFault, load_fault};
-use crate::run::Ending;
+use crate::run::{Ending, Run};
 use crate::telling::AsReply;
-use crate::together::{Told, none_told, plan_batch};
+use crate::together::plan_batch;
 use book::{Book, FieldView, OrderView, Plan, Planned, TablesFault};
 use escrow::{Article, Branch, OrderNo};
 use keep::Keep;
@@ -154,19 +156,19 @@ impl<K: Keep> Desk<K> {
     /// transaction; only then are there replies. `All` where the batch is kept, `Memory` where it is and memory was
     /// refused for the request behind it; `Stopped` where it could not be kept. Then there is no reply, the ledger is the
     /// one after the batch, and a stop leaves the rows before it or behind it.
-    pub(crate) fn run_batch(&mut self, alloc: Global, requests: &[Request]) -> Told
+    pub(crate) fn run_batch(&mut self, alloc: Global, requests: &[Request]) -> Run
         requires { K.stopped self.old.keep ≡ false }
-        ensures kept { result.run.ending ≢ Ending.Stopped → IsBatch self.old.ledger
-            (take (length result.run.replies.items) requests.now) result.run.replies.items self.new.ledger }
-        ensures lines { result.run.ending ≢ Ending.Stopped → RepliesAll self.old.ledger
-            (items_of (take (length result.run.replies.items) requests.now)) result.text.items self.new.ledger }
-        ensures few { length result.run.replies.items ≤ length requests.now }
-        ensures some { result.run.ending ≡ Ending.All → 1 ≤ length requests.now
-            → 1 ≤ length result.run.replies.items }
-        ensures more { result.run.ending ≢ Ending.All → length result.run.replies.items < length requests.now }
-        ensures failed { result.run.ending ≡ Ending.Stopped → (result.run.replies.items ≡ [])
+        ensures kept { result.ending ≢ Ending.Stopped → IsBatch self.old.ledger
+            (take (answered result) requests.now) result.replies.items self.new.ledger }
+        ensures lines { result.ending ≢ Ending.Stopped → RepliesAll self.old.ledger
+            (items_of (take (answered result) requests.now)) result.lines.items self.new.ledger }
+        ensures few { (answered result ≤ length requests.now)
+            × (length result.lines.items ≤ answered result * LONGEST_LINE) }
+        ensures some { result.ending ≡ Ending.All → 1 ≤ length requests.now → 1 ≤ answered result }
+        ensures more { result.ending ≢ Ending.All → answered result < length requests.now }
+        ensures failed { result.ending ≡ Ending.Stopped → (result.replies.items ≡ []) × (result.lines.items ≡ [])
             × FailsAt (desk_state K.Keep self.old) requests.now [] (desk_state K.Keep self.new) }
-        ensures stop { TellsStop (result.run.ending ≡ Ending.Stopped) (desk_state K.Keep self.old)
+        ensures stop { TellsStop (result.ending ≡ Ending.Stopped) (desk_state K.Keep self.old)
             (desk_state K.Keep self.new) }
         ensures goes { Goes K.Keep self.old self.new }
     {
@@ -176,7 +178,7 @@ impl<K: Keep> Desk<K> {
         }
         match self.keep.commit(&batch.changes) {
             Ok(()) => batch.told(joined),
-            Err(_) => none_told(alloc),
+            Err(_) => Run::new(alloc, Ending::Stopped),
         }
     }
 

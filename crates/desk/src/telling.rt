@@ -69,6 +69,38 @@ impl Teller for AsLine {
     }
 }
 
+/// A reply, and its line.
+#[derive(Drop)]
+pub(crate) struct Answered {
+    pub reply: Reply,
+    pub line: Vec<u8>,
+}
+
+/// Both of these.
+pub(crate) struct AsBoth;
+
+impl Teller for AsBoth {
+    ghost use Rattle.std.specs.Prelude.{◌≡◌, ◌≤◌};
+    ghost use Rattle.std.specs.Vec.{vec_len};
+    ghost use Rattle.desk.specs.Replies.{request_line};
+    ghost use Rattle.desk.specs.declared.reply.TheConstants.{LONGEST_LINE};
+
+    type Told = Answered;
+
+    ghost tells = { λ key reply told. (told.reply ≡ reply) × (told.line.items ≡ request_line key reply)
+        × (vec_len told.line ≤ LONGEST_LINE) };
+
+    ghost wants_memory = { Unit {0} };
+
+    fn tell(&self, alloc: Global, key: Key, reply: &Reply) -> Result<Answered, Memory> {
+        let line = line_of_reply(alloc, key, reply)?;
+        Ok(Answered {
+            reply: *reply,
+            line,
+        })
+    }
+}
+
 fn told<T: Teller>(alloc: Global, teller: &T, key: Key, reply: &Reply) -> Result<T::Told, CallFault>
     ensures told { IfOk result (λ told. T.tells key reply.now told) }
     ensures memory { IfErr result (λ fault. (fault ≡ CallFault.Memory) × T.wants_memory) }

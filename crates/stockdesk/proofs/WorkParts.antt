@@ -52,54 +52,21 @@ works_nothing (Serve service) s (reads, writes) = (reads, port_unwritten s.write
 module _ (fault : Fault) (old new : DeskState) (s : Streams) where
   replies_in_part : (together : Option NonZeroUsize) → Good old.ledger → FileCut together fault old new s → PrintsRepliesInPart s
   replies_in_part together good (inl (unread, same, kept)) = nothing_printed old.ledger s good kept
-  replies_in_part (Some most) good (inr (requests, (cause, told, (cut, writes)))) = record {
+  replies_in_part together good (inr (requests, (cause, told, (cut, writes)))) = record {
     first = old.ledger;
-    last = new.ledger;
+    last = cut.here;
     requests = requests;
-    answered = items_of cut.answered ++ items_of cut.last;
-    left = items_of cut.left;
+    answered = items_of cut.answered ++ items_of cut.kept;
+    left = items_of (cut.last ++ cut.left);
     written = cut.lines ++ cut.begun;
     unwritten = cut.unwritten;
     good = good;
-    split = ap items_of cut.split ∙ items_joined (cut.answered ++ cut.last) cut.left ∙ ap (λ (xs : List Item). xs ++ items_of cut.left) (items_joined cut.answered cut.last);
-    replies = subst (λ (out : List ℕ). RepliesAll old.ledger (items_of cut.answered ++ items_of cut.last) out new.ledger) (sym (append_assoc cut.lines cut.begun cut.unwritten))
-        (replies_joined (items_of cut.answered) (items_of cut.last) old.ledger cut.mid new.ledger cut.lines (cut.begun ++ cut.unwritten) cut.replies cut.rest);
+    split = ap items_of (cut.split ∙ append_assoc (cut.answered ++ cut.kept) cut.last cut.left) ∙ items_joined (cut.answered ++ cut.kept) (cut.last ++ cut.left)
+        ∙ ap (λ (xs : List Item). xs ++ items_of (cut.last ++ cut.left)) (items_joined cut.answered cut.kept);
+    replies = subst (λ (out : List ℕ). RepliesAll old.ledger (items_of cut.answered ++ items_of cut.kept) out cut.here) (sym (append_assoc cut.lines cut.begun cut.unwritten))
+        (replies_joined (items_of cut.answered) (items_of cut.kept) old.ledger cut.mid cut.here cut.lines (cut.begun ++ cut.unwritten) cut.replies cut.rest);
     writes = writes;
   }
-  replies_in_part None good (inr (requests, (cause, told, (written, writes, cut)))) = by cut.lines
-    where
-      by : AlmostWritten old.ledger cut.answered written new.ledger → PrintsRepliesInPart s
-      by (inl all) = record {
-        first = old.ledger;
-        last = new.ledger;
-        requests = requests;
-        answered = cut.answered;
-        left = cut.left;
-        written = written;
-        unwritten = [];
-        good = good;
-        split = cut.split;
-        replies = subst (λ (out : List ℕ). RepliesAll old.ledger cut.answered out new.ledger) (sym (append-nil written)) all;
-        writes = writes;
-      }
-      by (inr l) =
-          let whole = subst (λ (xs : List Item). RepliesAll old.ledger xs (l.lines ++ (l.begun ++ l.left)) new.ledger) (sym l.split)
-          (replies_more l.before l.last old.ledger l.mid new.ledger l.lines (l.begun ++ l.left) l.replies l.reply) in
-          let same : l.lines ++ (l.begun ++ l.left) ≡ written ++ l.left =
-          sym (append_assoc l.lines l.begun l.left) ∙ ap (λ (out : List ℕ). out ++ l.left) (sym l.written_are) in
-          record {
-            first = old.ledger;
-            last = new.ledger;
-            requests = requests;
-            answered = cut.answered;
-            left = cut.left;
-            written = written;
-            unwritten = l.left;
-            good = good;
-            split = cut.split;
-            replies = subst (λ (out : List ℕ). RepliesAll old.ledger cut.answered out new.ledger) same whole;
-            writes = writes;
-          }
 
   -- what was written is a beginning
   pub cut_in_part : (work : Work) → Good old.ledger → WorkCut work fault old new s → DoesWorkInPart work s

@@ -4,12 +4,13 @@ use Rattle.std.specs.Io.KnownBytes.{Keeps}
 use Rattle.book.specs.Ledger.{Ledger}
 use Rattle.desk.specs.Desk.{DeskState}
 use Rattle.desk.specs.Headline.{IsFoundAfterItems, IsFoundAfterLines, LeavesRowsOf}
+use Rattle.desk.specs.Lists.{most_together}
 use Rattle.desk.specs.Script.{EndsWhole, Writes}
 use Rattle.desk.specs.Streams.{IsSilent, Streams}
 use Rattle.desk.specs.Text.{items_of}
 use Rattle.words.specs.declared.command.Request.{Request}
 use Rattle.stockdesk.specs.Connections.{IsFoundAfterService, PortTold, ServesAll, ServiceCut}
-use Rattle.stockdesk.specs.Requests.{FileCut, RequestsAnswered, most_together}
+use Rattle.stockdesk.specs.Requests.{FileCut, RequestsAnswered}
 use Rattle.stockdesk.specs.Sessions.{IsNoDesk, ScriptCut, Session, SessionInPart, SessionWhole, left_at}
 use Rattle.stockdesk.specs.Sheets.{SheetCut, SheetWritten}
 use Rattle.stockdesk.specs.declared.session.Fault.{Fault}
