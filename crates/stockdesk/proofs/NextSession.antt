@@ -12,7 +12,8 @@ use Rattle.desk.specs.Desk.{DeskState, IsStored, LeavesEither, TellsStop}
 use Rattle.desk.specs.Headline.{IsFoundAfterItems, LeavesRowsOf}
 use Rattle.desk.specs.Script.{Writes}
 use Rattle.desk.specs.Streams.{IsSilent, Streams}
-use Rattle.desk.proofs.Cuts.{other_error}
+use Rattle.desk.proofs.Faults.{other_error}
+use Rattle.desk.proofs.LineAnswers.{text_written}
 use Rattle.desk.proofs.FoundAfter.{either_left, stored_left}
 use Rattle.desk.proofs.FoundLines.{ends_cut_left, found_all, found_told, found_whole, left_as, lists_left}
 use Rattle.web.specs.Serving.{stand}
@@ -99,7 +100,7 @@ module _ (old new : DeskState) (s : Streams) (holds : Content → Type 0) (went 
   only_last work going found = stored_left new.ledger (Found work) holds new.leaves good found (stored going)
 
   done_left : (work : Work) → new.is_stopped ≡ false → WorkDone work old new s → LeavesRowsOf new.leaves (Found work)
-  done_left Script going ends = only_last Script going (found_whole old.ledger new.ledger s ends.told)
+  done_left Script going ends = only_last Script going (found_whole old.ledger new.ledger s (text_written old new s ends))
   done_left (Requests kind csv together) going (kept, (requests, answered)) =
       only_last (Requests kind csv together) going (requests, found_all (most_together together) old.ledger (items_of requests) new.ledger s.writer_old s.writer_new answered)
   done_left (Sheet shown) going (kept, same, sheet) = only_last (Sheet shown) going same

@@ -9,12 +9,15 @@ use Rattle.book.proofs.Runs.{good_new}
 use Rattle.book.proofs.EqualRows.{told_by_rows}
 use Rattle.keep.specs.Content.{new_content, new_row}
 use Rattle.keep.specs.declared.keep.Keep.{Ghosts}
-use Rattle.desk.specs.Desk.{DeskState, DeskView, IsStored, TellsStop, desk_state}
+use Rattle.desk.specs.Desk.{DeskState, DeskView, IsStored, Snapshot, TellsStop, desk_state, going_at, snapshot}
 use Rattle.desk.specs.Opening.{IsLeft}
-use Rattle.desk.specs.Script.{WritesText}
+use Rattle.desk.specs.Dialogue.{IsPrompt}
+use Rattle.desk.specs.Script.{WritesText, lines}
 use Rattle.desk.specs.Streams.{IsSilent, Streams, streams}
 use Rattle.desk.specs.declared.fault.ScriptFault.{ScriptFault}
-use Rattle.desk.proofs.Cuts.{other_error}
+use Rattle.desk.proofs.Faults.{other_error}
+use Rattle.desk.proofs.LineAnswers.{cut_told, text_written}
+use Rattle.desk.proofs.SomeText.{text_from}
 use Rattle.stockdesk.specs.Runs.{BeginsText, RunsSoFar, RunsWhole}
 use Rattle.stockdesk.specs.Sessions.{IsBadFile, IsNoDesk, IsToldAs, IsUnbegun, IsBegun, OpensWith, ScriptCut, Session, SessionCut, SessionInPart, SessionWhole, StillHolds, left_at, session_in, session_on}
 use Rattle.stockdesk.specs.Work.{WorkInPart, WorkWhole}
@@ -41,16 +44,16 @@ nothing_read A s (reads, writes) = record {
   prompt = record {
     before = [];
     piece = [];
-    out = [];
+    questions = [];
+    kinds = [];
+    answers = [];
+    behind = going_at A;
     begun = [];
-    ended = [];
-    rest = Some [];
-    ledger = A;
     read_is = refl;
     short = omega arith;
+    come = (Some [], (refl, refl));
+    are_answers = refl;
     written_is = refl;
-    feeds = (refl, refl);
-    replies = (refl, refl);
   };
 }
 
@@ -138,9 +141,20 @@ module _ {K : Type 0} (on : Session K) (r : Result (Unit {0}) Fault) (first : De
 -- ---- scripts
 
 -- a script that is cut has begun its text
-pub cut_begins : (fault : Fault) (old new : DeskState) (s : Streams) → ScriptCut fault old new s → BeginsText old.ledger s
-cut_begins fault old new s (cause, told, ends) =
-    record { read = ends.read; written = ends.written; unwritten = ends.unwritten; last = ends.last; reads = ends.reads; writes = ends.writes; text = ends.text; prompt = ends.prompt }
+pub cut_begins : (fault : Fault) (old new : DeskState) (s : Streams) → Good old.ledger → old.is_stopped ≡ false → ScriptCut fault old new s → BeginsText old.ledger s
+cut_begins fault old new s good going (cause, told, ends) =
+    let (unwritten, last, text) = text_from cause old new ends.read ends.written ends.questions good ends.are_questions ends.cut in
+    let began : snapshot old ≡ going_at old.ledger = ap (λ (b : Bool). record { ledger = old.ledger; is_stopped = b }) going in
+    record {
+      read = ends.read;
+      written = ends.written;
+      unwritten = unwritten;
+      last = last;
+      reads = ends.reads;
+      writes = ends.writes;
+      text = text;
+      prompt = subst (λ (first : Snapshot). IsPrompt lines first ends.read ends.written) began ends.prompt;
+    }
 
 -- ---- over a new desk
 
@@ -150,26 +164,28 @@ module _ {K : Type 0} (on : Session K) (s : Streams) (honest : on.ghosts.is_hone
   from_new Done begun Is h = subst Is (is_new begun.first.ledger begun.good (begun.rows honest new_content new)) h
 
   pub runs_whole : WorkWhole on Script s → RunsWhole s
-  runs_whole all = (all.on.last, from_new _ all.on (λ A. WritesText A all.on.last s) all.on.done.told)
+  runs_whole all = (all.on.last, from_new _ all.on (λ A. WritesText A all.on.last s) (text_written (desk_state on.ghosts all.on.first) (left_at on all.on.last) s all.on.done))
 
   module _ (fault : Fault) where
     pub runs_part : WorkInPart on Script fault s → BeginsText new_ledger s
     runs_part (inl (refused, silent)) = nothing_read new_ledger s silent
-    runs_part (inr cut) = from_new _ cut.on (λ A. BeginsText A s) (cut_begins fault (desk_state on.ghosts cut.on.first) (left_at on cut.on.last) s cut.on.done)
+    runs_part (inr cut) = from_new _ cut.on (λ A. BeginsText A s) (cut_begins fault (desk_state on.ghosts cut.on.first) (left_at on cut.on.last) s cut.on.good cut.on.began cut.on.done)
 
     pub runs_so_far : WorkInPart on Script fault s → fault ≡ Fault.Read → RunsSoFar new_ledger s
     runs_so_far (inl (refused, silent)) is = nothing_so_far new_ledger s silent
-    runs_so_far (inr cut) is = let (cause, told, ends) = cut.on.done in
+    runs_so_far (inr cut) is =
+        let (cause, told, ends) = cut.on.done in
+        let (rest, feeds) = ends.come (told.read.0 is) in
         from_new _ cut.on (λ A. RunsSoFar A s) (record {
           read = ends.read;
           written = ends.written;
-          ended = ends.ended;
-          rest = ends.rest;
+          ended = ends.cut.answered;
+          rest = rest;
           ledger = cut.on.last;
           reads = ends.reads;
           writes = ends.writes;
-          feeds = ends.feeds;
-          replies = ends.all_ended (told.read.0 is);
+          feeds = feeds;
+          replies = cut_told cause (desk_state on.ghosts cut.on.first) (left_at on cut.on.last) ends.questions ends.written ends.cut (λ e. let both = sym e ∙ told.read.0 is in cc both);
         })
 
     -- a new desk is a desk, and not damaged

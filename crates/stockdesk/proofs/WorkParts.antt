@@ -1,5 +1,5 @@
 -- What work on the desk of a good ledger has read and written.
-use Rattle.std.proofs.Common.{◌≡◌, ◌∙◌, [], ◌++◌, List, ℕ, None, Option, Some, ap, append-nil, append_assoc, refl, subst, sym}
+use Rattle.std.proofs.Common.{◌≡◌, ◌∙◌, [], ◌++◌, List, ℕ, None, Option, Some, ap, append-nil, append_assoc, false, refl, subst, sym}
 use Rattle.std.proofs.Math.Logic.{inl, inr}
 use Rattle.std.specs.Io.KnownBytes.{Keeps}
 use Rattle.std.proofs.KnownBytes.{Appends-kept, Appends-nil}
@@ -10,6 +10,7 @@ use Rattle.desk.specs.Desk.{DeskState, desk_state}
 use Rattle.desk.specs.Script.{AlmostWritten}
 use Rattle.desk.specs.Streams.{IsSilent, Streams}
 use Rattle.desk.specs.Text.{RepliesAll, items_of}
+use Rattle.desk.proofs.LineAnswers.{text_written}
 use Rattle.desk.proofs.ListLines.{items_joined}
 use Rattle.desk.proofs.Texts.{replies_joined, replies_more}
 use Rattle.std.specs.declared.num.NonZeroUsize.{NonZeroUsize}
@@ -69,13 +70,13 @@ module _ (fault : Fault) (old new : DeskState) (s : Streams) where
   }
 
   -- what was written is a beginning
-  pub cut_in_part : (work : Work) → Good old.ledger → WorkCut work fault old new s → DoesWorkInPart work s
-  cut_in_part Script good cut = (old.ledger, good, cut_begins fault old new s cut)
-  cut_in_part (Requests kind csv together) good (reads, cut) = (reads, replies_in_part together good cut)
-  cut_in_part (Sheet shown) good (reads, same, inl (is, nothing)) = (reads, inl nothing)
-  cut_in_part (Sheet shown) good (reads, same, inr (is, begun)) = (reads, inr (old.ledger, good, begun))
-  cut_in_part (Serve service) good (reads, inl (why, begun, same)) = (reads, begun)
-  cut_in_part (Serve service) good (reads, inr (why, told, some)) = (reads, port_whole s.writer_old s.writer_new told)
+  pub cut_in_part : (work : Work) → Good old.ledger → old.is_stopped ≡ false → WorkCut work fault old new s → DoesWorkInPart work s
+  cut_in_part Script good going cut = (old.ledger, good, cut_begins fault old new s good going cut)
+  cut_in_part (Requests kind csv together) good going (reads, cut) = (reads, replies_in_part together good cut)
+  cut_in_part (Sheet shown) good going (reads, same, inl (is, nothing)) = (reads, inl nothing)
+  cut_in_part (Sheet shown) good going (reads, same, inr (is, begun)) = (reads, inr (old.ledger, good, begun))
+  cut_in_part (Serve service) good going (reads, inl (why, begun, same)) = (reads, begun)
+  cut_in_part (Serve service) good going (reads, inr (why, told, some)) = (reads, port_whole s.writer_old s.writer_new told)
 
   -- a fault of something that was not begun leaves all untouched
   pub cut_untouched : (work : Work) → WorkCut work fault old new s → IsUnbegun fault → IsSilent s
@@ -94,7 +95,7 @@ module _ (fault : Fault) (old new : DeskState) (s : Streams) where
 
 module _ {K : Type 0} (on : Session K) (s : Streams) where
   pub works_whole : (work : Work) → WorkWhole on work s → DoesWork work s
-  works_whole Script all = (all.on.first.ledger, all.on.last, all.on.good, all.on.done.told)
+  works_whole Script all = (all.on.first.ledger, all.on.last, all.on.good, text_written (desk_state on.ghosts all.on.first) (left_at on all.on.last) s all.on.done)
   works_whole (Requests kind csv together) all = (all.on.done.0, (all.on.first.ledger, all.on.last, all.on.done.1.0, all.on.good, all.on.done.1.1))
   works_whole (Sheet shown) all = (all.on.done.0, (all.on.first.ledger, all.on.good, all.on.done.2))
   works_whole (Serve service) all = (all.on.done.0, all.on.done.1)
@@ -102,7 +103,7 @@ module _ {K : Type 0} (on : Session K) (s : Streams) where
   module _ (work : Work) (fault : Fault) where
     pub works_in_part : WorkInPart on work fault s → DoesWorkInPart work s
     works_in_part (inl (refused, silent)) = works_nothing work s silent
-    works_in_part (inr cut) = cut_in_part fault (desk_state on.ghosts cut.on.first) (left_at on cut.on.last) s work cut.on.good cut.on.done
+    works_in_part (inr cut) = cut_in_part fault (desk_state on.ghosts cut.on.first) (left_at on cut.on.last) s work cut.on.good cut.on.began cut.on.done
 
     -- where nothing is begun, nothing is read or written
     pub works_untouched : WorkInPart on work fault s → IsUnbegun fault → IsSilent s

@@ -5,7 +5,9 @@ use Rattle.words.specs.Stream.{Feeds}
 use Rattle.words.specs.declared.item.Item.{Item}
 use Rattle.book.specs.Good.{Good}
 use Rattle.book.specs.Ledger.{Ledger, new_ledger}
-use Rattle.desk.specs.Script.{IsPrompt, WritesText}
+use Rattle.desk.specs.Desk.{going_at}
+use Rattle.desk.specs.Dialogue.{IsPrompt}
+use Rattle.desk.specs.Script.{WritesText, lines}
 use Rattle.desk.specs.Streams.{Streams}
 use Rattle.desk.specs.Text.{IsText, RepliesAll}
 
@@ -19,7 +21,7 @@ pub record BeginsText (first : Ledger) (s : Streams) : Type 0 where
   pub reads : Consumes s.reader_old s.reader_new read
   pub writes : Appends s.writer_old s.writer_new written
   pub text : IsText first read (written ++ unwritten) last
-  pub prompt : IsPrompt first read written
+  pub prompt : IsPrompt lines (going_at first) read written
 
 -- some of it was read, and what was written is the answer to every line that ended in that
 pub record RunsSoFar (first : Ledger) (s : Streams) : Type 0 where

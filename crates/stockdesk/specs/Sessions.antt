@@ -7,7 +7,8 @@ use Rattle.keep.specs.Content.{IsDesk, new_content}
 use Rattle.keep.specs.declared.keep.Keep.{Ghosts}
 use Rattle.desk.specs.Desk.{DeskState, DeskView, IsStored, desk_state}
 use Rattle.desk.specs.Opening.{IsLeft}
-use Rattle.desk.specs.Script.{EndsCut}
+use Rattle.desk.specs.Dialogue.{EndsCut}
+use Rattle.desk.specs.Script.{lines}
 use Rattle.desk.specs.Streams.{Streams}
 use Rattle.desk.specs.declared.fault.OpenFault.{OpenFault}
 use Rattle.desk.specs.declared.fault.ScriptFault.{ScriptFault}
@@ -147,4 +148,4 @@ IsCutAs fault Cut = (cause : ScriptFault) × IsToldAs cause fault × Cut cause
 
 -- the script was cut
 abbrev pub ScriptCut : Fault → (old new : DeskState) → Streams → Type 0
-ScriptCut fault old new s = IsCutAs fault (λ cause. EndsCut cause old new s)
+ScriptCut fault old new s = IsCutAs fault (λ cause. EndsCut lines cause old new s)

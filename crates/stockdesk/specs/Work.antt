@@ -5,7 +5,8 @@ use Rattle.book.specs.Ledger.{Ledger}
 use Rattle.desk.specs.Desk.{DeskState}
 use Rattle.desk.specs.Headline.{IsFoundAfterItems, IsFoundAfterLines, LeavesRowsOf}
 use Rattle.desk.specs.Lists.{most_together}
-use Rattle.desk.specs.Script.{EndsWhole, Writes}
+use Rattle.desk.specs.Dialogue.{EndsWhole}
+use Rattle.desk.specs.Script.{Writes, lines}
 use Rattle.desk.specs.Streams.{IsSilent, Streams}
 use Rattle.desk.specs.Text.{items_of}
 use Rattle.words.specs.declared.command.Request.{Request}
@@ -23,7 +24,7 @@ use Rattle.stockdesk.specs.declared.work.Work.TheVariants.{Requests, Script, Ser
 -- some requests are answered; the sheet was written, and the ledger is as it was; the port was told, and so many
 -- connections were served.
 abbrev pub WorkDone : Work → (old new : DeskState) → Streams → Type 0
-WorkDone Script old new s = EndsWhole old new s
+WorkDone Script old new s = EndsWhole lines old new s
 WorkDone (Requests kind csv together) old new s =
     Keeps s.reader_old s.reader_new × ((requests : List Request) × RequestsAnswered requests old.ledger new.ledger s)
 WorkDone (Sheet shown) old new s = Keeps s.reader_old s.reader_new × (new.ledger ≡ old.ledger)

@@ -11,7 +11,7 @@ use Rattle.web.specs.Intake.{HasNoMessage, Holds, NoneComes}
 use Rattle.web.specs.Messages.{AreParts, BeginsWith, FirstParts, IsUnreadable, Message, Part, unreadable, whole}
 use Rattle.desk.specs.Desk.{DeskState}
 use Rattle.desk.specs.Streams.{Streams, streams}
-use Rattle.desk.proofs.Cuts.{of_error}
+use Rattle.desk.proofs.Faults.{of_error}
 use Rattle.web.specs.Serving.{EndsCut, EndsShort, EndsWhole, IsCut, IsWhole, Serves, Settles, count_of, stand}
 use Rattle.web.specs.Turns.{AnswersOne, HasServed, Passes, wholes}
 use Rattle.web.specs.Web.{AnswersAll, plain}

@@ -1,5 +1,5 @@
 use Rattle.std.proofs.lemmas.Result.{on_ok_weaker}
-use Rattle.desk.proofs.Cuts.{of_error}
+use Rattle.desk.proofs.Faults.{of_error}
 use Rattle.stockdesk.proofs.SessionParts.{on_err, on_error}
 use Rattle.stockdesk.proofs.WorkParts.{works_in_part, works_nothing, works_untouched, works_whole}
 use Rattle.stockdesk.proofs.perform.work_in.Goals as goal

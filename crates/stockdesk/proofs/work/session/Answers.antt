@@ -3,7 +3,7 @@ use Rattle.std.proofs.Math.Logic.{inl, inr}
 use Rattle.std.proofs.KnownBytes.{Keeps-refl}
 use Rattle.book.proofs.EqualRows.{told_by_rows}
 use Rattle.book.specs.Ledger.{Ledger}
-use Rattle.desk.proofs.Cuts.{of_error}
+use Rattle.desk.proofs.Faults.{of_error}
 use Rattle.desk.proofs.FoundAfter.{stored_left}
 use Rattle.desk.specs.Headline.{LeavesRowsOf}
 use Rattle.desk.specs.Streams.{streams}
