@@ -44,7 +44,7 @@ nothing_printed A s good writes = record {
 pub works_nothing : (work : Work) (s : Streams) → IsSilent s → DoesWorkInPart work s
 works_nothing Script s silent = (new_ledger, good_new, nothing_read new_ledger s silent)
 works_nothing (Requests kind csv together) s (reads, writes) = (reads, nothing_printed new_ledger s good_new writes)
-works_nothing (Sheet shown) s (reads, writes) = (reads, inl (Appends-kept _ _ _ _ (Appends-nil s.writer_old) writes))
+works_nothing (Sheet of) s (reads, writes) = (reads, inl (Appends-kept _ _ _ _ (Appends-nil s.writer_old) writes))
 works_nothing (Serve service) s (reads, writes) = (reads, port_unwritten s.writer_old s.writer_new writes)
 
 -- ---- what is cut
@@ -105,8 +105,8 @@ module _ (fault : Fault) (old new : DeskState) (s : Streams) where
   pub cut_in_part : (work : Work) → Good old.ledger → WorkCut work fault old new s → DoesWorkInPart work s
   cut_in_part Script good cut = (old.ledger, good, cut_begins fault old new s cut)
   cut_in_part (Requests kind csv together) good (reads, cut) = (reads, replies_in_part together good cut)
-  cut_in_part (Sheet shown) good (reads, same, inl (is, nothing)) = (reads, inl nothing)
-  cut_in_part (Sheet shown) good (reads, same, inr (is, begun)) = (reads, inr (old.ledger, good, begun))
+  cut_in_part (Sheet of) good (reads, same, inl (is, nothing)) = (reads, inl nothing)
+  cut_in_part (Sheet of) good (reads, same, inr (is, begun)) = (reads, inr (old.ledger, good, begun))
   cut_in_part (Serve service) good (reads, inl (why, begun, same)) = (reads, begun)
   cut_in_part (Serve service) good (reads, inr (why, told, some)) = (reads, port_whole s.writer_old s.writer_new told)
 
@@ -115,8 +115,8 @@ module _ (fault : Fault) (old new : DeskState) (s : Streams) where
   cut_untouched Script (cause, told, ends) un = absurd (told_begun cause fault told un)
   cut_untouched (Requests kind csv together) (reads, inl (unread, same, kept)) un = (reads, kept)
   cut_untouched (Requests kind csv together) (reads, inr (requests, (cause, told, cut))) un = absurd (told_begun cause fault told un)
-  cut_untouched (Sheet shown) (reads, same, inl (is, nothing)) un = absurd (not_unbegun fault _ is refl un)
-  cut_untouched (Sheet shown) (reads, same, inr (is, begun)) un = absurd (not_unbegun fault _ is refl un)
+  cut_untouched (Sheet of) (reads, same, inl (is, nothing)) un = absurd (not_unbegun fault _ is refl un)
+  cut_untouched (Sheet of) (reads, same, inr (is, begun)) un = absurd (not_unbegun fault _ is refl un)
   cut_untouched (Serve service) (reads, inl (inl is, begun, same)) un = absurd (not_unbegun fault _ is refl un)
   cut_untouched (Serve service) (reads, inl (inr (inl is), begun, same)) un = absurd (not_unbegun fault _ is refl un)
   cut_untouched (Serve service) (reads, inl (inr (inr is), begun, same)) un = absurd (not_unbegun fault _ is refl un)
@@ -129,7 +129,7 @@ module _ {K : Type 0} (on : Session K) (s : Streams) where
   pub works_whole : (work : Work) → WorkWhole on work s → DoesWork work s
   works_whole Script all = (all.on.first.ledger, all.on.last, all.on.good, all.on.done.told)
   works_whole (Requests kind csv together) all = (all.on.done.0, (all.on.first.ledger, all.on.last, all.on.done.1.0, all.on.good, all.on.done.1.1))
-  works_whole (Sheet shown) all = (all.on.done.0, (all.on.first.ledger, all.on.good, all.on.done.2))
+  works_whole (Sheet of) all = (all.on.done.0, (all.on.first.ledger, all.on.good, all.on.done.2))
   works_whole (Serve service) all = (all.on.done.0, all.on.done.1)
 
   module _ (work : Work) (fault : Fault) where

@@ -62,18 +62,12 @@ pub fn perform<R: Read, W: Write>(
         (streams (R.remaining reader.old) (R.remaining reader.new) (W.contents writer.old) (W.contents writer.new))) }
     ensures untouched { IfErr result (λ fault. IsUnbegun fault → IsSilent
         (streams (R.remaining reader.old) (R.remaining reader.new) (W.contents writer.old) (W.contents writer.new))) }
-    ensures new { task.now ≡ Task.Memory → IfErr result (λ fault. ¬ IsUnbegun fault) }
+    ensures new { task.now ≡ Task.InMemory → IfErr result (λ fault. ¬ IsUnbegun fault) }
 {
     match task {
         Task::Init(path) => init_file(rt, *path),
-        Task::Memory => memory::run(rt, reader, writer),
-        Task::Script(path) => work_in(rt, *path, &Work::Script, reader, writer),
-        Task::Requests(path, kind, csv, together) => {
-            let work = Work::Requests(*kind, *csv, *together);
-            work_in(rt, *path, &work, reader, writer)
-        }
-        Task::Sheet(path, shown) => work_in(rt, *path, &Work::Sheet(*shown), reader, writer),
-        Task::Serve(path, service) => work_in(rt, *path, &Work::Serve(*service), reader, writer),
         Task::Upgrade(path) => upgrade_file(rt, *path),
+        Task::InMemory => memory::run(rt, reader, writer),
+        Task::InFile(path, work) => work_in(rt, *path, work, reader, writer),
     }
 }

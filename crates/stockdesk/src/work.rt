@@ -12,7 +12,7 @@ ghost use Rattle.stockdesk.specs.Work.{GoesOnFrom, WorkCut, WorkDone, WorkInPart
 use crate::loopback::{Service, serve_desk};
 use crate::requests::{Kind, answer_file};
 use crate::session::{Fault, open_desk};
-use crate::sheet::{Shown, show_book};
+use crate::sheet::{SheetOf, show_book};
 use desk::{Desk, script};
 use keep::Keep;
 use std::io::{Read, Write};
@@ -26,7 +26,7 @@ pub enum Work<'a> {
     /// The requests of the file at this path are answered, one after the other or so many together.
     Requests(Kind, &'a str, Option<NonZeroUsize>),
     /// A sheet of it is written.
-    Sheet(Shown),
+    Sheet(SheetOf),
     /// It is served.
     Serve(Service),
 }
@@ -53,9 +53,9 @@ fn work_on<K: Keep, R: Read, W: Write>(
         Work::Requests(kind, path, together) => {
             answer_file(rt, desk, *kind, *path, *together, writer)
         }
-        Work::Sheet(shown) => {
+        Work::Sheet(of) => {
             desk.is_stopped();
-            show_book(rt.alloc(), desk.book(), shown, writer)
+            show_book(rt.alloc(), desk.book(), of, writer)
         }
         Work::Serve(service) => serve_desk(rt, desk, service, writer),
     }
