@@ -16,7 +16,7 @@ use Rattle.std.specs.declared.num.NonZeroUsize.{NonZeroUsize}
 use Rattle.words.specs.declared.item.Item.{Item}
 use Rattle.stockdesk.specs.Done.{DoesWork, DoesWorkInPart, PrintsRepliesInPart}
 use Rattle.stockdesk.specs.Requests.{FileCut}
-use Rattle.stockdesk.specs.Sessions.{IsUnbegun, Session, left_at}
+use Rattle.stockdesk.specs.Sessions.{IsUnbegun, Session, desk_left}
 use Rattle.stockdesk.specs.Work.{WorkCut, WorkInPart, WorkWhole}
 use Rattle.stockdesk.specs.declared.session.Fault.{Fault}
 use Rattle.stockdesk.specs.declared.work.Work.{Work}
@@ -127,7 +127,7 @@ module _ (fault : Fault) (old new : DeskState) (s : Streams) where
 
 module _ {K : Type 0} (on : Session K) (s : Streams) where
   pub works_whole : (work : Work) → WorkWhole on work s → DoesWork work s
-  works_whole Script all = (all.on.first.ledger, all.on.last, all.on.good, all.on.done.told)
+  works_whole Script all = (all.on.first.ledger, all.on.good, (all.on.last, all.on.done.told))
   works_whole (Requests kind csv together) all = (all.on.done.0, (all.on.first.ledger, all.on.last, all.on.done.1.0, all.on.good, all.on.done.1.1))
   works_whole (Sheet of) all = (all.on.done.0, (all.on.first.ledger, all.on.good, all.on.done.2))
   works_whole (Serve service) all = (all.on.done.0, all.on.done.1)
@@ -135,9 +135,9 @@ module _ {K : Type 0} (on : Session K) (s : Streams) where
   module _ (work : Work) (fault : Fault) where
     pub works_in_part : WorkInPart on work fault s → DoesWorkInPart work s
     works_in_part (inl (refused, silent)) = works_nothing work s silent
-    works_in_part (inr cut) = cut_in_part fault (desk_state on.ghosts cut.on.first) (left_at on cut.on.last) s work cut.on.good cut.on.done
+    works_in_part (inr cut) = cut_in_part fault (desk_state on.ghosts cut.on.first) (desk_left on cut.on.last) s work cut.on.good cut.on.done
 
     -- where nothing is begun, nothing is read or written
     pub works_untouched : WorkInPart on work fault s → IsUnbegun fault → IsSilent s
     works_untouched (inl (refused, silent)) un = silent
-    works_untouched (inr cut) un = cut_untouched fault (desk_state on.ghosts cut.on.first) (left_at on cut.on.last) s work cut.on.done un
+    works_untouched (inr cut) un = cut_untouched fault (desk_state on.ghosts cut.on.first) (desk_left on cut.on.last) s work cut.on.done un

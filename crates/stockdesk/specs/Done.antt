@@ -10,7 +10,7 @@ use Rattle.words.specs.declared.command.Request.{Request}
 use Rattle.words.specs.declared.item.Item.{Item}
 use Rattle.stockdesk.specs.Connections.{PortBegun, PortTold}
 use Rattle.stockdesk.specs.Requests.{RequestsAnswered}
-use Rattle.stockdesk.specs.Runs.{BeginsText, PlaysInPart, PlaysWhole, RunsWhole}
+use Rattle.stockdesk.specs.Runs.{AnswersText, BeginsText}
 use Rattle.stockdesk.specs.Sheets.{SheetBegun, SheetWritten}
 use Rattle.stockdesk.specs.Tasks.{Asks, stockdesk}
 use Rattle.stockdesk.specs.declared.sheet.SheetOf.{SheetOf}
@@ -55,14 +55,14 @@ PrintsSheetInPart of s = Appends s.writer_old s.writer_new []
 
 -- the work is done
 abbrev pub DoesWork : Work → Streams → Type 0
-DoesWork Script s = PlaysWhole s
+DoesWork Script s = (first : Ledger) × Good first × AnswersText first s
 DoesWork (Requests kind csv together) s = Keeps s.reader_old s.reader_new × PrintsReplies s
 DoesWork (Sheet of) s = Keeps s.reader_old s.reader_new × PrintsSheet of s
 DoesWork (Serve service) s = Keeps s.reader_old s.reader_new × PortTold s.writer_old s.writer_new
 
 -- the work is done in part: what was written is a beginning
 abbrev pub DoesWorkInPart : Work → Streams → Type 0
-DoesWorkInPart Script s = PlaysInPart s
+DoesWorkInPart Script s = (first : Ledger) × Good first × BeginsText first s
 DoesWorkInPart (Requests kind csv together) s = Keeps s.reader_old s.reader_new × PrintsRepliesInPart s
 DoesWorkInPart (Sheet of) s = Keeps s.reader_old s.reader_new × PrintsSheetInPart of s
 DoesWorkInPart (Serve service) s = Keeps s.reader_old s.reader_new × PortBegun s.writer_old s.writer_new
@@ -73,7 +73,7 @@ DoesWorkInPart (Serve service) s = Keeps s.reader_old s.reader_new × PortBegun 
 abbrev pub Does : Task → Streams → Type 0
 Does (Init path) s = IsSilent s
 Does (Upgrade path) s = IsSilent s
-Does InMemory s = RunsWhole s
+Does InMemory s = AnswersText new_ledger s
 Does (InFile path work) s = DoesWork work s
 
 -- the task is done in part: what was written is a beginning

@@ -10,7 +10,7 @@ use Rattle.desk.specs.Text.{items_of}
 use Rattle.words.specs.declared.command.Request.{Request}
 use Rattle.stockdesk.specs.Connections.{IsFoundAfterService, PortTold, ServesAll, ServiceCut}
 use Rattle.stockdesk.specs.Requests.{FileCut, RequestsAnswered, most_together}
-use Rattle.stockdesk.specs.Sessions.{IsNoDesk, ScriptCut, Session, SessionInPart, SessionWhole, left_at}
+use Rattle.stockdesk.specs.Sessions.{IsNoDesk, ScriptCut, Session, SessionInPart, SessionWhole, desk_left}
 use Rattle.stockdesk.specs.Sheets.{SheetCut, SheetWritten}
 use Rattle.stockdesk.specs.declared.session.Fault.{Fault}
 use Rattle.stockdesk.specs.declared.work.Work.{Work}
@@ -66,4 +66,4 @@ IsFoundAfterWork (Serve service) first s B = IsFoundAfterService service.connect
 pub record GoesOnFrom {K : Type 0} (on : Session K) (work : Work) (ended : Result (Unit {0}) Fault) (A : Ledger)
     (s : Streams) : Type 0 where
   pub opens : IfErr ended (λ fault. ¬ IsNoDesk fault)
-  pub leaves : LeavesRowsOf (on.ghosts.leaves on.keep) (IsFoundAfterWork work (left_at on A) s)
+  pub leaves : LeavesRowsOf (on.ghosts.leaves on.keep) (IsFoundAfterWork work (desk_left on A) s)

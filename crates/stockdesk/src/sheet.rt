@@ -34,7 +34,7 @@ impl From<SheetFault> for Fault {
 }
 
 /// Writes a sheet of a book. Want of memory leaves nothing written, and a failing write a beginning.
-pub fn show_book<W: Write>(
+pub fn write_sheet<W: Write>(
     alloc: Global,
     book: &Book,
     of: &SheetOf,
