@@ -17,7 +17,7 @@ use Rattle.std.specs.declared.num.NonZeroUsize.{NonZeroUsize}
 use Rattle.words.specs.declared.item.Item.{Item}
 use Rattle.stockdesk.specs.Done.{DoesWork, DoesWorkInPart, PrintsRepliesInPart}
 use Rattle.stockdesk.specs.Requests.{FileCut}
-use Rattle.stockdesk.specs.Sessions.{IsUnbegun, Session, left_at}
+use Rattle.stockdesk.specs.Sessions.{IsUnbegun, Session, desk_left}
 use Rattle.stockdesk.specs.Work.{WorkCut, WorkInPart, WorkWhole}
 use Rattle.stockdesk.specs.declared.session.Fault.{Fault}
 use Rattle.stockdesk.specs.declared.work.Work.{Work}
@@ -45,7 +45,7 @@ nothing_printed A s good writes = record {
 pub works_nothing : (work : Work) (s : Streams) → IsSilent s → DoesWorkInPart work s
 works_nothing Script s silent = (new_ledger, good_new, nothing_read new_ledger s silent)
 works_nothing (Requests kind csv together) s (reads, writes) = (reads, nothing_printed new_ledger s good_new writes)
-works_nothing (Sheet shown) s (reads, writes) = (reads, inl (Appends-kept _ _ _ _ (Appends-nil s.writer_old) writes))
+works_nothing (Sheet of) s (reads, writes) = (reads, inl (Appends-kept _ _ _ _ (Appends-nil s.writer_old) writes))
 works_nothing (Serve service) s (reads, writes) = (reads, port_unwritten s.writer_old s.writer_new writes)
 
 -- ---- what is cut
@@ -73,8 +73,8 @@ module _ (fault : Fault) (old new : DeskState) (s : Streams) where
   pub cut_in_part : (work : Work) → Good old.ledger → old.is_stopped ≡ false → WorkCut work fault old new s → DoesWorkInPart work s
   cut_in_part Script good going cut = (old.ledger, good, cut_begins fault old new s good going cut)
   cut_in_part (Requests kind csv together) good going (reads, cut) = (reads, replies_in_part together good cut)
-  cut_in_part (Sheet shown) good going (reads, same, inl (is, nothing)) = (reads, inl nothing)
-  cut_in_part (Sheet shown) good going (reads, same, inr (is, begun)) = (reads, inr (old.ledger, good, begun))
+  cut_in_part (Sheet of) good going (reads, same, inl (is, nothing)) = (reads, inl nothing)
+  cut_in_part (Sheet of) good going (reads, same, inr (is, begun)) = (reads, inr (old.ledger, good, begun))
   cut_in_part (Serve service) good going (reads, inl (why, begun, same)) = (reads, begun)
   cut_in_part (Serve service) good going (reads, inr (why, told, some)) = (reads, port_whole s.writer_old s.writer_new told)
 
@@ -83,8 +83,8 @@ module _ (fault : Fault) (old new : DeskState) (s : Streams) where
   cut_untouched Script (cause, told, ends) un = absurd (told_begun cause fault told un)
   cut_untouched (Requests kind csv together) (reads, inl (unread, same, kept)) un = (reads, kept)
   cut_untouched (Requests kind csv together) (reads, inr (requests, (cause, told, cut))) un = absurd (told_begun cause fault told un)
-  cut_untouched (Sheet shown) (reads, same, inl (is, nothing)) un = absurd (not_unbegun fault _ is refl un)
-  cut_untouched (Sheet shown) (reads, same, inr (is, begun)) un = absurd (not_unbegun fault _ is refl un)
+  cut_untouched (Sheet of) (reads, same, inl (is, nothing)) un = absurd (not_unbegun fault _ is refl un)
+  cut_untouched (Sheet of) (reads, same, inr (is, begun)) un = absurd (not_unbegun fault _ is refl un)
   cut_untouched (Serve service) (reads, inl (inl is, begun, same)) un = absurd (not_unbegun fault _ is refl un)
   cut_untouched (Serve service) (reads, inl (inr (inl is), begun, same)) un = absurd (not_unbegun fault _ is refl un)
   cut_untouched (Serve service) (reads, inl (inr (inr is), begun, same)) un = absurd (not_unbegun fault _ is refl un)
@@ -95,17 +95,17 @@ module _ (fault : Fault) (old new : DeskState) (s : Streams) where
 
 module _ {K : Type 0} (on : Session K) (s : Streams) where
   pub works_whole : (work : Work) → WorkWhole on work s → DoesWork work s
-  works_whole Script all = (all.on.first.ledger, all.on.last, all.on.good, text_written (desk_state on.ghosts all.on.first) (left_at on all.on.last) s all.on.done)
+  works_whole Script all = (all.on.first.ledger, all.on.good, (all.on.last, text_written (desk_state on.ghosts all.on.first) (desk_left on all.on.last) s all.on.done))
   works_whole (Requests kind csv together) all = (all.on.done.0, (all.on.first.ledger, all.on.last, all.on.done.1.0, all.on.good, all.on.done.1.1))
-  works_whole (Sheet shown) all = (all.on.done.0, (all.on.first.ledger, all.on.good, all.on.done.2))
+  works_whole (Sheet of) all = (all.on.done.0, (all.on.first.ledger, all.on.good, all.on.done.2))
   works_whole (Serve service) all = (all.on.done.0, all.on.done.1)
 
   module _ (work : Work) (fault : Fault) where
     pub works_in_part : WorkInPart on work fault s → DoesWorkInPart work s
     works_in_part (inl (refused, silent)) = works_nothing work s silent
-    works_in_part (inr cut) = cut_in_part fault (desk_state on.ghosts cut.on.first) (left_at on cut.on.last) s work cut.on.good cut.on.began cut.on.done
+    works_in_part (inr cut) = cut_in_part fault (desk_state on.ghosts cut.on.first) (desk_left on cut.on.last) s work cut.on.good cut.on.began cut.on.done
 
     -- where nothing is begun, nothing is read or written
     pub works_untouched : WorkInPart on work fault s → IsUnbegun fault → IsSilent s
     works_untouched (inl (refused, silent)) un = silent
-    works_untouched (inr cut) un = cut_untouched fault (desk_state on.ghosts cut.on.first) (left_at on cut.on.last) s work cut.on.done un
+    works_untouched (inr cut) un = cut_untouched fault (desk_state on.ghosts cut.on.first) (desk_left on cut.on.last) s work cut.on.done un
