@@ -1,7 +1,7 @@
 -- Batches: how they are made, and that they come again.
 use Rattle.std.proofs.Common.{◌≡◌, ◌≢◌, ◌∙◌, ◌+◌, ◌-◌, ◌≤◌, ◌++◌, Bool, false, true, true≢false, ℕ, List, [], ◌∷◌, ap, append-nil, append_assoc, arith, drop, length, refl, subst, sym, take}
 use Rattle.std.proofs.lemmas.List.{length-append, length-drop, map-append}
-use Rattle.std.proofs.Math.Seq.{take-length}
+use Rattle.std.proofs.Math.Seq.{take-add, take-length}
 use Rattle.std.proofs.lemmas.List.Elements.{All-append, All-from_recursion}
 use Rattle.std.specs.Prelude.{All}
 use Rattle.std.specs.List.{AllByRecursion as Each}
@@ -30,7 +30,8 @@ use Rattle.keep.specs.Transactions.{with_changes}
 use Rattle.desk.specs.Desk.{DeskState, IsStored, LeavesEither}
 use Rattle.desk.specs.Replies.{request_line}
 use Rattle.desk.specs.Text.{RepliesAll, items_of}
-use Rattle.desk.proofs.Texts.{replies_more}
+use Rattle.desk.proofs.Texts.{replies_joined, replies_more}
+use Rattle.desk.specs.declared.reply.TheConstants.{LONGEST_LINE}
 use Rattle.words.specs.declared.item.Item.{Item}
 use Rattle.words.specs.declared.item.Item.TheVariants as item
 use Rattle.desk.specs.Together.{BatchSoFar, FailsAt, IsAsBefore, IsBatch, IsDone, Joins}
@@ -76,11 +77,17 @@ desk_joined (change.Firm r ∷ xs) ys = desk_joined xs ys
 
 -- ---- one request more
 
+-- its line
+pub lines_on : (A M B : Ledger) (rs : List Request) (r : Request) (reply : Reply) (out : List ℕ) → RepliesAll A (items_of rs) out M → Answers M r reply B → RepliesAll A (items_of (rs ++ r ∷ [])) (out ++ request_line r.key reply) B
+lines_on A M B rs r reply out so_far answer =
+    subst (λ (xs : List Item). RepliesAll A xs (out ++ request_line r.key reply) B) (sym (map-append (λ x. item.Request x) rs (r ∷ [])))
+    (replies_more (items_of rs) (item.Request r) A M B out (request_line r.key reply) so_far (reply, answer, refl))
+
 each_joined : (P : Reply → Type 0) (xs : List Reply) (y : Reply) → Each P xs → P y → Each P (xs ++ y ∷ [])
 each_joined P [] y h p = (p, tt)
 each_joined P (x ∷ xs) y h p = (h.0, each_joined P xs y h.1 p)
 
-pub batch_new : (A : Ledger) (batch : Batch) → Good A → batch.replies.items ≡ [] → batch.text.items ≡ [] → batch.changes.items ≡ [] → batch.has_refused ≡ false → BatchSoFar A [] batch A
+pub batch_new : (A : Ledger) (batch : Batch) → Good A → batch.run.replies.items ≡ [] → batch.run.lines.items ≡ [] → batch.changes.items ≡ [] → batch.has_refused ≡ false → BatchSoFar A [] batch A
 batch_new A batch good none no_text no_rows going = record {
   is_batch = record { first = []; behind = []; told = []; refused = []; requests_are = refl; replies_are = none; done = refl; all_done = tt; rest = refl };
   rows = λ C is. subst (λ (cs : List Change). IsRowsOf A (with_changes cs C)) (sym no_rows) is;
@@ -89,29 +96,30 @@ batch_new A batch good none no_text no_rows going = record {
   some = λ has. absurd (true≢false (sym has ∙ going));
   none = λ _. no_rows;
   lines = (no_text, refl);
+  short = let size = ap (λ (xs : List ℕ). length xs) no_text in omega (arith, size);
   good = good;
 }
 
 module _ (A M B : Ledger) (rs : List Request) (r : Request) (old new : Batch) (so_far : BatchSoFar A rs old M) (h : Joins M r old new B) where
   -- all are done so far, and so is this one
-  all_more : new.has_refused ≡ false → Runs A (rs ++ r ∷ []) new.replies.items B × Each IsDone new.replies.items
+  all_more : new.has_refused ≡ false → Runs A (rs ++ r ∷ []) new.run.replies.items B × Each IsDone new.run.replies.items
   all_more going =
       let (is_done, before) = h.done going in
       let (run, each) = so_far.all_done before in (
-        subst (λ (ps : List Reply). Runs A (rs ++ r ∷ []) ps B) (sym h.replies) (runs_on A M B rs old.replies.items r h.reply run h.answer),
-        subst (Each IsDone) (sym h.replies) (each_joined IsDone old.replies.items h.reply each is_done),
+        subst (λ (ps : List Reply). Runs A (rs ++ r ∷ []) ps B) (sym h.replies) (runs_on A M B rs old.run.replies.items r h.reply run h.answer),
+        subst (Each IsDone) (sym h.replies) (each_joined IsDone old.run.replies.items h.reply each is_done),
       )
 
-  batch_more : (b : Bool) → new.has_refused ≡ b → IsBatch A (rs ++ r ∷ []) new.replies.items B
+  batch_more : (b : Bool) → new.has_refused ≡ b → IsBatch A (rs ++ r ∷ []) new.run.replies.items B
   batch_more false going =
       let (run, each) = all_more going in
       record {
         first = rs ++ r ∷ [];
         behind = [];
-        told = new.replies.items;
+        told = new.run.replies.items;
         refused = [];
         requests_are = sym (append-nil (rs ++ r ∷ []));
-        replies_are = sym (append-nil new.replies.items);
+        replies_are = sym (append-nil new.run.replies.items);
         done = run;
         all_done = each;
         rest = refl;
@@ -120,7 +128,7 @@ module _ (A M B : Ledger) (rs : List Request) (r : Request) (old new : Batch) (s
       let was = so_far.is_batch in
       let same : B ≡ M = h.nothing has in
       let stays : Answers M r h.reply M = subst (λ L. Answers M r h.reply L) same h.answer in
-      subst (λ L. IsBatch A (rs ++ r ∷ []) new.replies.items L) (sym same) (record {
+      subst (λ L. IsBatch A (rs ++ r ∷ []) new.run.replies.items L) (sym same) (record {
         first = was.first;
         behind = was.behind ++ r ∷ [];
         told = was.told;
@@ -139,18 +147,18 @@ module _ (A M B : Ledger) (rs : List Request) (r : Request) (old new : Batch) (s
     desk = subst (λ (cs : List Change). All IsTheRow (rows_among cs).desk) (sym h.changes)
         (subst (λ (rows : List DeskCells). All IsTheRow rows) (sym (desk_joined old.changes.items h.more)) (All-append IsTheRow (rows_among old.changes.items).desk (rows_among h.more).desk so_far.desk h.desk));
     all_done = all_more;
-    some = λ _. let size = ap (λ (ps : List Reply). length ps) h.replies ∙ length-append old.replies.items (h.reply ∷ []) in omega arith;
-    none = λ is. let size = ap (λ (ps : List Reply). length ps) h.replies ∙ length-append old.replies.items (h.reply ∷ []) in let zero = ap (λ (ps : List Reply). length ps) is in absurd (omega (arith, size, zero));
-    lines = subst (λ (xs : List Item). RepliesAll A xs new.text.items B) (sym (map-append (λ x. item.Request x) rs (r ∷ [])))
-        (subst (λ (out : List ℕ). RepliesAll A (items_of rs ++ item.Request r ∷ []) out B) (sym h.line)
-        (replies_more (items_of rs) (item.Request r) A M B old.text.items (request_line r.key h.reply) so_far.lines (h.reply, h.answer, refl)));
+    some = λ _. let size = ap (λ (ps : List Reply). length ps) h.replies ∙ length-append old.run.replies.items (h.reply ∷ []) in omega arith;
+    none = λ is. let size = ap (λ (ps : List Reply). length ps) h.replies ∙ length-append old.run.replies.items (h.reply ∷ []) in let zero = ap (λ (ps : List Reply). length ps) is in absurd (omega (arith, size, zero));
+    lines = subst (λ (out : List ℕ). RepliesAll A (items_of (rs ++ r ∷ [])) out B) (sym h.line) (lines_on A M B rs r h.reply old.run.lines.items so_far.lines h.answer);
+    short = let size = ap (λ (ps : List Reply). length ps) h.replies ∙ length-append old.run.replies.items (h.reply ∷ []) in omega (arith, size, so_far.short, h.short);
     good = h.good;
   }
 
 -- nothing more is planned: a reply, and no row
-pub joined_told : (A : Ledger) (r : Request) (reply : Reply) (old new : Batch) → Good A → Answers A r reply A → new.replies.items ≡ old.replies.items ++ reply ∷ []
-    → new.text.items ≡ old.text.items ++ request_line r.key reply → new.changes.items ≡ old.changes.items → (new.has_refused ≡ false → IsDone reply × (old.has_refused ≡ false)) → Joins A r old new A
-joined_told A r reply old new good answer replies line same done = record {
+pub joined_told : (A : Ledger) (r : Request) (reply : Reply) (old new : Batch) → Good A → Answers A r reply A → new.run.replies.items ≡ old.run.replies.items ++ reply ∷ []
+    → new.run.lines.items ≡ old.run.lines.items ++ request_line r.key reply → new.changes.items ≡ old.changes.items → (new.has_refused ≡ false → IsDone reply × (old.has_refused ≡ false)) → length new.run.lines.items ≤ length old.run.lines.items + LONGEST_LINE → Joins A r old new A
+joined_told A r reply old new good answer replies line same done short = record {
+  short = short;
   reply = reply;
   replies = replies;
   line = line;
@@ -166,9 +174,10 @@ joined_told A r reply old new good answer replies line same done = record {
 
 -- an accepted request, whose plan is adopted
 pub joined_accepted : (A B : Ledger) (plan : PlanView) (rows : List Change) (old new : Batch) → Good A → IsKey plan.request.key → IsInRange plan.request.command → Fits A plan → rows_among rows ≡ plan.changes
-    → B ≡ accept A plan.request → Good B → old.has_refused ≡ false → new.has_refused ≡ false → new.replies.items ≡ old.replies.items ++ Done plan.place ∷ []
-    → new.text.items ≡ old.text.items ++ request_line plan.request.key (Done plan.place) → new.changes.items ≡ old.changes.items ++ rows → Joins A plan.request old new B
-joined_accepted A B plan rows old new good key range fits are is_next good_then had has replies line changes = record {
+    → B ≡ accept A plan.request → Good B → old.has_refused ≡ false → new.has_refused ≡ false → new.run.replies.items ≡ old.run.replies.items ++ Done plan.place ∷ []
+    → new.run.lines.items ≡ old.run.lines.items ++ request_line plan.request.key (Done plan.place) → new.changes.items ≡ old.changes.items ++ rows → length new.run.lines.items ≤ length old.run.lines.items + LONGEST_LINE → Joins A plan.request old new B
+joined_accepted A B plan rows old new good key range fits are is_next good_then had has replies line changes short = record {
+  short = short;
   reply = Done plan.place;
   replies = replies;
   line = line;
@@ -193,7 +202,8 @@ joined_none A M B rs old new so_far h = subst (λ L. BatchSoFar A rs new L) (sym
       (subst (λ (ps : List Reply). Runs A rs ps M) (sym h.replies) run, subst (Each IsDone) (sym h.replies) each);
   some = λ has. subst (λ (ps : List Reply). 1 ≤ length ps) (sym h.replies) (so_far.some (sym h.refused ∙ has));
   none = λ is. h.changes ∙ so_far.none (sym h.replies ∙ is);
-  lines = subst (λ (out : List ℕ). RepliesAll A (items_of rs) out M) (sym h.text) so_far.lines;
+  lines = subst (λ (out : List ℕ). RepliesAll A (items_of rs) out M) (sym h.lines) so_far.lines;
+  short = let count = ap (λ (ps : List Reply). length ps) h.replies in let size = ap (λ (xs : List ℕ). length xs) h.lines in omega (arith, count, size, so_far.short);
   good = so_far.good;
 })
 
@@ -204,28 +214,28 @@ pub batch_runs : (A B : Ledger) (rs : List Request) (ps : List Reply) → IsBatc
 batch_runs A B rs ps h = subst (λ (xs : List Request). Runs A xs ps B) (sym h.requests_are)
     (subst (λ (qs : List Reply). Runs A (h.first ++ h.behind) qs B) (sym h.replies_are) (runs_joined A B B h.first h.behind h.told h.refused h.done h.rest))
 
-module _ (A B : Ledger) (rs : List Request) (batch : Batch) (ps : List Reply) (so_far : BatchSoFar A (take (length batch.replies.items) rs) batch B) (same : ps ≡ batch.replies.items) where
+module _ (A B : Ledger) (rs : List Request) (batch : Batch) (ps : List Reply) (so_far : BatchSoFar A (take (length batch.run.replies.items) rs) batch B) (same : ps ≡ batch.run.replies.items) where
   pub batch_told : IsBatch A (take (length ps) rs) ps B
   batch_told = subst (λ (qs : List Reply). IsBatch A (take (length qs) rs) qs B) (sym same) so_far.is_batch
 
-  pub lines_told : (out : List ℕ) → out ≡ batch.text.items → RepliesAll A (items_of (take (length ps) rs)) out B
+  pub lines_told : (out : List ℕ) → out ≡ batch.run.lines.items → RepliesAll A (items_of (take (length ps) rs)) out B
   lines_told out are = subst (λ (qs : List Reply). RepliesAll A (items_of (take (length qs) rs)) out B) (sym same)
-      (subst (λ (text : List ℕ). RepliesAll A (items_of (take (length batch.replies.items) rs)) text B) (sym are) so_far.lines)
+      (subst (λ (text : List ℕ). RepliesAll A (items_of (take (length batch.run.replies.items) rs)) text B) (sym are) so_far.lines)
 
 one_at_least : (ps : List Reply) → ps ≢ [] → 1 ≤ length ps
 one_at_least [] some = absurd (some refl)
 one_at_least (p ∷ ps) some = omega arith
 
 pub batch_fails : (old new : DeskState) (holds : Content → Type 0) (rs : List Request) (batch : Batch) (changes : List Change)
-    → BatchSoFar old.ledger (take (length batch.replies.items) rs) batch new.ledger → length batch.replies.items ≤ length rs → Good old.ledger → changes ≡ batch.changes.items → changes ≢ [] → (new.is_honest → IsStored holds old.leaves old.ledger)
+    → BatchSoFar old.ledger (take (length batch.run.replies.items) rs) batch new.ledger → length batch.run.replies.items ≤ length rs → Good old.ledger → changes ≡ batch.changes.items → changes ≢ [] → (new.is_honest → IsStored holds old.leaves old.ledger)
     → (new.is_honest → (x : Content) → holds x → old.leaves (x ∷ []) → new.leaves (x ∷ with_changes changes x ∷ [])) → FailsAt old rs [] new
 batch_fails old new holds rs batch changes so_far few good are some stored either = record {
   mid = old.ledger;
   run = refl;
-  count = length batch.replies.items;
-  some = one_at_least batch.replies.items (λ none. some (are ∙ so_far.none none));
+  count = length batch.run.replies.items;
+  some = one_at_least batch.run.replies.items (λ none. some (are ∙ so_far.none none));
   none_unasked = omega arith;
-  untold = batch.replies.items;
+  untold = batch.run.replies.items;
   batch = so_far.is_batch;
   either = λ honest. let s = stored honest in record {
     good_before = good;
@@ -268,15 +278,56 @@ run_further A M B rs n ps qs all is run same more =
     (subst (λ (xs : List Reply). Runs A (take (length ps + length qs) rs) xs B) (sym same)
     (runs_behind A M B rs (length ps) ps qs run (subst (λ i. Runs M (take (length qs) (drop i rs)) qs B) is more)))
 
+-- their lines
+lines_further : (A M B : Ledger) (rs : List Request) (n : ℕ) (ps qs all : List Reply) (text more : List ℕ) → n ≡ length ps → RepliesAll A (items_of (take (length ps) rs)) text M → all ≡ ps ++ qs
+    → RepliesAll M (items_of (take (length qs) (drop n rs))) more B → RepliesAll A (items_of (take (length all) rs)) (text ++ more) B
+lines_further A M B rs n ps qs all text more is told same then =
+    let size : length all ≡ length ps + length qs = ap (λ (xs : List Reply). length xs) same ∙ length-append ps qs in
+    let split : items_of (take (length all) rs) ≡ items_of (take (length ps) rs) ++ items_of (take (length qs) (drop (length ps) rs)) =
+    ap (λ i. items_of (take i rs)) size ∙ ap items_of (take-add (length ps) (length qs) rs) ∙ map-append (λ x. item.Request x) (take (length ps) rs) (take (length qs) (drop (length ps) rs)) in
+    subst (λ (xs : List Item). RepliesAll A xs (text ++ more) B) (sym split)
+    (replies_joined (items_of (take (length ps) rs)) (items_of (take (length qs) (drop (length ps) rs))) A M B text more told (subst (λ i. RepliesAll M (items_of (take (length qs) (drop i rs))) more B) is then))
+
+pub no_lines : (A : Ledger) (rs : List Request) (ps : List Reply) (out : List ℕ) → ps ≡ [] → out ≡ [] → RepliesAll A (items_of (take (length ps) rs)) out A
+no_lines A rs ps out none empty = subst (λ (qs : List Reply). RepliesAll A (items_of (take (length qs) rs)) out A) (sym none) (empty, refl)
+
+-- the replies to requests and their lines, and the ledger behind them
+abbrev pub Tells : Ledger → List Request → List Reply → List ℕ → Ledger → Type 0
+Tells A rs ps out B = Runs A (take (length ps) rs) ps B × RepliesAll A (items_of (take (length ps) rs)) out B
+
+pub tells_further : (A M B : Ledger) (rs : List Request) (n : ℕ) (ps qs all : List Reply) (text more out : List ℕ) → n ≡ length ps → Tells A rs ps text M → all ≡ ps ++ qs → out ≡ text ++ more → Tells M (drop n rs) qs more B → Tells A rs all out B
+tells_further A M B rs n ps qs all text more out is so_far same are then = (
+  run_further A M B rs n ps qs all is so_far.0 same then.0,
+  subst (λ (xs : List ℕ). RepliesAll A (items_of (take (length all) rs)) xs B) (sym are) (lines_further A M B rs n ps qs all text more is so_far.1 same then.1),
+)
+
 -- and however that batch ended
-pub told_so_far : (A M B : Ledger) (rs : List Request) (n : ℕ) (ps qs all : List Reply) (ending : Ending) → n ≡ length ps → Runs A (take (length ps) rs) ps M → all ≡ ps ++ qs
-    → (ending ≢ Stopped → Runs M (take (length qs) (drop n rs)) qs B) → (ending ≡ Stopped → qs ≡ []) → (mid : Ledger) × Runs A (take (length all) rs) all mid × (ending ≢ Stopped → B ≡ mid)
-told_so_far A M B rs n ps qs all AllAnswered is run same kept none = (B, run_further A M B rs n ps qs all is run same (kept (λ e. cc)), λ _. refl)
-told_so_far A M B rs n ps qs all OutOfMemory is run same kept none = (B, run_further A M B rs n ps qs all is run same (kept (λ e. cc)), λ _. refl)
-told_so_far A M B rs n ps qs all Stopped is run same kept none =
-    let alone : all ≡ ps = same ∙ ap (λ (xs : List Reply). ps ++ xs) (none refl) ∙ append-nil ps in
-    (M, subst (λ (xs : List Reply). Runs A (take (length xs) rs) xs M) (sym alone) run, λ other. absurd (other refl))
+pub told_so_far : (A M B : Ledger) (rs : List Request) (n : ℕ) (ps qs all : List Reply) (text more out : List ℕ) (ending : Ending) → n ≡ length ps → Tells A rs ps text M → all ≡ ps ++ qs → out ≡ text ++ more
+    → (ending ≢ Stopped → Tells M (drop n rs) qs more B) → (ending ≡ Stopped → (qs ≡ []) × (more ≡ []))
+    → (mid : Ledger) × Runs A (take (length all) rs) all mid × (ending ≢ Stopped → B ≡ mid) × RepliesAll A (items_of (take (length all) rs)) out mid
+told_so_far A M B rs n ps qs all text more out AllAnswered is so_far same are kept none =
+    let tells = tells_further A M B rs n ps qs all text more out is so_far same are (kept (λ e. cc)) in (B, tells.0, (λ _. refl), tells.1)
+told_so_far A M B rs n ps qs all text more out OutOfMemory is so_far same are kept none =
+    let tells = tells_further A M B rs n ps qs all text more out is so_far same are (kept (λ e. cc)) in (B, tells.0, (λ _. refl), tells.1)
+told_so_far A M B rs n ps qs all text more out Stopped is so_far same are kept none =
+    let (no_more, empty) = none refl in
+    let alone : all ≡ ps = same ∙ ap (λ (xs : List Reply). ps ++ xs) no_more ∙ append-nil ps in
+    let only : out ≡ text = are ∙ ap (λ (xs : List ℕ). text ++ xs) empty ∙ append-nil text in (
+      M,
+      subst (λ (xs : List Reply). Runs A (take (length xs) rs) xs M) (sym alone) so_far.0,
+      (λ other. absurd (other refl)),
+      subst (λ (xs : List Reply). RepliesAll A (items_of (take (length xs) rs)) out M) (sym alone) (subst (λ (xs : List ℕ). RepliesAll A (items_of (take (length ps) rs)) xs M) (sym only) so_far.1),
+    )
 
 -- what stands behind the first n, as a slice
 pub slice_is : (rs : List Request) (n : ℕ) → take (length rs - n) (drop n rs) ≡ drop n rs
 slice_is rs n = ap (λ i. take i (drop n rs)) (sym (length-drop n rs)) ∙ take-length (drop n rs)
+
+-- a batch of what stands behind the first n
+pub batch_tells : (M B : Ledger) (rs : List Request) (n : ℕ) (qs : List Reply) (more : List ℕ) → IsBatch M (take (length qs) (take (length rs - n) (drop n rs))) qs B → RepliesAll M (items_of (take (length qs) (take (length rs - n) (drop n rs)))) more B
+    → Tells M (drop n rs) qs more B
+batch_tells M B rs n qs more batch lines = subst (λ (xs : List Request). Tells M xs qs more B) (slice_is rs n) (batch_runs M B (take (length qs) (take (length rs - n) (drop n rs))) qs batch, lines)
+
+-- nothing is told
+pub nothing_told : (A : Ledger) (rs : List Request) (ps : List Reply) (out : List ℕ) → ps ≡ [] → out ≡ [] → Tells A rs ps out A
+nothing_told A rs ps out none empty = (none_told A rs ps none, no_lines A rs ps out none empty)

@@ -16,4 +16,5 @@ pub mod FoundAgain
 pub mod Batches
 pub mod BatchesAgain
 pub mod ListLines
+pub mod ShortLines
 pub mod ManyBatches

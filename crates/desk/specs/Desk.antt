@@ -37,6 +37,10 @@ pub record Snapshot : Type 0 where
 abbrev pub snapshot : DeskState → Snapshot
 snapshot desk = record { ledger = desk.ledger; is_stopped = desk.is_stopped }
 
+-- one that goes on
+abbrev pub going_at : Ledger → Snapshot
+going_at A = record { ledger = A; is_stopped = false }
+
 -- the rows of the ledger are held, and a stop leaves these alone
 pub record IsStored (holds : Content → Type 0) (leaves : List Content → Type 0) (A : Ledger) : Type 0 where
   pub rows : Content

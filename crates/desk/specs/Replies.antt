@@ -4,6 +4,7 @@ use Rattle.words.specs.OpenLines.{way_word}
 use Rattle.words.specs.Replies.{reply_text}
 use Rattle.words.specs.Words.{after_space}
 use Rattle.words.specs.declared.reply.Reply.{Reply}
+use Rattle.words.specs.declared.reply.Reply.TheVariants.{Done, Refused}
 use Rattle.book.specs.Ledger.{Field, Ledger, Order, field_named, order_numbered, name_of, shown_state}
 use Rattle.book.specs.Views.{ShowsField}
 use Rattle.book.specs.declared.book.views.FieldView.{FieldView}
@@ -20,6 +21,11 @@ bad_line = codes "- refused 20 BadCommand 0\n"
 -- the key, a space and the reply
 abbrev pub request_line : List ℕ → Reply → List ℕ
 request_line key reply = key ++ (codes " " ++ (reply_text reply ++ codes "\n"))
+
+-- the place of a command that is done, or the line at fault
+abbrev pub number_of : Reply → ℕ
+number_of (Done place) = place
+number_of (Refused refusal line) = line
 
 -- the answer to an ask for what is not there
 abbrev pub none_line : List ℕ

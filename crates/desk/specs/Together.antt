@@ -1,5 +1,5 @@
 -- Requests that are carried out together: a batch is kept in one transaction.
-use Rattle.std.specs.Prelude.{◌≡◌, ◌≢◌, ◌⊎◌, ◌≤◌, ◌+◌, ◌-◌, All, IsTrue, false, true, ℕ, List, [], ◌∷◌, ◌++◌, drop, length, take}
+use Rattle.std.specs.Prelude.{◌≡◌, ◌⊎◌, ◌≤◌, ◌+◌, ◌-◌, ◌*◌, All, false, true, ℕ, List, [], ◌∷◌, ◌++◌, drop, length, take}
 use Rattle.std.specs.List.{AllByRecursion as Each}
 use Rattle.words.specs.declared.command.Request.{Request}
 use Rattle.words.specs.declared.reply.Reply.{Reply}
@@ -12,10 +12,10 @@ use Rattle.book.specs.declared.rows.Change.{Change}
 use Rattle.book.specs.Tables.{rows_among}
 use Rattle.keep.specs.Content.{IsTheRow}
 use Rattle.keep.specs.Transactions.{with_changes}
-use Rattle.desk.specs.Desk.{DeskState, LeavesEither, TellsStop}
+use Rattle.desk.specs.Desk.{DeskState, LeavesEither}
 use Rattle.desk.specs.Replies.{request_line}
 use Rattle.desk.specs.Text.{RepliesAll, items_of}
-use Rattle.desk.specs.declared.fault.ScriptFault.{ScriptFault}
+use Rattle.desk.specs.declared.reply.TheConstants.{LONGEST_LINE}
 use Rattle.desk.specs.declared.together.Batch.{Batch}
 
 -- the reply tells of a request that is done, now or before
@@ -77,52 +77,27 @@ RunsInLists A (requests ∷ lists) (replies ∷ given) B =
 RunsInLists A [] (replies ∷ given) B = ⊥
 RunsInLists A (requests ∷ lists) [] B = ⊥
 
--- How far the answers to requests have come at a fault, where at most so many are carried out together. What is written is
--- `lines ++ begun`: the lines of `answered` are written whole. Behind these may stand a batch, `last`: it is kept, and a
--- beginning of its lines written, or the store failed at its commit, and a stop leaves the rows before it or behind it.
--- Want of memory leaves no request done and not told.
-pub record IsCutTogether (fault : ScriptFault) (most : ℕ) (old : DeskState) (requests : List Request) (new : DeskState)
-    : Type 0 where
-  pub answered : List Request
-  pub last : List Request
-  pub left : List Request
-  pub split : requests ≡ answered ++ last ++ left
-  pub few : length last ≤ most
-  pub mid : Ledger
-  pub lines : List ℕ
-  pub begun : List ℕ
-  pub unwritten : List ℕ
-  pub replies : RepliesAll old.ledger (items_of answered) lines mid
-  pub rest : RepliesAll mid (items_of last) (begun ++ unwritten) new.ledger
-  pub batch : (untold : List Reply) × IsBatch mid last untold new.ledger
-  pub unread : fault ≢ ScriptFault.Read
-  pub told : fault ≢ ScriptFault.Write → begun ≡ []
-  pub memory : fault ≡ ScriptFault.Memory → last ≡ []
-  pub stop : TellsStop (fault ≡ ScriptFault.Stopped) old new
-  pub stopped : fault ≡ ScriptFault.Stopped → old.is_stopped ≡ false
-      → (1 ≤ length last) × (new.is_honest → LeavesEither new.leaves mid new.ledger)
-  pub refused : IsTrue old.is_stopped
-      → (fault ≡ ScriptFault.Stopped) × (answered ++ last ≡ []) × (1 ≤ length left)
-
 -- ---- how a batch is made (private)
 
 -- The requests so far lead from A to B as a batch, whose changes make B's rows of A's. Where none is refused all are
 -- done.
 pub record BatchSoFar (A : Ledger) (requests : List Request) (batch : Batch) (B : Ledger) : Type 0 where
-  pub is_batch : IsBatch A requests batch.replies.items B
+  pub is_batch : IsBatch A requests batch.run.replies.items B
   pub rows : (C : Content) → IsRowsOf A C → IsRowsOf B (with_changes batch.changes.items C)
   pub desk : All IsTheRow (rows_among batch.changes.items).desk
-  pub all_done : batch.has_refused ≡ false → Runs A requests batch.replies.items B × Each IsDone batch.replies.items
-  pub some : batch.has_refused ≡ true → 1 ≤ length batch.replies.items
-  pub none : batch.replies.items ≡ [] → batch.changes.items ≡ []
-  pub lines : RepliesAll A (items_of requests) batch.text.items B
+  pub all_done : batch.has_refused ≡ false → Runs A requests batch.run.replies.items B × Each IsDone batch.run.replies.items
+  pub some : batch.has_refused ≡ true → 1 ≤ length batch.run.replies.items
+  pub none : batch.run.replies.items ≡ [] → batch.changes.items ≡ []
+  pub lines : RepliesAll A (items_of requests) batch.run.lines.items B
+  pub short : length batch.run.lines.items ≤ length batch.run.replies.items * LONGEST_LINE
   pub good : Good B
 
 -- one request more, from A to B: a reply and some changes more, and nothing is done behind one that is refused
 pub record Joins (A : Ledger) (request : Request) (old new : Batch) (B : Ledger) : Type 0 where
   pub reply : Reply
-  pub replies : new.replies.items ≡ old.replies.items ++ reply ∷ []
-  pub line : new.text.items ≡ old.text.items ++ request_line request.key reply
+  pub replies : new.run.replies.items ≡ old.run.replies.items ++ reply ∷ []
+  pub line : new.run.lines.items ≡ old.run.lines.items ++ request_line request.key reply
+  pub short : length new.run.lines.items ≤ length old.run.lines.items + LONGEST_LINE
   pub answer : Answers A request reply B
   pub more : List Change
   pub changes : new.changes.items ≡ old.changes.items ++ more
@@ -135,7 +110,7 @@ pub record Joins (A : Ledger) (request : Request) (old new : Batch) (B : Ledger)
 -- nothing has changed
 pub record IsAsBefore (A : Ledger) (old new : Batch) (B : Ledger) : Type 0 where
   pub ledger : B ≡ A
-  pub replies : new.replies.items ≡ old.replies.items
-  pub text : new.text.items ≡ old.text.items
+  pub replies : new.run.replies.items ≡ old.run.replies.items
+  pub lines : new.run.lines.items ≡ old.run.lines.items
   pub changes : new.changes.items ≡ old.changes.items
   pub refused : new.has_refused ≡ old.has_refused

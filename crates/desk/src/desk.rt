@@ -1,25 +1,27 @@
 //! A ledger, and the keeper of its rows.
 
-ghost use Rattle.std.specs.Prelude.{◌≡◌, ◌≢◌, ◌<◌, ◌≤◌, [], false, length, take, IsTrue, IfOk, IfErr, IsSomeAnd, MatchOption, Err};
+ghost use Rattle.std.specs.Prelude.{◌≡◌, ◌≢◌, ◌*◌, ◌<◌, ◌≤◌, ◌⊎◌, [], false, length, take, IsTrue, IfOk, IfErr, IsSomeAnd, MatchOption, OnOk, Err};
 ghost use Rattle.escrow.specs.Codes.{IsKey};
 ghost use Rattle.words.specs.Spelling.{IsInRange};
 ghost use Rattle.book.specs.Answers.{Answers, IsAccepted};
 ghost use Rattle.book.specs.Good.{Good};
 ghost use Rattle.book.specs.Ledger.{Ledger, field_named, name_of, order_numbered};
 ghost use Rattle.book.specs.Next.{accept};
-ghost use Rattle.book.specs.PlanAnswers.{Plans};
+ghost use Rattle.words.specs.declared.reply.Reply.{Reply as ReplyOf};
 ghost use Rattle.book.specs.Plans.{Fits};
 ghost use Rattle.book.specs.Rows.{Content, IsRowsOf};
 ghost use Rattle.book.specs.Views.{ShowsField, ShowsOrder};
 ghost use Rattle.desk.specs.Text.{RepliesAll, items_of};
+ghost use Rattle.desk.specs.Headline.{answered};
 ghost use Rattle.desk.specs.Together.{FailsAt, IsBatch};
+ghost use Rattle.desk.specs.declared.reply.TheConstants.{LONGEST_LINE};
 ghost use Rattle.desk.specs.Desk.{Goes, IsInOrder, LeavesEither, StaysStored, StopsCall, TellsStop, desk_state};
 ghost use Rattle.desk.specs.Opening.{IsLeft, IsOpened, IsRefusedAsOld, IsUnopened, OpensAt, keeper_after};
 
 use crate::fault::{CallFault, OpenFault, load_fault};
-use crate::run::Ending;
-use crate::telling::AsReply;
-use crate::together::{Told, none_told, plan_batch};
+use crate::run::{Ending, Run};
+use crate::telling::{AsReply, Teller};
+use crate::together::plan_batch;
 use book::{Book, FieldView, OrderView, Plan, Planned, TablesFault};
 use escrow::{Article, Branch, OrderNo};
 use keep::Keep;
@@ -98,33 +100,52 @@ impl<K: Keep> Desk<K> {
         self.call_and_tell(alloc, &AsReply, request)
     }
 
-    /// What is to be answered to a request, of which nothing is done yet: so what tells of it can be made before it is
-    /// carried out. `Memory` and `Stopped` as by `call`; nothing has changed by either.
-    pub fn plan(&self, alloc: Global, request: &Request) -> Result<Planned, CallFault>
-        ensures going { IfOk result (λ _. K.stopped self.now.keep ≡ false) }
-        ensures planned { IfOk result (λ planned. Plans self.now.ledger request.now planned) }
-        ensures key { IsKey request.now.key }
-        ensures command { IsInRange request.now.command }
-        ensures wanted { result ≡ Err CallFault.Memory → (K.stopped self.now.keep ≡ false)
-            × IsAccepted self.now.ledger request.now }
-        ensures stopped { result ≡ Err CallFault.Stopped → IsTrue (K.stopped self.now.keep) }
-        ensures refused { IsTrue (K.stopped self.now.keep) → result ≡ Err CallFault.Stopped }
+    /// Answers a request as `call` does; what tells of its reply is made before it is carried out, so nothing is done
+    /// and not told. Memory is wanted by the teller, and else only for a request that is accepted.
+    pub fn call_and_tell<T: Teller>(
+        &mut self,
+        alloc: Global,
+        teller: &T,
+        request: &Request,
+    ) -> Result<T::Told, CallFault>
+        ensures told { IfOk result (λ told. (reply : ReplyOf) × Answers self.old.ledger request.now reply self.new.ledger
+            × T.tells request.now.key reply told) }
+        ensures going { OnOk result ((K.stopped self.old.keep ≡ false) × (K.stopped self.new.keep ≡ false)) }
+        ensures others { (IsAccepted self.old.ledger request.now → ⊥) → self.new ≡ self.old }
+        ensures memory { result ≡ Err CallFault.Memory → (self.new ≡ self.old)
+            × (T.wants_memory ⊎ IsAccepted self.old.ledger request.now) }
+        ensures stopped { result ≡ Err CallFault.Stopped → IsTrue (K.stopped self.new.keep)
+            × (self.new.ledger ≡ self.old.ledger) }
+        ensures either { result ≡ Err CallFault.Stopped → K.stopped self.old.keep ≡ false
+            → StopsCall request.now (desk_state K.Keep self.old) (desk_state K.Keep self.new) }
+        ensures refused { IsTrue (K.stopped self.old.keep) → result ≡ Err CallFault.Stopped }
+        ensures goes { Goes K.Keep self.old self.new }
     {
+        self.in_order();
         // so that the proof has the invariants
         request.key.as_bytes();
         request.command.words();
-        if self.keep.is_stopped() {
+        if self.is_stopped() {
             return Err(CallFault::Stopped);
         }
-        self.book
-            .plan(alloc, request)
-            .map_err(|_| CallFault::Memory)
+        match self.book.plan(alloc, request) {
+            Ok(Planned::Again(place)) => Ok(teller.tell(alloc, request.key, &Reply::Done(place))?),
+            Ok(Planned::Refused(refusal, line)) => {
+                Ok(teller.tell(alloc, request.key, &Reply::Refused(refusal, line))?)
+            }
+            Ok(Planned::Accept(plan)) => {
+                let done = teller.tell(alloc, request.key, &Reply::Done(plan.place()))?;
+                self.carry_out(plan)?;
+                Ok(done)
+            }
+            Err(_) => Err(CallFault::Memory),
+        }
     }
 
     /// Carries out the plan of an accepted request, after its rows are kept: it is done at the plan's place. The plan
     /// is one that `plan` made at the desk's ledger, and the desk is not stopped. After `Memory` and `Stopped` the
     /// ledger is as it was; after `Stopped` a stop leaves its rows or those after the request.
-    pub fn carry_out(&mut self, plan: Plan) -> Result<Reply, CallFault>
+    fn carry_out(&mut self, plan: Plan) -> Result<Reply, CallFault>
         requires going { K.stopped self.old.keep ≡ false }
         requires fits { Fits self.old.ledger plan }
         requires key { IsKey plan.request.key }
@@ -154,19 +175,19 @@ impl<K: Keep> Desk<K> {
     /// transaction; only then are there replies. `All` where the batch is kept, `Memory` where it is and memory was
     /// refused for the request behind it; `Stopped` where it could not be kept. Then there is no reply, the ledger is the
     /// one after the batch, and a stop leaves the rows before it or behind it.
-    pub(crate) fn run_batch(&mut self, alloc: Global, requests: &[Request]) -> Told
+    pub(crate) fn run_batch(&mut self, alloc: Global, requests: &[Request]) -> Run
         requires { K.stopped self.old.keep ≡ false }
-        ensures kept { result.run.ending ≢ Ending.Stopped → IsBatch self.old.ledger
-            (take (length result.run.replies.items) requests.now) result.run.replies.items self.new.ledger }
-        ensures lines { result.run.ending ≢ Ending.Stopped → RepliesAll self.old.ledger
-            (items_of (take (length result.run.replies.items) requests.now)) result.text.items self.new.ledger }
-        ensures few { length result.run.replies.items ≤ length requests.now }
-        ensures some { result.run.ending ≡ Ending.All → 1 ≤ length requests.now
-            → 1 ≤ length result.run.replies.items }
-        ensures more { result.run.ending ≢ Ending.All → length result.run.replies.items < length requests.now }
-        ensures failed { result.run.ending ≡ Ending.Stopped → (result.run.replies.items ≡ [])
+        ensures kept { result.ending ≢ Ending.Stopped → IsBatch self.old.ledger
+            (take (answered result) requests.now) result.replies.items self.new.ledger }
+        ensures lines { result.ending ≢ Ending.Stopped → RepliesAll self.old.ledger
+            (items_of (take (answered result) requests.now)) result.lines.items self.new.ledger }
+        ensures few { (answered result ≤ length requests.now)
+            × (length result.lines.items ≤ answered result * LONGEST_LINE) }
+        ensures some { result.ending ≡ Ending.All → 1 ≤ length requests.now → 1 ≤ answered result }
+        ensures more { result.ending ≢ Ending.All → answered result < length requests.now }
+        ensures failed { result.ending ≡ Ending.Stopped → (result.replies.items ≡ []) × (result.lines.items ≡ [])
             × FailsAt (desk_state K.Keep self.old) requests.now [] (desk_state K.Keep self.new) }
-        ensures stop { TellsStop (result.run.ending ≡ Ending.Stopped) (desk_state K.Keep self.old)
+        ensures stop { TellsStop (result.ending ≡ Ending.Stopped) (desk_state K.Keep self.old)
             (desk_state K.Keep self.new) }
         ensures goes { Goes K.Keep self.old self.new }
     {
@@ -176,7 +197,7 @@ impl<K: Keep> Desk<K> {
         }
         match self.keep.commit(&batch.changes) {
             Ok(()) => batch.told(joined),
-            Err(_) => none_told(alloc),
+            Err(_) => Run::new(alloc, Ending::Stopped),
         }
     }
 

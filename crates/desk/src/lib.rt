@@ -8,6 +8,7 @@ mod fault;
 mod headline;
 mod laws;
 mod lines;
+mod lists;
 mod reply;
 mod run;
 mod scripts;
@@ -25,7 +26,7 @@ pub use headline::{
 pub use laws::{
     batches_are_invisible, batches_come_again, exactly_one_text, resuming_is_invisible,
 };
+pub use lists::answer_lists;
 pub use run::{Ending, Run};
 pub use scripts::script;
 pub use telling::Teller;
-pub use together::answer_together;

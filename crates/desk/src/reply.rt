@@ -1,8 +1,10 @@
 //! What is written for an item.
 
-ghost use Rattle.std.specs.Prelude.{◌≡◌, IfOk};
+ghost use Rattle.std.specs.Prelude.{◌≡◌, ◌<◌, ◌≤◌, ◌^◌, IfOk};
+ghost use Rattle.std.specs.Vec.{vec_len};
 ghost use Rattle.desk.specs.Dialogue.{bytes_of};
-ghost use Rattle.desk.specs.Replies.{AnswersFieldAsk, AnswersOrderAsk, request_line};
+ghost use Rattle.desk.specs.Replies.{AnswersFieldAsk, AnswersOrderAsk, number_of, request_line};
+ghost use Rattle.desk.specs.declared.reply.TheConstants.{LONGEST_LINE};
 
 use crate::answer::Answer;
 use crate::desk::Desk;
@@ -18,10 +20,29 @@ pub const BAD_LINE: &[u8] = b"- refused 20 BadCommand 0\n";
 /// What is written where a field or an order is asked for that is not there.
 const NONE_LINE: &[u8] = b"? none\n";
 
+/// No line of a reply is longer.
+pub(crate) const LONGEST_LINE: usize = 96;
+
+fn is_word(number: u64)
+    ensures { number < 2 ^ 64 }
+{}
+
+/// So that a proof has the range of its number.
+fn in_range(reply: &Reply)
+    ensures { number_of reply.now < 2 ^ 64 }
+{
+    match reply {
+        Reply::Done(place) => is_word(*place),
+        Reply::Refused(_, line) => is_word(*line),
+    }
+}
+
 /// The line of a reply: its key, and its text.
 pub fn line_of_reply(alloc: Global, key: Key, reply: &Reply) -> Result<Vec<u8>, Memory>
-    ensures { IfOk result (λ out. out.items ≡ request_line key reply.now) }
+    ensures line { IfOk result (λ out. out.items ≡ request_line key reply.now) }
+    ensures short { IfOk result (λ out. vec_len out ≤ LONGEST_LINE) }
 {
+    in_range(reply);
     let mut out = text(alloc, key.as_bytes())?;
     push_text(&mut out, b" ")?;
     write_reply(reply, &mut out)?;

@@ -1,17 +1,23 @@
 //! Requests, one after the other.
 
-ghost use Rattle.std.specs.Prelude.{◌≡◌, ◌≢◌, ◌↔◌, ◌+◌, ◌-◌, ◌≤◌, ◌++◌, [], List, drop, false, length, take, IsTrue};
+ghost use Rattle.std.specs.Prelude.{◌≡◌, ◌≢◌, ◌↔◌, ◌+◌, ◌-◌, ◌*◌, ◌≤◌, ◌++◌, ◌∷◌, [], ℕ, List, drop, false, length, take, IsTrue, OnOk};
+ghost use Rattle.std.specs.Vec.{vec_capacity, vec_len};
 ghost use Rattle.book.specs.Answers.{After, Runs};
 ghost use Rattle.book.specs.Ledger.{Ledger};
 ghost use Rattle.desk.specs.Desk.{Goes, LeavesEither, TellsStop, desk_state};
+ghost use Rattle.desk.specs.Lists.{HasRoom};
 ghost use Rattle.desk.specs.Resuming.{LeavesResumable, Resumes, StandsAt};
+ghost use Rattle.desk.specs.Text.{RepliesAll, items_of};
+ghost use Rattle.desk.specs.declared.reply.TheConstants.{LONGEST_LINE};
 ghost use Rattle.words.specs.declared.reply.Reply.{Reply as ReplyOf};
 
 use crate::desk::Desk;
 use crate::fault::CallFault;
+use crate::reply::LONGEST_LINE;
+use crate::telling::{Answered, AsBoth};
 use keep::Keep;
 use std::alloc::Global;
-use words::{Reply, Request};
+use words::{Memory, Reply, Request};
 
 /// How a run ended.
 #[derive(Clone, Copy, PartialEq, Eq)]
@@ -24,16 +30,88 @@ pub enum Ending {
     Stopped,
 }
 
-/// What was answered to a list of requests: the replies to the first of them, and how it ended.
+/// What was answered to a list of requests: the replies to the first of them, the lines of these, and how it ended.
 #[derive(Drop)]
 pub struct Run {
     pub replies: Vec<Reply>,
+    pub lines: Vec<u8>,
     pub ending: Ending,
+}
+
+impl Run {
+    /// Nothing is answered.
+    pub(crate) fn new(alloc: Global, ending: Ending) -> Run
+        ensures replies { result.replies.items ≡ [] }
+        ensures lines { result.lines.items ≡ [] }
+        ensures ending { result.ending ≡ ending }
+    {
+        Run {
+            replies: Vec::new(alloc),
+            lines: Vec::new(alloc),
+            ending,
+        }
+    }
+
+    /// Room for so many replies more, and for their lines. Where memory is refused nothing has changed.
+    pub(crate) fn make_room(&mut self, count: usize) -> Result<(), Memory>
+        ensures room { OnOk result (HasRoom count self.new) }
+        ensures replies { self.new.replies.items ≡ self.old.replies.items }
+        ensures lines { self.new.lines.items ≡ self.old.lines.items }
+        ensures ending { self.new.ending ≡ self.old.ending }
+    {
+        let Some(size) = count.checked_mul(LONGEST_LINE) else {
+            return Err(Memory);
+        };
+        self.replies.reserve(count)?;
+        self.lines.reserve(size)?;
+        Ok(())
+    }
+
+    /// A reply more, for which there is room.
+    pub(crate) fn push(&mut self, told: Answered)
+        requires room { HasRoom 1 self.old }
+        requires short { vec_len told.line ≤ LONGEST_LINE }
+        ensures replies { self.new.replies.items ≡ self.old.replies.items ++ told.reply ∷ [] }
+        ensures lines { self.new.lines.items ≡ self.old.lines.items ++ told.line.items }
+        ensures ending { self.new.ending ≡ self.old.ending }
+    {
+        self.replies.push_reserved(told.reply);
+        append(&mut self.lines, told.line);
+    }
+
+    /// More replies, for which there is room, and how it ended with these.
+    pub(crate) fn join(&mut self, more: Run)
+        requires room { HasRoom (vec_len more.replies) self.old }
+        requires short { vec_len more.lines ≤ vec_len more.replies * LONGEST_LINE }
+        ensures replies { self.new.replies.items ≡ self.old.replies.items ++ more.replies.items }
+        ensures lines { self.new.lines.items ≡ self.old.lines.items ++ more.lines.items }
+        ensures ending { self.new.ending ≡ more.ending }
+        ensures room { (count : ℕ) → HasRoom (vec_len more.replies + count) self.old → HasRoom count self.new }
+    {
+        append(&mut self.replies, more.replies);
+        append(&mut self.lines, more.lines);
+        self.ending = more.ending;
+    }
+}
+
+/// Rows, replies or bytes more, for which there is room.
+pub(crate) fn append<T: Drop>(items: &mut Vec<T>, more: Vec<T>)
+    requires { vec_len items.old + vec_len more ≤ vec_capacity items.old }
+    ensures items { items.new.items ≡ items.old.items ++ more.items }
+    ensures len { vec_len items.new ≡ vec_len items.old + vec_len more }
+    ensures capacity { vec_capacity items.old ≤ vec_capacity items.new }
+{
+    let mut more = more;
+    match items.append(&mut more) {
+        Ok(()) => {}
+        Err(_) => unreachable!(),
+    }
 }
 
 impl<K: Keep> Desk<K> {
     /// Answers the requests in their order. A refusal does not end a run; a fault does, and the replies are those of
-    /// the requests before it. Room for a reply is made before its request is called, so nothing is done and not told.
+    /// the requests before it. Room for a reply and its line is made before its request is called, and the line, so
+    /// nothing is done and not told.
     ///
     /// The ledger is the one after the requests that are answered. Of a desk that was not stopped before, a stop leaves
     /// its rows alone, or, where the run ended `Stopped`, those or the rows after one request more. A desk that was
@@ -41,6 +119,8 @@ impl<K: Keep> Desk<K> {
     pub fn run(&mut self, alloc: Global, requests: &[Request]) -> Run
         ensures replies { Runs self.old.ledger (take
             (length result.replies.items) requests.now) result.replies.items self.new.ledger }
+        ensures lines { RepliesAll self.old.ledger (items_of (take (length result.replies.items) requests.now))
+            result.lines.items self.new.ledger }
         ensures all { result.ending ≡ Ending.All ↔ length result.replies.items ≡ length requests.now }
         ensures refused { IsTrue (K.stopped self.old.keep) → result.replies.items ≡ [] }
         ensures stop { TellsStop (result.ending ≡ Ending.Stopped) (desk_state K.Keep self.old)
@@ -51,28 +131,21 @@ impl<K: Keep> Desk<K> {
         ensures goes { Goes K.Keep self.old self.new }
     {
         self.in_order();
-        let mut replies = Vec::new(alloc);
+        let mut run = Run::new(alloc, Ending::All);
         for request in requests {
-            let Ok(()) = replies.reserve(1) else {
-                return Run {
-                    replies,
-                    ending: Ending::Memory,
-                };
+            let Ok(()) = run.make_room(1) else {
+                run.ending = Ending::Memory;
+                return run;
             };
-            match self.call(alloc, request) {
-                Ok(reply) => replies.push_reserved(reply),
+            match self.call_and_tell(alloc, &AsBoth, request) {
+                Ok(told) => run.push(told),
                 Err(fault) => {
-                    return Run {
-                        replies,
-                        ending: ending_of(fault),
-                    };
+                    run.ending = ending_of(fault);
+                    return run;
                 }
             }
         }
-        Run {
-            replies,
-            ending: Ending::All,
-        }
+        run
     }
 
     /// Goes on with a run that a fault has cut: answers the requests from number `first` on, counted from 1, which is
@@ -96,6 +169,8 @@ impl<K: Keep> Desk<K> {
             → LeavesResumable (K.leaves self.new.keep) A requests.now (first + length result.replies.items) }
         ensures replies { Runs self.old.ledger (take (length result.replies.items)
             (drop (first - 1) requests.now)) result.replies.items self.new.ledger }
+        ensures lines { RepliesAll self.old.ledger (items_of (take (length result.replies.items)
+            (drop (first - 1) requests.now))) result.lines.items self.new.ledger }
         ensures all { result.ending ≡ Ending.All ↔ first + length result.replies.items ≡ length requests.now + 1 }
         ensures refused { IsTrue (K.stopped self.old.keep) → result.replies.items ≡ [] }
         ensures stop { TellsStop (result.ending ≡ Ending.Stopped) (desk_state K.Keep self.old)

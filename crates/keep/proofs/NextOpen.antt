@@ -1,6 +1,5 @@
 -- What a stop left is found again.
-use Rattle.std.proofs.Common.{◌≡◌, ℕ, inl, inr, List, [], ◌∷◌, Ok, Err, Result, IsTrue, subst, sym}
-use Rattle.std.specs.Prelude.{IfOk, OnOk}
+use Rattle.std.proofs.Common.{◌≡◌, ℕ, inl, inr, List, [], ◌∷◌, IsTrue, subst, sym}
 use Rattle.std.specs.List.{AllByRecursion}
 use Rattle.std.proofs.Math.Logic.{∥∥₁_map}
 use Rattle.sqlite_disk.specs.declared.Disk.{Ghosts}
@@ -22,7 +21,6 @@ use Rattle.book.specs.declared.rows.Tables.{Tables}
 use Rattle.book.specs.Rows.{Content}
 use Rattle.book.specs.Tables.{content_of}
 use Rattle.keep.specs.Description.{newest, schema_of}
-use Rattle.keep.specs.declared.keep.KeepFault.{KeepFault}
 use Rattle.keep.specs.Content.{Holds, HoldsOf, IsAmong, IsContentOf, IsDesk, LeavesOnly}
 
 -- a sound database over trees that have a content holds it
@@ -47,19 +45,8 @@ each_is P (y ∷ these) x all (inl is) = subst P (sym is) all.0
 each_is P (y ∷ these) x all (inr more) = each_is P these x all.1 more
 
 module _ (Held : Content → Type 0) (these : List Content) where
-  pub which : (r : Result Tables KeepFault) → IfOk r (λ t. (x : Content) → Held x → content_of t ≡ x) → ∥ ((x : Content) × Held x × IsAmong these x) ∥₁
-      → IfOk r (λ t. ∥ IsAmong these (content_of t) ∥₁)
-  which (Ok t) one found = ∥∥₁_map found (λ f. let r : IsAmong these (content_of t) = subst (IsAmong these) (sym (one f.0 f.1)) f.2 in r)
-  which (Err e) one found = tt
+  pub is_among : (t : Tables) → ((x : Content) → Held x → content_of t ≡ x) → ∥ ((x : Content) × Held x × IsAmong these x) ∥₁ → ∥ IsAmong these (content_of t) ∥₁
+  is_among t one found = ∥∥₁_map found (λ f. let r : IsAmong these (content_of t) = subst (IsAmong these) (sym (one f.0 f.1)) f.2 in r)
 
   pub is_desk : (f : (x : Content) × Held x × IsAmong these x) → AllByRecursion IsDesk these → IsDesk f.0
   is_desk f all = each_is IsDesk these f.0 all f.2
-
-pub alone_after : (Held : Content → Type 0) (Old New : List Content → Type 0) (r : Result Tables KeepFault) → IfOk r (λ t. Held (content_of t)) → ((x : Content) → Held x → Old (x ∷ []))
-    → ((these : List Content) → Old these → New these) → IfOk r (λ t. New (content_of t ∷ []))
-alone_after Held Old New (Ok t) held before after = after (content_of t ∷ []) (before (content_of t) held)
-alone_after Held Old New (Err e) held before after = tt
-
-pub if_held : (r : Result Tables KeepFault) (Was Held : Content → Type 0) → OnOk r ((x : Content) → (Was x → Held x) × (Held x → Was x)) → IfOk r (λ t. Held (content_of t)) → IfOk r (λ t. Was (content_of t))
-if_held (Ok t) Was Held turn h = (turn (content_of t)).1 h
-if_held (Err e) Was Held turn h = tt

@@ -1,15 +1,17 @@
 -- Stores with the tables of a version: what is named there, and where it lies.
-use Rattle.std.proofs.Common.{◌≡◌, ◌<◌, ◌≤◌, ◌∙◌, ℕ, zero, suc, pos, List, [], ◌∷◌, arith, subst, sym}
+use Rattle.std.proofs.Common.{◌≡◌, ◌<◌, ◌≤◌, ◌∙◌, ℕ, zero, suc, pos, List, [], ◌∷◌, Result, arith, subst, sym}
 use Rattle.sqlite.specs.Effect.{Database}
 use Rattle.sqlite.specs.Order.{Row}
 use Rattle.sqlite.specs.Schema.{Schema}
 use Rattle.book.specs.Rows.{Content, DeskCells}
 use Rattle.keep.specs.Content.{HasTable, HasTables, HoldsOf, IsAmong, Stores}
 use Rattle.keep.specs.Description.{declared, desk_schema, newest, schema_of, since}
+use Rattle.keep.specs.Keeping.{TellsOther}
 use Rattle.keep.specs.Laws.{named}
 use Rattle.keep.specs.Names.{HasNames}
 use Rattle.keep.specs.Old.{IsOfVersion, IsOld}
 use Rattle.keep.specs.Schema.{desk_table}
+use Rattle.keep.specs.declared.keep.KeepFault.{KeepFault}
 use Rattle.keep.specs.declared.description.TableName.{TableName}
 use Rattle.keep.specs.declared.description.TableName.TheVariants as table
 use Rattle.keep.proofs.Versions.{HasNamesOf, brought, in_version, lies, names_of_version, one_schema, one_version}
@@ -42,6 +44,14 @@ pub lacks_one : (db : Database) (x : Content) (v : ℕ) → v < newest → db.sc
 lacks_one db x v old is has =
     let t = brought newest (omega arith) (omega arith) in
     (names_of_version v db.schema is).late t.0 (omega (arith, old, t.1)) (named _ _ (has t.0).1)
+
+-- what has the schema of the newest version is of no older one
+pub not_older : (db : Database) → db.schema ≡ desk_schema → IsOld db → ⊥
+not_older db is old = let same = is_of db old.0 newest (omega arith) is (omega (arith, old.1.1)) old.2 in omega (arith, same, old.1.1)
+
+-- of the schema of a version nothing is told as of another
+pub of_a_version : {T : Type 0} (schema : Schema) (v : ℕ) (answer : Result T KeepFault) (is_left : Type 0) → HasNames schema → 1 ≤ v → v ≤ newest → schema ≡ schema_of v → TellsOther schema answer is_left
+of_a_version schema v answer is_left names some late is = record { nameless = λ none. absurd (none names); other = λ _ none. absurd (none (v, some, late, is)) }
 
 -- the rows of a table lie where the version has it
 pub rows_there : (db : Database) (v : ℕ) (t : TableName) (Are : List Row → Type 0) → db.schema ≡ schema_of v → HasTable db.schema db.trees (declared t) Are → Are (db.trees (declared t).tree)

@@ -9,10 +9,17 @@ use Rattle.sqlite.proofs.StateLemmas.{survives_then}
 use Rattle.sqlite_trees.specs.declared.store.Store.{Ghosts}
 use Rattle.sqlite_trees.specs.Tree.{Trees}
 use Rattle.book.specs.declared.rows.Change.{Change}
+use Rattle.book.specs.declared.rows.Tables.{Tables}
 use Rattle.book.specs.Rows.{Content}
+use Rattle.book.specs.Tables.{content_of}
 use Rattle.keep.specs.Content.{Holds, IsContent, LeavesOnly}
+use Rattle.keep.specs.Keeping.{IsFound}
+use Rattle.keep.specs.Loads.{HoldsLoaded, IsRead}
+use Rattle.keep.specs.Old.{IsCurrent, IsMadeNewest, IsUpgraded}
+use Rattle.keep.specs.OneContent.{only_content}
 use Rattle.keep.specs.Keeper.{Keeper}
 use Rattle.keep.specs.Transactions.{AreChanged, Committed, IsSettled, Makes, with_changes}
+use Rattle.keep.proofs.Schemas.{not_older, older}
 
 -- trees that are those of the database hold its content
 pub held_by : (db : Database) (trees : Trees) (x : Content) → trees ≡ db.trees → Holds db x → IsContent trees x
@@ -38,16 +45,40 @@ pub alone_if : {U E : Type 0} (old new : State) (changes : List Change) (r : Res
 alone_if old new changes (Ok u) settled h = λ x held. leaves_now new x (settled h.is_open) h.settled held
 alone_if old new changes (Err e) settled h = tt
 
-pub settled_if : {U E : Type 0} (s : State) (r : Result U E) → (IsTrue s.is_open → (trees : Trees) → s.may_leave trees → trees ≡ s.committed.trees) → OnOk r (IsTrue s.is_open × (s.committed ≡ s.now))
-    → OnOk r ((x : Content) → Holds s.now x → LeavesOnly s.may_leave (x ∷ []))
-settled_if s (Ok u) settled h = λ x held. leaves_now s x (settled h.0) h.1 held
-settled_if s (Err e) settled h = tt
-
 -- an error that leaves the connection as it was leaves a stopped keeper over it
 pub stopped_over : {S T E : Type 0} (r : Result T E) (fault : E) (connection was : Held S) (stopped : Bool) → stopped ≡ is_err r → r ≡ Err fault → connection ≡ was
     → let now : Keeper S = record { connection = connection; stopped = stopped } in now ≡ record { connection = was; stopped = true }
 stopped_over {S} r fault connection was stopped told is same =
     ap₂ (λ (c : Held S) (b : Bool). let k : Keeper S = record { connection = c; stopped = b } in k) same (told ∙ ap is_err is)
+
+-- of an open store a stop leaves what is committed
+module _ (old new : State) (settled : IsTrue new.is_open → (trees : Trees) → new.may_leave trees → trees ≡ new.committed.trees) where
+  pub found_of : (t : Tables) → HoldsLoaded old new t → IsFound (Holds old.now) (Holds new.now) (LeavesOnly new.may_leave) t
+  found_of t read =
+      let same : new.now ≡ old.now = read.same.0.now_is in
+      let held = subst (λ (db : Database). Holds db (content_of t)) (sym same) read.is in
+      record {
+        content = held;
+        one = λ x was. only_content old.now.trees x (content_of t) was.content read.is.content;
+        same = λ x. (subst (λ (db : Database). Holds db x) (sym same), subst (λ (db : Database). Holds db x) same);
+        alone = leaves_now new (content_of t) (settled read.is_open) read.settled held;
+      }
+
+  pub newest_read : IsRead IsCurrent old new → IsMadeNewest old new
+  newest_read read = record {
+    version = inr read.is;
+    made = λ x held. absurd (older old.now held.0 held.1.1 held.2.schema_is read.is.schema_is);
+    same = λ x held. subst (λ (db : Database). Holds db x) (sym read.same.0.now_is) held;
+    alone = λ x held. leaves_now new x (settled read.is_open) read.settled held;
+  }
+
+  pub newest_made : IsUpgraded old new → IsMadeNewest old new
+  newest_made made = record {
+    version = inl made.was;
+    made = made.whole;
+    same = λ x held. absurd (not_older old.now held.schema_is made.was);
+    alone = λ x held. leaves_now new x (settled made.is_open) made.settled held;
+  }
 
 -- ---- a transaction
 

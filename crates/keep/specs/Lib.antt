@@ -5,6 +5,7 @@ pub mod Transactions
 pub mod Names
 pub mod Old
 pub mod UpgradeSteps
+pub mod Keeping
 pub mod Loads
 pub mod Keeper
 pub mod Statements

@@ -1,12 +1,15 @@
 -- What a read of the store finds.
 use Rattle.std.specs.Prelude.{◌≡◌, ℤ, List, [], ◌∷◌, map, IsTrue}
 use Rattle.sqlite.specs.Order.{Row, column}
+use Rattle.sqlite.specs.Effect.{Database}
 use Rattle.sqlite.specs.State.{State, HasCleanDisk, IsUnchanged}
 use Rattle.sqlite_trees.specs.Tree.{Trees}
 use Rattle.sqlite_trees.specs.View.{is_int}
 use Rattle.book.specs.Rows.{DeskCells}
+use Rattle.book.specs.Tables.{content_of}
+use Rattle.book.specs.declared.rows.Tables.{Tables}
 use Rattle.keep.specs.Description.{Cells, columns, desk_schema, rowid_at, shown}
-use Rattle.keep.specs.Content.{IsVersion}
+use Rattle.keep.specs.Content.{Holds, IsVersion}
 use Rattle.keep.specs.declared.description.TableName.{TableName}
 use Rattle.keep.specs.declared.description.TableName.TheVariants as table
 
@@ -17,6 +20,17 @@ Reads old new Are = HasCleanDisk new → IsUnchanged old new × Are old.now.tree
 -- the same where the schema is that of a desk as it is made now
 abbrev pub Finds : State → State → (Trees → Type 0) → Type 0
 Finds old new Are = HasCleanDisk new → old.now.schema ≡ desk_schema → IsUnchanged old new × Are old.now.trees
+
+-- the store is open and such, all of it committed, and the read has changed nothing
+pub record IsRead (Is : Database → Type 0) (old new : State) : Type 0 where
+  pub is : Is old.now
+  pub same : IsUnchanged old new
+  pub is_open : IsTrue new.is_open
+  pub settled : new.committed ≡ new.now
+
+-- it is read so, and holds what is loaded
+abbrev pub HoldsLoaded : State → State → Tables → Type 0
+HoldsLoaded old new tables = IsRead (λ db. Holds db (content_of tables)) old new
 
 -- the answer shows the row, and its rowid is a whole number
 abbrev pub IsShown : (t : TableName) → Row → Cells t → Type 0

@@ -1,12 +1,12 @@
 -- Stores of older versions, and what is made of them.
-use Rattle.std.specs.Prelude.{◌≡◌, ◌<◌, ◌≤◌, ⊤, ℕ, ℤ, IsTrue, pos, [], ◌∷◌, map}
+use Rattle.std.specs.Prelude.{◌≡◌, ◌<◌, ◌≤◌, ◌⊎◌, ⊤, ℕ, ℤ, Err, IsTrue, OnOk, Result, pos, [], ◌∷◌, map}
 use Rattle.sqlite.specs.Effect.{Database}
 use Rattle.sqlite.specs.State.{State}
 use Rattle.sqlite_trees.specs.Tree.{Trees}
 use Rattle.book.specs.Rows.{Content, DeskCells}
 use Rattle.keep.specs.Schema.{desk_table}
 use Rattle.keep.specs.Description.{IsOlder, declared, desk_schema, newest, since}
-use Rattle.keep.specs.Content.{HasTable, Holds, HoldsOf, IsContent, IsContentOf, IsVersion, Stores}
+use Rattle.keep.specs.Content.{HasTable, HasTables, Holds, HoldsOf, IsContent, IsContentOf, IsDesk, IsVersion, LeavesOnly, Stores}
 use Rattle.keep.specs.Names.{HasTableNamed}
 use Rattle.keep.specs.declared.description.TableName.{TableName}
 use Rattle.keep.specs.declared.description.TableName.TheVariants as table
@@ -59,3 +59,18 @@ pub record IsUpgraded (old new : State) : Type 0 where
   pub is_open : IsTrue new.is_open
   pub settled : new.committed ≡ new.now
   pub whole : (x : Content) → HoldsOld old.now x → Holds new.now (upgraded x)
+
+-- The store was of an older version or the newest, holds the newest of all its rows, and a stop leaves that alone.
+pub record IsMadeNewest (old new : State) : Type 0 where
+  pub version : IsOld old.now ⊎ IsCurrent old.now
+  pub made : (x : Content) → HoldsOld old.now x → Holds new.now (upgraded x)
+  pub same : (x : Content) → Holds old.now x → Holds new.now x
+  pub alone : (x : Content) → Holds new.now x → LeavesOnly new.may_leave (x ∷ [])
+
+-- It is done, or it is told that the store is no desk: then that is so, and it is as it was. Whatever is answered, a stop
+-- leaves what was before or the whole of the newest version.
+pub record Upgrades {E : Type 0} (no_desk : E) (old new : State) (ended : Result (Unit {0}) E) : Type 0 where
+  pub done : OnOk ended (IsMadeNewest old new)
+  pub desk : ended ≡ Err no_desk → (¬ IsOld old.now) × ((x : Content) → HasTables old.now x → ¬ IsDesk x)
+  pub unchanged : ended ≡ Err no_desk → (new.now ≡ old.now) × (new.committed ≡ old.committed)
+  pub either : (trees : Trees) → new.may_leave trees → old.may_leave trees ⊎ AreUpgraded old.now trees

@@ -1,10 +1,12 @@
 -- A keeper in memory.
-use Rattle.std.specs.Prelude.{◌≡◌, ◌+◌, ◌-◌, ◌≤◌, ℕ, Bool, false, true, if◌then◌else◌, Option, Some, List, [], ◌∷◌, length, map, option_map}
+use Rattle.std.specs.Prelude.{◌≡◌, ◌+◌, ◌-◌, ◌≤◌, ℕ, Bool, false, true, if◌then◌else◌, Err, OnOk, Result, Option, Some, List, [], ◌∷◌, length, map, option_map}
 use Rattle.book.specs.declared.rows.Change.{Change}
 use Rattle.book.specs.Rows.{Content, IsInKeyOrder}
 use Rattle.book.specs.Tables.{desk_cells, field_cells, firm_cells, kept_cells, line_cells, move_cells, no_content, order_cells, with_change}
 use Rattle.keep.specs.Content.{IsTheRow}
 use Rattle.keep.specs.Transactions.{with_changes}
+use Rattle.keep.specs.declared.keep.KeepFault.{KeepFault}
+use Rattle.keep.specs.declared.keep.KeepFault.TheVariants.{Store}
 use Rattle.keep.specs.declared.trials.plain.shelf.Shelf.{Shelf}
 
 -- what the lists hold
@@ -67,3 +69,9 @@ after_failure changes k =
 -- after another error
 abbrev pub after_error : Plain → Plain
 after_error k = record k { stopped = true }
+
+-- the commit that is to fail does so as the store does, at once if it is not to land, and no other fails so
+pub record FailsByNumber (changes : List Change) (old new : Plain) (answer : Result (Unit {0}) KeepFault) : Type 0 where
+  pub fails : IsToFail old → OnOk answer ⊥
+  pub at_once : IsToFail old → old.lands ≡ false → answer ≡ Err Store
+  pub store : answer ≡ Err Store → IsToFail old × (new ≡ after_failure changes old)

@@ -31,13 +31,13 @@ pub enum KeepFault {
 /// Keeps the seven tables, so that a stop at any moment leaves what was before a commit or the whole of it. An error
 /// leaves a keeper stopped, and a stopped one touches nothing more: its store is opened anew.
 pub trait Keep {
-    ghost use Rattle.std.specs.Prelude.{◌≡◌, ◌≢◌, ◌⊎◌, Bool, false, List, [], ◌∷◌, IsTrue, IfOk, OnOk, OnErr, Err, All};
-    ghost use Rattle.book.specs.Rows.{Content, IsInKeyOrder};
-    ghost use Rattle.book.specs.Tables.{content_of, rows_among};
+    ghost use Rattle.std.specs.Prelude.{◌≡◌, ◌≢◌, Bool, false, List, [], ◌∷◌, IfOk, OnOk, Err, All};
+    ghost use Rattle.book.specs.Rows.{Content};
+    ghost use Rattle.book.specs.Tables.{rows_among};
     ghost use Rattle.sqlite.specs.Schema.{Schema};
-    ghost use Rattle.keep.specs.Content.{IsAmong, IsDesk, IsTheRow};
-    ghost use Rattle.keep.specs.Description.{IsOfAVersion, desk_schema};
-    ghost use Rattle.keep.specs.Names.{HasNames};
+    ghost use Rattle.keep.specs.Content.{IsAmong, IsTheRow};
+    ghost use Rattle.keep.specs.Description.{desk_schema};
+    ghost use Rattle.keep.specs.Keeping.{AddsNothing, GoesOn, IsFound, IsOrderedDesk, TellsOther, TellsVersion};
     ghost use Rattle.keep.specs.Transactions.{with_changes};
 
     // The disk has returned what was written so far.
@@ -84,33 +84,15 @@ pub trait Keep {
     /// version as it was made is left as it is, and named: `NotADesk` where one of the six names that each version has
     /// is no table's, and else `Store`.
     fn load(&mut self, alloc: Global) -> Result<Tables, KeepFault>
-        ensures refused { IsTrue (stopped self.old) → (result ≡ Err KeepFault.Stopped) × (self.new ≡ self.old) }
-        ensures going { stopped self.old ≡ false → result ≢ Err KeepFault.Stopped }
+        ensures goes { GoesOn stopped self.old self.new result }
         ensures settings { same_settings self.old self.new }
         ensures honest { is_honest self.new → is_honest self.old }
-        ensures ok { OnOk result (stopped self.new ≡ false) }
-        ensures err { OnErr result (IsTrue (stopped self.new)) }
-        ensures content { is_honest self.new → IfOk result (λ tables. holds self.new (content_of tables)) }
-        ensures one { is_honest self.new → IfOk result (λ tables. (x : Content) → holds self.old x
-            → content_of tables ≡ x) }
-        ensures same { is_honest self.new → OnOk result ((x : Content) → (holds self.old x → holds self.new x)
-            × (holds self.new x → holds self.old x)) }
-        ensures order { IfOk result (λ tables. IsInKeyOrder (content_of tables)) }
-        ensures version { IfOk result (λ tables. IsDesk (content_of tables)) }
-        ensures desk { is_honest self.new → result ≡ Err KeepFault.NotADesk → (x : Content) → has_tables self.old x
-            → ¬ IsDesk x }
-        ensures old_version { is_honest self.new → result ≡ Err KeepFault.OldVersion → is_old self.old }
-        ensures only_old { is_honest self.new → stopped self.old ≡ false → is_old self.old
-            → (result ≡ Err KeepFault.OldVersion) ⊎ ((result ≡ Err KeepFault.Memory) ⊎ (result ≡ Err KeepFault.Store)) }
-        ensures alone { is_honest self.new → OnOk result ((x : Content) → holds self.new x → leaves self.new (x ∷ [])) }
-        // nothing is added to what a stop may leave
-        ensures adds_nothing { is_honest self.new → (these : List Content) → leaves self.old these
-            → leaves self.new these }
-        ensures no_more { is_honest self.new → (x : Content) → may_leave self.new x → may_leave self.old x }
-        ensures nameless { stopped self.old ≡ false → ¬ HasNames (schema self.old)
-            → (result ≡ Err KeepFault.NotADesk) × (self.new ≡ when_stopped self.old) }
-        ensures other { stopped self.old ≡ false → HasNames (schema self.old) → ¬ IsOfAVersion (schema self.old)
-            → (result ≡ Err KeepFault.Store) × (self.new ≡ when_stopped self.old) };
+        ensures ordered { IfOk result IsOrderedDesk }
+        ensures found { is_honest self.new → IfOk result (IsFound (holds self.old) (holds self.new) (leaves self.new)) }
+        ensures version { is_honest self.new → TellsVersion (has_tables self.old) (is_old self.old) result }
+        ensures left { is_honest self.new → AddsNothing leaves may_leave self.old self.new }
+        ensures other { stopped self.old ≡ false → TellsOther (schema self.old) result
+            (self.new ≡ when_stopped self.old) };
 
     /// Puts the rows in by their keys, all or none. Each row of `desk` among them has one = 1 and the version of the
     /// schema. Whatever is answered, the keeper is set as it was.
@@ -119,13 +101,10 @@ pub trait Keep {
     /// before or the whole. A store whose tables are not those of a desk as it is made is left as it is: `Store`.
     fn commit(&mut self, changes: &[Change]) -> Result<(), KeepFault>
         requires { All IsTheRow (rows_among changes.now).desk }
-        ensures refused { IsTrue (stopped self.old) → (result ≡ Err KeepFault.Stopped) × (self.new ≡ self.old) }
-        ensures going { stopped self.old ≡ false → result ≢ Err KeepFault.Stopped }
+        ensures goes { GoesOn stopped self.old self.new result }
         ensures desk { (result ≢ Err KeepFault.NotADesk) × (result ≢ Err KeepFault.OldVersion) }
         ensures settings { same_settings self.old self.new }
         ensures honest { is_honest self.new → is_honest self.old }
-        ensures ok { OnOk result (stopped self.new ≡ false) }
-        ensures err { OnErr result (IsTrue (stopped self.new)) }
         ensures put { is_honest self.new → OnOk result ((x : Content) → holds self.old x
             → holds self.new (with_changes changes.now x)) }
         ensures alone { is_honest self.new → OnOk result ((x : Content) → holds self.new x → leaves self.new (x ∷ [])) }

@@ -4,10 +4,11 @@ ghost use Rattle.std.specs.Prelude.{◌≡◌, false, [], ◌∷◌, None, IfOk,
 ghost use Rattle.std.specs.List.Sorted.{IsStrictlySortedBy};
 ghost use Rattle.sqlite.specs.State.{HasCleanDisk, IsLive, IsUnchanged, Survives};
 ghost use Rattle.sqlite.specs.Held.{state};
-ghost use Rattle.book.specs.Rows.{Content, IsInKeyOrder, field_cmp, move_cmp, order_cmp, line_cmp, firm_cmp};
+ghost use Rattle.book.specs.Rows.{Content, field_cmp, move_cmp, order_cmp, line_cmp, firm_cmp};
 ghost use Rattle.book.specs.Tables.{content_of, field_cells, move_cells, order_cells, line_cells, firm_cells};
 ghost use Rattle.keep.specs.Description.{desk_schema};
 ghost use Rattle.keep.specs.Content.{HasTables, Holds, IsDesk, Stores};
+ghost use Rattle.keep.specs.Keeping.{IsOrderedDesk};
 ghost use Rattle.keep.specs.Loads.{Finds};
 ghost use Rattle.keep.specs.declared.description.TableName.TheVariants as table;
 
@@ -67,13 +68,10 @@ pub(crate) fn load_all<S: Alter>(
     requires schema { (state S.Store conn.old).now.schema ≡ desk_schema }
     requires live { IsLive (state S.Store conn.old) }
     ensures idle { conn.new.in_transaction ≡ false }
-    ensures order { IfOk result (λ found. IfSome found (λ tables. IsInKeyOrder (content_of tables))) }
-    ensures version { IfOk result (λ found. IfSome found (λ tables. IsDesk (content_of tables))) }
+    ensures ordered { IfOk result (λ found. IfSome found IsOrderedDesk) }
     ensures content { HasCleanDisk (state S.Store conn.new) → IfOk result
         (λ found. IfSome found (λ tables. Holds (state S.Store conn.old).now (content_of tables)
         × IsUnchanged (state S.Store conn.old) (state S.Store conn.new))) }
-    ensures one { HasCleanDisk (state S.Store conn.new) → IfOk result (λ found. IfSome found
-        (λ tables. (x : Content) → Holds (state S.Store conn.old).now x → content_of tables ≡ x)) }
     ensures none { HasCleanDisk (state S.Store conn.new) → IfOk result
         (λ found. found ≡ None → (x : Content) → HasTables (state S.Store conn.old).now x → ¬ IsDesk x) }
     ensures survives { Survives (state S.Store conn.old) (state S.Store conn.new) (λ _. ⊥) }

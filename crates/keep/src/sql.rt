@@ -7,7 +7,8 @@ ghost use Rattle.sqlite_trees.specs.Tree.{Trees};
 ghost use Rattle.book.specs.Rows.{Content, IsInKeyOrder};
 ghost use Rattle.book.specs.Tables.{content_of, rows_among};
 ghost use Rattle.keep.specs.Content.{HasTables, Holds, IsDesk, IsTheRow, LeavesOnly, MayLeave};
-ghost use Rattle.keep.specs.Names.{HasNames};
+ghost use Rattle.keep.specs.Keeping.{IsOrderedDesk, TellsOther, TellsVersion};
+ghost use Rattle.keep.specs.Loads.{HoldsLoaded};
 ghost use Rattle.keep.specs.Transactions.{Committed, AreChanged, with_changes};
 ghost use Rattle.keep.specs.Old.{IsOld};
 ghost use Rattle.keep.specs.Description.{IsOfAVersion, desk_schema, newest, schema_of};
@@ -89,16 +90,9 @@ fn load_current<S: Alter>(alloc: Global, conn: &mut Connection<S>) -> Result<Tab
     requires live { IsLive (state S.Store conn.old) }
     ensures idle { conn.new.in_transaction ≡ false }
     ensures going { (result ≢ Err KeepFault.Stopped) × (result ≢ Err KeepFault.OldVersion) }
-    ensures order { IfOk result (λ tables. IsInKeyOrder (content_of tables)) }
-    ensures version { IfOk result (λ tables. IsDesk (content_of tables)) }
-    ensures content { HasCleanDisk (state S.Store conn.new) → IfOk result
-        (λ tables. Holds (state S.Store conn.old).now (content_of tables)
-        × IsUnchanged (state S.Store conn.old) (state S.Store conn.new)) }
-    ensures one { HasCleanDisk (state S.Store conn.new) → IfOk result (λ tables. (x : Content)
-        → Holds (state S.Store conn.old).now x → content_of tables ≡ x) }
-    ensures settled { HasCleanDisk (state S.Store conn.new) → OnOk result
-        (IsTrue (state S.Store conn.new).is_open × ((state S.Store conn.new).committed
-        ≡ (state S.Store conn.new).now)) }
+    ensures ordered { IfOk result IsOrderedDesk }
+    ensures read { HasCleanDisk (state S.Store conn.new) → IfOk result
+        (HoldsLoaded (state S.Store conn.old) (state S.Store conn.new)) }
     ensures desk { HasCleanDisk (state S.Store conn.new) → result ≡ Err KeepFault.NotADesk → (x : Content)
         → HasTables (state S.Store conn.old).now x → ¬ IsDesk x }
     ensures survives { Survives (state S.Store conn.old) (state S.Store conn.new) (λ _. ⊥) }
@@ -138,26 +132,12 @@ fn load_from<S: Alter>(alloc: Global, conn: &mut Connection<S>) -> Result<Tables
     requires { conn.old.in_transaction ≡ false }
     ensures idle { conn.new.in_transaction ≡ false }
     ensures going { result ≢ Err KeepFault.Stopped }
-    ensures order { IfOk result (λ tables. IsInKeyOrder (content_of tables)) }
-    ensures version { IfOk result (λ tables. IsDesk (content_of tables)) }
-    ensures content { HasCleanDisk (state S.Store conn.new) → IfOk result
-        (λ tables. Holds (state S.Store conn.old).now (content_of tables)
-        × IsUnchanged (state S.Store conn.old) (state S.Store conn.new)) }
-    ensures one { HasCleanDisk (state S.Store conn.new) → IfOk result (λ tables. (x : Content)
-        → Holds (state S.Store conn.old).now x → content_of tables ≡ x) }
-    ensures settled { HasCleanDisk (state S.Store conn.new) → OnOk result
-        (IsTrue (state S.Store conn.new).is_open × ((state S.Store conn.new).committed
-        ≡ (state S.Store conn.new).now)) }
-    ensures desk { HasCleanDisk (state S.Store conn.new) → result ≡ Err KeepFault.NotADesk → (x : Content)
-        → HasTables (state S.Store conn.old).now x → ¬ IsDesk x }
-    ensures old_version { HasCleanDisk (state S.Store conn.new) → result ≡ Err KeepFault.OldVersion
-        → IsOld (state S.Store conn.old).now }
-    ensures only_old { HasCleanDisk (state S.Store conn.new) → IsOld (state S.Store conn.old).now
-        → (result ≡ Err KeepFault.OldVersion) ⊎ ((result ≡ Err KeepFault.Memory) ⊎ (result ≡ Err KeepFault.Store)) }
-    ensures nameless { ¬ HasNames (state S.Store conn.old).now.schema → (result ≡ Err KeepFault.NotADesk)
-        × (conn.new ≡ conn.old) }
-    ensures other { HasNames (state S.Store conn.old).now.schema → ¬ IsOfAVersion (state S.Store conn.old).now.schema
-        → (result ≡ Err KeepFault.Store) × (conn.new ≡ conn.old) }
+    ensures ordered { IfOk result IsOrderedDesk }
+    ensures read { HasCleanDisk (state S.Store conn.new) → IfOk result
+        (HoldsLoaded (state S.Store conn.old) (state S.Store conn.new)) }
+    ensures version { HasCleanDisk (state S.Store conn.new) → TellsVersion (HasTables (state S.Store conn.old).now)
+        (IsOld (state S.Store conn.old).now) result }
+    ensures other { TellsOther (state S.Store conn.old).now.schema result (conn.new ≡ conn.old) }
     ensures survives { Survives (state S.Store conn.old) (state S.Store conn.new) (λ _. ⊥) }
 {
     match layout_of(conn.schema()) {

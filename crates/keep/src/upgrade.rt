@@ -1,15 +1,15 @@
 //! From an older version to the newest.
 
-ghost use Rattle.std.specs.Prelude.{◌≡◌, ◌≢◌, ◌⊎◌, ◌<◌, ◌≤◌, false, [], ◌∷◌, IsTrue, IfErr, OnOk, Err};
+ghost use Rattle.std.specs.Prelude.{◌≡◌, ◌⊎◌, ◌<◌, ◌≤◌, false, IfErr, OnOk, Err};
 ghost use Rattle.sqlite.specs.Held.{state};
 ghost use Rattle.sqlite.specs.State.{HasCleanDisk, IsUnchanged, Survives};
-ghost use Rattle.sqlite_trees.specs.Tree.{Trees};
 ghost use Rattle.book.specs.Rows.{Content};
 ghost use Rattle.book.specs.Tables.{desk_cells};
-ghost use Rattle.keep.specs.Content.{HasTables, Holds, IsDesk, LeavesOnly};
-ghost use Rattle.keep.specs.Names.{HasNames};
-ghost use Rattle.keep.specs.Old.{AreUpgraded, HoldsOld, IsCurrent, IsOld, IsUpgraded, raised, upgraded};
-ghost use Rattle.keep.specs.Description.{IsOfAVersion, desk_schema, newest, schema_of};
+ghost use Rattle.keep.specs.Content.{HasTables, IsDesk};
+ghost use Rattle.keep.specs.Keeping.{TellsOther};
+ghost use Rattle.keep.specs.Loads.{IsRead};
+ghost use Rattle.keep.specs.Old.{AreUpgraded, IsCurrent, IsOld, IsUpgraded, Upgrades, raised};
+ghost use Rattle.keep.specs.Description.{desk_schema, newest, schema_of};
 
 use crate::create::raise;
 use crate::keep::{KeepFault, fault_of};
@@ -65,12 +65,8 @@ fn expect_current<S: Alter>(conn: &mut Connection<S>) -> Result<(), KeepFault>
     ensures idle { conn.new.in_transaction ≡ false }
     ensures fault { IfErr result (λ fault. (fault ≡ KeepFault.NotADesk)
         ⊎ ((fault ≡ KeepFault.Memory) ⊎ (fault ≡ KeepFault.Store))) }
-    ensures current { HasCleanDisk (state S.Store conn.new) → OnOk result (IsCurrent (state S.Store conn.old).now) }
-    ensures same { HasCleanDisk (state S.Store conn.new) → OnOk result
-        (IsUnchanged (state S.Store conn.old) (state S.Store conn.new)) }
-    ensures settled { HasCleanDisk (state S.Store conn.new) → OnOk result
-        (IsTrue (state S.Store conn.new).is_open × ((state S.Store conn.new).committed
-        ≡ (state S.Store conn.new).now)) }
+    ensures read { HasCleanDisk (state S.Store conn.new) → OnOk result
+        (IsRead IsCurrent (state S.Store conn.old) (state S.Store conn.new)) }
     ensures desk { HasCleanDisk (state S.Store conn.new) → result ≡ Err KeepFault.NotADesk
         → ((x : Content) → HasTables (state S.Store conn.old).now x → ¬ IsDesk x)
         × IsUnchanged (state S.Store conn.old) (state S.Store conn.new) }
@@ -98,29 +94,9 @@ impl<S: Alter> SqlKeep<S> {
             ⊎ ((fault ≡ KeepFault.Memory) ⊎ (fault ≡ KeepFault.Store))) }
         ensures settings { conn.new.step_limit ≡ conn.old.step_limit }
         ensures clean { HasCleanDisk (state S.Store conn.new) → HasCleanDisk (state S.Store conn.old) }
-        ensures version { HasCleanDisk (state S.Store conn.new) → OnOk result
-            (IsOld (state S.Store conn.old).now ⊎ IsCurrent (state S.Store conn.old).now) }
-        ensures made { HasCleanDisk (state S.Store conn.new) → OnOk result
-            ((x : Content) → HoldsOld (state S.Store conn.old).now x → Holds (state S.Store conn.new).now
-            (upgraded x)) }
-        ensures same { HasCleanDisk (state S.Store conn.new) → OnOk result
-            ((x : Content) → Holds (state S.Store conn.old).now x → Holds (state S.Store conn.new).now x) }
-        ensures desk { HasCleanDisk (state S.Store conn.new) → result ≡ Err KeepFault.NotADesk
-            → (¬ IsOld (state S.Store conn.old).now) × ((x : Content) → HasTables (state S.Store conn.old).now x
-            → ¬ IsDesk x) }
-        ensures unchanged { HasCleanDisk (state S.Store conn.new) → result ≡ Err KeepFault.NotADesk
-            → ((state S.Store conn.new).now ≡ (state S.Store conn.old).now)
-            × ((state S.Store conn.new).committed ≡ (state S.Store conn.old).committed) }
-        ensures alone { HasCleanDisk (state S.Store conn.new) → OnOk result
-            ((x : Content) → Holds (state S.Store conn.new).now x → LeavesOnly (state S.Store conn.new).may_leave
-            (x ∷ [])) }
-        ensures either { HasCleanDisk (state S.Store conn.new) → (trees : Trees)
-            → (state S.Store conn.new).may_leave trees → (state S.Store conn.old).may_leave trees
-            ⊎ AreUpgraded (state S.Store conn.old).now trees }
-        ensures nameless { ¬ HasNames (state S.Store conn.old).now.schema → (result ≡ Err KeepFault.NotADesk)
-            × (conn.new ≡ conn.old) }
-        ensures other { HasNames (state S.Store conn.old).now.schema → ¬ IsOfAVersion (state S.Store conn.old).now.schema
-            → (result ≡ Err KeepFault.Store) × (conn.new ≡ conn.old) }
+        ensures upgrades { HasCleanDisk (state S.Store conn.new) → Upgrades KeepFault.NotADesk
+            (state S.Store conn.old) (state S.Store conn.new) result }
+        ensures other { TellsOther (state S.Store conn.old).now.schema result (conn.new ≡ conn.old) }
     {
         match layout_of(conn.schema()) {
             Layout::Current => expect_current(conn),

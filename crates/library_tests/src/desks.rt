@@ -36,9 +36,9 @@ pub(crate) fn run_together<K: Keep>(
     desk.run_together(alloc, requests)
 }
 
-/// So many of the requests are answered together, and their lines written, where that is a number: the call without its
-/// clauses, likewise.
-pub(crate) fn answer_together<K: Keep, W: Write>(
+/// The requests are answered by lists of so many together, and their lines written, where that is a number: the call
+/// without its clauses, likewise.
+pub(crate) fn answer_lists<K: Keep, W: Write>(
     alloc: Global,
     desk: &mut Desk<K>,
     requests: &[Request],
@@ -46,7 +46,13 @@ pub(crate) fn answer_together<K: Keep, W: Write>(
     writer: &mut W,
 ) -> Result<Result<(), ScriptFault>, Fail> {
     let most = NonZeroUsize::new(most).ok_or("none together")?;
-    Ok(desk::answer_together(alloc, requests, most, writer, desk))
+    Ok(desk::answer_lists(
+        alloc,
+        requests,
+        Some(most),
+        writer,
+        desk,
+    ))
 }
 
 /// The requests are answered from this number on: the call without its clauses, where there is such a number.

@@ -12,14 +12,15 @@ use Rattle.desk.specs.Desk.{DeskState, IsStored, LeavesEither, TellsStop}
 use Rattle.desk.specs.Headline.{IsFoundAfterItems, LeavesRowsOf}
 use Rattle.desk.specs.Script.{Writes}
 use Rattle.desk.specs.Streams.{IsSilent, Streams}
-use Rattle.desk.proofs.Cuts.{other_error}
+use Rattle.desk.proofs.Faults.{other_error}
+use Rattle.desk.proofs.LineAnswers.{text_written}
 use Rattle.desk.proofs.FoundAfter.{either_left, stored_left}
-use Rattle.desk.proofs.FoundLines.{cut_left, ends_cut_left, found_all, found_told, found_whole, left_as, lists_left}
+use Rattle.desk.proofs.FoundLines.{ends_cut_left, found_all, found_told, found_whole, left_as, lists_left}
 use Rattle.web.specs.Serving.{stand}
 use Rattle.web.specs.Web.{Stand}
 use Rattle.stockdesk.specs.Connections.{AreServed, IsFoundAfterService, IsServed, ServesSome, as_stood}
 use Rattle.desk.specs.Text.{items_of}
-use Rattle.stockdesk.specs.Requests.{most_together}
+use Rattle.desk.specs.Lists.{most_together}
 use Rattle.stockdesk.specs.Sessions.{IsNoDesk}
 use Rattle.stockdesk.specs.Work.{IsFoundAfterWork, WorkCut, WorkDone}
 use Rattle.stockdesk.specs.declared.session.Fault.{Fault}
@@ -86,7 +87,7 @@ module _ (first : DeskState) (s : Streams) (silent : IsSilent s) where
   pub nothing_found : (work : Work) → IsFoundAfterWork work first s first.ledger
   nothing_found Script = ([], [], Consumes-kept _ _ _ _ (Consumes-nil s.reader_old) silent.0, record { ended = []; rest = Some []; feeds = (refl, refl); all = refl }, no_items 1)
   nothing_found (Requests kind csv together) = ([], no_items (most_together together))
-  nothing_found (Sheet shown) = refl
+  nothing_found (Sheet of) = refl
   nothing_found (Serve service) = (record { ledger = first.ledger; is_stopped = false }, ([], omega arith, refl), inl refl)
 
 -- ---- after work
@@ -99,10 +100,10 @@ module _ (old new : DeskState) (s : Streams) (holds : Content → Type 0) (went 
   only_last work going found = stored_left new.ledger (Found work) holds new.leaves good found (stored going)
 
   done_left : (work : Work) → new.is_stopped ≡ false → WorkDone work old new s → LeavesRowsOf new.leaves (Found work)
-  done_left Script going ends = only_last Script going (found_whole old.ledger new.ledger s ends.told)
+  done_left Script going ends = only_last Script going (found_whole old.ledger new.ledger s (text_written old new s ends))
   done_left (Requests kind csv together) going (kept, (requests, answered)) =
       only_last (Requests kind csv together) going (requests, found_all (most_together together) old.ledger (items_of requests) new.ledger s.writer_old s.writer_new answered)
-  done_left (Sheet shown) going (kept, same, sheet) = only_last (Sheet shown) going same
+  done_left (Sheet of) going (kept, same, sheet) = only_last (Sheet of) going same
   done_left (Serve service) going (kept, told, (streams, size, served)) = service_left service.connections holds old new went good honest (streams, omega (arith, size), served) stored
 
   found_same : (work : Work) → IsSilent s → new.ledger ≡ old.ledger → Found work new.ledger
@@ -114,14 +115,11 @@ module _ (old new : DeskState) (s : Streams) (holds : Content → Type 0) (went 
     work_cut_left (Requests kind csv together) (reads, inl (inl is, same, writes)) = only_last (Requests kind csv together) (going (λ e. cc)) (found_same (Requests kind csv together) (reads, writes) same)
     work_cut_left (Requests kind csv together) (reads, inl (inr (inl is), same, writes)) = only_last (Requests kind csv together) (going (λ e. cc)) (found_same (Requests kind csv together) (reads, writes) same)
     work_cut_left (Requests kind csv together) (reads, inl (inr (inr (number, is)), same, writes)) = only_last (Requests kind csv together) (going (λ e. cc)) (found_same (Requests kind csv together) (reads, writes) same)
-    work_cut_left (Requests kind csv None) (reads, inr (requests, (cause, told, (written, writes, cut)))) =
-        left_as new.leaves (IsFoundAfterItems 1 old.ledger (items_of requests) written) (Found (Requests kind csv None)) (λ B found. (requests, (written, writes, found)))
-        (cut_left old new holds good went honest stored cause (items_of requests) written cut)
-    work_cut_left (Requests kind csv (Some most)) (reads, inr (requests, (cause, told, (cut, writes)))) =
-        left_as new.leaves (IsFoundAfterItems (most_together (Some most)) old.ledger (items_of requests) (cut.lines ++ cut.begun)) (Found (Requests kind csv (Some most)))
-        (λ B found. (requests, (cut.lines ++ cut.begun, writes, found))) (lists_left old new holds good went honest stored cause (most_together (Some most)) requests cut)
-    work_cut_left (Sheet shown) (reads, same, inl (is, nothing)) = only_last (Sheet shown) (going (λ e. cc)) same
-    work_cut_left (Sheet shown) (reads, same, inr (is, begun)) = only_last (Sheet shown) (going (λ e. cc)) same
+    work_cut_left (Requests kind csv together) (reads, inr (requests, (cause, told, (cut, writes)))) =
+        left_as new.leaves (IsFoundAfterItems (most_together together) old.ledger (items_of requests) (cut.lines ++ cut.begun)) (Found (Requests kind csv together))
+        (λ B found. (requests, (cut.lines ++ cut.begun, writes, found))) (lists_left old new holds good went honest stored cause (most_together together) requests cut)
+    work_cut_left (Sheet of) (reads, same, inl (is, nothing)) = only_last (Sheet of) (going (λ e. cc)) same
+    work_cut_left (Sheet of) (reads, same, inr (is, begun)) = only_last (Sheet of) (going (λ e. cc)) same
     work_cut_left (Serve service) (reads, inl (inl is, begun, same)) = only_last (Serve service) (going (λ e. cc)) (record { ledger = old.ledger; is_stopped = false }, ([], omega arith, refl), inl same)
     work_cut_left (Serve service) (reads, inl (inr (inl is), begun, same)) =
         only_last (Serve service) (going (λ e. cc)) (record { ledger = old.ledger; is_stopped = false }, ([], omega arith, refl), inl same)

@@ -9,14 +9,17 @@ use Rattle.book.proofs.Runs.{good_new}
 use Rattle.book.proofs.EqualRows.{told_by_rows}
 use Rattle.keep.specs.Content.{new_content, new_row}
 use Rattle.keep.specs.declared.keep.Keep.{Ghosts}
-use Rattle.desk.specs.Desk.{DeskState, DeskView, IsStored, TellsStop, desk_state}
+use Rattle.desk.specs.Desk.{DeskState, DeskView, IsStored, Snapshot, TellsStop, desk_state, going_at, snapshot}
 use Rattle.desk.specs.Opening.{IsLeft}
-use Rattle.desk.specs.Script.{WritesText}
+use Rattle.desk.specs.Dialogue.{IsPrompt}
+use Rattle.desk.specs.Script.{WritesText, lines}
 use Rattle.desk.specs.Streams.{IsSilent, Streams, streams}
 use Rattle.desk.specs.declared.fault.ScriptFault.{ScriptFault}
-use Rattle.desk.proofs.Cuts.{other_error}
-use Rattle.stockdesk.specs.Runs.{BeginsText, RunsSoFar, RunsWhole}
-use Rattle.stockdesk.specs.Sessions.{IsBadFile, IsNoDesk, IsToldAs, IsUnbegun, IsBegun, OpensWith, ScriptCut, Session, SessionCut, SessionInPart, SessionWhole, StillHolds, left_at, session_in, session_on}
+use Rattle.desk.proofs.Faults.{other_error}
+use Rattle.desk.proofs.LineAnswers.{cut_told, text_written}
+use Rattle.desk.proofs.SomeText.{text_from}
+use Rattle.stockdesk.specs.Runs.{AnswersLines, AnswersText, BeginsText}
+use Rattle.stockdesk.specs.Sessions.{IsBadFile, IsNoDesk, IsToldAs, IsUnbegun, OpensAndDoes, HoldsOnly, ScriptCut, Session, SessionCut, SessionInPart, SessionWhole, StillHolds, desk_left, session_in, session_on}
 use Rattle.stockdesk.specs.Work.{WorkInPart, WorkWhole}
 use Rattle.stockdesk.specs.declared.session.Fault.{Fault}
 use Rattle.stockdesk.specs.declared.work.Work.TheVariants.{Script}
@@ -41,20 +44,20 @@ nothing_read A s (reads, writes) = record {
   prompt = record {
     before = [];
     piece = [];
-    out = [];
+    questions = [];
+    kinds = [];
+    answers = [];
+    behind = going_at A;
     begun = [];
-    ended = [];
-    rest = Some [];
-    ledger = A;
     read_is = refl;
     short = omega arith;
+    come = (Some [], (refl, refl));
+    are_answers = refl;
     written_is = refl;
-    feeds = (refl, refl);
-    replies = (refl, refl);
   };
 }
 
-nothing_so_far : (A : Ledger) (s : Streams) → IsSilent s → RunsSoFar A s
+nothing_so_far : (A : Ledger) (s : Streams) → IsSilent s → AnswersLines A s
 nothing_so_far A s (reads, writes) = record {
   read = [];
   written = [];
@@ -111,20 +114,20 @@ told_unbegun status fault (inr (inl (three, none))) h = inl none
 told_unbegun status fault (inr (inr (four, bad))) h = inr bad
 
 module _ {K : Type 0} (on : Session K) (r : Result (Unit {0}) Fault) (first : DeskView K) (last : Ledger) (Done : DeskState → DeskState → Type 0) (began : on.ghosts.stopped first.keep ≡ false) (good : Good first.ledger)
-    (rows : on.ghosts.is_honest on.keep → (x : Content) → on.held x → IsRowsOf first.ledger x) (stop : TellsStop (r ≡ Err Fault.Store) (desk_state on.ghosts first) (left_at on last))
+    (rows : on.ghosts.is_honest on.keep → (x : Content) → on.held x → IsRowsOf first.ledger x) (stop : TellsStop (r ≡ Err Fault.Store) (desk_state on.ghosts first) (desk_left on last))
     (stored : on.ghosts.stopped on.keep ≡ false → on.ghosts.is_honest on.keep → IsStored (on.ghosts.holds on.keep) (on.ghosts.leaves on.keep) last) where
   -- all was done on a desk
-  pub whole_by : OnOk r (Done (desk_state on.ghosts first) (left_at on last)) → OnOk r (SessionWhole on Done)
+  pub whole_by : OnOk r (Done (desk_state on.ghosts first) (desk_left on last)) → OnOk r (SessionWhole on Done)
   whole_by = by r refl
     where
-      by : (ended : Result (Unit {0}) Fault) → r ≡ ended → OnOk ended (Done (desk_state on.ghosts first) (left_at on last)) → OnOk ended (SessionWhole on Done)
+      by : (ended : Result (Unit {0}) Fault) → r ≡ ended → OnOk ended (Done (desk_state on.ghosts first) (desk_left on last)) → OnOk ended (SessionWhole on Done)
       by (Ok done) is ends =
           let going : on.ghosts.stopped on.keep ≡ false = stop.going (λ e. let both = sym is ∙ e in cc both) ∙ began in
           record { on = record { first = first; last = last; began = began; good = good; rows = rows; done = ends }; going = going; kept = stored going }
       by (Err fault) is ends = tt
 
   -- what was done on it is cut by an error
-  pub cut_by : (fault : Fault) → r ≡ Err fault → Done (desk_state on.ghosts first) (left_at on last) → IfErr r (λ f. ¬ IsNoDesk f) → SessionCut on fault Done
+  pub cut_by : (fault : Fault) → r ≡ Err fault → Done (desk_state on.ghosts first) (desk_left on last) → IfErr r (λ f. ¬ IsNoDesk f) → SessionCut on fault Done
   cut_by fault is ends desk =
       let going : fault ≢ Fault.Store → on.ghosts.stopped on.keep ≡ false = λ other. stop.going (other_error r fault Fault.Store is other) ∙ began in
       record {
@@ -138,38 +141,51 @@ module _ {K : Type 0} (on : Session K) (r : Result (Unit {0}) Fault) (first : De
 -- ---- scripts
 
 -- a script that is cut has begun its text
-pub cut_begins : (fault : Fault) (old new : DeskState) (s : Streams) → ScriptCut fault old new s → BeginsText old.ledger s
-cut_begins fault old new s (cause, told, ends) =
-    record { read = ends.read; written = ends.written; unwritten = ends.unwritten; last = ends.last; reads = ends.reads; writes = ends.writes; text = ends.text; prompt = ends.prompt }
+pub cut_begins : (fault : Fault) (old new : DeskState) (s : Streams) → Good old.ledger → old.is_stopped ≡ false → ScriptCut fault old new s → BeginsText old.ledger s
+cut_begins fault old new s good going (cause, told, ends) =
+    let (unwritten, last, text) = text_from cause old new ends.read ends.written ends.questions good ends.are_questions ends.cut in
+    let began : snapshot old ≡ going_at old.ledger = ap (λ (b : Bool). record { ledger = old.ledger; is_stopped = b }) going in
+    record {
+      read = ends.read;
+      written = ends.written;
+      unwritten = unwritten;
+      last = last;
+      reads = ends.reads;
+      writes = ends.writes;
+      text = text;
+      prompt = subst (λ (first : Snapshot). IsPrompt lines first ends.read ends.written) began ends.prompt;
+    }
 
 -- ---- over a new desk
 
 module _ {K : Type 0} (on : Session K) (s : Streams) (honest : on.ghosts.is_honest on.keep) (new : on.held new_content) where
   -- it begins at the ledger of one
-  from_new : (Done : DeskState → DeskState → Type 0) (begun : IsBegun on Done) (Is : Ledger → Type 0) → Is begun.first.ledger → Is new_ledger
+  from_new : (Done : DeskState → DeskState → Type 0) (begun : OpensAndDoes on Done) (Is : Ledger → Type 0) → Is begun.first.ledger → Is new_ledger
   from_new Done begun Is h = subst Is (is_new begun.first.ledger begun.good (begun.rows honest new_content new)) h
 
-  pub runs_whole : WorkWhole on Script s → RunsWhole s
-  runs_whole all = (all.on.last, from_new _ all.on (λ A. WritesText A all.on.last s) all.on.done.told)
+  pub runs_whole : WorkWhole on Script s → AnswersText new_ledger s
+  runs_whole all = (all.on.last, from_new _ all.on (λ A. WritesText A all.on.last s) (text_written (desk_state on.ghosts all.on.first) (desk_left on all.on.last) s all.on.done))
 
   module _ (fault : Fault) where
     pub runs_part : WorkInPart on Script fault s → BeginsText new_ledger s
     runs_part (inl (refused, silent)) = nothing_read new_ledger s silent
-    runs_part (inr cut) = from_new _ cut.on (λ A. BeginsText A s) (cut_begins fault (desk_state on.ghosts cut.on.first) (left_at on cut.on.last) s cut.on.done)
+    runs_part (inr cut) = from_new _ cut.on (λ A. BeginsText A s) (cut_begins fault (desk_state on.ghosts cut.on.first) (desk_left on cut.on.last) s cut.on.good cut.on.began cut.on.done)
 
-    pub runs_so_far : WorkInPart on Script fault s → fault ≡ Fault.Read → RunsSoFar new_ledger s
+    pub runs_so_far : WorkInPart on Script fault s → fault ≡ Fault.Read → AnswersLines new_ledger s
     runs_so_far (inl (refused, silent)) is = nothing_so_far new_ledger s silent
-    runs_so_far (inr cut) is = let (cause, told, ends) = cut.on.done in
-        from_new _ cut.on (λ A. RunsSoFar A s) (record {
+    runs_so_far (inr cut) is =
+        let (cause, told, ends) = cut.on.done in
+        let (rest, feeds) = ends.come (told.read.0 is) in
+        from_new _ cut.on (λ A. AnswersLines A s) (record {
           read = ends.read;
           written = ends.written;
-          ended = ends.ended;
-          rest = ends.rest;
+          ended = ends.cut.answered;
+          rest = rest;
           ledger = cut.on.last;
           reads = ends.reads;
           writes = ends.writes;
-          feeds = ends.feeds;
-          replies = ends.all_ended (told.read.0 is);
+          feeds = feeds;
+          replies = cut_told cause (desk_state on.ghosts cut.on.first) (desk_left on cut.on.last) ends.questions ends.written ends.cut (λ e. let both = sym e ∙ told.read.0 is in cc both);
         })
 
     -- a new desk is a desk, and not damaged
@@ -186,8 +202,8 @@ module _ {K : Type 0} (on : Session K) (s : Streams) (honest : on.ghosts.is_hone
 
 -- ---- over what the bytes of a file hold
 
-module _ {K : Type 0} (g : Ghosts K) (keep : K) (was : Content → Type 0) (opened : K) (opens : OpensWith g was opened) (back : g.is_honest keep → g.is_honest opened) where
-  abbrev begun : (Done : DeskState → DeskState → Type 0) → IsBegun (session_on g opened keep) Done → IsBegun (session_in g was keep) Done
+module _ {K : Type 0} (g : Ghosts K) (keep : K) (was : Content → Type 0) (opened : K) (opens : HoldsOnly g was opened) (back : g.is_honest keep → g.is_honest opened) where
+  abbrev begun : (Done : DeskState → DeskState → Type 0) → OpensAndDoes (session_on g opened keep) Done → OpensAndDoes (session_in g was keep) Done
   begun Done s = record { first = s.first; last = s.last; began = s.began; good = s.good; rows = λ honest x there. s.rows honest x (opens.held (back honest) x there); done = s.done }
 
   pub starts_whole : (AllDone : DeskState → DeskState → Type 0) → SessionWhole (session_on g opened keep) AllDone → SessionWhole (session_in g was keep) AllDone

@@ -1,5 +1,5 @@
 -- What work on the desk of a good ledger has read and written.
-use Rattle.std.proofs.Common.{◌≡◌, ◌∙◌, [], ◌++◌, List, ℕ, None, Option, Some, ap, append-nil, append_assoc, refl, subst, sym}
+use Rattle.std.proofs.Common.{◌≡◌, ◌∙◌, [], ◌++◌, List, ℕ, None, Option, Some, ap, append-nil, append_assoc, false, refl, subst, sym}
 use Rattle.std.proofs.Math.Logic.{inl, inr}
 use Rattle.std.specs.Io.KnownBytes.{Keeps}
 use Rattle.std.proofs.KnownBytes.{Appends-kept, Appends-nil}
@@ -10,13 +10,14 @@ use Rattle.desk.specs.Desk.{DeskState, desk_state}
 use Rattle.desk.specs.Script.{AlmostWritten}
 use Rattle.desk.specs.Streams.{IsSilent, Streams}
 use Rattle.desk.specs.Text.{RepliesAll, items_of}
+use Rattle.desk.proofs.LineAnswers.{text_written}
 use Rattle.desk.proofs.ListLines.{items_joined}
 use Rattle.desk.proofs.Texts.{replies_joined, replies_more}
 use Rattle.std.specs.declared.num.NonZeroUsize.{NonZeroUsize}
 use Rattle.words.specs.declared.item.Item.{Item}
 use Rattle.stockdesk.specs.Done.{DoesWork, DoesWorkInPart, PrintsRepliesInPart}
 use Rattle.stockdesk.specs.Requests.{FileCut}
-use Rattle.stockdesk.specs.Sessions.{IsUnbegun, Session, left_at}
+use Rattle.stockdesk.specs.Sessions.{IsUnbegun, Session, desk_left}
 use Rattle.stockdesk.specs.Work.{WorkCut, WorkInPart, WorkWhole}
 use Rattle.stockdesk.specs.declared.session.Fault.{Fault}
 use Rattle.stockdesk.specs.declared.work.Work.{Work}
@@ -44,7 +45,7 @@ nothing_printed A s good writes = record {
 pub works_nothing : (work : Work) (s : Streams) → IsSilent s → DoesWorkInPart work s
 works_nothing Script s silent = (new_ledger, good_new, nothing_read new_ledger s silent)
 works_nothing (Requests kind csv together) s (reads, writes) = (reads, nothing_printed new_ledger s good_new writes)
-works_nothing (Sheet shown) s (reads, writes) = (reads, inl (Appends-kept _ _ _ _ (Appends-nil s.writer_old) writes))
+works_nothing (Sheet of) s (reads, writes) = (reads, inl (Appends-kept _ _ _ _ (Appends-nil s.writer_old) writes))
 works_nothing (Serve service) s (reads, writes) = (reads, port_unwritten s.writer_old s.writer_new writes)
 
 -- ---- what is cut
@@ -52,71 +53,38 @@ works_nothing (Serve service) s (reads, writes) = (reads, port_unwritten s.write
 module _ (fault : Fault) (old new : DeskState) (s : Streams) where
   replies_in_part : (together : Option NonZeroUsize) → Good old.ledger → FileCut together fault old new s → PrintsRepliesInPart s
   replies_in_part together good (inl (unread, same, kept)) = nothing_printed old.ledger s good kept
-  replies_in_part (Some most) good (inr (requests, (cause, told, (cut, writes)))) = record {
+  replies_in_part together good (inr (requests, (cause, told, (cut, writes)))) = record {
     first = old.ledger;
-    last = new.ledger;
+    last = cut.here;
     requests = requests;
-    answered = items_of cut.answered ++ items_of cut.last;
-    left = items_of cut.left;
+    answered = items_of cut.answered ++ items_of cut.kept;
+    left = items_of (cut.last ++ cut.left);
     written = cut.lines ++ cut.begun;
     unwritten = cut.unwritten;
     good = good;
-    split = ap items_of cut.split ∙ items_joined (cut.answered ++ cut.last) cut.left ∙ ap (λ (xs : List Item). xs ++ items_of cut.left) (items_joined cut.answered cut.last);
-    replies = subst (λ (out : List ℕ). RepliesAll old.ledger (items_of cut.answered ++ items_of cut.last) out new.ledger) (sym (append_assoc cut.lines cut.begun cut.unwritten))
-        (replies_joined (items_of cut.answered) (items_of cut.last) old.ledger cut.mid new.ledger cut.lines (cut.begun ++ cut.unwritten) cut.replies cut.rest);
+    split = ap items_of (cut.split ∙ append_assoc (cut.answered ++ cut.kept) cut.last cut.left) ∙ items_joined (cut.answered ++ cut.kept) (cut.last ++ cut.left)
+        ∙ ap (λ (xs : List Item). xs ++ items_of (cut.last ++ cut.left)) (items_joined cut.answered cut.kept);
+    replies = subst (λ (out : List ℕ). RepliesAll old.ledger (items_of cut.answered ++ items_of cut.kept) out cut.here) (sym (append_assoc cut.lines cut.begun cut.unwritten))
+        (replies_joined (items_of cut.answered) (items_of cut.kept) old.ledger cut.mid cut.here cut.lines (cut.begun ++ cut.unwritten) cut.replies cut.rest);
     writes = writes;
   }
-  replies_in_part None good (inr (requests, (cause, told, (written, writes, cut)))) = by cut.lines
-    where
-      by : AlmostWritten old.ledger cut.answered written new.ledger → PrintsRepliesInPart s
-      by (inl all) = record {
-        first = old.ledger;
-        last = new.ledger;
-        requests = requests;
-        answered = cut.answered;
-        left = cut.left;
-        written = written;
-        unwritten = [];
-        good = good;
-        split = cut.split;
-        replies = subst (λ (out : List ℕ). RepliesAll old.ledger cut.answered out new.ledger) (sym (append-nil written)) all;
-        writes = writes;
-      }
-      by (inr l) =
-          let whole = subst (λ (xs : List Item). RepliesAll old.ledger xs (l.lines ++ (l.begun ++ l.left)) new.ledger) (sym l.split)
-          (replies_more l.before l.last old.ledger l.mid new.ledger l.lines (l.begun ++ l.left) l.replies l.reply) in
-          let same : l.lines ++ (l.begun ++ l.left) ≡ written ++ l.left =
-          sym (append_assoc l.lines l.begun l.left) ∙ ap (λ (out : List ℕ). out ++ l.left) (sym l.written_are) in
-          record {
-            first = old.ledger;
-            last = new.ledger;
-            requests = requests;
-            answered = cut.answered;
-            left = cut.left;
-            written = written;
-            unwritten = l.left;
-            good = good;
-            split = cut.split;
-            replies = subst (λ (out : List ℕ). RepliesAll old.ledger cut.answered out new.ledger) same whole;
-            writes = writes;
-          }
 
   -- what was written is a beginning
-  pub cut_in_part : (work : Work) → Good old.ledger → WorkCut work fault old new s → DoesWorkInPart work s
-  cut_in_part Script good cut = (old.ledger, good, cut_begins fault old new s cut)
-  cut_in_part (Requests kind csv together) good (reads, cut) = (reads, replies_in_part together good cut)
-  cut_in_part (Sheet shown) good (reads, same, inl (is, nothing)) = (reads, inl nothing)
-  cut_in_part (Sheet shown) good (reads, same, inr (is, begun)) = (reads, inr (old.ledger, good, begun))
-  cut_in_part (Serve service) good (reads, inl (why, begun, same)) = (reads, begun)
-  cut_in_part (Serve service) good (reads, inr (why, told, some)) = (reads, port_whole s.writer_old s.writer_new told)
+  pub cut_in_part : (work : Work) → Good old.ledger → old.is_stopped ≡ false → WorkCut work fault old new s → DoesWorkInPart work s
+  cut_in_part Script good going cut = (old.ledger, good, cut_begins fault old new s good going cut)
+  cut_in_part (Requests kind csv together) good going (reads, cut) = (reads, replies_in_part together good cut)
+  cut_in_part (Sheet of) good going (reads, same, inl (is, nothing)) = (reads, inl nothing)
+  cut_in_part (Sheet of) good going (reads, same, inr (is, begun)) = (reads, inr (old.ledger, good, begun))
+  cut_in_part (Serve service) good going (reads, inl (why, begun, same)) = (reads, begun)
+  cut_in_part (Serve service) good going (reads, inr (why, told, some)) = (reads, port_whole s.writer_old s.writer_new told)
 
   -- a fault of something that was not begun leaves all untouched
   pub cut_untouched : (work : Work) → WorkCut work fault old new s → IsUnbegun fault → IsSilent s
   cut_untouched Script (cause, told, ends) un = absurd (told_begun cause fault told un)
   cut_untouched (Requests kind csv together) (reads, inl (unread, same, kept)) un = (reads, kept)
   cut_untouched (Requests kind csv together) (reads, inr (requests, (cause, told, cut))) un = absurd (told_begun cause fault told un)
-  cut_untouched (Sheet shown) (reads, same, inl (is, nothing)) un = absurd (not_unbegun fault _ is refl un)
-  cut_untouched (Sheet shown) (reads, same, inr (is, begun)) un = absurd (not_unbegun fault _ is refl un)
+  cut_untouched (Sheet of) (reads, same, inl (is, nothing)) un = absurd (not_unbegun fault _ is refl un)
+  cut_untouched (Sheet of) (reads, same, inr (is, begun)) un = absurd (not_unbegun fault _ is refl un)
   cut_untouched (Serve service) (reads, inl (inl is, begun, same)) un = absurd (not_unbegun fault _ is refl un)
   cut_untouched (Serve service) (reads, inl (inr (inl is), begun, same)) un = absurd (not_unbegun fault _ is refl un)
   cut_untouched (Serve service) (reads, inl (inr (inr is), begun, same)) un = absurd (not_unbegun fault _ is refl un)
@@ -127,17 +95,17 @@ module _ (fault : Fault) (old new : DeskState) (s : Streams) where
 
 module _ {K : Type 0} (on : Session K) (s : Streams) where
   pub works_whole : (work : Work) → WorkWhole on work s → DoesWork work s
-  works_whole Script all = (all.on.first.ledger, all.on.last, all.on.good, all.on.done.told)
+  works_whole Script all = (all.on.first.ledger, all.on.good, (all.on.last, text_written (desk_state on.ghosts all.on.first) (desk_left on all.on.last) s all.on.done))
   works_whole (Requests kind csv together) all = (all.on.done.0, (all.on.first.ledger, all.on.last, all.on.done.1.0, all.on.good, all.on.done.1.1))
-  works_whole (Sheet shown) all = (all.on.done.0, (all.on.first.ledger, all.on.good, all.on.done.2))
+  works_whole (Sheet of) all = (all.on.done.0, (all.on.first.ledger, all.on.good, all.on.done.2))
   works_whole (Serve service) all = (all.on.done.0, all.on.done.1)
 
   module _ (work : Work) (fault : Fault) where
     pub works_in_part : WorkInPart on work fault s → DoesWorkInPart work s
     works_in_part (inl (refused, silent)) = works_nothing work s silent
-    works_in_part (inr cut) = cut_in_part fault (desk_state on.ghosts cut.on.first) (left_at on cut.on.last) s work cut.on.good cut.on.done
+    works_in_part (inr cut) = cut_in_part fault (desk_state on.ghosts cut.on.first) (desk_left on cut.on.last) s work cut.on.good cut.on.began cut.on.done
 
     -- where nothing is begun, nothing is read or written
     pub works_untouched : WorkInPart on work fault s → IsUnbegun fault → IsSilent s
     works_untouched (inl (refused, silent)) un = silent
-    works_untouched (inr cut) un = cut_untouched fault (desk_state on.ghosts cut.on.first) (left_at on cut.on.last) s work cut.on.done un
+    works_untouched (inr cut) un = cut_untouched fault (desk_state on.ghosts cut.on.first) (desk_left on cut.on.last) s work cut.on.done un

@@ -10,12 +10,14 @@ use Rattle.words.specs.declared.command.Request.{Request}
 use Rattle.words.specs.declared.item.Item.{Item}
 use Rattle.stockdesk.specs.Connections.{PortBegun, PortTold}
 use Rattle.stockdesk.specs.Requests.{RequestsAnswered}
-use Rattle.stockdesk.specs.Runs.{BeginsText, PlaysInPart, PlaysWhole, RunsWhole}
+use Rattle.stockdesk.specs.Runs.{AnswersText, BeginsText}
 use Rattle.stockdesk.specs.Sheets.{SheetBegun, SheetWritten}
 use Rattle.stockdesk.specs.Tasks.{Asks, stockdesk}
-use Rattle.stockdesk.specs.declared.sheet.Shown.{Shown}
+use Rattle.stockdesk.specs.declared.sheet.SheetOf.{SheetOf}
 use Rattle.stockdesk.specs.declared.tasks.Task.{Task}
+use Rattle.stockdesk.specs.declared.tasks.Task.TheVariants.{InFile, InMemory, Init, Upgrade}
 use Rattle.stockdesk.specs.declared.work.Work.{Work}
+use Rattle.stockdesk.specs.declared.work.Work.TheVariants.{Requests, Script, Serve, Sheet}
 
 -- ---- replies to requests
 
@@ -41,49 +43,45 @@ pub record PrintsRepliesInPart (s : Streams) : Type 0 where
 -- ---- sheets
 
 -- the sheet of some good ledger was written
-abbrev pub PrintsSheet : Shown → Streams → Type 0
-PrintsSheet shown s = (A : Ledger) × Good A × SheetWritten shown A s.writer_old s.writer_new
+abbrev pub PrintsSheet : SheetOf → Streams → Type 0
+PrintsSheet of s = (A : Ledger) × Good A × SheetWritten of A s.writer_old s.writer_new
 
 -- nothing, or a beginning of the sheet of some good ledger was written
-abbrev pub PrintsSheetInPart : Shown → Streams → Type 0
-PrintsSheetInPart shown s = Appends s.writer_old s.writer_new []
-    ⊎ ((A : Ledger) × Good A × SheetBegun shown A s.writer_old s.writer_new)
+abbrev pub PrintsSheetInPart : SheetOf → Streams → Type 0
+PrintsSheetInPart of s = Appends s.writer_old s.writer_new []
+    ⊎ ((A : Ledger) × Good A × SheetBegun of A s.writer_old s.writer_new)
 
 -- ---- work on the desk of some good ledger
 
 -- the work is done
 abbrev pub DoesWork : Work → Streams → Type 0
-DoesWork Work.Script s = PlaysWhole s
-DoesWork (Work.Requests kind csv together) s = Keeps s.reader_old s.reader_new × PrintsReplies s
-DoesWork (Work.Sheet shown) s = Keeps s.reader_old s.reader_new × PrintsSheet shown s
-DoesWork (Work.Serve service) s = Keeps s.reader_old s.reader_new × PortTold s.writer_old s.writer_new
+DoesWork Script s = (first : Ledger) × Good first × AnswersText first s
+DoesWork (Requests kind csv together) s = Keeps s.reader_old s.reader_new × PrintsReplies s
+DoesWork (Sheet of) s = Keeps s.reader_old s.reader_new × PrintsSheet of s
+DoesWork (Serve service) s = Keeps s.reader_old s.reader_new × PortTold s.writer_old s.writer_new
 
 -- the work is done in part: what was written is a beginning
 abbrev pub DoesWorkInPart : Work → Streams → Type 0
-DoesWorkInPart Work.Script s = PlaysInPart s
-DoesWorkInPart (Work.Requests kind csv together) s = Keeps s.reader_old s.reader_new × PrintsRepliesInPart s
-DoesWorkInPart (Work.Sheet shown) s = Keeps s.reader_old s.reader_new × PrintsSheetInPart shown s
-DoesWorkInPart (Work.Serve service) s = Keeps s.reader_old s.reader_new × PortBegun s.writer_old s.writer_new
+DoesWorkInPart Script s = (first : Ledger) × Good first × BeginsText first s
+DoesWorkInPart (Requests kind csv together) s = Keeps s.reader_old s.reader_new × PrintsRepliesInPart s
+DoesWorkInPart (Sheet of) s = Keeps s.reader_old s.reader_new × PrintsSheetInPart of s
+DoesWorkInPart (Serve service) s = Keeps s.reader_old s.reader_new × PortBegun s.writer_old s.writer_new
 
 -- ---- tasks
 
--- by what is done: on a file alone, on a desk in memory, or as work on the desk in a file
-abbrev pub ByTask : Task → (on_file in_memory : Type 0) → (Work → Type 0) → Type 0
-ByTask (Task.Init path) on_file in_memory work = on_file
-ByTask Task.Memory on_file in_memory work = in_memory
-ByTask (Task.Script path) on_file in_memory work = work Work.Script
-ByTask (Task.Requests path kind csv together) on_file in_memory work = work (Work.Requests kind csv together)
-ByTask (Task.Sheet path shown) on_file in_memory work = work (Work.Sheet shown)
-ByTask (Task.Serve path service) on_file in_memory work = work (Work.Serve service)
-ByTask (Task.Upgrade path) on_file in_memory work = on_file
-
 -- the task is done
 abbrev pub Does : Task → Streams → Type 0
-Does task s = ByTask task (IsSilent s) (RunsWhole s) (λ work. DoesWork work s)
+Does (Init path) s = IsSilent s
+Does (Upgrade path) s = IsSilent s
+Does InMemory s = AnswersText new_ledger s
+Does (InFile path work) s = DoesWork work s
 
 -- the task is done in part: what was written is a beginning
 abbrev pub DoesInPart : Task → Streams → Type 0
-DoesInPart task s = ByTask task (IsSilent s) (BeginsText new_ledger s) (λ work. DoesWorkInPart work s)
+DoesInPart (Init path) s = IsSilent s
+DoesInPart (Upgrade path) s = IsSilent s
+DoesInPart InMemory s = BeginsText new_ledger s
+DoesInPart (InFile path work) s = DoesWorkInPart work s
 
 -- the words ask for a task, and it is done
 abbrev pub DoesAsked : List Text → Streams → Type 0

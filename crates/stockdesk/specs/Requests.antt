@@ -1,15 +1,14 @@
 -- What a desk does with a file of requests.
-use Rattle.std.specs.Prelude.{◌≡◌, ◌⊎◌, ◌↔◌, ◌++◌, ℕ, List, MatchOption, None, Option, Some}
-use Rattle.std.specs.Int.NonZero.{non_zero_usize_get}
+use Rattle.std.specs.Prelude.{◌≡◌, ◌⊎◌, ◌↔◌, ◌++◌, ℕ, List, Option}
 use Rattle.std.specs.declared.num.NonZeroUsize.{NonZeroUsize}
 use Rattle.std.specs.Io.KnownBytes.{Appends, Keeps}
 use Rattle.book.specs.Ledger.{Ledger}
 use Rattle.words.specs.declared.command.Request.{Request}
 use Rattle.desk.specs.Desk.{DeskState}
-use Rattle.desk.specs.Script.{IsCut, Writes, WritesLines}
+use Rattle.desk.specs.Lists.{IsCutInLists, most_together}
+use Rattle.desk.specs.Script.{WritesLines}
 use Rattle.desk.specs.Streams.{Streams}
 use Rattle.desk.specs.Text.{items_of}
-use Rattle.desk.specs.Together.{IsCutTogether}
 use Rattle.files.specs.Bounds.{SayBounds, bounds_header}
 use Rattle.files.specs.Deliveries.{SayDeliveries, delivery_header}
 use Rattle.files.specs.Files.{IsFile, NamesFirst}
@@ -46,21 +45,13 @@ pub record IsFileFault (cause : FileFault) (fault : Fault) : Type 0 where
 abbrev pub RequestsAnswered : List Request → Ledger → Ledger → Streams → Type 0
 RequestsAnswered requests first last s = WritesLines first (items_of requests) last s.writer_old s.writer_new
 
--- how many are carried out together, where that is asked for; else each is alone
-abbrev pub most_together : Option NonZeroUsize → ℕ
-most_together None = 1
-most_together (Some most) = non_zero_usize_get most
-
 -- the file was not read, and nothing is done or written
 abbrev pub FileUnread : Fault → (old new : DeskState) → Streams → Type 0
 FileUnread fault old new s = ((fault ≡ Fault.Memory) ⊎ IsBadFile fault) × (new.ledger ≡ old.ledger)
     × Keeps s.writer_old s.writer_new
 
--- the file was not read, and nothing is done; or some requests were read, and the answers to them are cut, one after the
--- other or so many together
+-- the file was not read, and nothing is done; or some requests were read, and the answers to them are cut
 abbrev pub FileCut : Option NonZeroUsize → Fault → (old new : DeskState) → Streams → Type 0
 FileCut together fault old new s = FileUnread fault old new s ⊎ ((requests : List Request) × IsCutAs fault (λ cause.
-    MatchOption together
-    (Writes s.writer_old s.writer_new (λ written. IsCut cause old (items_of requests) written new))
-    (λ most. (cut : IsCutTogether cause (non_zero_usize_get most) old requests new)
-    × Appends s.writer_old s.writer_new (cut.lines ++ cut.begun))))
+    (cut : IsCutInLists cause (most_together together) old requests new)
+    × Appends s.writer_old s.writer_new (cut.lines ++ cut.begun)))

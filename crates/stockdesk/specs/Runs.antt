@@ -1,11 +1,12 @@
--- What a run reads and writes, where the reader and the writer tell their bytes.
+-- What a script reads and writes on a desk of some ledger, where the reader and the writer tell their bytes.
 use Rattle.std.specs.Prelude.{ℕ, List, [], ◌++◌, Option, Some}
 use Rattle.std.specs.Io.KnownBytes.{Appends, Consumes}
 use Rattle.words.specs.Stream.{Feeds}
 use Rattle.words.specs.declared.item.Item.{Item}
-use Rattle.book.specs.Good.{Good}
-use Rattle.book.specs.Ledger.{Ledger, new_ledger}
-use Rattle.desk.specs.Script.{IsPrompt, WritesText}
+use Rattle.book.specs.Ledger.{Ledger}
+use Rattle.desk.specs.Desk.{going_at}
+use Rattle.desk.specs.Dialogue.{IsPrompt}
+use Rattle.desk.specs.Script.{WritesText, lines}
 use Rattle.desk.specs.Streams.{Streams}
 use Rattle.desk.specs.Text.{IsText, RepliesAll}
 
@@ -19,10 +20,10 @@ pub record BeginsText (first : Ledger) (s : Streams) : Type 0 where
   pub reads : Consumes s.reader_old s.reader_new read
   pub writes : Appends s.writer_old s.writer_new written
   pub text : IsText first read (written ++ unwritten) last
-  pub prompt : IsPrompt first read written
+  pub prompt : IsPrompt lines (going_at first) read written
 
 -- some of it was read, and what was written is the answer to every line that ended in that
-pub record RunsSoFar (first : Ledger) (s : Streams) : Type 0 where
+pub record AnswersLines (first : Ledger) (s : Streams) : Type 0 where
   pub read : List ℕ
   pub written : List ℕ
   pub ended : List Item
@@ -33,14 +34,6 @@ pub record RunsSoFar (first : Ledger) (s : Streams) : Type 0 where
   pub feeds : Feeds (Some []) read ended rest
   pub replies : RepliesAll first ended written ledger
 
--- all that was there was read, and what a new desk answers was written
-abbrev pub RunsWhole : Streams → Type 0
-RunsWhole s = (last : Ledger) × WritesText new_ledger last s
-
--- all that was there was read, and what the desk of some good ledger answers was written
-abbrev pub PlaysWhole : Streams → Type 0
-PlaysWhole s = (first : Ledger) × (last : Ledger) × Good first × WritesText first last s
-
--- some of it was read, and a beginning was written of what the desk of some good ledger answers
-abbrev pub PlaysInPart : Streams → Type 0
-PlaysInPart s = (first : Ledger) × Good first × BeginsText first s
+-- all that was there was read, and the text for that from this ledger on was written
+abbrev pub AnswersText : Ledger → Streams → Type 0
+AnswersText first s = (last : Ledger) × WritesText first last s

@@ -7,7 +7,8 @@ use Rattle.keep.specs.Content.{IsDesk, new_content}
 use Rattle.keep.specs.declared.keep.Keep.{Ghosts}
 use Rattle.desk.specs.Desk.{DeskState, DeskView, IsStored, desk_state}
 use Rattle.desk.specs.Opening.{IsLeft}
-use Rattle.desk.specs.Script.{EndsCut}
+use Rattle.desk.specs.Dialogue.{EndsCut}
+use Rattle.desk.specs.Script.{lines}
 use Rattle.desk.specs.Streams.{Streams}
 use Rattle.desk.specs.declared.fault.OpenFault.{OpenFault}
 use Rattle.desk.specs.declared.fault.ScriptFault.{ScriptFault}
@@ -22,7 +23,7 @@ pub record IsNewDesk {K : Type 0} (g : Ghosts K) (keep : K) : Type 0 where
   pub alone : g.is_honest keep → g.leaves keep (new_content ∷ [])
 
 -- it goes on, and if the disk is honest it holds what was there, which alone a stop leaves
-pub record OpensWith {K : Type 0} (g : Ghosts K) (was : Content → Type 0) (keep : K) : Type 0 where
+pub record HoldsOnly {K : Type 0} (g : Ghosts K) (was : Content → Type 0) (keep : K) : Type 0 where
   pub going : g.stopped keep ≡ false
   pub held : g.is_honest keep → (x : Content) → was x → g.holds keep x
   pub alone : g.is_honest keep → (x : Content) → was x → g.leaves keep (x ∷ [])
@@ -92,22 +93,22 @@ abbrev pub session_in : {K : Type 0} → Ghosts K → (was : Content → Type 0)
 session_in g was keep = record { ghosts = g; keep = keep; held = was; tables = was; is_left = StillHolds g was keep }
 
 -- a desk at that ledger, over the keeper that is left
-abbrev pub left_at : {K : Type 0} → Session K → Ledger → DeskState
-left_at s A = desk_state s.ghosts (record { ledger = A; keep = s.keep })
+abbrev pub desk_left : {K : Type 0} → Session K → Ledger → DeskState
+desk_left s A = desk_state s.ghosts (record { ledger = A; keep = s.keep })
 
 -- the desk whose rows were held was opened, and so much was done on it
-pub record IsBegun {K : Type 0} (s : Session K) (Done : DeskState → DeskState → Type 0) : Type 0 where
+pub record OpensAndDoes {K : Type 0} (s : Session K) (Done : DeskState → DeskState → Type 0) : Type 0 where
   pub first : DeskView K
   pub last : Ledger
   pub began : s.ghosts.stopped first.keep ≡ false
   pub good : Good first.ledger
   pub rows : s.ghosts.is_honest s.keep → (x : Content) → s.held x → IsRowsOf first.ledger x
-  pub done : Done (desk_state s.ghosts first) (left_at s last)
+  pub done : Done (desk_state s.ghosts first) (desk_left s last)
 
 -- All was done on it. The keeper goes on; if the disk is honest, it keeps the rows of the last ledger, and a stop leaves
 -- these alone.
 pub record SessionWhole {K : Type 0} (s : Session K) (AllDone : DeskState → DeskState → Type 0) : Type 0 where
-  pub on : IsBegun s AllDone
+  pub on : OpensAndDoes s AllDone
   pub going : s.ghosts.stopped s.keep ≡ false
   pub kept : s.ghosts.is_honest s.keep → IsStored (s.ghosts.holds s.keep) (s.ghosts.leaves s.keep) on.last
 
@@ -127,7 +128,7 @@ pub record SessionRefused {K : Type 0} (s : Session K) (fault : Fault) : Type 0 
 -- honest it keeps the rows of the last ledger, which alone a stop leaves.
 pub record SessionCut {K : Type 0} (s : Session K) (fault : Fault) (PartDone : DeskState → DeskState → Type 0)
     : Type 0 where
-  pub on : IsBegun s PartDone
+  pub on : OpensAndDoes s PartDone
   pub desk : ¬ IsNoDesk fault
   pub stopped : fault ≡ Fault.Store → IsTrue (s.ghosts.stopped s.keep)
   pub going : fault ≢ Fault.Store → s.ghosts.stopped s.keep ≡ false
@@ -147,4 +148,4 @@ IsCutAs fault Cut = (cause : ScriptFault) × IsToldAs cause fault × Cut cause
 
 -- the script was cut
 abbrev pub ScriptCut : Fault → (old new : DeskState) → Streams → Type 0
-ScriptCut fault old new s = IsCutAs fault (λ cause. EndsCut cause old new s)
+ScriptCut fault old new s = IsCutAs fault (λ cause. EndsCut lines cause old new s)

@@ -4,27 +4,27 @@ use Rattle.std.specs.Io.KnownBytes.{Appends}
 use Rattle.book.specs.Ledger.{Ledger}
 use Rattle.files.specs.Sheets.{IsArticleSheet, IsBranchSheet}
 use Rattle.stockdesk.specs.declared.session.Fault.{Fault}
-use Rattle.stockdesk.specs.declared.sheet.Shown.{Shown}
-use Rattle.stockdesk.specs.declared.sheet.Shown.TheVariants.{OfArticle, OfBranch}
+use Rattle.stockdesk.specs.declared.sheet.SheetOf.{SheetOf}
+use Rattle.stockdesk.specs.declared.sheet.SheetOf.TheVariants.{Article, Branch}
 
 -- the text is the sheet of that branch or article
-abbrev pub IsSheetOf : Shown → Ledger → List ℕ → Type 0
-IsSheetOf (OfBranch branch) A text = IsBranchSheet A branch text
-IsSheetOf (OfArticle article) A text = IsArticleSheet A article text
+abbrev pub IsSheet : SheetOf → Ledger → List ℕ → Type 0
+IsSheet (Branch branch) A text = IsBranchSheet A branch text
+IsSheet (Article article) A text = IsArticleSheet A article text
 
 -- the sheet of the ledger was written
-abbrev pub SheetWritten : Shown → Ledger → (writer_old writer_new : Option (List ℕ)) → Type 0
-SheetWritten shown A writer_old writer_new =
-    (text : List ℕ) × IsSheetOf shown A text × Appends writer_old writer_new text
+abbrev pub SheetWritten : SheetOf → Ledger → (writer_old writer_new : Option (List ℕ)) → Type 0
+SheetWritten of A writer_old writer_new =
+    (text : List ℕ) × IsSheet of A text × Appends writer_old writer_new text
 
 -- a beginning of the sheet of the ledger was written
-abbrev pub SheetBegun : Shown → Ledger → (writer_old writer_new : Option (List ℕ)) → Type 0
-SheetBegun shown A writer_old writer_new =
-    (text : List ℕ) × (count : ℕ) × IsSheetOf shown A text × (count ≤ length text)
+abbrev pub SheetBegun : SheetOf → Ledger → (writer_old writer_new : Option (List ℕ)) → Type 0
+SheetBegun of A writer_old writer_new =
+    (text : List ℕ) × (count : ℕ) × IsSheet of A text × (count ≤ length text)
     × Appends writer_old writer_new (take count text)
 
 -- memory was refused, and nothing written; or a write failed, and a beginning was written
-abbrev pub SheetCut : Shown → Fault → Ledger → (writer_old writer_new : Option (List ℕ)) → Type 0
-SheetCut shown fault A writer_old writer_new =
+abbrev pub SheetCut : SheetOf → Fault → Ledger → (writer_old writer_new : Option (List ℕ)) → Type 0
+SheetCut of fault A writer_old writer_new =
     ((fault ≡ Fault.Memory) × Appends writer_old writer_new []) ⊎ ((fault ≡ Fault.Write)
-    × SheetBegun shown A writer_old writer_new)
+    × SheetBegun of A writer_old writer_new)

@@ -5,9 +5,11 @@ use Rattle.std.specs.declared.num.NonZeroUsize.{NonZeroUsize}
 use Rattle.clap.specs.Words.{App, Row, Rule, Text, first_of, new_app, new_rule, with_rule, with_subcommand}
 use Rattle.clap.specs.declared.builder.action.ArgAction.TheVariants.{Set}
 use Rattle.stockdesk.specs.declared.loopback.Service.{Service}
-use Rattle.stockdesk.specs.declared.sheet.Shown.TheVariants.{OfArticle, OfBranch}
+use Rattle.stockdesk.specs.declared.sheet.SheetOf.TheVariants.{Article, Branch}
 use Rattle.stockdesk.specs.declared.tasks.Task.{Task}
-use Rattle.stockdesk.specs.declared.tasks.Task.TheVariants.{Init, Memory, Requests, Script, Serve, Sheet, Upgrade}
+use Rattle.stockdesk.specs.declared.tasks.Task.TheVariants.{InFile, InMemory, Init, Upgrade}
+use Rattle.stockdesk.specs.declared.work.Work.{Work}
+use Rattle.stockdesk.specs.declared.work.Work.TheVariants.{Requests, Script, Serve, Sheet}
 use Rattle.stockdesk.specs.declared.requests.Kind.{Kind}
 use Rattle.stockdesk.specs.declared.requests.Kind.TheVariants.{Bounds, Deliveries, Orders}
 
@@ -106,22 +108,25 @@ AsksTogether None together = together ≡ None
 AsksTogether (Some word) together = (most : NonZeroUsize) × (together ≡ Some most)
     × (word ≡ decimal (non_zero_usize_get most)) × (non_zero_usize_get most ≤ 1000)
 
+-- a command, and what was found behind it beside the file of a desk, ask for this work
+abbrev pub AsksForWork : Text → List Row → Work → Type 0
+AsksForWork name rows Script = name ≡ codes "run"
+AsksForWork name rows (Requests kind csv together) = (name ≡ command_of kind)
+    × (first_of (codes "CSV") rows ≡ Some csv.now) × AsksTogether (first_of (codes "together") rows) together
+AsksForWork name rows (Sheet (Branch branch)) =
+    (name ≡ codes "sheet") × (first_of (codes "BRANCH") rows ≡ Some branch)
+AsksForWork name rows (Sheet (Article article)) =
+    (name ≡ codes "article") × (first_of (codes "ARTICLE") rows ≡ Some article)
+AsksForWork name rows (Serve service) = (name ≡ codes "serve") × ((port : Text) × (connections : Text)
+    × (first_of (codes "port") rows ≡ Some port) × (first_of (codes "connections") rows ≡ Some connections)
+    × IsService port connections service)
+
 -- the first word behind the program's name, and what was found behind it, ask for this task
 abbrev pub AsksFor : Text → List Row → Task → Type 0
 AsksFor name rows (Init path) = (name ≡ codes "init") × (first_of (codes "FILE") rows ≡ Some path.now)
-AsksFor name rows Memory = (name ≡ codes "run") × (first_of (codes "FILE") rows ≡ None)
-AsksFor name rows (Script path) = (name ≡ codes "run") × (first_of (codes "FILE") rows ≡ Some path.now)
-AsksFor name rows (Requests path kind csv together) = (name ≡ command_of kind)
-    × (first_of (codes "FILE") rows ≡ Some path.now) × (first_of (codes "CSV") rows ≡ Some csv.now)
-    × AsksTogether (first_of (codes "together") rows) together
-AsksFor name rows (Sheet path (OfBranch branch)) = (name ≡ codes "sheet")
-    × (first_of (codes "FILE") rows ≡ Some path.now) × (first_of (codes "BRANCH") rows ≡ Some branch)
-AsksFor name rows (Sheet path (OfArticle article)) = (name ≡ codes "article")
-    × (first_of (codes "FILE") rows ≡ Some path.now) × (first_of (codes "ARTICLE") rows ≡ Some article)
-AsksFor name rows (Serve path service) = (name ≡ codes "serve") × (first_of (codes "FILE") rows ≡ Some path.now)
-    × ((port : Text) × (connections : Text) × (first_of (codes "port") rows ≡ Some port)
-    × (first_of (codes "connections") rows ≡ Some connections) × IsService port connections service)
 AsksFor name rows (Upgrade path) = (name ≡ codes "upgrade") × (first_of (codes "FILE") rows ≡ Some path.now)
+AsksFor name rows InMemory = (name ≡ codes "run") × (first_of (codes "FILE") rows ≡ None)
+AsksFor name rows (InFile path work) = (first_of (codes "FILE") rows ≡ Some path.now) × AsksForWork name rows work
 
 -- what was found of the words asks for this task
 abbrev pub Asks : Option (Text × List Row) → Task → Type 0

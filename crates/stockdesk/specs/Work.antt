@@ -4,13 +4,15 @@ use Rattle.std.specs.Io.KnownBytes.{Keeps}
 use Rattle.book.specs.Ledger.{Ledger}
 use Rattle.desk.specs.Desk.{DeskState}
 use Rattle.desk.specs.Headline.{IsFoundAfterItems, IsFoundAfterLines, LeavesRowsOf}
-use Rattle.desk.specs.Script.{EndsWhole, Writes}
+use Rattle.desk.specs.Lists.{most_together}
+use Rattle.desk.specs.Dialogue.{EndsWhole}
+use Rattle.desk.specs.Script.{Writes, lines}
 use Rattle.desk.specs.Streams.{IsSilent, Streams}
 use Rattle.desk.specs.Text.{items_of}
 use Rattle.words.specs.declared.command.Request.{Request}
 use Rattle.stockdesk.specs.Connections.{IsFoundAfterService, PortTold, ServesAll, ServiceCut}
-use Rattle.stockdesk.specs.Requests.{FileCut, RequestsAnswered, most_together}
-use Rattle.stockdesk.specs.Sessions.{IsNoDesk, ScriptCut, Session, SessionInPart, SessionWhole, left_at}
+use Rattle.stockdesk.specs.Requests.{FileCut, RequestsAnswered}
+use Rattle.stockdesk.specs.Sessions.{IsNoDesk, ScriptCut, Session, SessionInPart, SessionWhole, desk_left}
 use Rattle.stockdesk.specs.Sheets.{SheetCut, SheetWritten}
 use Rattle.stockdesk.specs.declared.session.Fault.{Fault}
 use Rattle.stockdesk.specs.declared.work.Work.{Work}
@@ -22,11 +24,11 @@ use Rattle.stockdesk.specs.declared.work.Work.TheVariants.{Requests, Script, Ser
 -- some requests are answered; the sheet was written, and the ledger is as it was; the port was told, and so many
 -- connections were served.
 abbrev pub WorkDone : Work → (old new : DeskState) → Streams → Type 0
-WorkDone Script old new s = EndsWhole old new s
+WorkDone Script old new s = EndsWhole lines old new s
 WorkDone (Requests kind csv together) old new s =
     Keeps s.reader_old s.reader_new × ((requests : List Request) × RequestsAnswered requests old.ledger new.ledger s)
-WorkDone (Sheet shown) old new s = Keeps s.reader_old s.reader_new × (new.ledger ≡ old.ledger)
-    × SheetWritten shown old.ledger s.writer_old s.writer_new
+WorkDone (Sheet of) old new s = Keeps s.reader_old s.reader_new × (new.ledger ≡ old.ledger)
+    × SheetWritten of old.ledger s.writer_old s.writer_new
 WorkDone (Serve service) old new s = Keeps s.reader_old s.reader_new × PortTold s.writer_old s.writer_new
     × ServesAll service.connections old new
 
@@ -35,8 +37,8 @@ abbrev pub WorkCut : Work → Fault → (old new : DeskState) → Streams → Ty
 WorkCut Script fault old new s = ScriptCut fault old new s
 WorkCut (Requests kind csv together) fault old new s =
     Keeps s.reader_old s.reader_new × FileCut together fault old new s
-WorkCut (Sheet shown) fault old new s = Keeps s.reader_old s.reader_new × (new.ledger ≡ old.ledger)
-    × SheetCut shown fault old.ledger s.writer_old s.writer_new
+WorkCut (Sheet of) fault old new s = Keeps s.reader_old s.reader_new × (new.ledger ≡ old.ledger)
+    × SheetCut of fault old.ledger s.writer_old s.writer_new
 WorkCut (Serve service) fault old new s =
     Keeps s.reader_old s.reader_new × ServiceCut fault service.connections old new s
 
@@ -58,7 +60,7 @@ IsFoundAfterWork Script first s B = IsFoundAfterLines first.ledger s B
 IsFoundAfterWork (Requests kind csv together) first s B =
     (requests : List Request) × Writes s.writer_old s.writer_new
     (λ written. IsFoundAfterItems (most_together together) first.ledger (items_of requests) written B)
-IsFoundAfterWork (Sheet shown) first s B = B ≡ first.ledger
+IsFoundAfterWork (Sheet of) first s B = B ≡ first.ledger
 IsFoundAfterWork (Serve service) first s B = IsFoundAfterService service.connections first B
 
 -- A session on the rows of the ledger A opens its desk, or fails for memory or by the store; and a stop leaves nothing
@@ -66,4 +68,4 @@ IsFoundAfterWork (Serve service) first s B = IsFoundAfterService service.connect
 pub record GoesOnFrom {K : Type 0} (on : Session K) (work : Work) (ended : Result (Unit {0}) Fault) (A : Ledger)
     (s : Streams) : Type 0 where
   pub opens : IfErr ended (λ fault. ¬ IsNoDesk fault)
-  pub leaves : LeavesRowsOf (on.ghosts.leaves on.keep) (IsFoundAfterWork work (left_at on A) s)
+  pub leaves : LeavesRowsOf (on.ghosts.leaves on.keep) (IsFoundAfterWork work (desk_left on A) s)

@@ -13,7 +13,7 @@ ghost use Rattle.keep.specs.Content.{Holds, HoldsOf, IsContent, LeavesOnly};
 ghost use Rattle.keep.specs.Description.{IsOlder};
 ghost use Rattle.keep.specs.Old.{HoldsOld, IsOldContent, upgraded};
 ghost use Rattle.keep.specs.Starts.{StartsOf, StartsOld, StartsWith};
-ghost use Rattle.stockdesk.specs.Sessions.{IsNewDesk, IsNotOpened, OpensWith, session_in};
+ghost use Rattle.stockdesk.specs.Sessions.{IsNewDesk, IsNotOpened, HoldsOnly, session_in};
 ghost use Rattle.stockdesk.specs.Work.{GoesOnFrom, WorkInPart, WorkWhole};
 
 use crate::new_desk::new_desk;
@@ -26,14 +26,16 @@ use sqlite_disk::Disk;
 use std::fs;
 use std::io::{ErrorKind, Read, Write};
 
+/// The keeper of what a file holds, whose bytes are named by `S`.
+pub type FileKeep<S> = SqlKeep<FileStore<FileFrom<S>>>;
+
 /// What lies at a path.
 #[derive(Clone, Copy)]
 enum Found {
     /// No file, or one without bytes.
     Nothing,
-    Directory,
-    /// A file of one byte, which `sqlite` would take for one half made.
-    OneByte,
+    /// A directory, or a file of one byte, which `sqlite` would take for one half made.
+    NoStore,
     File,
 }
 
@@ -42,25 +44,28 @@ fn look(rt: &HostRuntime, path: &str) -> Result<Found, Fault>
     ensures { IfErr result (λ fault. fault ≡ Fault.Store) }
 {
     match fs::metadata(rt, path) {
-        Ok(found) if found.is_dir() => Ok(Found::Directory),
-        Ok(found) => match found.len() {
-            0 => Ok(Found::Nothing),
-            1 => Ok(Found::OneByte),
-            _ => Ok(Found::File),
-        },
+        Ok(found) if found.is_dir() || found.len() == 1 => Ok(Found::NoStore),
+        Ok(found) if found.len() == 0 => Ok(Found::Nothing),
+        Ok(_) => Ok(Found::File),
         Err(error) if error.kind() == ErrorKind::NotFound => Ok(Found::Nothing),
         Err(_) => Err(Fault::Store),
     }
 }
 
-/// The fault that an error of an opening is told as.
-fn store_fault(error: Error) -> Fault
-    ensures memory { result ≡ Fault.Memory ↔ error ≡ Error.SqliteFailure ErrorCode.OutOfMemory }
-    ensures store { (result ≡ Fault.Memory) ⊎ (result ≡ Fault.Store) }
-{
-    match error {
-        Error::SqliteFailure(ErrorCode::OutOfMemory) => Fault::Memory,
-        _ => Fault::Store,
+impl From<Error> for Fault {
+    ghost use Rattle.std.specs.Prelude.{◌≡◌, ◌⊎◌, ◌↔◌};
+    ghost use Rattle.sqlite.specs.declared.error.Error.{Error};
+    ghost use Rattle.sqlite.specs.declared.error.ErrorCode.{ErrorCode};
+    ghost use Rattle.stockdesk.specs.declared.session.Fault.{Fault};
+
+    ghost from_gives = { λ cause fault. (fault ≡ Fault.Memory ↔ cause ≡ Error.SqliteFailure ErrorCode.OutOfMemory)
+        × ((fault ≡ Fault.Memory) ⊎ (fault ≡ Fault.Store)) };
+
+    fn from(cause: Error) -> Fault {
+        match cause {
+            Error::SqliteFailure(ErrorCode::OutOfMemory) => Fault::Memory,
+            _ => Fault::Store,
+        }
     }
 }
 
@@ -78,7 +83,7 @@ pub fn close<D: Disk + Drop>(keep: SqlKeep<FileStore<D>>) {
 }
 
 /// Makes a new desk over the connection. Where that fails its files are closed.
-fn make_over<D: Disk + Drop>(conn: Connection<FileStore<D>>) -> Result<SqlKeep<FileStore<D>>, Fault>
+fn init_over<D: Disk + Drop>(conn: Connection<FileStore<D>>) -> Result<SqlKeep<FileStore<D>>, Fault>
     requires { conn.in_transaction ≡ false }
     ensures made { IfOk result (IsNewDesk ⟦<SqlKeep<FileStore<D>> as Keep>⟧) }
     ensures fault { IfErr result (λ fault. (fault ≡ Fault.Memory) ⊎ (fault ≡ Fault.Store)) }
@@ -92,46 +97,25 @@ fn make_over<D: Disk + Drop>(conn: Connection<FileStore<D>>) -> Result<SqlKeep<F
     }
 }
 
-/// Makes a new desk in the file at the path.
-fn make<S: Start>(
-    rt: &HostRuntime,
-    path: &str,
-    start: S,
-) -> Result<SqlKeep<FileStore<FileFrom<S>>>, Fault>
-    ensures made { IfOk result (IsNewDesk ⟦<SqlKeep<FileStore<FileFrom<S>>> as Keep>⟧) }
-    ensures fault { IfErr result (λ fault. (fault ≡ Fault.Memory) ⊎ (fault ≡ Fault.Store)) }
-{
-    match Connection::open_from(rt, path, false, start) {
-        Ok(conn) => make_over(conn),
-        Err((error, _)) => Err(store_fault(error)),
-    }
-}
-
 /// Makes a new desk in a file that is not there or has no bytes, and gives its keeper. Any other file is left alone:
 /// `NotADesk`.
-pub fn init<S: Start>(
-    rt: &HostRuntime,
-    path: &str,
-    start: S,
-) -> Result<SqlKeep<FileStore<FileFrom<S>>>, Fault>
-    ensures made { IfOk result (IsNewDesk ⟦<SqlKeep<FileStore<FileFrom<S>>> as Keep>⟧) }
+pub fn init<S: Start>(rt: &HostRuntime, path: &str, start: S) -> Result<FileKeep<S>, Fault>
+    ensures made { IfOk result (IsNewDesk ⟦<FileKeep<S> as Keep>⟧) }
     ensures fault { IfErr result IsNotOpened }
 {
-    match look(rt, path)? {
-        Found::Nothing => make(rt, path, start),
-        Found::Directory | Found::OneByte | Found::File => Err(Fault::NotADesk),
+    let Found::Nothing = look(rt, path)? else {
+        return Err(Fault::NotADesk);
+    };
+    match Connection::open_from(rt, path, false, start) {
+        Ok(conn) => init_over(conn),
+        Err((error, _)) => Err(Fault::from(error)),
     }
 }
 
 /// The keeper of what the file at the path holds, whose bytes are named by `start`. A file that is not there or has no
 /// bytes is `NotADesk`, and none is made.
-pub fn open<S: Start>(
-    rt: &HostRuntime,
-    path: &str,
-    start: S,
-) -> Result<SqlKeep<FileStore<FileFrom<S>>>, Fault>
-    ensures opened { IfOk result (OpensWith ⟦<SqlKeep<FileStore<FileFrom<S>>> as Keep>⟧
-        (StartsWith (image_at S.Start))) }
+pub fn open<S: Start>(rt: &HostRuntime, path: &str, start: S) -> Result<FileKeep<S>, Fault>
+    ensures opened { IfOk result (HoldsOnly ⟦<FileKeep<S> as Keep>⟧ (StartsWith (image_at S.Start))) }
     ensures old { IfOk result (λ keep. HasCleanDisk (file_state keep.connection) → (version : ℕ) (x : Content)
         → StartsOf version (image_at S.Start) x → HoldsOf version (file_state keep.connection).now x) }
     // of whatever version, a stop leaves what is shown
@@ -141,11 +125,8 @@ pub fn open<S: Start>(
 {
     match look(rt, path)? {
         Found::Nothing => Err(Fault::NotADesk),
-        Found::Directory | Found::OneByte => Err(Fault::Store),
-        Found::File => match open_path(rt, path, start) {
-            Ok(keep) => Ok(keep),
-            Err(error) => Err(store_fault(error)),
-        },
+        Found::NoStore => Err(Fault::Store),
+        Found::File => Ok(open_path(rt, path, start)?),
     }
 }
 
@@ -159,12 +140,12 @@ pub fn session<S: Start, R: Read, W: Write>(
     work: &Work<'_>,
     reader: &mut R,
     writer: &mut W,
-) -> Result<(SqlKeep<FileStore<FileFrom<S>>>, Result<(), Fault>), Fault>
+) -> Result<(FileKeep<S>, Result<(), Fault>), Fault>
     ensures whole { IfOk result (λ r. OnOk r.1 (WorkWhole
-        (session_in ⟦<SqlKeep<FileStore<FileFrom<S>>> as Keep>⟧ (StartsWith (image_at S.Start)) r.0) work.now
+        (session_in ⟦<FileKeep<S> as Keep>⟧ (StartsWith (image_at S.Start)) r.0) work.now
         (streams (R.remaining reader.old) (R.remaining reader.new) (W.contents writer.old) (W.contents writer.new)))) }
     ensures cut { IfOk result (λ r. IfErr r.1 (λ fault. WorkInPart
-        (session_in ⟦<SqlKeep<FileStore<FileFrom<S>>> as Keep>⟧ (StartsWith (image_at S.Start)) r.0) work.now fault
+        (session_in ⟦<FileKeep<S> as Keep>⟧ (StartsWith (image_at S.Start)) r.0) work.now fault
         (streams (R.remaining reader.old) (R.remaining reader.new) (W.contents writer.old) (W.contents writer.new)))) }
     // what is of an older version is told as that, and as nothing else but want of memory or the store
     ensures old { IfOk result (λ r. HasCleanDisk (file_state r.0.connection) → (version : ℕ) (x : Content)
@@ -177,8 +158,7 @@ pub fn session<S: Start, R: Read, W: Write>(
     // what a stop leaves of it the next session goes on from
     ensures goes_on { IfOk result (λ r. HasCleanDisk (file_state r.0.connection) → (A : Ledger) (x : Content) → Good A
         → IsRowsOf A x → StartsWith (image_at S.Start) x
-        → GoesOnFrom (session_in ⟦<SqlKeep<FileStore<FileFrom<S>>> as Keep>⟧ (StartsWith (image_at S.Start)) r.0)
-        work.now r.1 A
+        → GoesOnFrom (session_in ⟦<FileKeep<S> as Keep>⟧ (StartsWith (image_at S.Start)) r.0) work.now r.1 A
         (streams (R.remaining reader.old) (R.remaining reader.new) (W.contents writer.old) (W.contents writer.new))) }
 {
     let keep = open(rt, path, start)?;
@@ -193,7 +173,7 @@ pub fn upgrade<S: Start>(
     rt: &HostRuntime,
     path: &str,
     start: S,
-) -> Result<(SqlKeep<FileStore<FileFrom<S>>>, Result<(), Fault>), Fault>
+) -> Result<(FileKeep<S>, Result<(), Fault>), Fault>
     ensures made { IfOk result (λ r. HasCleanDisk (file_state r.0.connection) → OnOk r.1 ((x : Content)
         → (StartsOld (image_at S.Start) x → Holds (file_state r.0.connection).now (upgraded x))
         × (StartsWith (image_at S.Start) x → Holds (file_state r.0.connection).now x))) }

@@ -2,10 +2,9 @@
 
 ghost use Rattle.std.specs.Prelude.{◌≡◌, ◌≤◌, ◌⊎◌, false, Err, IfErr, IfOk, List, length, OnErr, OnOk};
 ghost use Rattle.desk.specs.Desk.{Goes, TellsStop, desk_state};
-ghost use Rattle.desk.specs.Streams.{Streams, only_written, streams};
+ghost use Rattle.desk.specs.Streams.{Streams};
 ghost use Rattle.web.specs.Serving.{stand};
-ghost use Rattle.stockdesk.specs.Connections.{AreServed, IsServed, Pass, PortBegun, PortTold, ServesAll, ServiceCut, listening, listening_line};
-ghost use Rattle.stockdesk.specs.Sessions.{IsNoDesk};
+ghost use Rattle.stockdesk.specs.Connections.{AreServed, Pass, PortBegun, PortTold, listening, listening_line};
 
 use crate::session::Fault;
 use desk::Desk;
@@ -67,24 +66,9 @@ impl Listen for TcpListener {
     }
 }
 
-/// Serves a connection. A fault ends it alone.
-fn serve_one<K: Keep, R: Read, W: Write>(
-    alloc: Global,
-    desk: &mut Desk<K>,
-    reader: &mut R,
-    writer: &mut W,
-)
-    ensures served { IsServed (desk_state K.Keep desk.new) (stand (desk_state K.Keep desk.old))
-        (streams (R.remaining reader.old) (R.remaining reader.new) (W.contents writer.old) (W.contents writer.new))
-        (stand (desk_state K.Keep desk.new)) }
-    ensures goes { Goes K.Keep desk.old desk.new }
-{
-    let _ = web::serve(alloc, reader, writer, desk);
-}
-
 /// Serves so many connections on a desk that is not stopped, each as it comes, one after the other, and closes each
-/// behind its answers. Those before a fault are served: `Socket` where no connection could be had, and `Store` where
-/// the last of them stopped the desk.
+/// behind its answers. A fault of a connection ends that one alone. Those before a fault are served: `Socket` where no
+/// connection could be had, and `Store` where the last of them stopped the desk.
 pub fn serve_all<K: Keep, L: Listen>(
     alloc: Global,
     desk: &mut Desk<K>,
@@ -110,7 +94,7 @@ pub fn serve_all<K: Keep, L: Listen>(
             return Err(Fault::Socket);
         };
         let (mut reader, mut writer) = connection;
-        serve_one(alloc, desk, &mut reader, &mut writer);
+        let _ = web::serve(alloc, &mut reader, &mut writer, desk);
         listener.close(reader, writer);
         if desk.is_stopped() {
             return Err(Fault::Store);
@@ -146,7 +130,11 @@ fn tell_port<W: Write>(alloc: Global, port: u16, writer: &mut W) -> Result<(), F
 }
 
 /// Listens on this machine alone, and tells the port that it got.
-fn listen_at<W: Write>(rt: &HostRuntime, port: u16, writer: &mut W) -> Result<TcpListener, Fault>
+pub fn listen_at<W: Write>(
+    rt: &HostRuntime,
+    port: u16,
+    writer: &mut W,
+) -> Result<TcpListener, Fault>
     ensures whole { OnOk result (PortTold (W.contents writer.old) (W.contents writer.new)) }
     ensures beginning { OnErr result (PortBegun (W.contents writer.old) (W.contents writer.new)) }
     ensures fault { IfErr result (λ fault. (fault ≡ Fault.Socket) ⊎ ((fault ≡ Fault.Memory) ⊎ (fault ≡ Fault.Write))) }
@@ -159,28 +147,4 @@ fn listen_at<W: Write>(rt: &HostRuntime, port: u16, writer: &mut W) -> Result<Tc
     };
     tell_port(rt.alloc(), address.port(), writer)?;
     Ok(listener)
-}
-
-/// Listens, tells the port, and serves a desk to connections, one after the other. A fault of a connection ends that
-/// one alone.
-pub fn serve_desk<K: Keep, W: Write>(
-    rt: &HostRuntime,
-    desk: &mut Desk<K>,
-    service: &Service,
-    writer: &mut W,
-) -> Result<(), Fault>
-    requires going { K.stopped desk.old.keep ≡ false }
-    ensures whole { OnOk result (PortTold (W.contents writer.old) (W.contents writer.new)
-        × ServesAll service.now.connections (desk_state K.Keep desk.old) (desk_state K.Keep desk.new)) }
-    ensures cut { IfErr result (λ fault. ServiceCut fault service.now.connections (desk_state K.Keep desk.old)
-        (desk_state K.Keep desk.new) (only_written (W.contents writer.old) (W.contents writer.new))) }
-    ensures desk { IfErr result (λ fault. ¬ IsNoDesk fault) }
-    ensures stop { TellsStop (result ≡ Err Fault.Store) (desk_state K.Keep desk.old) (desk_state K.Keep desk.new) }
-    ensures goes { Goes K.Keep desk.old desk.new }
-{
-    desk.is_stopped();
-    match listen_at(rt, service.port, writer) {
-        Ok(mut listener) => serve_all(rt.alloc(), desk, &mut listener, service.connections),
-        Err(fault) => Err(fault),
-    }
 }

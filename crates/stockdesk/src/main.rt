@@ -6,7 +6,7 @@ ghost use Rattle.desk.specs.Streams.{IsSilent, streams};
 ghost use Rattle.book.specs.Ledger.{new_ledger};
 ghost use Rattle.clap.specs.Words.{kind_of};
 ghost use Rattle.stockdesk.specs.Done.{DoesAsked, DoesAskedInPart};
-ghost use Rattle.stockdesk.specs.Runs.{BeginsText, RunsWhole};
+ghost use Rattle.stockdesk.specs.Runs.{AnswersText, BeginsText};
 ghost use Rattle.stockdesk.specs.Sessions.{IsBadFile, IsNoDesk, IsUnbegun};
 ghost use Rattle.stockdesk.specs.Tasks.{IsPlainRun};
 
@@ -29,6 +29,7 @@ use crate::session::Fault;
 use crate::tasks::read_task;
 use clap::Error as WordsError;
 use clap::error::ErrorKind as WordsKind;
+use std::alloc::Global;
 use std::env::{self, Env};
 use std::io::{self, ErrorKind, Read, Write};
 use std::process::ExitCode;
@@ -87,7 +88,7 @@ where
         (streams (R.remaining reader.old) (R.remaining reader.new) (W.contents writer.old) (W.contents writer.new)) }
     // the one word `run`: status 0, and all that was there is answered, or status 1 and a beginning of that
     ensures plain { IsPlainRun (map (λ s. s.now) words.entry.now)
-        → ((result ≡ 0) × RunsWhole
+        → ((result ≡ 0) × AnswersText new_ledger
         (streams (R.remaining reader.old) (R.remaining reader.new) (W.contents writer.old) (W.contents writer.new)))
         ⊎ ((result ≡ 1) × BeginsText new_ledger
         (streams (R.remaining reader.old) (R.remaining reader.new) (W.contents writer.old) (W.contents writer.new))) }
@@ -128,39 +129,30 @@ fn unread_words<E: Write>(errors: &mut E, kind: ErrorKind) -> u8
 }
 
 /// The words that the program is called with.
-fn called_with(rt: &HostRuntime) -> Result<Vec<String>, ErrorKind> {
-    match env::args(rt) {
-        Ok(args) => match args.collect::<Vec<String>>(rt.alloc()) {
-            Ok(args) => Ok(args),
-            Err(_) => Err(ErrorKind::OutOfMemory),
-        },
-        Err(fault) => Err(fault.kind()),
-    }
+fn called_with(rt: &HostRuntime) -> io::Result<Vec<String>> {
+    Ok(env::args(rt)?.collect::<Vec<String>>(rt.alloc())?)
 }
 
-/// Does what the words ask for, over standard input, output and error, and gives the status.
-fn go_over(rt: &HostRuntime, args: &[String]) -> u8 {
-    let mut errors = rt.stderr();
-    match args
-        .iter()
-        .map(|word| word.as_str())
-        .collect::<Vec<&str>>(rt.alloc())
-    {
-        Ok(words) => go(
-            rt,
-            words.as_slice(),
-            &mut rt.stdin(),
-            &mut rt.stdout(),
-            &mut errors,
-        ),
-        Err(_) => unread_words(&mut errors, ErrorKind::OutOfMemory),
-    }
+/// The same words, lent.
+fn lent(alloc: Global, args: &[String]) -> io::Result<Vec<&str>> {
+    Ok(
+        args.iter()
+            .map(|word| word.as_str())
+            .collect::<Vec<&str>>(alloc)?,
+    )
 }
 
+/// Goes over standard input, output and error.
 fn main(rt: HostRuntime) -> ExitCode {
-    let status = match called_with(&rt) {
-        Ok(args) => go_over(&rt, &args),
-        Err(kind) => unread_words(&mut rt.stderr(), kind),
+    let mut errors = rt.stderr();
+    let args = match called_with(&rt) {
+        Ok(args) => args,
+        Err(error) => return ExitCode::from(unread_words(&mut errors, error.kind())),
     };
-    ExitCode::from(status)
+    let words = match lent(rt.alloc(), &args) {
+        Ok(words) => words,
+        Err(error) => return ExitCode::from(unread_words(&mut errors, error.kind())),
+    };
+    let (reader, writer) = (&mut rt.stdin(), &mut rt.stdout());
+    ExitCode::from(go(&rt, &words, reader, writer, &mut errors))
 }

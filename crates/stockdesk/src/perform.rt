@@ -2,54 +2,16 @@
 
 ghost use Rattle.std.specs.Prelude.{◌≡◌, IfErr, OnErr, OnOk};
 ghost use Rattle.desk.specs.Streams.{IsSilent, streams};
-ghost use Rattle.stockdesk.specs.Done.{Does, DoesInPart, DoesWork, DoesWorkInPart};
-ghost use Rattle.stockdesk.specs.Sessions.{IsNotOpened, IsUnbegun};
+ghost use Rattle.stockdesk.specs.Done.{Does, DoesInPart};
+ghost use Rattle.stockdesk.specs.Sessions.{IsUnbegun};
 
 use crate::session::Fault;
 use crate::tasks::Task;
-use crate::work::Work;
 use crate::{file, memory};
 use sqlite::Unknown;
 use std::io::{Read, Write};
 
-/// Makes a new desk in the file at the path, and closes it.
-fn init_file(rt: &HostRuntime, path: &str) -> Result<(), Fault>
-    ensures { IfErr result IsNotOpened }
-{
-    file::close(file::init(rt, path, Unknown)?);
-    Ok(())
-}
-
-/// Does the work on the desk in the file at the path, and closes it.
-fn work_in<R: Read, W: Write>(
-    rt: &HostRuntime,
-    path: &str,
-    work: &Work<'_>,
-    reader: &mut R,
-    writer: &mut W,
-) -> Result<(), Fault>
-    ensures whole { OnOk result (DoesWork work.now
-        (streams (R.remaining reader.old) (R.remaining reader.new) (W.contents writer.old) (W.contents writer.new))) }
-    ensures beginning { OnErr result (DoesWorkInPart work.now
-        (streams (R.remaining reader.old) (R.remaining reader.new) (W.contents writer.old) (W.contents writer.new))) }
-    ensures untouched { IfErr result (λ fault. IsUnbegun fault → IsSilent
-        (streams (R.remaining reader.old) (R.remaining reader.new) (W.contents writer.old) (W.contents writer.new))) }
-{
-    let (keep, ended) = file::session(rt, path, Unknown, work, reader, writer)?;
-    file::close(keep);
-    ended
-}
-
-/// Makes the newest version of the desk in the file at the path, and closes it.
-fn upgrade_file(rt: &HostRuntime, path: &str) -> Result<(), Fault>
-    ensures { IfErr result IsNotOpened }
-{
-    let (keep, ended) = file::upgrade(rt, path, Unknown)?;
-    file::close(keep);
-    ended
-}
-
-/// Does what is asked for.
+/// Does what is asked for, and closes the file in which it is done.
 pub fn perform<R: Read, W: Write>(
     rt: &HostRuntime,
     task: &Task<'_>,
@@ -62,18 +24,23 @@ pub fn perform<R: Read, W: Write>(
         (streams (R.remaining reader.old) (R.remaining reader.new) (W.contents writer.old) (W.contents writer.new))) }
     ensures untouched { IfErr result (λ fault. IsUnbegun fault → IsSilent
         (streams (R.remaining reader.old) (R.remaining reader.new) (W.contents writer.old) (W.contents writer.new))) }
-    ensures new { task.now ≡ Task.Memory → IfErr result (λ fault. ¬ IsUnbegun fault) }
+    ensures new { task.now ≡ Task.InMemory → IfErr result (λ fault. ¬ IsUnbegun fault) }
 {
     match task {
-        Task::Init(path) => init_file(rt, *path),
-        Task::Memory => memory::run(rt, reader, writer),
-        Task::Script(path) => work_in(rt, *path, &Work::Script, reader, writer),
-        Task::Requests(path, kind, csv, together) => {
-            let work = Work::Requests(*kind, *csv, *together);
-            work_in(rt, *path, &work, reader, writer)
+        Task::Init(path) => {
+            file::close(file::init(rt, *path, Unknown)?);
+            Ok(())
         }
-        Task::Sheet(path, shown) => work_in(rt, *path, &Work::Sheet(*shown), reader, writer),
-        Task::Serve(path, service) => work_in(rt, *path, &Work::Serve(*service), reader, writer),
-        Task::Upgrade(path) => upgrade_file(rt, *path),
+        Task::Upgrade(path) => {
+            let (keep, ended) = file::upgrade(rt, *path, Unknown)?;
+            file::close(keep);
+            ended
+        }
+        Task::InMemory => memory::run(rt, reader, writer),
+        Task::InFile(path, work) => {
+            let (keep, ended) = file::session(rt, *path, Unknown, work, reader, writer)?;
+            file::close(keep);
+            ended
+        }
     }
 }

@@ -3,21 +3,20 @@
 ghost use Rattle.std.specs.Prelude.{◌≡◌, ◌⊎◌, Err, IfErr, IfOk, IfSome, List, OnOk};
 ghost use Rattle.desk.specs.Desk.{Goes, TellsStop, desk_state};
 ghost use Rattle.desk.specs.Streams.{only_written};
-ghost use Rattle.desk.specs.Text.{items_of};
 ghost use Rattle.stockdesk.specs.Requests.{FileCut, IsFileFault, IsFileOf, NamesFirstOf, RequestsAnswered};
 ghost use Rattle.stockdesk.specs.Sessions.{IsBadFile, IsNoDesk, IsUnbegun};
 ghost use Rattle.words.specs.declared.command.Request.{Request};
 ghost use Rattle.files.specs.declared.fault.FileFault.{FileFault};
 
 use crate::session::Fault;
-use desk::{Desk, answer_all, answer_together};
+use desk::{Desk, answer_lists};
 use files::{FileFault, read_bounds, read_deliveries, read_orders};
 use keep::Keep;
 use std::alloc::Global;
 use std::fs::File;
 use std::io::{ErrorKind, Read, Write};
 use std::num::NonZeroUsize;
-use words::{Item, Request};
+use words::Request;
 
 /// What a file of requests holds.
 #[derive(Clone, Copy)]
@@ -66,27 +65,15 @@ fn csv_fault(kind: ErrorKind) -> Fault
     }
 }
 
-/// The requests, as the items of a script.
-fn items_in(alloc: Global, requests: Vec<Request>) -> Result<Vec<Item>, Fault>
-    ensures ok { IfOk result (λ items. items.items ≡ items_of requests.items) }
-    ensures memory { IfErr result (λ fault. fault ≡ Fault.Memory) }
-{
-    let items = requests.into_iter().map(|request| Item::Request(request));
-    match items.collect(alloc) {
-        Ok(items) => Ok(items),
-        Err(_) => Err(Fault::Memory),
-    }
-}
-
 /// Answers requests on a desk, one after the other or so many together.
 fn answer_requests<K: Keep, W: Write>(
     alloc: Global,
     desk: &mut Desk<K>,
-    requests: Vec<Request>,
+    requests: &[Request],
     together: Option<NonZeroUsize>,
     writer: &mut W,
 ) -> Result<(), Fault>
-    ensures whole { OnOk result (RequestsAnswered requests.items desk.old.ledger desk.new.ledger
+    ensures whole { OnOk result (RequestsAnswered requests.now desk.old.ledger desk.new.ledger
         (only_written (W.contents writer.old) (W.contents writer.new))) }
     ensures cut { IfErr result (λ fault. FileCut together fault (desk_state K.Keep desk.old)
         (desk_state K.Keep desk.new) (only_written (W.contents writer.old) (W.contents writer.new))) }
@@ -94,14 +81,7 @@ fn answer_requests<K: Keep, W: Write>(
     ensures stop { TellsStop (result ≡ Err Fault.Store) (desk_state K.Keep desk.old) (desk_state K.Keep desk.new) }
     ensures goes { Goes K.Keep desk.old desk.new }
 {
-    desk.is_stopped();
-    match together {
-        Some(most) => Ok(answer_together(alloc, &requests, most, writer, desk)?),
-        None => {
-            let items = items_in(alloc, requests)?;
-            Ok(answer_all(alloc, &items, writer, desk)?)
-        }
-    }
+    Ok(answer_lists(alloc, requests, together, writer, desk)?)
 }
 
 /// Answers the requests of a file on a desk. The whole file is read before the first of them is called.
@@ -126,11 +106,11 @@ fn answer_from<K: Keep, R: Read + Drop, W: Write>(
 {
     desk.is_stopped();
     let requests = read(alloc, kind, reader)?;
-    answer_requests(alloc, desk, requests, together, writer)
+    answer_requests(alloc, desk, &requests, together, writer)
 }
 
 /// Reads the file of requests at the path, and then answers its requests on a desk in their order: each reply line is
-/// written before the next request is called, or, with `together`, those of so many when these are kept. A file that
+/// written before the next request is called, or, with `together`, those of a list of so many when it is carried out. A file that
 /// cannot be read is `Csv`, a record at fault `BadRecord`; then nothing is done, and nothing written.
 pub fn answer_file<K: Keep, W: Write>(
     rt: &HostRuntime,

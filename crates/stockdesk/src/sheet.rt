@@ -12,9 +12,9 @@ use std::io::Write;
 
 /// What a sheet is of.
 #[derive(Clone, Copy)]
-pub enum Shown {
-    OfBranch(Branch),
-    OfArticle(Article),
+pub enum SheetOf {
+    Branch(Branch),
+    Article(Article),
 }
 
 impl From<SheetFault> for Fault {
@@ -34,20 +34,20 @@ impl From<SheetFault> for Fault {
 }
 
 /// Writes a sheet of a book. Want of memory leaves nothing written, and a failing write a beginning.
-pub fn show_book<W: Write>(
+pub fn write_sheet<W: Write>(
     alloc: Global,
     book: &Book,
-    shown: &Shown,
+    of: &SheetOf,
     writer: &mut W,
 ) -> Result<(), Fault>
-    ensures whole { OnOk result (SheetWritten shown.now book.now.ledger (W.contents writer.old)
+    ensures whole { OnOk result (SheetWritten of.now book.now.ledger (W.contents writer.old)
         (W.contents writer.new)) }
-    ensures cut { IfErr result (λ fault. SheetCut shown.now fault book.now.ledger (W.contents writer.old)
+    ensures cut { IfErr result (λ fault. SheetCut of.now fault book.now.ledger (W.contents writer.old)
         (W.contents writer.new)) }
     ensures fault { IfErr result (λ fault. (fault ≡ Fault.Memory) ⊎ (fault ≡ Fault.Write)) }
 {
-    match shown {
-        Shown::OfBranch(branch) => Ok(branch_sheet(alloc, book, *branch, writer)?),
-        Shown::OfArticle(article) => Ok(article_sheet(alloc, book, *article, writer)?),
+    match of {
+        SheetOf::Branch(branch) => Ok(branch_sheet(alloc, book, *branch, writer)?),
+        SheetOf::Article(article) => Ok(article_sheet(alloc, book, *article, writer)?),
     }
 }

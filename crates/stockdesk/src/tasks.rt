@@ -4,11 +4,12 @@ ghost use Rattle.std.specs.Prelude.{◌≡◌, ◌≤◌, Some, None, codes, [],
 ghost use Rattle.std.specs.Int.NonZero.{non_zero_usize_get};
 ghost use Rattle.clap.specs.Words.{App, app_of, first_of, found_of, kind_of, rows_of, subcommand_of, subcommand_rows_of, takes, with_rule, with_subcommand};
 ghost use Rattle.clap.specs.declared.builder.command.Command.TheViews.{out-Command as fields_of};
-ghost use Rattle.stockdesk.specs.Tasks.{Asks, AsksFor, AsksTogether, IsPlainRun, IsService, article, bounds, command_of, deliveries, on_file, on_path, on_requests, option, orders, run, scripts, serve, sheet, stockdesk, upgrade, with_both};
+ghost use Rattle.stockdesk.specs.Tasks.{Asks, AsksFor, AsksForWork, AsksTogether, IsPlainRun, IsService, article, bounds, command_of, deliveries, on_file, on_path, on_requests, option, orders, run, scripts, serve, sheet, stockdesk, upgrade, with_both};
 
 use crate::loopback::Service;
 use crate::requests::Kind;
-use crate::sheet::Shown;
+use crate::sheet::SheetOf;
+use crate::work::Work;
 use clap::error::ErrorKind;
 use clap::{Arg, ArgAction, ArgMatches, Command, Error};
 use escrow::{Article, Branch};
@@ -27,18 +28,12 @@ const MAX_TOGETHER: usize = 1_000;
 pub enum Task<'a> {
     /// A new desk in this file.
     Init(&'a str),
-    /// A script on a new desk in memory.
-    Memory,
-    /// A script on the desk in this file.
-    Script(&'a str),
-    /// On the desk in the first file, the requests of that kind in the second, so many together if that is asked for.
-    Requests(&'a str, Kind, &'a str, Option<NonZeroUsize>),
-    /// A sheet of the desk in this file.
-    Sheet(&'a str, Shown),
-    /// The desk in this file, served.
-    Serve(&'a str, Service),
     /// The desk in this file, made one of the newest version.
     Upgrade(&'a str),
+    /// A script on a new desk in memory.
+    InMemory,
+    /// This work on the desk in this file.
+    InFile(&'a str, Work<'a>),
 }
 
 /// A command with a file.
@@ -218,19 +213,19 @@ fn command<'a>(alloc: Global) -> Result<Command<'a>, AllocError>
 }
 
 /// The sheet of the branch that a word names.
-fn branch_named(word: &str) -> Option<Shown>
-    ensures { IfSome result (λ shown. shown ≡ Shown.OfBranch word.now) }
+fn branch_named(word: &str) -> Option<SheetOf>
+    ensures { IfSome result (λ of. of ≡ SheetOf.Branch word.now) }
 {
     let branch = Branch::read(word.as_bytes()).ok()?;
-    Some(Shown::OfBranch(branch))
+    Some(SheetOf::Branch(branch))
 }
 
 /// The sheet of the article that a word names.
-fn article_named(word: &str) -> Option<Shown>
-    ensures { IfSome result (λ shown. shown ≡ Shown.OfArticle word.now) }
+fn article_named(word: &str) -> Option<SheetOf>
+    ensures { IfSome result (λ of. of ≡ SheetOf.Article word.now) }
 {
     let article = Article::read(word.as_bytes()).ok()?;
-    Some(Shown::OfArticle(article))
+    Some(SheetOf::Article(article))
 }
 
 /// The port that a word is.
@@ -307,28 +302,40 @@ fn together_asked(word: Option<&str>) -> Option<Option<NonZeroUsize>>
     }
 }
 
-/// The task that a command on the desk in a file asks for; none where a word behind it is no code or number.
+/// The work that a command asks for; none where a word behind it is no code or number.
+fn work_named<'a>(name: &str, found: &ArgMatches<'a>) -> Option<Work<'a>>
+    ensures { IfSome result (AsksForWork name.now (rows_of (found_of found.now))) }
+{
+    match name {
+        "run" => Some(Work::Script),
+        "sheet" => Some(Work::Sheet(branch_named(word(found, "BRANCH")?)?)),
+        "article" => Some(Work::Sheet(article_named(word(found, "ARTICLE")?)?)),
+        "serve" => {
+            let port = word(found, "port")?;
+            let connections = word(found, "connections")?;
+            Some(Work::Serve(service_named(port, connections)?))
+        }
+        _ => {
+            let kind = kind_named(name)?;
+            let csv = word(found, "CSV")?;
+            let together = together_asked(word(found, "together"))?;
+            Some(Work::Requests(kind, csv, together))
+        }
+    }
+}
+
+/// The task that a command with the file of a desk asks for, likewise.
 fn task_on<'a>(name: &str, path: &'a str, found: &ArgMatches<'a>) -> Option<Task<'a>>
     ensures { IfSome result (λ task. first_of (codes "FILE") (rows_of (found_of found.now)) ≡ Some path.entry.now
         → AsksFor name.now (rows_of (found_of found.now)) task) }
 {
     match name {
         "init" => Some(Task::Init(path)),
-        "run" => Some(Task::Script(path)),
-        "sheet" => Some(Task::Sheet(path, branch_named(word(found, "BRANCH")?)?)),
-        "article" => Some(Task::Sheet(path, article_named(word(found, "ARTICLE")?)?)),
-        "serve" => {
-            let port = word(found, "port")?;
-            let connections = word(found, "connections")?;
-            Some(Task::Serve(path, service_named(port, connections)?))
-        }
         "upgrade" => Some(Task::Upgrade(path)),
-        _ => {
-            let kind = kind_named(name)?;
-            let csv = word(found, "CSV")?;
-            let together = together_asked(word(found, "together"))?;
-            Some(Task::Requests(path, kind, csv, together))
-        }
+        _ => match work_named(name, found) {
+            Some(work) => Some(Task::InFile(path, work)),
+            None => None,
+        },
     }
 }
 
@@ -336,12 +343,12 @@ fn task_on<'a>(name: &str, path: &'a str, found: &ArgMatches<'a>) -> Option<Task
 /// it is one in memory.
 fn task_named<'a>(name: &str, found: &ArgMatches<'a>) -> Option<Task<'a>>
     ensures asked { IfSome result (AsksFor name.now (rows_of (found_of found.now))) }
-    ensures run { name.now ≡ codes "run" → rows_of (found_of found.now) ≡ [] → result ≡ Some Task.Memory }
+    ensures run { name.now ≡ codes "run" → rows_of (found_of found.now) ≡ [] → result ≡ Some Task.InMemory }
 {
     match word(found, "FILE") {
         Some(path) => task_on(name, path, found),
         None => match name {
-            "run" => Some(Task::Memory),
+            "run" => Some(Task::InMemory),
             _ => None,
         },
     }
@@ -350,7 +357,7 @@ fn task_named<'a>(name: &str, found: &ArgMatches<'a>) -> Option<Task<'a>>
 /// The task that the words have been read as.
 fn task_of<'a>(matches: &ArgMatches<'a>) -> Option<Task<'a>>
     ensures asked { IfSome result (Asks (subcommand_rows_of matches.now)) }
-    ensures run { subcommand_rows_of matches.now ≡ Some (codes "run", []) → result ≡ Some Task.Memory }
+    ensures run { subcommand_rows_of matches.now ≡ Some (codes "run", []) → result ≡ Some Task.InMemory }
 {
     match matches.subcommand() {
         Some((name, found)) => task_named(name, found),
@@ -363,7 +370,7 @@ fn task_of<'a>(matches: &ArgMatches<'a>) -> Option<Task<'a>>
 pub fn read_task<'a>(alloc: Global, words: &'a [&'a str]) -> Result<Option<Task<'a>>, Error>
     ensures asks { IfOk result (λ task. IfSome task
         (Asks (subcommand_of stockdesk (map (λ s. s.now) words.entry.now)))) }
-    ensures asked { IsPlainRun (map (λ s. s.now) words.entry.now) → IfOk result (λ task. task ≡ Some Task.Memory) }
+    ensures asked { IsPlainRun (map (λ s. s.now) words.entry.now) → IfOk result (λ task. task ≡ Some Task.InMemory) }
     ensures taken { takes stockdesk (map (λ s. s.now) words.entry.now) ≡ true
         → IfErr result (λ error. kind_of error ≡ ErrorKind.OutOfMemory) }
 {

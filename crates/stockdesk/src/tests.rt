@@ -1,12 +1,9 @@
-//! The program, by what it reads and writes.
+//! The program, by what it reads and writes: what `library_tests` does not play, and the tests of it as a process.
 
 mod connections;
-mod rows;
 mod steps;
 
 use super::*;
-use rows::rows;
-use std::alloc::Global;
 use std::test::Fail;
 
 /// The status that the program ends with: the call without its clauses, so that a test's proof need not carry them.
@@ -38,40 +35,54 @@ fn expect_done(
     }
 }
 
+/// Deliveries and write-offs up to the bounds, and a second field.
+const MOVES: (&str, &str) = (
+    "K1 field N1 A-1 0 100 40
+K2 deliver N1 A-1 60
+? field N1 A-1
+K3 deliver N1 A-1 1
+K4 writeoff N1 A-1 100
+? field N1 A-1
+K5 writeoff N1 A-1 1
+K6 field N2 A-1 0 1 0
+K7 deliver N2 A-1 1
+? field N2 A-1
+K8 field N2 A-1 0 1 0
+",
+    "K1 done 1
+K2 done 2
+? field N1 A-1 lo 0 hi 100 value 100 inf 100 sup 100
+K3 refused 14 TooMuch 0
+K4 done 3
+? field N1 A-1 lo 0 hi 100 value 0 inf 0 sup 0
+K5 refused 13 TooLittle 0
+K6 done 4
+K7 done 5
+? field N2 A-1 lo 0 hi 1 value 1 inf 1 sup 1
+K8 refused 3 FieldThere 0
+",
+);
+
+/// A field of one value holds nothing, either way.
+const TIGHT: (&str, &str) = (
+    "Z1 field N1 D-1 5 5 5
+Z2 open 40 500 take N1 D-1 1
+Z3 open 40 500 add N1 D-1 1
+Z4 field N1 E-1 5 4 5
+Z1 field N1 D-1 5 5 5
+",
+    "Z1 done 1
+Z2 refused 13 TooLittle 1
+Z3 refused 14 TooMuch 1
+Z4 refused 5 BadBounds 0
+Z1 done 1
+",
+);
+
 #[test]
 fn scripts_are_answered(rt: HostRuntime) -> Result<(), Fail> {
-    for (script, replies) in rows() {
+    for (script, replies) in [("", ""), MOVES, TIGHT] {
         expect_done(&rt, &["stockdesk", "run"], script, (0, replies, ""))?;
     }
     Ok(())
-}
-
-/// A script of 65 fields, and an `open` of a line on each of so many of these; and the replies.
-fn long_open(alloc: Global, count: u64, last: &str) -> Result<(String, String), Fail> {
-    let mut script = String::new(alloc);
-    let mut replies = String::new(alloc);
-    for number in 1..=65u64 {
-        writeln!(script, "F{number} field N1 A{number} 0 1000 500")?;
-        writeln!(replies, "F{number} done {number}")?;
-    }
-    script.push_str("K open 7 120")?;
-    for number in 1..=count {
-        write!(script, " take N1 A{number} 1")?;
-    }
-    script.push_str("\n")?;
-    replies.push_str(last)?;
-    Ok((script, replies))
-}
-
-/// An `open` of so many lines is answered so.
-fn expect_long_open(rt: &HostRuntime, count: u64, last: &str) -> Result<(), Fail> {
-    let (script, replies) = long_open(rt.alloc(), count, last)?;
-    let want = (0, replies.as_str(), "");
-    expect_done(rt, &["stockdesk", "run"], &script, want)
-}
-
-#[test]
-fn an_open_has_64_lines_at_the_most(rt: HostRuntime) -> Result<(), Fail> {
-    expect_long_open(&rt, 64, "K done 66\n")?;
-    expect_long_open(&rt, 65, "- refused 20 BadCommand 0\n")
 }

@@ -8,7 +8,7 @@ ghost use Rattle.stockdesk.specs.Upgrades.{Upgrades};
 
 use crate::session::Fault;
 use keep::{KeepFault, SqlKeep};
-use sqlite::{Alter, Connection};
+use sqlite::Alter;
 
 /// The fault that one of an upgrade is told as.
 fn upgrade_fault(fault: KeepFault) -> Fault
@@ -23,21 +23,6 @@ fn upgrade_fault(fault: KeepFault) -> Fault
     }
 }
 
-/// Makes the newest version of what the connection shows, where that is of an older one; the newest is left alone.
-fn upgrade_over<S: Alter>(conn: &mut Connection<S>) -> Result<(), Fault>
-    requires { conn.old.in_transaction ≡ false }
-    ensures idle { conn.new.in_transaction ≡ false }
-    ensures clean { HasCleanDisk (state S.Store conn.new) → HasCleanDisk (state S.Store conn.old) }
-    ensures upgrades { HasCleanDisk (state S.Store conn.new) → Upgrades (state S.Store conn.old)
-        (state S.Store conn.new) result }
-    ensures fault { IfErr result IsNotOpened }
-{
-    match SqlKeep::upgrade_over(conn) {
-        Ok(()) => Ok(()),
-        Err(fault) => Err(upgrade_fault(fault)),
-    }
-}
-
 /// Makes the newest version of what a keeper holds, where that is of an older one; the newest is left alone. The keeper
 /// that comes back goes on, over what is held then.
 pub fn upgrade<S: Alter>(keep: SqlKeep<S>) -> (SqlKeep<S>, Result<(), Fault>)
@@ -48,6 +33,10 @@ pub fn upgrade<S: Alter>(keep: SqlKeep<S>) -> (SqlKeep<S>, Result<(), Fault>)
     ensures fault { IfErr result.1 IsNotOpened }
 {
     let mut conn = keep.into_connection();
-    let done = upgrade_over(&mut conn);
-    (SqlKeep::over(conn), done)
+    let done = SqlKeep::upgrade_over(&mut conn);
+    let keep = SqlKeep::over(conn);
+    match done {
+        Ok(()) => (keep, Ok(())),
+        Err(fault) => (keep, Err(upgrade_fault(fault))),
+    }
 }

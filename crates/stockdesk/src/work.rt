@@ -9,10 +9,10 @@ ghost use Rattle.desk.specs.Streams.{streams};
 ghost use Rattle.stockdesk.specs.Sessions.{IsNoDesk, session_on};
 ghost use Rattle.stockdesk.specs.Work.{GoesOnFrom, WorkCut, WorkDone, WorkInPart, WorkWhole};
 
-use crate::loopback::{Service, serve_desk};
+use crate::loopback::{Service, listen_at, serve_all};
 use crate::requests::{Kind, answer_file};
-use crate::session::{Fault, open_desk};
-use crate::sheet::{Shown, show_book};
+use crate::session::Fault;
+use crate::sheet::{SheetOf, write_sheet};
 use desk::{Desk, script};
 use keep::Keep;
 use std::io::{Read, Write};
@@ -26,7 +26,7 @@ pub enum Work<'a> {
     /// The requests of the file at this path are answered, one after the other or so many together.
     Requests(Kind, &'a str, Option<NonZeroUsize>),
     /// A sheet of it is written.
-    Sheet(Shown),
+    Sheet(SheetOf),
     /// It is served.
     Serve(Service),
 }
@@ -53,11 +53,17 @@ fn work_on<K: Keep, R: Read, W: Write>(
         Work::Requests(kind, path, together) => {
             answer_file(rt, desk, *kind, *path, *together, writer)
         }
-        Work::Sheet(shown) => {
+        Work::Sheet(of) => {
             desk.is_stopped();
-            show_book(rt.alloc(), desk.book(), shown, writer)
+            write_sheet(rt.alloc(), desk.book(), of, writer)
         }
-        Work::Serve(service) => serve_desk(rt, desk, service, writer),
+        Work::Serve(service) => {
+            desk.is_stopped();
+            match listen_at(rt, service.port, writer) {
+                Ok(mut listener) => serve_all(rt.alloc(), desk, &mut listener, service.connections),
+                Err(fault) => Err(fault),
+            }
+        }
     }
 }
 
@@ -89,9 +95,9 @@ pub fn session<K: Keep, R: Read, W: Write>(
         → K.leaves keep (x ∷ []) → GoesOnFrom (session_on K.Keep keep result.0) work.now result.1 A
         (streams (R.remaining reader.old) (R.remaining reader.new) (W.contents writer.old) (W.contents writer.new)) }
 {
-    let mut desk = match open_desk(rt.alloc(), keep) {
+    let mut desk = match Desk::open(rt.alloc(), keep) {
         Ok(desk) => desk,
-        Err((fault, keep)) => return (keep, Err(fault)),
+        Err((fault, keep)) => return (keep, Err(Fault::from(fault))),
     };
     let ended = work_on(rt, &mut desk, work, reader, writer);
     (desk.into_keep(), ended)

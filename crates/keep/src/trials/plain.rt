@@ -1,11 +1,11 @@
 //! A keeper in memory, which fails at one commit on purpose.
 
-ghost use Rattle.std.specs.Prelude.{◌≡◌, ◌≢◌, ◌⊎◌, false, All, Err, IfOk, IsTrue, OnErr, OnOk};
-ghost use Rattle.book.specs.Rows.{IsInKeyOrder};
+ghost use Rattle.std.specs.Prelude.{◌≡◌, ◌≢◌, ◌⊎◌, false, All, Err, IfErr, IfOk, OnOk, is_err};
 ghost use Rattle.book.specs.Tables.{content_of, rows_among};
-ghost use Rattle.keep.specs.Content.{IsDesk, IsTheRow, new_content};
+ghost use Rattle.keep.specs.Content.{IsTheRow, new_content};
 ghost use Rattle.keep.specs.Description.{desk_schema};
-ghost use Rattle.keep.specs.Plain.{IsToFail, after_commit, after_error, after_failure};
+ghost use Rattle.keep.specs.Keeping.{GoesOn, IsOrderedDesk};
+ghost use Rattle.keep.specs.Plain.{FailsByNumber, after_commit, after_error};
 ghost use Rattle.keep.specs.Transactions.{with_changes};
 
 mod shelf;
@@ -99,17 +99,11 @@ impl Keep for PlainKeep {
 
     /// Copies the rows. Fails for memory alone, if it is not stopped.
     fn load(&mut self, alloc: Global) -> Result<Tables, KeepFault>
-        ensures refused { IsTrue self.old.stopped → (result ≡ Err KeepFault.Stopped) × (self.new ≡ self.old) }
-        ensures going { self.old.stopped ≡ false → result ≢ Err KeepFault.Stopped }
-        ensures store { result ≢ Err KeepFault.Store }
-        ensures desk { (result ≢ Err KeepFault.NotADesk) × (result ≢ Err KeepFault.OldVersion) }
-        ensures ok { OnOk result ((self.new ≡ self.old) × (self.new.stopped ≡ false)) }
-        ensures err { OnErr result (self.new ≡ after_error self.old) }
-        ensures same { (self.new.content ≡ self.old.content) × (self.new.fails_in ≡ self.old.fails_in)
-            × (self.new.lands ≡ self.old.lands) }
+        ensures goes { GoesOn (λ k. k.stopped) self.old self.new result }
+        ensures fault { IfErr result (λ fault. (fault ≡ KeepFault.Stopped) ⊎ (fault ≡ KeepFault.Memory)) }
+        ensures same { self.new ≡ record self.old { stopped = is_err result } }
         ensures content { IfOk result (λ tables. content_of tables ≡ self.old.content) }
-        ensures order { IfOk result (λ tables. IsInKeyOrder (content_of tables)) }
-        ensures version { IfOk result (λ tables. IsDesk (content_of tables)) }
+        ensures ordered { IfOk result IsOrderedDesk }
     {
         if self.is_stopped() {
             return Err(KeepFault::Stopped);
@@ -127,16 +121,11 @@ impl Keep for PlainKeep {
     /// commit that is to fail and not to land wants none.
     fn commit(&mut self, changes: &[Change]) -> Result<(), KeepFault>
         requires { All IsTheRow (rows_among changes.now).desk }
-        ensures refused { IsTrue self.old.stopped → (result ≡ Err KeepFault.Stopped) × (self.new ≡ self.old) }
-        ensures going { self.old.stopped ≡ false → result ≢ Err KeepFault.Stopped }
+        ensures goes { GoesOn (λ k. k.stopped) self.old self.new result }
         ensures desk { (result ≢ Err KeepFault.NotADesk) × (result ≢ Err KeepFault.OldVersion) }
-        ensures fails { IsToFail self.old → OnOk result ⊥ }
-        ensures at_once { IsToFail self.old → self.old.lands ≡ false → result ≡ Err KeepFault.Store }
-        ensures ok { OnOk result ((self.new ≡ after_commit changes.now self.old) × (self.new.stopped ≡ false)) }
-        ensures store { result ≡ Err KeepFault.Store → IsToFail self.old
-            × (self.new ≡ after_failure changes.now self.old) }
+        ensures by_number { FailsByNumber changes.now self.old self.new result }
+        ensures ok { OnOk result (self.new ≡ after_commit changes.now self.old) }
         ensures memory { result ≡ Err KeepFault.Memory → self.new ≡ after_error self.old }
-        ensures err { OnErr result (IsTrue self.new.stopped) }
         ensures lands { self.new.lands ≡ self.old.lands }
         ensures either { (self.new.content ≡ self.old.content) ⊎ (self.new.content
             ≡ with_changes changes.now self.old.content) }

@@ -1,7 +1,7 @@
 //! The lines of lists that are carried out together, written to a writer that takes them all or fails.
 
 use super::headline::{ANSWERS, three_orders};
-use crate::desks::{answer_together, opened, requests};
+use crate::desks::{answer_lists, opened, requests};
 use crate::keepers::{plain_keeper, sql_keeper};
 use crate::of_keep::loaded;
 use crate::scripts::{Played, scripts};
@@ -33,7 +33,7 @@ fn write<K: Keep>(
         before_fault: writes,
         takes_none: false,
     };
-    let ended = answer_together(alloc, desk, requests, most, &mut writer)?;
+    let ended = answer_lists(alloc, desk, requests, most, &mut writer)?;
     Ok(Written {
         taken: writer.taken,
         ended,
@@ -49,6 +49,15 @@ fn end_of_lines(text: &[u8]) -> usize {
         }
     }
     end
+}
+
+/// The answers, but that a request which was refused may be answered otherwise when it comes again behind its list.
+fn are_answers(text: &str, answers: &str) -> bool {
+    text.lines().count() == answers.lines().count()
+        && text
+            .lines()
+            .zip(answers.lines())
+            .all(|(line, answer)| line == answer || answer.contains(" refused "))
 }
 
 /// A beginning of the answers is written, and the desk goes on behind the lines that are written whole: whether the
@@ -78,7 +87,10 @@ fn goes_on<K: Keep>(
     let end = end_of_lines(&first.taken);
     let rest = requests.get(told..).ok_or("no such number")?;
     let second = write(alloc, desk, rest, most, usize::MAX)?;
-    if second.ended != Ok(()) || ANSWERS.as_bytes().get(end..) != Some(second.taken.as_slice()) {
+    let text = std::str::from_utf8(&second.taken).ok().ok_or("no text")?;
+    let answers = ANSWERS.as_bytes().get(end..).ok_or("no such place")?;
+    let answers = std::str::from_utf8(answers).ok().ok_or("no text")?;
+    if second.ended != Ok(()) || !are_answers(text, answers) || (most == 1 && text != answers) {
         Err("other answers behind the lines that were written")?;
     }
     Ok(is_whole)
@@ -112,11 +124,11 @@ fn at_each_write(alloc: Global, most: usize) -> Result<usize, Fail> {
 }
 
 #[test]
-fn lines_are_written_when_their_batch_is_kept(rt: HostRuntime) -> Result<(), Fail> {
+fn lines_are_written_when_their_list_is_carried_out(rt: HostRuntime) -> Result<(), Fail> {
     // one after the other: seven lines in a write of 16 bytes each, the refusal's 26 bytes in two
     assert!(rt; at_each_write(rt.alloc(), 1)? == 9);
-    // all that may stand together: 86 bytes with the refusal, and the line of the commit behind it
-    assert!(rt; at_each_write(rt.alloc(), 8)? == 7);
+    // the whole list: its 96 bytes
+    assert!(rt; at_each_write(rt.alloc(), 8)? == 6);
     Ok(())
 }
 

@@ -1,4 +1,4 @@
-//! The desk, served over a socket of this machine.
+//! A desk, served to a connection in memory.
 
 ghost use Rattle.std.specs.Prelude.{◌≡◌, [], Some, false, IfOk};
 
@@ -7,8 +7,7 @@ use crate::session::Fault;
 use desk::Desk;
 use keep::{Keep, PlainKeep};
 use std::alloc::Global;
-use std::io::{self, ErrorKind, Read, Write};
-use std::net::{Shutdown, TcpListener, TcpStream};
+use std::io::{self, ErrorKind};
 use std::test::Fail;
 
 /// A field is made, and shown; an order is not there.
@@ -80,28 +79,6 @@ fn serve_kept<K: Keep + Drop, L: Listen>(
     let ended = served(alloc, &mut desk, listener, 1);
     drop(desk.into_keep());
     Ok(ended?)
-}
-
-/// A connection that brings these bytes one by one, and no more.
-fn connection(rt: &HostRuntime, listener: &TcpListener, bytes: &[u8]) -> Result<TcpStream, Fail> {
-    let mut client = TcpStream::connect(rt, listener.local_addr()?)?;
-    for byte in bytes {
-        client.write_all(&[*byte])?;
-    }
-    client.shutdown(Shutdown::Write)?;
-    Ok(client)
-}
-
-#[test]
-fn a_connection_on_loopback_is_served(rt: HostRuntime) -> Result<(), Fail> {
-    let mut listener = TcpListener::bind(&rt, "127.0.0.1:0")?;
-    let mut client = connection(&rt, &listener, FIRST)?;
-    let keep = PlainKeep::start(rt.alloc(), None, false);
-    serve_kept(rt.alloc(), keep, &mut listener)?;
-    let mut answers = Vec::new(rt.alloc());
-    client.read_to_end(&mut answers)?;
-    assert!(rt; answers.as_slice() == FIRST_ANSWERS);
-    Ok(())
 }
 
 #[test]

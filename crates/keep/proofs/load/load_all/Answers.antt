@@ -14,7 +14,6 @@ use Rattle.keep.specs.Loads.{Finds, Reads}
 use Rattle.keep.proofs.LaterTables.{content_now}
 use Rattle.keep.proofs.Schemas.{rows_there}
 use Rattle.keep.proofs.Steps.{finds_then}
-use Rattle.keep.specs.OneContent.{only_content}
 use Rattle.keep.proofs.load.load_all.Goals as goal
 
 module _ (g : _) (c : goal.After-new-6 g) where
@@ -67,9 +66,6 @@ load_desk-requires-clause-schema g c = (newest, omega arith, omega arith, c.requ
 
 pub returns-clause-content : goal.returns-clause-content
 returns-clause-content g c clean = (record { schema_is = c.requires.schema; content = holds g c clean }, (found g c clean c.requires.schema).0)
-
-pub returns-clause-one : goal.returns-clause-one
-returns-clause-one g c clean x held = only_content (state g.S.Store c.args.conn.now).now.trees x _ held.content (holds g c clean)
 
 pub returns-in_default-clause-none : goal.returns-in_default-clause-none
 returns-in_default-clause-none g c clean none x has desk =

@@ -1,5 +1,5 @@
 use Rattle.std.proofs.lemmas.Result.{on_ok_weaker}
-use Rattle.desk.proofs.Cuts.{of_error}
+use Rattle.desk.proofs.Faults.{of_error}
 use Rattle.keep.specs.Laws.{holds_tables}
 use Rattle.stockdesk.proofs.SessionParts.{starts_part, starts_whole}
 use Rattle.keep.proofs.Schemas.{holds_one_row}

@@ -2,7 +2,7 @@ use Rattle.std.proofs.Common.{[], ◌∙◌, refl, rules, sym}
 use Rattle.desk.proofs.GoesOn.{goes_on, goes_same}
 use Rattle.desk.specs.Desk.{desk_state}
 use Rattle.stockdesk.specs.Connections.{listening}
-use Rattle.stockdesk.proofs.Connections.{passes, serves_one, serves_so_far}
+use Rattle.stockdesk.proofs.Connections.{is_served, passes, serves_one, serves_so_far}
 use Rattle.stockdesk.proofs.loopback.serve_all.Goals as goal
 
 pub loop-turn-init : goal.loop-turn-init
@@ -17,14 +17,14 @@ returns-in_default-clause-stop g c = record { stopped = λ is. absurd (cc is); g
 pub returns-then-is_stopped-clause-cut : goal.returns-then-is_stopped-clause-cut
 returns-then-is_stopped-clause-cut g c =
     let pass = passes (listening g.L.Listen.comes g.L.Listen.closes g.L.Reader.Read.remaining g.L.Writer.Write.contents) _ _ _ _ _ _ _ c.in-Ok.ensures c.close.ensures in
-    serves_so_far _ _ _ (desk_state g.K.Keep c.serve_one.new.desk) _ _ _ _ (search rules)
-    (serves_one _ _ _ (desk_state g.K.Keep c.loop-turn.desk) (desk_state g.K.Keep c.serve_one.new.desk) _ _ _ _ _ _ c.loop-turn.invariant.going c.loop-turn.invariant.served pass c.serve_one.ensures.served)
+    serves_so_far _ _ _ (desk_state g.K.Keep c.serve.new.desk) _ _ _ _ (search rules)
+    (serves_one _ _ _ (desk_state g.K.Keep c.loop-turn.desk) (desk_state g.K.Keep c.serve.new.desk) _ _ _ _ _ _ c.loop-turn.invariant.going c.loop-turn.invariant.served pass (is_served c.serve.result _ _ _ c.serve.ensures.whole c.serve.ensures.cut))
 
 pub returns-then-is_stopped-clause-stop : goal.returns-then-is_stopped-clause-stop
 returns-then-is_stopped-clause-stop g c = record { stopped = λ is. sym c.is_stopped-in-loop-turn.ensures.stopped ∙ c.if-is_stopped.true; going = λ other. absurd (other refl) }
 
 pub returns-then-is_stopped-clause-goes : goal.returns-then-is_stopped-clause-goes
-returns-then-is_stopped-clause-goes g c = goes_on _ _ _ _ c.loop-turn.invariant.goes c.serve_one.ensures.goes
+returns-then-is_stopped-clause-goes g c = goes_on _ _ _ _ c.loop-turn.invariant.goes c.serve.ensures.goes
 
 pub loop-turn-preserved : goal.loop-turn-preserved
 loop-turn-preserved g c =
@@ -32,6 +32,6 @@ loop-turn-preserved g c =
     let pass = passes (listening g.L.Listen.comes g.L.Listen.closes g.L.Reader.Read.remaining g.L.Writer.Write.contents) _ _ _ _ _ _ _ c.in-Ok.ensures c.close.ensures in
     record {
       going = going;
-      served = serves_one _ _ _ (desk_state g.K.Keep c.loop-turn.desk) (desk_state g.K.Keep c.serve_one.new.desk) _ _ _ _ _ _ c.loop-turn.invariant.going c.loop-turn.invariant.served pass c.serve_one.ensures.served;
-      goes = goes_on _ _ _ _ c.loop-turn.invariant.goes c.serve_one.ensures.goes;
+      served = serves_one _ _ _ (desk_state g.K.Keep c.loop-turn.desk) (desk_state g.K.Keep c.serve.new.desk) _ _ _ _ _ _ c.loop-turn.invariant.going c.loop-turn.invariant.served pass (is_served c.serve.result _ _ _ c.serve.ensures.whole c.serve.ensures.cut);
+      goes = goes_on _ _ _ _ c.loop-turn.invariant.goes c.serve.ensures.goes;
     }

@@ -1,4 +1,4 @@
-use Rattle.std.proofs.Common.{◌≡◌, ◌∙◌, ◌+◌, ◌++◌, ◌∷◌, [], Err, List, ap, length, rules, subst, sym, take}
+use Rattle.std.proofs.Common.{◌≡◌, ◌∙◌, ◌+◌, ◌++◌, ◌∷◌, [], Err, List, ℕ, ap, length, rules, subst, sym, take}
 use Rattle.std.proofs.lemmas.List.{length-append, take_more}
 use Rattle.words.specs.declared.command.Request.{Request}
 use Rattle.words.specs.declared.reply.Reply.{Reply}
@@ -8,6 +8,9 @@ use Rattle.book.specs.Ledger.{Ledger, places}
 use Rattle.book.specs.Next.{accept}
 use Rattle.book.proofs.Runs.{accepted_answered}
 use Rattle.desk.specs.Desk.{LeavesEither}
+use Rattle.desk.specs.Replies.{request_line}
+use Rattle.desk.specs.Text.{RepliesAll, items_of}
+use Rattle.desk.proofs.Batches.{lines_on}
 use Rattle.desk.proofs.GoesOn.{goes_on}
 use Rattle.desk.proofs.RunsOn.{runs_on}
 use Rattle.desk.proofs.desk.Desk.run.Goals as goal
@@ -18,17 +21,17 @@ returns-in-Err-clause-either g c going is honest =
     let i = c.loop-request.request-index in
     let r = c.request-item.result in
     let M = c.loop-request.self.ledger in
-    let fault = c.ending_of.ensures.stopped.0 is in
+    let fault = c.ending_of-run.ensures.stopped.0 is in
     let before = c.loop-request.invariant.2 ∙ going in
     let stops = c.in-Err.ensures.either (ap (λ f. Err f) fault) before in
-    let longer : take (length c.reserve.new.self.items + 1) requests ≡ take i requests ++ r ∷ [] =
-    ap (λ n. take (n + 1) requests) (ap (λ (xs : List Reply). length xs) c.in-Ok.ensures.items ∙ c.loop-request.invariant.1)
+    let longer : take (length c.make_room.new.self.replies.items + 1) requests ≡ take i requests ++ r ∷ [] =
+    ap (λ n. take (n + 1) requests) (ap (λ (xs : List Reply). length xs) c.make_room.ensures.replies ∙ c.loop-request.invariant.1)
     ∙ take_more requests i r c.loop-request-test.true ∙ ap (λ (x : Request). take i requests ++ x ∷ []) (sym c.request-item.is) in
-    let replies = c.loop-request.replies.items ++ Done (places M + 1) ∷ [] in
-    let runs = runs_on c.args.self.now.ledger M (accept M r) (take i requests) c.loop-request.replies.items r (Done (places M + 1)) c.loop-request.invariant.0 (accepted_answered M r stops.accepted) in (
+    let replies = c.loop-request.run.replies.items ++ Done (places M + 1) ∷ [] in
+    let runs = runs_on c.args.self.now.ledger M (accept M r) (take i requests) c.loop-request.run.replies.items r (Done (places M + 1)) c.loop-request.invariant.0 (accepted_answered M r stops.accepted) in (
       accept M r,
       (replies, subst (λ (rs : List Request). Runs c.args.self.now.ledger rs replies (accept M r)) (sym longer) runs),
-      subst (λ (L : Ledger). LeavesEither (g.K.Keep.leaves c.call.new.self.keep) L (accept M r)) (sym (c.in-Err.ensures.stopped (ap (λ f. Err f) fault)).1)
+      subst (λ (L : Ledger). LeavesEither (g.K.Keep.leaves c.call_and_tell.new.self.keep) L (accept M r)) (sym (c.in-Err.ensures.stopped (ap (λ f. Err f) fault)).1)
           (stops.either honest),
     )
 
@@ -37,20 +40,26 @@ loop-request-preserved g c =
     let requests = c.args.requests.now in
     let i = c.loop-request.request-index in
     let r = c.request-item.result in
-    let reply = c.in-Ok-call.reply in
+    let (reply, answer, (told_is, line_is, short)) = c.in-Ok-call_and_tell.ensures.told in
     let longer : take (i + 1) requests ≡ take i requests ++ r ∷ [] =
     take_more requests i r c.loop-request-test.true ∙ ap (λ (x : Request). take i requests ++ x ∷ []) (sym c.request-item.is) in
-    let told : c.push_reserved.new.self.items ≡ c.loop-request.replies.items ++ reply ∷ [] =
-    c.push_reserved.ensures.items ∙ ap (λ (xs : List Reply). xs ++ reply ∷ []) c.in-Ok.ensures.items in
-    let runs = runs_on c.args.self.now.ledger c.loop-request.self.ledger c.call.new.self.ledger (take i requests) c.loop-request.replies.items r reply
-    c.loop-request.invariant.0 c.in-Ok-call.ensures.answer in (
-      subst (λ (rs : List Request). Runs c.args.self.now.ledger rs c.push_reserved.new.self.items c.call.new.self.ledger) (sym longer)
-          (subst (λ (ps : List Reply). Runs c.args.self.now.ledger (take i requests ++ r ∷ []) ps c.call.new.self.ledger) (sym told) runs),
-      ap (λ (xs : List Reply). length xs) told ∙ length-append c.loop-request.replies.items (reply ∷ []) ∙ ap (λ n. n + 1) c.loop-request.invariant.1,
+    let told : c.push.new.self.replies.items ≡ c.loop-request.run.replies.items ++ reply ∷ [] =
+    c.push.ensures.replies ∙ ap (λ (xs : List Reply). xs ++ c.in-Ok-call_and_tell.told.reply ∷ []) c.make_room.ensures.replies ∙ ap (λ (p : Reply). c.loop-request.run.replies.items ++ p ∷ []) told_is in
+    let lines : c.push.new.self.lines.items ≡ c.loop-request.run.lines.items ++ request_line r.key reply =
+    c.push.ensures.lines ∙ ap (λ (xs : List ℕ). xs ++ c.in-Ok-call_and_tell.told.line.items) c.make_room.ensures.lines ∙ ap (λ (xs : List ℕ). c.loop-request.run.lines.items ++ xs) line_is in
+    let runs = runs_on c.args.self.now.ledger c.loop-request.self.ledger c.call_and_tell.new.self.ledger (take i requests) c.loop-request.run.replies.items r reply
+    c.loop-request.invariant.0 answer in (
+      subst (λ (rs : List Request). Runs c.args.self.now.ledger rs c.push.new.self.replies.items c.call_and_tell.new.self.ledger) (sym longer)
+          (subst (λ (ps : List Reply). Runs c.args.self.now.ledger (take i requests ++ r ∷ []) ps c.call_and_tell.new.self.ledger) (sym told) runs),
+      ap (λ (xs : List Reply). length xs) told ∙ length-append c.loop-request.run.replies.items (reply ∷ []) ∙ ap (λ n. n + 1) c.loop-request.invariant.1,
       search rules,
       search rules,
-      goes_on _ _ _ _ c.loop-request.invariant.4 c.call.ensures.goes,
+      goes_on _ _ _ _ c.loop-request.invariant.4 c.call_and_tell.ensures.goes,
+      subst (λ (rs : List Request). RepliesAll c.args.self.now.ledger (items_of rs) c.push.new.self.lines.items c.call_and_tell.new.self.ledger) (sym longer)
+          (subst (λ (out : List ℕ). RepliesAll c.args.self.now.ledger (items_of (take i requests ++ r ∷ [])) out c.call_and_tell.new.self.ledger) (sym lines)
+          (lines_on c.args.self.now.ledger c.loop-request.self.ledger c.call_and_tell.new.self.ledger (take i requests) r reply c.loop-request.run.lines.items c.loop-request.invariant.5 answer)),
+      c.push.ensures.ending ∙ c.make_room.ensures.ending ∙ c.loop-request.invariant.6,
     )
 
 pub returns-in-Err-clause-goes : goal.returns-in-Err-clause-goes
-returns-in-Err-clause-goes g c = goes_on _ _ _ _ c.loop-request.invariant.4 c.call.ensures.goes
+returns-in-Err-clause-goes g c = goes_on _ _ _ _ c.loop-request.invariant.4 c.call_and_tell.ensures.goes

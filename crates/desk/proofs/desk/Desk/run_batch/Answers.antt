@@ -5,41 +5,42 @@ use Rattle.desk.specs.Desk.{desk_state}
 use Rattle.desk.specs.Text.{RepliesAll, items_of}
 use Rattle.desk.specs.Together.{FailsAt, IsBatch}
 use Rattle.desk.specs.declared.run.Ending.TheVariants.{Stopped}
-use Rattle.desk.specs.declared.together.Told.{Told}
+use Rattle.desk.specs.declared.run.Run.{Run}
 use Rattle.desk.proofs.Batches.{batch_fails, batch_told, lines_told}
 use Rattle.desk.proofs.desk.Desk.run_batch.Goals as goal
 use Rattle.desk.proofs.desk.Desk.run_batch.Goals.{in-Ok, in-Err}
 
 pub returns-then-is_empty-clause-kept : goal.returns-then-is_empty-clause-kept
 returns-then-is_empty-clause-kept g c other =
-    subst (λ A. IsBatch A (take (length c.told.result.run.replies.items) c.args.requests.now) c.told.result.run.replies.items c.plan_batch-batch.new.book.ledger) (ap (λ d. d.ledger) c.self.view_is)
-    (batch_told c.self.inside.book.ledger c.plan_batch-batch.new.book.ledger c.args.requests.now _ c.told.result.run.replies.items c.plan_batch-batch.ensures.so_far c.told.ensures.replies)
+    subst (λ A. IsBatch A (take (length c.told.result.replies.items) c.args.requests.now) c.told.result.replies.items c.plan_batch-batch.new.book.ledger) (ap (λ d. d.ledger) c.self.view_is)
+    (batch_told c.self.inside.book.ledger c.plan_batch-batch.new.book.ledger c.args.requests.now _ c.told.result.replies.items c.plan_batch-batch.ensures.so_far c.told.ensures.replies)
 
 pub returns-then-is_empty-clause-lines : goal.returns-then-is_empty-clause-lines
 returns-then-is_empty-clause-lines g c other =
-    subst (λ A. RepliesAll A (items_of (take (length c.told.result.run.replies.items) c.args.requests.now)) c.told.result.text.items c.plan_batch-batch.new.book.ledger) (ap (λ d. d.ledger) c.self.view_is)
-    (lines_told c.self.inside.book.ledger c.plan_batch-batch.new.book.ledger c.args.requests.now _ c.told.result.run.replies.items c.plan_batch-batch.ensures.so_far c.told.ensures.replies c.told.result.text.items c.told.ensures.text)
+    subst (λ A. RepliesAll A (items_of (take (length c.told.result.replies.items) c.args.requests.now)) c.told.result.lines.items c.plan_batch-batch.new.book.ledger) (ap (λ d. d.ledger) c.self.view_is)
+    (lines_told c.self.inside.book.ledger c.plan_batch-batch.new.book.ledger c.args.requests.now _ c.told.result.replies.items c.plan_batch-batch.ensures.so_far c.told.ensures.replies c.told.result.lines.items c.told.ensures.lines)
 
 pub returns-clause-kept : goal.returns-clause-kept
 returns-clause-kept g c other = elim c.match-commit.branch [
-  | in-Ok w ↦ subst (λ A. IsBatch A (take (length c.match-commit.result.run.replies.items) c.args.requests.now) c.match-commit.result.run.replies.items c.plan_batch-batch.new.book.ledger) (ap (λ d. d.ledger) c.self.view_is)
-      (batch_told c.self.inside.book.ledger c.plan_batch-batch.new.book.ledger c.args.requests.now _ c.match-commit.result.run.replies.items c.plan_batch-batch.ensures.so_far
-      (ap (λ (t : Told). t.run.replies.items) w.result-is ∙ w.told-in-Ok.ensures.replies))
-  | in-Err w ↦ let is : c.match-commit.result.run.ending ≡ Stopped = search rules in absurd (other is)
+  | in-Ok w ↦ subst (λ A. IsBatch A (take (length c.match-commit.result.replies.items) c.args.requests.now) c.match-commit.result.replies.items c.plan_batch-batch.new.book.ledger) (ap (λ d. d.ledger) c.self.view_is)
+      (batch_told c.self.inside.book.ledger c.plan_batch-batch.new.book.ledger c.args.requests.now _ c.match-commit.result.replies.items c.plan_batch-batch.ensures.so_far
+      (ap (λ (t : Run). t.replies.items) w.result-is ∙ w.told-in-Ok.ensures.replies))
+  | in-Err w ↦ let is : c.match-commit.result.ending ≡ Stopped = search rules in absurd (other is)
 ]
 
 pub returns-clause-lines : goal.returns-clause-lines
 returns-clause-lines g c other = elim c.match-commit.branch [
-  | in-Ok w ↦ subst (λ A. RepliesAll A (items_of (take (length c.match-commit.result.run.replies.items) c.args.requests.now)) c.match-commit.result.text.items c.plan_batch-batch.new.book.ledger) (ap (λ d. d.ledger) c.self.view_is)
-      (lines_told c.self.inside.book.ledger c.plan_batch-batch.new.book.ledger c.args.requests.now _ c.match-commit.result.run.replies.items c.plan_batch-batch.ensures.so_far
-      (ap (λ (t : Told). t.run.replies.items) w.result-is ∙ w.told-in-Ok.ensures.replies) c.match-commit.result.text.items (ap (λ (t : Told). t.text.items) w.result-is ∙ w.told-in-Ok.ensures.text))
-  | in-Err w ↦ let is : c.match-commit.result.run.ending ≡ Stopped = search rules in absurd (other is)
+  | in-Ok w ↦ subst (λ A. RepliesAll A (items_of (take (length c.match-commit.result.replies.items) c.args.requests.now)) c.match-commit.result.lines.items c.plan_batch-batch.new.book.ledger) (ap (λ d. d.ledger) c.self.view_is)
+      (lines_told c.self.inside.book.ledger c.plan_batch-batch.new.book.ledger c.args.requests.now _ c.match-commit.result.replies.items c.plan_batch-batch.ensures.so_far
+      (ap (λ (t : Run). t.replies.items) w.result-is ∙ w.told-in-Ok.ensures.replies) c.match-commit.result.lines.items (ap (λ (t : Run). t.lines.items) w.result-is ∙ w.told-in-Ok.ensures.lines))
+  | in-Err w ↦ let is : c.match-commit.result.ending ≡ Stopped = search rules in absurd (other is)
 ]
 
 pub returns-clause-failed : goal.returns-clause-failed
 returns-clause-failed g c is = elim c.match-commit.branch [
-  | in-Ok w ↦ absurd (w.told-in-Ok.ensures.going (ap (λ (t : Told). t.run.ending) (sym w.result-is) ∙ is))
+  | in-Ok w ↦ absurd (w.told-in-Ok.ensures.going (ap (λ (t : Run). t.ending) (sym w.result-is) ∙ is))
   | in-Err w ↦ (
+    search rules,
     search rules,
     subst (λ d. FailsAt (desk_state g.K.Keep d) c.args.requests.now [] (desk_state g.K.Keep (record { ledger = c.plan_batch-batch.new.book.ledger; keep = c.commit.new.self }))) c.self.view_is
         (batch_fails _ _ (g.K.Keep.holds c.self.inside.keep) c.args.requests.now _ c.deref.result.now

@@ -3,7 +3,7 @@ use Rattle.std.proofs.Common.{◌≡◌, ◌≤◌, ◌-◌, false, length, take
 use Rattle.desk.specs.Desk.{Goes}
 use Rattle.desk.specs.Script.{WritesLines}
 use Rattle.desk.specs.Text.{items_of}
-use Rattle.desk.proofs.together.answer_together.Given as goal
+use Rattle.desk.proofs.lists.answer_lists.Given as goal
 
 abbrev pub invariant-loop-done : goal.invariant-loop-done
 invariant-loop-done g l =

@@ -1,0 +1,50 @@
+-- What a call of a keeper tells, and what it leaves.
+use Rattle.std.specs.Prelude.{◌≡◌, ◌≢◌, ◌⊎◌, Bool, false, List, [], ◌∷◌, IsTrue, OnOk, OnErr, Result, Err}
+use Rattle.sqlite.specs.Schema.{Schema}
+use Rattle.book.specs.Rows.{Content, IsInKeyOrder}
+use Rattle.book.specs.Tables.{content_of}
+use Rattle.book.specs.declared.rows.Tables.{Tables}
+use Rattle.keep.specs.Content.{IsDesk}
+use Rattle.keep.specs.Description.{IsOfAVersion}
+use Rattle.keep.specs.Names.{HasNames}
+use Rattle.keep.specs.declared.keep.KeepFault.{KeepFault}
+use Rattle.keep.specs.declared.keep.KeepFault.TheVariants.{Memory, NotADesk, OldVersion, Stopped, Store}
+
+-- a stopped keeper answers that and is left as it is; another goes on where its answer is no error
+pub record GoesOn {K T : Type 0} (stopped : K → Bool) (old new : K) (answer : Result T KeepFault) : Type 0 where
+  pub refused : IsTrue (stopped old) → (answer ≡ Err Stopped) × (new ≡ old)
+  pub going : stopped old ≡ false → answer ≢ Err Stopped
+  pub ok : OnOk answer (stopped new ≡ false)
+  pub err : OnErr answer (IsTrue (stopped new))
+
+-- each table is in the order of its key, and `desk` has one row, of the newest version
+pub record IsOrderedDesk (tables : Tables) : Type 0 where
+  pub order : IsInKeyOrder (content_of tables)
+  pub version : IsDesk (content_of tables)
+
+-- this was held and no other, is still held, and a stop leaves it alone
+pub record IsFound (was held : Content → Type 0) (leaves : List Content → Type 0) (tables : Tables) : Type 0 where
+  pub content : held (content_of tables)
+  pub one : (x : Content) → was x → content_of tables ≡ x
+  pub same : (x : Content) → (was x → held x) × (held x → was x)
+  pub alone : leaves (content_of tables ∷ [])
+
+-- `NotADesk` is told only where no desk of the newest version is, `OldVersion` only of an older one, and of that nothing
+-- else but for memory or the store
+pub record TellsVersion {T : Type 0} (has_tables : Content → Type 0) (is_old : Type 0) (answer : Result T KeepFault)
+    : Type 0 where
+  pub desk : answer ≡ Err NotADesk → (x : Content) → has_tables x → ¬ IsDesk x
+  pub old_version : answer ≡ Err OldVersion → is_old
+  pub only_old : is_old → answer ≢ Err Stopped → (answer ≡ Err OldVersion) ⊎ ((answer ≡ Err Memory) ⊎ (answer ≡ Err Store))
+
+-- nothing is added to what a stop may leave
+pub record AddsNothing {K : Type 0} (leaves : K → List Content → Type 0) (may_leave : K → Content → Type 0) (old new : K)
+    : Type 0 where
+  pub adds_nothing : (these : List Content) → leaves old these → leaves new these
+  pub no_more : (x : Content) → may_leave new x → may_leave old x
+
+-- A schema that is that of no version is told and what has it is left so: `NotADesk` where one of the six names is no
+-- table's, and else `Store`.
+pub record TellsOther {T : Type 0} (schema : Schema) (answer : Result T KeepFault) (is_left : Type 0) : Type 0 where
+  pub nameless : ¬ HasNames schema → (answer ≡ Err NotADesk) × is_left
+  pub other : HasNames schema → ¬ IsOfAVersion schema → (answer ≡ Err Store) × is_left

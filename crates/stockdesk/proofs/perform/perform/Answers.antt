@@ -1,0 +1,29 @@
+use Rattle.std.proofs.KnownBytes.{Keeps-refl}
+use Rattle.std.proofs.lemmas.Result.{IfErr-weaker, on_ok_weaker}
+use Rattle.clap.proofs.BuiltLemmas.{on_ok_always}
+use Rattle.stockdesk.proofs.SessionParts.{on_err, on_error}
+use Rattle.stockdesk.proofs.WorkParts.{works_in_part, works_nothing, works_untouched, works_whole}
+use Rattle.stockdesk.proofs.perform.perform.Goals as goal
+
+pub returns-in_ok-keep-in-Upgrade-clause-whole : goal.returns-in_ok-keep-in-Upgrade-clause-whole
+returns-in_ok-keep-in-Upgrade-clause-whole g c = rw c.in-Upgrade.is (on_ok_always c.in_ok-keep-in-Upgrade.ended (Keeps-refl _, Keeps-refl _))
+
+pub returns-in_ok-keep-in-Upgrade-clause-beginning : goal.returns-in_ok-keep-in-Upgrade-clause-beginning
+returns-in_ok-keep-in-Upgrade-clause-beginning g c = rw c.in-Upgrade.is (on_err c.in_ok-keep-in-Upgrade.ended (Keeps-refl _, Keeps-refl _))
+
+pub returns-in_ok-keep-in-Upgrade-clause-untouched : goal.returns-in_ok-keep-in-Upgrade-clause-untouched
+returns-in_ok-keep-in-Upgrade-clause-untouched g c = IfErr-weaker c.in_ok-keep-in-Upgrade.ended _ _ (λ fault told un. (Keeps-refl _, Keeps-refl _)) c.in_ok-keep-in-Upgrade.ensures.ended
+
+pub returns-in_err-keep-in-InFile-clause-beginning : goal.returns-in_err-keep-in-InFile-clause-beginning
+returns-in_err-keep-in-InFile-clause-beginning g c =
+    rw c.in-InFile.is (on_err c.from_residual-in_err-keep-in-InFile.result (works_nothing _ _ c.in_err-keep-in-InFile.ensures.unopened))
+
+pub returns-in_ok-keep-in-InFile-clause-whole : goal.returns-in_ok-keep-in-InFile-clause-whole
+returns-in_ok-keep-in-InFile-clause-whole g c = rw c.in-InFile.is (on_ok_weaker c.in_ok-keep-in-InFile.ended (λ s. works_whole _ _ _ s) c.in_ok-keep-in-InFile.ensures.whole)
+
+pub returns-in_ok-keep-in-InFile-clause-beginning : goal.returns-in_ok-keep-in-InFile-clause-beginning
+returns-in_ok-keep-in-InFile-clause-beginning g c =
+    rw c.in-InFile.is (on_error c.in_ok-keep-in-InFile.ended _ _ (λ fault s. works_in_part _ _ _ fault s) c.in_ok-keep-in-InFile.ensures.cut)
+
+pub returns-in_ok-keep-in-InFile-clause-untouched : goal.returns-in_ok-keep-in-InFile-clause-untouched
+returns-in_ok-keep-in-InFile-clause-untouched g c = IfErr-weaker c.in_ok-keep-in-InFile.ended _ _ (λ fault s. works_untouched _ _ _ fault s) c.in_ok-keep-in-InFile.ensures.cut
