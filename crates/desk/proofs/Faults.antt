@@ -25,7 +25,7 @@ is_stop ScriptFault.Memory = inr memory_stops_nothing
 is_stop ScriptFault.Read = inr read_stops_nothing
 is_stop ScriptFault.Write = inr write_stops_nothing
 
-abbrev error_or : {T E : Type 0} → E → Result T E → E
+abbrev pub error_or : {T E : Type 0} → E → Result T E → E
 error_or none (Ok value) = none
 error_or none (Err fault) = fault
 
