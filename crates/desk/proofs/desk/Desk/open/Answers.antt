@@ -10,7 +10,7 @@ pub returns-in-Ok-of_tables-clause-nothing_else : goal.returns-in-Ok-of_tables-c
 returns-in-Ok-of_tables-clause-nothing_else g c honest A x good rows held =
     let found : IsRowsOf c.in-Ok-of_tables.book.ledger (content_of c.in-Ok.tables) = subst (IsRowsOf c.in-Ok-of_tables.book.ledger) (cc) c.in-Ok-of_tables.ensures.ok.1 in
     told_by_rows c.in-Ok-of_tables.book.ledger A x c.in-Ok-of_tables.ensures.ok.0 good
-    (subst (IsRowsOf c.in-Ok-of_tables.book.ledger) (c.in-Ok.ensures.one honest x held) found) rows
+    (subst (IsRowsOf c.in-Ok-of_tables.book.ledger) ((c.in-Ok.ensures.found honest).one x held) found) rows
 
 pub invariant_of-result : goal.invariant_of-result
 invariant_of-result g c = record {
@@ -18,8 +18,8 @@ invariant_of-result g c = record {
   stored = λ going honest. record {
     rows = content_of c.in-Ok.tables;
     are_rows = subst (IsRowsOf c.in-Ok-of_tables.book.ledger) (cc) c.in-Ok-of_tables.ensures.ok.1;
-    held = c.in-Ok.ensures.content honest;
-    alone = c.in-Ok.ensures.alone honest (content_of c.in-Ok.tables) (c.in-Ok.ensures.content honest);
+    held = (c.in-Ok.ensures.found honest).content;
+    alone = (c.in-Ok.ensures.found honest).alone;
   };
 }
 
@@ -31,27 +31,27 @@ returns-in-Ok-of_tables-clause-opened g c =
       good = good;
       honours = honours_if_good _ good;
       always = honours_always _ good;
-      going = c.in-Ok.ensures.ok;
+      going = c.in-Ok.ensures.goes.ok;
       stored = λ honest. record {
         rows = content_of c.in-Ok.tables;
         are_rows = found;
-        held = (c.in-Ok.ensures.same honest (content_of c.in-Ok.tables)).1 (c.in-Ok.ensures.content honest);
-        alone = c.in-Ok.ensures.alone honest (content_of c.in-Ok.tables) (c.in-Ok.ensures.content honest);
+        held = ((c.in-Ok.ensures.found honest).same (content_of c.in-Ok.tables)).1 (c.in-Ok.ensures.found honest).content;
+        alone = (c.in-Ok.ensures.found honest).alone;
       };
-      rows = λ honest x held. subst (IsRowsOf c.in-Ok-of_tables.book.ledger) (c.in-Ok.ensures.one honest x held) found;
+      rows = λ honest x held. subst (IsRowsOf c.in-Ok-of_tables.book.ledger) ((c.in-Ok.ensures.found honest).one x held) found;
     }
 
 pub returns-in-Err-Damaged-clause-nothing_else : goal.returns-in-Err-Damaged-clause-nothing_else
 returns-in-Err-Damaged-clause-nothing_else g c honest A x good rows held =
-    let found : IsRowsOf A (content_of c.in-Ok.tables) = subst (IsRowsOf A) (sym (c.in-Ok.ensures.one honest x held)) rows in
+    let found : IsRowsOf A (content_of c.in-Ok.tables) = subst (IsRowsOf A) (sym ((c.in-Ok.ensures.found honest).one x held)) rows in
     absurd (c.in-Err-Damaged.ensures.damaged c.in-Err-Damaged.field-0-is A good (subst (IsRowsOf A) (cc) found))
 
 pub returns-in-Err-Damaged-clause-unopened : goal.returns-in-Err-Damaged-clause-unopened
 returns-in-Err-Damaged-clause-unopened g c = record {
   damaged = λ is honest x held A good rows.
-      let found : IsRowsOf A (content_of c.in-Ok.tables) = subst (IsRowsOf A) (sym (c.in-Ok.ensures.one honest x held)) rows in
+      let found : IsRowsOf A (content_of c.in-Ok.tables) = subst (IsRowsOf A) (sym ((c.in-Ok.ensures.found honest).one x held)) rows in
       c.in-Err-Damaged.ensures.damaged c.in-Err-Damaged.field-0-is A good (subst (IsRowsOf A) (cc) found);
-  loaded = λ is. c.in-Ok.ensures.ok;
+  loaded = λ is. c.in-Ok.ensures.goes.ok;
   not_a_desk = λ is. absurd (cc is);
   old_version = λ is. absurd (cc is);
   stopped = λ is. elim is [ inl e ↦ absurd (cc e) | inr more ↦ elim more [ inl e ↦ absurd (cc e) | inr e ↦ absurd (cc e) ] ];
