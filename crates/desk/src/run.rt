@@ -167,10 +167,10 @@ impl<K: Keep> Desk<K> {
         ensures either { K.stopped self.old.keep ≡ false → result.ending ≡ Ending.Stopped → K.is_honest self.new.keep
             → (A : Ledger) → StandsAt A requests.now first self.old.ledger
             → LeavesResumable (K.leaves self.new.keep) A requests.now (first + length result.replies.items) }
-        ensures replies { Runs self.old.ledger (take (length result.replies.items)
-            (drop (first - 1) requests.now)) result.replies.items self.new.ledger }
-        ensures lines { RepliesAll self.old.ledger (items_of (take (length result.replies.items)
-            (drop (first - 1) requests.now))) result.lines.items self.new.ledger }
+        ensures replies { let rest = drop (first - 1) requests.now in
+            Runs self.old.ledger (take (length result.replies.items) rest) result.replies.items self.new.ledger
+            × RepliesAll self.old.ledger (items_of (take (length result.replies.items) rest)) result.lines.items
+            self.new.ledger }
         ensures all { result.ending ≡ Ending.All ↔ first + length result.replies.items ≡ length requests.now + 1 }
         ensures refused { IsTrue (K.stopped self.old.keep) → result.replies.items ≡ [] }
         ensures stop { TellsStop (result.ending ≡ Ending.Stopped) (desk_state K.Keep self.old)

@@ -84,7 +84,7 @@ loop-question-preserved g c =
             questions ++ asked ∷ [],
             subst (λ qs. g.D.Dialogue.stands c.next.new.self read ended qs) (append_assoc before questions (asked ∷ [])) now,
             counted_on _ _ _ _ questions asked _ _ _ _ _ _ (λ e. ap (desk_state g.K.Keep) (goes.untouched e)) done
-            (answered_one _ _ _ asked _ _ _ (c.in_ok-answer.ensures.told asked asks) (rw c.as_bytes.ensures at c.in_ok-write_whole.ensures.whole)) c.saturating_add.ensures,
+                (answered_one _ _ _ asked _ _ _ (c.in_ok-answer.ensures.told asked asks) (rw c.as_bytes.ensures at c.in_ok-write_whole.ensures.whole)) c.saturating_add.ensures,
           );
       goes = goes_on _ _ _ _ c.loop-question.invariant.goes goes;
     }

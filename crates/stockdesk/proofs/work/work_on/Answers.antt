@@ -1,5 +1,5 @@
 use Rattle.std.proofs.KnownBytes.{Keeps-refl}
-use Rattle.desk.proofs.Cuts.{of_error}
+use Rattle.desk.proofs.Faults.{of_error}
 use Rattle.stockdesk.proofs.work.work_on.Goals as goal
 
 pub returns-in-Requests-clause-cut : goal.returns-in-Requests-clause-cut

@@ -31,5 +31,7 @@ returns-clause-either g c going is honest A stands =
     let apart = λ (e : length c.run.result.replies.items ≡ length (drop (c.args.first - 1) c.args.requests.now)). ends_once (sym is ∙ c.run.ensures.all.1 (rw same e)) in
     leaves_resumable A _ _ next c.args.requests.now c.args.first _ _ c.requires.counted (not_all _ _ c.args.requests.now c.args.first _ c.requires.counted c.requires.within run apart) stands run after either
 
-pub returns-clause-lines : goal.returns-clause-lines
-returns-clause-lines g c = rw (rest (c.args.first - 1) c.args.requests.now) at c.run.ensures.lines
+pub returns-clause-replies : goal.returns-clause-replies
+returns-clause-replies g c =
+    let same = rest (c.args.first - 1) c.args.requests.now in
+    (rw same at c.run.ensures.replies, rw same at c.run.ensures.lines)
