@@ -1,5 +1,5 @@
 -- What is found after a session.
-use Rattle.std.proofs.Common.{◌≡◌, ◌≢◌, ◌⊎◌, ◌∙◌, ◌++◌, ℕ, Bool, false, true, true≢false, List, [], ◌∷◌, None, Some, Result, Ok, Err, IfErr, OnOk, ap, arith, refl, subst, sym}
+use Rattle.std.proofs.Common.{◌≡◌, ◌≢◌, ◌⊎◌, ◌∙◌, ◌++◌, ℕ, Bool, false, true, true≢false, List, [], ◌∷◌, Some, Result, Ok, Err, IfErr, OnOk, ap, arith, refl, subst, sym}
 use Rattle.std.proofs.Math.Logic.{inl, inr}
 use Rattle.std.proofs.KnownBytes.{Appends-kept, Appends-nil, Consumes-kept, Consumes-nil}
 use Rattle.words.specs.declared.command.Request.{Request}

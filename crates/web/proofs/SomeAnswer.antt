@@ -7,8 +7,11 @@ use Rattle.book.proofs.Runs.{answered_if_good}
 use Rattle.book.proofs.ShownNumbers.{Contains-of_find}
 use Rattle.book.specs.Good.{Good}
 use Rattle.book.specs.Ledger.{Field, Ledger, Order, field_named, name_of, order_numbered, same_name}
-use Rattle.desk.specs.Desk.{Snapshot}
-use Rattle.desk.specs.Dialogue.{AnswerKind, AreAnswers, IsTranscript, ordinary, text_of}
+use Rattle.desk.specs.Desk.{DeskState, Snapshot, snapshot}
+use Rattle.desk.specs.Dialogue.{AnswerKind, AreAnswers, BeginsTranscript, EndsCut, IsTranscript, ordinary, text_of}
+use Rattle.desk.specs.Streams.{Streams}
+use Rattle.desk.specs.declared.fault.ScriptFault.{ScriptFault}
+use Rattle.desk.proofs.Conversing.{transcript_begins}
 use Rattle.web.specs.Web.{AnswersPart, http}
 use Rattle.web.specs.Answers.{Answer, json_answer, message_answer, none_answer, reply_answer, text_answer}
 use Rattle.web.specs.Asks.{AsksFor}
@@ -91,3 +94,9 @@ some_web old stream g =
     let parts = some_parts stream in
     let all = some_answers parts.0 old g in
     (all.kinds, text_of http all.answers, all.new, all.plains, record { questions = parts.0; answers = all.answers; are_questions = parts.1; are_answers = all.replies; out_is = refl })
+
+-- what is written at a fault is a beginning of what is answered
+pub serve_begins : (fault : ScriptFault) (old new : DeskState) (s : Streams) → Good new.ledger → EndsCut http fault old new s → BeginsTranscript http (snapshot old) s
+serve_begins fault old new s good ends =
+    let more = some_answers ends.cut.left ends.cut.behind (subst Good ends.cut.same good) in
+    transcript_begins http fault old new s ends more.kinds more.answers more.new more.replies

@@ -1,8 +1,8 @@
 //! A connection, served.
 
 ghost use Rattle.std.specs.Prelude.{◌≡◌, ◌≢◌, IfErr, IfOk, drop, true};
-ghost use Rattle.desk.specs.Desk.{Goes, desk_state};
-ghost use Rattle.desk.specs.Dialogue.{EndsCut, EndsWhole};
+ghost use Rattle.desk.specs.Desk.{Goes, desk_state, snapshot};
+ghost use Rattle.desk.specs.Dialogue.{BeginsTranscript, EndsCut, EndsWhole};
 ghost use Rattle.desk.specs.Streams.{streams};
 ghost use Rattle.web.specs.Intake.{IsMessageAt, IsMessageWithin};
 ghost use Rattle.web.specs.Messages.{Message, whole};
@@ -183,6 +183,8 @@ pub fn serve<K: Keep, R: Read, W: Write>(
         × Tells served whole) }
     ensures cut { IfErr result (λ fault. EndsCut http (cause_of fault) (desk_state K.Keep desk.old)
         (desk_state K.Keep desk.new)
+        (streams (R.remaining reader.old) (R.remaining reader.new) (W.contents writer.old) (W.contents writer.new))) }
+    ensures begins { IfErr result (λ fault. BeginsTranscript http (snapshot (desk_state K.Keep desk.old))
         (streams (R.remaining reader.old) (R.remaining reader.new) (W.contents writer.old) (W.contents writer.new))) }
     ensures goes { Goes K.Keep desk.old desk.new }
 {
