@@ -16,14 +16,15 @@ pub fn exactly_one_list_of_parts()
         → parts ≡ others }
 {}
 
-/// At a good ledger there is something to answer to each stream with ordinary answers alone, and for a stream and the kinds of
-/// its answers there are not two of them: what is written is settled by what is read and by the kinds.
+/// At a good ledger there is something to answer to each stream with ordinary answers alone, and for a stream and the
+/// kinds of its answers there are not two: what is written is settled by what is read and by the kinds.
 pub fn exactly_one_answer()
     ensures some { (old : Snapshot) (stream : List ℕ) → Good old.ledger
         → (kinds : List AnswerKind) × (out : List ℕ) × (new : Snapshot) × Each (λ kind. kind ≡ ordinary) kinds
         × IsTranscript http old stream kinds out new }
     ensures one { (old : Snapshot) (stream : List ℕ) (kinds : List AnswerKind) (out other : List ℕ) (new last : Snapshot)
-        → IsTranscript http old stream kinds out new → IsTranscript http old stream kinds other last → (out ≡ other) × (new ≡ last) }
+        → IsTranscript http old stream kinds out new → IsTranscript http old stream kinds other last
+        → (out ≡ other) × (new ≡ last) }
 {}
 
 /// Where no answer has the status 503, each is an ordinary one.

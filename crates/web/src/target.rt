@@ -1,5 +1,5 @@
-//! What a target leads to. It is compared as its bytes stand: nothing in it is decoded, and a `?` belongs to the part in
-//! which it stands.
+//! What a target leads to. It is compared as its bytes stand: nothing in it is decoded, and a `?` belongs to the part
+//! in which it stands.
 
 ghost use Rattle.std.specs.Prelude.{◌≡◌, ◌≢◌, ◌↔◌, ℕ, IfNone, IfSome, IsTrue, Some, SomeIff, decimal};
 ghost use Rattle.escrow.specs.Codes.{IsArticle, IsBranch};
