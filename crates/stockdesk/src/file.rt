@@ -13,7 +13,7 @@ ghost use Rattle.keep.specs.Content.{Holds, HoldsOf, IsContent, LeavesOnly};
 ghost use Rattle.keep.specs.Description.{IsOlder};
 ghost use Rattle.keep.specs.Old.{HoldsOld, IsOldContent, upgraded};
 ghost use Rattle.keep.specs.Starts.{StartsOf, StartsOld, StartsWith};
-ghost use Rattle.stockdesk.specs.Sessions.{IsNewDesk, IsNotOpened, HoldsOnly, session_in};
+ghost use Rattle.stockdesk.specs.Sessions.{HoldsOnly, IsNewDesk, IsNotOpened, session_in};
 ghost use Rattle.stockdesk.specs.Work.{GoesOnFrom, WorkInPart, WorkWhole};
 
 use crate::new_desk::new_desk;

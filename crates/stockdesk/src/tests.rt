@@ -1,4 +1,4 @@
-//! The program, by what it reads and writes: what `library_tests` does not play, and the tests of it as a process.
+//! The program, by what it reads and writes: what neither `library_tests` nor the tests of the process play.
 
 mod connections;
 mod steps;

@@ -105,7 +105,7 @@ fn expect_step(rt: &HostRuntime, step: &Step) -> Result<(), Fail> {
     }
 }
 
-/// Carries the command out. One that fails leaves the file as it was, and so does one that has no output but `init`.
+/// Carries the command out. One that fails leaves the file as it was, and so does one without output, but for `init`.
 fn expect_whole_step(rt: &HostRuntime, step: &Step) -> Result<(), Fail> {
     let (command, _, status, out, _) = *step;
     let before = bytes_of(rt)?;
