@@ -14,7 +14,7 @@ use Rattle.book.specs.Rows.{Content}
 use Rattle.book.specs.Tables.{content_of}
 use Rattle.keep.specs.Content.{Holds, IsContent, LeavesOnly}
 use Rattle.keep.specs.Keeping.{IsFound}
-use Rattle.keep.specs.Loads.{HoldsLoaded, IsRead}
+use Rattle.keep.specs.Loads.{IsRead}
 use Rattle.keep.specs.Old.{IsCurrent, IsMadeNewest, IsUpgraded}
 use Rattle.keep.specs.OneContent.{only_content}
 use Rattle.keep.specs.Keeper.{Keeper}
@@ -53,7 +53,7 @@ stopped_over {S} r fault connection was stopped told is same =
 
 -- of an open store a stop leaves what is committed
 module _ (old new : State) (settled : IsTrue new.is_open → (trees : Trees) → new.may_leave trees → trees ≡ new.committed.trees) where
-  pub found_of : (t : Tables) → HoldsLoaded old new t → IsFound (Holds old.now) (Holds new.now) (LeavesOnly new.may_leave) t
+  pub found_of : (t : Tables) → IsRead (λ db. Holds db (content_of t)) old new → IsFound (Holds old.now) (Holds new.now) (LeavesOnly new.may_leave) t
   found_of t read =
       let same : new.now ≡ old.now = read.same.0.now_is in
       let held = subst (λ (db : Database). Holds db (content_of t)) (sym same) read.is in

@@ -6,4 +6,3 @@ pub mod Sheets
 pub mod Work
 pub mod Tasks
 pub mod Done
-pub mod Upgrades

@@ -3,8 +3,8 @@
 ghost use Rattle.std.specs.Prelude.{◌≡◌, ◌↔◌, false, IfErr};
 ghost use Rattle.sqlite.specs.Held.{state};
 ghost use Rattle.sqlite.specs.State.{HasCleanDisk};
+ghost use Rattle.keep.specs.Old.{Upgrades};
 ghost use Rattle.stockdesk.specs.Sessions.{IsNotOpened};
-ghost use Rattle.stockdesk.specs.Upgrades.{Upgrades};
 
 use crate::session::Fault;
 use keep::{KeepFault, SqlKeep};
@@ -28,8 +28,8 @@ fn upgrade_fault(fault: KeepFault) -> Fault
 pub fn upgrade<S: Alter>(keep: SqlKeep<S>) -> (SqlKeep<S>, Result<(), Fault>)
     ensures going { result.0.stopped ≡ false }
     ensures clean { HasCleanDisk (state S.Store result.0.connection) → HasCleanDisk (state S.Store keep.connection) }
-    ensures upgrades { HasCleanDisk (state S.Store result.0.connection) → Upgrades (state S.Store keep.connection)
-        (state S.Store result.0.connection) result.1 }
+    ensures upgrades { HasCleanDisk (state S.Store result.0.connection) → Upgrades Fault.NotADesk
+        (state S.Store keep.connection) (state S.Store result.0.connection) result.1 }
     ensures fault { IfErr result.1 IsNotOpened }
 {
     let mut conn = keep.into_connection();

@@ -1,4 +1,5 @@
-use Rattle.std.proofs.Common.{Err, IfErr, Ok, OnOk, Result, ap, inl, inr, refl, subst, sym, ◌≡◌, ◌∙◌}
+use Rattle.std.proofs.Common.{Err, IfErr, Ok, Result, ap, inl, inr, refl, subst, sym, ◌≡◌, ◌∙◌}
+use Rattle.std.proofs.lemmas.Result.{on_ok_weaker}
 use Rattle.sqlite.specs.Effect.{Database}
 use Rattle.sqlite.specs.Files.{file_state}
 use Rattle.sqlite.specs.State.{HasCleanDisk}
@@ -16,18 +17,13 @@ use Rattle.stockdesk.proofs.file.upgrade.Goals as goal
 held_old : (g : _) (c : goal.After-upgrade g) (clean : HasCleanDisk (file_state c.in_ok-keep.keep.connection)) (x : Content) → StartsOld (image_at g.S.Start) x → HoldsOld (file_state c.in_ok-keep.keep.connection).now x
 held_old g c clean x there = (there.0, there.1, c.in_ok-keep.ensures.old clean there.0 x there.2)
 
-both_ok : {T E A B C : Type 0} (r : Result T E) → (A → B → C) → OnOk r A → OnOk r B → OnOk r C
-both_ok (Ok x) both a b = both a b
-both_ok (Err e) both a b = tt
-
 pub returns-clause-made : goal.returns-clause-made
 returns-clause-made g c clean =
     let was = c.upgrade.ensures.clean clean in
-    let upgrades = c.upgrade.ensures.upgrades clean in
-    both_ok c.upgrade.result.1 (λ made same x. (λ there. made x (held_old g c was x there), λ there. same x (c.in_ok-keep.ensures.opened.held was x there))) upgrades.made upgrades.same
+    on_ok_weaker c.upgrade.result.1 (λ is x. (λ there. is.made x (held_old g c was x there), λ there. is.same x (c.in_ok-keep.ensures.opened.held was x there))) (c.upgrade.ensures.upgrades clean).done
 
 pub returns-clause-alone : goal.returns-clause-alone
-returns-clause-alone g c clean = (c.upgrade.ensures.upgrades clean).alone
+returns-clause-alone g c clean = on_ok_weaker c.upgrade.result.1 (λ is. is.alone) (c.upgrade.ensures.upgrades clean).done
 
 pub returns-clause-either : goal.returns-clause-either
 returns-clause-either g c clean x there trees left =
