@@ -9,7 +9,7 @@ use Rattle.book.specs.Answers.{IsAccepted}
 use Rattle.book.specs.Ledger.{Ledger}
 use Rattle.book.specs.Next.{accept}
 use Rattle.desk.specs.Desk.{DeskState, LeavesEither, Snapshot, snapshot}
-use Rattle.desk.specs.Dialogue.{AlmostWritten, AnswerKind, Answered, AnswersOne, AreAnswers, Begins, EndsCut, EndsWhole, FailsOne, IsCut, IsNoStop, IsStoppedBy, Language, StopsDesk, is_end, longest_piece, most, no_memory, ordinary, stopping, text_of}
+use Rattle.desk.specs.Dialogue.{AlmostWritten, AnswerKind, Answered, AnswersOne, AreAnswers, Begins, BeginsTranscript, EndsCut, EndsWhole, FailsOne, IsCut, IsNoStop, IsStoppedBy, Language, StopsDesk, is_end, longest_piece, most, no_memory, ordinary, stopping, text_of}
 use Rattle.desk.specs.Script.{Writes}
 use Rattle.desk.specs.Streams.{Streams, streams}
 use Rattle.desk.specs.declared.fault.CallFault.{CallFault}
@@ -464,6 +464,41 @@ module _ {Q A : Type 0} (L : Language Q A) where
         unfolding conversed_on answered_on
         counted_behind Stands before count ended still come settled stands was counts =
             (conversed_on come settled, subst (λ (b : Bool). Stands (at.read ++ piece) b (at.questions ++ others)) still stands, counts _ was ∙ ap most (sym (length-append at.done.answers done.answers)))
+
+module _ {Q A : Type 0} (L : Language Q A) where
+  -- what was written goes on, where what is left has answers
+  pub transcript_begins : (fault : ScriptFault) (old new : DeskState) (s : Streams) (ends : EndsCut L fault old new s) (kinds : List AnswerKind) (ys : List A) (last : Snapshot) → AreAnswers L ends.cut.behind ends.cut.left kinds ys last
+      → BeginsTranscript L (snapshot old) s
+  transcript_begins fault old new s ends kinds ys last more = by ends.cut.almost
+    where
+      by : AlmostWritten L ends.cut.answers ends.written → BeginsTranscript L (snapshot old) s
+      by almost =
+          let (rest, whole) = goes almost in
+          record {
+            read = ends.read;
+            written = ends.written;
+            kinds = ends.cut.kinds ++ kinds;
+            unwritten = rest ++ text_of L ys;
+            last = last;
+            reads = ends.reads;
+            writes = ends.writes;
+            transcript = record {
+              questions = ends.questions;
+              answers = ends.cut.answers ++ ys;
+              are_questions = ends.are_questions;
+              are_answers = subst (λ (qs : List Q). AreAnswers L (snapshot old) qs (ends.cut.kinds ++ kinds) (ends.cut.answers ++ ys) last) (sym ends.cut.split)
+                  (answers_on L ends.cut.answered ends.cut.left ends.cut.kinds kinds ends.cut.answers ys (snapshot old) ends.cut.behind last ends.cut.are_answers more);
+              out_is = sym (append_assoc ends.written rest (text_of L ys)) ∙ ap (λ (t : List ℕ). t ++ text_of L ys) (sym whole) ∙ sym (text_on L ends.cut.answers ys);
+            };
+          }
+        where
+          goes : AlmostWritten L ends.cut.answers ends.written → (rest : List ℕ) × (text_of L ends.cut.answers ≡ ends.written ++ rest)
+          goes (inl all) = ([], sym all ∙ sym (append-nil ends.written))
+          goes (inr l) = (
+            l.left,
+            ap (text_of L) l.split ∙ text_on L l.before (l.last ∷ []) ∙ ap (λ (t : List ℕ). text_of L l.before ++ t) (append-nil (L.text l.last) ∙ l.cut)
+                ∙ sym (append_assoc (text_of L l.before) l.begun l.left) ∙ ap (λ (t : List ℕ). t ++ l.left) (sym l.written_are),
+          )
 
 -- a piece is the end only where it has no bytes
 pub end_empty : (piece : List ℕ) → is_end piece ≡ true → piece ≡ []

@@ -1,6 +1,7 @@
 -- Which faults stop a desk.
 use Rattle.std.proofs.Common.{◌≡◌, ◌≢◌, ◌⊎◌, ◌∙◌, Bool, Err, IfErr, Ok, Result, true, false, true≢false, ap, inl, inr, refl, sym}
-use Rattle.std.specs.Result.{IsErrAnd}
+use Rattle.std.specs.Prelude.{OnOk}
+use Rattle.std.specs.Result.{IsErr, IsErrAnd}
 use Rattle.desk.specs.declared.fault.ScriptFault.{ScriptFault}
 
 abbrev is_stopped : ScriptFault → Bool
@@ -25,7 +26,7 @@ is_stop ScriptFault.Memory = inr memory_stops_nothing
 is_stop ScriptFault.Read = inr read_stops_nothing
 is_stop ScriptFault.Write = inr write_stops_nothing
 
-abbrev error_or : {T E : Type 0} → E → Result T E → E
+abbrev pub error_or : {T E : Type 0} → E → Result T E → E
 error_or none (Ok value) = none
 error_or none (Err fault) = fault
 
@@ -42,3 +43,8 @@ of_error (Err e) P Q on p = on e refl p
 pub passed_as : {T E : Type 0} (r : Result T E) (P Q : E → Type 0) → IsErrAnd r P → ((fault : E) → P fault → Q fault) → IfErr r Q
 passed_as (Ok x) P Q is on = tt
 passed_as (Err fault) P Q is on = on fault is
+
+-- an error is no answer
+pub never_ok : {T E : Type 0} (r : Result T E) (P : Type 0) → IsErr r → OnOk r P
+never_ok (Ok x) P is = absurd (true≢false (sym is))
+never_ok (Err fault) P is = tt

@@ -194,12 +194,6 @@ module _ {T : Type 0} (ended : Result T ScriptFault) (old new : DeskState) (s : 
   pub whole_left : OnOk ended (EndsWhole lines old new s) → OnOk ended (LeavesRowsOf new.leaves (λ B. WritesText old.ledger B s))
   whole_left = on_ok_weaker ended (λ whole. stored_left new.ledger (λ B. WritesText old.ledger B s) holds new.leaves good (text_written old new s whole) (stored (whole_goes_on old new s whole ∙ went) honest))
 
--- a desk that is not stopped by a script goes on as it did
-pub script_goes_on : {T : Type 0} (ended : Result T ScriptFault) (old new : DeskState) (s : Streams) → OnOk ended (EndsWhole lines old new s) → IfErr ended (λ fault. EndsCut lines fault old new s) → ended ≢ Err ScriptFault.Stopped
-    → new.is_stopped ≡ old.is_stopped
-script_goes_on (Ok done) old new s whole cut other = whole_goes_on old new s whole
-script_goes_on (Err fault) old new s whole cut other = cut_goes_on fault old new cut.questions cut.written cut.cut (λ e. other (ap (λ (f : ScriptFault). Err f) e))
-
 -- what is opened then is the ledger of the whole
 pub whole_opened : {T K : Type 0} (Honest : K → Type 0) (leaves : List Content → Type 0) (Before : Type 0) (Is : Ledger → Type 0) (ended : Result T ScriptFault) (o : Option (Result (DeskView K) (OpenFault × K)))
     → IfSome o (λ r. Honest (keeper_after r) → Before) → (Before → OnOk ended (LeavesRowsOf leaves Is))

@@ -4,15 +4,17 @@ use Rattle.std.specs.Bool.{◌==◌}
 use Rattle.words.specs.declared.command.Request.{Request}
 use Rattle.words.specs.declared.item.Item.TheVariants as item
 use Rattle.book.specs.Ledger.{Ledger}
-use Rattle.desk.specs.Desk.{DeskState, Snapshot, snapshot}
+use Rattle.std.specs.Prelude.{Err, IfErr, Ok, OnOk, Result}
+use Rattle.desk.specs.Desk.{DeskState, Snapshot, TellsStop, snapshot}
 use Rattle.desk.specs.Streams.{Streams}
 use Rattle.desk.specs.declared.fault.ScriptFault.{ScriptFault}
 use Rattle.desk.proofs.Conversing.{last_answer, text_on}
+use Rattle.desk.proofs.Faults.{error_or}
 use Rattle.words.proofs.OneFeed.{feeds_one}
 use Rattle.words.proofs.TwoPieces.{feeds_joined}
 use Rattle.words.specs.Stream.{Feeds}
 use Rattle.words.specs.declared.item.Item.{Item}
-use Rattle.desk.specs.Dialogue.{AnswerKind, AreAnswers, EndsWhole, IsCut, IsStoppedBy, LacksRest, is_end, no_memory, ordinary, stopping, text_of}
+use Rattle.desk.specs.Dialogue.{AnswerKind, AreAnswers, EndsCut, EndsWhole, IsCut, IsStoppedBy, LacksRest, is_end, no_memory, ordinary, stopping, text_of}
 use Rattle.desk.specs.Script.{HasFed, HaveEnded, WritesText, lines}
 use Rattle.desk.specs.Text.{RepliesAll, unended}
 
@@ -153,3 +155,11 @@ module _ (fault : ScriptFault) (old new : DeskState) (items : List Item) (writte
       at_left [] (kind ∷ kinds) out before h by = absurd h
       at_left (x ∷ answered) [] out before h by = absurd h
       at_left (x ∷ answered) (kind ∷ kinds) [] before h by = absurd h
+
+-- it is told where a script has stopped the desk
+pub script_tells : {T : Type 0} (ended : Result T ScriptFault) (old new : DeskState) (s : Streams) → OnOk ended (EndsWhole lines old new s) → IfErr ended (λ fault. EndsCut lines fault old new s) → TellsStop (ended ≡ Err ScriptFault.Stopped) old new
+script_tells (Ok done) old new s whole cut = record { stopped = λ e. cc e; going = λ other. whole_goes_on old new s whole }
+script_tells (Err fault) old new s whole cut = record {
+  stopped = λ e. (cut.cut.stopped (ap (error_or fault) e)).0;
+  going = λ other. cut_goes_on fault old new cut.questions cut.written cut.cut (λ e. other (ap (λ (f : ScriptFault). Err f) e));
+}

@@ -24,8 +24,9 @@ use Rattle.book.proofs.ShownNumbers.{Contains-of_find, levels_of}
 use Rattle.desk.specs.Replies.{AnswersField, bad_line, field_line, none_line, order_line, request_line}
 use Rattle.desk.specs.Text.{AreItems, IsText, Replies, RepliesAll, unended}
 use Rattle.desk.specs.Desk.{DeskState}
-use Rattle.desk.specs.Dialogue.{IsCut}
-use Rattle.desk.specs.Script.{lines}
+use Rattle.desk.specs.Dialogue.{EndsCut, IsCut}
+use Rattle.desk.specs.Script.{WritesBeginning, lines}
+use Rattle.desk.specs.Streams.{Streams}
 use Rattle.desk.specs.declared.fault.ScriptFault.{ScriptFault}
 use Rattle.desk.proofs.LineAnswers.{are_told}
 use Rattle.desk.proofs.Texts.{replies_joined}
@@ -176,3 +177,9 @@ text_from fault before behind input written items good are cut =
     let range = front_in_range cut.answered cut.left (subst (λ (xs : List Item). Each IsItemInRange xs) cut.split (items_in_range input items are)) in
     let (more, last, text) = text_on before.ledger behind.ledger input (written ++ told.left) items cut.answered cut.left (good_after_all cut.answered before.ledger (written ++ told.left) behind.ledger good range told.all) are cut.split told.all in
     (told.left ++ more, last, subst (λ (out : List ℕ). IsText before.ledger input out last) (append_assoc written told.left more) text)
+
+-- a script that is cut has written a beginning of its text
+pub script_begins : (fault : ScriptFault) (old new : DeskState) (s : Streams) → Good old.ledger → EndsCut lines fault old new s → WritesBeginning old.ledger s
+script_begins fault old new s good ends =
+    let (unwritten, last, text) = text_from fault old new ends.read ends.written ends.questions good ends.are_questions ends.cut in
+    record { read = ends.read; written = ends.written; unwritten = unwritten; last = last; reads = ends.reads; writes = ends.writes; text = text }

@@ -57,6 +57,18 @@ pub record IsTranscript {Q A : Type 0} (L : Language Q A) (old : Snapshot) (inpu
   pub are_answers : AreAnswers L old questions kinds answers new
   pub out_is : out ≡ text_of L answers
 
+-- Some of what was there was read, and what was written is a beginning of what is answered to that, by answers of these
+-- kinds.
+pub record BeginsTranscript {Q A : Type 0} (L : Language Q A) (old : Snapshot) (s : Streams) : Type 0 where
+  pub read : List ℕ
+  pub written : List ℕ
+  pub kinds : List AnswerKind
+  pub unwritten : List ℕ
+  pub last : Snapshot
+  pub reads : Consumes s.reader_old s.reader_new read
+  pub writes : Appends s.writer_old s.writer_new written
+  pub transcript : IsTranscript L old read kinds (written ++ unwritten) last
+
 -- ---- what is read
 
 -- the first questions of an input

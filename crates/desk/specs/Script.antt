@@ -69,6 +69,16 @@ pub record WritesText (old new : Ledger) (s : Streams) : Type 0 where
   pub text : IsText old read out new
   pub writes : Appends s.writer_old s.writer_new out
 
+-- some of what was there was read, and a beginning was written of the text for that, from this ledger on
+pub record WritesBeginning (old : Ledger) (s : Streams) : Type 0 where
+  pub read : List ℕ
+  pub written : List ℕ
+  pub unwritten : List ℕ
+  pub last : Ledger
+  pub reads : Consumes s.reader_old s.reader_new read
+  pub writes : Appends s.writer_old s.writer_new written
+  pub text : IsText old read (written ++ unwritten) last
+
 -- ---- lines that come in pieces (private)
 
 -- These bytes were taken in and these items found. What of a line has not ended is held; behind it wait the items of

@@ -1,13 +1,13 @@
 //! A ledger, and the keeper of its rows.
 
-ghost use Rattle.std.specs.Prelude.{◌≡◌, ◌≢◌, ◌*◌, ◌<◌, ◌≤◌, [], false, length, take, IsTrue, IfOk, IfErr, IsSomeAnd, MatchOption, Err};
+ghost use Rattle.std.specs.Prelude.{◌≡◌, ◌≢◌, ◌*◌, ◌<◌, ◌≤◌, ◌⊎◌, [], false, length, take, IsTrue, IfOk, IfErr, IsSomeAnd, MatchOption, OnOk, Err};
 ghost use Rattle.escrow.specs.Codes.{IsKey};
 ghost use Rattle.words.specs.Spelling.{IsInRange};
 ghost use Rattle.book.specs.Answers.{Answers, IsAccepted};
 ghost use Rattle.book.specs.Good.{Good};
 ghost use Rattle.book.specs.Ledger.{Ledger, field_named, name_of, order_numbered};
 ghost use Rattle.book.specs.Next.{accept};
-ghost use Rattle.book.specs.PlanAnswers.{Plans};
+ghost use Rattle.words.specs.declared.reply.Reply.{Reply as ReplyOf};
 ghost use Rattle.book.specs.Plans.{Fits};
 ghost use Rattle.book.specs.Rows.{Content, IsRowsOf};
 ghost use Rattle.book.specs.Views.{ShowsField, ShowsOrder};
@@ -20,7 +20,7 @@ ghost use Rattle.desk.specs.Opening.{IsLeft, IsOpened, IsRefusedAsOld, IsUnopene
 
 use crate::fault::{CallFault, OpenFault, load_fault};
 use crate::run::{Ending, Run};
-use crate::telling::AsReply;
+use crate::telling::{AsReply, Teller};
 use crate::together::plan_batch;
 use book::{Book, FieldView, OrderView, Plan, Planned, TablesFault};
 use escrow::{Article, Branch, OrderNo};
@@ -100,33 +100,52 @@ impl<K: Keep> Desk<K> {
         self.call_and_tell(alloc, &AsReply, request)
     }
 
-    /// What is to be answered to a request, of which nothing is done yet: so what tells of it can be made before it is
-    /// carried out. `Memory` and `Stopped` as by `call`; nothing has changed by either.
-    pub fn plan(&self, alloc: Global, request: &Request) -> Result<Planned, CallFault>
-        ensures going { IfOk result (λ _. K.stopped self.now.keep ≡ false) }
-        ensures planned { IfOk result (λ planned. Plans self.now.ledger request.now planned) }
-        ensures key { IsKey request.now.key }
-        ensures command { IsInRange request.now.command }
-        ensures wanted { result ≡ Err CallFault.Memory → (K.stopped self.now.keep ≡ false)
-            × IsAccepted self.now.ledger request.now }
-        ensures stopped { result ≡ Err CallFault.Stopped → IsTrue (K.stopped self.now.keep) }
-        ensures refused { IsTrue (K.stopped self.now.keep) → result ≡ Err CallFault.Stopped }
+    /// Answers a request as `call` does; what tells of its reply is made before it is carried out, so nothing is done
+    /// and not told. Memory is wanted by the teller, and else only for a request that is accepted.
+    pub fn call_and_tell<T: Teller>(
+        &mut self,
+        alloc: Global,
+        teller: &T,
+        request: &Request,
+    ) -> Result<T::Told, CallFault>
+        ensures told { IfOk result (λ told. (reply : ReplyOf) × Answers self.old.ledger request.now reply self.new.ledger
+            × T.tells request.now.key reply told) }
+        ensures going { OnOk result ((K.stopped self.old.keep ≡ false) × (K.stopped self.new.keep ≡ false)) }
+        ensures others { (IsAccepted self.old.ledger request.now → ⊥) → self.new ≡ self.old }
+        ensures memory { result ≡ Err CallFault.Memory → (self.new ≡ self.old)
+            × (T.wants_memory ⊎ IsAccepted self.old.ledger request.now) }
+        ensures stopped { result ≡ Err CallFault.Stopped → IsTrue (K.stopped self.new.keep)
+            × (self.new.ledger ≡ self.old.ledger) }
+        ensures either { result ≡ Err CallFault.Stopped → K.stopped self.old.keep ≡ false
+            → StopsCall request.now (desk_state K.Keep self.old) (desk_state K.Keep self.new) }
+        ensures refused { IsTrue (K.stopped self.old.keep) → result ≡ Err CallFault.Stopped }
+        ensures goes { Goes K.Keep self.old self.new }
     {
+        self.in_order();
         // so that the proof has the invariants
         request.key.as_bytes();
         request.command.words();
-        if self.keep.is_stopped() {
+        if self.is_stopped() {
             return Err(CallFault::Stopped);
         }
-        self.book
-            .plan(alloc, request)
-            .map_err(|_| CallFault::Memory)
+        match self.book.plan(alloc, request) {
+            Ok(Planned::Again(place)) => Ok(teller.tell(alloc, request.key, &Reply::Done(place))?),
+            Ok(Planned::Refused(refusal, line)) => {
+                Ok(teller.tell(alloc, request.key, &Reply::Refused(refusal, line))?)
+            }
+            Ok(Planned::Accept(plan)) => {
+                let done = teller.tell(alloc, request.key, &Reply::Done(plan.place()))?;
+                self.carry_out(plan)?;
+                Ok(done)
+            }
+            Err(_) => Err(CallFault::Memory),
+        }
     }
 
     /// Carries out the plan of an accepted request, after its rows are kept: it is done at the plan's place. The plan
     /// is one that `plan` made at the desk's ledger, and the desk is not stopped. After `Memory` and `Stopped` the
     /// ledger is as it was; after `Stopped` a stop leaves its rows or those after the request.
-    pub fn carry_out(&mut self, plan: Plan) -> Result<Reply, CallFault>
+    fn carry_out(&mut self, plan: Plan) -> Result<Reply, CallFault>
         requires going { K.stopped self.old.keep ≡ false }
         requires fits { Fits self.old.ledger plan }
         requires key { IsKey plan.request.key }

@@ -99,28 +99,6 @@ pub trait Dialogue {
         → Begins language (read ++ more) questions };
 }
 
-/// Has a question answered, and writes the answer.
-fn answer_question<D: Dialogue, K: Keep, W: Write>(
-    alloc: Global,
-    dialogue: &D,
-    writer: &mut W,
-    desk: &mut Desk<K>,
-    question: &D::Question,
-) -> Result<(), ScriptFault>
-    ensures whole { OnOk result ((asked : D.Asked) → D.asks question.now asked → Answered D.language
-        (desk_state K.Keep desk.old) (asked ∷ []) (desk_state K.Keep desk.new)
-        (W.contents writer.old) (W.contents writer.new)) }
-    ensures cut { IfErr result (λ fault. (asked : D.Asked) → D.asks question.now asked
-        → Writes (W.contents writer.old) (W.contents writer.new) (λ written. IsCut D.language fault
-        (desk_state K.Keep desk.old) (asked ∷ []) written (desk_state K.Keep desk.new))) }
-    ensures read { result ≢ Err ScriptFault.Read }
-    ensures stop { result ≡ Err ScriptFault.Stopped → D.may_stop }
-    ensures goes { Goes K.Keep desk.old desk.new }
-{
-    let answer = dialogue.answer(alloc, desk, question)?;
-    Ok(write_whole(writer, answer.as_bytes())?)
-}
-
 /// Answers the questions that have come, each before the next is looked for. Whether the dialogue is over.
 fn answer_come<D: Dialogue, K: Keep, W: Write>(
     alloc: Global,
@@ -154,7 +132,8 @@ fn answer_come<D: Dialogue, K: Keep, W: Write>(
             Next::More => return Ok(false),
             Next::Over => return Ok(true),
         };
-        answer_question(alloc, dialogue, writer, desk, &question)?;
+        let answer = dialogue.answer(alloc, desk, &question)?;
+        write_whole(writer, answer.as_bytes())?;
         *answered = answered.saturating_add(1);
     }
 }

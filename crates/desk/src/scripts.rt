@@ -1,9 +1,9 @@
 //! Lines in, lines out, a piece at a time.
 
 ghost use Rattle.std.specs.Prelude.{◌≡◌, ◌≢◌, false, Err, IfErr, IfOk, OnOk};
-ghost use Rattle.desk.specs.Desk.{Goes, desk_state};
+ghost use Rattle.desk.specs.Desk.{Goes, TellsStop, desk_state};
 ghost use Rattle.desk.specs.Dialogue.{EndsCut, EndsWhole};
-ghost use Rattle.desk.specs.Script.{lines};
+ghost use Rattle.desk.specs.Script.{WritesBeginning, lines};
 ghost use Rattle.desk.specs.Streams.{streams};
 
 use crate::answer::Answer;
@@ -111,8 +111,12 @@ pub fn script<K: Keep, R: Read, W: Write>(
         (streams (R.remaining reader.old) (R.remaining reader.new) (W.contents writer.old) (W.contents writer.new))) }
     ensures cut { IfErr result (λ fault. EndsCut lines fault (desk_state K.Keep desk.old) (desk_state K.Keep desk.new)
         (streams (R.remaining reader.old) (R.remaining reader.new) (W.contents writer.old) (W.contents writer.new))) }
+    ensures begins { IfErr result (λ fault. WritesBeginning desk.old.ledger
+        (streams (R.remaining reader.old) (R.remaining reader.new) (W.contents writer.old) (W.contents writer.new))) }
+    ensures stop { TellsStop (result ≡ Err ScriptFault.Stopped) (desk_state K.Keep desk.old) (desk_state K.Keep desk.new) }
     ensures goes { Goes K.Keep desk.old desk.new }
 {
+    desk.in_order();
     let mut dialogue = LineDialogue {
         lines: Lines::new(alloc),
         waiting: Vec::new(alloc).into_iter(),

@@ -46,13 +46,7 @@ pub(crate) fn answer_lists<K: Keep, W: Write>(
     writer: &mut W,
 ) -> Result<Result<(), ScriptFault>, Fail> {
     let most = NonZeroUsize::new(most).ok_or("none together")?;
-    Ok(desk::answer_lists(
-        alloc,
-        requests,
-        Some(most),
-        writer,
-        desk,
-    ))
+    Ok(desk::answer_lists(alloc, requests, Some(most), writer, desk))
 }
 
 /// The requests are answered from this number on: the call without its clauses, where there is such a number.

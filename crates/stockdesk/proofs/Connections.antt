@@ -3,11 +3,12 @@ use Rattle.std.proofs.Common.{◌≡◌, ◌≤◌, ◌∙◌, ◌+◌, Err, IfE
 use Rattle.std.specs.Io.KnownBytes.{Appends, Keeps}
 use Rattle.std.proofs.KnownBytes.{Appends-kept, Appends-nil}
 use Rattle.std.proofs.lemmas.List.{length-append, take_all}
-use Rattle.desk.specs.Desk.{DeskState}
+use Rattle.desk.specs.Desk.{DeskState, Snapshot, snapshot}
 use Rattle.desk.specs.Streams.{Streams, streams}
+use Rattle.desk.specs.Dialogue.{AnswerKind, EndsCut, EndsWhole, StopsDesk}
 use Rattle.web.specs.Messages.{Part}
-use Rattle.web.specs.Serving.{EndsCut, EndsShort, EndsWhole, Serves, StopsAfter, stand}
-use Rattle.web.specs.Web.{Mark, Stand}
+use Rattle.web.specs.Serving.{Tells, cause_of}
+use Rattle.web.specs.Web.{http}
 use Rattle.web.specs.declared.served.Served.{Served}
 use Rattle.web.specs.declared.served.WebFault.{WebFault}
 use Rattle.stockdesk.specs.Connections.{AreServed, IsServed, Listening, Pass, Passes, PortBegun, PortTold, as_stood, listening_line}
@@ -15,79 +16,84 @@ use Rattle.stockdesk.specs.Connections.{AreServed, IsServed, Listening, Pass, Pa
 -- ---- one connection, as the desk at the end sees it
 
 module _ (end old new : DeskState)
-    (turn : (parts : List Part) (marks : List Mark) → new.is_stopped ≡ true → (new.is_honest → StopsAfter new parts marks) → end.is_honest → StopsAfter (as_stood end (stand new)) parts marks) where
-  abbrev serves_as : (parts : List Part) → Serves old parts new → Serves (as_stood end (stand old)) parts (as_stood end (stand new))
-  serves_as parts s = record {
-    marks = s.marks;
-    answers = s.answers;
-    replies = s.replies;
-    told = s.told;
-    stops = λ before after honest. turn parts s.marks after (s.stops before after) honest;
-  }
-
-  whole_as : (served : Served) (s : Streams) → EndsWhole served old new s → EndsWhole served (as_stood end (stand old)) (as_stood end (stand new)) s
-  whole_as served s e = record {
+    (turn : (parts : List Part) (kinds : List AnswerKind) → new.is_stopped ≡ true → (new.is_honest → StopsDesk http new parts kinds) → end.is_honest → StopsDesk http (as_stood end (snapshot new)) parts kinds) where
+  abbrev whole_as : (s : Streams) → EndsWhole http old new s → EndsWhole http (as_stood end (snapshot old)) (as_stood end (snapshot new)) s
+  whole_as s e = record {
     read = e.read;
-    parts = e.parts;
+    questions = e.questions;
+    kinds = e.kinds;
+    answers = e.answers;
+    has_ended = e.has_ended;
     reads = e.reads;
-    are_parts = e.are_parts;
-    settled = e.settled;
-    serves = serves_as e.parts e.serves;
-    writes = e.writes;
-    counts = e.counts;
+    at_end = e.at_end;
+    are_questions = e.are_questions;
     ends = e.ends;
-  }
-
-  abbrev short_as : (fault : WebFault) (s : Streams) → EndsShort fault old new s → EndsShort fault (as_stood end (stand old)) (as_stood end (stand new)) s
-  short_as fault s e = record {
-    read = e.read;
-    answered = e.answered;
-    left = e.left;
-    written = e.written;
-    reads = e.reads;
-    are_parts = e.are_parts;
     settled = e.settled;
-    serves = serves_as e.answered e.serves;
+    are_answers = e.are_answers;
     writes = e.writes;
-    almost = e.almost;
-    told = e.told;
-    unread = e.unread;
+    stops = λ before after honest. turn e.questions e.kinds after (e.stops before after) honest;
   }
 
-  cut_as : (fault : WebFault) (s : Streams) → EndsCut fault old new s → EndsCut fault (as_stood end (stand old)) (as_stood end (stand new)) s
-  cut_as fault s e = record { so_far = short_as fault s e.so_far; marks = e.marks; unwritten = e.unwritten; last = e.last; web = e.web }
+  abbrev cut_as : (fault : WebFault) (s : Streams) → EndsCut http (cause_of fault) old new s → EndsCut http (cause_of fault) (as_stood end (snapshot old)) (as_stood end (snapshot new)) s
+  cut_as fault s e = record {
+    read = e.read;
+    written = e.written;
+    questions = e.questions;
+    reads = e.reads;
+    writes = e.writes;
+    are_questions = e.are_questions;
+    cut = record {
+      answered = e.cut.answered;
+      left = e.cut.left;
+      kinds = e.cut.kinds;
+      answers = e.cut.answers;
+      behind = e.cut.behind;
+      split = e.cut.split;
+      are_answers = e.cut.are_answers;
+      almost = e.cut.almost;
+      told = e.cut.told;
+      same = e.cut.same;
+      going = e.cut.going;
+      stopped = e.cut.stopped;
+      stops = λ before after honest. turn e.questions e.cut.kinds after (e.cut.stops before after) honest;
+    };
+    settled = e.settled;
+    come = e.come;
+    prompt = e.prompt;
+  }
 
 -- a connection ends whole, or by a fault
-pub is_served : (result : Result Served WebFault) (old new : DeskState) (s : Streams) → IfOk result (λ served. EndsWhole served old new s) → IfErr result (λ fault. EndsCut fault old new s) → IsServed new (stand old) s (stand new)
-is_served (Ok served) old new s whole cut = inl (served, whole_as new old new (λ parts marks halted stops honest. stops honest) served s whole)
-is_served (Err fault) old new s whole cut = inr (fault, cut_as new old new (λ parts marks halted stops honest. stops honest) fault s cut)
+pub is_served : (result : Result Served WebFault) (old new : DeskState) (s : Streams) → IfOk result (λ served. (whole : EndsWhole http old new s) × Tells served whole) → IfErr result (λ fault. EndsCut http (cause_of fault) old new s)
+    → IsServed new (snapshot old) s (snapshot new)
+is_served (Ok served) old new s (whole, tells) cut = inl (served, whole_as new old new (λ parts kinds halted stops honest. stops honest) s whole, tells)
+is_served (Err fault) old new s whole cut = inr (fault, cut_as new old new (λ parts kinds halted stops honest. stops honest) fault s cut)
 
 -- ---- connections that were served, as a later end sees them
 
 -- what they are served on goes on before them
-goes_before : (end : DeskState) (streams : List Streams) (old new : Stand) → new.is_stopped ≡ false → AreServed end old streams new → old.is_stopped ≡ false
-goes_before end [] old new going same = subst (λ (s : Stand). s.is_stopped ≡ false) same going
+goes_before : (end : DeskState) (streams : List Streams) (old new : Snapshot) → new.is_stopped ≡ false → AreServed end old streams new → old.is_stopped ≡ false
+goes_before end [] old new going same = subst (λ (s : Snapshot). s.is_stopped ≡ false) same going
 goes_before end (s ∷ streams) old new going (mid, before, one, rest) = before
 
 -- a desk that goes on has told nothing of what a stop leaves
 module _ (was end : DeskState) where
-  is_again : (s : Streams) (old new : Stand) → new.is_stopped ≡ false → IsServed was old s new → IsServed end old s new
-  is_again s old new going (inl (served, e)) = inl (served, whole_as end (as_stood was old) (as_stood was new) (λ parts marks halted. absurd (true≢false (sym halted ∙ going))) served s e)
-  is_again s old new going (inr (fault, e)) = inr (fault, cut_as end (as_stood was old) (as_stood was new) (λ parts marks halted. absurd (true≢false (sym halted ∙ going))) fault s e)
+  is_again : (s : Streams) (old new : Snapshot) → new.is_stopped ≡ false → IsServed was old s new → IsServed end old s new
+  is_again s old new going (inl (served, whole, tells)) = inl (served, whole_as end (as_stood was old) (as_stood was new) (λ parts kinds halted. absurd (true≢false (sym halted ∙ going))) s whole, tells)
+  is_again s old new going (inr (fault, e)) = inr (fault, cut_as end (as_stood was old) (as_stood was new) (λ parts kinds halted. absurd (true≢false (sym halted ∙ going))) fault s e)
 
-  are_again : (streams : List Streams) (old new : Stand) → new.is_stopped ≡ false → AreServed was old streams new → AreServed end old streams new
+  are_again : (streams : List Streams) (old new : Snapshot) → new.is_stopped ≡ false → AreServed was old streams new → AreServed end old streams new
   are_again [] old new going same = same
   are_again (s ∷ streams) old new going (mid, before, one, rest) = (mid, before, is_again s old mid (goes_before was streams mid new going rest) one, are_again streams mid new going rest)
 
 -- ---- one connection more
 
-served_on : (end : DeskState) (streams : List Streams) (s : Streams) (old mid new : Stand) → AreServed end old streams mid → mid.is_stopped ≡ false → IsServed end mid s new → AreServed end old (streams ++ s ∷ []) new
-served_on end [] s old mid new same going one = subst (λ (o : Stand). AreServed end o (s ∷ []) new) same (new, going, one, refl)
+served_on : (end : DeskState) (streams : List Streams) (s : Streams) (old mid new : Snapshot) → AreServed end old streams mid → mid.is_stopped ≡ false → IsServed end mid s new → AreServed end old (streams ++ s ∷ []) new
+served_on end [] s old mid new same going one = subst (λ (o : Snapshot). AreServed end o (s ∷ []) new) same (new, going, one, refl)
 served_on end (t ∷ streams) s old mid new (next, before, first, rest) going one = (next, before, first, served_on end streams s next mid new rest going one)
 
 module _ {N R W : Type 0} (g : Listening N R W) where
   -- so many connections were served, as they came
-  abbrev pub ServesFrom : ℕ → (end : DeskState) → (first last : Stand) → N → N → Type 0
+  abbrev pub ServesFrom : ℕ → (end : DeskState) → (first last : Snapshot) → N → N → Type 0
   ServesFrom count end first last old new = (streams : List Streams) × (length streams ≡ count) × AreServed end first streams last × Pass g old streams new
 
   -- it came so, and was closed so
@@ -111,14 +117,14 @@ module _ {N R W : Type 0} (g : Listening N R W) where
   passed_on [] s old mid new same one = (new, subst (λ o. Passes g o s new) same one, refl)
   passed_on (t ∷ streams) s old mid new (next, first, rest) one = (next, first, passed_on streams s next mid new rest one)
 
-  pub serves_one : (count : ℕ) (s : Streams) (was end : DeskState) (first mid last : Stand) (old now new : N) → mid.is_stopped ≡ false → ServesFrom count was first mid old now → Passes g now s new → IsServed end mid s last
+  pub serves_one : (count : ℕ) (s : Streams) (was end : DeskState) (first mid last : Snapshot) (old now new : N) → mid.is_stopped ≡ false → ServesFrom count was first mid old now → Passes g now s new → IsServed end mid s last
       → ServesFrom (count + 1) end first last old new
   serves_one count s was end first mid last old now new going (streams, size, are, come) pass one =
       let more = length-append streams (s ∷ []) in
       (streams ++ s ∷ [], omega (arith, size, more), served_on end streams s first mid last (are_again was end streams first mid going are) going one, passed_on streams s old now new come pass)
 
   -- those so far
-  pub serves_so_far : (count most : ℕ) (end : DeskState) (first last : Stand) (old now : N) → count ≤ most → ServesFrom count end first last old now
+  pub serves_so_far : (count most : ℕ) (end : DeskState) (first last : Snapshot) (old now : N) → count ≤ most → ServesFrom count end first last old now
       → (streams : List Streams) × (length streams ≤ most) × AreServed end first streams last × (mid : N) × Pass g old streams mid
   serves_so_far count most end first last old now few (streams, size, are, come) = (streams, omega (arith, size, few), are, now, come)
 

@@ -1,5 +1,5 @@
 -- What is found after a session.
-use Rattle.std.proofs.Common.{◌≡◌, ◌≢◌, ◌⊎◌, ◌∙◌, ◌++◌, ℕ, Bool, false, true, true≢false, List, [], ◌∷◌, None, Some, Result, Ok, Err, IfErr, OnOk, ap, arith, refl, subst, sym}
+use Rattle.std.proofs.Common.{◌≡◌, ◌≢◌, ◌⊎◌, ◌∙◌, ◌++◌, ℕ, Bool, false, true, true≢false, List, [], ◌∷◌, Some, Result, Ok, Err, IfErr, OnOk, ap, arith, refl, subst, sym}
 use Rattle.std.proofs.Math.Logic.{inl, inr}
 use Rattle.std.proofs.KnownBytes.{Appends-kept, Appends-nil, Consumes-kept, Consumes-nil}
 use Rattle.words.specs.declared.command.Request.{Request}
@@ -8,7 +8,7 @@ use Rattle.book.specs.Good.{Good}
 use Rattle.book.specs.Ledger.{Ledger}
 use Rattle.book.specs.Next.{accept}
 use Rattle.book.specs.Rows.{Content}
-use Rattle.desk.specs.Desk.{DeskState, IsStored, LeavesEither, TellsStop}
+use Rattle.desk.specs.Desk.{DeskState, IsStored, LeavesEither, TellsStop, Snapshot, snapshot}
 use Rattle.desk.specs.Headline.{IsFoundAfterItems, LeavesRowsOf}
 use Rattle.desk.specs.Script.{Writes}
 use Rattle.desk.specs.Streams.{IsSilent, Streams}
@@ -16,8 +16,6 @@ use Rattle.desk.proofs.Faults.{other_error}
 use Rattle.desk.proofs.LineAnswers.{text_written}
 use Rattle.desk.proofs.FoundAfter.{either_left, stored_left}
 use Rattle.desk.proofs.FoundLines.{ends_cut_left, found_all, found_told, found_whole, left_as, lists_left}
-use Rattle.web.specs.Serving.{stand}
-use Rattle.web.specs.Web.{Stand}
 use Rattle.stockdesk.specs.Connections.{AreServed, IsFoundAfterService, IsServed, ServesSome, as_stood}
 use Rattle.desk.specs.Text.{items_of}
 use Rattle.desk.specs.Lists.{most_together}
@@ -35,25 +33,25 @@ module _ (end : DeskState) where
   abbrev StopsNow : Ledger → Type 0
   StopsNow A = (r : Request) × IsAccepted A r × LeavesEither end.leaves A (accept A r)
 
-  one_stops : (old new : Stand) (s : Streams) → old.is_stopped ≡ false → new.is_stopped ≡ true → end.is_honest → IsServed end old s new → StopsNow new.ledger
-  one_stops old new s going halted honest (inl (served, ends)) = let stops = ends.serves.stops going halted honest in (stops.request, stops.accepted, stops.either)
-  one_stops old new s going halted honest (inr (fault, ends)) = let stops = ends.so_far.serves.stops going halted honest in (stops.request, stops.accepted, stops.either)
+  one_stops : (old new : Snapshot) (s : Streams) → old.is_stopped ≡ false → new.is_stopped ≡ true → end.is_honest → IsServed end old s new → StopsNow new.ledger
+  one_stops old new s going halted honest (inl (served, ends, tells)) = let stops = ends.stops going halted honest in (stops.request, stops.accepted, stops.either)
+  one_stops old new s going halted honest (inr (fault, ends)) = let stops = ends.cut.stops going halted honest in (stops.request, stops.accepted, stops.either)
 
-  none_behind : (old new : Stand) (streams : List Streams) → old.is_stopped ≡ true → AreServed end old streams new → new ≡ old
+  none_behind : (old new : Snapshot) (streams : List Streams) → old.is_stopped ≡ true → AreServed end old streams new → new ≡ old
   none_behind old new [] halted same = same
   none_behind old new (s ∷ streams) halted (mid, going, one, more) = absurd (true≢false (sym halted ∙ going))
 
   -- the connection that stopped the desk is the last
-  last_stops : (old new : Stand) (streams : List Streams) → old.is_stopped ≡ false → new.is_stopped ≡ true → end.is_honest → AreServed end old streams new → StopsNow new.ledger
+  last_stops : (old new : Snapshot) (streams : List Streams) → old.is_stopped ≡ false → new.is_stopped ≡ true → end.is_honest → AreServed end old streams new → StopsNow new.ledger
   last_stops old new [] going halted honest same = absurd (true≢false (sym halted ∙ ap (λ s. s.is_stopped) same ∙ going))
   last_stops old new (s ∷ streams) going halted honest (mid, was, one, more) = by (λ e. last_stops mid new streams e halted honest more) mid.is_stopped refl
     where
       by : (mid.is_stopped ≡ false → StopsNow new.ledger) → (b : Bool) → mid.is_stopped ≡ b → StopsNow new.ledger
       by later false e = later e
-      by later true e = subst (λ (s : Stand). StopsNow s.ledger) (sym (none_behind mid new streams e more)) (one_stops old mid s going e honest one)
+      by later true e = subst (λ (s : Snapshot). StopsNow s.ledger) (sym (none_behind mid new streams e more)) (one_stops old mid s going e honest one)
 
   -- of the desk at the end only what is said of the disk matters
-  as_first : (A : Ledger) (b : Bool) (streams : List Streams) (old new : Stand) → AreServed end old streams new → AreServed (as_stood end (record { ledger = A; is_stopped = b })) old streams new
+  as_first : (A : Ledger) (b : Bool) (streams : List Streams) (old new : Snapshot) → AreServed end old streams new → AreServed (as_stood end (record { ledger = A; is_stopped = b })) old streams new
   as_first A b [] old new same = same
   as_first A b (s ∷ streams) old new (mid, going, one, more) = (mid, going, one, as_first A b streams mid new more)
 
@@ -61,22 +59,22 @@ module _ (end : DeskState) where
 abbrev first_of : (old new : DeskState) → DeskState
 first_of old new = as_stood new (record { ledger = old.ledger; is_stopped = new.is_stopped })
 
-service_left : (count : ℕ) (holds : Content → Type 0) (old new : DeskState) → old.is_stopped ≡ false → Good new.ledger → new.is_honest → ServesSome count new (stand old) (stand new)
+service_left : (count : ℕ) (holds : Content → Type 0) (old new : DeskState) → old.is_stopped ≡ false → Good new.ledger → new.is_honest → ServesSome count new (snapshot old) (snapshot new)
     → (new.is_stopped ≡ false → IsStored holds new.leaves new.ledger) → LeavesRowsOf new.leaves (IsFoundAfterService count (first_of old new))
 service_left count holds old new went good honest (streams, few, served) stored = by new.is_stopped refl
   where
-    some : ServesSome count (first_of old new) (record { ledger = old.ledger; is_stopped = false }) (stand new)
+    some : ServesSome count (first_of old new) (record { ledger = old.ledger; is_stopped = false }) (snapshot new)
     some = (
       streams,
       few,
-      subst (λ (b : Bool). AreServed (first_of old new) (record { ledger = old.ledger; is_stopped = b }) streams (stand new)) went (as_first new old.ledger new.is_stopped streams (stand old) (stand new) served),
+      subst (λ (b : Bool). AreServed (first_of old new) (record { ledger = old.ledger; is_stopped = b }) streams (snapshot new)) went (as_first new old.ledger new.is_stopped streams (snapshot old) (snapshot new) served),
     )
 
     by : (b : Bool) → new.is_stopped ≡ b → LeavesRowsOf new.leaves (IsFoundAfterService count (first_of old new))
-    by false e = stored_left new.ledger (IsFoundAfterService count (first_of old new)) holds new.leaves good (stand new, some, inl refl) (stored e)
+    by false e = stored_left new.ledger (IsFoundAfterService count (first_of old new)) holds new.leaves good (snapshot new, some, inl refl) (stored e)
     by true e =
-        let (r, accepted, either) = last_stops new (stand old) (stand new) streams went e honest served in
-        either_left new.ledger (accept new.ledger r) (IsFoundAfterService count (first_of old new)) new.leaves (stand new, some, inl refl) (stand new, some, inr (e, r, accepted, refl)) either
+        let (r, accepted, either) = last_stops new (snapshot old) (snapshot new) streams went e honest served in
+        either_left new.ledger (accept new.ledger r) (IsFoundAfterService count (first_of old new)) new.leaves (snapshot new, some, inl refl) (snapshot new, some, inr (e, r, accepted, refl)) either
 
 -- ---- where nothing is done
 

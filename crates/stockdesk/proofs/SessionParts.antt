@@ -2,6 +2,7 @@
 use Rattle.std.proofs.Common.{◌≡◌, ◌≢◌, ◌⊎◌, ◌∙◌, [], ◌∷◌, Bool, Err, IfErr, List, ℕ, Ok, OnErr, OnOk, Option, Result, Some, ap, arith, false, refl, subst, sym, true, true≢false}
 use Rattle.std.proofs.Math.Logic.{inl, inr}
 use Rattle.std.proofs.KnownBytes.{Appends-kept, Appends-nil, Consumes-kept, Consumes-nil, Keeps-refl}
+use Rattle.std.proofs.lemmas.Result.{IfErr-at_err}
 use Rattle.book.specs.Good.{Good}
 use Rattle.book.specs.Ledger.{Ledger, new_ledger}
 use Rattle.book.specs.Rows.{Content, IsRowsOf}
@@ -73,16 +74,12 @@ nothing_so_far A s (reads, writes) = record {
 -- ---- faults
 
 abbrev is_unbegun : Fault → Bool
-is_unbegun Fault.NotADesk = true
-is_unbegun Fault.OldVersion = true
-is_unbegun Fault.Damaged = true
 is_unbegun Fault.Memory = false
 is_unbegun Fault.Store = false
 is_unbegun Fault.Read = false
 is_unbegun Fault.Write = false
 is_unbegun Fault.Socket = false
-is_unbegun (Fault.BadRecord number) = true
-is_unbegun Fault.Csv = true
+is_unbegun _ = true
 
 pub not_unbegun : (fault told : Fault) → fault ≡ told → is_unbegun told ≡ false → IsUnbegun fault → ⊥
 not_unbegun fault told e begun (inl (inl is)) = true≢false (sym (ap is_unbegun is) ∙ ap is_unbegun e ∙ begun)
@@ -99,10 +96,6 @@ told_begun ScriptFault.Read fault told = not_unbegun fault _ (told.read.1 refl) 
 told_begun ScriptFault.Write fault told = not_unbegun fault _ (told.write.1 refl) refl
 
 -- ---- answers and errors
-
--- what holds of an error holds of this one
-of_this_error : {T E : Type 0} (r : Result T E) (P : E → Type 0) (fault : E) → IfErr r P → r ≡ Err fault → P fault
-of_this_error r P fault h is = subst (λ answer. IfErr answer P) is h
 
 -- a status that is neither 0 nor 1 tells of something not begun
 pub told_unbegun : (status : ℕ) (fault : Fault) → (status ≡ 1) ⊎ (((status ≡ 3) × IsNoDesk fault) ⊎ ((status ≡ 4) × IsBadFile fault))
@@ -132,7 +125,7 @@ module _ {K : Type 0} (on : Session K) (r : Result (Unit {0}) Fault) (first : De
       let going : fault ≢ Fault.Store → on.ghosts.stopped on.keep ≡ false = λ other. stop.going (other_error r fault Fault.Store is other) ∙ began in
       record {
         on = record { first = first; last = last; began = began; good = good; rows = rows; done = ends };
-        desk = of_this_error r (λ f. ¬ IsNoDesk f) fault desk is;
+        desk = IfErr-at_err (λ f. ¬ IsNoDesk f) is desk;
         stopped = λ e. stop.stopped (is ∙ ap (λ f. Err f) e);
         going = going;
         kept = λ other. stored (going other);

@@ -1,5 +1,5 @@
 -- What work on the desk of a good ledger has read and written.
-use Rattle.std.proofs.Common.{◌≡◌, ◌∙◌, [], ◌++◌, List, ℕ, None, Option, Some, ap, append-nil, append_assoc, false, refl, subst, sym}
+use Rattle.std.proofs.Common.{◌≡◌, ◌∙◌, [], ◌++◌, List, ℕ, Option, ap, append_assoc, false, refl, subst, sym}
 use Rattle.std.proofs.Math.Logic.{inl, inr}
 use Rattle.std.specs.Io.KnownBytes.{Keeps}
 use Rattle.std.proofs.KnownBytes.{Appends-kept, Appends-nil}
@@ -7,12 +7,11 @@ use Rattle.book.specs.Good.{Good}
 use Rattle.book.specs.Ledger.{Ledger, new_ledger}
 use Rattle.book.proofs.Runs.{good_new}
 use Rattle.desk.specs.Desk.{DeskState, desk_state}
-use Rattle.desk.specs.Script.{AlmostWritten}
 use Rattle.desk.specs.Streams.{IsSilent, Streams}
 use Rattle.desk.specs.Text.{RepliesAll, items_of}
 use Rattle.desk.proofs.LineAnswers.{text_written}
 use Rattle.desk.proofs.ListLines.{items_joined}
-use Rattle.desk.proofs.Texts.{replies_joined, replies_more}
+use Rattle.desk.proofs.Texts.{replies_joined}
 use Rattle.std.specs.declared.num.NonZeroUsize.{NonZeroUsize}
 use Rattle.words.specs.declared.item.Item.{Item}
 use Rattle.stockdesk.specs.Done.{DoesWork, DoesWorkInPart, PrintsRepliesInPart}

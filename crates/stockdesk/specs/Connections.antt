@@ -4,11 +4,12 @@ use Rattle.std.specs.Io.KnownBytes.{Appends}
 use Rattle.book.specs.Answers.{IsAccepted}
 use Rattle.book.specs.Ledger.{Ledger}
 use Rattle.book.specs.Next.{accept}
-use Rattle.desk.specs.Desk.{DeskState}
+use Rattle.desk.specs.Desk.{DeskState, Snapshot, snapshot}
+use Rattle.desk.specs.Dialogue.{EndsCut, EndsWhole}
 use Rattle.desk.specs.Streams.{Streams}
 use Rattle.words.specs.declared.command.Request.{Request}
-use Rattle.web.specs.Serving.{EndsCut, EndsWhole, stand}
-use Rattle.web.specs.Web.{Stand}
+use Rattle.web.specs.Serving.{Tells, cause_of}
+use Rattle.web.specs.Web.{http}
 use Rattle.web.specs.declared.served.Served.{Served}
 use Rattle.web.specs.declared.served.WebFault.{WebFault}
 use Rattle.stockdesk.specs.declared.session.Fault.{Fault}
@@ -32,7 +33,7 @@ PortBegun writer_old writer_new =
 -- ---- connections
 
 -- the desk at the end, as it stood then
-abbrev pub as_stood : DeskState → Stand → DeskState
+abbrev pub as_stood : DeskState → Snapshot → DeskState
 as_stood end then = record {
   ledger = then.ledger;
   is_stopped = then.is_stopped;
@@ -42,15 +43,16 @@ as_stood end then = record {
 
 -- A connection was served on a desk that stood so before and stands so after it: to its end, or to a fault, which is
 -- its own. What is said of the disk is said of the desk at the end.
-abbrev pub IsServed : (end : DeskState) → Stand → Streams → Stand → Type 0
-IsServed end old s new = ((served : Served) × EndsWhole served (as_stood end old) (as_stood end new) s)
-    ⊎ ((fault : WebFault) × EndsCut fault (as_stood end old) (as_stood end new) s)
+abbrev pub IsServed : (end : DeskState) → Snapshot → Streams → Snapshot → Type 0
+IsServed end old s new =
+    ((served : Served) × (whole : EndsWhole http (as_stood end old) (as_stood end new) s) × Tells served whole)
+    ⊎ ((fault : WebFault) × EndsCut http (cause_of fault) (as_stood end old) (as_stood end new) s)
 
 -- Connections were served one after the other, and none on a desk that was stopped.
-abbrev pub AreServed : (end : DeskState) → Stand → List Streams → Stand → Type 0
+abbrev pub AreServed : (end : DeskState) → Snapshot → List Streams → Snapshot → Type 0
 AreServed end old [] new = new ≡ old
 AreServed end old (s ∷ streams) new =
-    (mid : Stand) × (old.is_stopped ≡ false) × IsServed end old s mid × AreServed end mid streams new
+    (mid : Snapshot) × (old.is_stopped ≡ false) × IsServed end old s mid × AreServed end mid streams new
 
 -- What listens: a connection that may come, and one that is closed, each with what listens after that; and what is left
 -- to read of it, and was written to it.
@@ -87,17 +89,17 @@ Pass {L} g old (s ∷ streams) new = (mid : L) × Passes g old s mid × Pass g m
 -- so many connections were served
 abbrev pub ServesAll : ℕ → (old new : DeskState) → Type 0
 ServesAll count old new =
-    (streams : List Streams) × (length streams ≡ count) × AreServed new (stand old) streams (stand new)
+    (streams : List Streams) × (length streams ≡ count) × AreServed new (snapshot old) streams (snapshot new)
 
 -- so many were served at the most, of which only the last may have stopped the desk
-abbrev pub ServesSome : ℕ → (end : DeskState) → (old new : Stand) → Type 0
+abbrev pub ServesSome : ℕ → (end : DeskState) → (old new : Snapshot) → Type 0
 ServesSome count end old new =
     (streams : List Streams) × (length streams ≤ count) × AreServed end old streams new
 
 -- B is the ledger behind such connections, or, where the last of them stopped the desk, behind one accepted request more
 abbrev pub IsFoundAfterService : ℕ → (first : DeskState) → Ledger → Type 0
 IsFoundAfterService count first B =
-    (last : Stand) × ServesSome count first (record { ledger = first.ledger; is_stopped = false }) last
+    (last : Snapshot) × ServesSome count first (record { ledger = first.ledger; is_stopped = false }) last
     × ((B ≡ last.ledger) ⊎ ((last.is_stopped ≡ true) × (request : Request) × IsAccepted last.ledger request
     × (B ≡ accept last.ledger request)))
 
@@ -108,4 +110,4 @@ ServiceCut fault count old new s =
     (((fault ≡ Fault.Socket) ⊎ ((fault ≡ Fault.Memory) ⊎ (fault ≡ Fault.Write)))
     × PortBegun s.writer_old s.writer_new × (new.ledger ≡ old.ledger))
     ⊎ (((fault ≡ Fault.Socket) ⊎ (fault ≡ Fault.Store)) × PortTold s.writer_old s.writer_new
-    × ServesSome count new (stand old) (stand new))
+    × ServesSome count new (snapshot old) (snapshot new))

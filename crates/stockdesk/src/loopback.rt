@@ -1,9 +1,8 @@
 //! A desk, served to connections on this machine.
 
 ghost use Rattle.std.specs.Prelude.{◌≡◌, ◌≤◌, ◌⊎◌, false, Err, IfErr, IfOk, List, length, OnErr, OnOk};
-ghost use Rattle.desk.specs.Desk.{Goes, TellsStop, desk_state};
+ghost use Rattle.desk.specs.Desk.{Goes, TellsStop, desk_state, snapshot};
 ghost use Rattle.desk.specs.Streams.{Streams};
-ghost use Rattle.web.specs.Serving.{stand};
 ghost use Rattle.stockdesk.specs.Connections.{AreServed, Pass, PortBegun, PortTold, listening, listening_line};
 
 use crate::session::Fault;
@@ -77,12 +76,12 @@ pub fn serve_all<K: Keep, L: Listen>(
 ) -> Result<(), Fault>
     requires going { K.stopped desk.old.keep ≡ false }
     ensures whole { OnOk result ((streams : List Streams) × (length streams ≡ connections)
-        × AreServed (desk_state K.Keep desk.new) (stand (desk_state K.Keep desk.old)) streams
-        (stand (desk_state K.Keep desk.new))
+        × AreServed (desk_state K.Keep desk.new) (snapshot (desk_state K.Keep desk.old)) streams
+        (snapshot (desk_state K.Keep desk.new))
         × Pass (listening L.comes L.closes L.Reader.remaining L.Writer.contents) listener.old streams listener.new) }
     ensures cut { OnErr result ((streams : List Streams) × (length streams ≤ connections)
-        × AreServed (desk_state K.Keep desk.new) (stand (desk_state K.Keep desk.old)) streams
-        (stand (desk_state K.Keep desk.new)) × (mid : L)
+        × AreServed (desk_state K.Keep desk.new) (snapshot (desk_state K.Keep desk.old)) streams
+        (snapshot (desk_state K.Keep desk.new)) × (mid : L)
         × Pass (listening L.comes L.closes L.Reader.remaining L.Writer.contents) listener.old streams mid) }
     ensures fault { IfErr result (λ fault. (fault ≡ Fault.Socket) ⊎ (fault ≡ Fault.Store)) }
     ensures stop { TellsStop (result ≡ Err Fault.Store) (desk_state K.Keep desk.old) (desk_state K.Keep desk.new) }

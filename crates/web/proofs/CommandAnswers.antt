@@ -1,98 +1,110 @@
--- The answer to an ask, and the answer to the message that asks for it.
-use Rattle.std.proofs.Common.{◌≡◌, ◌∙◌, Bool, MatchBool, true, false, true≢false, ℕ, List, ap, inl, inr, refl, subst, sym}
+-- The answer to a message, by what it asks for.
+use Rattle.std.proofs.Common.{◌≡◌, ◌∙◌, Bool, MatchBool, true, false, true≢false, ℕ, List, ap, refl, subst, sym}
 use Rattle.words.specs.declared.command.Request.{Request}
-use Rattle.words.specs.declared.reply.Reply.{Reply}
-use Rattle.words.specs.declared.reply.Reply.TheVariants.{Done}
-use Rattle.book.specs.Answers.{Answers, IsAccepted}
+use Rattle.book.specs.Answers.{IsAccepted}
 use Rattle.book.specs.Next.{accept}
-use Rattle.desk.specs.Desk.{DeskState, LeavesEither, StopsCall}
-use Rattle.web.specs.Answers.{Answer, answer_bytes, memory_answer, reply_answer, stopped_answer}
+use Rattle.desk.specs.Desk.{DeskState, LeavesEither, Snapshot, StopsCall, snapshot}
+use Rattle.desk.specs.Dialogue.{AnswerKind, AnswersOne, bytes_of, no_memory, ordinary, stopping}
+use Rattle.desk.specs.declared.answer.Answer.{Answer as Text}
+use Rattle.web.specs.Answers.{Answer, answer_bytes, memory_answer, message_answer, stopped_answer}
 use Rattle.web.specs.Asks.{AsksFor}
-use Rattle.web.specs.Messages.{Message}
+use Rattle.web.specs.Messages.{Message, Part, unreadable, whole}
 use Rattle.web.specs.Replies.{Replies, reply_of_stopped}
-use Rattle.web.specs.Serving.{stand}
-use Rattle.web.specs.Turns.{AnswersAsk, AnswersOne, IsAnswered, IsTold, Shows, ToldBy}
-use Rattle.web.specs.declared.fixed.Fixed.TheVariants as fixed
-use Rattle.web.specs.declared.fixed.Ready.{Ready}
-use Rattle.web.specs.declared.fixed.Ready.TheVariants as ready
-use Rattle.web.specs.Web.{AnswersPart, Mark, RepliesAt, Stand, memory, plain, stopped}
-use Rattle.web.specs.Messages.{whole}
+use Rattle.web.specs.Turns.{IsAnswered, IsAsked, Shows}
+use Rattle.web.specs.Web.{RepliesAt, http}
 use Rattle.web.specs.declared.ask.Ask.{Ask}
 use Rattle.web.specs.declared.ask.Ask.TheVariants as ask
+use Rattle.web.specs.declared.connection.Asked.{Asked}
+use Rattle.web.specs.declared.connection.Asked.TheVariants as asked
 
-asked_under : (old new : Stand) (m : Message) (a : Ask) (answer : Answer) (mark : Mark) → AsksFor m a → ToldBy old a mark answer new → AnswersPart old (whole m) mark answer new
-asked_under old new m a answer plain asks told = (a, asks, told)
-asked_under old new m a answer memory asks told = told
-asked_under old new m a answer stopped asks (e, r, is, accepted, before, after, same) =
-    (e, record { request = r; asks = subst (AsksFor m) is asks; accepted = accepted; before = before; after = after; same = same })
-
--- the plain answer of a desk that is not stopped, and goes on
-pub replies_going : (old new : Stand) (a : Ask) (answer : Answer) → old.is_stopped ≡ false → new.is_stopped ≡ false → Replies old.ledger a answer new.ledger → RepliesAt old a answer new
+-- the ordinary answer of a desk that is not stopped, and goes on
+pub replies_going : (old new : Snapshot) (a : Ask) (answer : Answer) → old.is_stopped ≡ false → new.is_stopped ≡ false → Replies old.ledger a answer new.ledger → RepliesAt old a answer new
 replies_going old new a answer e f h = subst (λ (b : Bool). MatchBool b ((answer ≡ reply_of_stopped a) × (new ≡ old)) (Replies old.ledger a answer new.ledger × (new.is_stopped ≡ false))) (sym e) (h, f)
 
 -- and that of one that is stopped
-pub replies_stopped : (at : Stand) (a : Ask) (answer : Answer) → at.is_stopped ≡ true → answer ≡ reply_of_stopped a → RepliesAt at a answer at
+pub replies_stopped : (at : Snapshot) (a : Ask) (answer : Answer) → at.is_stopped ≡ true → answer ≡ reply_of_stopped a → RepliesAt at a answer at
 replies_stopped at a answer e h = subst (λ (b : Bool). MatchBool b ((answer ≡ reply_of_stopped a) × (at ≡ at)) (Replies at.ledger a answer at.ledger × (at.is_stopped ≡ false))) (sym e) (h, refl)
 
-module _ (old new : DeskState) where
+no_stop : (kind : AnswerKind) → kind ≡ ordinary → kind ≡ stopping → ⊥
+no_stop kind e f = let g = sym e ∙ f in cc g
+
+module _ (old new : DeskState) (text : List ℕ) where
   -- a desk that is not stopped, and goes on, answers
-  goes_on : (a : Ask) (answer : Answer) → old.is_stopped ≡ false → new.is_stopped ≡ false → Replies old.ledger a answer new.ledger → AnswersAsk old a answer new
-  goes_on a answer e f h = record { mark = plain; told = replies_going (stand old) (stand new) a answer e f h; stops = λ going halted honest. absurd (true≢false (sym halted ∙ f)) }
+  pub goes_on : (a : Ask) (answer : Answer) → old.is_stopped ≡ false → new.is_stopped ≡ false → Replies old.ledger a answer new.ledger → text ≡ answer_bytes answer → (m : Message) → AsksFor m a → AnswersOne http old (whole m) text new
+  goes_on a answer e f h bytes = λ m asks. record {
+    kind = ordinary;
+    answer = answer;
+    is_answer = (a, asks, replies_going (snapshot old) (snapshot new) a answer e f h);
+    text_is = bytes;
+    halts = λ stops. absurd (no_stop ordinary refl stops);
+    stops = λ going halted honest. absurd (true≢false (sym halted ∙ f));
+  }
 
   -- memory was refused, and nothing has changed
-  no_memory : (a : Ask) → new ≡ old → AnswersAsk old a memory_answer new
-  no_memory a e = record { mark = memory; told = (refl, ap stand e); stops = λ going halted honest. absurd (true≢false (sym halted ∙ ap (λ (d : DeskState). d.is_stopped) e ∙ going)) }
+  pub nothing_done : new ≡ old → text ≡ answer_bytes memory_answer → (m : Message) → AnswersOne http old (whole m) text new
+  nothing_done e bytes = λ m. record {
+    kind = no_memory;
+    answer = memory_answer;
+    is_answer = (refl, ap snapshot e);
+    text_is = bytes;
+    halts = λ stops. cc stops;
+    stops = λ going halted honest. absurd (true≢false (sym halted ∙ ap (λ (d : DeskState). d.is_stopped) e ∙ going));
+  }
 
   -- a command stops the desk
-  stops_here : (r : Request) → old.is_stopped ≡ false → new.is_stopped ≡ true → new.ledger ≡ old.ledger → StopsCall r old new → AnswersAsk old (ask.Call r) stopped_answer new
-  stops_here r e f same call = record {
-    mark = stopped;
-    told = (refl, r, refl, call.accepted, e, f, same);
-    stops = λ going halted honest. (r, refl, refl, subst (λ A. IsAccepted A r) (sym same) call.accepted, subst (λ A. LeavesEither new.leaves A (accept A r)) (sym same) (call.either honest));
+  stops_here : (r : Request) → old.is_stopped ≡ false → new.is_stopped ≡ true → new.ledger ≡ old.ledger → StopsCall r old new → text ≡ answer_bytes stopped_answer → (m : Message) → AsksFor m (ask.Call r) → AnswersOne http old (whole m) text new
+  stops_here r e f same call bytes = λ m asks. record {
+    kind = stopping;
+    answer = stopped_answer;
+    is_answer = (refl, record { request = r; asks = asks; accepted = call.accepted; before = e; after = f; same = same });
+    text_is = bytes;
+    halts = λ stops. f;
+    stops = λ going halted honest. (r, refl, asks, subst (λ A. IsAccepted A r) (sym same) call.accepted, subst (λ A. LeavesEither new.leaves A (accept A r)) (sym same) (call.either honest));
   }
-
-  -- the answer to what a message asks for is that to the message
-  pub asked : (m : Message) (a : Ask) (answer : Answer) → AsksFor m a → AnswersAsk old a answer new → AnswersOne old m answer new
-  asked m a answer asks h = record {
-    mark = h.mark;
-    part = asked_under (stand old) (stand new) m a answer h.mark asks h.told;
-    stops = λ going halted honest.
-        let (r, is, mark, accepted, either) = h.stops going halted honest in
-        (r, subst (AsksFor m) is asks, mark, accepted, either);
-  }
-
-  -- memory was refused before it was known what the message asks for
-  pub unasked : (m : Message) → new ≡ old → AnswersOne old m memory_answer new
-  unasked m e = record { mark = memory; part = (refl, ap stand e); stops = λ going halted honest. absurd (true≢false (sym halted ∙ ap (λ (d : DeskState). d.is_stopped) e ∙ going)) }
-
-  -- nothing is done
-  pub nothing_done : (a : Ask) → new ≡ old → (answer : Answer) × AnswersAsk old a answer new × (answer_bytes memory_answer ≡ answer_bytes answer)
-  nothing_done a e = (memory_answer, no_memory a e, refl)
-
-  module _ (r s : Request) (is : s ≡ r) where
-    -- a request is carried out
-    pub carried_out : (reply : Reply) (place : ℕ) (bytes : List ℕ) → old.is_stopped ≡ false → new.is_stopped ≡ false → Answers old.ledger s reply new.ledger → reply ≡ Done place
-        → bytes ≡ answer_bytes (reply_answer (Done place)) → (answer : Answer) × AnswersAsk old (ask.Call r) answer new × (bytes ≡ answer_bytes answer)
-    carried_out reply place bytes e f answers done made = (reply_answer (Done place), goes_on (ask.Call r) (reply_answer (Done place)) e f (Done place, rw (is, done) at answers, refl), made)
-
-    -- a request stops the desk
-    pub halted_now : old.is_stopped ≡ false → new.is_stopped ≡ true → new.ledger ≡ old.ledger → IsAccepted old.ledger s → (new.is_honest → LeavesEither new.leaves old.ledger (accept old.ledger s))
-        → (answer : Answer) × AnswersAsk old (ask.Call r) answer new × (answer_bytes stopped_answer ≡ answer_bytes answer)
-    halted_now e f same accepted either = (
-      stopped_answer,
-      stops_here r e f same (record { accepted = subst (IsAccepted old.ledger) is accepted; either = λ honest. subst (λ (q : Request). LeavesEither new.leaves old.ledger (accept old.ledger q)) is (either honest) }),
-      refl,
-    )
-
--- a request changes nothing
-pub replied : (desk : DeskState) (r : Request) (reply : Reply) (ready : Ready) → desk.is_stopped ≡ false → Answers desk.ledger r reply desk.ledger → IsTold reply ready → IsAnswered desk (ask.Call r) ready desk
-replied desk r reply ready e answers (inl bytes) = (reply_answer reply, goes_on desk desk (ask.Call r) (reply_answer reply) e e (reply, answers, refl), bytes)
-replied desk r reply ready e answers (inr bytes) = (memory_answer, no_memory desk desk (ask.Call r) refl, bytes)
 
 -- what is shown is an answer
-pub viewed : (desk : DeskState) (a : Ask) (ready : Ready) → Shows (stand desk) a ready → IsAnswered desk a ready desk
-viewed desk a ready (answer, told, bytes) = (answer, record { mark = plain; told = told; stops = λ going halted honest. absurd (true≢false (sym halted ∙ going)) }, bytes)
+pub viewed : (desk : DeskState) (a : Ask) (text : Text) → Shows (snapshot desk) a text → IsAnswered desk a text desk
+viewed desk a text (answer, told, bytes) = λ m asks. record {
+  kind = ordinary;
+  answer = answer;
+  is_answer = (a, asks, told);
+  text_is = bytes;
+  halts = λ stops. absurd (no_stop ordinary refl stops);
+  stops = λ going halted honest. absurd (true≢false (sym halted ∙ going));
+}
 
--- the desk was stopped before
-pub halted_before : (desk : DeskState) (r : Request) → desk.is_stopped ≡ true → (answer : Answer) × AnswersAsk desk (ask.Call r) answer desk × (answer_bytes stopped_answer ≡ answer_bytes answer)
-halted_before desk r e = viewed desk (ask.Call r) (ready.Fixed fixed.Stopped) (stopped_answer, replies_stopped (stand desk) (ask.Call r) stopped_answer e refl, refl)
+-- the desk is stopped, now or before
+pub called_stopped : (old new : DeskState) (r : Request) (text : Text) → new.is_stopped ≡ true → new.ledger ≡ old.ledger → (old.is_stopped ≡ false → StopsCall r old new) → (old.is_stopped ≡ true → new ≡ old) → bytes_of text ≡ answer_bytes stopped_answer
+    → IsAnswered old (ask.Call r) text new
+called_stopped old new r text halted same call stays bytes = by old.is_stopped refl
+  where
+    by : (b : Bool) → old.is_stopped ≡ b → IsAnswered old (ask.Call r) text new
+    by false e = stops_here old new (bytes_of text) r e halted same (call e) bytes
+    by true e =
+        subst (λ (d : DeskState). IsAnswered old (ask.Call r) text d) (sym (stays e)) (viewed old (ask.Call r) text (stopped_answer, replies_stopped (snapshot old) (ask.Call r) stopped_answer e refl, bytes))
+
+-- what is no message is answered so
+unread : (desk : DeskState) (text : List ℕ) → text ≡ answer_bytes message_answer → AnswersOne http desk unreadable text desk
+unread desk text bytes = record {
+  kind = ordinary;
+  answer = message_answer;
+  is_answer = (refl, refl);
+  text_is = bytes;
+  halts = λ stops. absurd (no_stop ordinary refl stops);
+  stops = λ going halted honest. absurd (true≢false (sym halted ∙ going));
+}
+
+-- ---- parts, as they are asked
+
+module _ (old new : DeskState) (text : Text) (q : Asked) where
+  pub part_asked : (a : Ask) → q ≡ asked.Message a → IsAnswered old a text new → (p : Part) → IsAsked q p → AnswersOne http old p (bytes_of text) new
+  part_asked a is answered (whole m) h = answered m (subst (λ (k : Asked). IsAsked k (whole m)) is h)
+  part_asked a is answered unreadable h = absurd (subst (λ (k : Asked). IsAsked k unreadable) is h)
+
+  pub part_unasked : q ≡ asked.NoMemory → new ≡ old → bytes_of text ≡ answer_bytes memory_answer → (p : Part) → IsAsked q p → AnswersOne http old p (bytes_of text) new
+  part_unasked is same bytes (whole m) h = nothing_done old new (bytes_of text) same bytes m
+  part_unasked is same bytes unreadable h = absurd (subst (λ (k : Asked). IsAsked k unreadable) is h)
+
+pub part_unread : (desk : DeskState) (text : Text) (q : Asked) → q ≡ asked.Unreadable → bytes_of text ≡ answer_bytes message_answer → (p : Part) → IsAsked q p → AnswersOne http desk p (bytes_of text) desk
+part_unread desk text q is bytes unreadable h = unread desk (bytes_of text) bytes
+part_unread desk text q is bytes (whole m) h = absurd (subst (λ (k : Asked). IsAsked k (whole m)) is h)

@@ -1,16 +1,18 @@
--- A part has one answer under its mark.
+-- A part has one answer under its kind.
 use Rattle.std.proofs.Common.{◌≡◌, ◌∙◌, Bool, true, false, ℕ, List, [], ◌∷◌, Option, Some, None, MatchOption, MatchBool, ap, refl, subst, sym}
 use Rattle.std.specs.Str.{bytes_eq}
 use Rattle.book.proofs.Runs.{answered_once}
 use Rattle.book.specs.Ledger.{Field, Ledger, Order, field_named, name_of, order_numbered}
 use Rattle.book.specs.declared.book.views.FieldView.{FieldView}
-use Rattle.web.specs.Answers.{Answer, answers_bytes, json_answer, none_answer, reply_answer, text_answer}
+use Rattle.desk.specs.Desk.{Snapshot}
+use Rattle.desk.specs.Dialogue.{AnswerKind, AreAnswers, IsTranscript, no_memory, ordinary, stopping, text_of}
+use Rattle.web.specs.Web.{AnswersPart, RepliesAt, http}
+use Rattle.web.specs.Answers.{Answer, json_answer, none_answer, reply_answer, text_answer}
 use Rattle.web.specs.declared.ask.Ask.{Ask}
 use Rattle.web.specs.declared.ask.Ask.TheVariants as ask
 use Rattle.web.specs.Messages.{Part, unreadable, whole}
 use Rattle.web.specs.Objects.{field_object, order_object}
 use Rattle.web.specs.Replies.{Replies, TellsField, reply_of_stopped}
-use Rattle.web.specs.Web.{AnswersAll, AnswersPart, Mark, RepliesAt, Stand, Web, memory, plain, stopped}
 use Rattle.files.proofs.OneSheet.{one_sheet, view_one}
 use Rattle.web.proofs.OneAsk.{asks_one}
 use Rattle.web.proofs.OneStream.{parts_one}
@@ -31,45 +33,45 @@ reply_one A (ask.Order n) x y B C h k = (order_one (order_numbered A n) x y h.0 
 reply_one A (ask.Sheet b) x y B C (told, same) (also, again) = (told.2 ∙ ap text_answer (one_sheet (λ f. bytes_eq f.branch b) (λ v. v.article) A told.0 also.0 told.1 also.1) ∙ sym also.2, same ∙ sym again)
 reply_one A ask.Nothing x y B C h k = (h.0 ∙ sym k.0, h.1 ∙ sym k.1)
 
--- two stands of one ledger, stopped or not alike, are the same
-stand_one : (B C : Stand) → B.ledger ≡ C.ledger → B.is_stopped ≡ C.is_stopped → B ≡ C
+-- two snapshots of one ledger, stopped or not alike, are the same
+stand_one : (B C : Snapshot) → B.ledger ≡ C.ledger → B.is_stopped ≡ C.is_stopped → B ≡ C
 stand_one B C e f = λ i. record { ledger = e i; is_stopped = f i }
 
--- the plain answer, where the test says whether the desk is stopped
-abbrev RepliesIf : Stand → Ask → Bool → Answer → Stand → Type 0
+-- the ordinary answer, where the test says whether the desk is stopped
+abbrev RepliesIf : Snapshot → Ask → Bool → Answer → Snapshot → Type 0
 RepliesIf old ask b answer new = MatchBool b ((answer ≡ reply_of_stopped ask) × (new ≡ old)) (Replies old.ledger ask answer new.ledger × (new.is_stopped ≡ false))
 
-plain_one : (old : Stand) (ask : Ask) (x y : Answer) (B C : Stand) → RepliesAt old ask x B → RepliesAt old ask y C → (x ≡ y) × (B ≡ C)
+plain_one : (old : Snapshot) (ask : Ask) (x y : Answer) (B C : Snapshot) → RepliesAt old ask x B → RepliesAt old ask y C → (x ≡ y) × (B ≡ C)
 plain_one old ask x y B C h k = by old.is_stopped h k
   where
     by : (b : Bool) → RepliesIf old ask b x B → RepliesIf old ask b y C → (x ≡ y) × (B ≡ C)
     by true h k = (h.0 ∙ sym k.0, h.1 ∙ sym k.1)
     by false h k = let same = reply_one old.ledger ask x y B.ledger C.ledger h.0 k.0 in (same.0, stand_one B C same.1 (h.1 ∙ sym k.1))
 
-part_one : (old : Stand) (part : Part) (mark : Mark) (x y : Answer) (B C : Stand) → AnswersPart old part mark x B → AnswersPart old part mark y C → (x ≡ y) × (B ≡ C)
-part_one old (whole m) plain x y B C (a, asks, replies) (b, also, others) =
+part_one : (old : Snapshot) (part : Part) (kind : AnswerKind) (x y : Answer) (B C : Snapshot) → AnswersPart old part kind x B → AnswersPart old part kind y C → (x ≡ y) × (B ≡ C)
+part_one old (whole m) ordinary x y B C (a, asks, replies) (b, also, others) =
     plain_one old a x y B C replies (subst (λ (ask : Ask). RepliesAt old ask y C) (asks_one m b a also asks) others)
-part_one old (whole m) memory x y B C h k = (h.0 ∙ sym k.0, h.1 ∙ sym k.1)
-part_one old (whole m) stopped x y B C h k = (h.0 ∙ sym k.0, stand_one B C (h.1.same ∙ sym k.1.same) (h.1.after ∙ sym k.1.after))
-part_one old unreadable plain x y B C h k = (h.0 ∙ sym k.0, h.1 ∙ sym k.1)
-part_one old unreadable memory x y B C h k = absurd h
-part_one old unreadable stopped x y B C h k = absurd h
+part_one old (whole m) no_memory x y B C h k = (h.0 ∙ sym k.0, h.1 ∙ sym k.1)
+part_one old (whole m) stopping x y B C h k = (h.0 ∙ sym k.0, stand_one B C (h.1.same ∙ sym k.1.same) (h.1.after ∙ sym k.1.after))
+part_one old unreadable ordinary x y B C h k = (h.0 ∙ sym k.0, h.1 ∙ sym k.1)
+part_one old unreadable no_memory x y B C h k = absurd h
+part_one old unreadable stopping x y B C h k = absurd h
 
-pub answers_one : (parts : List Part) (marks : List Mark) (old : Stand) (xs ys : List Answer) (B C : Stand) → AnswersAll old parts marks xs B → AnswersAll old parts marks ys C → (xs ≡ ys) × (B ≡ C)
+pub answers_one : (parts : List Part) (kinds : List AnswerKind) (old : Snapshot) (xs ys : List Answer) (B C : Snapshot) → AreAnswers http old parts kinds xs B → AreAnswers http old parts kinds ys C → (xs ≡ ys) × (B ≡ C)
 answers_one [] [] old [] [] B C h k = (refl, h ∙ sym k)
-answers_one (part ∷ parts) (mark ∷ marks) old (x ∷ xs) (y ∷ ys) B C (mid, first, more) (also, second, others) =
-    let same = part_one old part mark x y mid also first second in
-    let rest = answers_one parts marks mid xs ys B C more (subst (λ (stand : Stand). AnswersAll stand parts marks ys C) (sym same.1) others) in
+answers_one (part ∷ parts) (kind ∷ kinds) old (x ∷ xs) (y ∷ ys) B C (mid, first, more) (also, second, others) =
+    let same = part_one old part kind x y mid also first second in
+    let rest = answers_one parts kinds mid xs ys B C more (subst (λ (stand : Snapshot). AreAnswers http stand parts kinds ys C) (sym same.1) others) in
     (cc (same.0, rest.0), rest.1)
 answers_one [] [] old [] (y ∷ ys) B C h k = absurd k
 answers_one [] [] old (x ∷ xs) ys B C h k = absurd h
-answers_one [] (mark ∷ marks) old xs ys B C h k = absurd h
+answers_one [] (kind ∷ kinds) old xs ys B C h k = absurd h
 answers_one (part ∷ parts) [] old xs ys B C h k = absurd h
-answers_one (part ∷ parts) (mark ∷ marks) old [] ys B C h k = absurd h
-answers_one (part ∷ parts) (mark ∷ marks) old (x ∷ xs) [] B C h k = absurd k
+answers_one (part ∷ parts) (kind ∷ kinds) old [] ys B C h k = absurd h
+answers_one (part ∷ parts) (kind ∷ kinds) old (x ∷ xs) [] B C h k = absurd k
 
-pub web_one : (old : Stand) (stream : List ℕ) (marks : List Mark) (out other : List ℕ) (B C : Stand) → Web old stream marks out B → Web old stream marks other C → (out ≡ other) × (B ≡ C)
-web_one old stream marks out other B C h k =
-    let parts = parts_one k.parts h.parts stream k.are_parts h.are_parts in
-    let same = answers_one h.parts marks old h.answers k.answers B C h.replies (subst (λ (ps : List Part). AnswersAll old ps marks k.answers C) parts k.replies) in
-    (h.out_is ∙ ap answers_bytes same.0 ∙ sym k.out_is, same.1)
+pub web_one : (old : Snapshot) (stream : List ℕ) (kinds : List AnswerKind) (out other : List ℕ) (B C : Snapshot) → IsTranscript http old stream kinds out B → IsTranscript http old stream kinds other C → (out ≡ other) × (B ≡ C)
+web_one old stream kinds out other B C h k =
+    let parts = parts_one k.questions h.questions stream k.are_questions h.are_questions in
+    let same = answers_one h.questions kinds old h.answers k.answers B C h.are_answers (subst (λ (ps : List Part). AreAnswers http old ps kinds k.answers C) parts k.are_answers) in
+    (h.out_is ∙ ap (text_of http) same.0 ∙ sym k.out_is, same.1)

@@ -1,41 +1,36 @@
 -- A message asks for one thing.
-use Rattle.std.proofs.Common.{◌≡◌, ◌∙◌, ap, refl, sym}
-use Rattle.web.proofs.OnePlace.{one_place}
-use Rattle.web.proofs.Bodies.{one_body}
+use Rattle.std.proofs.Common.{◌≡◌, ◌∙◌, ℕ, List, ap, inl, inr, refl, sym}
 use Rattle.web.specs.Asks.{AsksFor, Says}
+use Rattle.web.specs.Messages.{Message}
+use Rattle.web.specs.Reads.{IsCallOf, IsRead}
 use Rattle.web.specs.declared.ask.Ask.{Ask}
 use Rattle.web.specs.declared.ask.Ask.TheVariants as ask
-use Rattle.web.specs.Messages.{Message}
-use Rattle.web.specs.declared.place.Place.TheVariants as place
+use Rattle.web.proofs.Bodies.{one_body}
+use Rattle.web.proofs.OneView.{one_view}
+use Rattle.web.proofs.PlainTargets.{is_read}
+
+one_call : (body : List ℕ) (a b : Ask) → IsCallOf body a → IsCallOf body b → a ≡ b
+one_call body (ask.Call r) (ask.Call s) h k = ap ask.Call (one_body body r s h k)
+one_call body (ask.Call r) ask.BadCall h k = absurd (k r h)
+one_call body ask.BadCall (ask.Call s) h k = absurd (h s k)
+one_call body ask.BadCall ask.BadCall h k = refl
+one_call body (ask.Field b a) c h k = absurd h
+one_call body (ask.Order n) c h k = absurd h
+one_call body (ask.Sheet b) c h k = absurd h
+one_call body ask.Nothing c h k = absurd h
+one_call body c (ask.Field b a) h k = absurd k
+one_call body c (ask.Order n) h k = absurd k
+one_call body c (ask.Sheet b) h k = absurd k
+one_call body c ask.Nothing h k = absurd k
+
+one_read : (m : Message) (a b : Ask) → IsRead m a → IsRead m b → a ≡ b
+one_read m a b (inl (post, to, h)) (inl (also, too, k)) = one_call m.body a b h k
+one_read m a b (inr (get, h)) (inr (also, k)) = one_view m.head.target a b h k
+one_read m a b (inl (post, to, h)) (inr (get, k)) = let other = sym post ∙ get in cc other
+one_read m a b (inr (get, h)) (inl (post, to, k)) = let other = sym post ∙ get in cc other
 
 says_one : (m : Message) (a b : Ask) → Says m a → Says m b → a ≡ b
-says_one m ask.Nothing b h k = absurd h
-says_one m a ask.Nothing h k = absurd k
-says_one m (ask.Call r) (ask.Call s) h k = ap ask.Call (one_body m.body r s h.1 k.1)
-says_one m (ask.Call r) ask.BadCall h k = absurd (k.1 r h.1)
-says_one m ask.BadCall (ask.Call s) h k = absurd (h.1 s k.1)
-says_one m ask.BadCall ask.BadCall h k = refl
-says_one m (ask.Field b a) (ask.Field c d) h k = let e : place.Field b a ≡ place.Field c d = one_place m.head.target (place.Field b a) (place.Field c d) h.1 k.1 in cc e
-says_one m (ask.Field b a) (ask.Order y) h k = let e : place.Field b a ≡ place.Order y = one_place m.head.target (place.Field b a) (place.Order y) h.1 k.1 in cc e
-says_one m (ask.Field b a) (ask.Sheet c) h k = let e : place.Field b a ≡ place.Sheet c = one_place m.head.target (place.Field b a) (place.Sheet c) h.1 k.1 in cc e
-says_one m (ask.Order x) (ask.Field c d) h k = let e : place.Order x ≡ place.Field c d = one_place m.head.target (place.Order x) (place.Field c d) h.1 k.1 in cc e
-says_one m (ask.Order x) (ask.Order y) h k = let e : place.Order x ≡ place.Order y = one_place m.head.target (place.Order x) (place.Order y) h.1 k.1 in cc e
-says_one m (ask.Order x) (ask.Sheet c) h k = let e : place.Order x ≡ place.Sheet c = one_place m.head.target (place.Order x) (place.Sheet c) h.1 k.1 in cc e
-says_one m (ask.Sheet b) (ask.Field c d) h k = let e : place.Sheet b ≡ place.Field c d = one_place m.head.target (place.Sheet b) (place.Field c d) h.1 k.1 in cc e
-says_one m (ask.Sheet b) (ask.Order y) h k = let e : place.Sheet b ≡ place.Order y = one_place m.head.target (place.Sheet b) (place.Order y) h.1 k.1 in cc e
-says_one m (ask.Sheet b) (ask.Sheet c) h k = let e : place.Sheet b ≡ place.Sheet c = one_place m.head.target (place.Sheet b) (place.Sheet c) h.1 k.1 in cc e
-says_one m (ask.Call r) (ask.Field c d) h k = let e = sym h.0.0 ∙ k.0 in cc e
-says_one m ask.BadCall (ask.Field c d) h k = let e = sym h.0.0 ∙ k.0 in cc e
-says_one m (ask.Call r) (ask.Order y) h k = let e = sym h.0.0 ∙ k.0 in cc e
-says_one m ask.BadCall (ask.Order y) h k = let e = sym h.0.0 ∙ k.0 in cc e
-says_one m (ask.Call r) (ask.Sheet c) h k = let e = sym h.0.0 ∙ k.0 in cc e
-says_one m ask.BadCall (ask.Sheet c) h k = let e = sym h.0.0 ∙ k.0 in cc e
-says_one m (ask.Field b a) (ask.Call r) h k = let e = sym h.0 ∙ k.0.0 in cc e
-says_one m (ask.Field b a) ask.BadCall h k = let e = sym h.0 ∙ k.0.0 in cc e
-says_one m (ask.Order x) (ask.Call r) h k = let e = sym h.0 ∙ k.0.0 in cc e
-says_one m (ask.Order x) ask.BadCall h k = let e = sym h.0 ∙ k.0.0 in cc e
-says_one m (ask.Sheet b) (ask.Call r) h k = let e = sym h.0 ∙ k.0.0 in cc e
-says_one m (ask.Sheet b) ask.BadCall h k = let e = sym h.0 ∙ k.0.0 in cc e
+says_one m a b h k = one_read m a b (is_read m a h) (is_read m b k)
 
 pub asks_one : (m : Message) (a b : Ask) → AsksFor m a → AsksFor m b → a ≡ b
 asks_one m ask.Nothing ask.Nothing h k = refl

@@ -1,4 +1,4 @@
--- The targets that lead to a place, in plain words.
+-- What a message says is what is read in it: the bytes of its target are those that its route is found for.
 use Rattle.std.proofs.Common.{◌≡◌, ◌∙◌, ◌<◌, ℕ, List, [], ◌∷◌, ◌++◌, Option, Some, None, Bool, true, false, ap, append_assoc, arith, codes, decimal, inl, inr, length, refl, subst, sym, ◌==◌}
 use Rattle.std.proofs.lemmas.Bool.{cases_Bool}
 use Rattle.std.proofs.lemmas.Bool.Decides.{nat_tests}
@@ -11,15 +11,17 @@ use Rattle.escrow.specs.Ranges.{IsOrderNo}
 use Rattle.matchit.specs.Params.{named}
 use Rattle.matchit.specs.Router.{RouteOf}
 use Rattle.matchit.specs.Seek.{first, has_slash, slash}
-use Rattle.web.specs.Routes.{LeadsTo, part_of, parts_on, resource_of, routes}
-use Rattle.web.specs.Targets.{IsPlace, target_of}
-use Rattle.web.specs.declared.place.Place.{Place}
-use Rattle.web.specs.declared.place.Place.TheVariants as place
+use Rattle.web.specs.Asks.{Says}
+use Rattle.web.specs.Messages.{Message}
+use Rattle.web.specs.Reads.{IsRead}
+use Rattle.web.specs.Routes.{IsView, part_of, parts_on, resource_of, routes}
+use Rattle.web.specs.declared.ask.Ask.{Ask}
+use Rattle.web.specs.declared.ask.Ask.TheVariants as ask
 use Rattle.web.specs.declared.route.Resource.{Resource}
 use Rattle.web.specs.declared.route.Resource.TheVariants.{Commands, Field, Order, Sheet}
 use Rattle.web.proofs.RouteResult.{IsPart, commands_found, field_found, order_found, sheet_found}
 use Rattle.web.proofs.FourRoutes.{IsRouted, commands_route, field_route, order_route, routed, sheet_route}
-use Rattle.web.proofs.OnePlace.{same}
+use Rattle.web.proofs.OneView.{same}
 use Rattle.web.proofs.TargetParts.{field_parts, order_parts, sheet_parts}
 
 -- ---- what a target with a route has for its resource and its parts
@@ -40,10 +42,10 @@ route_of target resource h = by (first routes target) refl
         let value : route.value ≡ resource = let same = rw e at h in cc same in
         (route, e, subst (λ (r : Resource). IsRouted r target route) value (routed target route e))
 
-pub commands_plain : (target : List ℕ) → resource_of target ≡ Some Commands → target ≡ codes "/v1/commands"
+commands_plain : (target : List ℕ) → resource_of target ≡ Some Commands → target ≡ codes "/v1/commands"
 commands_plain target h = (route_of target Commands h).2.1
 
-pub order_plain : (target : List ℕ) → resource_of target ≡ Some Order → (part : List ℕ) × (target ≡ codes "/v1/orders/" ++ part) × (part_of (codes "number") target ≡ Some part)
+order_plain : (target : List ℕ) → resource_of target ≡ Some Order → (part : List ℕ) × (target ≡ codes "/v1/orders/" ++ part) × (part_of (codes "number") target ≡ Some part)
 order_plain target h =
     let found = route_of target Order h in
     let part = found.2.1 in
@@ -51,7 +53,7 @@ order_plain target h =
     let parts : parts_on target found.0 ≡ (codes "number", part) ∷ [] = ap (λ (route : RouteOf Resource). parts_on target route) found.2.0 ∙ ap (λ (t : List ℕ). parts_on t order_route) text ∙ order_parts part in
     (part, text, part_is (codes "number") target found.0 found.1 ∙ ap (named (codes "number")) parts)
 
-pub sheet_plain : (target : List ℕ) → resource_of target ≡ Some Sheet → (part : List ℕ) × (target ≡ codes "/v1/sheets/" ++ part) × (part_of (codes "branch") target ≡ Some part)
+sheet_plain : (target : List ℕ) → resource_of target ≡ Some Sheet → (part : List ℕ) × (target ≡ codes "/v1/sheets/" ++ part) × (part_of (codes "branch") target ≡ Some part)
 sheet_plain target h =
     let found = route_of target Sheet h in
     let part = found.2.1 in
@@ -59,7 +61,7 @@ sheet_plain target h =
     let parts : parts_on target found.0 ≡ (codes "branch", part) ∷ [] = ap (λ (route : RouteOf Resource). parts_on target route) found.2.0 ∙ ap (λ (t : List ℕ). parts_on t sheet_route) text ∙ sheet_parts part in
     (part, text, part_is (codes "branch") target found.0 found.1 ∙ ap (named (codes "branch")) parts)
 
-pub field_plain : (target : List ℕ) → resource_of target ≡ Some Field
+field_plain : (target : List ℕ) → resource_of target ≡ Some Field
     → (part : List ℕ) × (rest : List ℕ) × (target ≡ codes "/v1/fields/" ++ (part ++ slash ∷ rest)) × (part_of (codes "branch") target ≡ Some part) × (part_of (codes "article") target ≡ Some rest)
 field_plain target h =
     let found = route_of target Field h in
@@ -113,40 +115,65 @@ part_plain (b ∷ bytes) h = h.1
 
 -- ---- both directions
 
-field_text : (branch article : List ℕ) → target_of (place.Field branch article) ≡ codes "/v1/fields/" ++ (branch ++ slash ∷ article)
+field_text : (branch article : List ℕ) → codes "/v1/fields/" ++ branch ++ codes "/" ++ article ≡ codes "/v1/fields/" ++ (branch ++ slash ∷ article)
 field_text branch article = append_assoc (codes "/v1/fields/" ++ branch) (codes "/") article ∙ append_assoc (codes "/v1/fields/") branch (slash ∷ article)
 
-pub plain_from_leads : (target : List ℕ) (p : Place) → LeadsTo target p → (target ≡ target_of p) × IsPlace p
-plain_from_leads target place.Commands h = (commands_plain target h, tt)
-plain_from_leads target (place.Field branch article) h =
-    let plain = field_plain target h.0 in
+-- a view that is read is said
+view_said : (m : Message) (a : Ask) → m.head.method ≡ codes "GET" → IsView m.head.target a → Says m a
+view_said m (ask.Field branch article) get h =
+    let plain = field_plain m.head.target h.0 in
     let a : plain.0 ≡ branch = same plain.3 h.1 in
     let b : plain.1 ≡ article = same plain.4 h.2 in
-    (plain.2 ∙ cc (a, b) ∙ sym (field_text branch article), (h.3, h.4))
-plain_from_leads target (place.Order n) h =
-    let plain = order_plain target h.0 in
-    (plain.1 ∙ ap (λ (part : List ℕ). codes "/v1/orders/" ++ part) (same plain.2 h.1), h.2)
-plain_from_leads target (place.Sheet branch) h =
-    let plain = sheet_plain target h.0 in
-    (plain.1 ∙ ap (λ (part : List ℕ). codes "/v1/sheets/" ++ part) (same plain.2 h.1), h.2)
+    ((get, plain.2 ∙ cc (a, b) ∙ sym (field_text branch article)), h.3, h.4)
+view_said m (ask.Order n) get h =
+    let plain = order_plain m.head.target h.0 in
+    ((get, plain.1 ∙ ap (λ (part : List ℕ). codes "/v1/orders/" ++ part) (same plain.2 h.1)), h.2)
+view_said m (ask.Sheet branch) get h =
+    let plain = sheet_plain m.head.target h.0 in
+    ((get, plain.1 ∙ ap (λ (part : List ℕ). codes "/v1/sheets/" ++ part) (same plain.2 h.1)), h.2)
+view_said m (ask.Call r) get h = absurd h
+view_said m ask.BadCall get h = absurd h
+view_said m ask.Nothing get h = absurd h
 
-leads : (p : Place) → IsPlace p → LeadsTo (target_of p) p
-leads place.Commands h = resource_is (codes "/v1/commands") commands_route commands_found
-leads (place.Field branch article) h =
-    let text = sym (field_text branch article) in
+-- what is read is said
+pub said : (m : Message) (a : Ask) → IsRead m a → Says m a
+said m (ask.Call r) (inl (post, h, call)) = ((post, commands_plain m.head.target h), call)
+said m ask.BadCall (inl (post, h, none)) = ((post, commands_plain m.head.target h), none)
+said m (ask.Field b a) (inl (post, h, none)) = absurd none
+said m (ask.Order n) (inl (post, h, none)) = absurd none
+said m (ask.Sheet b) (inl (post, h, none)) = absurd none
+said m ask.Nothing (inl (post, h, none)) = absurd none
+said m a (inr (get, h)) = view_said m a get h
+
+commands_read : (m : Message) → m.head.target ≡ codes "/v1/commands" → resource_of m.head.target ≡ Some Commands
+commands_read m e = subst (λ (t : List ℕ). resource_of t ≡ Some Commands) (sym e) (resource_is (codes "/v1/commands") commands_route commands_found)
+
+-- what is said is read
+pub is_read : (m : Message) (a : Ask) → Says m a → IsRead m a
+is_read m (ask.Call r) ((post, e), call) = inl (post, commands_read m e, call)
+is_read m ask.BadCall ((post, e), none) = inl (post, commands_read m e, none)
+is_read m (ask.Field branch article) ((get, e), is_branch, is_article) =
+    let text = sym (e ∙ field_text branch article) in
     let target = codes "/v1/fields/" ++ (branch ++ slash ∷ article) in
-    let found : first routes target ≡ Some field_route = field_found branch article (branch_part branch h.0) (article_part article h.1) in
-    let parts = field_parts branch article (part_plain branch (branch_part branch h.0)) in
-    subst (λ (t : List ℕ). LeadsTo t (place.Field branch article)) text
-    (resource_is target field_route found, part_is (codes "branch") target field_route found ∙ ap (named (codes "branch")) parts, part_is (codes "article") target field_route found ∙ ap (named (codes "article")) parts, h.0, h.1)
-leads (place.Order n) h =
+    let found : first routes target ≡ Some field_route = field_found branch article (branch_part branch is_branch) (article_part article is_article) in
+    let parts = field_parts branch article (part_plain branch (branch_part branch is_branch)) in
+    inr (
+      get,
+      subst (λ (t : List ℕ). IsView t (ask.Field branch article)) text
+          (resource_is target field_route found, part_is (codes "branch") target field_route found ∙ ap (named (codes "branch")) parts, part_is (codes "article") target field_route found ∙ ap (named (codes "article")) parts, is_branch, is_article),
+    )
+is_read m (ask.Order n) ((get, e), h) =
     let target = codes "/v1/orders/" ++ decimal n in
     let found : first routes target ≡ Some order_route = order_found (decimal n) (number_part n h) in
-    (resource_is target order_route found, part_is (codes "number") target order_route found ∙ ap (named (codes "number")) (order_parts (decimal n)), h)
-leads (place.Sheet branch) h =
+    inr (
+      get,
+      subst (λ (t : List ℕ). IsView t (ask.Order n)) (sym e) (resource_is target order_route found, part_is (codes "number") target order_route found ∙ ap (named (codes "number")) (order_parts (decimal n)), h),
+    )
+is_read m (ask.Sheet branch) ((get, e), h) =
     let target = codes "/v1/sheets/" ++ branch in
     let found : first routes target ≡ Some sheet_route = sheet_found branch (branch_part branch h) in
-    (resource_is target sheet_route found, part_is (codes "branch") target sheet_route found ∙ ap (named (codes "branch")) (sheet_parts branch), h)
-
-pub leads_from_plain : (target : List ℕ) (p : Place) → target ≡ target_of p → IsPlace p → LeadsTo target p
-leads_from_plain target p same h = subst (λ (t : List ℕ). LeadsTo t p) (sym same) (leads p h)
+    inr (
+      get,
+      subst (λ (t : List ℕ). IsView t (ask.Sheet branch)) (sym e) (resource_is target sheet_route found, part_is (codes "branch") target sheet_route found ∙ ap (named (codes "branch")) (sheet_parts branch), h),
+    )
+is_read m ask.Nothing h = absurd h

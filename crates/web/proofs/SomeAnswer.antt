@@ -1,4 +1,4 @@
--- At a good ledger there are plain answers to each stream.
+-- At a good ledger there are ordinary answers to each stream.
 use Rattle.std.proofs.Common.{◌≡◌, Bool, true, false, ℕ, List, [], ◌∷◌, Option, Some, None, MatchOption, refl, subst, sym}
 use Rattle.std.specs.List.{AllByRecursion as Each}
 use Rattle.std.specs.Str.{bytes_eq}
@@ -7,14 +7,19 @@ use Rattle.book.proofs.Runs.{answered_if_good}
 use Rattle.book.proofs.ShownNumbers.{Contains-of_find}
 use Rattle.book.specs.Good.{Good}
 use Rattle.book.specs.Ledger.{Field, Ledger, Order, field_named, name_of, order_numbered, same_name}
-use Rattle.web.specs.Answers.{Answer, answers_bytes, json_answer, message_answer, none_answer, reply_answer, text_answer}
+use Rattle.desk.specs.Desk.{DeskState, Snapshot, snapshot}
+use Rattle.desk.specs.Dialogue.{AnswerKind, AreAnswers, BeginsTranscript, EndsCut, IsTranscript, ordinary, text_of}
+use Rattle.desk.specs.Streams.{Streams}
+use Rattle.desk.specs.declared.fault.ScriptFault.{ScriptFault}
+use Rattle.desk.proofs.Conversing.{transcript_begins}
+use Rattle.web.specs.Web.{AnswersPart, http}
+use Rattle.web.specs.Answers.{Answer, json_answer, message_answer, none_answer, reply_answer, text_answer}
 use Rattle.web.specs.Asks.{AsksFor}
 use Rattle.web.specs.declared.ask.Ask.{Ask}
 use Rattle.web.specs.declared.ask.Ask.TheVariants as ask
 use Rattle.web.specs.Messages.{Message, Part, unreadable, whole}
 use Rattle.web.specs.Objects.{field_object, order_object}
 use Rattle.web.specs.Replies.{Replies, TellsField, reply_of_stopped}
-use Rattle.web.specs.Web.{AnswersAll, AnswersPart, Mark, Stand, Web, plain}
 use Rattle.files.proofs.OneSheet.{some_sheet, view_of}
 use Rattle.web.proofs.SomeAsk.{some_ask}
 use Rattle.web.proofs.SomeParts.{some_parts}
@@ -48,9 +53,9 @@ good_reply A m (ask.Order n) answer B g asks h = subst Good (sym h.1) g
 good_reply A m (ask.Sheet b) answer B g asks (told, same) = subst Good (sym same) g
 good_reply A m ask.Nothing answer B g asks h = subst Good (sym h.1) g
 
--- a plain answer to a part, after which the ledger is good
-abbrev Answered : Stand → Part → Type 0
-Answered old part = (answer : Answer) × (new : Stand) × AnswersPart old part plain answer new × Good new.ledger
+-- a ordinary answer to a part, after which the ledger is good
+abbrev Answered : Snapshot → Part → Type 0
+Answered old part = (answer : Answer) × (new : Snapshot) × AnswersPart old part ordinary answer new × Good new.ledger
 
 some_plain : (A : Ledger) (b : Bool) (m : Message) → Good A → Answered (record { ledger = A; is_stopped = b }) (whole m)
 some_plain A true m g = let ask = some_ask m in (reply_of_stopped ask.0, _, (ask.0, ask.1, (refl, refl)), g)
@@ -59,33 +64,39 @@ some_plain A false m g =
     let reply = some_reply A ask.0 g in
     (reply.0, record { ledger = reply.1; is_stopped = false }, (ask.0, ask.1, (reply.2, refl)), good_reply A m ask.0 reply.0 reply.1 g ask.1 reply.2)
 
-pub some_answer : (old : Stand) (part : Part) → Good old.ledger → Answered old part
+pub some_answer : (old : Snapshot) (part : Part) → Good old.ledger → Answered old part
 some_answer old (whole m) g = some_plain old.ledger old.is_stopped m g
 some_answer old unreadable g = (message_answer, old, (refl, refl), g)
 
--- plain answers to parts
-pub record PlainAnswers (old : Stand) (parts : List Part) : Type 0 where
-  pub marks : List Mark
+-- ordinary answers to parts
+pub record PlainAnswers (old : Snapshot) (parts : List Part) : Type 0 where
+  pub kinds : List AnswerKind
   pub answers : List Answer
-  pub new : Stand
-  pub replies : AnswersAll old parts marks answers new
-  pub plains : Each (λ mark. mark ≡ plain) marks
+  pub new : Snapshot
+  pub replies : AreAnswers http old parts kinds answers new
+  pub plains : Each (λ kind. kind ≡ ordinary) kinds
 
-pub some_answers : (parts : List Part) (old : Stand) → Good old.ledger → PlainAnswers old parts
-some_answers [] old g = record { marks = []; answers = []; new = old; replies = refl; plains = tt }
+pub some_answers : (parts : List Part) (old : Snapshot) → Good old.ledger → PlainAnswers old parts
+some_answers [] old g = record { kinds = []; answers = []; new = old; replies = refl; plains = tt }
 some_answers (part ∷ parts) old g =
     let first = some_answer old part g in
     let more = some_answers parts first.1 first.3 in
     record {
-      marks = plain ∷ more.marks;
+      kinds = ordinary ∷ more.kinds;
       answers = first.0 ∷ more.answers;
       new = more.new;
       replies = (first.1, first.2, more.replies);
       plains = (refl, more.plains);
     }
 
-pub some_web : (old : Stand) (stream : List ℕ) → Good old.ledger → (marks : List Mark) × (out : List ℕ) × (new : Stand) × Each (λ mark. mark ≡ plain) marks × Web old stream marks out new
+pub some_web : (old : Snapshot) (stream : List ℕ) → Good old.ledger → (kinds : List AnswerKind) × (out : List ℕ) × (new : Snapshot) × Each (λ kind. kind ≡ ordinary) kinds × IsTranscript http old stream kinds out new
 some_web old stream g =
     let parts = some_parts stream in
     let all = some_answers parts.0 old g in
-    (all.marks, answers_bytes all.answers, all.new, all.plains, record { parts = parts.0; answers = all.answers; are_parts = parts.1; replies = all.replies; out_is = refl })
+    (all.kinds, text_of http all.answers, all.new, all.plains, record { questions = parts.0; answers = all.answers; are_questions = parts.1; are_answers = all.replies; out_is = refl })
+
+-- what is written at a fault is a beginning of what is answered
+pub serve_begins : (fault : ScriptFault) (old new : DeskState) (s : Streams) → Good new.ledger → EndsCut http fault old new s → BeginsTranscript http (snapshot old) s
+serve_begins fault old new s good ends =
+    let more = some_answers ends.cut.left ends.cut.behind (subst Good ends.cut.same good) in
+    transcript_begins http fault old new s ends more.kinds more.answers more.new more.replies

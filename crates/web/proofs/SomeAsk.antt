@@ -1,32 +1,70 @@
 -- Each message asks for something.
-use Rattle.std.proofs.Common.{◌≡◌, codes, inl, inr}
-use Rattle.words.proofs.Decisions.{Decided, decided_word}
-use Rattle.web.specs.Asks.{AsksFor}
+use Rattle.std.proofs.Common.{IfNone, IfSome, None, Option, Some, ◌≡◌, ◌∙◌, ℕ, List, codes, inl, inr, refl, subst, sym, unwrap_or}
+use Rattle.words.proofs.Decisions.{Decided, decided_both, decided_word}
+use Rattle.web.specs.Asks.{AsksFor, Says}
+use Rattle.web.specs.Messages.{Message}
+use Rattle.web.specs.Reads.{IsCallOf, IsRead}
+use Rattle.web.specs.Routes.{IsView, resource_of}
 use Rattle.web.specs.declared.ask.Ask.{Ask}
 use Rattle.web.specs.declared.ask.Ask.TheVariants as ask
-use Rattle.web.specs.Messages.{Message}
-use Rattle.web.specs.Routes.{LeadsTo}
-use Rattle.web.specs.declared.place.Place.{Place}
-use Rattle.web.specs.declared.place.Place.TheVariants as place
+use Rattle.web.specs.declared.route.Resource.{Resource}
+use Rattle.web.specs.declared.route.Resource.TheVariants.{Commands, Field, Order, Sheet}
 use Rattle.web.proofs.Bodies.{IsSomeBody, body_decided}
-use Rattle.web.proofs.Nothing.{leads_nowhere, not_to_commands, not_to_view}
-use Rattle.web.proofs.OnePlace.{LeadsSomewhere, place_decided}
+use Rattle.web.proofs.OneView.{HasView, view_decided}
+use Rattle.web.proofs.PlainTargets.{is_read, said}
 
--- What a message of such a method asks for, whose target leads there.
-some_said : (m : Message) (p : Place) → LeadsTo m.head.target p → Decided (m.head.method ≡ codes "GET") → Decided (m.head.method ≡ codes "POST") → Decided (IsSomeBody m.body) → (ask : Ask) × AsksFor m ask
-some_said m place.Commands leads get (inl post) (inl (r, b)) = (ask.Call r, ((post, leads), b))
-some_said m place.Commands leads get (inl post) (inr none) = (ask.BadCall, ((post, leads), λ r b. none (r, b)))
-some_said m place.Commands leads get (inr other) body = (ask.Nothing, not_to_commands m leads other)
-some_said m (place.Field b a) leads (inl get) post body = (ask.Field b a, (get, leads))
-some_said m (place.Order n) leads (inl get) post body = (ask.Order n, (get, leads))
-some_said m (place.Sheet b) leads (inl get) post body = (ask.Sheet b, (get, leads))
-some_said m (place.Field b a) leads (inr other) post body = (ask.Nothing, not_to_view m (place.Field b a) (λ e. cc e) leads other)
-some_said m (place.Order n) leads (inr other) post body = (ask.Nothing, not_to_view m (place.Order n) (λ e. cc e) leads other)
-some_said m (place.Sheet b) leads (inr other) post body = (ask.Nothing, not_to_view m (place.Sheet b) (λ e. cc e) leads other)
+-- what is said is asked for
+asks_from_says : (m : Message) (a : Ask) → Says m a → AsksFor m a
+asks_from_says m (ask.Call r) h = h
+asks_from_says m ask.BadCall h = h
+asks_from_says m (ask.Field b a) h = h
+asks_from_says m (ask.Order n) h = h
+asks_from_says m (ask.Sheet b) h = h
+asks_from_says m ask.Nothing h = absurd h
 
-pub some_ask : (m : Message) → (ask : Ask) × AsksFor m ask
-some_ask m = by (place_decided m.head.target)
+pub asks_as_read : (m : Message) (a : Ask) → IsRead m a → AsksFor m a
+asks_as_read m a h = asks_from_says m a (said m a h)
+
+-- a message in which nothing is read asks for nothing
+pub asks_nothing : (m : Message) → ((a : Ask) → IsRead m a → ⊥) → AsksFor m ask.Nothing
+asks_nothing m none = λ a h. none a (is_read m a h)
+
+pub no_view : (m : Message) → m.head.method ≡ codes "GET" → (HasView m.head.target → ⊥) → (a : Ask) → IsRead m a → ⊥
+no_view m get none a (inl (post, to, call)) = let other = sym get ∙ post in cc other
+no_view m get none a (inr (also, view)) = none (a, view)
+
+pub no_call : (m : Message) → (m.head.method ≡ codes "GET" → ⊥) → ((m.head.method ≡ codes "POST") × (resource_of m.head.target ≡ Some Commands) → ⊥) → (a : Ask) → IsRead m a → ⊥
+no_call m other none a (inl (post, to, call)) = none (post, to)
+no_call m other none a (inr (get, view)) = other get
+
+-- the view that is found under the target
+pub view_asked : (m : Message) (target : List ℕ) (found : Option Ask) → target ≡ m.head.target → m.head.method ≡ codes "GET" → IfSome found (λ view. IsView target view) → IfNone found ((view : Ask) → IsView target view → ⊥)
+    → AsksFor m (unwrap_or found ask.Nothing)
+view_asked m target None to get some none = asks_nothing m (no_view m get (λ (a, view). none a (subst (λ (t : List ℕ). IsView t a) (sym to) view)))
+view_asked m target (Some view) to get some none = asks_as_read m view (inr (get, subst (λ (t : List ℕ). IsView t view) to some))
+
+some_call : (m : Message) → Decided (IsSomeBody m.body) → (a : Ask) × IsCallOf m.body a
+some_call m (inl (r, body)) = (ask.Call r, body)
+some_call m (inr none) = (ask.BadCall, λ r body. none (r, body))
+
+commands_decided : (target : List ℕ) → Decided (resource_of target ≡ Some Commands)
+commands_decided target = by (resource_of target) refl
   where
-    by : Decided (LeadsSomewhere m.head.target) → (ask : Ask) × AsksFor m ask
-    by (inl (p, leads)) = some_said m p leads (decided_word m.head.method (codes "GET")) (decided_word m.head.method (codes "POST")) (body_decided m.body)
-    by (inr none) = (ask.Nothing, leads_nowhere m (λ p h. none (p, h)))
+    by : (found : Option Resource) → resource_of target ≡ found → Decided (resource_of target ≡ Some Commands)
+    by None e = inr (λ h. let f = sym e ∙ h in cc f)
+    by (Some Commands) e = inl e
+    by (Some Field) e = inr (λ h. let f = sym e ∙ h in cc f)
+    by (Some Order) e = inr (λ h. let f = sym e ∙ h in cc f)
+    by (Some Sheet) e = inr (λ h. let f = sym e ∙ h in cc f)
+
+pub some_ask : (m : Message) → (a : Ask) × AsksFor m a
+some_ask m = by (decided_word m.head.method (codes "GET")) (decided_both (decided_word m.head.method (codes "POST")) (commands_decided m.head.target))
+  where
+    on_get : m.head.method ≡ codes "GET" → Decided (HasView m.head.target) → (a : Ask) × AsksFor m a
+    on_get get (inl (a, view)) = (a, asks_as_read m a (inr (get, view)))
+    on_get get (inr none) = (ask.Nothing, asks_nothing m (no_view m get none))
+
+    by : Decided (m.head.method ≡ codes "GET") → Decided ((m.head.method ≡ codes "POST") × (resource_of m.head.target ≡ Some Commands)) → (a : Ask) × AsksFor m a
+    by (inl get) posts = on_get get (view_decided m.head.target)
+    by (inr other) (inl (post, to)) = let call = some_call m (body_decided m.body) in (call.0, asks_as_read m call.0 (inl (post, to, call.1)))
+    by (inr other) (inr none) = (ask.Nothing, asks_nothing m (no_call m other none))

@@ -1,5 +1,5 @@
 -- Answers, and the bytes that they are.
-use Rattle.std.specs.Prelude.{ℕ, List, [], ◌∷◌, ◌++◌, codes, decimal, flat_map, length, unwrap_or}
+use Rattle.std.specs.Prelude.{ℕ, List, [], ◌∷◌, ◌++◌, codes, decimal, length, unwrap_or}
 use Rattle.http.specs.StatusCode.{code_digits, reason_phrase}
 use Rattle.serde_json.specs.Data.{Data}
 use Rattle.serde_json.specs.Written.{compact_text}
@@ -33,10 +33,6 @@ answer_bytes a = status_line a.status
     ++ header_line (codes "content-type") a.kind
     ++ header_line (codes "content-length") (decimal (length a.body))
     ++ head_line [] ++ a.body
-
--- the answers one behind the other
-abbrev pub answers_bytes : List Answer → List ℕ
-answers_bytes answers = flat_map answer_bytes answers
 
 -- ---- of which kinds they are
 

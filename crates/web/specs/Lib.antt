@@ -1,6 +1,5 @@
 pub mod Messages
 pub mod Routes
-pub mod Targets
 pub mod Objects
 pub mod Bodies
 pub mod Asks

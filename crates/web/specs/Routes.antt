@@ -1,4 +1,5 @@
--- The four routes, as `matchit` reads and keeps them, the parts of a target, and the place that it leads to.
+-- The four routes, as `matchit` reads and keeps them, the parts of a target, and the view under it (private: how a target
+-- is read).
 use Rattle.std.specs.Prelude.{◌≡◌, ℕ, List, [], Option, Some, codes, decimal, option_and_then, option_map, Result, Ok, Err}
 use Rattle.escrow.specs.Codes.{IsArticle, IsBranch}
 use Rattle.escrow.specs.Ranges.{IsOrderNo}
@@ -9,8 +10,8 @@ use Rattle.matchit.specs.Router.{RouteOf, route_from}
 use Rattle.matchit.specs.Rows.{RowsOf}
 use Rattle.matchit.specs.Seek.{first}
 use Rattle.matchit.specs.declared.error.InsertError.{InsertError}
-use Rattle.web.specs.declared.place.Place.{Place}
-use Rattle.web.specs.declared.place.Place.TheVariants as place
+use Rattle.web.specs.declared.ask.Ask.{Ask}
+use Rattle.web.specs.declared.ask.Ask.TheVariants as ask
 use Rattle.web.specs.declared.route.Resource.{Resource}
 use Rattle.web.specs.declared.route.Resource.TheVariants.{Commands, Field, Order, Sheet}
 
@@ -39,14 +40,16 @@ parts_on target route = walk route.pattern route.text target route.names 0 0
 abbrev pub part_of : List ℕ → List ℕ → Option (List ℕ)
 part_of name target = option_and_then (λ route. named name (parts_on target route)) (first routes target)
 
--- the target leads to the place: its route is the place's, and its parts are the place's codes or number
-abbrev pub LeadsTo : List ℕ → Place → Type 0
-LeadsTo target place.Commands = resource_of target ≡ Some Commands
-LeadsTo target (place.Field branch article) =
+-- the view is that of the target: its route is the view's, and its parts are the view's codes or number
+abbrev pub IsView : List ℕ → Ask → Type 0
+IsView target (ask.Field branch article) =
     (resource_of target ≡ Some Field) × (part_of (codes "branch") target ≡ Some branch)
     × (part_of (codes "article") target ≡ Some article)
     × IsBranch branch × IsArticle article
-LeadsTo target (place.Order number) =
+IsView target (ask.Order number) =
     (resource_of target ≡ Some Order) × (part_of (codes "number") target ≡ Some (decimal number)) × IsOrderNo number
-LeadsTo target (place.Sheet branch) =
+IsView target (ask.Sheet branch) =
     (resource_of target ≡ Some Sheet) × (part_of (codes "branch") target ≡ Some branch) × IsBranch branch
+IsView target (ask.Call request) = ⊥
+IsView target ask.BadCall = ⊥
+IsView target ask.Nothing = ⊥

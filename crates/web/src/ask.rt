@@ -4,15 +4,13 @@ ghost use Rattle.std.specs.Prelude.{◌≡◌, IfOk};
 ghost use Rattle.web.specs.Asks.{AsksFor};
 ghost use Rattle.web.specs.Intake.{IsMessageAt, IsMessageWithin};
 ghost use Rattle.web.specs.Messages.{Message};
-ghost use Rattle.web.specs.Reads.{IsCallOf, IsPosted, view_of};
-ghost use Rattle.web.specs.Routes.{routes};
+ghost use Rattle.web.specs.Reads.{IsCallOf};
 
 use crate::body::read_request;
 use crate::intake::Found;
-use crate::place::{Place, place_of};
-use crate::route::Resource;
+use crate::route::Routes;
+use crate::target::{takes_commands, view_of};
 use escrow::{Article, Branch, OrderNo};
-use matchit::Router;
 use std::alloc::{AllocError, Global};
 use std::str;
 use words::Request;
@@ -44,53 +42,20 @@ fn call_of(alloc: Global, body: &[u8]) -> Result<Ask, AllocError>
     }
 }
 
-/// What a posted body asks for.
-fn posted(alloc: Global, place: Place, body: &[u8]) -> Result<Ask, AllocError>
-    ensures { IfOk result (λ ask. IsPosted place body.now ask) }
-{
-    match place {
-        Place::Commands => call_of(alloc, body),
-        Place::Field(_, _) => Ok(Ask::Nothing),
-        Place::Order(_) => Ok(Ask::Nothing),
-        Place::Sheet(_) => Ok(Ask::Nothing),
-    }
-}
-
-/// What a view asks for.
-fn viewed(place: Place) -> Ask
-    ensures { result ≡ view_of place }
-{
-    match place {
-        Place::Commands => Ask::Nothing,
-        Place::Field(branch, article) => Ask::Field(branch, article),
-        Place::Order(number) => Ask::Order(number),
-        Place::Sheet(branch) => Ask::Sheet(branch),
-    }
-}
-
 /// What the message at the front of the held bytes asks for. Only a body that is posted takes memory.
-pub fn ask_of(
-    alloc: Global,
-    router: &Router<Resource>,
-    held: &[u8],
-    found: &Found,
-) -> Result<Ask, AllocError>
-    requires made { router.now ≡ routes }
-    requires within { IsMessageWithin held.now found.now }
+pub fn ask_of(alloc: Global, routes: &Routes, held: &[u8], found: &Found) -> Result<Ask, AllocError>
+    requires { IsMessageWithin held.now found.now }
     ensures { IfOk result (λ ask. (m : Message) → IsMessageAt held.now found.now m → AsksFor m ask) }
 {
     let method = &held[found.method.start..found.method.end];
     let Ok(target) = str::from_utf8(&held[found.target.start..found.target.end]) else {
         return Ok(Ask::Nothing);
     };
-    let Some(place) = place_of(router, target) else {
-        return Ok(Ask::Nothing);
-    };
-    if method == b"POST".as_slice() {
-        return posted(alloc, place, &held[found.start..found.end]);
-    }
     if method == b"GET".as_slice() {
-        return Ok(viewed(place));
+        return Ok(view_of(routes.router(), target).unwrap_or(Ask::Nothing));
+    }
+    if method == b"POST".as_slice() && takes_commands(routes.router(), target) {
+        return call_of(alloc, &held[found.start..found.end]);
     }
     Ok(Ask::Nothing)
 }

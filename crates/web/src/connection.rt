@@ -1,108 +1,165 @@
 //! A connection, served.
 
-ghost use Rattle.std.specs.Prelude.{◌≡◌, ◌++◌, ◌+◌, ◌-◌, ◌^◌, ◌≤◌, drop, length, List, ℕ, IfErr, IfOk, OnErr, OnOk, min};
-ghost use Rattle.std.specs.Io.KnownBytes.{Appends};
-ghost use Rattle.desk.specs.Desk.{Goes, desk_state};
+ghost use Rattle.std.specs.Prelude.{◌≡◌, ◌≢◌, IfErr, IfOk, drop, true};
+ghost use Rattle.desk.specs.Desk.{Goes, desk_state, snapshot};
+ghost use Rattle.desk.specs.Dialogue.{BeginsTranscript, EndsCut, EndsWhole};
 ghost use Rattle.desk.specs.Streams.{streams};
-ghost use Rattle.web.specs.Answers.{Answer, answer_bytes, message_answer};
-ghost use Rattle.web.specs.Fixed.{ready_bytes};
 ghost use Rattle.web.specs.Intake.{IsMessageAt, IsMessageWithin};
-ghost use Rattle.web.specs.Messages.{Message};
-ghost use Rattle.web.specs.Serving.{EndsCut, EndsWhole};
-ghost use Rattle.web.specs.Routes.{routes};
-ghost use Rattle.web.specs.Turns.{AnswersOne};
+ghost use Rattle.web.specs.Messages.{Message, whole};
+ghost use Rattle.web.specs.Serving.{Tells, cause_of};
+ghost use Rattle.web.specs.Turns.{IsAsked, ending_of};
+ghost use Rattle.web.specs.Web.{http};
 
-use crate::ask::ask_of;
+use crate::ask::{Ask, ask_of};
 use crate::calls::answer_ask;
-use crate::fixed::{Fixed, Ready};
-use crate::intake::{Found, Next, next_message};
-use crate::route::{Resource, router};
+use crate::fixed::Fixed;
+use crate::intake::{Found, Next as Held, next_message};
+use crate::route::Routes;
 use crate::served::{Ending, Served, WebFault};
-use desk::Desk;
+use desk::{Answer, CallFault, Desk, Dialogue, Next, ScriptFault, converse};
 use keep::Keep;
-use matchit::Router;
-use std::alloc::Global;
+use std::alloc::{AllocError, Global};
 use std::io::{Read, Write};
-use words::{WriteFault, write_whole};
+use words::Memory;
 
-/// What is to be written for a message. Where memory is refused for it, nothing is done.
-fn ready_for<K: Keep>(
-    alloc: Global,
-    router: &Router<Resource>,
-    desk: &mut Desk<K>,
-    held: &[u8],
-    found: &Found,
-) -> Ready
-    requires made { router.now ≡ routes }
-    requires within { IsMessageWithin held.now found.now }
-    ensures answers { (m : Message) → IsMessageAt held.now found.now m → (answer : Answer)
-        × AnswersOne (desk_state K.Keep desk.old) m answer (desk_state K.Keep desk.new)
-        × (ready_bytes result ≡ answer_bytes answer) }
-    ensures goes { Goes K.Keep desk.old desk.new }
-{
-    desk.is_stopped();
-    match ask_of(alloc, router, held, found) {
-        Ok(ask) => answer_ask(alloc, desk, &ask),
-        Err(_) => Ready::Fixed(Fixed::Memory),
+/// A part of a stream, as it is answered.
+#[derive(Drop)]
+pub enum Asked {
+    /// A message that asks for this.
+    Message(Ask),
+    /// A message; memory was refused for what it asks for.
+    NoMemory,
+    /// What is no message.
+    Unreadable,
+}
+
+/// A dialogue in HTTP.
+#[derive(Drop)]
+struct HttpDialogue {
+    routes: Routes,
+    /// What has come and stands behind the messages that were found.
+    held: Vec<u8>,
+    has_ended: bool,
+    /// What is held is no message, and that was found.
+    is_over: bool,
+}
+
+impl HttpDialogue {
+    /// What the message at the front asks for, which is let go.
+    fn take_message(&mut self, alloc: Global, found: &Found) -> Asked
+        requires { IsMessageWithin self.old.held.items found.now }
+        ensures asked { (m : Message) → IsMessageAt self.old.held.items found.now m → IsAsked result (whole m) }
+        ensures behind { self.new.held.items ≡ drop found.now.end self.old.held.items }
+        ensures ended { self.new.has_ended ≡ self.old.has_ended }
+        ensures over { self.new.is_over ≡ self.old.is_over }
+    {
+        let asked = match ask_of(alloc, &self.routes, &self.held, found) {
+            Ok(ask) => Asked::Message(ask),
+            Err(AllocError) => Asked::NoMemory,
+        };
+        self.held.drain(..found.end);
+        asked
+    }
+
+    /// What is held is no message, and nothing is looked for behind it.
+    fn end_unreadable(&mut self) -> Asked
+        ensures asked { result ≡ Asked.Unreadable }
+        ensures held { self.new.held ≡ self.old.held }
+        ensures ended { self.new.has_ended ≡ self.old.has_ended }
+        ensures over { self.new.is_over ≡ true }
+    {
+        self.is_over = true;
+        Asked::Unreadable
+    }
+
+    /// How it has ended.
+    fn ending(&self) -> Ending
+        ensures { result ≡ ending_of self.now.is_over }
+    {
+        if self.is_over {
+            Ending::BadMessage
+        } else {
+            Ending::Input
+        }
     }
 }
 
-/// Answers a message.
-fn answer_message<K: Keep, W: Write>(
-    alloc: Global,
-    router: &Router<Resource>,
-    writer: &mut W,
-    desk: &mut Desk<K>,
-    held: &[u8],
-    found: &Found,
-) -> Result<(), WriteFault>
-    requires made { router.now ≡ routes }
-    requires within { IsMessageWithin held.now found.now }
-    ensures whole { OnOk result ((m : Message) → IsMessageAt held.now found.now m → (answer : Answer)
-        × AnswersOne (desk_state K.Keep desk.old) m answer (desk_state K.Keep desk.new)
-        × Appends (W.contents writer.old) (W.contents writer.new) (answer_bytes answer)) }
-    ensures cut { OnErr result ((m : Message) → IsMessageAt held.now found.now m → (answer : Answer) × (begun : List ℕ)
-        × (left : List ℕ)
-        × AnswersOne (desk_state K.Keep desk.old) m answer (desk_state K.Keep desk.new)
-        × (answer_bytes answer ≡ begun ++ left) × Appends (W.contents writer.old) (W.contents writer.new) begun) }
-    ensures goes { Goes K.Keep desk.old desk.new }
-{
-    let ready = ready_for(alloc, router, desk, held, found);
-    write_whole(writer, ready.as_bytes())
-}
+impl Dialogue for HttpDialogue {
+    ghost use Rattle.std.specs.Prelude.{◌≡◌};
+    ghost use Rattle.web.specs.Answers.{Answer};
+    ghost use Rattle.web.specs.Messages.{Part};
+    ghost use Rattle.web.specs.Turns.{AreFirst, HasFound, IsAsked, left_to_find};
+    ghost use Rattle.web.specs.Web.{http};
 
-/// One more, or the greatest count.
-fn one_more(count: u64) -> u64
-    ensures { result ≡ min (count + 1) (2 ^ 64 - 1) }
-{
-    count.saturating_add(1)
-}
+    type Question = Asked;
 
-/// Writes the answer to what is no message, which is the last one.
-fn end_unreadable<W: Write>(writer: &mut W, answered: u64) -> Result<Served, WebFault>
-    ensures whole { IfOk result (λ served. (served ≡ record {
-      answered = min (answered + 1) (2 ^ 64 - 1);
-      ending = Ending.BadMessage;
-    })
-        × Appends (W.contents writer.old) (W.contents writer.new) (answer_bytes message_answer)) }
-    ensures cut { IfErr result (λ fault. (fault ≡ WebFault.Write) × (begun : List ℕ) × (left : List ℕ)
-        × (answer_bytes message_answer ≡ begun ++ left) × Appends (W.contents writer.old) (W.contents writer.new) begun) }
-{
-    match write_whole(writer, Fixed::NoMessage.bytes()) {
-        Ok(()) => Ok(Served {
-            answered: one_more(answered),
-            ending: Ending::BadMessage,
-        }),
-        Err(_) => Err(WebFault::Write),
+    ghost Asked = { Part };
+
+    ghost Told = { Answer };
+
+    ghost language = { http };
+
+    ghost asks = { IsAsked };
+
+    ghost stands = { λ s read ended found. (s.has_ended ≡ ended) × HasFound s.is_over s.held.items read ended found
+        × AreFirst read ended found };
+
+    ghost may_stop = { ⊥ };
+
+    ghost size = { λ s. left_to_find s.is_over s.held.items };
+
+    fn take_in(&mut self, _alloc: Global, piece: &[u8]) -> Result<(), Memory> {
+        if piece.is_empty() {
+            self.has_ended = true;
+            return Ok(());
+        }
+        match self.held.extend_from_slice(piece) {
+            Ok(()) => Ok(()),
+            Err(_) => Err(Memory),
+        }
     }
+
+    fn next(&mut self, alloc: Global) -> Next<Asked> {
+        if self.is_over {
+            return Next::Over;
+        }
+        match next_message(&self.held) {
+            Held::Message(found) => Next::Question(self.take_message(alloc, &found)),
+            Held::More if !self.has_ended => Next::More,
+            Held::More if self.held.is_empty() => Next::Over,
+            Held::More => Next::Question(self.end_unreadable()),
+            Held::Unreadable => Next::Question(self.end_unreadable()),
+        }
+    }
+
+    fn answer<K: Keep>(
+        &self,
+        alloc: Global,
+        desk: &mut Desk<K>,
+        asked: &Asked,
+    ) -> Result<Answer, CallFault> {
+        desk.is_stopped();
+        match asked {
+            Asked::Message(ask) => Ok(answer_ask(alloc, desk, ask)),
+            Asked::NoMemory => Ok(Fixed::Memory.answer()),
+            Asked::Unreadable => Ok(Fixed::NoMessage.answer()),
+        }
+    }
+
+    ghost settled = { λ s read ended found h. h.2 };
 }
 
-/// Lets go of the first bytes.
-fn let_go(held: &mut Vec<u8>, count: usize)
-    requires { count ≤ length held.old.items }
-    ensures { held.new.items ≡ drop count held.old.items }
+/// The fault of a dialogue that a stopped desk doesn't end.
+fn web_fault(fault: ScriptFault) -> WebFault
+    requires { fault ≢ ScriptFault.Stopped }
+    ensures { cause_of result ≡ fault }
 {
-    held.drain(..count);
+    match fault {
+        ScriptFault::Memory => WebFault::Memory,
+        ScriptFault::Stopped => unreachable!(),
+        ScriptFault::Read => WebFault::Read,
+        ScriptFault::Write => WebFault::Write,
+    }
 }
 
 /// Answers the messages of a connection in their order, each before the next is looked at, until the input ends or what
@@ -110,7 +167,7 @@ fn let_go(held: &mut Vec<u8>, count: usize)
 ///
 /// What is written is the answers to all that was read, and `Served` has their count. After a fault it is a beginning
 /// of such: the answers to all that the desk has done, of which only a failing write leaves out the last one or its end.
-/// A connection of 2^64 - 1 messages ends as one whose reader fails. `stopped` is answered only
+/// A connection of 2^64 - 1 pieces ends as one whose reader fails. `stopped` is answered only
 /// where the desk is stopped. Of a desk that was not stopped before, a stop then leaves the rows of its ledger or those
 /// after the command that was first answered `stopped`, and in every other case those of its ledger alone. A desk that
 /// was stopped before changes nothing, and answers as one that is stopped.
@@ -120,37 +177,32 @@ pub fn serve<K: Keep, R: Read, W: Write>(
     writer: &mut W,
     desk: &mut Desk<K>,
 ) -> Result<Served, WebFault>
-    ensures whole { IfOk result (λ served. EndsWhole served (desk_state K.Keep desk.old) (desk_state K.Keep desk.new)
+    ensures whole { IfOk result (λ served. (whole : EndsWhole http (desk_state K.Keep desk.old)
+        (desk_state K.Keep desk.new)
+        (streams (R.remaining reader.old) (R.remaining reader.new) (W.contents writer.old) (W.contents writer.new)))
+        × Tells served whole) }
+    ensures cut { IfErr result (λ fault. EndsCut http (cause_of fault) (desk_state K.Keep desk.old)
+        (desk_state K.Keep desk.new)
         (streams (R.remaining reader.old) (R.remaining reader.new) (W.contents writer.old) (W.contents writer.new))) }
-    ensures cut { IfErr result (λ fault. EndsCut fault (desk_state K.Keep desk.old) (desk_state K.Keep desk.new)
+    ensures begins { IfErr result (λ fault. BeginsTranscript http (snapshot (desk_state K.Keep desk.old))
         (streams (R.remaining reader.old) (R.remaining reader.new) (W.contents writer.old) (W.contents writer.new))) }
     ensures goes { Goes K.Keep desk.old desk.new }
 {
     desk.is_stopped();
-    let Ok(router) = router(alloc) else {
+    let Ok(routes) = Routes::new(alloc) else {
         return Err(WebFault::Memory);
     };
-    let mut held = Vec::new(alloc);
-    let mut answered: u64 = 0;
-    for _turn in 0..u64::MAX {
-        match next_message(reader, &mut held) {
-            Ok(Next::Message(found)) => {
-                let Ok(()) = answer_message(alloc, &router, writer, desk, held.as_slice(), &found)
-                else {
-                    return Err(WebFault::Write);
-                };
-                let_go(&mut held, found.end);
-                answered = one_more(answered);
-            }
-            Ok(Next::Unreadable) => return end_unreadable(writer, answered),
-            Ok(Next::End) => {
-                return Ok(Served {
-                    answered,
-                    ending: Ending::Input,
-                });
-            }
-            Err(fault) => return Err(fault),
-        }
+    let mut dialogue = HttpDialogue {
+        routes,
+        held: Vec::new(alloc),
+        has_ended: false,
+        is_over: false,
+    };
+    match converse(alloc, &mut dialogue, reader, writer, desk) {
+        Ok(answered) => Ok(Served {
+            answered,
+            ending: dialogue.ending(),
+        }),
+        Err(fault) => Err(web_fault(fault)),
     }
-    Err(WebFault::Read)
 }

@@ -1,8 +1,11 @@
-//! Answers that are the same each time, and answers that can be sent.
+//! Answers that are the same each time.
 
 ghost use Rattle.std.specs.Prelude.{◌≡◌};
+ghost use Rattle.desk.specs.Dialogue.{bytes_of};
 ghost use Rattle.web.specs.Answers.{answer_bytes};
-ghost use Rattle.web.specs.Fixed.{fixed_answer, ready_bytes};
+ghost use Rattle.web.specs.Fixed.{fixed_answer};
+
+use desk::Answer;
 
 /// An answer that is the same each time.
 #[derive(Clone, Copy)]
@@ -35,8 +38,15 @@ const BAD_COMMAND: &[u8] =
     b"HTTP/1.1 400 Bad Request\r\ncontent-type: application/json\r\ncontent-length: 43\r\n\r\n{\"code\":20,\"line\":0,\"refused\":\"BadCommand\"}";
 
 impl Fixed {
+    /// It, as it can be sent.
+    pub fn answer(self) -> Answer
+        ensures { bytes_of result ≡ answer_bytes (fixed_answer self) }
+    {
+        Answer::Fixed(self.bytes())
+    }
+
     /// Its bytes.
-    pub fn bytes(self) -> &'static [u8]
+    fn bytes(self) -> &'static [u8]
         ensures { result.now ≡ answer_bytes (fixed_answer self) }
     {
         match self {
@@ -45,27 +55,6 @@ impl Fixed {
             Fixed::Stopped => STOPPED,
             Fixed::Memory => MEMORY,
             Fixed::BadCommand => BAD_COMMAND,
-        }
-    }
-}
-
-/// An answer that can be sent.
-#[derive(Drop)]
-pub enum Ready {
-    /// One that takes no memory.
-    Fixed(Fixed),
-    /// One that was made.
-    Made(Vec<u8>),
-}
-
-impl Ready {
-    /// Its bytes.
-    pub fn as_bytes(&self) -> &[u8]
-        ensures { result.now ≡ ready_bytes self.now }
-    {
-        match self {
-            Ready::Fixed(fixed) => fixed.bytes(),
-            Ready::Made(bytes) => bytes,
         }
     }
 }

@@ -6,6 +6,7 @@ ghost use Rattle.web.specs.Routes.{routes};
 
 use matchit::{InsertError, Router};
 use std::alloc::Global;
+use std::marker::Model;
 
 /// What a route leads to.
 #[derive(Clone, Copy)]
@@ -16,8 +17,43 @@ pub enum Resource {
     Sheet,
 }
 
+/// The four routes.
+#[derive(Drop)]
+pub struct Routes {
+    router: Router<Resource>,
+}
+
+impl Model for Routes {
+    ghost use Rattle.std.specs.Prelude.{◌≡◌};
+    ghost use Rattle.web.specs.Routes.{routes};
+
+    ghost Value = { Unit {0} };
+
+    ghost view = { λ r. tt };
+
+    ghost invariant = { λ r. r.router ≡ routes };
+}
+
+impl Routes {
+    /// They fail for want of memory alone.
+    pub fn new(alloc: Global) -> Result<Routes, InsertError>
+        ensures { IfErr result (λ error. error ≡ OutOfMemory) }
+    {
+        Ok(Routes {
+            router: router(alloc)?,
+        })
+    }
+
+    /// Their router.
+    pub fn router(&self) -> &Router<Resource>
+        ensures { result.now ≡ routes }
+    {
+        &self.router
+    }
+}
+
 /// The router of the four routes, which fails for want of memory alone.
-pub fn router(alloc: Global) -> Result<Router<Resource>, InsertError>
+fn router(alloc: Global) -> Result<Router<Resource>, InsertError>
     ensures made { IfOk result (λ made. made ≡ routes) }
     ensures memory { IfErr result (λ error. error ≡ OutOfMemory) }
 {

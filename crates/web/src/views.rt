@@ -1,14 +1,13 @@
 //! What is answered to a view.
 
 ghost use Rattle.std.specs.Prelude.{IfOk};
-ghost use Rattle.desk.specs.Desk.{desk_state};
-ghost use Rattle.web.specs.Serving.{stand};
+ghost use Rattle.desk.specs.Desk.{desk_state, snapshot};
 ghost use Rattle.web.specs.Turns.{Shows};
 ghost use Rattle.web.specs.declared.ask.Ask.TheVariants as ask;
 
 use crate::answer::{field_answer, order_answer, text_answer};
-use crate::fixed::{Fixed, Ready};
-use desk::Desk;
+use crate::fixed::Fixed;
+use desk::{Answer, Desk};
 use escrow::{Article, Branch, OrderNo};
 use files::branch_sheet;
 use keep::Keep;
@@ -20,15 +19,15 @@ pub fn show_field<K: Keep>(
     desk: &Desk<K>,
     branch: Branch,
     article: Article,
-) -> Result<Ready, AllocError>
-    ensures { IfOk result (λ ready. Shows (stand (desk_state K.Keep desk.now)) (ask.Field branch article) ready) }
+) -> Result<Answer, AllocError>
+    ensures { IfOk result (λ answer. Shows (snapshot (desk_state K.Keep desk.now)) (ask.Field branch article) answer) }
 {
     if desk.is_stopped() {
-        return Ok(Ready::Fixed(Fixed::Stopped));
+        return Ok(Fixed::Stopped.answer());
     }
     match desk.field(branch, article) {
-        Some(view) => Ok(Ready::Made(field_answer(alloc, &view)?)),
-        None => Ok(Ready::Fixed(Fixed::Nothing)),
+        Some(view) => Ok(Answer::Made(field_answer(alloc, &view)?)),
+        None => Ok(Fixed::Nothing.answer()),
     }
 }
 
@@ -37,15 +36,15 @@ pub fn show_order<K: Keep>(
     alloc: Global,
     desk: &Desk<K>,
     number: OrderNo,
-) -> Result<Ready, AllocError>
-    ensures { IfOk result (λ ready. Shows (stand (desk_state K.Keep desk.now)) (ask.Order number) ready) }
+) -> Result<Answer, AllocError>
+    ensures { IfOk result (λ answer. Shows (snapshot (desk_state K.Keep desk.now)) (ask.Order number) answer) }
 {
     if desk.is_stopped() {
-        return Ok(Ready::Fixed(Fixed::Stopped));
+        return Ok(Fixed::Stopped.answer());
     }
     match desk.order(number) {
-        Some(view) => Ok(Ready::Made(order_answer(alloc, &view)?)),
-        None => Ok(Ready::Fixed(Fixed::Nothing)),
+        Some(view) => Ok(Answer::Made(order_answer(alloc, &view)?)),
+        None => Ok(Fixed::Nothing.answer()),
     }
 }
 
@@ -54,15 +53,15 @@ pub fn show_sheet<K: Keep>(
     alloc: Global,
     desk: &Desk<K>,
     branch: Branch,
-) -> Result<Ready, AllocError>
-    ensures { IfOk result (λ ready. Shows (stand (desk_state K.Keep desk.now)) (ask.Sheet branch) ready) }
+) -> Result<Answer, AllocError>
+    ensures { IfOk result (λ answer. Shows (snapshot (desk_state K.Keep desk.now)) (ask.Sheet branch) answer) }
 {
     if desk.is_stopped() {
-        return Ok(Ready::Fixed(Fixed::Stopped));
+        return Ok(Fixed::Stopped.answer());
     }
     let mut text = Vec::new(alloc);
     match branch_sheet(alloc, desk.book(), branch, &mut text) {
-        Ok(()) => Ok(Ready::Made(text_answer(alloc, &text)?)),
+        Ok(()) => Ok(Answer::Made(text_answer(alloc, &text)?)),
         Err(_) => Err(AllocError),
     }
 }

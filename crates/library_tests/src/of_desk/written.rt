@@ -54,10 +54,8 @@ fn end_of_lines(text: &[u8]) -> usize {
 /// The answers, but that a request which was refused may be answered otherwise when it comes again behind its list.
 fn are_answers(text: &str, answers: &str) -> bool {
     text.lines().count() == answers.lines().count()
-        && text
-            .lines()
-            .zip(answers.lines())
-            .all(|(line, answer)| line == answer || answer.contains(" refused "))
+        && text.lines().zip(answers.lines()).all(|(line, answer)| line == answer
+            || answer.contains(" refused "))
 }
 
 /// A beginning of the answers is written, and the desk goes on behind the lines that are written whole: whether the

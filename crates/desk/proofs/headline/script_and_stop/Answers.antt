@@ -3,7 +3,7 @@ use Rattle.std.specs.Prelude.{OnOk}
 use Rattle.desk.specs.Headline.{IsFoundAfterLines, LeavesRowsOf}
 use Rattle.desk.specs.Script.{WritesText}
 use Rattle.desk.specs.Streams.{streams}
-use Rattle.desk.proofs.FoundLines.{script_goes_on, script_left, whole_left}
+use Rattle.desk.proofs.FoundLines.{script_left, whole_left}
 use Rattle.desk.proofs.headline.script_and_stop.Goals as goal
 
 pub returns-clause-left : goal.returns-clause-left
@@ -23,7 +23,4 @@ returns-clause-whole g c honest =
     subst (λ k. OnOk ended.result (LeavesRowsOf (g.K.Keep.leaves k) (λ B. WritesText c.args.desk.ledger B s))) (sym c.into_keep.ensures.keep) left
 
 pub returns-clause-going : goal.returns-clause-going
-returns-clause-going g c other =
-    let ended = c.script-ended in
-    let s = streams (g.R.Read.remaining c.args.reader.now) (g.R.Read.remaining ended.new.reader) (g.W.Write.contents c.args.writer.now) (g.W.Write.contents ended.new.writer) in
-    subst (λ k. g.K.Keep.stopped k ≡ false) (sym c.into_keep.ensures.keep) (script_goes_on ended.result _ _ s ended.ensures.whole ended.ensures.cut other ∙ c.requires)
+returns-clause-going g c other = subst (λ k. g.K.Keep.stopped k ≡ false) (sym c.into_keep.ensures.keep) (c.script-ended.ensures.stop.going other ∙ c.requires)

@@ -1,4 +1,4 @@
-use Rattle.std.proofs.Common.{Err, IfErr, Ok, Result, ap, inl, inr, refl, subst, sym, ◌≡◌, ◌∙◌}
+use Rattle.std.proofs.Common.{Err, ap, inl, inr, subst, sym, ◌∙◌}
 use Rattle.std.proofs.lemmas.Result.{on_ok_weaker}
 use Rattle.sqlite.specs.Effect.{Database}
 use Rattle.sqlite.specs.Files.{file_state}
@@ -11,6 +11,7 @@ use Rattle.keep.specs.Laws.{holds_tables, old_is_apart}
 use Rattle.keep.specs.Old.{HoldsOld, IsOldContent}
 use Rattle.keep.specs.Starts.{StartsOld}
 use Rattle.keep.proofs.Schemas.{holds_one_row}
+use Rattle.desk.proofs.Cuts.{of_error}
 use Rattle.stockdesk.proofs.file.upgrade.Goals as goal
 
 -- what the bytes hold of an older version the store holds
@@ -49,13 +50,10 @@ returns-clause-unchanged g c clean told x =
     let same = sym ((c.upgrade.ensures.upgrades clean).unchanged told).0 in
     (λ there. subst (λ (d : Database). Holds d x) same (c.in_ok-keep.ensures.opened.held was x there), λ there. subst (λ (d : Database). HoldsOld d x) same (held_old g c was x there))
 
-on_error : {T E : Type 0} (r : Result T E) (P : E → Type 0) → ((e : E) → r ≡ Err e → P e) → IfErr r P
-on_error (Ok x) P on = tt
-on_error (Err e) P on = on e refl
-
 pub returns-clause-desk : goal.returns-clause-desk
 returns-clause-desk g c clean =
     let upgrades = c.upgrade.ensures.upgrades clean in
-    on_error c.upgrade.result.1 _
-    (λ fault is told v x row late one version there.
+    of_error c.upgrade.result.1 _ _
+    (λ fault is kind told v x row late one version there.
     (upgrades.desk (is ∙ ap (λ f. Err f) told)).0 (v, late, holds_one_row _ v x row (c.in_ok-keep.ensures.old (c.upgrade.ensures.clean clean) v x there) one version))
+    c.upgrade.ensures.fault

@@ -1,54 +1,54 @@
-//! What a target leads to.
+//! What a target leads to. It is compared as its bytes stand: nothing in it is decoded, and a `?` belongs to the part in
+//! which it stands.
 
-ghost use Rattle.std.specs.Prelude.{◌≡◌, ◌≢◌, ℕ, IfNone, IfSome, SomeIff, decimal};
+ghost use Rattle.std.specs.Prelude.{◌≡◌, ◌≢◌, ◌↔◌, ℕ, IfNone, IfSome, IsTrue, Some, SomeIff, decimal};
 ghost use Rattle.escrow.specs.Codes.{IsArticle, IsBranch};
 ghost use Rattle.escrow.specs.Ranges.{IsOrderNo};
-ghost use Rattle.web.specs.Routes.{LeadsTo, routes};
+ghost use Rattle.web.specs.Routes.{IsView, resource_of, routes};
+ghost use Rattle.web.specs.declared.ask.Ask.{Ask as AskOf};
 
+use crate::ask::Ask;
 use crate::route::Resource;
 use escrow::{Article, Branch, OrderNo};
 use matchit::Router;
 use words::read_number;
 
-/// What a target leads to.
-#[derive(Clone, Copy)]
-pub enum Place {
-    /// Where commands are given.
-    Commands,
-    /// The stock of an article at a branch.
-    Field(Branch, Article),
-    /// An order.
-    Order(OrderNo),
-    /// The stock sheet of a branch.
-    Sheet(Branch),
-}
-
-/// The place that a target leads to, where it leads to one. The target is compared as its bytes stand: nothing in it is
-/// decoded, and a `?` belongs to the part in which it stands.
+/// The view under a target, where there is one.
 #[tactic(auto, using(crate::proofs::TargetText::text_in))]
-pub fn place_of(router: &Router<Resource>, target: &str) -> Option<Place>
+pub fn view_of(router: &Router<Resource>, target: &str) -> Option<Ask>
     requires { router.now ≡ routes }
-    ensures some { IfSome result (λ place. LeadsTo target.now place) }
-    ensures none { IfNone result ((place : Place) → LeadsTo target.now place → ⊥) }
+    ensures some { IfSome result (λ view. IsView target.now view) }
+    ensures none { IfNone result ((view : AskOf) → IsView target.now view → ⊥) }
 {
     let Ok(found) = router.at(target) else {
         return None;
     };
     match found.value {
-        Resource::Commands => Some(Place::Commands),
+        Resource::Commands => None,
         Resource::Field => {
             let branch = branch_of(found.params.get("branch")?)?;
             let article = article_of(found.params.get("article")?)?;
-            Some(Place::Field(branch, article))
+            Some(Ask::Field(branch, article))
         }
         Resource::Order => {
             let number = number_of(found.params.get("number")?)?;
-            Some(Place::Order(number))
+            Some(Ask::Order(number))
         }
         Resource::Sheet => {
             let branch = branch_of(found.params.get("branch")?)?;
-            Some(Place::Sheet(branch))
+            Some(Ask::Sheet(branch))
         }
+    }
+}
+
+/// Whether commands are given under a target.
+pub fn takes_commands(router: &Router<Resource>, target: &str) -> bool
+    requires { router.now ≡ routes }
+    ensures { IsTrue result ↔ (resource_of target.now ≡ Some Resource.Commands) }
+{
+    match router.at(target) {
+        Ok(found) => matches!(found.value, Resource::Commands),
+        Err(_) => false,
     }
 }
 

@@ -1,7 +1,7 @@
 use Rattle.std.proofs.Common.{arith, sym, ◌∙◌}
 use Rattle.words.proofs.Decimals.{none_in_range}
 use Rattle.escrow.specs.Ranges.{IsOrderNo}
-use Rattle.web.proofs.place.number_of.Goals as goal
+use Rattle.web.proofs.target.number_of.Goals as goal
 
 pub returns-clause-none : goal.returns-clause-none
 returns-clause-none c =

@@ -1,0 +1,108 @@
+-- A target has no two views, and it is known whether it has one.
+use Rattle.std.proofs.Common.{◌≡◌, ◌∙◌, ℕ, List, Option, Some, None, ap, arith, codes, decimal, inr, refl, subst, sym}
+use Rattle.std.proofs.lemmas.Fmt.{decimal_injective, decimal_is_IsNumeral}
+use Rattle.std.specs.Str.Parse.{digits_value}
+use Rattle.escrow.specs.Codes.{IsArticle, IsBranch}
+use Rattle.escrow.specs.Ranges.{IsOrderNo}
+use Rattle.words.proofs.Decisions.{Decided, decided_article, decided_both, decided_branch, decided_by, decided_order_no, decided_word}
+use Rattle.web.specs.Routes.{IsView, part_of, resource_of}
+use Rattle.web.specs.declared.ask.Ask.{Ask}
+use Rattle.web.specs.declared.ask.Ask.TheVariants as ask
+use Rattle.web.specs.declared.route.Resource.{Resource}
+use Rattle.web.specs.declared.route.Resource.TheVariants.{Commands, Field, Order, Sheet}
+
+abbrev resource_for : Ask → Resource
+resource_for (ask.Field branch article) = Field
+resource_for (ask.Order n) = Order
+resource_for (ask.Sheet branch) = Sheet
+resource_for ask = Commands
+
+view_resource : (target : List ℕ) (a : Ask) → IsView target a → resource_of target ≡ Some (resource_for a)
+view_resource target (ask.Field branch article) h = h.0
+view_resource target (ask.Order n) h = h.0
+view_resource target (ask.Sheet branch) h = h.0
+view_resource target (ask.Call r) h = absurd h
+view_resource target ask.BadCall h = absurd h
+view_resource target ask.Nothing h = absurd h
+
+-- what is found is one
+pub same : {A : Type 0} {found : Option A} {x y : A} → found ≡ Some x → found ≡ Some y → x ≡ y
+same e f = cc
+
+pub one_view : (target : List ℕ) (p q : Ask) → IsView target p → IsView target q → p ≡ q
+one_view target (ask.Field b a) (ask.Field c d) h g =
+    let e : b ≡ c = same h.1 g.1 in
+    let f : a ≡ d = same h.2 g.2 in
+    cc (e, f)
+one_view target (ask.Order n) (ask.Order m) h g = ap ask.Order (decimal_injective n m (omega (arith, h.2)) (omega (arith, g.2)) (same h.1 g.1))
+one_view target (ask.Sheet b) (ask.Sheet c) h g = ap ask.Sheet (same h.1 g.1)
+one_view target (ask.Call r) q h g = absurd h
+one_view target ask.BadCall q h g = absurd h
+one_view target ask.Nothing q h g = absurd h
+one_view target p (ask.Call r) h g = absurd g
+one_view target p ask.BadCall h g = absurd g
+one_view target p ask.Nothing h g = absurd g
+one_view target p q h g = let other = same (view_resource target p h) (view_resource target q g) in cc other
+
+-- ---- whether a target has a view
+
+part_decided : (P : List ℕ → Type 0) → ((part : List ℕ) → Decided (P part)) → (found : Option (List ℕ)) → Decided ((part : List ℕ) × (found ≡ Some part) × P part)
+part_decided P decide None = inr (λ h. let e = h.1 in cc e)
+part_decided P decide (Some part) = decided_by {P = P part} (λ p. (part, refl, p)) (λ h. let e : h.0 ≡ part = let f = h.1 in cc f in subst P e h.2) (decide part)
+
+-- the bytes are an order's number
+abbrev IsNumber : List ℕ → Type 0
+IsNumber part = (n : ℕ) × IsOrderNo n × (part ≡ decimal n)
+
+number_decided : (part : List ℕ) → Decided (IsNumber part)
+number_decided part = decided_by to from (decided_both (decided_order_no (digits_value 10 part)) (decided_word part (decimal (digits_value 10 part))))
+  where
+    to : IsOrderNo (digits_value 10 part) × (part ≡ decimal (digits_value 10 part)) → IsNumber part
+    to h = (digits_value 10 part, h.0, h.1)
+
+    from : IsNumber part → IsOrderNo (digits_value 10 part) × (part ≡ decimal (digits_value 10 part))
+    from (n, range, e) =
+        let same : n ≡ digits_value 10 part = sym (decimal_is_IsNumeral n (omega (arith, range.1))).1 ∙ ap (digits_value 10) (sym e) in
+        (subst IsOrderNo same range, e ∙ ap decimal same)
+
+-- some view is that of the target
+abbrev pub HasView : List ℕ → Type 0
+HasView target = (a : Ask) × IsView target a
+
+-- what the parts of the resource's route have to be
+abbrev AreParts : List ℕ → Resource → Type 0
+AreParts target Commands = ⊥
+AreParts target Field =
+    ((part : List ℕ) × (part_of (codes "branch") target ≡ Some part) × IsBranch part) × ((part : List ℕ) × (part_of (codes "article") target ≡ Some part) × IsArticle part)
+AreParts target Order = (part : List ℕ) × (part_of (codes "number") target ≡ Some part) × IsNumber part
+AreParts target Sheet = (part : List ℕ) × (part_of (codes "branch") target ≡ Some part) × IsBranch part
+
+parts_decided : (target : List ℕ) (resource : Resource) → Decided (AreParts target resource)
+parts_decided target Commands = inr (λ h. h)
+parts_decided target Field =
+    decided_both (part_decided IsBranch decided_branch (part_of (codes "branch") target)) (part_decided IsArticle decided_article (part_of (codes "article") target))
+parts_decided target Order = part_decided IsNumber number_decided (part_of (codes "number") target)
+parts_decided target Sheet = part_decided IsBranch decided_branch (part_of (codes "branch") target)
+
+view_by_parts : (target : List ℕ) (resource : Resource) → resource_of target ≡ Some resource → AreParts target resource → HasView target
+view_by_parts target Commands e h = absurd h
+view_by_parts target Field e ((b, f, branch), (a, g, article)) = (ask.Field b a, (e, f, g, branch, article))
+view_by_parts target Order e (part, f, (n, range, g)) = (ask.Order n, (e, f ∙ ap Some g, range))
+view_by_parts target Sheet e (b, f, branch) = (ask.Sheet b, (e, f, branch))
+
+parts_of : (target : List ℕ) (a : Ask) → IsView target a → AreParts target (resource_for a)
+parts_of target (ask.Field b a) h = ((b, h.1, h.3), (a, h.2, h.4))
+parts_of target (ask.Order n) h = (decimal n, h.1, (n, h.2, refl))
+parts_of target (ask.Sheet b) h = (b, h.1, h.2)
+parts_of target (ask.Call r) h = h
+parts_of target ask.BadCall h = h
+parts_of target ask.Nothing h = h
+
+pub view_decided : (target : List ℕ) → Decided (HasView target)
+view_decided target = by (resource_of target) refl
+  where
+    by : (found : Option Resource) → resource_of target ≡ found → Decided (HasView target)
+    by None e = inr (λ (a, h). let some = sym e ∙ view_resource target a h in cc some)
+    by (Some resource) e =
+        decided_by {P = AreParts target resource} {Q = HasView target} (view_by_parts target resource e) (λ (a, h). subst (AreParts target) (same (view_resource target a h) e) (parts_of target a h))
+        (parts_decided target resource)
