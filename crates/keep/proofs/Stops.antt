@@ -1,6 +1,6 @@
 -- What a stop leaves of a store that is settled, and of one after a commit that may have failed.
-use Rattle.std.proofs.Common.{◌≡◌, ◌∙◌, Bool, ap₂, arith, false, inl, inr, is_err, true, List, [], ◌∷◌, Ok, Err, Result, ap, refl, subst, sym}
-use Rattle.std.specs.Prelude.{IsTrue, OnOk}
+use Rattle.std.proofs.Common.{◌≡◌, ◌∙◌, Bool, ap₂, arith, false, inl, inr, is_err, true, List, [], ◌∷◌, Err, Result, ap, refl, subst, sym}
+use Rattle.std.specs.Prelude.{IsTrue}
 use Rattle.sqlite.specs.Effect.{Database}
 use Rattle.sqlite.specs.Held.{Held, state}
 use Rattle.sqlite.specs.State.{State, HasCleanDisk, Shows, Survives}
@@ -14,11 +14,11 @@ use Rattle.book.specs.Rows.{Content}
 use Rattle.book.specs.Tables.{content_of}
 use Rattle.keep.specs.Content.{Holds, IsContent, LeavesOnly}
 use Rattle.keep.specs.Keeping.{IsFound}
-use Rattle.keep.specs.Loads.{HoldsLoaded, IsRead}
+use Rattle.keep.specs.Loads.{IsRead}
 use Rattle.keep.specs.Old.{IsCurrent, IsMadeNewest, IsUpgraded}
 use Rattle.keep.specs.OneContent.{only_content}
 use Rattle.keep.specs.Keeper.{Keeper}
-use Rattle.keep.specs.Transactions.{AreChanged, Committed, IsSettled, Makes, with_changes}
+use Rattle.keep.specs.Transactions.{AreChanged, IsSettled, Makes, with_changes}
 use Rattle.keep.proofs.Schemas.{not_older, older}
 
 -- trees that are those of the database hold its content
@@ -36,15 +36,6 @@ leaves_either old new changes x survives clean held alone trees left = elim (sur
   | inr made ↦ (with_changes changes x, made x held, inr (inl refl))
 ]
 
-pub put_if : {U E : Type 0} (old new : State) (changes : List Change) (r : Result U E) → OnOk r (Committed old new changes) → OnOk r ((x : Content) → Holds old.now x → Holds new.now (with_changes changes x))
-put_if old new changes (Ok u) h = h.is
-put_if old new changes (Err e) h = tt
-
-pub alone_if : {U E : Type 0} (old new : State) (changes : List Change) (r : Result U E) → (IsTrue new.is_open → (trees : Trees) → new.may_leave trees → trees ≡ new.committed.trees)
-    → OnOk r (Committed old new changes) → OnOk r ((x : Content) → Holds new.now x → LeavesOnly new.may_leave (x ∷ []))
-alone_if old new changes (Ok u) settled h = λ x held. leaves_now new x (settled h.is_open) h.settled held
-alone_if old new changes (Err e) settled h = tt
-
 -- an error that leaves the connection as it was leaves a stopped keeper over it
 pub stopped_over : {S T E : Type 0} (r : Result T E) (fault : E) (connection was : Held S) (stopped : Bool) → stopped ≡ is_err r → r ≡ Err fault → connection ≡ was
     → let now : Keeper S = record { connection = connection; stopped = stopped } in now ≡ record { connection = was; stopped = true }
@@ -53,7 +44,7 @@ stopped_over {S} r fault connection was stopped told is same =
 
 -- of an open store a stop leaves what is committed
 module _ (old new : State) (settled : IsTrue new.is_open → (trees : Trees) → new.may_leave trees → trees ≡ new.committed.trees) where
-  pub found_of : (t : Tables) → HoldsLoaded old new t → IsFound (Holds old.now) (Holds new.now) (LeavesOnly new.may_leave) t
+  pub found_of : (t : Tables) → IsRead (λ db. Holds db (content_of t)) old new → IsFound (Holds old.now) (Holds new.now) (LeavesOnly new.may_leave) t
   found_of t read =
       let same : new.now ≡ old.now = read.same.0.now_is in
       let held = subst (λ (db : Database). Holds db (content_of t)) (sym same) read.is in

@@ -10,7 +10,8 @@ use Rattle.keep.specs.Names.{HasNames}
 use Rattle.keep.specs.declared.keep.KeepFault.{KeepFault}
 use Rattle.keep.specs.declared.keep.KeepFault.TheVariants.{Memory, NotADesk, OldVersion, Stopped, Store}
 
--- a stopped keeper answers that and is left as it is; another goes on where its answer is no error
+-- A stopped keeper answers `Stopped` and is left as it is, and no other answers that. An error stops a keeper, and
+-- nothing else does.
 pub record GoesOn {K T : Type 0} (stopped : K → Bool) (old new : K) (answer : Result T KeepFault) : Type 0 where
   pub refused : IsTrue (stopped old) → (answer ≡ Err Stopped) × (new ≡ old)
   pub going : stopped old ≡ false → answer ≢ Err Stopped
@@ -29,8 +30,8 @@ pub record IsFound (was held : Content → Type 0) (leaves : List Content → Ty
   pub same : (x : Content) → (was x → held x) × (held x → was x)
   pub alone : leaves (content_of tables ∷ [])
 
--- `NotADesk` is told only where no desk of the newest version is, `OldVersion` only of an older one, and of that nothing
--- else but for memory or the store
+-- `NotADesk` is told only where there is no desk of the newest version, `OldVersion` only of an older one, and of that
+-- nothing else but for memory or the store
 pub record TellsVersion {T : Type 0} (has_tables : Content → Type 0) (is_old : Type 0) (answer : Result T KeepFault)
     : Type 0 where
   pub desk : answer ≡ Err NotADesk → (x : Content) → has_tables x → ¬ IsDesk x
@@ -43,8 +44,8 @@ pub record AddsNothing {K : Type 0} (leaves : K → List Content → Type 0) (ma
   pub adds_nothing : (these : List Content) → leaves old these → leaves new these
   pub no_more : (x : Content) → may_leave new x → may_leave old x
 
--- A schema that is that of no version is told and what has it is left so: `NotADesk` where one of the six names is no
--- table's, and else `Store`.
+-- A store whose schema is that of no version is told and left as it is: `NotADesk` where one of the six names that each
+-- version has is no table's, and else `Store`.
 pub record TellsOther {T : Type 0} (schema : Schema) (answer : Result T KeepFault) (is_left : Type 0) : Type 0 where
   pub nameless : ¬ HasNames schema → (answer ≡ Err NotADesk) × is_left
   pub other : HasNames schema → ¬ IsOfAVersion schema → (answer ≡ Err Store) × is_left

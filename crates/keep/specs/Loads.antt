@@ -6,10 +6,8 @@ use Rattle.sqlite.specs.State.{State, HasCleanDisk, IsUnchanged}
 use Rattle.sqlite_trees.specs.Tree.{Trees}
 use Rattle.sqlite_trees.specs.View.{is_int}
 use Rattle.book.specs.Rows.{DeskCells}
-use Rattle.book.specs.Tables.{content_of}
-use Rattle.book.specs.declared.rows.Tables.{Tables}
 use Rattle.keep.specs.Description.{Cells, columns, desk_schema, rowid_at, shown}
-use Rattle.keep.specs.Content.{Holds, IsVersion}
+use Rattle.keep.specs.Content.{IsVersion}
 use Rattle.keep.specs.declared.description.TableName.{TableName}
 use Rattle.keep.specs.declared.description.TableName.TheVariants as table
 
@@ -27,10 +25,6 @@ pub record IsRead (Is : Database → Type 0) (old new : State) : Type 0 where
   pub same : IsUnchanged old new
   pub is_open : IsTrue new.is_open
   pub settled : new.committed ≡ new.now
-
--- it is read so, and holds what is loaded
-abbrev pub HoldsLoaded : State → State → Tables → Type 0
-HoldsLoaded old new tables = IsRead (λ db. Holds db (content_of tables)) old new
 
 -- the answer shows the row, and its rowid is a whole number
 abbrev pub IsShown : (t : TableName) → Row → Cells t → Type 0

@@ -1,6 +1,6 @@
 //! A load is seven selects over the schema of a desk.
 
-ghost use Rattle.std.specs.Prelude.{◌≡◌, false, [], ◌∷◌, None, IfOk, IfSome, map};
+ghost use Rattle.std.specs.Prelude.{◌≡◌, false, None, IfOk, IfSome, map};
 ghost use Rattle.std.specs.List.Sorted.{IsStrictlySortedBy};
 ghost use Rattle.sqlite.specs.State.{HasCleanDisk, IsLive, IsUnchanged, Survives};
 ghost use Rattle.sqlite.specs.Held.{state};

@@ -1,17 +1,17 @@
 //! The keeper over SQLite.
 
-ghost use Rattle.std.specs.Prelude.{◌≡◌, ◌≢◌, ◌⊎◌, ◌<◌, ◌≤◌, false, true, List, [], ◌∷◌, All, IsTrue, IfOk, IfErr, OnOk, OnErr, Err};
-ghost use Rattle.sqlite.specs.State.{HasCleanDisk, IsLive, IsUnchanged, Survives};
+ghost use Rattle.std.specs.Prelude.{◌≡◌, ◌≢◌, ◌⊎◌, ◌<◌, ◌≤◌, false, true, [], ◌∷◌, IsTrue, IfOk, IfErr, OnOk, OnErr, Err};
+ghost use Rattle.sqlite.specs.State.{HasCleanDisk, IsLive, Survives};
 ghost use Rattle.sqlite.specs.Held.{state};
 ghost use Rattle.sqlite_trees.specs.Tree.{Trees};
-ghost use Rattle.book.specs.Rows.{Content, IsInKeyOrder};
-ghost use Rattle.book.specs.Tables.{content_of, rows_among};
-ghost use Rattle.keep.specs.Content.{HasTables, Holds, IsDesk, IsTheRow, LeavesOnly, MayLeave};
+ghost use Rattle.book.specs.Rows.{Content};
+ghost use Rattle.book.specs.Tables.{content_of};
+ghost use Rattle.keep.specs.Content.{HasTables, Holds, IsDesk, LeavesOnly, MayLeave};
 ghost use Rattle.keep.specs.Keeping.{IsOrderedDesk, TellsOther, TellsVersion};
-ghost use Rattle.keep.specs.Loads.{HoldsLoaded};
-ghost use Rattle.keep.specs.Transactions.{Committed, AreChanged, with_changes};
+ghost use Rattle.keep.specs.Loads.{IsRead};
+ghost use Rattle.keep.specs.Transactions.{Committed, AreChanged};
 ghost use Rattle.keep.specs.Old.{IsOld};
-ghost use Rattle.keep.specs.Description.{IsOfAVersion, desk_schema, newest, schema_of};
+ghost use Rattle.keep.specs.Description.{desk_schema, newest, schema_of};
 
 use crate::commit::commit_all;
 use crate::keep::{Keep, KeepFault, fault_of};
@@ -91,8 +91,8 @@ fn load_current<S: Alter>(alloc: Global, conn: &mut Connection<S>) -> Result<Tab
     ensures idle { conn.new.in_transaction ≡ false }
     ensures going { (result ≢ Err KeepFault.Stopped) × (result ≢ Err KeepFault.OldVersion) }
     ensures ordered { IfOk result IsOrderedDesk }
-    ensures read { HasCleanDisk (state S.Store conn.new) → IfOk result
-        (HoldsLoaded (state S.Store conn.old) (state S.Store conn.new)) }
+    ensures read { HasCleanDisk (state S.Store conn.new) → IfOk result (λ tables. IsRead
+        (λ db. Holds db (content_of tables)) (state S.Store conn.old) (state S.Store conn.new)) }
     ensures desk { HasCleanDisk (state S.Store conn.new) → result ≡ Err KeepFault.NotADesk → (x : Content)
         → HasTables (state S.Store conn.old).now x → ¬ IsDesk x }
     ensures survives { Survives (state S.Store conn.old) (state S.Store conn.new) (λ _. ⊥) }
@@ -133,8 +133,8 @@ fn load_from<S: Alter>(alloc: Global, conn: &mut Connection<S>) -> Result<Tables
     ensures idle { conn.new.in_transaction ≡ false }
     ensures going { result ≢ Err KeepFault.Stopped }
     ensures ordered { IfOk result IsOrderedDesk }
-    ensures read { HasCleanDisk (state S.Store conn.new) → IfOk result
-        (HoldsLoaded (state S.Store conn.old) (state S.Store conn.new)) }
+    ensures read { HasCleanDisk (state S.Store conn.new) → IfOk result (λ tables. IsRead
+        (λ db. Holds db (content_of tables)) (state S.Store conn.old) (state S.Store conn.new)) }
     ensures version { HasCleanDisk (state S.Store conn.new) → TellsVersion (HasTables (state S.Store conn.old).now)
         (IsOld (state S.Store conn.old).now) result }
     ensures other { TellsOther (state S.Store conn.old).now.schema result (conn.new ≡ conn.old) }

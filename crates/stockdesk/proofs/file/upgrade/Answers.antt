@@ -21,11 +21,10 @@ held_old g c clean x there = (there.0, there.1, c.in_ok-keep.ensures.old clean t
 pub returns-clause-made : goal.returns-clause-made
 returns-clause-made g c clean =
     let was = c.upgrade.ensures.clean clean in
-    let upgrades = c.upgrade.ensures.upgrades clean in
-    on_ok_weaker c.upgrade.result.1 (λ newest x. (λ there. newest.made x (held_old g c was x there), λ there. newest.same x (c.in_ok-keep.ensures.opened.held was x there))) upgrades.done
+    on_ok_weaker c.upgrade.result.1 (λ is x. (λ there. is.made x (held_old g c was x there), λ there. is.same x (c.in_ok-keep.ensures.opened.held was x there))) (c.upgrade.ensures.upgrades clean).done
 
 pub returns-clause-alone : goal.returns-clause-alone
-returns-clause-alone g c clean = on_ok_weaker c.upgrade.result.1 (λ newest. newest.alone) (c.upgrade.ensures.upgrades clean).done
+returns-clause-alone g c clean = on_ok_weaker c.upgrade.result.1 (λ is. is.alone) (c.upgrade.ensures.upgrades clean).done
 
 pub returns-clause-either : goal.returns-clause-either
 returns-clause-either g c clean x there trees left =
