@@ -14,7 +14,7 @@ use Rattle.std.proofs.lemmas.List.{length-take-le}
 use Rattle.book.specs.Answers.{After, Answers, AnswersNew, Runs, same_command}
 use Rattle.book.specs.Ledger.{Kept, Ledger, insert_in_order, kept_under, places}
 use Rattle.book.proofs.Runs.{runs_once}
-use Rattle.desk.specs.Together.{IsBatch, IsDone, StandsWithin}
+use Rattle.desk.specs.Together.{IsBatch, IsDone, ResumableWithin}
 use Rattle.desk.proofs.Batches.{batch_runs}
 use Rattle.desk.proofs.Repeats.{kept_then}
 use Rattle.desk.proofs.Resumption.{runs_joined, runs_length, runs_split}
@@ -110,7 +110,7 @@ one_less : (n : ℕ) → n + 1 - 1 ≡ n
 one_less n = omega arith
 
 pub fails_within : (A mid B : Ledger) (rs : List Request) (ps untold : List Reply) (count : ℕ) → Runs A (take (length ps) rs) ps mid → IsBatch mid (take count (drop (length ps) rs)) untold B
-    → StandsWithin A rs (length ps + 1) mid × StandsWithin A rs (length ps + 1) B
+    → ResumableWithin A rs (length ps + 1) mid × ResumableWithin A rs (length ps + 1) B
 fails_within A mid B rs ps untold count run batch = (
   (mid, before, inl refl),
   (mid, before, inr (count, untold, subst (λ i. IsBatch mid (take count (drop i rs)) untold B) (sym (one_less (length ps))) batch)),
@@ -119,7 +119,7 @@ fails_within A mid B rs ps untold count run batch = (
     before : After A rs (length ps + 1 - 1) mid
     before = (ps, subst (λ i. Runs A (take i rs) ps mid) (sym (one_less (length ps))) run)
 
-pub resumed_within : (A B last : Ledger) (rs : List Request) (k : ℕ) (ps : List Reply) → 1 ≤ k → k ≤ length rs + 1 → StandsWithin A rs k B → Runs B (drop (k - 1) rs) ps last
+pub resumed_within : (A B last : Ledger) (rs : List Request) (k : ℕ) (ps : List Reply) → 1 ≤ k → k ≤ length rs + 1 → ResumableWithin A rs k B → Runs B (drop (k - 1) rs) ps last
     → (before : List Reply) × (length before + 1 ≡ k) × Runs A rs (before ++ ps) last
 resumed_within A B last rs k ps one le (M, (before, first), stands) run =
     let size : length before ≡ k - 1 = runs_length A M (take (k - 1) rs) before first ∙ length-take-le (k - 1) rs (omega arith) in (

@@ -18,7 +18,7 @@ use Rattle.keep.specs.declared.keep.Keep.{Ghosts}
 use Rattle.desk.specs.Desk.{DeskView, IsStored, LeavesEither}
 use Rattle.desk.specs.Opening.{IsOpened, OpensAt, keeper_after}
 use Rattle.desk.specs.Headline.{IsFoundAfter, LeavesRowsOf, answered}
-use Rattle.desk.specs.Resuming.{Resumes, StandsAt}
+use Rattle.desk.specs.Resuming.{Resumes, ResumableAt}
 use Rattle.desk.specs.declared.fault.OpenFault.{OpenFault}
 use Rattle.desk.specs.declared.fault.OpenFault.TheVariants.{Damaged, Memory, NotADesk, OldVersion, Store}
 use Rattle.desk.specs.declared.run.Ending.{Ending}
@@ -186,7 +186,7 @@ run_left A M rs run holds leaves good is stored all either = by run.ending refl
 -- ---- resumed behind the last reply
 
 -- a ledger that is found is one at which the run may be resumed
-stands_found : (A B : Ledger) (rs : List Request) (run : Run) → IsFoundAfter A rs run B → StandsAt A rs (answered run + 1) B
+stands_found : (A B : Ledger) (rs : List Request) (run : Run) → IsFoundAfter A rs run B → ResumableAt A rs (answered run + 1) B
 stands_found A B rs run found =
     let low = found.none_lost in
     let high = found.one_more in
@@ -213,11 +213,11 @@ some_of P is all = subst (λ o. IfSome o P) is all
 
 module _ {K : Type 0} (Honest : K → Type 0) (A : Ledger) (rs : List Request) (run : Run) (opened : Result (DeskView K) (OpenFault × K)) where
   pub resumed_of : (r : Result (DeskView K × Run) (OpenFault × K)) (k : ℕ) → k ≡ answered run + 1 → (Honest (keeper_after opened) → IfOk opened (λ desk. ∥ IsFoundAfter A rs run desk.ledger ∥₁))
-      → IfOk r (λ after. Honest after.0.keep → (again : DeskView K) × (opened ≡ Ok again) × Honest again.keep × ((B : Ledger) → StandsAt B rs k again.ledger → Resumes B rs k after.1.replies.items after.0.ledger))
+      → IfOk r (λ after. Honest after.0.keep → (again : DeskView K) × (opened ≡ Ok again) × Honest again.keep × ((B : Ledger) → ResumableAt B rs k again.ledger → Resumes B rs k after.1.replies.items after.0.ledger))
       → IfOk r (λ after. Honest after.0.keep → ∥ Resumes A rs (answered run + 1) after.1.replies.items after.0.ledger ∥₁)
   resumed_of (Ok after) k is found resumed = λ honest. let (again, same, honest_again, goes_on) = resumed honest in
       let there = subst (λ (o : Result (DeskView K) (OpenFault × K)). Honest (keeper_after o) → IfOk o (λ desk. ∥ IsFoundAfter A rs run desk.ledger ∥₁)) same found honest_again in
-      ∥∥₁_map there (λ f. subst (λ i. Resumes A rs i after.1.replies.items after.0.ledger) is (goes_on A (subst (λ i. StandsAt A rs i again.ledger) (sym is) (stands_found A again.ledger rs run f))))
+      ∥∥₁_map there (λ f. subst (λ i. Resumes A rs i after.1.replies.items after.0.ledger) is (goes_on A (subst (λ i. ResumableAt A rs i again.ledger) (sym is) (stands_found A again.ledger rs run f))))
   resumed_of (Err e) k is found resumed = tt
 
   pub whole_of : (r : Result (DeskView K × Run) (OpenFault × K)) (M : Ledger) → Runs A (take (answered run) rs) run.replies.items M

@@ -14,8 +14,8 @@ use Rattle.book.specs.Rows.{Content, IsRowsOf}
 use Rattle.book.specs.Good.{Good}
 use Rattle.book.proofs.EqualRows.{one_content, told_by_rows}
 use Rattle.book.proofs.Runs.{runs_once}
-use Rattle.desk.specs.Resuming.{Resumes, ResumesAgain, StandsAt}
-use Rattle.desk.specs.Together.{IsBatch, IsDone, ResumesWithin, ResumesWithinAgain, RunsInLists, StandsWithin}
+use Rattle.desk.specs.Resuming.{Resumes, ResumesAgain, ResumableAt}
+use Rattle.desk.specs.Together.{IsBatch, IsDone, ResumesWithin, ResumesWithinAgain, RunsInLists, ResumableWithin}
 use Rattle.desk.proofs.BatchesAgain.{done_again, runs_keep}
 use Rattle.desk.proofs.Resumption.{resumed_same, runs_joined, runs_length, runs_on, runs_split}
 
@@ -145,7 +145,7 @@ one_more M B (r ∷ rs) (p ∷ []) (L, answer, same) = by (done_or_same M L r p 
     by (inl is_done) = from_done M B (r ∷ rs) (1, p ∷ [], (L, answer, same), (is_done, tt))
     by (inr stays) = inl (same ∙ stays)
 
-pub stands_wider : (A B : Ledger) (rs : List Request) (k : ℕ) → 1 ≤ k → StandsAt A rs k B → StandsWithin A rs k B
+pub stands_wider : (A B : Ledger) (rs : List Request) (k : ℕ) → 1 ≤ k → ResumableAt A rs k B → ResumableWithin A rs k B
 stands_wider A B rs k one (inl before) = (B, before, inl refl)
 stands_wider A B rs k one (inr (le, (done, run))) =
     let n : ℕ = k - 1 in
@@ -158,8 +158,8 @@ stands_wider A B rs k one (inr (le, (done, run))) =
 one_less : (n : ℕ) → n + 1 - 1 ≡ n
 one_less n = omega arith
 
-pub resumes_within : (A B mid C : Ledger) (rs : List Request) (k : ℕ) (ps : List Reply) → 1 ≤ k → k ≤ length rs + 1 → StandsWithin A rs k B → Runs B (take (length ps) (drop (k - 1) rs)) ps mid
-    → StandsWithin B (drop (k - 1) rs) (length ps + 1) C → ResumesWithin A rs k ps C
+pub resumes_within : (A B mid C : Ledger) (rs : List Request) (k : ℕ) (ps : List Reply) → 1 ≤ k → k ≤ length rs + 1 → ResumableWithin A rs k B → Runs B (take (length ps) (drop (k - 1) rs)) ps mid
+    → ResumableWithin B (drop (k - 1) rs) (length ps + 1) C → ResumesWithin A rs k ps C
 resumes_within A B mid C rs k ps one le (M, (before, first), stands) run (N, (qs, other), further) =
     let n : ℕ = k - 1 in
     let m : ℕ = length ps in
@@ -175,7 +175,7 @@ resumes_within A B mid C rs k ps one le (M, (before, first), stands) run (N, (qs
       last = L;
       counted = omega (arith, size);
       run = subst (λ i. Runs A (take (i + m) rs) (before ++ ps) L) (sym size) whole;
-      stands = (
+      resumable = (
         L,
         (before ++ ps, subst (λ i. Runs A (take i rs) (before ++ ps) L) next whole),
         subst (λ (xs : List Request). IsWithin L xs C) behind (from_done L C (drop m (drop n rs)) left),
@@ -193,7 +193,7 @@ as_resumed A B rs k ps h =
       last = h.last;
       counted = h.counted;
       run = h.run;
-      stands = inl (h.before ++ ps, subst (λ i. Runs A (take i rs) (h.before ++ ps) h.last) (omega arith) h.run);
+      resumable = inl (h.before ++ ps, subst (λ i. Runs A (take i rs) (h.before ++ ps) h.last) (omega arith) h.run);
     }
 
 as_resumed_again : (A B : Ledger) (rs : List Request) (k : ℕ) (given : List (List Reply)) → ResumesWithinAgain A rs k given B
@@ -235,9 +235,9 @@ one_by_one A B C rs ps qs run other =
 
 -- ---- where a stop came between, what is opened stands so
 
-pub found_within : (A B C D : Ledger) (rs : List Request) (k : ℕ) (x y z : Content) → Good B → Good C → Good D → StandsWithin A rs k B → StandsWithin A rs k C → IsRowsOf B y → IsRowsOf C z
-    → (x ≡ y) ⊎ (x ≡ z) → IsRowsOf D x → StandsWithin A rs k D
+pub found_within : (A B C D : Ledger) (rs : List Request) (k : ℕ) (x y z : Content) → Good B → Good C → Good D → ResumableWithin A rs k B → ResumableWithin A rs k C → IsRowsOf B y → IsRowsOf C z
+    → (x ≡ y) ⊎ (x ≡ z) → IsRowsOf D x → ResumableWithin A rs k D
 found_within A B C D rs k x y z good_b good_c good_d stands_b stands_c are_b are_c (inl is) are =
-    subst (λ L. StandsWithin A rs k L) (told_by_rows B D x good_b good_d (subst (IsRowsOf B) (sym is) are_b) are) stands_b
+    subst (λ L. ResumableWithin A rs k L) (told_by_rows B D x good_b good_d (subst (IsRowsOf B) (sym is) are_b) are) stands_b
 found_within A B C D rs k x y z good_b good_c good_d stands_b stands_c are_b are_c (inr is) are =
-    subst (λ L. StandsWithin A rs k L) (told_by_rows C D x good_c good_d (subst (IsRowsOf C) (sym is) are_c) are) stands_c
+    subst (λ L. ResumableWithin A rs k L) (told_by_rows C D x good_c good_d (subst (IsRowsOf C) (sym is) are_c) are) stands_c

@@ -15,7 +15,7 @@ use Rattle.book.specs.Rows.{Content, IsRowsOf}
 use Rattle.book.proofs.Runs.{answered_once, runs_once, runs_stay_good}
 use Rattle.book.proofs.EqualRows.{told_by_rows}
 use Rattle.desk.specs.Desk.{LeavesEither}
-use Rattle.desk.specs.Resuming.{LeavesResumable, Resumes, ResumesAgain, StandsAt}
+use Rattle.desk.specs.Resuming.{LeavesResumable, Resumes, ResumesAgain, ResumableAt}
 use Rattle.desk.proofs.Repeats.{repeated}
 
 -- ---- runs
@@ -70,7 +70,7 @@ one_less : (n : ℕ) → n + 1 - 1 ≡ n
 one_less n = omega arith
 
 -- some are answered from there: so the n before are, and these behind them
-from_before : (A B C : Ledger) (rs : List Request) (n : ℕ) (ps : List Reply) → n ≤ length rs → StandsAt A rs (n + 1) B → Runs B (take (length ps) (drop n rs)) ps C → 1 ≤ length ps
+from_before : (A B C : Ledger) (rs : List Request) (n : ℕ) (ps : List Reply) → n ≤ length rs → ResumableAt A rs (n + 1) B → Runs B (take (length ps) (drop n rs)) ps C → 1 ≤ length ps
     → (before : List Reply) × (length before ≡ n) × Runs A (take (n + length ps) rs) (before ++ ps) C
 from_before A B C rs n ps le (inl (done, first)) more some =
     let run : Runs A (take n rs) done B = subst (λ i. Runs A (take i rs) done B) (one_less n) first in
@@ -83,7 +83,7 @@ from_before A B C rs n ps le (inr (there, after)) more some =
 next_is : (n m : ℕ) → (n + 1) + m - 1 ≡ n + m
 next_is n m = omega arith
 
-resumes_at : (A B C : Ledger) (rs : List Request) (n : ℕ) (ps : List Reply) → n ≤ length rs → StandsAt A rs (n + 1) B → Runs B (take (length ps) (drop n rs)) ps C → Resumes A rs (n + 1) ps C
+resumes_at : (A B C : Ledger) (rs : List Request) (n : ℕ) (ps : List Reply) → n ≤ length rs → ResumableAt A rs (n + 1) B → Runs B (take (length ps) (drop n rs)) ps C → Resumes A rs (n + 1) ps C
 resumes_at A B C rs n [] le (inl (done, first)) more =
     let run : Runs A (take n rs) done B = subst (λ i. Runs A (take i rs) done B) (one_less n) first in
     let size : length done ≡ n = runs_length A B (take n rs) done run ∙ length-take-le n rs le in
@@ -92,7 +92,7 @@ resumes_at A B C rs n [] le (inl (done, first)) more =
       last = B;
       counted = ap (λ i. i + 1) size;
       run = subst (λ i. Runs A (take i rs) (done ++ []) B) (omega arith) (subst (λ (ps : List Reply). Runs A (take n rs) ps B) (sym (append-nil done)) run);
-      stands = inl (done, subst (λ i. Runs A (take i rs) done C) (omega arith) (subst (λ L. Runs A (take n rs) done L) (sym more) run));
+      resumable = inl (done, subst (λ i. Runs A (take i rs) done C) (omega arith) (subst (λ L. Runs A (take n rs) done L) (sym more) run));
     }
 resumes_at A B C rs n [] le (inr (there, after)) more =
     let (M, before, q, size, first, one) = cut_at A B rs n there after in
@@ -101,7 +101,7 @@ resumes_at A B C rs n [] le (inr (there, after)) more =
       last = M;
       counted = ap (λ i. i + 1) size;
       run = subst (λ i. Runs A (take i rs) (before ++ []) M) (omega arith) (subst (λ (ps : List Reply). Runs A (take n rs) ps M) (sym (append-nil before)) first);
-      stands = inr (omega arith, subst (λ i. After A rs i C) (omega arith) (subst (λ L. After A rs (n + 1) L) (sym more) after));
+      resumable = inr (omega arith, subst (λ i. After A rs i C) (omega arith) (subst (λ L. After A rs (n + 1) L) (sym more) after));
     }
 resumes_at A B C rs n (p ∷ ps) le stands more =
     let (before, size, run) = from_before A B C rs n (p ∷ ps) le stands more (omega arith) in
@@ -110,20 +110,20 @@ resumes_at A B C rs n (p ∷ ps) le stands more =
       last = C;
       counted = ap (λ i. i + 1) size;
       run = subst (λ i. Runs A (take (i + length (p ∷ ps)) rs) (before ++ p ∷ ps) C) (sym size) run;
-      stands = inl (before ++ p ∷ ps, subst (λ i. Runs A (take i rs) (before ++ p ∷ ps) C) (sym (next_is n (length (p ∷ ps)))) run);
+      resumable = inl (before ++ p ∷ ps, subst (λ i. Runs A (take i rs) (before ++ p ∷ ps) C) (sym (next_is n (length (p ∷ ps)))) run);
     }
 
 before_is : (k : ℕ) → 1 ≤ k → (k - 1) + 1 ≡ k
 before_is k le = omega arith
 
-pub resumes : (A B C : Ledger) (rs : List Request) (k : ℕ) (ps : List Reply) → 1 ≤ k → k ≤ length rs + 1 → StandsAt A rs k B → Runs B (take (length ps) (drop (k - 1) rs)) ps C → Resumes A rs k ps C
+pub resumes : (A B C : Ledger) (rs : List Request) (k : ℕ) (ps : List Reply) → 1 ≤ k → k ≤ length rs + 1 → ResumableAt A rs k B → Runs B (take (length ps) (drop (k - 1) rs)) ps C → Resumes A rs k ps C
 resumes A B C rs k ps one le stands more =
     subst (λ i. Resumes A rs i ps C) (before_is k one)
-    (resumes_at A B C rs (k - 1) ps (omega arith) (subst (λ i. StandsAt A rs i B) (sym (before_is k one)) stands) more)
+    (resumes_at A B C rs (k - 1) ps (omega arith) (subst (λ i. ResumableAt A rs i B) (sym (before_is k one)) stands) more)
 
 -- with all answered, it is the whole run
 pub is_whole : (A B : Ledger) (rs : List Request) (k : ℕ) (ps : List Reply) → Resumes A rs k ps B → k + length ps ≡ length rs + 1 → (before : List Reply) × (length before + 1 ≡ k) × Runs A rs (before ++ ps) B
-is_whole A B rs k ps h all = (h.before, h.counted, by h.stands)
+is_whole A B rs k ps h all = (h.before, h.counted, by h.resumable)
   where
     size : length h.before + length ps ≡ length rs
     size = let e = h.counted in omega arith
@@ -131,7 +131,7 @@ is_whole A B rs k ps h all = (h.before, h.counted, by h.stands)
     run : Runs A rs (h.before ++ ps) h.last
     run = subst (λ (xs : List Request). Runs A xs (h.before ++ ps) h.last) (take-length rs) (subst (λ i. Runs A (take i rs) (h.before ++ ps) h.last) size h.run)
 
-    by : StandsAt A rs (k + length ps) B → Runs A rs (h.before ++ ps) B
+    by : ResumableAt A rs (k + length ps) B → Runs A rs (h.before ++ ps) B
     by (inl (done, other)) =
         let there : Runs A rs done B = subst (λ (xs : List Request). Runs A xs done B) (take-length rs) (subst (λ i. Runs A (take i rs) done B) (omega arith) other) in
         subst (λ L. Runs A rs (h.before ++ ps) L) (runs_once A rs (h.before ++ ps) done h.last B run there).1 run
@@ -156,23 +156,23 @@ pub all_of : (rs : List Request) (k : ℕ) (ps : List Reply) → 1 ≤ k → k �
 all_of rs k ps one le all = let dropped : length (drop (k - 1) rs) ≡ length rs - (k - 1) = length-drop (k - 1) rs in omega arith
 
 -- a request more is done than is answered: there the next may be resumed, too
-pub one_more_stands : (A B next : Ledger) (rs : List Request) (k : ℕ) (ps : List Reply) → 1 ≤ k → k + length ps ≤ length rs → StandsAt A rs k B → After B (drop (k - 1) rs) (length ps + 1) next
-    → StandsAt A rs (k + length ps) next
+pub one_more_stands : (A B next : Ledger) (rs : List Request) (k : ℕ) (ps : List Reply) → 1 ≤ k → k + length ps ≤ length rs → ResumableAt A rs k B → After B (drop (k - 1) rs) (length ps + 1) next
+    → ResumableAt A rs (k + length ps) next
 one_more_stands A B next rs k ps one le stands (qs, run) =
     let dropped : length (drop (k - 1) rs) ≡ length rs - (k - 1) = length-drop (k - 1) rs in
     let size : length qs ≡ length ps + 1 = runs_length B next _ qs run ∙ length-take-le (length ps + 1) (drop (k - 1) rs) (omega arith) in
-    let after = from_before A B next rs (k - 1) qs (omega arith) (subst (λ i. StandsAt A rs i B) (sym (before_is k one)) stands)
+    let after = from_before A B next rs (k - 1) qs (omega arith) (subst (λ i. ResumableAt A rs i B) (sym (before_is k one)) stands)
     (subst (λ i. Runs B (take i (drop (k - 1) rs)) qs next) (sym size) run) (omega arith) in
     inr (le, (after.0 ++ qs, subst (λ i. Runs A (take i rs) (after.0 ++ qs) next) (omega arith) after.2))
 
 -- a stop leaves the rows of the desk's ledger, or those after one request more
-pub leaves_resumable : (A B C next : Ledger) (rs : List Request) (k : ℕ) (ps : List Reply) (leaves : List Content → Type 0) → 1 ≤ k → k + length ps ≤ length rs → StandsAt A rs k B
+pub leaves_resumable : (A B C next : Ledger) (rs : List Request) (k : ℕ) (ps : List Reply) (leaves : List Content → Type 0) → 1 ≤ k → k + length ps ≤ length rs → ResumableAt A rs k B
     → Runs B (take (length ps) (drop (k - 1) rs)) ps C → After B (drop (k - 1) rs) (length ps + 1) next → LeavesEither leaves C next → LeavesResumable leaves A rs (k + length ps)
 leaves_resumable A B C next rs k ps leaves one le stands more after either = record {
   first = C;
   second = next;
-  first_stands = (resumes A B C rs k ps one (omega arith) stands more).stands;
-  second_stands = one_more_stands A B next rs k ps one le stands after;
+  first_resumable = (resumes A B C rs k ps one (omega arith) stands more).resumable;
+  second_resumable = one_more_stands A B next rs k ps one le stands after;
   either = either;
 }
 
@@ -196,7 +196,7 @@ resumes_joined A M C rs k ps qs le first second =
       last = second.last;
       counted = first.counted;
       run = subst (λ i. Runs A (take i rs) (first.before ++ (ps ++ qs)) second.last) (omega (arith, length-append ps qs)) (subst (λ (xs : List Reply). Runs A (take (n + length qs) rs) xs second.last) both run);
-      stands = subst (λ i. StandsAt A rs i C) (omega (arith, length-append ps qs)) second.stands;
+      resumable = subst (λ i. ResumableAt A rs i C) (omega (arith, length-append ps qs)) second.resumable;
     }
 
 pub resumed_again : (A B : Ledger) (rs : List Request) (k : ℕ) (given : List (List Reply)) → 1 ≤ k → k + length (flat_map (λ some. some) given) ≤ length rs + 1 → ResumesAgain A rs k given B
@@ -221,13 +221,13 @@ ranges_take rs zero h = tt
 ranges_take [] (suc i) h = tt
 ranges_take (r ∷ rs) (suc i) h = (h.0, ranges_take rs i h.1)
 
-stands_good : (A B : Ledger) (rs : List Request) (k : ℕ) → Good A → Each (λ r. IsKey r.key × IsInRange r.command) rs → StandsAt A rs k B → Good B
+stands_good : (A B : Ledger) (rs : List Request) (k : ℕ) → Good A → Each (λ r. IsKey r.key × IsInRange r.command) rs → ResumableAt A rs k B → Good B
 stands_good A B rs k good range (inl (done, run)) = runs_stay_good A (take (k - 1) rs) done B good (ranges_take rs (k - 1) range) run
 stands_good A B rs k good range (inr (le, (done, run))) = runs_stay_good A (take k rs) done B good (ranges_take rs k range) run
 
 pub found_standing : (A B C D : Ledger) (rs : List Request) (k : ℕ) (x y z : Content) → Good A → Each (λ r. IsKey r.key × IsInRange r.command) rs → Good D
-    → StandsAt A rs k B → StandsAt A rs k C → IsRowsOf B y → IsRowsOf C z → (x ≡ y) ⊎ (x ≡ z) → IsRowsOf D x → StandsAt A rs k D
+    → ResumableAt A rs k B → ResumableAt A rs k C → IsRowsOf B y → IsRowsOf C z → (x ≡ y) ⊎ (x ≡ z) → IsRowsOf D x → ResumableAt A rs k D
 found_standing A B C D rs k x y z good range found b c these those (inl is) rows =
-    subst (λ L. StandsAt A rs k L) (told_by_rows B D y (stands_good A B rs k good range b) found these (subst (λ (w : Content). IsRowsOf D w) is rows)) b
+    subst (λ L. ResumableAt A rs k L) (told_by_rows B D y (stands_good A B rs k good range b) found these (subst (λ (w : Content). IsRowsOf D w) is rows)) b
 found_standing A B C D rs k x y z good range found b c these those (inr is) rows =
-    subst (λ L. StandsAt A rs k L) (told_by_rows C D z (stands_good A C rs k good range c) found those (subst (λ (w : Content). IsRowsOf D w) is rows)) c
+    subst (λ L. ResumableAt A rs k L) (told_by_rows C D z (stands_good A C rs k good range c) found those (subst (λ (w : Content). IsRowsOf D w) is rows)) c

@@ -9,8 +9,8 @@ use Rattle.desk.specs.Desk.{LeavesEither}
 
 -- B is the ledger after the requests before number k, counted from 1, or after that one too, if there is one: its reply
 -- is not known, and it may be done or not.
-abbrev pub StandsAt : Ledger → List Request → ℕ → Ledger → Type 0
-StandsAt A requests k B = After A requests (k - 1) B ⊎ ((k ≤ length requests) × After A requests k B)
+abbrev pub ResumableAt : Ledger → List Request → ℕ → Ledger → Type 0
+ResumableAt A requests k B = After A requests (k - 1) B ⊎ ((k ≤ length requests) × After A requests k B)
 
 -- The replies are those from number k on, as many as there are, of the run of the requests from A; B is where the next
 -- is to be resumed.
@@ -19,19 +19,19 @@ pub record Resumes (A : Ledger) (requests : List Request) (k : ℕ) (replies : L
   pub last : Ledger
   pub counted : length before + 1 ≡ k
   pub run : Runs A (take (length before + length replies) requests) (before ++ replies) last
-  pub stands : StandsAt A requests (k + length replies) B
+  pub resumable : ResumableAt A requests (k + length replies) B
 
 -- a stop leaves the rows of ledgers alone at which number k may be resumed
 pub record LeavesResumable (leaves : List Content → Type 0) (A : Ledger) (requests : List Request)
     (k : ℕ) : Type 0 where
   pub first : Ledger
   pub second : Ledger
-  pub first_stands : StandsAt A requests k first
-  pub second_stands : StandsAt A requests k second
+  pub first_resumable : ResumableAt A requests k first
+  pub second_resumable : ResumableAt A requests k second
   pub either : LeavesEither leaves first second
 
 -- resumed again and again, each time at the number behind the last reply, and what was answered each time
 abbrev pub ResumesAgain : Ledger → List Request → ℕ → List (List Reply) → Ledger → Type 0
-ResumesAgain A requests k [] B = StandsAt A requests k B
+ResumesAgain A requests k [] B = ResumableAt A requests k B
 ResumesAgain A requests k (replies ∷ more) B =
     (M : Ledger) × Resumes A requests k replies M × ResumesAgain A requests (k + length replies) more B

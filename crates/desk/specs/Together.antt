@@ -49,8 +49,8 @@ pub record FailsAt (old : DeskState) (requests : List Request) (replies : List R
 
 -- B is the ledger after the requests before number k, counted from 1, or behind a batch of those from there on, of which
 -- the replies are not known: it may be kept or not.
-abbrev pub StandsWithin : Ledger → List Request → ℕ → Ledger → Type 0
-StandsWithin A requests k B =
+abbrev pub ResumableWithin : Ledger → List Request → ℕ → Ledger → Type 0
+ResumableWithin A requests k B =
     (M : Ledger) × After A requests (k - 1) M
     × ((B ≡ M) ⊎ ((count : ℕ) × (untold : List Reply) × IsBatch M (take count (drop (k - 1) requests)) untold B))
 
@@ -61,11 +61,11 @@ pub record ResumesWithin (A : Ledger) (requests : List Request) (k : ℕ) (repli
   pub last : Ledger
   pub counted : length before + 1 ≡ k
   pub run : Runs A (take (length before + length replies) requests) (before ++ replies) last
-  pub stands : StandsWithin A requests (k + length replies) B
+  pub resumable : ResumableWithin A requests (k + length replies) B
 
 -- resumed again and again, each time at the number behind the last reply, and what was answered each time
 abbrev pub ResumesWithinAgain : Ledger → List Request → ℕ → List (List Reply) → Ledger → Type 0
-ResumesWithinAgain A requests k [] B = StandsWithin A requests k B
+ResumesWithinAgain A requests k [] B = ResumableWithin A requests k B
 ResumesWithinAgain A requests k (replies ∷ more) B =
     (M : Ledger) × ResumesWithin A requests k replies M × ResumesWithinAgain A requests (k + length replies) more B
 

@@ -50,8 +50,8 @@ pub trait Dialogue {
     // What is asked by a question that is held.
     ghost asks: { Self.Question → Asked → Type 0 };
 
-    // So it stands where these bytes were taken in, and, if so, the input has ended there, and these questions were found.
-    ghost stands: { Self → List ℕ → Bool → List Asked → Type 0 };
+    // These bytes were taken in, the input has ended there if so, and these questions were found.
+    ghost has_found: { Self → List ℕ → Bool → List Asked → Type 0 };
 
     // A stopped desk ends it.
     ghost may_stop: { Type 0 };
@@ -61,22 +61,22 @@ pub trait Dialogue {
 
     /// Takes a piece of the input in, where more is wanted; one without bytes is its end.
     fn take_in(&mut self, alloc: Global, piece: &[u8]) -> Result<(), Memory>
-        ensures { OnOk result ((read : List ℕ) (questions : List Asked) → stands self.old read false questions
+        ensures { OnOk result ((read : List ℕ) (questions : List Asked) → has_found self.old read false questions
             → language.have_come read questions
-            → stands self.new (read ++ piece.now) (is_end piece.now) questions) };
+            → has_found self.new (read ++ piece.now) (is_end piece.now) questions) };
 
     /// Finds the next question.
     fn next(&mut self, alloc: Global) -> Next<Self::Question>
         ensures question { (question : Self.Question) → result ≡ next.Question question → (read : List ℕ) (ended : Bool)
-            (questions : List Asked) → stands self.old read ended questions
-            → (asked : Asked) × asks question asked × stands self.new read ended (questions ++ asked ∷ []) }
+            (questions : List Asked) → has_found self.old read ended questions
+            → (asked : Asked) × asks question asked × has_found self.new read ended (questions ++ asked ∷ []) }
         ensures fewer { (question : Self.Question) → result ≡ next.Question question → size self.new < size self.old }
         ensures more { result ≡ next.More → (read : List ℕ) (ended : Bool) (questions : List Asked)
-            → stands self.old read ended questions
-            → stands self.new read ended questions × (ended ≡ false) × language.have_come read questions }
+            → has_found self.old read ended questions
+            → has_found self.new read ended questions × (ended ≡ false) × language.have_come read questions }
         ensures over { result ≡ next.Over → (read : List ℕ) (ended : Bool) (questions : List Asked)
-            → stands self.old read ended questions
-            → stands self.new read ended questions × language.are_questions read questions
+            → has_found self.old read ended questions
+            → has_found self.new read ended questions × language.are_questions read questions
             × language.ends ended questions };
 
     /// The answer to a question. It is made before anything is done.
@@ -95,7 +95,7 @@ pub trait Dialogue {
 
     // Whatever comes behind what was taken in, the first questions are those that were found.
     ghost settled: { (self : Self) (read : List ℕ) (ended : Bool) (questions : List Asked)
-        → stands self read ended questions → (more : List ℕ) → (ended ≡ true → more ≡ [])
+        → has_found self read ended questions → (more : List ℕ) → (ended ≡ true → more ≡ [])
         → Begins language (read ++ more) questions };
 }
 
@@ -108,17 +108,17 @@ fn answer_come<D: Dialogue, K: Keep, W: Write>(
     desk: &mut Desk<K>,
 ) -> Result<bool, ScriptFault>
     ensures whole { IfOk result (λ is_over. (read : List ℕ) (ended : Bool) (before : List D.Asked)
-        → D.stands dialogue.old read ended before → (questions : List D.Asked)
+        → D.has_found dialogue.old read ended before → (questions : List D.Asked)
         × (done : Answered D.language (desk_state K.Keep desk.old) questions (desk_state K.Keep desk.new)
         (W.contents writer.old) (W.contents writer.new))
         × ((count : ℕ) → answered.old ≡ most count → answered.new ≡ most (count + length done.answers))
-        × D.stands dialogue.new read ended (before ++ questions)
+        × D.has_found dialogue.new read ended (before ++ questions)
         × (is_over ≡ false → (ended ≡ false) × D.language.have_come read (before ++ questions))
         × (is_over ≡ true → D.language.are_questions read (before ++ questions)
         × D.language.ends ended (before ++ questions))) }
     ensures cut { IfErr result (λ fault. (read : List ℕ) (ended : Bool) (before : List D.Asked)
-        → D.stands dialogue.old read ended before → (questions : List D.Asked)
-        × D.stands dialogue.new read ended (before ++ questions)
+        → D.has_found dialogue.old read ended before → (questions : List D.Asked)
+        × D.has_found dialogue.new read ended (before ++ questions)
         × Writes (W.contents writer.old) (W.contents writer.new) (λ written. IsCut D.language fault
         (desk_state K.Keep desk.old) questions written (desk_state K.Keep desk.new))) }
     ensures read { result ≢ Err ScriptFault.Read }
@@ -154,13 +154,13 @@ pub fn converse<D: Dialogue, K: Keep, R: Read, W: Write>(
     writer: &mut W,
     desk: &mut Desk<K>,
 ) -> Result<u64, ScriptFault>
-    requires new { D.stands dialogue.old [] false [] }
+    requires new { D.has_found dialogue.old [] false [] }
     requires none { D.language.have_come [] [] }
     ensures whole { IfOk result (λ count. (whole : EndsWhole D.language (desk_state K.Keep desk.old)
         (desk_state K.Keep desk.new)
         (streams (R.remaining reader.old) (R.remaining reader.new) (W.contents writer.old) (W.contents writer.new)))
         × (count ≡ most (length whole.answers))
-        × D.stands dialogue.new whole.read whole.has_ended whole.questions) }
+        × D.has_found dialogue.new whole.read whole.has_ended whole.questions) }
     ensures cut { IfErr result (λ fault. EndsCut D.language fault (desk_state K.Keep desk.old)
         (desk_state K.Keep desk.new)
         (streams (R.remaining reader.old) (R.remaining reader.new) (W.contents writer.old) (W.contents writer.new))) }

@@ -12,7 +12,7 @@ ghost use Rattle.book.specs.Rows.{Content, IsRowsOf};
 ghost use Rattle.desk.specs.Desk.{DeskView, desk_state};
 ghost use Rattle.desk.specs.Headline.{IsFoundAfter, IsFoundAfterCuts, IsFoundAfterLines, IsRunOf, LeavesRowsOf, all_replies, answered};
 ghost use Rattle.desk.specs.Opening.{keeper_after};
-ghost use Rattle.desk.specs.Resuming.{Resumes, StandsAt};
+ghost use Rattle.desk.specs.Resuming.{Resumes, ResumableAt};
 ghost use Rattle.desk.specs.Dialogue.{EndsCut};
 ghost use Rattle.desk.specs.Script.{WritesText, lines};
 ghost use Rattle.desk.specs.Streams.{streams};
@@ -113,7 +113,7 @@ fn go_on<K: Keep>(
     requires counted { 1 ≤ first }
     requires within { first ≤ length requests.now + 1 }
     ensures resumed { IfOk result (λ after. K.is_honest after.0.keep → (again : DeskView K) × (opened ≡ Ok again)
-        × K.is_honest again.keep × ((A : Ledger) → StandsAt A requests.now first again.ledger
+        × K.is_honest again.keep × ((A : Ledger) → ResumableAt A requests.now first again.ledger
         → Resumes A requests.now first after.1.replies.items after.0.ledger)) }
     ensures rest { IfOk result (λ after. after.1.ending ≡ Ending.All
         ↔ first + answered after.1 ≡ length requests.now + 1) }
@@ -168,7 +168,7 @@ pub fn run_cut_and_resume<K: Recover>(
 /// those of a run that was never cut.
 pub fn any_number_of_cuts()
     ensures found { (A B : Ledger) (requests : List RequestOf) (runs : List Run) → IsFoundAfterCuts A requests runs B
-        → StandsAt A requests (length (all_replies runs) + 1) B }
+        → ResumableAt A requests (length (all_replies runs) + 1) B }
     ensures same { (A B last : Ledger) (requests : List RequestOf) (runs : List Run) (replies : List ReplyOf)
         → IsFoundAfterCuts A requests runs B → length (all_replies runs) ≡ length requests
         → Runs A requests replies last → (all_replies runs ≡ replies) × (B ≡ last) }

@@ -10,8 +10,8 @@ ghost use Rattle.book.specs.Answers.{Runs};
 ghost use Rattle.book.specs.Good.{Good};
 ghost use Rattle.book.specs.Ledger.{Ledger};
 ghost use Rattle.book.specs.Rows.{Content, IsRowsOf};
-ghost use Rattle.desk.specs.Resuming.{ResumesAgain, StandsAt};
-ghost use Rattle.desk.specs.Together.{IsBatch, ResumesWithin, ResumesWithinAgain, RunsInLists, StandsWithin};
+ghost use Rattle.desk.specs.Resuming.{ResumesAgain, ResumableAt};
+ghost use Rattle.desk.specs.Together.{IsBatch, ResumesWithin, ResumesWithinAgain, RunsInLists, ResumableWithin};
 ghost use Rattle.desk.specs.Text.{IsText};
 
 /// At a good ledger there is exactly one text for each input, so that what a script writes is settled by what it reads.
@@ -32,8 +32,8 @@ pub fn resuming_is_invisible()
         → (flat_map (λ some. some) given ≡ drop (k - 1) replies) × (B ≡ last) }
     ensures found { (A B C D : Ledger) (requests : List Request) (k : ℕ) (x y z : Content) → Good A
         → Each (λ r. IsKey r.key × IsInRange r.command) requests → Good D
-        → StandsAt A requests k B → StandsAt A requests k C → IsRowsOf B y → IsRowsOf C z → (x ≡ y) ⊎ (x ≡ z)
-        → IsRowsOf D x → StandsAt A requests k D }
+        → ResumableAt A requests k B → ResumableAt A requests k C → IsRowsOf B y → IsRowsOf C z → (x ≡ y) ⊎ (x ≡ z)
+        → IsRowsOf D x → ResumableAt A requests k D }
 {}
 
 /// A batch that comes again where it was kept is answered the same and changes nothing. So whoever was cut off by a
@@ -45,9 +45,9 @@ pub fn batches_come_again()
     ensures found { (A mid B : Ledger) (requests : List Request) (replies untold : List Reply) (count : ℕ)
         → Runs A (take (length replies) requests) replies mid
         → IsBatch mid (take count (drop (length replies) requests)) untold B
-        → StandsWithin A requests (length replies + 1) mid × StandsWithin A requests (length replies + 1) B }
+        → ResumableWithin A requests (length replies + 1) mid × ResumableWithin A requests (length replies + 1) B }
     ensures resumed { (A B last : Ledger) (requests : List Request) (k : ℕ) (replies : List Reply) → 1 ≤ k
-        → k ≤ length requests + 1 → StandsWithin A requests k B → Runs B (drop (k - 1) requests) replies last
+        → k ≤ length requests + 1 → ResumableWithin A requests k B → Runs B (drop (k - 1) requests) replies last
         → (before : List Reply) × (length before + 1 ≡ k) × Runs A requests (before ++ replies) last }
 {}
 
@@ -55,19 +55,19 @@ pub fn batches_come_again()
 /// reply, it comes to the replies and the ledger of one that is carried out one by one and never stopped, whether those
 /// batches were kept or not. Lists that are carried out one after the other are one list.
 pub fn batches_are_invisible()
-    ensures wider { (A B : Ledger) (requests : List Request) (k : ℕ) → 1 ≤ k → StandsAt A requests k B
-        → StandsWithin A requests k B }
+    ensures wider { (A B : Ledger) (requests : List Request) (k : ℕ) → 1 ≤ k → ResumableAt A requests k B
+        → ResumableWithin A requests k B }
     ensures on { (A B mid C : Ledger) (requests : List Request) (k : ℕ) (replies : List Reply) → 1 ≤ k
-        → k ≤ length requests + 1 → StandsWithin A requests k B
+        → k ≤ length requests + 1 → ResumableWithin A requests k B
         → Runs B (take (length replies) (drop (k - 1) requests)) replies mid
-        → StandsWithin B (drop (k - 1) requests) (length replies + 1) C → ResumesWithin A requests k replies C }
+        → ResumableWithin B (drop (k - 1) requests) (length replies + 1) C → ResumesWithin A requests k replies C }
     ensures same { (A : Ledger) (requests : List Request) (k : ℕ) (given : List (List Reply)) (replies : List Reply)
         (B last : Ledger) → 1 ≤ k → ResumesWithinAgain A requests k given B
         → k + length (flat_map (λ some. some) given) ≡ length requests + 1 → Runs A requests replies last
         → (flat_map (λ some. some) given ≡ drop (k - 1) replies) × (B ≡ last) }
     ensures found { (A B C D : Ledger) (requests : List Request) (k : ℕ) (x y z : Content) → Good B → Good C → Good D
-        → StandsWithin A requests k B → StandsWithin A requests k C → IsRowsOf B y → IsRowsOf C z
-        → (x ≡ y) ⊎ (x ≡ z) → IsRowsOf D x → StandsWithin A requests k D }
+        → ResumableWithin A requests k B → ResumableWithin A requests k C → IsRowsOf B y → IsRowsOf C z
+        → (x ≡ y) ⊎ (x ≡ z) → IsRowsOf D x → ResumableWithin A requests k D }
     ensures cut_into_lists { (A B : Ledger) (lists : List (List Request)) (given : List (List Reply))
         → RunsInLists A lists given B
         → Runs A (flat_map (λ requests. requests) lists) (flat_map (λ replies. replies) given) B }

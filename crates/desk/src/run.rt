@@ -6,7 +6,7 @@ ghost use Rattle.book.specs.Answers.{After, Runs};
 ghost use Rattle.book.specs.Ledger.{Ledger};
 ghost use Rattle.desk.specs.Desk.{Goes, LeavesEither, TellsStop, desk_state};
 ghost use Rattle.desk.specs.Lists.{HasRoom};
-ghost use Rattle.desk.specs.Resuming.{LeavesResumable, Resumes, StandsAt};
+ghost use Rattle.desk.specs.Resuming.{LeavesResumable, Resumes, ResumableAt};
 ghost use Rattle.desk.specs.Text.{RepliesAll, items_of};
 ghost use Rattle.desk.specs.declared.reply.TheConstants.{LONGEST_LINE};
 ghost use Rattle.words.specs.declared.reply.Reply.{Reply as ReplyOf};
@@ -159,13 +159,13 @@ impl<K: Keep> Desk<K> {
     pub fn resume(&mut self, alloc: Global, requests: &[Request], first: usize) -> Run
         requires counted { 1 ≤ first }
         requires within { first ≤ length requests.now + 1 }
-        ensures resumed { (A : Ledger) → StandsAt A requests.now first self.old.ledger
+        ensures resumed { (A : Ledger) → ResumableAt A requests.now first self.old.ledger
             → Resumes A requests.now first result.replies.items self.new.ledger }
-        ensures whole { result.ending ≡ Ending.All → (A : Ledger) → StandsAt A requests.now first self.old.ledger
+        ensures whole { result.ending ≡ Ending.All → (A : Ledger) → ResumableAt A requests.now first self.old.ledger
             → (before : List ReplyOf) × (length before + 1 ≡ first) × Runs A requests.now
             (before ++ result.replies.items) self.new.ledger }
         ensures either { K.stopped self.old.keep ≡ false → result.ending ≡ Ending.Stopped → K.is_honest self.new.keep
-            → (A : Ledger) → StandsAt A requests.now first self.old.ledger
+            → (A : Ledger) → ResumableAt A requests.now first self.old.ledger
             → LeavesResumable (K.leaves self.new.keep) A requests.now (first + length result.replies.items) }
         ensures replies { let rest = drop (first - 1) requests.now in
             Runs self.old.ledger (take (length result.replies.items) rest) result.replies.items self.new.ledger

@@ -45,7 +45,7 @@ impl Dialogue for LineDialogue {
 
     ghost asks = { λ question asked. asked ≡ question };
 
-    ghost stands = { λ s read ended found. (s.has_ended ≡ ended) × HasFed s.lines (into_iter_items s.waiting) read ended found };
+    ghost has_found = { λ s read ended found. (s.has_ended ≡ ended) × HasFed s.lines (into_iter_items s.waiting) read ended found };
 
     ghost may_stop = { Unit {0} };
 

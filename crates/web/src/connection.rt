@@ -101,7 +101,7 @@ impl Dialogue for HttpDialogue {
 
     ghost asks = { IsAsked };
 
-    ghost stands = { λ s read ended found. (s.has_ended ≡ ended) × HasFound s.is_over s.held.items read ended found
+    ghost has_found = { λ s read ended found. (s.has_ended ≡ ended) × HasFound s.is_over s.held.items read ended found
         × AreFirst read ended found };
 
     ghost may_stop = { ⊥ };

@@ -10,13 +10,13 @@ use Rattle.desk.proofs.dialogue.answer_come.Goals as goal
 
 pub loop-question-init : goal.loop-question-init
 loop-question-init g c = record {
-  come = λ read ended before stands. ([], subst (λ qs. g.D.Dialogue.stands c.args.dialogue.now read ended qs) (sym (append-nil before)) stands, counted_none _ _ _ _);
+  come = λ read ended before has_found. ([], subst (λ qs. g.D.Dialogue.has_found c.args.dialogue.now read ended qs) (sym (append-nil before)) has_found, counted_none _ _ _ _);
   goes = goes_same _ _ c.in_order.ensures.good c.in_order.ensures.stored;
 }
 
 pub returns-in-More-clause-whole : goal.returns-in-More-clause-whole
-returns-in-More-clause-whole g c = λ read ended before stands.
-    let (questions, found, (done, counts)) = c.loop-question.invariant.come read ended before stands in
+returns-in-More-clause-whole g c = λ read ended before has_found.
+    let (questions, found, (done, counts)) = c.loop-question.invariant.come read ended before has_found in
     let (still, going, come) = c.in-More.ensures.more refl read ended (before ++ questions) found in
     (questions, done, counts, still, (λ e. (going, come)), (λ e. absurd (true≢false (sym e))))
 
@@ -24,8 +24,8 @@ pub returns-in-More-clause-goes : goal.returns-in-More-clause-goes
 returns-in-More-clause-goes g c = c.loop-question.invariant.goes
 
 pub returns-in-Over-clause-whole : goal.returns-in-Over-clause-whole
-returns-in-Over-clause-whole g c = λ read ended before stands.
-    let (questions, found, (done, counts)) = c.loop-question.invariant.come read ended before stands in
+returns-in-Over-clause-whole g c = λ read ended before has_found.
+    let (questions, found, (done, counts)) = c.loop-question.invariant.come read ended before has_found in
     let (still, are, ends) = c.in-Over.ensures.over refl read ended (before ++ questions) found in
     (questions, done, counts, still, (λ e. absurd (true≢false e)), (λ e. (are, ends)))
 
@@ -33,12 +33,12 @@ pub returns-in-Over-clause-goes : goal.returns-in-Over-clause-goes
 returns-in-Over-clause-goes g c = c.loop-question.invariant.goes
 
 pub returns-in_err-answer-clause-cut : goal.returns-in_err-answer-clause-cut
-returns-in_err-answer-clause-cut g c = passed_as c.from_residual.result _ _ c.from_residual.ensures.1 (λ fault is read ended before stands.
-    let (questions, found, (done, counts)) = c.loop-question.invariant.come read ended before stands in
+returns-in_err-answer-clause-cut g c = passed_as c.from_residual.result _ _ c.from_residual.ensures.1 (λ fault is read ended before has_found.
+    let (questions, found, (done, counts)) = c.loop-question.invariant.come read ended before has_found in
     let (asked, asks, now) = c.in-Question.ensures.question c.in-Question.question refl read ended (before ++ questions) found in
     let goes = c.answer.ensures.goes in (
       questions ++ asked ∷ [],
-      subst (λ qs. g.D.Dialogue.stands c.next.new.self read ended qs) (append_assoc before questions (asked ∷ [])) now,
+      subst (λ qs. g.D.Dialogue.has_found c.next.new.self read ended qs) (append_assoc before questions (asked ∷ [])) now,
       (
         _,
         Appends-trans _ _ _ _ _ done.writes (Appends-nil _),
@@ -54,12 +54,12 @@ pub returns-in_err-write_whole-clause-cut : goal.returns-in_err-write_whole-clau
 returns-in_err-write_whole-clause-cut g c =
     let (count, few, begins) = c.in_err-write_whole.ensures.beginning in
     let text = c.as_bytes.result.now in
-    passed_as c.from_residual-in_err-write_whole.result _ _ c.from_residual-in_err-write_whole.ensures.1 (λ fault is read ended before stands.
-    let (questions, found, (done, counts)) = c.loop-question.invariant.come read ended before stands in
+    passed_as c.from_residual-in_err-write_whole.result _ _ c.from_residual-in_err-write_whole.ensures.1 (λ fault is read ended before has_found.
+    let (questions, found, (done, counts)) = c.loop-question.invariant.come read ended before has_found in
     let (asked, asks, now) = c.in-Question.ensures.question c.in-Question.question refl read ended (before ++ questions) found in
     let goes = c.answer.ensures.goes in (
       questions ++ asked ∷ [],
-      subst (λ qs. g.D.Dialogue.stands c.next.new.self read ended qs) (append_assoc before questions (asked ∷ [])) now,
+      subst (λ qs. g.D.Dialogue.has_found c.next.new.self read ended qs) (append_assoc before questions (asked ∷ [])) now,
       (
         _,
         Appends-trans _ _ _ _ _ done.writes begins,
@@ -78,11 +78,11 @@ pub loop-question-preserved : goal.loop-question-preserved
 loop-question-preserved g c =
     let goes = c.answer.ensures.goes in
     record {
-      come = λ read ended before stands.
-          let (questions, found, done) = c.loop-question.invariant.come read ended before stands in
+      come = λ read ended before has_found.
+          let (questions, found, done) = c.loop-question.invariant.come read ended before has_found in
           let (asked, asks, now) = c.in-Question.ensures.question c.in-Question.question refl read ended (before ++ questions) found in (
             questions ++ asked ∷ [],
-            subst (λ qs. g.D.Dialogue.stands c.next.new.self read ended qs) (append_assoc before questions (asked ∷ [])) now,
+            subst (λ qs. g.D.Dialogue.has_found c.next.new.self read ended qs) (append_assoc before questions (asked ∷ [])) now,
             counted_on _ _ _ _ questions asked _ _ _ _ _ _ (λ e. ap (desk_state g.K.Keep) (goes.untouched e)) done
                 (answered_one _ _ _ asked _ _ _ (c.in_ok-answer.ensures.told asked asks) (rw c.as_bytes.ensures at c.in_ok-write_whole.ensures.whole)) c.saturating_add.ensures,
           );
