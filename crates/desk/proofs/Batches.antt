@@ -27,14 +27,14 @@ use Rattle.book.specs.Rows.{desk_row}
 use Rattle.desk.proofs.NextRows.{next_rows}
 use Rattle.keep.specs.Content.{IsTheRow}
 use Rattle.keep.specs.Transactions.{with_changes}
-use Rattle.desk.specs.Desk.{DeskState, IsStored, LeavesEither}
+use Rattle.desk.specs.Desk.{DeskState, IsStored}
 use Rattle.desk.specs.Replies.{request_line}
 use Rattle.desk.specs.Text.{RepliesAll, items_of}
 use Rattle.desk.proofs.Texts.{replies_joined, replies_more}
 use Rattle.desk.specs.declared.reply.TheConstants.{LONGEST_LINE}
 use Rattle.words.specs.declared.item.Item.{Item}
 use Rattle.words.specs.declared.item.Item.TheVariants as item
-use Rattle.desk.specs.Together.{BatchSoFar, FailsAt, IsAsBefore, IsBatch, IsDone, Joins}
+use Rattle.desk.specs.Together.{BatchSoFar, FailsAt, IsBatch, IsDone, Joins}
 use Rattle.desk.specs.declared.together.Batch.{Batch}
 use Rattle.desk.proofs.Resumption.{runs_joined, runs_on as runs_behind}
 use Rattle.desk.proofs.RunsOn.{runs_on}
@@ -193,20 +193,6 @@ joined_accepted A B plan rows old new good key range fits are is_next good_then 
   good = good_then;
 }
 
-pub joined_none : (A M B : Ledger) (rs : List Request) (old new : Batch) → BatchSoFar A rs old M → IsAsBefore M old new B → BatchSoFar A rs new B
-joined_none A M B rs old new so_far h = subst (λ L. BatchSoFar A rs new L) (sym h.ledger) (record {
-  is_batch = subst (λ (ps : List Reply). IsBatch A rs ps M) (sym h.replies) so_far.is_batch;
-  rows = λ C is. subst (λ (cs : List Change). IsRowsOf M (with_changes cs C)) (sym h.changes) (so_far.rows C is);
-  desk = subst (λ (cs : List Change). All IsTheRow (rows_among cs).desk) (sym h.changes) so_far.desk;
-  all_done = λ going. let (run, each) = so_far.all_done (sym h.refused ∙ going) in
-      (subst (λ (ps : List Reply). Runs A rs ps M) (sym h.replies) run, subst (Each IsDone) (sym h.replies) each);
-  some = λ has. subst (λ (ps : List Reply). 1 ≤ length ps) (sym h.replies) (so_far.some (sym h.refused ∙ has));
-  none = λ is. h.changes ∙ so_far.none (sym h.replies ∙ is);
-  lines = subst (λ (out : List ℕ). RepliesAll A (items_of rs) out M) (sym h.lines) so_far.lines;
-  short = let count = ap (λ (ps : List Reply). length ps) h.replies in let size = ap (λ (xs : List ℕ). length xs) h.lines in omega (arith, count, size, so_far.short);
-  good = so_far.good;
-})
-
 -- ---- kept, or not
 
 -- a batch is a run
@@ -249,23 +235,6 @@ batch_fails old new holds rs batch changes so_far few good are some stored eithe
 }
 
 -- ---- batch after batch
-
--- the batch that fails stands behind requests that are answered
-pub fails_behind : (old mid new : DeskState) (rs : List Request) (ps : List Reply) → Runs old.ledger (take (length ps) rs) ps mid.ledger → length ps ≤ length rs → FailsAt mid (drop (length ps) rs) [] new → FailsAt old rs ps new
-fails_behind old mid new rs ps run few fails =
-    let dropped : length (drop (length ps) rs) ≡ length rs - length ps = length-drop (length ps) rs in
-    let least = fails.some in
-    let most = fails.none_unasked in
-    record {
-      mid = mid.ledger;
-      run = run;
-      count = fails.count;
-      some = fails.some;
-      none_unasked = omega arith;
-      untold = fails.untold;
-      batch = subst (λ L. IsBatch L (take fails.count (drop (length ps) rs)) fails.untold new.ledger) fails.run fails.batch;
-      either = λ honest. subst (λ L. LeavesEither new.leaves L new.ledger) fails.run (fails.either honest);
-    }
 
 pub none_told : (A : Ledger) (rs : List Request) (ps : List Reply) → ps ≡ [] → Runs A (take (length ps) rs) ps A
 none_told A rs ps none = subst (λ (qs : List Reply). Runs A (take (length qs) rs) qs A) (sym none) refl

@@ -1,6 +1,5 @@
 -- Requests that are answered by lists: their lines, and how far they have come at a fault.
 use Rattle.std.proofs.Common.{◌≡◌, ◌∙◌, ◌≢◌, ◌⊎◌, ◌↔◌, ◌+◌, ◌-◌, ◌≤◌, IsTrue, false, true≢false, ℕ, List, [], ◌∷◌, ◌++◌, MatchOption, None, Option, Some, ap, if◌then◌else◌, append-nil, append_assoc, arith, drop, inl, inr, length, refl, subst, suc, sym, take, take-add, zero}
-use Rattle.std.proofs.Math.Seq.{take-length}
 use Rattle.std.proofs.lemmas.List.{length-append, length-drop, length-take-le, map-append, take-append-drop}
 use Rattle.std.specs.Io.KnownBytes.{Appends}
 use Rattle.std.specs.List.{AllByRecursion as Each}
@@ -261,16 +260,6 @@ module _ (old new : DeskState) (rs : List Request) (run : Run) (W w : Option (Li
   -- or a beginning of them
   pub stopped_begun : run.ending ≡ Stopped → (count : ℕ) → Appends W w (take count run.lines.items) → CutAt ScriptFault.Stopped (length rs) old rs new W w
   stopped_begun is count writes = cut_stopped is (written_begun old.ledger list.here told run.lines.items count W w list.lines writes)
-
-  -- all of it is answered
-  pub list_whole : run.ending ≡ All → Appends W w run.lines.items → WritesLines old.ledger (items_of rs) new.ledger W w
-  list_whole is writes =
-      let going : run.ending ≢ Stopped = λ e. let both = sym is ∙ e in cc in
-      let all : take (answered run) rs ≡ rs = ap (λ n. take n rs) (list.all is) ∙ take-length rs in (
-        run.lines.items,
-        subst (λ (xs : List Request). RepliesAll old.ledger (items_of xs) run.lines.items new.ledger) all (subst (λ L. RepliesAll old.ledger (items_of told) run.lines.items L) (sym (list.going going)) list.lines),
-        writes,
-      )
 
 -- ---- how a list is carried out
 
