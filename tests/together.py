@@ -130,11 +130,11 @@ def is_accepted(reply, places):
 
 
 def ends_of(replies, places, most):
-    """Behind how many of the requests of these replies a batch ends, in lists of so many, where so many places were taken before.
+    """Behind how many of the requests of these replies a batch ends, of at most so many, where so many places were taken before.
     It begins with 0, where the first of them begins."""
     ends, has_refused = [0], False
     for number, reply in enumerate(replies):
-        if number > 0 and number % most == 0 or has_refused and is_accepted(reply, places):
+        if number == ends[-1] + most or has_refused and is_accepted(reply, places):
             ends.append(number)
             has_refused = False
         has_refused = has_refused or " refused " in reply
@@ -142,11 +142,11 @@ def ends_of(replies, places, most):
     return [*ends, len(replies)]
 
 
-def may_be_kept(ends, told, most):
-    """How many requests may be kept where so many replies were written: a list is kept, batch after batch, before its first reply
-    is written, and the next one behind its last."""
-    last = min((told // most + 1) * most, ends[-1])
-    return [end for end in ends if told <= end <= last] if told % most == 0 else [last]
+def may_be_kept(ends, told):
+    """How many requests may be kept where so many replies were written: a batch is kept before its first reply is written, and
+    the next one behind its last."""
+    behind = [end for end in ends if end > told][:1]
+    return [told, *behind] if told in ends else behind
 
 
 class Files:
@@ -268,7 +268,7 @@ class KilledTogether(Killed):
             return
         places, told = 1 + self.kept - self.kept // self.EVERY, out.count(b"\n")
         ends = ends_of(self.replies.decode().splitlines(), places, self.MOST)
-        may = [max(self.kept, end) for end in may_be_kept(ends, told, self.MOST)]
+        may = [max(self.kept, end) for end in may_be_kept(ends, told)]
         rows, found = [rows_behind(end, self.EVERY) for end in may], rows_left(path)
         expect(found in rows, f"{told} replies, {found[0]}, and not the rows behind {may} requests")
         self.kept = may[rows.index(found)]
@@ -309,7 +309,7 @@ def recorded_batches(program, folder, most):
     written = b"".join(call.data[: call.result] for call in calls if call.name == "write" and call.number == OUTPUT)
     expect(written.decode().splitlines() == replies, f"other replies: {written}")
     ends = ends_of(replies, 1, most)
-    return Recorded(there, before, calls, lambda told: [rows[kept] for kept in may_be_kept(ends, told, most)])
+    return Recorded(there, before, calls, lambda told: [rows[kept] for kept in may_be_kept(ends, told)])
 
 
 def test_a_power_cut_leaves_whole_batches(program, folder):
@@ -341,11 +341,11 @@ def value_behind(replies):
 
 def values_left(replies, most, read):
     """What the one field may have where a reader goes away that has read so many of the replies: by what was written as they
-    were, and at most as much more as the pipe holds; the first list where none was ever read."""
+    were, and at most as much more as the pipe holds; the first batch where none was ever read."""
     ends, lines = ends_of(replies, 1, most), [reply + "\n" for reply in replies]
     holds = len("".join(lines[:read])) + PIPE if read else 0
-    last = may_be_kept(ends, "".join(lines)[:holds].count("\n"), most)[-1]
-    first = may_be_kept(ends, read, most)[0] if read else last
+    last = may_be_kept(ends, "".join(lines)[:holds].count("\n"))[-1]
+    first = may_be_kept(ends, read)[0] if read else last
     return [value_behind(replies[:end]) for end in ends if first <= end <= last]
 
 
@@ -398,7 +398,7 @@ def test_a_store_that_fails_leaves_whole_batches(program, folder):
         told = files.told(out, of)
         expect(told in ends, f"{of}: {told} replies are those of no batches")
         failed.add(told)
-        files.expect_gone_on(words, [value_behind(files.replies[:end]) for end in [told, *ends[ends.index(told) + 1 :][:1]]], of)
+        files.expect_gone_on(words, [value_behind(files.replies[:end]) for end in may_be_kept(ends, told)], of)
     expect(len(failed) > 3, f"it only failed behind {failed}")
 
 
