@@ -19,8 +19,6 @@ mod requests;
 mod session;
 mod sheet;
 mod tasks;
-#[cfg(test)]
-mod tests;
 mod upgrade;
 mod work;
 

@@ -110,8 +110,8 @@ fn answer_from<K: Keep, R: Read + Drop, W: Write>(
 }
 
 /// Reads the file of requests at the path, and then answers its requests on a desk in their order: each reply line is
-/// written before the next request is called, or, with `together`, those of a list of so many when it is carried out. A file that
-/// cannot be read is `Csv`, a record at fault `BadRecord`; then nothing is done, and nothing written.
+/// written before the next request is called, or, with `together`, those of a batch of at most so many before the next is
+/// begun. A file that cannot be read is `Csv`, a record at fault `BadRecord`; then nothing is done, and nothing written.
 pub fn answer_file<K: Keep, W: Write>(
     rt: &HostRuntime,
     desk: &mut Desk<K>,
