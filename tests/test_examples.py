@@ -113,9 +113,8 @@ class Service:
 
 
 class Relay(http.server.ThreadingHTTPServer):
-    """Hands each message on to a desk, but for what is at fault, by its number from 1: `lost`, the answer does not come back; `away`,
-    the message does not arrive; `busy`, a front answers in place of the desk; `killed`, the client is, before it has the answer.
-    """
+    """Hands each message on to a desk. One may have a fault, by its number from 1: `lost`, its answer does not come back; `away`,
+    it does not arrive; `busy`, a front answers in place of the desk; `killed`, the client is, before it has the answer."""
 
     def __init__(self, port: int, faults: dict[int, str], context: ssl.SSLContext | None = None):
         super().__init__(("127.0.0.1", 0), Handler)
