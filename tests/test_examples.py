@@ -13,6 +13,7 @@ import threading
 import unittest
 
 from support.cases import ProgramCase
+from test_tutorial import PORT, Shell, blocks_of, free_port
 
 EXAMPLES = os.path.join(os.path.dirname(os.path.dirname(os.path.abspath(__file__))), "examples")
 SECONDS = 60
@@ -71,6 +72,12 @@ SHEETS = [
         "total                        52\n",
     ),
 ]
+
+# an article's sheet once each file has come
+ARTICLE = """N1                        5         60         13         11         13
+N2                        0         40         39         39         39
+total                        52
+"""
 
 # the commands of commands.txt, and the status and the body of the answer to each
 COMMANDS = [
@@ -190,6 +197,22 @@ class Examples(ProgramCase):
             self.assertEqual(self.done([name, path, f"{name}.csv"]), answers, name)
         for (kind, name), sheet in SHEETS:
             self.assertEqual(self.done([kind, path, name]), sheet, name)
+
+    def test_the_commands_that_are_shown(self) -> None:
+        """Each block of the examples' README, in the folder of the examples."""
+        copy, path = os.path.join(self.folder, "examples"), os.path.join(self.folder, "path")
+        shutil.copytree(EXAMPLES, copy)
+        os.mkdir(path)
+        os.symlink(self.program, os.path.join(path, "stockdesk"))
+        port = free_port()
+        day = DAY + "".join(answers for _, answers in FILES[:3]) + ARTICLE
+        shell = Shell(path, copy)
+        self.addCleanup(shell.end)
+        blocks = blocks_of("examples/README.md")
+        for number, want in enumerate([day, f"listening {port}\n" + "".join(SAID)]):
+            commands, _ = blocks[number]
+            self.assertEqual(shell.play(number, commands.replace(PORT, port), want), want, commands)
+        self.assertEqual(len(blocks), 2)
 
     def test_each_key_of_the_day_is_told(self) -> None:
         """The keys of the script stand in the story, or between two that do."""
