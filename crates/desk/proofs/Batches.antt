@@ -1,5 +1,5 @@
 -- Batches: how they are made, and that they come again.
-use Rattle.std.proofs.Common.{◌≡◌, ◌≢◌, ◌∙◌, ◌+◌, ◌-◌, ◌≤◌, ◌++◌, Bool, false, true, true≢false, ℕ, List, [], ◌∷◌, ap, append-nil, append_assoc, arith, drop, length, refl, subst, sym, take}
+use Rattle.std.proofs.Common.{◌≡◌, ◌≢◌, ◌∙◌, ◌+◌, ◌-◌, ◌≤◌, ◌++◌, ◌⊎◌, Bool, false, true, true≢false, ℕ, List, [], ◌∷◌, ap, append-nil, append_assoc, arith, drop, inl, inr, length, refl, subst, sym, take}
 use Rattle.std.proofs.lemmas.List.{length-append, length-drop, map-append}
 use Rattle.std.proofs.Math.Seq.{take-add, take-length}
 use Rattle.std.proofs.lemmas.List.Elements.{All-append, All-from_recursion}
@@ -10,7 +10,7 @@ use Rattle.words.specs.declared.reply.Reply.{Reply}
 use Rattle.words.specs.declared.reply.Reply.TheVariants.{Done}
 use Rattle.escrow.specs.Codes.{IsKey}
 use Rattle.words.specs.Spelling.{IsInRange}
-use Rattle.book.specs.Answers.{Answers, Runs}
+use Rattle.book.specs.Answers.{Answers, IsAccepted, Runs}
 use Rattle.book.specs.Good.{Good}
 use Rattle.book.specs.Ledger.{Ledger}
 use Rattle.book.specs.Rows.{Content, DeskCells, IsRowsOf}
@@ -27,7 +27,7 @@ use Rattle.book.specs.Rows.{desk_row}
 use Rattle.desk.proofs.NextRows.{next_rows}
 use Rattle.keep.specs.Content.{IsTheRow}
 use Rattle.keep.specs.Transactions.{with_changes}
-use Rattle.desk.specs.Desk.{DeskState, IsStored}
+use Rattle.desk.specs.Desk.{DeskState, HasAccepted, IsStored}
 use Rattle.desk.specs.Replies.{request_line}
 use Rattle.desk.specs.Text.{RepliesAll, items_of}
 use Rattle.desk.proofs.Texts.{replies_joined, replies_more}
@@ -95,12 +95,32 @@ batch_new A batch good none no_text no_rows going = record {
   all_done = λ _. (subst (λ (ps : List Reply). Runs A [] ps A) (sym none) refl, subst (Each IsDone) (sym none) tt);
   some = λ has. absurd (true≢false (sym has ∙ going));
   none = λ _. no_rows;
+  accepted = inr (refl, no_rows);
   lines = (no_text, refl);
   short = let size = ap (λ (xs : List ℕ). length xs) no_text in omega (arith, size);
   good = good;
 }
 
+-- one is accepted among more requests
+has_before : (A : Ledger) (rs : List Request) (r : Request) → HasAccepted A rs → HasAccepted A (rs ++ r ∷ [])
+has_before A [] r has = absurd has
+has_before A (q ∷ rs) r (inl this) = inl this
+has_before A (q ∷ rs) r (inr has) = inr (has_before A rs r has)
+
+has_last : (A : Ledger) (rs : List Request) (r : Request) → IsAccepted A r → HasAccepted A (rs ++ r ∷ [])
+has_last A [] r this = inl this
+has_last A (q ∷ rs) r this = inr (has_last A rs r this)
+
 module _ (A M B : Ledger) (rs : List Request) (r : Request) (old new : Batch) (so_far : BatchSoFar A rs old M) (h : Joins M r old new B) where
+  -- one is accepted, or nothing has changed
+  accepted_more : HasAccepted A (rs ++ r ∷ []) ⊎ ((B ≡ A) × (new.changes.items ≡ []))
+  accepted_more = by so_far.accepted h.accepted
+    where
+      by : HasAccepted A rs ⊎ ((M ≡ A) × (old.changes.items ≡ [])) → IsAccepted M r ⊎ ((B ≡ M) × (h.more ≡ [])) → HasAccepted A (rs ++ r ∷ []) ⊎ ((B ≡ A) × (new.changes.items ≡ []))
+      by (inl has) this = inl (has_before A rs r has)
+      by (inr (same, none)) (inl this) = inl (has_last A rs r (subst (λ L. IsAccepted L r) same this))
+      by (inr (same, none)) (inr (stays, no_more)) = inr (stays ∙ same, h.changes ∙ ap (λ (cs : List Change). cs ++ h.more) none ∙ no_more)
+
   -- all are done so far, and so is this one
   all_more : new.has_refused ≡ false → Runs A (rs ++ r ∷ []) new.run.replies.items B × Each IsDone new.run.replies.items
   all_more going =
@@ -149,6 +169,7 @@ module _ (A M B : Ledger) (rs : List Request) (r : Request) (old new : Batch) (s
     all_done = all_more;
     some = λ _. let size = ap (λ (ps : List Reply). length ps) h.replies ∙ length-append old.run.replies.items (h.reply ∷ []) in omega arith;
     none = λ is. let size = ap (λ (ps : List Reply). length ps) h.replies ∙ length-append old.run.replies.items (h.reply ∷ []) in let zero = ap (λ (ps : List Reply). length ps) is in absurd (omega (arith, size, zero));
+    accepted = accepted_more;
     lines = subst (λ (out : List ℕ). RepliesAll A (items_of (rs ++ r ∷ [])) out B) (sym h.line) (lines_on A M B rs r h.reply old.run.lines.items so_far.lines h.answer);
     short = let size = ap (λ (ps : List Reply). length ps) h.replies ∙ length-append old.run.replies.items (h.reply ∷ []) in omega (arith, size, so_far.short, h.short);
     good = h.good;
@@ -169,6 +190,7 @@ joined_told A r reply old new good answer replies line same done short = record 
   desk = All-from_recursion IsTheRow [] tt;
   done = done;
   nothing = λ _. refl;
+  accepted = inr (refl, refl);
   good = good;
 }
 
@@ -190,6 +212,7 @@ joined_accepted A B plan rows old new good key range fits are is_next good_then 
       (subst (λ (some : List DeskCells). All IsTheRow some) (sym fits.changes.desk) (All-from_recursion IsTheRow (desk_row (accept A plan.request) ∷ []) ((refl, refl), tt)));
   done = λ _. ((plan.place, refl), had);
   nothing = λ refused. absurd (true≢false (sym refused ∙ has));
+  accepted = inl fits.accepted;
   good = good_then;
 }
 
@@ -223,6 +246,7 @@ batch_fails old new holds rs batch changes so_far few good are some stored eithe
   none_unasked = omega arith;
   untold = batch.run.replies.items;
   batch = so_far.is_batch;
+  accepted = has so_far.accepted;
   either = λ honest. let s = stored honest in record {
     good_before = good;
     good_after = so_far.good;
@@ -233,6 +257,10 @@ batch_fails old new holds rs batch changes so_far few good are some stored eithe
     either = either honest s.rows s.held s.alone;
   };
 }
+  where
+    has : HasAccepted old.ledger (take (length batch.run.replies.items) rs) ⊎ ((new.ledger ≡ old.ledger) × (batch.changes.items ≡ [])) → HasAccepted old.ledger (take (length batch.run.replies.items) rs)
+    has (inl accepted) = accepted
+    has (inr (same, none)) = absurd (some (are ∙ none))
 
 -- ---- batch after batch
 

@@ -1,6 +1,7 @@
 -- What an opening finds after a script.
 use Rattle.std.proofs.Common.{◌≡◌, ◌⊎◌, false, ◌∙◌, ◌≤◌, ◌+◌, ◌++◌, ℕ, List, [], ◌∷◌, Option, append-nil, append_assoc, arith, ap, inl, inr, length, refl, subst, sym, take}
 use Rattle.std.specs.Prelude.{Err, IfErr, IfOk, IfSome, Ok, OnOk, Result}
+use Rattle.std.specs.declared.num.NonZeroUsize.{NonZeroUsize}
 use Rattle.std.proofs.lemmas.List.{length-append, length-map, take_at}
 use Rattle.std.proofs.lemmas.Result.{on_ok_weaker}
 use Rattle.words.specs.declared.command.Request.{Request}
@@ -22,14 +23,13 @@ use Rattle.desk.specs.Dialogue.{EndsCut, EndsWhole, IsCut}
 use Rattle.desk.specs.Script.{Writes, WritesLines, WritesText, lines}
 use Rattle.desk.specs.Streams.{Streams}
 use Rattle.desk.specs.Text.{RepliesAll, items_of}
-use Rattle.desk.specs.Lists.{IsCutInLists}
+use Rattle.desk.specs.Lists.{IsCutInLists, most_together}
 use Rattle.desk.specs.declared.fault.OpenFault.{OpenFault}
 use Rattle.desk.specs.declared.fault.ScriptFault.{ScriptFault}
 use Rattle.desk.proofs.Faults.{is_stop, write_stops_nothing}
 use Rattle.desk.proofs.LineAnswers.{are_told, cut_goes_on, cut_told, stopped_next, text_written, whole_goes_on}
 use Rattle.desk.proofs.FoundAfter.{either_left, found_of, stored_left}
-use Rattle.desk.proofs.Batches.{batch_runs}
-use Rattle.desk.proofs.ListLines.{items_joined, runs_told}
+use Rattle.desk.proofs.ListLines.{items_joined}
 use Rattle.desk.proofs.Texts.{replies_joined, replies_more}
 
 first_of : (items before behind : List Item) → items ≡ before ++ behind → take (length before) items ≡ before
@@ -134,38 +134,33 @@ module _ (old new : DeskState) (holds : Content → Type 0) (good : Good new.led
     ]
 
   -- by lists
-  module _ (most : ℕ) (requests : List Request) (cut : IsCutInLists fault most old requests new) where
+  module _ (together : Option NonZeroUsize) (requests : List Request) (cut : IsCutInLists fault together old requests new) where
     abbrev InLists : Ledger → Type 0
-    InLists B = IsFoundAfterItems most old.ledger (items_of requests) (cut.lines ++ cut.begun) B
+    InLists B = IsFoundAfterItems (most_together together) old.ledger (items_of requests) (cut.lines ++ cut.begun) B
 
-    -- the ledger behind requests that are carried out, and of which no more is told
-    lists_behind : (B : Ledger) (some left : List Request) (unwritten : List ℕ) → requests ≡ (cut.answered ++ some) ++ left → length some ≤ most → RepliesAll cut.mid (items_of some) (cut.begun ++ unwritten) B → InLists B
-    lists_behind B some left unwritten split few replies =
-        found_done most old.ledger (items_of requests) cut.mid B (cut.lines ++ cut.begun) cut.lines cut.begun unwritten (items_of cut.answered) (items_of some) (items_of left)
-        (ap items_of split ∙ items_joined (cut.answered ++ some) left ∙ ap (λ (xs : List Item). xs ++ items_of left) (items_joined cut.answered some))
-        (subst (λ n. n ≤ most) (sym (length-map some (λ r. item.Request r))) few) cut.replies refl
-        (replies_joined (items_of cut.answered) (items_of some) old.ledger cut.mid B cut.lines (cut.begun ++ unwritten) cut.replies replies)
+    split_items : items_of requests ≡ (items_of cut.answered ++ items_of cut.last) ++ items_of cut.left
+    split_items =
+        ap items_of cut.split ∙ items_joined (cut.answered ++ cut.last) cut.left ∙ ap (λ (xs : List Item). xs ++ items_of cut.left) (items_joined cut.answered cut.last)
 
-    lists_here : InLists cut.here
-    lists_here = lists_behind cut.here cut.kept (cut.last ++ cut.left) cut.unwritten (cut.split ∙ append_assoc (cut.answered ++ cut.kept) cut.last cut.left) (omega (arith, cut.few)) cut.rest
+    few_items : length (items_of cut.last) ≤ most_together together
+    few_items = subst (λ n. n ≤ most_together together) (sym (length-map cut.last (λ r. item.Request r))) cut.few
 
-    lists_after : InLists cut.after
-    lists_after =
-        let (out, told) = runs_told cut.here cut.after cut.last cut.batch.0 (batch_runs cut.here cut.after cut.last cut.batch.0 cut.batch.1) in
-        let split = cut.split ∙ ap (λ (xs : List Request). xs ++ cut.left) (append_assoc cut.answered cut.kept cut.last) in
-        lists_behind cut.after (cut.kept ++ cut.last) cut.left (cut.unwritten ++ out) split (omega (arith, cut.few, length-append cut.kept cut.last))
-        (subst (λ (xs : List Item). RepliesAll cut.mid xs (cut.begun ++ (cut.unwritten ++ out)) cut.after) (sym (items_joined cut.kept cut.last))
-        (subst (λ (text : List ℕ). RepliesAll cut.mid (items_of cut.kept ++ items_of cut.last) text cut.after) (append_assoc cut.begun cut.unwritten out)
-        (replies_joined (items_of cut.kept) (items_of cut.last) cut.mid cut.here cut.after (cut.begun ++ cut.unwritten) out cut.rest told)))
+    lists_behind : InLists cut.behind
+    lists_behind =
+        found_done (most_together together) old.ledger (items_of requests) cut.before cut.behind (cut.lines ++ cut.begun) cut.lines cut.begun cut.unwritten (items_of cut.answered) (items_of cut.last) (items_of cut.left) split_items few_items
+        cut.replies refl (replies_joined (items_of cut.answered) (items_of cut.last) old.ledger cut.before cut.behind cut.lines (cut.begun ++ cut.unwritten) cut.replies cut.rest)
 
-    lists_shown : (new.ledger ≡ cut.here) ⊎ ((fault ≡ ScriptFault.Stopped) × (new.ledger ≡ cut.after)) → InLists new.ledger
-    lists_shown (inl same) = subst InLists (sym same) lists_here
-    lists_shown (inr (is, same)) = subst InLists (sym same) lists_after
+    lists_before : cut.begun ≡ [] → InLists cut.before
+    lists_before none =
+        let same = ap (λ (text : List ℕ). cut.lines ++ text) none ∙ append-nil cut.lines in
+        subst (λ (text : List ℕ). IsFoundAfterItems (most_together together) old.ledger (items_of requests) text cut.before) (sym same)
+        (found_told (most_together together) old.ledger (items_of requests) cut.before cut.lines (items_of cut.answered) (items_of cut.last ++ items_of cut.left)
+        (split_items ∙ append_assoc (items_of cut.answered) (items_of cut.last) (items_of cut.left)) cut.replies)
 
     pub lists_left : LeavesRowsOf new.leaves InLists
     lists_left = elim (is_stop fault) [
-      | inl is ↦ either_left cut.here cut.after InLists new.leaves lists_here lists_after ((cut.stopped is went).1 honest)
-      | inr other ↦ stored_left new.ledger InLists holds new.leaves good (lists_shown cut.shown) (stored (cut.stop.going other ∙ went))
+      | inl is ↦ either_left cut.before cut.behind InLists new.leaves (lists_before (cut.told (λ e. write_stops_nothing (sym e ∙ is)))) lists_behind ((cut.stopped is went).2 honest)
+      | inr other ↦ stored_left new.ledger InLists holds new.leaves good (subst InLists (sym (cut.shown other)) lists_behind) (stored (cut.stop.going other ∙ went))
     ]
 
   -- and a script

@@ -1,8 +1,9 @@
 -- Requests that are answered by lists: their lines, and how far they have come at a fault.
 use Rattle.std.proofs.Common.{◌≡◌, ◌∙◌, ◌≢◌, ◌⊎◌, ◌↔◌, ◌+◌, ◌-◌, ◌≤◌, IsTrue, false, true≢false, ℕ, List, [], ◌∷◌, ◌++◌, MatchOption, None, Option, Some, ap, if◌then◌else◌, append-nil, append_assoc, arith, drop, inl, inr, length, refl, subst, suc, sym, take, take-add, zero}
-use Rattle.std.proofs.lemmas.List.{length-append, length-drop, length-take-le, map-append, take-append-drop}
+use Rattle.std.proofs.lemmas.List.{length-append, length-take-le, map-append, take-append-drop, take-take}
 use Rattle.std.specs.Io.KnownBytes.{Appends}
 use Rattle.std.specs.List.{AllByRecursion as Each}
+use Rattle.std.specs.declared.num.NonZeroUsize.{NonZeroUsize}
 use Rattle.std.proofs.KnownBytes.{Appends-nil, Appends-trans}
 use Rattle.words.specs.declared.command.Request.{Request}
 use Rattle.words.specs.declared.item.Item.{Item}
@@ -11,13 +12,13 @@ use Rattle.words.specs.declared.reply.Refusal.{Refusal}
 use Rattle.words.specs.declared.reply.Refusal.TheVariants.{KeyReused}
 use Rattle.words.specs.declared.reply.Reply.{Reply}
 use Rattle.words.specs.declared.reply.Reply.TheVariants.{Done, Refused}
-use Rattle.book.specs.Answers.{After, Answers, AnswersNew, Runs, same_command}
+use Rattle.book.specs.Answers.{After, Answers, AnswersNew, IsAccepted, Runs, same_command}
 use Rattle.book.specs.Good.{Good}
 use Rattle.book.proofs.Runs.{answered_if_good, runs_once}
 use Rattle.book.specs.Ledger.{Kept, Ledger, kept_under}
-use Rattle.desk.specs.Desk.{DeskState, LeavesEither, TellsStop, snapshot}
+use Rattle.desk.specs.Desk.{DeskState, HasAccepted, LeavesEither, TellsStop, snapshot}
 use Rattle.desk.specs.Headline.{answered}
-use Rattle.desk.specs.Lists.{IsCutInLists, RunsList, StopsIn}
+use Rattle.desk.specs.Lists.{IsCutInLists, RunsList, StopsIn, most_together}
 use Rattle.desk.specs.Replies.{request_line}
 use Rattle.desk.specs.Script.{MayAnswer, WritesLines}
 use Rattle.desk.specs.Text.{RepliesAll, items_of}
@@ -26,8 +27,7 @@ use Rattle.desk.specs.declared.fault.ScriptFault.{ScriptFault}
 use Rattle.desk.specs.declared.run.Ending.TheVariants.{All, Stopped}
 use Rattle.desk.specs.declared.run.Run.{Run}
 use Rattle.desk.proofs.Faults.{memory_stops_nothing, read_stops_nothing, write_stops_nothing}
-use Rattle.desk.proofs.Resumption.{runs_length}
-use Rattle.desk.proofs.RunsOn.{runs_on}
+use Rattle.desk.proofs.Batches.{batch_runs}
 use Rattle.desk.proofs.Texts.{replies_joined}
 
 -- the lines of a run
@@ -86,34 +86,32 @@ one_is_batch A B r (Refused refusal line) answer =
     })
 
 -- how far the answers to requests have come, and what is written of them
-abbrev pub CutAt : ScriptFault → ℕ → DeskState → List Request → DeskState → (writer_old writer_new : Option (List ℕ)) → Type 0
-CutAt fault most old rs new writer_old writer_new = (cut : IsCutInLists fault most old rs new) × Appends writer_old writer_new (cut.lines ++ cut.begun)
+abbrev pub CutAt : ScriptFault → Option NonZeroUsize → DeskState → List Request → DeskState → (writer_old writer_new : Option (List ℕ)) → Type 0
+CutAt fault together old rs new writer_old writer_new = (cut : IsCutInLists fault together old rs new) × Appends writer_old writer_new (cut.lines ++ cut.begun)
 
 -- ---- a list
 
 -- the desk was stopped before
-pub stopped_before : (desk : DeskState) (rs : List Request) (most : ℕ) (W : Option (List ℕ)) → IsTrue desk.is_stopped → 1 ≤ length rs → CutAt ScriptFault.Stopped most desk rs desk W W
-stopped_before desk rs most W halted some = (
+pub stopped_before : (desk : DeskState) (rs : List Request) (together : Option NonZeroUsize) (W : Option (List ℕ)) → IsTrue desk.is_stopped → 1 ≤ length rs → CutAt ScriptFault.Stopped together desk rs desk W W
+stopped_before desk rs together W halted some = (
   record {
     answered = [];
-    kept = [];
     last = [];
     left = rs;
     split = refl;
     few = omega arith;
-    mid = desk.ledger;
-    here = desk.ledger;
-    after = desk.ledger;
+    before = desk.ledger;
+    behind = desk.ledger;
     lines = [];
     begun = [];
     unwritten = [];
     replies = (refl, refl);
     rest = (refl, refl);
     batch = ([], no_batch desk.ledger);
-    shown = inl refl;
+    shown = λ _. refl;
     unread = λ is. read_stops_nothing (sym is);
+    told = λ _. refl;
     memory = λ _. refl;
-    none = λ other. absurd (other refl);
     stop = record { stopped = λ _. halted; going = λ _. refl };
     stopped = λ _ going. absurd (true≢false (sym halted ∙ going));
     refused = λ _. (refl, refl, some);
@@ -121,247 +119,203 @@ stopped_before desk rs most W halted some = (
   Appends-nil W,
 )
 
--- what is written of the lines of some requests: those of the first whole, and a beginning of the others'
-record Written (A : Ledger) (some : List Request) (here : Ledger) (W w : Option (List ℕ)) : Type 0 where
-  told : List Request
-  kept : List Request
-  mid : Ledger
-  lines : List ℕ
-  begun : List ℕ
-  unwritten : List ℕ
-  split : some ≡ told ++ kept
-  replies : RepliesAll A (items_of told) lines mid
-  rest : RepliesAll mid (items_of kept) (begun ++ unwritten) here
-  writes : Appends W w (lines ++ begun)
-
-abbrev written_whole : (A here : Ledger) (some : List Request) (text : List ℕ) (W w : Option (List ℕ)) → RepliesAll A (items_of some) text here → Appends W w text → Written A some here W w
-written_whole A here some text W w replies writes = record {
-  told = some;
-  kept = [];
-  mid = here;
-  lines = text;
-  begun = [];
-  unwritten = [];
-  split = sym (append-nil some);
-  replies = replies;
-  rest = (refl, refl);
-  writes = subst (Appends W w) (sym (append-nil text)) writes;
-}
-
-written_begun : (A here : Ledger) (some : List Request) (text : List ℕ) (count : ℕ) (W w : Option (List ℕ)) → RepliesAll A (items_of some) text here → Appends W w (take count text) → Written A some here W w
-written_begun A here some text count W w replies writes = record {
-  told = [];
-  kept = some;
-  mid = A;
-  lines = [];
-  begun = take count text;
-  unwritten = drop count text;
-  split = refl;
-  replies = (refl, refl);
-  rest = subst (λ (out : List ℕ). RepliesAll A (items_of some) out here) (sym (take-append-drop count text)) replies;
-  writes = writes;
-}
-
-module _ (old new : DeskState) (rs : List Request) (run : Run) (W w : Option (List ℕ)) (went : old.is_stopped ≡ false) (list : RunsList old rs run new) where
+module _ (together : Option NonZeroUsize) (old new : DeskState) (rs : List Request) (run : Run) (W w : Option (List ℕ)) (went : old.is_stopped ≡ false) (few : length rs ≤ most_together together) (list : RunsList together old rs run new) where
   abbrev told : List Request
   told = take (answered run) rs
 
   abbrev behind : List Request
   behind = drop (answered run) rs
 
-  kept_fits : (written : Written old.ledger told list.here W w) → length written.kept ≤ answered run
-  kept_fits written =
-      let size = ap (λ (xs : List Request). length xs) written.split ∙ length-append written.told written.kept in
-      let short = length_take_most (answered run) rs in omega (arith, size, short)
-
-  -- it has not stopped the desk
-  cut_going : (fault : ScriptFault) → fault ≢ ScriptFault.Stopped → fault ≢ ScriptFault.Read → run.ending ≢ Stopped → (written : Written old.ledger told list.here W w) → (fault ≡ ScriptFault.Memory → written.kept ≡ []) → CutAt fault (length rs) old rs new W w
-  cut_going fault other unread going written memory = (
+  -- memory is refused behind what is told
+  pub memory_behind : run.ending ≢ Stopped → Appends W w run.lines.items → CutAt ScriptFault.Memory together old rs new W w
+  memory_behind going writes = (
     record {
-      answered = written.told;
-      kept = written.kept;
+      answered = told;
       last = [];
       left = behind;
-      split = sym (take-append-drop (answered run) rs) ∙ ap (λ (xs : List Request). xs ++ behind) (written.split ∙ sym (append-nil (written.told ++ written.kept)));
-      few = omega (arith, kept_fits written, list.few);
-      mid = written.mid;
-      here = list.here;
-      after = list.here;
-      lines = written.lines;
-      begun = written.begun;
-      unwritten = written.unwritten;
-      replies = written.replies;
-      rest = written.rest;
-      batch = ([], no_batch list.here);
-      shown = inl (list.going going);
-      unread = unread;
-      memory = memory;
-      none = λ _. refl;
-      stop = record { stopped = λ is. absurd (other is); going = λ _. list.stop.going going };
-      stopped = λ is. absurd (other is);
+      split = sym (take-append-drop (answered run) rs) ∙ ap (λ (xs : List Request). xs ++ behind) (sym (append-nil told));
+      few = omega arith;
+      before = new.ledger;
+      behind = new.ledger;
+      lines = run.lines.items;
+      begun = [];
+      unwritten = [];
+      replies = list.lines going;
+      rest = (refl, refl);
+      batch = ([], no_batch new.ledger);
+      shown = λ _. refl;
+      unread = λ is. absurd cc;
+      told = λ _. refl;
+      memory = λ _. refl;
+      stop = record { stopped = λ is. absurd (memory_stops_nothing is); going = λ _. list.stop.going going };
+      stopped = λ is. absurd (memory_stops_nothing is);
       refused = λ halted. absurd (true≢false (sym halted ∙ went));
     },
-    written.writes,
+    subst (Appends W w) (sym (append-nil run.lines.items)) writes,
   )
 
-  -- memory is refused behind what is told
-  pub memory_behind : run.ending ≢ Stopped → Appends W w run.lines.items → CutAt ScriptFault.Memory (length rs) old rs new W w
-  memory_behind going writes = cut_going ScriptFault.Memory memory_stops_nothing (λ is. absurd cc) going (written_whole old.ledger list.here told run.lines.items W w list.lines writes) (λ _. refl)
-
   -- a beginning of the lines is written
-  pub begun_only : run.ending ≢ Stopped → (count : ℕ) → Appends W w (take count run.lines.items) → CutAt ScriptFault.Write (length rs) old rs new W w
-  begun_only going count writes = cut_going ScriptFault.Write write_stops_nothing (λ is. absurd cc) going (written_begun old.ledger list.here told run.lines.items count W w list.lines writes) (λ is. absurd cc)
+  pub begun_only : run.ending ≢ Stopped → (count : ℕ) → Appends W w (take count run.lines.items) → CutAt ScriptFault.Write together old rs new W w
+  begun_only going count writes = (
+    record {
+      answered = [];
+      last = told;
+      left = behind;
+      split = sym (take-append-drop (answered run) rs);
+      few = let size : length told ≡ answered run = length-take-le (answered run) rs list.none_unasked in omega (arith, size, few, list.none_unasked);
+      before = old.ledger;
+      behind = new.ledger;
+      lines = [];
+      begun = take count run.lines.items;
+      unwritten = drop count run.lines.items;
+      replies = (refl, refl);
+      rest = subst (λ (out : List ℕ). RepliesAll old.ledger (items_of told) out new.ledger) (sym (take-append-drop count run.lines.items)) (list.lines going);
+      batch = list.batch going;
+      shown = λ _. refl;
+      unread = λ is. absurd cc;
+      told = λ other. absurd (other refl);
+      memory = λ is. absurd cc;
+      stop = record { stopped = λ is. absurd (write_stops_nothing is); going = λ _. list.stop.going going };
+      stopped = λ is. absurd (write_stops_nothing is);
+      refused = λ halted. absurd (true≢false (sym halted ∙ went));
+    },
+    writes,
+  )
 
-  -- it has stopped the desk
-  cut_stopped : run.ending ≡ Stopped → Written old.ledger told list.here W w → CutAt ScriptFault.Stopped (length rs) old rs new W w
-  cut_stopped is written =
+  -- the store failed
+  pub stopped_first : run.ending ≡ Stopped → CutAt ScriptFault.Stopped together old rs new W W
+  stopped_first is =
       let stops = list.stopped is in
-      let n = answered run in
-      let last : List Request = take stops.count behind in
-      let dropped : length behind ≡ length rs - n = length-drop n rs in
-      let size : length last ≡ stops.count = length-take-le stops.count behind (omega (arith, dropped, stops.none_unasked)) in (
+      let n = stops.count in
+      let (out, lines) = runs_told old.ledger stops.behind (take n rs) stops.untold (batch_runs old.ledger stops.behind (take n rs) stops.untold stops.batch) in
+      let size : length (take n rs) ≡ n = length-take-le n rs stops.none_unasked in (
         record {
-          answered = written.told;
-          kept = written.kept;
-          last = last;
-          left = drop stops.count behind;
-          split = sym (take-append-drop n rs) ∙ ap (λ (xs : List Request). xs ++ behind) written.split
-              ∙ ap (λ (xs : List Request). (written.told ++ written.kept) ++ xs) (sym (take-append-drop stops.count behind))
-              ∙ sym (append_assoc (written.told ++ written.kept) last (drop stops.count behind));
-          few = omega (arith, kept_fits written, size, stops.none_unasked);
-          mid = written.mid;
-          here = list.here;
-          after = stops.after;
-          lines = written.lines;
-          begun = written.begun;
-          unwritten = written.unwritten;
-          replies = written.replies;
-          rest = written.rest;
+          answered = [];
+          last = take n rs;
+          left = drop n rs;
+          split = sym (take-append-drop n rs);
+          few = omega (arith, size, few, stops.none_unasked);
+          before = old.ledger;
+          behind = stops.behind;
+          lines = [];
+          begun = [];
+          unwritten = out;
+          replies = (refl, refl);
+          rest = lines;
           batch = (stops.untold, stops.batch);
-          shown = by stops.shown;
+          shown = λ other. absurd (other refl);
           unread = λ is. read_stops_nothing (sym is);
+          told = λ _. refl;
           memory = λ is. absurd (memory_stops_nothing (sym is));
-          none = λ other. absurd (other refl);
           stop = record { stopped = λ _. list.stop.stopped is; going = λ other. absurd (other refl) };
-          stopped = λ _ _. (omega (arith, size, stops.some), stops.either);
+          stopped = λ _ _. (stops.accepted, stops.shown, stops.either);
           refused = λ halted. absurd (true≢false (sym halted ∙ went));
         },
-        written.writes,
+        Appends-nil W,
       )
-    where
-      by : {after : Ledger} → (new.ledger ≡ list.here) ⊎ (new.ledger ≡ after) → (new.ledger ≡ list.here) ⊎ ((ScriptFault.Stopped ≡ ScriptFault.Stopped) × (new.ledger ≡ after))
-      by (inl same) = inl same
-      by (inr same) = inr (refl, same)
-
-  -- with all lines written
-  pub stopped_told : run.ending ≡ Stopped → Appends W w run.lines.items → CutAt ScriptFault.Stopped (length rs) old rs new W w
-  stopped_told is writes = cut_stopped is (written_whole old.ledger list.here told run.lines.items W w list.lines writes)
-
-  -- or a beginning of them
-  pub stopped_begun : run.ending ≡ Stopped → (count : ℕ) → Appends W w (take count run.lines.items) → CutAt ScriptFault.Stopped (length rs) old rs new W w
-  stopped_begun is count writes = cut_stopped is (written_begun old.ledger list.here told run.lines.items count W w list.lines writes)
 
 -- ---- how a list is carried out
 
-module _ (old new : DeskState) (rs : List Request) (run : Run) (stop : TellsStop (run.ending ≡ Stopped) old new) (all : run.ending ≡ All ↔ answered run ≡ length rs) where
-  answered_fits : (A B : Ledger) → Runs A (take (answered run) rs) run.replies.items B → answered run ≤ length rs
-  answered_fits A B runs =
-      let size = runs_length A B (take (answered run) rs) run.replies.items runs in
-      let taken : length (take (answered run) rs) + length (drop (answered run) rs) ≡ length rs = sym (length-append (take (answered run) rs) (drop (answered run) rs)) ∙ ap (λ (xs : List Request). length xs) (take-append-drop (answered run) rs) in
-      omega (arith, size, taken)
+-- the store failed at a batch
+pub fails_in : (most : NonZeroUsize) (old : DeskState) (rs : List Request) (new : DeskState) → FailsAt old rs [] new → StopsIn (Some most) old rs new
+fails_in most old rs new fails = record {
+  count = fails.count;
+  none_unasked = omega (arith, fails.none_unasked);
+  behind = new.ledger;
+  untold = fails.untold;
+  batch = subst (λ L. IsBatch L (take fails.count rs) fails.untold new.ledger) fails.run fails.batch;
+  accepted = subst (λ L. HasAccepted L (take fails.count rs)) fails.run fails.accepted;
+  shown = refl;
+  either = λ honest. subst (λ L. LeavesEither new.leaves L new.ledger) fails.run (fails.either honest);
+}
 
-  -- together
-  pub list_together : (mid : Ledger) → Runs old.ledger (take (answered run) rs) run.replies.items mid → (run.ending ≢ Stopped → new.ledger ≡ mid) → RepliesAll old.ledger (items_of (take (answered run) rs)) run.lines.items mid
-      → (run.ending ≡ Stopped → FailsAt old rs run.replies.items new) → RunsList old rs run new
-  list_together mid runs going lines failed = record {
-    here = mid;
-    lines = lines;
-    few = answered_fits old.ledger mid runs;
-    all = all.0;
-    going = going;
-    stopped = λ is.
-        let fails = failed is in
-        let same : fails.mid ≡ mid = (runs_once old.ledger (take (answered run) rs) run.replies.items run.replies.items fails.mid mid fails.run runs).1 in record {
-          count = fails.count;
-          some = fails.some;
-          none_unasked = fails.none_unasked;
-          after = new.ledger;
-          untold = fails.untold;
-          batch = subst (λ L. IsBatch L (take fails.count (drop (answered run) rs)) fails.untold new.ledger) same fails.batch;
-          shown = inr refl;
-          either = λ honest. subst (λ L. LeavesEither new.leaves L new.ledger) same (fails.either honest);
-        };
-    stop = stop;
-  }
+-- one request, or none
+alone_batch : (A B : Ledger) (r : Request) (ps : List Reply) → Runs A (take (length ps) (r ∷ [])) ps B → IsBatch A (take (length ps) (r ∷ [])) ps B
+alone_batch A B r [] same = subst (IsBatch A [] []) (sym same) (no_batch A)
+alone_batch A B r (p ∷ []) (M, answer, same) = subst (IsBatch A (r ∷ []) (p ∷ [])) (sym same) (one_is_batch A M r p answer)
+alone_batch A B r (p ∷ q ∷ ps) (M, answer, extra) = absurd extra
 
-  -- one after the other
-  pub list_alone : Good new.ledger → Runs old.ledger (take (answered run) rs) run.replies.items new.ledger → RepliesAll old.ledger (items_of (take (answered run) rs)) run.lines.items new.ledger
-      → (run.ending ≡ Stopped → new.is_honest → (next : Ledger) × After old.ledger rs (answered run + 1) next × LeavesEither new.leaves new.ledger next) → RunsList old rs run new
-  list_alone good runs lines either = record {
-    here = new.ledger;
-    lines = lines;
-    few = answered_fits old.ledger new.ledger runs;
-    all = all.0;
-    going = λ _. refl;
-    stopped = λ is. stops is (drop (answered run) rs) refl;
-    stop = stop;
-  }
-    where
-      stops : run.ending ≡ Stopped → (behind : List Request) → drop (answered run) rs ≡ behind → StopsIn rs run new.ledger new
-      stops is [] none =
-          let few = answered_fits old.ledger new.ledger runs in
-          let dropped : length (drop (answered run) rs) ≡ length rs - answered run = length-drop (answered run) rs in
-          let whole : answered run ≡ length rs = omega (arith, few, dropped, ap (λ (xs : List Request). length xs) none) in
-          absurd (let both = sym is ∙ all.1 whole in cc)
-      stops is (r ∷ more) next =
-          let (reply, after, answer) = answered_if_good new.ledger r good in
-          let one : take 1 (drop (answered run) rs) ≡ r ∷ [] = ap (λ (xs : List Request). take 1 xs) next in
-          let longer : take (answered run + 1) rs ≡ take (answered run) rs ++ r ∷ [] = take-add (answered run) 1 rs ∙ ap (λ (xs : List Request). take (answered run) rs ++ xs) one in
-          let there : length (drop (answered run) rs) ≡ suc (length more) = ap (λ (xs : List Request). length xs) next in
-          let dropped : length (drop (answered run) rs) ≡ length rs - answered run = length-drop (answered run) rs in
-          let on = runs_on old.ledger new.ledger after (take (answered run) rs) run.replies.items r reply runs answer in record {
-            count = 1;
-            some = omega arith;
-            none_unasked = omega (arith, there, dropped);
-            after = after;
-            untold = reply ∷ [];
-            batch = subst (λ (xs : List Request). IsBatch new.ledger xs (reply ∷ []) after) (sym one) (one_is_batch new.ledger after r reply answer);
-            shown = inl refl;
-            either = λ honest.
-                let (end, ran, leaves) = either is honest in
-                let same : end ≡ after = (runs_once old.ledger (take (answered run) rs ++ r ∷ []) ran.0 (run.replies.items ++ reply ∷ []) end after
-                (subst (λ (xs : List Request). Runs old.ledger xs ran.0 end) longer ran.1) on).1 in
-                subst (λ L. LeavesEither new.leaves new.ledger L) same leaves;
-          }
+-- the store failed at the one
+alone_stops : (old new : DeskState) (r : Request) → Good old.ledger → new.ledger ≡ old.ledger → IsAccepted old.ledger r
+    → (new.is_honest → (next : Ledger) × After old.ledger (r ∷ []) 1 next × LeavesEither new.leaves new.ledger next) → StopsIn None old (r ∷ []) new
+alone_stops old new r good same accepted either =
+    let (reply, after, answer) = answered_if_good old.ledger r good in record {
+      count = 1;
+      none_unasked = omega arith;
+      behind = after;
+      untold = reply ∷ [];
+      batch = one_is_batch old.ledger after r reply answer;
+      accepted = inl accepted;
+      shown = same;
+      either = λ honest.
+          let (next, ran, leaves) = either honest in
+          let there : next ≡ after = (runs_once old.ledger (r ∷ []) ran.0 (reply ∷ []) next after ran.1 (after, answer, refl)).1 in
+          subst (λ L. LeavesEither new.leaves old.ledger L) there (subst (λ L. LeavesEither new.leaves L next) same leaves);
+    }
+
+-- one request
+pub list_alone : (old new : DeskState) (r : Request) (run : Run) (ps : List Reply) → run.replies.items ≡ ps → Good new.ledger → Runs old.ledger (take (length ps) (r ∷ [])) ps new.ledger
+    → RepliesAll old.ledger (items_of (take (length ps) (r ∷ []))) run.lines.items new.ledger → (run.ending ≡ All ↔ length ps ≡ 1) → TellsStop (run.ending ≡ Stopped) old new
+    → (run.ending ≡ Stopped → HasAccepted new.ledger (take 1 (drop (length ps) (r ∷ []))))
+    → (run.ending ≡ Stopped → new.is_honest → (next : Ledger) × After old.ledger (r ∷ []) (length ps + 1) next × LeavesEither new.leaves new.ledger next) → RunsList None old (r ∷ []) run new
+list_alone old new r run ps are good runs lines all stop accepted either =
+    let size : answered run ≡ length ps = ap (λ (qs : List Reply). length qs) are in record {
+      none_unasked = let short = at_most ps runs in omega (arith, size, short);
+      some = λ is. let one = all.0 is in omega (arith, size, one);
+      batch = λ _. (ps, subst (λ n. IsBatch old.ledger (take n (r ∷ [])) ps new.ledger) (sym size) (alone_batch old.ledger new.ledger r ps runs));
+      lines = λ _. subst (λ n. RepliesAll old.ledger (items_of (take n (r ∷ []))) run.lines.items new.ledger) (sym size) lines;
+      stopped = stops ps runs all accepted either;
+      stop = stop;
+    }
+  where
+    at_most : (ps : List Reply) → Runs old.ledger (take (length ps) (r ∷ [])) ps new.ledger → length ps ≤ 1
+    at_most [] same = omega arith
+    at_most (p ∷ []) h = omega arith
+    at_most (p ∷ q ∷ ps) (M, answer, extra) = absurd extra
+
+    stops : (ps : List Reply) → Runs old.ledger (take (length ps) (r ∷ [])) ps new.ledger → (run.ending ≡ All ↔ length ps ≡ 1) → (run.ending ≡ Stopped → HasAccepted new.ledger (take 1 (drop (length ps) (r ∷ []))))
+        → (run.ending ≡ Stopped → new.is_honest → (next : Ledger) × After old.ledger (r ∷ []) (length ps + 1) next × LeavesEither new.leaves new.ledger next) → run.ending ≡ Stopped → StopsIn None old (r ∷ []) new
+    stops [] same all accepted either is = alone_stops old new r (subst Good same good) same (by (accepted is)) (either is)
+      where
+        by : HasAccepted new.ledger (r ∷ []) → IsAccepted old.ledger r
+        by (inl this) = subst (λ L. IsAccepted L r) same this
+        by (inr none) = absurd none
+    stops (p ∷ []) h all accepted either is = absurd (let both = sym is ∙ all.1 refl in cc)
+    stops (p ∷ q ∷ ps) (M, answer, extra) all accepted either is = absurd extra
+
+pub list_of_one : (old new : DeskState) (rs : List Request) (run : Run) → 1 ≤ length rs → length rs ≤ 1 → Good new.ledger → Runs old.ledger (take (answered run) rs) run.replies.items new.ledger
+    → RepliesAll old.ledger (items_of (take (answered run) rs)) run.lines.items new.ledger → (run.ending ≡ All ↔ answered run ≡ length rs) → TellsStop (run.ending ≡ Stopped) old new
+    → (run.ending ≡ Stopped → HasAccepted new.ledger (take 1 (drop (answered run) rs)))
+    → (run.ending ≡ Stopped → new.is_honest → (next : Ledger) × After old.ledger rs (answered run + 1) next × LeavesEither new.leaves new.ledger next) → RunsList None old rs run new
+list_of_one old new [] run some few good runs lines all stop accepted either = absurd (omega arith)
+list_of_one old new (r ∷ []) run some few good runs lines all stop accepted either = list_alone old new r run run.replies.items refl good runs lines all stop accepted either
+list_of_one old new (r ∷ q ∷ rs) run some few good runs lines all stop accepted either = absurd (omega arith)
 
 -- ---- list after list
 
 -- a list that is cut stands behind requests that are answered
-module _ (fault : ScriptFault) (old mid new : DeskState) (rs some : List Request) (n k most : ℕ) (W X w : Option (List ℕ)) where
-  pub cut_behind : old.is_stopped ≡ false → mid.is_stopped ≡ false → some ≡ take k (drop n rs) → length some ≤ most → WritesLines old.ledger (items_of (take n rs)) mid.ledger W X → CutAt fault (length some) mid some new X w
-      → CutAt fault most old rs new W w
-  cut_behind went here are few (lines, replies, writes) (cut, more) = (
+module _ (fault : ScriptFault) (together : Option NonZeroUsize) (old mid new : DeskState) (rs some : List Request) (n k : ℕ) (W X w : Option (List ℕ)) where
+  pub cut_behind : old.is_stopped ≡ false → mid.is_stopped ≡ false → some ≡ take k (drop n rs) → WritesLines old.ledger (items_of (take n rs)) mid.ledger W X → CutAt fault together mid some new X w → CutAt fault together old rs new W w
+  cut_behind went here are (lines, replies, writes) (cut, more) = (
     record {
       answered = take n rs ++ cut.answered;
-      kept = cut.kept;
       last = cut.last;
       left = cut.left ++ drop k (drop n rs);
       split = whole;
-      few = omega (arith, few, cut.few);
-      mid = cut.mid;
-      here = cut.here;
-      after = cut.after;
+      few = cut.few;
+      before = cut.before;
+      behind = cut.behind;
       lines = lines ++ cut.lines;
       begun = cut.begun;
       unwritten = cut.unwritten;
-      replies = subst (λ (xs : List Item). RepliesAll old.ledger xs (lines ++ cut.lines) cut.mid) (sym (items_joined (take n rs) cut.answered))
-          (replies_joined (items_of (take n rs)) (items_of cut.answered) old.ledger mid.ledger cut.mid lines cut.lines replies cut.replies);
+      replies = subst (λ (xs : List Item). RepliesAll old.ledger xs (lines ++ cut.lines) cut.before) (sym (items_joined (take n rs) cut.answered))
+          (replies_joined (items_of (take n rs)) (items_of cut.answered) old.ledger mid.ledger cut.before lines cut.lines replies cut.replies);
       rest = cut.rest;
       batch = cut.batch;
       shown = cut.shown;
       unread = cut.unread;
+      told = cut.told;
       memory = cut.memory;
-      none = cut.none;
       stop = record { stopped = cut.stop.stopped; going = λ other. cut.stop.going other ∙ here ∙ sym went };
       stopped = λ is _. cut.stopped is here;
       refused = λ halted. absurd (true≢false (sym halted ∙ went));
@@ -369,17 +323,14 @@ module _ (fault : ScriptFault) (old mid new : DeskState) (rs some : List Request
     subst (Appends W w) (sym (append_assoc lines cut.lines cut.begun)) (Appends-trans _ _ _ _ _ writes more),
   )
     where
-      inner : drop n rs ≡ (((cut.answered ++ cut.kept) ++ cut.last) ++ cut.left) ++ drop k (drop n rs)
+      inner : drop n rs ≡ ((cut.answered ++ cut.last) ++ cut.left) ++ drop k (drop n rs)
       inner = sym (take-append-drop k (drop n rs)) ∙ ap (λ (xs : List Request). xs ++ drop k (drop n rs)) (sym are ∙ cut.split)
 
-      joined : take n rs ++ ((cut.answered ++ cut.kept) ++ cut.last) ≡ ((take n rs ++ cut.answered) ++ cut.kept) ++ cut.last
-      joined = sym (append_assoc (take n rs) (cut.answered ++ cut.kept) cut.last) ∙ ap (λ (xs : List Request). xs ++ cut.last) (sym (append_assoc (take n rs) cut.answered cut.kept))
-
-      whole : rs ≡ (((take n rs ++ cut.answered) ++ cut.kept) ++ cut.last) ++ (cut.left ++ drop k (drop n rs))
+      whole : rs ≡ ((take n rs ++ cut.answered) ++ cut.last) ++ (cut.left ++ drop k (drop n rs))
       whole =
-          sym (take-append-drop n rs) ∙ ap (λ (xs : List Request). take n rs ++ xs) (inner ∙ append_assoc ((cut.answered ++ cut.kept) ++ cut.last) cut.left (drop k (drop n rs)))
-          ∙ sym (append_assoc (take n rs) ((cut.answered ++ cut.kept) ++ cut.last) (cut.left ++ drop k (drop n rs)))
-          ∙ ap (λ (xs : List Request). xs ++ (cut.left ++ drop k (drop n rs))) joined
+          sym (take-append-drop n rs) ∙ ap (λ (xs : List Request). take n rs ++ xs) (inner ∙ append_assoc (cut.answered ++ cut.last) cut.left (drop k (drop n rs)))
+          ∙ sym (append_assoc (take n rs) (cut.answered ++ cut.last) (cut.left ++ drop k (drop n rs)))
+          ∙ ap (λ (xs : List Request). xs ++ (cut.left ++ drop k (drop n rs))) (sym (append_assoc (take n rs) cut.answered cut.last))
 
 -- nothing but requests was answered, by a desk that goes on
 pub may_requests : (desk : DeskState) (rs : List Request) → desk.is_stopped ≡ false → Each (MayAnswer (snapshot desk)) (items_of rs)
@@ -387,10 +338,15 @@ may_requests desk [] going = tt
 may_requests desk (r ∷ rs) going = (going, may_requests desk rs going)
 
 -- requests that are answered, and a list more
-pub answered_further : (A M B : Ledger) (rs : List Request) (n k : ℕ) (W X w : Option (List ℕ)) → WritesLines A (items_of (take n rs)) M W X → WritesLines M (items_of (take k (drop n rs))) B X w → WritesLines A (items_of (take (n + k) rs)) B W w
-answered_further A M B rs n k W X w (lines, replies, writes) (more, others, appends) =
-    let same : items_of (take (n + k) rs) ≡ items_of (take n rs) ++ items_of (take k (drop n rs)) = ap items_of (take-add n k rs) ∙ items_joined (take n rs) (take k (drop n rs)) in (
+pub answered_further : (A M B : Ledger) (rs some : List Request) (n k count : ℕ) (W X w : Option (List ℕ)) → some ≡ take k (drop n rs) → count ≤ length some → WritesLines A (items_of (take n rs)) M W X
+    → WritesLines M (items_of (take count some)) B X w → WritesLines A (items_of (take (n + count) rs)) B W w
+answered_further A M B rs some n k count W X w are few (lines, replies, writes) (more, others, appends) =
+    let short : length some ≤ k = subst (λ (xs : List Request). length xs ≤ k) (sym are) (length_take_most k (drop n rs)) in
+    let same : take (n + count) rs ≡ take n rs ++ take count some =
+    take-add n count rs ∙ ap (λ (xs : List Request). take n rs ++ xs) (sym (take-take count k (drop n rs) (omega (arith, short, few))) ∙ ap (λ (xs : List Request). take count xs) (sym are)) in (
       lines ++ more,
-      subst (λ (xs : List Item). RepliesAll A xs (lines ++ more) B) (sym same) (replies_joined (items_of (take n rs)) (items_of (take k (drop n rs))) A M B lines more replies others),
+      subst (λ (xs : List Request). RepliesAll A (items_of xs) (lines ++ more) B) (sym same)
+          (subst (λ (xs : List Item). RepliesAll A xs (lines ++ more) B) (sym (items_joined (take n rs) (take count some)))
+          (replies_joined (items_of (take n rs)) (items_of (take count some)) A M B lines more replies others)),
       Appends-trans _ _ _ _ _ writes appends,
     )

@@ -1,5 +1,5 @@
 -- A desk as it is seen, and what its keeper holds for it.
-use Rattle.std.specs.Prelude.{◌≡◌, Bool, IsTrue, false, List, [], ◌∷◌}
+use Rattle.std.specs.Prelude.{◌≡◌, ◌⊎◌, Bool, IsTrue, false, List, [], ◌∷◌}
 use Rattle.words.specs.declared.command.Request.{Request}
 use Rattle.book.specs.Answers.{IsAccepted}
 use Rattle.book.specs.Good.{Good}
@@ -81,6 +81,11 @@ pub record Goes {K : Type 0} (g : Ghosts K) (old new : DeskView K) : Type 0 wher
 pub record TellsStop (told : Type 0) (old new : DeskState) : Type 0 where
   pub stopped : told → IsTrue new.is_stopped
   pub going : ¬ told → new.is_stopped ≡ old.is_stopped
+
+-- one of the requests is accepted at the ledger
+abbrev pub HasAccepted : Ledger → List Request → Type 0
+HasAccepted A [] = ⊥
+HasAccepted A (request ∷ requests) = IsAccepted A request ⊎ HasAccepted A requests
 
 -- the request, which is accepted, has stopped the desk: over an honest disk a stop leaves the rows before it or after it
 pub record StopsCall (request : Request) (old new : DeskState) : Type 0 where

@@ -1,12 +1,12 @@
--- Requests that are answered by lists: of one each, or of so many that are carried out together.
-use Rattle.std.specs.Prelude.{◌≡◌, ◌≢◌, ◌⊎◌, ◌≤◌, ◌+◌, ◌*◌, ◌++◌, IsTrue, false, ℕ, List, [], None, Option, Some, drop, length, take}
+-- Requests that are answered by lists: one by one, or so many together in a batch.
+use Rattle.std.specs.Prelude.{◌≡◌, ◌≢◌, ◌≤◌, ◌+◌, ◌*◌, ◌++◌, IsTrue, false, ℕ, List, [], None, Option, Some, length, take}
 use Rattle.std.specs.Int.NonZero.{non_zero_usize_get}
 use Rattle.std.specs.Vec.{vec_capacity, vec_len}
 use Rattle.std.specs.declared.num.NonZeroUsize.{NonZeroUsize}
 use Rattle.words.specs.declared.command.Request.{Request}
 use Rattle.words.specs.declared.reply.Reply.{Reply}
 use Rattle.book.specs.Ledger.{Ledger}
-use Rattle.desk.specs.Desk.{DeskState, LeavesEither, TellsStop}
+use Rattle.desk.specs.Desk.{DeskState, HasAccepted, LeavesEither, TellsStop}
 use Rattle.desk.specs.Headline.{answered}
 use Rattle.desk.specs.Text.{RepliesAll, items_of}
 use Rattle.desk.specs.Together.{IsBatch}
@@ -15,41 +15,45 @@ use Rattle.desk.specs.declared.reply.TheConstants.{LONGEST_LINE}
 use Rattle.desk.specs.declared.run.Ending.TheVariants as ending
 use Rattle.desk.specs.declared.run.Run.{Run}
 
--- how many requests a list has at most: so many as are carried out together, where that is asked for; else one
+-- how many requests are carried out at once, at the most: so many as may be together, or one
 abbrev pub most_together : Option NonZeroUsize → ℕ
 most_together None = 1
 most_together (Some most) = non_zero_usize_get most
 
--- How far the answers to requests have come at a fault, where the lines of a list of at most so many are written before
--- the next is begun. What is written is `lines ++ begun`: the lines of `answered` whole, and a beginning of those of
--- `kept`. Both are carried out, and so is nothing else, but that the store may have failed as it kept `last`: a stop
--- leaves the rows before that or behind it. Want of memory leaves no request done and not told.
-pub record IsCutInLists (fault : ScriptFault) (most : ℕ) (old : DeskState) (requests : List Request) (new : DeskState)
-    : Type 0 where
+-- what a desk shows that the store has stopped: the ledger before the one request, or the one behind the batch
+abbrev pub shown_stopped : Option NonZeroUsize → (before behind : Ledger) → Ledger
+shown_stopped None before behind = before
+shown_stopped (Some most) before behind = behind
+
+-- How far the answers to requests have come at a fault. What is written is `lines ++ begun`: the lines of `answered` are
+-- written whole. Behind these may stand a request, or a batch, `last`: it is kept, and a beginning of its lines written, or
+-- the store failed at its commit, and a stop leaves the rows before it or behind it. Want of memory leaves no request done
+-- and not told.
+pub record IsCutInLists (fault : ScriptFault) (together : Option NonZeroUsize) (old : DeskState) (requests : List Request)
+    (new : DeskState) : Type 0 where
   pub answered : List Request
-  pub kept : List Request
   pub last : List Request
   pub left : List Request
-  pub split : requests ≡ answered ++ kept ++ last ++ left
-  pub few : length kept + length last ≤ most
-  pub mid : Ledger
-  pub here : Ledger
-  pub after : Ledger
+  pub split : requests ≡ answered ++ last ++ left
+  pub few : length last ≤ most_together together
+  pub before : Ledger
+  pub behind : Ledger
   pub lines : List ℕ
   pub begun : List ℕ
   pub unwritten : List ℕ
-  pub replies : RepliesAll old.ledger (items_of answered) lines mid
-  pub rest : RepliesAll mid (items_of kept) (begun ++ unwritten) here
-  pub batch : (untold : List Reply) × IsBatch here last untold after
-  pub shown : (new.ledger ≡ here) ⊎ ((fault ≡ ScriptFault.Stopped) × (new.ledger ≡ after))
+  pub replies : RepliesAll old.ledger (items_of answered) lines before
+  pub rest : RepliesAll before (items_of last) (begun ++ unwritten) behind
+  pub batch : (untold : List Reply) × IsBatch before last untold behind
+  pub shown : fault ≢ ScriptFault.Stopped → new.ledger ≡ behind
   pub unread : fault ≢ ScriptFault.Read
-  pub memory : fault ≡ ScriptFault.Memory → kept ≡ []
-  pub none : fault ≢ ScriptFault.Stopped → last ≡ []
+  pub told : fault ≢ ScriptFault.Write → begun ≡ []
+  pub memory : fault ≡ ScriptFault.Memory → last ≡ []
   pub stop : TellsStop (fault ≡ ScriptFault.Stopped) old new
   pub stopped : fault ≡ ScriptFault.Stopped → old.is_stopped ≡ false
-      → (1 ≤ length last) × (new.is_honest → LeavesEither new.leaves here after)
+      → HasAccepted before last × (new.ledger ≡ shown_stopped together before behind)
+      × (new.is_honest → LeavesEither new.leaves before behind)
   pub refused : IsTrue old.is_stopped
-      → (fault ≡ ScriptFault.Stopped) × (answered ++ kept ++ last ≡ []) × (1 ≤ length left)
+      → (fault ≡ ScriptFault.Stopped) × (answered ++ last ≡ []) × (1 ≤ length left)
 
 -- ---- how a list is carried out (private)
 
@@ -58,24 +62,26 @@ abbrev pub HasRoom : ℕ → Run → Type 0
 HasRoom count run = (vec_len run.replies + count ≤ vec_capacity run.replies)
     × (vec_len run.lines + count * LONGEST_LINE ≤ vec_capacity run.lines)
 
--- the store failed as it kept some requests behind those that are answered
-pub record StopsIn (requests : List Request) (run : Run) (here : Ledger) (new : DeskState) : Type 0 where
+-- the store failed at the first of the requests, so many of them
+pub record StopsIn (together : Option NonZeroUsize) (old : DeskState) (requests : List Request) (new : DeskState)
+    : Type 0 where
   pub count : ℕ
-  pub some : 1 ≤ count
-  pub none_unasked : answered run + count ≤ length requests
-  pub after : Ledger
+  pub none_unasked : count ≤ length requests
+  pub behind : Ledger
   pub untold : List Reply
-  pub batch : IsBatch here (take count (drop (answered run) requests)) untold after
-  pub shown : (new.ledger ≡ here) ⊎ (new.ledger ≡ after)
-  pub either : new.is_honest → LeavesEither new.leaves here after
+  pub batch : IsBatch old.ledger (take count requests) untold behind
+  pub accepted : HasAccepted old.ledger (take count requests)
+  pub shown : new.ledger ≡ shown_stopped together old.ledger behind
+  pub either : new.is_honest → LeavesEither new.leaves old.ledger behind
 
--- What a desk that goes on has come to in a list: the lines are those of the first requests, up to `here`, and where it
--- stopped a stop leaves the rows of `here` or those behind some requests more.
-pub record RunsList (old : DeskState) (requests : List Request) (run : Run) (new : DeskState) : Type 0 where
-  pub here : Ledger
-  pub lines : RepliesAll old.ledger (items_of (take (answered run) requests)) run.lines.items here
-  pub few : answered run ≤ length requests
-  pub all : run.ending ≡ ending.All → answered run ≡ length requests
-  pub going : run.ending ≢ ending.Stopped → new.ledger ≡ here
-  pub stopped : run.ending ≡ ending.Stopped → StopsIn requests run here new
+-- the first of the requests are carried out, and these are their lines; or the store failed, and nothing is told
+pub record RunsList (together : Option NonZeroUsize) (old : DeskState) (requests : List Request) (run : Run)
+    (new : DeskState) : Type 0 where
+  pub none_unasked : answered run ≤ length requests
+  pub some : run.ending ≡ ending.All → 1 ≤ answered run
+  pub batch : run.ending ≢ ending.Stopped
+      → (told : List Reply) × IsBatch old.ledger (take (answered run) requests) told new.ledger
+  pub lines : run.ending ≢ ending.Stopped
+      → RepliesAll old.ledger (items_of (take (answered run) requests)) run.lines.items new.ledger
+  pub stopped : run.ending ≡ ending.Stopped → StopsIn together old requests new
   pub stop : TellsStop (run.ending ≡ ending.Stopped) old new

@@ -4,7 +4,7 @@ use Rattle.std.specs.List.{AllByRecursion as Each}
 use Rattle.words.specs.declared.command.Request.{Request}
 use Rattle.words.specs.declared.reply.Reply.{Reply}
 use Rattle.words.specs.declared.reply.Reply.TheVariants.{Done}
-use Rattle.book.specs.Answers.{After, Answers, Runs}
+use Rattle.book.specs.Answers.{After, Answers, IsAccepted, Runs}
 use Rattle.book.specs.Good.{Good}
 use Rattle.book.specs.Ledger.{Ledger}
 use Rattle.book.specs.Rows.{Content, IsRowsOf}
@@ -12,7 +12,7 @@ use Rattle.book.specs.declared.rows.Change.{Change}
 use Rattle.book.specs.Tables.{rows_among}
 use Rattle.keep.specs.Content.{IsTheRow}
 use Rattle.keep.specs.Transactions.{with_changes}
-use Rattle.desk.specs.Desk.{DeskState, LeavesEither}
+use Rattle.desk.specs.Desk.{DeskState, HasAccepted, LeavesEither}
 use Rattle.desk.specs.Replies.{request_line}
 use Rattle.desk.specs.Text.{RepliesAll, items_of}
 use Rattle.desk.specs.declared.reply.TheConstants.{LONGEST_LINE}
@@ -36,7 +36,7 @@ pub record IsBatch (A : Ledger) (requests : List Request) (replies : List Reply)
   pub rest : Runs B behind refused B
 
 -- The replies are those to the first requests, up to the ledger `mid`; then the store failed at the commit of a batch of
--- those behind, and a stop leaves the rows before it or behind it.
+-- those behind, one of which is accepted, and a stop leaves the rows before it or behind it.
 pub record FailsAt (old : DeskState) (requests : List Request) (replies : List Reply) (new : DeskState) : Type 0 where
   pub mid : Ledger
   pub run : Runs old.ledger (take (length replies) requests) replies mid
@@ -45,6 +45,7 @@ pub record FailsAt (old : DeskState) (requests : List Request) (replies : List R
   pub none_unasked : length replies + count ≤ length requests
   pub untold : List Reply
   pub batch : IsBatch mid (take count (drop (length replies) requests)) untold new.ledger
+  pub accepted : HasAccepted mid (take count (drop (length replies) requests))
   pub either : new.is_honest → LeavesEither new.leaves mid new.ledger
 
 -- B is the ledger after the requests before number k, counted from 1, or behind a batch of those from there on, of which
@@ -80,7 +81,7 @@ RunsInLists A (requests ∷ lists) [] B = ⊥
 -- ---- how a batch is made (private)
 
 -- The requests so far lead from A to B as a batch, whose changes make B's rows of A's. Where none is refused all are
--- done.
+-- done; where none is accepted nothing has changed.
 pub record BatchSoFar (A : Ledger) (requests : List Request) (batch : Batch) (B : Ledger) : Type 0 where
   pub is_batch : IsBatch A requests batch.run.replies.items B
   pub rows : (C : Content) → IsRowsOf A C → IsRowsOf B (with_changes batch.changes.items C)
@@ -88,6 +89,7 @@ pub record BatchSoFar (A : Ledger) (requests : List Request) (batch : Batch) (B 
   pub all_done : batch.has_refused ≡ false → Runs A requests batch.run.replies.items B × Each IsDone batch.run.replies.items
   pub some : batch.has_refused ≡ true → 1 ≤ length batch.run.replies.items
   pub none : batch.run.replies.items ≡ [] → batch.changes.items ≡ []
+  pub accepted : HasAccepted A requests ⊎ ((B ≡ A) × (batch.changes.items ≡ []))
   pub lines : RepliesAll A (items_of requests) batch.run.lines.items B
   pub short : length batch.run.lines.items ≤ length batch.run.replies.items * LONGEST_LINE
   pub good : Good B
@@ -105,6 +107,7 @@ pub record Joins (A : Ledger) (request : Request) (old new : Batch) (B : Ledger)
   pub desk : All IsTheRow (rows_among more).desk
   pub done : new.has_refused ≡ false → IsDone reply × (old.has_refused ≡ false)
   pub nothing : new.has_refused ≡ true → B ≡ A
+  pub accepted : IsAccepted A request ⊎ ((B ≡ A) × (more ≡ []))
   pub good : Good B
 
 -- nothing has changed

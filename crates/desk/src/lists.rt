@@ -1,6 +1,6 @@
 //! Requests that are answered by lists.
 
-ghost use Rattle.std.specs.Prelude.{◌≡◌, ◌≤◌, ◌++◌, false, IfErr, OnOk, length};
+ghost use Rattle.std.specs.Prelude.{◌≡◌, ◌≤◌, ◌++◌, false, IfErr, IfOk, OnOk, length, take};
 ghost use Rattle.std.specs.Io.KnownBytes.{Appends};
 ghost use Rattle.desk.specs.Desk.{Goes, desk_state};
 ghost use Rattle.desk.specs.Lists.{IsCutInLists, RunsList, most_together};
@@ -16,7 +16,7 @@ use std::io::Write;
 use std::num::NonZeroUsize;
 use words::{Request, write_whole};
 
-/// How many requests a list has at most.
+/// How many requests are carried out at once, at the most.
 fn most_of(together: Option<NonZeroUsize>) -> usize
     ensures most { result ≡ most_together together }
     ensures some { 1 ≤ result }
@@ -27,7 +27,7 @@ fn most_of(together: Option<NonZeroUsize>) -> usize
     }
 }
 
-/// Carries a list out: one request, or as many as it has together.
+/// Carries a list out: one request, or the batch of those that come first in it.
 fn run_list<K: Keep>(
     alloc: Global,
     requests: &[Request],
@@ -35,56 +35,60 @@ fn run_list<K: Keep>(
     desk: &mut Desk<K>,
 ) -> Run
     requires going { K.stopped desk.old.keep ≡ false }
-    ensures list { RunsList (desk_state K.Keep desk.old) requests.now result (desk_state K.Keep desk.new) }
+    requires some { 1 ≤ length requests.now }
+    requires few { length requests.now ≤ most_together together }
+    ensures list { RunsList together (desk_state K.Keep desk.old) requests.now result (desk_state K.Keep desk.new) }
     ensures goes { Goes K.Keep desk.old desk.new }
 {
     desk.in_order();
     match together {
-        Some(_) => desk.run_together(alloc, requests),
+        Some(_) => desk.run_batch(alloc, requests),
         None => desk.run(alloc, requests),
     }
 }
 
-/// Answers a list, and writes its lines.
+/// Answers the first of the requests, at least one, and writes their lines: how many these are.
 fn answer_list<K: Keep, W: Write>(
     alloc: Global,
     requests: &[Request],
     together: Option<NonZeroUsize>,
     writer: &mut W,
     desk: &mut Desk<K>,
-) -> Result<(), ScriptFault>
+) -> Result<usize, ScriptFault>
     requires going { K.stopped desk.old.keep ≡ false }
-    ensures whole { OnOk result (WritesLines desk.old.ledger (items_of requests.now) desk.new.ledger
-        (W.contents writer.old) (W.contents writer.new)) }
+    requires some { 1 ≤ length requests.now }
+    requires few { length requests.now ≤ most_together together }
+    ensures whole { IfOk result (λ count. WritesLines desk.old.ledger (items_of (take count requests.now))
+        desk.new.ledger (W.contents writer.old) (W.contents writer.new)) }
+    ensures some { IfOk result (λ count. (1 ≤ count) × (count ≤ length requests.now)) }
     ensures going { OnOk result (K.stopped desk.new.keep ≡ false) }
-    ensures cut { IfErr result (λ fault. (cut : IsCutInLists fault (length requests.now) (desk_state K.Keep desk.old)
+    ensures cut { IfErr result (λ fault. (cut : IsCutInLists fault together (desk_state K.Keep desk.old)
         requests.now (desk_state K.Keep desk.new))
         × Appends (W.contents writer.old) (W.contents writer.new) (cut.lines ++ cut.begun)) }
     ensures goes { Goes K.Keep desk.old desk.new }
 {
     let run = run_list(alloc, requests, together, desk);
+    if run.ending == Ending::Stopped {
+        return Err(ScriptFault::Stopped);
+    }
     let Ok(()) = write_whole(writer, &run.lines) else {
-        if run.ending == Ending::Stopped {
-            return Err(ScriptFault::Stopped);
-        }
         return Err(ScriptFault::Write);
     };
-    match run.ending {
-        Ending::All => Ok(()),
-        Ending::Memory => Err(ScriptFault::Memory),
-        Ending::Stopped => Err(ScriptFault::Stopped),
+    if run.ending == Ending::Memory {
+        return Err(ScriptFault::Memory);
     }
+    Ok(run.replies.len())
 }
 
-/// Answers the requests in their order, by lists: of one each, or of at most so many that are carried out together. The
-/// lines of a list are written before the next is begun.
+/// Answers the requests in their order, one by one, or together: then at most so many are a batch, as `run_together`
+/// carries them out. The lines of a request, or of a batch, are written when it is kept, and before the next is begun.
 ///
 /// After a fault the first of the requests are answered, and what is written is their lines, but after a failing write
-/// for a rest of those of the last list. So want of memory leaves nothing done and not told. `Stopped` is answered where
-/// the desk is stopped, and there alone, and `Read` never. Of a desk that was not stopped before, a stop then leaves the
-/// rows behind the requests that are answered, or those behind the one, or the batch, at which the store failed; the
-/// stopped desk shows the one or the other. In every other case it leaves the rows of the desk's ledger alone. A desk
-/// that was stopped before answers none and changes nothing.
+/// for a rest of those of the last one, or of the last batch. So want of memory leaves nothing done and not told.
+/// `Stopped` is answered where the desk is stopped, and there alone, and `Read` never. Of a desk that was not stopped
+/// before, a stop then leaves the rows behind the requests whose lines are written, or those behind the one more, or the
+/// batch more, at which the store failed: a request of it is accepted. In every other case it leaves the rows of the
+/// desk's ledger alone. A desk that was stopped before answers none and changes nothing.
 pub fn answer_lists<K: Keep, W: Write>(
     alloc: Global,
     requests: &[Request],
@@ -94,8 +98,8 @@ pub fn answer_lists<K: Keep, W: Write>(
 ) -> Result<(), ScriptFault>
     ensures whole { OnOk result (AnswersAll (desk_state K.Keep desk.old) (items_of requests.now)
         (desk_state K.Keep desk.new) (W.contents writer.old) (W.contents writer.new)) }
-    ensures cut { IfErr result (λ fault. (cut : IsCutInLists fault (most_together together)
-        (desk_state K.Keep desk.old) requests.now (desk_state K.Keep desk.new))
+    ensures cut { IfErr result (λ fault. (cut : IsCutInLists fault together (desk_state K.Keep desk.old)
+        requests.now (desk_state K.Keep desk.new))
         × Appends (W.contents writer.old) (W.contents writer.new) (cut.lines ++ cut.begun)) }
     ensures goes { Goes K.Keep desk.old desk.new }
 {
@@ -110,8 +114,7 @@ pub fn answer_lists<K: Keep, W: Write>(
     let mut done = 0;
     while done < requests.len() {
         let end = done.saturating_add(most).min(requests.len());
-        answer_list(alloc, &requests[done..end], together, writer, desk)?;
-        done = end;
+        done += answer_list(alloc, &requests[done..end], together, writer, desk)?;
     }
     Ok(())
 }

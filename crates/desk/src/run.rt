@@ -4,7 +4,7 @@ ghost use Rattle.std.specs.Prelude.{◌≡◌, ◌≢◌, ◌↔◌, ◌+◌, �
 ghost use Rattle.std.specs.Vec.{vec_capacity, vec_len};
 ghost use Rattle.book.specs.Answers.{After, Runs};
 ghost use Rattle.book.specs.Ledger.{Ledger};
-ghost use Rattle.desk.specs.Desk.{Goes, LeavesEither, TellsStop, desk_state};
+ghost use Rattle.desk.specs.Desk.{Goes, HasAccepted, LeavesEither, TellsStop, desk_state};
 ghost use Rattle.desk.specs.Lists.{HasRoom};
 ghost use Rattle.desk.specs.Resuming.{LeavesResumable, Resumes, ResumableAt};
 ghost use Rattle.desk.specs.Text.{RepliesAll, items_of};
@@ -114,8 +114,8 @@ impl<K: Keep> Desk<K> {
     /// nothing is done and not told.
     ///
     /// The ledger is the one after the requests that are answered. Of a desk that was not stopped before, a stop leaves
-    /// its rows alone, or, where the run ended `Stopped`, those or the rows after one request more. A desk that was
-    /// stopped before answers none and changes nothing.
+    /// its rows alone, or, where the run ended `Stopped`, those or the rows after one request more, which is accepted. A
+    /// desk that was stopped before answers none and changes nothing.
     pub fn run(&mut self, alloc: Global, requests: &[Request]) -> Run
         ensures replies { Runs self.old.ledger (take
             (length result.replies.items) requests.now) result.replies.items self.new.ledger }
@@ -128,6 +128,8 @@ impl<K: Keep> Desk<K> {
         ensures either { K.stopped self.old.keep ≡ false → result.ending ≡ Ending.Stopped → K.is_honest self.new.keep
             → (next : Ledger) × After self.old.ledger requests.now (length result.replies.items + 1) next
             × LeavesEither (K.leaves self.new.keep) self.new.ledger next }
+        ensures accepted { K.stopped self.old.keep ≡ false → result.ending ≡ Ending.Stopped
+            → HasAccepted self.new.ledger (take 1 (drop (length result.replies.items) requests.now)) }
         ensures goes { Goes K.Keep self.old self.new }
     {
         self.in_order();

@@ -115,7 +115,7 @@ module _ (old new : DeskState) (s : Streams) (holds : Content → Type 0) (went 
     work_cut_left (Requests kind csv together) (reads, inl (inr (inr (number, is)), same, writes)) = only_last (Requests kind csv together) (going (λ e. cc)) (found_same (Requests kind csv together) (reads, writes) same)
     work_cut_left (Requests kind csv together) (reads, inr (requests, (cause, told, (cut, writes)))) =
         left_as new.leaves (IsFoundAfterItems (most_together together) old.ledger (items_of requests) (cut.lines ++ cut.begun)) (Found (Requests kind csv together))
-        (λ B found. (requests, (cut.lines ++ cut.begun, writes, found))) (lists_left old new holds good went honest stored cause (most_together together) requests cut)
+        (λ B found. (requests, (cut.lines ++ cut.begun, writes, found))) (lists_left old new holds good went honest stored cause together requests cut)
     work_cut_left (Sheet of) (reads, same, inl (is, nothing)) = only_last (Sheet of) (going (λ e. cc)) same
     work_cut_left (Sheet of) (reads, same, inr (is, begun)) = only_last (Sheet of) (going (λ e. cc)) same
     work_cut_left (Serve service) (reads, inl (inl is, begun, same)) = only_last (Serve service) (going (λ e. cc)) (record { ledger = old.ledger; is_stopped = false }, ([], omega arith, refl), inl same)

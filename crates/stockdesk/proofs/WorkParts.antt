@@ -54,17 +54,16 @@ module _ (fault : Fault) (old new : DeskState) (s : Streams) where
   replies_in_part together good (inl (unread, same, kept)) = nothing_printed old.ledger s good kept
   replies_in_part together good (inr (requests, (cause, told, (cut, writes)))) = record {
     first = old.ledger;
-    last = cut.here;
+    last = cut.behind;
     requests = requests;
-    answered = items_of cut.answered ++ items_of cut.kept;
-    left = items_of (cut.last ++ cut.left);
+    answered = items_of cut.answered ++ items_of cut.last;
+    left = items_of cut.left;
     written = cut.lines ++ cut.begun;
     unwritten = cut.unwritten;
     good = good;
-    split = ap items_of (cut.split ∙ append_assoc (cut.answered ++ cut.kept) cut.last cut.left) ∙ items_joined (cut.answered ++ cut.kept) (cut.last ++ cut.left)
-        ∙ ap (λ (xs : List Item). xs ++ items_of (cut.last ++ cut.left)) (items_joined cut.answered cut.kept);
-    replies = subst (λ (out : List ℕ). RepliesAll old.ledger (items_of cut.answered ++ items_of cut.kept) out cut.here) (sym (append_assoc cut.lines cut.begun cut.unwritten))
-        (replies_joined (items_of cut.answered) (items_of cut.kept) old.ledger cut.mid cut.here cut.lines (cut.begun ++ cut.unwritten) cut.replies cut.rest);
+    split = ap items_of cut.split ∙ items_joined (cut.answered ++ cut.last) cut.left ∙ ap (λ (xs : List Item). xs ++ items_of cut.left) (items_joined cut.answered cut.last);
+    replies = subst (λ (out : List ℕ). RepliesAll old.ledger (items_of cut.answered ++ items_of cut.last) out cut.behind) (sym (append_assoc cut.lines cut.begun cut.unwritten))
+        (replies_joined (items_of cut.answered) (items_of cut.last) old.ledger cut.before cut.behind cut.lines (cut.begun ++ cut.unwritten) cut.replies cut.rest);
     writes = writes;
   }
 

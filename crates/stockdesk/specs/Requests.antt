@@ -5,7 +5,7 @@ use Rattle.std.specs.Io.KnownBytes.{Appends, Keeps}
 use Rattle.book.specs.Ledger.{Ledger}
 use Rattle.words.specs.declared.command.Request.{Request}
 use Rattle.desk.specs.Desk.{DeskState}
-use Rattle.desk.specs.Lists.{IsCutInLists, most_together}
+use Rattle.desk.specs.Lists.{IsCutInLists}
 use Rattle.desk.specs.Script.{WritesLines}
 use Rattle.desk.specs.Streams.{Streams}
 use Rattle.desk.specs.Text.{items_of}
@@ -53,5 +53,5 @@ FileUnread fault old new s = ((fault ≡ Fault.Memory) ⊎ IsBadFile fault) × (
 -- the file was not read, and nothing is done; or some requests were read, and the answers to them are cut
 abbrev pub FileCut : Option NonZeroUsize → Fault → (old new : DeskState) → Streams → Type 0
 FileCut together fault old new s = FileUnread fault old new s ⊎ ((requests : List Request) × IsCutAs fault (λ cause.
-    (cut : IsCutInLists cause (most_together together) old requests new)
+    (cut : IsCutInLists cause together old requests new)
     × Appends s.writer_old s.writer_new (cut.lines ++ cut.begun)))

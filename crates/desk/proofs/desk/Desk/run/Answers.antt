@@ -1,5 +1,5 @@
-use Rattle.std.proofs.Common.{◌≡◌, ◌∙◌, ◌+◌, ◌++◌, ◌∷◌, [], Err, List, ℕ, ap, length, rules, subst, sym, take}
-use Rattle.std.proofs.lemmas.List.{length-append, take_more}
+use Rattle.std.proofs.Common.{◌≡◌, ◌∙◌, ◌+◌, ◌++◌, ◌∷◌, [], Err, List, ℕ, ap, drop, inl, length, rules, subst, sym, take}
+use Rattle.std.proofs.lemmas.List.{drop_more, length-append, take_more}
 use Rattle.words.specs.declared.command.Request.{Request}
 use Rattle.words.specs.declared.reply.Reply.{Reply}
 use Rattle.book.specs.Answers.{Runs}
@@ -7,7 +7,7 @@ use Rattle.words.specs.declared.reply.Reply.TheVariants.{Done}
 use Rattle.book.specs.Ledger.{Ledger, places}
 use Rattle.book.specs.Next.{accept}
 use Rattle.book.proofs.Runs.{accepted_answered}
-use Rattle.desk.specs.Desk.{LeavesEither}
+use Rattle.desk.specs.Desk.{HasAccepted, LeavesEither}
 use Rattle.desk.specs.Replies.{request_line}
 use Rattle.desk.specs.Text.{RepliesAll, items_of}
 use Rattle.desk.proofs.Batches.{lines_on}
@@ -34,6 +34,18 @@ returns-in-Err-clause-either g c going is honest =
       subst (λ (L : Ledger). LeavesEither (g.K.Keep.leaves c.call_and_tell.new.self.keep) L (accept M r)) (sym (c.in-Err.ensures.stopped (ap (λ f. Err f) fault)).1)
           (stops.either honest),
     )
+
+pub returns-in-Err-clause-accepted : goal.returns-in-Err-clause-accepted
+returns-in-Err-clause-accepted g c going is =
+    let requests = c.args.requests.now in
+    let i = c.loop-request.request-index in
+    let r = c.request-item.result in
+    let fault = c.ending_of-run.ensures.stopped.0 is in
+    let stops = c.in-Err.ensures.either (ap (λ f. Err f) fault) (c.loop-request.invariant.2 ∙ going) in
+    let count : length c.make_room.new.self.replies.items ≡ i = ap (λ (xs : List Reply). length xs) c.make_room.ensures.replies ∙ c.loop-request.invariant.1 in
+    let next : take 1 (drop i requests) ≡ r ∷ [] = ap (λ (xs : List Request). take 1 xs) (drop_more requests i r c.loop-request-test.true) ∙ ap (λ (x : Request). x ∷ []) (sym c.request-item.is) in
+    subst (λ (L : Ledger). HasAccepted L (take 1 (drop (length c.make_room.new.self.replies.items) requests))) (sym (c.in-Err.ensures.stopped (ap (λ f. Err f) fault)).1)
+    (subst (λ n. HasAccepted c.loop-request.self.ledger (take 1 (drop n requests))) (sym count) (subst (HasAccepted c.loop-request.self.ledger) (sym next) (inl stops.accepted)))
 
 pub loop-request-preserved : goal.loop-request-preserved
 loop-request-preserved g c =
