@@ -1,30 +1,22 @@
 """Tests of the tool that copies a desk while it is served: many copies under load, while their disk is full and while the tool is
-killed; which copies stay; what is refused. Then those of the tool that makes a desk of a copy.
-
-By hand: `python3 tests/backups.py PROGRAM [TEST...]`.
-"""
+killed; which copies stay; what is refused."""
 
 import fcntl
 import importlib.util
 import os
 import random
-import shutil
 import signal
 import subprocess
 import sys
-import tempfile
 import time
 from concurrent.futures import ThreadPoolExecutor
 from datetime import datetime, timedelta, timezone
 from importlib.machinery import SourceFileLoader
 from typing import Any
 
-# no folder of compiled modules beside the sources
-sys.dont_write_bytecode = True
-
-import fronts
-import restores
-from copies import (
+from support import DEPLOY, fronts
+from support.cases import ProgramCase, needs, needs_sqlite
+from support.copies import (
     BACKUP,
     NAME,
     NO_COPY,
@@ -44,13 +36,16 @@ from copies import (
     until_held,
     words_of,
 )
-from damages import is_there
-from fronts import DEPLOY
-from programs import done, expect, new_desk, rows_of, say
-from service import ask
+from support.programs import done, expect, new_desk, note
+from support.service import ask
+from support.tables import rows_of
+
 
 # copies under load: as they come, on a full disk, killed at any moment, killed while the desk is held
 ROUNDS = {"whole": 110, "full": 40, "killed": 25, "held": 25}
+
+# the calls by which the tool copies
+COPYING = "copy_file_range,sendfile"
 
 
 # ---- copies under load
@@ -123,90 +118,85 @@ class Copies:
         self.look(self.folder)
 
 
-def test_copies_under_load(program, folder):
-    """200, of which some find a full disk and some are killed: the desk goes on behind each, and each copy that has a name opens
-    and has what was answered before it began."""
-    if not is_there():
-        return
-    kinds = [kind for kind, number in ROUNDS.items() for _ in range(number)]
-    random.Random(1986).shuffle(kinds)
-    copies = os.path.join(folder, "copies")
-    os.mkdir(copies)
-    with served(program, folder) as desk, small_disk(folder) as disk, under_load(desk) as load:
-        rounds = Copies(program, load, copies, disk)
-        for kind in kinds:
-            rounds.play(kind)
-        # what the killed ones left is gone with the next one
-        copied(rounds.words(copies))
-        expect(all(NAME.fullmatch(name) for name in os.listdir(copies)), f"left over: {os.listdir(copies)}")
-        found = rounds.found
-        expect(found["full"] > 0 and found["held"] > 0 and found["copies"] >= ROUNDS["whole"], f"{found}")
-        told = f"{found['full']} found a full disk, {found['killed']} killed, {found['held']} more while the desk was held"
-        say(f"  {len(kinds)} backups, {found['copies']} copies; {told}")
-        say(f"  {len(load.answered)} commands; the longest hold took {rounds.longest} ms")
+class Copying(ProgramCase):
+    @needs_sqlite
+    def test_copies_under_load(self):
+        """200, of which some find a full disk and some are killed: the desk goes on behind each, and each copy that has a name
+        opens and has what was answered before it began."""
+        kinds = [kind for kind, number in ROUNDS.items() for _ in range(number)]
+        random.Random(1986).shuffle(kinds)
+        copies = os.path.join(self.folder, "copies")
+        os.mkdir(copies)
+        with served(self.program, self.folder) as desk, small_disk(self.folder) as disk, under_load(desk) as load:
+            rounds = Copies(self.program, load, copies, disk)
+            for kind in kinds:
+                rounds.play(kind)
+            # what the killed ones left is gone with the next one
+            copied(rounds.words(copies))
+            expect(all(NAME.fullmatch(name) for name in os.listdir(copies)), f"left over: {os.listdir(copies)}")
+            found = rounds.found
+            expect(found["full"] > 0 and found["held"] > 0 and found["copies"] >= ROUNDS["whole"], f"{found}")
+            told = f"{found['full']} found a full disk, {found['killed']} killed, {found['held']} more while the desk was held"
+            note(f"{len(kinds)} backups, {found['copies']} copies; {told}")
+            note(f"{len(load.answered)} commands; the longest hold took {rounds.longest} ms")
 
+    @needs_sqlite
+    @needs("strace")
+    def test_files_stand_still_while_they_are_copied(self):
+        """Each call that copies waits for 30 ms, under a load without a pause: no copy is torn."""
+        slow = f"strace -f -o /dev/null -e trace={COPYING} -e inject={COPYING}:delay_enter=30000".split()
+        with served(self.program, self.folder) as desk, under_load(desk, 0) as load:
+            for _ in range(8):
+                before = list(load.answered)
+                status, out, told = ended([*slow, *words_of(desk, self.folder, self.program)])
+                expect(status == 0, f"{status}, {told!r}")
+                load.expect_goes_on()
+                expect_copy(self.program, os.path.join(self.folder, out.rstrip("\n")), before, list(load.sent))
+            note(f"{len(load.answered)} commands")
 
-def test_files_stand_still_while_they_are_copied(program, folder):
-    """Each call that copies waits for 30 ms, under a load without a pause: no copy is torn."""
-    if not is_there() or shutil.which("strace") is None:
-        say("  not tried: no strace is here")
-        return
-    slow = "strace -f -o /dev/null -e trace=copy_file_range,sendfile -e inject=copy_file_range,sendfile:delay_enter=30000".split()
-    with served(program, folder) as desk, under_load(desk, 0) as load:
-        for _ in range(8):
-            before = list(load.answered)
-            status, out, told = ended([*slow, *words_of(desk, folder, program)])
-            expect(status == 0, f"{status}, {told!r}")
-            load.expect_goes_on()
-            expect_copy(program, os.path.join(folder, out.rstrip("\n")), before, list(load.sent))
-        say(f"  {len(load.answered)} commands")
+    def test_a_backup_that_stands_still_lets_the_desk_go_on(self):
+        """Stopped while it holds the desk: within some ten seconds the desk goes on, and no copy gets a name."""
+        path = new_desk(self.program, self.folder)
+        with alone(self.program, path) as service:
+            desk = desk_of(service, path)
+            for _ in range(50):
+                tool = until_held(desk, words_of(desk, self.folder, self.program))
+                tool.send_signal(signal.SIGSTOP)
+                if tool.poll() is None and stands_still(service.process):
+                    break
+                tool.kill()
+                tool.wait()
+            latest = time.monotonic() + 12
+            while stands_still(service.process) and time.monotonic() < latest:
+                time.sleep(0.1)
+            expect(not stands_still(service.process), "the desk is held for ever")
+            copies = {name for name in os.listdir(self.folder) if NAME.fullmatch(name)}
+            tool.send_signal(signal.SIGCONT)
+            expect(tool.wait() == 1, f"status {tool.returncode}")
+            expect({name for name in os.listdir(self.folder) if NAME.fullmatch(name)} == copies, "a copy was made")
 
-
-def test_a_backup_that_stands_still_lets_the_desk_go_on(program, folder):
-    """Stopped while it holds the desk: within some ten seconds the desk goes on, and no copy gets a name."""
-    path = new_desk(program, folder)
-    with alone(program, path) as service:
-        desk = desk_of(service, path)
-        for _ in range(50):
-            tool = until_held(desk, words_of(desk, folder, program))
-            tool.send_signal(signal.SIGSTOP)
-            if tool.poll() is None and stands_still(service.process):
-                break
-            tool.kill()
-            tool.wait()
-        latest = time.monotonic() + 12
-        while stands_still(service.process) and time.monotonic() < latest:
-            time.sleep(0.1)
-        expect(not stands_still(service.process), "the desk is held for ever")
-        copies = {name for name in os.listdir(folder) if NAME.fullmatch(name)}
-        tool.send_signal(signal.SIGCONT)
-        expect(tool.wait() == 1, f"status {tool.returncode}")
-        expect({name for name in os.listdir(folder) if NAME.fullmatch(name)} == copies, "a copy was made")
-
-
-def test_backups_at_once(program, folder):
-    """Four of one desk into one folder, five times: all copies are made, each with a name of its own. A folder of a run that was
-    killed is removed, and that of one that goes on is not."""
-    if not is_there():
-        return
-    path, copies = new_desk(program, folder), os.path.join(folder, "copies")
-    done(program, ["run", path], fronts.FIELDS)
-    left, alive = (os.path.join(copies, name) for name in [".stockdesk-left", ".stockdesk-alive"])
-    os.makedirs(left)
-    os.mkdir(alive)
-    with open(os.path.join(left, "desk.db"), "wb") as file:
-        file.write(b"half of a copy")
-    lock = os.open(alive, os.O_RDONLY)
-    fcntl.flock(lock, fcntl.LOCK_EX)
-    with alone(program, path) as service, ThreadPoolExecutor(4) as pool:
-        desk = desk_of(service, path)
-        jobs = [pool.submit(copied, words_of(desk, copies, program)) for _ in range(20)]
-        names = [os.path.basename(job.result()[0]) for job in jobs]
-    os.close(lock)
-    expect(sorted(os.listdir(copies)) == sorted([*names, ".stockdesk-alive"]), f"{os.listdir(copies)} and not {names}")
-    rows = rows_of(path)
-    for name in names:
-        expect(rows_of(os.path.join(copies, name)) == rows, f"{name} has other rows")
+    @needs_sqlite
+    def test_backups_at_once(self):
+        """Four of one desk into one folder, five times: all copies are made, each with a name of its own. A folder of a run that
+        was killed is removed, and that of one that goes on is not."""
+        path, copies = new_desk(self.program, self.folder), os.path.join(self.folder, "copies")
+        done(self.program, ["run", path], fronts.FIELDS)
+        left, alive = (os.path.join(copies, name) for name in [".stockdesk-left", ".stockdesk-alive"])
+        os.makedirs(left)
+        os.mkdir(alive)
+        with open(os.path.join(left, "desk.db"), "wb") as file:
+            file.write(b"half of a copy")
+        lock = os.open(alive, os.O_RDONLY)
+        fcntl.flock(lock, fcntl.LOCK_EX)
+        with alone(self.program, path) as service, ThreadPoolExecutor(4) as pool:
+            desk = desk_of(service, path)
+            jobs = [pool.submit(copied, words_of(desk, copies, self.program)) for _ in range(20)]
+            names = [os.path.basename(job.result()[0]) for job in jobs]
+        os.close(lock)
+        expect(sorted(os.listdir(copies)) == sorted([*names, ".stockdesk-alive"]), f"{os.listdir(copies)} and not {names}")
+        rows = rows_of(path)
+        for name in names:
+            expect(rows_of(os.path.join(copies, name)) == rows, f"{name} has other rows")
 
 
 # ---- which copies stay
@@ -247,43 +237,43 @@ def backup_module() -> Any:
         sys.path.remove(DEPLOY)
 
 
-def test_which_copies_stay(program, folder):
-    tool = backup_module()
-    for days, weeks, there, stay in KEPT:
-        copies = [(moment, moment.isoformat()) for moment in moments_of(there)]
-        found = tool.kept(copies, copies[-1][0], days, weeks)
-        expect(sorted(moment for moment, _ in found) == moments_of(" ".join(sorted(stay.split()))), f"{there}: {found}")
-    # a copy a day for a year: 14 days, what is left of a week, and 7 Sundays before that
-    kept: set = set()
-    first = moments_of("0101T03")[0]
-    for day in range(366):
-        made = first + timedelta(days=day)
-        kept = tool.kept([*kept, (made, "")], made, 14, 8)
-    stay = sorted((made - moment).days for moment, _ in kept)
-    expect(stay[:14] == list(range(14)) and len(stay) == 14 + 8, f"{stay}")
-    expect(all(moment.isoweekday() == 7 for moment, _ in sorted(kept)[:7]), f"{kept}")
+class Keeping(ProgramCase):
+    def test_which_copies_stay(self):
+        tool = backup_module()
+        for days, weeks, there, stay in KEPT:
+            copies = [(moment, moment.isoformat()) for moment in moments_of(there)]
+            found = tool.kept(copies, copies[-1][0], days, weeks)
+            expect(sorted(moment for moment, _ in found) == moments_of(" ".join(sorted(stay.split()))), f"{there}: {found}")
+        # a copy a day for a year: 14 days, what is left of a week, and 7 Sundays before that
+        kept: set = set()
+        first = moments_of("0101T03")[0]
+        for day in range(366):
+            made = first + timedelta(days=day)
+            kept = tool.kept([*kept, (made, "")], made, 14, 8)
+        stay = sorted((made - moment).days for moment, _ in kept)
+        expect(stay[:14] == list(range(14)) and len(stay) == 14 + 8, f"{stay}")
+        expect(all(moment.isoweekday() == 7 for moment, _ in sorted(kept)[:7]), f"{kept}")
 
-
-def test_nothing_else_is_removed(program, folder):
-    """Only files with names as those of copies of this desk are removed by its rule."""
-    path, copies = new_desk(program, folder), os.path.join(folder, "copies")
-    old = ["desk-20010203T040506Z-7.db", "desk-20010204T040506Z-7.db", "desk-20010204T050506Z-8.db"]
-    others = ["desk.db", "desk-20010203T040506Z-7.db-wal", "desk-20010203T040506Z.db", "desk-20019903T040506Z-7.db"]
-    others += [
-        "shop-20010203T040506Z-7.db",
-        "desk-a-20010203T040506Z-7.db",
-        "desk-20010203T040506Z-7.dbx",
-        "xdesk-20010203T040506Z-7.db",
-    ]
-    os.makedirs(os.path.join(copies, "desk-20010203T040506Z-9.db"))
-    for name in old + others:
-        with open(os.path.join(copies, name), "wb") as file:
-            file.write(b"old")
-    with alone(program, path) as service:
-        desk = desk_of(service, path)
-        made, _ = copied([*words_of(desk, copies, program), "--days", "1", "--weeks", "1"])
-        want = [os.path.basename(made), old[2], "desk-20010203T040506Z-9.db", *others]
-        expect(sorted(os.listdir(copies)) == sorted(want), f"{sorted(os.listdir(copies))} and not {sorted(want)}")
+    def test_nothing_else_is_removed(self):
+        """Only files with names as those of copies of this desk are removed by its rule."""
+        path, copies = new_desk(self.program, self.folder), os.path.join(self.folder, "copies")
+        old = ["desk-20010203T040506Z-7.db", "desk-20010204T040506Z-7.db", "desk-20010204T050506Z-8.db"]
+        others = ["desk.db", "desk-20010203T040506Z-7.db-wal", "desk-20010203T040506Z.db", "desk-20019903T040506Z-7.db"]
+        others += [
+            "shop-20010203T040506Z-7.db",
+            "desk-a-20010203T040506Z-7.db",
+            "desk-20010203T040506Z-7.dbx",
+            "xdesk-20010203T040506Z-7.db",
+        ]
+        os.makedirs(os.path.join(copies, "desk-20010203T040506Z-9.db"))
+        for name in old + others:
+            with open(os.path.join(copies, name), "wb") as file:
+                file.write(b"old")
+        with alone(self.program, path) as service:
+            desk = desk_of(service, path)
+            made, _ = copied([*words_of(desk, copies, self.program), "--days", "1", "--weeks", "1"])
+            want = [os.path.basename(made), old[2], "desk-20010203T040506Z-9.db", *others]
+            expect(sorted(os.listdir(copies)) == sorted(want), f"{sorted(os.listdir(copies))} and not {sorted(want)}")
 
 
 # ---- what is refused
@@ -299,94 +289,70 @@ def holding(mode: str, path: str) -> subprocess.Popen:
     return process
 
 
-def test_a_backup_of_something_else_is_refused(program, folder):
-    """Another process, one that only reads, another file, no desk, no folder, no program."""
-    path, other, copies = new_desk(program, folder), new_desk(program, folder, "other.db"), os.path.join(folder, "copies")
-    text = os.path.join(folder, "text.db")
-    for name in [text, text + "-wal"]:
-        with open(name, "wb") as file:
-            file.write(b"this is no database, but some text")
-    os.mkdir(copies)
-    gone = subprocess.Popen(["true"])
-    gone.wait()
-    writer, reader = holding("rb+", text), holding("rb", other)
-    with alone(program, path) as service:
-        pid = str(service.process.pid)
-        for words, want in [
-            ([str(gone.pid), path, copies], f"there is no process {gone.pid}"),
-            ([str(writer.pid), path, copies], f"process {writer.pid} does not serve {path}"),
-            ([str(reader.pid), other, copies], f"process {reader.pid} does not serve {other}"),
-            ([pid, other, copies], f"process {pid} does not serve {other}"),
-            ([str(writer.pid), text, copies], "the program cannot open it: it is no desk"),
-            ([pid, os.path.join(folder, "none.db"), copies], "No such file or directory: "),
-            ([pid, path, os.path.join(folder, "none")], "No such file or directory: "),
-            ([pid, path, other], f"Not a directory: {other}"),
+class Refusals(ProgramCase):
+    def test_a_backup_of_something_else_is_refused(self):
+        """Another process, one that only reads, another file, no desk, no folder, no program."""
+        path, other, copies = (
+            new_desk(self.program, self.folder),
+            new_desk(self.program, self.folder, "other.db"),
+            os.path.join(self.folder, "copies"),
+        )
+        text = os.path.join(self.folder, "text.db")
+        for name in [text, text + "-wal"]:
+            with open(name, "wb") as file:
+                file.write(b"this is no database, but some text")
+        os.mkdir(copies)
+        gone = subprocess.Popen(["true"])
+        gone.wait()
+        writer, reader = holding("rb+", text), holding("rb", other)
+        with alone(self.program, path) as service:
+            pid = str(service.process.pid)
+            for words, want in [
+                ([str(gone.pid), path, copies], f"there is no process {gone.pid}"),
+                ([str(writer.pid), path, copies], f"process {writer.pid} does not serve {path}"),
+                ([str(reader.pid), other, copies], f"process {reader.pid} does not serve {other}"),
+                ([pid, other, copies], f"process {pid} does not serve {other}"),
+                ([str(writer.pid), text, copies], "the program cannot open it: it is no desk"),
+                ([pid, os.path.join(self.folder, "none.db"), copies], "No such file or directory: "),
+                ([pid, path, os.path.join(self.folder, "none")], "No such file or directory: "),
+                ([pid, path, other], f"Not a directory: {other}"),
+            ]:
+                expect_refused([BACKUP, *words, "--program", self.program], want)
+                expect(not os.listdir(copies), f"{words}: {os.listdir(copies)}")
+            expect_refused([BACKUP, pid, path, copies, "--program", "/none"], "the program /none is not there")
+            service.process.send_signal(signal.SIGSTOP)
+            expect_refused([BACKUP, pid, path, copies, "--program", self.program], f"process {pid} stands still already")
+            service.process.send_signal(signal.SIGCONT)
+            copied([BACKUP, pid, path, copies, "--program", self.program])
+            # it waits for its first client all the while
+            status, _, body = ask(service.connect(), "GET", "/v1/fields/N1/A-1")
+            expect(status == 404, f"{status}, {body}")
+        for process in [writer, reader]:
+            process.communicate()
+
+    def test_other_words_are_refused(self):
+        for words in [
+            [],
+            ["x", "f", "d"],
+            ["0", "f", "d"],
+            ["1", "f"],
+            ["1", "f", "d", "--days", "0"],
+            ["1", "f", "d", "--weeks", "-1"],
         ]:
-            expect_refused([BACKUP, *words, "--program", program], want)
-            expect(not os.listdir(copies), f"{words}: {os.listdir(copies)}")
-        expect_refused([BACKUP, pid, path, copies, "--program", "/none"], "the program /none is not there")
-        service.process.send_signal(signal.SIGSTOP)
-        expect_refused([BACKUP, pid, path, copies, "--program", program], f"process {pid} stands still already")
-        service.process.send_signal(signal.SIGCONT)
-        copied([BACKUP, pid, path, copies, "--program", program])
-        # it waits for its first client all the while
-        status, _, body = ask(service.connect(), "GET", "/v1/fields/N1/A-1")
-        expect(status == 404, f"{status}, {body}")
-    for process in [writer, reader]:
-        process.communicate()
+            status, out, told = ended([BACKUP, *words])
+            expect((status, out) == (2, "") and told.startswith("usage: "), f"{words}: {status}, {told!r}")
+        for words in [[], ["c"], ["c", "f", "g"]]:
+            status, out, told = ended([RESTORE, *words])
+            expect((status, out) == (2, "") and told.startswith("usage: "), f"{words}: {status}, {told!r}")
+        for tool in [BACKUP, RESTORE]:
+            status, out, told = ended([tool, "--help"])
+            expect(status == 0 and out.startswith("usage: ") and not told, f"{status}, {told!r}")
 
-
-def test_other_words_are_refused(program, folder):
-    for words in [
-        [],
-        ["x", "f", "d"],
-        ["0", "f", "d"],
-        ["1", "f"],
-        ["1", "f", "d", "--days", "0"],
-        ["1", "f", "d", "--weeks", "-1"],
-    ]:
-        status, out, told = ended([BACKUP, *words])
-        expect((status, out) == (2, "") and told.startswith("usage: "), f"{words}: {status}, {told!r}")
-    for words in [[], ["c"], ["c", "f", "g"]]:
-        status, out, told = ended([RESTORE, *words])
-        expect((status, out) == (2, "") and told.startswith("usage: "), f"{words}: {status}, {told!r}")
-    for tool in [BACKUP, RESTORE]:
-        status, out, told = ended([tool, "--help"])
-        expect(status == 0 and out.startswith("usage: ") and not told, f"{status}, {told!r}")
-
-
-def test_a_file_may_have_another_name(program, folder):
-    """A link to the desk's file: its log lies beside the file that is meant, and the copy is called by the link."""
-    path, link = new_desk(program, folder), os.path.join(folder, "shop")
-    done(program, ["run", path], fronts.FIELDS)
-    os.symlink(path, link)
-    with alone(program, path) as service:
-        status, out, told = ended([BACKUP, str(service.process.pid), link, folder, "--program", program])
-        expect(status == 0 and out.startswith("shop-") and out.endswith("Z-8\n"), f"{status}, {out!r}, {told!r}")
-
-
-TESTS = [
-    test_copies_under_load,
-    test_files_stand_still_while_they_are_copied,
-    test_a_backup_that_stands_still_lets_the_desk_go_on,
-    test_backups_at_once,
-    test_which_copies_stay,
-    test_nothing_else_is_removed,
-    test_a_backup_of_something_else_is_refused,
-    test_other_words_are_refused,
-    test_a_file_may_have_another_name,
-    *restores.TESTS,
-]
-
-
-def main():
-    program, *chosen = sys.argv[1:]
-    for test in TESTS:
-        if not chosen or any(word in test.__name__ for word in chosen):
-            say(f"backups {test.__name__}")
-            with tempfile.TemporaryDirectory() as folder:
-                test(os.path.abspath(program), folder)
-
-
-if __name__ == "__main__":
-    main()
+    def test_a_file_may_have_another_name(self):
+        """A link to the desk's file: its log lies beside the file that is meant, and the copy is called by the link."""
+        path, link = new_desk(self.program, self.folder), os.path.join(self.folder, "shop")
+        done(self.program, ["run", path], fronts.FIELDS)
+        os.symlink(path, link)
+        with alone(self.program, path) as service:
+            status, out, told = ended([BACKUP, str(service.process.pid), link, self.folder, "--program", self.program])
+            expect(status == 0 and out.startswith("shop-") and out.endswith("Z-8\n"), f"{status}, {out!r}, {told!r}")

@@ -11,9 +11,11 @@ import threading
 import time
 from typing import Callable
 
-import fronts
-from fronts import SHOP, WAREHOUSE, Front, credentials, head_of, message
-from programs import done, expect, new_desk, rows_of, say, sqlite3
+from support import fronts
+from support.fronts import SHOP, WAREHOUSE, Front, FrontCase, credentials, head_of, message
+from support.programs import done, expect, new_desk, note
+from support.tables import rows_of, sqlite3
+
 
 CLIENTS = 64
 COMMANDS = 2_000
@@ -94,40 +96,40 @@ def expect_same_rows(program: str, folder: str, front: Front, accepted: list[Don
         expect(rows_of(front.file) == rows_of(played), "other rows")
 
 
-def test_many_clients_outlive_a_killed_desk(program, folder):
-    """64 clients of two groups, the desk killed three times in the middle and started again: each command is answered."""
-    with Front(program, folder) as front:
+class Crowds(FrontCase):
+    def test_many_clients_outlive_a_killed_desk(self):
+        """64 clients of two groups, the desk killed three times in the middle and started again: each command is answered."""
+        with Front(self.program, self.folder) as front:
 
-        def kill():
-            for _ in range(KILLS):
-                time.sleep(0.4)
-                front.desk_kill()
-                time.sleep(0.3)
-                front.desk_start()
+            def kill():
+                for _ in range(KILLS):
+                    time.sleep(0.4)
+                    front.desk_kill()
+                    time.sleep(0.3)
+                    front.desk_start()
 
-        began = time.time()
-        accepted, _ = all_told(front, kill)
-        count = sum(len(commands_of(client)) for client in range(CLIENTS))
-        expect(count >= COMMANDS, f"{count} commands")
-        say(f"  {count} commands in {time.time() - began:.1f} s, {len(accepted)} done, the desk killed {KILLS} times")
-        expect_same_rows(program, folder, front, accepted)
+            began = time.time()
+            accepted, _ = all_told(front, kill)
+            count = sum(len(commands_of(client)) for client in range(CLIENTS))
+            expect(count >= COMMANDS, f"{count} commands")
+            note(f"{count} commands in {time.time() - began:.1f} s, {len(accepted)} done, the desk killed {KILLS} times")
+            expect_same_rows(self.program, self.folder, front, accepted)
 
+    def test_clients_outlive_a_front_that_stops(self):
+        """The front stopped and started again under load: who asks again under the same key has each command done once."""
+        with Front(self.program, self.folder) as front:
 
-def test_clients_outlive_a_front_that_stops(program, folder):
-    """The front stopped and started again under load: who asks again under the same key has each command done once."""
-    with Front(program, folder) as front:
+            def stop():
+                for _ in range(KILLS):
+                    time.sleep(0.3)
+                    front.stop()
+                    time.sleep(0.2)
+                    front.start()
 
-        def stop():
-            for _ in range(KILLS):
-                time.sleep(0.3)
-                front.stop()
-                time.sleep(0.2)
-                front.start()
-
-        accepted, lost = all_told(front, stop, is_patient=True)
-        expect(lost > 0, "no answer was lost")
-        say(f"  {len(accepted)} done, {lost} answers lost on the way")
-        expect_same_rows(program, folder, front, accepted)
+            accepted, lost = all_told(front, stop, is_patient=True)
+            expect(lost > 0, "no answer was lost")
+            note(f"{len(accepted)} done, {lost} answers lost on the way")
+            expect_same_rows(self.program, self.folder, front, accepted)
 
 
 # ---- clients that are slow, or gone
@@ -170,69 +172,61 @@ def median_of_asks(front: Front) -> float:
     return sorted(took)[20]
 
 
-def test_slow_clients_hold_nobody_up(program, folder):
-    """100 idle clients, 20 that send a byte a second and 20 that never read a long sheet: an ask takes no longer than 50 ms."""
-    script = fronts.FIELDS + "".join(f"S{n} field N2 B-{n} 0 9 9\n" for n in range(2_000))
-    # what the system holds back for a client is little, so the front has to
-    with Front(program, folder, more="global\n    tune.sndbuf.client 16384\n", script=script) as front:
-        alone = median_of_asks(front)
-        over = threading.Event()
-        slow = [threading.Thread(target=send_slowly, args=(front, over)) for _ in range(20)]
-        for thread in slow:
-            thread.start()
-        idle = [front.socket() for _ in range(100)]
-        waiting = [unread(front, 1 + count % 3) for count in range(20)]
-        time.sleep(1)
-        beside = median_of_asks(front)
-        over.set()
-        for thread in slow:
-            thread.join()
-        for client in idle + waiting:
-            client.close()
-        say(f"  an ask took {alone:.1f} ms, and {beside:.1f} ms beside 140 slow clients")
-        expect(beside <= 50, f"an ask took {beside:.0f} ms")
-        expect(front.value() == 500, "a message that was cut short was done")
-
-
-def test_a_message_may_come_in_pieces(program, folder):
-    """One byte, then the head but for its end, then half of the body, then the rest: it is answered as one that comes at once."""
-    body = message("PIECES", "deliver N1 A-1 5").encode()
-    whole = head_of(WAREHOUSE, "/v1/commands", len(body)) + body
-    cuts = [0, 1, len(whole) - len(body) - 1, len(whole) - len(body) // 2, len(whole)]
-    with Front(program, folder) as front, front.socket() as client:
-        for start, end in zip(cuts, cuts[1:]):
-            client.sendall(whole[start:end])
-            time.sleep(0.3)
-        found = client.recv(65_536)
-        expect(found.startswith(b"HTTP/1.1 200 ") and found.endswith(b'{"place":9}'), f"{found!r}")
-
-
-def test_clients_may_go_away(program, folder):
-    """In mid-message, with a farewell or without: nothing is done. Behind the whole of it: it is done, once, whoever asks."""
-    body = message("GONE", "deliver N1 A-1 5").encode()
-    whole = head_of(WAREHOUSE, "/v1/commands", len(body)) + body
-    with Front(program, folder) as front:
-        for size in [1, 20, len(whole) - len(body), len(whole) - 1]:
-            for is_reset in [False, True]:
-                client = front.socket()
-                if is_reset:
-                    client.setsockopt(socket.SOL_SOCKET, socket.SO_LINGER, b"\1\0\0\0\0\0\0\0")
-                client.sendall(whole[:size])
+class SlowClients(FrontCase):
+    def test_slow_clients_hold_nobody_up(self):
+        """100 idle clients, 20 that send a byte a second and 20 that never read a long sheet: an ask takes no longer than 50
+        ms."""
+        script = fronts.FIELDS + "".join(f"S{n} field N2 B-{n} 0 9 9\n" for n in range(2_000))
+        # what the system holds back for a client is little, so the front has to
+        with Front(self.program, self.folder, more="global\n    tune.sndbuf.client 16384\n", script=script) as front:
+            alone = median_of_asks(front)
+            over = threading.Event()
+            slow = [threading.Thread(target=send_slowly, args=(front, over)) for _ in range(20)]
+            for thread in slow:
+                thread.start()
+            idle = [front.socket() for _ in range(100)]
+            waiting = [unread(front, 1 + count % 3) for count in range(20)]
+            time.sleep(1)
+            beside = median_of_asks(front)
+            over.set()
+            for thread in slow:
+                thread.join()
+            for client in idle + waiting:
                 client.close()
-        expect(front.value() == 500, "a message that was cut short was done")
-        for _ in range(5):
-            client = front.socket()
-            client.sendall(whole)
-            client.close()
-        found = front.tell(WAREHOUSE, "deliver N1 A-1 5", "GONE")
-        expect(found == (200, {"place": 9}), f"{found}")
-        expect(front.value() == 505, "not done once")
+            note(f"an ask took {alone:.1f} ms, and {beside:.1f} ms beside 140 slow clients")
+            expect(beside <= 50, f"an ask took {beside:.0f} ms")
+            expect(front.value() == 500, "a message that was cut short was done")
 
+    def test_a_message_may_come_in_pieces(self):
+        """One byte, then the head but for its end, then half of the body, then the rest: it is answered as one that comes at
+        once."""
+        body = message("PIECES", "deliver N1 A-1 5").encode()
+        whole = head_of(WAREHOUSE, "/v1/commands", len(body)) + body
+        cuts = [0, 1, len(whole) - len(body) - 1, len(whole) - len(body) // 2, len(whole)]
+        with Front(self.program, self.folder) as front, front.socket() as client:
+            for start, end in zip(cuts, cuts[1:]):
+                client.sendall(whole[start:end])
+                time.sleep(0.3)
+            found = client.recv(65_536)
+            expect(found.startswith(b"HTTP/1.1 200 ") and found.endswith(b'{"place":9}'), f"{found!r}")
 
-TESTS = [
-    test_many_clients_outlive_a_killed_desk,
-    test_clients_outlive_a_front_that_stops,
-    test_slow_clients_hold_nobody_up,
-    test_a_message_may_come_in_pieces,
-    test_clients_may_go_away,
-]
+    def test_clients_may_go_away(self):
+        """In mid-message, with a farewell or without: nothing is done. Behind the whole of it: it is done, once, whoever asks."""
+        body = message("GONE", "deliver N1 A-1 5").encode()
+        whole = head_of(WAREHOUSE, "/v1/commands", len(body)) + body
+        with Front(self.program, self.folder) as front:
+            for size in [1, 20, len(whole) - len(body), len(whole) - 1]:
+                for is_reset in [False, True]:
+                    client = front.socket()
+                    if is_reset:
+                        client.setsockopt(socket.SOL_SOCKET, socket.SO_LINGER, b"\1\0\0\0\0\0\0\0")
+                    client.sendall(whole[:size])
+                    client.close()
+            expect(front.value() == 500, "a message that was cut short was done")
+            for _ in range(5):
+                client = front.socket()
+                client.sendall(whole)
+                client.close()
+            found = front.tell(WAREHOUSE, "deliver N1 A-1 5", "GONE")
+            expect(found == (200, {"place": 9}), f"{found}")
+            expect(front.value() == 505, "not done once")

@@ -1,10 +1,12 @@
-"""The documents: each link leads somewhere, and each call, clause, law and definition that is named is there."""
+"""Tests of the documents: each link leads somewhere, and each call, clause, law and definition that is named is there."""
 
 import glob
 import os
 import re
+import unittest
 
-from programs import expect
+from support.programs import expect
+
 
 TOP = os.path.dirname(os.path.dirname(os.path.abspath(__file__)))
 
@@ -100,48 +102,38 @@ def check_items(text, path):
         expect(re.search(rf"\b(fn|trait|struct|enum|const|type) {item}\b", source), f"there is no {name} in {path}")
 
 
-def test_the_documents_lead_somewhere(_program, _folder):
-    for document in documents():
-        for text, path, heading in links_of(document):
-            expect(os.path.exists(path), f"{document}: {text} leads to no file")
-            expect(not heading or heading in headings_of(path), f"{document}: {text} leads to no heading")
-            if path.endswith(".antt"):
-                check_definitions(text, path)
-            if path.endswith(".rt"):
-                check_items(text, path)
+class Documents(unittest.TestCase):
+    def test_the_documents_lead_somewhere(self):
+        for document in documents():
+            for text, path, heading in links_of(document):
+                expect(os.path.exists(path), f"{document}: {text} leads to no file")
+                expect(not heading or heading in headings_of(path), f"{document}: {text} leads to no heading")
+                if path.endswith(".antt"):
+                    check_definitions(text, path)
+                if path.endswith(".rt"):
+                    check_items(text, path)
 
+    def test_the_definitions_are_where_they_are_said_to_be(self):
+        document = os.path.join(TOP, "docs", "DEFINITIONS.md")
+        for line in text_of(document).splitlines():
+            paths = [os.path.join(TOP, "docs", target) for _, target in LINK.findall(line)]
+            if line.startswith("- ") and paths:
+                sources = "\n".join(text_of(path) for path in paths)
+                for name in NAME.findall(LINK.sub("", line)):
+                    found = re.search(rf"^(?:\w+ )*pub (?:record |data )?{name}\b", sources, re.MULTILINE)
+                    expect(found or name in CRATES, f"no {name} in {line}")
 
-def test_the_definitions_are_where_they_are_said_to_be(_program, _folder):
-    document = os.path.join(TOP, "docs", "DEFINITIONS.md")
-    for line in text_of(document).splitlines():
-        paths = [os.path.join(TOP, "docs", target) for _, target in LINK.findall(line)]
-        if line.startswith("- ") and paths:
-            sources = "\n".join(text_of(path) for path in paths)
-            for name in NAME.findall(LINK.sub("", line)):
-                found = re.search(rf"^(?:\w+ )*pub (?:record |data )?{name}\b", sources, re.MULTILINE)
-                expect(found or name in CRATES, f"no {name} in {line}")
+    def test_the_proofs_are_where_they_are_said_to_be(self):
+        for line in text_of(os.path.join(TOP, "docs", "PROOFS.md")).splitlines():
+            if line.startswith("- **"):
+                head, _, rest = line.partition("**: ")
+                crates = NAME.findall(head)
+                for name in NAME.findall(rest):
+                    files = [os.path.join(TOP, "crates", crate, "proofs", f"{name}.antt") for crate in crates]
+                    expect(name[0].islower() or any(map(os.path.exists, files)), f"no {name} among the proofs of {crates}")
 
-
-def test_the_proofs_are_where_they_are_said_to_be(_program, _folder):
-    for line in text_of(os.path.join(TOP, "docs", "PROOFS.md")).splitlines():
-        if line.startswith("- **"):
-            head, _, rest = line.partition("**: ")
-            crates = NAME.findall(head)
-            for name in NAME.findall(rest):
-                files = [os.path.join(TOP, "crates", crate, "proofs", f"{name}.antt") for crate in crates]
-                expect(name[0].islower() or any(map(os.path.exists, files)), f"no {name} among the proofs of {crates}")
-
-
-def test_the_promises_name_what_is_there(_program, _folder):
-    rows = list(rows_of_promises())
-    expect(len(rows) > 50, "the promises were not found")
-    for promise, calls, _definitions in rows:
-        check_calls(promise, calls)
-
-
-TESTS = [
-    test_the_documents_lead_somewhere,
-    test_the_definitions_are_where_they_are_said_to_be,
-    test_the_proofs_are_where_they_are_said_to_be,
-    test_the_promises_name_what_is_there,
-]
+    def test_the_promises_name_what_is_there(self):
+        rows = list(rows_of_promises())
+        expect(len(rows) > 50, "the promises were not found")
+        for promise, calls, _definitions in rows:
+            check_calls(promise, calls)

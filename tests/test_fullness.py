@@ -5,11 +5,13 @@ import subprocess
 import threading
 from unittest import mock
 
-from damages import OPEN_ORDER, Desks, of_desk, of_fields, of_orders
-from programs import Session, bytes_of, expect, new_desk, say
-from rolled import SCRIPT, desk_of, lying, play_and_kill, tool_ended
+from support.cases import ProgramCase, needs_strict_tables
+from support.desks import OPEN_ORDER, Desks, of_desk, of_fields, of_orders
+from support.programs import Session, bytes_of, expect, new_desk, note
+from support.rolled import SCRIPT, desk_of, lying, play_and_kill, tool_ended
 
 import stockdesk_files as files
+
 
 # so many rows on both sides of nine tenths of a limit, others beside them, and the status of a look
 NEARLY = [
@@ -24,36 +26,6 @@ NEARLY = [
 ]
 
 
-def test_a_look_tells_how_full_a_desk_is(program, folder):
-    """On both sides of nine tenths, and nothing is changed or made."""
-    desks = Desks(program, folder)
-    for make, count, others, want in NEARLY:
-        desks.put([*make(count), *others])
-        found, names = bytes_of(desks.path), os.listdir(folder)
-        status, out, errors = tool_ended(program, ["--check", desks.path])
-        expect((status, errors, b"nearly full" in out) == (want, b"", want == 3), f"{count}: {status}, {out}, {errors}")
-        expect(bytes_of(desks.path) == found and sorted(os.listdir(folder)) == sorted(names), "something was changed")
-    lines = tool_ended(program, ["--check", desk_of(program, folder)[0]])[1].decode().splitlines()
-    want = ["places: 8 taken and 3 set aside of 200000, 0 percent", "fields: 2 of 10000, 0 percent"]
-    expect(lines == [*want, "orders: 3 of 100000, 0 percent"], f"{lines}")
-
-
-def test_a_look_reads_the_log(program, folder):
-    """What a desk in use has done is in its log alone at first; it goes on, and so does one whose program was killed."""
-    old, _ = desk_of(program, folder)
-    found = bytes_of(old)
-    session = Session(program, old)
-    try:
-        expect(session.ask("K9 deliver N1 A-1 1") == "K9 done 9", "no reply")
-        expect(bytes_of(old) == found, "it is in the file at once")
-        expect_places(program, old, 9, ["in use"])
-        expect(session.ask("K10 deliver N1 A-1 1") == "K10 done 10", "it does not go on")
-    finally:
-        session.process.kill()
-        session.end()
-    expect_places(program, old, 10, ["places"])
-
-
 def expect_places(program, path, places, words):
     """A look tells so many places, and these words in its first line; all lies as it lay."""
     found = lying(path)
@@ -62,28 +34,6 @@ def expect_places(program, path, places, words):
     expect((status, errors) == (0, b"") and told, f"{status}, {out}, {errors}")
     expect(all(word in out.decode().splitlines()[0] for word in words), f"{out}")
     expect(lying(path) == found, "it was changed")
-
-
-def test_a_look_disturbs_nobody(program, folder):
-    """A desk in use, also while it takes commands as fast as it can: what is told was so at some moment, and all is answered."""
-    old, _ = desk_of(program, folder, "K1 field N1 A-1 0 1000000000 0\n")
-    pipe = subprocess.PIPE
-    with subprocess.Popen([program, "run", old], stdin=pipe, stdout=pipe, text=True) as process:
-        replies, over = [], threading.Event()
-        reader = threading.Thread(target=lambda: replies.extend(process.stdout))
-        writer = threading.Thread(target=deliver, args=(process.stdin, over))
-        reader.start()
-        writer.start()
-        try:
-            looks = [look(program, old, replies) for _ in range(10)]
-        finally:
-            over.set()
-            writer.join()
-            process.stdin.close()
-            reader.join()
-    expect(replies == [f"D{n} done {n + 1}\n" for n in range(1, len(replies) + 1)], "another reply")
-    expect(sum(looks) > 0, "each look was in vain")
-    say(f"  {len(replies)} commands, {sum(looks)} of {len(looks)} looks among them told how full the desk was")
 
 
 def deliver(stdin, over):
@@ -129,15 +79,67 @@ class Changing:
         return copy
 
 
-def test_a_look_takes_no_copy_of_two_moments(program, folder):
-    """Where the file changes while it is copied, or its log is begun anew, it is copied once more, and at last given up."""
-    old = new_desk(program, folder)
-    play_and_kill(program, old, SCRIPT)
-    for name, place in [(old, 68), (f"{old}-wal", 16)]:
-        for often in [0, 3, files.READINGS - 1, files.READINGS]:
-            changing = Changing(lambda number: put(name, place, number), often)
-            with mock.patch.multiple(files, copied=changing, PAUSE=0):
-                expect_copied(old, folder, changing)
+@needs_strict_tables
+class Fullness(ProgramCase):
+    def test_a_look_tells_how_full_a_desk_is(self):
+        """On both sides of nine tenths, and nothing is changed or made."""
+        desks = Desks(self.program, self.folder)
+        for make, count, others, want in NEARLY:
+            desks.put([*make(count), *others])
+            found, names = bytes_of(desks.path), os.listdir(self.folder)
+            status, out, errors = tool_ended(self.program, ["--check", desks.path])
+            expect((status, errors, b"nearly full" in out) == (want, b"", want == 3), f"{count}: {status}, {out}, {errors}")
+            expect(bytes_of(desks.path) == found and sorted(os.listdir(self.folder)) == sorted(names), "something was changed")
+        lines = tool_ended(self.program, ["--check", desk_of(self.program, self.folder)[0]])[1].decode().splitlines()
+        want = ["places: 8 taken and 3 set aside of 200000, 0 percent", "fields: 2 of 10000, 0 percent"]
+        expect(lines == [*want, "orders: 3 of 100000, 0 percent"], f"{lines}")
+
+    def test_a_look_reads_the_log(self):
+        """What a desk in use has done is in its log alone at first; it goes on, and so does one whose program was killed."""
+        old, _ = desk_of(self.program, self.folder)
+        found = bytes_of(old)
+        session = Session(self.program, old)
+        try:
+            expect(session.ask("K9 deliver N1 A-1 1") == "K9 done 9", "no reply")
+            expect(bytes_of(old) == found, "it is in the file at once")
+            expect_places(self.program, old, 9, ["in use"])
+            expect(session.ask("K10 deliver N1 A-1 1") == "K10 done 10", "it does not go on")
+        finally:
+            session.process.kill()
+            session.end()
+        expect_places(self.program, old, 10, ["places"])
+
+    def test_a_look_disturbs_nobody(self):
+        """A desk in use, also while it takes commands as fast as it can: what is told was so at some moment, and all is
+        answered."""
+        old, _ = desk_of(self.program, self.folder, "K1 field N1 A-1 0 1000000000 0\n")
+        pipe = subprocess.PIPE
+        with subprocess.Popen([self.program, "run", old], stdin=pipe, stdout=pipe, text=True) as process:
+            replies, over = [], threading.Event()
+            reader = threading.Thread(target=lambda: replies.extend(process.stdout))
+            writer = threading.Thread(target=deliver, args=(process.stdin, over))
+            reader.start()
+            writer.start()
+            try:
+                looks = [look(self.program, old, replies) for _ in range(10)]
+            finally:
+                over.set()
+                writer.join()
+                process.stdin.close()
+                reader.join()
+        expect(replies == [f"D{n} done {n + 1}\n" for n in range(1, len(replies) + 1)], "another reply")
+        expect(sum(looks) > 0, "each look was in vain")
+        note(f"{len(replies)} commands, {sum(looks)} of {len(looks)} looks among them told how full the desk was")
+
+    def test_a_look_takes_no_copy_of_two_moments(self):
+        """Where the file changes while it is copied, or its log is begun anew, it is copied once more, and at last given up."""
+        old = new_desk(self.program, self.folder)
+        play_and_kill(self.program, old, SCRIPT)
+        for name, place in [(old, 68), (f"{old}-wal", 16)]:
+            for often in [0, 3, files.READINGS - 1, files.READINGS]:
+                changing = Changing(lambda number: put(name, place, number), often)
+                with mock.patch.multiple(files, copied=changing, PAUSE=0):
+                    expect_copied(old, self.folder, changing)
 
 
 def expect_copied(old, folder, changing):
@@ -147,11 +149,3 @@ def expect_copied(old, folder, changing):
         expect(lying(copy) == lying(old), "another copy")
     except files.NotDone as told:
         expect(changing.often == files.READINGS and str(told).endswith("try again"), f"{changing.often} changes: {told}")
-
-
-TESTS = [
-    test_a_look_takes_no_copy_of_two_moments,
-    test_a_look_tells_how_full_a_desk_is,
-    test_a_look_reads_the_log,
-    test_a_look_disturbs_nobody,
-]

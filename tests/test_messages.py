@@ -5,8 +5,11 @@ import contextlib
 import resource
 import subprocess
 
-from programs import SECONDS, done, expect, expect_end, new_desk
-from service import Service, answered
+from support.cases import ProgramCase
+from support.messages import answer, message
+from support.programs import SECONDS, done, expect, expect_end, new_desk
+from support.service import Service, answered
+
 
 COMMANDS = "POST /v1/commands"
 FIRST = '{"command":"field N1 A-1 0 100 40","key":"K1"}'
@@ -16,13 +19,6 @@ UNREADABLE = '{"error":"message"}'
 FIRM = '{"code":19,"line":0,"refused":"Firm"}'
 BAD_COMMAND = '{"code":20,"line":0,"refused":"BadCommand"}'
 
-REASONS = {
-    200: "OK",
-    400: "Bad Request",
-    404: "Not Found",
-    409: "Conflict",
-    503: "Service Unavailable",
-}
 
 # a method and a target, a body, and the status and the body of the answer, on one desk
 WORKED = [
@@ -171,16 +167,6 @@ NO_NUMBERS = [
 ]
 
 
-def message(line, body):
-    return f"{line} HTTP/1.1\r\nContent-Length: {len(body)}\r\n\r\n{body}".encode()
-
-
-def answer(status, body):
-    kind = "application/json" if body.startswith("{") else "text/plain"
-    head = f"HTTP/1.1 {status} {REASONS[status]}\r\ncontent-type: {kind}\r\ncontent-length: {len(body)}\r\n\r\n"
-    return (head + body).encode()
-
-
 def messages_of(rows):
     return b"".join(message(line, body) for line, body, _, _ in rows)
 
@@ -196,30 +182,6 @@ def expect_answers(port, stream, want, size=None):
     expect(found == want, f"{stream[:200]}: {found} and not {want}")
 
 
-def test_messages_are_answered_in_any_pieces(program, folder):
-    for size in [1, 17, 512, None]:
-        service = Service(program, new_desk(program, folder, f"{size}.db"), 1)
-        expect_answers(service.port, messages_of(WORKED), answers_of(WORKED), size)
-        service.expect_end()
-
-
-def test_a_stopped_desk_answers_so(program, folder):
-    """On one connection, of which a command finds that the file may not grow; no other is served behind it."""
-    path = new_desk(program, folder)
-    done(program, ["run", path], "K1 field N1 A-1 0 100000 0\n")
-    delivered = "".join(f"K{n} deliver N1 A-1 1\n" for n in range(2, 400))
-    service = Service(program, path, 2, limit=1_048_576)
-    rows = [(COMMANDS, f'{{"command":"deliver N1 A-1 1","key":"K{n}"}}', 200, f'{{"place":{n}}}') for n in range(2, 400)]
-    found = answered(service.port, [messages_of(rows) + messages_of(ON_A_STOPPED_DESK)])
-    # as many are done as find room, and none behind one that does not
-    told = found.count(b" 200 OK\r\n")
-    rows = rows[:told] + [(line, body, 503, STOPPED) for line, body, _, _ in rows[told:]] + ON_A_STOPPED_DESK
-    expect(found == answers_of(rows), f"{told} are done, then {found[-2000:]}")
-    service.expect_end((1, b"", b"stockdesk: store\n"))
-    replies = done(program, ["run", path], delivered)
-    expect(0 < told < 398 and replies[:told] == [f"K{n} done {n}" for n in range(2, told + 2)], f"{told} were done")
-
-
 def expect_each(program, folder, streams):
     """Each stream, on a connection of its own and a desk without fields, is answered so; and no field is made."""
     path = new_desk(program, folder)
@@ -228,12 +190,6 @@ def expect_each(program, folder, streams):
         expect_answers(service.port, stream, want)
     service.expect_end()
     expect(done(program, ["run", path], "? field N1 A-1\n") == ["? none"], "a field was made")
-
-
-def test_what_is_unreadable_is_answered_once(program, folder):
-    """Nothing behind it is answered or done."""
-    streams = [head + FIRST.encode() + BEHIND for head in NO_HEADS]
-    expect_each(program, folder, [(stream, answer(400, UNREADABLE)) for stream in streams + CUT])
 
 
 def head_of_lines(count):
@@ -245,77 +201,89 @@ def head_of_bytes(count):
     return head.replace(b"A: ", b"A: " + b"b" * (count - len(head)))
 
 
-def test_a_head_has_its_limits(program, folder):
-    """At the limit it is answered, and so is what stands behind it; over it neither is."""
-    streams = [(head + BEHIND, answer(404, NONE) * 2) for head in [head_of_lines(32), head_of_bytes(8_192)]]
-    streams += [(head + BEHIND, answer(400, UNREADABLE)) for head in [head_of_lines(33), head_of_bytes(8_193)]]
-    expect_each(program, folder, streams)
-
-
 def body_of(count, bracket, filling, rest):
     """A message with a body of so many bytes: a bracket, then as many of a kind as there is room for, and then the rest."""
     body = bracket + filling * (count - len(bracket + rest)) + rest
     return b"POST /v1/commands HTTP/1.1\r\nContent-Length: %d\r\n\r\n%b" % (count, body)
 
 
-def test_a_connection_goes_on_behind_a_body(program, folder):
-    """Long ones, deep ones and others that are no command."""
-    third = b'"command":"field N1 A-1 0 100 40","key":"K1","more":1}'
-    bodies = [
-        body_of(200, b"[", b"[", b""),
-        body_of(16_384, b"[", b"[", b""),
-        body_of(55, b"{", b" ", third),
-        body_of(16_384, b"{", b"\xff", FIRST[1:].encode()),
-    ]
-    streams = [(body + BEHIND, answer(400, BAD_COMMAND) + answer(404, NONE)) for body in bodies]
-    streams.append((body_of(16_385, b"{", b" ", FIRST[1:].encode()) + BEHIND, answer(400, UNREADABLE)))
-    expect_each(program, folder, streams)
+class Messages(ProgramCase):
+    def test_messages_are_answered_in_any_pieces(self):
+        for size in [1, 17, 512, None]:
+            service = Service(self.program, new_desk(self.program, self.folder, f"{size}.db"), 1)
+            expect_answers(service.port, messages_of(WORKED), answers_of(WORKED), size)
+            service.expect_end()
 
+    def test_a_stopped_desk_answers_so(self):
+        """On one connection, of which a command finds that the file may not grow; no other is served behind it."""
+        path = new_desk(self.program, self.folder)
+        done(self.program, ["run", path], "K1 field N1 A-1 0 100000 0\n")
+        delivered = "".join(f"K{n} deliver N1 A-1 1\n" for n in range(2, 400))
+        service = Service(self.program, path, 2, limit=1_048_576)
+        rows = [(COMMANDS, f'{{"command":"deliver N1 A-1 1","key":"K{n}"}}', 200, f'{{"place":{n}}}') for n in range(2, 400)]
+        found = answered(service.port, [messages_of(rows) + messages_of(ON_A_STOPPED_DESK)])
+        # as many are done as find room, and none behind one that does not
+        told = found.count(b" 200 OK\r\n")
+        rows = rows[:told] + [(line, body, 503, STOPPED) for line, body, _, _ in rows[told:]] + ON_A_STOPPED_DESK
+        expect(found == answers_of(rows), f"{told} are done, then {found[-2000:]}")
+        service.expect_end((1, b"", b"stockdesk: store\n"))
+        replies = done(self.program, ["run", path], delivered)
+        expect(0 < told < 398 and replies[:told] == [f"K{n} done {n}" for n in range(2, told + 2)], f"{told} were done")
 
-def test_a_long_body_may_be_a_command(program, folder):
-    service = Service(program, new_desk(program, folder), 2)
-    for count in [46, 16_384]:
-        stream = body_of(count, b"{", b" ", FIRST[1:].encode()) + BEHIND
-        expect_answers(service.port, stream, answer(200, '{"place":1}') + answer(404, NONE))
-    service.expect_end()
+    def test_what_is_unreadable_is_answered_once(self):
+        """Nothing behind it is answered or done."""
+        streams = [head + FIRST.encode() + BEHIND for head in NO_HEADS]
+        expect_each(self.program, self.folder, [(stream, answer(400, UNREADABLE)) for stream in streams + CUT])
 
+    def test_a_head_has_its_limits(self):
+        """At the limit it is answered, and so is what stands behind it; over it neither is."""
+        streams = [(head + BEHIND, answer(404, NONE) * 2) for head in [head_of_lines(32), head_of_bytes(8_192)]]
+        streams += [(head + BEHIND, answer(400, UNREADABLE)) for head in [head_of_lines(33), head_of_bytes(8_193)]]
+        expect_each(self.program, self.folder, streams)
 
-def test_a_service_that_cannot_begin_is_told(program, folder):
-    path = new_desk(program, folder)
-    for port, connections in NO_NUMBERS:
-        words = ["serve", path, "--port", port, "--connections", connections]
-        expect_end(program, words, (2, b"", b"stockdesk: usage\n"))
-    words = ["serve", f"{path}.not", "--port", "0", "--connections", "1"]
-    expect_end(program, words, (3, b"", b"stockdesk: not a desk\n"))
+    def test_a_connection_goes_on_behind_a_body(self):
+        """Long ones, deep ones and others that are no command."""
+        third = b'"command":"field N1 A-1 0 100 40","key":"K1","more":1}'
+        bodies = [
+            body_of(200, b"[", b"[", b""),
+            body_of(16_384, b"[", b"[", b""),
+            body_of(55, b"{", b" ", third),
+            body_of(16_384, b"{", b"\xff", FIRST[1:].encode()),
+        ]
+        streams = [(body + BEHIND, answer(400, BAD_COMMAND) + answer(404, NONE)) for body in bodies]
+        streams.append((body_of(16_385, b"{", b" ", FIRST[1:].encode()) + BEHIND, answer(400, UNREADABLE)))
+        expect_each(self.program, self.folder, streams)
 
+    def test_a_long_body_may_be_a_command(self):
+        service = Service(self.program, new_desk(self.program, self.folder), 2)
+        for count in [46, 16_384]:
+            stream = body_of(count, b"{", b" ", FIRST[1:].encode()) + BEHIND
+            expect_answers(service.port, stream, answer(200, '{"place":1}') + answer(404, NONE))
+        service.expect_end()
 
-def test_a_service_to_which_no_connection_comes(program, folder):
-    """It may open no file more than those of the desk and the socket on which it listens."""
-    path, ends = new_desk(program, folder), set()
-    for limit in range(4, 9):
-        with subprocess.Popen(
-            [program, "serve", path, "--port", "0", "--connections", "1"],
-            stdin=subprocess.DEVNULL,
-            stdout=subprocess.PIPE,
-            stderr=subprocess.PIPE,
-            preexec_fn=lambda: resource.setrlimit(resource.RLIMIT_NOFILE, (limit, limit)),
-        ) as service:
-            told = service.stdout.readline()
-            # where a connection is taken it ends at once
-            with contextlib.suppress(OSError, IndexError):
-                answered(int(told.split()[1]), [b""])
-            out, errors = service.communicate(timeout=SECONDS)
-            ends.add((bool(told), out, service.returncode, errors))
-    expect((True, b"", 1, b"stockdesk: io\n") in ends, f"{ends}")
+    def test_a_service_that_cannot_begin_is_told(self):
+        path = new_desk(self.program, self.folder)
+        for port, connections in NO_NUMBERS:
+            words = ["serve", path, "--port", port, "--connections", connections]
+            expect_end(self.program, words, (2, b"", b"stockdesk: usage\n"))
+        words = ["serve", f"{path}.not", "--port", "0", "--connections", "1"]
+        expect_end(self.program, words, (3, b"", b"stockdesk: not a desk\n"))
 
-
-TESTS = [
-    test_messages_are_answered_in_any_pieces,
-    test_a_stopped_desk_answers_so,
-    test_what_is_unreadable_is_answered_once,
-    test_a_head_has_its_limits,
-    test_a_connection_goes_on_behind_a_body,
-    test_a_long_body_may_be_a_command,
-    test_a_service_that_cannot_begin_is_told,
-    test_a_service_to_which_no_connection_comes,
-]
+    def test_a_service_to_which_no_connection_comes(self):
+        """It may open no file more than those of the desk and the socket on which it listens."""
+        path, ends = new_desk(self.program, self.folder), set()
+        for limit in range(4, 9):
+            with subprocess.Popen(
+                [self.program, "serve", path, "--port", "0", "--connections", "1"],
+                stdin=subprocess.DEVNULL,
+                stdout=subprocess.PIPE,
+                stderr=subprocess.PIPE,
+                preexec_fn=lambda: resource.setrlimit(resource.RLIMIT_NOFILE, (limit, limit)),
+            ) as service:
+                told = service.stdout.readline()
+                # where a connection is taken it ends at once
+                with contextlib.suppress(OSError, IndexError):
+                    answered(int(told.split()[1]), [b""])
+                out, errors = service.communicate(timeout=SECONDS)
+                ends.add((bool(told), out, service.returncode, errors))
+        expect((True, b"", 1, b"stockdesk: io\n") in ends, f"{ends}")

@@ -1,36 +1,15 @@
-"""Tests of the built program as a real process: what its words and its FILE may be, what its help says, a store and memory
-that are refused, scripts a line a run, long ones, files of requests, also killed and called again, and carried out together,
-replies on a pipe that stays open, the file as another SQLite reads it, connections, and sessions that are killed. The one
-argument is the program."""
+"""Tests of the built program as a real process: what its words and its FILE may be, what its help says, a store and memory that are
+refused, scripts a line a run, long ones, files of requests, replies on a pipe that stays open, the file as another SQLite reads it,
+and sessions that are killed."""
 
 import os
 import random
 import resource
-import shutil
 import signal
-import sys
-import tempfile
 import threading
 
-# no folder of compiled modules beside the sources
-sys.dont_write_bytecode = True
-
-import damages
-import documents
-import hostile
-import messages
-import power_cut
-import records
-import resumed
-import scripts
-import service
-import spelling
-import stored
-import together
-import upgrades
-from programs import (
-    COLUMNS,
-    KEYS,
+from support.cases import ProgramCase, needs_sqlite, needs_strict_tables
+from support.programs import (
     NOT_A_DESK,
     NO_DESK,
     STORE,
@@ -42,11 +21,11 @@ from programs import (
     expect_end,
     lines_of,
     new_desk,
-    rows_of,
-    say,
-    sqlite3,
+    note,
     write_records,
 )
+from support.tables import COLUMNS, KEYS, rows_of, sqlite3
+
 
 ROUNDS = 50
 LINES = 1000
@@ -136,95 +115,20 @@ ROWS = {
 }
 
 
-def test_other_words_ask_for_nothing(program, folder):
-    for words in NO_TASK:
-        status, out, errors = ended(program, words, folder=folder)
-        expect((status, out) == (2, b"") and errors, f"{words}: {status}, {out!r}, {errors!r}")
-    expect(os.listdir(folder) == [], "a file was made")
+class Words(ProgramCase):
+    def test_other_words_ask_for_nothing(self):
+        for words in NO_TASK:
+            status, out, errors = ended(self.program, words, folder=self.folder)
+            expect((status, out) == (2, b"") and errors, f"{words}: {status}, {out!r}, {errors!r}")
+        expect(os.listdir(self.folder) == [], "a file was made")
 
-
-def test_help_says_what_each_word_does(program, folder):
-    for words, names in HELP:
-        _, _, errors = ended(program, words)
-        lines = [line.split() for line in errors.decode().splitlines()]
-        for name in names:
-            told = [line for line in lines if line and line[0].strip("<[]>") == name and len(line) > 3]
-            expect(told, f"{words}: nothing is said of {name}: {errors!r}")
-
-
-def test_a_store_that_fails_is_told(program, folder):
-    """Files that may not grow so far as a new desk takes: none is a desk, and the next command says so."""
-    for size, want in [(0, STORE), (4_096, STORE), (65_536, STORE), (1_048_576, (0, b"", b""))]:
-        path = os.path.join(folder, f"{size}.db")
-        end = ended(program, ["init", path], limit=(resource.RLIMIT_FSIZE, size))
-        expect(end == want, f"init in {size} bytes: {end}")
-        if want == STORE:
-            expect_end(program, ["run", path], NOT_A_DESK)
-
-
-def test_want_of_memory_is_told(program, folder):
-    """With less and less memory a script is answered in full, then in part, and what ended it is told; then nothing starts."""
-    script = "\n".join(lines_of("long.script")) + "\n"
-    replies = "\n".join(lines_of("long.replies")).encode() + b"\n"
-    whole, cut = 0, 0
-    for size in range(4_194_304, 0, -16_384):
-        status, out, errors = ended(program, ["run"], script, limit=(resource.RLIMIT_DATA, size))
-        if status == 0:
-            expect((out, errors) == (replies, b""), f"{size} bytes: {out!r}, {errors!r}")
-            whole += 1
-        elif status == 1:
-            # what was done is told, in whole lines; want of memory within a commit is a fault of the store
-            expect(errors in (b"stockdesk: memory\n", b"stockdesk: store\n"), f"{size} bytes: {errors!r}")
-            expect(replies.startswith(out), f"{size} bytes: {out!r}")
-            expect(not out or out.endswith(b"\n"), f"{size} bytes: {out!r}")
-            cut += 1
-        else:
-            break
-    expect(whole and cut, f"{whole} whole, {cut} told")
-
-
-def test_no_other_file_is_touched(program, folder):
-    expect_end(program, ["init", folder], NOT_A_DESK)
-    expect_end(program, ["run", folder], STORE)
-    path = os.path.join(folder, "other.db")
-    expect_end(program, ["run", path], NOT_A_DESK)
-    expect(not os.path.exists(path), "a run made a file")
-    # in a folder that is not there no file can be made
-    nowhere = os.path.join(folder, "none", "a.db")
-    expect_end(program, ["init", nowhere], STORE)
-    expect_end(program, ["run", nowhere], NOT_A_DESK)
-    for text, end in NO_DESK:
-        with open(path, "wb") as file:
-            file.write(text)
-        expect_end(program, ["run", path], end)
-        if text:
-            expect_end(program, ["init", path], NOT_A_DESK)
-        expect(bytes_of(path) == text, f"{text} was changed")
-
-
-def test_a_file_of_requests_is_judged_last(program, folder):
-    """First the words, then the desk, then the file of requests; what cannot be read changes nothing."""
-    path, records = os.path.join(folder, "desk.db"), os.path.join(folder, "records.csv")
-    for command in ["orders", "deliveries", "bounds"]:
-        expect_end(program, [command, path, records], NOT_A_DESK)
-    for words in [["sheet", path, "n1"], ["article", path, "a-1"]]:
-        expect_end(program, words, (2, b"", b"stockdesk: usage\n"))
-    expect_end(program, ["sheet", path, "N1"], NOT_A_DESK)
-    new_desk(program, folder)
-    found = bytes_of(path)
-    for file in [records, folder]:
-        expect_end(program, ["orders", path, file], (4, b"", b"stockdesk: csv\n"))
-    write_records(records, [["key", "branch", "article", "qty"], ["D1", "N1", "A-1", "\xf6"]])
-    expect_end(program, ["deliveries", path, records], (4, b"", b"stockdesk: record 1\n"))
-    expect_end(program, ["orders", path, records], (4, b"", b"stockdesk: record 0\n"))
-    write_records(records, [["key", "branch", "article"]])
-    expect_end(program, ["deliveries", path, records], (4, b"", b"stockdesk: record 0\n"))
-    write_records(records, [["key", "branch", "article", "qty"], ["D4", "N1", "A-1", "1"], ["D5", "N1", "A-1", "05"]])
-    expect_end(program, ["deliveries", path, records], (4, b"", b"stockdesk: record 2\n"))
-    header = ["key", "order", "until", "way", "branch", "article", "qty"]
-    write_records(records, [header, ["G4", "54", "500", "take", "N1", "A-1", "5", ""]])
-    expect_end(program, ["orders", path, records], (4, b"", b"stockdesk: record 1\n"))
-    expect(bytes_of(path) == found, "the desk was changed")
+    def test_help_says_what_each_word_does(self):
+        for words, names in HELP:
+            _, _, errors = ended(self.program, words)
+            lines = [line.split() for line in errors.decode().splitlines()]
+            for name in names:
+                told = [line for line in lines if line and line[0].strip("<[]>") == name and len(line) > 3]
+                expect(told, f"{words}: nothing is said of {name}: {errors!r}")
 
 
 def expect_twice(program, path, words):
@@ -239,112 +143,138 @@ def expect_twice(program, path, words):
     expect(done(program, ["sheet", path, "N3"]) == sheet, f"{words}: another sheet")
 
 
-def test_a_long_file_of_orders_may_come_twice(program, folder):
-    """10,000 records, as 2,500 orders of four lines, one by one and together."""
-    records = os.path.join(folder, "orders.csv")
-    rows = [["key", "order", "until", "way", "branch", "article", "qty"]]
-    for n in range(10_000):
-        rows.append([f"G{n // 4}", n // 4 + 1, 500, "take", f"N{n % 5}", f"A{n % 50 // 5:02}", 1])
-    write_records(records, rows)
-    expect_twice(program, new_desk(program, folder, "one_by_one.db"), [records])
-    expect_twice(program, new_desk(program, folder, "together.db"), [records, "--together", "1000"])
+class Stores(ProgramCase):
+    def test_a_store_that_fails_is_told(self):
+        """Files that may not grow so far as a new desk takes: none is a desk, and the next command says so."""
+        for size, want in [(0, STORE), (4_096, STORE), (65_536, STORE), (1_048_576, (0, b"", b""))]:
+            path = os.path.join(self.folder, f"{size}.db")
+            end = ended(self.program, ["init", path], limit=(resource.RLIMIT_FSIZE, size))
+            expect(end == want, f"init in {size} bytes: {end}")
+            if want == STORE:
+                expect_end(self.program, ["run", path], NOT_A_DESK)
 
+    def test_want_of_memory_is_told(self):
+        """With less and less memory a script is answered in full, then in part, and what ended it is told; then nothing
+        starts."""
+        script = "\n".join(lines_of("long.script")) + "\n"
+        replies = "\n".join(lines_of("long.replies")).encode() + b"\n"
+        whole, cut = 0, 0
+        for size in range(4_194_304, 0, -16_384):
+            status, out, errors = ended(self.program, ["run"], script, limit=(resource.RLIMIT_DATA, size))
+            if status == 0:
+                expect((out, errors) == (replies, b""), f"{size} bytes: {out!r}, {errors!r}")
+                whole += 1
+            elif status == 1:
+                # what was done is told, in whole lines; want of memory within a commit is a fault of the store
+                expect(errors in (b"stockdesk: memory\n", b"stockdesk: store\n"), f"{size} bytes: {errors!r}")
+                expect(replies.startswith(out), f"{size} bytes: {out!r}")
+                expect(not out or out.endswith(b"\n"), f"{size} bytes: {out!r}")
+                cut += 1
+            else:
+                break
+        expect(whole and cut, f"{whole} whole, {cut} told")
 
-def test_an_empty_file_becomes_a_desk_once(program, folder):
-    path = os.path.join(folder, "empty.db")
-    open(path, "wb").close()
-    expect_end(program, ["init", path], (0, b"", b""))
-    desk = bytes_of(path)
-    expect_end(program, ["init", path], NOT_A_DESK)
-    expect(bytes_of(path) == desk, "the desk was changed")
+    def test_no_other_file_is_touched(self):
+        expect_end(self.program, ["init", self.folder], NOT_A_DESK)
+        expect_end(self.program, ["run", self.folder], STORE)
+        path = os.path.join(self.folder, "other.db")
+        expect_end(self.program, ["run", path], NOT_A_DESK)
+        expect(not os.path.exists(path), "a run made a file")
+        # in a folder that is not there no file can be made
+        nowhere = os.path.join(self.folder, "none", "a.db")
+        expect_end(self.program, ["init", nowhere], STORE)
+        expect_end(self.program, ["run", nowhere], NOT_A_DESK)
+        for text, end in NO_DESK:
+            with open(path, "wb") as file:
+                file.write(text)
+            expect_end(self.program, ["run", path], end)
+            if text:
+                expect_end(self.program, ["init", path], NOT_A_DESK)
+            expect(bytes_of(path) == text, f"{text} was changed")
 
+    def test_a_file_of_requests_is_judged_last(self):
+        """First the words, then the desk, then the file of requests; what cannot be read changes nothing."""
+        path, records = os.path.join(self.folder, "desk.db"), os.path.join(self.folder, "records.csv")
+        for command in ["orders", "deliveries", "bounds"]:
+            expect_end(self.program, [command, path, records], NOT_A_DESK)
+        for words in [["sheet", path, "n1"], ["article", path, "a-1"]]:
+            expect_end(self.program, words, (2, b"", b"stockdesk: usage\n"))
+        expect_end(self.program, ["sheet", path, "N1"], NOT_A_DESK)
+        new_desk(self.program, self.folder)
+        found = bytes_of(path)
+        for file in [records, self.folder]:
+            expect_end(self.program, ["orders", path, file], (4, b"", b"stockdesk: csv\n"))
+        write_records(records, [["key", "branch", "article", "qty"], ["D1", "N1", "A-1", "\xf6"]])
+        expect_end(self.program, ["deliveries", path, records], (4, b"", b"stockdesk: record 1\n"))
+        expect_end(self.program, ["orders", path, records], (4, b"", b"stockdesk: record 0\n"))
+        write_records(records, [["key", "branch", "article"]])
+        expect_end(self.program, ["deliveries", path, records], (4, b"", b"stockdesk: record 0\n"))
+        write_records(records, [["key", "branch", "article", "qty"], ["D4", "N1", "A-1", "1"], ["D5", "N1", "A-1", "05"]])
+        expect_end(self.program, ["deliveries", path, records], (4, b"", b"stockdesk: record 2\n"))
+        header = ["key", "order", "until", "way", "branch", "article", "qty"]
+        write_records(records, [header, ["G4", "54", "500", "take", "N1", "A-1", "5", ""]])
+        expect_end(self.program, ["orders", path, records], (4, b"", b"stockdesk: record 1\n"))
+        expect(bytes_of(path) == found, "the desk was changed")
 
-def test_a_desk_outlives_each_run(program, folder):
-    path = new_desk(program, folder)
-    script = lines_of("long.script") + lines_of("long.rest.script")
-    replies = lines_of("long.replies") + lines_of("long.rest.replies")
-    for line, reply in zip(script, replies, strict=True):
-        found = done(program, ["run", path], line + "\n")
-        expect(found == [reply], f"{line}: {found}")
+    def test_a_long_file_of_orders_may_come_twice(self):
+        """10,000 records, as 2,500 orders of four lines, one by one and together."""
+        records = os.path.join(self.folder, "orders.csv")
+        rows = [["key", "order", "until", "way", "branch", "article", "qty"]]
+        for n in range(10_000):
+            rows.append([f"G{n // 4}", n // 4 + 1, 500, "take", f"N{n % 5}", f"A{n % 50 // 5:02}", 1])
+        write_records(records, rows)
+        expect_twice(self.program, new_desk(self.program, self.folder, "one_by_one.db"), [records])
+        expect_twice(self.program, new_desk(self.program, self.folder, "together.db"), [records, "--together", "1000"])
 
+    def test_an_empty_file_becomes_a_desk_once(self):
+        path = os.path.join(self.folder, "empty.db")
+        open(path, "wb").close()
+        expect_end(self.program, ["init", path], (0, b"", b""))
+        desk = bytes_of(path)
+        expect_end(self.program, ["init", path], NOT_A_DESK)
+        expect(bytes_of(path) == desk, "the desk was changed")
 
-def test_long_input_is_answered(program, folder):
-    script, replies = [], []
-    for number in range(50):
-        script.append(f"F{number} field N1 A{number} 0 1000 500")
-    for number in range(1950):
-        verb = "deliver" if number % 3 else f"open {number + 1} 120 take"
-        script.append(f"K{number} {verb} N1 A{number % 50} 1")
-    replies = [f"{line.split()[0]} done {place}" for place, line in enumerate(script, 1)]
-    script.append("? field N1 A0")
-    # of the 39 commands on this field every third is an order
-    replies.append("? field N1 A0 lo 0 hi 1000 value 526 inf 513 sup 526")
-    # a line too long is bad once, ended or not
-    for length in [4_096, 4_097, 10_000]:
-        script.append("A" * length)
-        replies.append("- refused 20 BadCommand 0")
-    found = done(program, ["run"], "\n".join(script))
-    expect(found == replies, "another reply")
+    @needs_strict_tables
+    def test_another_sqlite_reads_the_file(self):
+        path = new_desk(self.program, self.folder)
+        done(self.program, ["run", path], TRANSFER)
+        database = sqlite3.connect(path)
+        try:
+            expect(database.execute("PRAGMA integrity_check").fetchall() == [("ok",)], "the file is not whole")
+            names = [name for (name,) in database.execute("SELECT name FROM sqlite_schema WHERE type = 'table' ORDER BY rowid")]
+            expect(names == list(ROWS), f"other tables: {names}")
+            for table, rows in ROWS.items():
+                columns = COLUMNS[table]
+                want = [
+                    (name, "TEXT" if name in TEXTS else "INTEGER", 1, place if place <= KEYS[table] else 0)
+                    for place, name in enumerate(columns, 1)
+                ]
+                found = database.execute(f"SELECT name, type, \"notnull\", pk FROM pragma_table_info('{table}')").fetchall()
+                expect(found == want, f"{table} has other columns: {found}")
+                order = ", ".join(str(n) for n in range(1, len(columns) + 1))
+                found = database.execute(f"SELECT {', '.join(columns)} FROM {table} ORDER BY {order}").fetchall()
+                expect(found == rows, f"{table} has other rows: {found}")
+        finally:
+            database.close()
 
-
-def test_replies_come_line_by_line(program, folder):
-    session = Session(program, new_desk(program, folder))
-    try:
-        expect(session.ask("K1 field N1 A-1 0 100 40") == "K1 done 1", "no reply to the first line")
-        shown = session.ask("? field N1 A-1")
-        expect(shown == "? field N1 A-1 lo 0 hi 100 value 40 inf 40 sup 40", f"another field: {shown}")
-        expect(session.ask("x") == "- refused 20 BadCommand 0", "no reply to a bad line")
-    finally:
-        session.end()
-
-
-def test_another_sqlite_reads_the_file(program, folder):
-    path = new_desk(program, folder)
-    done(program, ["run", path], TRANSFER)
-    if sqlite3 is None or sqlite3.sqlite_version_info < (3, 37):
-        say("  not read: no other SQLite with strict tables is here")
-        return
-    database = sqlite3.connect(path)
-    try:
-        expect(database.execute("PRAGMA integrity_check").fetchall() == [("ok",)], "the file is not whole")
-        names = [name for (name,) in database.execute("SELECT name FROM sqlite_schema WHERE type = 'table' ORDER BY rowid")]
-        expect(names == list(ROWS), f"other tables: {names}")
-        for table, rows in ROWS.items():
-            columns = COLUMNS[table]
-            want = [
-                (name, "TEXT" if name in TEXTS else "INTEGER", 1, place if place <= KEYS[table] else 0)
-                for place, name in enumerate(columns, 1)
-            ]
-            found = database.execute(f"SELECT name, type, \"notnull\", pk FROM pragma_table_info('{table}')").fetchall()
-            expect(found == want, f"{table} has other columns: {found}")
-            order = ", ".join(str(n) for n in range(1, len(columns) + 1))
-            found = database.execute(f"SELECT {', '.join(columns)} FROM {table} ORDER BY {order}").fetchall()
-            expect(found == rows, f"{table} has other rows: {found}")
-    finally:
+    @needs_sqlite
+    def test_another_database_is_no_desk(self):
+        path = os.path.join(self.folder, "other.db")
+        database = sqlite3.connect(path)
+        database.execute("CREATE TABLE note (id INTEGER)")
+        database.commit()
         database.close()
+        found = bytes_of(path)
+        expect_end(self.program, ["init", path], NOT_A_DESK)
+        expect_end(self.program, ["run", path], NOT_A_DESK)
+        expect(bytes_of(path) == found, "it was changed")
 
-
-def test_another_database_is_no_desk(program, folder):
-    if sqlite3 is None:
-        say("  not tried: no other SQLite is here")
-        return
-    path = os.path.join(folder, "other.db")
-    database = sqlite3.connect(path)
-    database.execute("CREATE TABLE note (id INTEGER)")
-    database.commit()
-    database.close()
-    found = bytes_of(path)
-    expect_end(program, ["init", path], NOT_A_DESK)
-    expect_end(program, ["run", path], NOT_A_DESK)
-    expect(bytes_of(path) == found, "it was changed")
-
-
-def test_an_empty_script_changes_nothing(program, folder):
-    """A run that reads nothing: no output, and the tables as `init` made them."""
-    path = new_desk(program, folder)
-    expect_end(program, ["run", path], (0, b"", b""), text="")
-    if sqlite3 is not None:
-        expect(rows_of(path) == ["desk|1|2|0|0"], "other rows")
+    def test_an_empty_script_changes_nothing(self):
+        """A run that reads nothing: no output, and the tables as `init` made them."""
+        path = new_desk(self.program, self.folder)
+        expect_end(self.program, ["run", path], (0, b"", b""), text="")
+        if sqlite3 is not None:
+            expect(rows_of(path) == ["desk|1|2|0|0"], "other rows")
 
 
 def killed(program, path, first, seconds):
@@ -369,65 +299,57 @@ def killed(program, path, first, seconds):
     return len(replies)
 
 
-def test_nothing_acknowledged_is_lost(program, folder):
-    generator = random.Random(1986)
-    path = new_desk(program, folder)
-    done(program, ["run", path], "K1 field N1 A-1 0 1000000000 0\n")
-    place, cut = 2, 0
-    for _ in range(ROUNDS):
-        acknowledged = killed(program, path, place, generator.uniform(0, 0.15))
-        [shown] = done(program, ["run", path], "? field N1 A-1\n")
-        found = int(shown.split()[9]) - (place - 2)
-        expect(acknowledged <= found <= LINES, f"{acknowledged} acknowledged, {found} found")
-        # what is found has the first of the commands, each at its place
-        again = "".join(f"K{n} deliver N1 A-1 1\n" for n in range(2, place + found))
-        want = [f"K{n} done {n}" for n in range(2, place + found)]
-        expect(done(program, ["run", path], again) == want, "not the first of the commands")
-        cut += acknowledged < LINES
-        place += found
-    say(f"  {ROUNDS} sessions, {cut} of them killed before their end, {place - 1} commands")
+class Sessions(ProgramCase):
+    def test_a_desk_outlives_each_run(self):
+        path = new_desk(self.program, self.folder)
+        script = lines_of("long.script") + lines_of("long.rest.script")
+        replies = lines_of("long.replies") + lines_of("long.rest.replies")
+        for line, reply in zip(script, replies, strict=True):
+            found = done(self.program, ["run", path], line + "\n")
+            expect(found == [reply], f"{line}: {found}")
 
+    def test_long_input_is_answered(self):
+        script, replies = [], []
+        for number in range(50):
+            script.append(f"F{number} field N1 A{number} 0 1000 500")
+        for number in range(1950):
+            verb = "deliver" if number % 3 else f"open {number + 1} 120 take"
+            script.append(f"K{number} {verb} N1 A{number % 50} 1")
+        replies = [f"{line.split()[0]} done {place}" for place, line in enumerate(script, 1)]
+        script.append("? field N1 A0")
+        # of the 39 commands on this field every third is an order
+        replies.append("? field N1 A0 lo 0 hi 1000 value 526 inf 513 sup 526")
+        # a line too long is bad once, ended or not
+        for length in [4_096, 4_097, 10_000]:
+            script.append("A" * length)
+            replies.append("- refused 20 BadCommand 0")
+        found = done(self.program, ["run"], "\n".join(script))
+        expect(found == replies, "another reply")
 
-def main():
-    [program] = sys.argv[1:]
-    program = os.path.abspath(program)
-    for test in [
-        test_other_words_ask_for_nothing,
-        test_help_says_what_each_word_does,
-        test_a_store_that_fails_is_told,
-        test_want_of_memory_is_told,
-        test_no_other_file_is_touched,
-        test_an_empty_file_becomes_a_desk_once,
-        test_a_file_of_requests_is_judged_last,
-        test_a_long_file_of_orders_may_come_twice,
-        test_a_desk_outlives_each_run,
-        test_long_input_is_answered,
-        test_replies_come_line_by_line,
-        test_another_sqlite_reads_the_file,
-        test_another_database_is_no_desk,
-        test_an_empty_script_changes_nothing,
-        test_nothing_acknowledged_is_lost,
-        *documents.TESTS,
-        *hostile.TESTS,
-        *messages.TESTS,
-        *power_cut.TESTS,
-        *resumed.TESTS,
-        *scripts.TESTS,
-        *service.TESTS,
-        *spelling.TESTS,
-        *stored.TESTS,
-        *together.TESTS,
-        *upgrades.TESTS,
-        *records.TESTS,
-        *damages.TESTS,
-    ]:
-        say(f"process {test.__name__}")
-        folder = tempfile.mkdtemp()
+    def test_replies_come_line_by_line(self):
+        session = Session(self.program, new_desk(self.program, self.folder))
         try:
-            test(program, folder)
+            expect(session.ask("K1 field N1 A-1 0 100 40") == "K1 done 1", "no reply to the first line")
+            shown = session.ask("? field N1 A-1")
+            expect(shown == "? field N1 A-1 lo 0 hi 100 value 40 inf 40 sup 40", f"another field: {shown}")
+            expect(session.ask("x") == "- refused 20 BadCommand 0", "no reply to a bad line")
         finally:
-            shutil.rmtree(folder)
+            session.end()
 
-
-if __name__ == "__main__":
-    main()
+    def test_nothing_acknowledged_is_lost(self):
+        generator = random.Random(1986)
+        path = new_desk(self.program, self.folder)
+        done(self.program, ["run", path], "K1 field N1 A-1 0 1000000000 0\n")
+        place, cut = 2, 0
+        for _ in range(ROUNDS):
+            acknowledged = killed(self.program, path, place, generator.uniform(0, 0.15))
+            [shown] = done(self.program, ["run", path], "? field N1 A-1\n")
+            found = int(shown.split()[9]) - (place - 2)
+            expect(acknowledged <= found <= LINES, f"{acknowledged} acknowledged, {found} found")
+            # what is found has the first of the commands, each at its place
+            again = "".join(f"K{n} deliver N1 A-1 1\n" for n in range(2, place + found))
+            want = [f"K{n} done {n}" for n in range(2, place + found)]
+            expect(done(self.program, ["run", path], again) == want, "not the first of the commands")
+            cut += acknowledged < LINES
+            place += found
+        note(f"{ROUNDS} sessions, {cut} of them killed before their end, {place - 1} commands")

@@ -4,7 +4,10 @@ every fault that a record may have, a key that comes back, and numbers that fill
 import os
 import shutil
 
-from programs import bytes_of, done, ended, expect, new_desk, rows_of, sqlite3
+from support.cases import ProgramCase
+from support.programs import bytes_of, done, ended, expect, new_desk
+from support.tables import rows_of, sqlite3
+
 
 ORDERS = b"key,order,until,way,branch,article,qty"
 DELIVERIES = b"key,branch,article,qty"
@@ -165,18 +168,6 @@ class Desk:
         return ended(self.program, [command, path, self.file])
 
 
-def test_files_say_their_requests(program, folder):
-    """The replies to a file, and the rows behind it, are those of its requests as a script."""
-    desk = Desk(program, folder)
-    for file, script in GOOD:
-        asked, played = desk.copy("asked.db"), desk.copy("played.db")
-        replies = "".join(line + "\n" for line in done(program, ["run", played], script)).encode()
-        end = desk.ended(asked, file)
-        expect(end == (0, replies, b""), f"{file}: {end} and not {replies}")
-        if sqlite3 is not None:
-            expect(rows_of(asked) == rows_of(played), f"{file}: other rows")
-
-
 def expect_fault(desk, command, file, number):
     with open(desk.file, "wb") as records:
         records.write(file)
@@ -184,40 +175,42 @@ def expect_fault(desk, command, file, number):
     expect(end == (4, b"", b"stockdesk: record %d\n" % number), f"{command} {file}: {end} and not record {number}")
 
 
-def test_the_first_record_at_fault_is_named(program, folder):
-    """Nothing is done then: the file is as it was."""
-    desk = Desk(program, folder)
-    found = bytes_of(desk.path)
-    for command, header, headers, records in [
-        ("orders", ORDERS, BAD_HEADERS[0], BAD_ORDERS),
-        ("deliveries", DELIVERIES, BAD_HEADERS[1], BAD_DELIVERIES),
-        ("bounds", BOUNDS, BAD_HEADERS[1], BAD_BOUNDS),
-    ]:
-        for file in headers:
-            expect_fault(desk, command, file, 0)
-        for rows, number in records:
-            expect_fault(desk, command, header + b"\n" + rows, number)
-    expect(bytes_of(desk.path) == found, "the desk was changed")
+class Records(ProgramCase):
+    def test_files_say_their_requests(self):
+        """The replies to a file, and the rows behind it, are those of its requests as a script."""
+        desk = Desk(self.program, self.folder)
+        for file, script in GOOD:
+            asked, played = desk.copy("asked.db"), desk.copy("played.db")
+            replies = "".join(line + "\n" for line in done(self.program, ["run", played], script)).encode()
+            end = desk.ended(asked, file)
+            expect(end == (0, replies, b""), f"{file}: {end} and not {replies}")
+            if sqlite3 is not None:
+                expect(rows_of(asked) == rows_of(played), f"{file}: other rows")
 
+    def test_the_first_record_at_fault_is_named(self):
+        """Nothing is done then: the file is as it was."""
+        desk = Desk(self.program, self.folder)
+        found = bytes_of(desk.path)
+        for command, header, headers, records in [
+            ("orders", ORDERS, BAD_HEADERS[0], BAD_ORDERS),
+            ("deliveries", DELIVERIES, BAD_HEADERS[1], BAD_DELIVERIES),
+            ("bounds", BOUNDS, BAD_HEADERS[1], BAD_BOUNDS),
+        ]:
+            for file in headers:
+                expect_fault(desk, command, file, 0)
+            for rows, number in records:
+                expect_fault(desk, command, header + b"\n" + rows, number)
+        expect(bytes_of(desk.path) == found, "the desk was changed")
 
-def test_a_key_that_comes_back_is_reused(program, folder):
-    desk = Desk(program, folder)
-    for rows, want in REUSED:
-        end = desk.ended(desk.copy("asked.db"), ORDERS + rows)
-        expect(end == (0, "".join(line + "\n" for line in want).encode(), b""), f"{rows}: {end}")
+    def test_a_key_that_comes_back_is_reused(self):
+        desk = Desk(self.program, self.folder)
+        for rows, want in REUSED:
+            end = desk.ended(desk.copy("asked.db"), ORDERS + rows)
+            expect(end == (0, "".join(line + "\n" for line in want).encode(), b""), f"{rows}: {end}")
 
-
-def test_sheets_hold_the_greatest_numbers(program, folder):
-    path = new_desk(program, folder)
-    done(program, ["run", path], WIDE)
-    for (command, name), sheet in SHEETS:
-        end = ended(program, [command, path, name])
-        expect(end == (0, sheet.encode(), b""), f"{command} {name}: {end}")
-
-
-TESTS = [
-    test_files_say_their_requests,
-    test_the_first_record_at_fault_is_named,
-    test_a_key_that_comes_back_is_reused,
-    test_sheets_hold_the_greatest_numbers,
-]
+    def test_sheets_hold_the_greatest_numbers(self):
+        path = new_desk(self.program, self.folder)
+        done(self.program, ["run", path], WIDE)
+        for (command, name), sheet in SHEETS:
+            end = ended(self.program, [command, path, name])
+            expect(end == (0, sheet.encode(), b""), f"{command} {name}: {end}")

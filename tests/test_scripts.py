@@ -6,7 +6,9 @@ import socket
 import subprocess
 import tempfile
 
-from programs import SECONDS, done, expect, new_desk
+from support.cases import ProgramCase
+from support.programs import SECONDS, done, expect, new_desk
+
 
 BAD = "- refused 20 BadCommand 0"
 
@@ -298,85 +300,73 @@ FIRST = "K1 field N1 A-1 0 100 40\n? field N1 A-1\n"
 FIRST_REPLIES = "K1 done 1\n? field N1 A-1 lo 0 hi 100 value 40 inf 40 sup 40\n"
 
 
-def test_each_script_is_answered(program, folder):
-    for number, rows in enumerate(SCRIPTS):
-        script, replies = "".join(line + "\n" for line, _ in rows), [reply for _, reply in rows]
-        expect(done(program, ["run"], script) == replies, f"script {number} in memory")
-        path = new_desk(program, folder, f"{number}.db")
-        expect(done(program, ["run", path], script) == replies, f"script {number} on a file")
-
-
-def test_an_opening_changes_no_answer(program, folder):
-    """Each line on a desk that was opened for it."""
-    for number, rows in enumerate([TRANSFER, RELEASE, *FIRMS, OPEN_ORDERS, ENDED_ORDERS, REFUSED]):
-        path = new_desk(program, folder, f"{number}.db")
-        for line, reply in rows:
-            found = done(program, ["run", path], line + "\n")
-            expect(found == [reply], f"script {number}, {line}: {found}")
-
-
-def test_a_firm_transfer_keeps_its_articles_total(program, folder):
-    """From its making to its commit, the article's total is 40 + 5 behind each line."""
-    path = new_desk(program, folder)
-    for number, (line, reply) in enumerate(FIRM_TRANSFER, 1):
-        expect(done(program, ["run", path], line + "\n") == [reply], f"{line}: another reply")
-        if number > 1:
-            total = done(program, ["article", path, "A-1"])[-1].split()
-            expect(total == ["total", "45"], f"{line}: {total}")
-
-
-def test_a_line_that_is_none_is_one_bad_line(program, folder):
-    for count, behind, replies in FLOODS:
-        run = subprocess.run([program, "run"], input=b"A" * count + behind, capture_output=True, timeout=SECONDS, check=False)
-        found = (run.returncode, run.stdout.decode().splitlines(), run.stderr)
-        expect(found == (0, replies, b""), f"{count} bytes and {behind!r}: {found}")
-
-
 def expect_io(run, out, want, of):
     """The run ended by a stream that failed, behind this output."""
     found = (run.returncode, out, run.stderr)
     expect(found == (1, want.encode(), b"stockdesk: io\n"), f"{of}: {found}")
 
 
-def test_a_read_that_fails_ends_a_script(program, folder):
-    """Behind each number of bytes: the lines that had ended by then are answered."""
-    script = FIRST.encode()
-    for size in range(len(script) + 1):
-        ours, theirs = socket.socketpair()
-        with theirs:
-            # what is not read on this side when it closes is a fault of the other's next read
-            theirs.sendall(b"x")
-            ours.sendall(script[:size])
-            ours.close()
-            run = subprocess.run([program, "run"], stdin=theirs, capture_output=True, timeout=SECONDS, check=False)
-        lines = FIRST_REPLIES.splitlines(keepends=True)
-        expect_io(run, run.stdout, "".join(lines[: script[:size].count(b"\n")]), f"{size} bytes")
+class Scripts(ProgramCase):
+    def test_each_script_is_answered(self):
+        for number, rows in enumerate(SCRIPTS):
+            script, replies = "".join(line + "\n" for line, _ in rows), [reply for _, reply in rows]
+            expect(done(self.program, ["run"], script) == replies, f"script {number} in memory")
+            path = new_desk(self.program, self.folder, f"{number}.db")
+            expect(done(self.program, ["run", path], script) == replies, f"script {number} on a file")
 
+    def test_an_opening_changes_no_answer(self):
+        """Each line on a desk that was opened for it."""
+        for number, rows in enumerate([TRANSFER, RELEASE, *FIRMS, OPEN_ORDERS, ENDED_ORDERS, REFUSED]):
+            path = new_desk(self.program, self.folder, f"{number}.db")
+            for line, reply in rows:
+                found = done(self.program, ["run", path], line + "\n")
+                expect(found == [reply], f"script {number}, {line}: {found}")
 
-def test_a_write_that_fails_ends_a_script(program, folder):
-    """Behind each number of bytes, which are a beginning of the answer."""
-    for size in range(len(FIRST_REPLIES)):
-        with tempfile.TemporaryFile() as out:
+    def test_a_firm_transfer_keeps_its_articles_total(self):
+        """From its making to its commit, the article's total is 40 + 5 behind each line."""
+        path = new_desk(self.program, self.folder)
+        for number, (line, reply) in enumerate(FIRM_TRANSFER, 1):
+            expect(done(self.program, ["run", path], line + "\n") == [reply], f"{line}: another reply")
+            if number > 1:
+                total = done(self.program, ["article", path, "A-1"])[-1].split()
+                expect(total == ["total", "45"], f"{line}: {total}")
+
+    def test_a_line_that_is_none_is_one_bad_line(self):
+        for count, behind, replies in FLOODS:
             run = subprocess.run(
-                [program, "run"],
-                input=FIRST.encode(),
-                stdout=out,
-                stderr=subprocess.PIPE,
-                timeout=SECONDS,
-                check=False,
-                # what is over the limit is refused, and is no signal
-                restore_signals=False,
-                preexec_fn=lambda: resource.setrlimit(resource.RLIMIT_FSIZE, (size, size)),
+                [self.program, "run"], input=b"A" * count + behind, capture_output=True, timeout=SECONDS, check=False
             )
-            out.seek(0)
-            expect_io(run, out.read(), FIRST_REPLIES[:size], f"{size} bytes")
+            found = (run.returncode, run.stdout.decode().splitlines(), run.stderr)
+            expect(found == (0, replies, b""), f"{count} bytes and {behind!r}: {found}")
 
+    def test_a_read_that_fails_ends_a_script(self):
+        """Behind each number of bytes: the lines that had ended by then are answered."""
+        script = FIRST.encode()
+        for size in range(len(script) + 1):
+            ours, theirs = socket.socketpair()
+            with theirs:
+                # what is not read on this side when it closes is a fault of the other's next read
+                theirs.sendall(b"x")
+                ours.sendall(script[:size])
+                ours.close()
+                run = subprocess.run([self.program, "run"], stdin=theirs, capture_output=True, timeout=SECONDS, check=False)
+            lines = FIRST_REPLIES.splitlines(keepends=True)
+            expect_io(run, run.stdout, "".join(lines[: script[:size].count(b"\n")]), f"{size} bytes")
 
-TESTS = [
-    test_each_script_is_answered,
-    test_an_opening_changes_no_answer,
-    test_a_firm_transfer_keeps_its_articles_total,
-    test_a_line_that_is_none_is_one_bad_line,
-    test_a_read_that_fails_ends_a_script,
-    test_a_write_that_fails_ends_a_script,
-]
+    def test_a_write_that_fails_ends_a_script(self):
+        """Behind each number of bytes, which are a beginning of the answer."""
+        for size in range(len(FIRST_REPLIES)):
+            with tempfile.TemporaryFile() as out:
+                run = subprocess.run(
+                    [self.program, "run"],
+                    input=FIRST.encode(),
+                    stdout=out,
+                    stderr=subprocess.PIPE,
+                    timeout=SECONDS,
+                    check=False,
+                    # what is over the limit is refused, and is no signal
+                    restore_signals=False,
+                    preexec_fn=lambda: resource.setrlimit(resource.RLIMIT_FSIZE, (size, size)),
+                )
+                out.seek(0)
+                expect_io(run, out.read(), FIRST_REPLIES[:size], f"{size} bytes")

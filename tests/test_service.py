@@ -1,20 +1,18 @@
 """Tests of the built program that serves connections: ports, many messages against the same as a
 script, `curl`, connections that break off, a store that fails, and services that are killed."""
 
-import contextlib
 import http.client
 import random
-import re
-import resource
-import shutil
 import socket
-import struct
 import subprocess
 import threading
-import time
 
-from forms import compact
-from programs import SECONDS, done, expect, expect_end, new_desk, rows_of, say, sqlite3
+from support.cases import ProgramCase, needs
+from support.messages import answer_to, compact
+from support.programs import SECONDS, done, expect, expect_end, new_desk, note
+from support.service import JSON, Service, answered, ask, post
+from support.tables import rows_of, sqlite3
+
 
 COMMANDS = 2_000
 ROUNDS = 20
@@ -22,90 +20,6 @@ KILLED_IN = 500
 
 VERBS = "deliver writeoff rebound open open transfer more use use release firm commit abort".split()
 FIRST = ("K1", "field N1 A-1 0 100 40")
-JSON = "application/json"
-
-
-class Service:
-    """A desk in a file that is served to so many connections; its file may grow to so many bytes."""
-
-    def __init__(self, program, path, connections, port=0, limit=None):
-        self.process = subprocess.Popen(
-            [program, "serve", path, "--port", str(port), "--connections", str(connections)],
-            stdin=subprocess.DEVNULL,
-            stdout=subprocess.PIPE,
-            stderr=subprocess.PIPE,
-            restore_signals=limit is None,
-            preexec_fn=limit and (lambda: resource.setrlimit(resource.RLIMIT_FSIZE, (limit, limit))),
-        )
-        # an answer that never comes ends the test
-        self.clock = threading.Timer(SECONDS, self.process.kill)
-        self.clock.start()
-        told = self.process.stdout.readline().decode()
-        listening = re.fullmatch(r"listening ([1-9][0-9]*)\n", told)
-        expect(listening, f"no port: {told!r}")
-        self.port = int(listening[1])
-
-    def connect(self):
-        return http.client.HTTPConnection("127.0.0.1", self.port, timeout=SECONDS)
-
-    def expect_end(self, want=(0, b"", b"")):
-        out, errors = self.process.communicate()
-        self.clock.cancel()
-        found = (self.process.returncode, out, errors)
-        expect(found == want, f"serve: {found} and not {want}")
-
-
-def ask(connection, method, target, body=None):
-    """The status, the type and the body of an answer."""
-    connection.request(method, target, body)
-    answer = connection.getresponse()
-    return answer.status, answer.getheader("content-type"), answer.read().decode()
-
-
-def answered(port, pieces, is_reset=False):
-    """What is answered to these pieces, sent one by one, until the connection ends; or the connection is reset behind them."""
-    found = b""
-    with socket.create_connection(("127.0.0.1", port), SECONDS) as connection:
-        connection.setsockopt(socket.IPPROTO_TCP, socket.TCP_NODELAY, 1)
-        if is_reset:
-            # it is closed without a farewell
-            connection.setsockopt(socket.SOL_SOCKET, socket.SO_LINGER, struct.pack("ii", 1, 0))
-        # the other end may have closed behind what it could not read
-        with contextlib.suppress(OSError):
-            for piece in pieces:
-                connection.sendall(piece)
-                if len(pieces) > 1:
-                    time.sleep(0.0002)
-            if is_reset:
-                return found
-            connection.shutdown(socket.SHUT_WR)
-        with contextlib.suppress(ConnectionResetError):
-            while part := connection.recv(65_536):
-                found += part
-    return found
-
-
-def post(connection, key, command):
-    return ask(connection, "POST", "/v1/commands", compact({"key": key, "command": command}))
-
-
-def test_a_port_is_told_and_taken(program, folder):
-    """One of 127.0.0.1 alone that is free, or the one that is asked for; one that is taken is a fault."""
-    path = new_desk(program, folder)
-    service = Service(program, path, 1)
-    words = ["serve", new_desk(program, folder, "other.db"), "--port", str(service.port), "--connections", "1"]
-    expect_end(program, words, (1, b"", b"stockdesk: io\n"))
-    try:
-        socket.create_connection(("127.0.0.2", service.port), SECONDS).close()
-        expect(False, "it listens elsewhere too")
-    except ConnectionRefusedError:
-        pass
-    service.connect().connect()
-    service.expect_end()
-    again = Service(program, path, 1, port=service.port)
-    expect(again.port == service.port, f"another port: {again.port}")
-    again.connect().connect()
-    again.expect_end()
 
 
 def steps():
@@ -147,120 +61,11 @@ def steps():
     return made
 
 
-def answer_to(line):
-    """The status and the object that HTTP answers where a script is answered by this line."""
-    _, kind, *words = line.split()
-    if kind == "none":
-        return 404, {"error": "none"}
-    if kind == "field":
-        branch, article, *numbers = words
-        return 200, {"branch": branch, "article": article, **dict(zip(numbers[::2], map(int, numbers[1::2])))}
-    if kind == "order":
-        number, kind, until, state, *words = words
-        lines = [
-            {"way": way, "branch": branch, "article": article, "held": int(held), "used": int(used)}
-            for way, branch, article, held, used in zip(*[iter(words)] * 5, strict=True)
-        ]
-        return 200, {"number": int(number), "kind": kind, "until": int(until), "state": state, "lines": lines}
-    if kind == "done":
-        return 200, {"place": int(words[0])}
-    code, name, number = words
-    return 409, {"code": int(code), "refused": name, "line": int(number)}
-
-
-def test_messages_are_answered_as_a_script_is(program, folder):
-    """On one connection, of which both ends stay open; then the two files hold the same rows."""
-    served, played = new_desk(program, folder), new_desk(program, folder, "played.db")
-    script = "".join(f"{key} {command}\n? {view}\n" for key, command, view in steps())
-    lines = iter(done(program, ["run", played], script))
-    service = Service(program, served, 1)
-    connection = service.connect()
-    refused = 0
-    for key, command, view in steps():
-        found = post(connection, key, command)
-        status, body = answer_to(next(lines))
-        expect(found == (status, JSON, compact(body)), f"{command}: {found} and not {body}")
-        refused += status == 409
-        kind, *names = view.split()
-        found = ask(connection, "GET", "/".join([f"/v1/{kind}s", *names]))
-        status, body = answer_to(next(lines))
-        expect(found == (status, JSON, compact(body)), f"{view}: {found} and not {body}")
-    for branch in range(6):
-        found = ask(connection, "GET", f"/v1/sheets/N{branch}")
-        sheet = "".join(line + "\n" for line in done(program, ["sheet", played, f"N{branch}"]))
-        expect(found == (200, "text/plain", sheet), f"another sheet of N{branch}")
-    connection.close()
-    service.expect_end()
-    if sqlite3 is not None:
-        expect(rows_of(served) == rows_of(played), "other rows")
-    say(f"  {COMMANDS} commands, {refused} of them refused")
-
-
 def curl(port, target, *words):
     """What `curl` writes of an answer, with its status in front."""
     options = ["--silent", "--show-error", "--write-out", "%{stderr}%{http_code}"]
     run = subprocess.run(["curl", *options, *words, f"http://127.0.0.1:{port}{target}"], capture_output=True, timeout=SECONDS)
     return run.stderr.decode(), run.stdout.decode()
-
-
-def test_curl_is_answered(program, folder):
-    """A command, its repeat, a view, a sheet, and a body so long that it asks first whether it may be sent."""
-    if shutil.which("curl") is None:
-        say("  not tried: no curl is here")
-        return
-    key, command = FIRST
-    body = compact({"key": key, "command": command})
-    sheet = "A-1".ljust(16) + "".join(f"{level:11}" for level in [0, 100, 40, 40, 40]) + "\n"
-    sheet += "total".ljust(16) + f"{40:15}\n"
-    view = {"branch": "N1", "article": "A-1", "lo": 0, "hi": 100, "value": 40, "inf": 40, "sup": 40}
-    asked = [
-        (("/v1/commands", "--data", body), ("200", compact({"place": 1}))),
-        (("/v1/commands", "--data", body), ("200", compact({"place": 1}))),
-        (("/v1/commands", "--data", body.ljust(4_000)), ("200", compact({"place": 1}))),
-        (("/v1/fields/N1/A-1",), ("200", compact(view))),
-        (("/v1/sheets/N1",), ("200", sheet)),
-        (("/v1/orders/7",), ("404", compact({"error": "none"}))),
-    ]
-    service = Service(program, new_desk(program, folder), len(asked))
-    for words, want in asked:
-        found = curl(service.port, *words)
-        expect(found == want, f"{words}: {found} and not {want}")
-    service.expect_end()
-
-
-def test_a_connection_that_breaks_off_is_the_last_of_nothing(program, folder):
-    """One that is reset, one that ends within a body, one that is no HTTP: the next is served."""
-    service = Service(program, new_desk(program, folder), 4)
-    cut = b"POST /v1/commands HTTP/1.1\r\nContent-Length: 46\r\n\r\n{"
-    answered(service.port, [cut], is_reset=True)
-    for text in [cut, b"K1 expire 1\n"]:
-        found = answered(service.port, [text])
-        told = found.startswith(b"HTTP/1.1 400 Bad Request\r\n") and found.endswith(b'{"error":"message"}')
-        expect(told, f"{text}: {found}")
-    connection = service.connect()
-    found = post(connection, *FIRST)
-    expect(found == (200, JSON, compact({"place": 1})), f"{found}")
-    connection.close()
-    service.expect_end()
-
-
-def test_a_store_that_fails_ends_the_service(program, folder):
-    """A file that may not grow: what was answered is kept, the rest is answered as by a stopped desk, and then it ends."""
-    path = new_desk(program, folder)
-    done(program, ["run", path], "K1 field N1 A-1 0 1000 0\n")
-    service = Service(program, path, 2, limit=1_048_576)
-    connection = service.connect()
-    place, stopped = 2, (503, JSON, compact({"error": "stopped"}))
-    while (found := post(connection, f"K{place}", "deliver N1 A-1 1")) != stopped:
-        expect(found == (200, JSON, compact({"place": place})), f"{found}")
-        place += 1
-    for target in ["/v1/fields/N1/A-1", "/v1/orders/7", "/v1/sheets/N1"]:
-        expect(ask(connection, "GET", target) == stopped, f"{target} is answered")
-    connection.close()
-    service.expect_end((1, b"", b"stockdesk: store\n"))
-    [shown] = done(program, ["run", path], "? field N1 A-1\n")
-    found = int(shown.split()[9])
-    expect(place > 2 and found in (place - 2, place - 1), f"{place - 2} were answered, {found} are found")
 
 
 def killed(program, path, first, seconds):
@@ -285,30 +90,121 @@ def killed(program, path, first, seconds):
     return answered
 
 
-def test_nothing_answered_is_lost(program, folder):
-    generator = random.Random(1986)
-    path = new_desk(program, folder)
-    done(program, ["run", path], "K1 field N1 A-1 0 1000000000 0\n")
-    place, cut = 2, 0
-    for _ in range(ROUNDS):
-        answered = killed(program, path, place, generator.uniform(0, 0.4))
-        [shown] = done(program, ["run", path], "? field N1 A-1\n")
-        found = int(shown.split()[9]) - (place - 2)
-        expect(answered <= found <= answered + 1, f"{answered} answered, {found} found")
-        # what is found has the first of the commands, each at its place
-        again = "".join(f"K{n} deliver N1 A-1 1\n" for n in range(2, place + found))
-        want = [f"K{n} done {n}" for n in range(2, place + found)]
-        expect(done(program, ["run", path], again) == want, "not the first of the commands")
-        cut += answered < KILLED_IN
-        place += found
-    say(f"  {ROUNDS} services, {cut} of them killed before their end, {place - 1} commands")
+class Services(ProgramCase):
+    def test_a_port_is_told_and_taken(self):
+        """One of 127.0.0.1 alone that is free, or the one that is asked for; one that is taken is a fault."""
+        path = new_desk(self.program, self.folder)
+        service = Service(self.program, path, 1)
+        words = ["serve", new_desk(self.program, self.folder, "other.db"), "--port", str(service.port), "--connections", "1"]
+        expect_end(self.program, words, (1, b"", b"stockdesk: io\n"))
+        try:
+            socket.create_connection(("127.0.0.2", service.port), SECONDS).close()
+            expect(False, "it listens elsewhere too")
+        except ConnectionRefusedError:
+            pass
+        service.connect().connect()
+        service.expect_end()
+        again = Service(self.program, path, 1, port=service.port)
+        expect(again.port == service.port, f"another port: {again.port}")
+        again.connect().connect()
+        again.expect_end()
 
+    def test_messages_are_answered_as_a_script_is(self):
+        """On one connection, of which both ends stay open; then the two files hold the same rows."""
+        served, played = new_desk(self.program, self.folder), new_desk(self.program, self.folder, "played.db")
+        script = "".join(f"{key} {command}\n? {view}\n" for key, command, view in steps())
+        lines = iter(done(self.program, ["run", played], script))
+        service = Service(self.program, served, 1)
+        connection = service.connect()
+        refused = 0
+        for key, command, view in steps():
+            found = post(connection, key, command)
+            status, body = answer_to(next(lines))
+            expect(found == (status, JSON, compact(body)), f"{command}: {found} and not {body}")
+            refused += status == 409
+            kind, *names = view.split()
+            found = ask(connection, "GET", "/".join([f"/v1/{kind}s", *names]))
+            status, body = answer_to(next(lines))
+            expect(found == (status, JSON, compact(body)), f"{view}: {found} and not {body}")
+        for branch in range(6):
+            found = ask(connection, "GET", f"/v1/sheets/N{branch}")
+            sheet = "".join(line + "\n" for line in done(self.program, ["sheet", played, f"N{branch}"]))
+            expect(found == (200, "text/plain", sheet), f"another sheet of N{branch}")
+        connection.close()
+        service.expect_end()
+        if sqlite3 is not None:
+            expect(rows_of(served) == rows_of(played), "other rows")
+        note(f"{COMMANDS} commands, {refused} of them refused")
 
-TESTS = [
-    test_a_port_is_told_and_taken,
-    test_messages_are_answered_as_a_script_is,
-    test_curl_is_answered,
-    test_a_connection_that_breaks_off_is_the_last_of_nothing,
-    test_a_store_that_fails_ends_the_service,
-    test_nothing_answered_is_lost,
-]
+    @needs("curl")
+    def test_curl_is_answered(self):
+        """A command, its repeat, a view, a sheet, and a body so long that it asks first whether it may be sent."""
+        key, command = FIRST
+        body = compact({"key": key, "command": command})
+        sheet = "A-1".ljust(16) + "".join(f"{level:11}" for level in [0, 100, 40, 40, 40]) + "\n"
+        sheet += "total".ljust(16) + f"{40:15}\n"
+        view = {"branch": "N1", "article": "A-1", "lo": 0, "hi": 100, "value": 40, "inf": 40, "sup": 40}
+        asked = [
+            (("/v1/commands", "--data", body), ("200", compact({"place": 1}))),
+            (("/v1/commands", "--data", body), ("200", compact({"place": 1}))),
+            (("/v1/commands", "--data", body.ljust(4_000)), ("200", compact({"place": 1}))),
+            (("/v1/fields/N1/A-1",), ("200", compact(view))),
+            (("/v1/sheets/N1",), ("200", sheet)),
+            (("/v1/orders/7",), ("404", compact({"error": "none"}))),
+        ]
+        service = Service(self.program, new_desk(self.program, self.folder), len(asked))
+        for words, want in asked:
+            found = curl(service.port, *words)
+            expect(found == want, f"{words}: {found} and not {want}")
+        service.expect_end()
+
+    def test_a_connection_that_breaks_off_is_the_last_of_nothing(self):
+        """One that is reset, one that ends within a body, one that is no HTTP: the next is served."""
+        service = Service(self.program, new_desk(self.program, self.folder), 4)
+        cut = b"POST /v1/commands HTTP/1.1\r\nContent-Length: 46\r\n\r\n{"
+        answered(service.port, [cut], is_reset=True)
+        for text in [cut, b"K1 expire 1\n"]:
+            found = answered(service.port, [text])
+            told = found.startswith(b"HTTP/1.1 400 Bad Request\r\n") and found.endswith(b'{"error":"message"}')
+            expect(told, f"{text}: {found}")
+        connection = service.connect()
+        found = post(connection, *FIRST)
+        expect(found == (200, JSON, compact({"place": 1})), f"{found}")
+        connection.close()
+        service.expect_end()
+
+    def test_a_store_that_fails_ends_the_service(self):
+        """A file that may not grow: what was answered is kept, the rest is answered as by a stopped desk, and then it ends."""
+        path = new_desk(self.program, self.folder)
+        done(self.program, ["run", path], "K1 field N1 A-1 0 1000 0\n")
+        service = Service(self.program, path, 2, limit=1_048_576)
+        connection = service.connect()
+        place, stopped = 2, (503, JSON, compact({"error": "stopped"}))
+        while (found := post(connection, f"K{place}", "deliver N1 A-1 1")) != stopped:
+            expect(found == (200, JSON, compact({"place": place})), f"{found}")
+            place += 1
+        for target in ["/v1/fields/N1/A-1", "/v1/orders/7", "/v1/sheets/N1"]:
+            expect(ask(connection, "GET", target) == stopped, f"{target} is answered")
+        connection.close()
+        service.expect_end((1, b"", b"stockdesk: store\n"))
+        [shown] = done(self.program, ["run", path], "? field N1 A-1\n")
+        found = int(shown.split()[9])
+        expect(place > 2 and found in (place - 2, place - 1), f"{place - 2} were answered, {found} are found")
+
+    def test_nothing_answered_is_lost(self):
+        generator = random.Random(1986)
+        path = new_desk(self.program, self.folder)
+        done(self.program, ["run", path], "K1 field N1 A-1 0 1000000000 0\n")
+        place, cut = 2, 0
+        for _ in range(ROUNDS):
+            answered = killed(self.program, path, place, generator.uniform(0, 0.4))
+            [shown] = done(self.program, ["run", path], "? field N1 A-1\n")
+            found = int(shown.split()[9]) - (place - 2)
+            expect(answered <= found <= answered + 1, f"{answered} answered, {found} found")
+            # what is found has the first of the commands, each at its place
+            again = "".join(f"K{n} deliver N1 A-1 1\n" for n in range(2, place + found))
+            want = [f"K{n} done {n}" for n in range(2, place + found)]
+            expect(done(self.program, ["run", path], again) == want, "not the first of the commands")
+            cut += answered < KILLED_IN
+            place += found
+        note(f"{ROUNDS} services, {cut} of them killed before their end, {place - 1} commands")

@@ -1,7 +1,9 @@
 """Tests of the built program on lines, each in its one spelling or in none: codes and numbers at the ends of their ranges, words
 that are not quite those of a command, every refusal with its number and its name, and what is kept of a command."""
 
-from programs import done, expect, new_desk, rows_of, say, sqlite3
+from support.cases import ProgramCase
+from support.programs import done, expect, new_desk
+from support.tables import rows_of, sqlite3
 
 BAD = "- refused 20 BadCommand 0"
 
@@ -166,112 +168,93 @@ def expect_replies(program, steps):
         expect(reply == want, f"{line!r}: {reply} and not {want}")
 
 
-def test_codes_have_their_form(program, _):
-    steps = []
-    for line, (good, bad) in [("K1 deliver {} A-1 5", BRANCHES), ("K1 deliver N1 {} 5", ARTICLES)]:
-        steps += [(line.format(code), "K1 refused 4 NoField 0") for code in good]
-        steps += [(line.format(code), BAD) for code in bad]
-    for line, (good, bad) in [("? field {} A-1", BRANCHES), ("? field N1 {}", ARTICLES)]:
-        steps += [(line.format(code), "? none") for code in good]
-        steps += [(line.format(code), BAD) for code in bad]
-    good, bad = KEYS
-    steps += [(f"{key} commit 7", f"{key} refused 7 NoOrder 0") for key in good]
-    steps += [(f"{key} commit 7", BAD) for key in bad]
-    expect_replies(program, steps)
+class Spelling(ProgramCase):
+    def test_codes_have_their_form(self):
+        steps = []
+        for line, (good, bad) in [("K1 deliver {} A-1 5", BRANCHES), ("K1 deliver N1 {} 5", ARTICLES)]:
+            steps += [(line.format(code), "K1 refused 4 NoField 0") for code in good]
+            steps += [(line.format(code), BAD) for code in bad]
+        for line, (good, bad) in [("? field {} A-1", BRANCHES), ("? field N1 {}", ARTICLES)]:
+            steps += [(line.format(code), "? none") for code in good]
+            steps += [(line.format(code), BAD) for code in bad]
+        good, bad = KEYS
+        steps += [(f"{key} commit 7", f"{key} refused 7 NoOrder 0") for key in good]
+        steps += [(f"{key} commit 7", BAD) for key in bad]
+        expect_replies(self.program, steps)
 
+    def test_numbers_are_in_their_ranges(self):
+        steps = [("F1 field N1 A-1 0 100 40", "F1 done 1")]
+        for number, is_level, is_qty, is_moment, is_order in NUMBERS:
+            for line, is_one, want in [
+                (f"field N1 A-1 {number} 100 40", is_level, "3 FieldThere 0"),
+                (f"field N1 A-1 0 {number} 40", is_level, "3 FieldThere 0"),
+                (f"field N1 A-1 0 100 {number}", is_level, "3 FieldThere 0"),
+                (f"deliver N2 A-1 {number}", is_qty, "4 NoField 0"),
+                (f"rebound N2 A-1 {number} 100", is_level, "4 NoField 0"),
+                (f"rebound N2 A-1 0 {number}", is_level, "4 NoField 0"),
+                (f"use 7 N1 A-1 {number}", is_qty, "7 NoOrder 0"),
+                (f"open 7 9 take N2 A-1 {number}", is_qty, "4 NoField 1"),
+                # the clock stands at 0
+                (f"open 7 {number} take N2 A-1 1", is_moment, "9 Past 0" if number == "0" else "4 NoField 1"),
+                (f"commit {number}", is_order, "7 NoOrder 0"),
+                (f"firm {number}", is_order, "7 NoOrder 0"),
+            ]:
+                steps.append((f"K1 {line}", f"K1 refused {want}" if is_one else BAD))
+            steps.append((f"? order {number}", "? none" if is_order else BAD))
+        moments = [number for number, _, _, is_moment, _ in NUMBERS if is_moment]
+        steps += [(f"E{place} expire {number}", f"E{place} done {place}") for place, number in enumerate(moments, 2)]
+        expect_replies(self.program, steps)
 
-def test_numbers_are_in_their_ranges(program, _):
-    steps = [("F1 field N1 A-1 0 100 40", "F1 done 1")]
-    for number, is_level, is_qty, is_moment, is_order in NUMBERS:
-        for line, is_one, want in [
-            (f"field N1 A-1 {number} 100 40", is_level, "3 FieldThere 0"),
-            (f"field N1 A-1 0 {number} 40", is_level, "3 FieldThere 0"),
-            (f"field N1 A-1 0 100 {number}", is_level, "3 FieldThere 0"),
-            (f"deliver N2 A-1 {number}", is_qty, "4 NoField 0"),
-            (f"rebound N2 A-1 {number} 100", is_level, "4 NoField 0"),
-            (f"rebound N2 A-1 0 {number}", is_level, "4 NoField 0"),
-            (f"use 7 N1 A-1 {number}", is_qty, "7 NoOrder 0"),
-            (f"open 7 9 take N2 A-1 {number}", is_qty, "4 NoField 1"),
-            # the clock stands at 0
-            (f"open 7 {number} take N2 A-1 1", is_moment, "9 Past 0" if number == "0" else "4 NoField 1"),
-            (f"commit {number}", is_order, "7 NoOrder 0"),
-            (f"firm {number}", is_order, "7 NoOrder 0"),
-        ]:
-            steps.append((f"K1 {line}", f"K1 refused {want}" if is_one else BAD))
-        steps.append((f"? order {number}", "? none" if is_order else BAD))
-    moments = [number for number, _, _, is_moment, _ in NUMBERS if is_moment]
-    steps += [(f"E{place} expire {number}", f"E{place} done {place}") for place, number in enumerate(moments, 2)]
-    expect_replies(program, steps)
+    def test_lines_that_are_no_request_are_bad(self):
+        steps = [(line, BAD) for line in BAD_LINES]
+        steps += [(f"K1 {command} ", BAD) for command in EACH_KIND]
+        steps += [(f"K1 {command.replace(' ', '  ', 1)}", BAD) for command in EACH_KIND]
+        steps += [(f"K1 {command[0].upper()}{command[1:]}", BAD) for command in EACH_KIND]
+        expect_replies(self.program, steps)
 
+    def test_each_kind_is_kept_as_it_was_spelled(self):
+        path = new_desk(self.program, self.folder)
+        keys = [f"K{place:02}" for place in range(1, len(EACH_KIND) + 1)]
+        script = "".join(f"{key} {command}\n" for key, command in zip(keys, EACH_KIND))
+        want = [f"{key} done {place}" for place, key in enumerate(keys, 1)]
+        expect(done(self.program, ["run", path], script) == want, "not all are done")
+        if sqlite3 is None:
+            self.skipTest("no other SQLite is here to read what is kept")
+        kept = [f"kept|{key}|{place}|{command}" for place, (key, command) in enumerate(zip(keys, EACH_KIND), 1)]
+        expect([row for row in rows_of(path) if row.startswith("kept|")] == kept, "something else is kept")
 
-def test_lines_that_are_no_request_are_bad(program, _):
-    steps = [(line, BAD) for line in BAD_LINES]
-    steps += [(f"K1 {command} ", BAD) for command in EACH_KIND]
-    steps += [(f"K1 {command.replace(' ', '  ', 1)}", BAD) for command in EACH_KIND]
-    steps += [(f"K1 {command[0].upper()}{command[1:]}", BAD) for command in EACH_KIND]
-    expect_replies(program, steps)
+    def test_refusals_have_their_numbers_and_names(self):
+        expect_replies(self.program, REFUSALS)
 
+    def test_an_order_has_1_to_64_lines(self):
+        """Of the longest words, 2,558 bytes with 64 lines; and of lines that are done, one line more than 64."""
+        steps = [(f"{LONG_KEY} {LONG_OPEN}", BAD)]
+        for count in range(1, 65):
+            steps.append((f"{LONG_KEY} {LONG_OPEN}{LONG_LINE * count}", f"{LONG_KEY} refused 4 NoField 1"))
+        expect(len(steps[-1][0]) == 2_558, "another length")
+        steps.append((f"{LONG_KEY} {LONG_OPEN}{LONG_LINE * 65}", BAD))
+        steps += [(f"F{n} field N1 A{n} 0 9 5", f"F{n} done {n}") for n in range(1, 66)]
+        lines = "".join(f" take N1 A{n} 1" for n in range(1, 65))
+        steps.append((f"K1 open 7 120{lines} take N1 A65 1", BAD))
+        steps.append((f"K1 open 7 120{lines}", "K1 done 66"))
+        steps.append(("K2 more 7 take N1 A65 1", "K2 refused 12 TooManyLines 0"))
+        steps.append(("K2 more 7 take N1 A64 1", "K2 done 67"))
+        expect_replies(self.program, steps)
 
-def test_each_kind_is_kept_as_it_was_spelled(program, folder):
-    path = new_desk(program, folder)
-    keys = [f"K{place:02}" for place in range(1, len(EACH_KIND) + 1)]
-    script = "".join(f"{key} {command}\n" for key, command in zip(keys, EACH_KIND))
-    want = [f"{key} done {place}" for place, key in enumerate(keys, 1)]
-    expect(done(program, ["run", path], script) == want, "not all are done")
-    if sqlite3 is None:
-        say("  not read: no other SQLite is here")
-        return
-    kept = [f"kept|{key}|{place}|{command}" for place, (key, command) in enumerate(zip(keys, EACH_KIND), 1)]
-    expect([row for row in rows_of(path) if row.startswith("kept|")] == kept, "something else is kept")
+    def test_codes_are_ordered_by_their_bytes(self):
+        """As sheets show them."""
+        path = new_desk(self.program, self.folder)
+        branches, articles = IN_ORDER
+        fields = [(branch, "A-1") for branch in branches] + [("N1", article) for article in articles]
+        script = "".join(f"K{n} field {b} {a} 0 9 5\n" for n, (b, a) in enumerate(reversed(fields)))
+        done(self.program, ["run", path], script)
+        found = [line.split()[0] for line in done(self.program, ["article", path, "A-1"])]
+        expect(found == [*branches, "N1", "total"], f"{found}")
+        found = [line.split()[0] for line in done(self.program, ["sheet", path, "N1"])]
+        expect(found == [*articles, "total"], f"{found}")
 
-
-def test_refusals_have_their_numbers_and_names(program, _):
-    expect_replies(program, REFUSALS)
-
-
-def test_an_order_has_1_to_64_lines(program, _):
-    """Of the longest words, 2,558 bytes with 64 lines; and of lines that are done, one line more than 64."""
-    steps = [(f"{LONG_KEY} {LONG_OPEN}", BAD)]
-    for count in range(1, 65):
-        steps.append((f"{LONG_KEY} {LONG_OPEN}{LONG_LINE * count}", f"{LONG_KEY} refused 4 NoField 1"))
-    expect(len(steps[-1][0]) == 2_558, "another length")
-    steps.append((f"{LONG_KEY} {LONG_OPEN}{LONG_LINE * 65}", BAD))
-    steps += [(f"F{n} field N1 A{n} 0 9 5", f"F{n} done {n}") for n in range(1, 66)]
-    lines = "".join(f" take N1 A{n} 1" for n in range(1, 65))
-    steps.append((f"K1 open 7 120{lines} take N1 A65 1", BAD))
-    steps.append((f"K1 open 7 120{lines}", "K1 done 66"))
-    steps.append(("K2 more 7 take N1 A65 1", "K2 refused 12 TooManyLines 0"))
-    steps.append(("K2 more 7 take N1 A64 1", "K2 done 67"))
-    expect_replies(program, steps)
-
-
-def test_codes_are_ordered_by_their_bytes(program, folder):
-    """As sheets show them."""
-    path = new_desk(program, folder)
-    branches, articles = IN_ORDER
-    fields = [(branch, "A-1") for branch in branches] + [("N1", article) for article in articles]
-    script = "".join(f"K{n} field {b} {a} 0 9 5\n" for n, (b, a) in enumerate(reversed(fields)))
-    done(program, ["run", path], script)
-    found = [line.split()[0] for line in done(program, ["article", path, "A-1"])]
-    expect(found == [*branches, "N1", "total"], f"{found}")
-    found = [line.split()[0] for line in done(program, ["sheet", path, "N1"])]
-    expect(found == [*articles, "total"], f"{found}")
-
-
-def test_a_line_that_never_ends_is_one_bad_line(program, _):
-    """10,000,000 bytes and no newline; and bytes behind the last newline, whatever they are."""
-    for rest in ["A" * 10_000_000, "K9 use 7 N1 A-1 5", "\r", " "]:
-        found = done(program, ["run"], f"K1 field N1 A-1 0 100 40\n{rest}")
-        expect(found == ["K1 done 1", BAD], f"{len(rest)} bytes: {found}")
-
-
-TESTS = [
-    test_codes_have_their_form,
-    test_numbers_are_in_their_ranges,
-    test_lines_that_are_no_request_are_bad,
-    test_each_kind_is_kept_as_it_was_spelled,
-    test_refusals_have_their_numbers_and_names,
-    test_an_order_has_1_to_64_lines,
-    test_codes_are_ordered_by_their_bytes,
-    test_a_line_that_never_ends_is_one_bad_line,
-]
+    def test_a_line_that_never_ends_is_one_bad_line(self):
+        """10,000,000 bytes and no newline; and bytes behind the last newline, whatever they are."""
+        for rest in ["A" * 10_000_000, "K9 use 7 N1 A-1 5", "\r", " "]:
+            found = done(self.program, ["run"], f"K1 field N1 A-1 0 100 40\n{rest}")
+            expect(found == ["K1 done 1", BAD], f"{len(rest)} bytes: {found}")

@@ -9,12 +9,15 @@ import shutil
 import subprocess
 import tempfile
 
-from inputs import Inputs
-from power_cut import NAME, Recorded, calls_of, may_be_cut, rows_after_each, try_cuts
-from programs import SECONDS, bytes_of, done, ended, expect, new_desk, rows_of, say, sqlite3
-from recorded import OUTPUT
-from resumed import START, Killed, orders_of
-from stretches import file_of, kind_of
+from support.cases import ProgramCase
+from support.inputs import Inputs
+from support.killed import START, Killed, orders_of
+from support.power_cuts import NAME, Recorded, calls_of, may_be_cut, rows_after_each, try_cuts
+from support.programs import SECONDS, bytes_of, done, ended, expect, new_desk, note
+from support.recorded import OUTPUT
+from support.stretches import file_of, kind_of
+from support.tables import rows_of, sqlite3
+
 
 NUMBERS = [1, 2, 7, 100, 1000]
 REQUESTS = 400
@@ -183,13 +186,6 @@ def expect_small(files, kind, replies, shown, call):
     expect(found == want, f"{words}: {found} and not {want}")
 
 
-def test_small_files_are_answered_by_the_rules(program, folder):
-    files = Files(program, folder, FIELDS)
-    for (kind, text, replies, shown), call in itertools.product(SMALL, CALLS):
-        files.write(text.encode())
-        expect_small(files, kind, replies, shown, call)
-
-
 def random_lines(kind, inputs):
     """Requests that a file of a kind says; some of them come again, but not right behind themselves."""
     lines = []
@@ -218,13 +214,20 @@ def expect_as_one_by_one(files, kind, places):
         expect(found == want, f"{kind}, {number} together: another reply or other rows")
 
 
-def test_random_files_are_answered_as_one_by_one(program, folder):
-    names = [(branch, article) for branch in range(4) for article in range(5)]
-    files = Files(program, folder, "".join(f"F{b}{a} field N{b} A-{a} 0 300 200\n" for b, a in names))
-    inputs = Inputs(SEED)
-    for kind in ["deliveries", "bounds", "orders"]:
-        files.write(file_of(kind, random_lines(kind, inputs)))
-        expect_as_one_by_one(files, kind, len(names))
+class Answers(ProgramCase):
+    def test_small_files_are_answered_by_the_rules(self):
+        files = Files(self.program, self.folder, FIELDS)
+        for (kind, text, replies, shown), call in itertools.product(SMALL, CALLS):
+            files.write(text.encode())
+            expect_small(files, kind, replies, shown, call)
+
+    def test_random_files_are_answered_as_one_by_one(self):
+        names = [(branch, article) for branch in range(4) for article in range(5)]
+        files = Files(self.program, self.folder, "".join(f"F{b}{a} field N{b} A-{a} 0 300 200\n" for b, a in names))
+        inputs = Inputs(SEED)
+        for kind in ["deliveries", "bounds", "orders"]:
+            files.write(file_of(kind, random_lines(kind, inputs)))
+            expect_as_one_by_one(files, kind, len(names))
 
 
 def rows_behind(count, every):
@@ -275,13 +278,6 @@ class KilledTogether(Killed):
         self.untold += told < self.kept
 
 
-def test_a_killed_file_of_orders_leaves_whole_batches(program, folder):
-    killed = KilledTogether(program, folder)
-    killed.play(ROUNDS)
-    told = f"{killed.untold} of them behind what was kept and not told" if sqlite3 else "no other SQLite is here to read the rows"
-    say(f"  {told}")
-
-
 def deliveries(count, every):
     """So many deliveries and their replies by the rules on a desk of the one field: each of `every` is on a field that is not
     there, and the 26th is the 20th again."""
@@ -310,12 +306,6 @@ def recorded_batches(program, folder, most):
     expect(written.decode().splitlines() == replies, f"other replies: {written}")
     ends = ends_of(replies, 1, most)
     return Recorded(there, before, calls, lambda told: [rows[kept] for kept in may_be_kept(ends, told)])
-
-
-def test_a_power_cut_leaves_whole_batches(program, folder):
-    if may_be_cut():
-        recorded = recorded_batches(program, folder, 7)
-        try_cuts(program, folder, recorded, SEED, 4 * len(recorded.calls))
 
 
 def left_alone(program, words, lines):
@@ -377,31 +367,6 @@ class Deliveries(Files):
         expect(sqlite3 is None or rows_of(words[1]) == self.rows, f"{of}: other rows behind the file again")
 
 
-def test_a_reader_that_goes_away_leaves_whole_batches(program, folder):
-    """The write that fails is told."""
-    files = Deliveries(program, folder)
-    for most, read in [(7, 0), (7, 5), (7, 7), (7, 50), (100, 0), (100, 5), (1000, 0)]:
-        words, of = files.words(most), f"{most} together, {read} read"
-        end = left_alone(program, words, read)
-        expect(end == (1, b"stockdesk: io\n"), f"{of}: {end}")
-        files.expect_gone_on(words, values_left(files.replies, most, read), of)
-
-
-def test_a_store_that_fails_leaves_whole_batches(program, folder):
-    """In files that may not grow so far as the whole file takes: what is told are whole batches, and one more may be kept."""
-    files, failed = Deliveries(program, folder), set()
-    ends, size = ends_of(files.replies, 1, 100), os.path.getsize(files.desk)
-    for limit in range(size, size + GROWTH, GROWTH // 20):
-        words, of = files.words(100), f"{limit} bytes"
-        status, out, errors = ended(program, words, limit=(resource.RLIMIT_FSIZE, limit))
-        expect((status, errors) in [(0, b""), (1, b"stockdesk: store\n")], f"{of}: status {status}, {errors}")
-        told = files.told(out, of)
-        expect(told in ends, f"{of}: {told} replies are those of no batches")
-        failed.add(told)
-        files.expect_gone_on(words, [value_behind(files.replies[:end]) for end in may_be_kept(ends, told)], of)
-    expect(len(failed) > 3, f"it only failed behind {failed}")
-
-
 def with_memory(files, size):
     """The words of a call with memory of so many bytes, and how it ends."""
     words = files.words(100)
@@ -416,28 +381,56 @@ def enough(files):
     return size
 
 
-def test_want_of_memory_leaves_what_is_told(program, folder):
-    """With less and less memory the file is answered whole, then in part, and then not at all: what is kept is told, but for a
-    batch within whose commit memory was refused, which is a fault of the store."""
-    files, cut, told = Deliveries(program, folder), 0, None
-    size = enough(files)
-    while told != 0:
-        words, (status, out, errors) = with_memory(files, size)
-        expect((status, errors) in [(0, b""), (1, b"stockdesk: memory\n"), (1, b"stockdesk: store\n")], f"{size}: {errors}")
-        told = files.told(out, f"{size} bytes")
-        ends = range(told, told + (101 if b"store" in errors else 1))
-        files.expect_gone_on(words, {value_behind(files.replies[:end]) for end in ends}, f"{size} bytes")
-        cut += 0 < told < len(files.replies)
-        size -= 1 << 15
-    expect(cut > 0, "it was never answered in part")
+class Stops(ProgramCase):
+    def test_a_killed_file_of_orders_leaves_whole_batches(self):
+        killed = KilledTogether(self.program, self.folder)
+        killed.play(ROUNDS)
+        told = (
+            f"{killed.untold} of them behind what was kept and not told"
+            if sqlite3
+            else "no other SQLite is here to read the rows"
+        )
+        note(f"{told}")
 
+    def test_a_power_cut_leaves_whole_batches(self):
+        if may_be_cut():
+            recorded = recorded_batches(self.program, self.folder, 7)
+            try_cuts(self.program, self.folder, recorded, SEED, 4 * len(recorded.calls))
 
-TESTS = [
-    test_small_files_are_answered_by_the_rules,
-    test_random_files_are_answered_as_one_by_one,
-    test_a_killed_file_of_orders_leaves_whole_batches,
-    test_a_power_cut_leaves_whole_batches,
-    test_a_reader_that_goes_away_leaves_whole_batches,
-    test_a_store_that_fails_leaves_whole_batches,
-    test_want_of_memory_leaves_what_is_told,
-]
+    def test_a_reader_that_goes_away_leaves_whole_batches(self):
+        """The write that fails is told."""
+        files = Deliveries(self.program, self.folder)
+        for most, read in [(7, 0), (7, 5), (7, 7), (7, 50), (100, 0), (100, 5), (1000, 0)]:
+            words, of = files.words(most), f"{most} together, {read} read"
+            end = left_alone(self.program, words, read)
+            expect(end == (1, b"stockdesk: io\n"), f"{of}: {end}")
+            files.expect_gone_on(words, values_left(files.replies, most, read), of)
+
+    def test_a_store_that_fails_leaves_whole_batches(self):
+        """In files that may not grow so far as the whole file takes: what is told are whole batches, and one more may be kept."""
+        files, failed = Deliveries(self.program, self.folder), set()
+        ends, size = ends_of(files.replies, 1, 100), os.path.getsize(files.desk)
+        for limit in range(size, size + GROWTH, GROWTH // 20):
+            words, of = files.words(100), f"{limit} bytes"
+            status, out, errors = ended(self.program, words, limit=(resource.RLIMIT_FSIZE, limit))
+            expect((status, errors) in [(0, b""), (1, b"stockdesk: store\n")], f"{of}: status {status}, {errors}")
+            told = files.told(out, of)
+            expect(told in ends, f"{of}: {told} replies are those of no batches")
+            failed.add(told)
+            files.expect_gone_on(words, [value_behind(files.replies[:end]) for end in may_be_kept(ends, told)], of)
+        expect(len(failed) > 3, f"it only failed behind {failed}")
+
+    def test_want_of_memory_leaves_what_is_told(self):
+        """With less and less memory the file is answered whole, then in part, and then not at all: what is kept is told, but for
+        a batch within whose commit memory was refused, which is a fault of the store."""
+        files, cut, told = Deliveries(self.program, self.folder), 0, None
+        size = enough(files)
+        while told != 0:
+            words, (status, out, errors) = with_memory(files, size)
+            expect((status, errors) in [(0, b""), (1, b"stockdesk: memory\n"), (1, b"stockdesk: store\n")], f"{size}: {errors}")
+            told = files.told(out, f"{size} bytes")
+            ends = range(told, told + (101 if b"store" in errors else 1))
+            files.expect_gone_on(words, {value_behind(files.replies[:end]) for end in ends}, f"{size} bytes")
+            cut += 0 < told < len(files.replies)
+            size -= 1 << 15
+        expect(cut > 0, "it was never answered in part")

@@ -1,16 +1,17 @@
-"""Ways round what a group may do over HTTP/2, where a message is spelled by its front alone: pseudo headers, bodies of no told
-length, trailers, tunnels, and answers that are not read. Each is refused by the front, or does nothing, and holds nobody up."""
+"""Tests of ways round what a group may do over HTTP/2, where a message is spelled by its front alone: pseudo headers, bodies of
+no told length, trailers, tunnels, and answers that are not read. Each is refused by the front, or does nothing, and holds nobody
+up."""
 
 import json
-import os
-import socket
-import ssl
 import time
-from types import TracebackType
+import unittest
 
-from fronts import FIELDS, OFFICE, SHOP, WAREHOUSE, Front, credentials, message
-from programs import expect, say
-from ways_round import BODIES, COMMIT, PAIR
+from support import http2
+from support.fronts import FIELDS, OFFICE, SHOP, WAREHOUSE, Front, FrontCase, credentials, message
+from support.http2 import Headers, Http2
+from support.programs import expect, note
+from support.ways import BODIES, COMMIT, PAIR
+
 
 VIEW = "/v1/fields/N1/A-1"
 TELL = "/v1/commands"
@@ -20,91 +21,6 @@ MESSAGE = b"POST /v1/commands HTTP/1.1\r\nContent-Length: 45\r\n\r\n" + json.dum
 
 # so long an ask may take beside others
 TIME = 2.0
-
-# a part of a head: a name and a value
-Headers = list[tuple[str, str]]
-
-
-def is_there() -> bool:
-    try:
-        import h2.connection  # noqa: F401
-    except ImportError:
-        return False
-    return True
-
-
-class Http2:
-    """A client that speaks HTTP/2 and sends what it is told, good or bad. With a window of 0 it may be sent no body."""
-
-    def __init__(self, front: Front, window: int | None = None):
-        from h2.config import H2Configuration
-        from h2.connection import H2Connection
-        from h2.settings import SettingCodes
-
-        context = ssl.create_default_context(cafile=os.path.join(front.folder, "certificate"))
-        context.set_alpn_protocols(["h2"])
-        plain = socket.socket()
-        if window is not None:
-            plain.setsockopt(socket.SOL_SOCKET, socket.SO_RCVBUF, 4_096)
-        plain.connect(("127.0.0.1", front.port))
-        self.socket = context.wrap_socket(plain, server_hostname="localhost")
-        self.is_spoken = self.socket.selected_alpn_protocol() == "h2"
-        free = {"validate_outbound_headers": False, "normalize_outbound_headers": False, "validate_inbound_headers": False}
-        self.state = H2Connection(H2Configuration(client_side=True, header_encoding="latin-1", **free))
-        self.state.initiate_connection()
-        if window is not None:
-            self.state.update_settings({SettingCodes.INITIAL_WINDOW_SIZE: window})
-        self.flush()
-
-    def __enter__(self) -> "Http2":
-        return self
-
-    def __exit__(self, kind: type[BaseException] | None, fault: BaseException | None, trace: TracebackType | None) -> None:
-        self.socket.close()
-
-    def flush(self) -> None:
-        try:
-            self.socket.sendall(self.state.data_to_send())
-        except OSError:
-            pass
-
-    def send(self, headers: Headers, body: bytes | None, is_ended: bool = True, trailers: Headers | None = None) -> int:
-        """A message at once: its head, its body if it has one, and its end unless it is to have none."""
-        stream = self.state.get_next_available_stream_id()
-        self.state.send_headers(stream, headers, end_stream=is_ended and body is None and trailers is None)
-        if body is not None:
-            self.state.send_data(stream, body, end_stream=is_ended and trailers is None)
-        if trailers is not None:
-            self.state.send_headers(stream, trailers, end_stream=True)
-        self.flush()
-        return stream
-
-    def answer(self, stream: int, seconds: float = 1.0) -> tuple[str, str]:
-        """The status and the body that answer a stream, as far as they come; no status where it is reset or all is closed."""
-        from h2 import events
-        from h2.exceptions import ProtocolError
-
-        status, body, end = "", b"", time.time() + seconds
-        while time.time() < end:
-            self.socket.settimeout(max(0.01, end - time.time()))
-            try:
-                part = self.socket.recv(65_536)
-                found = self.state.receive_data(part)
-            except (OSError, ProtocolError):
-                break
-            if not part:
-                break
-            for event in found:
-                if getattr(event, "stream_id", stream) != stream:
-                    continue
-                if isinstance(event, events.ResponseReceived):
-                    status = dict(event.headers)[":status"]
-                elif isinstance(event, events.DataReceived):
-                    body += event.data
-                elif isinstance(event, (events.StreamEnded, events.StreamReset, events.ConnectionTerminated)):
-                    end = 0
-            self.flush()
-        return status, body.decode("latin-1")
 
 
 def head(method: str, path: str, *more: tuple[str, str], **pseudo: str) -> Headers:
@@ -254,136 +170,121 @@ def spoken(front: Front) -> bool:
     return False
 
 
-def test_no_head_goes_round(program, folder):
-    with Front(program, folder, script="F1 field N1 A-1 0 100000 500\n") as front:
-        if not spoken(front):
-            return
-        front.value()
-        before = connections_of(front)
-        for what, (headers, body) in HEADS.items():
-            with Http2(front) as client:
-                expect_refused(front, what, client.answer(client.send(headers, body)))
-            expect_own_answers(front, what)
-            expect(connections_of(front) == before, f"{what}: the connection of the desk ended")
-    say(f"  {len(HEADS)} heads")
-
-
-def test_no_body_goes_round(program, folder):
-    """Those of HTTP/1.1, each in one piece and byte by byte, all streams of one connection."""
-    with Front(program, folder, script="F1 field N1 A-1 0 100000 500\n") as front:
-        if not spoken(front):
-            return
-        with Http2(front) as client:
-            for what, body in BODIES.items():
-                text = body.encode()
-                found = client.answer(client.send(told(text), text))
-                expect(found[0] in ("400", "403"), f"{what}: {found}")
-                stream = client.send(told(text), b"", is_ended=False)
-                for byte in text:
-                    client.state.send_data(stream, bytes([byte]))
-                client.state.end_stream(stream)
-                client.flush()
-                found = client.answer(stream)
-                expect(found[0] in ("400", "403"), f"{what} in bytes: {found}")
-                expect_own_answers(front, what)
-    say(f"  {len(BODIES)} bodies")
-
-
-def test_no_trailers_go_round(program, folder):
-    """Behind a body, and behind a view: they are dropped or refused, and name nobody."""
-    with Front(program, folder, script="F1 field N1 A-1 0 100000 500\n") as front:
-        if not spoken(front):
-            return
-        for what, trailers in TRAILERS.items():
-            for headers, body in [(told(WHOLE), WHOLE), (head("GET", VIEW), None), (head("GET", VIEW), WHOLE)]:
+@unittest.skipUnless(http2.is_there(), "python3-h2 is not here")
+class WaysRoundH2(FrontCase):
+    def test_no_head_goes_round(self):
+        with Front(self.program, self.folder, script="F1 field N1 A-1 0 100000 500\n") as front:
+            if not spoken(front):
+                return
+            front.value()
+            before = connections_of(front)
+            for what, (headers, body) in HEADS.items():
                 with Http2(front) as client:
-                    expect_refused(front, what, client.answer(client.send(headers, body, trailers=trailers)))
-                expect_own_answers(front, f"trailers: {what}")
-
-
-def test_no_stream_is_anothers(program, folder):
-    """Streams of one connection with users of their own, all at once: each is judged by its own."""
-    asked = [(OFFICE, "200"), (SHOP, "403"), (WAREHOUSE, "403"), (None, "401"), (OFFICE, "200"), (SHOP, "403")]
-    with Front(program, folder, script="F1 field N1 A-1 0 100000 500\n") as front:
-        if not spoken(front):
-            return
-        with Http2(front) as client:
-            for nr, (user, want) in enumerate(asked):
-                body = message(f"K{nr}", "rebound N1 A-1 0 100000").encode()
-                headers = [part for part in told(body) if part[0] != "authorization"]
-                if user:
-                    headers.append(("authorization", credentials(user)["Authorization"]))
-                found = client.answer(client.send(headers, body))
-                expect(found[0] == want, f"{user}: {found}")
-        expect_own_answers(front, "users side by side")
-
-
-def test_an_open_end_holds_nobody_up(program, folder):
-    """Messages whose end does not come, without a body and behind one: those who ask meanwhile are answered."""
-    heads = {
-        "a view": (head("GET", VIEW), None),
-        "a view with some of a body": (head("GET", VIEW), b"{"),
-        "a view with a length of 0": (head("GET", VIEW, ("content-length", "0")), None),
-        "a command without a body": (told(GOOD), None),
-        "a command with half a body": (told(GOOD), GOOD[:9]),
-        "a command with a whole body": (told(GOOD), GOOD),
-        "a websocket": (head("CONNECT", VIEW, WEBSOCKET, protocol="websocket"), None),
-    }
-    with Front(program, folder, script="F1 field N1 A-1 0 100000 500\n") as front:
-        if not spoken(front):
-            return
-        front.value()
-        before = connections_of(front)
-        for what, (headers, body) in heads.items():
-            with Http2(front) as client:
-                for _ in range(3):
-                    client.send(headers, body, is_ended=False)
-                time.sleep(0.2)
+                    expect_refused(front, what, client.answer(client.send(headers, body)))
                 expect_own_answers(front, what)
-            expect_own_answers(front, f"{what}, which is gone")
-        expect(connections_of(front) == before, "the connection of the desk ended")
+                expect(connections_of(front) == before, f"{what}: the connection of the desk ended")
+        note(f"{len(HEADS)} heads")
 
-
-def test_an_unread_answer_holds_nobody_up(program, folder):
-    """Answers that may not be sent, since no window is open: those who ask meanwhile are answered, and on one connection."""
-    script = FIELDS + "".join(f"S{n} field N2 B-{n} 0 9 9\n" for n in range(9_992))
-    # what the system holds back for a client is little, so the front has to
-    with Front(program, folder, more="global\n    tune.sndbuf.client 16384\n", script=script) as front:
-        if not spoken(front):
-            return
-        front.value()
-        before = connections_of(front)
-        for window, target, count in [(0, VIEW, 1), (0, VIEW, 20), (65_535, SHEET, 1), (1 << 20, SHEET, 3), (0, SHEET, 20)]:
-            what = f"{count} unread of {target}, a window of {window}"
-            with Http2(front, window) as client:
-                for _ in range(count):
-                    client.send(head("GET", target), None)
-                time.sleep(0.5)
-                expect_own_answers(front, what)
-            expect_own_answers(front, f"{what}, which is gone")
-        expect(connections_of(front) == before, "the desk was given a second connection")
-
-
-def test_a_stream_that_is_taken_back_does_no_harm(program, folder):
-    """Messages that are reset at once, and whose client is gone: what was whole may be done, and no answer is another's."""
-    with Front(program, folder, script="F1 field N1 A-1 0 100000 500\n") as front:
-        if not spoken(front):
-            return
-        for headers, body in [(head("GET", VIEW), None), (told(GOOD), GOOD), (told(WHOLE), WHOLE)]:
+    def test_no_body_goes_round(self):
+        """Those of HTTP/1.1, each in one piece and byte by byte, all streams of one connection."""
+        with Front(self.program, self.folder, script="F1 field N1 A-1 0 100000 500\n") as front:
+            if not spoken(front):
+                return
             with Http2(front) as client:
-                for _ in range(20):
-                    client.state.reset_stream(client.send(headers, body), error_code=8)
+                for what, body in BODIES.items():
+                    text = body.encode()
+                    found = client.answer(client.send(told(text), text))
+                    expect(found[0] in ("400", "403"), f"{what}: {found}")
+                    stream = client.send(told(text), b"", is_ended=False)
+                    for byte in text:
+                        client.state.send_data(stream, bytes([byte]))
+                    client.state.end_stream(stream)
                     client.flush()
-                expect_own_answers(front, "streams that are taken back")
-            expect_own_answers(front, "a client that is gone")
+                    found = client.answer(stream)
+                    expect(found[0] in ("400", "403"), f"{what} in bytes: {found}")
+                    expect_own_answers(front, what)
+        note(f"{len(BODIES)} bodies")
 
+    def test_no_trailers_go_round(self):
+        """Behind a body, and behind a view: they are dropped or refused, and name nobody."""
+        with Front(self.program, self.folder, script="F1 field N1 A-1 0 100000 500\n") as front:
+            if not spoken(front):
+                return
+            for what, trailers in TRAILERS.items():
+                for headers, body in [(told(WHOLE), WHOLE), (head("GET", VIEW), None), (head("GET", VIEW), WHOLE)]:
+                    with Http2(front) as client:
+                        expect_refused(front, what, client.answer(client.send(headers, body, trailers=trailers)))
+                    expect_own_answers(front, f"trailers: {what}")
 
-TESTS = [
-    test_no_head_goes_round,
-    test_no_body_goes_round,
-    test_no_trailers_go_round,
-    test_no_stream_is_anothers,
-    test_an_open_end_holds_nobody_up,
-    test_an_unread_answer_holds_nobody_up,
-    test_a_stream_that_is_taken_back_does_no_harm,
-]
+    def test_no_stream_is_anothers(self):
+        """Streams of one connection with users of their own, all at once: each is judged by its own."""
+        asked = [(OFFICE, "200"), (SHOP, "403"), (WAREHOUSE, "403"), (None, "401"), (OFFICE, "200"), (SHOP, "403")]
+        with Front(self.program, self.folder, script="F1 field N1 A-1 0 100000 500\n") as front:
+            if not spoken(front):
+                return
+            with Http2(front) as client:
+                for nr, (user, want) in enumerate(asked):
+                    body = message(f"K{nr}", "rebound N1 A-1 0 100000").encode()
+                    headers = [part for part in told(body) if part[0] != "authorization"]
+                    if user:
+                        headers.append(("authorization", credentials(user)["Authorization"]))
+                    found = client.answer(client.send(headers, body))
+                    expect(found[0] == want, f"{user}: {found}")
+            expect_own_answers(front, "users side by side")
+
+    def test_an_open_end_holds_nobody_up(self):
+        """Messages whose end does not come, without a body and behind one: those who ask meanwhile are answered."""
+        heads = {
+            "a view": (head("GET", VIEW), None),
+            "a view with some of a body": (head("GET", VIEW), b"{"),
+            "a view with a length of 0": (head("GET", VIEW, ("content-length", "0")), None),
+            "a command without a body": (told(GOOD), None),
+            "a command with half a body": (told(GOOD), GOOD[:9]),
+            "a command with a whole body": (told(GOOD), GOOD),
+            "a websocket": (head("CONNECT", VIEW, WEBSOCKET, protocol="websocket"), None),
+        }
+        with Front(self.program, self.folder, script="F1 field N1 A-1 0 100000 500\n") as front:
+            if not spoken(front):
+                return
+            front.value()
+            before = connections_of(front)
+            for what, (headers, body) in heads.items():
+                with Http2(front) as client:
+                    for _ in range(3):
+                        client.send(headers, body, is_ended=False)
+                    time.sleep(0.2)
+                    expect_own_answers(front, what)
+                expect_own_answers(front, f"{what}, which is gone")
+            expect(connections_of(front) == before, "the connection of the desk ended")
+
+    def test_an_unread_answer_holds_nobody_up(self):
+        """Answers that may not be sent, since no window is open: those who ask meanwhile are answered, and on one connection."""
+        script = FIELDS + "".join(f"S{n} field N2 B-{n} 0 9 9\n" for n in range(9_992))
+        # what the system holds back for a client is little, so the front has to
+        with Front(self.program, self.folder, more="global\n    tune.sndbuf.client 16384\n", script=script) as front:
+            if not spoken(front):
+                return
+            front.value()
+            before = connections_of(front)
+            for window, target, count in [(0, VIEW, 1), (0, VIEW, 20), (65_535, SHEET, 1), (1 << 20, SHEET, 3), (0, SHEET, 20)]:
+                what = f"{count} unread of {target}, a window of {window}"
+                with Http2(front, window) as client:
+                    for _ in range(count):
+                        client.send(head("GET", target), None)
+                    time.sleep(0.5)
+                    expect_own_answers(front, what)
+                expect_own_answers(front, f"{what}, which is gone")
+            expect(connections_of(front) == before, "the desk was given a second connection")
+
+    def test_a_stream_that_is_taken_back_does_no_harm(self):
+        """Messages that are reset at once, and whose client is gone: what was whole may be done, and no answer is another's."""
+        with Front(self.program, self.folder, script="F1 field N1 A-1 0 100000 500\n") as front:
+            if not spoken(front):
+                return
+            for headers, body in [(head("GET", VIEW), None), (told(GOOD), GOOD), (told(WHOLE), WHOLE)]:
+                with Http2(front) as client:
+                    for _ in range(20):
+                        client.state.reset_stream(client.send(headers, body), error_code=8)
+                        client.flush()
+                    expect_own_answers(front, "streams that are taken back")
+                expect_own_answers(front, "a client that is gone")

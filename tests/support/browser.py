@@ -6,10 +6,14 @@ import contextlib
 import importlib.util
 import os
 import shutil
+import tempfile
 import time
+import unittest
+from collections.abc import Callable, Iterator
+from typing import Any
 
-from fronts import Front
-from programs import SECONDS, expect
+from support.fronts import Front, FrontCase
+from support.programs import SECONDS, expect
 
 DRIVER = "/usr/bin/chromedriver"
 ARGUMENTS = ["--headless=new", "--no-sandbox", "--ignore-certificate-errors", "--disable-dev-shm-usage"]
@@ -68,10 +72,10 @@ class Page:
             self.browser.quit()
             raise
 
-    def __enter__(self):
+    def __enter__(self) -> "Page":
         return self
 
-    def __exit__(self, kind, *_):
+    def __exit__(self, kind: type[BaseException] | None, *_: object) -> None:
         try:
             entries = [] if kind else self.browser.get_log("browser")
         finally:
@@ -79,42 +83,42 @@ class Page:
         others = [entry for entry in entries if entry["source"] != "network"]
         expect(not others, f"in the console: {others}")
 
-    def resize(self, size, is_dark=False):
+    def resize(self, size: tuple[int, int], is_dark: bool = False) -> None:
         width, height = size
         metrics = {"width": width, "height": height, "deviceScaleFactor": 1, "mobile": width < 500}
         self.browser.execute_cdp_cmd("Emulation.setDeviceMetricsOverride", metrics)
         scheme = {"name": "prefers-color-scheme", "value": "dark" if is_dark else "light"}
         self.browser.execute_cdp_cmd("Emulation.setEmulatedMedia", {"features": [scheme]})
 
-    def run(self, script, *given):
+    def run(self, script: str, *given: object) -> Any:
         return self.browser.execute_script(script, *given)
 
-    def find(self, selector):
+    def find(self, selector: str) -> Any:
         return self.browser.find_element("css selector", selector)
 
-    def all(self, selector):
+    def all(self, selector: str) -> list[Any]:
         return self.browser.find_elements("css selector", selector)
 
-    def text(self, selector) -> str:
+    def text(self, selector: str) -> str:
         return self.run("return document.querySelector(arguments[0])?.textContent ?? ''", selector)
 
-    def texts(self, selector) -> list:
+    def texts(self, selector: str) -> list[str]:
         return self.run("return [...document.querySelectorAll(arguments[0])].map(each => each.textContent)", selector)
 
-    def wait(self, fact, text):
+    def wait(self, fact: Callable[[], object], text: str) -> None:
         end = time.monotonic() + SECONDS
         while not fact():
             expect(time.monotonic() < end, f"{text}; it says {self.text('#said')!r}")
             time.sleep(0.05)
 
-    def wait_said(self, words):
+    def wait_said(self, words: str) -> None:
         self.wait(lambda: words in self.text("#said"), f"{words!r} is not said")
 
-    def wait_told(self, words):
+    def wait_told(self, words: str) -> None:
         """These words are said at some moment: what is said while it is asked again may be gone at once."""
         self.wait(lambda: self.run("return told.some(each => each.includes(arguments[0]))", words), f"{words!r} was not said")
 
-    def fill(self, selector, **values):
+    def fill(self, selector: str, **values: object) -> None:
         """Puts values into the inputs and choices of that part, unfolded if it was folded."""
         part = self.find(selector)
         self.run("const folded = arguments[0].closest('details'); if (folded) folded.open = true", part)
@@ -124,29 +128,29 @@ class Page:
                 control.clear()
             control.send_keys(str(value))
 
-    def press(self, selector):
+    def press(self, selector: str) -> None:
         element = self.find(selector)
         self.run("arguments[0].scrollIntoView({ block: 'center' })", element)
         element.click()
 
-    def send(self, form, **values):
+    def send(self, form: str, **values: object) -> None:
         self.fill(form, **values)
         self.press(f"{form} .sends")
 
-    def tell(self, form, words="Done", **values):
+    def tell(self, form: str, words: str = "Done", **values: object) -> None:
         """Sends a form, and waits for an answer of these words to that command."""
         self.fill(form, **values)
         self.run("document.getElementById('said').textContent = ''")
         self.press(f"{form} .sends")
         self.wait_said(words)
 
-    def show(self, kind, name):
+    def show(self, kind: str, name: str) -> None:
         """Shows the stock of a branch or an order."""
         self.fill(f"#show-{kind}", **{"branch" if kind == "stock" else "number": name})
         self.press(f"#show-{kind} button")
         self.wait(lambda: f"{name} as of" in self.text(f"#{kind}-told"), f"no {kind} {name}")
 
-    def rows(self, kind) -> dict:
+    def rows(self, kind: str) -> dict[str, list[str]]:
         """The texts of the cells of a table, by those of the head of their row."""
         rows = self.run(
             "return [...document.querySelectorAll(arguments[0])].map(row => [...row.cells].map(cell => cell.textContent))",
@@ -154,15 +158,28 @@ class Page:
         )
         return {name: cells for name, *cells in rows}
 
-    def wait_rows(self, kind, want):
+    def wait_rows(self, kind: str, want: dict[str, list[str]]) -> None:
         self.wait(lambda: self.rows(kind) == want, f"{kind}: {want} is not shown")
 
-    def sent(self) -> list:
+    def sent(self) -> list[dict[str, str]]:
         return self.run("return sent")
 
 
+@unittest.skipUnless(is_there(), "chromium, its driver or Selenium is not here")
+class PageCase(FrontCase):
+    """Tests of the page, all of them through one front."""
+
+    front: Front
+
+    @classmethod
+    def setUpClass(cls) -> None:
+        super().setUpClass()
+        folder = cls.enterClassContext(tempfile.TemporaryDirectory())
+        cls.front = cls.enterClassContext(Front(cls.program, folder))
+
+
 @contextlib.contextmanager
-def without(stop, start):
+def without(stop: Callable[[], None], start: Callable[[], None]) -> Iterator[None]:
     """While something is stopped; it is there again at the end, whatever comes."""
     stop()
     try:
@@ -177,7 +194,7 @@ def tell_all(front: Front, commands: list[str]) -> None:
         expect(status == 200, f"{command}: {status} {body}")
 
 
-def row(lower, upper, value, infimum, supremum):
+def row(lower: int, upper: int, value: int, infimum: int, supremum: int) -> list[str]:
     """The cells of a field as the table shows them."""
     return [f"{n:,}" for n in (infimum - lower, value, infimum, supremum, lower, upper)] + [""]
 
@@ -185,15 +202,15 @@ def row(lower, upper, value, infimum, supremum):
 class Keys:
     """The keyboard alone. Wherever it stops the focus is seen, and nothing lies over it."""
 
-    def __init__(self, page):
+    def __init__(self, page: Page):
         from selenium.webdriver.common.keys import Keys as Names
 
         self.page, self.names = page, Names
 
-    def press(self, *keys):
+    def press(self, *keys: str) -> None:
         self.page.browser.switch_to.active_element.send_keys(*keys)
 
-    def tab_to(self, selector, is_back=False):
+    def tab_to(self, selector: str, is_back: bool = False) -> None:
         for _ in range(MOST_STOPS):
             self.press(self.names.SHIFT + self.names.TAB if is_back else self.names.TAB)
             found = self.page.run(
@@ -212,7 +229,7 @@ class Keys:
         expect(False, f"the keyboard does not come to {selector}")
 
 
-def shot(page) -> str:
+def shot(page: Page) -> str:
     """What is in the window, as an image for a page."""
     page.run("scrollTo(0, 0)")
     picture = page.browser.execute_cdp_cmd("Page.captureScreenshot", {"format": "png"})["data"]

@@ -15,10 +15,11 @@ from concurrent.futures import Future, ThreadPoolExecutor
 from dataclasses import dataclass, field
 from typing import Callable, Iterator
 
-import fronts
-from fronts import DEPLOY, WAREHOUSE, Front, credentials, message
-from programs import SECONDS, bytes_of, done, expect, new_desk, sqlite3
-from service import Service
+from support import DEPLOY, fronts
+from support.fronts import WAREHOUSE, Front, credentials, message
+from support.programs import SECONDS, bytes_of, done, expect, new_desk
+from support.service import Service
+from support.tables import sqlite3
 
 BACKUP, RESTORE = os.path.join(DEPLOY, "stockdesk-backup"), os.path.join(DEPLOY, "stockdesk-restore")
 FIELDS = 8

@@ -3,6 +3,8 @@
 import json
 import re
 
+from support.messages import compact
+
 BRANCH = "[A-Z0-9]{1,8}"
 ARTICLE = "[A-Z0-9][A-Z0-9-]{0,15}"
 FIELD = f"{BRANCH} {ARTICLE}"
@@ -37,7 +39,7 @@ VIEWS = [
 ]
 
 
-def of_bytes(*forms):
+def of_bytes(*forms: str) -> re.Pattern[bytes]:
     return re.compile("|".join(forms).encode())
 
 
@@ -65,21 +67,17 @@ UNREADABLE = (400, b'{"error":"message"}')
 FIXED = [UNREADABLE, (400, b'{"code":20,"line":0,"refused":"BadCommand"}'), (404, b'{"error":"none"}')]
 
 
-def is_answer(line, reply):
+def is_answer(line: bytes, reply: bytes) -> bool:
     """Whether a line of a script may be answered so."""
     if len(line) <= 4_096 and (request := REQUEST.fullmatch(line)):
         found = REPLY.fullmatch(reply)
-        return bool(found) and found[1] == request[1]
+        return found is not None and found[1] == request[1]
     if ASK.fullmatch(line):
         return reply == b"? none" or reply.startswith(line + b" ") and bool(VIEW.fullmatch(reply))
     return reply == BAD
 
 
-def compact(value):
-    return json.dumps(value, separators=(",", ":"), sort_keys=True)
-
-
-def is_object(status, body):
+def is_object(status: int, body: bytes) -> bool:
     """Whether the body is an object in its one spelling, with the members that an answer of this status has."""
     if (status, body) in FIXED:
         return True
@@ -89,9 +87,9 @@ def is_object(status, body):
     return set(value) in MEMBERS.get(status, []) and compact(value).encode() == body
 
 
-def answers_of(text):
+def answers_of(text: bytes) -> list[tuple[int, bytes]] | None:
     """The statuses and the bodies of answers one behind the other; None where they have another form."""
-    answers = []
+    answers: list[tuple[int, bytes]] = []
     while text:
         head = HEAD.match(text)
         if not head:

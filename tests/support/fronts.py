@@ -5,7 +5,6 @@ import base64
 import http.client
 import json
 import os
-import shutil
 import signal
 import socket
 import ssl
@@ -14,10 +13,10 @@ import time
 import uuid
 from typing import Any
 
-from programs import SECONDS, done, expect, new_desk
+from support import DEPLOY
+from support.cases import ProgramCase, needs, path_of
+from support.programs import SECONDS, done, expect, new_desk
 
-TOP = os.path.dirname(os.path.dirname(os.path.abspath(__file__)))
-DEPLOY = os.path.join(TOP, "deploy")
 PAGE = os.path.join(DEPLOY, "page", "desk.html")
 FIELDS = "".join(f"F{n} field N1 A-{n} 0 1000000 500\n" for n in range(1, 9))
 
@@ -32,11 +31,6 @@ NO_LIMITS = dict.fromkeys(
 )
 
 Body = dict[str, Any]
-
-
-def path_of(name: str) -> str | None:
-    """Where a program lies; those of the system's administrator count too."""
-    return shutil.which(name, path=os.environ.get("PATH", "") + ":/usr/sbin:/usr/local/sbin")
 
 
 def is_there() -> bool:
@@ -158,6 +152,11 @@ class Front:
         status, body = self.ask(OFFICE, "GET", f"/v1/fields/N1/{article}")
         expect(status == 200, f"{status}, {body}")
         return json.loads(body)["value"]
+
+
+@needs("haproxy", "openssl")
+class FrontCase(ProgramCase):
+    """Tests of the built program behind its front."""
 
 
 def message(key: str, command: str) -> str:

@@ -17,58 +17,58 @@ BREAKING = ["Transfer-Encoding: chunked", "Content-Length: 5", "Content-Length: 
 class Inputs:
     """Inputs made one after the other from a seed; orders have running numbers, and moments go on slowly."""
 
-    def __init__(self, seed):
+    def __init__(self, seed: int):
         self.random = random.Random(seed)
         self.orders = 0
-        self.held = {}
+        self.held: dict[str, list[str]] = {}
         self.now = 0
         self.verb = VERBS[0]
         # how often a command is of the kind of the last
-        self.stays = 0
+        self.stays = 0.0
 
-    def chance(self, share):
+    def chance(self, share: float) -> bool:
         return self.random.random() < share
 
-    def number(self, most):
+    def number(self, most: int) -> str:
         """One of 1 to `most`, now and then another number, or none."""
         if self.chance(0.02):
             return self.random.choice(EDGES if self.chance(0.6) else NO_NUMBERS)
         return str(self.random.randint(1, most))
 
-    def branch(self):
+    def branch(self) -> str:
         return "n1" if self.chance(0.005) else f"N{self.random.randrange(4)}"
 
-    def article(self):
+    def article(self) -> str:
         return "-A" if self.chance(0.005) else f"A-{self.random.randrange(5)}"
 
-    def key(self):
+    def key(self) -> str:
         """Some come again."""
         return "K_1" if self.chance(0.005) else f"K{self.random.randrange(100_000)}"
 
-    def order(self):
+    def order(self) -> str:
         """A number of an order that was made some time ago, mostly of the last ones."""
         return str(max(1, self.orders - int(self.random.expovariate(0.1)))) if self.chance(0.98) else self.number(100)
 
-    def until(self):
+    def until(self) -> str:
         """Soon, or so late that it has not come where a changed line has moved the clock far."""
         if self.chance(0.3):
             return str(self.random.randint(3_000_000_000, 4_000_000_000))
         return str(self.now + self.random.randint(1, 100)) if self.chance(0.9) else self.number(1000)
 
-    def way(self):
+    def way(self) -> str:
         return self.random.choice(["take", "add"])
 
-    def lines(self):
+    def lines(self) -> list[str]:
         """The lines of an order: mostly a few, now and then 63 to 65."""
         count = self.random.randint(63, 65) if self.chance(0.02) else self.random.randint(1, 4)
         return [f"{self.way()} {self.branch()} {self.article()} {self.number(30)}" for _ in range(count)]
 
-    def verb_of_next(self):
+    def verb_of_next(self) -> str:
         if not (self.stays and self.chance(self.stays)):
             self.verb = self.random.choice(VERBS)
         return self.verb
 
-    def command(self):
+    def command(self) -> str:
         if self.chance(0.01):
             self.now += self.random.randrange(30)
             return f"expire {self.now}"
@@ -95,29 +95,30 @@ class Inputs:
             field, quantity = self.random.choice(self.held[number]), self.number(10)
         return f"{verb} {number} {way}{field} {quantity}"
 
-    def view(self):
+    def view(self) -> str:
         return f"field {self.branch()} {self.article()}" if self.chance(0.5) else f"order {self.order()}"
 
-    def line(self):
+    def line(self) -> bytes:
         """An ask, or a command; some are changed. Both are the rarer, the longer commands are of a kind."""
         seldom = 0.1 * (1 - self.stays)
         line = f"? {self.view()}" if self.chance(seldom) else f"{self.key()} {self.command()}"
         return self.changed(line.encode()) if self.chance(seldom) else line.encode()
 
-    def script(self, count):
+    def script(self, count: int) -> bytes:
         """So many lines, of which some come again, and the last may lack its end. In some scripts a command is mostly of the kind
         of the last."""
-        self.stays, lines = self.random.choice([0, 0.5, 0.8, 0.95]), []
+        self.stays = self.random.choice([0, 0.5, 0.8, 0.95])
+        lines: list[bytes] = []
         for _ in range(count):
             lines.append(self.random.choice(lines) if lines and self.chance(0.03) else self.line())
         text = b"".join(line + b"\n" for line in lines)
         return text[:-1] if self.chance(0.2) else text
 
-    def together(self):
+    def together(self) -> int:
         """How many requests are carried out together: mostly a few, now and then as many as may be."""
         return self.random.choice([1, 2, 3, 7, self.random.randint(1, 100), self.random.randint(1, 1000), 1000])
 
-    def records(self, columns):
+    def records(self, columns: list[str]) -> bytes:
         """A file of requests with these columns, mostly as it should be."""
         records = [",".join(columns)]
         for _ in range(self.random.randint(0, 12)):
@@ -130,7 +131,7 @@ class Inputs:
         text = (end.join(records) + end * self.chance(0.8)).encode()
         return self.changed(text) if self.chance(0.3) else text
 
-    def target(self):
+    def target(self) -> str:
         if self.chance(0.1):
             return self.random.choice(PATHS)
         if self.chance(0.2):
@@ -138,7 +139,7 @@ class Inputs:
         kind, *names = self.view().split(" ")
         return "/".join([f"/v1/{kind}s", *names])
 
-    def message(self):
+    def message(self) -> bytes:
         """A message of HTTP: two of three are commands."""
         body = ""
         if self.chance(0.66):
@@ -158,18 +159,18 @@ class Inputs:
         head = "".join(line + "\r\n" for line in [f"{method} {target} {version}", *headers])
         return f"{head}\r\n{body}".encode()
 
-    def stream(self):
+    def stream(self) -> bytes:
         """Messages one behind the other, now and then changed, or cut anywhere."""
         text = b"".join(self.message() for _ in range(self.random.randint(1, 5)))
         text = self.changed(text) if self.chance(0.15) else text
         return text[: self.random.randrange(len(text) + 1)] if self.chance(0.15) else text
 
-    def pieces(self, text):
+    def pieces(self, text: bytes) -> list[bytes]:
         """The text in pieces, cut anywhere."""
         cuts = sorted(self.random.randint(0, len(text)) for _ in range(self.random.randint(1, 8)))
         return [text[first:end] for first, end in zip([0, *cuts], [*cuts, len(text)])]
 
-    def changed(self, text):
+    def changed(self, text: bytes) -> bytes:
         """The bytes with a few changes: some are put in, left out, doubled, or one bit of one is turned."""
         for _ in range(self.random.randint(1, 4)):
             first = self.random.randint(0, len(text))
@@ -180,9 +181,9 @@ class Inputs:
             text = text[:first] + put + text[end:]
         return text
 
-    def damaged(self, file, page=4_096):
+    def damaged(self, data: bytes, page: int = 4_096) -> bytes:
         """A database's bytes with damage: bits turned, a page zeroed or put over another, the end cut off or more put behind."""
-        file = bytearray(file)
+        file = bytearray(data)
         pages = max(1, len(file) // page)
         first, other = page * self.random.randrange(pages), page * self.random.randrange(pages)
         kind = self.random.randrange(6)

@@ -1,4 +1,4 @@
-"""What the tests of the built program have in common: a run and its end, files, and the rows of a desk."""
+"""Runs of the built program and their ends, the files that they read and write, and what a test tells beside its outcome."""
 
 import csv
 import os
@@ -6,49 +6,41 @@ import resource
 import subprocess
 import sys
 import threading
-
-try:
-    import sqlite3
-except ImportError:
-    sqlite3 = None
+from collections.abc import Iterable, Sequence
 
 SECONDS = 30
-FILES = os.path.join(os.path.dirname(os.path.abspath(__file__)), "files")
+FILES = os.path.join(os.path.dirname(os.path.dirname(os.path.abspath(__file__))), "files")
 
-# the columns of each table, those of its key first
-COLUMNS = {
-    "desk": ["one", "version", "clock", "places"],
-    "field": ["branch", "article", "lo", "hi", "start", "value", "inf", "sup"],
-    "move": ["place", "branch", "article", "qty"],
-    "orders": ["number", "kind", "until", "state"],
-    "line": ["number", "nr", "branch", "article", "way", "held", "used"],
-    "kept": ["reqkey", "place", "words"],
-    "firm": ["number"],
-}
-
-# how many columns of each table are its key
-KEYS = {"desk": 1, "field": 2, "move": 1, "orders": 1, "line": 2, "kept": 1, "firm": 1}
+# how a program ends: its status, its output, and what it tells of a fault
+End = tuple[int, bytes, bytes]
 
 # how a program ends that writes nothing but this
-NOT_A_DESK = (3, b"", b"stockdesk: not a desk\n")
-OLD_VERSION = (3, b"", b"stockdesk: old version\n")
-DAMAGED = (3, b"", b"stockdesk: damaged\n")
-STORE = (1, b"", b"stockdesk: store\n")
+NOT_A_DESK: End = (3, b"", b"stockdesk: not a desk\n")
+OLD_VERSION: End = (3, b"", b"stockdesk: old version\n")
+DAMAGED: End = (3, b"", b"stockdesk: damaged\n")
+STORE: End = (1, b"", b"stockdesk: store\n")
 
 # files with bytes that are no desk, and what a run on them ends with
 NO_DESK = [(b"this is no database, but some text", STORE), (b"S", STORE), (b"", NOT_A_DESK)]
 
 
-def say(text):
-    print(text, file=sys.stderr, flush=True)
+def note(text: str) -> None:
+    """Tells a number that was found, on the line on which the test is told."""
+    print(f"{text}; ", end="", file=sys.stderr, flush=True)
 
 
-def expect(fact, text):
+def expect(fact: object, text: str) -> None:
     if not fact:
         raise AssertionError(text)
 
 
-def ended(program, words, text="", folder=None, limit=None):
+def ended(
+    program: str,
+    words: Sequence[str],
+    text: str = "",
+    folder: str | None = None,
+    limit: tuple[int, int] | None = None,
+) -> End:
     """The status of a run, its output and what it tells of a fault; under a limit, as of the bytes that a file may have."""
     run = subprocess.run(
         [program, *words],
@@ -63,14 +55,14 @@ def ended(program, words, text="", folder=None, limit=None):
     return run.returncode, run.stdout, run.stderr
 
 
-def done(program, words, text=""):
+def done(program: str, words: Sequence[str], text: str = "") -> list[str]:
     """The lines of a run that ends with status 0."""
     status, out, errors = ended(program, words, text)
     expect(status == 0, f"{words}: status {status}, {errors!r}")
     return out.decode().splitlines()
 
 
-def expect_end(program, words, want, text="K1 expire 1\n"):
+def expect_end(program: str, words: Sequence[str], want: End, text: str = "K1 expire 1\n") -> None:
     found = ended(program, words, text)
     expect(found == want, f"{words}: {found} and not {want}")
 
@@ -78,55 +70,42 @@ def expect_end(program, words, want, text="K1 expire 1\n"):
 class Session:
     """A run on a file whose input stays open."""
 
-    def __init__(self, program, path):
+    def __init__(self, program: str, path: str):
         self.process = subprocess.Popen([program, "run", path], stdin=subprocess.PIPE, stdout=subprocess.PIPE)
+        assert self.process.stdin and self.process.stdout
+        self.input, self.output = self.process.stdin, self.process.stdout
         # a reply that never comes ends the test
         self.clock = threading.Timer(SECONDS, self.process.kill)
         self.clock.start()
 
-    def ask(self, line):
-        self.process.stdin.write(line.encode() + b"\n")
-        self.process.stdin.flush()
-        return self.process.stdout.readline().decode().rstrip("\n")
+    def ask(self, line: str) -> str:
+        self.input.write(line.encode() + b"\n")
+        self.input.flush()
+        return self.output.readline().decode().rstrip("\n")
 
-    def end(self):
-        self.process.stdin.close()
+    def end(self) -> None:
+        self.input.close()
         self.process.wait()
-        self.process.stdout.close()
+        self.output.close()
         self.clock.cancel()
 
 
-def lines_of(name):
+def lines_of(name: str) -> list[str]:
     with open(os.path.join(FILES, name), encoding="ascii") as file:
         return file.read().splitlines()
 
 
-def write_records(path, records):
+def write_records(path: str, records: Iterable[Iterable[object]]) -> None:
     with open(path, "w", encoding="latin-1", newline="") as file:
         csv.writer(file).writerows(records)
 
 
-def bytes_of(path):
+def bytes_of(path: str) -> bytes:
     with open(path, "rb") as file:
         return file.read()
 
 
-def new_desk(program, folder, name="desk.db"):
+def new_desk(program: str, folder: str, name: str = "desk.db") -> str:
     path = os.path.join(folder, name)
     done(program, ["init", path])
     return path
-
-
-def rows_of(path):
-    """The rows of all tables in the order of their keys, each as a line that begins with its table. A desk of version 1 has all
-    tables but the last."""
-    database = sqlite3.connect(path)
-    rows = []
-    for table, columns in COLUMNS.items():
-        if table == "firm" and rows and rows[0].split("|")[2] == "1":
-            break
-        order = ", ".join(columns[: KEYS[table]])
-        for row in database.execute(f"SELECT {', '.join(columns)} FROM {table} ORDER BY {order}"):
-            rows.append("|".join([table, *map(str, row)]))
-    database.close()
-    return rows

@@ -9,7 +9,7 @@ import tempfile
 from dataclasses import dataclass
 from random import Random
 
-from programs import SECONDS, expect
+from support.programs import SECONDS, expect
 
 SECTOR = 512
 

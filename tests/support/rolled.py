@@ -7,16 +7,15 @@ import re
 import resource
 import shutil
 import subprocess
-import sys
+from collections.abc import Iterable, Sequence
+from typing import Any
 
-from programs import SECONDS, bytes_of, done, expect, new_desk, sqlite3
-from sums import expect_sums
+from support import DEPLOY
+from support.programs import SECONDS, End, bytes_of, done, expect, new_desk
+from support.sums import expect_sums
+from support.tables import sqlite3
 
-DEPLOY = os.path.join(os.path.dirname(os.path.abspath(__file__)), "..", "deploy")
 TOOL = os.path.join(DEPLOY, "stockdesk-rollover")
-
-# for tests of what the tool calls
-sys.path.append(DEPLOY)
 
 # a full desk takes its time
 PATIENCE = 20 * SECONDS
@@ -73,7 +72,7 @@ COUNTED = {
 }
 
 
-def asked(path, query):
+def asked(path: str, query: str) -> list[Any]:
     with contextlib.closing(sqlite3.connect(path)) as database:
         return database.execute(query).fetchall()
 
@@ -81,10 +80,10 @@ def asked(path, query):
 class Script:
     """Random commands on a few fields, some of them refused."""
 
-    def __init__(self, seed):
+    def __init__(self, seed: int):
         self.random = random.Random(seed)
-        self.lines = []
-        self.orders = {}
+        self.lines: list[str] = []
+        self.orders: dict[int, list[tuple[str | None, str, int]]] = {}
         self.clock = 0
         is_large = seed % 10 == 0
         count = 70 if is_large else self.random.randint(2, 9)
@@ -93,93 +92,94 @@ class Script:
         for _ in range(self.random.randint(10, 150)):
             getattr(self, self.random.choice(VERBS.split()))()
 
-    def text(self):
+    def text(self) -> str:
         return "".join(f"K{number} {line}\n" for number, line in enumerate(self.lines))
 
-    def amount(self, field):
+    def amount(self, field: str) -> int:
         return self.random.choice([1, 10, 400_000, 1_000_000, 1_000_000] if self.fields[field] == WIDE else [1, 2, 10])
 
-    def until(self):
+    def until(self) -> int:
         return self.clock + self.random.randint(1, 300)
 
-    def field(self):
+    def field(self) -> str:
         return self.random.choice(list(self.fields))
 
-    def number(self):
+    def number(self) -> int:
         """Mostly one of the last."""
         return self.random.choice(list(self.orders)[self.random.choice([-2, -2, -4, 0]) :] or [1])
 
-    def open(self):
+    def open(self) -> None:
         number, count = self.random.randint(1, 999_999_999), self.random.choice([1, 2, 3, 4, 64])
         these = self.random.sample(list(self.fields), min(count, len(self.fields)))
         self.orders[number] = [(self.random.choice(["take", "add"]), field, self.amount(field)) for field in these]
         lines = " ".join(f"{way} {field} {amount}" for way, field, amount in self.orders[number])
         self.lines.append(f"open {number} {self.until()} {lines}")
 
-    def transfer(self):
+    def transfer(self) -> None:
         number, amount = self.random.randint(1, 999_999_999), self.random.choice([1, 10, 1_000_000])
         branches = self.random.sample(["N0", "N1", "N2"], 2)
         article = self.field().split()[1]
         self.orders[number] = [(None, f"{branch} {article}", amount) for branch in branches]
         self.lines.append(f"transfer {number} {self.until()} {article} {' '.join(branches)} {amount}")
 
-    def line(self):
+    def line(self) -> tuple[int, str | None, str, int]:
         number = self.number()
         return number, *self.random.choice(self.orders.get(number, [("take", self.field(), 1)]))
 
-    def more(self):
+    def more(self) -> None:
         """Mostly on a line that is there."""
         number, way, field, amount = self.line()
         field = field if self.random.random() < 0.8 else self.field()
         self.lines += [f"more {number} {way or 'take'} {field} {amount}"] * self.random.choice([1, 1, 3])
 
-    def use(self):
+    def use(self) -> None:
         """Mostly of all that was held at first, sometimes again and again."""
         number, _, field, amount = self.line()
         amount = amount if self.random.random() < 0.7 else 1
         self.lines += [f"use {number} {field} {amount}"] * self.random.choice([1, 1, 3])
 
-    def release(self):
+    def release(self) -> None:
         number, _, field, amount = self.line()
         self.lines.append(f"release {number} {field} {amount if self.random.random() < 0.7 else 1}")
 
-    def firm(self):
+    def firm(self) -> None:
         self.lines.append(f"firm {self.number()}")
 
-    def commit(self):
+    def commit(self) -> None:
         self.lines.append(f"commit {self.number()}")
 
-    def abort(self):
+    def abort(self) -> None:
         self.lines.append(f"abort {self.number()}")
 
-    def deliver(self):
+    def deliver(self) -> None:
         self.lines.append(f"deliver {self.field()} {self.random.choice([1, 20, 1_000_000])}")
 
-    def writeoff(self):
+    def writeoff(self) -> None:
         self.lines.append(f"writeoff {self.field()} {self.random.choice([1, 20, 1_000_000])}")
 
-    def expire(self):
+    def expire(self) -> None:
         if self.random.random() < 0.3:
             self.clock += self.random.randint(0, 120)
             self.lines.append(f"expire {self.clock}")
 
 
-def desk_of(program, folder, text=SCRIPT):
+def desk_of(program: str, folder: str, text: str = SCRIPT) -> tuple[str, str]:
     """A desk of these commands, and the path of a new one."""
     path = new_desk(program, folder, "old.db")
     done(program, ["run", path], text)
     return path, os.path.join(folder, "new.db")
 
 
-def tight(path, generator):
+def tight(path: str, generator: random.Random) -> str:
     """Commands that leave some of the fields no room: their bounds are then what their open orders may come to."""
     fields = [row for row in asked(path, FIELDS) if generator.random() < 0.5]
     return "".join(f"T{n} rebound {row[0]} {row[1]} {row[5]} {row[6]}\n" for n, row in enumerate(fields))
 
 
-def play_and_kill(program, path, text):
+def play_and_kill(program: str, path: str, text: str) -> None:
     """Carries the lines out, and leaves them in the log."""
     with subprocess.Popen([program, "run", path], stdin=subprocess.PIPE, stdout=subprocess.PIPE) as process:
+        assert process.stdin and process.stdout
         process.stdin.write(text.encode())
         process.stdin.flush()
         for _ in range(text.count("\n")):
@@ -187,7 +187,7 @@ def play_and_kill(program, path, text):
         process.kill()
 
 
-def random_desk(program, folder, seed, empty):
+def random_desk(program: str, folder: str, seed: int, empty: str) -> tuple[str, str]:
     """A desk of random commands, made of an empty one, and a closed copy of it to be read."""
     path, name = os.path.join(folder, "old.db"), os.path.join(folder, "closed.db")
     shutil.copyfile(empty, path)
@@ -200,7 +200,7 @@ def random_desk(program, folder, seed, empty):
     return path, shutil.copyfile(path, name)
 
 
-def closed(program, path, name):
+def closed(program: str, path: str, name: str) -> str:
     """A copy of a desk with its log in the file and none beside it."""
     for end in ["", "-wal"]:
         shutil.copyfile(path + end, name + end)
@@ -209,7 +209,7 @@ def closed(program, path, name):
     return name
 
 
-def tool_ended(program, words, limit=None):
+def tool_ended(program: str, words: Sequence[str], limit: int | None = None) -> End:
     """How the tool ends: its status, its output, what it tells of a fault; under a limit of the bytes that a file may have."""
     run = subprocess.run(
         [TOOL, "--program", program, *words],
@@ -220,12 +220,12 @@ def tool_ended(program, words, limit=None):
     return run.returncode, run.stdout, run.stderr
 
 
-def lying(path):
+def lying(path: str) -> dict[str, bytes]:
     """The bytes of a file and of what lies beside it."""
     return {end: bytes_of(path + end) for end in ["", "-wal", "-shm", "-journal"] if os.path.exists(path + end)}
 
 
-def rolled(program, old, new):
+def rolled(program: str, old: str, new: str) -> list[str]:
     """What the tool tells of a roll-over that is done; the old desk lies as it lay."""
     found = lying(old)
     status, out, errors = tool_ended(program, [old, new])
@@ -234,24 +234,24 @@ def rolled(program, old, new):
     return out.decode().splitlines()
 
 
-def expect_refused(program, words, cause):
+def expect_refused(program: str, words: Sequence[str], cause: str) -> None:
     """The tool does nothing, and one line names the cause."""
     status, out, errors = tool_ended(program, words)
     told = errors.decode()
     expect((status, out) == (1, b"") and cause in told and told.count("\n") == 1, f"{words}: {status}, {out!r}, {told!r}")
 
 
-def expect_only(folder, names):
+def expect_only(folder: str, names: Iterable[str]) -> None:
     found = sorted(os.listdir(folder))
     expect(found == sorted(names), f"in the folder: {found}")
 
 
-def standing(path, query):
+def standing(path: str, query: str) -> tuple[list[Any], list[Any], list[Any]]:
     """The clock, the fields and the lines of open orders."""
     return asked(path, "SELECT clock FROM desk"), asked(path, FIELDS), asked(path, query)
 
 
-def expect_standing(old, new):
+def expect_standing(old: str, new: str) -> None:
     """The new desk stands where the old one stands, and has nothing else."""
     for wanted, found in zip(standing(old, STANDING), standing(new, AS_IT_IS), strict=True):
         odd = next((pair for pair in zip(wanted, found) if pair[0] != pair[1]), (len(wanted), len(found)))
@@ -263,7 +263,7 @@ def expect_standing(old, new):
     expect(all(map(KEY.fullmatch, keys)) and len({key[:29] for key in keys}) <= 1, "other keys")
 
 
-def expect_told(told, old, new):
+def expect_told(told: Iterable[str], old: str, new: str) -> None:
     """The tool's lines have the numbers that the files have."""
     rest = "FROM orders JOIN firm USING (number) JOIN line USING (number) WHERE state = 0 AND used > 0"
     empty = f"FROM orders JOIN line USING (number) WHERE state = 0 AND held = {SETTLED}"
@@ -280,7 +280,7 @@ def expect_told(told, old, new):
     expect(found == wanted, f"{found} and not {wanted}: {told}")
 
 
-def expect_whole(old, new):
+def expect_whole(old: str, new: str) -> None:
     """A roll-over left all that it should, in the file alone."""
     expect(not os.path.exists(f"{new}-wal"), "a log was left")
     expect(os.stat(new).st_nlink == 1, "it has another name, too, with which the program refuses it")
@@ -288,7 +288,7 @@ def expect_whole(old, new):
     expect_sums(new, "the new desk")
 
 
-def replies(program, path, folder, text):
+def replies(program: str, path: str, folder: str, text: str) -> list[str]:
     """What a copy of a desk answers, but for the places."""
     copy = shutil.copyfile(path, os.path.join(folder, "copy.db"))
     with contextlib.suppress(FileNotFoundError):
@@ -296,17 +296,17 @@ def replies(program, path, folder, text):
     return [re.sub(" done [0-9]+$", " done", line) for line in done(program, ["run", copy], text)]
 
 
-def commits(rows, generator):
+def commits(rows: list[Any], generator: random.Random) -> str:
     """Each open order is committed, and each of its fields is asked for then."""
     numbers = sorted({row[0] for row in rows})
     generator.shuffle(numbers)
-    asks = {}
+    asks: dict[int, list[str]] = {}
     for row in rows:
         asks.setdefault(row[0], []).append(f"? field {row[5]} {row[6]}\n")
     return "".join(f"C{number} commit {number}\n" + "".join(asks[number]) for number in numbers)
 
 
-def acts(rows, clock, generator):
+def acts(rows: list[Any], clock: int, generator: random.Random) -> str:
     """What may be done with each line of an open order, and what is refused, in random order; the ends of orders among it."""
     made = [f"expire {moment}" for moment in [max(0, clock - 1), clock, clock + 30, clock + 100]]
     for number, _, _, _, way, branch, article, held, used in rows:
@@ -320,7 +320,7 @@ def acts(rows, clock, generator):
     return "".join(f"A{n} {line}\n" + "".join(fields[:8]) for n, line in enumerate(chosen))
 
 
-def expect_same_future(program, folder, old, new, seed, most=100):
+def expect_same_future(program: str, folder: str, old: str, new: str, seed: int, most: int = 100) -> None:
     """What the first commands on both come to is the same, for all open orders or so many of them: their ends, and every
     third time what may be done before."""
     generator, rows = random.Random(seed), asked(new, AS_IT_IS)

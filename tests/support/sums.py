@@ -2,7 +2,8 @@
 
 import contextlib
 
-from programs import expect, sqlite3
+from support.programs import expect
+from support.tables import sqlite3
 
 # what lines move on a field, by the orders that count, the amount of each line, and the ways that count
 LINES = """(SELECT coalesce(sum(({amount}) * CASE line.way WHEN 0 THEN -1 ELSE 1 END), 0)
@@ -51,7 +52,7 @@ NEVER = {
 }
 
 
-def expect_sums(path, of):
+def expect_sums(path: str, of: str) -> None:
     """The file has the rows of a desk, as far as sums tell it."""
     with contextlib.closing(sqlite3.connect(path)) as database:
         for fault, query in NEVER.items():
