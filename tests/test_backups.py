@@ -2,19 +2,19 @@
 killed; which copies stay; what is refused."""
 
 import fcntl
-import importlib.util
 import os
 import random
 import signal
 import subprocess
 import sys
 import time
+import types
 from concurrent.futures import ThreadPoolExecutor
 from datetime import datetime, timedelta, timezone
 from importlib.machinery import SourceFileLoader
 from typing import Any
 
-from support import DEPLOY, fronts
+from support import fronts
 from support.cases import ProgramCase, needs, needs_sqlite
 from support.copies import (
     BACKUP,
@@ -39,7 +39,6 @@ from support.copies import (
 from support.programs import done, expect, new_desk, note
 from support.service import ask
 from support.tables import rows_of
-
 
 # copies under load: as they come, on a full disk, killed at any moment, killed while the desk is held
 ROUNDS = {"whole": 110, "full": 40, "killed": 25, "held": 25}
@@ -227,14 +226,10 @@ def moments_of(text: str) -> list[datetime]:
 
 def backup_module() -> Any:
     """The tool as a module, which is beside those that it imports."""
-    sys.path.insert(0, DEPLOY)
-    try:
-        spec = importlib.util.spec_from_loader("stockdesk_backup", SourceFileLoader("stockdesk_backup", BACKUP))
-        module = importlib.util.module_from_spec(spec)
-        spec.loader.exec_module(module)
-        return module
-    finally:
-        sys.path.remove(DEPLOY)
+    loader = SourceFileLoader("stockdesk_backup", BACKUP)
+    module = types.ModuleType(loader.name)
+    loader.exec_module(module)
+    return module
 
 
 class Keeping(ProgramCase):
@@ -245,7 +240,7 @@ class Keeping(ProgramCase):
             found = tool.kept(copies, copies[-1][0], days, weeks)
             expect(sorted(moment for moment, _ in found) == moments_of(" ".join(sorted(stay.split()))), f"{there}: {found}")
         # a copy a day for a year: 14 days, what is left of a week, and 7 Sundays before that
-        kept: set = set()
+        kept = set()
         first = moments_of("0101T03")[0]
         for day in range(366):
             made = first + timedelta(days=day)

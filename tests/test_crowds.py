@@ -16,7 +16,6 @@ from support.fronts import SHOP, WAREHOUSE, Front, FrontCase, credentials, head_
 from support.programs import done, expect, new_desk, note
 from support.tables import rows_of, sqlite3
 
-
 CLIENTS = 64
 COMMANDS = 2_000
 KILLS = 3
@@ -28,7 +27,7 @@ Done = tuple[int, str, str]
 def commands_of(client: int) -> list[tuple[str, str]]:
     """What a client tells, with the user: shops open, use and end orders, the warehouse delivers and writes off."""
     generator = random.Random(client)
-    told = []
+    told: list[tuple[str, str]] = []
     while len(told) < COMMANDS // CLIENTS + 1:
         field = f"N1 A-{generator.randint(1, 8)}"
         if client % 2:

@@ -9,7 +9,6 @@ from support.ledgers import BAD_FIRMS, BAD_LINES, BAD_ROWS, GOOD, NO_DESK, SHOWN
 from support.programs import DAMAGED, NOT_A_DESK, done, expect
 from support.tables import rows_of
 
-
 # what a desk with a place for nothing but the end of that order answers
 FULL = [
     ("Z1 deliver N1 A-1 1", "Z1 refused 2 Full 0"),

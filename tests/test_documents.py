@@ -7,7 +7,6 @@ import unittest
 
 from support.programs import expect
 
-
 TOP = os.path.dirname(os.path.dirname(os.path.abspath(__file__)))
 
 LINK = re.compile(r"\[([^\]]*)\]\(([^)]*)\)")

@@ -16,7 +16,6 @@ from support import DEPLOY
 from support.fronts import NO_LIMITS, OFFICE, PAGE, SHOP, WAREHOUSE, Front, FrontCase, credentials, head_of, message
 from support.programs import SECONDS, expect
 
-
 SHOPS_MAY = "open more use release commit abort transfer".split()
 WAREHOUSE_MAY = "deliver writeoff".split()
 
@@ -115,7 +114,8 @@ class Users(FrontCase):
 
 def statuses(front: Front, user: str, count: int) -> dict[int, int]:
     """How often each status is answered to so many asks at once, on one connection."""
-    connection, found = front.connect(), {}
+    connection = front.connect()
+    found: dict[int, int] = {}
     for _ in range(count):
         connection.request("GET", "/user", None, credentials(user))
         answer = connection.getresponse()

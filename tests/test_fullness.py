@@ -12,7 +12,6 @@ from support.rolled import SCRIPT, desk_of, lying, play_and_kill, tool_ended
 
 import stockdesk_files as files
 
-
 # so many rows on both sides of nine tenths of a limit, others beside them, and the status of a look
 NEARLY = [
     (of_desk, 179_999, [], 0),

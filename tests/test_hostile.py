@@ -14,7 +14,6 @@ from support.cases import ProgramCase
 from support.programs import NOT_A_DESK, SECONDS, STORE, Session, bytes_of, done, ended, expect, expect_end, new_desk
 from support.service import Service, answered
 
-
 CONNECTIONS = 10_000
 NOBODY = 65_534
 BAD = "- refused 20 BadCommand 0"

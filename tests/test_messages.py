@@ -10,7 +10,6 @@ from support.messages import answer, message
 from support.programs import SECONDS, done, expect, expect_end, new_desk
 from support.service import Service, answered
 
-
 COMMANDS = "POST /v1/commands"
 FIRST = '{"command":"field N1 A-1 0 100 40","key":"K1"}'
 NONE = '{"error":"none"}'

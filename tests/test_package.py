@@ -15,7 +15,6 @@ from support.cases import ProgramCase, needs
 from support.programs import done, expect, note
 from support.service import Service, post
 
-
 PACKAGE = os.path.join(DEPLOY, "package")
 UNITS = sorted(glob.glob(os.path.join(DEPLOY, "*.service")) + glob.glob(os.path.join(DEPLOY, "*.timer")))
 LEAST_EXPOSED = 2.0

@@ -4,13 +4,12 @@ branches of a letter and a digit, and orders from 8,000 on."""
 
 import re
 
-from support.browser import FOREVER, NARROW, THUMB, WIDE, Keys, Page, PageCase, row, tell_all, without
+from support.browser import FOREVER, NARROW, THUMB, WIDE, WORDS, Keys, Page, PageCase, row, tell_all, without
 from support.forms import ARTICLE, BRANCH, LEVEL, MOMENT, ORDER, QUANTITY
 from support.fronts import PAGE
-from support.page_answers import WORDS
 from support.programs import expect
 
-
+# what each user is offered: forms, and the buttons and forms of an open order
 OFFERED = {
     "n1": (["open", "transfer", "own-line"], ["commit", "abort", "use", "more"]),
     "w1": (["deliver", "writeoff", "own-line"], []),

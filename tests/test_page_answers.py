@@ -3,34 +3,9 @@ after which the same command is asked for again under the same key."""
 
 import json
 
-from support.browser import FOREVER, Page, PageCase, row, tell_all, without
+from support.browser import FOREVER, WORDS, Page, PageCase, row, tell_all, without
 from support.forms import REFUSALS
 from support.programs import expect
-
-
-# what the refusals have to say, in some of their words
-WORDS = {
-    "KeyReused": "key of this command was used for another",
-    "Full": "desk is full",
-    "FieldThere": "has this article already",
-    "NoField": "does not have this article",
-    "BadBounds": "bounds do not fit",
-    "OrderThere": "order number is taken",
-    "NoOrder": "no order of this number",
-    "Ended": "order has ended",
-    "Past": "minute has come already",
-    "SameField": "earlier line of the order is on the same article",
-    "OtherWay": "goes the other way",
-    "TooManyLines": "has 64 lines already",
-    "TooLittle": "Not enough stock",
-    "TooMuch": "Not enough room",
-    "NotHeld": "has no line on this article",
-    "OverUse": "does not hold that much any more",
-    "TransferFixed": "transfer cannot get more",
-    "ClockBack": "clock is later already",
-    "Firm": "firm for good",
-    "BadCommand": "cannot read this as a command",
-}
 
 # the desk for the refusals, and commands that it refuses, each with the line at fault where one is told
 MANY = " ".join(f"take R1 C-{n} 1" for n in range(64))
@@ -75,8 +50,6 @@ REFUSED = [
 # what the front says itself, and the words for it; then what it says while nothing is decided
 HELD_BACK = [(400, "could not read"), (401, "not signed in"), (403, "group may not"), (413, "too long")]
 NOTHING_YET = [(429, ""), (502, "<h1>502</h1>"), (503, '{"error":"stopped"}'), (504, ""), (200, "<h1>hello</h1>"), (500, "")]
-
-# what each user is offered: forms, and the buttons and forms of an open order
 
 
 class PageAnswers(PageCase):

@@ -9,7 +9,6 @@ from support.inputs import Inputs
 from support.power_cuts import MADE, NAME, Recorded, calls_of, may_be_cut, rows_after_each, try_cuts
 from support.programs import NOT_A_DESK, STORE
 
-
 REQUESTS = 60
 SEED = int(os.environ.get("SEED", "1986"))
 CUTS = int(os.environ.get("CUTS", "1000"))

@@ -1,6 +1,6 @@
-"""Tests of the built program as a real process: what its words and its FILE may be, what its help says, a store and memory that are
-refused, scripts a line a run, long ones, files of requests, replies on a pipe that stays open, the file as another SQLite reads it,
-and sessions that are killed."""
+"""Tests of the built program as a real process: what its words and its FILE may be, what its help says, a store and memory
+that are refused, scripts a line a run, long ones, files of requests, replies on a pipe that stays open, the file as another
+SQLite reads it, and sessions that are killed."""
 
 import os
 import random
@@ -25,7 +25,6 @@ from support.programs import (
     write_records,
 )
 from support.tables import COLUMNS, KEYS, rows_of, sqlite3
-
 
 ROUNDS = 50
 LINES = 1000

@@ -8,7 +8,6 @@ from support.cases import ProgramCase
 from support.programs import bytes_of, done, ended, expect, new_desk
 from support.tables import rows_of, sqlite3
 
-
 ORDERS = b"key,order,until,way,branch,article,qty"
 DELIVERIES = b"key,branch,article,qty"
 BOUNDS = b"key,branch,article,lo,hi"

@@ -43,7 +43,6 @@ from support.tables import sqlite3
 
 import stockdesk_files as files
 
-
 DESKS = 200
 KILLS = 30
 STOPS = 10

@@ -9,7 +9,6 @@ import tempfile
 from support.cases import ProgramCase
 from support.programs import SECONDS, done, expect, new_desk
 
-
 BAD = "- refused 20 BadCommand 0"
 
 # lines, each with what is answered to it

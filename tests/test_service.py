@@ -13,7 +13,6 @@ from support.programs import SECONDS, done, expect, expect_end, new_desk, note
 from support.service import JSON, Service, answered, ask, post
 from support.tables import rows_of, sqlite3
 
-
 COMMANDS = 2_000
 ROUNDS = 20
 KILLED_IN = 500

@@ -7,7 +7,6 @@ from support.cases import ProgramCase, needs_strict_tables
 from support.programs import DAMAGED, NOT_A_DESK, OLD_VERSION, STORE, bytes_of, done, expect, expect_end, new_desk
 from support.tables import rows_of, sqlite3
 
-
 # codes and keys that have every byte of their alphabets, each as long as it may be or shorter
 CODES = [
     ("ABCDEFGH", "A-BCDEFGHIJKLMNO"),

@@ -18,7 +18,6 @@ from support.recorded import OUTPUT
 from support.stretches import file_of, kind_of
 from support.tables import rows_of, sqlite3
 
-
 NUMBERS = [1, 2, 7, 100, 1000]
 REQUESTS = 400
 # what stands behind the command: the option at every place

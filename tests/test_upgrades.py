@@ -24,7 +24,6 @@ from support.programs import (
 )
 from support.tables import rows_of, sqlite3
 
-
 ROUNDS = 50
 
 

@@ -8,7 +8,6 @@ from support.fronts import OFFICE, SHOP, Front, FrontCase, credentials
 from support.programs import SECONDS, expect, note
 from support.ways import BODIES, COMMIT, PAIR
 
-
 TELL = "POST /v1/commands HTTP/1.1"
 NAME = f"Authorization: {credentials(SHOP)['Authorization']}"
 

@@ -12,7 +12,6 @@ from support.http2 import Headers, Http2
 from support.programs import expect, note
 from support.ways import BODIES, COMMIT, PAIR
 
-
 VIEW = "/v1/fields/N1/A-1"
 TELL = "/v1/commands"
 SHEET = "/v1/sheets/N2"

@@ -22,6 +22,30 @@ WIDE, NARROW = (1000, 900), (390, 844)
 MOST_STOPS = 200
 MOST_BYTES = 200_000
 
+# what the refusals have to say, in some of their words
+WORDS = {
+    "KeyReused": "key of this command was used for another",
+    "Full": "desk is full",
+    "FieldThere": "has this article already",
+    "NoField": "does not have this article",
+    "BadBounds": "bounds do not fit",
+    "OrderThere": "order number is taken",
+    "NoOrder": "no order of this number",
+    "Ended": "order has ended",
+    "Past": "minute has come already",
+    "SameField": "earlier line of the order is on the same article",
+    "OtherWay": "goes the other way",
+    "TooManyLines": "has 64 lines already",
+    "TooLittle": "Not enough stock",
+    "TooMuch": "Not enough room",
+    "NotHeld": "has no line on this article",
+    "OverUse": "does not hold that much any more",
+    "TransferFixed": "transfer cannot get more",
+    "ClockBack": "clock is later already",
+    "Firm": "firm for good",
+    "BadCommand": "cannot read this as a command",
+}
+
 # a control is as large as a thumb, in pixels
 THUMB = 44
 

@@ -129,7 +129,7 @@ def words_of(desk: Served, folder: str, program: str) -> list[str]:
 
 def ended(words: list[str], limit: int | None = None) -> tuple[int, str, str]:
     """How a tool ends, what it writes and what it tells; its files may have so many bytes."""
-    bound = limit and (lambda: resource.setrlimit(resource.RLIMIT_FSIZE, (limit, limit)))
+    bound = None if limit is None else lambda: resource.setrlimit(resource.RLIMIT_FSIZE, (limit, limit))
     run = subprocess.run(words, capture_output=True, timeout=SECONDS, preexec_fn=bound)
     return run.returncode, run.stdout.decode(), run.stderr.decode()
 

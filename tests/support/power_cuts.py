@@ -76,7 +76,7 @@ class Cuts:
         """The rows of the desk that the program opens on these files, or how it ends where it opens none."""
         path = self.laid(files)
         end = ended(self.program, ["run", path])
-        found = rows_of(path) if end == (0, b"", b"") else end
+        found: Found = rows_of(path) if end == (0, b"", b"") else end
         shutil.rmtree(os.path.dirname(path))
         return found
 

@@ -26,7 +26,7 @@ class Service:
             stdout=subprocess.PIPE,
             stderr=subprocess.PIPE,
             restore_signals=limit is None,
-            preexec_fn=limit and (lambda: resource.setrlimit(resource.RLIMIT_FSIZE, (limit, limit))),
+            preexec_fn=None if limit is None else lambda: resource.setrlimit(resource.RLIMIT_FSIZE, (limit, limit)),
         )
         # an answer that never comes ends the test
         self.clock = threading.Timer(SECONDS, self.process.kill)
