@@ -14,7 +14,7 @@ from support.results import TimedRunner
 def main() -> None:
     words = ["tests", "discover", "-s", os.path.dirname(os.path.abspath(__file__)), *sys.argv[1:]]
     result = unittest.main(None, argv=words, testRunner=TimedRunner, verbosity=2, exit=False).result
-    if result.testsRun == 0:
+    if result.wasSuccessful() and not result.testsRun:
         sys.exit("tests: no test has such a name")
     sys.exit(not result.wasSuccessful())
 

@@ -30,12 +30,12 @@ from support.copies import (
     expect_copy,
     expect_refused,
     served,
-    small_disk,
     stands_still,
     under_load,
     until_held,
     words_of,
 )
+from support.disks import small_disk
 from support.programs import done, expect, new_desk, note
 from support.service import ask
 from support.tables import rows_of
@@ -126,7 +126,7 @@ class Copying(ProgramCase):
         random.Random(1986).shuffle(kinds)
         copies = os.path.join(self.folder, "copies")
         os.mkdir(copies)
-        with served(self.program, self.folder) as desk, small_disk(self.folder) as disk, under_load(desk) as load:
+        with served(self.program, self.folder) as desk, small_disk(self.folder, SMALL_DISK) as disk, under_load(desk) as load:
             rounds = Copies(self.program, load, copies, disk)
             for kind in kinds:
                 rounds.play(kind)

@@ -11,6 +11,7 @@ import time
 import unittest
 
 from support.cases import ProgramCase
+from support.disks import small_disk
 from support.programs import NOT_A_DESK, SECONDS, STORE, Session, bytes_of, done, ended, expect, expect_end, new_desk
 from support.service import Service, answered
 
@@ -131,19 +132,6 @@ class Peers(ProgramCase):
         service.expect_end()
 
 
-@contextlib.contextmanager
-def disk(folder, size):
-    """A file system in memory of so many bytes; none where it cannot be mounted."""
-    point = os.path.join(folder, f"disk{size}")
-    os.mkdir(point)
-    mounted = subprocess.run(["mount", "-t", "tmpfs", "-o", f"size={size}", "tmpfs", point], capture_output=True, check=False)
-    try:
-        yield None if mounted.returncode else point
-    finally:
-        if not mounted.returncode:
-            subprocess.run(["umount", "--lazy", point], check=True)
-
-
 def ended_as_nobody(program, words, text):
     """How a run ends that may do only what anybody may."""
     run = subprocess.run([program, *words], input=text, capture_output=True, timeout=SECONDS, user=NOBODY, check=False)
@@ -155,7 +143,7 @@ class Disks(ProgramCase):
         """A script on disks of several sizes, each soon full: what was told is there when there is room again."""
         script = FIELD + "".join(f"K{n} deliver N1 A-1 1\n" for n in range(2, 300))
         for size in [65_536, 262_144, 327_680, 524_288, 786_432]:
-            with disk(self.folder, size) as point:
+            with small_disk(self.folder, size) as point:
                 if point is None:
                     self.skipTest("no file system can be mounted here")
                 path = os.path.join(point, "desk.db")

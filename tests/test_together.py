@@ -389,7 +389,7 @@ class Stops(ProgramCase):
             if sqlite3
             else "no other SQLite is here to read the rows"
         )
-        note(f"{told}")
+        note(told)
 
     def test_a_power_cut_leaves_whole_batches(self):
         if may_be_cut():

@@ -1,5 +1,4 @@
-"""What the tests of copies have in common: a desk that is served, clients that deliver, the tools, what a copy has to be, and a
-small disk."""
+"""What the tests of copies have in common: a desk that is served, clients that deliver, the tools, and what a copy has to be."""
 
 import contextlib
 import http.client
@@ -188,20 +187,3 @@ def expect_refused(words: list[str], want: str) -> None:
     expect((status, out) == (1, "") and want in line and told.count("\n") <= 2, f"{words[1:]}: {status}, {out!r}, {told!r}")
     expect(line.startswith(os.path.basename(words[0]) + ": no"), f"{line}")
     expect(contents(os.path.dirname(words[2])) == before, f"{words[1:]}: files were changed")
-
-
-# ---- a disk
-
-
-@contextlib.contextmanager
-def small_disk(folder: str) -> Iterator[str | None]:
-    """The path of a small disk in memory, where one can be had."""
-    path = os.path.join(folder, "disk")
-    os.mkdir(path)
-    words = ["mount", "-t", "tmpfs", "-o", f"size={SMALL_DISK}", "stockdesk", path]
-    is_mounted = os.geteuid() == 0 and subprocess.run(words, capture_output=True).returncode == 0
-    try:
-        yield path if is_mounted else None
-    finally:
-        if is_mounted:
-            subprocess.run(["umount", path], check=True)
