@@ -1,6 +1,6 @@
 """Tests of power cuts after every system call of the making of a desk and of a session on it: the rows that the program then
-finds are those after the requests whose replies were written, or after one more. SEED and CUTS in the environment try others by
-hand."""
+finds are those after the requests whose replies were written, or after one more. STOCKDESK_SEED and STOCKDESK_CUTS in the
+environment are for other cuts."""
 
 import os
 
@@ -10,8 +10,8 @@ from support.power_cuts import MADE, NAME, Recorded, calls_of, may_be_cut, rows_
 from support.programs import NOT_A_DESK, STORE
 
 REQUESTS = 60
-SEED = int(os.environ.get("SEED", "1986"))
-CUTS = int(os.environ.get("CUTS", "1000"))
+SEED = int(os.environ.get("STOCKDESK_SEED", "1986"))
+CUTS = int(os.environ.get("STOCKDESK_CUTS", "1000"))
 
 
 def script_of(seed):
