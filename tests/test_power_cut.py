@@ -6,7 +6,7 @@ import os
 
 from support.cases import ProgramCase
 from support.inputs import Inputs
-from support.power_cuts import MADE, NAME, Recorded, calls_of, may_be_cut, rows_after_each, try_cuts
+from support.power_cuts import MADE, NAME, NO_CUTS, Recorded, calls_of, may_be_cut, rows_after_each, try_cuts
 from support.programs import NOT_A_DESK, STORE
 
 REQUESTS = 60
@@ -44,5 +44,5 @@ def recorded_script(program, folder, seed):
 class PowerCut(ProgramCase):
     def test_a_power_cut_loses_nothing_that_was_answered(self):
         if not may_be_cut():
-            self.skipTest("no strace that may trace, or no other SQLite, is here")
+            self.skipTest(NO_CUTS)
         try_cuts(self.program, self.folder, recorded_script(self.program, self.folder, SEED), SEED, CUTS)

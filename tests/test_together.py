@@ -12,7 +12,7 @@ import tempfile
 from support.cases import ProgramCase
 from support.inputs import Inputs
 from support.killed import START, Killed, orders_of
-from support.power_cuts import NAME, Recorded, calls_of, may_be_cut, rows_after_each, try_cuts
+from support.power_cuts import NAME, NO_CUTS, Recorded, calls_of, may_be_cut, rows_after_each, try_cuts
 from support.programs import SECONDS, bytes_of, done, ended, expect, new_desk, note
 from support.recorded import OUTPUT
 from support.stretches import file_of, kind_of
@@ -392,9 +392,10 @@ class Stops(ProgramCase):
         note(told)
 
     def test_a_power_cut_leaves_whole_batches(self):
-        if may_be_cut():
-            recorded = recorded_batches(self.program, self.folder, 7)
-            try_cuts(self.program, self.folder, recorded, SEED, 4 * len(recorded.calls))
+        if not may_be_cut():
+            self.skipTest(NO_CUTS)
+        recorded = recorded_batches(self.program, self.folder, 7)
+        try_cuts(self.program, self.folder, recorded, SEED, 4 * len(recorded.calls))
 
     def test_a_reader_that_goes_away_leaves_whole_batches(self):
         """The write that fails is told."""

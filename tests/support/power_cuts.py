@@ -17,6 +17,8 @@ BLIND_CUTS = 200
 # in one cut of so many the opening is recorded, too, and cut
 OPENINGS = 8
 NAME = "desk.db"
+# why none are tried
+NO_CUTS = "no strace that may trace, or no other SQLite, is here"
 # stands among the calls where the desk is made
 MADE = Call("made", "", "", "", b"", 0)
 
