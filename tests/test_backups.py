@@ -1,6 +1,7 @@
 """Tests of the tool that copies a desk while it is served: many copies under load, while their disk is full and while the tool is
 killed; which copies stay; what is refused."""
 
+import contextlib
 import fcntl
 import os
 import random
@@ -320,7 +321,8 @@ class Refusals(ProgramCase):
             service.process.send_signal(signal.SIGCONT)
             copied([BACKUP, pid, path, copies, "--program", self.program])
             # it waits for its first client all the while
-            status, _, body = ask(service.connect(), "GET", "/v1/fields/N1/A-1")
+            with contextlib.closing(service.connect()) as connection:
+                status, _, body = ask(connection, "GET", "/v1/fields/N1/A-1")
             expect(status == 404, f"{status}, {body}")
         for process in [writer, reader]:
             process.communicate()

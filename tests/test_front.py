@@ -11,6 +11,7 @@ import socket
 import ssl
 import subprocess
 import time
+import warnings
 
 from support import DEPLOY
 from support.fronts import NO_LIMITS, OFFICE, PAGE, SHOP, WAREHOUSE, Front, FrontCase, credentials, head_of, message
@@ -101,8 +102,8 @@ class Users(FrontCase):
                 place += 1
             expect(found == (503, {"error": "stopped"}), f"{found}")
             front.tell(WAREHOUSE, "deliver N1 A-1 1", f"K{place}")
-            front.desk.wait(SECONDS)
-            expect(front.desk.stderr and front.desk.stderr.read() == b"stockdesk: store\n", "no store fault is told")
+            _, errors = front.desk.communicate(timeout=SECONDS)
+            expect(errors == b"stockdesk: store\n", "no store fault is told")
             front.desk_start()
             found = front.tell(WAREHOUSE, "deliver N1 A-1 1", f"K{place}")
             expect(found == (200, {"place": place}), f"{found}")
@@ -278,7 +279,8 @@ class Configuration(FrontCase):
                 expect(b"200" not in with_tls and b"shops" not in with_tls, f"{with_tls!r}")
             old = ssl.SSLContext(ssl.PROTOCOL_TLS_CLIENT)
             old.check_hostname, old.verify_mode = False, ssl.CERT_NONE
-            old.minimum_version = old.maximum_version = ssl.TLSVersion.TLSv1_1
+            with warnings.catch_warnings(action="ignore", category=DeprecationWarning):
+                old.minimum_version = old.maximum_version = ssl.TLSVersion.TLSv1_1
             old.set_ciphers("ALL:@SECLEVEL=0")
             try:
                 with socket.create_connection(("127.0.0.1", front.port), SECONDS) as plain, old.wrap_socket(plain):
