@@ -5,22 +5,7 @@ import shutil
 import subprocess
 from contextlib import closing
 
-from model import TABLES
-
-try:
-    import sqlite3
-except ImportError:
-    sqlite3 = None
-
-KEYS = {
-    "desk": "one",
-    "field": "branch, article",
-    "move": "place",
-    "orders": "number",
-    "line": "number, nr",
-    "kept": "reqkey",
-    "firm": "number",
-}
+from support.tables import put_rows, sqlite3, tables_of
 
 # a desk of another version is told by the table that is read first
 OTHER_VERSION = ["UPDATE desk SET version = 3"]
@@ -30,11 +15,6 @@ NO_GOOD_ROWS = [
     "UPDATE desk SET clock = 4000000001",
     "UPDATE field SET lo = -1 WHERE rowid = (SELECT rowid FROM field ORDER BY branch, article LIMIT 1)",
 ]
-
-
-def is_able():
-    """Whether Python has an SQLite that knows STRICT tables."""
-    return sqlite3 is not None and sqlite3.sqlite_version_info >= (3, 37)
 
 
 def init(program, path):
@@ -58,19 +38,11 @@ def settle(path):
         os.fsync(file.fileno())
 
 
-def put_rows(database, rows):
-    database.execute("DELETE FROM desk")
-    for table in TABLES:
-        these = [row[1:] for row in rows[table]]
-        if these:
-            places = ", ".join("?" * len(these[0]))
-            database.executemany(f"INSERT INTO {table} VALUES ({places})", these)
-
-
 def write(program, path, rows):
     """A desk of these rows in a new file."""
     init(program, path)
-    alter(path, lambda database: put_rows(database, rows))
+    values = {table: [row[1:] for row in these] for table, these in rows.items()}
+    alter(path, lambda database: put_rows(database, values))
 
 
 def copy(source, path, changes=()):
@@ -87,9 +59,7 @@ def copy(source, path, changes=()):
 
 def read(path):
     """The rows of a file by their table, in the order of their keys."""
-    with closing(sqlite3.connect(path)) as database:
-        found = {table: database.execute(f"SELECT * FROM {table} ORDER BY {key}").fetchall() for table, key in KEYS.items()}
-    return {table: [(table, *row) for row in rows] for table, rows in found.items()}
+    return {table: [(table, *row) for row in rows] for table, rows in tables_of(path).items()}
 
 
 def kind_of(folder):

@@ -4,12 +4,13 @@ A row is a tuple that begins with the name of its table."""
 
 from dataclasses import dataclass
 
+from support.tables import COLUMNS
+
 PLAIN, TRANSFER = range(2)
 OPEN, COMMITTED, ABORTED = range(3)
 TAKE, ADD = range(2)
 WAYS = ["take", "add"]
 ENDINGS = {"commit": COMMITTED, "abort": ABORTED}
-TABLES = ["desk", "field", "move", "orders", "line", "kept", "firm"]
 
 
 @dataclass(slots=True, eq=False)
@@ -133,7 +134,7 @@ class Desk:
         entries = [self.fields, self.orders, self.lines]
         fields, orders, lines = [[entry.row() for entry in these] for these in entries]
         firms = [("firm", order.number) for order in self.orders if order.is_firm]
-        return dict(zip(TABLES, [[self.row()], fields, self.moves, orders, lines, self.kept, firms]))
+        return dict(zip(COLUMNS, [[self.row()], fields, self.moves, orders, lines, self.kept, firms]))
 
     def keep(self, key, words, fields=(), others=()):
         """Keeps the command under its key. Its rows are in the order in which the program puts them in."""

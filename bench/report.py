@@ -44,7 +44,7 @@ class Found:
     played: dict = field(default_factory=dict)
     runs: dict = field(default_factory=dict)
     # messages, messages more, and the bytes that are resident behind the first and behind the last of them
-    long: tuple = None
+    long: tuple = ()
 
     def of(self, size, player, name, choose=median):
         """The median of a number of the sessions, or what else is chosen, or None where there were none."""

@@ -6,6 +6,7 @@ import pathlib
 import sqlite3
 from collections.abc import Iterator
 from dataclasses import dataclass, replace
+from typing import Any
 
 # the limits of the rules: places taken or set aside, fields and orders of a desk, pieces of a command
 PLACES = 200_000
@@ -110,7 +111,7 @@ class Desk:
             raise NoDesk("old version" if older else "not a desk")
         self.clock = found[0][1]
 
-    def rows(self, query: str) -> list[tuple]:
+    def rows(self, query: str) -> list[Any]:
         return self.database.execute(query).fetchall()
 
     def counts(self) -> Counts:

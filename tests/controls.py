@@ -18,9 +18,11 @@ from concurrent.futures import ThreadPoolExecutor
 from dataclasses import dataclass
 from queue import SimpleQueue
 
+# no folder of compiled modules beside the sources
 sys.dont_write_bytecode = True
 
-TOP = os.path.dirname(os.path.dirname(os.path.abspath(__file__)))
+from support import TOP
+
 LINE = re.compile(r"(file|old|new|control): ?(.*)")
 # the largest crate takes 8 GB
 MOST_COPIES = int(os.environ.get("RT_JOBS", "3"))

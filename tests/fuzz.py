@@ -15,25 +15,23 @@ import subprocess
 import sys
 import tempfile
 
+# no folder of compiled modules beside the sources
 sys.dont_write_bytecode = True
 
-from forms import REPLY, answers_of, is_answer
-from inputs import Inputs
-from programs import COLUMNS, FILES, SECONDS, bytes_of, expect, new_desk, rows_of, say, sqlite3
-from service import Service, answered
-from stretches import file_of, stretches
-from sums import expect_sums
+from support.forms import REPLY, answers_of, is_answer
+from support.inputs import Inputs
+from support.older import OLDER
+from support.programs import FILES, SECONDS, bytes_of, expect, new_desk
+from support.service import Service, answered
+from support.stretches import HEADERS, file_of, stretches
+from support.sums import expect_sums
+from support.tables import COLUMNS, rows_of, sqlite3
 
 BLOCK = 100
 LINES = 50
 STREAMS = 10
 
 RECORD = re.compile(rb"stockdesk: record (0|[1-9][0-9]*)\n")
-REQUEST_FILES = [
-    ("orders", ["key", "order", "until", "way", "branch", "article", "qty"]),
-    ("deliveries", ["key", "branch", "article", "qty"]),
-    ("bounds", ["key", "branch", "article", "lo", "hi"]),
-]
 
 # how a run ends on a file that is opened, how an upgrade ends that is none, and how a run ends on a file that is not opened
 OPENED = [(0, b""), (1, b"stockdesk: store\n")]
@@ -153,8 +151,8 @@ class Block:
     def files(self, path):
         """Files of requests, each twice, one by one or together: what is done is done once."""
         for _ in range(BLOCK):
-            command, columns = self.inputs.random.choice(REQUEST_FILES)
-            text, before = self.inputs.records(columns), bytes_of(path)
+            command, header = self.inputs.random.choice(list(HEADERS.items()))
+            text, before = self.inputs.records(header.split(",")), bytes_of(path)
             with open(self.file, "wb") as out:
                 out.write(text)
             words = [self.inputs.random.choice([[], self.option()]) for _ in range(2)]
@@ -262,7 +260,7 @@ class Block:
         return status == 0
 
     def databases(self, path):
-        older = [os.path.join(FILES, f"{name}.db") for name in ["long", "transfer", "many"]]
+        older = [os.path.join(FILES, f"{name}.db") for name in OLDER]
         bases = [path, self.session_killed(path), *older, *(self.upgraded(base) for base in older)]
         for number in range(BLOCK):
             file, copy = (os.path.join(self.folder, f"{name}{number}.db") for name in ["damaged", "copy"])
@@ -299,13 +297,13 @@ def main():
             blocks.append(Block(os.path.abspath(program), int(seed) + number, folder))
             blocks[-1].play()
         except BaseException:
-            say(f"seed {int(seed) + number}, {BLOCK} rounds; the files are in {folder}")
+            print(f"seed {int(seed) + number}, {BLOCK} rounds; the files are in {folder}")
             raise
         shutil.rmtree(folder)
     rounds = int(count) // BLOCK * BLOCK
     said, opened = sum(block.said for block in blocks), sum(block.opened for block in blocks)
     lines, damaged = f"{rounds * LINES} lines ({said} in files)", f"{rounds} damaged files ({opened} opened)"
-    say(f"{lines}, {rounds} files of requests, {rounds * STREAMS} streams, {damaged}")
+    print(f"{lines}, {rounds} files of requests, {rounds * STREAMS} streams, {damaged}")
 
 
 if __name__ == "__main__":

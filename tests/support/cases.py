@@ -1,11 +1,28 @@
-"""The base of the tests of the built program: the program, and a fresh folder for each test."""
+"""The base of the tests of the built program: the program, a fresh folder for each test, and what is left out without a tool."""
 
 import os
+import shutil
 import tempfile
 import unittest
+from collections.abc import Callable
+from typing import Any
 
-TOP = os.path.dirname(os.path.dirname(os.path.dirname(os.path.abspath(__file__))))
-BUILT = os.path.join(TOP, "crates", "stockdesk", "out", "stockdesk")
+from support import BUILT
+from support.tables import is_able, sqlite3
+
+needs_sqlite = unittest.skipIf(sqlite3 is None, "no other SQLite is here")
+needs_strict_tables = unittest.skipUnless(is_able(), "no other SQLite with strict tables is here")
+
+
+def path_of(name: str) -> str | None:
+    """Where a program lies; those of the system's administrator count too."""
+    return shutil.which(name, path=os.environ.get("PATH", "") + ":/usr/local/sbin:/usr/sbin:/sbin")
+
+
+def needs(*names: str) -> Callable[[Any], Any]:
+    """Leaves tests out where one of these programs is not here."""
+    lacking = [name for name in names if path_of(name) is None]
+    return unittest.skipIf(lacking, f"{', '.join(lacking)} not here")
 
 
 def built_program() -> str:

@@ -1,0 +1,171 @@
+"""A desk behind its front, for tests: a certificate, HAProxy with the configuration that is shipped, the program behind it, and
+what is asked through both. The users are those of the example, whose passwords are their names."""
+
+import base64
+import http.client
+import json
+import os
+import signal
+import socket
+import ssl
+import subprocess
+import time
+import uuid
+from typing import Any
+
+from support import DEPLOY
+from support.cases import ProgramCase, needs, path_of
+from support.programs import SECONDS, done, expect, new_desk
+
+PAGE = os.path.join(DEPLOY, "page", "desk.html")
+FIELDS = "".join(f"F{n} field N1 A-{n} 0 1000000 500\n" for n in range(1, 9))
+
+# a user of each group
+SHOP, WAREHOUSE, OFFICE = "n1", "w1", "ho"
+
+# so much is answered that only the tests of the limits meet one
+NO_LIMITS = dict.fromkeys(
+    ["REQUESTS_BY_USER", "COMMANDS_BY_USER", "UNDER_WAY_BY_USER", "REQUESTS_BY_ADDRESS"]
+    + ["CONNECTIONS_BY_ADDRESS", "HANDSHAKES_BY_ADDRESS", "FAILURES_BY_ADDRESS"],
+    "1000000",
+)
+
+Body = dict[str, Any]
+
+
+def is_there() -> bool:
+    return bool(path_of("haproxy") and path_of("openssl"))
+
+
+def free_port() -> int:
+    with socket.socket() as found:
+        found.bind(("127.0.0.1", 0))
+        return found.getsockname()[1]
+
+
+def credentials(user: str, password: str | None = None) -> dict[str, str]:
+    words = f"{user}:{user if password is None else password}"
+    return {"Authorization": "Basic " + base64.b64encode(words.encode()).decode()}
+
+
+def make_certificate(folder: str) -> None:
+    """A certificate of this machine with its key, in one file, as HAProxy wants it."""
+    key, certificate = os.path.join(folder, "key"), os.path.join(folder, "certificate")
+    words = "req -x509 -newkey ec -pkeyopt ec_paramgen_curve:prime256v1 -nodes -days 2 -subj /CN=localhost"
+    words += " -addext subjectAltName=DNS:localhost"
+    subprocess.run(["openssl", *words.split(), "-keyout", key, "-out", certificate], check=True, stderr=subprocess.DEVNULL)
+    with open(os.path.join(folder, "pem"), "w", encoding="ascii") as whole:
+        for path in [certificate, key]:
+            with open(path, encoding="ascii") as part:
+                whole.write(part.read())
+
+
+class Front:
+    """A desk in a file with some fields, served behind a front, both on 127.0.0.1. `more` is read behind the configuration."""
+
+    def __init__(self, program: str, folder: str, limits: dict[str, str] = NO_LIMITS, more: str = "", script: str = FIELDS):
+        self.program, self.folder = program, folder
+        self.file = new_desk(program, folder)
+        done(program, ["run", self.file], script)
+        make_certificate(folder)
+        self.context = ssl.create_default_context(cafile=os.path.join(folder, "certificate"))
+        self.log_path = os.path.join(folder, "log")
+        self.words = [str(path_of("haproxy")), "-f", f"{DEPLOY}/users.cfg", "-f", f"{DEPLOY}/haproxy.cfg"]
+        if more:
+            with open(os.path.join(folder, "more.cfg"), "w", encoding="ascii") as file:
+                file.write(more)
+            self.words += ["-f", file.name]
+        self.port, self.desk_port = free_port(), free_port()
+        self.environment = {
+            **os.environ,
+            **limits,
+            "FRONT": f"127.0.0.1:{self.port}",
+            "DESK": f"127.0.0.1:{self.desk_port}",
+            "PEM": os.path.join(folder, "pem"),
+            "PAGE": PAGE,
+        }
+        self.desk_start()
+        try:
+            self.start()
+        except BaseException:
+            self.desk_kill()
+            raise
+
+    def __enter__(self) -> "Front":
+        return self
+
+    def __exit__(self, *_: object) -> None:
+        self.stop()
+        self.desk_kill()
+
+    def start(self) -> None:
+        with open(self.log_path, "a", encoding="ascii") as log:
+            self.process = subprocess.Popen(self.words, env=self.environment, stdout=log, stderr=subprocess.STDOUT)
+        for _ in range(100):
+            try:
+                socket.create_connection(("127.0.0.1", self.port), SECONDS).close()
+                return
+            except ConnectionRefusedError:
+                time.sleep(0.05)
+        expect(False, "no front: " + "".join(self.log()))
+
+    def stop(self) -> None:
+        self.process.terminate()
+        self.process.wait()
+
+    def desk_start(self, **options: Any) -> None:
+        words = [self.program, "serve", self.file, "--port", str(self.desk_port), "--connections", "1000000"]
+        self.desk = subprocess.Popen(words, stdin=subprocess.DEVNULL, stdout=subprocess.PIPE, stderr=subprocess.PIPE, **options)
+        told = self.desk.stdout and self.desk.stdout.readline()
+        expect(told == f"listening {self.desk_port}\n".encode(), f"no desk: {told!r}")
+
+    def desk_kill(self) -> None:
+        self.desk.send_signal(signal.SIGKILL)
+        self.desk.communicate()
+
+    def log(self) -> list[str]:
+        with open(self.log_path, encoding="ascii") as log:
+            return log.readlines()
+
+    def connect(self) -> http.client.HTTPSConnection:
+        return http.client.HTTPSConnection("localhost", self.port, context=self.context, timeout=2 * SECONDS)
+
+    def socket(self) -> ssl.SSLSocket:
+        plain = socket.create_connection(("127.0.0.1", self.port), SECONDS)
+        return self.context.wrap_socket(plain, server_hostname="localhost")
+
+    def ask(self, user: str | None, method: str, target: str, body: str | bytes | None = None) -> tuple[int, str]:
+        """The status and the body of an answer, on a connection of its own."""
+        connection = self.connect()
+        connection.request(method, target, body, credentials(user) if user else {})
+        answer = connection.getresponse()
+        found = answer.status, answer.read().decode()
+        connection.close()
+        return found
+
+    def tell(self, user: str, command: str, key: str | None = None) -> tuple[int, Body]:
+        """The status and the object that answers a command, under a key of its own if none is given."""
+        status, body = self.ask(user, "POST", "/v1/commands", message(key or str(uuid.uuid4()), command))
+        return status, json.loads(body)
+
+    def value(self, article: str = "A-1") -> int:
+        status, body = self.ask(OFFICE, "GET", f"/v1/fields/N1/{article}")
+        expect(status == 200, f"{status}, {body}")
+        return json.loads(body)["value"]
+
+
+@needs("haproxy", "openssl")
+class FrontCase(ProgramCase):
+    """Tests of the built program behind its front."""
+
+
+def message(key: str, command: str) -> str:
+    return json.dumps({"key": key, "command": command})
+
+
+def head_of(user: str, target: str, length: int | None = None) -> bytes:
+    lines = [f"{'GET' if length is None else 'POST'} {target} HTTP/1.1", "Host: localhost"]
+    lines.append(f"Authorization: {credentials(user)['Authorization']}")
+    if length is not None:
+        lines.append(f"Content-Length: {length}")
+    return "".join(line + "\r\n" for line in lines + [""]).encode()

@@ -1,0 +1,111 @@
+"""Runs of the built program and their ends, the files that they read and write, and what a test tells beside its outcome."""
+
+import csv
+import os
+import resource
+import subprocess
+import sys
+import threading
+from collections.abc import Iterable, Sequence
+
+SECONDS = 30
+FILES = os.path.join(os.path.dirname(os.path.dirname(os.path.abspath(__file__))), "files")
+
+# how a program ends: its status, its output, and what it tells of a fault
+End = tuple[int, bytes, bytes]
+
+# how a program ends that writes nothing but this
+NOT_A_DESK: End = (3, b"", b"stockdesk: not a desk\n")
+OLD_VERSION: End = (3, b"", b"stockdesk: old version\n")
+DAMAGED: End = (3, b"", b"stockdesk: damaged\n")
+STORE: End = (1, b"", b"stockdesk: store\n")
+
+# files with bytes that are no desk, and what a run on them ends with
+NO_DESK = [(b"this is no database, but some text", STORE), (b"S", STORE), (b"", NOT_A_DESK)]
+
+
+def note(text: str) -> None:
+    """Tells a number that was found, on the line on which the test is told."""
+    print(f"{text}; ", end="", file=sys.stderr, flush=True)
+
+
+def expect(fact: object, text: str) -> None:
+    if not fact:
+        raise AssertionError(text)
+
+
+def ended(
+    program: str,
+    words: Sequence[str],
+    text: str = "",
+    folder: str | None = None,
+    limit: tuple[int, int] | None = None,
+) -> End:
+    """The status of a run, its output and what it tells of a fault; under a limit, as of the bytes that a file may have."""
+    run = subprocess.run(
+        [program, *words],
+        input=text.encode(),
+        cwd=folder,
+        capture_output=True,
+        timeout=SECONDS,
+        # what is over the limit is refused, and is no signal
+        restore_signals=limit is None,
+        preexec_fn=limit and (lambda: resource.setrlimit(limit[0], (limit[1], limit[1]))),
+    )
+    return run.returncode, run.stdout, run.stderr
+
+
+def done(program: str, words: Sequence[str], text: str = "") -> list[str]:
+    """The lines of a run that ends with status 0."""
+    status, out, errors = ended(program, words, text)
+    expect(status == 0, f"{words}: status {status}, {errors!r}")
+    return out.decode().splitlines()
+
+
+def expect_end(program: str, words: Sequence[str], want: End, text: str = "K1 expire 1\n") -> None:
+    found = ended(program, words, text)
+    expect(found == want, f"{words}: {found} and not {want}")
+
+
+class Session:
+    """A run on a file whose input stays open."""
+
+    def __init__(self, program: str, path: str):
+        self.process = subprocess.Popen([program, "run", path], stdin=subprocess.PIPE, stdout=subprocess.PIPE)
+        assert self.process.stdin and self.process.stdout
+        self.input, self.output = self.process.stdin, self.process.stdout
+        # a reply that never comes ends the test
+        self.clock = threading.Timer(SECONDS, self.process.kill)
+        self.clock.start()
+
+    def ask(self, line: str) -> str:
+        self.input.write(line.encode() + b"\n")
+        self.input.flush()
+        return self.output.readline().decode().rstrip("\n")
+
+    def end(self) -> None:
+        self.input.close()
+        self.process.wait()
+        self.output.close()
+        self.clock.cancel()
+
+
+def lines_of(name: str) -> list[str]:
+    with open(os.path.join(FILES, name), encoding="ascii") as file:
+        return file.read().splitlines()
+
+
+def write_records(path: str, records: Iterable[Iterable[object]]) -> None:
+    with open(path, "w", encoding="latin-1", newline="") as file:
+        csv.writer(file).writerows(records)
+
+
+def bytes_of(path: str) -> bytes:
+    with open(path, "rb") as file:
+        return file.read()
+
+
+def new_desk(program: str, folder: str, name: str = "desk.db") -> str:
+    path = os.path.join(folder, name)
+    done(program, ["init", path])
+    return path

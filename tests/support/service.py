@@ -1,0 +1,85 @@
+"""The built program as it serves a desk to connections, and what is asked of it there."""
+
+import contextlib
+import http.client
+import re
+import resource
+import socket
+import struct
+import subprocess
+import threading
+import time
+
+from support.messages import compact
+from support.programs import SECONDS, End, expect
+
+JSON = "application/json"
+
+
+class Service:
+    """A desk in a file that is served to so many connections; its file may grow to so many bytes."""
+
+    def __init__(self, program: str, path: str, connections: int, port: int = 0, limit: int | None = None):
+        self.process = subprocess.Popen(
+            [program, "serve", path, "--port", str(port), "--connections", str(connections)],
+            stdin=subprocess.DEVNULL,
+            stdout=subprocess.PIPE,
+            stderr=subprocess.PIPE,
+            restore_signals=limit is None,
+            preexec_fn=None if limit is None else lambda: resource.setrlimit(resource.RLIMIT_FSIZE, (limit, limit)),
+        )
+        # an answer that never comes ends the test
+        self.clock = threading.Timer(SECONDS, self.process.kill)
+        self.clock.start()
+        assert self.process.stdout
+        told = self.process.stdout.readline().decode()
+        listening = re.fullmatch(r"listening ([1-9][0-9]*)\n", told)
+        if not listening:
+            raise AssertionError(f"no port: {told!r}")
+        self.port = int(listening[1])
+
+    def connect(self) -> http.client.HTTPConnection:
+        return http.client.HTTPConnection("127.0.0.1", self.port, timeout=SECONDS)
+
+    def expect_end(self, want: End = (0, b"", b"")) -> None:
+        out, errors = self.process.communicate()
+        self.clock.cancel()
+        found = (self.process.returncode, out, errors)
+        expect(found == want, f"serve: {found} and not {want}")
+
+
+# the status, the type and the body of an answer
+Answer = tuple[int, str | None, str]
+
+
+def ask(connection: http.client.HTTPConnection, method: str, target: str, body: str | None = None) -> Answer:
+    connection.request(method, target, body)
+    answer = connection.getresponse()
+    return answer.status, answer.getheader("content-type"), answer.read().decode()
+
+
+def post(connection: http.client.HTTPConnection, key: str, command: str) -> Answer:
+    return ask(connection, "POST", "/v1/commands", compact({"key": key, "command": command}))
+
+
+def answered(port: int, pieces: list[bytes], is_reset: bool = False) -> bytes:
+    """What is answered to these pieces, sent one by one, until the connection ends; or the connection is reset behind them."""
+    found = b""
+    with socket.create_connection(("127.0.0.1", port), SECONDS) as connection:
+        connection.setsockopt(socket.IPPROTO_TCP, socket.TCP_NODELAY, 1)
+        if is_reset:
+            # it is closed without a farewell
+            connection.setsockopt(socket.SOL_SOCKET, socket.SO_LINGER, struct.pack("ii", 1, 0))
+        # the other end may have closed behind what it could not read
+        with contextlib.suppress(OSError):
+            for piece in pieces:
+                connection.sendall(piece)
+                if len(pieces) > 1:
+                    time.sleep(0.0002)
+            if is_reset:
+                return found
+            connection.shutdown(socket.SHUT_WR)
+        with contextlib.suppress(ConnectionResetError):
+            while part := connection.recv(65_536):
+                found += part
+    return found

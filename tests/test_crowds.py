@@ -1,0 +1,231 @@
+"""Tests of many clients in front of the program: while the desk is killed, while the front stops, beside clients that are slow,
+and with those that go away."""
+
+import concurrent.futures
+import http.client
+import json
+import random
+import socket
+import ssl
+import threading
+import time
+from typing import Callable
+
+from support import fronts
+from support.fronts import SHOP, WAREHOUSE, Front, FrontCase, credentials, head_of, message
+from support.programs import done, expect, new_desk, note
+from support.tables import rows_of, sqlite3
+
+CLIENTS = 64
+COMMANDS = 2_000
+KILLS = 3
+
+# what is done: its place, its key, its spelling
+Done = tuple[int, str, str]
+
+
+def commands_of(client: int) -> list[tuple[str, str]]:
+    """What a client tells, with the user: shops open, use and end orders, the warehouse delivers and writes off."""
+    generator = random.Random(client)
+    told: list[tuple[str, str]] = []
+    while len(told) < COMMANDS // CLIENTS + 1:
+        field = f"N1 A-{generator.randint(1, 8)}"
+        if client % 2:
+            told.append((WAREHOUSE, f"{generator.choice(['deliver', 'writeoff'])} {field} {generator.randint(1, 300)}"))
+            continue
+        order = 1_000 * (client + 1) + len(told)
+        told.append((SHOP, f"open {order} 60 {generator.choice(['take', 'add'])} {field} {generator.randint(1, 200)}"))
+        told.append((SHOP, f"use {order} {field} {generator.randint(1, 100)}"))
+        told.append((SHOP, f"{generator.choice(['commit', 'abort'])} {order}"))
+    return told
+
+
+class Client:
+    """A client with a kept connection, which asks again under the same key where there is no answer."""
+
+    def __init__(self, front: Front):
+        self.front, self.connection, self.lost = front, front.connect(), 0
+
+    def tell(self, user: str, command: str, key: str, is_patient: bool = False) -> tuple[int, fronts.Body]:
+        while True:
+            try:
+                self.connection.request("POST", "/v1/commands", message(key, command), credentials(user))
+                answer = self.connection.getresponse()
+                return answer.status, json.loads(answer.read())
+            except (OSError, http.client.HTTPException):
+                expect(is_patient, f"{command}: no answer")
+                self.lost += 1
+                self.connection.close()
+                time.sleep(0.05)
+
+
+def told_by(front: Front, client: int, is_patient: bool) -> tuple[list[Done], int]:
+    """What was done for a client, each with its place, its key and its spelling, and how many answers were lost on the way."""
+    asks, found = Client(front), []
+    for nr, (user, command) in enumerate(commands_of(client)):
+        key = f"C{client}-{nr}"
+        status, body = asks.tell(user, command, key, is_patient)
+        expect(status in (200, 409), f"{command}: {status}, {body}")
+        if status == 200:
+            found.append((body["place"], key, command))
+    asks.connection.close()
+    return found, asks.lost
+
+
+def all_told(front: Front, meanwhile: Callable[[], None], is_patient: bool = False) -> tuple[list[Done], int]:
+    """What all clients were answered as done, in the order of places, while something else goes on."""
+    with concurrent.futures.ThreadPoolExecutor(CLIENTS) as pool:
+        jobs = [pool.submit(told_by, front, client, is_patient) for client in range(CLIENTS)]
+        meanwhile()
+        found = [job.result() for job in jobs]
+    return sorted(line for lines, _ in found for line in lines), sum(lost for _, lost in found)
+
+
+def expect_same_rows(program: str, folder: str, front: Front, accepted: list[Done]) -> None:
+    """The tables are those of the same commands by script in the order of their places."""
+    front.desk_kill()
+    played = new_desk(program, folder, "played.db")
+    places = [place for place, _, _ in accepted]
+    expect(places == list(range(9, len(places) + 9)), "places are missing")
+    script = fronts.FIELDS + "".join(f"{key} {command}\n" for _, key, command in accepted)
+    expect(len(done(program, ["run", played], script)) == len(places) + 8, "fewer replies")
+    # a run that ends copies the log into the file
+    done(program, ["run", front.file], "")
+    if sqlite3 is not None:
+        expect(rows_of(front.file) == rows_of(played), "other rows")
+
+
+class Crowds(FrontCase):
+    def test_many_clients_outlive_a_killed_desk(self):
+        """64 clients of two groups, the desk killed three times in the middle and started again: each command is answered."""
+        with Front(self.program, self.folder) as front:
+
+            def kill():
+                for _ in range(KILLS):
+                    time.sleep(0.4)
+                    front.desk_kill()
+                    time.sleep(0.3)
+                    front.desk_start()
+
+            began = time.time()
+            accepted, _ = all_told(front, kill)
+            count = sum(len(commands_of(client)) for client in range(CLIENTS))
+            expect(count >= COMMANDS, f"{count} commands")
+            note(f"{count} commands in {time.time() - began:.1f} s, {len(accepted)} done, the desk killed {KILLS} times")
+            expect_same_rows(self.program, self.folder, front, accepted)
+
+    def test_clients_outlive_a_front_that_stops(self):
+        """The front stopped and started again under load: who asks again under the same key has each command done once."""
+        with Front(self.program, self.folder) as front:
+
+            def stop():
+                for _ in range(KILLS):
+                    time.sleep(0.3)
+                    front.stop()
+                    time.sleep(0.2)
+                    front.start()
+
+            accepted, lost = all_told(front, stop, is_patient=True)
+            expect(lost > 0, "no answer was lost")
+            note(f"{len(accepted)} done, {lost} answers lost on the way")
+            expect_same_rows(self.program, self.folder, front, accepted)
+
+
+# ---- clients that are slow, or gone
+
+
+def send_slowly(front: Front, over: threading.Event) -> None:
+    body = message("SLOW", "deliver N1 A-1 5").encode()
+    with front.socket() as client:
+        # within the time that a body may take no second byte follows the last but one
+        client.sendall(head_of(WAREHOUSE, "/v1/commands", len(body)))
+        for byte in body[:-1]:
+            if over.wait(1):
+                return
+            try:
+                client.sendall(bytes([byte]))
+            except OSError:
+                return
+
+
+def unread(front: Front, count: int) -> ssl.SSLSocket:
+    """A client that asks for a long sheet so many times in a row, with little room for it, and never reads."""
+    plain = socket.socket()
+    plain.setsockopt(socket.SOL_SOCKET, socket.SO_RCVBUF, 4_096)
+    plain.connect(("127.0.0.1", front.port))
+    client = front.context.wrap_socket(plain, server_hostname="localhost")
+    client.sendall(head_of(SHOP, "/v1/sheets/N2") * count)
+    return client
+
+
+def median_of_asks(front: Front) -> float:
+    """How many milliseconds an ask takes on a kept connection: the one in the middle of 41."""
+    connection, took = front.connect(), []
+    for _ in range(41):
+        began = time.time()
+        connection.request("GET", "/v1/fields/N1/A-1", None, credentials(SHOP))
+        answer = connection.getresponse()
+        expect((answer.status, len(answer.read()) > 0) == (200, True), f"{answer.status}")
+        took.append(1_000 * (time.time() - began))
+    connection.close()
+    return sorted(took)[20]
+
+
+class SlowClients(FrontCase):
+    def test_slow_clients_hold_nobody_up(self):
+        """100 idle clients, 20 that send a byte a second and 20 that never read a long sheet: an ask takes no longer than 50
+        ms."""
+        script = fronts.FIELDS + "".join(f"S{n} field N2 B-{n} 0 9 9\n" for n in range(2_000))
+        # what the system holds back for a client is little, so the front has to
+        with Front(self.program, self.folder, more="global\n    tune.sndbuf.client 16384\n", script=script) as front:
+            alone = median_of_asks(front)
+            over = threading.Event()
+            slow = [threading.Thread(target=send_slowly, args=(front, over)) for _ in range(20)]
+            for thread in slow:
+                thread.start()
+            idle = [front.socket() for _ in range(100)]
+            waiting = [unread(front, 1 + count % 3) for count in range(20)]
+            time.sleep(1)
+            beside = median_of_asks(front)
+            over.set()
+            for thread in slow:
+                thread.join()
+            for client in idle + waiting:
+                client.close()
+            note(f"an ask took {alone:.1f} ms, and {beside:.1f} ms beside 140 slow clients")
+            expect(beside <= 50, f"an ask took {beside:.0f} ms")
+            expect(front.value() == 500, "a message that was cut short was done")
+
+    def test_a_message_may_come_in_pieces(self):
+        """One byte, then the head but for its end, then half of the body, then the rest: it is answered as one that comes at
+        once."""
+        body = message("PIECES", "deliver N1 A-1 5").encode()
+        whole = head_of(WAREHOUSE, "/v1/commands", len(body)) + body
+        cuts = [0, 1, len(whole) - len(body) - 1, len(whole) - len(body) // 2, len(whole)]
+        with Front(self.program, self.folder) as front, front.socket() as client:
+            for start, end in zip(cuts, cuts[1:]):
+                client.sendall(whole[start:end])
+                time.sleep(0.3)
+            found = client.recv(65_536)
+            expect(found.startswith(b"HTTP/1.1 200 ") and found.endswith(b'{"place":9}'), f"{found!r}")
+
+    def test_clients_may_go_away(self):
+        """In mid-message, with a farewell or without: nothing is done. Behind the whole of it: it is done, once, whoever asks."""
+        body = message("GONE", "deliver N1 A-1 5").encode()
+        whole = head_of(WAREHOUSE, "/v1/commands", len(body)) + body
+        with Front(self.program, self.folder) as front:
+            for size in [1, 20, len(whole) - len(body), len(whole) - 1]:
+                for is_reset in [False, True]:
+                    client = front.socket()
+                    if is_reset:
+                        client.setsockopt(socket.SOL_SOCKET, socket.SO_LINGER, b"\1\0\0\0\0\0\0\0")
+                    client.sendall(whole[:size])
+                    client.close()
+            expect(front.value() == 500, "a message that was cut short was done")
+            for _ in range(5):
+                client = front.socket()
+                client.sendall(whole)
+                client.close()
+            found = front.tell(WAREHOUSE, "deliver N1 A-1 5", "GONE")
+            expect(found == (200, {"place": 9}), f"{found}")
+            expect(front.value() == 505, "not done once")

@@ -1,0 +1,150 @@
+"""Tests of how full a desk is told to be by `stockdesk-rollover --check`: at nine tenths of each limit, and in use."""
+
+import os
+import subprocess
+import threading
+from unittest import mock
+
+from support.cases import ProgramCase, needs_strict_tables
+from support.desks import OPEN_ORDER, Desks, of_desk, of_fields, of_orders
+from support.programs import Session, bytes_of, expect, new_desk, note
+from support.rolled import SCRIPT, desk_of, lying, play_and_kill, tool_ended
+
+import stockdesk_files as files
+
+# so many rows on both sides of nine tenths of a limit, others beside them, and the status of a look
+NEARLY = [
+    (of_desk, 179_999, [], 0),
+    (of_desk, 180_000, [], 3),
+    (of_desk, 179_998, OPEN_ORDER, 0),
+    (of_desk, 179_999, OPEN_ORDER, 3),
+    (of_fields, 8_999, [], 0),
+    (of_fields, 9_000, [], 3),
+    (of_orders, 89_999, [], 0),
+    (of_orders, 90_000, [], 3),
+]
+
+
+def expect_places(program, path, places, words):
+    """A look tells so many places, and these words in its first line; all lies as it lay."""
+    found = lying(path)
+    status, out, errors = tool_ended(program, ["--check", path])
+    told = f"places: {places} taken and 3 set aside of 200000, 0 percent\n" in out.decode()
+    expect((status, errors) == (0, b"") and told, f"{status}, {out}, {errors}")
+    expect(all(word in out.decode().splitlines()[0] for word in words), f"{out}")
+    expect(lying(path) == found, "it was changed")
+
+
+def deliver(stdin, over):
+    number = 0
+    while not over.is_set():
+        number += 1
+        stdin.write(f"D{number} deliver N1 A-1 1\n")
+        stdin.flush()
+
+
+def look(program, path, replies):
+    """Whether a look at a desk in use told a number of places that it had meanwhile; else it told to try again."""
+    least = len(replies)
+    status, out, errors = tool_ended(program, ["--check", path])
+    if status == 1:
+        expect(errors.endswith(b"try again\n"), f"{errors}")
+        return False
+    lines = out.decode().splitlines()
+    expect(status == 0 and " is in use: these are its numbers at some moment" in lines[0], f"{lines}")
+    places = int(lines[1].split()[1])
+    # a command is kept before it is answered
+    expect(least + 1 <= places <= len(replies) + 1_000, f"{places} places, after {least} and before {len(replies)} answers")
+    return True
+
+
+def put(path, place, number):
+    with open(path, "rb+") as file:
+        file.seek(place)
+        file.write(b"%04d" % number)
+
+
+class Changing:
+    """Copies a desk, and changes it behind each of the first copies."""
+
+    def __init__(self, change, often):
+        self.change, self.often, self.copies, self.copy = change, often, 0, files.copied
+
+    def __call__(self, path, folder, name):
+        copy = self.copy(path, folder, name)
+        self.copies += 1
+        if self.copies <= self.often:
+            self.change(self.copies)
+        return copy
+
+
+@needs_strict_tables
+class Fullness(ProgramCase):
+    def test_a_look_tells_how_full_a_desk_is(self):
+        """On both sides of nine tenths, and nothing is changed or made."""
+        desks = Desks(self.program, self.folder)
+        for make, count, others, want in NEARLY:
+            desks.put([*make(count), *others])
+            found, names = bytes_of(desks.path), os.listdir(self.folder)
+            status, out, errors = tool_ended(self.program, ["--check", desks.path])
+            expect((status, errors, b"nearly full" in out) == (want, b"", want == 3), f"{count}: {status}, {out}, {errors}")
+            expect(bytes_of(desks.path) == found and sorted(os.listdir(self.folder)) == sorted(names), "something was changed")
+        lines = tool_ended(self.program, ["--check", desk_of(self.program, self.folder)[0]])[1].decode().splitlines()
+        want = ["places: 8 taken and 3 set aside of 200000, 0 percent", "fields: 2 of 10000, 0 percent"]
+        expect(lines == [*want, "orders: 3 of 100000, 0 percent"], f"{lines}")
+
+    def test_a_look_reads_the_log(self):
+        """What a desk in use has done is in its log alone at first; it goes on, and so does one whose program was killed."""
+        old, _ = desk_of(self.program, self.folder)
+        found = bytes_of(old)
+        session = Session(self.program, old)
+        try:
+            expect(session.ask("K9 deliver N1 A-1 1") == "K9 done 9", "no reply")
+            expect(bytes_of(old) == found, "it is in the file at once")
+            expect_places(self.program, old, 9, ["in use"])
+            expect(session.ask("K10 deliver N1 A-1 1") == "K10 done 10", "it does not go on")
+        finally:
+            session.process.kill()
+            session.end()
+        expect_places(self.program, old, 10, ["places"])
+
+    def test_a_look_disturbs_nobody(self):
+        """A desk in use, also while it takes commands as fast as it can: what is told was so at some moment, and all is
+        answered."""
+        old, _ = desk_of(self.program, self.folder, "K1 field N1 A-1 0 1000000000 0\n")
+        pipe = subprocess.PIPE
+        with subprocess.Popen([self.program, "run", old], stdin=pipe, stdout=pipe, text=True) as process:
+            replies, over = [], threading.Event()
+            reader = threading.Thread(target=lambda: replies.extend(process.stdout))
+            writer = threading.Thread(target=deliver, args=(process.stdin, over))
+            reader.start()
+            writer.start()
+            try:
+                looks = [look(self.program, old, replies) for _ in range(10)]
+            finally:
+                over.set()
+                writer.join()
+                process.stdin.close()
+                reader.join()
+        expect(replies == [f"D{n} done {n + 1}\n" for n in range(1, len(replies) + 1)], "another reply")
+        expect(sum(looks) > 0, "each look was in vain")
+        note(f"{len(replies)} commands, {sum(looks)} of {len(looks)} looks among them told how full the desk was")
+
+    def test_a_look_takes_no_copy_of_two_moments(self):
+        """Where the file changes while it is copied, or its log is begun anew, it is copied once more, and at last given up."""
+        old = new_desk(self.program, self.folder)
+        play_and_kill(self.program, old, SCRIPT)
+        for name, place in [(old, 68), (f"{old}-wal", 16)]:
+            for often in [0, 3, files.READINGS - 1, files.READINGS]:
+                changing = Changing(lambda number: put(name, place, number), often)
+                with mock.patch.multiple(files, copied=changing, PAUSE=0):
+                    expect_copied(old, self.folder, changing)
+
+
+def expect_copied(old, folder, changing):
+    try:
+        copy = files.copied_in_use(old, folder, "copy.db")
+        expect(changing.copies == changing.often + 1, f"{changing.copies} copies, {changing.often} changes")
+        expect(lying(copy) == lying(old), "another copy")
+    except files.NotDone as told:
+        expect(changing.often == files.READINGS and str(told).endswith("try again"), f"{changing.often} changes: {told}")

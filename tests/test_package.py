@@ -1,0 +1,205 @@
+"""Tests of the package, which comes, is upgraded and goes on a fresh Debian without touching a desk, of its manual page and of
+its units."""
+
+import contextlib
+import glob
+import gzip
+import os
+import re
+import shutil
+import subprocess
+import unittest
+
+from support import DEPLOY, TOP
+from support.cases import ProgramCase, needs
+from support.programs import done, expect, note
+from support.service import Service, post
+
+PACKAGE = os.path.join(DEPLOY, "package")
+UNITS = sorted(glob.glob(os.path.join(DEPLOY, "*.service")) + glob.glob(os.path.join(DEPLOY, "*.timer")))
+LEAST_EXPOSED = 2.0
+
+
+def run(words: list[str], **options) -> subprocess.CompletedProcess[str]:
+    return subprocess.run(words, capture_output=True, text=True, **options)
+
+
+def built(folder: str) -> str:
+    """The package's path."""
+    told = run([PACKAGE, folder])
+    expect(told.returncode == 0, f"no package: {told.stderr}")
+    return told.stdout.strip()
+
+
+# ---- on a fresh Debian
+
+
+def entries_of(folder: str) -> list[tuple[str, int, int, int]]:
+    """Each file below a folder, with its owner, mode and size."""
+    found = []
+    for path in sorted(glob.glob(os.path.join(folder, "**"), recursive=True)):
+        seen = os.lstat(path)
+        found.append((path, seen.st_uid, seen.st_mode, seen.st_size))
+    return found
+
+
+def newer(path: str, folder: str) -> str:
+    """The same package with a later version."""
+    tree = os.path.join(folder, "newer")
+    run(["dpkg-deb", "--raw-extract", path, tree])
+    control = os.path.join(tree, "DEBIAN/control")
+    with open(control, encoding="utf-8") as file:
+        text = re.sub(r"^Version: .*$", "Version: 99.0.0", file.read(), flags=re.MULTILINE)
+    with open(control, "w", encoding="utf-8") as file:
+        file.write(text)
+    later = os.path.join(folder, "later.deb")
+    run(["dpkg-deb", "--root-owner-group", "--build", tree, later], check=True)
+    return later
+
+
+@contextlib.contextmanager
+def fresh_debian(folder: str):
+    """A folder with a fresh Debian, and what runs a line of shell in it and gives its output."""
+    root = os.path.join(folder, "debian")
+    made = run(["mmdebstrap", "--variant=minbase", "--include=python3,adduser", "bookworm", root])
+    if made.returncode != 0:
+        raise unittest.SkipTest(f"no Debian could be fetched: {made.stderr[-200:]}")
+
+    def inside(line: str) -> str:
+        told = run(["chroot", root, "/bin/sh", "-ec", line], env={"PATH": "/usr/sbin:/usr/bin:/sbin:/bin"})
+        expect(told.returncode == 0, f"{line}: {told}")
+        return told.stdout
+
+    run(["mount", "-t", "proc", "proc", os.path.join(root, "proc")], check=True)
+    try:
+        yield root, inside
+    finally:
+        run(["umount", os.path.join(root, "proc")], check=True)
+
+
+@needs("dpkg-deb", "go-md2man")
+class Package(ProgramCase):
+    def test_the_package_is_of_the_proved_program(self):
+        """It has these bytes, and the version of the newest change; a program that is older than a source, or none, is
+        refused."""
+        path = built(self.folder)
+        with open(os.path.join(TOP, "CHANGELOG.md"), encoding="utf-8") as file:
+            version = re.search(r"^## (\S+)", file.read(), re.MULTILINE)[1]
+        expect(os.path.basename(path) == f"stockdesk_{version}_amd64.deb", f"another name: {path}")
+        expect(run(["dpkg-deb", "--field", path, "Version"]).stdout.strip() == version, "another version")
+        run(["dpkg-deb", "--extract", path, os.path.join(self.folder, "tree")])
+        with open(os.path.join(self.folder, "tree/usr/bin/stockdesk"), "rb") as packed, open(self.program, "rb") as own:
+            expect(packed.read() == own.read(), "another program")
+        copy = os.path.join(self.folder, "copy")
+        for name in ["deploy", "docs"]:
+            shutil.copytree(os.path.join(TOP, name), os.path.join(copy, name))
+        for name in ["README.md", "CHANGELOG.md", "crates.txt"]:
+            shutil.copy(os.path.join(TOP, name), copy)
+        refused = run([os.path.join(copy, "deploy/package"), self.folder])
+        expect(refused.returncode == 1 and "not there" in refused.stderr, f"no program: {refused}")
+        os.makedirs(os.path.join(copy, "crates/stockdesk/out"))
+        os.makedirs(os.path.join(copy, "crates/book/proofs/plan"))
+        shutil.copy(self.program, os.path.join(copy, "crates/stockdesk/out"))
+        os.utime(os.path.join(copy, "crates/stockdesk/out/stockdesk"), (1, 1))
+        refused = run([os.path.join(copy, "deploy/package"), self.folder])
+        expect(refused.returncode == 1 and "older" in refused.stderr, f"an older program: {refused}")
+
+    @needs("lintian")
+    def test_lintian_finds_no_error(self):
+        told = run(["lintian", "--fail-on", "error", "--tag-display-limit", "0", built(self.folder)])
+        expect(told.returncode == 0, f"lintian: {told.stdout}{told.stderr}")
+
+    def test_the_manual_tells_each_command_and_status(self):
+        """As `--help` tells of them, and each line of standard error that the rules have."""
+        run(["dpkg-deb", "--extract", built(self.folder), self.folder])
+        with gzip.open(os.path.join(self.folder, "usr/share/man/man1/stockdesk.1.gz"), "rt", encoding="utf-8") as file:
+            page = file.read().replace("\\-", "-")
+        for command in "init run orders deliveries bounds sheet article serve upgrade".split():
+            told = run([self.program, command, "--help"])
+            first = (told.stdout + told.stderr).splitlines()[0]
+            expect(first in page, f"nothing is said of {command}: {first}")
+        for tool in ["backup", "restore", "rollover"]:
+            expect(f"usage: stockdesk-{tool}" in page, f"nothing is said of {tool}")
+            expect(os.path.exists(os.path.join(self.folder, f"usr/share/man/man1/stockdesk-{tool}.1.gz")), f"no page of {tool}")
+        for line in ["not a desk", "old version", "damaged", "store", "memory", "io", "usage", "record N", "csv"]:
+            expect(f"stockdesk: {line}" in page, f"nothing is said of {line}")
+
+    @needs("mmdebstrap", "chroot")
+    @unittest.skipIf(os.geteuid() != 0, "only root can make a Debian")
+    def test_a_package_comes_and_goes(self):
+        """Installed, upgraded, removed, purged: the program runs in between, and the desk is as it was, its owner's alone."""
+        path = built(self.folder)
+        later = newer(path, self.folder)
+        with fresh_debian(self.folder) as (root, inside):
+            for package, name in [(path, "first.deb"), (later, "later.deb")]:
+                shutil.copy(package, os.path.join(root, name))
+            inside("dpkg --install /first.deb")
+            inside("install -d -o stockdesk -g stockdesk -m 0700 /var/lib/stockdesk/shop")
+            desk = "/var/lib/stockdesk/shop/desk.db"
+            inside(f"runuser -u stockdesk -- stockdesk init {desk}")
+            told = inside(f"printf 'F1 field N1 A-1 0 100 40\\n' | runuser -u stockdesk -- stockdesk run {desk}")
+            expect(told == "F1 done 1\n", f"another reply: {told}")
+            kept = entries_of(os.path.join(root, "var/lib/stockdesk"))
+            for line in [
+                "dpkg --install /later.deb",
+                "dpkg --remove stockdesk",
+                "dpkg --purge stockdesk",
+                "dpkg --install /first.deb",
+            ]:
+                inside(line)
+                expect(entries_of(os.path.join(root, "var/lib/stockdesk")) == kept, f"{line}: the desk was touched")
+                expect(os.path.exists(os.path.join(root, "usr/bin/stockdesk")) == ("install" in line), f"{line}: the program")
+            told = inside(f"printf '? field N1 A-1\\n' | runuser -u stockdesk -- stockdesk run {desk}")
+            expect(told == "? field N1 A-1 lo 0 hi 100 value 40 inf 40 sup 40\n", f"another desk: {told}")
+            expect("usage: stockdesk-backup" in inside("stockdesk-backup --help"), "no tool")
+
+
+# ---- the units
+
+
+def calls_of(group: str) -> set[str]:
+    """The system calls of a group of systemd's, those of groups in it among them."""
+    lines = run(["systemd-analyze", "syscall-filter", group]).stdout.splitlines()[1:]
+    names = {line.strip() for line in lines if line.strip() and not line.strip().startswith("#")}
+    return {name for name in names if name[0] != "@"}.union(*(calls_of(name) for name in names if name[0] == "@"))
+
+
+@needs("systemd-analyze")
+class Units(ProgramCase):
+    def test_the_units_are_sound(self):
+        """systemd finds no fault but for programs that are not installed here, and the service's exposure is below 2."""
+        for unit in UNITS:
+            shutil.copy(unit, self.folder)
+        for unit in UNITS:
+            # a unit of a template is looked at as one of its instances
+            instance = os.path.join(self.folder, os.path.basename(unit).replace("@", "@shop"))
+            told = run(
+                ["systemd-analyze", "verify", "--man=no", instance], env={**os.environ, "SYSTEMD_UNIT_PATH": f"{self.folder}:"}
+            )
+            faults = [line for line in told.stderr.splitlines() if self.folder in line or "stockdesk" in line]
+            others = [line for line in faults if "is not executable" not in line]
+            expect(not others, f"{unit}: {others}")
+        told = run(["systemd-analyze", "security", "--offline=true", os.path.join(DEPLOY, "stockdesk@.service")])
+        exposed = re.search(r"Overall exposure level for .*: ([0-9.]+)", told.stdout)
+        expect(exposed and float(exposed[1]) < LEAST_EXPOSED, f"exposed: {told.stdout[-200:]}{told.stderr}")
+        note(f"exposure {exposed[1]}")
+
+    @needs("strace")
+    def test_the_service_needs_no_call_that_its_unit_refuses(self):
+        """A service under strace that makes, fills and serves a desk."""
+        wrapper, log = os.path.join(self.folder, "traced"), os.path.join(self.folder, "calls")
+        with open(wrapper, "w", encoding="ascii") as file:
+            file.write(f'#!/bin/sh\nexec strace -f -o {log} {self.program} "$@"\n')
+        os.chmod(wrapper, 0o755)
+        path = os.path.join(self.folder, "desk.db")
+        done(self.program, ["init", path])
+        service = Service(wrapper, path, 1)
+        connection = service.connect()
+        post(connection, "K1", "field N1 A-1 0 100 40")
+        connection.close()
+        service.expect_end()
+        with open(log, encoding="utf-8") as file:
+            used = set(re.findall(r"^\d+ +(\w+)\(", file.read(), re.MULTILINE))
+        allowed = calls_of("@system-service") - calls_of("@privileged") - calls_of("@resources")
+        expect("accept4" in used or "accept" in used, f"nothing was traced: {used}")
+        expect(used <= allowed | {"execve"}, f"refused by the unit: {used - allowed}")
