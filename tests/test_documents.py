@@ -11,6 +11,9 @@ TOP = os.path.dirname(os.path.dirname(os.path.abspath(__file__)))
 
 LINK = re.compile(r"\[([^\]]*)\]\(([^)]*)\)")
 NAME = re.compile(r"`([^`]*)`")
+# the documents that do not lie in docs/
+BESIDE = ["README.md", "CHANGELOG.md", "CONTRIBUTING.md", os.path.join("examples", "README.md")]
+
 # what is named among definitions and is a crate
 CRATES = ["csv", "clap", "matchit"]
 
@@ -18,7 +21,7 @@ CODE = re.compile(r"```.*?```", re.DOTALL)
 
 
 def documents():
-    return [os.path.join(TOP, "README.md"), *sorted(glob.glob(os.path.join(TOP, "docs", "*.md")))]
+    return [os.path.join(TOP, name) for name in BESIDE] + sorted(glob.glob(os.path.join(TOP, "docs", "*.md")))
 
 
 def text_of(path):
@@ -57,8 +60,9 @@ def clauses_of(path):
 def rows_of_promises():
     """Each row of the promises: its calls and its definitions."""
     for line in text_of(os.path.join(TOP, "docs", "PROMISES.md")).splitlines():
-        cells = [cell.strip() for cell in line.strip("|").split(" | ")]
-        if line.startswith("| ") and len(cells) == 3 and cells[0] != "promise":
+        if line.startswith("|") and not line.startswith(("|promise|", "|---|")):
+            cells = line[1:-1].split("|")
+            expect(line.endswith("|") and len(cells) == 3, f"no row of three cells: {line}")
             yield cells
 
 

@@ -10,9 +10,9 @@ import ssl
 import subprocess
 import sys
 import threading
-import unittest
 
-from support.cases import ProgramCase
+from support.cases import ProgramCase, needs
+from support.service import Service
 from test_tutorial import PORT, Shell, blocks_of, free_port
 
 EXAMPLES = os.path.join(os.path.dirname(os.path.dirname(os.path.abspath(__file__))), "examples")
@@ -100,25 +100,6 @@ USER, SHOWN = "n1:n1", "Basic bjE6bjE="
 CLIENTS = {"py": [sys.executable, "client.py"], "sh": ["sh", "client.sh"]}
 
 
-class Service:
-    """A desk that is served to so many connections."""
-
-    def __init__(self, program: str, path: str, connections: int):
-        words = [program, "serve", path, "--port", "0", "--connections", str(connections)]
-        self.process = subprocess.Popen(words, stdin=subprocess.DEVNULL, stdout=subprocess.PIPE, text=True)
-        self.port = int(self.process.stdout.readline().removeprefix("listening "))
-
-    def end(self) -> int:
-        """The status with which it ends, once it has served its connections; one that waits for more is ended."""
-        try:
-            return self.process.wait(SECONDS)
-        except subprocess.TimeoutExpired:
-            self.process.kill()
-            return self.process.wait()
-        finally:
-            self.process.stdout.close()
-
-
 class Relay(http.server.ThreadingHTTPServer):
     """Hands each message on to a desk. One may have a fault, by its number from 1: `lost`, its answer does not come back; `away`,
     it does not arrive; `busy`, a front answers in place of the desk; `killed`, the client is, before it has the answer."""
@@ -153,6 +134,7 @@ class Handler(http.server.BaseHTTPRequestHandler):
         elif fault != "away":
             answer = self.of_the_desk(body)
             if fault == "killed":
+                assert self.server.client
                 self.server.client.kill()
             elif fault != "lost":
                 self.answer(*answer)
@@ -259,8 +241,8 @@ class Examples(ProgramCase):
                     said += more
             finally:
                 relay.end()
-                ended = service.end()
-            self.assertEqual((status, said, errors, ended), (0, "".join(SAID), "", 0))
+                service.expect_end()
+            self.assertEqual((status, said, errors), (0, "".join(SAID), ""))
             with open(journal, encoding="ascii") as file:
                 first, *kept = file.read().splitlines()
             self.assertRegex(first, "^[0-9a-f]{24}$")
@@ -304,8 +286,7 @@ class Examples(ProgramCase):
             asked = f"127.0.0.1:{service.port}"
             self.expect_end(kind, "commit 07\n", asked, '^commit 07: 400 {"code":20,"line":0,"refused":"BadCommand"}\n$')
         finally:
-            ended = service.end()
-        self.assertEqual(ended, 0)
+            service.expect_end()
         self.expect_end(kind, "commit 7\n", f"127.0.0.1:{service.port}", "^[0-9a-f]{24}-1 has no answer: call again\n$")
 
     def test_the_client_in_python_loses_nothing(self) -> None:
@@ -316,15 +297,15 @@ class Examples(ProgramCase):
     def test_the_client_in_python_tells_why_it_ends(self) -> None:
         self.expect_ends("py")
 
-    @unittest.skipIf(shutil.which("curl") is None, "no curl is here")
+    @needs("curl")
     def test_the_client_with_curl_loses_nothing(self) -> None:
         self.expect_client("sh")
 
-    @unittest.skipIf(shutil.which("curl") is None, "no curl is here")
+    @needs("curl")
     def test_the_client_with_curl_tells_why_it_ends(self) -> None:
         self.expect_ends("sh")
 
-    @unittest.skipIf(shutil.which("curl") is None or shutil.which("openssl") is None, "no curl or no openssl is here")
+    @needs("curl", "openssl")
     def test_each_client_asks_a_front(self) -> None:
         """Over TLS, with a certificate of its own, and as a user."""
         key, certificate = (os.path.join(self.folder, name) for name in ["front.key", "front.pem"])
@@ -346,10 +327,6 @@ class Examples(ProgramCase):
                     end = self.play(CLIENTS[kind], f"{front}:{relay.server_port}", journal, relay, **user)
                 finally:
                     relay.end()
-                    ended = service.end()
-                self.assertEqual((end, ended), ((0, "".join(SAID), ""), 0))
+                    service.expect_end()
+                self.assertEqual(end, (0, "".join(SAID), ""))
                 self.assertEqual(relay.shown, [SHOWN] * len(COMMANDS))
-
-
-if __name__ == "__main__":
-    unittest.main()

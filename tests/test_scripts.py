@@ -63,6 +63,30 @@ TRANSFER = [
     ("? order 21", "? none"),
 ]
 
+# deliveries and write-offs up to the bounds, and a second field
+MOVES = [
+    ("K1 field N1 A-1 0 100 40", "K1 done 1"),
+    ("K2 deliver N1 A-1 60", "K2 done 2"),
+    ("? field N1 A-1", "? field N1 A-1 lo 0 hi 100 value 100 inf 100 sup 100"),
+    ("K3 deliver N1 A-1 1", "K3 refused 14 TooMuch 0"),
+    ("K4 writeoff N1 A-1 100", "K4 done 3"),
+    ("? field N1 A-1", "? field N1 A-1 lo 0 hi 100 value 0 inf 0 sup 0"),
+    ("K5 writeoff N1 A-1 1", "K5 refused 13 TooLittle 0"),
+    ("K6 field N2 A-1 0 1 0", "K6 done 4"),
+    ("K7 deliver N2 A-1 1", "K7 done 5"),
+    ("? field N2 A-1", "? field N2 A-1 lo 0 hi 1 value 1 inf 1 sup 1"),
+    ("K8 field N2 A-1 0 1 0", "K8 refused 3 FieldThere 0"),
+]
+
+# a field of one value holds nothing, either way
+TIGHT = [
+    ("Z1 field N1 D-1 5 5 5", "Z1 done 1"),
+    ("Z2 open 40 500 take N1 D-1 1", "Z2 refused 13 TooLittle 1"),
+    ("Z3 open 40 500 add N1 D-1 1", "Z3 refused 14 TooMuch 1"),
+    ("Z4 field N1 E-1 5 4 5", "Z4 refused 5 BadBounds 0"),
+    ("Z1 field N1 D-1 5 5 5", "Z1 done 1"),
+]
+
 # an order that is used, released and aborted
 RELEASE = [
     ("P1 field N1 A-1 0 100 40", "P1 done 1"),
@@ -280,7 +304,7 @@ NO_REQUESTS = [
 SPELLING = [*((line, BAD) for line in NO_REQUESTS), ("K1 deliver N1 A-1 1000000", "K1 refused 4 NoField 0")]
 
 FIRMS = [FIRM, FIRM_LINES, FIRM_TRANSFER]
-SCRIPTS = [LONG, TRANSFER, RELEASE, *FIRMS, OPEN_ORDERS, ENDED_ORDERS, NOTHING_THERE, REFUSED, SPELLING]
+SCRIPTS = [[], LONG, MOVES, TIGHT, TRANSFER, RELEASE, *FIRMS, OPEN_ORDERS, ENDED_ORDERS, NOTHING_THERE, REFUSED, SPELLING]
 
 # so many bytes without a newline, what stands behind them, and what is answered to both
 FLOODS = [

@@ -61,12 +61,14 @@ class Shell:
         self.reader.start()
 
     def read(self) -> None:
+        assert self.process.stdout
         for line in self.process.stdout:
             self.lines.put(line)
 
     def play(self, number: int, commands: str, want: str) -> str:
         """What a block writes, once its last command has ended and as much as is wanted has come."""
         end = f"the end of block {number}\n"
+        assert self.process.stdin
         self.process.stdin.write(f"{commands}\necho {end}")
         self.process.stdin.flush()
         found, is_ended, last = "", False, time.monotonic() + SECONDS
@@ -86,9 +88,10 @@ class Shell:
         os.killpg(self.process.pid, signal.SIGKILL)
         self.process.wait()
         self.reader.join()
-        self.process.stdout.close()
-        with contextlib.suppress(BrokenPipeError):
-            self.process.stdin.close()
+        for stream in [self.process.stdout, self.process.stdin]:
+            with contextlib.suppress(BrokenPipeError):
+                if stream:
+                    stream.close()
 
 
 class Documents(ProgramCase):
@@ -116,7 +119,3 @@ class Documents(ProgramCase):
         blocks = blocks_of("docs/TUTORIAL.md")
         self.assertGreater(len(blocks), 6, "the tutorial's blocks were not found")
         self.play(blocks)
-
-
-if __name__ == "__main__":
-    unittest.main()
