@@ -5,9 +5,8 @@ import os
 import re
 import unittest
 
+from support import TOP
 from support.programs import expect
-
-TOP = os.path.dirname(os.path.dirname(os.path.abspath(__file__)))
 
 LINK = re.compile(r"\[([^\]]*)\]\(([^)]*)\)")
 NAME = re.compile(r"`([^`]*)`")

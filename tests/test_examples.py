@@ -11,11 +11,12 @@ import subprocess
 import sys
 import threading
 
+from support import TOP
+from support.blocks import PORT, Shell, blocks_of, free_port
 from support.cases import ProgramCase, needs
 from support.service import Service
-from test_tutorial import PORT, Shell, blocks_of, free_port
 
-EXAMPLES = os.path.join(os.path.dirname(os.path.dirname(os.path.abspath(__file__))), "examples")
+EXAMPLES = os.path.join(TOP, "examples")
 SECONDS = 60
 
 # the answers to the lines of two_shops.script
