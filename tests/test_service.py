@@ -1,6 +1,7 @@
 """Tests of the built program that serves connections: ports, many messages against the same as a
 script, `curl`, connections that break off, a store that fails, and services that are killed."""
 
+import contextlib
 import http.client
 import random
 import socket
@@ -19,6 +20,11 @@ KILLED_IN = 500
 
 VERBS = "deliver writeoff rebound open open transfer more use use release firm commit abort".split()
 FIRST = ("K1", "field N1 A-1 0 100 40")
+
+
+def connect_once(service):
+    with contextlib.closing(service.connect()) as connection:
+        connection.connect()
 
 
 def steps():
@@ -101,11 +107,11 @@ class Services(ProgramCase):
             expect(False, "it listens elsewhere too")
         except ConnectionRefusedError:
             pass
-        service.connect().connect()
+        connect_once(service)
         service.expect_end()
         again = Service(self.program, path, 1, port=service.port)
         expect(again.port == service.port, f"another port: {again.port}")
-        again.connect().connect()
+        connect_once(again)
         again.expect_end()
 
     def test_messages_are_answered_as_a_script_is(self):
