@@ -27,8 +27,8 @@ shown_stopped (Some most) before behind = behind
 
 -- How far the answers to requests have come at a fault. What is written is `lines ++ begun`: the lines of `answered` are
 -- written whole. Behind these may stand a request, or a batch, `last`: it is kept, and a beginning of its lines written, or
--- the store failed at its commit, and a stop leaves the rows before it or behind it. Want of memory leaves no request done
--- and not told.
+-- the store failed at its commit, and over an honest disk a stop leaves the rows before it or behind it. Want of memory
+-- leaves no request done and not told.
 pub record IsCutInLists (fault : ScriptFault) (together : Option NonZeroUsize) (old : DeskState) (requests : List Request)
     (new : DeskState) : Type 0 where
   pub answered : List Request

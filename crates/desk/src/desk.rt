@@ -201,8 +201,8 @@ impl<K: Keep> Desk<K> {
         }
     }
 
-    /// The field of that name, or `None` exactly where there is none; on a stopped desk that of the ledger after the
-    /// last request that was answered. Takes no memory.
+    /// The field of that name, or `None` exactly where there is none; on a stopped desk that of the ledger which it
+    /// shows. Takes no memory.
     pub fn field(&self, branch: Branch, article: Article) -> Option<FieldView>
         ensures { let found = field_named self.now.ledger (name_of branch article) in MatchOption result (found ≡ None)
             (λ view. IsSomeAnd found (λ f. ShowsField self.now.ledger f view)) }
@@ -210,8 +210,8 @@ impl<K: Keep> Desk<K> {
         self.book.field(branch, article)
     }
 
-    /// The order of that number, or `None` exactly where there is none; on a stopped desk that of the ledger after the
-    /// last request that was answered. Takes no memory.
+    /// The order of that number, or `None` exactly where there is none; on a stopped desk that of the ledger which it
+    /// shows. Takes no memory.
     pub fn order(&self, number: OrderNo) -> Option<OrderView<'_>>
         ensures { let found = order_numbered self.now.ledger number in MatchOption result (found ≡ None)
             (λ view. IsSomeAnd found (λ o. ShowsOrder o view)) }
@@ -219,7 +219,8 @@ impl<K: Keep> Desk<K> {
         self.book.order(number)
     }
 
-    /// Whether a fault of the keeper has stopped the desk. While none has, the keeper holds the rows of the ledger, and
+    /// Whether a fault of the keeper has stopped the desk. It shows then the ledger after the last request that was
+    /// answered or, where it was stopped by a batch, the one behind that. While none has, the keeper holds the rows of the ledger, and
     /// a stop leaves these alone. Takes no memory.
     pub fn is_stopped(&self) -> bool
         ensures stopped { result ≡ K.stopped self.now.keep }

@@ -99,7 +99,7 @@ pub trait Dialogue {
         → Begins language (read ++ more) questions };
 }
 
-/// Answers the questions that have come, each before the next is looked for. Whether the dialogue is over.
+/// Answers the questions that have come, and writes each answer before the next is made. Whether the dialogue is over.
 fn answer_come<D: Dialogue, K: Keep, W: Write>(
     alloc: Global,
     dialogue: &mut D,
@@ -139,14 +139,14 @@ fn answer_come<D: Dialogue, K: Keep, W: Write>(
 }
 
 /// Holds a dialogue with a desk, until it is over: the input is read by pieces of at most 512 bytes, and each question
-/// that has come is answered, and its answer written, before the next is looked for. How many were answered, up to the
+/// that has come is answered, and its answer written, before the next is answered. How many were answered, up to the
 /// greatest count.
 ///
 /// After a fault what is written is a beginning of the answers to what was read: those to all that the desk has done,
 /// but for the last of them after a failing write. So want of memory leaves nothing done and not told. `Stopped` is
-/// answered only where the desk is stopped. Of a desk that was not stopped before, a stop then leaves the rows before the
-/// request that stopped it, or after it, and in every other case the rows of the desk's ledger alone. A desk that was
-/// stopped before changes nothing.
+/// answered only where the desk is stopped. Of a desk that was not stopped before, over an honest disk, a stop then leaves
+/// the rows before the request that stopped it, or after it, and in every other case the rows of the desk's ledger alone.
+/// A desk that was stopped before changes nothing.
 pub fn converse<D: Dialogue, K: Keep, R: Read, W: Write>(
     alloc: Global,
     dialogue: &mut D,

@@ -77,9 +77,9 @@ pub fn cut_and_open<K: Recover>(
 ///
 /// The replies are the model's. While the disk is honest: the ledger found is the one after the requests that were
 /// answered, or after one more, and that only where the run ended `Stopped`; the opening fails, if at all, for memory or
-/// by the store, and then another finds the same. From the ledger found, whatever uses, releases, commits, aborts,
-/// expiries and firm marks come, in any order, each field is within its bounds and no order that is open then is refused
-/// its commit under a new key.
+/// by the store, and leaves then nothing but rows of such ledgers. From the ledger found, whatever uses, releases,
+/// commits, aborts, expiries and firm marks come, in any order, each field is within its bounds and no order that is open
+/// then is refused its commit under a new key.
 pub fn run_cut_and_open<K: Recover>(
     alloc: Global,
     desk: Desk<K>,

@@ -85,10 +85,11 @@ fn answer_list<K: Keep, W: Write>(
 ///
 /// After a fault the first of the requests are answered, and what is written is their lines, but after a failing write
 /// for a rest of those of the last one, or of the last batch. So want of memory leaves nothing done and not told.
-/// `Stopped` is answered only where the desk is stopped, and `Read` never. Of a desk that was not stopped before, a stop
-/// then leaves the rows behind the requests whose lines are written, or those behind the one more, or the batch more, at
-/// which the store failed: a request of it is accepted. In every other case it leaves the rows of the desk's ledger
-/// alone. A desk that was stopped before answers none and changes nothing.
+/// `Stopped` is answered only where the desk is stopped, and `Read` never. Of a desk that was not stopped before, over an
+/// honest disk, a stop then leaves the rows behind the requests whose lines are written, or those behind the one more, or
+/// the batch more, at which the store failed: a request of it is accepted, and the desk shows the ledger before the one,
+/// or behind the batch. In every other case a stop leaves the rows of the desk's ledger alone. A desk that was stopped
+/// before answers none and changes nothing.
 pub fn answer_lists<K: Keep, W: Write>(
     alloc: Global,
     requests: &[Request],

@@ -98,9 +98,9 @@ impl Dialogue for LineDialogue {
 ///
 /// After a fault what is written is a beginning of the text for what was read: the reply lines to what the desk has
 /// done, but for the last of them after a failing write. So want of memory leaves nothing done and not told. `Stopped`
-/// is answered only where the desk is stopped. Of a desk that was not stopped before, a stop then leaves the rows
-/// before the request that it is cut at, or after it, and in every other case the rows of the desk's ledger alone. A
-/// desk that was stopped before answers the lines up to the first request, and changes nothing.
+/// is answered only where the desk is stopped. Of a desk that was not stopped before, over an honest disk, a stop then
+/// leaves the rows before the request that it is cut at, or after it, and in every other case the rows of the desk's
+/// ledger alone. A desk that was stopped before answers the lines up to the first request, and changes nothing.
 pub fn script<K: Keep, R: Read, W: Write>(
     alloc: Global,
     reader: &mut R,

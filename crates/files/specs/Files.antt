@@ -58,7 +58,7 @@ abbrev pub NamesFirst : Record → (List Record → List Request → Type 0) →
 NamesFirst header says bytes fault =
     (records : List Record) × AreRecordsOf bytes records × FaultsAt header says records fault
 
--- Whatever the bytes, they say one list of requests, or have one first record at fault, and never both.
+-- Whatever the bytes, they say at most one list of requests, or have at most one first record at fault, and never both.
 pub record SaysOneThing (header : Record) (says : List Record → List Request → Type 0) : Type 0 where
   pub requests : (bytes : List ℕ) (one other : List Request) → IsFile header says bytes one
       → IsFile header says bytes other → one ≡ other

@@ -10,17 +10,17 @@ ghost use Rattle.files.specs.Files.{SaysOneThing};
 ghost use Rattle.files.specs.Orders.{SayOrders, order_header};
 ghost use Rattle.files.specs.Sheets.{IsArticleSheet, IsBranchSheet};
 
-/// An order file says one list of requests, or has one first record at fault, and never both.
+/// An order file says at most one list of requests, or has at most one first record at fault, and never both.
 pub fn an_order_file_says_one_thing()
     ensures { SaysOneThing order_header SayOrders }
 {}
 
-/// A delivery file says one list of requests, or has one first record at fault, and never both.
+/// A delivery file says at most one list of requests, or has at most one first record at fault, and never both.
 pub fn a_delivery_file_says_one_thing()
     ensures { SaysOneThing delivery_header SayDeliveries }
 {}
 
-/// A file of bounds says one list of requests, or has one first record at fault, and never both.
+/// A file of bounds says at most one list of requests, or has at most one first record at fault, and never both.
 pub fn a_bounds_file_says_one_thing()
     ensures { SaysOneThing bounds_header SayBounds }
 {}

@@ -167,10 +167,10 @@ fn web_fault(fault: ScriptFault) -> WebFault
 ///
 /// What is written is the answers to all that was read, and `Served` has their count. After a fault it is a beginning
 /// of such: the answers to all that the desk has done, of which only a failing write leaves out the last one or its end.
-/// A connection of 2^64 - 1 pieces ends as one whose reader fails. `stopped` is answered only
-/// where the desk is stopped. Of a desk that was not stopped before, a stop then leaves the rows of its ledger or those
-/// after the command that was first answered `stopped`, and in every other case those of its ledger alone. A desk that
-/// was stopped before changes nothing, and answers as one that is stopped.
+/// A connection of 2^64 - 1 pieces ends as one whose reader fails. `stopped` is answered only where the desk is stopped.
+/// Of a desk that was not stopped before, over an honest disk, a stop then leaves the rows of its ledger or those after
+/// the command that was first answered `stopped`, and in every other case those of its ledger alone. A desk that was
+/// stopped before changes nothing, and answers as one that is stopped.
 pub fn serve<K: Keep, R: Read, W: Write>(
     alloc: Global,
     reader: &mut R,
