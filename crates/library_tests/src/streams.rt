@@ -71,7 +71,7 @@ impl Write for Sink {
 }
 
 /// How what is played ended.
-#[derive(Clone, Copy, PartialEq, Eq)]
+#[derive(Clone, Copy)]
 pub(crate) enum Ended {
     Whole,
     ByRead,

@@ -231,7 +231,6 @@ fn the_desk_is_found_wherever_a_run_stops(rt: HostRuntime) -> Result<(), Fail> {
 #[test]
 fn a_run_goes_on_wherever_it_stops(rt: HostRuntime) -> Result<(), Fail> {
     assert!(rt; at_each_stop(rt.alloc(), &Resuming, &TOLD)? > 20);
-    desk::any_number_of_cuts();
     Ok(())
 }
 
@@ -263,16 +262,4 @@ fn the_desk_is_found_where_a_write_fails(rt: HostRuntime) -> Result<(), Fail> {
         assert!(rt; told_before(rt.alloc(), writes)? == told, "{writes}");
     }
     Ok(())
-}
-
-/// The desk that is found behind two stops between calls is the new one.
-fn found_between(alloc: Global) -> Result<(), Fail> {
-    let desk = found(cut_and_open(alloc, plain_keeper(alloc), (None, false)))?;
-    let desk = found(cut_and_open(alloc, desk.into_keep(), (None, false)))?;
-    expect_rows(alloc, &mut desk.into_keep(), 0, 0)
-}
-
-#[test]
-fn a_desk_is_found_between_calls(rt: HostRuntime) -> Result<(), Fail> {
-    found_between(rt.alloc())
 }
