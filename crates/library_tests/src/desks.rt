@@ -80,17 +80,6 @@ pub(crate) fn opened<K: Keep + Drop>(alloc: Global, keep: K) -> Result<Desk<K>, 
     }
 }
 
-/// What the desk answers to a script.
-pub(crate) fn answers<K: Keep>(
-    alloc: Global,
-    desk: &mut Desk<K>,
-    script: &str,
-) -> Result<Vec<u8>, Fail> {
-    let mut out: Vec<u8> = Vec::new(alloc);
-    answer(alloc, &mut script.as_bytes(), &mut out, desk)?;
-    Ok(out)
-}
-
 /// The requests of these lines.
 pub(crate) fn requests(alloc: Global, lines: &[&str]) -> Result<Vec<Request>, Fail> {
     let mut requests = Vec::new(alloc);

@@ -20,12 +20,8 @@ mod of_index;
 #[cfg(test)]
 mod of_keep;
 #[cfg(test)]
-mod of_streams;
-#[cfg(test)]
 mod of_web;
 #[cfg(test)]
 mod of_words;
-#[cfg(test)]
-mod scripts;
 #[cfg(test)]
 mod streams;

@@ -60,29 +60,17 @@ fn files_say_their_requests(rt: HostRuntime) -> Result<(), Fail> {
     Ok(())
 }
 
-#[test]
-fn the_first_record_at_fault_is_named(rt: HostRuntime) {
-    let fault = read_orders(rt.alloc(), DELIVERIES).err();
-    assert!(rt; fault == Some(FileFault::BadRecord(0)));
-    let behind = b"key,branch,article,qty\nD1,N1,A-1,10\nD2,N1,A-1,05\n".as_slice();
-    let fault = read_deliveries(rt.alloc(), behind).err();
-    assert!(rt; fault == Some(FileFault::BadRecord(2)));
-}
+/// How long the pieces of a reader or a writer are.
+const PIECE: usize = 16;
 
-/// How long the pieces of a reader are, and how many reads of it a file needs: one byte, the rest piece by piece, and
-/// the end.
-const READS: [(usize, usize); 3] = [(1, 87), (16, 8), (512, 3)];
+/// How many reads the file of orders needs: of its first byte, of the other 85 piece by piece, and of the end.
+const READS: usize = 8;
 
 /// What the file is answered where the read with this number fails.
-fn fault_of_read(
-    alloc: Global,
-    piece: usize,
-    before_fault: usize,
-    is_interrupted: bool,
-) -> Option<FileFault> {
+fn fault_of_read(alloc: Global, before_fault: usize, is_interrupted: bool) -> Option<FileFault> {
     let reader = Drip {
         bytes: ORDERS,
-        piece,
+        piece: PIECE,
         before_fault,
         is_interrupted,
     };
@@ -92,22 +80,14 @@ fn fault_of_read(
 /// A read that fails is a fault, whatever its kind, where it is one of those that are needed.
 #[test]
 fn a_failing_read_is_a_fault_at_once(rt: HostRuntime) {
-    for (piece, needed) in READS {
-        for read in 0..100usize {
-            let want = if read < needed {
-                Some(FileFault::Io)
-            } else {
-                None
-            };
-            assert!(rt;
-                fault_of_read(rt.alloc(), piece, read, false) == want,
-                "{piece} {read}"
-            );
-            assert!(rt;
-                fault_of_read(rt.alloc(), piece, read, true) == want,
-                "{piece} {read}"
-            );
-        }
+    for read in 0..10usize {
+        let want = if read < READS {
+            Some(FileFault::Io)
+        } else {
+            None
+        };
+        assert!(rt; fault_of_read(rt.alloc(), read, false) == want, "{read}");
+        assert!(rt; fault_of_read(rt.alloc(), read, true) == want, "{read}");
     }
 }
 
@@ -151,83 +131,56 @@ fn write_sheet(
     })
 }
 
-/// Pieces of this length are written, and the write with this number fails, or takes none: so much of the sheet is
-/// written then.
+/// The write with this number fails, or takes none: so much of the sheet is written then.
 fn is_beginning(
     alloc: Global,
     book: &Book,
     (kind, sheet): (Kind, &str),
-    (piece, before_fault, takes_none): (usize, usize, bool),
+    (before_fault, takes_none): (usize, bool),
 ) -> Result<bool, Fail> {
     let mut writer = Sink {
         taken: Vec::new(alloc),
-        piece,
+        piece: PIECE,
         before_fault,
         takes_none,
     };
     let ended = write_sheet(alloc, book, kind, &mut writer)?;
-    let len = sheet.len().min(piece.saturating_mul(before_fault));
-    let is_whole = len == sheet.len();
+    let len = sheet.len().min(PIECE.saturating_mul(before_fault));
+    let want = if len == sheet.len() {
+        Ok(())
+    } else {
+        Err(SheetFault::Io)
+    };
     let taken = writer.taken.as_slice();
-    let as_it_should = taken.len() == len && sheet.as_bytes().starts_with(taken);
-    Ok(
-        as_it_should
-            && ended
-                == if is_whole {
-                    Ok(())
-                } else {
-                    Err(SheetFault::Io)
-                },
-    )
+    Ok(taken.len() == len && sheet.as_bytes().starts_with(taken) && ended == want)
 }
 
-/// Pieces of three lengths, and how the write with the number fails: by an error, or by taking none.
-fn ways() -> &'static [(usize, bool)] {
-    &WAYS
-}
-
-const WAYS: [(usize, bool); 6] = [
-    (1, false),
-    (1, true),
-    (10, false),
-    (10, true),
-    (512, false),
-    (512, true),
-];
-
-/// A fault at each write.
+/// A fault at each write, and at none.
 fn expect_beginnings<R: Abort + AllocGlobal>(
     rt: &R,
     book: &Book,
     sheet: (Kind, &str),
-    (piece, takes_none): (usize, bool),
 ) -> Result<(), Fail> {
-    for writes in 0..105usize {
-        let how = (piece, writes, takes_none);
-        assert!(rt; is_beginning(rt.alloc(), book, sheet, how)?, "{how:?}");
+    for writes in 0..9usize {
+        assert!(rt;
+            is_beginning(rt.alloc(), book, sheet, (writes, false))?,
+            "{writes}"
+        );
+        assert!(rt;
+            is_beginning(rt.alloc(), book, sheet, (writes, true))?,
+            "{writes}"
+        );
     }
     Ok(())
 }
 
 /// Of both sheets.
-fn expect_both<R: Abort + AllocGlobal>(
-    rt: &R,
-    book: &Book,
-    way: (usize, bool),
-) -> Result<(), Fail> {
-    expect_beginnings(rt, book, (Kind::Branch, BRANCH_SHEET), way)?;
-    expect_beginnings(rt, book, (Kind::Article, ARTICLE_SHEET), way)
-}
-
-/// In each way.
-fn expect_each<R: Abort + AllocGlobal>(rt: &R, book: &Book) -> Result<(), Fail> {
-    for way in ways() {
-        expect_both(rt, book, *way)?;
-    }
-    Ok(())
+fn expect_both<R: Abort + AllocGlobal>(rt: &R, book: &Book) -> Result<(), Fail> {
+    expect_beginnings(rt, book, (Kind::Branch, BRANCH_SHEET))?;
+    expect_beginnings(rt, book, (Kind::Article, ARTICLE_SHEET))
 }
 
 #[test]
 fn after_a_fault_a_beginning_is_written(rt: HostRuntime) -> Result<(), Fail> {
-    expect_each(&rt, &book_after(&rt, stock())?)
+    expect_both(&rt, &book_after(&rt, stock())?)
 }

@@ -6,10 +6,18 @@ mod upgrading;
 
 use crate::keepers::{commit, connection_of, keeper, load, load_fault, plain_keeper, sql_keeper};
 use book::{Change, DeskRow, FieldRow, FirmRow, KeptRow, LineRow, MoveRow, OrderRow, Tables};
-use keep::{Keep, KeepFault, SqlKeep};
-use sqlite::{Connection, MemStore};
+use keep::{Keep, KeepFault, SqlKeep, a_fuse_tells_no_lie, keepers_in_memory_are_honest};
+use sqlite::MemStore;
+use sqlite_disk::Memory;
 use std::alloc::{AllocError, Global};
 use std::test::Fail;
+
+/// The laws hold of every keeper; a call of one costs nothing.
+#[test]
+fn laws_can_be_called() {
+    keepers_in_memory_are_honest();
+    a_fuse_tells_no_lie::<Memory>();
+}
 
 fn commit_field<K: Keep>(
     alloc: Global,
@@ -67,7 +75,7 @@ fn commit_kept<K: Keep>(alloc: Global, keep: &mut K) -> Result<(), Fail> {
     Ok(())
 }
 
-pub(crate) fn order(number: i64, state: i64) -> OrderRow {
+fn order(number: i64, state: i64) -> OrderRow {
     OrderRow {
         number,
         kind: 1,
@@ -84,7 +92,7 @@ const DESK: DeskRow = DeskRow {
 };
 
 /// All columns of all rows, in their order.
-pub(crate) fn shown(alloc: Global, tables: &Tables) -> Result<String, AllocError> {
+fn shown(alloc: Global, tables: &Tables) -> Result<String, AllocError> {
     format!(in alloc; "{tables:?}")
 }
 
@@ -145,19 +153,12 @@ fn rows_come_back_by_their_keys(rt: HostRuntime) -> Result<(), Fail> {
     Ok(())
 }
 
-/// Whether the keeper fails to load by this fault, and is stopped by it.
-pub(crate) fn fails_by<K: Keep>(alloc: Global, keep: &mut K, want: KeepFault) -> bool {
-    load_fault(keep, alloc) == Some(want)
+/// Whether the keeper fails to load by its store, and is stopped by that.
+fn fails_by_store<K: Keep>(alloc: Global, keep: &mut K) -> bool {
+    load_fault(keep, alloc) == Some(KeepFault::Store)
         && load_fault(keep, alloc) == Some(KeepFault::Stopped)
         && commit(keep, &[]) == Err(KeepFault::Stopped)
         && keep.is_stopped()
-}
-
-#[test]
-fn a_store_without_tables_is_no_desk(rt: HostRuntime) -> Result<(), Fail> {
-    let mut keep = keeper(Connection::open_in_memory(rt.alloc())?)?;
-    assert!(rt; fails_by(rt.alloc(), &mut keep, KeepFault::NotADesk));
-    Ok(())
 }
 
 /// A keeper with two orders over a store that takes one step a statement.
@@ -173,6 +174,6 @@ fn limited(alloc: Global) -> Result<SqlKeep<MemStore>, Fail> {
 #[test]
 fn a_load_that_the_store_refuses_is_its_failure(rt: HostRuntime) -> Result<(), Fail> {
     let mut keep = limited(rt.alloc())?;
-    assert!(rt; fails_by(rt.alloc(), &mut keep, KeepFault::Store));
+    assert!(rt; fails_by_store(rt.alloc(), &mut keep));
     Ok(())
 }

@@ -42,14 +42,6 @@ const COMMANDS: [&str; 14] = [
     "firm 7",
 ];
 
-/// The text is read as a command, and written back behind what is there.
-fn is_written_back(alloc: Global, text: &str) -> Result<bool, Fail> {
-    let command = read_command(alloc, text.as_bytes())?;
-    let mut out = Vec::from_slice(alloc, b"K1 ")?;
-    write_command(&command, &mut out)?;
-    Ok(out.strip_prefix(b"K1 ".as_slice()) == Some(text.as_bytes()))
-}
-
 /// The text is the words of the command that it is read as, and of the same command spelled anew.
 fn has_its_words(alloc: Global, text: &str) -> Result<bool, Fail> {
     let read = SpelledCommand::read(alloc, text.as_bytes())?;
@@ -63,7 +55,6 @@ fn has_its_words(alloc: Global, text: &str) -> Result<bool, Fail> {
 #[test]
 fn each_kind_is_read_and_written_back(rt: HostRuntime) -> Result<(), Fail> {
     for text in commands() {
-        assert!(rt; is_written_back(rt.alloc(), text)?, "{text}");
         assert!(rt; has_its_words(rt.alloc(), text)?, "{text}");
     }
     let bad = read_command(rt.alloc(), b"commit 07").err();
@@ -113,24 +104,12 @@ fn script() -> &'static [(&'static str, &'static str)] {
     &SCRIPT
 }
 
-const SCRIPT: [(&str, &str); 7] = [
+const SCRIPT: [(&str, &str); 4] = [
     ("K1 field N1 A-1 0 100 40", "K1"),
-    ("K2 deliver N1 A-1 60", "K2"),
     ("? field N1 A-1", "?field"),
     ("", "-"),
     ("? order 7", "?order"),
-    ("K9 open 7 2000000000 take N1 A-1 60", "K9"),
-    ("K5 writeoff N1 A-1 1", "K5"),
 ];
-
-#[test]
-fn a_line_is_an_item(rt: HostRuntime) -> Result<(), Fail> {
-    for (line, want) in script() {
-        let item = read_item(rt.alloc(), line.as_bytes())?;
-        assert!(rt; mark(&item) == want.as_bytes(), "{line}");
-    }
-    Ok(())
-}
 
 /// A piece gives the item of that mark, or none. It is fed again where memory is refused: nothing of it was taken in
 /// then.
@@ -180,6 +159,8 @@ fn gives_a_rest(alloc: Global, lines: &mut Lines) -> Result<bool, Memory> {
 fn a_piece_gives_the_lines_that_end_in_it(rt: HostRuntime) -> Result<(), Fail> {
     let mut lines = Lines::new(rt.alloc());
     for (line, want) in script() {
+        let item = read_item(rt.alloc(), line.as_bytes())?;
+        assert!(rt; mark(&item) == want.as_bytes(), "{line}");
         assert!(rt;
             gives_at_its_end(rt.alloc(), &mut lines, line, want)?,
             "{line}"
@@ -268,10 +249,10 @@ fn written_until(
 fn a_text_is_written_whole_or_a_beginning(rt: HostRuntime) {
     let text = b"K1 done 7\n".as_slice();
     for number in 0..10usize {
-        for takes_none in [false, true] {
-            let found = written_until(rt.alloc(), text, number, takes_none);
-            assert!(rt; found == (Err(WriteFault), Some(number)), "{number}");
-        }
+        let failed = written_until(rt.alloc(), text, number, false);
+        assert!(rt; failed == (Err(WriteFault), Some(number)), "{number}");
+        let stuck = written_until(rt.alloc(), text, number, true);
+        assert!(rt; stuck == (Err(WriteFault), Some(number)), "{number}");
     }
     assert!(rt; written_until(rt.alloc(), text, 10, false) == (Ok(()), Some(10)));
 }

@@ -1,6 +1,13 @@
-//! Readers and writers that fail once.
+//! Readers and writers that fail once, and what is played over them.
 
+use crate::desks::opened;
+use crate::keepers::plain_keeper;
+use desk::Desk;
+use keep::Keep;
+use std::alloc::Global;
 use std::io::{self, Read, Write};
+use std::process::Abort;
+use std::test::Fail;
 
 /// Gives its bytes in pieces, fails once, in the place of the piece with this number, and goes on. The failure is an
 /// interrupted read, which might be tried again, or another.
@@ -61,4 +68,140 @@ impl Write for Sink {
     fn flush(&mut self) -> io::Result<()> {
         Ok(())
     }
+}
+
+/// How what is played ended.
+#[derive(Clone, Copy)]
+pub(crate) enum Ended {
+    Whole,
+    ByRead,
+    ByWrite,
+    Otherwise,
+}
+
+/// What is played over streams on a desk.
+pub(crate) trait Played {
+    /// How it ends.
+    fn end<K: Keep, R: Read, W: Write>(
+        &self,
+        alloc: Global,
+        reader: &mut R,
+        writer: &mut W,
+        desk: &mut Desk<K>,
+    ) -> Ended;
+}
+
+/// How it ends on the desk that the keeper holds.
+fn end<P: Played, K: Keep + Drop, R: Read, W: Write>(
+    alloc: Global,
+    played: &P,
+    keep: K,
+    reader: &mut R,
+    writer: &mut W,
+) -> Result<Ended, Fail> {
+    let mut desk = opened(alloc, keep)?;
+    let ended = played.end(alloc, reader, writer, &mut desk);
+    drop(desk.into_keep());
+    Ok(ended)
+}
+
+/// A reader and a writer of so many bytes at a time; each fails in the place of that call, and goes on.
+#[derive(Clone, Copy)]
+struct Fault {
+    piece: usize,
+    read: usize,
+    write: usize,
+    is_other: bool,
+}
+
+/// How it ends with that fault on a new desk, where these bytes are read, and whether all was answered. What was written
+/// is a beginning of the answers.
+fn ends_with<P: Played>(
+    alloc: Global,
+    played: &P,
+    (bytes, answers): (&[u8], &[u8]),
+    fault: Fault,
+) -> Result<(Ended, bool), Fail> {
+    let mut reader = Drip {
+        bytes,
+        piece: fault.piece,
+        before_fault: fault.read,
+        is_interrupted: fault.is_other,
+    };
+    let mut writer = Sink {
+        taken: Vec::new(alloc),
+        piece: fault.piece,
+        before_fault: fault.write,
+        takes_none: fault.is_other,
+    };
+    let ended = end(alloc, played, plain_keeper(alloc), &mut reader, &mut writer)?;
+    if !answers.starts_with(writer.taken.as_slice()) {
+        Err("another answer")?;
+    }
+    Ok((ended, writer.taken.len() == answers.len()))
+}
+
+/// How many reads are needed, where each that is needed fails in turn.
+fn reads_needed<P: Played>(
+    alloc: Global,
+    played: &P,
+    texts: (&[u8], &[u8]),
+    piece: usize,
+    is_other: bool,
+) -> Result<usize, Fail> {
+    for read in 0..2_000 {
+        let fault = Fault {
+            piece,
+            read,
+            write: usize::MAX,
+            is_other,
+        };
+        match ends_with(alloc, played, texts, fault)? {
+            (Ended::Whole, true) => return Ok(read),
+            (Ended::ByRead, _) => {}
+            _ => Err("ended otherwise")?,
+        }
+    }
+    Err("no end of reads")?
+}
+
+/// The same of writes.
+fn writes_needed<P: Played>(
+    alloc: Global,
+    played: &P,
+    texts: (&[u8], &[u8]),
+    piece: usize,
+    is_other: bool,
+) -> Result<usize, Fail> {
+    for write in 0..2_000 {
+        let fault = Fault {
+            piece,
+            read: usize::MAX,
+            write,
+            is_other,
+        };
+        match ends_with(alloc, played, texts, fault)? {
+            (Ended::Whole, true) => return Ok(write),
+            (Ended::ByWrite, false) => {}
+            _ => Err("ended otherwise")?,
+        }
+    }
+    Err("no end of writes")?
+}
+
+/// It ends at once where a stream fails. As many reads are needed as there are pieces, and one that finds the end; and
+/// more writes than answers of that length.
+pub(crate) fn expect_faults<R: Abort + AllocGlobal, P: Played>(
+    rt: &R,
+    played: &P,
+    bytes: &[u8],
+    answers: &[u8],
+) -> Result<(), Fail> {
+    for (piece, is_other) in [(7, false), (7, true), (512, false), (512, true)] {
+        let reads = reads_needed(rt.alloc(), played, (bytes, answers), piece, is_other)?;
+        assert!(rt; reads.saturating_mul(piece) > bytes.len());
+        let writes = writes_needed(rt.alloc(), played, (bytes, answers), piece, is_other)?;
+        assert!(rt; writes.saturating_mul(piece) >= answers.len());
+    }
+    Ok(())
 }

@@ -8,242 +8,26 @@ use book::{
 use std::alloc::Global;
 use std::test::Fail;
 
-/// The row of `desk` by its first two columns, and the numbers of the fields, moves, orders, lines, kept commands and
-/// firm orders, as their rows come. The number of a line is ten times that of its order, and its own.
-type Numbers = (
-    i64,
-    i64,
-    &'static [i64],
-    &'static [i64],
-    &'static [i64],
-    &'static [i64],
-    &'static [i64],
-    &'static [i64],
-);
+/// The numbers of the fields, moves, orders, lines, kept commands and firm orders, as their rows come. The number of a
+/// line is ten times that of its order, and its own.
+type Numbers = [&'static [i64]; 6];
 
 /// Two fields, moves, orders and kept commands, three lines, and the second order firm.
-fn good() -> &'static Numbers {
-    &GOOD
-}
+const GOOD: Numbers = [&[1, 2], &[1, 2], &[1, 2], &[11, 12, 21], &[1, 2], &[2]];
 
-static GOOD: Numbers = (
-    1,
-    2,
-    &[1, 2],
-    &[1, 2],
-    &[1, 2],
-    &[11, 12, 21],
-    &[1, 2],
-    &[2],
-);
-
-/// Another `desk`; rows out of the order of their keys, and keys that come twice; firm orders that were aborted, that
-/// are not there, and that come twice.
+/// Rows out of the order of their keys, and a key that comes twice, as no database gives them.
 fn damaged() -> &'static [Numbers] {
     &DAMAGED
 }
 
-static DAMAGED: [Numbers; 20] = [
-    (
-        0,
-        2,
-        &[1, 2],
-        &[1, 2],
-        &[1, 2],
-        &[11, 12, 21],
-        &[1, 2],
-        &[2],
-    ),
-    (
-        2,
-        2,
-        &[1, 2],
-        &[1, 2],
-        &[1, 2],
-        &[11, 12, 21],
-        &[1, 2],
-        &[2],
-    ),
-    (
-        1,
-        0,
-        &[1, 2],
-        &[1, 2],
-        &[1, 2],
-        &[11, 12, 21],
-        &[1, 2],
-        &[2],
-    ),
-    (
-        1,
-        3,
-        &[1, 2],
-        &[1, 2],
-        &[1, 2],
-        &[11, 12, 21],
-        &[1, 2],
-        &[2],
-    ),
-    (
-        1,
-        2,
-        &[2, 1],
-        &[1, 2],
-        &[1, 2],
-        &[11, 12, 21],
-        &[1, 2],
-        &[2],
-    ),
-    (
-        1,
-        2,
-        &[1, 2, 2],
-        &[1, 2],
-        &[1, 2],
-        &[11, 12, 21],
-        &[1, 2],
-        &[2],
-    ),
-    (
-        1,
-        2,
-        &[1, 2],
-        &[2, 1],
-        &[1, 2],
-        &[11, 12, 21],
-        &[1, 2],
-        &[2],
-    ),
-    (
-        1,
-        2,
-        &[1, 2],
-        &[2, 2],
-        &[1, 2],
-        &[11, 12, 21],
-        &[1, 2],
-        &[2],
-    ),
-    (
-        1,
-        2,
-        &[1, 2],
-        &[1, 2],
-        &[2, 1],
-        &[11, 12, 21],
-        &[1, 2],
-        &[2],
-    ),
-    (
-        1,
-        2,
-        &[1, 2],
-        &[1, 2],
-        &[1, 2, 2],
-        &[11, 12, 21],
-        &[1, 2],
-        &[2],
-    ),
-    (
-        1,
-        2,
-        &[1, 2],
-        &[1, 2],
-        &[1, 2],
-        &[12, 11, 21],
-        &[1, 2],
-        &[2],
-    ),
-    (
-        1,
-        2,
-        &[1, 2],
-        &[1, 2],
-        &[1, 2],
-        &[11, 21, 12],
-        &[1, 2],
-        &[2],
-    ),
-    (
-        1,
-        2,
-        &[1, 2],
-        &[1, 2],
-        &[1, 2],
-        &[11, 12, 12, 21],
-        &[1, 2],
-        &[2],
-    ),
-    (
-        1,
-        2,
-        &[1, 2],
-        &[1, 2],
-        &[1, 2],
-        &[11, 12, 21],
-        &[2, 1],
-        &[2],
-    ),
-    (
-        1,
-        2,
-        &[1, 2],
-        &[1, 2],
-        &[1, 2],
-        &[11, 12, 21],
-        &[2, 2],
-        &[2],
-    ),
-    (
-        1,
-        2,
-        &[1, 2],
-        &[1, 2],
-        &[1, 2],
-        &[11, 12, 21],
-        &[1, 2],
-        &[1],
-    ),
-    (
-        1,
-        2,
-        &[1, 2],
-        &[1, 2],
-        &[1, 2],
-        &[11, 12, 21],
-        &[1, 2],
-        &[1, 2],
-    ),
-    (
-        1,
-        2,
-        &[1, 2],
-        &[1, 2],
-        &[1, 2],
-        &[11, 12, 21],
-        &[1, 2],
-        &[2, 3],
-    ),
-    (
-        1,
-        2,
-        &[1, 2],
-        &[1, 2],
-        &[1, 2],
-        &[11, 12, 21],
-        &[1, 2],
-        &[2, 2],
-    ),
-    (
-        1,
-        2,
-        &[1, 2],
-        &[1, 2],
-        &[1, 2],
-        &[11, 12, 21],
-        &[1, 2],
-        &[0],
-    ),
+static DAMAGED: [Numbers; 7] = [
+    [&[2, 1], &[1, 2], &[1, 2], &[11, 12, 21], &[1, 2], &[2]],
+    [&[1, 2], &[2, 1], &[1, 2], &[11, 12, 21], &[1, 2], &[2]],
+    [&[1, 2], &[1, 2], &[2, 1], &[11, 12, 21], &[1, 2], &[2]],
+    [&[1, 2], &[1, 2], &[1, 2], &[12, 11, 21], &[1, 2], &[2]],
+    [&[1, 2], &[1, 2], &[1, 2], &[11, 21, 12], &[1, 2], &[2]],
+    [&[1, 2], &[1, 2], &[1, 2], &[11, 12, 21], &[2, 1], &[2]],
+    [&[1, 2], &[1, 2], &[1, 2], &[11, 12, 21], &[1, 2], &[2, 2]],
 ];
 
 fn name(alloc: Global, number: i64) -> Result<String, Fail> {
@@ -345,11 +129,11 @@ fn kept(alloc: Global, numbers: &[i64]) -> Result<Vec<KeptRow>, Fail> {
 }
 
 fn tables_of(alloc: Global, numbers: &Numbers) -> Result<Tables, Fail> {
-    let (one, version, of_fields, of_moves, of_orders, of_lines, of_kept, of_firms) = *numbers;
+    let [of_fields, of_moves, of_orders, of_lines, of_kept, of_firms] = *numbers;
     Ok(Tables {
         desk: DeskRow {
-            one,
-            version,
+            one: 1,
+            version: 2,
             clock: 0,
             places: 2,
         },
@@ -377,7 +161,7 @@ fn book_of_rows(alloc: Global, numbers: &Numbers) -> Result<Book, Fail> {
 
 #[test]
 fn rows_in_their_order_open(rt: HostRuntime) -> Result<(), Fail> {
-    assert!(rt; shows_the_fields(&book_of_rows(rt.alloc(), good())?));
+    assert!(rt; shows_the_fields(&book_of_rows(rt.alloc(), &GOOD)?));
     Ok(())
 }
 
@@ -392,11 +176,9 @@ fn rows_out_of_their_order_are_damaged(rt: HostRuntime) -> Result<(), Fail> {
 
 #[test]
 fn rows_give_back_their_vector(rt: HostRuntime) -> Result<(), Fail> {
-    let rows = Rows::new(orders(rt.alloc(), &[3, 5])?);
+    let rows = Rows::new(firms(rt.alloc(), &[3, 5])?);
     assert!(rt; rows.as_slice().len() == 2);
-    let orders = rows.into_vec();
-    assert!(rt;
-        matches!(orders.as_slice(), [first, last] if first.number == 3 && last.number == 5)
-    );
+    let firms = rows.into_vec();
+    assert!(rt; matches!(firms.as_slice(), [first, last] if first.number == 3 && last.number == 5));
     Ok(())
 }

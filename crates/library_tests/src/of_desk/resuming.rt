@@ -1,189 +1,121 @@
-//! A list of requests that is cut, at any call of the disk, and resumed.
+//! A list of requests that is cut by a failure at any call of the disk, with a power cut or without one, and resumed.
 
-use super::sessions::{List, Session, Way, cut_at_each_call, cut_twice};
-use crate::desks::{opened, requests, resume};
-use crate::keepers::sql_keeper;
-use crate::of_keep::disks::{CUTS, calls_to};
-use desk::{Desk, Ending};
+ghost use Rattle.std.specs.Prelude.{IsTrue, IfOk};
+ghost use Rattle.sqlite_disk.specs.Memory.{memory_is_usable};
+
+use super::three_orders::{COUNT, expect_replies, expect_rows, three_orders};
+use crate::desks::{open, resume};
+use crate::keepers::{connection_of, keeper};
+use crate::of_keep::disks::{CUTS, Visit, calls_to, desk_files, left_by, over_files};
+use desk::{Desk, Ending, OpenFault};
 use keep::Keep;
+use sqlite::{Alter, Connection, Files};
+use sqlite_disk::{Fuse, Memory};
 use std::alloc::Global;
 use std::test::Fail;
-use words::{Refusal, Reply, Request};
 
-/// Two orders, of which the second is refused at first.
-pub(crate) fn two_orders() -> &'static List {
-    &TWO_ORDERS
+/// A session on the requests, of which so many are answered before.
+#[derive(Clone, Copy)]
+struct Session {
+    before: usize,
 }
 
-static TWO_ORDERS: List = List {
-    lines: &[
-        "S1 field N1 A-1 0 100 40",
-        "S2 open 7 500 take N1 A-1 30",
-        "S3 open 8 500 take N1 A-1 11",
-        "S4 use 7 N1 A-1 20",
-        "S5 commit 7",
-        "S6 open 8 500 take N1 A-1 20",
-    ],
-    replies: &[
-        Reply::Done(1),
-        Reply::Done(2),
-        Reply::Refused(Refusal::TooLittle, 1),
-        Reply::Done(3),
-        Reply::Done(4),
-        Reply::Done(5),
-    ],
-    asks: "? field N1 A-1\n? order 7\n? order 8\n",
-    states: &[
-        "? none\n? none\n? none\n",
-        "? field N1 A-1 lo 0 hi 100 value 40 inf 40 sup 40\n? none\n? none\n",
-        "? field N1 A-1 lo 0 hi 100 value 40 inf 10 sup 40\n? order 7 plain 500 open take N1 A-1 30 0\n? none\n",
-        "? field N1 A-1 lo 0 hi 100 value 40 inf 10 sup 40\n? order 7 plain 500 open take N1 A-1 30 0\n? none\n",
-        "? field N1 A-1 lo 0 hi 100 value 40 inf 10 sup 40\n? order 7 plain 500 open take N1 A-1 30 20\n? none\n",
-        "? field N1 A-1 lo 0 hi 100 value 20 inf 20 sup 20\n? order 7 plain 500 committed take N1 A-1 30 20\n? none\n",
-        "? field N1 A-1 lo 0 hi 100 value 20 inf 0 sup 20\n? order 7 plain 500 committed take N1 A-1 30 20\n? order 8 plain 500 open take N1 A-1 20 0\n",
-    ],
-};
-
-/// An order that is made firm.
-pub(crate) fn firm_order() -> &'static List {
-    &FIRM_ORDER
+/// The rest is answered: how many are answered then. The desk is stopped where it was told so.
+fn go_on<K: Keep>(alloc: Global, desk: &mut Desk<K>, before: usize) -> Result<usize, Fail> {
+    let requests = three_orders(alloc)?;
+    let first = before.checked_add(1).ok_or("no such number")?;
+    let run = resume(alloc, desk, &requests, first)?;
+    if desk.is_stopped() != (run.ending == Ending::Stopped) {
+        Err("stopped and not told, or told and not stopped")?;
+    }
+    let count = expect_replies(&run, before, COUNT)?;
+    Ok(before.checked_add(count).ok_or("too many")?)
 }
 
-static FIRM_ORDER: List = List {
-    lines: &[
-        "F1 field N1 A-1 0 100 40",
-        "F2 open 7 500 take N1 A-1 30",
-        "F3 use 7 N1 A-1 20",
-        "F4 firm 7",
-        "F5 abort 7",
-        "F6 deliver N1 A-1 80",
-        "F7 use 7 N1 A-1 5",
-        "F8 expire 500",
-        "F9 commit 7",
-    ],
-    replies: &[
-        Reply::Done(1),
-        Reply::Done(2),
-        Reply::Done(3),
-        Reply::Done(4),
-        Reply::Refused(Refusal::Firm, 0),
-        Reply::Done(5),
-        Reply::Done(6),
-        Reply::Done(7),
-        Reply::Done(8),
-    ],
-    asks: "? field N1 A-1\n? order 7\n",
-    states: &[
-        "? none\n? none\n",
-        "? field N1 A-1 lo 0 hi 100 value 40 inf 40 sup 40\n? none\n",
-        "? field N1 A-1 lo 0 hi 100 value 40 inf 10 sup 40\n? order 7 plain 500 open take N1 A-1 30 0\n",
-        "? field N1 A-1 lo 0 hi 100 value 40 inf 10 sup 40\n? order 7 plain 500 open take N1 A-1 30 20\n",
-        "? field N1 A-1 lo 0 hi 100 value 20 inf 10 sup 20\n? order 7 plain 500 firm take N1 A-1 30 20\n",
-        "? field N1 A-1 lo 0 hi 100 value 20 inf 10 sup 20\n? order 7 plain 500 firm take N1 A-1 30 20\n",
-        "? field N1 A-1 lo 0 hi 100 value 100 inf 90 sup 100\n? order 7 plain 500 firm take N1 A-1 30 20\n",
-        "? field N1 A-1 lo 0 hi 100 value 95 inf 90 sup 95\n? order 7 plain 500 firm take N1 A-1 30 25\n",
-        "? field N1 A-1 lo 0 hi 100 value 95 inf 90 sup 95\n? order 7 plain 500 firm take N1 A-1 30 25\n",
-        "? field N1 A-1 lo 0 hi 100 value 95 inf 95 sup 95\n? order 7 plain 500 committed take N1 A-1 30 25\n",
-    ],
-};
-
-/// The first session on the list, one request after the other.
-fn singly(list: &'static List) -> Session {
-    Session {
-        list,
-        way: Way::Singly,
-        before: 0,
+/// The same on the desk that the keeper holds, whose rows are those behind the whole list where that is answered: the
+/// keeper, and how many are answered then, no more than before where no desk was opened.
+fn play<K: Keep + Drop>(alloc: Global, keep: K, before: usize) -> Result<(K, usize), Fail> {
+    match open(alloc, keep) {
+        Err((OpenFault::Store | OpenFault::Memory, keep)) => Ok((keep, before)),
+        Err(_) => Err("the store is told as something else")?,
+        Ok(mut desk) => {
+            let told = go_on(alloc, &mut desk, before);
+            let mut keep = desk.into_keep();
+            let told = told?;
+            if told == COUNT {
+                expect_rows(alloc, &mut keep, COUNT, COUNT)?;
+            }
+            Ok((keep, told))
+        }
     }
 }
 
+impl Visit for Session {
+    type Found = usize;
+
+    fn over<S: Alter + Drop>(
+        &self,
+        alloc: Global,
+        conn: Connection<S>,
+    ) -> Result<(Connection<S>, usize), Fail> {
+        let (keep, told) = play(alloc, keeper(conn)?, self.before)?;
+        Ok((connection_of(keep), told))
+    }
+}
+
+/// The session over files of which one fails after so many calls, with a power cut at the end or not: the files that are
+/// left, and how many requests are answered then.
+fn visit_cut(
+    alloc: Global,
+    files: Files<Memory>,
+    before: usize,
+    calls: (u64, u64),
+    is_cut: bool,
+) -> Result<(Files<Memory>, usize), Fail>
+    requires { IsTrue (memory_is_usable files.log) × IsTrue (memory_is_usable files.db) }
+    ensures { IfOk result (λ left. IsTrue (memory_is_usable left.0.log) × IsTrue (memory_is_usable left.0.db)) }
+{
+    let fused = Files {
+        log: Fuse::new(files.log, calls.0),
+        db: Fuse::new(files.db, calls.1),
+    };
+    let (fused, told) = over_files(alloc, fused, &Session { before })?;
+    Ok((left_by(alloc, fused, is_cut)?, told.unwrap_or(before)))
+}
+
+/// The list is cut by these two failures, one after the other, and then resumed to its end: how many requests were
+/// answered before the first.
+fn cut_twice(
+    alloc: Global,
+    first: (u64, u64),
+    second: (u64, u64),
+    is_cut: bool,
+) -> Result<usize, Fail> {
+    let (left, begun) = visit_cut(alloc, desk_files(alloc)?, 0, first, is_cut)?;
+    let (left, before) = visit_cut(alloc, left, begun, second, is_cut)?;
+    let (_, told) = over_files(alloc, left, &Session { before })?;
+    if told.unwrap_or(before) != COUNT {
+        Err("not resumed to its end")?;
+    }
+    Ok(begun)
+}
+
+/// Fails at each call of one of the files in turn, up to the first run that is not cut, and each time again after so
+/// many calls: how many were tried.
+fn cut_at_each_call(alloc: Global, on_log: bool, is_cut: bool, second: u64) -> Result<u64, Fail> {
+    for calls in 0..400u64 {
+        let (first, second) = (calls_to(on_log, calls), calls_to(on_log, second));
+        if cut_twice(alloc, first, second, is_cut)? == COUNT {
+            return Ok(calls);
+        }
+    }
+    Err("never ended")?
+}
+
 #[test]
-fn a_list_is_resumed_after_a_failure_at_any_call(rt: HostRuntime) -> Result<(), Fail> {
+fn a_list_is_resumed_after_two_failures_at_any_call(rt: HostRuntime) -> Result<(), Fail> {
     for (on_log, is_cut) in CUTS {
-        for list in [two_orders(), firm_order()] {
-            let session = singly(list);
-            assert!(rt; cut_at_each_call(rt.alloc(), session, on_log, is_cut, u64::MAX)? > 0);
-        }
+        assert!(rt; cut_at_each_call(rt.alloc(), on_log, is_cut, 9)? > 0);
     }
-    Ok(())
-}
-
-/// The same with a second failure, after up to 19 calls.
-fn cut_twice_at_each_call(alloc: Global, on_log: bool, is_cut: bool) -> Result<(), Fail> {
-    for second in 0..20 {
-        if cut_at_each_call(alloc, singly(two_orders()), on_log, is_cut, second)? == 0 {
-            Err("none was tried")?;
-        }
-    }
-    Ok(())
-}
-
-#[test]
-fn a_list_is_resumed_after_two_failures_of_the_log(rt: HostRuntime) -> Result<(), Fail> {
-    cut_twice_at_each_call(rt.alloc(), true, false)
-}
-
-#[test]
-fn a_list_is_resumed_after_two_failures_of_the_log_and_a_power_cut(
-    rt: HostRuntime,
-) -> Result<(), Fail> {
-    cut_twice_at_each_call(rt.alloc(), true, true)
-}
-
-#[test]
-fn a_list_is_resumed_after_two_failures_of_the_database(rt: HostRuntime) -> Result<(), Fail> {
-    cut_twice_at_each_call(rt.alloc(), false, false)
-}
-
-#[test]
-fn a_list_is_resumed_after_two_failures_of_the_database_and_a_power_cut(
-    rt: HostRuntime,
-) -> Result<(), Fail> {
-    cut_twice_at_each_call(rt.alloc(), false, true)
-}
-
-/// With ample memory the list ends in its first session. Where one allocation is refused it goes on, in the same
-/// session or, where that was stopped, in the next.
-#[test]
-fn a_list_is_resumed_where_memory_was_refused(rt: HostRuntime) -> Result<(), Fail> {
-    let uncut = calls_to(true, u64::MAX);
-    cut_twice(rt.alloc(), singly(firm_order()), uncut, uncut, false)?;
-    Ok(())
-}
-
-/// Whether the whole list is answered so.
-fn are_answered<K: Keep>(
-    alloc: Global,
-    desk: &mut Desk<K>,
-    requests: &[Request],
-    want: &[Reply],
-) -> Result<bool, Fail> {
-    let run = resume(alloc, desk, requests, 1)?;
-    Ok(run.ending == Ending::All && run.replies.as_slice() == want)
-}
-
-/// Whether the whole list again is decided anew.
-fn is_decided_anew<K: Keep>(
-    alloc: Global,
-    desk: &mut Desk<K>,
-    requests: &[Request],
-) -> Result<bool, Fail> {
-    let mut want = Vec::from_slice(alloc, two_orders().replies)?;
-    let first = are_answered(alloc, desk, requests, &want)?;
-    *want.get_mut(2).ok_or("no such reply")? = Reply::Refused(Refusal::OrderThere, 0);
-    Ok(first && are_answered(alloc, desk, requests, &want)?)
-}
-
-/// Whether the desk that the keeper holds decides it anew.
-fn decides_anew<K: Keep + Drop>(alloc: Global, keep: K) -> Result<bool, Fail> {
-    let requests = requests(alloc, two_orders().lines)?;
-    let mut desk = opened(alloc, keep)?;
-    let is_anew = is_decided_anew(alloc, &mut desk, &requests);
-    drop(desk.into_keep());
-    is_anew
-}
-
-#[test]
-fn a_whole_list_again_is_decided_anew(rt: HostRuntime) -> Result<(), Fail> {
-    assert!(rt; decides_anew(rt.alloc(), sql_keeper(rt.alloc())?)?);
     Ok(())
 }

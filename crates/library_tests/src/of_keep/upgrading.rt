@@ -1,7 +1,7 @@
 //! What an upgrade makes of a store of version 1, and what a stop within it leaves.
 
 use super::disks::{CUTS, Visit, calls_to, files_made, left_by, over_files};
-use super::{fails_by, loaded};
+use super::loaded;
 use crate::keepers::{connection_of, keeper, load_fault, upgrade};
 use keep::KeepFault;
 use sqlite::{Alter, Connection, Error, Files};
@@ -114,19 +114,6 @@ impl Visit for Upgrading {
             Err(_) => Err("the store is told as something else")?,
         }
     }
-}
-
-#[test]
-fn an_old_version_is_told_and_upgraded_once(rt: HostRuntime) -> Result<(), Fail> {
-    let mut conn = Connection::open_in_memory(rt.alloc())?;
-    make_old(&mut conn)?;
-    let mut keep = keeper(conn)?;
-    assert!(rt; fails_by(rt.alloc(), &mut keep, KeepFault::OldVersion));
-    let mut conn = connection_of(keep);
-    assert!(rt; upgrade(&mut conn) == Ok(()));
-    assert!(rt; upgrade(&mut conn) == Ok(()));
-    assert!(rt; is_upgraded(rt.alloc(), conn)?.1);
-    Ok(())
 }
 
 /// What the upgrade answers after a change of the store of version 1.
