@@ -46,7 +46,7 @@ LONG = [
     ("K8 commit 7", "K8 done 6"),
 ]
 
-# a transfer, which is used and committed
+# a transfer, which is used and committed, and one back, which expires
 TRANSFER = [
     ("T1 field N1 A-1 0 100 40", "T1 done 1"),
     ("T2 field N2 A-1 0 50 5", "T2 done 2"),
@@ -61,6 +61,20 @@ TRANSFER = [
     ("? field N2 A-1", "? field N2 A-1 lo 0 hi 50 value 9 inf 9 sup 9"),
     ("T7 transfer 21 900 A-1 N1 N1 1", "T7 refused 10 SameField 2"),
     ("? order 21", "? none"),
+    ("T8 transfer 22 900 A-1 N2 N1 9", "T8 done 6"),
+    ("? field N1 A-1", "? field N1 A-1 lo 0 hi 100 value 36 inf 36 sup 45"),
+    ("? field N2 A-1", "? field N2 A-1 lo 0 hi 50 value 9 inf 0 sup 9"),
+    ("T9 release 22 N1 A-1 4", "T9 done 7"),
+    ("? field N1 A-1", "? field N1 A-1 lo 0 hi 100 value 36 inf 36 sup 41"),
+    ("? field N2 A-1", "? field N2 A-1 lo 0 hi 50 value 9 inf 4 sup 9"),
+    ("T10 expire 899", "T10 done 8"),
+    ("? order 22", "? order 22 transfer 900 open take N2 A-1 5 0 add N1 A-1 5 0"),
+    ("T11 expire 900", "T11 done 9"),
+    ("? order 22", "? order 22 transfer 900 aborted take N2 A-1 5 0 add N1 A-1 5 0"),
+    ("? field N1 A-1", "? field N1 A-1 lo 0 hi 100 value 36 inf 36 sup 36"),
+    ("? field N2 A-1", "? field N2 A-1 lo 0 hi 50 value 9 inf 9 sup 9"),
+    ("T12 expire 899", "T12 refused 18 ClockBack 0"),
+    ("T13 expire 900", "T13 done 10"),
 ]
 
 # deliveries and write-offs up to the bounds, and a second field
