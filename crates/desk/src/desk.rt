@@ -220,8 +220,8 @@ impl<K: Keep> Desk<K> {
     }
 
     /// Whether a fault of the keeper has stopped the desk. It shows then the ledger after the last request that was
-    /// answered or, where it was stopped by a batch, the one behind that. While none has, the keeper holds the rows of the ledger, and
-    /// a stop leaves these alone. Takes no memory.
+    /// answered or, where it was stopped by a batch, the one behind that. While none has, the keeper holds the rows of
+    /// the ledger, and a stop leaves these alone. Takes no memory.
     pub fn is_stopped(&self) -> bool
         ensures stopped { result ≡ K.stopped self.now.keep }
         ensures in_order { IsInOrder K.Keep self.now }
