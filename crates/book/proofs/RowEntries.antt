@@ -1,6 +1,7 @@
 -- Rows of a good ledger each tell something in range, and rows that each tell something tell a ledger.
 use Rattle.book.proofs.Prelude.{[], ◌++◌, ◌+ℤ◌, ◌+◌, ◌-ℤ◌, ◌∙◌, ◌∷◌, ◌≡◌, ◌≤ℤ◌, ◌≤◌, AllZip, Bool, Each, Field, FieldEntry, FieldRow, Good, Head, IsArticle, IsBounded, IsBranch, IsFieldRow, IsFieldTold, IsGoodField, IsGoodKept, IsGoodLine, IsGoodMove, IsGoodOrder, IsKeptTold, IsLevel, IsLineTold, IsMoveTold, IsSome, IsStrictlySortedBy, KeptEntry, KeptRow, Ledger, Line, LineCells, LineRow, List, MoveEntry, MoveRow, Name, Order, OrderRow, Some, TellHeads, TellsField, ap, arith, entry_row, false, field_cells, field_of, find, firm_rows, flat_map, head_of, held_to_add, held_to_take, if◌then◌else◌, ints, kept_cells, kept_row, line_cells, line_name, lines_from, map, mark_rows, move_cells, move_row, nat_abs, nat_cmp, order_cells, order_lines, order_row, pos, refl, same_name, settled, subst, sym, true, true≢false, ℕ}
-use Rattle.book.specs.inner.RowEntries.{IsHeadTold, TellsLine, head_row}
+use Rattle.book.specs.Rows.{FirmCells, OrderCells}
+use Rattle.book.specs.inner.RowEntries.{AreRowsOfOrders, IsHeadTold, TellOrders, TellsLine, head_row}
 use Rattle.book.proofs.Bounds.{inf_is, inf_unique, sup_is, sup_unique}
 use Rattle.book.proofs.Futures.{name_is, sounds_from_good}
 use Rattle.book.proofs.Lists.{each-two, each-unmap}
@@ -156,6 +157,19 @@ heads_same hs os sorted told = same_heads (map head_of os) hs (subst (IsStrictly
 -- orders with these heads have their rows
 pub orders_rows : (hs : List Head) (os : List Order) → map head_of os ≡ hs → TellHeads hs (map order_row os) (flat_map firm_rows os)
 orders_rows hs os e = record { orders_are = ap (map head_row) (sym e) ∙ heads_rows os; firms_are = ap (flat_map mark_rows) (sym e) ∙ marks_rows os }
+
+-- orders that heads and lines tell have the rows that tell these heads and lines
+pub rows_of_orders : (hs : List Head) (os : List Order) (orders : List OrderCells) (lines : List LineCells) (firms : List FirmCells) → TellHeads hs orders firms → TellOrders os hs lines → AreRowsOfOrders os orders lines firms
+rows_of_orders hs os orders lines firms heads told =
+    let have = orders_rows hs os told.heads_are in
+    record { orders_are = sym heads.orders_are ∙ have.orders_are; lines_are = sym told.lines_are; firms_are = sym heads.firms_are ∙ have.firms_are }
+
+-- the heads that a good ledger's rows tell, and the rows of its lines, tell its orders
+pub orders_told : (A : Ledger) (hs : List Head) (orders : List OrderCells) (lines : List LineCells) (firms : List FirmCells) → Good A → TellHeads hs orders firms → AreRowsOfOrders A.orders orders lines firms → TellOrders A.orders hs lines
+orders_told A hs orders lines firms g heads rows = record {
+  heads_are = heads_same hs A.orders g.orders_in_order (record { orders_are = heads.orders_are ∙ rows.orders_are; firms_are = heads.firms_are ∙ rows.firms_are });
+  lines_are = sym rows.lines_are;
+}
 
 -- the heads that a good ledger's rows of orders tell are marked by those of its firm orders
 pub marked_by : (A : Ledger) (hs : List Head) (rows : List OrderRow) → Good A → AllZip IsHeadTold hs rows → map order_cells rows ≡ map order_row A.orders → Marked (map head_row hs) (flat_map firm_rows A.orders)

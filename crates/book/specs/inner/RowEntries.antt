@@ -136,6 +136,12 @@ pub record TellOrders (orders : List Order) (heads : List Head) (lines : List Li
   pub heads_are : map head_of orders ≡ heads
   pub lines_are : flat_map order_lines orders ≡ lines
 
+-- these are the rows of the orders, of their lines, and of those that are firm
+pub record AreRowsOfOrders (os : List Order) (orders : List OrderCells) (lines : List LineCells) (firms : List FirmCells) : Type 0 where
+  pub orders_are : orders ≡ map order_row os
+  pub lines_are : lines ≡ flat_map order_lines os
+  pub firms_are : firms ≡ flat_map firm_rows os
+
 -- ---- ledgers from tables
 
 abbrev pub told_ledger : Entries → Ledger

@@ -1,10 +1,12 @@
 //! A ledger from the rows of its tables.
 
-ghost use Rattle.std.specs.Prelude.{◌≡◌, ◌↔◌, ℕ, IfErr, IfOk, IsTrue, MatchOption};
+ghost use Rattle.std.specs.Prelude.{◌≡◌, ◌↔◌, ℕ, IfErr, IfOk, IsTrue, MatchOption, map};
 ghost use Rattle.std.specs.List.{AllByRecursion as Each, AllZip};
 ghost use Rattle.book.specs.Good.{Good};
-ghost use Rattle.book.specs.Tables.{content_of, desk_cells};
-ghost use Rattle.book.specs.inner.RowEntries.{AreGood, AreInOrder, IsBounded, IsFieldTold, IsInForm, IsWhole, IsWithinLimits, TellsLedger, told_ledger};
+ghost use Rattle.book.specs.Ledger.{Ledger};
+ghost use Rattle.book.specs.Model.{order_of};
+ghost use Rattle.book.specs.Tables.{content_of, desk_cells, firm_cells, line_cells, order_cells};
+ghost use Rattle.book.specs.inner.RowEntries.{AreGood, AreInOrder, AreRowsOfOrders, IsBounded, IsFieldTold, IsInForm, IsWhole, IsWithinLimits, TellsLedger, told_ledger};
 ghost use Rattle.escrow.specs.Ranges.{IsMoment};
 ghost use Rattle.book.specs.Rows.{IsDamaged, IsRowsOf, desk_of};
 ghost use Rattle.book.specs.declared.book.tables.TablesFault.TheVariants as TablesFault;
@@ -25,7 +27,7 @@ use self::told::{moment, natural, read_all};
 use crate::book::{Book, FieldEntry, KeptEntry, MoveEntry};
 use crate::limits::{MAX_FIELDS, MAX_ORDERS, MAX_PLACES, SCHEMA_VERSION};
 use crate::order::{Line, Order, count_open};
-use crate::rows::{DeskRow, Tables};
+use crate::rows::{DeskRow, FirmRow, LineRow, OrderRow, Tables};
 use escrow::{FieldName, Key, Moment};
 use index::InOrder;
 use std::alloc::Global;
@@ -65,6 +67,24 @@ fn read_desk(row: &DeskRow, places: usize) -> Option<Moment>
     moment(row.clock)
 }
 
+/// The orders that their rows tell, with those of their lines and of firm ones.
+fn read_orders(
+    alloc: Global,
+    orders: &[OrderRow],
+    lines: &[LineRow],
+    firms: &[FirmRow],
+) -> Result<Vec<Order>, TablesFault>
+    ensures told { IfOk result (λ told. AreRowsOfOrders (map order_of told.items) (map order_cells orders.now)
+        (map line_cells lines.now) (map firm_cells firms.now)) }
+    ensures damaged { IfErr result (λ fault. fault ≡ TablesFault.Damaged → (A : Ledger) → Good A
+        → AreRowsOfOrders A.orders (map order_cells orders.now) (map line_cells lines.now) (map firm_cells firms.now)
+        → ⊥) }
+{
+    let heads = read_heads(alloc, orders, firms)?;
+    let told: Vec<Line> = read_all(alloc, lines)?;
+    group(alloc, &heads, lines, &told)
+}
+
 /// What the rows tell, where they tell a ledger, good or not. The rows of each table are let go as soon as they are
 /// read.
 fn read_tables(alloc: Global, tables: Tables) -> Result<Entries, TablesFault>
@@ -75,10 +95,12 @@ fn read_tables(alloc: Global, tables: Tables) -> Result<Entries, TablesFault>
 {
     let fields = read_all(alloc, tables.fields.as_slice())?;
     let moves = read_all(alloc, tables.moves.as_slice())?;
-    let heads = read_heads(alloc, tables.orders.as_slice(), tables.firms.as_slice())?;
-    let lines: Vec<Line> = read_all(alloc, tables.lines.as_slice())?;
-    let orders = group(alloc, &heads, tables.lines.as_slice(), &lines)?;
-    drop(lines);
+    let orders = read_orders(
+        alloc,
+        tables.orders.as_slice(),
+        tables.lines.as_slice(),
+        tables.firms.as_slice(),
+    )?;
     drop(tables.lines);
     let kept = read_all(alloc, tables.kept.as_slice())?;
     let Some(clock) = read_desk(&tables.desk, kept.len()) else {

@@ -15,36 +15,28 @@ pub returns-in_err-moves-clause-damaged : goal.returns-in_err-moves-clause-damag
 returns-in_err-moves-clause-damaged c = passed_up c.from_residual-in_err-moves.result c.in_err-moves.field-0.0 _ c.from_residual-in_err-moves.ensures.1
     (λ is A g rows. c.in_err-moves.ensures.damaged is (moves_told A c.as_slice-2.result.now g (ap (map move_cells) c.as_slice-2.ensures ∙ rows.moves)))
 
-pub returns-in_err-heads-clause-damaged : goal.returns-in_err-heads-clause-damaged
-returns-in_err-heads-clause-damaged c = grind arith
-
-pub returns-in_err-lines-clause-damaged : goal.returns-in_err-lines-clause-damaged
-returns-in_err-lines-clause-damaged c = passed_up c.from_residual-in_err-lines.result c.in_err-lines.field-0.0 _ c.from_residual-in_err-lines.ensures.1
-    (λ is A g rows. c.in_err-lines.ensures.damaged is (lines_told A c.as_slice-5.result.now g (ap (map line_cells) c.as_slice-5.ensures ∙ rows.lines)))
-
 pub returns-in_err-orders-clause-damaged : goal.returns-in_err-orders-clause-damaged
-returns-in_err-orders-clause-damaged c = grind (arith, passed_up, heads_same)
+returns-in_err-orders-clause-damaged c = passed_up c.from_residual-in_err-orders.result c.in_err-orders.field-0.0 _ c.from_residual-in_err-orders.ensures.1
+    (λ is A g rows. c.in_err-orders.ensures.damaged is A g
+    (record { orders_are = ap (map order_cells) c.as_slice-3.ensures ∙ rows.orders; lines_are = ap (map line_cells) c.as_slice-4.ensures ∙ rows.lines; firms_are = ap (map firm_cells) c.as_slice-5.ensures ∙ rows.firms }))
 
 pub returns-in_err-kept-clause-damaged : goal.returns-in_err-kept-clause-damaged
 returns-in_err-kept-clause-damaged c = passed_up c.from_residual-in_err-kept.result c.in_err-kept.field-0.0 _ c.from_residual-in_err-kept.ensures.1
-    (λ is A g rows. c.in_err-kept.ensures.damaged is (kept_told A c.as_slice-7.result.now g (ap (map kept_cells) c.as_slice-7.ensures ∙ rows.kept)))
+    (λ is A g rows. c.in_err-kept.ensures.damaged is (kept_told A c.as_slice-6.result.now g (ap (map kept_cells) c.as_slice-6.ensures ∙ rows.kept)))
 
 pub returns-in_default-clause-damaged : goal.returns-in_default-clause-damaged
 returns-in_default-clause-damaged c _ A g rows =
     let kept = c.in_ok-kept.kept.ok.0 in
-    let told = zip-length IsKeptTold c.in_ok-kept.kept.items c.as_slice-7.result.now c.in_ok-kept.ensures.told in
-    let same = ap (λ (cells : List KeptCells). length cells) (ap (map kept_cells) c.as_slice-7.ensures ∙ rows.kept) in
-    let cells = length-of-map kept_cells c.as_slice-7.result.now in
+    let told = zip-length IsKeptTold c.in_ok-kept.kept.items c.as_slice-6.result.now c.in_ok-kept.ensures.told in
+    let same = ap (λ (cells : List KeptCells). length cells) (ap (map kept_cells) c.as_slice-6.ensures ∙ rows.kept) in
+    let cells = length-of-map kept_cells c.as_slice-6.result.now in
     let ledger = length-of-map kept_row A.kept in
     let places : places A ≡ c.len.result = omega arith in
     c.in_default.ensures A.clock g.clock (same_first _ _ _ _ rows.desk ∙ ap (desk_of A.clock) places)
 
 pub returns-clause-told : goal.returns-clause-told
 returns-clause-told c =
-    let orders : List Order = map order_of c.in_ok-orders.orders.items in
-    let told = c.in_ok-heads.ensures.told in
-    let grouped = c.in_ok-orders.ensures.told in
-    let have = orders_rows c.in_ok-heads.heads.items orders (grouped.heads_are ∙ c.deref.ensures.value) in
+    let told = c.in_ok-orders.ensures.told in
     let kept = c.in_ok-kept.kept.ok.0 in
     let seen = length-of-map kept_of c.in_ok-kept.kept.items in
     let places : c.len.result ≡ length (map kept_of c.in_ok-kept.kept.items) = omega arith in
@@ -53,10 +45,10 @@ returns-clause-told c =
       fields = subst (λ (rows : List FieldRow). AllZip TellsField (map field_of c.in_ok-fields.fields.items) (map field_cells rows)) c.as_slice.ensures
           (zip-map IsFieldTold TellsField field_of field_cells tells_field c.in_ok-fields.fields.items c.as_slice.result.now c.in_ok-fields.ensures.told);
       moves = sym (ap (map move_cells) c.as_slice-2.ensures) ∙ rows_of IsMoveTold move_of move_row move_cells (λ e row told. told.cells) c.in_ok-moves.moves.items c.as_slice-2.result.now c.in_ok-moves.ensures.told;
-      orders = sym (ap (map order_cells) c.as_slice-3.ensures) ∙ sym told.orders_are ∙ have.orders_are;
-      lines = sym (ap (map line_cells) c.as_slice-6.ensures) ∙ sym grouped.lines_are;
-      kept = sym (ap (map kept_cells) c.as_slice-7.ensures) ∙ rows_of IsKeptTold kept_of kept_row kept_cells (λ e row told. told.cells) c.in_ok-kept.kept.items c.as_slice-7.result.now c.in_ok-kept.ensures.told;
-      firms = sym (ap (map firm_cells) c.as_slice-4.ensures) ∙ sym told.firms_are ∙ have.firms_are;
+      orders = sym (ap (map order_cells) c.as_slice-3.ensures) ∙ told.orders_are;
+      lines = sym (ap (map line_cells) c.as_slice-4.ensures) ∙ told.lines_are;
+      kept = sym (ap (map kept_cells) c.as_slice-6.ensures) ∙ rows_of IsKeptTold kept_of kept_row kept_cells (λ e row told. told.cells) c.in_ok-kept.kept.items c.as_slice-6.result.now c.in_ok-kept.ensures.told;
+      firms = sym (ap (map firm_cells) c.as_slice-5.ensures) ∙ told.firms_are;
     }
 
 good_fields : (es : List (Name × FieldEntry)) (rows : List FieldRow) → AllZip IsFieldTold es rows → Each IsGoodField (map field_of es)
