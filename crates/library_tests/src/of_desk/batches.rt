@@ -155,26 +155,35 @@ fn together<K: Keep + Drop>(
     Ok((desk.into_keep(), value, run))
 }
 
-/// Whether the refusal is told where the write-off's commit fails, which lands or not, whether this value is found then,
-/// and whether the write-off is done behind it.
-fn tells_refusal(alloc: Global, lands: bool, value: u64) -> Result<bool, Fail> {
-    let requests = requests(alloc, &ROOM_MADE)?;
-    let (keep, _, cut) = together(alloc, PlainKeep::start(alloc, Some(2), lands), &requests)?;
-    let rest = requests.get(2..).ok_or("no such number")?;
-    let (_, there, run) = together(alloc, keep.reopen(None, false), rest)?;
+/// The refusal is told, and the desk stops at the write-off's commit, which lands or not: the keeper, opened anew.
+fn stopped_behind_it(alloc: Global, requests: &[Request], lands: bool) -> Result<PlainKeep, Fail> {
+    let (keep, _, cut) = together(alloc, PlainKeep::start(alloc, Some(2), lands), requests)?;
     let told = [Reply::Done(1), Reply::Refused(Refusal::TooMuch, 0)];
-    Ok(
-        cut.ending == Ending::Stopped
-            && cut.replies.as_slice() == told.as_slice()
-            && there == Some(value)
-            && run.ending == Ending::All
-            && run.replies.as_slice() == [Reply::Done(2)].as_slice(),
-    )
+    if cut.ending != Ending::Stopped || cut.replies.as_slice() != told.as_slice() {
+        Err("the refusal is not told")?;
+    }
+    Ok(keep.reopen(None, false))
+}
+
+/// Whether this value is found, and the write-off is done.
+fn is_done(alloc: Global, keep: PlainKeep, rest: &[Request], value: u64) -> Result<bool, Fail> {
+    let (_, there, run) = together(alloc, keep, rest)?;
+    let is_done = run.replies.as_slice() == [Reply::Done(2)].as_slice();
+    Ok(there == Some(value) && run.ending == Ending::All && is_done)
+}
+
+/// Whether this value is found where the write-off's commit failed, which landed or not, and the write-off is done behind
+/// it.
+fn goes_on_behind_it(alloc: Global, lands: bool, value: u64) -> Result<bool, Fail> {
+    let requests = requests(alloc, &ROOM_MADE)?;
+    let rest = requests.get(2..).ok_or("no such number")?;
+    let keep = stopped_behind_it(alloc, &requests, lands)?;
+    is_done(alloc, keep, rest, value)
 }
 
 #[test]
 fn a_refusal_is_told_before_room_is_made(rt: HostRuntime) -> Result<(), Fail> {
-    assert!(rt; tells_refusal(rt.alloc(), false, 90)?);
-    assert!(rt; tells_refusal(rt.alloc(), true, 60)?);
+    assert!(rt; goes_on_behind_it(rt.alloc(), false, 90)?);
+    assert!(rt; goes_on_behind_it(rt.alloc(), true, 60)?);
     Ok(())
 }

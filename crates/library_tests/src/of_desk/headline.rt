@@ -1,7 +1,7 @@
 //! The headline, wherever a session stops: at each call of a disk with a power cut behind it, at each commit of a keeper
 //! in memory, at each write of a script.
 
-ghost use Rattle.std.specs.Prelude.{IsTrue};
+ghost use Rattle.std.specs.Prelude.{◌≡◌, false, IfOk, IsTrue};
 
 use super::three_orders::{ANSWERS, COUNT, SCRIPT, expect_replies, expect_rows, three_orders};
 use crate::desks::{open, opened};
@@ -12,11 +12,12 @@ use desk::{
     Desk, Ending, OpenFault, Run, ScriptFault, cut_and_open, run_cut_and_open, run_cut_and_resume,
     script_cut_and_open,
 };
-use keep::{PlainKeep, Recover};
+use keep::{Keep, PlainKeep, Recover};
 use sqlite::{Files, Options};
 use sqlite_disk::{Crash, Disk, Fuse};
 use std::alloc::Global;
 use std::test::Fail;
+use words::Request;
 
 /// How many of the requests are answered before each commit, where they are carried out one after the other, and at the
 /// end: the seventh is refused, so it has no commit.
@@ -47,9 +48,22 @@ pub(super) trait Trial {
     ) -> Result<usize, Fail>;
 }
 
+/// The desk, where it is not stopped.
+fn going<K: Keep + Drop>(desk: Desk<K>) -> Result<Desk<K>, Fail>
+    ensures { IfOk result (λ desk. K.Keep.stopped desk.keep ≡ false) }
+{
+    if desk.is_stopped() {
+        drop(desk.into_keep());
+        return Err(Fail::from("stopped"));
+    }
+    Ok(desk)
+}
+
 /// The list runs, and the desk is opened behind the stop.
 #[derive(Drop)]
-struct Opening;
+struct Opening {
+    requests: Vec<Request>,
+}
 
 impl Trial for Opening {
     fn on<K: Recover + Drop>(
@@ -58,14 +72,10 @@ impl Trial for Opening {
         desk: Desk<K>,
         options: K::Options,
     ) -> Result<usize, Fail> {
-        let requests = three_orders(alloc)?;
-        if desk.is_stopped() {
-            drop(desk.into_keep());
-            return Err(Fail::from("stopped"));
-        }
-        let (run, opened) = run_cut_and_open(alloc, desk, &requests, options);
-        let count = expect_replies(&run, 0, COUNT)?;
+        let desk = going(desk)?;
+        let (run, opened) = run_cut_and_open(alloc, desk, &self.requests, options);
         let mut keep = found(opened)?.into_keep();
+        let count = expect_replies(&run, 0, COUNT)?;
         expect_rows(alloc, &mut keep, count, most_done(&run))?;
         Ok(count)
     }
@@ -73,7 +83,9 @@ impl Trial for Opening {
 
 /// The list runs, and goes on behind the stop to its end.
 #[derive(Drop)]
-struct Resuming;
+struct Resuming {
+    requests: Vec<Request>,
+}
 
 impl Trial for Resuming {
     fn on<K: Recover + Drop>(
@@ -82,12 +94,8 @@ impl Trial for Resuming {
         desk: Desk<K>,
         options: K::Options,
     ) -> Result<usize, Fail> {
-        let requests = three_orders(alloc)?;
-        if desk.is_stopped() {
-            drop(desk.into_keep());
-            return Err(Fail::from("stopped"));
-        }
-        let (run, resumed) = run_cut_and_resume(alloc, desk, &requests, options);
+        let desk = going(desk)?;
+        let (run, resumed) = run_cut_and_resume(alloc, desk, &self.requests, options);
         let (desk, rest) = found(resumed)?;
         let mut keep = desk.into_keep();
         let count = expect_replies(&run, 0, COUNT)?;
@@ -124,16 +132,13 @@ impl Trial for Playing {
         desk: Desk<K>,
         options: K::Options,
     ) -> Result<usize, Fail> {
+        let desk = going(desk)?;
         let mut writer = Sink {
             taken: Vec::new(alloc),
             piece: 16,
             before_fault: self.writes,
             takes_none: false,
         };
-        if desk.is_stopped() {
-            drop(desk.into_keep());
-            return Err(Fail::from("stopped"));
-        }
         let (ended, opened) = script_cut_and_open(
             alloc,
             desk,
@@ -141,14 +146,27 @@ impl Trial for Playing {
             &mut writer,
             options,
         );
-        let told = expect_told(ended, &writer.taken)?;
         let mut keep = found(opened)?.into_keep();
+        let told = expect_told(ended, &writer.taken)?;
         expect_rows(alloc, &mut keep, told, told.saturating_add(1))?;
         Ok(told)
     }
 }
 
-/// Tries it on the desk in these files: how many replies came, none where it is not opened.
+/// Tries it on the keeper's desk: how many replies came, none where it is not opened.
+fn tried_on<K: Recover + Drop, T: Trial>(
+    alloc: Global,
+    keep: K,
+    options: K::Options,
+    trial: &T,
+) -> Result<usize, Fail> {
+    match open(alloc, keep) {
+        Ok(desk) => trial.on(alloc, desk, options),
+        Err(_) => Ok(0),
+    }
+}
+
+/// Tries it on the desk in these files, likewise.
 fn tried_over<D: Crash + Drop, T: Trial>(
     alloc: Global,
     files: Files<D>,
@@ -157,10 +175,7 @@ fn tried_over<D: Crash + Drop, T: Trial>(
     requires { IsTrue (D.Disk.is_usable files.log) × IsTrue (D.Disk.is_usable files.db) }
 {
     match open_files(alloc, files) {
-        Ok(conn) => match open(alloc, keeper(conn)?) {
-            Ok(desk) => trial.on(alloc, desk, Options::new(5)),
-            Err(_) => Ok(0),
-        },
+        Ok(conn) => tried_on(alloc, keeper(conn)?, Options::new(5), trial),
         Err(_) => Ok(0),
     }
 }
@@ -224,13 +239,15 @@ pub(super) fn at_each_stop<T: Trial>(
 
 #[test]
 fn the_desk_is_found_wherever_a_run_stops(rt: HostRuntime) -> Result<(), Fail> {
-    assert!(rt; at_each_stop(rt.alloc(), &Opening, &TOLD)? > 20);
+    let requests = three_orders(rt.alloc())?;
+    assert!(rt; at_each_stop(rt.alloc(), &Opening { requests }, &TOLD)? > 20);
     Ok(())
 }
 
 #[test]
 fn a_run_goes_on_wherever_it_stops(rt: HostRuntime) -> Result<(), Fail> {
-    assert!(rt; at_each_stop(rt.alloc(), &Resuming, &TOLD)? > 20);
+    let requests = three_orders(rt.alloc())?;
+    assert!(rt; at_each_stop(rt.alloc(), &Resuming { requests }, &TOLD)? > 20);
     Ok(())
 }
 

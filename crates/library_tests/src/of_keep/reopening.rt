@@ -6,7 +6,7 @@ use super::disks::{desk_files, open};
 use super::{order, shown};
 use crate::keepers::{commit, keeper};
 use book::{Change, Tables};
-use keep::{SqlKeep, reopen, reopen_and_load};
+use keep::{KeepFault, SqlKeep, reopen, reopen_and_load};
 use sqlite::{Alter, Connection, FileStore, Files, Options};
 use sqlite_disk::{Crash, Disk};
 use std::alloc::Global;
@@ -27,12 +27,17 @@ fn reopened<D: Crash + Drop>(
     Ok(reopen(alloc, keep, Options::new(2)).ok_or("not reopened")?)
 }
 
-/// What is found behind a power cut.
-fn reloaded<D: Crash + Drop>(alloc: Global, keep: SqlKeep<FileStore<D>>) -> Result<Tables, Fail> {
-    match reopen_and_load(alloc, keep, Options::new(3)) {
+/// What was loaded, where a keeper was opened.
+fn loaded_by<K: Drop>(opened: Option<(K, Result<Tables, KeepFault>)>) -> Result<Tables, Fail> {
+    match opened {
         Some((_, found)) => Ok(found?),
         None => Err("not reopened")?,
     }
+}
+
+/// What is found behind a power cut.
+fn reloaded<D: Crash + Drop>(alloc: Global, keep: SqlKeep<FileStore<D>>) -> Result<Tables, Fail> {
+    loaded_by(reopen_and_load(alloc, keep, Options::new(3)))
 }
 
 /// What is found behind a commit to a new desk and two power cuts.
