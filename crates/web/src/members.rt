@@ -1,8 +1,9 @@
 //! Objects of JSON, put together a member at a time.
 
-ghost use Rattle.std.specs.Prelude.{◌≡◌, IfOk};
+ghost use Rattle.std.specs.Prelude.{◌≡◌, IfOk, false};
 ghost use Rattle.serde_json.specs.Data.{Data, Members as MembersOf, no_members, object, put as with_member, string};
 ghost use Rattle.serde_json.specs.View.{members_view, view as data_of};
+ghost use Rattle.serde_json.specs.Written.{compact_text, has_float};
 ghost use Rattle.web.specs.Objects.{natural};
 
 use serde_json::{Map, Value, put};
@@ -61,6 +62,16 @@ impl Members {
             → IfOk result (λ value. data_of value ≡ object members) }
     {
         Ok(Value::Object(self.map?))
+    }
+
+    /// The text of their object.
+    pub fn json(self) -> Result<Vec<u8>, AllocError>
+        ensures { (members : MembersOf) → IfOk self.map (λ map. members_view map.entries ≡ members)
+            → has_float (object members) ≡ false
+            → IfOk result (λ text. text.items ≡ compact_text (object members)) }
+    {
+        let alloc = self.alloc;
+        self.object()?.to_vec(alloc)
     }
 }
 

@@ -5,7 +5,7 @@ ghost use Rattle.serde_json.specs.View.{view as data_of};
 ghost use Rattle.serde_json.specs.Written.{compact_text};
 ghost use Rattle.book.specs.Ledger.{Order};
 ghost use Rattle.book.specs.Views.{ShowsOrder};
-ghost use Rattle.web.specs.Objects.{field_object, line_object, line_objects, order_object, view_object, place_object, refused_object};
+ghost use Rattle.web.specs.Objects.{field_object, line_object, line_objects, order_object, place_object, refused_object};
 
 use crate::members::Members;
 use crate::word::{article_text, branch_text, kind_text, state_text, way_text};
@@ -14,9 +14,9 @@ use serde_json::Value;
 use std::alloc::{AllocError, Global};
 use words::Refusal;
 
-/// The object of a field.
-fn field_value(alloc: Global, view: &FieldView) -> Result<Value, AllocError>
-    ensures { IfOk result (λ value. data_of value ≡ field_object view.now) }
+/// The text of a field's object.
+pub fn field_json(alloc: Global, view: &FieldView) -> Result<Vec<u8>, AllocError>
+    ensures { IfOk result (λ text. text.items ≡ compact_text (field_object view.now)) }
 {
     Members::new(alloc)
         .text("article", article_text(&view.article))
@@ -26,46 +26,25 @@ fn field_value(alloc: Global, view: &FieldView) -> Result<Value, AllocError>
         .number("lo", view.lo.get())
         .number("sup", view.sup.get())
         .number("value", view.value.get())
-        .object()
-}
-
-/// The text of a field's object.
-pub fn field_json(alloc: Global, view: &FieldView) -> Result<Vec<u8>, AllocError>
-    ensures { IfOk result (λ text. text.items ≡ compact_text (field_object view.now)) }
-{
-    field_value(alloc, view)?.to_vec(alloc)
-}
-
-/// The object of a command that is done.
-fn place_value(alloc: Global, place: u64) -> Result<Value, AllocError>
-    ensures { IfOk result (λ value. data_of value ≡ place_object place) }
-{
-    Members::new(alloc).number("place", place).object()
+        .json()
 }
 
 /// The text of the object of a command that is done.
 pub fn place_json(alloc: Global, place: u64) -> Result<Vec<u8>, AllocError>
     ensures { IfOk result (λ text. text.items ≡ compact_text (place_object place)) }
 {
-    place_value(alloc, place)?.to_vec(alloc)
-}
-
-/// The object of a command that is refused.
-fn refused_value(alloc: Global, refusal: Refusal, line: u64) -> Result<Value, AllocError>
-    ensures { IfOk result (λ value. data_of value ≡ refused_object refusal line) }
-{
-    Members::new(alloc)
-        .number("code", refusal.code())
-        .number("line", line)
-        .text("refused", refusal.name())
-        .object()
+    Members::new(alloc).number("place", place).json()
 }
 
 /// The text of the object of a command that is refused.
 pub fn refused_json(alloc: Global, refusal: Refusal, line: u64) -> Result<Vec<u8>, AllocError>
     ensures { IfOk result (λ text. text.items ≡ compact_text (refused_object refusal line)) }
 {
-    refused_value(alloc, refusal, line)?.to_vec(alloc)
+    Members::new(alloc)
+        .number("code", refusal.code())
+        .number("line", line)
+        .text("refused", refusal.name())
+        .json()
 }
 
 /// The object of an order's line.
@@ -92,9 +71,10 @@ fn line_values(alloc: Global, lines: &[Line]) -> Result<Value, AllocError>
     Ok(Value::Array(values))
 }
 
-/// The object of the order that is shown.
-fn order_value(alloc: Global, view: &OrderView) -> Result<Value, AllocError>
-    ensures { IfOk result (λ value. data_of value ≡ view_object view.now) }
+/// The text of the object of the order that is shown.
+pub fn order_json(alloc: Global, view: &OrderView) -> Result<Vec<u8>, AllocError>
+    ensures { (order : Order) → ShowsOrder order view.now → IfOk result
+        (λ text. text.items ≡ compact_text (order_object order)) }
 {
     Members::new(alloc)
         .text("kind", kind_text(view.kind))
@@ -102,13 +82,5 @@ fn order_value(alloc: Global, view: &OrderView) -> Result<Value, AllocError>
         .number("number", view.number.get())
         .text("state", state_text(view.state))
         .number("until", view.until.get())
-        .object()
-}
-
-/// The text of the object of the order that is shown.
-pub fn order_json(alloc: Global, view: &OrderView) -> Result<Vec<u8>, AllocError>
-    ensures { (order : Order) → ShowsOrder order view.now → IfOk result
-        (λ text. text.items ≡ compact_text (order_object order)) }
-{
-    order_value(alloc, view)?.to_vec(alloc)
+        .json()
 }

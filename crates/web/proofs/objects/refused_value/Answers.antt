@@ -1,5 +1,0 @@
-use Rattle.web.proofs.objects.refused_value.Goals as goal
-
-pub returns : goal.returns
-returns c =
-    rw (c.code.ensures, c.name.ensures) at (c.object.ensures _ (c.text.ensures _ (c.number-2.ensures _ (c.number.ensures _ c.new.ensures))))
