@@ -70,7 +70,7 @@ abbrev pub HasView : List ℕ → Type 0
 HasView target = (a : Ask) × IsView target a
 
 -- what the parts of the resource's route have to be
-abbrev AreParts : List ℕ → Resource → Type 0
+abbrev pub AreParts : List ℕ → Resource → Type 0
 AreParts target Commands = ⊥
 AreParts target Field =
     ((part : List ℕ) × (part_of (codes "branch") target ≡ Some part) × IsBranch part) × ((part : List ℕ) × (part_of (codes "article") target ≡ Some part) × IsArticle part)
@@ -97,6 +97,10 @@ parts_of target (ask.Sheet b) h = (b, h.1, h.2)
 parts_of target (ask.Call r) h = h
 parts_of target ask.BadCall h = h
 parts_of target ask.Nothing h = h
+
+-- a target whose parts are of no view has none
+pub no_view : (target : List ℕ) (resource : Resource) → resource_of target ≡ Some resource → (AreParts target resource → ⊥) → (a : Ask) → IsView target a → ⊥
+no_view target resource e none a h = none (subst (AreParts target) (same (view_resource target a h) e) (parts_of target a h))
 
 pub view_decided : (target : List ℕ) → Decided (HasView target)
 view_decided target = by (resource_of target) refl

@@ -6,12 +6,12 @@ use Rattle.std.proofs.Math.Seq.{drop-append-add}
 use Rattle.std.specs.List.{list_all}
 use Rattle.std.proofs.lemmas.Str.{IsCharBoundary-after_ascii, IsCharBoundary-before_ascii, IsUtf8-drop, IsUtf8-from_ascii, IsUtf8-take}
 use Rattle.std.specs.Str.{IsAscii, IsUtf8}
-use Rattle.matchit.specs.Params.{AllText, walk}
+use Rattle.matchit.specs.Params.{AllText, named, walk}
 use Rattle.matchit.specs.Router.{RouteOf}
 use Rattle.matchit.specs.Rows.{RowsOf}
 use Rattle.matchit.specs.Seek.{first, slash}
 use Rattle.matchit.specs.declared.params.Params.{Params}
-use Rattle.web.specs.Routes.{parts_on, routes}
+use Rattle.web.specs.Routes.{part_of, parts_on, resource_of, routes}
 use Rattle.web.specs.declared.route.Resource.{Resource}
 use Rattle.web.specs.declared.route.Resource.TheVariants.{Commands, Field, Order, Sheet}
 use Rattle.web.proofs.FourRoutes.{IsRouted, commands_route, field_route, order_route, routed, sheet_route}
@@ -60,11 +60,23 @@ all_text target route text e = by route.value (routed target route e)
     by Sheet (one, rest, is) =
         parts_are sheet_route (codes "/v1/sheets/" ++ rest) _ one is (sheet_parts rest) (name_text (codes "branch") refl, (beside_slash (codes "/v1/sheets") rest (subst IsUtf8 is text)).1, tt)
 
--- the parts that a match of the target took
-pub text_in : (rows : RowsOf (RouteOf Resource)) (target : List ℕ) (params : Params) (value : Resource) → rows ≡ routes → IsUtf8 target
+-- what a match of the target took
+abbrev pub taken : Params → List (List ℕ × List ℕ)
+taken params = walk params.pattern.now params.text.now params.path.now params.names.now 0 0
+
+pub record IsMatch (target : List ℕ) (params : Params) (value : Resource) : Type 0 where
+  pub text : AllText (taken params)
+  pub resource : resource_of target ≡ Some value
+  pub part : (name : List ℕ) → part_of name target ≡ named name (taken params)
+
+pub match_of : (rows : RowsOf (RouteOf Resource)) (target : List ℕ) (params : Params) (value : Resource) → rows ≡ routes → IsUtf8 target
     → first rows target ≡ Some (record { pattern = params.pattern.now; text = params.text.now; names = params.names.now; value = value }) → params.path.now ≡ target
-    → AllText (walk params.pattern.now params.text.now params.path.now params.names.now 0 0)
-text_in rows target params value same text found path =
+    → IsMatch target params value
+match_of rows target params value same text found path =
     let route : RouteOf Resource = record { pattern = params.pattern.now; text = params.text.now; names = params.names.now; value = value } in
     let e : first routes target ≡ Some route = ap (λ (rows : RowsOf (RouteOf Resource)). first rows target) (sym same) ∙ found in
-    subst (λ (t : List ℕ). AllText (walk params.pattern.now params.text.now t params.names.now 0 0)) (sym path) (all_text target route text e)
+    record {
+      text = subst (λ (t : List ℕ). AllText (walk params.pattern.now params.text.now t params.names.now 0 0)) (sym path) (all_text target route text e);
+      resource = rw e;
+      part = λ name. rw (e, path);
+    }

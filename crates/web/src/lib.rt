@@ -12,6 +12,7 @@ mod fixed;
 mod head;
 mod intake;
 mod laws;
+mod members;
 mod objects;
 mod route;
 mod served;

@@ -1,6 +1,6 @@
 //! The four routes.
 
-ghost use Rattle.std.specs.Prelude.{◌≡◌, IfErr, IfOk};
+ghost use Rattle.std.specs.Prelude.{[], ◌≡◌, IfErr, IfOk, OnOk};
 ghost use Rattle.matchit.specs.declared.error.InsertError.TheVariants.{OutOfMemory};
 ghost use Rattle.web.specs.Routes.{routes};
 
@@ -58,9 +58,19 @@ fn router(alloc: Global) -> Result<Router<Resource>, InsertError>
     ensures memory { IfErr result (λ error. error ≡ OutOfMemory) }
 {
     let mut made = Router::new(alloc);
-    made.insert("/v1/commands", Resource::Commands)?;
-    made.insert("/v1/fields/{branch}/{article}", Resource::Field)?;
-    made.insert("/v1/orders/{number}", Resource::Order)?;
-    made.insert("/v1/sheets/{branch}", Resource::Sheet)?;
+    insert_routes(&mut made)?;
     Ok(made)
+}
+
+/// Puts the four routes into a router that has none, which fails for want of memory alone.
+fn insert_routes(router: &mut Router<Resource>) -> Result<(), InsertError>
+    requires { router.old ≡ [] }
+    ensures made { OnOk result (router.new ≡ routes) }
+    ensures memory { IfErr result (λ error. error ≡ OutOfMemory) }
+{
+    router.insert("/v1/commands", Resource::Commands)?;
+    router.insert("/v1/fields/{branch}/{article}", Resource::Field)?;
+    router.insert("/v1/orders/{number}", Resource::Order)?;
+    router.insert("/v1/sheets/{branch}", Resource::Sheet)?;
+    Ok(())
 }

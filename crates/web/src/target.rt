@@ -1,20 +1,20 @@
 //! What a target leads to. It is compared as its bytes stand: nothing in it is decoded, and a `?` belongs to the part
 //! in which it stands.
 
-ghost use Rattle.std.specs.Prelude.{◌≡◌, ◌≢◌, ◌↔◌, ℕ, IfNone, IfSome, IsTrue, Some, SomeIff, decimal};
+ghost use Rattle.std.specs.Prelude.{◌≡◌, ◌≢◌, ◌↔◌, ℕ, IfNone, IfSome, IsTrue, List, MatchOption, Some, codes, decimal};
 ghost use Rattle.escrow.specs.Codes.{IsArticle, IsBranch};
 ghost use Rattle.escrow.specs.Ranges.{IsOrderNo};
+ghost use Rattle.matchit.specs.Params.{AllText, named, walk};
 ghost use Rattle.web.specs.Routes.{IsView, resource_of, routes};
 ghost use Rattle.web.specs.declared.ask.Ask.{Ask as AskOf};
 
 use crate::ask::Ask;
 use crate::route::Resource;
 use escrow::{Article, Branch, OrderNo};
-use matchit::Router;
+use matchit::{Params, Router};
 use words::read_number;
 
 /// The view under a target, where there is one.
-#[tactic(auto, using(crate::proofs::TargetText::text_in))]
 pub fn view_of(router: &Router<Resource>, target: &str) -> Option<Ask>
     requires { router.now ≡ routes }
     ensures some { IfSome result (λ view. IsView target.now view) }
@@ -26,18 +26,12 @@ pub fn view_of(router: &Router<Resource>, target: &str) -> Option<Ask>
     match found.value {
         Resource::Commands => None,
         Resource::Field => {
-            let branch = branch_of(found.params.get("branch")?)?;
-            let article = article_of(found.params.get("article")?)?;
+            let branch = branch_of(&found.params)?;
+            let article = article_of(&found.params)?;
             Some(Ask::Field(branch, article))
         }
-        Resource::Order => {
-            let number = number_of(found.params.get("number")?)?;
-            Some(Ask::Order(number))
-        }
-        Resource::Sheet => {
-            let branch = branch_of(found.params.get("branch")?)?;
-            Some(Ask::Sheet(branch))
-        }
+        Resource::Order => Some(Ask::Order(order_of(&found.params)?)),
+        Resource::Sheet => Some(Ask::Sheet(branch_of(&found.params)?)),
     }
 }
 
@@ -52,18 +46,34 @@ pub fn takes_commands(router: &Router<Resource>, target: &str) -> bool
     }
 }
 
-// The branch of a code.
-fn branch_of(code: &str) -> Option<Branch>
-    ensures { SomeIff result (IsBranch code.now) code.now }
+// The branch that is named in a target.
+fn branch_of(params: &Params) -> Option<Branch>
+    ensures { (parts : List (List ℕ × List ℕ)) → AllText parts
+        → parts ≡ walk params.now.pattern.now params.now.text.now params.now.path.now params.now.names.now 0 0
+        → MatchOption result ((code : List ℕ) → IsBranch code → named (codes "branch") parts ≢ Some code)
+        (λ code. (named (codes "branch") parts ≡ Some code) × IsBranch code) }
 {
-    Branch::read(code.as_bytes()).ok()
+    Branch::read(params.get("branch")?.as_bytes()).ok()
 }
 
-// The article of a code.
-fn article_of(code: &str) -> Option<Article>
-    ensures { SomeIff result (IsArticle code.now) code.now }
+// The article that is named in a target.
+fn article_of(params: &Params) -> Option<Article>
+    ensures { (parts : List (List ℕ × List ℕ)) → AllText parts
+        → parts ≡ walk params.now.pattern.now params.now.text.now params.now.path.now params.now.names.now 0 0
+        → MatchOption result ((code : List ℕ) → IsArticle code → named (codes "article") parts ≢ Some code)
+        (λ code. (named (codes "article") parts ≡ Some code) × IsArticle code) }
 {
-    Article::read(code.as_bytes()).ok()
+    Article::read(params.get("article")?.as_bytes()).ok()
+}
+
+// The order that is named in a target.
+fn order_of(params: &Params) -> Option<OrderNo>
+    ensures { (parts : List (List ℕ × List ℕ)) → AllText parts
+        → parts ≡ walk params.now.pattern.now params.now.text.now params.now.path.now params.now.names.now 0 0
+        → MatchOption result ((n : ℕ) → IsOrderNo n → named (codes "number") parts ≢ Some (decimal n))
+        (λ n. (named (codes "number") parts ≡ Some (decimal n)) × IsOrderNo n) }
+{
+    number_of(params.get("number")?)
 }
 
 // The order of a number that is written in decimal with no zero in front.

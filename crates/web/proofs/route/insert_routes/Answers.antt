@@ -8,7 +8,7 @@ use Rattle.matchit.specs.declared.error.InsertError.TheVariants.{Conflict, Inval
 use Rattle.web.specs.Routes.{routes, with_route}
 use Rattle.web.specs.declared.route.Resource.{Resource}
 use Rattle.web.specs.declared.route.Resource.TheVariants.{Commands, Field, Order, Sheet}
-use Rattle.web.proofs.route.router.Goals as goal
+use Rattle.web.proofs.route.insert_routes.Goals as goal
 
 pub returns-clause-made : goal.returns-clause-made
 unfolding matchit_on_literals
@@ -17,7 +17,7 @@ returns-clause-made c =
     let b = c.in_ok-insert-2.ensures in
     let d = c.in_ok-insert-3.ensures in
     let e = c.in_ok-insert-4.ensures in
-    rw (e.1, d.1, b.1, a.1, c.new-made.ensures) (refl {a = routes})
+    rw (e.1, d.1, b.1, a.1, c.requires) (refl {a = routes})
 
 abbrev one : RowsOf (RouteOf Resource)
 one = with_route (parse_route (codes "/v1/commands")) Commands []
@@ -47,26 +47,26 @@ only_memory (Err fault) value rows old new error fits same h = elim fits [ ]
 pub returns-in_err-insert-clause-memory : goal.returns-in_err-insert-clause-memory
 unfolding matchit_on_literals
 returns-in_err-insert-clause-memory c =
-    let memory : c.in_err-insert.field-0.0 ≡ OutOfMemory = only_memory (parse_route (codes "/v1/commands")) Commands [] _ _ _ refl c.new-made.ensures c.in_err-insert.ensures in
+    let memory : c.in_err-insert.field-0.0 ≡ OutOfMemory = only_memory (parse_route (codes "/v1/commands")) Commands [] _ _ _ refl c.requires c.in_err-insert.ensures in
     search (rules, memory)
 
 pub returns-in_err-insert-2-clause-memory : goal.returns-in_err-insert-2-clause-memory
 unfolding matchit_on_literals
 returns-in_err-insert-2-clause-memory c =
-    let rows : c.insert.new.self ≡ one = c.in_ok-insert.ensures.1 ∙ rw c.new-made.ensures refl in
+    let rows : c.insert.new.self ≡ one = c.in_ok-insert.ensures.1 ∙ rw c.requires refl in
     let memory : c.in_err-insert-2.field-0.0 ≡ OutOfMemory = only_memory (parse_route (codes "/v1/fields/{branch}/{article}")) Field one _ _ _ refl rows c.in_err-insert-2.ensures in
     search (rules, memory)
 
 pub returns-in_err-insert-3-clause-memory : goal.returns-in_err-insert-3-clause-memory
 unfolding matchit_on_literals
 returns-in_err-insert-3-clause-memory c =
-    let rows : c.insert-2.new.self ≡ two = c.in_ok-insert-2.ensures.1 ∙ rw (c.in_ok-insert.ensures.1, c.new-made.ensures) refl in
+    let rows : c.insert-2.new.self ≡ two = c.in_ok-insert-2.ensures.1 ∙ rw (c.in_ok-insert.ensures.1, c.requires) refl in
     let memory : c.in_err-insert-3.field-0.0 ≡ OutOfMemory = only_memory (parse_route (codes "/v1/orders/{number}")) Order two _ _ _ refl rows c.in_err-insert-3.ensures in
     search (rules, memory)
 
 pub returns-in_err-insert-4-clause-memory : goal.returns-in_err-insert-4-clause-memory
 unfolding matchit_on_literals
 returns-in_err-insert-4-clause-memory c =
-    let rows : c.insert-3.new.self ≡ three = c.in_ok-insert-3.ensures.1 ∙ rw (c.in_ok-insert-2.ensures.1, c.in_ok-insert.ensures.1, c.new-made.ensures) refl in
+    let rows : c.insert-3.new.self ≡ three = c.in_ok-insert-3.ensures.1 ∙ rw (c.in_ok-insert-2.ensures.1, c.in_ok-insert.ensures.1, c.requires) refl in
     let memory : c.in_err-insert-4.field-0.0 ≡ OutOfMemory = only_memory (parse_route (codes "/v1/sheets/{branch}")) Sheet three _ _ _ refl rows c.in_err-insert-4.ensures in
     search (rules, memory)
