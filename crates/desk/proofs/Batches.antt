@@ -1,9 +1,10 @@
 -- Batches: how they are made, and that they come again.
 use Rattle.std.proofs.Common.{◌≡◌, ◌≢◌, ◌∙◌, ◌+◌, ◌-◌, ◌≤◌, ◌++◌, ◌⊎◌, Bool, false, true, true≢false, ℕ, List, [], ◌∷◌, ap, append-nil, append_assoc, arith, drop, inl, inr, length, refl, subst, sym, take}
+use Rattle.std.proofs.lemmas.Bool.{eqb-true}
 use Rattle.std.proofs.lemmas.List.{length-append, length-drop, map-append}
 use Rattle.std.proofs.Math.Seq.{take-add, take-length}
 use Rattle.std.proofs.lemmas.List.Elements.{All-append, All-from_recursion}
-use Rattle.std.specs.Prelude.{All}
+use Rattle.std.specs.Prelude.{◌==◌, All}
 use Rattle.std.specs.List.{AllByRecursion as Each}
 use Rattle.words.specs.declared.command.Request.{Request}
 use Rattle.words.specs.declared.reply.Reply.{Reply}
@@ -263,6 +264,29 @@ batch_fails old new holds rs batch changes so_far few good are some stored eithe
     has (inr (same, none)) = absurd (some (are ∙ none))
 
 -- ---- batch after batch
+
+-- a batch that changes no rows leaves them as they are stored
+pub stored_still : (A B : Ledger) (rs : List Request) (batch : Batch) (holds : Content → Type 0) (leaves : List Content → Type 0) → BatchSoFar A rs batch B → batch.changes.items ≡ [] → IsStored holds leaves A → IsStored holds leaves B
+stored_still A B rs batch holds leaves so_far none stored = record {
+  rows = stored.rows;
+  are_rows = subst (λ (cs : List Change). IsRowsOf B (with_changes cs stored.rows)) none (so_far.rows stored.rows stored.are_rows);
+  held = stored.held;
+  alone = stored.alone;
+}
+
+-- a commit keeps the rows behind a batch
+pub stored_batch : (A B : Ledger) (rs : List Request) (batch : Batch) (changes : List Change) (holds holds_new : Content → Type 0) (old new : List Content → Type 0) → BatchSoFar A rs batch B → changes ≡ batch.changes.items → IsStored holds old A
+    → ((x : Content) → holds x → holds_new (with_changes changes x)) → ((x : Content) → holds_new x → new (x ∷ [])) → IsStored holds_new new B
+stored_batch A B rs batch changes holds holds_new old new so_far are stored put alone = record {
+  rows = with_changes changes stored.rows;
+  are_rows = subst (λ (cs : List Change). IsRowsOf B (with_changes cs stored.rows)) (sym are) (so_far.rows stored.rows stored.are_rows);
+  held = put stored.rows stored.held;
+  alone = alone (with_changes changes stored.rows) (put stored.rows stored.held);
+}
+
+pub no_changes : (xs : List Change) (n : ℕ) → n ≡ length xs → (n == 0) ≡ true → xs ≡ []
+no_changes [] n is none = refl
+no_changes (x ∷ xs) n is none = let zero = eqb-true n 0 none in absurd (omega arith)
 
 pub none_told : (A : Ledger) (rs : List Request) (ps : List Reply) → ps ≡ [] → Runs A (take (length ps) rs) ps A
 none_told A rs ps none = subst (λ (qs : List Reply). Runs A (take (length qs) rs) qs A) (sym none) refl
