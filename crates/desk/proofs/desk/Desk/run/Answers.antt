@@ -75,7 +75,7 @@ returns-in-Err-clause-replies g c =
       | inr is ↦ (c.in-Err.ensures.stopped (ap (λ f. Err f) is)).1
     ] in
     subst (λ B. Runs L (take (length c.make_room.new.self.replies.items) rs) c.make_room.new.self.replies.items B) (sym same)
-    (subst (λ (ps : List Reply). Runs L (take (length ps) rs) ps c.loop-request.self.ledger) (sym c.make_room.ensures.replies)
+    (subst (λ (ps : List Reply). Runs L (take (length ps) rs) ps c.loop-request.self.ledger) (sym {A = List Reply} c.make_room.ensures.replies)
     (subst (λ n. Runs L (take n rs) c.loop-request.run.replies.items c.loop-request.self.ledger) (sym count) c.loop-request.invariant.0))
 
 pub returns-in-Err-clause-lines : goal.returns-in-Err-clause-lines
@@ -88,7 +88,7 @@ returns-in-Err-clause-lines g c =
       | inr is ↦ (c.in-Err.ensures.stopped (ap (λ f. Err f) is)).1
     ] in
     subst (λ B. RepliesAll L (items_of (take (length c.make_room.new.self.replies.items) rs)) c.make_room.new.self.lines.items B) (sym same)
-    (subst (λ (out : List ℕ). RepliesAll L (items_of (take (length c.make_room.new.self.replies.items) rs)) out c.loop-request.self.ledger) (sym c.make_room.ensures.lines)
+    (subst (λ (out : List ℕ). RepliesAll L (items_of (take (length c.make_room.new.self.replies.items) rs)) out c.loop-request.self.ledger) (sym {A = List ℕ} c.make_room.ensures.lines)
     (subst (λ n. RepliesAll L (items_of (take n rs)) c.loop-request.run.lines.items c.loop-request.self.ledger) (sym count) c.loop-request.invariant.5))
 
 pub loop-request-preserved : goal.loop-request-preserved
