@@ -71,3 +71,10 @@ returns-in-Err-Damaged-clause-unopened g c = record {
   old_version = λ is. absurd (not_old is);
   stopped = λ is. elim is [ inl e ↦ absurd (not_the_store e) | inr more ↦ elim more [ inl e ↦ absurd (not_a_desk e) | inr e ↦ absurd (not_old e) ] ];
 }
+
+pub returns-in-Ok-of_tables-clause-left : goal.returns-in-Ok-of_tables-clause-left
+returns-in-Ok-of_tables-clause-left g c honest = record {
+  same = λ going. (c.in-Ok.ensures.found honest).same;
+  adds_nothing = (c.in-Ok.ensures.left honest).adds_nothing;
+  no_more = (c.in-Ok.ensures.left honest).no_more;
+}
