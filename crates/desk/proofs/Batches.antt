@@ -1,9 +1,10 @@
 -- Batches: how they are made, and that they come again.
-use Rattle.std.proofs.Common.{◌≡◌, ◌≢◌, ◌∙◌, ◌+◌, ◌-◌, ◌≤◌, ◌++◌, ◌⊎◌, Bool, false, true, true≢false, ℕ, List, [], ◌∷◌, ap, append-nil, append_assoc, arith, drop, inl, inr, length, refl, subst, sym, take}
+use Rattle.std.proofs.Common.{◌≡◌, ◌≢◌, ◌∙◌, ◌+◌, ◌-◌, ◌<◌, ◌≤◌, ◌++◌, ◌⊎◌, Bool, false, true, true≢false, ℕ, List, [], ◌∷◌, ap, append-nil, append_assoc, arith, drop, inl, inr, length, refl, subst, sym, take}
+use Rattle.std.proofs.lemmas.Bool.{eqb-true}
 use Rattle.std.proofs.lemmas.List.{length-append, length-drop, map-append}
 use Rattle.std.proofs.Math.Seq.{take-add, take-length}
 use Rattle.std.proofs.lemmas.List.Elements.{All-append, All-from_recursion}
-use Rattle.std.specs.Prelude.{All}
+use Rattle.std.specs.Prelude.{◌==◌, All}
 use Rattle.std.specs.List.{AllByRecursion as Each}
 use Rattle.words.specs.declared.command.Request.{Request}
 use Rattle.words.specs.declared.reply.Reply.{Reply}
@@ -262,6 +263,31 @@ batch_fails old new holds rs batch changes so_far few good are some stored eithe
     has (inl accepted) = accepted
     has (inr (same, none)) = absurd (some (are ∙ none))
 
+-- ---- what is kept of it
+
+-- a batch that changes no rows leaves them as they are stored
+pub stored_still : (A B : Ledger) (rs : List Request) (batch : Batch) (holds : Content → Type 0) (leaves : List Content → Type 0) → BatchSoFar A rs batch B → batch.changes.items ≡ [] → IsStored holds leaves A → IsStored holds leaves B
+stored_still A B rs batch holds leaves so_far none stored = record {
+  rows = stored.rows;
+  are_rows = subst (λ (cs : List Change). IsRowsOf B (with_changes cs stored.rows)) none (so_far.rows stored.rows stored.are_rows);
+  held = stored.held;
+  alone = stored.alone;
+}
+
+-- a commit keeps the rows behind a batch
+pub stored_batch : (A B : Ledger) (rs : List Request) (batch : Batch) (changes : List Change) (holds holds_new : Content → Type 0) (old new : List Content → Type 0) → BatchSoFar A rs batch B → changes ≡ batch.changes.items → IsStored holds old A
+    → ((x : Content) → holds x → holds_new (with_changes changes x)) → ((x : Content) → holds_new x → new (x ∷ [])) → IsStored holds_new new B
+stored_batch A B rs batch changes holds holds_new old new so_far are stored put alone = record {
+  rows = with_changes changes stored.rows;
+  are_rows = subst (λ (cs : List Change). IsRowsOf B (with_changes cs stored.rows)) (sym are) (so_far.rows stored.rows stored.are_rows);
+  held = put stored.rows stored.held;
+  alone = alone (with_changes changes stored.rows) (put stored.rows stored.held);
+}
+
+pub no_changes : (xs : List Change) (n : ℕ) → n ≡ length xs → (n == 0) ≡ true → xs ≡ []
+no_changes [] n is none = refl
+no_changes (x ∷ xs) n is none = let zero = eqb-true n 0 none in absurd (omega arith)
+
 -- ---- batch after batch
 
 pub none_told : (A : Ledger) (rs : List Request) (ps : List Reply) → ps ≡ [] → Runs A (take (length ps) rs) ps A
@@ -324,6 +350,47 @@ slice_is rs n = ap (λ i. take i (drop n rs)) (sym (length-drop n rs)) ∙ take-
 pub batch_tells : (M B : Ledger) (rs : List Request) (n : ℕ) (qs : List Reply) (more : List ℕ) → IsBatch M (take (length qs) (take (length rs - n) (drop n rs))) qs B → RepliesAll M (items_of (take (length qs) (take (length rs - n) (drop n rs)))) more B
     → Tells M (drop n rs) qs more B
 batch_tells M B rs n qs more batch lines = subst (λ (xs : List Request). Tells M xs qs more B) (slice_is rs n) (batch_runs M B (take (length qs) (take (length rs - n) (drop n rs))) qs batch, lines)
+
+-- ---- the batches behind it
+
+-- how many stand behind the first n
+slice_counts : (rs : List Request) (n : ℕ) → length (take (length rs - n) (drop n rs)) ≡ length rs - n
+slice_counts rs n = ap (λ (xs : List Request). length xs) (slice_is rs n) ∙ length-drop n rs
+
+module _ (rs : List Request) (n : ℕ) (ps qs all : List Reply) (size : n ≡ length ps) (same : all ≡ ps ++ qs) where
+  longer : length all ≡ n + length qs
+  longer = ap (λ (xs : List Reply). length xs) same ∙ length-append ps qs ∙ ap (λ k. k + length qs) (sym size)
+
+  -- where a batch ends before the list does, not all are answered
+  pub some_unanswered : length qs < length (take (length rs - n) (drop n rs)) → length all ≢ length rs
+  some_unanswered few whole = let left = slice_counts rs n in let both = longer in omega arith
+
+  -- each batch answers some
+  pub fewer_left : n < length rs → (1 ≤ length (take (length rs - n) (drop n rs)) → 1 ≤ length qs) → length rs - length all < length rs - length ps
+  fewer_left within some =
+      let left = slice_counts rs n in
+      let both = longer in
+      let more : 1 ≤ length qs = some (omega arith) in omega arith
+
+-- a batch fails behind those that are answered
+pub fails_further : (old mid new : DeskState) (rs : List Request) (n : ℕ) (ps qs all : List Reply) → n ≡ length ps → all ≡ ps ++ qs → qs ≡ [] → length ps ≤ length rs → Runs old.ledger (take (length ps) rs) ps mid.ledger
+    → FailsAt mid (take (length rs - n) (drop n rs)) [] new → FailsAt old rs all new
+fails_further old mid new rs n ps qs all size same none within run fails =
+    let these : all ≡ ps = same ∙ ap (λ (xs : List Reply). ps ++ xs) none ∙ append-nil ps in
+    let behind : take (length rs - n) (drop n rs) ≡ drop (length ps) rs = slice_is rs n ∙ ap (λ k. drop k rs) size in
+    let left = slice_counts rs n in
+    let asked = fails.none_unasked in
+    subst (λ (xs : List Reply). FailsAt old rs xs new) (sym these) record {
+      mid = fails.mid;
+      run = subst (λ B. Runs old.ledger (take (length ps) rs) ps B) (sym fails.run) run;
+      count = fails.count;
+      some = fails.some;
+      none_unasked = omega arith;
+      untold = fails.untold;
+      batch = subst (λ (xs : List Request). IsBatch fails.mid (take fails.count xs) fails.untold new.ledger) behind fails.batch;
+      accepted = subst (λ (xs : List Request). HasAccepted fails.mid (take fails.count xs)) behind fails.accepted;
+      either = fails.either;
+    }
 
 -- nothing is told
 pub nothing_told : (A : Ledger) (rs : List Request) (ps : List Reply) (out : List ℕ) → ps ≡ [] → out ≡ [] → Tells A rs ps out A

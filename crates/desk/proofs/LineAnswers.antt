@@ -18,6 +18,16 @@ use Rattle.desk.specs.Dialogue.{AnswerKind, AreAnswers, EndsCut, EndsWhole, IsCu
 use Rattle.desk.specs.Script.{HasFed, HaveEnded, WritesText, lines}
 use Rattle.desk.specs.Text.{RepliesAll, unended}
 
+-- the next of the items that wait is found
+pub fed_next : (held : Option (List ℕ)) (next : Item) (waiting left : List Item) (read : List ℕ) (ended : Bool) (found : List Item) → waiting ≡ next ∷ left → HasFed held waiting read ended found → HasFed held left read ended (found ++ next ∷ [])
+fed_next held next waiting left read ended found is h = record {
+  all = h.all;
+  rest = h.rest;
+  feeds = h.feeds;
+  going = λ e. ((h.going e).0, (h.going e).1 ∙ ap (λ (xs : List Item). found ++ xs) is ∙ sym (append_assoc found (next ∷ []) left));
+  split = h.split ∙ ap (λ (xs : List Item). found ++ (xs ++ unended held)) is ∙ sym (append_assoc found (next ∷ []) (left ++ unended held));
+}
+
 -- a piece more is taken in, where all items that have come are found
 pub fed_on : (held new : Option (List ℕ)) (waiting items : List Item) (read piece : List ℕ) (found : List Item) (ended : Bool) → HasFed held waiting read false found → HaveEnded read found → Feeds held piece items new
     → HasFed new items (read ++ piece) ended found

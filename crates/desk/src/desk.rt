@@ -20,7 +20,7 @@ ghost use Rattle.desk.specs.Opening.{IsLeft, IsOpened, IsRefusedAsOld, IsUnopene
 
 use crate::fault::{CallFault, OpenFault, load_fault};
 use crate::run::{Ending, Run};
-use crate::telling::{AsReply, Teller};
+use crate::telling::{AsReply, Teller, tell_reply};
 use crate::together::plan_batch;
 use book::{Book, FieldView, OrderView, Plan, Planned, TablesFault};
 use escrow::{Article, Branch, OrderNo};
@@ -121,25 +121,47 @@ impl<K: Keep> Desk<K> {
         ensures refused { IsTrue (K.stopped self.old.keep) → result ≡ Err CallFault.Stopped }
         ensures goes { Goes K.Keep self.old self.new }
     {
-        self.in_order();
-        // so that the proof has the invariants
-        request.key.as_bytes();
-        request.command.words();
         if self.is_stopped() {
             return Err(CallFault::Stopped);
         }
         match self.book.plan(alloc, request) {
-            Ok(Planned::Again(place)) => Ok(teller.tell(alloc, request.key, &Reply::Done(place))?),
+            Ok(Planned::Again(place)) => tell_reply(alloc, teller, request.key, Reply::Done(place)),
             Ok(Planned::Refused(refusal, line)) => {
-                Ok(teller.tell(alloc, request.key, &Reply::Refused(refusal, line))?)
+                tell_reply(alloc, teller, request.key, Reply::Refused(refusal, line))
             }
-            Ok(Planned::Accept(plan)) => {
-                let done = teller.tell(alloc, request.key, &Reply::Done(plan.place()))?;
-                self.carry_out(plan)?;
-                Ok(done)
-            }
+            Ok(Planned::Accept(plan)) => self.tell_and_carry_out(alloc, teller, request, plan),
             Err(_) => Err(CallFault::Memory),
         }
+    }
+
+    /// Tells of an accepted request as done, and carries out its plan.
+    fn tell_and_carry_out<T: Teller>(
+        &mut self,
+        alloc: Global,
+        teller: &T,
+        request: &Request,
+        plan: Plan,
+    ) -> Result<T::Told, CallFault>
+        requires going { K.stopped self.old.keep ≡ false }
+        requires in_order { IsInOrder K.Keep self.old }
+        requires planned { plan.request ≡ request.now }
+        requires fits { Fits self.old.ledger plan }
+        ensures told { IfOk result (λ told. (reply : ReplyOf) × Answers self.old.ledger request.now reply self.new.ledger
+            × T.tells request.now.key reply told) }
+        ensures going { OnOk result (K.stopped self.new.keep ≡ false) }
+        ensures memory { result ≡ Err CallFault.Memory → self.new ≡ self.old }
+        ensures stopped { result ≡ Err CallFault.Stopped → IsTrue (K.stopped self.new.keep)
+            × (self.new.ledger ≡ self.old.ledger) }
+        ensures either { result ≡ Err CallFault.Stopped
+            → StopsCall request.now (desk_state K.Keep self.old) (desk_state K.Keep self.new) }
+        ensures goes { Goes K.Keep self.old self.new }
+    {
+        // so that the proof has the invariants
+        request.key.as_bytes();
+        request.command.words();
+        let done = teller.tell(alloc, request.key, &Reply::Done(plan.place()))?;
+        self.carry_out(plan)?;
+        Ok(done)
     }
 
     /// Carries out the plan of an accepted request, after its rows are kept: it is done at the plan's place. The plan

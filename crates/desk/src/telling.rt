@@ -1,5 +1,8 @@
 //! Requests that are answered and told of.
 
+ghost use Rattle.std.specs.Prelude.{◌≢◌, Err, IfOk, OnErr};
+
+use crate::fault::CallFault;
 use crate::reply::line_of_reply;
 use escrow::Key;
 use std::alloc::Global;
@@ -23,6 +26,20 @@ pub trait Teller {
     fn tell(&self, alloc: Global, key: Key, reply: &Reply) -> Result<Self::Told, Memory>
         ensures told { IfOk result (λ told. tells key reply.now told) }
         ensures memory { OnErr result wants_memory };
+}
+
+/// What tells of the reply to the request of that key. `Memory` only where the teller wants it, and never `Stopped`.
+pub(crate) fn tell_reply<T: Teller>(
+    alloc: Global,
+    teller: &T,
+    key: Key,
+    reply: Reply,
+) -> Result<T::Told, CallFault>
+    ensures told { IfOk result (λ told. T.tells key reply told) }
+    ensures memory { OnErr result T.wants_memory }
+    ensures going { result ≢ Err CallFault.Stopped }
+{
+    Ok(teller.tell(alloc, key, &reply)?)
 }
 
 /// The reply as it stands, which wants no memory.

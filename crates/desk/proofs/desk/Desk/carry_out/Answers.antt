@@ -1,6 +1,7 @@
 use Rattle.std.proofs.Common.{◌≡◌, ◌∙◌, false, true≢false, ap, subst, sym, ℕ}
 use Rattle.words.specs.declared.reply.Reply.TheVariants.{Done}
 use Rattle.book.specs.Answers.{Answers}
+use Rattle.book.specs.Good.{Good}
 use Rattle.book.specs.Ledger.{Ledger}
 use Rattle.book.proofs.Runs.{accepted_answered}
 use Rattle.book.specs.Next.{accept}
@@ -46,3 +47,17 @@ returns-clause-answer g c =
     let place = c.place-place.ensures ∙ c.requires.fits.place in
     let next = c.adopt.ensures.next ∙ ap (λ (A : Ledger). accept A r) (c.make_room.ensures.same ∙ ap (λ d. d.ledger) c.self.view_is) in
     subst (λ (x : ℕ × Ledger). Answers A r (Done x.0) x.1) (λ i. (sym place i, sym next i)) (accepted_answered A r c.requires.fits.accepted)
+
+pub invariant_of-self-in_default-commit : goal.invariant_of-self-in_default-commit
+invariant_of-self-in_default-commit g c = record {
+  good = subst Good (sym c.make_room.ensures.same) c.self.invariant.good;
+  stored = λ still honest. absurd (true≢false (sym c.in_default-commit.ensures.goes.err ∙ still));
+}
+
+pub returns-in_default-commit-clause-goes : goal.returns-in_default-commit-clause-goes
+returns-in_default-commit-clause-goes g c = record {
+  untouched = λ halted. absurd (true≢false (sym halted ∙ c.requires.going));
+  good = (invariant_of-self-in_default-commit g c).good;
+  stored = (invariant_of-self-in_default-commit g c).stored;
+  honest = λ h. subst (λ k. g.K.Keep.is_honest k) (ap (λ d. d.keep) c.self.view_is) (c.commit.ensures.honest h);
+}

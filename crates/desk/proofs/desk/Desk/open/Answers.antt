@@ -1,23 +1,42 @@
-use Rattle.std.proofs.Common.{inl, inr, subst, sym}
+use Rattle.std.proofs.Common.{◌≢◌, inl, inr, subst, sym}
+use Rattle.book.specs.Good.{Good}
+use Rattle.book.specs.Ledger.{Ledger}
 use Rattle.book.specs.Rows.{IsRowsOf}
 use Rattle.book.specs.Tables.{content_of}
 use Rattle.book.proofs.Futures.{honours_always}
 use Rattle.book.proofs.Runs.{honours_if_good}
 use Rattle.book.proofs.EqualRows.{told_by_rows}
+use Rattle.desk.specs.declared.fault.OpenFault.TheVariants.{Damaged, NotADesk, OldVersion, Store}
+use Rattle.desk.proofs.desk.Desk.open.Given.{Over}
 use Rattle.desk.proofs.desk.Desk.open.Goals as goal
+
+-- another fault than that of damaged rows
+not_a_desk : Damaged ≢ NotADesk
+not_a_desk e = cc
+
+not_old : Damaged ≢ OldVersion
+not_old e = cc
+
+not_the_store : Damaged ≢ Store
+not_the_store e = cc
+
+found : (g : Over) (c : goal.In-Ok-of_tables g) → IsRowsOf c.in-Ok-of_tables.book.ledger (content_of c.in-Ok.tables)
+found g c = subst (IsRowsOf c.in-Ok-of_tables.book.ledger) (cc) c.in-Ok-of_tables.ensures.ok.1
+
+damaged : (g : Over) (c : goal.In-Err-Damaged g) (A : Ledger) → Good A → IsRowsOf A (content_of c.in-Ok.tables) → ⊥
+damaged g c A good rows = c.in-Err-Damaged.ensures.damaged c.in-Err-Damaged.field-0-is A good (subst (IsRowsOf A) (cc) rows)
 
 pub returns-in-Ok-of_tables-clause-nothing_else : goal.returns-in-Ok-of_tables-clause-nothing_else
 returns-in-Ok-of_tables-clause-nothing_else g c honest A x good rows held =
-    let found : IsRowsOf c.in-Ok-of_tables.book.ledger (content_of c.in-Ok.tables) = subst (IsRowsOf c.in-Ok-of_tables.book.ledger) (cc) c.in-Ok-of_tables.ensures.ok.1 in
     told_by_rows c.in-Ok-of_tables.book.ledger A x c.in-Ok-of_tables.ensures.ok.0 good
-    (subst (IsRowsOf c.in-Ok-of_tables.book.ledger) ((c.in-Ok.ensures.found honest).one x held) found) rows
+    (subst (IsRowsOf c.in-Ok-of_tables.book.ledger) ((c.in-Ok.ensures.found honest).one x held) (found g c)) rows
 
 pub invariant_of-result : goal.invariant_of-result
 invariant_of-result g c = record {
   good = c.in-Ok-of_tables.ensures.ok.0;
   stored = λ going honest. record {
     rows = content_of c.in-Ok.tables;
-    are_rows = subst (IsRowsOf c.in-Ok-of_tables.book.ledger) (cc) c.in-Ok-of_tables.ensures.ok.1;
+    are_rows = found g c;
     held = (c.in-Ok.ensures.found honest).content;
     alone = (c.in-Ok.ensures.found honest).alone;
   };
@@ -26,7 +45,6 @@ invariant_of-result g c = record {
 pub returns-in-Ok-of_tables-clause-opened : goal.returns-in-Ok-of_tables-clause-opened
 returns-in-Ok-of_tables-clause-opened g c =
     let good = c.in-Ok-of_tables.ensures.ok.0 in
-    let found : IsRowsOf c.in-Ok-of_tables.book.ledger (content_of c.in-Ok.tables) = subst (IsRowsOf c.in-Ok-of_tables.book.ledger) (cc) c.in-Ok-of_tables.ensures.ok.1 in
     record {
       good = good;
       honours = honours_if_good _ good;
@@ -34,25 +52,29 @@ returns-in-Ok-of_tables-clause-opened g c =
       going = c.in-Ok.ensures.goes.ok;
       stored = λ honest. record {
         rows = content_of c.in-Ok.tables;
-        are_rows = found;
+        are_rows = found g c;
         held = ((c.in-Ok.ensures.found honest).same (content_of c.in-Ok.tables)).1 (c.in-Ok.ensures.found honest).content;
         alone = (c.in-Ok.ensures.found honest).alone;
       };
-      rows = λ honest x held. subst (IsRowsOf c.in-Ok-of_tables.book.ledger) ((c.in-Ok.ensures.found honest).one x held) found;
+      rows = λ honest x held. subst (IsRowsOf c.in-Ok-of_tables.book.ledger) ((c.in-Ok.ensures.found honest).one x held) (found g c);
     }
 
 pub returns-in-Err-Damaged-clause-nothing_else : goal.returns-in-Err-Damaged-clause-nothing_else
 returns-in-Err-Damaged-clause-nothing_else g c honest A x good rows held =
-    let found : IsRowsOf A (content_of c.in-Ok.tables) = subst (IsRowsOf A) (sym ((c.in-Ok.ensures.found honest).one x held)) rows in
-    absurd (c.in-Err-Damaged.ensures.damaged c.in-Err-Damaged.field-0-is A good (subst (IsRowsOf A) (cc) found))
+    absurd (damaged g c A good (subst (IsRowsOf A) (sym ((c.in-Ok.ensures.found honest).one x held)) rows))
 
 pub returns-in-Err-Damaged-clause-unopened : goal.returns-in-Err-Damaged-clause-unopened
 returns-in-Err-Damaged-clause-unopened g c = record {
-  damaged = λ is honest x held A good rows.
-      let found : IsRowsOf A (content_of c.in-Ok.tables) = subst (IsRowsOf A) (sym ((c.in-Ok.ensures.found honest).one x held)) rows in
-      c.in-Err-Damaged.ensures.damaged c.in-Err-Damaged.field-0-is A good (subst (IsRowsOf A) (cc) found);
+  damaged = λ is honest x held A good rows. damaged g c A good (subst (IsRowsOf A) (sym ((c.in-Ok.ensures.found honest).one x held)) rows);
   loaded = λ is. c.in-Ok.ensures.goes.ok;
-  not_a_desk = λ is. absurd (cc is);
-  old_version = λ is. absurd (cc is);
-  stopped = λ is. elim is [ inl e ↦ absurd (cc e) | inr more ↦ elim more [ inl e ↦ absurd (cc e) | inr e ↦ absurd (cc e) ] ];
+  not_a_desk = λ is. absurd (not_a_desk is);
+  old_version = λ is. absurd (not_old is);
+  stopped = λ is. elim is [ inl e ↦ absurd (not_the_store e) | inr more ↦ elim more [ inl e ↦ absurd (not_a_desk e) | inr e ↦ absurd (not_old e) ] ];
+}
+
+pub returns-in-Ok-of_tables-clause-left : goal.returns-in-Ok-of_tables-clause-left
+returns-in-Ok-of_tables-clause-left g c honest = record {
+  same = λ going. (c.in-Ok.ensures.found honest).same;
+  adds_nothing = (c.in-Ok.ensures.left honest).adds_nothing;
+  no_more = (c.in-Ok.ensures.left honest).no_more;
 }

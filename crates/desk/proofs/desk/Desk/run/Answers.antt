@@ -1,4 +1,4 @@
-use Rattle.std.proofs.Common.{◌≡◌, ◌∙◌, ◌+◌, ◌++◌, ◌∷◌, [], Err, List, ℕ, ap, drop, inl, length, rules, subst, sym, take}
+use Rattle.std.proofs.Common.{◌≡◌, ◌≢◌, ◌∙◌, ◌+◌, ◌++◌, ◌∷◌, ◌⊎◌, [], Err, List, ℕ, ap, drop, inl, inr, length, refl, rules, subst, sym, take}
 use Rattle.std.proofs.lemmas.List.{drop_more, length-append, take_more}
 use Rattle.words.specs.declared.command.Request.{Request}
 use Rattle.words.specs.declared.reply.Reply.{Reply}
@@ -13,7 +13,19 @@ use Rattle.desk.specs.Text.{RepliesAll, items_of}
 use Rattle.desk.proofs.Batches.{lines_on}
 use Rattle.desk.proofs.GoesOn.{goes_on}
 use Rattle.desk.proofs.RunsOn.{runs_on}
+use Rattle.desk.specs.declared.fault.CallFault.{CallFault}
+use Rattle.desk.specs.declared.run.Ending.TheVariants.{All, Memory, Stopped}
 use Rattle.desk.proofs.desk.Desk.run.Goals as goal
+
+memory_is_no_stop : Memory ≢ Stopped
+memory_is_no_stop e = cc
+
+all_is_no_stop : All ≢ Stopped
+all_is_no_stop e = cc
+
+memory_or_stop : (fault : CallFault) → (fault ≡ CallFault.Memory) ⊎ (fault ≡ CallFault.Stopped)
+memory_or_stop CallFault.Memory = inl refl
+memory_or_stop CallFault.Stopped = inr refl
 
 pub returns-in-Err-clause-either : goal.returns-in-Err-clause-either
 returns-in-Err-clause-either g c going is honest =
@@ -46,6 +58,38 @@ returns-in-Err-clause-accepted g c going is =
     let next : take 1 (drop i requests) ≡ r ∷ [] = ap (λ (xs : List Request). take 1 xs) (drop_more requests i r c.loop-request-test.true) ∙ ap (λ (x : Request). x ∷ []) (sym c.request-item.is) in
     subst (λ (L : Ledger). HasAccepted L (take 1 (drop (length c.make_room.new.self.replies.items) requests))) (sym (c.in-Err.ensures.stopped (ap (λ f. Err f) fault)).1)
     (subst (λ n. HasAccepted c.loop-request.self.ledger (take 1 (drop n requests))) (sym count) (subst (HasAccepted c.loop-request.self.ledger) (sym next) (inl stops.accepted)))
+
+pub returns-in_default-clause-stop : goal.returns-in_default-clause-stop
+returns-in_default-clause-stop g c = record { stopped = λ is. absurd (memory_is_no_stop is); going = λ other. c.loop-request.invariant.2 }
+
+pub returns-clause-stop : goal.returns-clause-stop
+returns-clause-stop g c = record { stopped = λ is. absurd (all_is_no_stop (sym c.loop-request.invariant.6 ∙ is)); going = λ other. c.loop-request.invariant.2 }
+
+pub returns-in-Err-clause-replies : goal.returns-in-Err-clause-replies
+returns-in-Err-clause-replies g c =
+    let L = c.args.self.now.ledger in
+    let rs = c.args.requests.now in
+    let count : length c.loop-request.run.replies.items ≡ c.loop-request.request-index = c.loop-request.invariant.1 in
+    let same : c.call_and_tell.new.self.ledger ≡ c.loop-request.self.ledger = elim (memory_or_stop c.in-Err.fault) [
+      | inl is ↦ ap (λ d. d.ledger) (c.in-Err.ensures.memory (ap (λ f. Err f) is)).0
+      | inr is ↦ (c.in-Err.ensures.stopped (ap (λ f. Err f) is)).1
+    ] in
+    subst (λ B. Runs L (take (length c.make_room.new.self.replies.items) rs) c.make_room.new.self.replies.items B) (sym same)
+    (subst (λ (ps : List Reply). Runs L (take (length ps) rs) ps c.loop-request.self.ledger) (sym {A = List Reply} c.make_room.ensures.replies)
+    (subst (λ n. Runs L (take n rs) c.loop-request.run.replies.items c.loop-request.self.ledger) (sym count) c.loop-request.invariant.0))
+
+pub returns-in-Err-clause-lines : goal.returns-in-Err-clause-lines
+returns-in-Err-clause-lines g c =
+    let L = c.args.self.now.ledger in
+    let rs = c.args.requests.now in
+    let count : length c.make_room.new.self.replies.items ≡ c.loop-request.request-index = ap (λ (xs : List Reply). length xs) c.make_room.ensures.replies ∙ c.loop-request.invariant.1 in
+    let same : c.call_and_tell.new.self.ledger ≡ c.loop-request.self.ledger = elim (memory_or_stop c.in-Err.fault) [
+      | inl is ↦ ap (λ d. d.ledger) (c.in-Err.ensures.memory (ap (λ f. Err f) is)).0
+      | inr is ↦ (c.in-Err.ensures.stopped (ap (λ f. Err f) is)).1
+    ] in
+    subst (λ B. RepliesAll L (items_of (take (length c.make_room.new.self.replies.items) rs)) c.make_room.new.self.lines.items B) (sym same)
+    (subst (λ (out : List ℕ). RepliesAll L (items_of (take (length c.make_room.new.self.replies.items) rs)) out c.loop-request.self.ledger) (sym {A = List ℕ} c.make_room.ensures.lines)
+    (subst (λ n. RepliesAll L (items_of (take n rs)) c.loop-request.run.lines.items c.loop-request.self.ledger) (sym count) c.loop-request.invariant.5))
 
 pub loop-request-preserved : goal.loop-request-preserved
 loop-request-preserved g c =

@@ -6,7 +6,7 @@ use Rattle.desk.specs.Text.{RepliesAll, items_of}
 use Rattle.desk.specs.Together.{FailsAt, IsBatch}
 use Rattle.desk.specs.declared.run.Ending.TheVariants.{Stopped}
 use Rattle.desk.specs.declared.run.Run.{Run}
-use Rattle.desk.proofs.Batches.{batch_fails, batch_told, lines_told}
+use Rattle.desk.proofs.Batches.{batch_fails, batch_told, lines_told, no_changes, stored_batch, stored_still}
 use Rattle.desk.proofs.desk.Desk.run_batch.Goals as goal
 use Rattle.desk.proofs.desk.Desk.run_batch.Goals.{in-Ok, in-Err}
 
@@ -25,7 +25,7 @@ returns-clause-kept g c other = elim c.match-commit.branch [
   | in-Ok w ↦ subst (λ A. IsBatch A (take (length c.match-commit.result.replies.items) c.args.requests.now) c.match-commit.result.replies.items c.plan_batch-batch.new.book.ledger) (ap (λ d. d.ledger) c.self.view_is)
       (batch_told c.self.inside.book.ledger c.plan_batch-batch.new.book.ledger c.args.requests.now _ c.match-commit.result.replies.items c.plan_batch-batch.ensures.so_far
       (ap (λ (t : Run). t.replies.items) w.result-is ∙ w.told-in-Ok.ensures.replies))
-  | in-Err w ↦ let is : c.match-commit.result.ending ≡ Stopped = search rules in absurd (other is)
+  | in-Err w ↦ absurd (other (ap (λ (t : Run). t.ending) w.result-is ∙ w.new.ensures.ending))
 ]
 
 pub returns-clause-lines : goal.returns-clause-lines
@@ -33,15 +33,15 @@ returns-clause-lines g c other = elim c.match-commit.branch [
   | in-Ok w ↦ subst (λ A. RepliesAll A (items_of (take (length c.match-commit.result.replies.items) c.args.requests.now)) c.match-commit.result.lines.items c.plan_batch-batch.new.book.ledger) (ap (λ d. d.ledger) c.self.view_is)
       (lines_told c.self.inside.book.ledger c.plan_batch-batch.new.book.ledger c.args.requests.now _ c.match-commit.result.replies.items c.plan_batch-batch.ensures.so_far
       (ap (λ (t : Run). t.replies.items) w.result-is ∙ w.told-in-Ok.ensures.replies) c.match-commit.result.lines.items (ap (λ (t : Run). t.lines.items) w.result-is ∙ w.told-in-Ok.ensures.lines))
-  | in-Err w ↦ let is : c.match-commit.result.ending ≡ Stopped = search rules in absurd (other is)
+  | in-Err w ↦ absurd (other (ap (λ (t : Run). t.ending) w.result-is ∙ w.new.ensures.ending))
 ]
 
 pub returns-clause-failed : goal.returns-clause-failed
 returns-clause-failed g c is = elim c.match-commit.branch [
   | in-Ok w ↦ absurd (w.told-in-Ok.ensures.going (ap (λ (t : Run). t.ending) (sym w.result-is) ∙ is))
   | in-Err w ↦ (
-    search rules,
-    search rules,
+    ap (λ (t : Run). t.replies.items) w.result-is ∙ w.new.ensures.replies,
+    ap (λ (t : Run). t.lines.items) w.result-is ∙ w.new.ensures.lines,
     subst (λ d. FailsAt (desk_state g.K.Keep d) c.args.requests.now [] (desk_state g.K.Keep (record { ledger = c.plan_batch-batch.new.book.ledger; keep = c.commit.new.self }))) c.self.view_is
         (batch_fails _ _ (g.K.Keep.holds c.self.inside.keep) c.args.requests.now _ c.deref.result.now
         c.plan_batch-batch.ensures.so_far c.plan_batch-batch.ensures.few c.self.invariant.good c.deref.ensures.value
@@ -50,3 +50,52 @@ returns-clause-failed g c is = elim c.match-commit.branch [
         (λ honest. c.commit.ensures.either honest (subst (λ k. g.K.Keep.stopped k ≡ false) (sym (ap (λ d. d.keep) c.self.view_is)) c.requires))),
   )
 ]
+
+pub invariant_of-self : goal.invariant_of-self
+invariant_of-self g c =
+    let none = no_changes c.plan_batch-batch.result.0.changes.items _ c.plan_batch-batch.result.0.changes.ok.0 (sym c.is_empty.ensures ∙ c.if-is_empty.true) in
+    record {
+      good = c.plan_batch-batch.ensures.so_far.good;
+      stored = λ still honest. stored_still c.self.inside.book.ledger c.plan_batch-batch.new.book.ledger _ _ (g.K.Keep.holds c.self.inside.keep) (g.K.Keep.leaves c.self.inside.keep) c.plan_batch-batch.ensures.so_far none (c.self.invariant.stored still honest);
+    }
+
+pub returns-then-is_empty-clause-goes : goal.returns-then-is_empty-clause-goes
+returns-then-is_empty-clause-goes g c = record {
+  untouched = λ halted. absurd (true≢false (sym halted ∙ c.requires));
+  good = c.plan_batch-batch.ensures.so_far.good;
+  stored = (invariant_of-self g c).stored;
+  honest = λ h. subst (λ k. g.K.Keep.is_honest k) (ap (λ d. d.keep) c.self.view_is) h;
+}
+
+pub invariant_of-self-2 : goal.invariant_of-self-2
+invariant_of-self-2 g c = record {
+  good = c.plan_batch-batch.ensures.so_far.good;
+  stored = λ still honest. elim c.match-commit.branch [
+    | in-Ok w ↦ stored_batch c.self.inside.book.ledger c.plan_batch-batch.new.book.ledger _ _ c.deref.result.now
+        (g.K.Keep.holds c.self.inside.keep) (g.K.Keep.holds c.commit.new.self) (g.K.Keep.leaves c.self.inside.keep) (g.K.Keep.leaves c.commit.new.self)
+        c.plan_batch-batch.ensures.so_far c.deref.ensures.value
+        (c.self.invariant.stored (subst (λ k. g.K.Keep.stopped k ≡ false) (sym (ap (λ d. d.keep) c.self.view_is)) c.requires) (c.commit.ensures.honest honest))
+        (w.in-Ok.ensures.put honest) (w.in-Ok.ensures.alone honest)
+    | in-Err w ↦ absurd (true≢false (sym w.in-Err.ensures.goes.err ∙ still))
+  ];
+}
+
+pub returns-clause-goes : goal.returns-clause-goes
+returns-clause-goes g c = record {
+  untouched = λ halted. absurd (true≢false (sym halted ∙ c.requires));
+  good = c.plan_batch-batch.ensures.so_far.good;
+  stored = (invariant_of-self-2 g c).stored;
+  honest = λ h. subst (λ k. g.K.Keep.is_honest k) (ap (λ d. d.keep) c.self.view_is) (c.commit.ensures.honest h);
+}
+
+pub returns-clause-stop : goal.returns-clause-stop
+returns-clause-stop g c = record {
+  stopped = λ is. elim c.match-commit.branch [
+    | in-Ok w ↦ absurd (w.told-in-Ok.ensures.going (ap (λ (t : Run). t.ending) (sym w.result-is) ∙ is))
+    | in-Err w ↦ w.in-Err.ensures.goes.err
+  ];
+  going = λ other. elim c.match-commit.branch [
+    | in-Ok w ↦ w.in-Ok.ensures.goes.ok ∙ sym c.requires
+    | in-Err w ↦ absurd (other (ap (λ (t : Run). t.ending) w.result-is ∙ w.new.ensures.ending))
+  ];
+}
