@@ -1,5 +1,6 @@
-use Rattle.std.proofs.Common.{◌≡◌, ◌∙◌, [], List, ap, false, length, rules, subst, sym, take, true≢false}
+use Rattle.std.proofs.Common.{◌≡◌, ◌∙◌, [], List, ap, false, length, rules, subst, sym, take, true, true≢false}
 use Rattle.std.specs.Prelude.{◌==◌}
+use Rattle.std.specs.Vec.{vec_len}
 use Rattle.book.specs.declared.rows.Change.{Change}
 use Rattle.desk.specs.Desk.{desk_state}
 use Rattle.desk.specs.Text.{RepliesAll, items_of}
@@ -53,7 +54,8 @@ returns-clause-failed g c is = elim c.match-commit.branch [
 
 pub invariant_of-self : goal.invariant_of-self
 invariant_of-self g c =
-    let none = no_changes c.plan_batch-batch.result.0.changes.items _ c.plan_batch-batch.result.0.changes.ok.0 (sym c.is_empty.ensures ∙ c.if-is_empty.true) in
+    let empty : (vec_len c.plan_batch-batch.result.0.changes == 0) ≡ true = search rules in
+    let none = no_changes c.plan_batch-batch.result.0.changes.items _ c.plan_batch-batch.result.0.changes.ok.0 empty in
     record {
       good = c.plan_batch-batch.ensures.so_far.good;
       stored = λ still honest. stored_still c.self.inside.book.ledger c.plan_batch-batch.new.book.ledger _ _ (g.K.Keep.holds c.self.inside.keep) (g.K.Keep.leaves c.self.inside.keep) c.plan_batch-batch.ensures.so_far none (c.self.invariant.stored still honest);
