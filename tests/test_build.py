@@ -11,7 +11,7 @@ from support import TOP
 from support.programs import End
 
 CRATES = "# lowest first\nlow: thiserror\nside:\nmid: low itoa\ntop: mid side low\nlow_tests: low\n"
-TABLE = "|crate|its proof|its tests|\n|---|---|---|\n|`low`|120|||\n|`side`|60||\n|`mid`|60||\n|`top`|240||\n"
+TABLE = "|crate|its proof|by the clock|\n|---|---|---|\n|`low`|9|120|\n|`side`|9|60|\n|`mid`|9|90|\n|`top`|9|240|\n"
 RT = """#!/bin/sh
 echo "${PWD##*/} $*" >>"$CALLS"
 if [ "${PWD##*/}" = "$REFUSED" ]; then echo "fn f: not proved"; exit 1; fi
@@ -54,6 +54,8 @@ class Build(unittest.TestCase):
         self.assertEqual(begun[-1], "top run")
         lines = told.decode().splitlines()
         self.assertEqual(sum("of 4: proving; about" in line for line in lines), 4, told)
+        # the longest way is over low and mid: 450 seconds
+        self.assertIn("stockdesk: low, 1 of 4: proving; about 8 min left", lines)
         self.assertIn("stockdesk: top, 4 of 4: proving; about", told.decode())
         self.assertIn("stockdesk: proved in 1 min", lines)
 
