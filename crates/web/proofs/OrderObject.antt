@@ -1,5 +1,6 @@
 -- The object of an order that is shown.
-use Rattle.std.proofs.Common.{◌≡◌, ℕ, false, List, [], ◌∷◌, ap, map, refl}
+use Rattle.std.proofs.Common.{◌≡◌, ◌∙◌, ℕ, false, List, [], ◌∷◌, ap, map, refl}
+use Rattle.serde_json.specs.Data.{Data}
 use Rattle.serde_json.specs.View.{items_of}
 use Rattle.serde_json.specs.Written.{compact_text, has_float, items_have_float}
 use Rattle.book.specs.Ledger.{Order}
@@ -20,8 +21,8 @@ shown_has_no_float_in number kind until state lines = rw (lines_have_no_float li
 shown_one : (o : Order) (view : OrderView) → ShowsOrder o view → view_object view ≡ order_object o
 shown_one o view h = λ i. shown_object (h.number i) (h.kind i) (h.until i) (h.state i) (h.lines i)
 
-pub shown_has_no_float : (view : OrderView) → has_float (view_object view) ≡ false
-shown_has_no_float view = shown_has_no_float_in view.number view.kind view.until view.state view.lines.now
+pub shown_has_no_float : (view : OrderView) (value : Data) → value ≡ view_object view → has_float value ≡ false
+shown_has_no_float view value e = ap has_float e ∙ shown_has_no_float_in view.number view.kind view.until view.state view.lines.now
 
-pub shown_text : (o : Order) (view : OrderView) → ShowsOrder o view → compact_text (view_object view) ≡ compact_text (order_object o)
-shown_text o view h = ap compact_text (shown_one o view h)
+pub shown_text : (o : Order) (view : OrderView) (value : Data) → value ≡ view_object view → ShowsOrder o view → compact_text value ≡ compact_text (order_object o)
+shown_text o view value e h = ap compact_text (e ∙ shown_one o view h)

@@ -12,7 +12,6 @@ mod fixed;
 mod head;
 mod intake;
 mod laws;
-mod members;
 mod objects;
 mod route;
 mod served;

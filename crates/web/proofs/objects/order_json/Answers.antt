@@ -4,6 +4,6 @@ use Rattle.web.proofs.OrderObject.{shown_has_no_float, shown_text}
 use Rattle.web.proofs.objects.order_json.Goals as goal
 
 pub returns : goal.returns
-returns c = λ order h.
-    let made = rw (c.kind_text.ensures, c.get.ensures.value, c.state_text.ensures, c.get-2.ensures.value) at (c.number-2.ensures _ (c.text-2.ensures _ (c.number.ensures _ (c.value.ensures _ _ (c.text.ensures _ c.new.ensures) c.line_values.ensures)))) in
-    IfOk-weaker c.json.result _ _ (λ text e. e ∙ shown_text order c.args.view.now h) (c.json.ensures _ made (shown_has_no_float c.args.view.now))
+returns c = λ order h. IfOk-weaker c.to_vec.result _ _
+    (λ text e. e (shown_has_no_float c.args.view.now _ c.in_ok-order_value.ensures) ∙ shown_text order c.args.view.now _ c.in_ok-order_value.ensures h)
+    c.to_vec.ensures.text
