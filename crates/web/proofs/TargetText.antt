@@ -11,7 +11,7 @@ use Rattle.matchit.specs.Router.{RouteOf}
 use Rattle.matchit.specs.Rows.{RowsOf}
 use Rattle.matchit.specs.Seek.{first, slash}
 use Rattle.matchit.specs.declared.params.Params.{Params}
-use Rattle.web.specs.Routes.{part_of, parts_on, resource_of, routes}
+use Rattle.web.specs.Routes.{part_of, parts_on, resource_of, routes, taken}
 use Rattle.web.specs.declared.route.Resource.{Resource}
 use Rattle.web.specs.declared.route.Resource.TheVariants.{Commands, Field, Order, Sheet}
 use Rattle.web.proofs.FourRoutes.{IsRouted, commands_route, field_route, order_route, routed, sheet_route}
@@ -61,9 +61,6 @@ all_text target route text e = by route.value (routed target route e)
         parts_are sheet_route (codes "/v1/sheets/" ++ rest) _ one is (sheet_parts rest) (name_text (codes "branch") refl, (beside_slash (codes "/v1/sheets") rest (subst IsUtf8 is text)).1, tt)
 
 -- what a match of the target took
-abbrev pub taken : Params → List (List ℕ × List ℕ)
-taken params = walk params.pattern.now params.text.now params.path.now params.names.now 0 0
-
 pub record IsMatch (target : List ℕ) (params : Params) (value : Resource) : Type 0 where
   pub text : AllText (taken params)
   pub resource : resource_of target ≡ Some value

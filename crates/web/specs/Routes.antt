@@ -10,6 +10,7 @@ use Rattle.matchit.specs.Router.{RouteOf, route_from}
 use Rattle.matchit.specs.Rows.{RowsOf}
 use Rattle.matchit.specs.Seek.{first}
 use Rattle.matchit.specs.declared.error.InsertError.{InsertError}
+use Rattle.matchit.specs.declared.params.Params.{Params}
 use Rattle.web.specs.declared.ask.Ask.{Ask}
 use Rattle.web.specs.declared.ask.Ask.TheVariants as ask
 use Rattle.web.specs.declared.route.Resource.{Resource}
@@ -39,6 +40,10 @@ parts_on target route = walk route.pattern route.text target route.names 0 0
 -- the part of the target that this name in its route took
 abbrev pub part_of : List ℕ → List ℕ → Option (List ℕ)
 part_of name target = option_and_then (λ route. named name (parts_on target route)) (first routes target)
+
+-- each name in the route of a match with the part that it took
+abbrev pub taken : Params → List (List ℕ × List ℕ)
+taken params = walk params.pattern.now params.text.now params.path.now params.names.now 0 0
 
 -- the view is that of the target: its route is the view's, and its parts are the view's codes or number
 abbrev pub IsView : List ℕ → Ask → Type 0

@@ -4,8 +4,8 @@
 ghost use Rattle.std.specs.Prelude.{◌≡◌, ◌≢◌, ◌↔◌, ℕ, IfNone, IfSome, IsTrue, List, MatchOption, Some, codes, decimal};
 ghost use Rattle.escrow.specs.Codes.{IsArticle, IsBranch};
 ghost use Rattle.escrow.specs.Ranges.{IsOrderNo};
-ghost use Rattle.matchit.specs.Params.{AllText, named, walk};
-ghost use Rattle.web.specs.Routes.{IsView, resource_of, routes};
+ghost use Rattle.matchit.specs.Params.{AllText, named};
+ghost use Rattle.web.specs.Routes.{IsView, resource_of, routes, taken};
 ghost use Rattle.web.specs.declared.ask.Ask.{Ask as AskOf};
 
 use crate::ask::Ask;
@@ -48,30 +48,27 @@ pub fn takes_commands(router: &Router<Resource>, target: &str) -> bool
 
 // The branch that is named in a target.
 fn branch_of(params: &Params) -> Option<Branch>
-    ensures { (parts : List (List ℕ × List ℕ)) → AllText parts
-        → parts ≡ walk params.now.pattern.now params.now.text.now params.now.path.now params.now.names.now 0 0
-        → MatchOption result ((code : List ℕ) → IsBranch code → named (codes "branch") parts ≢ Some code)
-        (λ code. (named (codes "branch") parts ≡ Some code) × IsBranch code) }
+    ensures { AllText (taken params.now) → MatchOption result
+        ((code : List ℕ) → IsBranch code → named (codes "branch") (taken params.now) ≢ Some code)
+        (λ code. (named (codes "branch") (taken params.now) ≡ Some code) × IsBranch code) }
 {
     Branch::read(params.get("branch")?.as_bytes()).ok()
 }
 
 // The article that is named in a target.
 fn article_of(params: &Params) -> Option<Article>
-    ensures { (parts : List (List ℕ × List ℕ)) → AllText parts
-        → parts ≡ walk params.now.pattern.now params.now.text.now params.now.path.now params.now.names.now 0 0
-        → MatchOption result ((code : List ℕ) → IsArticle code → named (codes "article") parts ≢ Some code)
-        (λ code. (named (codes "article") parts ≡ Some code) × IsArticle code) }
+    ensures { AllText (taken params.now) → MatchOption result
+        ((code : List ℕ) → IsArticle code → named (codes "article") (taken params.now) ≢ Some code)
+        (λ code. (named (codes "article") (taken params.now) ≡ Some code) × IsArticle code) }
 {
     Article::read(params.get("article")?.as_bytes()).ok()
 }
 
 // The order that is named in a target.
 fn order_of(params: &Params) -> Option<OrderNo>
-    ensures { (parts : List (List ℕ × List ℕ)) → AllText parts
-        → parts ≡ walk params.now.pattern.now params.now.text.now params.now.path.now params.now.names.now 0 0
-        → MatchOption result ((n : ℕ) → IsOrderNo n → named (codes "number") parts ≢ Some (decimal n))
-        (λ n. (named (codes "number") parts ≡ Some (decimal n)) × IsOrderNo n) }
+    ensures { AllText (taken params.now) → MatchOption result
+        ((n : ℕ) → IsOrderNo n → named (codes "number") (taken params.now) ≢ Some (decimal n))
+        (λ n. (named (codes "number") (taken params.now) ≡ Some (decimal n)) × IsOrderNo n) }
 {
     number_of(params.get("number")?)
 }
