@@ -65,6 +65,11 @@ class Build(unittest.TestCase):
         self.assertIn(b"fn f: not proved\nstockdesk: mid: not proved\n", told)
         self.assertNotIn("top run", begun)
 
+    def test_a_crate_that_the_table_lacks_is_proved(self) -> None:
+        self.write("docs/PROOFS.md", "no table\n")
+        (status, _, told), begun = self.build()
+        self.assertEqual((status, len(begun)), (0, 4), told)
+
     def test_without_the_toolchain_it_says_what_is_missing(self) -> None:
         (status, out, told), begun = self.build(path="nothing")
         self.assertEqual((status, begun), (1, []))
