@@ -1,0 +1,117 @@
+"""Tests of the built program of which one read or write fails, or one call of its store, where all behind it would succeed: none
+is tried again. It ends with the fault behind a beginning of its answer, and what was told is kept."""
+
+import errno
+import itertools
+import os
+
+from support.cases import needs_strict_tables
+from support.failing import Failing, FailingCase, Failure
+from support.messages import answer, compact, message
+from support.programs import IO, STORE, End, done, expect, new_desk, note
+from support.service import NotServed, Service, answered
+from support.works import REQUESTS, SCRIPT, SHEETS, WORKS, OnCopies, Work, copy_desk
+
+# two of the errors ask for another try; a write with the error 0 takes no byte, which is no error to the system
+READ_ERRORS = [errno.EIO, errno.EINTR, errno.EAGAIN]
+WRITE_ERRORS = [*READ_ERRORS, 0]
+
+CSV: End = (4, b"", b"stockdesk: csv\n")
+PIECE = 512
+# how many messages two connections bring; each adds a piece to a field
+FIRST, SECOND = 4, 2
+
+
+def deliveries(first: int, count: int) -> bytes:
+    bodies = [compact({"key": f"K{n}", "command": "deliver N1 A-1 1"}) for n in range(first, first + count)]
+    return b"".join(message("POST /v1/commands", body) for body in bodies)
+
+
+def places(first: int, count: int) -> bytes:
+    return b"".join(answer(200, compact({"place": place})) for place in range(first, first + count))
+
+
+def whole_answers(text: bytes) -> int:
+    """How many answers with a place are whole in a beginning of some."""
+    return text.count(b"}")
+
+
+class Connections:
+    """Services of two connections on copies of a desk with one field, of which reads or writes fail."""
+
+    def __init__(self, failing: Failing, folder: str):
+        self.failing, self.program = failing, failing.program
+        self.desk = new_desk(self.program, folder, "new.db")
+        done(self.program, ["run", self.desk], "K1 field N1 A-1 0 100 0\n")
+
+    def serve(self, failure: Failure) -> tuple[int, bool]:
+        """How many messages are done, and whether the call came. A connection of which one fails ends there, and the other is
+        served whole; what was done is told, but for the last answer where a write fails."""
+        with self.failing.lane() as lane:
+            path = os.path.join(lane, "desk.db")
+            copy_desk(self.desk, path)
+            try:
+                service = Service(self.program, path, 2, environment=self.failing.environment(failure, lane))
+            except NotServed as fault:
+                expect((fault.end, failure.kind) == (IO, "write"), f"{failure}: {fault}")
+                return 0, True
+            untold, place = failure.kind == "write", 2
+            for count in [FIRST, SECOND]:
+                found, whole = answered(service.port, [deliveries(place, count)]), places(place, count)
+                expect(whole.startswith(found), f"{failure}: {found!r}")
+                place += whole_answers(found) + (found != whole and untold)
+            service.expect_end()
+            [shown] = done(self.program, ["run", path], "? field N1 A-1\n")
+            expect(shown.split()[9] == str(place - 2), f"{failure}: {place - 2} were done, and then {shown}")
+            return place - 2, failure.first <= self.failing.counted(lane)
+
+    def expect_cuts(self, kind: str, error: int) -> None:
+        cut = 0
+        for first in itertools.count(1):
+            messages, came = self.serve(Failure(kind, first, error=error))
+            cut += messages < FIRST + SECOND
+            if not came:
+                expect(cut and messages == FIRST + SECOND, f"{kind}, error {error}: {cut} cut, {messages} messages at last")
+                note(f"{kind}, error {error}: {cut} of {first - 1}")
+                return
+
+
+@needs_strict_tables
+class FailingCalls(FailingCase):
+    def on_copies(self, work: Work) -> OnCopies:
+        return OnCopies(self.failing, os.path.join(self.folder, str(WORKS.index(work))), work)
+
+    def test_a_script_ends_at_a_read_that_fails(self):
+        """The lines that had ended before the piece at which it fails are answered."""
+        on_copies = self.on_copies(SCRIPT)
+        text = on_copies.input
+        pieces = range(0, len(text) + PIECE, PIECE)
+        for error in READ_ERRORS:
+            told = on_copies.expect_each_cut("read", [IO], error)
+            expect(told == [text[:end].count("\n") for end in pieces], f"error {error}: {told} lines are told")
+
+    def test_a_file_of_requests_that_fails_once_is_not_read(self):
+        """Nothing is done then."""
+        for work in REQUESTS:
+            on_copies = self.on_copies(work)
+            for error in READ_ERRORS:
+                told = on_copies.expect_each_cut("read", [CSV], error)
+                expect(set(told) == {0}, f"{work}, error {error}: {told} lines are told")
+
+    def test_a_work_ends_at_a_write_that_fails(self):
+        for work in WORKS:
+            on_copies = self.on_copies(work)
+            for error in WRITE_ERRORS:
+                on_copies.expect_each_cut("write", [IO], error)
+
+    def test_a_work_ends_at_a_call_of_its_store_that_fails(self):
+        for work in [SHEETS[0], SCRIPT, REQUESTS[1]]:
+            on_copies = self.on_copies(work)
+            for for_good in [False, True]:
+                on_copies.expect_each_cut("store", [STORE], errno.EIO, for_good)
+
+    def test_a_connection_ends_at_a_read_or_a_write_that_fails(self):
+        connections = Connections(self.failing, self.folder)
+        for kind, errors in [("read", READ_ERRORS), ("write", WRITE_ERRORS)]:
+            for error in errors:
+                connections.expect_cuts(kind, error)
