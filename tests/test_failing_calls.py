@@ -22,9 +22,9 @@ PIECE = 512
 FIRST, SECOND = 4, 2
 
 
-def deliveries(first: int, count: int) -> bytes:
+def deliveries(first: int, count: int) -> list[bytes]:
     bodies = [compact({"key": f"K{n}", "command": "deliver N1 A-1 1"}) for n in range(first, first + count)]
-    return b"".join(message("POST /v1/commands", body) for body in bodies)
+    return [message("POST /v1/commands", body) for body in bodies]
 
 
 def places(first: int, count: int) -> bytes:
@@ -57,7 +57,7 @@ class Connections:
                 return 0, True
             untold, place = failure.kind == "write", 2
             for count in [FIRST, SECOND]:
-                found, whole = answered(service.port, [deliveries(place, count)]), places(place, count)
+                found, whole = answered(service.port, deliveries(place, count)), places(place, count)
                 expect(whole.startswith(found), f"{failure}: {found!r}")
                 place += whole_answers(found) + (found != whole and untold)
             service.expect_end()
