@@ -82,16 +82,20 @@ class Served:
         self.ends_early = False
 
     def expect_answers(self, lines: list[str], text: bytes, is_single: bool) -> None:
-        """Each message is answered as if those for which memory was refused had not come. Behind one at which the desk stopped
-        all are told so; a connection for which memory is refused ends between two answers."""
+        """Each message is answered as if those for which memory was refused had not come. Behind a command at which the desk
+        stopped all are told so. A connection that itself lacks memory ends between two answers; where a single allocation is
+        refused, before the first, since it can do without all behind that."""
         answers = parts_of(text)
         expect(len(answers) <= len(lines), f"{self.of}: {text!r}")
-        self.ends_early |= len(answers) < len(lines)
+        if len(answers) < len(lines):
+            self.ends_early = True
+            expect(not answers or not is_single, f"{self.of}: it ends behind {len(answers)} answers")
         for line, found in zip(lines, answers):
             if found == NO_MEMORY:
                 self.refused += 1
             elif found == STOPPED:
                 self.stopped_at = self.stopped_at or (line,)
+                expect(not self.stopped_at[0].startswith("?"), f"{self.of}: {line} stopped the desk")
             else:
                 expect(not self.stopped_at, f"{self.of}: {found!r} of a stopped desk")
                 self.done += (line,)
