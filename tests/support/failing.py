@@ -6,7 +6,6 @@ import os
 import shutil
 import subprocess
 import tempfile
-import unittest
 from collections.abc import Callable, Iterable, Iterator, Sequence
 from concurrent.futures import ThreadPoolExecutor
 from dataclasses import dataclass
@@ -49,14 +48,18 @@ def refusals(first: int, count: int) -> list[Failure]:
     return alone + [Failure("memory", number, for_good=True) for number in range(first, count + 1, FOR_GOOD)]
 
 
+class NotBuilt(Exception):
+    """Why there is no library by which calls fail."""
+
+
 def library_in(folder: str) -> str:
-    """The path of the library by which calls fail. Where none can be built the tests that need it are left out."""
+    """The path of the library by which calls fail."""
     if not (compiler := shutil.which("cc")):
-        raise unittest.SkipTest("cc not here")
+        raise NotBuilt("cc not here")
     path = os.path.join(folder, "failing.so")
     words = [compiler, "-shared", "-fPIC", "-O2", "-o", path, SOURCE]
     if (run := subprocess.run(words, capture_output=True, text=True, check=False)).returncode:
-        raise unittest.SkipTest(f"cc builds no library here: {run.stderr.strip()[-200:]}")
+        raise NotBuilt(f"cc builds no library here: {run.stderr.strip()[-200:]}")
     return path
 
 
@@ -123,14 +126,20 @@ class Failing:
 
 
 class FailingCase(ProgramCase):
-    """Tests of the built program of which calls fail, on files in memory."""
+    """Tests of the built program of which calls fail, on files in memory; left out where no library for that can be built."""
 
     failing: Failing
+    lacking = ""
 
     @classmethod
     def setUpClass(cls) -> None:
         super().setUpClass()
-        cls.failing = Failing(cls.program, cls.enterClassContext(tempfile.TemporaryDirectory(dir=IN_MEMORY)))
+        try:
+            cls.failing = Failing(cls.program, cls.enterClassContext(tempfile.TemporaryDirectory(dir=IN_MEMORY)))
+        except NotBuilt as fault:
+            cls.lacking = str(fault)
 
     def setUp(self) -> None:
+        if self.lacking:
+            self.skipTest(self.lacking)
         self.folder = self.enterContext(tempfile.TemporaryDirectory(dir=IN_MEMORY))
