@@ -18,6 +18,8 @@ WRITE_ERRORS = [*READ_ERRORS, 0]
 
 CSV: End = (4, b"", b"stockdesk: csv\n")
 PIECE = 512
+# two reads find the ends of two connections
+ENDS = 2
 # how many messages two connections bring; each adds a piece to a field
 FIRST, SECOND = 4, 2
 
@@ -44,8 +46,8 @@ class Connections:
         self.desk = new_desk(self.program, folder, "new.db")
         done(self.program, ["run", self.desk], "K1 field N1 A-1 0 100 0\n")
 
-    def serve(self, failure: Failure) -> tuple[int, bool]:
-        """How many messages are done, and whether the call came. A connection of which one fails ends there, and the other is
+    def serve(self, failure: Failure) -> tuple[bool, bool]:
+        """Whether something was not told, and whether the call came. A connection of which one fails ends there, and the other is
         served whole; what was done is told, but for the last answer where a write fails."""
         with self.failing.lane() as lane:
             path = os.path.join(lane, "desk.db")
@@ -54,25 +56,31 @@ class Connections:
                 service = Service(self.program, path, 2, environment=self.failing.environment(failure, lane))
             except NotServed as fault:
                 expect((fault.end, failure.kind) == (IO, "write"), f"{failure}: {fault}")
-                return 0, True
-            untold, place = failure.kind == "write", 2
+                return True, True
+            cuts, place = 0, 2
             for count in [FIRST, SECOND]:
                 found, whole = answered(service.port, deliveries(place, count)), places(place, count)
                 expect(whole.startswith(found), f"{failure}: {found!r}")
-                place += whole_answers(found) + (found != whole and untold)
+                cuts += found != whole
+                place += whole_answers(found) + (found != whole and failure.kind == "write")
             service.expect_end()
             [shown] = done(self.program, ["run", path], "? field N1 A-1\n")
             expect(shown.split()[9] == str(place - 2), f"{failure}: {place - 2} were done, and then {shown}")
-            return place - 2, failure.first <= self.failing.counted(lane)
+            expect(cuts <= 1, f"{failure}: both connections are cut")
+            return cuts == 1, failure.first <= self.failing.counted(lane)
 
     def expect_cuts(self, kind: str, error: int) -> None:
+        """Each write that fails leaves something untold, and each read that does not find the end."""
         cut = 0
         for first in itertools.count(1):
-            messages, came = self.serve(Failure(kind, first, error=error))
-            cut += messages < FIRST + SECOND
+            is_cut, came = self.serve(Failure(kind, first, error=error))
+            cut += is_cut
             if not came:
-                expect(cut and messages == FIRST + SECOND, f"{kind}, error {error}: {cut} cut, {messages} messages at last")
-                note(f"{kind}, error {error}: {cut} of {first - 1}")
+                most = first - 1
+                expect(
+                    not is_cut and (most if kind == "write" else most - ENDS) <= cut, f"{kind}, error {error}: {cut} of {most}"
+                )
+                note(f"{kind}, error {error}: {cut} of {most}")
                 return
 
 
@@ -106,9 +114,7 @@ class FailingCalls(FailingCase):
 
     def test_a_work_ends_at_a_call_of_its_store_that_fails(self):
         for work in [SHEETS[0], SCRIPT, REQUESTS[1]]:
-            on_copies = self.on_copies(work)
-            for for_good in [False, True]:
-                on_copies.expect_each_cut("store", [STORE], errno.EIO, for_good)
+            self.on_copies(work).expect_cut_alike("store", [STORE], errno.EIO)
 
     def test_a_connection_ends_at_a_read_or_a_write_that_fails(self):
         connections = Connections(self.failing, self.folder)

@@ -39,6 +39,8 @@ EACH_KIND = [
     ("M3 deliver N1 A-1 11", "M3 refused 1 KeyReused 0"),
     ("M19  commit 20", "- refused 20 BadCommand 0"),
     ("? order 8", "? none"),
+    ("? order 20", "? order 20 transfer 900 firm take N1 A-1 10 4 add N2 A-1 10 4"),
+    ("? field N2 A-1", "? field N2 A-1 lo 0 hi 50 value 9 inf 9 sup 15"),
 ]
 
 OPEN_AND_FIRM = [line for line, _ in EACH_KIND]
@@ -205,13 +207,13 @@ class OnCopies:
 
     def expect_cut(self, failure: Failure, lane: str, faults: list[End]) -> int | None:
         """Where the call fails, the run ends with a fault of these behind a beginning of the answer, and what was told is kept:
-        so many lines. None where the call does not come, or the run did without it, and it ends well."""
+        so many lines. None where the call does not come, or the run can do without it, and it ends well."""
         path, words = self.copied(lane, self.work.words)
         (status, out, errors), came = self.failing.ended(words, self.input, failure, lane)
         of = f"{self.work}, {failure}: {status}, {out!r}, {errors!r}"
         told, fault = out.count(b"\n"), (status, b"", errors)
         is_cut = came and fault != WELL
-        expect(fault in faults if is_cut else fault == WELL, of)
+        expect(fault == WELL or is_cut and fault in faults, of)
         expect(self.whole.startswith(out.decode()) and (is_cut or out.decode() == self.whole), of)
         try:
             self.expect_left(path, words, told, fault, failure.kind)
@@ -231,7 +233,18 @@ class OnCopies:
         expect(cut, f"{self.work}: none is cut")
         return cut
 
-    def expect_each_cut(self, kind: str, faults: list[End], error: int, for_good: bool = False) -> list[int]:
-        """The same of each call of a kind, and of one that does not come."""
+    def expect_each_cut(self, kind: str, faults: list[End], error: int) -> list[int]:
+        """The same of each call of a kind. It can do without none."""
         count = self.count(kind, self.work.words, self.input)
-        return self.expect_cuts([Failure(kind, number, for_good, error) for number in range(1, count + 2)], faults)
+        told = self.expect_cuts([Failure(kind, number, error=error) for number in range(1, count + 2)], faults)
+        expect(len(told) == count, f"{self.work}, {kind}, error {error}: {len(told)} of {count} are cut")
+        return told
+
+    def expect_cut_alike(self, kind: str, faults: list[End], error: int) -> None:
+        """The same of each call of a kind. It can do without none without which it cannot do for good."""
+        numbers = range(1, self.count(kind, self.work.words, self.input) + 1)
+        alone, for_good = (
+            self.expect_cuts([Failure(kind, number, is_for_good, error) for number in numbers], faults)
+            for is_for_good in (False, True)
+        )
+        expect(alone == for_good, f"{self.work}, {kind}: {alone} lines are told, and {for_good} where all behind fail, too")
