@@ -1,15 +1,17 @@
 """Tests of the built program of which one read or write fails, or one call of its store, where all behind it would succeed: none
 is tried again. It ends with the fault behind a beginning of its answer, and what was told is kept."""
 
+import contextlib
 import errno
 import itertools
 import os
+import socket
 
 from support.cases import needs_strict_tables
 from support.failing import Failing, FailingCase, Failure
 from support.messages import answer, compact, message
-from support.programs import IO, STORE, End, done, expect, new_desk, note
-from support.service import NotServed, Service, answered
+from support.programs import IO, SECONDS, STORE, End, done, expect, new_desk, note
+from support.service import NotServed, Service
 from support.works import REQUESTS, SCRIPT, SHEETS, WORKS, OnCopies, Work, copy_desk
 
 # two of the errors ask for another try; a write with the error 0 takes no byte, which is no error to the system
@@ -18,10 +20,10 @@ WRITE_ERRORS = [*READ_ERRORS, 0]
 
 CSV: End = (4, b"", b"stockdesk: csv\n")
 PIECE = 512
-# two reads find the ends of two connections
-ENDS = 2
-# how many messages two connections bring; each adds a piece to a field
+# how many messages two connections bring, each of which adds a piece to a field; and which calls leave nothing untold where they
+# fail: the reads that find the ends of these
 FIRST, SECOND = 4, 2
+TOLD = {"read": [FIRST + 1, FIRST + 1 + SECOND + 1], "write": []}
 
 
 def deliveries(first: int, count: int) -> list[bytes]:
@@ -31,6 +33,22 @@ def deliveries(first: int, count: int) -> list[bytes]:
 
 def places(first: int, count: int) -> bytes:
     return b"".join(answer(200, compact({"place": place})) for place in range(first, first + count))
+
+
+def answered_in_turn(port: int, messages: list[bytes]) -> bytes:
+    """What is answered to these messages, each of which waits for the answer to the last."""
+    found = b""
+    with socket.create_connection(("127.0.0.1", port), SECONDS) as connection, contextlib.suppress(ConnectionError):
+        for number, text in enumerate(messages, 1):
+            connection.sendall(text)
+            while whole_answers(found) < number and (part := connection.recv(65_536)):
+                found += part
+        # where the other end has closed there is nothing to end
+        with contextlib.suppress(OSError):
+            connection.shutdown(socket.SHUT_WR)
+        while part := connection.recv(65_536):
+            found += part
+    return found
 
 
 def whole_answers(text: bytes) -> int:
@@ -59,7 +77,7 @@ class Connections:
                 return True, True
             cuts, place = 0, 2
             for count in [FIRST, SECOND]:
-                found, whole = answered(service.port, deliveries(place, count)), places(place, count)
+                found, whole = answered_in_turn(service.port, deliveries(place, count)), places(place, count)
                 expect(whole.startswith(found), f"{failure}: {found!r}")
                 cuts += found != whole
                 place += whole_answers(found) + (found != whole and failure.kind == "write")
@@ -70,18 +88,14 @@ class Connections:
             return cuts == 1, failure.first <= self.failing.counted(lane)
 
     def expect_cuts(self, kind: str, error: int) -> None:
-        """Each write that fails leaves something untold, and each read that does not find the end."""
-        cut = 0
+        told = []
         for first in itertools.count(1):
             is_cut, came = self.serve(Failure(kind, first, error=error))
-            cut += is_cut
             if not came:
-                most = first - 1
-                expect(
-                    not is_cut and (most if kind == "write" else most - ENDS) <= cut, f"{kind}, error {error}: {cut} of {most}"
-                )
-                note(f"{kind}, error {error}: {cut} of {most}")
-                return
+                break
+            told += [] if is_cut else [first]
+        expect(told == TOLD[kind] and not is_cut, f"{kind}, error {error}: the connections are not cut by {told}")
+        note(f"{kind}, error {error}: {first - 1}")
 
 
 @needs_strict_tables
