@@ -2,12 +2,12 @@
 use Rattle.std.specs.Prelude.{ℕ, ◌+◌, ◌≤◌, ◌≡◌, List, [], ◌∷◌, Option, length, map, option_map}
 use Rattle.words.specs.declared.command.Request.{Request}
 use Rattle.book.specs.Answers.{IsAccepted}
-use Rattle.book.specs.Changes.{changed_rows, put_content}
+use Rattle.book.specs.Changes.{changed_rows, put_content, put_rows}
 use Rattle.book.specs.Ledger.{Ledger, Move, Name, Order, open_orders, places}
 use Rattle.book.specs.Next.{accept, move_made, next}
 use Rattle.book.specs.Rows.{Content, IsRowsOf, desk_row}
 use Rattle.book.specs.Steps.{orders_made}
-use Rattle.book.specs.Model.{BookView, entry_row, move_of, order_of}
+use Rattle.book.specs.Model.{BookView, LineSlots, entry_row, move_of, order_of, slots_cmp, slots_of}
 use Rattle.book.specs.declared.book.FieldEntry.{FieldEntry}
 use Rattle.book.specs.declared.book.plan.PlanParts.{PlanParts}
 
@@ -25,6 +25,8 @@ pub record PlanView : Type 0 where
   pub moved : Option Move
   -- the orders that the command opens or changes, as they are then
   pub orders : List Order
+  -- for how many lines each of them has slots
+  pub line_slots : List LineSlots
   -- the rows that change
   pub changes : Content
 
@@ -38,6 +40,7 @@ plan_of p changes = record {
   fields = p.fields.entries;
   moved = option_map move_of p.moved;
   orders = map order_of p.orders.items;
+  line_slots = map slots_of p.orders.items;
   changes = changes;
 }
 
@@ -78,3 +81,11 @@ pub record NoRoomGrows (old new : BookView) : Type 0 where
   pub moves : new.room.moves ≤ old.room.moves
   pub orders : new.room.orders ≤ old.room.orders
   pub kept : new.room.kept ≤ old.room.kept
+
+-- No memory is taken that stays: all slots are those that there were, and for lines of the plan's orders the plan's.
+pub record KeepsStorage (old : BookView) (plan : PlanView) (new : BookView) : Type 0 where
+  pub fields : new.storage.fields ≡ old.storage.fields
+  pub moves : new.storage.moves ≡ old.storage.moves
+  pub orders : new.storage.orders ≡ old.storage.orders
+  pub lines : new.storage.lines ≡ put_rows slots_cmp plan.line_slots old.storage.lines
+  pub kept : new.storage.kept ≡ old.storage.kept

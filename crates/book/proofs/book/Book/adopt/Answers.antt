@@ -61,3 +61,8 @@ returns-clause-even c n article commits transfer =
 pub returns-clause-room_used : goal.returns-clause-room_used
 returns-clause-room_used c = rw (← c.self.view_is)
     (record { fields = c.adopt_fields.ensures.room; moves = c.adopt_move.ensures.room; orders = c.adopt_orders.ensures.room; kept = c.insert_kept.ensures.room })
+
+pub returns-clause-storage : goal.returns-clause-storage
+returns-clause-storage c =
+    rw (← c.self.view_is, ← c.into_parts-parts.ensures)
+    (record { fields = c.adopt_fields.ensures.storage; moves = c.adopt_move.ensures.storage; orders = c.adopt_orders.ensures.storage; lines = c.adopt_orders.ensures.lines; kept = c.insert_kept.ensures.storage })
