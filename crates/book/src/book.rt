@@ -264,11 +264,12 @@ impl Book {
         ensures rows { rows_among result.items ≡ plan.changes }
     {
         let (parts, changes) = plan.into_parts();
+        let open_count = self.open_after(&parts.orders);
         let (key, place, words) = (parts.key, parts.place, parts.words);
         key.as_bytes();
         words.as_bytes();
         self.clock = parts.clock;
-        self.open_count = parts.open_count;
+        self.open_count = open_count;
         adopt_fields(&mut self.fields, &parts.fields);
         adopt_move(&mut self.moves, parts.moved);
         adopt_orders(&mut self.orders, parts.orders);
