@@ -1,8 +1,7 @@
--- A transaction of no rows, behind one that is done, leaves what was.
+-- A transaction of no rows, behind one that is done, leaves what was. Controls of wrong bodies read this.
 use Rattle.std.proofs.Common.{List, [], arith}
 use Rattle.sqlite.specs.State.{State, HasCleanDisk, Survives}
 use Rattle.sqlite.proofs.StateLemmas.{survives_then}
-use Rattle.sqlite_trees.specs.Tree.{Trees}
 use Rattle.book.specs.declared.rows.Change.{Change}
 use Rattle.book.specs.Rows.{Content}
 use Rattle.keep.specs.Content.{Holds, IsContent}
