@@ -1,5 +1,5 @@
 use Rattle.std.proofs.Common.{[], ◌∷◌}
-use Rattle.std.proofs.lemmas.Result.{IfOk-weaker}
+use Rattle.std.proofs.lemmas.Result.{IfErr-weaker, IfOk-weaker}
 use Rattle.desk.specs.Opening.{keeper_after}
 use Rattle.desk.proofs.FoundAfter.{left_alone, opened_rows, refused_so}
 use Rattle.desk.proofs.headline.cut_and_open.Goals as goal
@@ -25,3 +25,6 @@ returns-clause-honours g c = IfOk-weaker c.open.result _ _ (λ again opened. (op
 
 pub returns-clause-going : goal.returns-clause-going
 returns-clause-going g c = IfOk-weaker c.open.result _ _ (λ again opened. opened.going) c.open.ensures.opened
+
+pub returns-clause-fault : goal.returns-clause-fault
+returns-clause-fault g c = IfErr-weaker c.open.result _ _ (λ e told. (c.in_ok-again.again, told)) c.open.ensures.unopened
