@@ -13,7 +13,7 @@ pub returns-clause-left : goal.returns-clause-left
 returns-clause-left g c honest these leaves =
     let before = c.open.ensures.honest honest in
     left_alone these (g.K.Keep.holds c.in_ok-again.again) (g.K.Keep.leaves (keeper_after c.open.result)) (c.in_ok-again.ensures.found before these leaves)
-    (λ x held. (c.open.ensures.left honest).adds_nothing (x ∷ []) (c.in_ok-again.ensures.alone before x held))
+    (λ x held. (c.open.ensures.left honest).adds.adds_nothing (x ∷ []) (c.in_ok-again.ensures.alone before x held))
 
 pub returns-clause-refused : goal.returns-clause-refused
 returns-clause-refused g c honest left =
