@@ -224,7 +224,8 @@ pub fn script_and_stop<K: Keep, R: Read, W: Write>(
 /// While the disk is honest, and where the reader and the writer tell their bytes: the ledger found is the one after a
 /// prefix of the lines that were read which holds every one whose reply line was written whole, and at most one more;
 /// after a script that ended `Ok` it is the one after all its lines. The opening fails, if at all, for memory or by the
-/// store, and every future of the ledger found is honoured. A fault is told as `cut_and_open` tells it.
+/// store, and every future of the ledger found is honoured. A fault is told as `cut_and_open` tells it, and how the script
+/// ended as `script_and_stop` tells it, of the keeper that was cut off.
 pub fn script_cut_and_open<K: Recover, R: Read, W: Write>(
     alloc: Global,
     desk: Desk<K>,
@@ -242,6 +243,9 @@ pub fn script_cut_and_open<K: Recover, R: Read, W: Write>(
     ensures whole { OnOk result.0 (IfSome result.1 (λ r. K.is_honest (keeper_after r) → IfOk r (λ again.
         ∥ WritesText desk.ledger again.ledger (streams (R.remaining reader.old) (R.remaining reader.new)
         (W.contents writer.old) (W.contents writer.new)) ∥₁))) }
+    ensures cut { IfErr result.0 (λ fault. (last : Ledger) × (keep : K) × EndsCut lines fault (desk_state K.Keep desk)
+        (desk_state K.Keep (record { ledger = last; keep = keep }))
+        (streams (R.remaining reader.old) (R.remaining reader.new) (W.contents writer.old) (W.contents writer.new))) }
     ensures refused { IfSome result.1 (λ r. K.is_honest (keeper_after r)
         → IfErr r (λ e. (e.0 ≡ OpenFault.Memory) ⊎ (e.0 ≡ OpenFault.Store))) }
     ensures left { IfSome result.1 (λ r. K.is_honest (keeper_after r) → ∥ LeavesRowsOf (K.leaves (keeper_after r))
