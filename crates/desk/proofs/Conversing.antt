@@ -159,7 +159,7 @@ module _ {Q A : Type 0} (L : Language Q A) where
 
   pub cut_failed : (fault : CallFault) (told : ScriptFault) (old new : DeskState) (question : Q) → FailsOne L fault old question new → (fault ≡ CallFault.Memory → told ≡ ScriptFault.Memory) → (fault ≡ CallFault.Stopped → told ≡ ScriptFault.Stopped)
       → IsCut L told old (question ∷ []) [] new
-  cut_failed CallFault.Memory told old new question (same, still) memory stopped =
+  cut_failed CallFault.Memory told old new question (same, still, asked) memory stopped =
       subst (λ (f : ScriptFault). IsCut L f old (question ∷ []) [] new) (sym (memory refl)) (cut_unanswered ScriptFault.Memory old new (question ∷ []) memory_stops_nothing same still)
   cut_failed CallFault.Stopped told old new question (request, calls, same, halted, call) memory stopped = record {
     answered = [];

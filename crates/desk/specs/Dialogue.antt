@@ -213,9 +213,11 @@ pub record AnswersOne {Q A : Type 0} (L : Language Q A) (old : DeskState) (quest
       → (request : Request) × (kind ≡ stopping) × L.calls question request × IsAccepted new.ledger request
       × LeavesEither new.leaves new.ledger (accept new.ledger request)
 
--- It was not answered: nothing has changed, or it is a request at which the desk is stopped, now or before.
+-- It was not answered: nothing has changed, and a stopped desk was not asked a request; or it is a request at which the
+-- desk is stopped, now or before.
 abbrev pub FailsOne : {Q A : Type 0} → Language Q A → CallFault → DeskState → Q → DeskState → Type 0
 FailsOne L CallFault.Memory old question new = (new.ledger ≡ old.ledger) × (new.is_stopped ≡ old.is_stopped)
+    × (IsTrue old.is_stopped → (request : Request) → ¬ L.calls question request)
 FailsOne L CallFault.Stopped old question new = (request : Request) × L.calls question request
     × (new.ledger ≡ old.ledger) × IsTrue new.is_stopped × (old.is_stopped ≡ false → StopsCall request old new)
 
