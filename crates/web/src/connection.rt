@@ -1,8 +1,8 @@
 //! A connection, served.
 
-ghost use Rattle.std.specs.Prelude.{◌≡◌, ◌≢◌, IfErr, IfOk, drop, true};
+ghost use Rattle.std.specs.Prelude.{◌≡◌, ◌≢◌, Err, IfErr, IfOk, drop, true};
 ghost use Rattle.desk.specs.Desk.{Goes, desk_state, snapshot};
-ghost use Rattle.desk.specs.Dialogue.{BeginsTranscript, EndsCut, EndsWhole};
+ghost use Rattle.desk.specs.Dialogue.{BeginsTranscript, EndsCut, EndsUntaken, EndsWhole};
 ghost use Rattle.desk.specs.Streams.{streams};
 ghost use Rattle.web.specs.Intake.{IsMessageAt, IsMessageWithin};
 ghost use Rattle.web.specs.Messages.{Message, whole};
@@ -106,6 +106,8 @@ impl Dialogue for HttpDialogue {
 
     ghost may_stop = { ⊥ };
 
+    ghost may_want = { ⊥ };
+
     ghost size = { λ s. left_to_find s.is_over s.held.items };
 
     fn take_in(&mut self, _alloc: Global, piece: &[u8]) -> Result<(), Memory> {
@@ -167,6 +169,8 @@ fn web_fault(fault: ScriptFault) -> WebFault
 ///
 /// What is written is the answers to all that was read, and `Served` has their count. After a fault it is a beginning
 /// of such: the answers to all that the desk has done, of which only a failing write leaves out the last one or its end.
+/// A message for which memory is refused is answered so. `Memory` is told only where it is refused for the router, before
+/// anything is read, or for a piece of the input: what came whole before that piece is answered, and nothing of it.
 /// A connection of 2^64 - 1 pieces ends as one whose reader fails. `stopped` is answered only where the desk is stopped.
 /// Of a desk that was not stopped before, over an honest disk, a stop then leaves the rows of its ledger or those after
 /// the command that was first answered `stopped`, and in every other case those of its ledger alone. A desk that was
@@ -186,6 +190,9 @@ pub fn serve<K: Keep, R: Read, W: Write>(
         (streams (R.remaining reader.old) (R.remaining reader.new) (W.contents writer.old) (W.contents writer.new))) }
     ensures begins { IfErr result (λ fault. BeginsTranscript http (snapshot (desk_state K.Keep desk.old))
         (streams (R.remaining reader.old) (R.remaining reader.new) (W.contents writer.old) (W.contents writer.new))) }
+    ensures memory { result ≡ Err WebFault.Memory → EndsUntaken http (desk_state K.Keep desk.old)
+        (desk_state K.Keep desk.new)
+        (streams (R.remaining reader.old) (R.remaining reader.new) (W.contents writer.old) (W.contents writer.new)) }
     ensures goes { Goes K.Keep desk.old desk.new }
 {
     desk.is_stopped();
