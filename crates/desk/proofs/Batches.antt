@@ -1,5 +1,5 @@
 -- Batches: how they are made, and that they come again.
-use Rattle.std.proofs.Common.{◌≡◌, ◌≢◌, ◌∙◌, ◌+◌, ◌-◌, ◌<◌, ◌≤◌, ◌++◌, ◌⊎◌, Bool, false, true, true≢false, ℕ, List, [], ◌∷◌, ap, append-nil, append_assoc, arith, drop, inl, inr, length, refl, subst, sym, take, Err, IsTrue, Ok, Result}
+use Rattle.std.proofs.Common.{◌≡◌, ◌≢◌, ◌∙◌, ◌+◌, ◌-◌, ◌<◌, ◌≤◌, ◌++◌, ◌⊎◌, Bool, false, true, true≢false, ℕ, List, [], ◌∷◌, ap, append-nil, append_assoc, arith, drop, inl, inr, length, refl, subst, sym, take, Err, Ok, Result}
 use Rattle.std.proofs.lemmas.Bool.{eqb-true}
 use Rattle.std.proofs.lemmas.List.{length-append, length-drop, map-append}
 use Rattle.std.proofs.Math.Seq.{take-add, take-length}
@@ -307,20 +307,27 @@ module _ {K : Type 0} (g : Ghosts K) (old mid new : K) (none : List Change) (emp
   kept_by puts x there = subst (λ (cs : List Change). g.holds mid (with_changes cs x)) empty (puts x there)
 
   -- where the second is kept, the first has changed nothing
-  pub held_between : {S T : Type 0} (first : Result S KeepFault) (second : Result T KeepFault) → GoesOn g.stopped old mid first → GoesOn g.stopped mid new second → OnOk first Puts → OnOk second ((x : Content) → g.holds old x → g.holds mid x)
+  pub held_between : {S T : Type 0} (first : Result S KeepFault) (second : Result T KeepFault) → GoesOn g.stopped old mid first
+      → GoesOn g.stopped mid new second → OnOk first Puts → OnOk second ((x : Content) → g.holds old x → g.holds mid x)
   held_between first (Err fault) began went puts = tt
   held_between (Ok done) (Ok more) began went puts = kept_by puts
   held_between (Err fault) (Ok more) began went puts = let never = (went.refused began.err).0 in cc
 
   -- a stop leaves what the second alone would leave
-  pub left_between : {S T : Type 0} (widens : (these those : List Content) → ((x : Content) → IsAmong these x → IsAmong those x) → g.leaves mid these → g.leaves mid those) (all : List Change) (first : Result S KeepFault) (second : Result T KeepFault)
-      → GoesOn g.stopped old mid first → GoesOn g.stopped mid new second → OnOk first Puts → OnOk first ((x : Content) → g.holds mid x → g.leaves mid (x ∷ []))
-      → ((x : Content) → g.holds old x → g.leaves old (x ∷ []) → g.leaves mid (x ∷ with_changes none x ∷ [])) → (g.stopped mid ≡ false → (x : Content) → g.holds mid x → g.leaves mid (x ∷ []) → g.leaves new (x ∷ with_changes all x ∷ []))
+  pub left_between : {S T : Type 0}
+      (widens : (these those : List Content) → ((x : Content) → IsAmong these x → IsAmong those x) → g.leaves mid these → g.leaves mid those)
+      (all : List Change) (first : Result S KeepFault) (second : Result T KeepFault)
+      → GoesOn g.stopped old mid first → GoesOn g.stopped mid new second → OnOk first Puts
+      → OnOk first ((x : Content) → g.holds mid x → g.leaves mid (x ∷ []))
+      → ((x : Content) → g.holds old x → g.leaves old (x ∷ []) → g.leaves mid (x ∷ with_changes none x ∷ []))
+      → (g.stopped mid ≡ false → (x : Content) → g.holds mid x → g.leaves mid (x ∷ []) → g.leaves new (x ∷ with_changes all x ∷ []))
       → (x : Content) → g.holds old x → g.leaves old (x ∷ []) → g.leaves new (x ∷ with_changes all x ∷ [])
-  left_between widens all (Ok done) second began went puts alone either then x there only = let held = kept_by puts x there in then began.ok x held (alone x held)
+  left_between widens all (Ok done) second began went puts alone either then x there only =
+      let held = kept_by puts x there in then began.ok x held (alone x held)
   left_between widens all (Err fault) second began went puts alone either then x there only =
       let twice = subst (λ (cs : List Change). g.leaves mid (x ∷ with_changes cs x ∷ [])) empty (either x there only) in
-      subst (λ k. g.leaves k (x ∷ with_changes all x ∷ [])) (sym (went.refused began.err).1) (widens (x ∷ x ∷ []) (x ∷ with_changes all x ∷ []) (wider x (with_changes all x)) twice)
+      subst (λ k. g.leaves k (x ∷ with_changes all x ∷ [])) (sym (went.refused began.err).1)
+      (widens (x ∷ x ∷ []) (x ∷ with_changes all x ∷ []) (wider x (with_changes all x)) twice)
 
 -- ---- batch after batch
 

@@ -97,41 +97,51 @@ lines_there A B [] (p ∷ ps) is = absurd is
 lines_there A B (r ∷ rs) [] is = absurd is
 lines_there A B (r ∷ rs) (p ∷ ps) (M, answer, more) = (request_line r.key p, M, lines_of rs ps, (p, answer, refl), lines_there M B rs ps more, refl)
 
-lines_joined : (rs more : List Request) (ps qs : List Reply) → length ps ≡ length rs → lines_of (rs ++ more) (ps ++ qs) ≡ lines_of rs ps ++ lines_of more qs
+lines_joined : (rs more : List Request) (ps qs : List Reply) → length ps ≡ length rs
+    → lines_of (rs ++ more) (ps ++ qs) ≡ lines_of rs ps ++ lines_of more qs
 lines_joined [] more [] qs e = refl
 lines_joined [] more (p ∷ ps) qs e = absurd (omega (arith, e))
 lines_joined (r ∷ rs) more [] qs e = absurd (omega (arith, e))
 lines_joined (r ∷ rs) more (p ∷ ps) qs e =
-    ap (λ (xs : List ℕ). request_line r.key p ++ xs) (lines_joined rs more ps qs (omega (arith, e))) ∙ sym (append_assoc (request_line r.key p) (lines_of rs ps) (lines_of more qs))
+    let rest = lines_joined rs more ps qs (omega (arith, e)) in
+    ap (λ (xs : List ℕ). request_line r.key p ++ xs) rest ∙ sym (append_assoc (request_line r.key p) (lines_of rs ps) (lines_of more qs))
 
 -- those of each part are those of its replies
-lines_after_all : (B D : Ledger) (rs : List Request) (runs : List Run) → IsFoundAfterCuts B rs runs D → all_lines runs ≡ lines_of (take (length (all_replies runs)) rs) (all_replies runs)
+lines_after_all : (B D : Ledger) (rs : List Request) (runs : List Run) → IsFoundAfterCuts B rs runs D
+    → all_lines runs ≡ lines_of (take (length (all_replies runs)) rs) (all_replies runs)
 lines_after_all B D rs [] h = refl
 lines_after_all B D rs (run ∷ runs) (M, is_run, found, more) =
     let n : ℕ = answered run in
     let m : ℕ = length (all_replies runs) in
-    let first : run.lines.items ≡ lines_of (take n rs) run.replies.items =
-    (replies_one (items_of (take n rs)) B run.lines.items (lines_of (take n rs) run.replies.items) is_run.last is_run.last is_run.lines (lines_there B is_run.last (take n rs) run.replies.items is_run.replies)).0 in
-    let front : length (take n rs) ≡ n = length-take-le n rs (few B is_run.last rs run.replies.items is_run.replies) in
-    ap (λ (xs : List ℕ). xs ++ all_lines runs) first ∙ ap (λ (xs : List ℕ). lines_of (take n rs) run.replies.items ++ xs) (lines_after_all M D (drop n rs) runs more)
-    ∙ sym (lines_joined (take n rs) (take m (drop n rs)) run.replies.items (all_replies runs) (sym front))
-    ∙ ap (λ (xs : List Request). lines_of xs (run.replies.items ++ all_replies runs)) (sym (take-add n m rs))
-    ∙ ap (λ i. lines_of (take i rs) (run.replies.items ++ all_replies runs)) (sym (length-append run.replies.items (all_replies runs)))
+    let ps = run.replies.items in
+    let qs = all_replies runs in
+    let there = lines_there B is_run.last (take n rs) ps is_run.replies in
+    let first : run.lines.items ≡ lines_of (take n rs) ps =
+    (replies_one (items_of (take n rs)) B run.lines.items (lines_of (take n rs) ps) is_run.last is_run.last is_run.lines there).0 in
+    let front : length (take n rs) ≡ n = length-take-le n rs (few B is_run.last rs ps is_run.replies) in
+    ap (λ (xs : List ℕ). xs ++ all_lines runs) first
+    ∙ ap (λ (xs : List ℕ). lines_of (take n rs) ps ++ xs) (lines_after_all M D (drop n rs) runs more)
+    ∙ sym (lines_joined (take n rs) (take m (drop n rs)) ps qs (sym front))
+    ∙ ap (λ (xs : List Request). lines_of xs (ps ++ qs)) (sym (take-add n m rs))
+    ∙ ap (λ i. lines_of (take i rs) (ps ++ qs)) (sym (length-append ps qs))
 
 pub told_after_all : (A D : Ledger) (rs : List Request) (runs : List Run) → IsFoundAfterCuts A rs runs D
-    → (last : Ledger) × Runs A (take (length (all_replies runs)) rs) (all_replies runs) last × RepliesAll A (items_of (take (length (all_replies runs)) rs)) (all_lines runs) last
+    → (last : Ledger) × Runs A (take (length (all_replies runs)) rs) (all_replies runs) last
+    × RepliesAll A (items_of (take (length (all_replies runs)) rs)) (all_lines runs) last
 told_after_all A D rs runs h =
     let few_given = few_in_all A D rs runs h in
-    let size : length (flat_map (λ some. some) (given_by runs)) ≡ length (all_replies runs) = ap (λ (xs : List Reply). length xs) (all_given runs) in
+    let given : List Reply = flat_map (λ some. some) (given_by runs) in
+    let size : length given ≡ length (all_replies runs) = ap (λ (xs : List Reply). length xs) (all_given runs) in
     let whole = resumed_again A D rs 1 (given_by runs) (omega arith) (omega arith) (from_start A D rs runs h) in
-    let run = from_first A whole.last rs whole.before (flat_map (λ some. some) (given_by runs)) whole.counted whole.run in
-    let told : Runs A (take (length (all_replies runs)) rs) (all_replies runs) whole.last = subst (λ (ps : List Reply). Runs A (take (length ps) rs) ps whole.last) (all_given runs) run in (
+    let first = take (length (all_replies runs)) rs in
+    let told : Runs A first (all_replies runs) whole.last =
+    subst (λ (ps : List Reply). Runs A (take (length ps) rs) ps whole.last) (all_given runs) (from_first A whole.last rs whole.before given whole.counted whole.run) in (
       whole.last,
       told,
-      subst (λ (out : List ℕ). RepliesAll A (items_of (take (length (all_replies runs)) rs)) out whole.last) (sym (lines_after_all A D rs runs h))
-          (lines_there A whole.last (take (length (all_replies runs)) rs) (all_replies runs) told),
+      subst (λ (out : List ℕ). RepliesAll A (items_of first) out whole.last) (sym (lines_after_all A D rs runs h)) (lines_there A whole.last first (all_replies runs) told),
     )
   where
-    from_first : (A B : Ledger) (rs : List Request) (before ps : List Reply) → length before + 1 ≡ 1 → Runs A (take (length before + length ps) rs) (before ++ ps) B → Runs A (take (length ps) rs) ps B
+    from_first : (A B : Ledger) (rs : List Request) (before ps : List Reply) → length before + 1 ≡ 1
+        → Runs A (take (length before + length ps) rs) (before ++ ps) B → Runs A (take (length ps) rs) ps B
     from_first A B rs [] ps none run = subst (λ i. Runs A (take i rs) ps B) (omega arith) run
     from_first A B rs (q ∷ before) ps none run = absurd (omega (arith, none))

@@ -13,6 +13,7 @@ returns-in-Ok-clause-behind g c =
     let dropped : length (drop (c.args.first - 1) rs) ≡ length rs - (c.args.first - 1) = length-drop (c.args.first - 1) rs in
     let counted = c.requires.counted in
     let within = c.requires.within in
+    let going = IfOk-at_ok (λ again. g.K.Keep.stopped again.keep ≡ false) c.in-Ok.is c.requires.going in
     record {
       found = c.in-Ok.again.ledger;
       good_found = c.in_order.ensures.good;
@@ -24,5 +25,5 @@ returns-in-Ok-clause-behind g c =
       };
       behind = refl;
       good = rest.goes.good;
-      ending = record { stopped = rest.stop.stopped; going = λ other. rest.stop.going other ∙ IfOk-at_ok (λ again. g.K.Keep.stopped again.keep ≡ false) c.in-Ok.is c.requires.going };
+      ending = record { stopped = rest.stop.stopped; going = λ other. rest.stop.going other ∙ going };
     }
