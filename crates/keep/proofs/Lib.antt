@@ -20,4 +20,4 @@ pub mod LaterTables
 pub mod PlainRows
 pub mod PlainChanges
 pub mod Upgrades
-pub mod TwoTransactions
+pub mod NothingMore
