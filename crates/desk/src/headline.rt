@@ -35,8 +35,9 @@ use words::Request;
 /// exactly in that case.
 pub fn run_and_stop<K: Keep>(alloc: Global, desk: Desk<K>, requests: &[Request]) -> (Run, K)
     requires { K.stopped desk.keep ≡ false }
-    ensures replies { (run : IsRunOf desk.ledger requests.now result.0)
-        × Goes K.Keep desk (record { ledger = run.last; keep = result.1 }) }
+    ensures replies { IsRunOf desk.ledger requests.now result.0 }
+    ensures behind { (last : DeskView K) × (last.keep ≡ result.1) × Goes K.Keep desk last
+        × Runs desk.ledger (take (answered result.0) requests.now) result.0.replies.items last.ledger }
     ensures going { result.0.ending ≢ Ending.Stopped → K.stopped result.1 ≡ false }
     ensures stopped { result.0.ending ≡ Ending.Stopped → IsTrue (K.stopped result.1) }
     ensures left { K.is_honest result.1
@@ -99,8 +100,8 @@ pub fn run_cut_and_open<K: Recover>(
         → IfErr r (λ e. (e.0 ≡ OpenFault.Memory) ⊎ (e.0 ≡ OpenFault.Store))) }
     ensures left { IfSome result.1 (λ r. K.is_honest (keeper_after r)
         → ∥ LeavesRowsOf (K.leaves (keeper_after r)) (IsFoundAfter desk.ledger requests.now result.0) ∥₁) }
-    ensures stop { (run : IsRunOf desk.ledger requests.now result.0) × (cut : K) × TellsEnding K.Keep result.0 cut
-        × IsCutOff K.Keep desk (record { ledger = run.last; keep = cut }) result.1 }
+    ensures stop { (last : DeskView K) × TellsEnding K.Keep result.0 last.keep × IsCutOff K.Keep desk last result.1
+        × Runs desk.ledger (take (answered result.0) requests.now) result.0.replies.items last.ledger }
     ensures fault { IfSome result.1 (λ r. IfErr r (λ e. (recovered : K) × IsUnopened K.Keep recovered e.0 e.1)) }
     ensures honours { IfSome result.1 (λ r. IfOk r (λ again. Good again.ledger × Honours again.ledger
         × HonoursAlways again.ledger)) }
@@ -170,8 +171,8 @@ pub fn run_cut_and_resume<K: Recover>(
     ensures behind { IfSome result.1 (λ r. IfOk r (λ after.
         (next : GoesOnWith K.Keep (drop (answered result.0) requests.now) after.1 after.0)
         × (K.is_honest after.0.keep → ∥ IsFoundAfter desk.ledger requests.now result.0 next.found ∥₁))) }
-    ensures stop { (run : IsRunOf desk.ledger requests.now result.0) × (cut : K) × TellsEnding K.Keep result.0 cut
-        × Goes K.Keep desk (record { ledger = run.last; keep = cut }) }
+    ensures stop { (last : DeskView K) × TellsEnding K.Keep result.0 last.keep × Goes K.Keep desk last
+        × Runs desk.ledger (take (answered result.0) requests.now) result.0.replies.items last.ledger }
     ensures fault { IfSome result.1 (λ r. IfErr r (λ e. (recovered : K) × IsUnopened K.Keep recovered e.0 e.1)) }
 {
     let (run, opened) = run_cut_and_open(alloc, desk, requests, options);

@@ -1,5 +1,4 @@
 use Rattle.std.proofs.Common.{◌∙◌, subst, sym}
-use Rattle.desk.specs.Desk.{Goes}
 use Rattle.desk.specs.Headline.{IsFoundAfter, LeavesRowsOf}
 use Rattle.desk.proofs.FoundAfter.{run_left}
 use Rattle.desk.proofs.headline.run_and_stop.Goals as goal
@@ -19,6 +18,7 @@ returns-clause-left g c honest =
 
 pub returns-clause-replies : goal.returns-clause-replies
 returns-clause-replies g c =
-    let run = c.run-run.ensures in
-    let M = c.run-run.new.self.ledger in
-    (record { last = M; replies = run.replies; lines = run.lines; all = run.all }, subst (λ k. Goes g.K.Keep c.args.desk (record { ledger = M; keep = k })) (sym c.into_keep.ensures.keep) run.goes)
+    let run = c.run-run.ensures in record { last = c.run-run.new.self.ledger; replies = run.replies; lines = run.lines; all = run.all }
+
+pub returns-clause-behind : goal.returns-clause-behind
+returns-clause-behind g c = let run = c.run-run in (run.new.self, sym c.into_keep.ensures.keep, run.ensures.goes, run.ensures.replies)

@@ -1,4 +1,5 @@
-use Rattle.std.proofs.Common.{refl}
+use Rattle.std.proofs.Common.{subst, sym}
+use Rattle.desk.specs.Headline.{TellsEnding}
 use Rattle.desk.proofs.FoundAfter.{found_of, left_of, opens_of, refused_of}
 use Rattle.desk.proofs.headline.run_cut_and_open.Goals as goal
 
@@ -21,15 +22,8 @@ pub returns-clause-stop : goal.returns-clause-stop
 returns-clause-stop g c =
     let run = c.run_and_stop-run in
     let opened = c.cut_and_open-opened in
-    let (is_run, goes) = run.ensures.replies in (
-      is_run,
-      run.result.1,
-      record { stopped = run.ensures.stopped; going = run.ensures.going },
-      record {
-        goes = goes;
-        opens = opens_of g.K.Keep opened.result run.result.1 run.result.1 refl opened.ensures.honest opened.ensures.left;
-      },
-    )
-
-pub returns-clause-replies : goal.returns-clause-replies
-returns-clause-replies g c = c.run_and_stop-run.ensures.replies.0
+    let (last, same, goes, runs) = run.ensures.behind in
+    (last, subst (λ k. TellsEnding g.K.Keep run.result.0 k) (sym same) (record { stopped = run.ensures.stopped; going = run.ensures.going }), record {
+      goes = goes;
+      opens = opens_of g.K.Keep opened.result last.keep run.result.1 same opened.ensures.honest opened.ensures.left;
+    }, runs)

@@ -55,4 +55,4 @@ returns-in-Some-clause-refused g c =
     refused_still Honest A rs run c.in-Some.opened g.K.Keep.leaves c.go_on.result refused left c.go_on.ensures.refused
 
 pub returns-in-Some-clause-stop : goal.returns-in-Some-clause-stop
-returns-in-Some-clause-stop g c = let (is_run, cut, tells, off) = c.run_cut_and_open-run.ensures.stop in (is_run, cut, tells, off.goes)
+returns-in-Some-clause-stop g c = let (last, tells, off, runs) = c.run_cut_and_open-run.ensures.stop in (last, tells, off.goes, runs)
