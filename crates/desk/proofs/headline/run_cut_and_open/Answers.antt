@@ -22,8 +22,12 @@ pub returns-clause-stop : goal.returns-clause-stop
 returns-clause-stop g c =
     let run = c.run_and_stop-run in
     let opened = c.cut_and_open-opened in
-    let (last, same, goes, runs) = run.ensures.behind in
-    (last, subst (λ k. TellsEnding g.K.Keep run.result.0 k) (sym same) (record { stopped = run.ensures.stopped; going = run.ensures.going }), record {
-      goes = goes;
-      opens = opens_of g.K.Keep opened.result last.keep run.result.1 same opened.ensures.honest opened.ensures.left;
-    }, runs)
+    let (last, same, goes, runs) = run.ensures.behind in (
+      last,
+      subst (λ k. TellsEnding g.K.Keep run.result.0 k) (sym same) (record { stopped = run.ensures.stopped; going = run.ensures.going }),
+      record {
+        goes = goes;
+        opens = opens_of g.K.Keep opened.result last.keep run.result.1 same opened.ensures.honest opened.ensures.left;
+      },
+      runs,
+    )
