@@ -1,5 +1,5 @@
 -- What an opening finds after a run, after a script, and after many cuts.
-use Rattle.std.proofs.Common.{◌≡◌, ◌∙◌, ◌⊎◌, ◌<◌, ◌≤◌, ◌+◌, ◌++◌, ℕ, List, [], ◌∷◌, Option, None, Some, arith, drop, inl, inr, length, refl, subst, sym, take}
+use Rattle.std.proofs.Common.{◌≡◌, ◌∙◌, ◌⊎◌, ◌<◌, ◌≤◌, ◌+◌, ◌-◌, ◌++◌, ℕ, List, [], ◌∷◌, Option, None, Some, arith, drop, inl, inr, length, refl, subst, sym, take}
 use native.Mathlib.Decide.{dec_lt}
 use Rattle.std.specs.Prelude.{◌≢◌, ◌↔◌, IfErr, IfOk, IfSome, Result, Ok, Err}
 use Rattle.std.proofs.lemmas.List.{length-take-le, take-append-drop, take_at}
@@ -17,7 +17,7 @@ use Rattle.keep.specs.Content.{IsAmong}
 use Rattle.keep.specs.declared.keep.Keep.{Ghosts}
 use Rattle.desk.specs.Desk.{DeskView, IsStored, LeavesEither}
 use Rattle.desk.specs.Opening.{IsOpened, OpensAt, keeper_after}
-use Rattle.desk.specs.Headline.{IsFoundAfter, LeavesRowsOf, answered}
+use Rattle.desk.specs.Headline.{GoesOnWith, IsFoundAfter, LeavesOneOf, LeavesRowsOf, answered}
 use Rattle.desk.specs.Resuming.{Resumes, ResumableAt}
 use Rattle.desk.specs.declared.fault.OpenFault.{OpenFault}
 use Rattle.desk.specs.declared.fault.OpenFault.TheVariants.{Damaged, Memory, NotADesk, OldVersion, Store}
@@ -140,6 +140,14 @@ module _ {K : Type 0} (Honest : K → Type 0) (leaves : List Content → Type 0)
   left_of after (Some r) before left found =
       λ honest. let those = left (before honest) in left_still leaves (after (keeper_after r)) Is those (found honest those.these those.leaves_these)
 
+-- what is opened was left by the keeper that is cut off
+pub opens_of : {K : Type 0} (g : Ghosts K) (o : Option (Result (DeskView K) (OpenFault × K))) (last cut : K) → last ≡ cut → IfSome o (λ r. g.is_honest (keeper_after r) → g.is_honest cut)
+    → IfSome o (λ r. g.is_honest (keeper_after r) → LeavesOneOf (g.leaves cut) (g.leaves (keeper_after r)))
+    → IfSome o (λ r. g.is_honest (keeper_after r) → g.is_honest last × LeavesOneOf (g.leaves last) (g.leaves (keeper_after r)))
+opens_of g None last cut same before left = tt
+opens_of g (Some r) last cut same before left = λ honest.
+    (subst g.is_honest (sym same) (before honest), subst (λ k. LeavesOneOf (g.leaves k) (g.leaves (keeper_after r))) (sym same) (left honest))
+
 -- ---- after a run
 
 below : {m n : ℕ} → m ≤ n → m ≢ n → m < n
@@ -228,6 +236,28 @@ module _ {K : Type 0} (Honest : K → Type 0) (A : Ledger) (rs : List Request) (
       let (before, size, runs) = is_whole A after.0.ledger rs (answered run + 1) after.1.replies.items f (omega (arith, count)) in
       whole_run A M after.0.ledger rs run.replies.items before after.1.replies.items first (omega (arith, size)) runs)
   whole_of (Err e) M first resumed rest = tt
+
+  -- it has gone on at a ledger that is found after the run
+  pub behind_of : (g : Ghosts K) (r : Result (DeskView K × Run) (OpenFault × K)) (k : ℕ) → k ≡ answered run + 1 → (Honest (keeper_after opened) → IfOk opened (λ desk. ∥ IsFoundAfter A rs run desk.ledger ∥₁))
+      → IfOk r (λ after. (next : GoesOnWith g (drop (k - 1) rs) after.1 after.0) × (Honest after.0.keep → (again : DeskView K) × (opened ≡ Ok again) × Honest again.keep × (next.found ≡ again.ledger)))
+      → IfOk r (λ after. (next : GoesOnWith g (drop (answered run) rs) after.1 after.0) × (Honest after.0.keep → ∥ IsFoundAfter A rs run next.found ∥₁))
+  behind_of g (Ok after) k is found (next, same) = subst (λ i. (next : GoesOnWith g (drop i rs) after.1 after.0) × (Honest after.0.keep → ∥ IsFoundAfter A rs run next.found ∥₁)) (omega (arith, is)) (
+    next,
+    λ honest. let (again, ok, honest_again, at) = same honest in
+        let there = subst (λ (o : Result (DeskView K) (OpenFault × K)). Honest (keeper_after o) → IfOk o (λ desk. ∥ IsFoundAfter A rs run desk.ledger ∥₁)) ok found honest_again in
+        subst (λ M. ∥ IsFoundAfter A rs run M ∥₁) (sym at) there,
+  )
+  behind_of g (Err e) k is found behind = tt
+
+  -- or was refused, and a stop leaves rows of such ledgers alone
+  pub refused_still : (leaves : K → List Content → Type 0) (r : Result (DeskView K × Run) (OpenFault × K)) → (Honest (keeper_after opened) → IfErr opened (λ e. (e.0 ≡ Memory) ⊎ (e.0 ≡ Store)))
+      → (Honest (keeper_after opened) → ∥ LeavesRowsOf (leaves (keeper_after opened)) (IsFoundAfter A rs run) ∥₁) → IfErr r (λ e. opened ≡ Err e)
+      → IfErr r (λ e. Honest e.1 → ((e.0 ≡ Memory) ⊎ (e.0 ≡ Store)) × ∥ LeavesRowsOf (leaves e.1) (IsFoundAfter A rs run) ∥₁)
+  refused_still leaves (Ok after) refused left same = tt
+  refused_still leaves (Err e) refused left same = λ honest. (
+    subst (λ (o : Result (DeskView K) (OpenFault × K)). Honest (keeper_after o) → IfErr o (λ f. (f.0 ≡ Memory) ⊎ (f.0 ≡ Store))) same refused honest,
+    subst (λ (o : Result (DeskView K) (OpenFault × K)). Honest (keeper_after o) → ∥ LeavesRowsOf (leaves (keeper_after o)) (IsFoundAfter A rs run) ∥₁) same left honest,
+  )
 
 -- how many replies there are in all
 pub rest_of : {T E : Type 0} (r : Result (T × Run) E) (k m n : ℕ) → k ≡ m + 1 → IfOk r (λ after. after.1.ending ≡ All ↔ k + answered after.1 ≡ n + 1) → IfOk r (λ after. after.1.ending ≡ All ↔ m + answered after.1 ≡ n)

@@ -1,5 +1,5 @@
 -- What an opening finds after a stop: the headline.
-use Rattle.std.specs.Prelude.{◌≡◌, ◌≢◌, ◌↔◌, ◌≤◌, ◌+◌, ◌++◌, IsTrue, false, ℕ, List, [], ◌∷◌, drop, flat_map, length, take}
+use Rattle.std.specs.Prelude.{◌≡◌, ◌≢◌, ◌↔◌, ◌≤◌, ◌+◌, ◌++◌, IfSome, IsTrue, false, ℕ, List, [], ◌∷◌, Option, Result, drop, flat_map, length, take}
 use Rattle.std.specs.Io.KnownBytes.{Consumes}
 use Rattle.words.specs.declared.command.Request.{Request}
 use Rattle.words.specs.declared.item.Item.{Item}
@@ -10,10 +10,12 @@ use Rattle.book.specs.Ledger.{Ledger}
 use Rattle.book.specs.Rows.{Content, IsRowsOf}
 use Rattle.keep.specs.Content.{IsAmong}
 use Rattle.keep.specs.declared.keep.Keep.{Ghosts}
-use Rattle.desk.specs.Desk.{DeskView}
+use Rattle.desk.specs.Desk.{DeskView, Goes}
+use Rattle.desk.specs.Opening.{keeper_after}
 use Rattle.desk.specs.Script.{Writes}
 use Rattle.desk.specs.Streams.{Streams}
 use Rattle.desk.specs.Text.{AreItems, RepliesAll, items_of}
+use Rattle.desk.specs.declared.fault.OpenFault.{OpenFault}
 use Rattle.desk.specs.declared.run.Ending.TheVariants.{All, Stopped}
 use Rattle.desk.specs.declared.run.Run.{Run}
 
@@ -54,6 +56,11 @@ pub record IsFoundAfter (A : Ledger) (requests : List Request) (run : Run) (B : 
   pub all_told : run.ending ≢ Stopped → done ≡ answered run
   pub after : After A requests done B
 
+-- a stop leaves now one of the contents that it left before
+abbrev pub LeavesOneOf : (before after : List Content → Type 0) → Type 0
+LeavesOneOf before after =
+    (these : List Content) → before these → ∥ ((x : Content) × IsAmong these x × after (x ∷ [])) ∥₁
+
 -- B is the ledger after a prefix of the items. That holds every one whose reply line was written whole, since what was
 -- written is a beginning of the reply lines to that prefix. At most so many more are done as are carried out together.
 pub record IsFoundAfterItems (most : ℕ) (A : Ledger) (items : List Item) (written : List ℕ) (B : Ledger)
@@ -78,6 +85,14 @@ abbrev pub IsFoundAfterLines : Ledger → Streams → Ledger → Type 0
 IsFoundAfterLines A s B =
     (read : List ℕ) × (items : List Item) × Consumes s.reader_old s.reader_new read × AreItems read items
     × Writes s.writer_old s.writer_new (λ written. IsFoundAfterItems 1 A items written B)
+
+-- A desk has gone on to `last` and is cut off there. Where the disk is honest, what is opened then leaves at a stop one of
+-- those contents that its keeper did.
+pub record IsCutOff {K : Type 0} (g : Ghosts K) (desk last : DeskView K)
+    (opened : Option (Result (DeskView K) (OpenFault × K))) : Type 0 where
+  pub goes : Goes g desk last
+  pub opens : IfSome opened (λ r. g.is_honest (keeper_after r)
+      → g.is_honest last.keep × LeavesOneOf (g.leaves last.keep) (g.leaves (keeper_after r)))
 
 -- a stop leaves nothing but the rows of good ledgers of this kind
 pub record LeavesRowsOf (leaves : List Content → Type 0) (Is : Ledger → Type 0) : Type 0 where

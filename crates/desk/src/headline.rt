@@ -9,8 +9,8 @@ ghost use Rattle.book.specs.Future.{Honours, HonoursAlways};
 ghost use Rattle.book.specs.Good.{Good};
 ghost use Rattle.book.specs.Ledger.{Ledger};
 ghost use Rattle.book.specs.Rows.{Content, IsRowsOf};
-ghost use Rattle.desk.specs.Desk.{DeskView, desk_state};
-ghost use Rattle.desk.specs.Headline.{GoesOnWith, IsFoundAfter, IsFoundAfterCuts, IsFoundAfterLines, IsRunOf, LeavesRowsOf, TellsEnding, all_lines, all_replies, answered};
+ghost use Rattle.desk.specs.Desk.{DeskView, Goes, desk_state};
+ghost use Rattle.desk.specs.Headline.{GoesOnWith, IsCutOff, IsFoundAfter, IsFoundAfterCuts, IsFoundAfterLines, IsRunOf, LeavesOneOf, LeavesRowsOf, TellsEnding, all_lines, all_replies, answered};
 ghost use Rattle.desk.specs.Opening.{IsUnopened, keeper_after};
 ghost use Rattle.desk.specs.Resuming.{Resumes, ResumableAt};
 ghost use Rattle.desk.specs.Dialogue.{EndsCut};
@@ -36,6 +36,8 @@ use words::Request;
 pub fn run_and_stop<K: Keep>(alloc: Global, desk: Desk<K>, requests: &[Request]) -> (Run, K)
     requires { K.stopped desk.keep ≡ false }
     ensures replies { IsRunOf desk.ledger requests.now result.0 }
+    ensures behind { (last : DeskView K) × (last.keep ≡ result.1) × Goes K.Keep desk last
+        × Runs desk.ledger (take (answered result.0) requests.now) result.0.replies.items last.ledger }
     ensures going { result.0.ending ≢ Ending.Stopped → K.stopped result.1 ≡ false }
     ensures stopped { result.0.ending ≡ Ending.Stopped → IsTrue (K.stopped result.1) }
     ensures left { K.is_honest result.1
@@ -61,8 +63,8 @@ pub fn cut_and_open<K: Recover>(
 ) -> Option<Result<Desk<K>, (OpenFault, K)>>
     ensures found { IfSome result (λ r. K.is_honest (keeper_after r) → (these : List Content) → K.leaves keep these
         → IfOk r (λ again. ∥ ((x : Content) × IsAmong these x × IsRowsOf again.ledger x) ∥₁)) }
-    ensures left { IfSome result (λ r. K.is_honest (keeper_after r) → (these : List Content) → K.leaves keep these
-        → ∥ ((x : Content) × IsAmong these x × K.leaves (keeper_after r) (x ∷ [])) ∥₁) }
+    ensures left { IfSome result (λ r. K.is_honest (keeper_after r)
+        → LeavesOneOf (K.leaves keep) (K.leaves (keeper_after r))) }
     ensures refused { IfSome result (λ r. K.is_honest (keeper_after r) → LeavesRowsOf (K.leaves keep) Good
         → IfErr r (λ e. (e.0 ≡ OpenFault.Memory) ⊎ (e.0 ≡ OpenFault.Store))) }
     ensures fault { IfSome result (λ r. IfErr r (λ e. (recovered : K) × IsUnopened K.Keep recovered e.0 e.1)) }
@@ -98,8 +100,8 @@ pub fn run_cut_and_open<K: Recover>(
         → IfErr r (λ e. (e.0 ≡ OpenFault.Memory) ⊎ (e.0 ≡ OpenFault.Store))) }
     ensures left { IfSome result.1 (λ r. K.is_honest (keeper_after r)
         → ∥ LeavesRowsOf (K.leaves (keeper_after r)) (IsFoundAfter desk.ledger requests.now result.0) ∥₁) }
-    ensures stop { (cut : K) × TellsEnding K.Keep result.0 cut
-        × IfSome result.1 (λ r. K.is_honest (keeper_after r) → K.is_honest cut) }
+    ensures stop { (last : DeskView K) × TellsEnding K.Keep result.0 last.keep × IsCutOff K.Keep desk last result.1
+        × Runs desk.ledger (take (answered result.0) requests.now) result.0.replies.items last.ledger }
     ensures fault { IfSome result.1 (λ r. IfErr r (λ e. (recovered : K) × IsUnopened K.Keep recovered e.0 e.1)) }
     ensures honours { IfSome result.1 (λ r. IfOk r (λ again. Good again.ledger × Honours again.ledger
         × HonoursAlways again.ledger)) }
@@ -126,7 +128,9 @@ fn go_on<K: Keep>(
     ensures rest { IfOk result (λ after. after.1.ending ≡ Ending.All
         ↔ first + answered after.1 ≡ length requests.now + 1) }
     ensures refused { IfErr result (λ e. opened ≡ Err e) }
-    ensures behind { IfOk result (λ after. GoesOnWith K.Keep (drop (first - 1) requests.now) after.1 after.0) }
+    ensures behind { IfOk result (λ after. (next : GoesOnWith K.Keep (drop (first - 1) requests.now) after.1 after.0)
+        × (K.is_honest after.0.keep → (again : DeskView K) × (opened ≡ Ok again) × K.is_honest again.keep
+        × (next.found ≡ again.ledger))) }
 {
     match opened {
         Ok(again) => {
@@ -145,8 +149,8 @@ fn go_on<K: Keep>(
 /// The replies before the cut, and their lines, are the model's, and those after it are the model's from the ledger found.
 /// While the disk is honest, these are those which a run that was never cut would give behind them, however many they
 /// are; where they are all that is left, the ledger is the one after that run. The opening fails then, if at all, for
-/// memory or by the store; a fault is told as `cut_and_open` tells it. Either run ended `Stopped` exactly where its keeper
-/// was stopped.
+/// memory or by the store, and a stop leaves rows of ledgers that can be found after the first run alone; a fault is told
+/// as `cut_and_open` tells it. Either run ended `Stopped` exactly where its keeper was stopped.
 pub fn run_cut_and_resume<K: Recover>(
     alloc: Global,
     desk: Desk<K>,
@@ -162,10 +166,13 @@ pub fn run_cut_and_resume<K: Recover>(
     ensures rest { IfSome result.1 (λ r. IfOk r (λ after. after.1.ending ≡ Ending.All
         ↔ answered result.0 + answered after.1 ≡ length requests.now)) }
     ensures refused { IfSome result.1 (λ r. IfErr r (λ e. K.is_honest e.1
-        → (e.0 ≡ OpenFault.Memory) ⊎ (e.0 ≡ OpenFault.Store))) }
-    ensures behind { IfSome result.1 (λ r. IfOk r (λ after. GoesOnWith K.Keep (drop (answered result.0) requests.now)
-        after.1 after.0)) }
-    ensures stop { (cut : K) × TellsEnding K.Keep result.0 cut }
+        → ((e.0 ≡ OpenFault.Memory) ⊎ (e.0 ≡ OpenFault.Store))
+        × ∥ LeavesRowsOf (K.leaves e.1) (IsFoundAfter desk.ledger requests.now result.0) ∥₁)) }
+    ensures behind { IfSome result.1 (λ r. IfOk r (λ after.
+        (next : GoesOnWith K.Keep (drop (answered result.0) requests.now) after.1 after.0)
+        × (K.is_honest after.0.keep → ∥ IsFoundAfter desk.ledger requests.now result.0 next.found ∥₁))) }
+    ensures stop { (last : DeskView K) × TellsEnding K.Keep result.0 last.keep × Goes K.Keep desk last
+        × Runs desk.ledger (take (answered result.0) requests.now) result.0.replies.items last.ledger }
     ensures fault { IfSome result.1 (λ r. IfErr r (λ e. (recovered : K) × IsUnopened K.Keep recovered e.0 e.1)) }
 {
     let (run, opened) = run_cut_and_open(alloc, desk, requests, options);
@@ -207,8 +214,8 @@ pub fn script_and_stop<K: Keep, R: Read, W: Write>(
     ensures whole { K.is_honest result.1 → OnOk result.0 (LeavesRowsOf (K.leaves result.1) (λ B.
         WritesText desk.ledger B (streams (R.remaining reader.old) (R.remaining reader.new) (W.contents writer.old)
         (W.contents writer.new)))) }
-    ensures cut { IfErr result.0 (λ fault. (last : Ledger) × EndsCut lines fault (desk_state K.Keep desk)
-        (desk_state K.Keep (record { ledger = last; keep = result.1 }))
+    ensures cut { IfErr result.0 (λ fault. (last : DeskView K) × (last.keep ≡ result.1) × Goes K.Keep desk last
+        × EndsCut lines fault (desk_state K.Keep desk) (desk_state K.Keep last)
         (streams (R.remaining reader.old) (R.remaining reader.new) (W.contents writer.old) (W.contents writer.new))) }
     ensures going { result.0 ≢ Err ScriptFault.Stopped → K.stopped result.1 ≡ false }
     ensures stopped { result.0 ≡ Err ScriptFault.Stopped → IsTrue (K.stopped result.1) }
@@ -243,8 +250,8 @@ pub fn script_cut_and_open<K: Recover, R: Read, W: Write>(
     ensures whole { OnOk result.0 (IfSome result.1 (λ r. K.is_honest (keeper_after r) → IfOk r (λ again.
         ∥ WritesText desk.ledger again.ledger (streams (R.remaining reader.old) (R.remaining reader.new)
         (W.contents writer.old) (W.contents writer.new)) ∥₁))) }
-    ensures cut { IfErr result.0 (λ fault. (last : Ledger) × (keep : K) × EndsCut lines fault (desk_state K.Keep desk)
-        (desk_state K.Keep (record { ledger = last; keep = keep }))
+    ensures cut { IfErr result.0 (λ fault. (last : DeskView K) × IsCutOff K.Keep desk last result.1
+        × EndsCut lines fault (desk_state K.Keep desk) (desk_state K.Keep last)
         (streams (R.remaining reader.old) (R.remaining reader.new) (W.contents writer.old) (W.contents writer.new))) }
     ensures refused { IfSome result.1 (λ r. K.is_honest (keeper_after r)
         → IfErr r (λ e. (e.0 ≡ OpenFault.Memory) ⊎ (e.0 ≡ OpenFault.Store))) }

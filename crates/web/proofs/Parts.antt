@@ -1,19 +1,20 @@
 -- The parts of a stream that are found in it one by one.
 use Rattle.std.proofs.Common.{◌≡◌, ◌∙◌, ◌<◌, Bool, false, true, true≢false, ℕ, List, [], ◌∷◌, ◌++◌, Option, ap, append-nil, append_assoc, arith, inl, refl, subst, sym}
 use Rattle.std.specs.List.{AllByRecursion as Each}
-use Rattle.httparse.specs.Grammar.{ReadsRequest}
+use Rattle.httparse.specs.Grammar.{ReadsRequest, print_request}
 use Rattle.httparse.proofs.GrammarLemmas.{ReadsRequest-append}
 use Rattle.std.proofs.KnownBytes.{Appends-nil, Consumes-nil}
 use Rattle.desk.specs.Desk.{DeskState, snapshot}
 use Rattle.desk.specs.Dialogue.{EndsCut, EndsUntaken, is_end}
 use Rattle.desk.specs.Streams.{streams}
 use Rattle.desk.specs.declared.fault.ScriptFault.TheVariants as ScriptFault
-use Rattle.web.specs.Messages.{AreParts, BeginsWith, HasNoMessage, IsUnreadable, Message, Part, unreadable, whole}
+use Rattle.web.specs.Messages.{AreParts, AwaitsMessage, BeginsWith, IsUnreadable, Message, Part, unreadable, whole}
 use Rattle.web.specs.Turns.{AreFirst, HasFound, NoneComes, Passes, ending_of, left_to_find}
 use Rattle.web.specs.Web.{EndsAt, HaveCome, IsWhole, http}
 use Rattle.web.specs.declared.served.Ending.{Ending}
 use Rattle.web.specs.declared.served.Ending.TheVariants.{BadMessage, Input}
-use Rattle.web.proofs.OneStream.{begins_some}
+use Rattle.web.proofs.NoHead.{awaits_head, is_small_head, small_head}
+use Rattle.web.proofs.OneStream.{head_some}
 use Rattle.web.proofs.SomeParts.{rest_shorter, some_parts}
 
 -- ---- messages, and what stands behind them
@@ -42,8 +43,8 @@ passes_more [] stream rest left m h b = (left, subst (λ (s : List ℕ). BeginsW
 passes_more (whole n ∷ ps) stream rest left m (mid, begins, h) b = (mid, begins, passes_more ps mid rest left m h b)
 passes_more (unreadable ∷ ps) stream rest left m h b = absurd h
 
-pub have_come : (ps : List Part) (stream rest : List ℕ) → Passes stream ps rest → HasNoMessage rest → HaveCome stream ps
-have_come [] stream rest h none = subst HasNoMessage (sym h) none
+pub have_come : (ps : List Part) (stream rest : List ℕ) → Passes stream ps rest → AwaitsMessage rest → HaveCome stream ps
+have_come [] stream rest h none = subst AwaitsMessage (sym h) none
 have_come (whole m ∷ ps) stream rest (mid, begins, h) none = (mid, begins, have_come ps mid rest h none)
 have_come (unreadable ∷ ps) stream rest h none = absurd h
 
@@ -80,7 +81,7 @@ pub found_bad : (is_over : Bool) (held read : List ℕ) (ended : Bool) (found : 
 found_bad false held read ended found e none h = (found, refl, h, none)
 found_bad true held read ended found e none h = cc e
 
-pub found_come : (is_over : Bool) (held read : List ℕ) (ended : Bool) (found : List Part) → is_over ≡ false → HasNoMessage held → HasFound is_over held read ended found → HaveCome read found
+pub found_come : (is_over : Bool) (held read : List ℕ) (ended : Bool) (found : List Part) → is_over ≡ false → AwaitsMessage held → HasFound is_over held read ended found → HaveCome read found
 found_come false held read ended found e none h = have_come found read held h none
 found_come true held read ended found e none h = cc e
 
@@ -148,8 +149,8 @@ taken_more is_over held new read piece ended found is h come =
 
 -- ---- nothing is read
 
-pub none_yet : HasNoMessage []
-none_yet m rest b = let some = begins_some [] rest m b in omega (arith, some)
+pub none_yet : AwaitsMessage []
+none_yet = awaits_head [] (λ head rest reads. let some = head_some [] rest head reads in omega (arith, some)) (inl (print_request small_head ++ [], small_head, (is_small_head, refl))) (omega arith)
 
 pub nothing_cut : (desk : DeskState) (r w : Option (List ℕ)) → EndsCut http ScriptFault.Memory desk desk (streams r r w w)
 nothing_cut desk r w = record {

@@ -165,7 +165,7 @@ fn web_fault(fault: ScriptFault) -> WebFault
 }
 
 /// Answers the messages of a connection in their order, each before the next is looked at, until the input ends or what
-/// comes is no message.
+/// comes is no message. More is read only behind a head or a body that has not come whole.
 ///
 /// What is written is the answers to all that was read, and `Served` has their count. After a fault it is a beginning
 /// of such: the answers to all that the desk has done, of which only a failing write leaves out the last one or its end.

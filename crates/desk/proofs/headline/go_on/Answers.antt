@@ -13,17 +13,19 @@ returns-in-Ok-clause-behind g c =
     let dropped : length (drop (c.args.first - 1) rs) ≡ length rs - (c.args.first - 1) = length-drop (c.args.first - 1) rs in
     let counted = c.requires.counted in
     let within = c.requires.within in
-    let going = IfOk-at_ok (λ again. g.K.Keep.stopped again.keep ≡ false) c.in-Ok.is c.requires.going in
-    record {
-      found = c.in-Ok.again.ledger;
-      good_found = c.in_order.ensures.good;
-      is_run = record {
-        last = c.resume-rest.new.self.ledger;
-        replies = rest.replies.0;
-        lines = rest.replies.1;
-        all = (λ all. let e = rest.all.0 all in omega arith, λ e. rest.all.1 (omega arith));
-      };
-      behind = refl;
-      good = rest.goes.good;
-      ending = record { stopped = rest.stop.stopped; going = λ other. rest.stop.going other ∙ going };
-    }
+    let going = IfOk-at_ok (λ again. g.K.Keep.stopped again.keep ≡ false) c.in-Ok.is c.requires.going in (
+      record {
+        found = c.in-Ok.again.ledger;
+        good_found = c.in_order.ensures.good;
+        is_run = record {
+          last = c.resume-rest.new.self.ledger;
+          replies = rest.replies.0;
+          lines = rest.replies.1;
+          all = (λ all. let e = rest.all.0 all in omega arith, λ e. rest.all.1 (omega arith));
+        };
+        behind = refl;
+        good = rest.goes.good;
+        ending = record { stopped = rest.stop.stopped; going = λ other. rest.stop.going other ∙ going };
+      },
+      λ honest. (c.in-Ok.again, c.in-Ok.is, rest.goes.honest honest, refl),
+    )

@@ -1,4 +1,6 @@
-use Rattle.desk.proofs.FoundAfter.{found_of, left_of, refused_of}
+use Rattle.std.proofs.Common.{subst, sym}
+use Rattle.desk.specs.Headline.{TellsEnding}
+use Rattle.desk.proofs.FoundAfter.{found_of, left_of, opens_of, refused_of}
 use Rattle.desk.proofs.headline.run_cut_and_open.Goals as goal
 
 pub returns-clause-found : goal.returns-clause-found
@@ -18,4 +20,14 @@ returns-clause-left g c =
 
 pub returns-clause-stop : goal.returns-clause-stop
 returns-clause-stop g c =
-    let run = c.run_and_stop-run in (run.result.1, record { stopped = run.ensures.stopped; going = run.ensures.going }, c.cut_and_open-opened.ensures.honest)
+    let run = c.run_and_stop-run in
+    let opened = c.cut_and_open-opened in
+    let (last, same, goes, runs) = run.ensures.behind in (
+      last,
+      subst (λ k. TellsEnding g.K.Keep run.result.0 k) (sym same) (record { stopped = run.ensures.stopped; going = run.ensures.going }),
+      record {
+        goes = goes;
+        opens = opens_of g.K.Keep opened.result last.keep run.result.1 same opened.ensures.honest opened.ensures.left;
+      },
+      runs,
+    )

@@ -1,4 +1,5 @@
 use Rattle.std.proofs.Common.{◌≡◌, ◌∙◌, false, subst, sym}
+use Rattle.std.proofs.lemmas.Result.{IfErr-weaker}
 use Rattle.std.specs.Prelude.{OnOk}
 use Rattle.desk.specs.Headline.{IsFoundAfterLines, LeavesRowsOf}
 use Rattle.desk.specs.Script.{WritesText}
@@ -24,3 +25,7 @@ returns-clause-whole g c honest =
 
 pub returns-clause-going : goal.returns-clause-going
 returns-clause-going g c other = subst (λ k. g.K.Keep.stopped k ≡ false) (sym c.into_keep.ensures.keep) (c.script-ended.ensures.stop.going other ∙ c.requires)
+
+pub returns-clause-cut : goal.returns-clause-cut
+returns-clause-cut g c =
+    let ended = c.script-ended in IfErr-weaker ended.result _ _ (λ fault cut. (ended.new.desk, sym c.into_keep.ensures.keep, ended.ensures.goes, cut)) ended.ensures.cut

@@ -1,5 +1,5 @@
 use Rattle.std.proofs.lemmas.Result.{IfErr-weaker}
-use Rattle.desk.proofs.FoundAfter.{found_of, left_of, refused_of}
+use Rattle.desk.proofs.FoundAfter.{found_of, left_of, opens_of, refused_of}
 use Rattle.desk.proofs.FoundLines.{whole_opened}
 use Rattle.desk.proofs.headline.script_cut_and_open.Goals as goal
 
@@ -25,4 +25,7 @@ returns-clause-whole g c =
 
 pub returns-clause-cut : goal.returns-clause-cut
 returns-clause-cut g c =
-    let ended = c.script_and_stop-ended in IfErr-weaker ended.result.0 _ _ (λ fault told. (told.0, ended.result.1, told.1)) ended.ensures.cut
+    let ended = c.script_and_stop-ended in
+    let opened = c.cut_and_open-opened in
+    IfErr-weaker ended.result.0 _ _ (λ fault told. let (last, same, goes, cut) = told in
+    (last, record { goes = goes; opens = opens_of g.K.Keep opened.result last.keep ended.result.1 same opened.ensures.honest opened.ensures.left }, cut)) ended.ensures.cut

@@ -1,7 +1,7 @@
 use Rattle.std.proofs.Common.{Bool, List, false, length, rules, subst, sym, true, ℕ, ◌++◌, ◌<◌, ◌≡◌, ◌∙◌, ◌∷◌, []}
 use Rattle.std.proofs.lemmas.List.{nil_from_length}
 use Rattle.web.specs.Intake.{IsMessageAt}
-use Rattle.web.specs.Messages.{HasNoMessage, IsUnreadable, unreadable, whole}
+use Rattle.web.specs.Messages.{AwaitsMessage, HasNoMessage, IsUnreadable, unreadable, whole}
 use Rattle.web.specs.Turns.{HasFound, IsAsked, NoneComes}
 use Rattle.web.proofs.NoHead.{at_end}
 use Rattle.web.proofs.Parts.{all_ended, all_over, fewer_left, found_bad, found_come, found_first, found_message, found_over}
@@ -29,7 +29,7 @@ returns-in-Message-clause-fewer c = λ question e.
 pub returns-in-More-clause-more : goal.returns-in-More-clause-more
 returns-in-More-clause-more c = λ e read ended questions (same, found, first).
     let going : c.args.self.now.has_ended ≡ false = search rules in
-    ((same, found, first), sym same ∙ going, found_come c.args.self.now.is_over c.args.self.now.held.items read ended questions c.if-self.false (subst HasNoMessage c.deref.ensures.value c.in-More.ensures.0) found)
+    ((same, found, first), sym same ∙ going, found_come c.args.self.now.is_over c.args.self.now.held.items read ended questions c.if-self.false (subst AwaitsMessage c.deref.ensures.value c.in-More.ensures.0) found)
 
 pub returns-in-More-2-clause-over : goal.returns-in-More-2-clause-over
 returns-in-More-2-clause-over c = λ e read ended questions (same, found, first).
@@ -43,7 +43,7 @@ pub returns-in-More-3-clause-question : goal.returns-in-More-3-clause-question
 returns-in-More-3-clause-question c = λ question e read ended questions (same, found, first).
     let end : c.args.self.now.has_ended ≡ true = search rules in
     let some : 0 < length c.args.self.now.held.items = search rules in
-    let none : NoneComes ended c.args.self.now.held.items = subst (λ (b : Bool). NoneComes b c.args.self.now.held.items) (sym end ∙ same) (at_end _ some (subst HasNoMessage c.deref.ensures.value c.in-More-2.ensures.0)) in
+    let none : NoneComes ended c.args.self.now.held.items = subst (λ (b : Bool). NoneComes b c.args.self.now.held.items) (sym end ∙ same) (at_end _ some (subst HasNoMessage c.deref.ensures.value c.in-More-2.ensures.0.0)) in
     let next : HasFound c.end_unreadable.new.self.is_over c.end_unreadable.new.self.held.items read ended (questions ++ unreadable ∷ []) =
     rw (c.end_unreadable.ensures.over, c.end_unreadable.ensures.held) (found_bad c.args.self.now.is_over _ read ended questions c.if-self.false none found) in
     (unreadable, subst (λ q. IsAsked q unreadable) (sym c.end_unreadable.ensures.asked ∙ cc e) tt, (c.end_unreadable.ensures.ended ∙ same, next, found_first _ _ _ _ _ next))
