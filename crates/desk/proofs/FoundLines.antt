@@ -1,5 +1,5 @@
 -- What an opening finds after a script.
-use Rattle.std.proofs.Common.{◌≡◌, ◌⊎◌, false, ◌∙◌, ◌≤◌, ◌+◌, ◌++◌, ℕ, List, [], ◌∷◌, Option, append-nil, append_assoc, arith, ap, inl, inr, length, refl, subst, sym, take}
+use Rattle.std.proofs.Common.{◌≡◌, false, ◌∙◌, ◌≤◌, ◌+◌, ◌++◌, ℕ, List, [], ◌∷◌, Option, append-nil, append_assoc, arith, ap, inl, inr, length, refl, subst, sym, take}
 use Rattle.std.specs.Prelude.{Err, IfErr, IfOk, IfSome, Ok, OnOk, Result}
 use Rattle.std.specs.declared.num.NonZeroUsize.{NonZeroUsize}
 use Rattle.std.proofs.lemmas.List.{length-append, length-map, take_at}

@@ -1,6 +1,6 @@
 -- Requests that are answered by lists: their lines, and how far they have come at a fault.
-use Rattle.std.proofs.Common.{◌≡◌, ◌∙◌, ◌≢◌, ◌⊎◌, ◌↔◌, ◌+◌, ◌-◌, ◌≤◌, IsTrue, false, true≢false, ℕ, List, [], ◌∷◌, ◌++◌, MatchOption, None, Option, Some, ap, if◌then◌else◌, append-nil, append_assoc, arith, drop, inl, inr, length, refl, subst, suc, sym, take, take-add, zero}
-use Rattle.std.proofs.lemmas.List.{length-append, length-take-le, map-append, take-append-drop, take-take}
+use Rattle.std.proofs.Common.{◌≡◌, ◌∙◌, ◌≢◌, ◌↔◌, ◌+◌, ◌≤◌, IsTrue, false, true≢false, ℕ, List, [], ◌∷◌, ◌++◌, MatchOption, None, Option, Some, ap, if◌then◌else◌, append-nil, append_assoc, arith, drop, inl, inr, length, refl, subst, suc, sym, take, take-add, zero}
+use Rattle.std.proofs.lemmas.List.{length-take-le, map-append, take-append-drop, take-take}
 use Rattle.std.specs.Io.KnownBytes.{Appends}
 use Rattle.std.specs.List.{AllByRecursion as Each}
 use Rattle.std.specs.declared.num.NonZeroUsize.{NonZeroUsize}

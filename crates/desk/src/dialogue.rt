@@ -30,7 +30,7 @@ pub enum Next<Q> {
 /// What is spoken with a desk: it takes bytes in, finds the questions in them, and has each answered.
 pub trait Dialogue {
     ghost use Rattle.std.specs.Prelude.{◌≡◌, ◌++◌, ◌∷◌, ◌<◌, [], Bool, false, true, IfErr, IfOk, ℕ, List, OnOk};
-    ghost use Rattle.desk.specs.Desk.{DeskState, Goes, desk_state};
+    ghost use Rattle.desk.specs.Desk.{DeskState, Goes, StaysSet, desk_state};
     ghost use Rattle.desk.specs.Dialogue.{AnswersOne, Begins, FailsOne, Language, bytes_of, is_end};
     ghost use Rattle.desk.specs.declared.dialogue.Next.{Next};
     ghost use Rattle.desk.specs.declared.dialogue.Next.TheVariants as next;
@@ -91,6 +91,7 @@ pub trait Dialogue {
         ensures fails { IfErr result (λ fault. (asked : Asked) → asks question.now asked
             → FailsOne language fault (desk_state K.Keep desk.old) asked (desk_state K.Keep desk.new)) }
         ensures stop { result ≡ Err CallFault.Stopped → may_stop }
+        ensures set { StaysSet K.same_settings desk.old desk.new }
         ensures goes { Goes K.Keep desk.old desk.new };
 
     // Whatever comes behind what was taken in, the first questions are those that were found.

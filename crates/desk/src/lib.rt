@@ -2,6 +2,8 @@
 #![tactic(auto)]
 
 mod answer;
+mod copies;
+mod deferred;
 mod desk;
 mod dialogue;
 mod fault;
@@ -16,6 +18,7 @@ mod telling;
 mod together;
 
 pub use answer::Answer;
+pub use deferred::Deferred;
 pub use desk::Desk;
 pub use dialogue::{Dialogue, Next, converse};
 pub use fault::{CallFault, OpenFault, ScriptFault};

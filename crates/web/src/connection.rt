@@ -1,6 +1,6 @@
 //! A connection, served.
 
-ghost use Rattle.std.specs.Prelude.{◌≡◌, ◌≢◌, IfErr, IfOk, drop, true};
+ghost use Rattle.std.specs.Prelude.{◌≡◌, ◌≢◌, [], IfErr, IfOk, drop, false, true};
 ghost use Rattle.desk.specs.Desk.{Goes, desk_state, snapshot};
 ghost use Rattle.desk.specs.Dialogue.{BeginsTranscript, EndsCut, EndsWhole};
 ghost use Rattle.desk.specs.Streams.{streams};
@@ -35,7 +35,7 @@ pub enum Asked {
 
 /// A dialogue in HTTP.
 #[derive(Drop)]
-struct HttpDialogue {
+pub struct HttpDialogue {
     routes: Routes,
     /// What has come and stands behind the messages that were found.
     held: Vec<u8>,
@@ -45,6 +45,22 @@ struct HttpDialogue {
 }
 
 impl HttpDialogue {
+    /// A dialogue in which nothing has come yet.
+    pub fn open(alloc: Global) -> Result<HttpDialogue, Memory>
+        ensures new { IfOk result (λ dialogue. ⟦<HttpDialogue as Dialogue>⟧.has_found dialogue [] false []) }
+        ensures none { http.have_come [] [] }
+    {
+        let Ok(routes) = Routes::new(alloc) else {
+            return Err(Memory);
+        };
+        Ok(HttpDialogue {
+            routes,
+            held: Vec::new(alloc),
+            has_ended: false,
+            is_over: false,
+        })
+    }
+
     /// What the message at the front asks for, which is let go.
     fn take_message(&mut self, alloc: Global, found: &Found) -> Asked
         requires { IsMessageWithin self.old.held.items found.now }

@@ -1,4 +1,4 @@
-use Rattle.std.proofs.Common.{◌≡◌, ◌+◌, ◌∙◌, ◌≤◌, ◌-◌, List, ap, arith, drop, false, length, refl, rules, subst, sym, take}
+use Rattle.std.proofs.Common.{◌≡◌, ◌∙◌, ◌≤◌, ◌-◌, List, ap, arith, drop, false, length, refl, rules, subst, sym, take}
 use Rattle.std.proofs.Math.Seq.{take-length}
 use Rattle.words.specs.declared.command.Request.{Request}
 use Rattle.book.proofs.TestResults.{passed_up}

@@ -5,7 +5,6 @@ use Rattle.book.specs.declared.rows.Change.{Change}
 use Rattle.desk.specs.Desk.{desk_state}
 use Rattle.desk.specs.Text.{RepliesAll, items_of}
 use Rattle.desk.specs.Together.{FailsAt, IsBatch}
-use Rattle.desk.specs.declared.run.Ending.TheVariants.{Stopped}
 use Rattle.desk.specs.declared.run.Run.{Run}
 use Rattle.desk.proofs.Batches.{batch_fails, batch_told, lines_told, no_changes, stored_batch, stored_still}
 use Rattle.desk.proofs.desk.Desk.run_batch.Goals as goal
