@@ -31,7 +31,7 @@ impl<K: Keep> Model for Deferred<K> {
 }
 
 impl<K: Keep> Deferred<K> {
-    ghost use Rattle.std.specs.Prelude.{◌≡◌, ◌∷◌, [], false, length, IsTrue, OnErr, OnOk};
+    ghost use Rattle.std.specs.Prelude.{◌≡◌, ◌≢◌, ◌∷◌, [], false, length, IsTrue, OnErr, OnOk};
     ghost use Rattle.book.specs.Rows.{Content};
     ghost use Rattle.desk.specs.Deferred.{PutsOff};
     ghost use Rattle.keep.specs.Transactions.{with_changes};
@@ -70,7 +70,7 @@ impl<K: Keep> Deferred<K> {
     pub fn settle(&mut self) -> Result<(), KeepFault>
         ensures none { self.new.changes ≡ [] }
         ensures ok { OnOk result (self.new.stopped ≡ self.old.stopped) }
-        ensures err { OnErr result (IsTrue self.new.stopped) }
+        ensures err { OnErr result (IsTrue self.new.stopped × (self.old.changes ≢ [])) }
         ensures honest { K.is_honest self.new.keep → K.is_honest self.old.keep }
         ensures untouched { IsTrue self.old.stopped → self.new.keep ≡ self.old.keep }
         // what was put off is held then, and a stop leaves that alone

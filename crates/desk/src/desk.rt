@@ -325,7 +325,7 @@ impl<K: Keep> Desk<Deferred<K>> {
     pub fn settle(&mut self) -> Result<(), CallFault>
         ensures ledger { self.new.ledger ≡ self.old.ledger }
         ensures ok { OnOk result (self.new.keep.stopped ≡ self.old.keep.stopped) }
-        ensures err { OnErr result (IsTrue self.new.keep.stopped) }
+        ensures err { OnErr result (IsTrue self.new.keep.stopped × (self.old.keep.changes ≢ [])) }
         ensures none { self.new.keep.changes ≡ [] }
         ensures honest { K.is_honest self.new.keep.keep → K.is_honest self.old.keep.keep }
         ensures untouched { IsTrue self.old.keep.stopped → self.new.keep.keep ≡ self.old.keep.keep }

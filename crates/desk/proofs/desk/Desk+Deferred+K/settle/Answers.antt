@@ -12,8 +12,8 @@ pub invariant_of-self : goal.invariant_of-self
 invariant_of-self g c = record {
   good = c.self.invariant.good;
   stored = λ still honest.
-      let going = of_ok c.settle.result _ _ c.settle.ensures.ok c.settle.ensures.err (λ halted. true≢false (sym halted ∙ still)) in
-      let kept = of_ok c.settle.result _ _ (c.settle.ensures.kept honest) c.settle.ensures.err (λ halted. true≢false (sym halted ∙ still)) in
+      let going = of_ok c.settle.result _ _ c.settle.ensures.ok c.settle.ensures.err (λ halted. true≢false (sym halted.0 ∙ still)) in
+      let kept = of_ok c.settle.result _ _ (c.settle.ensures.kept honest) c.settle.ensures.err (λ halted. true≢false (sym halted.0 ∙ still)) in
       let was = c.self.invariant.stored (sym going ∙ still) (c.settle.ensures.honest honest) in
       let new = c.settle.new.self in
       let here : PutsOff g.K.Keep new.keep new.changes was.rows = subst (λ (cs : List Change). PutsOff g.K.Keep new.keep cs was.rows) (sym c.settle.ensures.none) (kept was.rows was.held) in
