@@ -1,0 +1,14 @@
+//! Many connections with one desk, in rounds: questions that have come on all of them are answered in turn and what they
+//! change is kept in one transaction, and only then are the answers written. A connection is any reader and writer.
+#![tactic(auto)]
+
+mod laws;
+mod line;
+mod phase;
+mod places;
+mod stream;
+mod turns;
+
+pub use laws::rounds_are_one_order;
+pub use places::Places;
+pub use stream::Stream;
