@@ -78,6 +78,17 @@ module _ {V : Type 0} (R : Option V → Option V → Type 0) where
       let same : u ≡ w = cc in (v, refl, subst (λ (x : V). R v (Some x)) same here)
   each_at (v ∷ old) (u ∷ new) (suc p) w (here, others) e = each_at old new p w others e
 
+  -- who was at a place is there now
+  pub each_from : (old new : List (Option V)) (p : ℕ) (v : V) → AtEach R old new → IsAt old p v
+      → (w : Option V) × (slice_get new p ≡ Some w) × R (Some v) w
+  each_from [] [] p v h e = absurd (cc)
+  each_from [] (w ∷ new) p v h e = absurd h
+  each_from (u ∷ old) [] p v h e = absurd h
+  each_from (None ∷ old) (w ∷ new) zero v (here, others) e = absurd (cc)
+  each_from (Some u ∷ old) (w ∷ new) zero v (here, others) e =
+      let same : u ≡ v = cc in (w, refl, subst (λ (x : V). R (Some x) w) same here)
+  each_from (u ∷ old) (w ∷ new) (suc p) v (here, others) e = each_from old new p v others e
+
   pub each_same : ((v : Option V) → R v v) → (xs : List (Option V)) → AtEach R xs xs
   each_same still [] = tt
   each_same still (x ∷ xs) = (still x, each_same still xs)

@@ -5,7 +5,7 @@ use Rattle.std.proofs.lemmas.Bool.Decides.{eqb_tells}
 use Rattle.desk.specs.Desk.{Snapshot}
 use Rattle.rounds.specs.Lines.{Heard, IsTold, LineView, Said, Speaks, Stands, with_said}
 use Rattle.rounds.specs.Rounds.{Apart, AreSaid, AtEach, HasTurn, HasTurnAt, InRound, IsAt, IsNowhere, IsSameSeat, SameAt, heard_with, said_on}
-use Rattle.rounds.proofs.Lists.{all_set, each_at, each_set, get_other, get_set}
+use Rattle.rounds.proofs.Lists.{all_set, each_at, each_from, each_set, get_other, get_set}
 use Rattle.rounds.proofs.Saying.{on_other, on_same, said_more}
 
 -- ---- seats
@@ -32,6 +32,15 @@ module _ {S P T : Type 0} where
           → (v : LineView S P T) × IsAt old p v × IsSameSeat v w
       by (None, is, same) = absurd same
       by (Some v, is, same) = (v, is, same)
+
+  pub seat_after : (old new : List (Option (LineView S P T))) (p : ℕ) (v : LineView S P T) → AtEach SameAt old new → IsAt old p v
+      → (w : LineView S P T) × IsAt new p w × IsSameSeat v w
+  seat_after old new p v seats e = by (each_from SameAt old new p v seats e)
+    where
+      by : ((w : Option (LineView S P T)) × (slice_get new p ≡ Some w) × SameAt (Some v) w)
+          → (w : LineView S P T) × IsAt new p w × IsSameSeat v w
+      by (None, is, same) = absurd same
+      by (Some w, is, same) = (w, is, same)
 
   -- who is nowhere now was nowhere before
   pub nowhere_before : (lines : List (Option (LineView S P T))) (p n : ℕ) (v w : Option (LineView S P T)) → slice_get lines p ≡ Some v

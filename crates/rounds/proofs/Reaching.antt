@@ -10,9 +10,9 @@ use Rattle.desk.specs.Dialogue.{Begins, Language, text_of}
 use Rattle.rounds.specs.Lines.{Heard, IsHeard, IsTold, LineView, Said, Speaks, Stands, answers_of, questions_of, unheard, with_piece, with_said, with_written}
 use Rattle.rounds.specs.Rounds.{Apart, AtEach, InRound, IsAt, IsForgotten, IsLooked, IsNowhere, IsRead, IsSameSeat, IsShown, IsWritten, SameAt, heard_on, heard_with, said_on, stopped_at}
 use Rattle.rounds.specs.Histories.{AreRounds, History, IsHeardOn, IsReached, IsSeated, PlacesView, Visit, begun, came, heard_in, kept, lost, visit_of, wrote}
-use Rattle.rounds.proofs.Lists.{all_set, each_at, get_end, get_front, get_joined, get_other, get_set, set_still}
+use Rattle.rounds.proofs.Lists.{all_set, each_at, each_from, get_end, get_front, get_joined, get_other, get_set, set_still}
 use Rattle.rounds.proofs.Saying.{with_none}
-use Rattle.rounds.proofs.OneTurn.{seat_before}
+use Rattle.rounds.proofs.OneTurn.{seat_after, seat_before}
 
 -- ---- what is told of one
 
@@ -105,6 +105,7 @@ module _ {S P T Q A : Type 0} (g : Speaks S P T Q A) (start : Snapshot) where
     new = λ n le. refl;
     seated = λ p v e. absurd (free p v e);
     apart = λ p q v w e f same. absurd (free p v e);
+    there = λ n first e. absurd (cc);
     gone = λ n first last e. absurd (cc);
   }
 
@@ -142,6 +143,7 @@ module _ {S P T Q A : Type 0} (g : Speaks S P T Q A) (start : Snapshot) where
           (λ x is. subst (λ (x : LineView S P T). IsSeated g visits (heard_in history) x) (let same_x : w ≡ x = cc in same_x) seated_here)
           (λ k o other at_k x is. seated_there k x other (at_k ∙ ap Some is)) q (Some x) at_q x refl;
       apart = apart_by old.lines (set old.lines p (Some w)) before r.apart;
+      there = λ n first is. let (q, x, at_q, number) = r.there n first is in there_at n q x at_q number (eqb_tells q p);
       gone = λ n first last is.
           subst (λ (k : Heard Q A). IsHeardOn g first last k)
           (sym (elsewhere n (λ here. still_there p v first last e (subst (λ (m : ℕ). slice_get visits m ≡ Some (record { came = first; left = Some last })) here is))))
@@ -184,6 +186,15 @@ module _ {S P T Q A : Type 0} (g : Speaks S P T Q A) (start : Snapshot) where
               on = subst (λ (n : Heard Q A). IsHeardOn g was.came x.stream n) (sym known) was.on;
               stands = subst (λ (n : Heard Q A). Stands g x n []) (sym known) was.stands;
             }
+
+        there_at : (n q : ℕ) (x : LineView S P T) → IsAt old.lines q x → x.connection ≡ n
+            → ((nat_eq q p ≡ true) × (q ≡ p)) ⊎ ((nat_eq q p ≡ false) × (q ≢ p))
+            → (q : ℕ) × (y : LineView S P T) × IsAt (set old.lines p (Some w)) q y × (y.connection ≡ n)
+        there_at n q x at_q number (inl (_, here)) =
+            let at_p : IsAt old.lines p x = subst (λ (k : ℕ). IsAt old.lines k x) here at_q in
+            let same_x : v ≡ x = cc in
+            (p, w, get_set old.lines p (Some v) (Some w) e, same ∙ ap (λ (y : LineView S P T). y.connection) same_x ∙ number)
+        there_at n q x at_q number (inr (_, other)) = (q, x, get_other old.lines p q (Some w) other ∙ at_q, number)
 
         before : (q : ℕ) (x : LineView S P T) → IsAt (set old.lines p (Some w)) q x → (u : LineView S P T) × IsAt old.lines q u × (u.connection ≡ x.connection)
         before q x at_q = all_set (λ k (o : Option (LineView S P T)). (x : LineView S P T) → o ≡ Some x → (u : LineView S P T) × IsAt old.lines k u × (u.connection ≡ x.connection))
@@ -268,6 +279,7 @@ module _ {S P T Q A : Type 0} (g : Speaks S P T Q A) (start : Snapshot) where
           (λ x e. subst (λ (x : LineView S P T). IsSeated g more (heard_in r.history) x) (let same_x : w ≡ x = cc in same_x) seated_here)
           (λ k o other at_k x e. seated_there k x (at_k ∙ ap Some e)) q (Some x) at_q x refl;
       apart = λ a b v x at_a at_b same. apart_at a b v x same (eqb_tells a p) (eqb_tells b p) at_a at_b;
+      there = λ n first e. there_at n first (get_joined visits (visit_of w.stream) _ n e);
       gone = λ n first last e. gone_at n first last (get_joined visits (visit_of w.stream) _ n e);
     }
       where
@@ -322,6 +334,13 @@ module _ {S P T Q A : Type 0} (g : Speaks S P T Q A) (start : Snapshot) where
             absurd (new_number a v (it_was a v other at_a) (same ∙ ap (λ (y : LineView S P T). y.connection) (sym (it_is b x there at_b))))
         apart_at a b v x same (inr (_, other)) (inr (_, others)) at_a at_b = r.apart a b v x (it_was a v other at_a) (it_was b x others at_b) same
 
+        there_at : (n : ℕ) (first : T) → (slice_get visits n ≡ Some (visit_of first)) ⊎ ((visit_of first ≡ visit_of w.stream) × (n ≡ length visits))
+            → (q : ℕ) × (y : LineView S P T) × IsAt (set old.lines p (Some w)) q y × (y.connection ≡ n)
+        there_at n first (inl e) =
+            let (q, x, at_q, number) = r.there n first e in
+            (q, x, get_other old.lines p q (Some w) (λ here. let none = subst (λ (k : ℕ). IsAt old.lines k x) here at_q in absurd (cc)) ∙ at_q, number)
+        there_at n first (inr (_, at_end)) = (p, w, get_set old.lines p None (Some w) free, number ∙ sym at_end)
+
         gone_at : (n : ℕ) (first last : T)
             → (slice_get visits n ≡ Some (record { came = first; left = Some last })) ⊎ ((record { came = first; left = Some last } ≡ visit_of w.stream) × (n ≡ length visits))
             → IsHeardOn g first last (heard_in r.history n)
@@ -347,7 +366,14 @@ module _ {S P T Q A : Type 0} (g : Speaks S P T Q A) (start : Snapshot) where
         apart = apart_by old.lines (set old.lines p None)
             (λ q x at_q. all_set (λ k (o : Option (LineView S P T)). (x : LineView S P T) → o ≡ Some x → (u : LineView S P T) × IsAt old.lines k u × (u.connection ≡ x.connection))
             old.lines p None (λ x is. absurd (cc)) (λ k o other at_k x is. (x, at_k ∙ ap Some is, refl)) q (Some x) at_q x refl) r.apart;
-        gone = λ n first last is. all_set (λ k (u : Visit T). (first last : T) → u ≡ record { came = first; left = Some last } → IsHeardOn g first last (heard_in r.history k))
+        there = λ n first is. all_set (λ k (u : Visit T). (first : T) → u ≡ visit_of first
+          → (q : ℕ) × (y : LineView S P T) × IsAt (set old.lines p None) q y × (y.connection ≡ k))
+          visits v.connection left_so
+          (λ first is. let none : Some v.stream ≡ None = ap (λ (u : Visit T). u.left) is in absurd (cc))
+          (λ k u other at_k first is. let (q, x, at_q, number) = r.there k first (at_k ∙ ap Some is) in
+            (q, x, get_other old.lines p q None (λ here. other (sym number ∙ ap (λ (y : LineView S P T). y.connection) (it_is x (subst (λ (m : ℕ). IsAt old.lines m x) here at_q)))) ∙ at_q, number))
+          n _ is first refl;
+      gone = λ n first last is. all_set (λ k (u : Visit T). (first last : T) → u ≡ record { came = first; left = Some last } → IsHeardOn g first last (heard_in r.history k))
             visits v.connection left_so gone_here (λ k u other at_k first last is. r.gone k first last (at_k ∙ ap Some is)) n _ is first last refl;
       },
     )
@@ -367,6 +393,9 @@ module _ {S P T Q A : Type 0} (g : Speaks S P T Q A) (start : Snapshot) where
               on = there.on;
               stands = there.stands;
             }
+
+        it_is : (x : LineView S P T) → IsAt old.lines p x → x ≡ v
+        it_is x at_p = cc
 
         gone_here : (first last : T) → left_so ≡ record { came = first; left = Some last } → IsHeardOn g first last (heard_in r.history v.connection)
         gone_here first last is =
@@ -404,6 +433,9 @@ module _ {S P T Q A : Type 0} (g : Speaks S P T Q A) (start : Snapshot) where
       new = λ n le. ap (λ (xs : List (Said Q A)). with_said (heard_in r.history n) xs) (round.only n (nobody asked seats n le)) ∙ with_none (heard_in r.history n) ∙ r.new n le;
       seated = λ p x e. seated_at p x e;
       apart = apart_by old.lines shown (λ p x e. let (v, v_at, same, _) = shown_before p x e in let (u, u_at, alike) = seat_before old.lines asked p v seats v_at in (u, u_at, sym alike.0 ∙ sym same.0)) r.apart;
+      there = λ n first e.
+          let (p, u, u_at, number) = r.there n first e in let (v, v_at, alike) = seat_after old.lines asked p u seats u_at in
+          let (x, x_at, same) = shown_after p v v_at in (p, x, x_at, same.0 ∙ alike.0 ∙ number);
       gone = λ n first last e. let was = r.gone n first last e in record { reads = was.reads; writes = was.writes };
     }
       where
@@ -415,6 +447,13 @@ module _ {S P T Q A : Type 0} (g : Speaks S P T Q A) (start : Snapshot) where
                 → (v : LineView S P T) × IsAt asked p v × IsSameSeat v x × ((h : Heard Q A) (said : List (Said Q A)) → Stands g v h said → Stands g x (with_said h said) [])
             by (None, is, h) = absurd h
             by (Some v, is, h) = (v, is, h.0, h.1)
+
+        shown_after : (p : ℕ) (v : LineView S P T) → IsAt asked p v → (x : LineView S P T) × IsAt shown p x × IsSameSeat v x
+        shown_after p v e = by (each_from (IsShown g) asked shown p v are e)
+          where
+            by : ((x : Option (LineView S P T)) × (slice_get shown p ≡ Some x) × IsShown g (Some v) x) → (x : LineView S P T) × IsAt shown p x × IsSameSeat v x
+            by (None, is, h) = absurd h
+            by (Some x, is, h) = (x, is, h.0)
 
         seated_at : (p : ℕ) (x : LineView S P T) → IsAt shown p x → IsSeated g visits (heard_with (heard_in r.history) round.said) x
         seated_at p x e =
@@ -446,9 +485,19 @@ module _ {S P T Q A : Type 0} (g : Speaks S P T Q A) (start : Snapshot) where
       new = r.new;
       seated = λ p x e. seated_at p x e;
       apart = apart_by old.lines left (λ p x e. let (v, v_at, same, _) = left_before p x e in let (u, u_at, alike) = seat_before old.lines asked p v seats v_at in (u, u_at, sym alike.0 ∙ sym same.0)) r.apart;
+      there = λ n first e.
+          let (p, u, u_at, number) = r.there n first e in let (v, v_at, alike) = seat_after old.lines asked p u seats u_at in
+          let (x, x_at, same) = left_after p v v_at in (p, x, x_at, same.0 ∙ alike.0 ∙ number);
       gone = r.gone;
     }
       where
+        left_after : (p : ℕ) (v : LineView S P T) → IsAt asked p v → (x : LineView S P T) × IsAt left p x × IsSameSeat v x
+        left_after p v e = by (each_from (IsForgotten g) asked left p v are e)
+          where
+            by : ((x : Option (LineView S P T)) × (slice_get left p ≡ Some x) × IsForgotten g (Some v) x) → (x : LineView S P T) × IsAt left p x × IsSameSeat v x
+            by (None, is, h) = absurd h
+            by (Some x, is, h) = (x, is, h.0)
+
         left_before : (p : ℕ) (x : LineView S P T) → IsAt left p x
             → (v : LineView S P T) × IsAt asked p v × IsSameSeat v x × ((h : Heard Q A) (said : List (Said Q A)) → Stands g v h said → Stands g x h [])
         left_before p x e = by (each_at (IsForgotten g) asked left p x are e)

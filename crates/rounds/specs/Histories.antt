@@ -74,7 +74,7 @@ pub record PlacesView (V : Type 0) : Type 0 where
   pub connections : ℕ
 
 -- The places stand behind a history, whose rounds led the desk from there to here. Each connection that came was heard on its
--- stream alone, and is told its answers in their order; those that have not left are at a place each.
+-- stream alone, and is told its answers in their order; just those that have not left are there, at a place each.
 pub record IsReached {S P T Q A : Type 0} (g : Speaks S P T Q A) (start now : Snapshot) (visits : List (Visit T))
     (places : PlacesView (LineView S P T)) : Type 0 where
   pub history : History Q A
@@ -84,5 +84,7 @@ pub record IsReached {S P T Q A : Type 0} (g : Speaks S P T Q A) (start now : Sn
   pub new : (connection : ℕ) → length visits ≤ connection → heard_in history connection ≡ unheard
   pub seated : (place : ℕ) (v : LineView S P T) → IsAt places.lines place v → IsSeated g visits (heard_in history) v
   pub apart : Apart places.lines
+  pub there : (connection : ℕ) (first : T) → slice_get visits connection ≡ Some (visit_of first)
+      → (place : ℕ) × (v : LineView S P T) × IsAt places.lines place v × (v.connection ≡ connection)
   pub gone : (connection : ℕ) (first last : T) → slice_get visits connection ≡ Some (record { came = first; left = Some last })
       → IsHeardOn g first last (heard_in history connection)
