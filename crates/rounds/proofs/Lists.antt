@@ -181,3 +181,8 @@ by_test true h k = inr (k refl)
 pub not_true : (b : Bool) → (b ≡ true → ⊥) → b ≡ false
 not_true false h = refl
 not_true true h = absurd (h refl)
+
+-- so it is either way
+pub either_way : {X : Type 0} (b : Bool) → (b ≡ false → X) → (b ≡ true → X) → X
+either_way false h k = h refl
+either_way true h k = k refl

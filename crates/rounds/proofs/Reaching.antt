@@ -8,9 +8,9 @@ use Rattle.std.proofs.lemmas.Option.{slice_get_within}
 use Rattle.desk.specs.Desk.{Snapshot}
 use Rattle.desk.specs.Dialogue.{Begins, Language, text_of}
 use Rattle.rounds.specs.Lines.{Heard, IsHeard, IsTold, LineView, Said, Speaks, Stands, answers_of, questions_of, unheard, with_piece, with_said, with_written}
-use Rattle.rounds.specs.Rounds.{Apart, AtEach, InRound, IsAt, IsForgotten, IsLooked, IsNowhere, IsRead, IsSameSeat, IsShown, IsWritten, SameAt, heard_on, heard_with, said_on, stopped_at}
+use Rattle.rounds.specs.Rounds.{Apart, AtEach, InRound, IsAt, IsForgotten, IsLooked, IsNowhere, IsRead, IsSameSeat, IsShown, IsWritten, Loss, SameAt, heard_on, heard_with, lost_between, said_on, stopped_at}
 use Rattle.rounds.specs.Histories.{AreRounds, History, IsHeardOn, IsReached, IsSeated, PlacesView, Visit, begun, came, heard_in, kept, lost, visit_of, wrote}
-use Rattle.rounds.proofs.Lists.{all_set, each_at, each_from, get_end, get_front, get_joined, get_other, get_set, set_still}
+use Rattle.rounds.proofs.Lists.{all_set, each_at, each_from, get_end, get_front, get_joined, get_other, get_set, not_true, set_still}
 use Rattle.rounds.proofs.Saying.{with_none}
 use Rattle.rounds.proofs.OneTurn.{seat_after, seat_before}
 
@@ -93,10 +93,10 @@ abbrev left_at : {T : Type 0} → Option (Visit T) → Option T
 left_at None = None
 left_at (Some v) = v.left
 
-module _ {S P T Q A : Type 0} (g : Speaks S P T Q A) (start : Snapshot) where
+module _ {S P T Q A : Type 0} (g : Speaks S P T Q A) (loss : Option Loss) (start : Snapshot) where
   -- nobody is anywhere
   pub reach_none : (places : PlacesView (LineView S P T)) → places.connections ≡ 0
-      → ((place : ℕ) (v : LineView S P T) → IsAt places.lines place v → ⊥) → IsReached g start start [] places
+      → ((place : ℕ) (v : LineView S P T) → IsAt places.lines place v → ⊥) → IsReached g loss start start [] places
   reach_none places none free = record {
     history = begun;
     are_rounds = refl;
@@ -117,7 +117,7 @@ module _ {S P T Q A : Type 0} (g : Speaks S P T Q A) (start : Snapshot) where
       let (y, y_at, y_same) = before q w at_q in
       apart p q x y x_at y_at (x_same ∙ same ∙ sym y_same)
 
-  module _ (now : Snapshot) (visits : List (Visit T)) (old : PlacesView (LineView S P T)) (r : IsReached g start now visits old) where
+  module _ (now : Snapshot) (visits : List (Visit T)) (old : PlacesView (LineView S P T)) (r : IsReached g loss start now visits old) where
     number_of : (p : ℕ) (v : LineView S P T) → IsAt old.lines p v → v.connection < length visits
     number_of p v e = slice_get_within visits v.connection _ (r.seated p v e).visit
 
@@ -128,10 +128,10 @@ module _ {S P T Q A : Type 0} (g : Speaks S P T Q A) (start : Snapshot) where
 
     -- something becomes known of the connection at a place
     pub reach_at : (p : ℕ) (v w : LineView S P T) → IsAt old.lines p v → w.connection ≡ v.connection → (history : History Q A) (h : Heard Q A)
-        → ((n : ℕ) → heard_in history n ≡ heard_on v.connection h (heard_in r.history) n) → AreRounds g.language start history now
+        → ((n : ℕ) → heard_in history n ≡ heard_on v.connection h (heard_in r.history) n) → AreRounds g.language loss start history now
         → (IsTold g.language (heard_in r.history v.connection) → IsTold g.language h)
         → ((first : T) → IsHeardOn g first v.stream (heard_in r.history v.connection) → IsHeardOn g first w.stream h) → Stands g w h []
-        → IsReached g start now visits (record { lines = set old.lines p (Some w); connections = old.connections })
+        → IsReached g loss start now visits (record { lines = set old.lines p (Some w); connections = old.connections })
     reach_at p v w e same history h heard rounds told on stands = record {
       history = history;
       are_rounds = rounds;
@@ -204,15 +204,15 @@ module _ {S P T Q A : Type 0} (g : Speaks S P T Q A) (start : Snapshot) where
 
     -- nobody is at a place still
     reach_nobody : (p : ℕ) → slice_get old.lines p ≡ Some None
-        → IsReached g start now visits (record { lines = set old.lines p None; connections = old.connections })
-    reach_nobody p e = subst (λ (lines : List (Option (LineView S P T))). IsReached g start now visits (record { lines = lines; connections = old.connections }))
+        → IsReached g loss start now visits (record { lines = set old.lines p None; connections = old.connections })
+    reach_nobody p e = subst (λ (lines : List (Option (LineView S P T))). IsReached g loss start now visits (record { lines = lines; connections = old.connections }))
         (sym (set_still old.lines p None e)) r
 
     -- what stands at a place stands so otherwise, and nothing becomes known
     pub reach_still : (p : ℕ) (v w : LineView S P T) → IsAt old.lines p v → w.connection ≡ v.connection
         → ((first : T) (h : Heard Q A) → IsHeardOn g first v.stream h → IsHeardOn g first w.stream h)
         → (Stands g v (heard_in r.history v.connection) [] → Stands g w (heard_in r.history v.connection) [])
-        → IsReached g start now visits (record { lines = set old.lines p (Some w); connections = old.connections })
+        → IsReached g loss start now visits (record { lines = set old.lines p (Some w); connections = old.connections })
     reach_still p v w e same on stands =
         reach_at p v w e same r.history (heard_in r.history v.connection) (λ n. sym (by n (eqb_tells n v.connection))) r.are_rounds (λ h. h)
         (λ first h. on first (heard_in r.history v.connection) h) (stands (r.seated p v e).stands)
@@ -224,7 +224,7 @@ module _ {S P T Q A : Type 0} (g : Speaks S P T Q A) (start : Snapshot) where
 
     -- it is looked for a question there
     pub reach_looked : (p : ℕ) (v w : Option (LineView S P T)) → slice_get old.lines p ≡ Some v → IsLooked g v w
-        → IsReached g start now visits (record { lines = set old.lines p w; connections = old.connections })
+        → IsReached g loss start now visits (record { lines = set old.lines p w; connections = old.connections })
     reach_looked p None None e h = reach_nobody p e
     reach_looked p None (Some w) e h = absurd h
     reach_looked p (Some v) None e h = absurd h
@@ -233,7 +233,7 @@ module _ {S P T Q A : Type 0} (g : Speaks S P T Q A) (start : Snapshot) where
 
     -- it is read there
     pub reach_read : (p : ℕ) (v w : Option (LineView S P T)) → slice_get old.lines p ≡ Some v → IsRead g v w
-        → IsReached g start now visits (record { lines = set old.lines p w; connections = old.connections })
+        → IsReached g loss start now visits (record { lines = set old.lines p w; connections = old.connections })
     reach_read p None None e h = reach_nobody p e
     reach_read p None (Some w) e h = absurd h
     reach_read p (Some v) None e h = absurd h
@@ -249,7 +249,7 @@ module _ {S P T Q A : Type 0} (g : Speaks S P T Q A) (start : Snapshot) where
 
     -- it is written there
     pub reach_written : AreSettled g → (p : ℕ) (v w : Option (LineView S P T)) → slice_get old.lines p ≡ Some v → IsWritten g v w
-        → IsReached g start now visits (record { lines = set old.lines p w; connections = old.connections })
+        → IsReached g loss start now visits (record { lines = set old.lines p w; connections = old.connections })
     reach_written settled p None None e h = reach_nobody p e
     reach_written settled p None (Some w) e h = absurd h
     reach_written settled p (Some v) None e h = absurd h
@@ -267,7 +267,7 @@ module _ {S P T Q A : Type 0} (g : Speaks S P T Q A) (start : Snapshot) where
     -- somebody comes to a place
     pub reach_seat : (p : ℕ) (w : LineView S P T) → slice_get old.lines p ≡ Some None → w.connection ≡ old.connections
         → IsTold g.language unheard → IsHeard g w unheard []
-        → IsReached g start now (visits ++ visit_of w.stream ∷ []) (record { lines = set old.lines p (Some w); connections = old.connections + 1 })
+        → IsReached g loss start now (visits ++ visit_of w.stream ∷ []) (record { lines = set old.lines p (Some w); connections = old.connections + 1 })
     reach_seat p w free is told stands = record {
       history = r.history;
       are_rounds = r.are_rounds;
@@ -351,7 +351,7 @@ module _ {S P T Q A : Type 0} (g : Speaks S P T Q A) (start : Snapshot) where
     -- who is at a place leaves
     pub reach_left : (p : ℕ) (v : LineView S P T) → IsAt old.lines p v
         → (first : T) × (slice_get visits v.connection ≡ Some (visit_of first))
-        × IsReached g start now (set visits v.connection (record { came = first; left = Some v.stream })) (record { lines = set old.lines p None; connections = old.connections })
+        × IsReached g loss start now (set visits v.connection (record { came = first; left = Some v.stream })) (record { lines = set old.lines p None; connections = old.connections })
     reach_left p v e = (
       was.came,
       was.visit,
@@ -367,13 +367,13 @@ module _ {S P T Q A : Type 0} (g : Speaks S P T Q A) (start : Snapshot) where
             (λ q x at_q. all_set (λ k (o : Option (LineView S P T)). (x : LineView S P T) → o ≡ Some x → (u : LineView S P T) × IsAt old.lines k u × (u.connection ≡ x.connection))
             old.lines p None (λ x is. absurd (cc)) (λ k o other at_k x is. (x, at_k ∙ ap Some is, refl)) q (Some x) at_q x refl) r.apart;
         there = λ n first is. all_set (λ k (u : Visit T). (first : T) → u ≡ visit_of first
-          → (q : ℕ) × (y : LineView S P T) × IsAt (set old.lines p None) q y × (y.connection ≡ k))
-          visits v.connection left_so
-          (λ first is. let none : Some v.stream ≡ None = ap (λ (u : Visit T). u.left) is in absurd (cc))
-          (λ k u other at_k first is. let (q, x, at_q, number) = r.there k first (at_k ∙ ap Some is) in
+            → (q : ℕ) × (y : LineView S P T) × IsAt (set old.lines p None) q y × (y.connection ≡ k))
+            visits v.connection left_so
+            (λ first is. let none : Some v.stream ≡ None = ap (λ (u : Visit T). u.left) is in absurd (cc))
+            (λ k u other at_k first is. let (q, x, at_q, number) = r.there k first (at_k ∙ ap Some is) in
             (q, x, get_other old.lines p q None (λ here. other (sym number ∙ ap (λ (y : LineView S P T). y.connection) (it_is x (subst (λ (m : ℕ). IsAt old.lines m x) here at_q)))) ∙ at_q, number))
-          n _ is first refl;
-      gone = λ n first last is. all_set (λ k (u : Visit T). (first last : T) → u ≡ record { came = first; left = Some last } → IsHeardOn g first last (heard_in r.history k))
+            n _ is first refl;
+        gone = λ n first last is. all_set (λ k (u : Visit T). (first last : T) → u ≡ record { came = first; left = Some last } → IsHeardOn g first last (heard_in r.history k))
             visits v.connection left_so gone_here (λ k u other at_k first last is. r.gone k first last (at_k ∙ ap Some is)) n _ is first last refl;
       },
     )
@@ -424,7 +424,7 @@ module _ {S P T Q A : Type 0} (g : Speaks S P T Q A) (start : Snapshot) where
 
     -- it is kept, and shown
     pub round_kept : (then : Snapshot) (asked shown : List (Option (LineView S P T))) → (now.is_stopped ≡ true → then ≡ now) → AtEach SameAt old.lines asked → InRound g now then asked (heard_in r.history)
-        → AtEach (IsShown g) asked shown → IsReached g start then visits (record { lines = shown; connections = old.connections })
+        → AtEach (IsShown g) asked shown → IsReached g loss start then visits (record { lines = shown; connections = old.connections })
     round_kept then asked shown still seats round are = record {
       history = kept r.history round.said;
       are_rounds = (now, r.are_rounds, round.are_said, still);
@@ -474,12 +474,12 @@ module _ {S P T Q A : Type 0} (g : Speaks S P T Q A) (start : Snapshot) where
             }
 
     -- it is lost, and forgotten
-    pub round_lost : (then last : Snapshot) (asked left : List (Option (LineView S P T))) → now.is_stopped ≡ false → then ≡ stopped_at last.ledger
+    pub round_lost : (then last : Snapshot) (asked left : List (Option (LineView S P T))) → now.is_stopped ≡ false → loss ≡ Some (lost_between now last) → then ≡ stopped_at last.ledger
         → AtEach SameAt old.lines asked → InRound g now last asked (heard_in r.history)
-        → AtEach (IsForgotten g) asked left → IsReached g start then visits (record { lines = left; connections = old.connections })
-    round_lost then last asked left going stopped seats round are = record {
+        → AtEach (IsForgotten g) asked left → IsReached g loss start then visits (record { lines = left; connections = old.connections })
+    round_lost then last asked left going loses stopped seats round are = record {
       history = lost r.history round.said;
-      are_rounds = (now, last, r.are_rounds, going, round.are_said, stopped);
+      are_rounds = (now, last, r.are_rounds, going, round.are_said, loses, stopped);
       count = r.count;
       told = r.told;
       new = r.new;
@@ -526,13 +526,38 @@ module _ {S P T Q A : Type 0} (g : Speaks S P T Q A) (start : Snapshot) where
 module _ {S P T Q A : Type 0} (g : Speaks S P T Q A) (old : PlacesView (LineView S P T)) (p : ℕ) where
   -- who was at a place has left, if somebody was
   pub has_left : (x : Option (LineView S P T)) (o : Option T) → slice_get old.lines p ≡ Some x → o ≡ option_map (λ l. l.stream) x
-      → IfSome o (λ stream. (start now : Snapshot) (visits : List (Visit T)) → IsReached g start now visits old
+      → IfSome o (λ stream. (loss : Option Loss) (start now : Snapshot) (visits : List (Visit T)) → IsReached g loss start now visits old
       → (connection : ℕ) × (first : T) × (slice_get visits connection ≡ Some (visit_of first))
-      × IsReached g start now (set visits connection (record { came = first; left = Some stream })) (record { lines = set old.lines p None; connections = old.connections }))
-  has_left None o e is = subst (λ (o : Option T). IfSome o (λ stream. (start now : Snapshot) (visits : List (Visit T)) → IsReached g start now visits old
+      × IsReached g loss start now (set visits connection (record { came = first; left = Some stream })) (record { lines = set old.lines p None; connections = old.connections }))
+  has_left None o e is = subst (λ (o : Option T). IfSome o (λ stream. (loss : Option Loss) (start now : Snapshot) (visits : List (Visit T)) → IsReached g loss start now visits old
       → (connection : ℕ) × (first : T) × (slice_get visits connection ≡ Some (visit_of first))
-      × IsReached g start now (set visits connection (record { came = first; left = Some stream })) (record { lines = set old.lines p None; connections = old.connections }))) (sym is) tt
-  has_left (Some v) o e is = subst (λ (o : Option T). IfSome o (λ stream. (start now : Snapshot) (visits : List (Visit T)) → IsReached g start now visits old
+      × IsReached g loss start now (set visits connection (record { came = first; left = Some stream })) (record { lines = set old.lines p None; connections = old.connections }))) (sym is) tt
+  has_left (Some v) o e is = subst (λ (o : Option T). IfSome o (λ stream. (loss : Option Loss) (start now : Snapshot) (visits : List (Visit T)) → IsReached g loss start now visits old
       → (connection : ℕ) × (first : T) × (slice_get visits connection ≡ Some (visit_of first))
-      × IsReached g start now (set visits connection (record { came = first; left = Some stream })) (record { lines = set old.lines p None; connections = old.connections }))) (sym is)
-      (λ start now visits r. let (first, at, reached) = reach_left g start now visits old r p v e in (v.connection, first, at, reached))
+      × IsReached g loss start now (set visits connection (record { came = first; left = Some stream })) (record { lines = set old.lines p None; connections = old.connections }))) (sym is)
+      (λ loss start now visits r. let (first, at, reached) = reach_left g loss start now visits old r p v e in (v.connection, first, at, reached))
+
+module _ {Q A : Type 0} (L : Language Q A) (loss other : Option Loss) (start : Snapshot) where
+  -- of a desk that goes on no round was lost
+  none_lost : (history : History Q A) (now : Snapshot) → now.is_stopped ≡ false → AreRounds L loss start history now → AreRounds L other start history now
+  none_lost begun now going are = are
+  none_lost (came history connection piece) now going are = none_lost history now going are
+  none_lost (wrote history connection bytes) now going are = none_lost history now going are
+  none_lost (kept history said) now going (mid, are, more, still) =
+      (mid, none_lost history mid (not_true mid.is_stopped (λ halted. let same = ap (λ (s : Snapshot). s.is_stopped) (still halted) in absurd (cc))) are, more, still)
+  none_lost (lost history untold) now going (mid, last, are, before, more, left, is) =
+      let halted : now.is_stopped ≡ true = ap (λ (s : Snapshot). s.is_stopped) is in absurd (cc)
+
+pub reached_anew : {S P T Q A : Type 0} (g : Speaks S P T Q A) (loss other : Option Loss) (start now : Snapshot) (visits : List (Visit T))
+    (places : PlacesView (LineView S P T)) → now.is_stopped ≡ false → IsReached g loss start now visits places → IsReached g other start now visits places
+reached_anew g loss other start now visits places going r = record {
+  history = r.history;
+  are_rounds = none_lost g.language loss other start r.history now going r.are_rounds;
+  count = r.count;
+  told = r.told;
+  new = r.new;
+  seated = r.seated;
+  apart = r.apart;
+  there = r.there;
+  gone = r.gone;
+}

@@ -4,7 +4,7 @@ use Rattle.std.specs.Io.KnownBytes.{Appends, Consumes}
 use Rattle.desk.specs.Desk.{Snapshot}
 use Rattle.desk.specs.Dialogue.{Language}
 use Rattle.rounds.specs.Lines.{Heard, IsTold, LineView, Said, Speaks, Stands, unheard, with_piece, with_written}
-use Rattle.rounds.specs.Rounds.{Apart, AreSaid, IsAt, heard_on, heard_with, stopped_at}
+use Rattle.rounds.specs.Rounds.{Apart, AreSaid, IsAt, Loss, heard_on, heard_with, lost_between, stopped_at}
 
 -- A history is none yet; or behind another a piece has come on a connection, which is its end where it has no bytes; or so
 -- much was written on one; or a round was kept, in which this was said; or one was lost, of which this is not told.
@@ -34,15 +34,16 @@ order_of (kept history said) = order_of history ++ said
 order_of (lost history untold) = order_of history
 
 -- Its rounds lead the desk from there to here. A lost one stops it, at the ledger to which what is not told leads; and a
--- stopped desk stays as it is.
-abbrev pub AreRounds : {Q A : Type 0} → Language Q A → Snapshot → History Q A → Snapshot → Type 0
-AreRounds L start begun now = now ≡ start
-AreRounds L start (came history connection piece) now = AreRounds L start history now
-AreRounds L start (wrote history connection bytes) now = AreRounds L start history now
-AreRounds L start (kept history said) now = (mid : Snapshot) × AreRounds L start history mid × AreSaid L mid said now
+-- stopped desk stays as it is. `loss` tells of the lost one.
+abbrev pub AreRounds : {Q A : Type 0} → Language Q A → Option Loss → Snapshot → History Q A → Snapshot → Type 0
+AreRounds L loss start begun now = now ≡ start
+AreRounds L loss start (came history connection piece) now = AreRounds L loss start history now
+AreRounds L loss start (wrote history connection bytes) now = AreRounds L loss start history now
+AreRounds L loss start (kept history said) now = (mid : Snapshot) × AreRounds L loss start history mid × AreSaid L mid said now
     × (mid.is_stopped ≡ true → now ≡ mid)
-AreRounds L start (lost history untold) now = (mid : Snapshot) × (last : Snapshot) × AreRounds L start history mid
-    × (mid.is_stopped ≡ false) × AreSaid L mid untold last × (now ≡ stopped_at last.ledger)
+AreRounds L loss start (lost history untold) now = (mid : Snapshot) × (last : Snapshot) × AreRounds L loss start history mid
+    × (mid.is_stopped ≡ false) × AreSaid L mid untold last
+    × (loss ≡ Some (lost_between mid last)) × (now ≡ stopped_at last.ledger)
 
 -- ---- connections
 
@@ -75,10 +76,11 @@ pub record PlacesView (V : Type 0) : Type 0 where
 
 -- The places stand behind a history, whose rounds led the desk from there to here. Each connection that came was heard on its
 -- stream alone, and is told its answers in their order; just those that have not left are there, at a place each.
-pub record IsReached {S P T Q A : Type 0} (g : Speaks S P T Q A) (start now : Snapshot) (visits : List (Visit T))
+pub record IsReached {S P T Q A : Type 0} (g : Speaks S P T Q A) (loss : Option Loss) (start now : Snapshot)
+    (visits : List (Visit T))
     (places : PlacesView (LineView S P T)) : Type 0 where
   pub history : History Q A
-  pub are_rounds : AreRounds g.language start history now
+  pub are_rounds : AreRounds g.language loss start history now
   pub count : places.connections ≡ length visits
   pub told : (connection : ℕ) → connection < length visits → IsTold g.language (heard_in history connection)
   pub new : (connection : ℕ) → length visits ≤ connection → heard_in history connection ≡ unheard

@@ -3,7 +3,8 @@ use Rattle.std.specs.Prelude.{◌≡◌, ◌≢◌, ◌⊎◌, false, true, ℕ,
 use Rattle.std.specs.Io.KnownBytes.{Appends, Consumes, Keeps}
 use Rattle.book.specs.Ledger.{Ledger}
 use Rattle.desk.specs.Deferred.{DeferredView}
-use Rattle.desk.specs.Desk.{DeskView, Snapshot}
+use Rattle.keep.specs.declared.keep.Keep.{Ghosts}
+use Rattle.desk.specs.Desk.{DeskView, IsStored, LeavesEither, Snapshot}
 use Rattle.desk.specs.Dialogue.{Language}
 use Rattle.rounds.specs.declared.phase.Phase.TheVariants.{Gone, Wants}
 use Rattle.rounds.specs.Lines.{Heard, IsHeard, IsTold, LineView, Said, Speaks, Stands, with_piece, with_said, with_written}
@@ -32,9 +33,17 @@ heard_with heard said connection = with_said (heard connection) (said_on connect
 abbrev pub stopped_at : Ledger → Snapshot
 stopped_at ledger = record { ledger = ledger; is_stopped = true }
 
+-- the ledgers before and behind a round that was lost
+pub record Loss : Type 0 where
+  pub before : Ledger
+  pub behind : Ledger
+
+abbrev pub lost_between : Snapshot → Snapshot → Loss
+lost_between mid last = record { before = mid.ledger; behind = last.ledger }
+
 -- A round of which nothing is told has stopped the desk. What was said before it is one order of questions; what is said
--- behind it is said of the stopped desk, which stays as it is.
-pub record IsCutOnce {Q A : Type 0} (L : Language Q A) (old : Snapshot) (said : List (Said Q A)) (new : Snapshot)
+-- behind it is said of the stopped desk, which stays as it is. `loss` tells of it.
+pub record IsCutOnce {Q A : Type 0} (L : Language Q A) (loss : Option Loss) (old : Snapshot) (said : List (Said Q A)) (new : Snapshot)
     : Type 0 where
   pub before : List (Said Q A)
   pub untold : List (Said Q A)
@@ -45,12 +54,14 @@ pub record IsCutOnce {Q A : Type 0} (L : Language Q A) (old : Snapshot) (said : 
   pub are_before : AreSaid L old before mid
   pub going : mid.is_stopped ≡ false
   pub are_untold : AreSaid L mid untold last
+  pub left : loss ≡ Some (lost_between mid last)
   pub are_behind : AreSaid L (stopped_at last.ledger) behind new
   pub stays : new ≡ stopped_at last.ledger
 
 -- all that was said is one order of questions, from the one desk to the other, unless a round was lost
-abbrev pub IsOneOrder : {Q A : Type 0} → Language Q A → Snapshot → List (Said Q A) → Snapshot → Type 0
-IsOneOrder L old said new = AreSaid L old said new ⊎ IsCutOnce L old said new
+abbrev pub IsOneOrder : {Q A : Type 0} → Language Q A → Option Loss → Snapshot → List (Said Q A) → Snapshot
+    → Type 0
+IsOneOrder L loss old said new = AreSaid L old said new ⊎ IsCutOnce L loss old said new
 
 -- ---- in a round
 
@@ -157,3 +168,10 @@ IsWritten {Q = Q} {A = A} g (Some v) (Some w) = (w.connection ≡ v.connection)
     ⊎ ((v.phase ≢ Gone) × (bytes : List ℕ) × Appends (g.contents v.stream) (g.contents w.stream) bytes
     × ((h : Heard Q A) → IsHeard g v h [] → IsHeard g w (with_written h bytes) [])))
 IsWritten g _ _ = ⊥
+
+-- ---- what a lost round leaves
+
+-- a stop leaves the rows of the ledger before it, or those of the ledger behind it
+abbrev pub IsLeftBy : {K : Type 0} → Ghosts K → K → Loss → Type 0
+IsLeftBy g keep loss = g.is_honest keep
+    → LeavesEither (g.leaves keep) loss.before loss.behind ⊎ IsStored (g.holds keep) (g.leaves keep) loss.before

@@ -1,11 +1,11 @@
 //! Connections at their places, and the rounds in which their questions are answered.
 
-ghost use Rattle.std.specs.Prelude.{◌≡◌, ◌⊎◌, ◌<◌, ◌+◌, ◌-◌, ◌^◌, [], ◌∷◌, ◌++◌, false, true, length, set, slice_get, List, None, Some, ℕ, IfNone, IfOk, IfSome, IsTrue, OnErr, OnOk};
-ghost use Rattle.book.specs.Ledger.{Ledger};
+ghost use Rattle.std.specs.Prelude.{◌≡◌, ◌⊎◌, ◌<◌, ◌+◌, ◌-◌, ◌^◌, [], ◌∷◌, ◌++◌, false, true, length, set, slice_get, List, None, Option, Some, ℕ, IfNone, IfOk, IfSome, IsTrue, OnErr, OnOk};
 ghost use Rattle.desk.specs.Deferred.{snapshot_off};
-ghost use Rattle.desk.specs.Desk.{IsStored, LeavesEither, Snapshot};
+ghost use Rattle.desk.specs.Desk.{IsStored, Snapshot};
 ghost use Rattle.rounds.specs.Histories.{IsReached, Visit, visit_of};
 ghost use Rattle.rounds.specs.Lines.{speaks};
+ghost use Rattle.rounds.specs.Rounds.{IsLeftBy, Loss, lost_between};
 
 use crate::line::Line;
 use crate::stream::Stream;
@@ -40,8 +40,8 @@ impl<D: Dialogue + Drop, S: Stream + Drop> Model for Places<D, S> {
 impl<D: Dialogue + Drop, S: Stream + Drop> Places<D, S> {
     /// So many places, at which nobody is.
     pub fn new(alloc: Global, places: usize) -> Result<Places<D, S>, AllocError>
-        ensures reached { IfOk result (λ p. (start : Snapshot)
-            → IsReached (speaks D.language D.has_found D.asks S.remaining S.contents) start start [] p) }
+        ensures reached { IfOk result (λ p. (loss : Option Loss)
+            (start : Snapshot) → IsReached (speaks D.language D.has_found D.asks S.remaining S.contents) loss start start [] p) }
         ensures size { IfOk result (λ p. length p.lines ≡ places) }
     {
         let mut lines = Vec::with_capacity(alloc, places)?;
@@ -80,9 +80,9 @@ impl<D: Dialogue + Drop, S: Stream + Drop> Places<D, S> {
         requires none { D.language.have_come [] [] }
         requires free { slice_get self.old.lines place ≡ Some None }
         requires count { self.old.connections < 2 ^ 64 - 1 }
-        ensures reached { (start now : Snapshot) (visits : List (Visit S))
-            → IsReached (speaks D.language D.has_found D.asks S.remaining S.contents) start now visits self.old
-            → IsReached (speaks D.language D.has_found D.asks S.remaining S.contents) start now
+        ensures reached { (loss : Option Loss) (start now : Snapshot) (visits : List (Visit S))
+            → IsReached (speaks D.language D.has_found D.asks S.remaining S.contents) loss start now visits self.old
+            → IsReached (speaks D.language D.has_found D.asks S.remaining S.contents) loss start now
             (visits ++ visit_of stream ∷ []) self.new }
         ensures size { length self.new.lines ≡ length self.old.lines }
         ensures count { self.new.connections ≡ self.old.connections + 1 }
@@ -94,10 +94,10 @@ impl<D: Dialogue + Drop, S: Stream + Drop> Places<D, S> {
     /// Ends the dialogue at a place, where somebody is, and gives the stream back.
     pub fn leave(&mut self, place: usize) -> Option<S>
         requires place { place < length self.old.lines }
-        ensures left { IfSome result (λ stream. (start now : Snapshot) (visits : List (Visit S))
-            → IsReached (speaks D.language D.has_found D.asks S.remaining S.contents) start now visits self.old
+        ensures left { IfSome result (λ stream. (loss : Option Loss) (start now : Snapshot) (visits : List (Visit S))
+            → IsReached (speaks D.language D.has_found D.asks S.remaining S.contents) loss start now visits self.old
             → (connection : ℕ) × (came : S) × (slice_get visits connection ≡ Some (visit_of came))
-            × IsReached (speaks D.language D.has_found D.asks S.remaining S.contents) start now
+            × IsReached (speaks D.language D.has_found D.asks S.remaining S.contents) loss start now
             (set visits connection (record { came = came; left = Some stream })) self.new) }
         ensures none { IfNone result (self.new ≡ self.old) }
         ensures free { slice_get self.new.lines place ≡ Some None }
@@ -117,9 +117,9 @@ impl<D: Dialogue + Drop, S: Stream + Drop> Places<D, S> {
     ) -> io::Result<Option<usize>>
         requires place { place < length self.old.lines }
         requires room { 0 < length piece.old }
-        ensures reached { (start now : Snapshot) (visits : List (Visit S))
-            → IsReached (speaks D.language D.has_found D.asks S.remaining S.contents) start now visits self.old
-            → IsReached (speaks D.language D.has_found D.asks S.remaining S.contents) start now visits self.new }
+        ensures reached { (loss : Option Loss) (start now : Snapshot) (visits : List (Visit S))
+            → IsReached (speaks D.language D.has_found D.asks S.remaining S.contents) loss start now visits self.old
+            → IsReached (speaks D.language D.has_found D.asks S.remaining S.contents) loss start now visits self.new }
         ensures same { (length self.new.lines ≡ length self.old.lines) × (self.new.connections ≡ self.old.connections) }
     {
         read_at(alloc, &mut self.lines[place], piece)
@@ -128,9 +128,9 @@ impl<D: Dialogue + Drop, S: Stream + Drop> Places<D, S> {
     /// Writes what is to be written at a place, as far as it is taken: how many bytes these are. A failing write takes nothing.
     pub fn write(&mut self, place: usize) -> io::Result<Option<usize>>
         requires place { place < length self.old.lines }
-        ensures reached { (start now : Snapshot) (visits : List (Visit S))
-            → IsReached (speaks D.language D.has_found D.asks S.remaining S.contents) start now visits self.old
-            → IsReached (speaks D.language D.has_found D.asks S.remaining S.contents) start now visits self.new }
+        ensures reached { (loss : Option Loss) (start now : Snapshot) (visits : List (Visit S))
+            → IsReached (speaks D.language D.has_found D.asks S.remaining S.contents) loss start now visits self.old
+            → IsReached (speaks D.language D.has_found D.asks S.remaining S.contents) loss start now visits self.new }
         ensures same { (length self.new.lines ≡ length self.old.lines) × (self.new.connections ≡ self.old.connections) }
     {
         write_at(&mut self.lines[place])
@@ -139,9 +139,9 @@ impl<D: Dialogue + Drop, S: Stream + Drop> Places<D, S> {
     /// Looks for a question in what has come at a place, where none waits there; whether one waits then.
     pub fn look(&mut self, alloc: Global, place: usize) -> bool
         requires place { place < length self.old.lines }
-        ensures reached { (start now : Snapshot) (visits : List (Visit S))
-            → IsReached (speaks D.language D.has_found D.asks S.remaining S.contents) start now visits self.old
-            → IsReached (speaks D.language D.has_found D.asks S.remaining S.contents) start now visits self.new }
+        ensures reached { (loss : Option Loss) (start now : Snapshot) (visits : List (Visit S))
+            → IsReached (speaks D.language D.has_found D.asks S.remaining S.contents) loss start now visits self.old
+            → IsReached (speaks D.language D.has_found D.asks S.remaining S.contents) loss start now visits self.new }
         ensures same { (length self.new.lines ≡ length self.old.lines) × (self.new.connections ≡ self.old.connections) }
     {
         look_at(alloc, &mut self.lines[place])
@@ -158,10 +158,17 @@ impl<D: Dialogue + Drop, S: Stream + Drop> Places<D, S> {
     ) -> Result<(), CallFault>
         requires going { D.may_stop → ⊥ }
         requires settled { desk.old.keep.changes ≡ [] }
-        ensures reached { (start : Snapshot) (visits : List (Visit S))
-            → IsReached (speaks D.language D.has_found D.asks S.remaining S.contents) start (snapshot_off desk.old) visits self.old
-            → IsReached (speaks D.language D.has_found D.asks S.remaining S.contents) start (snapshot_off desk.new) visits
-            self.new }
+        ensures told { OnOk result ((loss : Option Loss) (start : Snapshot) (visits : List (Visit S))
+            → IsReached (speaks D.language D.has_found D.asks S.remaining S.contents) loss start (snapshot_off desk.old) visits
+            self.old
+            → IsReached (speaks D.language D.has_found D.asks S.remaining S.contents) loss start (snapshot_off desk.new) visits
+            self.new) }
+        ensures untold { OnErr result ((loss : Option Loss) (start : Snapshot) (visits : List (Visit S))
+            → IsReached (speaks D.language D.has_found D.asks S.remaining S.contents) loss start (snapshot_off desk.old) visits
+            self.old
+            → IsReached (speaks D.language D.has_found D.asks S.remaining S.contents)
+            (Some (lost_between (snapshot_off desk.old) (snapshot_off desk.new))) start (snapshot_off desk.new) visits
+            self.new) }
         ensures settled { desk.new.keep.changes ≡ [] }
         // what is shown is kept: a stop leaves the rows of the ledger behind it
         ensures kept { OnOk result (desk.old.keep.stopped ≡ false → (desk.new.keep.stopped ≡ false)
@@ -169,9 +176,9 @@ impl<D: Dialogue + Drop, S: Stream + Drop> Places<D, S> {
             → IsStored (K.holds desk.new.keep.keep) (K.leaves desk.new.keep.keep) desk.new.ledger)) }
         // where it could not be kept, a stop leaves the rows before the round, or those of the ledger that is shown
         ensures lost { OnErr result ((desk.old.keep.stopped ≡ false) × IsTrue desk.new.keep.stopped
-            × (K.is_honest desk.new.keep.keep → LeavesEither (K.leaves desk.new.keep.keep) desk.old.ledger desk.new.ledger
-            ⊎ IsStored (K.holds desk.new.keep.keep) (K.leaves desk.new.keep.keep) desk.old.ledger)) }
-        ensures halts { IsTrue desk.old.keep.stopped → (desk.new.ledger ≡ desk.old.ledger) × IsTrue desk.new.keep.stopped }
+            × IsLeftBy K.Keep desk.new.keep.keep (lost_between (snapshot_off desk.old) (snapshot_off desk.new))) }
+        ensures halts { IsTrue desk.old.keep.stopped → (desk.new.ledger ≡ desk.old.ledger) × IsTrue desk.new.keep.stopped
+            × (desk.new.keep.keep ≡ desk.old.keep.keep) }
         ensures same { (length self.new.lines ≡ length self.old.lines) × (self.new.connections ≡ self.old.connections) }
     {
         desk.is_kept();

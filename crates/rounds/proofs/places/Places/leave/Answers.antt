@@ -1,9 +1,10 @@
-use Rattle.std.proofs.Common.{◌≡◌, ◌∙◌, ◌<◌, ℕ, List, Some, ap, length, refl, set, subst, sym}
+use Rattle.std.proofs.Common.{Option, ◌≡◌, ◌∙◌, ◌<◌, ℕ, List, Some, ap, length, refl, set, subst, sym}
 use Rattle.std.specs.Prelude.{IfSome, option_map, slice_get}
 use Rattle.std.proofs.lemmas.Option.{slice_get_read}
 use Rattle.desk.specs.Desk.{Snapshot}
 use Rattle.rounds.specs.Histories.{IsReached, Visit, visit_of}
 use Rattle.rounds.specs.Lines.{speaks}
+use Rattle.rounds.specs.Rounds.{Loss}
 use Rattle.rounds.proofs.Lists.{get_set}
 use Rattle.rounds.proofs.Reaching.{has_left}
 use Rattle.rounds.proofs.places.Places.leave.Goals as goal
@@ -26,13 +27,13 @@ returns-clause-left g c =
     let is_there : slice_get items c.args.place ≡ Some x = slice_get_read items (length items) c.args.place x refl within c.index_mut.ensures.value in
     let left = has_left talk (record { lines = items; connections = here.connections }) c.args.place x c.stream_of.result is_there
     (c.stream_of.ensures ∙ ap (λ o. option_map (λ l. l.stream) o) c.take-line.ensures.value) in
-    let gone = subst (λ o. IfSome c.stream_of.result (λ stream. (start now : Snapshot) (visits : List (Visit g.row.S.Denot))
-    → IsReached talk start now visits (record { lines = items; connections = here.connections })
+    let gone = subst (λ o. IfSome c.stream_of.result (λ stream. (loss : Option Loss) (start now : Snapshot) (visits : List (Visit g.row.S.Denot))
+    → IsReached talk loss start now visits (record { lines = items; connections = here.connections })
     → (connection : ℕ) × (first : g.row.S.Denot) × (slice_get visits connection ≡ Some (visit_of first))
-    × IsReached talk start now (set visits connection (record { came = first; left = Some stream })) (record { lines = set items c.args.place o; connections = here.connections })))
+    × IsReached talk loss start now (set visits connection (record { came = first; left = Some stream })) (record { lines = set items c.args.place o; connections = here.connections })))
     (sym c.take-line.ensures.after) left in
-    subst (λ v. IfSome c.stream_of.result (λ stream. (start now : Snapshot) (visits : List (Visit g.row.S.Denot))
-    → IsReached talk start now visits v
+    subst (λ v. IfSome c.stream_of.result (λ stream. (loss : Option Loss) (start now : Snapshot) (visits : List (Visit g.row.S.Denot))
+    → IsReached talk loss start now visits v
     → (connection : ℕ) × (first : g.row.S.Denot) × (slice_get visits connection ≡ Some (visit_of first))
-    × IsReached talk start now (set visits connection (record { came = first; left = Some stream }))
+    × IsReached talk loss start now (set visits connection (record { came = first; left = Some stream }))
     (record { lines = set items c.args.place c.take-line.new.self; connections = here.connections }))) c.self.view_is gone
