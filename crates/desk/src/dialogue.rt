@@ -100,6 +100,18 @@ pub trait Dialogue {
         → Begins language (read ++ more) questions };
 }
 
+/// A dialogue that can be begun.
+pub trait Begin: Dialogue + Sized {
+    ghost use Rattle.std.specs.Prelude.{[], false, IfOk};
+
+    /// A dialogue in which nothing has come yet.
+    fn begin(alloc: Global) -> Result<Self, Memory>
+        ensures { IfOk result (λ dialogue. Self.has_found dialogue [] false []) };
+
+    // Nothing has come in an empty input.
+    ghost none_come: { Self.language.have_come [] [] };
+}
+
 /// Answers the questions that have come, and writes each answer before the next is made. Whether the dialogue is over.
 fn answer_come<D: Dialogue, K: Keep, W: Write>(
     alloc: Global,

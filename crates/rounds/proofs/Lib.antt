@@ -5,3 +5,4 @@ pub mod Saying
 pub mod OneTurn
 pub mod Reaching
 pub mod Settings
+pub mod Serving

@@ -2,10 +2,13 @@
 //! change is kept in one transaction, and only then are the answers written. A connection is any reader and writer.
 #![tactic(auto)]
 
+mod crowd;
+mod hub;
 mod laws;
 mod line;
 mod phase;
 mod places;
+mod standing;
 mod stream;
 mod turns;
 

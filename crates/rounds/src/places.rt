@@ -64,7 +64,8 @@ impl<D: Dialogue + Drop, S: Stream + Drop> Places<D, S> {
 
     /// A place at which nobody is.
     pub fn free_place(&self) -> Option<usize>
-        ensures { IfSome result (λ place. slice_get self.now.lines place ≡ Some None) }
+        ensures free { IfSome result (λ place. slice_get self.now.lines place ≡ Some None) }
+        ensures within { IfSome result (λ place. place < length self.now.lines) }
     {
         for place in 0..self.lines.len() {
             if self.lines[place].is_none() {
