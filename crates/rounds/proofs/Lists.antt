@@ -186,3 +186,16 @@ not_true true h = absurd (h refl)
 pub either_way : {X : Type 0} (b : Bool) → (b ≡ false → X) → (b ≡ true → X) → X
 either_way false h k = h refl
 either_way true h k = k refl
+
+-- so many places are free, and the next one too
+pub free_on : {V : Type 0} (old new : List (Option V)) (i : ℕ) → ((p : ℕ) → p < i → slice_get old p ≡ Some None) → slice_get new i ≡ Some None
+    → ((p : ℕ) → p ≢ i → slice_get new p ≡ slice_get old p) → (p : ℕ) → p < i + 1 → slice_get new p ≡ Some None
+free_on old new i before here others p lt = by (eqb_tells p i)
+  where
+    by : ((nat_eq p i ≡ true) × (p ≡ i)) ⊎ ((nat_eq p i ≡ false) × (p ≢ i)) → slice_get new p ≡ Some None
+    by (inl (_, is)) = subst (λ (q : ℕ). slice_get new q ≡ Some None) (sym is) here
+    by (inr (_, other)) = others p other ∙ before p (omega (arith, lt, other))
+
+pub not_false : (b : Bool) → (b ≡ false → ⊥) → b ≡ true
+not_false true h = refl
+not_false false h = absurd (h refl)

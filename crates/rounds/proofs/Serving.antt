@@ -1,10 +1,15 @@
 -- How a service goes on.
-use Rattle.std.proofs.Common.{◌≡◌, ◌∷◌, ◌++◌, [], List, Option}
-use Rattle.desk.specs.Desk.{Snapshot}
+use Rattle.std.proofs.Common.{◌≡◌, ◌∷◌, ◌++◌, [], false, Err, List, Ok, Option, Result, Some, refl, subst, sym, true}
+use Rattle.std.specs.Prelude.{OnErr, OnOk}
+use Rattle.keep.specs.declared.keep.Keep.{Ghosts}
+use Rattle.desk.specs.Deferred.{DeferredView, snapshot_off}
+use Rattle.desk.specs.Desk.{DeskView, IsStored, Snapshot}
 use Rattle.rounds.specs.Crowds.{HubView, IsServing, Listening, entered, visits_in, waited}
 use Rattle.rounds.specs.Histories.{IsReached, PlacesView, Visit, visit_of}
 use Rattle.rounds.specs.Lines.{LineView, Speaks}
-use Rattle.rounds.specs.Rounds.{Loss}
+use Rattle.rounds.specs.Rounds.{IsLeftBy, Loss, lost_between}
+use Rattle.rounds.specs.Services.{InService}
+use Rattle.rounds.proofs.Lists.{not_false, not_true}
 
 module _ {C S P T Q A : Type 0} (g : Speaks S P T Q A) (c : Listening C T) (first : C) (loss : Option Loss) (start now : Snapshot)
     (crowd : C) (places : PlacesView (LineView S P T)) (serving : IsServing g c first loss start now (record { crowd = crowd; places = places })) where
@@ -20,4 +25,54 @@ module _ {C S P T Q A : Type 0} (g : Speaks S P T Q A) (c : Listening C T) (firs
     doors = entered serving.doors stream;
     pass = (crowd, serving.pass, comes);
     reached = seats (visits_in serving.doors) serving.reached;
+  }
+
+  -- its places are reached otherwise
+  pub reached_more : (more : PlacesView (LineView S P T))
+      → ((visits : List (Visit T)) → IsReached g loss start now visits places → IsReached g loss start now visits more)
+      → IsServing g c first loss start now (record { crowd = crowd; places = more })
+  reached_more more goes = record { doors = serving.doors; pass = serving.pass; reached = goes (visits_in serving.doors) serving.reached }
+
+module _ {K C S P T Q A : Type 0} (g : Speaks S P T Q A) (c : Listening C T) (k : Ghosts K) (first : C) (start : Snapshot)
+    (old new : DeskView (DeferredView K)) (crowd : C) (places more : PlacesView (LineView S P T)) where
+  -- a round is held
+  pub round_more : {R E : Type 0} (result : Result R E)
+      → OnOk result ((loss : Option Loss) (start : Snapshot) (visits : List (Visit T)) → IsReached g loss start (snapshot_off old) visits places
+      → IsReached g loss start (snapshot_off new) visits more)
+      → OnErr result ((loss : Option Loss) (start : Snapshot) (visits : List (Visit T)) → IsReached g loss start (snapshot_off old) visits places
+      → IsReached g (Some (lost_between (snapshot_off old) (snapshot_off new))) start (snapshot_off new) visits more)
+      → new.keep.changes ≡ []
+      → OnOk result (old.keep.stopped ≡ false → (new.keep.stopped ≡ false)
+      × (k.is_honest new.keep.keep → IsStored (k.holds new.keep.keep) (k.leaves new.keep.keep) new.ledger))
+      → OnErr result ((old.keep.stopped ≡ false) × (new.keep.stopped ≡ true) × IsLeftBy k new.keep.keep (lost_between (snapshot_off old) (snapshot_off new)))
+      → (old.keep.stopped ≡ true → (new.ledger ≡ old.ledger) × (new.keep.stopped ≡ true) × (new.keep.keep ≡ old.keep.keep))
+      → InService g c k first start old (record { crowd = crowd; places = places })
+      → InService g c k first start new (record { crowd = crowd; places = more })
+  round_more (Ok r) told untold settled kept lost halts was = record {
+    loss = was.loss;
+    kept = record {
+      settled = settled;
+      stored = λ going. (kept (not_true old.keep.stopped (λ halted. let still = (halts halted).1 in absurd (cc)))).1;
+      left = λ halted.
+          let before : old.keep.stopped ≡ true = not_false old.keep.stopped (λ going. let still = (kept going).0 in absurd (cc)) in
+          let (l, is, by) = was.kept.left before in (l, is, subst (λ (x : K). IsLeftBy k x l) (sym (halts before).2) by);
+    };
+    serving = record {
+      doors = was.serving.doors;
+      pass = was.serving.pass;
+      reached = told was.loss start (visits_in was.serving.doors) was.serving.reached;
+    };
+  }
+  round_more (Err e) told untold settled kept lost halts was = record {
+    loss = Some (lost_between (snapshot_off old) (snapshot_off new));
+    kept = record {
+      settled = settled;
+      stored = λ going. let halted = lost.1 in absurd (cc);
+      left = λ halted. (lost_between (snapshot_off old) (snapshot_off new), refl, lost.2);
+    };
+    serving = record {
+      doors = was.serving.doors;
+      pass = was.serving.pass;
+      reached = untold was.loss start (visits_in was.serving.doors) was.serving.reached;
+    };
   }

@@ -7,6 +7,9 @@ use Rattle.keep.specs.declared.keep.Keep.{Ghosts}
 use Rattle.desk.specs.Desk.{DeskView, IsStored, LeavesEither, Snapshot}
 use Rattle.desk.specs.Dialogue.{Language}
 use Rattle.rounds.specs.declared.phase.Phase.TheVariants.{Gone, Wants}
+use Rattle.rounds.specs.declared.phase.Phase.TheVariants as phase
+use Rattle.rounds.specs.declared.standing.Standing.{Standing}
+use Rattle.rounds.specs.declared.standing.Standing.TheVariants.{Asks, Free, Over, Reads, Writes}
 use Rattle.rounds.specs.Lines.{Heard, IsHeard, IsTold, LineView, Said, Speaks, Stands, with_piece, with_said, with_written}
 
 -- These are the answers of the language to the questions, whoever asked them, one behind the other, and the desk behind them.
@@ -175,3 +178,22 @@ IsWritten g _ _ = ⊥
 abbrev pub IsLeftBy : {K : Type 0} → Ghosts K → K → Loss → Type 0
 IsLeftBy g keep loss = g.is_honest keep
     → LeavesEither (g.leaves keep) loss.before loss.behind ⊎ IsStored (g.holds keep) (g.leaves keep) loss.before
+
+-- ---- how a place stands
+
+-- something is to be written first
+abbrev pub unless_written : List ℕ → Standing → Standing
+unless_written [] standing = standing
+unless_written (byte ∷ bytes) standing = Writes
+
+abbrev pub standing_of : {S P T : Type 0} → LineView S P T → Standing
+standing_of v = elim v.phase [
+  | phase.Wants ↦ unless_written v.output Reads
+  | phase.Asks ↦ unless_written v.output Asks
+  | phase.Over ↦ unless_written v.output Over
+  | phase.Gone ↦ Over
+]
+
+abbrev pub standing_at : {S P T : Type 0} → Option (LineView S P T) → Standing
+standing_at None = Free
+standing_at (Some v) = standing_of v

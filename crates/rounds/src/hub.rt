@@ -1,15 +1,17 @@
 //! A service of many connections, in rounds.
 
-ghost use Rattle.std.specs.Prelude.{◌≡◌, ◌+◌, ◌-◌, ◌<◌, ◌≤◌, ◌^◌, length, slice_get, None, Option, Some, IfOk, IsTrue};
+ghost use Rattle.std.specs.Prelude.{◌≡◌, ◌≢◌, ◌+◌, ◌-◌, ◌<◌, ◌≤◌, ◌^◌, [], length, slice_get, ℕ, None, Option, Some};
 ghost use Rattle.desk.specs.Desk.{Snapshot};
 ghost use Rattle.rounds.specs.Crowds.{IsServing, listening};
 ghost use Rattle.rounds.specs.Lines.{speaks};
 ghost use Rattle.rounds.specs.Rounds.{Loss};
+ghost use Rattle.rounds.specs.Services.{InService};
 
 use crate::crowd::{Crowd, Readiness};
 use crate::places::Places;
 use crate::standing::Standing;
-use desk::{Begin, Dialogue};
+use desk::{Begin, Deferred, Desk, Dialogue};
+use keep::Keep;
 use std::alloc::{AllocError, Global};
 use std::io::{self, ErrorKind};
 use std::marker::Model;
@@ -24,6 +26,8 @@ pub struct Hub<D: Dialogue + Drop, C: Crowd + Drop> {
     ready: Vec<Readiness>,
     /// The turn in which something came there or was taken last.
     heard: Vec<u64>,
+    /// Who was answered there, and may ask again at once.
+    awaited: Vec<bool>,
     turn: u64,
 }
 
@@ -37,12 +41,21 @@ impl<D: Dialogue + Drop, C: Crowd + Drop> Model for Hub<D, C> {
     ghost view = { λ h. record { crowd = h.crowd; places = h.places } };
 
     ghost invariant = { λ h. (length h.ready.items ≡ length h.places.lines)
-        × (length h.heard.items ≡ length h.places.lines) };
+        × (length h.heard.items ≡ length h.places.lines) × (length h.awaited.items ≡ length h.places.lines) };
 }
 
 /// Whether a call failed only since there was nothing to do.
 fn would_block(error: &io::Error) -> bool {
     matches!(error.kind(), ErrorKind::WouldBlock | ErrorKind::Interrupted)
+}
+
+/// Takes all marks away.
+fn clear(marks: &mut [bool])
+    ensures { length marks.new ≡ length marks.old }
+{
+    for place in 0..marks.len() {
+        marks[place] = false;
+    }
 }
 
 /// The place of the least number, the first of several.
@@ -68,6 +81,8 @@ impl<D: Dialogue + Drop, C: Crowd + Drop> Hub<D, C> {
             first loss start now self.old
             → IsServing (speaks D.language D.has_found D.asks C.Stream.remaining C.Stream.contents) (listening C.comes C.closes C.waits)
             first loss start now self.new }
+        ensures others { (other : ℕ) → other ≢ place
+            → slice_get self.new.places.lines other ≡ slice_get self.old.places.lines other }
         ensures free { slice_get self.new.places.lines place ≡ Some None }
         ensures same { (length self.new.places.lines ≡ length self.old.places.lines)
             × (self.new.places.connections ≡ self.old.places.connections) }
@@ -110,7 +125,8 @@ impl<D: Dialogue + Drop, C: Crowd + Drop> Hub<D, C> {
             first loss start now self.old
             → IsServing (speaks D.language D.has_found D.asks C.Stream.remaining C.Stream.contents) (listening C.comes C.closes C.waits)
             first loss start now self.new }
-        ensures size { length self.new.places.lines ≡ length self.old.places.lines }
+        ensures same { (length self.new.places.lines ≡ length self.old.places.lines)
+            × (self.new.places.connections ≡ self.old.places.connections) }
     {
         if !self.ready[place].can_read {
             return;
@@ -135,7 +151,8 @@ impl<D: Dialogue + Drop, C: Crowd + Drop> Hub<D, C> {
             first loss start now self.old
             → IsServing (speaks D.language D.has_found D.asks C.Stream.remaining C.Stream.contents) (listening C.comes C.closes C.waits)
             first loss start now self.new }
-        ensures size { length self.new.places.lines ≡ length self.old.places.lines }
+        ensures same { (length self.new.places.lines ≡ length self.old.places.lines)
+            × (self.new.places.connections ≡ self.old.places.connections) }
     {
         if !self.ready[place].can_write {
             return;
@@ -144,12 +161,156 @@ impl<D: Dialogue + Drop, C: Crowd + Drop> Hub<D, C> {
             Ok(Some(0)) => self.close(place),
             Ok(Some(_)) => {
                 self.heard[place] = self.turn;
+                self.awaited[place] = true;
                 self.places.look(alloc, place);
             }
             Ok(None) => {}
             Err(error) if would_block(&error) => self.ready[place].can_write = false,
             Err(_) => self.close(place),
         }
+    }
+
+    /// Reads at a place; whether a question is to be answered there, and whether one is awaited.
+    fn hear_at(&mut self, alloc: Global, place: usize, piece: &mut [u8]) -> (bool, bool)
+        requires place { place < length self.old.places.lines }
+        requires room { 0 < length piece.old }
+        ensures served { (first : C) (loss : Option Loss) (start now : Snapshot)
+            → IsServing (speaks D.language D.has_found D.asks C.Stream.remaining C.Stream.contents) (listening C.comes C.closes C.waits)
+            first loss start now self.old
+            → IsServing (speaks D.language D.has_found D.asks C.Stream.remaining C.Stream.contents) (listening C.comes C.closes C.waits)
+            first loss start now self.new }
+        ensures same { (length self.new.places.lines ≡ length self.old.places.lines)
+            × (self.new.places.connections ≡ self.old.places.connections) }
+    {
+        self.read(alloc, place, piece);
+        let has_question = self.places.standing(place) == Standing::Asks;
+        if has_question {
+            self.awaited[place] = false;
+        }
+        (has_question, self.awaited[place])
+    }
+
+    /// Reads at each place: at how many a question is to be answered, and how many that were answered have not asked again.
+    pub fn read_all(&mut self, alloc: Global, piece: &mut [u8]) -> (usize, usize)
+        requires room { 0 < length piece.old }
+        ensures served { (first : C) (loss : Option Loss) (start now : Snapshot)
+            → IsServing (speaks D.language D.has_found D.asks C.Stream.remaining C.Stream.contents) (listening C.comes C.closes C.waits)
+            first loss start now self.old
+            → IsServing (speaks D.language D.has_found D.asks C.Stream.remaining C.Stream.contents) (listening C.comes C.closes C.waits)
+            first loss start now self.new }
+        ensures same { (length self.new.places.lines ≡ length self.old.places.lines)
+            × (self.new.places.connections ≡ self.old.places.connections) }
+    {
+        let mut asking = 0usize;
+        let mut awaited = 0usize;
+        for place in 0..self.places.len() {
+            let (has_question, is_awaited) = self.hear_at(alloc, place, piece);
+            asking = asking.saturating_add(usize::from(has_question));
+            awaited = awaited.saturating_add(usize::from(is_awaited));
+        }
+        (asking, awaited)
+    }
+
+    /// Waits for nobody that was answered.
+    pub fn await_none(&mut self)
+        ensures { self.new ≡ self.old }
+    {
+        clear(&mut self.awaited);
+    }
+
+    /// Writes at a place, and closes the connection if nothing more comes of it; how the place stands then.
+    fn tell_at(&mut self, alloc: Global, place: usize) -> Standing
+        requires place { place < length self.old.places.lines }
+        ensures served { (first : C) (loss : Option Loss) (start now : Snapshot)
+            → IsServing (speaks D.language D.has_found D.asks C.Stream.remaining C.Stream.contents) (listening C.comes C.closes C.waits)
+            first loss start now self.old
+            → IsServing (speaks D.language D.has_found D.asks C.Stream.remaining C.Stream.contents) (listening C.comes C.closes C.waits)
+            first loss start now self.new }
+        ensures same { (length self.new.places.lines ≡ length self.old.places.lines)
+            × (self.new.places.connections ≡ self.old.places.connections) }
+    {
+        self.write(alloc, place);
+        if self.places.standing(place) == Standing::Over {
+            self.close(place);
+        }
+        self.places.standing(place)
+    }
+
+    /// Whether something can be done at a place before the crowd tells more.
+    fn is_busy(&self, place: usize, standing: Standing) -> bool
+        requires { place < length self.now.places.lines }
+    {
+        match standing {
+            Standing::Asks => true,
+            Standing::Reads => self.ready[place].can_read,
+            Standing::Writes => self.ready[place].can_write,
+            Standing::Free | Standing::Over => false,
+        }
+    }
+
+    /// Writes at each place: whether anybody is there, and whether something can be done before the crowd tells more.
+    pub fn tell_all(&mut self, alloc: Global) -> (bool, bool)
+        ensures served { (first : C) (loss : Option Loss) (start now : Snapshot)
+            → IsServing (speaks D.language D.has_found D.asks C.Stream.remaining C.Stream.contents) (listening C.comes C.closes C.waits)
+            first loss start now self.old
+            → IsServing (speaks D.language D.has_found D.asks C.Stream.remaining C.Stream.contents) (listening C.comes C.closes C.waits)
+            first loss start now self.new }
+        ensures same { (length self.new.places.lines ≡ length self.old.places.lines)
+            × (self.new.places.connections ≡ self.old.places.connections) }
+    {
+        let mut is_open = false;
+        let mut is_busy = false;
+        for place in 0..self.places.len() {
+            let standing = self.tell_at(alloc, place);
+            is_open = is_open || standing != Standing::Free;
+            is_busy = is_busy || self.is_busy(place, standing);
+        }
+        (is_open, is_busy)
+    }
+
+    /// Closes all connections.
+    pub fn close_all(&mut self)
+        ensures served { (first : C) (loss : Option Loss) (start now : Snapshot)
+            → IsServing (speaks D.language D.has_found D.asks C.Stream.remaining C.Stream.contents) (listening C.comes C.closes C.waits)
+            first loss start now self.old
+            → IsServing (speaks D.language D.has_found D.asks C.Stream.remaining C.Stream.contents) (listening C.comes C.closes C.waits)
+            first loss start now self.new }
+        ensures same { (length self.new.places.lines ≡ length self.old.places.lines)
+            × (self.new.places.connections ≡ self.old.places.connections) }
+        ensures free { (place : ℕ) → place < length self.new.places.lines
+            → slice_get self.new.places.lines place ≡ Some None }
+    {
+        for place in 0..self.places.len() {
+            self.close(place);
+        }
+    }
+
+    /// Waits until something can be done or somebody comes, at most so long; whether somebody may wait to be let in.
+    pub fn wait(&mut self, most: Option<Duration>) -> io::Result<bool>
+        ensures served { (first : C) (loss : Option Loss) (start now : Snapshot)
+            → IsServing (speaks D.language D.has_found D.asks C.Stream.remaining C.Stream.contents) (listening C.comes C.closes C.waits)
+            first loss start now self.old
+            → IsServing (speaks D.language D.has_found D.asks C.Stream.remaining C.Stream.contents) (listening C.comes C.closes C.waits)
+            first loss start now self.new }
+        ensures same { (length self.new.places.lines ≡ length self.old.places.lines)
+            × (self.new.places.connections ≡ self.old.places.connections) }
+    {
+        self.crowd.wait(most, &mut self.ready)
+    }
+
+    /// Holds a round: questions of all connections are answered, up to `most`, and kept in one transaction.
+    pub fn round<K: Keep>(&mut self, alloc: Global, most: usize, desk: &mut Desk<Deferred<K>>)
+        requires going { D.may_stop → ⊥ }
+        requires settled { desk.old.keep.changes ≡ [] }
+        ensures served { (first : C) (start : Snapshot) → InService (speaks D.language D.has_found D.asks C.Stream.remaining C.Stream.contents) (listening C.comes C.closes C.waits) K.Keep
+            first start desk.old self.old
+            → InService (speaks D.language D.has_found D.asks C.Stream.remaining C.Stream.contents) (listening C.comes C.closes C.waits) K.Keep
+            first start desk.new self.new }
+        ensures settled { desk.new.keep.changes ≡ [] }
+        ensures same { (length self.new.places.lines ≡ length self.old.places.lines)
+            × (self.new.places.connections ≡ self.old.places.connections) }
+    {
+        let _ = self.places.round(alloc, most, desk);
     }
 }
 
@@ -182,6 +343,7 @@ impl<D: Begin + Drop, C: Crowd + Drop> Hub<D, C> {
             can_write: true,
         };
         self.heard[place] = self.turn;
+        self.awaited[place] = false;
         true
     }
 }

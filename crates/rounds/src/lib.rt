@@ -14,4 +14,5 @@ mod turns;
 
 pub use laws::rounds_are_one_order;
 pub use places::Places;
+pub use standing::Standing;
 pub use stream::Stream;

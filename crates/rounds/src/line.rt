@@ -5,9 +5,10 @@ ghost use Rattle.std.specs.Io.KnownBytes.{Appends, Consumes, IsAtEnd, Keeps};
 ghost use Rattle.desk.specs.Deferred.{snapshot_off};
 ghost use Rattle.desk.specs.Dialogue.{bytes_of};
 ghost use Rattle.rounds.specs.Lines.{Heard, IsHeard, Said, Stands, speaks, unheard, with_piece, with_said, with_written};
-ghost use Rattle.rounds.specs.Rounds.{HasTurn, OnlyPutsOff};
+ghost use Rattle.rounds.specs.Rounds.{HasTurn, OnlyPutsOff, standing_of};
 
 use crate::phase::Phase;
+use crate::standing::Standing;
 use crate::stream::Stream;
 use desk::{Answer, CallFault, Deferred, Desk, Dialogue, Next};
 use keep::Keep;
@@ -125,12 +126,20 @@ impl<D: Dialogue + Drop, S: Stream + Drop> Line<D, S> {
         self.phase == Phase::Gone
     }
 
-    /// Whether nothing more comes of it.
-    pub fn is_over(&self) -> bool {
+    /// How it stands.
+    pub fn standing(&self) -> Standing
+        ensures { result ≡ standing_of self.now }
+    {
+        if self.phase == Phase::Gone {
+            return Standing::Over;
+        }
+        if !self.output().is_empty() {
+            return Standing::Writes;
+        }
         match self.phase {
-            Phase::Over => self.output().is_empty(),
-            Phase::Gone => true,
-            Phase::Wants | Phase::Asks => false,
+            Phase::Wants => Standing::Reads,
+            Phase::Asks => Standing::Asks,
+            Phase::Over | Phase::Gone => Standing::Over,
         }
     }
 

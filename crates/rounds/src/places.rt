@@ -1,16 +1,17 @@
 //! Connections at their places, and the rounds in which their questions are answered.
 
-ghost use Rattle.std.specs.Prelude.{◌≡◌, ◌⊎◌, ◌<◌, ◌+◌, ◌-◌, ◌^◌, [], ◌∷◌, ◌++◌, false, true, length, set, slice_get, List, None, Option, Some, ℕ, IfNone, IfOk, IfSome, IsTrue, OnErr, OnOk};
+ghost use Rattle.std.specs.Prelude.{◌≡◌, ◌≢◌, ◌⊎◌, ◌<◌, ◌+◌, ◌-◌, ◌^◌, [], ◌∷◌, ◌++◌, false, true, length, set, slice_get, List, None, Option, Some, ℕ, IfNone, IfOk, IfSome, IsTrue, OnErr, OnOk};
 ghost use Rattle.desk.specs.Deferred.{snapshot_off};
 ghost use Rattle.desk.specs.Desk.{IsStored, Snapshot};
 ghost use Rattle.rounds.specs.Histories.{IsReached, Visit, visit_of};
 ghost use Rattle.rounds.specs.Lines.{speaks};
-ghost use Rattle.rounds.specs.Rounds.{IsLeftBy, Loss, lost_between};
+ghost use Rattle.rounds.specs.Rounds.{IsLeftBy, Loss, lost_between, standing_at};
 
 use crate::line::Line;
+use crate::standing::Standing;
 use crate::stream::Stream;
 use crate::turns::{
-    ask_all, forget_all, look_at, read_at, settle_round, show_all, stream_of, write_at,
+    ask_all, forget_all, look_at, read_at, settle_round, show_all, standing_at, stream_of, write_at,
 };
 use desk::{CallFault, Deferred, Desk, Dialogue};
 use keep::Keep;
@@ -62,6 +63,14 @@ impl<D: Dialogue + Drop, S: Stream + Drop> Places<D, S> {
         self.lines.len()
     }
 
+    /// How a place stands.
+    pub fn standing(&self, place: usize) -> Standing
+        requires { place < length self.now.lines }
+        ensures { IfSome (slice_get self.now.lines place) (λ line. result ≡ standing_at line) }
+    {
+        standing_at(&self.lines[place])
+    }
+
     /// A place at which nobody is.
     pub fn free_place(&self) -> Option<usize>
         ensures free { IfSome result (λ place. slice_get self.now.lines place ≡ Some None) }
@@ -102,6 +111,7 @@ impl<D: Dialogue + Drop, S: Stream + Drop> Places<D, S> {
             (set visits connection (record { came = came; left = Some stream })) self.new) }
         ensures none { IfNone result (self.new ≡ self.old) }
         ensures free { slice_get self.new.lines place ≡ Some None }
+        ensures others { (other : ℕ) → other ≢ place → slice_get self.new.lines other ≡ slice_get self.old.lines other }
         ensures same { (length self.new.lines ≡ length self.old.lines) × (self.new.connections ≡ self.old.connections) }
     {
         let line = self.lines[place].take();

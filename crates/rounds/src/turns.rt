@@ -6,9 +6,10 @@ ghost use Rattle.book.specs.Ledger.{Ledger};
 ghost use Rattle.desk.specs.Deferred.{snapshot_off};
 ghost use Rattle.desk.specs.Desk.{IsStored, LeavesEither, Snapshot};
 ghost use Rattle.rounds.specs.Lines.{Heard, Said, speaks};
-ghost use Rattle.rounds.specs.Rounds.{AtEach, HasTurnAt, InRound, IsForgotten, IsLooked, IsRead, IsShown, IsWritten, OnlyPutsOff, SameAt};
+ghost use Rattle.rounds.specs.Rounds.{AtEach, HasTurnAt, InRound, IsForgotten, IsLooked, IsRead, IsShown, IsWritten, OnlyPutsOff, SameAt, standing_at};
 
 use crate::line::Line;
+use crate::standing::Standing;
 use crate::stream::Stream;
 use desk::{CallFault, Deferred, Desk, Dialogue};
 use keep::Keep;
@@ -22,6 +23,16 @@ pub fn stream_of<D: Dialogue + Drop, S: Stream + Drop>(line: Option<Line<D, S>>)
     match line {
         Some(line) => Some(line.into_stream()),
         None => None,
+    }
+}
+
+/// How a place stands.
+pub fn standing_at<D: Dialogue + Drop, S: Stream + Drop>(line: &Option<Line<D, S>>) -> Standing
+    ensures { result ≡ standing_at line.now }
+{
+    match line {
+        Some(line) => line.standing(),
+        None => Standing::Free,
     }
 }
 

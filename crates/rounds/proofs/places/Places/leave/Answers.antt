@@ -5,7 +5,7 @@ use Rattle.desk.specs.Desk.{Snapshot}
 use Rattle.rounds.specs.Histories.{IsReached, Visit, visit_of}
 use Rattle.rounds.specs.Lines.{speaks}
 use Rattle.rounds.specs.Rounds.{Loss}
-use Rattle.rounds.proofs.Lists.{get_set}
+use Rattle.rounds.proofs.Lists.{get_other, get_set}
 use Rattle.rounds.proofs.Reaching.{has_left}
 use Rattle.rounds.proofs.places.Places.leave.Goals as goal
 
@@ -37,3 +37,7 @@ returns-clause-left g c =
     → (connection : ℕ) × (first : g.row.S.Denot) × (slice_get visits connection ≡ Some (visit_of first))
     × IsReached talk loss start now (set visits connection (record { came = first; left = Some stream }))
     (record { lines = set items c.args.place c.take-line.new.self; connections = here.connections }))) c.self.view_is gone
+
+pub returns-clause-others : goal.returns-clause-others
+returns-clause-others g c = λ other ne.
+    get_other c.self.inside.lines.items c.args.place other c.take-line.new.self ne ∙ ap (λ v. slice_get v.lines other) c.self.view_is
