@@ -29,7 +29,7 @@ pub trait Crowd {
     ghost waits: { Self → Self → Type 0 };
 
     /// Waits until something can be done at a place or somebody comes, at most so long; marks what can be done, place by
-    /// place. Whether somebody may wait to be let in.
+    /// place. Whether anything happened.
     fn wait(&mut self, most: Option<Duration>, ready: &mut [Readiness]) -> io::Result<bool>
         ensures waits { waits self.old self.new }
         ensures size { length ready.new ≡ length ready.old };

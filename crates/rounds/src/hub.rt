@@ -1,6 +1,6 @@
 //! A service of many connections, in rounds.
 
-ghost use Rattle.std.specs.Prelude.{◌≡◌, ◌≢◌, ◌+◌, ◌-◌, ◌<◌, ◌≤◌, ◌^◌, [], length, slice_get, ℕ, None, Option, Some};
+ghost use Rattle.std.specs.Prelude.{◌≡◌, ◌≢◌, ◌+◌, ◌-◌, ◌<◌, ◌≤◌, ◌^◌, [], length, slice_get, ℕ, None, Option, Some, IfErr, IfOk};
 ghost use Rattle.desk.specs.Desk.{Snapshot};
 ghost use Rattle.rounds.specs.Crowds.{IsServing, listening};
 ghost use Rattle.rounds.specs.Lines.{speaks};
@@ -29,6 +29,8 @@ pub struct Hub<D: Dialogue + Drop, C: Crowd + Drop> {
     /// Who was answered there, and may ask again at once.
     awaited: Vec<bool>,
     turn: u64,
+    /// How many rounds go by without waiting for more.
+    hasty: u32,
 }
 
 impl<D: Dialogue + Drop, C: Crowd + Drop> Model for Hub<D, C> {
@@ -42,6 +44,23 @@ impl<D: Dialogue + Drop, C: Crowd + Drop> Model for Hub<D, C> {
 
     ghost invariant = { λ h. (length h.ready.items ≡ length h.places.lines)
         × (length h.heard.items ≡ length h.places.lines) × (length h.awaited.items ≡ length h.places.lines) };
+}
+
+/// How often more is waited for before a round, at the most.
+const GATHERS: u32 = 16;
+
+/// How many rounds go by without waiting for more, where nobody came.
+const HASTY: u32 = 32;
+
+/// So many of it.
+fn many<T: Copy + Drop>(alloc: Global, one: T, count: usize) -> Result<Vec<T>, AllocError>
+    ensures { IfOk result (λ all. length all.items ≡ count) }
+{
+    let mut all = Vec::with_capacity(alloc, count)?;
+    for _one in 0..count {
+        all.push(one)?;
+    }
+    Ok(all)
 }
 
 /// Whether a call failed only since there was nothing to do.
@@ -285,7 +304,8 @@ impl<D: Dialogue + Drop, C: Crowd + Drop> Hub<D, C> {
         }
     }
 
-    /// Waits until something can be done or somebody comes, at most so long; whether somebody may wait to be let in.
+    /// Waits until something can be done or somebody comes, at most so long; whether anything
+    /// happened.
     pub fn wait(&mut self, most: Option<Duration>) -> io::Result<bool>
         ensures served { (first : C) (loss : Option Loss) (start now : Snapshot)
             → IsServing (speaks D.language D.has_found D.asks C.Stream.remaining C.Stream.contents) (listening C.comes C.closes C.waits)
@@ -311,6 +331,93 @@ impl<D: Dialogue + Drop, C: Crowd + Drop> Hub<D, C> {
             × (self.new.places.connections ≡ self.old.places.connections) }
     {
         let _ = self.places.round(alloc, most, desk);
+    }
+
+    /// So many places, at which nobody is. Where memory is refused the crowd comes back.
+    pub fn new(alloc: Global, crowd: C, clients: usize) -> Result<Hub<D, C>, C>
+        ensures serving { IfOk result (λ hub. (loss : Option Loss) (start : Snapshot)
+            → IsServing (speaks D.language D.has_found D.asks C.Stream.remaining C.Stream.contents) (listening C.comes C.closes C.waits) crowd loss start start hub) }
+        ensures size { IfOk result (λ hub. (length hub.places.lines ≡ clients) × (hub.places.connections ≡ 0)) }
+        ensures err { IfErr result (λ back. back ≡ crowd) }
+    {
+        let Ok(places) = Places::new(alloc, clients) else {
+            return Err(crowd);
+        };
+        let silent = Readiness {
+            can_read: false,
+            can_write: false,
+        };
+        let (Ok(ready), Ok(heard), Ok(awaited)) = (
+            many(alloc, silent, clients),
+            many(alloc, 0, clients),
+            many(alloc, false, clients),
+        ) else {
+            return Err(crowd);
+        };
+        Ok(Hub {
+            crowd,
+            places,
+            ready,
+            heard,
+            awaited,
+            turn: 0,
+            hasty: 0,
+        })
+    }
+
+    /// How many connections have come.
+    pub fn connections(&self) -> usize
+        ensures { result ≡ self.now.places.connections }
+    {
+        self.places.connections()
+    }
+
+    /// The crowd, as it is.
+    pub fn into_crowd(self) -> C
+        ensures { result ≡ self.crowd }
+    {
+        let Hub { crowd, .. } = self;
+        crowd
+    }
+
+    /// Begins a turn.
+    pub fn begin_turn(&mut self)
+        ensures { self.new ≡ self.old }
+    {
+        self.turn = self.turn.saturating_add(1);
+    }
+
+    /// Reads what has come. Behind a round those that it answered may ask again at once: they are waited for, until nothing
+    /// happens for a millisecond, so that all ask in one round and not by turns in two. Where they did not come, some rounds go
+    /// by without waiting.
+    pub fn gather(&mut self, alloc: Global, most: usize, piece: &mut [u8]) -> io::Result<()>
+        requires room { 0 < length piece.old }
+        ensures served { (first : C) (loss : Option Loss) (start now : Snapshot)
+            → IsServing (speaks D.language D.has_found D.asks C.Stream.remaining C.Stream.contents) (listening C.comes C.closes C.waits)
+            first loss start now self.old
+            → IsServing (speaks D.language D.has_found D.asks C.Stream.remaining C.Stream.contents) (listening C.comes C.closes C.waits)
+            first loss start now self.new }
+        ensures same { (length self.new.places.lines ≡ length self.old.places.lines)
+            × (self.new.places.connections ≡ self.old.places.connections) }
+    {
+        let (mut asking, mut awaited) = self.read_all(alloc, piece);
+        if self.hasty > 0 {
+            self.hasty -= 1;
+            self.await_none();
+            return Ok(());
+        }
+        for _more in 0..GATHERS {
+            if asking == 0 || awaited == 0 || most <= asking {
+                break;
+            }
+            if !self.wait(Some(Duration::from_millis(1)))? {
+                self.hasty = HASTY;
+                self.await_none();
+                break;
+            }
+            (asking, awaited) = self.read_all(alloc, piece);
+        }
+        Ok(())
     }
 }
 

@@ -43,7 +43,7 @@ impl<D: Dialogue + Drop, S: Stream + Drop> Places<D, S> {
     pub fn new(alloc: Global, places: usize) -> Result<Places<D, S>, AllocError>
         ensures reached { IfOk result (λ p. (loss : Option Loss)
             (start : Snapshot) → IsReached (speaks D.language D.has_found D.asks S.remaining S.contents) loss start start [] p) }
-        ensures size { IfOk result (λ p. length p.lines ≡ places) }
+        ensures size { IfOk result (λ p. (length p.lines ≡ places) × (p.connections ≡ 0)) }
     {
         let mut lines = Vec::with_capacity(alloc, places)?;
         for _place in 0..places {
@@ -61,6 +61,13 @@ impl<D: Dialogue + Drop, S: Stream + Drop> Places<D, S> {
         ensures { result ≡ length self.now.lines }
     {
         self.lines.len()
+    }
+
+    /// How many connections have come.
+    pub fn connections(&self) -> usize
+        ensures { result ≡ self.now.connections }
+    {
+        self.connections
     }
 
     /// How a place stands.
