@@ -7,7 +7,7 @@ use Rattle.desk.specs.Desk.{Snapshot}
 use Rattle.desk.specs.Dialogue.{Language}
 use Rattle.rounds.specs.Histories.{AreRounds, History, begun, came, heard_in, kept, lost, order_of, wrote}
 use Rattle.rounds.specs.Lines.{Heard, Said, answers_of, questions_of, unheard, with_piece, with_said, with_written}
-use Rattle.rounds.specs.Rounds.{AreSaid, IsCutOnce, IsOneOrder, Loss, heard_on, lost_between, said_on, stopped_at}
+use Rattle.rounds.specs.Rounds.{AreSaid, IsOneOrder, Loss, heard_on, lost_between, said_on, stopped_at}
 use Rattle.rounds.proofs.Saying.{on_joined, said_joined}
 
 module _ {Q A : Type 0} (L : Language Q A) (loss : Option Loss) (start : Snapshot) where

@@ -1,5 +1,5 @@
 -- A service of rounds: what is so of the desk and of those that come, from its begin to its end.
-use Rattle.std.specs.Prelude.{◌≡◌, ◌≤◌, ◌<◌, false, true, ℕ, List, [], Option, None, Some, length, slice_get}
+use Rattle.std.specs.Prelude.{◌≡◌, false, true, ℕ, [], Option, Some, length, slice_get}
 use Rattle.keep.specs.declared.keep.Keep.{Ghosts}
 use Rattle.desk.specs.Deferred.{DeferredView, snapshot_off}
 use Rattle.desk.specs.Desk.{DeskView, IsStored, Snapshot}

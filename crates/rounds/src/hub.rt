@@ -423,7 +423,7 @@ impl<D: Dialogue + Drop, C: Crowd + Drop> Hub<D, C> {
 
 impl<D: Begin + Drop, C: Crowd + Drop> Hub<D, C> {
     /// Lets one more in, if somebody waits. Whether somebody did.
-    fn let_in(&mut self, alloc: Global) -> bool
+    pub fn let_in(&mut self, alloc: Global) -> bool
         requires some { 1 ≤ length self.old.places.lines }
         requires count { self.old.places.connections < 2 ^ 64 - 1 }
         ensures served { (first : C) (loss : Option Loss) (start now : Snapshot)

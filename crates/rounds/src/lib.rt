@@ -8,11 +8,14 @@ mod laws;
 mod line;
 mod phase;
 mod places;
+mod service;
 mod standing;
 mod stream;
 mod turns;
 
+pub use crowd::{Crowd, Readiness};
 pub use laws::rounds_are_one_order;
 pub use places::Places;
+pub use service::{ServiceFault, Terms, serve_rounds};
 pub use standing::Standing;
 pub use stream::Stream;

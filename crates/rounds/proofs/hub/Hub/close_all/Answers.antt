@@ -1,6 +1,4 @@
-use Rattle.std.proofs.Common.{◌≡◌, ◌≢◌, ◌⊎◌, ◌∙◌, ◌<◌, ℕ, arith, false, inl, inr, subst, sym, true}
-use Rattle.std.specs.Prelude.{nat_eq}
-use Rattle.std.proofs.lemmas.Bool.Decides.{eqb_tells}
+use Rattle.std.proofs.Common.{◌∙◌}
 use Rattle.rounds.proofs.Lists.{free_on}
 use Rattle.rounds.proofs.hub.Hub.close_all.Goals as goal
 
