@@ -1,10 +1,10 @@
 """The controls of the wrong bodies: `tests/controls.py [CRATE..] [-- WORD..]` tries those of these crates, or of all, and with
 words the controls of the edits whose names have one of them.
 
-A wrong body shows something only where the right meaning at the same place, in other words, is proved. So each edit has behind
-each `new: TEXT` a line `control: TEXT`, which is put in place of the old text in a copy of the tree: the crate must be proved
-with it. An edit of must-fail/ without a control fails, and so does a control that is not proved, for whatever cause. Of
-more-edits/ those that have a control are tried."""
+A wrong body shows something only where the right meaning at the same place, in other words, is proved. So each edit, of
+must-fail/ and of more-edits/, has behind each `new: TEXT` a line `control: TEXT`, which is put in place of the old text in a copy
+of the tree: the crate must be proved with it. An edit without a control is named and fails, and so does a control that is not
+proved, for whatever cause."""
 
 import glob
 import os
@@ -24,6 +24,8 @@ sys.dont_write_bytecode = True
 from support import TOP
 
 LINE = re.compile(r"(file|old|new|control): ?(.*)")
+# where the edits of a crate lie
+FOLDERS = ["must-fail", "more-edits"]
 # the largest crate takes 8 GB
 MOST_COPIES = int(os.environ.get("RT_JOBS", "3"))
 
@@ -106,7 +108,7 @@ class Copy:
         os.makedirs(room)
         for name in ("crates.txt", "HANDLES"):
             shutil.copy(os.path.join(TOP, name), room)
-        skipped = shutil.ignore_patterns("out", "must-fail", "more-edits")
+        skipped = shutil.ignore_patterns("out", *FOLDERS)
         shutil.copytree(os.path.join(TOP, "crates"), self.crates, ignore=skipped)
 
     def check(self, crate: str) -> list[str]:
@@ -142,10 +144,9 @@ class Copy:
 
 
 def chosen(crates: list[str], words: list[str]) -> tuple[list[Edit], list[Edit]]:
-    """The edits whose controls are to be tried, and those of the gate that lack one."""
-    gate = [edit for crate in crates for edit in edits_in(crate, "must-fail")]
-    more = [edit for crate in crates for edit in edits_in(crate, "more-edits") if edit.has_control]
-    wanted = [edit for edit in gate + more if not words or any(word in edit.name for word in words)]
+    """The edits whose controls are to be tried, and those that lack one."""
+    edits = [edit for folder in FOLDERS for crate in crates for edit in edits_in(crate, folder)]
+    wanted = [edit for edit in edits if not words or any(word in edit.name for word in words)]
     return [edit for edit in wanted if edit.has_control], [edit for edit in wanted if not edit.has_control]
 
 
@@ -182,7 +183,7 @@ def main():
     crates = named.split() or crates_of(os.path.join(TOP, "crates.txt"))
     edits, without = chosen(crates, words.split())
     for edit in without:
-        print(f"{edit}: HAS NO CONTROL")
+        print(f"{edit}: HAS NO CONTROL", flush=True)
     failed = attempt_all(edits) + len(without)
     print(f"{len(edits) + len(without) - failed} passed, {failed} failed")
     sys.exit(failed > 0)

@@ -208,7 +208,7 @@ def body_of(count, bracket, filling, rest):
 
 class Messages(ProgramCase):
     def test_messages_are_answered_in_any_pieces(self):
-        for size in [1, 17, 512, None]:
+        for size in [*range(1, 21), 512, None]:
             service = Service(self.program, new_desk(self.program, self.folder, f"{size}.db"), 1)
             expect_answers(service.port, messages_of(WORKED), answers_of(WORKED), size)
             service.expect_end()

@@ -121,6 +121,15 @@ class Words(ProgramCase):
             expect((status, out) == (2, b"") and errors, f"{words}: {status}, {out!r}, {errors!r}")
         expect(os.listdir(self.folder) == [], "a file was made")
 
+    def test_the_least_and_the_greatest_are_together(self):
+        """One and 1000 are taken, of which 0 and 1001 above are not."""
+        path, records = new_desk(self.program, self.folder), os.path.join(self.folder, "records.csv")
+        done(self.program, ["run", path], "K1 field N1 A-1 0 100 40\n")
+        write_records(records, [["key", "branch", "article", "qty"], ["D1", "N1", "A-1", 60], ["D2", "N1", "A-1", 1]])
+        for number in ["1", "1000"]:
+            found = done(self.program, ["deliveries", path, records, "--together", number])
+            expect(found == ["D1 done 2", "D2 refused 14 TooMuch 0"], f"{number}: {found}")
+
     def test_help_says_what_each_word_does(self):
         for words, names in HELP:
             _, _, errors = ended(self.program, words)

@@ -376,6 +376,20 @@ class Scripts(ProgramCase):
             found = (run.returncode, run.stdout.decode().splitlines(), run.stderr)
             expect(found == (0, replies, b""), f"{count} bytes and {behind!r}: {found}")
 
+    def test_a_script_is_answered_alike_in_any_pieces(self):
+        """Of 1 to 40 bytes, each of which one read takes."""
+        script = "".join(line + "\n" for line, _ in LONG).encode()
+        for size in range(1, 41):
+            ours, theirs = socket.socketpair(socket.AF_UNIX, socket.SOCK_SEQPACKET)
+            with subprocess.Popen([self.program, "run"], stdin=theirs, stdout=subprocess.PIPE) as process, ours:
+                theirs.close()
+                for at in range(0, len(script), size):
+                    ours.sendall(script[at : at + size])
+                ours.shutdown(socket.SHUT_WR)
+                out, _ = process.communicate(timeout=SECONDS)
+            expect(process.returncode == 0, f"{size} bytes: status {process.returncode}")
+            expect(out.decode().splitlines() == [reply for _, reply in LONG], f"{size} bytes: {out}")
+
     def test_a_read_that_fails_ends_a_script(self):
         """Behind each number of bytes: the lines that had ended by then are answered."""
         script = FIRST.encode()

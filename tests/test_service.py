@@ -4,6 +4,7 @@ script, `curl`, connections that break off, a store that fails, and services tha
 import contextlib
 import http.client
 import random
+import signal
 import socket
 import subprocess
 import threading
@@ -14,6 +15,7 @@ from support.programs import SECONDS, done, expect, expect_end, new_desk, note
 from support.service import JSON, Service, answered, ask, post
 from support.tables import rows_of, sqlite3
 
+GREATEST_PORT, MOST_CONNECTIONS = 65_535, 1_000_000
 COMMANDS = 2_000
 ROUNDS = 20
 KILLED_IN = 500
@@ -113,6 +115,26 @@ class Services(ProgramCase):
         expect(again.port == service.port, f"another port: {again.port}")
         connect_once(again)
         again.expect_end()
+
+    def test_the_greatest_port_and_number_of_connections_are_taken(self):
+        """One connection is served, and the service then ended from outside; the least of both end by themselves."""
+        path = new_desk(self.program, self.folder)
+        with socket.socket() as free:
+            free.setsockopt(socket.SOL_SOCKET, socket.SO_REUSEADDR, 1)
+            try:
+                free.bind(("127.0.0.1", GREATEST_PORT))
+            except OSError as fault:
+                self.skipTest(f"port {GREATEST_PORT} is taken: {fault}")
+        for port, connections in [(GREATEST_PORT, MOST_CONNECTIONS), (0, 1)]:
+            service = Service(self.program, path, connections, port=port)
+            expect(service.port == port or not port, f"another port: {service.port}")
+            with contextlib.closing(service.connect()) as connection:
+                found = post(connection, *FIRST)
+            expect(found == (200, JSON, compact({"place": 1})), f"{found}")
+            if connections > 1:
+                service.process.terminate()
+            service.expect_end((-signal.SIGTERM if connections > 1 else 0, b"", b""))
+        expect_end(self.program, ["run", path], (0, b"K1 done 1\n", b""), f"{' '.join(FIRST)}\n")
 
     def test_messages_are_answered_as_a_script_is(self):
         """On one connection, of which both ends stay open; then the two files hold the same rows."""

@@ -15,10 +15,13 @@ FILES = os.path.join(os.path.dirname(os.path.dirname(os.path.abspath(__file__)))
 End = tuple[int, bytes, bytes]
 
 # how a program ends that writes nothing but this
+WELL: End = (0, b"", b"")
 NOT_A_DESK: End = (3, b"", b"stockdesk: not a desk\n")
 OLD_VERSION: End = (3, b"", b"stockdesk: old version\n")
 DAMAGED: End = (3, b"", b"stockdesk: damaged\n")
 STORE: End = (1, b"", b"stockdesk: store\n")
+MEMORY: End = (1, b"", b"stockdesk: memory\n")
+IO: End = (1, b"", b"stockdesk: io\n")
 
 # files with bytes that are no desk, and what a run on them ends with
 NO_DESK = [(b"this is no database, but some text", STORE), (b"S", STORE), (b"", NOT_A_DESK)]
@@ -40,12 +43,15 @@ def ended(
     text: str = "",
     folder: str | None = None,
     limit: tuple[int, int] | None = None,
+    environment: dict[str, str] | None = None,
 ) -> End:
-    """The status of a run, its output and what it tells of a fault; under a limit, as of the bytes that a file may have."""
+    """The status of a run, its output and what it tells of a fault; under a limit, as of the bytes that a file may have, or in
+    another environment."""
     run = subprocess.run(
         [program, *words],
         input=text.encode(),
         cwd=folder,
+        env=environment,
         capture_output=True,
         timeout=SECONDS,
         # what is over the limit is refused, and is no signal

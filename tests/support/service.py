@@ -16,15 +16,32 @@ from support.programs import SECONDS, End, expect
 JSON = "application/json"
 
 
+class NotServed(AssertionError):
+    """A service that tells no port, and how it ended."""
+
+    def __init__(self, end: End):
+        super().__init__(f"no port: {end}")
+        self.end = end
+
+
 class Service:
     """A desk in a file that is served to so many connections; its file may grow to so many bytes."""
 
-    def __init__(self, program: str, path: str, connections: int, port: int = 0, limit: int | None = None):
+    def __init__(
+        self,
+        program: str,
+        path: str,
+        connections: int,
+        port: int = 0,
+        limit: int | None = None,
+        environment: dict[str, str] | None = None,
+    ):
         self.process = subprocess.Popen(
             [program, "serve", path, "--port", str(port), "--connections", str(connections)],
             stdin=subprocess.DEVNULL,
             stdout=subprocess.PIPE,
             stderr=subprocess.PIPE,
+            env=environment,
             restore_signals=limit is None,
             preexec_fn=None if limit is None else lambda: resource.setrlimit(resource.RLIMIT_FSIZE, (limit, limit)),
         )
@@ -32,19 +49,24 @@ class Service:
         self.clock = threading.Timer(SECONDS, self.process.kill)
         self.clock.start()
         assert self.process.stdout
-        told = self.process.stdout.readline().decode()
-        listening = re.fullmatch(r"listening ([1-9][0-9]*)\n", told)
+        told = self.process.stdout.readline()
+        listening = re.fullmatch(rb"listening ([1-9][0-9]*)\n", told)
         if not listening:
-            raise AssertionError(f"no port: {told!r}")
+            status, out, errors = self.end()
+            raise NotServed((status, told + out, errors))
         self.port = int(listening[1])
 
     def connect(self) -> http.client.HTTPConnection:
         return http.client.HTTPConnection("127.0.0.1", self.port, timeout=SECONDS)
 
-    def expect_end(self, want: End = (0, b"", b"")) -> None:
+    def end(self) -> End:
+        """How it ends, and what it writes behind its port."""
         out, errors = self.process.communicate()
         self.clock.cancel()
-        found = (self.process.returncode, out, errors)
+        return self.process.returncode, out, errors
+
+    def expect_end(self, want: End = (0, b"", b"")) -> None:
+        found = self.end()
         expect(found == want, f"serve: {found} and not {want}")
 
 

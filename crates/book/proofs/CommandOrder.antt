@@ -2,6 +2,7 @@
 use Rattle.book.proofs.Prelude.{[], ◌+ℤ◌, ◌+◌, ◌-◌, ◌==◌, ◌∙◌, ◌∷◌, ◌≡◌, ◌≤◌, Bool, Changes, Each, Effect, Good, IsGoodLine, IsGoodOrder, IsStrictlySortedBy, Ledger, Line, List, MayChangeOrder, None, OpenLine, Option, Order, OrderEntry, Request, Some, accept, add_hold, ap, arith, changed_line, changed_order, common_steps, effect, false, find, if◌then◌else◌, insert_entry, is_some, map, nat_cmp, number_cmp, numbered, option_map, order_of, orders_after, pos, put_row, refl, subst, sym, total, true, true≢false, vec_capacity, vec_len, ℕ, ℤ, IsSome, Ordering, inl, inr, is_at, lookup, is_eq, cond, match_ordering, Less, Equal, Greater}
 use Rattle.book.proofs.Lists.{each-unmap, found_passes, none_after}
 use Rattle.book.proofs.Sums.{each-imp, total-eq, total-map}
+use Rattle.book.specs.Model.{slots_cmp, slots_of}
 use Rattle.book.specs.inner.StepsSeen.{MayBePut}
 use Rattle.book.specs.inner.InPlace.{MayChange, MayChangeUnder, lines_wanted}
 use Rattle.book.specs.declared.book.made.LineChange.{LineChange}
@@ -51,6 +52,11 @@ total_parts g n os sorted = ap (total g) (sym (same_orders n os)) ∙ total-chan
 pub put_viewed : (n : ℕ) (v : OrderEntry) (l : List (ℕ × OrderEntry)) → map order_of (insert_entry nat_cmp l n v) ≡ put_row number_cmp (order_of (n, v)) (map order_of l)
 put_viewed n v [] = refl
 put_viewed n v (e ∷ l) = let more = put_viewed n v l in grind arith
+
+-- and its slots among theirs
+pub slots_viewed : (n : ℕ) (v : OrderEntry) (l : List (ℕ × OrderEntry)) → map slots_of (insert_entry nat_cmp l n v) ≡ put_row slots_cmp (slots_of (n, v)) (map slots_of l)
+slots_viewed n v [] = refl
+slots_viewed n v (e ∷ l) = let more = slots_viewed n v l in grind arith
 
 -- what is there stays there
 still_there : (n m : ℕ) (v : OrderEntry) (l : List (ℕ × OrderEntry)) → IsSome (lookup (is_at (nat_cmp m)) l) → IsSome (lookup (is_at (nat_cmp m)) (insert_entry nat_cmp l n v))

@@ -13,7 +13,7 @@ use Rattle.book.proofs.Futures.{all_pass, name_is}
 use Rattle.book.proofs.Safety.{none_if_not_some, bounding, found_bounded, takes_more}
 use Rattle.book.proofs.Comparisons.{more_sums}
 use Rattle.book.proofs.RunningNumbers.{new_field, numbers_up}
-use Rattle.book.proofs.Steps.{adds_next, changes_share, moves_alone, takes_next, value_next}
+use Rattle.book.proofs.Steps.{adds_next, changes_share, moves_alone, takes_next, touched, value_next}
 use Rattle.book.proofs.Sums.{each, each-both, each-imp}
 
 pub entry_is : (B : Ledger) (f : Name) (e : FieldEntry) (new : Stock) → new.lo ≡ e.quantity.lo → new.hi ≡ e.quantity.hi → pos new.value ≡ settled B (field_of (f, e)) → pos new.held_to_take ≡ held_to_take B f → pos new.held_to_add ≡ held_to_add B f
@@ -71,7 +71,7 @@ record MovesAtOnce (A : Ledger) (c : Command) (n : Name) (w : Way) (q : ℕ) : T
 
 moves_at_once : (A : Ledger) (c : Command) (n : Name) (w : Way) (q : ℕ) → moved_at_once c ≡ Some (n, w, q) → MovesAtOnce A c n w q
 moves_at_once A c n w q e = let alone = moves_alone c (n, w, q) e in record {
-  names = λ f. (λ i. option_map_or (same_name f) (alone.own i) false || list_any (λ s. list_any (λ l. on f l.after && changes_stock s l) (lines_of s)) (steps (alone.unordered i) A.orders)) ∙ or_nothing (same_name f n);
+  names = λ f. touched A c f ∙ (λ i. option_map_or (same_name f) (alone.own i) false || list_any (λ s. list_any (λ l. on f l.after && changes_stock s l) (lines_of s)) (steps (alone.unordered i) A.orders)) ∙ or_nothing (same_name f n);
   moves = ap (λ (x : Option (Name × Way × ℕ)). option_map_or (λ m. if same_name n m.0 then signed m.1 m.2 else pos 0) x (pos 0)) e ∙ ap (λ t. if t then signed w q else pos 0) (same_self n);
   steps = ap (λ (e : Effect). flat_map shares_of_step (steps e A.orders)) alone.unordered;
   fields = alone.fields A.fields;
@@ -196,7 +196,7 @@ module _ (l : OpenLine) (o : Order) (some : 1 ≤ l.qty) (unended : is_open o �
 
 more_names : (A : Ledger) (n : ℕ) (l : OpenLine) (g : Name) → Good A → 1 ≤ l.qty → (IsNone (order_numbered A n) → ⊥) → (IsSomeAnd (order_numbered A n) (λ o. IsFalse (is_open o)) → ⊥) → (IsSomeAnd (order_numbered A n) (λ o. IsTrue o.firm) → ⊥)
     → changes_field A (command.More n l.way l.branch l.article l.qty) g ≡ same_name g (name_of l.branch l.article)
-more_names A n l g good some there ended firm = ap (list_any (λ s. list_any (λ l. on g l.after && changes_stock s l) (lines_of s))) (one_step n (add_hold l) A.orders good.orders_in_order) ∙ by (order_numbered A n) there ended firm
+more_names A n l g good some there ended firm = touched A (command.More n l.way l.branch l.article l.qty) g ∙ ap (list_any (λ s. list_any (λ l. on g l.after && changes_stock s l) (lines_of s))) (one_step n (add_hold l) A.orders good.orders_in_order) ∙ by (order_numbered A n) there ended firm
   where
     by : (x : Option Order) → (IsNone x → ⊥) → (IsSomeAnd x (λ o. IsFalse (is_open o)) → ⊥) → (IsSomeAnd x (λ o. IsTrue o.firm) → ⊥)
         → list_any (λ s. list_any (λ l. on g l.after && changes_stock s l) (lines_of s)) (option_map_or (λ o. record { before = Some o; after = add_hold l o } ∷ []) x []) ≡ same_name g (name_of l.branch l.article)
@@ -244,7 +244,7 @@ pub keeps_fields : (A : Ledger) (c : Command) → own_field c ≡ None → (next
 keeps_fields A c own = grind arith
 
 changes_lines : (A : Ledger) (c : Command) (f : Name) → own_field c ≡ None → changes_field A c f ≡ list_any (λ s. same_name f s.name && s.changes) (share_steps A c)
-changes_lines A c f own = ap (λ (x : Option Name). option_map_or (same_name f) x false || list_any (λ s. list_any (λ l. on f l.after && changes_stock s l) (lines_of s)) (steps_of A c)) own ∙ sym (changes_share A c f)
+changes_lines A c f own = touched A c f ∙ ap (λ (x : Option Name). option_map_or (same_name f) x false || list_any (λ s. list_any (λ l. on f l.after && changes_stock s l) (lines_of s)) (steps_of A c)) own ∙ sym (changes_share A c f)
 
 pub counted_rows : (A : Ledger) (r : Request) (D : List (Name × FieldEntry)) → Accepts A r → own_field r.command ≡ None → IsStrictlySortedBy name_cmp (keys_of D) → CountsAll A (share_steps A r.command) D → map entry_row D ≡ field_rows A r
 counted_rows A r D accepts own rising counts =

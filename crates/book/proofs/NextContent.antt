@@ -1,5 +1,6 @@
 -- The rows that an accepted command changes, put into the ledger's rows, give the rows of the next ledger.
 use Rattle.book.proofs.Prelude.{[], ◌≤◌, ◌&&◌, ◌+◌, ◌+ℤ◌, ◌-ℤ◌, IsStrictlySortedBy, ◌==◌, ◌||◌, ◌∙◌, ◌∷◌, ◌≡◌, Bool, Changes, Command, Content, DeskCells, Each, Effect, Equal, Field, FieldCells, FirstFailure, Good, IsInRange, IsKey, IsRowsOf, IsTotalOrder, Ledger, Less, Line, LineCells, List, Move, Name, None, Nothing, Opens, Option, Order, Ordering, Request, Some, Step, accept, amount_row, amount_rows, ap, arith, changed_rows, changes_field, checks, desk_row, effect, false, field_cmp, field_row, filter, firm_cmp, firm_rows, flat_map, if◌then◌else◌, insert_in_order, int_cmp_total, is_lt, is_open, kept_cmp, kept_row, kept_under, line_cmp, line_name, line_row, line_steps, lines_from, map, map-map, mark_row, move_cmp, move_made, move_row, moves_after, name_cmp, name_of, nat_cmp, nat_list_cmp_total, new_key, next, not, number_cmp, nat_cmp_total, on_total, order_cmp, order_lines, order_row, orders_made, places, pos, put_content, put_rows, refl, slice_cmp, state_row, steps_of, subst, sym, then_total, tied_itself, true, true≢false, ℕ, IsSome, OrderEntry, find, inl, inr, is_at, length, lookup, order_numbered, order_of, ◌++◌, steps, option_map}
+use Rattle.std.specs.Prelude.{option_to_list}
 use Rattle.words.specs.declared.command.Command.TheVariants as command
 use Rattle.book.specs.Rows.{desk_cmp}
 use Rattle.book.specs.Next.{with_bounds}
@@ -155,10 +156,10 @@ new_mark_follows o = by o.firm
 
 -- ---- moves
 
-moves_follow : (A : Ledger) (c : Command) → Follows move_cmp (map move_row (moves_after (move_made (places A + 1) c) [])) (map move_row A.moves) (map move_row (next A c).moves)
+moves_follow : (A : Ledger) (c : Command) → Follows move_cmp (map move_row (option_to_list (move_made (places A + 1) c))) (map move_row A.moves) (map move_row (next A c).moves)
 moves_follow A c = by (move_made (places A + 1) c)
   where
-    by : (x : Option Move) → Follows move_cmp (map move_row (moves_after x [])) (map move_row A.moves) (map move_row (moves_after x A.moves))
+    by : (x : Option Move) → Follows move_cmp (map move_row (option_to_list x)) (map move_row A.moves) (map move_row (moves_after x A.moves))
     by None = follows-same move_cmp (map move_row A.moves)
     by (Some m) = follows-push move_cmp move_row m A.moves
 

@@ -2,6 +2,7 @@
 use Rattle.book.proofs.Prelude.{[], ◌+ℤ◌, ◌+◌, ◌-ℤ◌, ◌<ℤ◌, ◌∙◌, ◌∷◌, ◌≡◌, ◌≤ℤ◌, ◌≤◌, Add, Bool, BreaksBound, Contains, Content, Each, Equal, Field, FieldCells, FieldEntry, Global, Good, Greater, IsSome, IsSafeMoved, IsSomeAnd, IsUpToDate, Ledger, Less, List, Name, None, Option, Ordering, Some, Stock, String, Take, Way, accept, ap, arith, common_steps, entry_row, false, field_cells, field_cmp, field_named, field_of, field_row, held_to_add, held_to_take, holding, if_add, if_take, if◌then◌else◌, insert_entry, ints, is_settled, is_eq, is_lt, is_open, is_some, map, match_ordering, moved_by, name_cmp, next, pos, put_row, put_rows, refl, same_name, settled, signed, string_bytes, subst, sym, total, true≢false, unsettled, with_entries, ℕ, ℤ}
 use Rattle.escrow.specs.Choices.{IsInfimum as IsLeastOf, IsSafe as IsSafeStock, IsSupremum as IsGreatestOf}
 use Rattle.book.specs.Plans.{Fits, PlanView}
+use Rattle.book.specs.Rows.{DeskCells, desk_row}
 use Rattle.book.proofs.EqualRows.{rows_are, rows_of, same_first, same_rest}
 use Rattle.book.proofs.KeyPlaces.{equal_field}
 use Rattle.book.proofs.Runs.{in_order}
@@ -117,13 +118,17 @@ put_all [] old = refl
 put_all (e ∷ es) old = put_all es (insert_entry name_cmp old e.0 e.1) ∙ ap (put_rows field_cmp (map entry_row es)) (put_one e.0 e.1 old)
 
 -- the fields of a plan put in, the fields are those of the next ledger, up to date
-pub adopted : (A : Ledger) (plan : PlanView) (old : List (Name × FieldEntry)) → Good A → Good (accept A plan.request) → Fits A plan → map field_of old ≡ A.fields → Each (IsUpToDate A) old
-    → (map field_of (with_entries plan.fields old) ≡ (accept A plan.request).fields) × Each (IsUpToDate (accept A plan.request)) (with_entries plan.fields old)
-adopted A plan old good next fits fields all =
+pub adopted : (A : Ledger) (plan : PlanView) (es old : List (Name × FieldEntry)) → Good A → Good (accept A plan.request) → Fits A plan → map entry_row es ≡ plan.changes.fields → map field_of old ≡ A.fields → Each (IsUpToDate A) old
+    → (map field_of (with_entries es old) ≡ (accept A plan.request).fields) × Each (IsUpToDate (accept A plan.request)) (with_entries es old)
+adopted A plan es old good next fits told fields all =
     let B : Ledger = accept A plan.request in
     let before = rows_of_entries A old all ∙ ap (map (field_row A)) fields in
     let put = fits.changes.suffice (rows_of A) (rows_of B) (rows_are A good) (rows_are B next) in
-    entries_of_rows B (with_entries plan.fields old) B.fields (put_all plan.fields old ∙ (λ i. put_rows field_cmp (fits.fields i) (before i)) ∙ ap (λ (c : Content). c.fields) put)
+    entries_of_rows B (with_entries es old) B.fields (put_all es old ∙ (λ i. put_rows field_cmp (told i) (before i)) ∙ ap (λ (c : Content). c.fields) put)
+
+-- the clock of a desk row
+pub clock_told : (B : Ledger) (n : ℕ) (rows : List DeskCells) → rows ≡ desk_row B ∷ [] → map (λ row. row.clock) rows ≡ pos n ∷ [] → n ≡ B.clock
+clock_told B n rows is told = let same : pos B.clock ∷ [] ≡ pos n ∷ [] = sym (ap (map (λ row. row.clock)) is) ∙ told in cc
 
 -- ---- a new field
 

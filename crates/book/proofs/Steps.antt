@@ -1,5 +1,8 @@
 -- The steps of an accepted command: what stays of an order, and what the lines add up to.
-use Rattle.book.proofs.Prelude.{[], ◌&&◌, ◌++◌, ◌+ℤ◌, ◌+◌, ◌-ℤ◌, ◌-◌, ◌<◌, ◌==◌, ◌||◌, ◌∙◌, ◌∷◌, ◌≡◌, Aborted, Add, Bool, Changes, Command, Committed, Each, Effect, Field, FirstFailure, Good, IsFalse, IsNone, IsSomeAnd, Ledger, Line, LineStep, List, Name, None, Nothing, Open, OpenLine, Opens, Option, Order, Share, ShareStep, Some, State, Take, Way, add_hold, add_part, added_on, added_by_order, ap, arith, change_lines, changes_field, changes_stock, checks, effect, expires, false, find, flat_map, hold_more, if_add, if_take, if◌then◌else◌, ints, is_open, is_settled, is_some, line_name, line_on, line_steps, lines_of, list_any, list_any-append, option_map, moves_after, places, lower_held, map, moved_at_once, moved_by, moved_by_command, moved_by_order, name_of, nat_lt, get_or, length, slice_get, suc, take, zero, new_line, next, no_share, not, on, open_state, option_map_or, order_numbered, orders_after, orders_made, own_field, pos, raise_held, raise_used, refl, same_name, set_firm, set_state, settled, settled_part, share_of, share_step, share_steps, shares_of_step, signed, step_to, steps, steps_of, subst, sym, take_part, taken_by_order, total, true, true≢false, unsettled, ℕ, ℤ}
+use Rattle.book.proofs.Prelude.{[], ◌&&◌, ◌++◌, ◌+ℤ◌, ◌+◌, ◌-ℤ◌, ◌-◌, ◌<◌, ◌==◌, ◌||◌, ◌∙◌, ◌∷◌, ◌≡◌, Aborted, Add, Bool, Changes, Command, Committed, Each, Effect, Field, FirstFailure, Good, IsFalse, IsNone, IsSomeAnd, Ledger, Line, LineStep, List, Name, None, Nothing, Open, OpenLine, Opens, Option, Order, Share, ShareStep, Some, State, Step, Take, Way, add_hold, add_part, added_on, added_by_order, ap, arith, change_lines, changes_field, changes_stock, checks, effect, expires, false, find, flat_map, hold_more, if_add, if_take, if◌then◌else◌, ints, is_open, is_settled, is_some, line_name, line_on, line_steps, lines_of, list_any, list_any-append, option_map, moves_after, places, lower_held, map, moved_at_once, moved_by, moved_by_command, moved_by_order, name_of, nat_lt, get_or, length, slice_get, suc, take, zero, new_line, next, no_share, not, on, open_state, option_map_or, order_numbered, orders_after, orders_made, own_field, pos, raise_held, raise_used, refl, same_name, set_firm, set_state, settled, settled_part, share_of, share_step, share_steps, shares_of_step, signed, step_to, steps, steps_of, subst, sym, take_part, taken_by_order, total, true, true≢false, unsettled, ℕ, ℤ}
+use Rattle.std.specs.Prelude.{cond, option_to_list}
+use Rattle.std.specs.List.{filter}
+use Rattle.book.specs.Changes.{stock_lines}
 use Rattle.words.specs.declared.command.Command.TheVariants as command
 use Rattle.book.specs.Held.{held_to_add, held_to_take}
 use Rattle.book.proofs.Futures.{all_pass, at_number, find_self}
@@ -374,6 +377,25 @@ any-flat : {X Y : Type 0} (t : Y → Bool) (f : X → List Y) (xs : List X) → 
 any-flat t f [] = refl
 any-flat t f (x ∷ xs) = list_any-append t (f x) (flat_map f xs) ∙ ap (λ b. list_any t (f x) || b) (any-flat t f xs)
 
+-- a field is touched where it is the command's own, or some line on it changes its stock
+pub touched : (A : Ledger) (c : Command) (f : Name) → changes_field A c f ≡ (option_map_or (same_name f) (own_field c) false || list_any (λ s. list_any (λ l. on f l.after && changes_stock s l) (lines_of s)) (steps_of A c))
+touched A c f =
+    own (own_field c) (map line_name (flat_map stock_lines (steps_of A c)))
+    ∙ ap (λ b. option_map_or (same_name f) (own_field c) false || b) (any-map (same_name f) line_name (flat_map stock_lines (steps_of A c)) ∙ any-flat (on f) stock_lines (steps_of A c) ∙ any_same _ _ (steps_of A c) (each (λ s. of_lines s (lines_of s)) (steps_of A c)))
+  where
+    own : (x : Option Name) (names : List Name) → list_any (same_name f) (option_to_list x ++ names) ≡ (option_map_or (same_name f) x false || list_any (same_name f) names)
+    own None names = refl
+    own (Some n) names = refl
+
+    of_lines : (s : Step) (ls : List LineStep) → list_any (on f) (map (λ l. l.after) (filter (changes_stock s) ls)) ≡ list_any (λ l. on f l.after && changes_stock s l) ls
+    of_lines s [] = refl
+    of_lines s (l ∷ ls) = by (changes_stock s l) (of_lines s ls)
+      where
+        by : (b : Bool) → list_any (on f) (map (λ l. l.after) (filter (changes_stock s) ls)) ≡ list_any (λ l. on f l.after && changes_stock s l) ls
+            → list_any (on f) (map (λ l. l.after) (cond b (l ∷ filter (changes_stock s) ls) (filter (changes_stock s) ls))) ≡ (on f l.after && b) || list_any (λ l. on f l.after && changes_stock s l) ls
+        by true more = grind arith
+        by false more = grind arith
+
 -- some line on the field changes its stock
 pub changes_share : (A : Ledger) (c : Command) (f : Name) → list_any (λ x. same_name f x.name && x.changes) (share_steps A c) ≡ list_any (λ s. list_any (λ l. on f l.after && changes_stock s l) (lines_of s)) (steps_of A c)
 changes_share A c f = any-flat (λ x. same_name f x.name && x.changes) shares_of_step (steps_of A c) ∙ any_same _ _ (steps_of A c) (each (λ s. any-map (λ x. same_name f x.name && x.changes) (share_step s) (lines_of s)) (steps_of A c))
@@ -393,7 +415,7 @@ SameNumbers A B f = (settled B f ≡ settled A f) × (held_to_take B f.name ≡ 
 
 pub same_numbers : (A : Ledger) (c : Command) (f : Field) → Good A → FirstFailure (checks A c) None → changes_field A c f.name ≡ false → SameNumbers A (next A c) f
 same_numbers A c f good passed e =
-    let parts = or_false _ _ e in
+    let parts = or_false _ _ (sym (touched A c f.name) ∙ e) in
     let same = alike A c good passed in
     let none = changes_share A c f.name ∙ parts.1 in
     let moved = not_moved c parts.0 in

@@ -1,5 +1,7 @@
 -- The rows that each command changes, told from the steps that it makes.
-use Rattle.book.proofs.Prelude.{[], ◌&&◌, ◌++◌, ◌+◌, ◌-◌, ◌==◌, ◌||◌, ◌∙◌, ◌∷◌, ◌≡◌, ◌≤◌, ◌<◌, Aborted, Bool, Changes, Command, Committed, Content, Each, FirstFailure, Good, IsFalse, IsInRange, IsNone, IsSomeAnd, IsTrue, Ledger, Line, LineCells, List, Move, Name, None, Nothing, OpenLine, Opens, Option, Order, Request, Some, State, Step, add_hold, amount_row, amount_rows, ap, append-nil, arith, becomes_firm, change_lines, changed_rows, changes_field, changes_held, changes_line, changes_state, changes_stock, checks, effect, expires, false, filter, firm_row, flat_map, hold_more, if◌then◌else◌, is_open, is_some, is_transfer, kept_row, line_name, line_on, line_row, line_steps, lines_from, lines_of, list_any, lower_held, map, mark_row, move_made, move_row, moves_after, name_of, new_key, new_line, not, numbered, on, open_state, option_map_or, order_numbered, order_row, own_field, places, raise_held, raise_used, refl, same_name, set_firm, set_state, state_row, steps, steps_of, subst, sym, true, ℕ}
+use Rattle.book.proofs.Prelude.{[], ◌&&◌, ◌++◌, ◌+◌, ◌-◌, ◌==◌, ◌||◌, ◌∙◌, ◌∷◌, ◌≡◌, ◌≤◌, ◌<◌, Aborted, Bool, Changes, Command, Committed, Content, Each, FirstFailure, Good, IsFalse, IsInRange, IsNone, IsSomeAnd, IsTrue, Ledger, Line, LineCells, List, Move, Name, None, Nothing, OpenLine, Opens, Option, Order, Request, Some, State, Step, add_hold, amount_row, amount_rows, ap, append-nil, arith, becomes_firm, change_lines, changed_rows, changes_field, changes_held, changes_line, changes_state, changes_stock, checks, effect, expires, false, filter, firm_row, flat_map, hold_more, if◌then◌else◌, is_open, is_some, is_transfer, kept_row, line_name, line_on, line_row, line_steps, lines_from, lines_of, list_any, lower_held, map, mark_row, move_made, move_row, name_of, new_key, new_line, not, numbered, on, open_state, option_map_or, order_numbered, order_row, own_field, places, raise_held, raise_used, refl, same_name, set_firm, set_state, state_row, steps, steps_of, subst, sym, true, ℕ}
+use Rattle.std.specs.Prelude.{option_to_list}
+use Rattle.book.proofs.Steps.{touched}
 use Rattle.words.specs.declared.command.Command.TheVariants as command
 use Rattle.book.specs.Rows.{MoveCells}
 use Rattle.book.specs.RowsByCommand.{TableRows, has_line_on, has_part_on, no_rows, of_order, opened_rows, part_rows, rows_by_command, rows_told}
@@ -15,7 +17,7 @@ use Rattle.book.proofs.Sums.{each, each-imp}
 
 pub record HasRows (A : Ledger) (c : Command) (t : TableRows) : Type 0 where
   pub fields : (f : Name) → changes_field A c f ≡ t.fields f
-  pub moves : map move_row (moves_after (move_made (places A + 1) c) []) ≡ t.moves
+  pub moves : map move_row (option_to_list (move_made (places A + 1) c)) ≡ t.moves
   pub orders : flat_map state_row (steps_of A c) ≡ t.orders
   pub lines : flat_map amount_rows (steps_of A c) ≡ t.lines
   pub firms : flat_map mark_row (steps_of A c) ≡ t.firms
@@ -32,9 +34,9 @@ all_told A r has next = λ i. record {
 }
 
 -- a command that changes no order
-own_rows : (A : Ledger) (c : Command) (n : Name) (moves : List MoveCells) → own_field c ≡ Some n → effect c ≡ Nothing → map move_row (moves_after (move_made (places A + 1) c) []) ≡ moves → HasRows A c (record no_rows { fields = λ f. same_name f n; moves = moves })
+own_rows : (A : Ledger) (c : Command) (n : Name) (moves : List MoveCells) → own_field c ≡ Some n → effect c ≡ Nothing → map move_row (option_to_list (move_made (places A + 1) c)) ≡ moves → HasRows A c (record no_rows { fields = λ f. same_name f n; moves = moves })
 own_rows A c n moves own unordered moved = record {
-  fields = λ f. (λ i. option_map_or (same_name f) (own i) false || list_any (λ s. list_any (λ l. on f l.after && changes_stock s l) (lines_of s)) (steps (unordered i) A.orders)) ∙ or_nothing (same_name f n);
+  fields = λ f. touched A c f ∙ (λ i. option_map_or (same_name f) (own i) false || list_any (λ s. list_any (λ l. on f l.after && changes_stock s l) (lines_of s)) (steps (unordered i) A.orders)) ∙ or_nothing (same_name f n);
   moves = moved;
   orders = ap (λ e. flat_map state_row (steps e A.orders)) unordered;
   lines = ap (λ e. flat_map amount_rows (steps e A.orders)) unordered;
@@ -52,8 +54,8 @@ record StepRows (s : Step) (t : TableRows) : Type 0 where
 
 one_rows : (A : Ledger) (c : Command) (s : Step) (t : TableRows) → own_field c ≡ None → move_made (places A + 1) c ≡ None → t.moves ≡ [] → steps_of A c ≡ s ∷ [] → StepRows s t → HasRows A c t
 one_rows A c s t own unmoved moves is rows = record {
-  fields = λ f. (λ i. option_map_or (same_name f) (own i) false || list_any (λ s. list_any (λ l. on f l.after && changes_stock s l) (lines_of s)) (is i)) ∙ or_nothing _ ∙ rows.fields f;
-  moves = ap (λ (m : Option Move). map move_row (moves_after m [])) unmoved ∙ sym moves;
+  fields = λ f. touched A c f ∙ (λ i. option_map_or (same_name f) (own i) false || list_any (λ s. list_any (λ l. on f l.after && changes_stock s l) (lines_of s)) (is i)) ∙ or_nothing _ ∙ rows.fields f;
+  moves = ap (λ (m : Option Move). map move_row (option_to_list m)) unmoved ∙ sym moves;
   orders = ap (flat_map state_row) is ∙ append-nil (state_row s) ∙ rows.orders;
   lines = ap (flat_map amount_rows) is ∙ append-nil (amount_rows s) ∙ rows.lines;
   firms = ap (flat_map mark_row) is ∙ append-nil (mark_row s) ∙ rows.firms;
@@ -181,7 +183,7 @@ module _ (now : ℕ) where
     orders = map (λ o. order_row (set_state Aborted o)) (filter (expires now) A.orders);
   })
   expired_rows A = record {
-    fields = λ f. expire_fields f A.orders;
+    fields = λ f. touched A (command.Expire now) f ∙ expire_fields f A.orders;
     moves = refl;
     orders = expire_rows state_row (λ o. order_row (set_state Aborted o) ∷ []) (λ o e. (ends o e).orders) A.orders ∙ flat-one (λ o. order_row (set_state Aborted o)) (left A.orders);
     lines = expire_none amount_rows (λ o e. (ends o e).lines) A.orders;

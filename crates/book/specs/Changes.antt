@@ -1,14 +1,14 @@
 -- Which rows an accepted command changes, and rows put in by their keys.
-use Rattle.std.specs.Prelude.{ℕ, ◌+◌, Bool, false, ◌&&◌, ◌||◌, List, [], ◌∷◌, flat_map, map, Option, Some, option_map, if◌then◌else◌}
+use Rattle.std.specs.Prelude.{ℕ, ◌+◌, ◌++◌, Bool, List, [], ◌∷◌, flat_map, map, Option, Some, option_map, option_to_list, if◌then◌else◌}
 use Rattle.std.specs.declared.cmp.Ordering.{Ordering}
 use Rattle.std.specs.Ordering.{is_eq, is_lt}
 use Rattle.std.specs.List.{list_any, filter, fold}
-use Rattle.std.specs.Option.{option_map_or}
 use Rattle.words.specs.declared.command.Command.{Command}
 use Rattle.words.specs.declared.command.Command.TheVariants.{Field, Rebound}
 use Rattle.words.specs.declared.command.Request.{Request}
-use Rattle.book.specs.Ledger.{Name, Ledger, same_name, on, places, name_of}
-use Rattle.book.specs.Next.{move_made, moved_at_once, moves_after, new_key}
+use Rattle.book.specs.Ledger.{Name, Ledger, line_name, same_name, places, name_of}
+use Rattle.book.specs.declared.order.Line.{Line}
+use Rattle.book.specs.Next.{move_made, moved_at_once, new_key}
 use Rattle.book.specs.Rows.{Content, FirmCells, LineCells, OrderCells, desk_cmp, field_cmp, firm_cmp, firm_row, kept_cmp, kept_row, line_cmp, line_row, move_cmp, move_row, order_cmp, order_row}
 use Rattle.book.specs.Steps.{LineStep, Step, becomes_firm, changes_line, changes_state, changes_stock, lines_of, steps_of}
 
@@ -18,10 +18,17 @@ own_field (Field b a lo hi start) = Some (name_of b a)
 own_field (Rebound b a lo hi) = Some (name_of b a)
 own_field c = option_map (λ m. m.0) (moved_at_once c)
 
+-- the lines of the order that change the stock of their fields
+abbrev pub stock_lines : Step → List Line
+stock_lines s = map (λ l. l.after) (filter (changes_stock s) (lines_of s))
+
+-- the fields that the command touches: its own, and those of the lines that change their stock
+abbrev pub touched_fields : Ledger → Command → List Name
+touched_fields A c = option_to_list (own_field c) ++ map line_name (flat_map stock_lines (steps_of A c))
+
 -- the row of the field is new, or its numbers change
 abbrev pub changes_field : Ledger → Command → Name → Bool
-changes_field A c f = option_map_or (same_name f) (own_field c) false
-    || list_any (λ s. list_any (λ l. on f l.after && changes_stock s l) (lines_of s)) (steps_of A c)
+changes_field A c f = list_any (same_name f) (touched_fields A c)
 
 -- the row of the order, if it is new or its state changes
 abbrev pub state_row : Step → List OrderCells
@@ -43,7 +50,7 @@ abbrev pub changed_rows : Ledger → Request → Content → Content
 changed_rows A r next = record {
   desk = next.desk;
   fields = filter (λ row. changes_field A r.command (name_of row.branch row.article)) next.fields;
-  moves = map move_row (moves_after (move_made (places A + 1) r.command) []);
+  moves = map move_row (option_to_list (move_made (places A + 1) r.command));
   orders = flat_map state_row (steps_of A r.command);
   lines = flat_map amount_rows (steps_of A r.command);
   kept = kept_row (new_key A r) ∷ [];

@@ -1,6 +1,9 @@
--- How contracts see a book: as its ledger, and the room that has been made.
-use Rattle.std.specs.Prelude.{ℕ, ◌-◌, ◌+ℤ◌, ◌-ℤ◌, pos, List, map}
+-- How contracts see a book: as its ledger, the room that has been made, and the memory that is kept.
+use Rattle.std.specs.Prelude.{ℕ, ◌-◌, ◌+ℤ◌, ◌-ℤ◌, pos, List, [], map}
+use Rattle.std.specs.Ordering.{nat_cmp}
+use Rattle.std.specs.declared.cmp.Ordering.{Ordering}
 use Rattle.std.specs.Vec.{vec_capacity, vec_len}
+use Rattle.index.specs.InOrder.{EntryStorage, no_storage}
 use Rattle.book.specs.Ledger.{Field, Kept, Ledger, Move, Name, Order, name_of}
 use Rattle.book.specs.Rows.{FieldCells}
 use Rattle.book.specs.declared.book.Book.TheInside.{Inside}
@@ -16,10 +19,33 @@ pub record Room : Type 0 where
   pub orders : ℕ
   pub kept : ℕ
 
--- the ledger, and the room that has been made beside it
+-- for how many lines an order has slots
+pub record LineSlots : Type 0 where
+  pub number : ℕ
+  pub slots : ℕ
+
+-- orders by their numbers
+abbrev pub slots_cmp : LineSlots → LineSlots → Ordering
+slots_cmp a b = nat_cmp a.number b.number
+
+-- the memory that is kept: that of fields, orders and keys, for how many moves there are slots, and for how many lines
+-- of each order
+pub record Storage : Type 0 where
+  pub fields : EntryStorage
+  pub moves : ℕ
+  pub orders : EntryStorage
+  pub lines : List LineSlots
+  pub kept : EntryStorage
+
+-- none
+abbrev pub nothing_stored : Storage
+nothing_stored = record { fields = no_storage; moves = 0; orders = no_storage; lines = []; kept = no_storage }
+
+-- the ledger, the room that has been made beside it, and the memory that is kept
 pub record BookView : Type 0 where
   pub ledger : Ledger
   pub room : Room
+  pub storage : Storage
 
 abbrev pub field_of : Name × FieldEntry → Field
 field_of e = record { name = e.0; lo = e.1.quantity.lo; hi = e.1.quantity.hi; start = e.1.start }
@@ -50,6 +76,9 @@ order_of e = record {
   lines = e.1.lines.items;
 }
 
+abbrev pub slots_of : ℕ × OrderEntry → LineSlots
+slots_of e = record { number = e.0; slots = vec_capacity e.1.lines }
+
 abbrev pub kept_of : List ℕ × KeptEntry → Kept
 kept_of e = record { key = e.0; place = e.1.place; command = e.1.words }
 
@@ -70,5 +99,14 @@ room_of b = record {
   kept = b.kept.room;
 }
 
+abbrev pub storage_of : Inside → Storage
+storage_of b = record {
+  fields = b.fields.storage;
+  moves = vec_capacity b.moves;
+  orders = b.orders.storage;
+  lines = map slots_of b.orders.entries;
+  kept = b.kept.storage;
+}
+
 abbrev pub view_of : Inside → BookView
-view_of b = record { ledger = ledger_of b; room = room_of b }
+view_of b = record { ledger = ledger_of b; room = room_of b; storage = storage_of b }

@@ -20,9 +20,13 @@ use Rattle.book.specs.Outcomes.{signed}
 abbrev pub with_bounds : ℕ → ℕ → FieldOf → FieldOf
 with_bounds lo hi f = record f { lo = lo; hi = hi }
 
--- one order more
+-- one order more, in the order of their numbers
+abbrev pub insert_order : Order → List Order → List Order
+insert_order o orders = insert_in_order (λ a b. nat_lt a.number b.number) o orders
+
+-- the ledger with one order more
 abbrev pub with_order : Order → Ledger → Ledger
-with_order o A = record A { orders = insert_in_order (λ a b. nat_lt a.number b.number) o A.orders }
+with_order o A = record A { orders = insert_order o A.orders }
 
 -- a line that holds its amount, of which nothing is used
 abbrev pub new_line : OpenLine → Line
@@ -142,7 +146,7 @@ clock_after (Expire now) clock = now
 -- the orders, with what the command does to them
 abbrev pub orders_after : Effect → List Order → List Order
 orders_after Nothing orders = orders
-orders_after (Opens o) orders = insert_in_order (λ a b. nat_lt a.number b.number) o orders
+orders_after (Opens o) orders = insert_order o orders
 orders_after (Changes names change) orders = map (λ o. if names o then change o else o) orders
 
 -- the move that the command makes at that place, if it makes one

@@ -1,45 +1,24 @@
 -- Plans of accepted requests, and what carrying one out needs.
-use Rattle.std.specs.Prelude.{ℕ, ◌+◌, ◌≤◌, ◌≡◌, List, [], ◌∷◌, Option, length, map, option_map}
+use Rattle.std.specs.Prelude.{ℕ, ◌+◌, ◌≤◌, ◌≡◌, List, [], ◌∷◌, length}
 use Rattle.words.specs.declared.command.Request.{Request}
 use Rattle.book.specs.Answers.{IsAccepted}
-use Rattle.book.specs.Changes.{changed_rows, put_content}
-use Rattle.book.specs.Ledger.{Ledger, Move, Name, Order, open_orders, places}
-use Rattle.book.specs.Next.{accept, move_made, next}
+use Rattle.book.specs.Changes.{changed_rows, put_content, put_rows}
+use Rattle.book.specs.Ledger.{Ledger, Order, places}
+use Rattle.book.specs.Next.{accept}
 use Rattle.book.specs.Rows.{Content, IsRowsOf, desk_row}
 use Rattle.book.specs.Steps.{orders_made}
-use Rattle.book.specs.Model.{BookView, entry_row, move_of, order_of}
-use Rattle.book.specs.declared.book.FieldEntry.{FieldEntry}
-use Rattle.book.specs.declared.book.plan.PlanParts.{PlanParts}
+use Rattle.book.specs.Model.{BookView, LineSlots, slots_cmp}
 
 -- a plan as it is seen
 pub record PlanView : Type 0 where
   -- the request that it carries out, and the place that its command gets
   pub request : Request
   pub place : ℕ
-  -- the clock and how many orders are open then
-  pub clock : ℕ
-  pub open_count : ℕ
-  -- the entries of the fields that change, as they are then
-  pub fields : List (Name × FieldEntry)
-  -- the move that the command makes
-  pub moved : Option Move
-  -- the orders that the command opens or changes, as they are then
+  -- the orders that the command opens or changes, as they are then, and for how many lines each of them has slots
   pub orders : List Order
+  pub line_slots : List LineSlots
   -- the rows that change
   pub changes : Content
-
--- the plan of these parts, which changes these rows
-abbrev pub plan_of : PlanParts → Content → PlanView
-plan_of p changes = record {
-  request = record { key = p.key; command = p.words };
-  place = p.place;
-  clock = p.clock;
-  open_count = p.open_count;
-  fields = p.fields.entries;
-  moved = option_map move_of p.moved;
-  orders = map order_of p.orders.items;
-  changes = changes;
-}
 
 -- The rows are those that the request changes.
 pub record ChangesTo (A : Ledger) (r : Request) (rows : Content) : Type 0 where
@@ -49,21 +28,16 @@ pub record ChangesTo (A : Ledger) (r : Request) (rows : Content) : Type 0 where
   -- the desk row is the next ledger's
   pub desk : rows.desk ≡ desk_row (accept A r) ∷ []
 
--- The plan fits the ledger: its request is accepted there, at that place, leaves that clock and so many open orders,
--- makes that move and those orders, and its rows are those that change; those of fields are the rows of its entries.
+-- The plan fits the ledger: its request is accepted there, and place, orders and rows are those that come of it.
 pub record Fits (A : Ledger) (plan : PlanView) : Type 0 where
   pub accepted : IsAccepted A plan.request
   pub place : plan.place ≡ places A + 1
-  pub clock : plan.clock ≡ (next A plan.request.command).clock
-  pub open_count : plan.open_count ≡ open_orders (next A plan.request.command)
-  pub moved : plan.moved ≡ move_made plan.place plan.request.command
   pub orders : plan.orders ≡ orders_made A plan.request.command
   pub changes : ChangesTo A plan.request plan.changes
-  pub fields : map entry_row plan.fields ≡ plan.changes.fields
 
--- The book has room for the plan: for the fields that change, and for a move, an order and a kept key more.
+-- The book has room for the plan: for the fields whose rows change, and for a move, an order and a kept key more.
 pub record HasRoomFor (book : BookView) (plan : PlanView) : Type 0 where
-  pub fields : length plan.fields ≤ book.room.fields
+  pub fields : length plan.changes.fields ≤ book.room.fields
   pub moves : 1 ≤ book.room.moves
   pub orders : 1 ≤ book.room.orders
   pub kept : 1 ≤ book.room.kept
@@ -78,3 +52,11 @@ pub record NoRoomGrows (old new : BookView) : Type 0 where
   pub moves : new.room.moves ≤ old.room.moves
   pub orders : new.room.orders ≤ old.room.orders
   pub kept : new.room.kept ≤ old.room.kept
+
+-- No memory is taken that stays: all slots are those that there were, and for lines of the plan's orders the plan's.
+pub record KeepsStorage (old : BookView) (plan : PlanView) (new : BookView) : Type 0 where
+  pub fields : new.storage.fields ≡ old.storage.fields
+  pub moves : new.storage.moves ≡ old.storage.moves
+  pub orders : new.storage.orders ≡ old.storage.orders
+  pub lines : new.storage.lines ≡ put_rows slots_cmp plan.line_slots old.storage.lines
+  pub kept : new.storage.kept ≡ old.storage.kept

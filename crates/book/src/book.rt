@@ -5,12 +5,12 @@ ghost use Rattle.book.specs.Good.{Good};
 ghost use Rattle.book.specs.Ledger.{name_of, new_ledger, field_named, kept_under, order_numbered, Ledger, is_open, is_transfer, places, insert_in_order, open_orders};
 ghost use Rattle.book.specs.Next.{accept, move_made, next};
 ghost use Rattle.book.specs.Outcomes.{article_total};
-ghost use Rattle.book.specs.Plans.{Fits, HasRoomFor, RoomStays, NoRoomGrows};
+ghost use Rattle.book.specs.Plans.{Fits, HasRoomFor, KeepsStorage, RoomStays, NoRoomGrows};
 ghost use Rattle.book.specs.inner.StepsSeen.{Leaves, MayBePut, number_cmp};
 ghost use Rattle.book.specs.Changes.{put_rows};
 ghost use Rattle.book.specs.inner.RunningNumbers.{IsUpToDate, with_entries};
 ghost use Rattle.book.specs.Tables.{rows_among};
-ghost use Rattle.book.specs.Model.{field_of, kept_of, order_of, move_of};
+ghost use Rattle.book.specs.Model.{field_of, kept_of, order_of, move_of, nothing_stored, slots_cmp, slots_of};
 ghost use Rattle.std.specs.Cmp.Lexicographic.{slice_cmp};
 ghost use Rattle.std.specs.Option.{option_map_or};
 ghost use Rattle.std.specs.Ordering.{nat_cmp, is_lt};
@@ -79,7 +79,7 @@ pub struct KeptEntry {
 }
 
 /// A good ledger: all fields, with their stock as it stands, moves, orders and kept keys of the desk. Contracts see it
-/// as its ledger and, beside that, the room that has been made for entries to come.
+/// as its ledger and, beside that, the room that has been made for entries to come, and the memory that is kept.
 #[derive(Drop)]
 pub struct Book {
     clock: Moment,
@@ -107,6 +107,7 @@ impl Book {
     pub fn new(alloc: Global) -> Book
         ensures ledger { result.ledger ≡ new_ledger }
         ensures room { result.room ≡ record { fields = 0; moves = 0; orders = 0; kept = 0 } }
+        ensures storage { result.storage ≡ nothing_stored }
     {
         Book {
             clock: Moment::first(),
@@ -167,6 +168,7 @@ fn insert_kept(kept: &mut InOrder<Key, KeptEntry>, key: Key, entry: KeptEntry)
     ensures kept { map kept_of kept.new.entries ≡ insert_in_order (λ a b. is_lt (slice_cmp nat_cmp a.key b.key))
         (kept_of (key, entry)) (map kept_of kept.old.entries) }
     ensures room { kept.new.room ≤ kept.old.room }
+    ensures storage { kept.new.storage ≡ kept.old.storage }
 {
     kept.insert(key, entry);
 }
@@ -179,6 +181,7 @@ fn adopt_fields(
     requires { length changed.now.entries ≤ fields.old.room }
     ensures fields { fields.new.entries ≡ with_entries changed.now.entries fields.old.entries }
     ensures room { fields.new.room ≤ fields.old.room }
+    ensures storage { fields.new.storage ≡ fields.old.storage }
 {
     for place in 0..changed.len() {
         let (name, entry) = changed.entry_at(place);
@@ -192,6 +195,7 @@ fn adopt_move(moves: &mut Vec<MoveEntry>, moved: Option<MoveEntry>)
     ensures moves { (A : Ledger) (c : Command) → map move_of moves.old.items ≡ A.moves
         → option_map move_of moved ≡ move_made (places A + 1) c → map move_of moves.new.items ≡ (next A c).moves }
     ensures room { vec_capacity moves.new - vec_len moves.new ≤ vec_capacity moves.old - vec_len moves.old }
+    ensures storage { vec_capacity moves.new ≡ vec_capacity moves.old }
 {
     if let Some(entry) = moved {
         moves.push_reserved(entry);
@@ -204,6 +208,9 @@ fn adopt_orders(orders: &mut InOrder<OrderNo, OrderEntry>, made: Vec<Order>)
     ensures orders { map order_of orders.new.entries ≡ put_rows number_cmp (map order_of made.items)
         (map order_of orders.old.entries) }
     ensures room { orders.new.room ≤ orders.old.room }
+    ensures storage { orders.new.storage ≡ orders.old.storage }
+    ensures lines { map slots_of orders.new.entries ≡ put_rows slots_cmp (map slots_of made.items)
+        (map slots_of orders.old.entries) }
 {
     for order in made {
         orders.put(order.0, order.1);
@@ -253,14 +260,16 @@ impl Book {
             → IsSomeAnd (order_numbered self.old.ledger n) (λ o. IsTrue (is_transfer o))
             → article_total self.new.ledger article ≡ article_total self.old.ledger article }
         ensures room_used { NoRoomGrows self.old self.new }
+        ensures storage { KeepsStorage self.old plan self.new }
         ensures rows { rows_among result.items ≡ plan.changes }
     {
         let (parts, changes) = plan.into_parts();
+        let open_count = self.open_after(&parts.orders);
         let (key, place, words) = (parts.key, parts.place, parts.words);
         key.as_bytes();
         words.as_bytes();
         self.clock = parts.clock;
-        self.open_count = parts.open_count;
+        self.open_count = open_count;
         adopt_fields(&mut self.fields, &parts.fields);
         adopt_move(&mut self.moves, parts.moved);
         adopt_orders(&mut self.orders, parts.orders);

@@ -1,10 +1,10 @@
 -- Batches: how they are made, and that they come again.
-use Rattle.std.proofs.Common.{◌≡◌, ◌≢◌, ◌∙◌, ◌+◌, ◌-◌, ◌<◌, ◌≤◌, ◌++◌, ◌⊎◌, Bool, false, true, true≢false, ℕ, List, [], ◌∷◌, ap, append-nil, append_assoc, arith, drop, inl, inr, length, refl, subst, sym, take}
+use Rattle.std.proofs.Common.{◌≡◌, ◌≢◌, ◌∙◌, ◌+◌, ◌-◌, ◌<◌, ◌≤◌, ◌++◌, ◌⊎◌, Bool, false, true, true≢false, ℕ, List, [], ◌∷◌, ap, append-nil, append_assoc, arith, drop, inl, inr, length, refl, subst, sym, take, Err, Ok, Result}
 use Rattle.std.proofs.lemmas.Bool.{eqb-true}
 use Rattle.std.proofs.lemmas.List.{length-append, length-drop, map-append}
 use Rattle.std.proofs.Math.Seq.{take-add, take-length}
 use Rattle.std.proofs.lemmas.List.Elements.{All-append, All-from_recursion}
-use Rattle.std.specs.Prelude.{◌==◌, All}
+use Rattle.std.specs.Prelude.{◌==◌, All, OnOk}
 use Rattle.std.specs.List.{AllByRecursion as Each}
 use Rattle.words.specs.declared.command.Request.{Request}
 use Rattle.words.specs.declared.reply.Reply.{Reply}
@@ -26,8 +26,11 @@ use Rattle.book.specs.Next.{accept}
 use Rattle.book.specs.Plans.{Fits, PlanView}
 use Rattle.book.specs.Rows.{desk_row}
 use Rattle.desk.proofs.NextRows.{next_rows}
-use Rattle.keep.specs.Content.{IsTheRow}
+use Rattle.keep.specs.Content.{IsAmong, IsTheRow}
+use Rattle.keep.specs.Keeping.{GoesOn}
 use Rattle.keep.specs.Transactions.{with_changes}
+use Rattle.keep.specs.declared.keep.Keep.{Ghosts}
+use Rattle.keep.specs.declared.keep.KeepFault.{KeepFault}
 use Rattle.desk.specs.Desk.{DeskState, HasAccepted, IsStored}
 use Rattle.desk.specs.Replies.{request_line}
 use Rattle.desk.specs.Text.{RepliesAll, items_of}
@@ -287,6 +290,44 @@ stored_batch A B rs batch changes holds holds_new old new so_far are stored put 
 pub no_changes : (xs : List Change) (n : ℕ) → n ≡ length xs → (n == 0) ≡ true → xs ≡ []
 no_changes [] n is none = refl
 no_changes (x ∷ xs) n is none = let zero = eqb-true n 0 none in absurd (omega arith)
+
+-- ---- a commit more, before that of a batch, that puts nothing in (for a control of more-edits)
+
+-- what is one content, and the same again, is that or another
+wider : (x y z : Content) → IsAmong (x ∷ x ∷ []) z → IsAmong (x ∷ y ∷ []) z
+wider x y z (inl is) = inl is
+wider x y z (inr (inl is)) = inl is
+wider x y z (inr (inr never)) = absurd never
+
+module _ {K : Type 0} (g : Ghosts K) (old mid new : K) (none : List Change) (empty : none ≡ []) where
+  abbrev Puts : Type 0
+  Puts = (x : Content) → g.holds old x → g.holds mid (with_changes none x)
+
+  kept_by : Puts → (x : Content) → g.holds old x → g.holds mid x
+  kept_by puts x there = subst (λ (cs : List Change). g.holds mid (with_changes cs x)) empty (puts x there)
+
+  -- where the second is kept, the first has changed nothing
+  pub held_between : {S T : Type 0} (first : Result S KeepFault) (second : Result T KeepFault) → GoesOn g.stopped old mid first
+      → GoesOn g.stopped mid new second → OnOk first Puts → OnOk second ((x : Content) → g.holds old x → g.holds mid x)
+  held_between first (Err fault) began went puts = tt
+  held_between (Ok done) (Ok more) began went puts = kept_by puts
+  held_between (Err fault) (Ok more) began went puts = let never = (went.refused began.err).0 in cc
+
+  -- a stop leaves what the second alone would leave
+  pub left_between : {S T : Type 0}
+      (widens : (these those : List Content) → ((x : Content) → IsAmong these x → IsAmong those x) → g.leaves mid these → g.leaves mid those)
+      (all : List Change) (first : Result S KeepFault) (second : Result T KeepFault)
+      → GoesOn g.stopped old mid first → GoesOn g.stopped mid new second → OnOk first Puts
+      → OnOk first ((x : Content) → g.holds mid x → g.leaves mid (x ∷ []))
+      → ((x : Content) → g.holds old x → g.leaves old (x ∷ []) → g.leaves mid (x ∷ with_changes none x ∷ []))
+      → (g.stopped mid ≡ false → (x : Content) → g.holds mid x → g.leaves mid (x ∷ []) → g.leaves new (x ∷ with_changes all x ∷ []))
+      → (x : Content) → g.holds old x → g.leaves old (x ∷ []) → g.leaves new (x ∷ with_changes all x ∷ [])
+  left_between widens all (Ok done) second began went puts alone either then x there only =
+      let held = kept_by puts x there in then began.ok x held (alone x held)
+  left_between widens all (Err fault) second began went puts alone either then x there only =
+      let twice = subst (λ (cs : List Change). g.leaves mid (x ∷ with_changes cs x ∷ [])) empty (either x there only) in
+      subst (λ k. g.leaves k (x ∷ with_changes all x ∷ [])) (sym (went.refused began.err).1)
+      (widens (x ∷ x ∷ []) (x ∷ with_changes all x ∷ []) (wider x (with_changes all x)) twice)
 
 -- ---- batch after batch
 

@@ -9,7 +9,7 @@ use Rattle.book.specs.Answers.{IsAccepted}
 use Rattle.book.specs.Ledger.{Ledger}
 use Rattle.book.specs.Next.{accept}
 use Rattle.desk.specs.Desk.{DeskState, LeavesEither, Snapshot, snapshot}
-use Rattle.desk.specs.Dialogue.{AlmostWritten, AnswerKind, Answered, AnswersOne, AreAnswers, Begins, BeginsTranscript, EndsCut, EndsWhole, FailsOne, IsCut, IsNoStop, IsStoppedBy, Language, StopsDesk, is_end, longest_piece, most, no_memory, ordinary, stopping, text_of}
+use Rattle.desk.specs.Dialogue.{AlmostWritten, AnswerKind, Answered, AnswersOne, AreAnswers, Begins, BeginsTranscript, EndsCut, EndsUntaken, EndsWhole, FailsOne, IsCut, IsNoStop, IsStoppedBy, Language, StopsDesk, is_end, longest_piece, most, no_memory, ordinary, stopping, text_of}
 use Rattle.desk.specs.Script.{Writes}
 use Rattle.desk.specs.Streams.{Streams, streams}
 use Rattle.desk.specs.declared.fault.CallFault.{CallFault}
@@ -159,7 +159,7 @@ module _ {Q A : Type 0} (L : Language Q A) where
 
   pub cut_failed : (fault : CallFault) (told : ScriptFault) (old new : DeskState) (question : Q) → FailsOne L fault old question new → (fault ≡ CallFault.Memory → told ≡ ScriptFault.Memory) → (fault ≡ CallFault.Stopped → told ≡ ScriptFault.Stopped)
       → IsCut L told old (question ∷ []) [] new
-  cut_failed CallFault.Memory told old new question (same, still) memory stopped =
+  cut_failed CallFault.Memory told old new question (same, still, asked) memory stopped =
       subst (λ (f : ScriptFault). IsCut L f old (question ∷ []) [] new) (sym (memory refl)) (cut_unanswered ScriptFault.Memory old new (question ∷ []) memory_stops_nothing same still)
   cut_failed CallFault.Stopped told old new question (request, calls, same, halted, call) memory stopped = record {
     answered = [];
@@ -366,6 +366,22 @@ module _ {Q A : Type 0} (L : Language Q A) where
             written_is = sym (append-nil (text_of L at.done.answers));
           };
         }
+
+    -- and nothing of it is answered
+    pub ends_before : (piece : List ℕ) (s : Option (List ℕ)) → length piece ≤ longest_piece → (piece ≡ [] → ⊥) → Consumes r s piece → EndsUntaken L old mid (streams R s W w)
+    ends_before piece s short some more = record {
+      before = at.read;
+      piece = piece;
+      questions = at.questions;
+      kinds = at.done.kinds;
+      answers = at.done.answers;
+      reads = Consumes-trans _ _ _ _ _ at.reads more;
+      short = short;
+      first = λ e. absurd (some e);
+      come = at.come;
+      are_answers = at.done.are_answers;
+      writes = at.done.writes;
+    }
 
     -- a read fails
     pub ends_unread : (s : Option (List ℕ)) → Keeps r s → EndsCut L ScriptFault.Read old mid (streams R s W w)

@@ -38,7 +38,7 @@ reply_one old (AskField b a) x y B C h k = (field_one old (field_named old (name
 reply_one old (AskOrder n) x y B C h k = (order_one (order_numbered old n) x y h.0 k.0, h.1 ∙ sym k.1)
 reply_one old Bad x y B C h k = (h.0 ∙ sym k.0, h.1 ∙ sym k.1)
 
-replies_one : (items : List Item) (old : Ledger) (x y : List ℕ) (B C : Ledger) → RepliesAll old items x B → RepliesAll old items y C → (x ≡ y) × (B ≡ C)
+pub replies_one : (items : List Item) (old : Ledger) (x y : List ℕ) (B C : Ledger) → RepliesAll old items x B → RepliesAll old items y C → (x ≡ y) × (B ≡ C)
 replies_one [] old x y B C h k = (h.0 ∙ sym k.0, h.1 ∙ sym k.1)
 replies_one (item ∷ items) old x y B C (line, mid, rest, replies, more, e) (line', mid', rest', replies', more', e') =
     let same = reply_one old item line line' mid mid' replies replies' in

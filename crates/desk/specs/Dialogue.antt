@@ -190,6 +190,21 @@ pub record EndsCut {Q A : Type 0} (L : Language Q A) (fault : ScriptFault) (old 
   pub come : fault ≡ ScriptFault.Read → L.have_come read cut.answered
   pub prompt : IsPrompt L (snapshot old) read written
 
+-- Memory was refused before anything was read, or for the last piece: what had come whole before that is answered, and the
+-- answers are written whole; of the piece nothing is answered.
+pub record EndsUntaken {Q A : Type 0} (L : Language Q A) (old new : DeskState) (s : Streams) : Type 0 where
+  pub before : List ℕ
+  pub piece : List ℕ
+  pub questions : List Q
+  pub kinds : List AnswerKind
+  pub answers : List A
+  pub reads : Consumes s.reader_old s.reader_new (before ++ piece)
+  pub short : length piece ≤ longest_piece
+  pub first : piece ≡ [] → before ≡ []
+  pub come : L.have_come before questions
+  pub are_answers : AreAnswers L (snapshot old) questions kinds answers (snapshot new)
+  pub writes : Appends s.writer_old s.writer_new (text_of L answers)
+
 -- so many, or the greatest count
 abbrev pub most : ℕ → ℕ
 most count = min count (2 ^ 64 - 1)
@@ -213,9 +228,11 @@ pub record AnswersOne {Q A : Type 0} (L : Language Q A) (old : DeskState) (quest
       → (request : Request) × (kind ≡ stopping) × L.calls question request × IsAccepted new.ledger request
       × LeavesEither new.leaves new.ledger (accept new.ledger request)
 
--- It was not answered: nothing has changed, or it is a request at which the desk is stopped, now or before.
+-- It was not answered: nothing has changed, and a stopped desk was not asked a request; or it is a request at which the
+-- desk is stopped, now or before.
 abbrev pub FailsOne : {Q A : Type 0} → Language Q A → CallFault → DeskState → Q → DeskState → Type 0
 FailsOne L CallFault.Memory old question new = (new.ledger ≡ old.ledger) × (new.is_stopped ≡ old.is_stopped)
+    × (IsTrue old.is_stopped → (request : Request) → ¬ L.calls question request)
 FailsOne L CallFault.Stopped old question new = (request : Request) × L.calls question request
     × (new.ledger ≡ old.ledger) × IsTrue new.is_stopped × (old.is_stopped ≡ false → StopsCall request old new)
 

@@ -1,5 +1,5 @@
 -- What an opening finds after a stop: the headline.
-use Rattle.std.specs.Prelude.{◌≡◌, ◌≢◌, ◌↔◌, ◌≤◌, ◌+◌, ◌++◌, ℕ, List, [], ◌∷◌, drop, flat_map, length, take}
+use Rattle.std.specs.Prelude.{◌≡◌, ◌≢◌, ◌↔◌, ◌≤◌, ◌+◌, ◌++◌, IsTrue, false, ℕ, List, [], ◌∷◌, drop, flat_map, length, take}
 use Rattle.std.specs.Io.KnownBytes.{Consumes}
 use Rattle.words.specs.declared.command.Request.{Request}
 use Rattle.words.specs.declared.item.Item.{Item}
@@ -9,9 +9,11 @@ use Rattle.book.specs.Good.{Good}
 use Rattle.book.specs.Ledger.{Ledger}
 use Rattle.book.specs.Rows.{Content, IsRowsOf}
 use Rattle.keep.specs.Content.{IsAmong}
+use Rattle.keep.specs.declared.keep.Keep.{Ghosts}
+use Rattle.desk.specs.Desk.{DeskView}
 use Rattle.desk.specs.Script.{Writes}
 use Rattle.desk.specs.Streams.{Streams}
-use Rattle.desk.specs.Text.{AreItems, RepliesAll}
+use Rattle.desk.specs.Text.{AreItems, RepliesAll, items_of}
 use Rattle.desk.specs.declared.run.Ending.TheVariants.{All, Stopped}
 use Rattle.desk.specs.declared.run.Run.{Run}
 
@@ -19,10 +21,28 @@ use Rattle.desk.specs.declared.run.Run.{Run}
 abbrev pub answered : Run → ℕ
 answered run = length run.replies.items
 
--- the replies are the model's to the first of the requests, one to each; it ended `All` exactly where these are all
-abbrev pub IsRunOf : Ledger → List Request → Run → Type 0
-IsRunOf A requests run = ((M : Ledger) × Runs A (take (answered run) requests) run.replies.items M)
-    × (run.ending ≡ All ↔ answered run ≡ length requests)
+-- the replies are the model's to the first of the requests, one to each, and the lines are theirs; it ended `All` exactly
+-- where these are all
+pub record IsRunOf (A : Ledger) (requests : List Request) (run : Run) : Type 0 where
+  pub last : Ledger
+  pub replies : Runs A (take (answered run) requests) run.replies.items last
+  pub lines : RepliesAll A (items_of (take (answered run) requests)) run.lines.items last
+  pub all : run.ending ≡ All ↔ answered run ≡ length requests
+
+-- the keeper is stopped where the run tells that, and goes on where it does not
+pub record TellsEnding {K : Type 0} (g : Ghosts K) (run : Run) (keep : K) : Type 0 where
+  pub stopped : run.ending ≡ Stopped → IsTrue (g.stopped keep)
+  pub going : run.ending ≢ Stopped → g.stopped keep ≡ false
+
+-- A desk that was found at some good ledger has gone on with these requests.
+pub record GoesOnWith {K : Type 0} (g : Ghosts K) (requests : List Request) (run : Run) (desk : DeskView K)
+    : Type 0 where
+  pub found : Ledger
+  pub good_found : Good found
+  pub is_run : IsRunOf found requests run
+  pub behind : desk.ledger ≡ is_run.last
+  pub good : Good desk.ledger
+  pub ending : TellsEnding g run desk.keep
 
 -- B is the ledger after a prefix of the requests that holds every one which the run has answered. At most one more is
 -- done, and that only where the run ended `Stopped`.
@@ -72,6 +92,9 @@ IsFoundAfterCuts A requests [] B = B ≡ A
 IsFoundAfterCuts A requests (run ∷ runs) B = (M : Ledger) × IsRunOf A requests run
     × IsFoundAfter A requests run M × IsFoundAfterCuts M (drop (answered run) requests) runs B
 
--- what was answered in all
+-- what was answered in all, and the lines of that
 abbrev pub all_replies : List Run → List Reply
 all_replies runs = flat_map (λ run. run.replies.items) runs
+
+abbrev pub all_lines : List Run → List ℕ
+all_lines runs = flat_map (λ run. run.lines.items) runs

@@ -1,10 +1,11 @@
 -- What an opening of a desk makes of what a keeper holds.
-use Rattle.std.specs.Prelude.{◌≡◌, ◌⊎◌, IsTrue, false, List, Result, Ok, Err}
+use Rattle.std.specs.Prelude.{◌≡◌, ◌⊎◌, IsTrue, false, Result, Ok, Err}
 use Rattle.book.specs.Future.{Honours, HonoursAlways}
 use Rattle.book.specs.Good.{Good}
 use Rattle.book.specs.Ledger.{Ledger}
 use Rattle.book.specs.Rows.{Content, IsDamaged, IsRowsOf}
 use Rattle.keep.specs.Content.{IsDesk}
+use Rattle.keep.specs.Keeping.{AddsNothing}
 use Rattle.keep.specs.declared.keep.Keep.{Ghosts}
 use Rattle.desk.specs.Desk.{DeskView, IsStored}
 use Rattle.desk.specs.declared.fault.OpenFault.{OpenFault}
@@ -30,11 +31,10 @@ pub record IsUnopened {K : Type 0} (g : Ghosts K) (keep : K) (fault : OpenFault)
   pub stopped : (fault ≡ Store) ⊎ ((fault ≡ NotADesk) ⊎ (fault ≡ OldVersion)) → IsTrue (g.stopped back)
 
 -- The keeper has changed nothing of what it keeps: while it goes on its content is the same, and nothing is added to
--- what a stop may leave.
+-- what a stop may leave, of whatever version that is.
 pub record IsLeft {K : Type 0} (g : Ghosts K) (old new : K) : Type 0 where
   pub same : g.stopped new ≡ false → (x : Content) → (g.holds old x → g.holds new x) × (g.holds new x → g.holds old x)
-  pub adds_nothing : (these : List Content) → g.leaves old these → g.leaves new these
-  pub no_more : (x : Content) → g.may_leave new x → g.may_leave old x
+  pub adds : AddsNothing g.leaves g.may_leave g.may_leave_trees old new
 
 -- opened at that ledger, or refused for memory or by the store, and nothing else
 abbrev pub OpensAt : {K : Type 0} → Ledger → Result (DeskView K) (OpenFault × K) → Type 0

@@ -132,6 +132,10 @@ impl<K: Keep> Deferred<K> {
 impl<K: Keep> Keep for Deferred<K> {
     ghost use Rattle.std.specs.Prelude.{◌≡◌};
     ghost use Rattle.desk.specs.Deferred.{HasTablesOff, PutsOff, PutsOffOneOf};
+    ghost use Rattle.book.specs.Rows.{Content};
+    ghost use Rattle.std.proofs.Common.{◌∙◌};
+    ghost use Rattle.keep.specs.Content.{IsContent};
+    ghost use Rattle.keep.specs.OneContent.{only_content};
     ghost use Rattle.keep.specs.Description.{desk_schema};
 
     ghost is_honest = { λ d. K.is_honest d.keep };
@@ -147,6 +151,9 @@ impl<K: Keep> Keep for Deferred<K> {
     ghost leaves = { λ d. PutsOffOneOf K.Keep d.keep d.changes };
 
     ghost may_leave = { λ d. PutsOff K.Keep d.keep d.changes };
+
+    // trees with a content that it may leave
+    ghost may_leave_trees = { λ d trees. (x : Content) × PutsOff K.Keep d.keep d.changes x × IsContent trees x };
 
     ghost stopped = { λ d. d.stopped };
 
@@ -189,6 +196,19 @@ impl<K: Keep> Keep for Deferred<K> {
     ghost apart = { λ d x old has. K.apart d.keep has.0 old has.1 };
 
     ghost something = { λ d honest none. none.among none.some none.put_off };
+
+    ghost widens = { λ d these those more only. record {
+      some = only.some;
+      put_off = only.put_off;
+      among = λ x may. more x (only.among x may);
+    } };
+
+    ghost of_trees = { λ d trees x left has. record {
+      base = left.1.base;
+      held = left.1.held;
+      alone = left.1.alone;
+      with_them = only_content trees left.0 x left.2 has ∙ left.1.with_them;
+    } };
 
     ghost among = { λ d these x only may. only.among x may };
 

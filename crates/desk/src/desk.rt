@@ -49,7 +49,8 @@ impl<K: Keep> Model for Desk<K> {
 }
 
 impl<K: Keep> Desk<K> {
-    /// Opens the desk whose rows the keeper holds. An error gives the keeper back.
+    /// Opens the desk whose rows the keeper holds. An error gives the keeper back. Whatever is answered, nothing is
+    /// added to what a stop may leave, of whatever version that is.
     ///
     /// `NotADesk` only where the keeper does not hold the seven tables with one row of `desk` of the newest version,
     /// `OldVersion` only where what it holds is of an older one, and there nothing else but `Memory` and `Store`;

@@ -1,8 +1,8 @@
 //! A dialogue with a desk, over any reader and writer.
 
-ghost use Rattle.std.specs.Prelude.{◌≡◌, ◌≢◌, ◌++◌, ◌∷◌, ◌+◌, ◌-◌, ◌^◌, [], Bool, false, true, Err, IfErr, IfOk, ℕ, List, OnOk, length, min};
+ghost use Rattle.std.specs.Prelude.{◌≡◌, ◌≢◌, ◌⊎◌, ◌++◌, ◌∷◌, ◌+◌, ◌-◌, ◌^◌, [], Bool, false, true, Err, IfErr, IfOk, ℕ, List, OnOk, length, min};
 ghost use Rattle.desk.specs.Desk.{Goes, desk_state};
-ghost use Rattle.desk.specs.Dialogue.{Answered, EndsCut, EndsWhole, IsCut, most};
+ghost use Rattle.desk.specs.Dialogue.{Answered, EndsCut, EndsUntaken, EndsWhole, IsCut, most};
 ghost use Rattle.desk.specs.Script.{Writes};
 ghost use Rattle.desk.specs.Streams.{streams};
 
@@ -29,7 +29,7 @@ pub enum Next<Q> {
 
 /// What is spoken with a desk: it takes bytes in, finds the questions in them, and has each answered.
 pub trait Dialogue {
-    ghost use Rattle.std.specs.Prelude.{◌≡◌, ◌++◌, ◌∷◌, ◌<◌, [], Bool, false, true, IfErr, IfOk, ℕ, List, OnOk};
+    ghost use Rattle.std.specs.Prelude.{◌≡◌, ◌++◌, ◌∷◌, ◌<◌, [], Bool, false, true, IfErr, IfOk, IsOk, ℕ, List, OnOk};
     ghost use Rattle.desk.specs.Desk.{DeskState, Goes, StaysSet, desk_state};
     ghost use Rattle.desk.specs.Dialogue.{AnswersOne, Begins, FailsOne, Language, bytes_of, is_end};
     ghost use Rattle.desk.specs.declared.dialogue.Next.{Next};
@@ -56,12 +56,16 @@ pub trait Dialogue {
     // A stopped desk ends it.
     ghost may_stop: { Type 0 };
 
+    // Want of memory for an answer ends it.
+    ghost may_want: { Type 0 };
+
     // How many questions it can find at the most, before more bytes are taken in.
     ghost size: { Self → ℕ };
 
-    /// Takes a piece of the input in, where more is wanted; one without bytes is its end.
+    /// Takes a piece of the input in, where more is wanted; one without bytes is its end, and wants no memory.
     fn take_in(&mut self, alloc: Global, piece: &[u8]) -> Result<(), Memory>
-        ensures { OnOk result ((read : List ℕ) (questions : List Asked) → has_found self.old read false questions
+        ensures end { piece.now ≡ [] → IsOk result }
+        ensures taken { OnOk result ((read : List ℕ) (questions : List Asked) → has_found self.old read false questions
             → language.have_come read questions
             → has_found self.new (read ++ piece.now) (is_end piece.now) questions) };
 
@@ -91,6 +95,7 @@ pub trait Dialogue {
         ensures fails { IfErr result (λ fault. (asked : Asked) → asks question.now asked
             → FailsOne language fault (desk_state K.Keep desk.old) asked (desk_state K.Keep desk.new)) }
         ensures stop { result ≡ Err CallFault.Stopped → may_stop }
+        ensures memory { result ≡ Err CallFault.Memory → may_want }
         ensures set { StaysSet K.same_settings desk.old desk.new }
         ensures goes { Goes K.Keep desk.old desk.new };
 
@@ -136,6 +141,7 @@ fn answer_come<D: Dialogue, K: Keep, W: Write>(
         (desk_state K.Keep desk.old) questions written (desk_state K.Keep desk.new))) }
     ensures read { result ≢ Err ScriptFault.Read }
     ensures stop { result ≡ Err ScriptFault.Stopped → D.may_stop }
+    ensures memory { result ≡ Err ScriptFault.Memory → D.may_want }
     ensures goes { Goes K.Keep desk.old desk.new }
 {
     desk.in_order();
@@ -156,10 +162,11 @@ fn answer_come<D: Dialogue, K: Keep, W: Write>(
 /// greatest count.
 ///
 /// After a fault what is written is a beginning of the answers to what was read: those to all that the desk has done,
-/// but for the last of them after a failing write. So want of memory leaves nothing done and not told. `Stopped` is
-/// answered only where the desk is stopped. Of a desk that was not stopped before, over an honest disk, a stop then leaves
-/// the rows before the request that stopped it, or after it, and in every other case the rows of the desk's ledger alone.
-/// A desk that was stopped before changes nothing.
+/// but for the last of them after a failing write. So want of memory leaves nothing done and not told. Where it is not an
+/// answer that wanted memory, nothing was read, or all that came whole before the last piece is answered and nothing of the
+/// piece. `Stopped` is answered only where the desk is stopped. Of a desk that was not stopped before, over an honest disk,
+/// a stop then leaves the rows before the request that stopped it, or after it, and in every other case the rows of the
+/// desk's ledger alone. A desk that was stopped before changes nothing.
 pub fn converse<D: Dialogue, K: Keep, R: Read, W: Write>(
     alloc: Global,
     dialogue: &mut D,
@@ -178,6 +185,9 @@ pub fn converse<D: Dialogue, K: Keep, R: Read, W: Write>(
         (desk_state K.Keep desk.new)
         (streams (R.remaining reader.old) (R.remaining reader.new) (W.contents writer.old) (W.contents writer.new))) }
     ensures stop { result ≡ Err ScriptFault.Stopped → D.may_stop }
+    ensures memory { result ≡ Err ScriptFault.Memory → D.may_want ⊎ EndsUntaken D.language (desk_state K.Keep desk.old)
+        (desk_state K.Keep desk.new)
+        (streams (R.remaining reader.old) (R.remaining reader.new) (W.contents writer.old) (W.contents writer.new)) }
     ensures goes { Goes K.Keep desk.old desk.new }
 {
     desk.in_order();

@@ -1,7 +1,7 @@
 //! The headline: wherever a run or a script is cut, an opening finds the ledger after a prefix of what was asked that
 //! holds all that was answered, and from there every future is honoured.
 
-ghost use Rattle.std.specs.Prelude.{◌≡◌, ◌≢◌, ◌⊎◌, ◌↔◌, ◌≤◌, ◌+◌, ◌++◌, ◌∷◌, [], false, Err, Ok, List, length, IfErr, IfOk, IfSome, IsTrue, OnOk};
+ghost use Rattle.std.specs.Prelude.{◌≡◌, ◌≢◌, ◌⊎◌, ◌↔◌, ◌≤◌, ◌+◌, ◌-◌, ◌++◌, ◌∷◌, [], false, Err, Ok, List, drop, length, take, IfErr, IfOk, IfSome, IsTrue, OnOk};
 ghost use Rattle.words.specs.declared.command.Request.{Request as RequestOf};
 ghost use Rattle.words.specs.declared.reply.Reply.{Reply as ReplyOf};
 ghost use Rattle.book.specs.Answers.{Runs};
@@ -10,12 +10,13 @@ ghost use Rattle.book.specs.Good.{Good};
 ghost use Rattle.book.specs.Ledger.{Ledger};
 ghost use Rattle.book.specs.Rows.{Content, IsRowsOf};
 ghost use Rattle.desk.specs.Desk.{DeskView, desk_state};
-ghost use Rattle.desk.specs.Headline.{IsFoundAfter, IsFoundAfterCuts, IsFoundAfterLines, IsRunOf, LeavesRowsOf, all_replies, answered};
-ghost use Rattle.desk.specs.Opening.{keeper_after};
+ghost use Rattle.desk.specs.Headline.{GoesOnWith, IsFoundAfter, IsFoundAfterCuts, IsFoundAfterLines, IsRunOf, LeavesRowsOf, TellsEnding, all_lines, all_replies, answered};
+ghost use Rattle.desk.specs.Opening.{IsUnopened, keeper_after};
 ghost use Rattle.desk.specs.Resuming.{Resumes, ResumableAt};
 ghost use Rattle.desk.specs.Dialogue.{EndsCut};
 ghost use Rattle.desk.specs.Script.{WritesText, lines};
 ghost use Rattle.desk.specs.Streams.{streams};
+ghost use Rattle.desk.specs.Text.{RepliesAll, items_of};
 ghost use Rattle.keep.specs.Content.{IsAmong};
 
 use crate::desk::Desk;
@@ -29,9 +30,9 @@ use words::Request;
 
 /// Runs the requests, and gives the keeper up where that ends.
 ///
-/// The replies are the model's. Over an honest disk a stop leaves then nothing but the rows of the ledger after the
-/// requests that were answered, or, where the run ended `Stopped`, those after one more. The keeper is stopped exactly
-/// in that case.
+/// The replies and their lines are the model's. Over an honest disk a stop leaves then nothing but the rows of the ledger
+/// after the requests that were answered, or, where the run ended `Stopped`, those after one more. The keeper is stopped
+/// exactly in that case.
 pub fn run_and_stop<K: Keep>(alloc: Global, desk: Desk<K>, requests: &[Request]) -> (Run, K)
     requires { K.stopped desk.keep ≡ false }
     ensures replies { IsRunOf desk.ledger requests.now result.0 }
@@ -51,7 +52,8 @@ pub fn run_and_stop<K: Keep>(alloc: Global, desk: Desk<K>, requests: &[Request])
 ///
 /// Every future of the ledger found is honoured. While the disk is honest, its rows are in every list that bounds what
 /// a stop leaves; and where that is the rows of good ledgers, the opening fails, if at all, for memory or by the store.
-/// Whether it fails or not, another stop leaves nothing but one of that list.
+/// Whether it fails or not, another stop leaves nothing but one of that list. A fault is told as `Desk::open` tells it of
+/// the keeper that recovered: with `Store` the one that is given back is stopped.
 pub fn cut_and_open<K: Recover>(
     alloc: Global,
     keep: K,
@@ -63,6 +65,7 @@ pub fn cut_and_open<K: Recover>(
         → ∥ ((x : Content) × IsAmong these x × K.leaves (keeper_after r) (x ∷ [])) ∥₁) }
     ensures refused { IfSome result (λ r. K.is_honest (keeper_after r) → LeavesRowsOf (K.leaves keep) Good
         → IfErr r (λ e. (e.0 ≡ OpenFault.Memory) ⊎ (e.0 ≡ OpenFault.Store))) }
+    ensures fault { IfSome result (λ r. IfErr r (λ e. (recovered : K) × IsUnopened K.Keep recovered e.0 e.1)) }
     ensures honours { IfSome result (λ r. IfOk r (λ again. Good again.ledger × Honours again.ledger
         × HonoursAlways again.ledger)) }
     ensures going { IfSome result (λ r. IfOk r (λ again. K.stopped again.keep ≡ false)) }
@@ -75,11 +78,12 @@ pub fn cut_and_open<K: Recover>(
 /// Runs the requests, is cut off there, and opens the desk that is found then: the replies, and that desk, or None where
 /// the keeper does not recover.
 ///
-/// The replies are the model's. While the disk is honest: the ledger found is the one after the requests that were
-/// answered, or after one more, and that only where the run ended `Stopped`; the opening fails, if at all, for memory or
-/// by the store, and leaves then nothing but rows of such ledgers. From the ledger found, whatever uses, releases,
-/// commits, aborts, expiries and firm marks come, in any order, each field is within its bounds and no order that is open
-/// then is refused its commit under a new key.
+/// The replies and their lines are the model's. While the disk is honest: the ledger found is the one after the requests
+/// that were answered, or after one more, and that only where the run ended `Stopped`; the opening fails, if at all, for
+/// memory or by the store, and leaves then nothing but rows of such ledgers. From the ledger found, whatever uses,
+/// releases, commits, aborts, expiries and firm marks come, in any order, each field is within its bounds and no order
+/// that is open then is refused its commit under a new key. The run ended `Stopped` exactly where the keeper that was cut
+/// off was stopped; a fault is told as `cut_and_open` tells it.
 pub fn run_cut_and_open<K: Recover>(
     alloc: Global,
     desk: Desk<K>,
@@ -94,6 +98,9 @@ pub fn run_cut_and_open<K: Recover>(
         → IfErr r (λ e. (e.0 ≡ OpenFault.Memory) ⊎ (e.0 ≡ OpenFault.Store))) }
     ensures left { IfSome result.1 (λ r. K.is_honest (keeper_after r)
         → ∥ LeavesRowsOf (K.leaves (keeper_after r)) (IsFoundAfter desk.ledger requests.now result.0) ∥₁) }
+    ensures stop { (cut : K) × TellsEnding K.Keep result.0 cut
+        × IfSome result.1 (λ r. K.is_honest (keeper_after r) → K.is_honest cut) }
+    ensures fault { IfSome result.1 (λ r. IfErr r (λ e. (recovered : K) × IsUnopened K.Keep recovered e.0 e.1)) }
     ensures honours { IfSome result.1 (λ r. IfOk r (λ again. Good again.ledger × Honours again.ledger
         × HonoursAlways again.ledger)) }
     ensures going { IfSome result.1 (λ r. IfOk r (λ again. K.stopped again.keep ≡ false)) }
@@ -112,19 +119,20 @@ fn go_on<K: Keep>(
 ) -> Result<(Desk<K>, Run), (OpenFault, K)>
     requires counted { 1 ≤ first }
     requires within { first ≤ length requests.now + 1 }
+    requires going { IfOk opened (λ again. K.stopped again.keep ≡ false) }
     ensures resumed { IfOk result (λ after. K.is_honest after.0.keep → (again : DeskView K) × (opened ≡ Ok again)
         × K.is_honest again.keep × ((A : Ledger) → ResumableAt A requests.now first again.ledger
         → Resumes A requests.now first after.1.replies.items after.0.ledger)) }
     ensures rest { IfOk result (λ after. after.1.ending ≡ Ending.All
         ↔ first + answered after.1 ≡ length requests.now + 1) }
     ensures refused { IfErr result (λ e. opened ≡ Err e) }
-    ensures good { IfOk result (λ after. Good after.0.ledger) }
+    ensures behind { IfOk result (λ after. GoesOnWith K.Keep (drop (first - 1) requests.now) after.1 after.0) }
 {
     match opened {
         Ok(again) => {
             let mut again = again;
-            let rest = again.resume(alloc, requests, first);
             again.in_order();
+            let rest = again.resume(alloc, requests, first);
             Ok((again, rest))
         }
         Err(refused) => Err(refused),
@@ -134,9 +142,11 @@ fn go_on<K: Keep>(
 /// Runs the requests, is cut off there, opens the desk that is found then, and goes on behind the last reply: the
 /// replies before the cut, and the desk with the replies after it, or None where the keeper does not recover.
 ///
-/// The replies before the cut are the model's. While the disk is honest, those after it are those which a run that was
-/// never cut would give behind them, however many they are; where they are all that is left, the ledger is the one after
-/// that run. The opening fails, if at all, for memory or by the store.
+/// The replies before the cut, and their lines, are the model's, and those after it are the model's from the ledger found.
+/// While the disk is honest, these are those which a run that was never cut would give behind them, however many they
+/// are; where they are all that is left, the ledger is the one after that run. The opening fails then, if at all, for
+/// memory or by the store; a fault is told as `cut_and_open` tells it. Either run ended `Stopped` exactly where its keeper
+/// was stopped.
 pub fn run_cut_and_resume<K: Recover>(
     alloc: Global,
     desk: Desk<K>,
@@ -153,7 +163,10 @@ pub fn run_cut_and_resume<K: Recover>(
         ↔ answered result.0 + answered after.1 ≡ length requests.now)) }
     ensures refused { IfSome result.1 (λ r. IfErr r (λ e. K.is_honest e.1
         → (e.0 ≡ OpenFault.Memory) ⊎ (e.0 ≡ OpenFault.Store))) }
-    ensures good { IfSome result.1 (λ r. IfOk r (λ after. Good after.0.ledger)) }
+    ensures behind { IfSome result.1 (λ r. IfOk r (λ after. GoesOnWith K.Keep (drop (answered result.0) requests.now)
+        after.1 after.0)) }
+    ensures stop { (cut : K) × TellsEnding K.Keep result.0 cut }
+    ensures fault { IfSome result.1 (λ r. IfErr r (λ e. (recovered : K) × IsUnopened K.Keep recovered e.0 e.1)) }
 {
     let (run, opened) = run_cut_and_open(alloc, desk, requests, options);
     let first = run.replies.len() + 1;
@@ -164,11 +177,14 @@ pub fn run_cut_and_resume<K: Recover>(
 }
 
 /// However often a run is cut, and gone on with each time at the ledger found and behind the last reply: what is found
-/// is the ledger after all that was answered, or after one more; and with all answered, the replies and the ledger are
-/// those of a run that was never cut.
+/// is the ledger after all that was answered, or after one more; what was answered in all, however much, and its lines
+/// are those of a run that was never cut; and with all answered, the ledger is the one after that.
 pub fn any_number_of_cuts()
     ensures found { (A B : Ledger) (requests : List RequestOf) (runs : List Run) → IsFoundAfterCuts A requests runs B
         → ResumableAt A requests (length (all_replies runs) + 1) B }
+    ensures told { (A B : Ledger) (requests : List RequestOf) (runs : List Run) → IsFoundAfterCuts A requests runs B
+        → (last : Ledger) × Runs A (take (length (all_replies runs)) requests) (all_replies runs) last
+        × RepliesAll A (items_of (take (length (all_replies runs)) requests)) (all_lines runs) last }
     ensures same { (A B last : Ledger) (requests : List RequestOf) (runs : List Run) (replies : List ReplyOf)
         → IsFoundAfterCuts A requests runs B → length (all_replies runs) ≡ length requests
         → Runs A requests replies last → (all_replies runs ≡ replies) × (B ≡ last) }
@@ -208,7 +224,8 @@ pub fn script_and_stop<K: Keep, R: Read, W: Write>(
 /// While the disk is honest, and where the reader and the writer tell their bytes: the ledger found is the one after a
 /// prefix of the lines that were read which holds every one whose reply line was written whole, and at most one more;
 /// after a script that ended `Ok` it is the one after all its lines. The opening fails, if at all, for memory or by the
-/// store, and every future of the ledger found is honoured.
+/// store, and every future of the ledger found is honoured. A fault is told as `cut_and_open` tells it, and how the script
+/// ended as `script_and_stop` tells it, of the keeper that was cut off.
 pub fn script_cut_and_open<K: Recover, R: Read, W: Write>(
     alloc: Global,
     desk: Desk<K>,
@@ -226,11 +243,15 @@ pub fn script_cut_and_open<K: Recover, R: Read, W: Write>(
     ensures whole { OnOk result.0 (IfSome result.1 (λ r. K.is_honest (keeper_after r) → IfOk r (λ again.
         ∥ WritesText desk.ledger again.ledger (streams (R.remaining reader.old) (R.remaining reader.new)
         (W.contents writer.old) (W.contents writer.new)) ∥₁))) }
+    ensures cut { IfErr result.0 (λ fault. (last : Ledger) × (keep : K) × EndsCut lines fault (desk_state K.Keep desk)
+        (desk_state K.Keep (record { ledger = last; keep = keep }))
+        (streams (R.remaining reader.old) (R.remaining reader.new) (W.contents writer.old) (W.contents writer.new))) }
     ensures refused { IfSome result.1 (λ r. K.is_honest (keeper_after r)
         → IfErr r (λ e. (e.0 ≡ OpenFault.Memory) ⊎ (e.0 ≡ OpenFault.Store))) }
     ensures left { IfSome result.1 (λ r. K.is_honest (keeper_after r) → ∥ LeavesRowsOf (K.leaves (keeper_after r))
         (IsFoundAfterLines desk.ledger (streams (R.remaining reader.old) (R.remaining reader.new)
         (W.contents writer.old) (W.contents writer.new))) ∥₁) }
+    ensures fault { IfSome result.1 (λ r. IfErr r (λ e. (recovered : K) × IsUnopened K.Keep recovered e.0 e.1)) }
     ensures honours { IfSome result.1 (λ r. IfOk r (λ again. Good again.ledger × Honours again.ledger
         × HonoursAlways again.ledger)) }
     ensures going { IfSome result.1 (λ r. IfOk r (λ again. K.stopped again.keep ≡ false)) }

@@ -115,14 +115,15 @@ impl<K: Keep> Desk<K> {
     ///
     /// The ledger is the one after the requests that are answered. Of a desk that was not stopped before, a stop leaves
     /// its rows alone, or, where the run ended `Stopped`, those or the rows after one request more, which is accepted. A
-    /// desk that was stopped before answers none and changes nothing.
+    /// desk that was stopped before answers none, says so where there is one, and changes nothing.
     pub fn run(&mut self, alloc: Global, requests: &[Request]) -> Run
         ensures replies { Runs self.old.ledger (take
             (length result.replies.items) requests.now) result.replies.items self.new.ledger }
         ensures lines { RepliesAll self.old.ledger (items_of (take (length result.replies.items) requests.now))
             result.lines.items self.new.ledger }
         ensures all { result.ending ≡ Ending.All ↔ length result.replies.items ≡ length requests.now }
-        ensures refused { IsTrue (K.stopped self.old.keep) → result.replies.items ≡ [] }
+        ensures refused { IsTrue (K.stopped self.old.keep) → (result.replies.items ≡ [])
+            × (1 ≤ length requests.now → result.ending ≡ Ending.Stopped) }
         ensures stop { TellsStop (result.ending ≡ Ending.Stopped) (desk_state K.Keep self.old)
             (desk_state K.Keep self.new) }
         ensures either { K.stopped self.old.keep ≡ false → result.ending ≡ Ending.Stopped → K.is_honest self.new.keep
@@ -133,6 +134,9 @@ impl<K: Keep> Desk<K> {
         ensures goes { Goes K.Keep self.old self.new }
     {
         self.in_order();
+        if self.is_stopped() && !requests.is_empty() {
+            return Run::new(alloc, Ending::Stopped);
+        }
         let mut run = Run::new(alloc, Ending::All);
         for request in requests {
             let Ok(()) = run.make_room(1) else {
@@ -157,7 +161,7 @@ impl<K: Keep> Desk<K> {
     /// The replies are then those that the whole run from that ledger would give, and with `All` the ledger is the one
     /// after it. After `Memory` and `Stopped` as after `run`; the next to be resumed is the one behind the replies, at
     /// the desk's ledger, and after `Stopped` at whatever ledger an opening finds. A desk that was stopped before
-    /// answers none and changes nothing.
+    /// answers none, says so where there is one, and changes nothing.
     pub fn resume(&mut self, alloc: Global, requests: &[Request], first: usize) -> Run
         requires counted { 1 ≤ first }
         requires within { first ≤ length requests.now + 1 }
@@ -174,7 +178,8 @@ impl<K: Keep> Desk<K> {
             × RepliesAll self.old.ledger (items_of (take (length result.replies.items) rest)) result.lines.items
             self.new.ledger }
         ensures all { result.ending ≡ Ending.All ↔ first + length result.replies.items ≡ length requests.now + 1 }
-        ensures refused { IsTrue (K.stopped self.old.keep) → result.replies.items ≡ [] }
+        ensures refused { IsTrue (K.stopped self.old.keep) → (result.replies.items ≡ [])
+            × (first ≤ length requests.now → result.ending ≡ Ending.Stopped) }
         ensures stop { TellsStop (result.ending ≡ Ending.Stopped) (desk_state K.Keep self.old)
             (desk_state K.Keep self.new) }
         ensures goes { Goes K.Keep self.old self.new }

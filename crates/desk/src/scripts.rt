@@ -49,6 +49,8 @@ impl Dialogue for LineDialogue {
 
     ghost may_stop = { Unit {0} };
 
+    ghost may_want = { Unit {0} };
+
     ghost size = { λ s. length (into_iter_items s.waiting) + length (unended s.lines) };
 
     fn take_in(&mut self, alloc: Global, piece: &[u8]) -> Result<(), Memory> {

@@ -1,8 +1,10 @@
 -- Items in blocks, each full but the last.
 use Rattle.index.proofs.Prelude.{Each, List, Some, [], add-one, append_assoc, ap, arith, get_or, insert, length, length-append, length-set, map, map-append, none-some, option_map, refl, same_Some, set, slice_get, slice_get-map, slice_get_read, subst, suc, sym, zero, zero-add, ℕ, ◌++◌, ◌+◌, ◌*◌, ◌-◌, ◌<◌, ◌^◌, ◌∙◌, ◌∷◌, ◌≡◌, ◌≤◌}
 use Rattle.std.specs.Prelude.{min}
+use Rattle.std.proofs.Common.{drop, take}
+use Rattle.std.proofs.Math.Seq.{drop-append_seam, take-append_seam}
 use Rattle.std.proofs.Common.{◌/◌, ◌%◌}
-use Rattle.std.proofs.lemmas.List.{length-map, map-set, set-append_left, set-append_right}
+use Rattle.std.proofs.lemmas.List.{length-drop, length-map, map-set, set-append_left, set-append_right}
 use Rattle.std.proofs.lemmas.List.Edits.{insert-append_left, insert-append_right, length-insert}
 use Rattle.index.specs.BlockList.{IsFilled, IsInBlocks, joined}
 
@@ -13,6 +15,13 @@ length-joined n (b ∷ bs) h = omega (arith, length-append b (joined bs), h.0, l
 pub fits : {T : Type 0} (n : ℕ) (bs : List (List T)) → IsFilled n bs → n ≤ 1024 * length bs
 fits n [] h = omega (arith, h)
 fits n (b ∷ bs) h = omega (arith, fits (n - 1024) bs h.1)
+
+-- an item put in by turning a block: to the front, the item before it, and back
+pub turned_back : {T : Type 0} (s l : List T) (place n : ℕ) (x : T) → place ≤ length s → n + place ≡ length s + 1 → l ≡ x ∷ (drop place s ++ take place s) → drop n l ++ take n l ≡ insert s place x
+turned_back s l place n x within whole is =
+    let behind = x ∷ drop place s in
+    let len : n ≡ length behind = omega (arith, length-drop place s) in
+    rw (is, len) (ap (λ r. r ++ take (length behind) (behind ++ take place s)) (drop-append_seam behind (take place s)) ∙ ap (λ r. take place s ++ r) (take-append_seam behind (take place s)))
 
 -- ---- the k-th block
 
@@ -120,6 +129,12 @@ each_at P [] i x all there = absurd (none-some _ there)
 each_at P (y ∷ l) zero x all there = subst P (same_Some _ _ there) all.0
 each_at P (y ∷ l) (suc i) x all there = each_at P l i x all.1 there
 
+-- another block of the same size
+pub same_sizes : {X : Type 0} (capacity : X → ℕ) (xs : List X) (k : ℕ) (b c : X) → k < length xs → b ≡ get_or xs k b → capacity c ≡ capacity b → map capacity (set xs k c) ≡ map capacity xs
+same_sizes capacity [] k b c short is same = absurd (omega arith)
+same_sizes capacity (x ∷ xs) zero b c short is same = ap (λ n. n ∷ map capacity xs) (same ∙ ap capacity is)
+same_sizes capacity (x ∷ xs) (suc k) b c short is same = ap (λ l. capacity x ∷ l) (same_sizes capacity xs k b c (omega arith) is same)
+
 -- ---- one step of the way, in a list of blocks
 
 module _ {X T : Type 0} (items : X → List T) (capacity : X → ℕ) (goal : List T) (n : ℕ) (xs : List X) (k place : ℕ) (x : T) (way : IsOnTheWay goal n (map items xs) (map capacity xs) k place x) where
@@ -140,12 +155,15 @@ module _ {X T : Type 0} (items : X → List T) (capacity : X → ℕ) (goal : Li
     pub roomy : 1024 ≤ capacity b
     roomy = each_at (λ c. 1024 ≤ c) (map capacity xs) k (capacity b) way.lie.roomy (slice_get-map capacity xs k ∙ ap (option_map capacity) (slice_get_read xs _ k b refl is_block is))
 
-    module _ (c : X) (wide : capacity b ≤ capacity c) where
+    module _ (c : X) (same_size : capacity c ≡ capacity b) where
       few : length (set (map items xs) k (items c)) ≤ 2 ^ 22
       few = rw (length-set (map items xs) k (items c)) way.lie.few
 
       roomy_still : Each (λ c. 1024 ≤ c) (set (map capacity xs) k (capacity c))
-      roomy_still = each_set (λ c. 1024 ≤ c) (map capacity xs) k (capacity c) way.lie.roomy (omega (arith, roomy, wide))
+      roomy_still = each_set (λ c. 1024 ≤ c) (map capacity xs) k (capacity c) way.lie.roomy (omega (arith, roomy, same_size))
+
+      pub sizes_stay : map capacity (set xs k c) ≡ map capacity xs
+      sizes_stay = same_sizes capacity xs k b c is_block is same_size
 
       pub through : (last : T) → length (items b) ≡ 1024 → items c ++ last ∷ [] ≡ insert (items b) place x → IsOnTheWay goal n (map items (set xs k c)) (map capacity (set xs k c)) (k + 1) 0 last
       through last full put =

@@ -12,7 +12,6 @@ use Rattle.std.proofs.lemmas.List.Sorted.{All-permutation, IsPermutation-insert,
 use Rattle.std.proofs.lemmas.Cmp.{alike_right, eq_by_cmp_equiv, tied_back}
 use Rattle.std.proofs.lemmas.List.Edits.{insert_end}
 use Rattle.std.proofs.lemmas.Map.Entries.{length-keys_of, lookup_at_gap, lookup_from_place}
-use Rattle.index.specs.BlockList.{Items}
 use Rattle.index.specs.InOrder.{IsAt, IsKeyOrder, set_value_at}
 
 -- ---- orders of so many indexes
@@ -169,7 +168,7 @@ has_room n entries order room = (omega arith, omega arith)
 -- ---- keys among entries in their order
 
 module _ {K V : Type 0} where
-  pub empty_order : (cmp : K → K → Ordering) (es : List (K × V)) (order : Items ℕ) → es ≡ [] → order ≡ record { items = []; capacity = 0 } → IsKeyOrder cmp es order.items
+  pub empty_order : (cmp : K → K → Ordering) (es : List (K × V)) (order : List ℕ) → es ≡ [] → order ≡ [] → IsKeyOrder cmp es order
   unfolding IsStrictlySortedBy
   empty_order cmp es order none no_order = rw (none, no_order) (record { each_once = IsPermutation-refl []; rising = tt })
 

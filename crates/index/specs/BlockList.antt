@@ -2,10 +2,20 @@
 use Rattle.std.specs.Prelude.{◌≡◌, ℕ, [], ◌∷◌, ◌++◌, ◌-◌, ◌^◌, ◌≤◌, min, List, length}
 use Rattle.std.specs.List.{AllByRecursion}
 
--- what contracts see: the items, and how many fit without memory
+-- the memory that is kept: for how many blocks the table has slots, and for how many items each block
+pub record BlockStorage : Type 0 where
+  pub table : ℕ
+  pub blocks : List ℕ
+
+-- none
+abbrev pub no_blocks : BlockStorage
+no_blocks = record { table = 0; blocks = [] }
+
+-- what contracts see: the items, how many fit without memory, and the memory that is kept
 pub record Items (T : Type 0) : Type 0 where
   pub items : List T
   pub capacity : ℕ
+  pub storage : BlockStorage
 
 -- the items of all blocks
 abbrev pub joined : {T : Type 0} → List (List T) → List T

@@ -5,6 +5,7 @@ ghost use Rattle.std.specs.Fn.{ComputesKey};
 ghost use Rattle.std.specs.List.{insert};
 ghost use Rattle.std.specs.List.Sorted.{IsBinarySearchResult, IsSearchInRange};
 ghost use Rattle.std.specs.VecDeque.{deque_capacity};
+ghost use Rattle.index.specs.BlockList.{no_blocks};
 
 use std::alloc::{AllocError, Global};
 use std::cmp::Ordering;
@@ -17,7 +18,8 @@ const BLOCK_LEN: usize = 1024;
 /// How many items there can be.
 const MAX_LEN: usize = 1 << 32;
 
-/// A list in blocks, each of them full but the last. Contracts see the items, and how many fit without memory.
+/// A list in blocks, each of them full but the last. Contracts see the items, how many fit without memory, and the
+/// memory that is kept.
 #[derive(Drop)]
 pub struct BlockList<T> {
     blocks: Vec<VecDeque<T>>,
@@ -25,7 +27,7 @@ pub struct BlockList<T> {
 }
 
 impl<T> Model for BlockList<T> {
-    ghost use Rattle.std.specs.Prelude.{◌*◌, map, vec_len};
+    ghost use Rattle.std.specs.Prelude.{◌*◌, map, vec_capacity, vec_len};
     ghost use Rattle.std.specs.VecDeque.{deque_capacity};
     ghost use Rattle.index.specs.BlockList.{IsInBlocks, Items, joined};
 
@@ -34,32 +36,46 @@ impl<T> Model for BlockList<T> {
     ghost view = { λ m. record {
       items = joined (map (λ b. b.items) m.blocks.items);
       capacity = 1024 * vec_len m.blocks;
+      storage = record { table = vec_capacity m.blocks; blocks = map deque_capacity m.blocks.items };
     } };
 
     ghost invariant = { λ m. IsInBlocks m.len (map (λ b. b.items) m.blocks.items) (map deque_capacity m.blocks.items) };
 }
 
-/// Puts an item into a full block, and gives back the last.
+/// Puts an item into a block that has room. Takes no memory.
+fn put_in<T: Drop>(block: &mut VecDeque<T>, place: usize, item: T)
+    requires place { place ≤ length block.old.items }
+    requires room { length block.old.items < deque_capacity block.old }
+    ensures items { block.new.items ≡ insert block.old.items place item }
+    ensures storage { deque_capacity block.new ≡ deque_capacity block.old }
+{
+    // `VecDeque::insert` does not say that it takes no memory
+    block.rotate_left(place);
+    let Ok(()) = block.push_front(item) else {
+        unreachable!()
+    };
+    block.rotate_right(place);
+}
+
+/// Puts an item into a full block, and gives back the last. Takes no memory.
 fn push_through<T: Drop>(block: &mut VecDeque<T>, place: usize, item: T) -> T
     requires full { length block.old.items ≡ 1024 }
     requires room { 1024 ≤ deque_capacity block.old }
     requires within { place < 1024 }
     ensures items { block.new.items ++ result ∷ [] ≡ insert block.old.items place item }
-    ensures room { deque_capacity block.old ≤ deque_capacity block.new }
+    ensures storage { deque_capacity block.new ≡ deque_capacity block.old }
 {
     let Some(last) = block.pop_back() else {
         unreachable!()
     };
-    let Ok(()) = block.insert(place, item) else {
-        unreachable!()
-    };
+    put_in(block, place, item);
     last
 }
 
 impl<T> BlockList<T> {
     /// No items. Takes no memory.
     pub fn new(alloc: Global) -> BlockList<T>
-        ensures { result ≡ record { items = []; capacity = 0 } }
+        ensures { result ≡ record { items = []; capacity = 0; storage = no_blocks } }
     {
         BlockList {
             blocks: Vec::new(alloc),
@@ -91,6 +107,7 @@ impl<T> BlockList<T> {
         requires { place < length self.old.items }
         ensures items { self.new.items ≡ slice_set self.old.items place item }
         ensures capacity { self.new.capacity ≡ self.old.capacity }
+        ensures storage { self.new.storage ≡ self.old.storage }
     {
         self.blocks[place / BLOCK_LEN][place % BLOCK_LEN] = item;
     }
@@ -145,6 +162,7 @@ impl<T> BlockList<T> {
         requires room { length self.old.items < self.old.capacity }
         ensures items { self.new.items ≡ insert self.old.items place item }
         ensures capacity { self.new.capacity ≡ self.old.capacity }
+        ensures storage { self.new.storage ≡ self.old.storage }
     {
         let mut index = place / BLOCK_LEN;
         let mut at = place % BLOCK_LEN;
@@ -154,9 +172,7 @@ impl<T> BlockList<T> {
             index += 1;
             at = 0;
         }
-        let Ok(()) = self.blocks[index].insert(at, item) else {
-            unreachable!()
-        };
+        put_in(&mut self.blocks[index], at, item);
         self.len += 1;
     }
 }

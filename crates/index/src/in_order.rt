@@ -7,7 +7,7 @@ ghost use Rattle.std.specs.Option.{option_copied, option_copied_mut};
 ghost use Rattle.std.specs.Map.{keys_of, lookup, values_of};
 ghost use Rattle.std.specs.BTreeMap.{insert_entry, is_at};
 ghost use Rattle.index.specs.Lends.{LendsAt, LendsUnder};
-ghost use Rattle.index.specs.InOrder.{Entries, IsAt, IsGap, compare_at};
+ghost use Rattle.index.specs.InOrder.{Entries, IsAt, IsGap, compare_at, no_storage};
 
 use crate::block_list::BlockList;
 use std::alloc::{AllocError, Global};
@@ -15,7 +15,7 @@ use std::cmp::Ordering;
 use std::marker::Model;
 
 /// Entries in the order of their keys. They lie as they came, under an index in that order. Contracts see them in
-/// the order of their keys, beside how many more fit without memory.
+/// the order of their keys, beside how many more fit without memory, and the memory that is kept.
 #[derive(Drop)]
 pub struct InOrder<K: Ord, V> {
     entries: Vec<(K, V)>,
@@ -31,6 +31,7 @@ impl<K: Ord, V> Model for InOrder<K, V> {
     ghost view = { λ m. record {
       entries = at_indexes m.entries.items m.order.items;
       room = room_left (vec_len m.entries) (vec_capacity m.entries) m.order.capacity;
+      storage = record { entries = vec_capacity m.entries; index = m.order.storage };
     } };
 
     ghost invariant = { λ m. IsKeyOrder K.cmp m.entries.items m.order.items };
@@ -49,7 +50,7 @@ fn compare_at<K: Ord, V>(entries: &[(K, V)], index: u32, key: &K) -> Ordering
 impl<K: Ord, V> InOrder<K, V> {
     /// No entries. Takes no memory.
     pub fn new(alloc: Global) -> InOrder<K, V>
-        ensures { result ≡ record { entries = []; room = 0 } }
+        ensures { result ≡ record { entries = []; room = 0; storage = no_storage } }
     {
         InOrder {
             entries: Vec::new(alloc),
@@ -156,6 +157,7 @@ impl<K: Ord, V> InOrder<K, V> {
         requires absent { lookup (is_at (K.cmp key)) self.old.entries ≡ None }
         ensures entries { self.new.entries ≡ insert_entry K.cmp self.old.entries key value }
         ensures room { self.new.room + 1 ≡ self.old.room }
+        ensures storage { self.new.storage ≡ self.old.storage }
     {
         let Err(place) = self.place(&key) else {
             unreachable!()
@@ -180,6 +182,7 @@ impl<K: Ord, V> InOrder<K, V> {
         ensures kept { IsSome (lookup (is_at (K.cmp key)) self.old.entries) → self.new.room ≡ self.old.room }
         ensures taken { lookup (is_at (K.cmp key)) self.old.entries ≡ None → self.new.room + 1 ≡ self.old.room }
         ensures rising { IsStrictlySortedBy K.cmp (keys_of self.old.entries) }
+        ensures storage { self.new.storage ≡ self.old.storage }
     {
         match self.get_mut(&key) {
             Some(there) => *there = value,

@@ -20,3 +20,4 @@ pub mod LaterTables
 pub mod PlainRows
 pub mod PlainChanges
 pub mod Upgrades
+pub mod NothingMore

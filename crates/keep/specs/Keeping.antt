@@ -1,6 +1,7 @@
 -- What a call of a keeper tells, and what it leaves.
 use Rattle.std.specs.Prelude.{◌≡◌, ◌≢◌, ◌⊎◌, Bool, false, List, [], ◌∷◌, IsTrue, OnOk, OnErr, Result, Err}
 use Rattle.sqlite.specs.Schema.{Schema}
+use Rattle.sqlite_trees.specs.Tree.{Trees}
 use Rattle.book.specs.Rows.{Content, IsInKeyOrder}
 use Rattle.book.specs.Tables.{content_of}
 use Rattle.book.specs.declared.rows.Tables.{Tables}
@@ -38,11 +39,12 @@ pub record TellsVersion {T : Type 0} (has_tables : Content → Type 0) (is_old :
   pub old_version : answer ≡ Err OldVersion → is_old
   pub only_old : is_old → answer ≢ Err Stopped → (answer ≡ Err OldVersion) ⊎ ((answer ≡ Err Memory) ⊎ (answer ≡ Err Store))
 
--- nothing is added to what a stop may leave
-pub record AddsNothing {K : Type 0} (leaves : K → List Content → Type 0) (may_leave : K → Content → Type 0) (old new : K)
-    : Type 0 where
+-- nothing is added to what a stop may leave, neither to the contents nor, of whatever version, to the trees
+pub record AddsNothing {K : Type 0} (leaves : K → List Content → Type 0) (may_leave : K → Content → Type 0)
+    (may_leave_trees : K → Trees → Type 0) (old new : K) : Type 0 where
   pub adds_nothing : (these : List Content) → leaves old these → leaves new these
   pub no_more : (x : Content) → may_leave new x → may_leave old x
+  pub no_more_trees : (trees : Trees) → may_leave_trees new trees → may_leave_trees old trees
 
 -- A store whose schema is that of no version is told and left as it is: `NotADesk` where one of the six names that each
 -- version has is no table's, and else `Store`.

@@ -19,6 +19,12 @@ pub leaves_something : (may_leave : Trees → Type 0) → ∥ ((trees : Trees) �
     → ⊥
 leaves_something may_leave some none = ∥∥₁_elim some (λ p q. absurd p) (λ left. (none left.0 left.1).2)
 
+-- a list of all that it leaves is one also with more in it
+pub leaves_more : (may_leave : Trees → Type 0) (these those : List Content)
+    → ((x : Content) → IsAmong these x → IsAmong those x) → LeavesOnly may_leave these → LeavesOnly may_leave those
+leaves_more may_leave these those more only trees left =
+    let found = only trees left in (found.0, found.1, more found.0 found.2)
+
 -- what it may leave is in every list of which it leaves nothing else, since trees have one content
 pub is_in_these : (may_leave : Trees → Type 0) (these : List Content) (x : Content) → LeavesOnly may_leave these
     → MayLeave may_leave x → IsAmong these x

@@ -35,7 +35,8 @@ pub trait Keep {
     ghost use Rattle.book.specs.Rows.{Content};
     ghost use Rattle.book.specs.Tables.{rows_among};
     ghost use Rattle.sqlite.specs.Schema.{Schema};
-    ghost use Rattle.keep.specs.Content.{IsAmong, IsTheRow};
+    ghost use Rattle.sqlite_trees.specs.Tree.{Trees};
+    ghost use Rattle.keep.specs.Content.{IsAmong, IsContent, IsTheRow};
     ghost use Rattle.keep.specs.Description.{desk_schema};
     ghost use Rattle.keep.specs.Keeping.{AddsNothing, GoesOn, IsFound, IsOrderedDesk, TellsOther, TellsVersion};
     ghost use Rattle.keep.specs.Transactions.{with_changes};
@@ -59,6 +60,9 @@ pub trait Keep {
     // A stop may leave this content now.
     ghost may_leave: { Self → Content → Type 0 };
 
+    // A stop may leave these trees of the store now, of whatever version they are, and also where they are no desk.
+    ghost may_leave_trees: { Self → Trees → Type 0 };
+
     // An earlier call failed.
     ghost stopped: { Self → Bool };
 
@@ -76,7 +80,8 @@ pub trait Keep {
         ensures { result ≡ stopped self.now };
 
     /// The content, each table in the order of its key. Changes nothing, and a stop then leaves that content alone.
-    /// Whatever is answered, nothing is added to what a stop may leave, and the keeper is set as it was.
+    /// Whatever is answered, nothing is added to what a stop may leave, of whatever version that is, and the keeper is
+    /// set as it was.
     ///
     /// `Stopped` on a stopped keeper; `OldVersion` only where the store is of an older version, and there nothing else
     /// but `Memory` and `Store`; `NotADesk` only where it does not hold the seven tables with one row of `desk` of the
@@ -90,7 +95,7 @@ pub trait Keep {
         ensures ordered { IfOk result IsOrderedDesk }
         ensures found { is_honest self.new → IfOk result (IsFound (holds self.old) (holds self.new) (leaves self.new)) }
         ensures version { is_honest self.new → TellsVersion (has_tables self.old) (is_old self.old) result }
-        ensures left { is_honest self.new → AddsNothing leaves may_leave self.old self.new }
+        ensures left { is_honest self.new → AddsNothing leaves may_leave may_leave_trees self.old self.new }
         ensures other { stopped self.old ≡ false → TellsOther (schema self.old) result
             (self.new ≡ when_stopped self.old) };
 
@@ -122,6 +127,14 @@ pub trait Keep {
 
     // A stop leaves something.
     ghost something: { (k : Self) → is_honest k → leaves k [] → ⊥ };
+
+    // A list of all that a stop may leave is one also with more in it.
+    ghost widens: { (k : Self) (these those : List Content) → ((x : Content) → IsAmong these x → IsAmong those x)
+        → leaves k these → leaves k those };
+
+    // Where it may leave trees that have a content of the newest version, it may leave that content.
+    ghost of_trees: { (k : Self) (trees : Trees) (x : Content) → may_leave_trees k trees → IsContent trees x
+        → may_leave k x };
 
     // What a stop may leave is in every list of which it leaves nothing else.
     ghost among: { (k : Self) (these : List Content) (x : Content) → leaves k these → may_leave k x → IsAmong these x };

@@ -19,5 +19,6 @@ pub use keep::{Keep, KeepFault};
 pub use opening::open_path;
 pub use sql::SqlKeep;
 pub use trials::{
-    PlainKeep, Recover, a_fuse_tells_no_lie, keepers_in_memory_are_honest, reopen, reopen_and_load,
+    PlainKeep, Recover, a_fuse_tells_no_lie, keepers_in_memory_are_honest,
+    keepers_leave_what_stores_leave, reopen, reopen_and_load,
 };

@@ -167,7 +167,14 @@ fn commit_to<S: Alter>(conn: &mut Connection<S>, changes: &[Change]) -> Result<(
 }
 
 impl<S: Alter> Keep for SqlKeep<S> {
-    ghost use Rattle.keep.specs.Laws.{holds_tables, is_in_these, old_is_apart, leaves_a_content, leaves_something};
+    ghost use Rattle.keep.specs.Laws.{
+      holds_tables,
+      is_in_these,
+      old_is_apart,
+      leaves_a_content,
+      leaves_more,
+      leaves_something,
+    };
 
     ghost is_honest = { λ k. HasCleanDisk (state S.Store k.connection) };
 
@@ -180,6 +187,8 @@ impl<S: Alter> Keep for SqlKeep<S> {
     ghost leaves = { λ k. LeavesOnly (state S.Store k.connection).may_leave };
 
     ghost may_leave = { λ k. MayLeave (state S.Store k.connection).may_leave };
+
+    ghost may_leave_trees = { λ k. (state S.Store k.connection).may_leave };
 
     ghost stopped = { λ k. k.stopped };
 
@@ -213,6 +222,10 @@ impl<S: Alter> Keep for SqlKeep<S> {
     ghost apart = { λ k. old_is_apart _ };
 
     ghost something = { λ k clean. leaves_something _ (S.survives k.connection.store clean) };
+
+    ghost widens = { λ k. leaves_more _ };
+
+    ghost of_trees = { λ k trees x left content. (trees, left, content) };
 
     ghost among = { λ k. is_in_these _ };
 

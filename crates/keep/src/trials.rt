@@ -5,6 +5,8 @@ mod laws;
 mod plain;
 mod recovery;
 
-pub use laws::{a_fuse_tells_no_lie, keepers_in_memory_are_honest};
+pub use laws::{
+    a_fuse_tells_no_lie, keepers_in_memory_are_honest, keepers_leave_what_stores_leave,
+};
 pub use plain::PlainKeep;
 pub use recovery::{Recover, reopen, reopen_and_load};

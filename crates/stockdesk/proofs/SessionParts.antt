@@ -205,7 +205,7 @@ module _ {K : Type 0} (g : Ghosts K) (keep : K) (was : Content → Type 0) (open
   stays : g.is_honest keep → IsLeft g opened keep → StillHolds g was keep
   stays honest left = record {
     held = λ going x there. (left.same going x).0 (opens.held (back honest) x there);
-    alone = λ x there. left.adds_nothing (x ∷ []) (opens.alone (back honest) x there);
+    alone = λ x there. left.adds.adds_nothing (x ∷ []) (opens.alone (back honest) x there);
   }
 
   pub starts_part : ((x : Content) → g.holds opened x → g.has_tables opened x) → (fault : Fault) (Untouched : Type 0) (PartDone : DeskState → DeskState → Type 0)

@@ -5,7 +5,7 @@ use Rattle.httparse.specs.Grammar.{ReadsRequest}
 use Rattle.httparse.proofs.GrammarLemmas.{ReadsRequest-append}
 use Rattle.std.proofs.KnownBytes.{Appends-nil, Consumes-nil}
 use Rattle.desk.specs.Desk.{DeskState, snapshot}
-use Rattle.desk.specs.Dialogue.{EndsCut, is_end}
+use Rattle.desk.specs.Dialogue.{EndsCut, EndsUntaken, is_end}
 use Rattle.desk.specs.Streams.{streams}
 use Rattle.desk.specs.declared.fault.ScriptFault.TheVariants as ScriptFault
 use Rattle.web.specs.Messages.{AreParts, BeginsWith, HasNoMessage, IsUnreadable, Message, Part, unreadable, whole}
@@ -190,4 +190,20 @@ nothing_cut desk r w = record {
     are_answers = refl;
     written_is = refl;
   };
+}
+
+-- memory is refused before anything is read
+pub nothing_taken : (desk : DeskState) (r w : Option (List ℕ)) → EndsUntaken http desk desk (streams r r w w)
+nothing_taken desk r w = record {
+  before = [];
+  piece = [];
+  questions = [];
+  kinds = [];
+  answers = [];
+  reads = Consumes-nil r;
+  short = omega arith;
+  first = λ e. refl;
+  come = none_yet;
+  are_answers = refl;
+  writes = Appends-nil w;
 }

@@ -1,8 +1,8 @@
 //! A connection, served.
 
-ghost use Rattle.std.specs.Prelude.{◌≡◌, ◌≢◌, [], IfErr, IfOk, drop, false, true};
+ghost use Rattle.std.specs.Prelude.{◌≡◌, ◌≢◌, [], Err, IfErr, IfOk, drop, false, true};
 ghost use Rattle.desk.specs.Desk.{Goes, desk_state, snapshot};
-ghost use Rattle.desk.specs.Dialogue.{BeginsTranscript, EndsCut, EndsWhole};
+ghost use Rattle.desk.specs.Dialogue.{BeginsTranscript, EndsCut, EndsUntaken, EndsWhole};
 ghost use Rattle.desk.specs.Streams.{streams};
 ghost use Rattle.web.specs.Intake.{IsMessageAt, IsMessageWithin};
 ghost use Rattle.web.specs.Messages.{Message, whole};
@@ -16,7 +16,7 @@ use crate::fixed::Fixed;
 use crate::intake::{Found, Next as Held, next_message};
 use crate::route::Routes;
 use crate::served::{Ending, Served, WebFault};
-use desk::{Answer, CallFault, Desk, Dialogue, Next, ScriptFault, converse};
+use desk::{Answer, Begin, CallFault, Desk, Dialogue, Next, ScriptFault, converse};
 use keep::Keep;
 use std::alloc::{AllocError, Global};
 use std::io::{Read, Write};
@@ -44,12 +44,8 @@ pub struct HttpDialogue {
     is_over: bool,
 }
 
-impl HttpDialogue {
-    /// A dialogue in which nothing has come yet.
-    pub fn open(alloc: Global) -> Result<HttpDialogue, Memory>
-        ensures new { IfOk result (λ dialogue. ⟦<HttpDialogue as Dialogue>⟧.has_found dialogue [] false []) }
-        ensures none { http.have_come [] [] }
-    {
+impl Begin for HttpDialogue {
+    fn begin(alloc: Global) -> Result<HttpDialogue, Memory> {
         let Ok(routes) = Routes::new(alloc) else {
             return Err(Memory);
         };
@@ -61,6 +57,12 @@ impl HttpDialogue {
         })
     }
 
+    ghost use Rattle.web.proofs.Parts.{none_yet};
+
+    ghost none_come = { none_yet };
+}
+
+impl HttpDialogue {
     /// What the message at the front asks for, which is let go.
     fn take_message(&mut self, alloc: Global, found: &Found) -> Asked
         requires { IsMessageWithin self.old.held.items found.now }
@@ -121,6 +123,8 @@ impl Dialogue for HttpDialogue {
         × AreFirst read ended found };
 
     ghost may_stop = { ⊥ };
+
+    ghost may_want = { ⊥ };
 
     ghost size = { λ s. left_to_find s.is_over s.held.items };
 
@@ -183,6 +187,8 @@ fn web_fault(fault: ScriptFault) -> WebFault
 ///
 /// What is written is the answers to all that was read, and `Served` has their count. After a fault it is a beginning
 /// of such: the answers to all that the desk has done, of which only a failing write leaves out the last one or its end.
+/// A message for which memory is refused is answered so. `Memory` is told only where it is refused for the router, before
+/// anything is read, or for a piece of the input: what came whole before that piece is answered, and nothing of it.
 /// A connection of 2^64 - 1 pieces ends as one whose reader fails. `stopped` is answered only where the desk is stopped.
 /// Of a desk that was not stopped before, over an honest disk, a stop then leaves the rows of its ledger or those after
 /// the command that was first answered `stopped`, and in every other case those of its ledger alone. A desk that was
@@ -202,6 +208,9 @@ pub fn serve<K: Keep, R: Read, W: Write>(
         (streams (R.remaining reader.old) (R.remaining reader.new) (W.contents writer.old) (W.contents writer.new))) }
     ensures begins { IfErr result (λ fault. BeginsTranscript http (snapshot (desk_state K.Keep desk.old))
         (streams (R.remaining reader.old) (R.remaining reader.new) (W.contents writer.old) (W.contents writer.new))) }
+    ensures memory { result ≡ Err WebFault.Memory → EndsUntaken http (desk_state K.Keep desk.old)
+        (desk_state K.Keep desk.new)
+        (streams (R.remaining reader.old) (R.remaining reader.new) (W.contents writer.old) (W.contents writer.new)) }
     ensures goes { Goes K.Keep desk.old desk.new }
 {
     desk.is_stopped();

@@ -10,7 +10,7 @@ use Rattle.words.specs.declared.command.Command.{Command}
 use Rattle.words.specs.declared.command.Request.{Request}
 use Rattle.book.specs.Answers.{FirstFailure, checks}
 use Rattle.book.specs.Changes.{amount_rows, state_row, mark_row}
-use Rattle.book.specs.Ledger.{Ledger, Order, open_orders, order_numbered, places}
+use Rattle.book.specs.Ledger.{Ledger, Order, order_numbered, places}
 use Rattle.book.specs.Model.{entry_row, move_of, order_of}
 use Rattle.book.specs.Next.{move_made, next}
 use Rattle.book.specs.Rows.{Content}
@@ -78,7 +78,6 @@ pub record Makes (A : Ledger) (r : Request) (p : PlanParts) : Type 0 where
   pub command : p.words ≡ r.command
   pub place : p.place ≡ places A + 1
   pub clock : p.clock ≡ (next A r.command).clock
-  pub open_count : p.open_count ≡ open_orders (next A r.command)
   pub moved : option_map move_of p.moved ≡ move_made p.place r.command
   pub orders : map order_of p.orders.items ≡ orders_made A r.command
   pub fields : map entry_row p.fields.entries ≡ field_rows A r

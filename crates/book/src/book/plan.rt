@@ -5,7 +5,7 @@ ghost use Rattle.book.specs.inner.StepsSeen.{Makes};
 ghost use Rattle.book.specs.inner.Checking.{IsFound};
 ghost use Rattle.book.specs.Next.{move_made, moved_at_once, transfer_lines};
 ghost use Rattle.book.specs.PlanAnswers.{Plans};
-ghost use Rattle.book.specs.Plans.{plan_of};
+ghost use Rattle.book.specs.inner.PlansSeen.{AreTold, plan_of};
 ghost use Rattle.book.specs.inner.RunningNumbers.{Accepts};
 ghost use Rattle.book.specs.Tables.{rows_among};
 ghost use Rattle.book.specs.Model.{move_of};
@@ -22,15 +22,14 @@ use std::alloc::Global;
 use std::marker::Model;
 use words::{Command, Memory, OpenLine, Refusal, Request};
 
-/// What an accepted request puts into the book: its key, its words and its place, the clock and how many orders are
-/// open then, and the fields, the move and the orders that it makes or changes.
+/// What an accepted request puts into the book: its key, its words and its place, the clock then, and the
+/// fields, the move and the orders that it makes or changes.
 #[derive(Drop)]
 pub(crate) struct PlanParts {
     pub key: Key,
     pub words: KeptWords,
     pub place: u64,
     pub clock: Moment,
-    pub open_count: usize,
     pub fields: InOrder<FieldName, FieldEntry>,
     pub moved: Option<MoveEntry>,
     pub orders: Vec<Order>,
@@ -45,12 +44,15 @@ pub struct Plan {
 }
 
 impl Model for Plan {
-    ghost use Rattle.book.specs.Plans.{PlanView, plan_of};
+    ghost use Rattle.book.specs.Plans.{PlanView};
     ghost use Rattle.book.specs.Tables.{rows_among};
+    ghost use Rattle.book.specs.inner.PlansSeen.{AreTold, plan_of};
 
     ghost Value = { PlanView };
 
     ghost view = { λ p. plan_of p.parts (rows_among p.changes.items) };
+
+    ghost invariant = { λ p. AreTold p.parts (rows_among p.changes.items) };
 }
 
 impl Plan {
@@ -71,14 +73,15 @@ impl Plan {
 
     /// How many fields it makes or changes.
     pub(crate) fn field_count(&self) -> usize
-        ensures { result ≡ length self.now.fields }
+        ensures { result ≡ length self.now.changes.fields }
     {
         self.parts.fields.len()
     }
 
     /// What it puts into the book, and the rows that change.
     pub(crate) fn into_parts(self) -> (PlanParts, Vec<Change>)
-        ensures { plan_of result.0 (rows_among result.1.items) ≡ self }
+        ensures parts { plan_of result.0 (rows_among result.1.items) ≡ self }
+        ensures told { AreTold result.0 (rows_among result.1.items) }
     {
         (self.parts, self.changes)
     }
@@ -199,7 +202,6 @@ impl Book {
             words,
             place,
             clock: self.clock_after(command),
-            open_count: self.open_after(&orders),
             fields,
             moved: move_made(place, command),
             orders,

@@ -3,6 +3,8 @@
 ghost use Rattle.std.specs.Prelude.{◌↔◌};
 ghost use Rattle.sqlite_disk.specs.Fuse.{inner_of};
 ghost use Rattle.sqlite_store.specs.FileStore.{files};
+ghost use Rattle.sqlite.specs.Held.{state};
+ghost use Rattle.sqlite_trees.specs.Tree.{Trees};
 ghost use Rattle.sqlite_wal.specs.Reads.{AreClean};
 ghost use Rattle.keep.specs.Keeper.{Keeper};
 ghost use Rattle.keep.specs.Plain.{Plain};
@@ -10,7 +12,7 @@ ghost use Rattle.keep.specs.Plain.{Plain};
 use super::plain::PlainKeep;
 use crate::keep::Keep;
 use crate::sql::SqlKeep;
-use sqlite::{FileStore, MemStore};
+use sqlite::{Alter, FileStore, MemStore};
 use sqlite_disk::{Disk, Fuse, Memory};
 
 /// A keeper in memory is honest, whatever was called on it: the one over SQLite's store in memory, the one over files
@@ -29,4 +31,10 @@ pub fn a_fuse_tells_no_lie<D: Disk>()
     ensures { (k : Keeper (FileStore (Fuse D) ⟦<Fuse<D> as Disk>⟧))
         → ⟦<SqlKeep<FileStore<Fuse<D>>> as Keep>⟧.is_honest k
         ↔ AreClean D.Disk (inner_of (files k.connection.store).0) (inner_of (files k.connection.store).1) }
+{}
+
+/// A stop may leave of a keeper over SQLite the trees that it may leave of the store, of whatever version, and no others.
+pub fn keepers_leave_what_stores_leave<S: Alter>()
+    ensures { (k : Keeper S) (trees : Trees) → ⟦<SqlKeep<S> as Keep>⟧.may_leave_trees k trees
+        ↔ (state S.Store k.connection).may_leave trees }
 {}

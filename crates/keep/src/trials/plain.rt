@@ -69,8 +69,9 @@ impl PlainKeep {
 
 impl Keep for PlainKeep {
     ghost use Rattle.std.specs.Prelude.{◌≡◌, ⊤};
-    ghost use Rattle.keep.specs.Content.{IsAmong};
+    ghost use Rattle.keep.specs.Content.{IsAmong, IsContent};
     ghost use Rattle.keep.specs.Laws.{holds_one, is_it};
+    ghost use Rattle.keep.specs.OneContent.{only_content};
 
     ghost is_honest = { λ _. ⊤ };
 
@@ -83,6 +84,8 @@ impl Keep for PlainKeep {
     ghost leaves = { λ k these. IsAmong these k.content };
 
     ghost may_leave = { λ k x. k.content ≡ x };
+
+    ghost may_leave_trees = { λ k trees. IsContent trees k.content };
 
     ghost stopped = { λ k. k.stopped };
 
@@ -152,6 +155,10 @@ impl Keep for PlainKeep {
     ghost apart = { λ _ _ old _. old };
 
     ghost something = { λ _ _ none. none };
+
+    ghost widens = { λ k _ _ more. more k.content };
+
+    ghost of_trees = { λ k trees x has other. only_content trees x k.content other has };
 
     ghost among = { λ k. is_it k.content };
 

@@ -91,11 +91,15 @@ pub trait Recover: Keep {
     /// How it is opened.
     type Options: Drop;
 
+    // Beside what it holds it is set as these options say.
+    ghost is_set: { Self.Options → Self → Type 0 };
+
     /// What the next open finds after a stop at this moment, or None where the open fails: a keeper that is not
-    /// stopped, and that holds one of the contents which the stop could leave; another stop leaves nothing but that. A
-    /// disk that is honest after the open was so before the stop.
+    /// stopped, is set as the options say, and holds one of the contents which the stop could leave; another stop leaves
+    /// nothing but that. A disk that is honest after the open was so before the stop.
     fn recover(self, alloc: Global, options: Self::Options) -> Option<Self>
         ensures going { IfSome result (λ again. Self.Keep.stopped again ≡ false) }
+        ensures settings { IfSome result (is_set options) }
         ensures honest { IfSome result (λ again. Self.Keep.is_honest again → Self.Keep.is_honest self) }
         ensures found { IfSome result (λ again. Self.Keep.is_honest again → (these : List Content)
             → Self.Keep.leaves self these → ∥ ((x : Content) × Self.Keep.holds again x × IsAmong these x) ∥₁) }
@@ -107,6 +111,9 @@ pub trait Recover: Keep {
 impl<D: Crash + Drop> Recover for SqlKeep<FileStore<D>> {
     type Options = Options;
 
+    // its connection is as a new one, whose statements may take any number of steps
+    ghost is_set = { λ _ k. k.connection.step_limit ≡ None };
+
     fn recover(self, alloc: Global, options: Options) -> Option<Self> {
         reopen(alloc, self, options)
     }
@@ -115,6 +122,8 @@ impl<D: Crash + Drop> Recover for SqlKeep<FileStore<D>> {
 /// A stop between commits, or at the one that fails. Its next commit that fails, and whether that lands, are given.
 impl Recover for PlainKeep {
     type Options = (Option<u64>, bool);
+
+    ghost is_set = { λ options k. (k.fails_in ≡ options.0) × (k.lands ≡ options.1) };
 
     fn recover(self, _alloc: Global, options: (Option<u64>, bool)) -> Option<Self> {
         let (fail_at, lands) = options;

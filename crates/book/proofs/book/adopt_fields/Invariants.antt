@@ -6,5 +6,6 @@ abbrev pub invariant-loop-place : goal.invariant-loop-place
 invariant-loop-place l = record {
   put : l.fields.entries ≡ with_entries (take l.place l.changed.entries) l.initial.fields.entries;
   room : length l.changed.entries ≤ l.place + l.fields.room;
+  storage : l.fields.storage ≡ l.initial.fields.storage;
   no_more : l.fields.room ≤ l.initial.fields.room;
 }

@@ -1,11 +1,11 @@
-use Rattle.std.proofs.Common.{◌≡◌, ◌≤◌, ◌∙◌, Err, List, ℕ, ap, arith, false, length, refl, sym, take, true, true≢false}
+use Rattle.std.proofs.Common.{◌≡◌, ◌≤◌, ◌∙◌, Err, List, ℕ, ap, arith, false, inr, length, refl, rules, sym, take, true, true≢false}
 use Rattle.std.proofs.KnownBytes.{Keeps-refl}
 use Rattle.std.proofs.lemmas.List.{length-take}
 use Rattle.book.proofs.TestResults.{passed_up}
 use Rattle.desk.specs.Desk.{desk_state}
 use Rattle.desk.specs.Dialogue.{is_end, longest_piece}
 use Rattle.desk.specs.declared.dialogue.TheConstants.{PIECE}
-use Rattle.desk.proofs.Conversing.{counted_behind, end_empty, ends_counted, ends_unread, ends_untaken, ends_within, first_counted}
+use Rattle.desk.proofs.Conversing.{counted_behind, end_empty, ends_before, ends_counted, ends_unread, ends_untaken, ends_within, first_counted}
 use Rattle.desk.proofs.Faults.{passed_as}
 use Rattle.desk.proofs.GoesOn.{goes_on, goes_same}
 use Rattle.desk.proofs.dialogue.converse.Goals as goal
@@ -39,6 +39,11 @@ returns-in_err-take_in-clause-cut g c =
     let (on, has_found, counts) = c.loop-turn.invariant.on in
     passed_as c.from_residual.result _ _ c.from_residual.ensures.1 (λ fault is. ends_untaken _ _ _ _ _ _ _ on fault _ _ is (short _ c.read_piece.new.buffer (c.read_piece.ensures.size ∙ c.loop-turn.invariant.size)) c.in-Ok.ensures.taken)
 
+pub returns-in_err-take_in-clause-memory : goal.returns-in_err-take_in-clause-memory
+returns-in_err-take_in-clause-memory g c = λ e.
+    let (on, has_found, counts) = c.loop-turn.invariant.on in
+    inr (ends_before _ _ _ _ _ _ _ on _ _ (short _ c.read_piece.new.buffer (c.read_piece.ensures.size ∙ c.loop-turn.invariant.size)) (λ none. search (rules, c.in_err-take_in.ensures.end none)) c.in-Ok.ensures.taken)
+
 pub returns-in_err-take_in-clause-goes : goal.returns-in_err-take_in-clause-goes
 returns-in_err-take_in-clause-goes g c = c.loop-turn.invariant.goes
 
@@ -47,7 +52,7 @@ returns-in_err-answer_come-clause-cut g c =
     let (on, has_found, counts) = c.loop-turn.invariant.on in
     let buffer = c.read_piece.new.buffer in
     let size = c.read_piece.ensures.size ∙ c.loop-turn.invariant.size in
-    let (others, now, cut) = c.in_err-answer_come.ensures.cut _ _ _ (c.in_ok-take_in.ensures on.read on.questions has_found on.come) in
+    let (others, now, cut) = c.in_err-answer_come.ensures.cut _ _ _ (c.in_ok-take_in.ensures.taken on.read on.questions has_found on.come) in
     let goes = c.answer_come.ensures.goes in
     passed_up c.from_residual-in_err-answer_come.result c.in_err-answer_come.field-0.0 _ c.from_residual-in_err-answer_come.ensures.1
     (ends_within _ _ _ _ _ _ _ on _ (λ e. ap (desk_state g.K.Keep) (goes.untouched e)) _ _ _ c.in-Ok.ensures.taken others _ (λ e. c.in_err-answer_come.ensures.read (ap (λ f. Err f) e)) (short _ buffer size)
@@ -60,7 +65,7 @@ pub returns-then-branch-clause-whole : goal.returns-then-branch-clause-whole
 returns-then-branch-clause-whole g c =
     let (on, has_found, counts) = c.loop-turn.invariant.on in
     let buffer = c.read_piece.new.buffer in
-    let taken = c.in_ok-take_in.ensures on.read on.questions has_found on.come in
+    let taken = c.in_ok-take_in.ensures.taken on.read on.questions has_found on.come in
     let (others, done, more, now, going, over) = c.in_ok-answer_come.ensures.whole _ _ _ taken in
     let (are, ends) = over c.if-branch.true in
     let goes = c.answer_come.ensures.goes in
@@ -75,7 +80,7 @@ returns-then-branch-clause-goes g c = goes_on _ _ _ _ c.loop-turn.invariant.goes
 pub loop-turn-preserved : goal.loop-turn-preserved
 loop-turn-preserved g c =
     let (on, has_found, counts) = c.loop-turn.invariant.on in
-    let taken = c.in_ok-take_in.ensures on.read on.questions has_found on.come in
+    let taken = c.in_ok-take_in.ensures.taken on.read on.questions has_found on.come in
     let (others, done, more, now, going, over) = c.in_ok-answer_come.ensures.whole _ _ _ taken in
     let (still, come) = going c.if-branch.false in
     let goes = c.answer_come.ensures.goes in

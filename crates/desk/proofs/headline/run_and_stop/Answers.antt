@@ -15,3 +15,7 @@ returns-clause-left g c honest =
     c.run-run.ensures.all
     (λ is. c.run-run.ensures.either c.requires is still) in
     subst (λ k. LeavesRowsOf (g.K.Keep.leaves k) (IsFoundAfter A rs run)) same left
+
+pub returns-clause-replies : goal.returns-clause-replies
+returns-clause-replies g c =
+    let run = c.run-run.ensures in record { last = c.run-run.new.self.ledger; replies = run.replies; lines = run.lines; all = run.all }

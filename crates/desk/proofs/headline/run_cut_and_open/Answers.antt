@@ -15,3 +15,7 @@ pub returns-clause-left : goal.returns-clause-left
 returns-clause-left g c =
     let opened = c.cut_and_open-opened in
     left_of g.K.Keep.is_honest _ _ _ g.K.Keep.leaves opened.result opened.ensures.honest c.run_and_stop-run.ensures.left opened.ensures.left
+
+pub returns-clause-stop : goal.returns-clause-stop
+returns-clause-stop g c =
+    let run = c.run_and_stop-run in (run.result.1, record { stopped = run.ensures.stopped; going = run.ensures.going }, c.cut_and_open-opened.ensures.honest)

@@ -9,8 +9,8 @@ use Rattle.desk.proofs.headline.run_cut_and_resume.Goals as goal
 pub go_on-requires-clause-within : goal.go_on-requires-clause-within
 go_on-requires-clause-within g c =
     let run = c.run_cut_and_open-run.result.0 in
-    let ((M, first), ended) = c.run_cut_and_open-run.ensures.replies in
-    let none_unasked = few c.args.desk.ledger M c.args.requests.now run.replies.items first in
+    let is_run = c.run_cut_and_open-run.ensures.replies in
+    let none_unasked = few c.args.desk.ledger is_run.last c.args.requests.now run.replies.items is_run.replies in
     let size : c.len-first.result ≡ answered run = search rules in
     omega arith
 
@@ -29,6 +29,6 @@ returns-in-Some-clause-whole g c =
     let rs = c.args.requests.now in
     let run = c.run_cut_and_open-run.result.0 in
     let size : c.len-first.result ≡ answered run = search rules in
-    let ((M, first), ended) = c.run_cut_and_open-run.ensures.replies in
-    whole_of g.K.Keep.is_honest c.args.desk.ledger rs run c.in-Some.opened c.go_on.result M first (returns-in-Some-clause-resumed g c)
+    let is_run = c.run_cut_and_open-run.ensures.replies in
+    whole_of g.K.Keep.is_honest c.args.desk.ledger rs run c.in-Some.opened c.go_on.result is_run.last is_run.replies (returns-in-Some-clause-resumed g c)
     (rest_of c.go_on.result _ _ _ (omega arith) c.go_on.ensures.rest)

@@ -1,3 +1,4 @@
+use Rattle.std.proofs.lemmas.Result.{IfErr-weaker}
 use Rattle.desk.proofs.FoundAfter.{found_of, left_of, refused_of}
 use Rattle.desk.proofs.FoundLines.{whole_opened}
 use Rattle.desk.proofs.headline.script_cut_and_open.Goals as goal
@@ -21,3 +22,7 @@ pub returns-clause-whole : goal.returns-clause-whole
 returns-clause-whole g c =
     let opened = c.cut_and_open-opened in
     whole_opened g.K.Keep.is_honest _ _ _ c.script_and_stop-ended.result.0 opened.result opened.ensures.honest c.script_and_stop-ended.ensures.whole opened.ensures.found opened.ensures.honours
+
+pub returns-clause-cut : goal.returns-clause-cut
+returns-clause-cut g c =
+    let ended = c.script_and_stop-ended in IfErr-weaker ended.result.0 _ _ (λ fault told. (told.0, ended.result.1, told.1)) ended.ensures.cut

@@ -67,7 +67,7 @@ returns-in-Err-clause-goes_on g c honest A x good rows held alone =
     record {
       opens = opens_desk c.from.result (elim (c.in-Err.ensures.nothing_else honest A x good rows held) [ inl e ↦ inl (told.memory.1 e) | inr e ↦ inr (told.store.1 e) ]);
       leaves = stored_left A _ (g.K.Keep.holds c.args.keep) (g.K.Keep.leaves c.in-Err.keep) good (nothing_found (desk_left (session_on g.K.Keep c.args.keep c.in-Err.keep) A) _ (Keeps-refl _, Keeps-refl _) c.args.work.now)
-          (record { rows = x; are_rows = rows; held = held; alone = (c.in-Err.ensures.left honest).adds_nothing (x ∷ []) alone });
+          (record { rows = x; are_rows = rows; held = held; alone = (c.in-Err.ensures.left honest).adds.adds_nothing (x ∷ []) alone });
     }
 
 pub returns-clause-goes_on : goal.returns-clause-goes_on

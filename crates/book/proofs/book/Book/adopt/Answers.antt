@@ -1,9 +1,9 @@
-use Rattle.book.proofs.Prelude.{◌+◌, ◌∙◌, ◌≡◌, ◌≤◌, BookView, Done, Each, Good, IsUpToDate, Ledger, accept, number_cmp, order_of, orders_made, put_rows, ap, article_total, field_of, map, places, rules, subst, sym, with_entries}
+use Rattle.book.proofs.Prelude.{◌+◌, ◌∙◌, ◌≡◌, ◌≤◌, BookView, Done, Each, Good, IsUpToDate, Ledger, accept, number_cmp, order_of, orders_made, put_rows, ap, article_total, field_of, map, move_made, move_of, next, open_orders, option_map, places, rules, subst, sym}
 use Rattle.book.specs.Plans.{PlanView}
 use Rattle.book.proofs.Futures.{honours_always}
 use Rattle.book.proofs.Goodness.{good_accept}
 use Rattle.book.proofs.NextContent.{may_be_put, orders_put}
-use Rattle.book.proofs.RunningNumbers.{adopted}
+use Rattle.book.proofs.RunningNumbers.{adopted, clock_told}
 use Rattle.book.proofs.Transfers.{total_answer}
 use Rattle.book.proofs.Runs.{accepted_answered, honours_if_good, no_key}
 use Rattle.book.proofs.book.Book.adopt.Goals as goal
@@ -19,12 +19,12 @@ good_after c = search (rules, good_accept, good, no_key)
 
 -- the orders as they are then
 made : (c : goal.After-drop-parts-2) → map order_of c.into_parts-parts.result.0.orders.items ≡ orders_made c.args.self.now.ledger c.args.plan.request.command
-made c = ap (λ (p : PlanView). p.orders) c.into_parts-parts.ensures ∙ c.requires.fits.orders
+made c = ap (λ (p : PlanView). p.orders) c.into_parts-parts.ensures.parts ∙ c.requires.fits.orders
 
 pub adopt_orders-requires : goal.adopt_orders-requires
 adopt_orders-requires c =
     may_be_put c.args.self.now.ledger c.args.plan.request.command _ _ _ (subst (λ (v : BookView). 1 ≤ v.room.orders) (sym c.self.view_is) c.requires.room.orders) (subst (λ (v : BookView). Good v.ledger) c.self.view_is c.self.invariant.0) c.requires.fits.accepted.1 (ap (λ (v : BookView). v.ledger.orders) c.self.view_is)
-    (ap (λ (p : PlanView). p.orders) c.into_parts-parts.ensures ∙ c.requires.fits.orders)
+    (ap (λ (p : PlanView). p.orders) c.into_parts-parts.ensures.parts ∙ c.requires.fits.orders)
 
 orders : (c : goal.After-drop-parts-2) → map order_of c.adopt_orders.new.orders.entries ≡ (accept c.args.self.now.ledger c.args.plan.request).orders
 orders c = c.adopt_orders.ensures.orders ∙ (λ i. put_rows number_cmp (made c i) (c.self.view_is i).ledger.orders) ∙ orders_put c.args.self.now.ledger c.args.plan.request.command (good c) (good_after c).orders_in_order c.requires.fits.accepted.1
@@ -35,15 +35,36 @@ put c =
     let A : Ledger = c.args.self.now.ledger in
     let plan = c.args.plan in
     let old = c.self.inside.fields.entries in
-    let is = c.adopt_fields.ensures.fields ∙ ap (λ es. with_entries es old) (ap (λ (p : PlanView). p.fields) c.into_parts-parts.ensures) in
-    let done = adopted A plan old (good c) (good_after c) c.requires.fits (ap (λ (v : BookView). v.ledger.fields) c.self.view_is) (subst (λ (v : BookView). Each (IsUpToDate v.ledger) old) c.self.view_is c.self.invariant.1) in
+    let parts = c.into_parts-parts.ensures in
+    let is = c.adopt_fields.ensures.fields in
+    let done = adopted A plan c.into_parts-parts.result.0.fields.entries old (good c) (good_after c) c.requires.fits (parts.told.fields ∙ ap (λ (p : PlanView). p.changes.fields) parts.parts) (ap (λ (v : BookView). v.ledger.fields) c.self.view_is) (subst (λ (v : BookView). Each (IsUpToDate v.ledger) old) c.self.view_is c.self.invariant.1) in
     (ap (map field_of) is ∙ done.0, subst (Each (IsUpToDate (accept A plan.request))) (sym is) done.1)
 
+-- the clock, the move and the open orders as they are then
+clock : (c : goal.After-drop-parts-2) → c.into_parts-parts.result.0.clock ≡ (accept c.args.self.now.ledger c.args.plan.request).clock
+clock c =
+    let parts = c.into_parts-parts.ensures in
+    clock_told (accept c.args.self.now.ledger c.args.plan.request) _ _ (ap (λ (p : PlanView). p.changes.desk) parts.parts ∙ c.requires.fits.changes.desk) parts.told.clock
+
+move : (c : goal.After-drop-parts-2) → option_map move_of c.into_parts-parts.result.0.moved ≡ move_made (places c.args.self.now.ledger + 1) c.args.plan.request.command
+move c =
+    let parts = c.into_parts-parts.ensures in
+    parts.told.moved ∙ (λ i. move_made (parts.parts i).place (parts.parts i).request.command) ∙ ap (λ n. move_made n c.args.plan.request.command) c.requires.fits.place
+
+pub open_after-open_count-requires : goal.open_after-open_count-requires
+open_after-open_count-requires c =
+    (c.args.plan.request.command, record { passed = c.requires.fits.accepted.1; made_are = ap (map order_of) c.deref.ensures.value ∙ ap (λ (p : PlanView). p.orders) c.into_parts-parts.ensures.parts ∙ c.requires.fits.orders })
+
+opened : (c : goal.After-drop-parts-2) → c.open_after-open_count.result ≡ open_orders (next c.args.self.now.ledger c.args.plan.request.command)
+opened c =
+    c.open_after-open_count.ensures c.args.plan.request.command
+    (record { passed = c.requires.fits.accepted.1; made_are = ap (map order_of) c.deref.ensures.value ∙ ap (λ (p : PlanView). p.orders) c.into_parts-parts.ensures.parts ∙ c.requires.fits.orders })
+
 pub returns-clause-next : goal.returns-clause-next
-returns-clause-next c = search (rules, put, orders)
+returns-clause-next c = search (rules, put, orders, clock, move)
 
 pub invariant_of-self : goal.invariant_of-self
-invariant_of-self c = search (rules, returns-clause-next, good_after, put, orders)
+invariant_of-self c = search (rules, returns-clause-next, good_after, put, orders, opened)
 
 pub returns-clause-good : goal.returns-clause-good
 returns-clause-good c = (invariant_of-self c).0
@@ -61,3 +82,8 @@ returns-clause-even c n article commits transfer =
 pub returns-clause-room_used : goal.returns-clause-room_used
 returns-clause-room_used c = rw (← c.self.view_is)
     (record { fields = c.adopt_fields.ensures.room; moves = c.adopt_move.ensures.room; orders = c.adopt_orders.ensures.room; kept = c.insert_kept.ensures.room })
+
+pub returns-clause-storage : goal.returns-clause-storage
+returns-clause-storage c =
+    rw (← c.self.view_is, ← c.into_parts-parts.ensures.parts)
+    (record { fields = c.adopt_fields.ensures.storage; moves = c.adopt_move.ensures.storage; orders = c.adopt_orders.ensures.storage; lines = c.adopt_orders.ensures.lines; kept = c.insert_kept.ensures.storage })

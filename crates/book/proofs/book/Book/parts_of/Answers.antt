@@ -5,9 +5,6 @@ use Rattle.book.proofs.book.Book.parts_of.Goals as goal
 pub fields_after-requires-clause-orders : goal.fields_after-requires-clause-orders
 fields_after-requires-clause-orders c = ap (map order_of) c.deref.ensures.value ∙ c.in_ok-orders.ensures
 
-pub open_after-requires : goal.open_after-requires
-open_after-requires c = (c.args.request.now.command, record { passed = c.requires.accepts.accepted.1; made_are = ap (map order_of) c.deref-2.ensures.value ∙ c.in_ok-orders.ensures })
-
 pub returns : goal.returns
 returns c =
     let A = c.args.self.now.ledger in
@@ -16,7 +13,6 @@ returns c =
       command = c.in_ok-words.ensures;
       place = place_is c.self.inside c.args.self.now c.len.result c.self.view_is c.len.ensures.len;
       clock = c.clock_after.ensures ∙ ap (λ (k : Command). (next A k).clock) command;
-      open_count = c.open_after.ensures c.args.request.now.command (record { passed = c.requires.accepts.accepted.1; made_are = ap (map order_of) c.deref-2.ensures.value ∙ c.in_ok-orders.ensures });
       moved = c.move_made.ensures ∙ ap (move_made _) command;
       orders = c.in_ok-orders.ensures;
       fields = c.in_ok-fields.ensures;

@@ -1,5 +1,6 @@
-use Rattle.book.proofs.Prelude.{◌∙◌, ◌≡◌, ChangesTo, Command, FirstFailure, IsAccepted, None, Request, ap, checks, is_some, move_made, next, open_orders, orders_made, rows_among, subst, sym}
-use Rattle.book.specs.Plans.{Fits, plan_of}
+use Rattle.book.proofs.Prelude.{◌∙◌, ◌≡◌, ChangesTo, Command, FirstFailure, IsAccepted, None, Request, ap, checks, is_some, orders_made, rows_among, subst, sym}
+use Rattle.book.specs.Plans.{Fits}
+use Rattle.book.specs.inner.PlansSeen.{plan_of}
 use Rattle.book.proofs.book.Book.plan.Goals as goal
 
 pub returns : goal.returns
@@ -12,12 +13,8 @@ returns c =
     let fits : Fits A (plan_of c.in_ok-parts.parts rows) = record {
       accepted = subst (IsAccepted A) (sym same) (ap is_some c.in_default.ensures, subst (λ (k : Command). FirstFailure (checks A k) None) c.command.ensures.value c.in-Ok.ensures.0);
       place = makes.place;
-      clock = makes.clock ∙ ap (λ (k : Command). (next A k).clock) (sym makes.command);
-      open_count = makes.open_count ∙ ap (λ (k : Command). open_orders (next A k)) (sym makes.command);
-      moved = makes.moved ∙ ap (move_made c.in_ok-parts.parts.place) (sym makes.command);
       orders = makes.orders ∙ ap (orders_made A) (sym makes.command);
       changes = subst (λ (r : Request). ChangesTo A r rows) (sym same) c.in_ok-changes.ensures.changes;
-      fields = c.in_ok-changes.ensures.fields;
     } in record {
       planned = (same, fits);
       memory = tt;

@@ -1,4 +1,4 @@
-use Rattle.book.proofs.Prelude.{◌≡◌, List, Head, arith, line_cells, map, order_cells, firm_cells, subst}
+use Rattle.book.proofs.Prelude.{arith}
 use Rattle.book.proofs.RowEntries.{lines_told, orders_told, rows_of_orders}
 use Rattle.book.proofs.TestResults.{passed_up}
 use Rattle.book.proofs.book.tables.read_orders.Goals as goal

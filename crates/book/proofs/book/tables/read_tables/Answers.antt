@@ -1,6 +1,6 @@
-use Rattle.book.proofs.Prelude.{[], ◌∙◌, ◌∷◌, ◌≡◌, AllZip, DeskCells, Each, FieldEntry, FieldRow, IsFieldRow, IsFieldTold, IsGoodField, IsGoodKept, IsKeptTold, IsMoveTold, KeptCells, KeptEntry, KeptRow, List, Name, Order, TellsField, ap, arith, field_cells, field_of, firm_cells, kept_cells, kept_of, kept_row, length, line_cells, map, move_cells, move_of, move_row, order_cells, order_of, places, subst, sym, ℕ}
+use Rattle.book.proofs.Prelude.{[], ◌∙◌, ◌∷◌, ◌≡◌, AllZip, DeskCells, Each, FieldEntry, FieldRow, IsFieldRow, IsFieldTold, IsGoodField, IsGoodKept, IsKeptTold, IsMoveTold, KeptCells, KeptEntry, KeptRow, List, Name, TellsField, ap, arith, field_cells, field_of, firm_cells, kept_cells, kept_of, kept_row, length, line_cells, map, move_cells, move_of, move_row, order_cells, places, subst, sym, ℕ}
 use Rattle.book.specs.Rows.{desk_of}
-use Rattle.book.proofs.RowEntries.{fields_told, good_field, heads_same, kept_told, lines_told, moves_told, orders_rows, rows_of, tells_field}
+use Rattle.book.proofs.RowEntries.{fields_told, good_field, kept_told, moves_told, rows_of, tells_field}
 use Rattle.book.proofs.Lists.{length-of-map, zip-length, zip-map}
 use Rattle.book.proofs.EqualRows.{same_first}
 use Rattle.book.proofs.TestResults.{passed_up}

@@ -75,6 +75,5 @@ returns-in-Err-Damaged-clause-unopened g c = record {
 pub returns-in-Ok-of_tables-clause-left : goal.returns-in-Ok-of_tables-clause-left
 returns-in-Ok-of_tables-clause-left g c honest = record {
   same = λ going. (c.in-Ok.ensures.found honest).same;
-  adds_nothing = (c.in-Ok.ensures.left honest).adds_nothing;
-  no_more = (c.in-Ok.ensures.left honest).no_more;
+  adds = c.in-Ok.ensures.left honest;
 }

@@ -2,7 +2,7 @@ use Rattle.std.proofs.Common.{◌/◌, ◌%◌}
 use Rattle.index.proofs.Prelude.{◌*◌, ◌+◌, ◌<◌, ◌∙◌, ◌≡◌, ◌≤◌, ap, arith, insert, length, map, refl, subst, sym}
 use Rattle.std.proofs.lemmas.List.{length-map}
 use Rattle.index.specs.BlockList.{joined}
-use Rattle.index.proofs.Blocks.{at_first, fits_in, is_block, length-joined, len, lie_still, put_in, roomy, through}
+use Rattle.index.proofs.Blocks.{at_first, fits_in, is_block, length-joined, len, lie_still, put_in, roomy, sizes_stay, through}
 use Rattle.index.proofs.block_list.BlockList.insert.Goals as goal
 
 pub loop-self-init : goal.loop-self-init
@@ -24,6 +24,8 @@ loop-self-init g c =
       },
       refl,
       refl,
+      refl,
+      refl,
     )
 
 pub index-requires : goal.index-requires
@@ -43,17 +45,22 @@ loop-self-smaller g c = omega (arith, is_block _ _ _ _ c.loop-self.self-inside.b
 
 pub loop-self-preserved : goal.loop-self-preserved
 loop-self-preserved g c =
-    let full : length c.index_mut.result.now.items ≡ 1024 = omega (arith, len _ _ _ _ c.loop-self.self-inside.blocks.items _ _ _ c.loop-self.invariant.0 c.index.result.now c.index.ensures, len _ _ _ _ c.loop-self.self-inside.blocks.items _ _ _ c.loop-self.invariant.0 c.index_mut.result.now c.index_mut.ensures.value, c.len.ensures, c.loop-self-test.true, c.index.result.now.ok.0) in
-    (through _ _ _ _ c.loop-self.self-inside.blocks.items _ _ _ c.loop-self.invariant.0 c.index_mut.result.now c.index_mut.ensures.value c.push_through-item.new.block c.push_through-item.ensures.room c.push_through-item.result full c.push_through-item.ensures.items, c.loop-self.invariant.1, c.loop-self.invariant.2)
+    let full : length c.index_mut.result.now.items ≡ 1024 = omega (arith, len _ _ _ _ c.loop-self.self-inside.blocks.items _ _ _ c.loop-self.invariant.0 c.index.result.now c.index.ensures, len _ _ _ _ c.loop-self.self-inside.blocks.items _ _ _ c.loop-self.invariant.0 c.index_mut.result.now c.index_mut.ensures.value, c.len.ensures, c.loop-self-test.true, c.index.result.now.ok.0) in (
+      through _ _ _ _ c.loop-self.self-inside.blocks.items _ _ _ c.loop-self.invariant.0 c.index_mut.result.now c.index_mut.ensures.value c.push_through-item.new.block c.push_through-item.ensures.storage c.push_through-item.result full c.push_through-item.ensures.items,
+      c.loop-self.invariant.1,
+      c.loop-self.invariant.2,
+      c.loop-self.invariant.3,
+      sizes_stay _ _ _ _ c.loop-self.self-inside.blocks.items _ _ _ c.loop-self.invariant.0 c.index_mut.result.now c.index_mut.ensures.value c.push_through-item.new.block c.push_through-item.ensures.storage ∙ c.loop-self.invariant.4,
+    )
 
 pub index_mut-requires-2 : goal.index_mut-requires-2
 index_mut-requires-2 g c = omega (arith, is_block _ _ _ _ c.loop-self.self-inside.blocks.items _ _ _ c.loop-self.invariant.0, c.loop-self.self-inside.blocks.ok.0)
 
-pub insert-requires : goal.insert-requires
-insert-requires g c = omega (arith, fits_in _ _ _ _ c.loop-self.self-inside.blocks.items _ _ _ c.loop-self.invariant.0 c.index_mut-2.result.now c.index_mut-2.ensures.value, c.index_mut-2.result.now.ok.0)
+pub put_in-requires-clause-place : goal.put_in-requires-clause-place
+put_in-requires-clause-place g c = fits_in _ _ _ _ c.loop-self.self-inside.blocks.items _ _ _ c.loop-self.invariant.0 c.index_mut-2.result.now c.index_mut-2.ensures.value
 
-pub unreachable-requires : goal.unreachable-requires
-unreachable-requires g c = omega (arith, len _ _ _ _ c.loop-self.self-inside.blocks.items _ _ _ c.loop-self.invariant.0 c.index.result.now c.index.ensures, len _ _ _ _ c.loop-self.self-inside.blocks.items _ _ _ c.loop-self.invariant.0 c.index_mut-2.result.now c.index_mut-2.ensures.value, c.len.ensures, c.loop-self-test.false, c.index.result.now.ok.0, c.index_mut-2.result.now.ok.0, roomy _ _ _ _ c.loop-self.self-inside.blocks.items _ _ _ c.loop-self.invariant.0 c.index_mut-2.result.now c.index_mut-2.ensures.value, c.in_default.ensures.full)
+pub put_in-requires-clause-room : goal.put_in-requires-clause-room
+put_in-requires-clause-room g c = omega (arith, len _ _ _ _ c.loop-self.self-inside.blocks.items _ _ _ c.loop-self.invariant.0 c.index.result.now c.index.ensures, len _ _ _ _ c.loop-self.self-inside.blocks.items _ _ _ c.loop-self.invariant.0 c.index_mut-2.result.now c.index_mut-2.ensures.value, c.len.ensures, c.loop-self-test.false, c.index.result.now.ok.0, c.index_mut-2.result.now.ok.0, roomy _ _ _ _ c.loop-self.self-inside.blocks.items _ _ _ c.loop-self.invariant.0 c.index_mut-2.result.now c.index_mut-2.ensures.value)
 
 pub overflow_add-self : goal.overflow_add-self
 overflow_add-self g c = omega (arith, c.loop-self.invariant.0.room, c.loop-self.invariant.0.lie.few)
@@ -61,7 +68,12 @@ overflow_add-self g c = omega (arith, c.loop-self.invariant.0.room, c.loop-self.
 pub invariant_of-self : goal.invariant_of-self
 invariant_of-self g c =
     let short : length c.index_mut-2.result.now.items < 1024 = omega (arith, len _ _ _ _ c.loop-self.self-inside.blocks.items _ _ _ c.loop-self.invariant.0 c.index.result.now c.index.ensures, len _ _ _ _ c.loop-self.self-inside.blocks.items _ _ _ c.loop-self.invariant.0 c.index_mut-2.result.now c.index_mut-2.ensures.value, c.len.ensures, c.loop-self-test.false, c.index.result.now.ok.0) in
-    lie_still _ _ _ _ c.loop-self.self-inside.blocks.items _ _ _ c.loop-self.invariant.0 c.index_mut-2.result.now c.index_mut-2.ensures.value c.insert.new.self c.in-Ok.ensures.capacity short c.in-Ok.ensures.items
+    lie_still _ _ _ _ c.loop-self.self-inside.blocks.items _ _ _ c.loop-self.invariant.0 c.index_mut-2.result.now c.index_mut-2.ensures.value c.put_in.new.block c.put_in.ensures.storage short c.put_in.ensures.items
 
 pub returns-clause-items : goal.returns-clause-items
-returns-clause-items g c = put_in _ _ _ _ c.loop-self.self-inside.blocks.items _ _ _ c.loop-self.invariant.0 c.index_mut-2.result.now c.index_mut-2.ensures.value c.insert.new.self c.in-Ok.ensures.capacity c.in-Ok.ensures.items
+returns-clause-items g c = put_in _ _ _ _ c.loop-self.self-inside.blocks.items _ _ _ c.loop-self.invariant.0 c.index_mut-2.result.now c.index_mut-2.ensures.value c.put_in.new.block c.put_in.ensures.storage c.put_in.ensures.items
+
+pub returns-clause-storage : goal.returns-clause-storage
+returns-clause-storage g c =
+    rw (sizes_stay _ _ _ _ c.loop-self.self-inside.blocks.items _ _ _ c.loop-self.invariant.0 c.index_mut-2.result.now c.index_mut-2.ensures.value c.put_in.new.block c.put_in.ensures.storage, c.loop-self.invariant.3, c.loop-self.invariant.4)
+    (ap (λ v. v.storage) c.self.view_is)

@@ -31,6 +31,6 @@ returns g c =
     let short = subst (λ v. c.args.place < length v.entries) (sym c.self.view_is) c.requires in
     let at = index_at es order c.args.place c.get.result.now c.self.invariant.each_once short c.get.ensures in
     let entry = slice_get_read es _ c.get.result.now c.index_mut-entry.result.now refl at.0 c.index_mut-entry.ensures.value in (
-      (refl, λ w. rw (← c.self.view_is) (λ i. record { entries = written es order c.args.place c.get.result.now c.index_mut-entry.result.now w c.self.invariant.each_once short c.get.ensures c.index_mut-entry.ensures.value i; room = room_left (vec_len inside.entries) (vec_capacity inside.entries) inside.order.capacity })),
+      (refl, λ w. rw (← c.self.view_is) (λ i. record { entries = written es order c.args.place c.get.result.now c.index_mut-entry.result.now w c.self.invariant.each_once short c.get.ensures c.index_mut-entry.ensures.value i; room = room_left (vec_len inside.entries) (vec_capacity inside.entries) inside.order.capacity; storage = record { entries = vec_capacity inside.entries; index = inside.order.storage } })),
       record { writes = tt; value = rw (← c.self.view_is) (slice_get-map (λ e. e.1) (at_indexes es order) c.args.place ∙ ap (option_map (λ e. e.1)) (at.1 ∙ entry)) },
     )

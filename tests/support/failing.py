@@ -1,0 +1,145 @@
+"""Runs of the built program of which calls fail that else would not: allocations, reads and writes, and what its store calls."""
+
+import contextlib
+import errno
+import os
+import shutil
+import subprocess
+import tempfile
+from collections.abc import Callable, Iterable, Iterator, Sequence
+from concurrent.futures import ThreadPoolExecutor
+from dataclasses import dataclass
+from queue import SimpleQueue
+from typing import TypeVar
+
+from support.cases import ProgramCase
+from support.disks import IN_MEMORY
+from support.programs import End, ended, expect
+
+SOURCE = os.path.join(os.path.dirname(os.path.abspath(__file__)), "failing.c")
+# a number that no call has
+NEVER = 1 << 62
+# of so many allocations one is refused with all behind it
+FOR_GOOD = 13
+LANES = min(4, os.cpu_count() or 1)
+# memory comes in few large pieces, which makes a run cheaper
+CHEAPER = {"GLIBC_TUNABLES": "glibc.malloc.hugetlb=1", "MALLOC_TOP_PAD_": str(1 << 25)}
+
+T = TypeVar("T")
+
+
+@dataclass(frozen=True)
+class Failure:
+    """Which calls of a kind fail, and with what error: that with this number, from 1, alone or with all behind it."""
+
+    kind: str
+    first: int
+    for_good: bool = False
+    error: int = errno.EIO
+
+    def __str__(self) -> str:
+        return f"{self.kind} {self.first}{' and on' if self.for_good else ''}, error {self.error}"
+
+
+def refusals(first: int, count: int) -> list[Failure]:
+    """Of so many allocations each is refused, from some number on, and one that does not come; and each of some of them, with all
+    behind it."""
+    alone = [Failure("memory", number) for number in range(first, count + 2)]
+    return alone + [Failure("memory", number, for_good=True) for number in range(first, count + 1, FOR_GOOD)]
+
+
+class NotBuilt(Exception):
+    """Why there is no library by which calls fail."""
+
+
+def library_in(folder: str) -> str:
+    """The path of the library by which calls fail."""
+    if not (compiler := shutil.which("cc")):
+        raise NotBuilt("cc not here")
+    path = os.path.join(folder, "failing.so")
+    words = [compiler, "-shared", "-fPIC", "-O2", "-o", path, SOURCE]
+    if (run := subprocess.run(words, capture_output=True, text=True, check=False)).returncode:
+        raise NotBuilt(f"cc builds no library here: {run.stderr.strip()[-200:]}")
+    return path
+
+
+class Failing:
+    """The built program, the library by which its calls fail, and lanes: folders for runs that are tried side by side."""
+
+    def __init__(self, program: str, folder: str):
+        self.program, self.library = program, library_in(folder)
+        self.lanes: SimpleQueue[str] = SimpleQueue()
+        for number in range(LANES):
+            os.mkdir(os.path.join(folder, str(number)))
+            self.lanes.put(os.path.join(folder, str(number)))
+
+    @contextlib.contextmanager
+    def lane(self) -> Iterator[str]:
+        """A folder that nobody else uses meanwhile."""
+        folder = self.lanes.get()
+        try:
+            yield folder
+        finally:
+            self.lanes.put(folder)
+
+    def environment(self, failure: Failure, lane: str) -> dict[str, str]:
+        """In which the program is called so that calls fail."""
+        told = os.path.join(lane, "counted")
+        with contextlib.suppress(FileNotFoundError):
+            os.remove(told)
+        return {
+            **os.environ,
+            **CHEAPER,
+            "LD_PRELOAD": self.library,
+            "FAILING_KIND": failure.kind,
+            "FAILING_FROM": str(failure.first),
+            "FAILING_TO": str(NEVER if failure.for_good else failure.first),
+            "FAILING_ERROR": str(failure.error),
+            "FAILING_COUNTED": told,
+        }
+
+    def counted(self, lane: str) -> int:
+        """How many calls there were in the run that is over."""
+        with open(os.path.join(lane, "counted"), encoding="ascii") as file:
+            return int(file.read())
+
+    def ended(self, words: Sequence[str], text: str, failure: Failure, lane: str) -> tuple[End, bool]:
+        """How a run ends, and whether a call failed in it."""
+        end = ended(self.program, words, text, environment=self.environment(failure, lane))
+        return end, failure.first <= self.counted(lane)
+
+    def count(self, kind: str, words: Sequence[str], text: str, lane: str) -> int:
+        """How many calls of a kind there are in a run of which none fails."""
+        status, _, errors = ended(self.program, words, text, environment=self.environment(Failure(kind, NEVER), lane))
+        expect(status in (0, 2), f"{words}: {status}, {errors!r}")
+        return self.counted(lane)
+
+    def attempt(self, failures: Iterable[Failure], check: Callable[[Failure, str], T]) -> list[T]:
+        """Each failure is tried, side by side in as many lanes as there are."""
+
+        def check_in_lane(failure: Failure) -> T:
+            with self.lane() as lane:
+                return check(failure, lane)
+
+        with ThreadPoolExecutor(LANES) as pool:
+            return list(pool.map(check_in_lane, failures))
+
+
+class FailingCase(ProgramCase):
+    """Tests of the built program of which calls fail, on files in memory; left out where no library for that can be built."""
+
+    failing: Failing
+    lacking = ""
+
+    @classmethod
+    def setUpClass(cls) -> None:
+        super().setUpClass()
+        try:
+            cls.failing = Failing(cls.program, cls.enterClassContext(tempfile.TemporaryDirectory(dir=IN_MEMORY)))
+        except NotBuilt as fault:
+            cls.lacking = str(fault)
+
+    def setUp(self) -> None:
+        if self.lacking:
+            self.skipTest(self.lacking)
+        self.folder = self.enterContext(tempfile.TemporaryDirectory(dir=IN_MEMORY))

@@ -1,0 +1,137 @@
+"""Tests of the built program of which one read or write fails, or one call of its store, where all behind it would succeed: none
+is tried again. It ends with the fault behind a beginning of its answer, and what was told is kept."""
+
+import contextlib
+import errno
+import itertools
+import os
+import socket
+
+from support.cases import needs_strict_tables
+from support.failing import Failing, FailingCase, Failure
+from support.messages import answer, compact, message
+from support.programs import IO, SECONDS, STORE, End, done, expect, new_desk, note
+from support.service import NotServed, Service
+from support.works import REQUESTS, SCRIPT, SHEETS, WORKS, OnCopies, Work, copy_desk
+
+# two of the errors ask for another try; a write with the error 0 takes no byte, which is no error to the system
+READ_ERRORS = [errno.EIO, errno.EINTR, errno.EAGAIN]
+WRITE_ERRORS = [*READ_ERRORS, 0]
+
+CSV: End = (4, b"", b"stockdesk: csv\n")
+PIECE = 512
+# how many messages two connections bring, each of which adds a piece to a field; and which calls leave nothing untold where they
+# fail: the reads that find the ends of these
+FIRST, SECOND = 4, 2
+TOLD = {"read": [FIRST + 1, FIRST + 1 + SECOND + 1], "write": []}
+
+
+def deliveries(first: int, count: int) -> list[bytes]:
+    bodies = [compact({"key": f"K{n}", "command": "deliver N1 A-1 1"}) for n in range(first, first + count)]
+    return [message("POST /v1/commands", body) for body in bodies]
+
+
+def places(first: int, count: int) -> bytes:
+    return b"".join(answer(200, compact({"place": place})) for place in range(first, first + count))
+
+
+def answered_in_turn(port: int, messages: list[bytes]) -> bytes:
+    """What is answered to these messages, each of which waits for the answer to the last."""
+    found = b""
+    with socket.create_connection(("127.0.0.1", port), SECONDS) as connection, contextlib.suppress(ConnectionError):
+        for number, text in enumerate(messages, 1):
+            connection.sendall(text)
+            while whole_answers(found) < number and (part := connection.recv(65_536)):
+                found += part
+        # where the other end has closed there is nothing to end
+        with contextlib.suppress(OSError):
+            connection.shutdown(socket.SHUT_WR)
+        while part := connection.recv(65_536):
+            found += part
+    return found
+
+
+def whole_answers(text: bytes) -> int:
+    """How many answers with a place are whole in a beginning of some."""
+    return text.count(b"}")
+
+
+class Connections:
+    """Services of two connections on copies of a desk with one field, of which reads or writes fail."""
+
+    def __init__(self, failing: Failing, folder: str):
+        self.failing, self.program = failing, failing.program
+        self.desk = new_desk(self.program, folder, "new.db")
+        done(self.program, ["run", self.desk], "K1 field N1 A-1 0 100 0\n")
+
+    def serve(self, failure: Failure) -> tuple[bool, bool]:
+        """Whether something was not told, and whether the call came. A connection of which one fails ends there, and the other is
+        served whole; what was done is told, but for the last answer where a write fails."""
+        with self.failing.lane() as lane:
+            path = os.path.join(lane, "desk.db")
+            copy_desk(self.desk, path)
+            try:
+                service = Service(self.program, path, 2, environment=self.failing.environment(failure, lane))
+            except NotServed as fault:
+                expect((fault.end, failure.kind) == (IO, "write"), f"{failure}: {fault}")
+                return True, True
+            cuts, place = 0, 2
+            for count in [FIRST, SECOND]:
+                found, whole = answered_in_turn(service.port, deliveries(place, count)), places(place, count)
+                expect(whole.startswith(found), f"{failure}: {found!r}")
+                cuts += found != whole
+                place += whole_answers(found) + (found != whole and failure.kind == "write")
+            service.expect_end()
+            [shown] = done(self.program, ["run", path], "? field N1 A-1\n")
+            expect(shown.split()[9] == str(place - 2), f"{failure}: {place - 2} were done, and then {shown}")
+            expect(cuts <= 1, f"{failure}: both connections are cut")
+            return cuts == 1, failure.first <= self.failing.counted(lane)
+
+    def expect_cuts(self, kind: str, error: int) -> None:
+        told = []
+        for first in itertools.count(1):
+            is_cut, came = self.serve(Failure(kind, first, error=error))
+            if not came:
+                break
+            told += [] if is_cut else [first]
+        expect(told == TOLD[kind] and not is_cut, f"{kind}, error {error}: the connections are not cut by {told}")
+        note(f"{kind}, error {error}: {first - 1}")
+
+
+@needs_strict_tables
+class FailingCalls(FailingCase):
+    def on_copies(self, work: Work) -> OnCopies:
+        return OnCopies(self.failing, os.path.join(self.folder, str(WORKS.index(work))), work)
+
+    def test_a_script_ends_at_a_read_that_fails(self):
+        """The lines that had ended before the piece at which it fails are answered."""
+        on_copies = self.on_copies(SCRIPT)
+        text = on_copies.input
+        pieces = range(0, len(text) + PIECE, PIECE)
+        for error in READ_ERRORS:
+            told = on_copies.expect_each_cut("read", [IO], error)
+            expect(told == [text[:end].count("\n") for end in pieces], f"error {error}: {told} lines are told")
+
+    def test_a_file_of_requests_that_fails_once_is_not_read(self):
+        """Nothing is done then."""
+        for work in REQUESTS:
+            on_copies = self.on_copies(work)
+            for error in READ_ERRORS:
+                told = on_copies.expect_each_cut("read", [CSV], error)
+                expect(set(told) == {0}, f"{work}, error {error}: {told} lines are told")
+
+    def test_a_work_ends_at_a_write_that_fails(self):
+        for work in WORKS:
+            on_copies = self.on_copies(work)
+            for error in WRITE_ERRORS:
+                on_copies.expect_each_cut("write", [IO], error)
+
+    def test_a_work_ends_at_a_call_of_its_store_that_fails(self):
+        for work in [SHEETS[0], SCRIPT, REQUESTS[1]]:
+            self.on_copies(work).expect_cut_alike("store", [STORE], errno.EIO)
+
+    def test_a_connection_ends_at_a_read_or_a_write_that_fails(self):
+        connections = Connections(self.failing, self.folder)
+        for kind, errors in [("read", READ_ERRORS), ("write", WRITE_ERRORS)]:
+            for error in errors:
+                connections.expect_cuts(kind, error)
