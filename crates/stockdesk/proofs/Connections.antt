@@ -11,7 +11,8 @@ use Rattle.web.specs.Serving.{Tells, cause_of}
 use Rattle.web.specs.Web.{http}
 use Rattle.web.specs.declared.served.Served.{Served}
 use Rattle.web.specs.declared.served.WebFault.{WebFault}
-use Rattle.stockdesk.specs.Connections.{AreServed, IsServed, Listening, Pass, Passes, PortBegun, PortTold, as_stood, listening_line}
+use Rattle.stockdesk.specs.Connections.{AreServed, IsServed, Pass, Passes, PortBegun, PortTold, as_stood, listening_line}
+use Rattle.stockdesk.specs.Outside.{Listening}
 
 -- ---- one connection, as the desk at the end sees it
 
@@ -131,7 +132,7 @@ module _ {N R W : Type 0} (g : Listening N R W) where
 -- ---- the port
 
 pub port_whole : (W w : Option (List ℕ)) → PortTold W w → PortBegun W w
-port_whole W w (port, is, writes) =
+port_whole W w (port, (is, writes)) =
     (port, length (listening_line port), is, omega arith, subst (λ (t : List ℕ). Appends W w t) (sym (take_all (length (listening_line port)) (listening_line port) (omega arith))) writes)
 
 pub port_unwritten : (W w : Option (List ℕ)) → Keeps W w → PortBegun W w

@@ -1,5 +1,6 @@
 mod SessionParts
 mod Connections
 mod WorkParts
-mod PlainRun
+mod PlainWords
+mod TaskWords
 mod NextSession

@@ -19,6 +19,7 @@ use Rattle.desk.proofs.FoundLines.{ends_cut_left, found_all, found_told, found_w
 use Rattle.stockdesk.specs.Connections.{AreServed, IsFoundAfterService, IsServed, ServesSome, as_stood}
 use Rattle.desk.specs.Text.{items_of}
 use Rattle.desk.specs.Lists.{most_together}
+use Rattle.stockdesk.specs.Outside.{Outside}
 use Rattle.stockdesk.specs.Sessions.{IsNoDesk}
 use Rattle.stockdesk.specs.Work.{IsFoundAfterWork, WorkCut, WorkDone}
 use Rattle.stockdesk.specs.declared.session.Fault.{Fault}
@@ -90,30 +91,30 @@ module _ (first : DeskState) (s : Streams) (silent : IsSilent s) where
 
 -- ---- after work
 
-module _ (old new : DeskState) (s : Streams) (holds : Content → Type 0) (went : old.is_stopped ≡ false) (good : Good new.ledger) (honest : new.is_honest) (stored : new.is_stopped ≡ false → IsStored holds new.leaves new.ledger) where
+module _ {C L R W : Type 0} (out : Outside C L R W) (old new : DeskState) (s : Streams) (holds : Content → Type 0) (went : old.is_stopped ≡ false) (good : Good new.ledger) (honest : new.is_honest) (stored : new.is_stopped ≡ false → IsStored holds new.leaves new.ledger) where
   abbrev Found : Work → Ledger → Type 0
   Found work B = IsFoundAfterWork work (first_of old new) s B
 
   only_last : (work : Work) → new.is_stopped ≡ false → Found work new.ledger → LeavesRowsOf new.leaves (Found work)
   only_last work going found = stored_left new.ledger (Found work) holds new.leaves good found (stored going)
 
-  done_left : (work : Work) → new.is_stopped ≡ false → WorkDone work old new s → LeavesRowsOf new.leaves (Found work)
+  done_left : (work : Work) → new.is_stopped ≡ false → WorkDone out work old new s → LeavesRowsOf new.leaves (Found work)
   done_left Script going ends = only_last Script going (found_whole old.ledger new.ledger s (text_written old new s ends))
-  done_left (Requests kind csv together) going (kept, (requests, answered)) =
+  done_left (Requests kind csv together) going (kept, (requests, its, answered)) =
       only_last (Requests kind csv together) going (requests, found_all (most_together together) old.ledger (items_of requests) new.ledger s.writer_old s.writer_new answered)
   done_left (Sheet of) going (kept, same, sheet) = only_last (Sheet of) going same
-  done_left (Serve service) going (kept, told, (streams, size, served)) = service_left service.connections holds old new went good honest (streams, omega (arith, size), served) stored
+  done_left (Serve service) going (kept, all) = service_left service.connections holds old new went good honest (all.streams, omega (arith, all.as_many), all.served) stored
 
   found_same : (work : Work) → IsSilent s → new.ledger ≡ old.ledger → Found work new.ledger
   found_same work silent same = subst (λ (A : Ledger). Found work A) (sym same) (nothing_found (first_of old new) s silent work)
 
   module _ (fault : Fault) (going : fault ≢ Fault.Store → new.is_stopped ≡ false) where
-    work_cut_left : (work : Work) → WorkCut work fault old new s → LeavesRowsOf new.leaves (Found work)
+    work_cut_left : (work : Work) → WorkCut out work fault old new s → LeavesRowsOf new.leaves (Found work)
     work_cut_left Script (cause, told, ends) = ends_cut_left old new holds good went honest stored cause s ends
-    work_cut_left (Requests kind csv together) (reads, inl (inl is, same, writes)) = only_last (Requests kind csv together) (going (λ e. cc)) (found_same (Requests kind csv together) (reads, writes) same)
-    work_cut_left (Requests kind csv together) (reads, inl (inr (inl is), same, writes)) = only_last (Requests kind csv together) (going (λ e. cc)) (found_same (Requests kind csv together) (reads, writes) same)
-    work_cut_left (Requests kind csv together) (reads, inl (inr (inr (number, is)), same, writes)) = only_last (Requests kind csv together) (going (λ e. cc)) (found_same (Requests kind csv together) (reads, writes) same)
-    work_cut_left (Requests kind csv together) (reads, inr (requests, (cause, told, (cut, writes)))) =
+    work_cut_left (Requests kind csv together) (reads, inl (inl is, same, writes), blames) = only_last (Requests kind csv together) (going (λ e. cc)) (found_same (Requests kind csv together) (reads, writes) same)
+    work_cut_left (Requests kind csv together) (reads, inl (inr (inl is), same, writes), blames) = only_last (Requests kind csv together) (going (λ e. cc)) (found_same (Requests kind csv together) (reads, writes) same)
+    work_cut_left (Requests kind csv together) (reads, inl (inr (inr (number, is)), same, writes), blames) = only_last (Requests kind csv together) (going (λ e. cc)) (found_same (Requests kind csv together) (reads, writes) same)
+    work_cut_left (Requests kind csv together) (reads, inr (requests, its, (cause, told, (cut, writes))), blames) =
         left_as new.leaves (IsFoundAfterItems (most_together together) old.ledger (items_of requests) (cut.lines ++ cut.begun)) (Found (Requests kind csv together))
         (λ B found. (requests, (cut.lines ++ cut.begun, writes, found))) (lists_left old new holds good went honest stored cause together requests cut)
     work_cut_left (Sheet of) (reads, same, inl (is, nothing)) = only_last (Sheet of) (going (λ e. cc)) same
@@ -123,10 +124,10 @@ module _ (old new : DeskState) (s : Streams) (holds : Content → Type 0) (went 
         only_last (Serve service) (going (λ e. cc)) (record { ledger = old.ledger; is_stopped = false }, ([], omega arith, refl), inl same)
     work_cut_left (Serve service) (reads, inl (inr (inr is), begun, same)) =
         only_last (Serve service) (going (λ e. cc)) (record { ledger = old.ledger; is_stopped = false }, ([], omega arith, refl), inl same)
-    work_cut_left (Serve service) (reads, inr (why, told, some)) = service_left service.connections holds old new went good honest some stored
+    work_cut_left (Serve service) (reads, inr (why, some)) = service_left service.connections holds old new went good honest (some.streams, some.as_many, some.served) stored
 
   -- however it ended
-  pub work_left : {T : Type 0} (ended : Result T Fault) (work : Work) → OnOk ended (WorkDone work old new s) → IfErr ended (λ fault. WorkCut work fault old new s) → TellsStop (ended ≡ Err Fault.Store) old new
+  pub work_left : {T : Type 0} (ended : Result T Fault) (work : Work) → OnOk ended (WorkDone out work old new s) → IfErr ended (λ fault. WorkCut out work fault old new s) → TellsStop (ended ≡ Err Fault.Store) old new
       → LeavesRowsOf new.leaves (Found work)
   work_left (Ok done) work whole cut stop = done_left work (stop.going (λ e. cc) ∙ went) whole
   work_left (Err fault) work whole cut stop = work_cut_left fault (λ other. stop.going (other_error (Err fault) fault Fault.Store refl other) ∙ went) work cut

@@ -12,7 +12,7 @@ use Rattle.keep.specs.Content.{new_content, new_row}
 use Rattle.keep.specs.declared.keep.Keep.{Ghosts}
 use Rattle.desk.specs.Desk.{DeskState, DeskView, IsStored, Snapshot, TellsStop, desk_state, going_at, snapshot}
 use Rattle.desk.specs.Opening.{IsLeft}
-use Rattle.desk.specs.Dialogue.{IsPrompt}
+use Rattle.desk.specs.Dialogue.{EndsWhole, IsPrompt}
 use Rattle.desk.specs.Script.{WritesText, lines}
 use Rattle.desk.specs.Streams.{IsSilent, Streams, streams}
 use Rattle.desk.specs.declared.fault.ScriptFault.{ScriptFault}
@@ -21,9 +21,7 @@ use Rattle.desk.proofs.LineAnswers.{cut_told, text_written}
 use Rattle.desk.proofs.SomeText.{text_from}
 use Rattle.stockdesk.specs.Runs.{AnswersLines, AnswersText, BeginsText}
 use Rattle.stockdesk.specs.Sessions.{IsBadFile, IsNoDesk, IsToldAs, IsUnbegun, OpensAndDoes, HoldsOnly, ScriptCut, Session, SessionCut, SessionInPart, SessionWhole, StillHolds, desk_left, session_in, session_on}
-use Rattle.stockdesk.specs.Work.{WorkInPart, WorkWhole}
 use Rattle.stockdesk.specs.declared.session.Fault.{Fault}
-use Rattle.stockdesk.specs.declared.work.Work.TheVariants.{Script}
 
 rows_new : IsRowsOf new_ledger new_content
 rows_new = record { desk = refl; fields = tt; moves = refl; orders = refl; lines = refl; kept = refl; firms = refl }
@@ -156,15 +154,15 @@ module _ {K : Type 0} (on : Session K) (s : Streams) (honest : on.ghosts.is_hone
   from_new : (Done : DeskState → DeskState → Type 0) (begun : OpensAndDoes on Done) (Is : Ledger → Type 0) → Is begun.first.ledger → Is new_ledger
   from_new Done begun Is h = subst Is (is_new begun.first.ledger begun.good (begun.rows honest new_content new)) h
 
-  pub runs_whole : WorkWhole on Script s → AnswersText new_ledger s
+  pub runs_whole : SessionWhole on (λ old new. EndsWhole lines old new s) → AnswersText new_ledger s
   runs_whole all = (all.on.last, from_new _ all.on (λ A. WritesText A all.on.last s) (text_written (desk_state on.ghosts all.on.first) (desk_left on all.on.last) s all.on.done))
 
   module _ (fault : Fault) where
-    pub runs_part : WorkInPart on Script fault s → BeginsText new_ledger s
+    pub runs_part : SessionInPart on fault (IsSilent s) (λ old new. ScriptCut fault old new s) → BeginsText new_ledger s
     runs_part (inl (refused, silent)) = nothing_read new_ledger s silent
     runs_part (inr cut) = from_new _ cut.on (λ A. BeginsText A s) (cut_begins fault (desk_state on.ghosts cut.on.first) (desk_left on cut.on.last) s cut.on.good cut.on.began cut.on.done)
 
-    pub runs_so_far : WorkInPart on Script fault s → fault ≡ Fault.Read → AnswersLines new_ledger s
+    pub runs_so_far : SessionInPart on fault (IsSilent s) (λ old new. ScriptCut fault old new s) → fault ≡ Fault.Read → AnswersLines new_ledger s
     runs_so_far (inl (refused, silent)) is = nothing_so_far new_ledger s silent
     runs_so_far (inr cut) is =
         let (cause, told, ends) = cut.on.done in
@@ -182,7 +180,7 @@ module _ {K : Type 0} (on : Session K) (s : Streams) (honest : on.ghosts.is_hone
         })
 
     -- a new desk is a desk, and not damaged
-    pub opens_new : on.tables new_content → WorkInPart on Script fault s → IsUnbegun fault → ⊥
+    pub opens_new : on.tables new_content → SessionInPart on fault (IsSilent s) (λ old new. ScriptCut fault old new s) → IsUnbegun fault → ⊥
     opens_new there (inl (refused, silent)) un = by refused.opening
       where
         by : IsNoDesk fault ⊎ ((fault ≡ Fault.Memory) ⊎ (fault ≡ Fault.Store)) → ⊥

@@ -12,6 +12,8 @@ use Rattle.web.specs.Serving.{Tells, cause_of}
 use Rattle.web.specs.Web.{http}
 use Rattle.web.specs.declared.served.Served.{Served}
 use Rattle.web.specs.declared.served.WebFault.{WebFault}
+use Rattle.stockdesk.specs.Outside.{Listening, Outside}
+use Rattle.stockdesk.specs.declared.loopback.Service.{Service}
 use Rattle.stockdesk.specs.declared.session.Fault.{Fault}
 
 -- ---- the port
@@ -20,11 +22,15 @@ use Rattle.stockdesk.specs.declared.session.Fault.{Fault}
 abbrev pub listening_line : ℕ → List ℕ
 listening_line port = codes "listening " ++ decimal port ++ codes "\n"
 
--- the line of some port was written
-abbrev pub PortTold : (writer_old writer_new : Option (List ℕ)) → Type 0
-PortTold writer_old writer_new = (port : ℕ) × (port < 2 ^ 16) × Appends writer_old writer_new (listening_line port)
+-- it was written
+abbrev pub TellsPort : ℕ → (writer_old writer_new : Option (List ℕ)) → Type 0
+TellsPort port writer_old writer_new = (port < 2 ^ 16) × Appends writer_old writer_new (listening_line port)
 
--- a beginning of it was written, which may be nothing
+-- that of some port was written
+abbrev pub PortTold : (writer_old writer_new : Option (List ℕ)) → Type 0
+PortTold writer_old writer_new = (port : ℕ) × TellsPort port writer_old writer_new
+
+-- a beginning of such a line was written, which may be nothing
 abbrev pub PortBegun : (writer_old writer_new : Option (List ℕ)) → Type 0
 PortBegun writer_old writer_new =
     (port : ℕ) × (count : ℕ) × (port < 2 ^ 16) × (count ≤ length (listening_line port))
@@ -54,19 +60,6 @@ AreServed end old [] new = new ≡ old
 AreServed end old (s ∷ streams) new =
     (mid : Snapshot) × (old.is_stopped ≡ false) × IsServed end old s mid × AreServed end mid streams new
 
--- What listens: a connection that may come, and one that is closed, each with what listens after that; and what is left
--- to read of it, and was written to it.
-pub record Listening (L R W : Type 0) : Type 1 where
-  pub comes : L → R → W → L → Type 0
-  pub closes : L → R → W → L → Type 0
-  pub remaining : R → Option (List ℕ)
-  pub contents : W → Option (List ℕ)
-
-abbrev pub listening : {L R W : Type 0} → (comes closes : L → R → W → L → Type 0) → (R → Option (List ℕ))
-    → (W → Option (List ℕ)) → Listening L R W
-listening comes closes remaining contents =
-    record { comes = comes; closes = closes; remaining = remaining; contents = contents }
-
 -- A connection came to what listens, and was closed with what was left to read then and all that was written.
 pub record Passes {L R W : Type 0} (g : Listening L R W) (old : L) (s : Streams) (new : L) : Type 0 where
   pub reader : R
@@ -86,10 +79,27 @@ abbrev pub Pass : {L R W : Type 0} → Listening L R W → L → List Streams �
 Pass g old [] new = new ≡ old
 Pass {L} g old (s ∷ streams) new = (mid : L) × Passes g old s mid × Pass g mid streams new
 
--- so many connections were served
-abbrev pub ServesAll : ℕ → (old new : DeskState) → Type 0
-ServesAll count old new =
-    (streams : List Streams) × (length streams ≡ count) × AreServed new (snapshot old) streams (snapshot new)
+-- Where the port was asked for a listener was had, and the port that it got is told.
+pub record Listens {L : Type 0} (listens : (asked got : ℕ) → L → Type 0) (asked : ℕ)
+    (writer_old writer_new : Option (List ℕ)) (listener : L) : Type 0 where
+  pub port : ℕ
+  pub got : listens asked port listener
+  pub told : TellsPort port writer_old writer_new
+
+-- As many connections as that is said of came to the listener of the service, whose port is told, and were served.
+pub record Serves {C L R W : Type 0} (out : Outside C L R W) (service : Service) (AsMany : ℕ → Type 0)
+    (old new : DeskState) (s : Streams) : Type 0 where
+  pub first : L
+  pub last : L
+  pub listens : Listens out.listens service.port s.writer_old s.writer_new first
+  pub streams : List Streams
+  pub as_many : AsMany (length streams)
+  pub served : AreServed new (snapshot old) streams (snapshot new)
+  pub came : Pass out.connections first streams last
+
+-- as many as are asked for
+abbrev pub ServesAll : {C L R W : Type 0} → Outside C L R W → Service → (old new : DeskState) → Streams → Type 0
+ServesAll out service old new s = Serves out service (λ count. count ≡ service.connections) old new s
 
 -- so many were served at the most, of which only the last may have stopped the desk
 abbrev pub ServesSome : ℕ → (end : DeskState) → (old new : Snapshot) → Type 0
@@ -105,9 +115,8 @@ IsFoundAfterService count first B =
 
 -- The port was not told, or not whole, since there was no socket or no memory, or a write failed; or it was told, and
 -- there was no connection more, or the last one stopped the desk.
-abbrev pub ServiceCut : Fault → ℕ → (old new : DeskState) → Streams → Type 0
-ServiceCut fault count old new s =
+abbrev pub ServiceCut : {C L R W : Type 0} → Outside C L R W → Service → Fault → (old new : DeskState) → Streams → Type 0
+ServiceCut out service fault old new s =
     (((fault ≡ Fault.Socket) ⊎ ((fault ≡ Fault.Memory) ⊎ (fault ≡ Fault.Write)))
     × PortBegun s.writer_old s.writer_new × (new.ledger ≡ old.ledger))
-    ⊎ (((fault ≡ Fault.Socket) ⊎ (fault ≡ Fault.Store)) × PortTold s.writer_old s.writer_new
-    × ServesSome count new (snapshot old) (snapshot new))
+    ⊎ (((fault ≡ Fault.Socket) ⊎ (fault ≡ Fault.Store)) × Serves out service (λ count. count ≤ service.connections) old new s)

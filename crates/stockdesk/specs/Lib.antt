@@ -1,8 +1,10 @@
 pub mod Runs
 pub mod Sessions
+pub mod Outside
 pub mod Connections
 pub mod Requests
 pub mod Sheets
+pub mod Closing
 pub mod Work
 pub mod Tasks
 pub mod Done

@@ -1,5 +1,5 @@
 -- What a desk does with a file of requests.
-use Rattle.std.specs.Prelude.{◌≡◌, ◌⊎◌, ◌↔◌, ◌++◌, ℕ, List, Option}
+use Rattle.std.specs.Prelude.{◌≡◌, ◌⊎◌, ◌↔◌, ◌++◌, ℕ, List, Option, IfSome}
 use Rattle.std.specs.declared.num.NonZeroUsize.{NonZeroUsize}
 use Rattle.std.specs.Io.KnownBytes.{Appends, Keeps}
 use Rattle.book.specs.Ledger.{Ledger}
@@ -14,6 +14,7 @@ use Rattle.files.specs.Deliveries.{SayDeliveries, delivery_header}
 use Rattle.files.specs.Files.{IsFile, NamesFirst}
 use Rattle.files.specs.Orders.{SayOrders, order_header}
 use Rattle.files.specs.declared.fault.FileFault.{FileFault}
+use Rattle.stockdesk.specs.Outside.{Paths}
 use Rattle.stockdesk.specs.Sessions.{IsBadFile, IsCutAs}
 use Rattle.stockdesk.specs.declared.requests.Kind.{Kind}
 use Rattle.stockdesk.specs.declared.requests.Kind.TheVariants.{Bounds, Deliveries, Orders}
@@ -39,6 +40,17 @@ pub record IsFileFault (cause : FileFault) (fault : Fault) : Type 0 where
   pub memory : fault ≡ Fault.Memory ↔ cause ≡ FileFault.Memory
   pub reading : fault ≡ Fault.Csv ↔ cause ≡ FileFault.Io
 
+-- the file that opened at the path is of that kind, and says these requests
+abbrev pub IsFileAt : {C : Type 0} → Paths C → Kind → List ℕ → List Request → Type 0
+IsFileAt {C} files kind path requests =
+    (file : C) × files.opens path file × IfSome (files.remaining file) (λ bytes. IsFileOf kind bytes requests)
+
+-- a fault that names a record names the first one at fault in the file that opened at the path, which is of that kind
+abbrev pub BlamesFileAt : {C : Type 0} → Paths C → Kind → List ℕ → Fault → Type 0
+BlamesFileAt {C} files kind path fault = (number : ℕ) → fault ≡ Fault.BadRecord number
+    → (file : C) × files.opens path file
+    × IfSome (files.remaining file) (λ bytes. NamesFirstOf kind bytes (FileFault.BadRecord number))
+
 -- ---- answers
 
 -- the requests are answered in the form of script replies
@@ -50,8 +62,10 @@ abbrev pub FileUnread : Fault → (old new : DeskState) → Streams → Type 0
 FileUnread fault old new s = ((fault ≡ Fault.Memory) ⊎ IsBadFile fault) × (new.ledger ≡ old.ledger)
     × Keeps s.writer_old s.writer_new
 
--- the file was not read, and nothing is done; or some requests were read, and the answers to them are cut
-abbrev pub FileCut : Option NonZeroUsize → Fault → (old new : DeskState) → Streams → Type 0
-FileCut together fault old new s = FileUnread fault old new s ⊎ ((requests : List Request) × IsCutAs fault (λ cause.
+-- the file was not read, and nothing is done; or its requests were, and the answers to them are cut
+abbrev pub FileCut : (AreIts : List Request → Type 0) → Option NonZeroUsize → Fault → (old new : DeskState) → Streams
+    → Type 0
+FileCut AreIts together fault old new s = FileUnread fault old new s
+    ⊎ ((requests : List Request) × AreIts requests × IsCutAs fault (λ cause.
     (cut : IsCutInLists cause together old requests new)
     × Appends s.writer_old s.writer_new (cut.lines ++ cut.begun)))

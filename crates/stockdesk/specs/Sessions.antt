@@ -1,9 +1,12 @@
 -- What a session does with a desk that is held, and with what it reads and writes.
-use Rattle.std.specs.Prelude.{◌≡◌, ◌≢◌, ◌⊎◌, ◌↔◌, ℕ, [], ◌∷◌, IsTrue, false}
+use Rattle.std.specs.Prelude.{◌≡◌, ◌≢◌, ◌≤◌, ◌⊎◌, ◌↔◌, ℕ, pos, [], ◌∷◌, IsTrue, false}
+use Rattle.sqlite_wal.specs.Recovery.{Image}
 use Rattle.book.specs.Good.{Good}
 use Rattle.book.specs.Ledger.{Ledger}
 use Rattle.book.specs.Rows.{Content, IsDamaged, IsRowsOf}
-use Rattle.keep.specs.Content.{IsDesk, new_content}
+use Rattle.keep.specs.Content.{IsDesk, IsOneRow, new_content}
+use Rattle.keep.specs.Description.{newest}
+use Rattle.keep.specs.Starts.{StartsOf}
 use Rattle.keep.specs.declared.keep.Keep.{Ghosts}
 use Rattle.desk.specs.Desk.{DeskState, DeskView, IsStored, desk_state}
 use Rattle.desk.specs.Opening.{IsLeft}
@@ -32,6 +35,11 @@ pub record HoldsOnly {K : Type 0} (g : Ghosts K) (was : Content → Type 0) (kee
 pub record StillHolds {K : Type 0} (g : Ghosts K) (was : Content → Type 0) (keep : K) : Type 0 where
   pub held : g.stopped keep ≡ false → (x : Content) → was x → g.holds keep x
   pub alone : (x : Content) → was x → g.leaves keep (x ∷ [])
+
+-- the bytes hold a desk, of the version that is written here or an older one
+abbrev pub StartsAsDesk : Image → Type 0
+StartsAsDesk image = (version : ℕ) × (x : Content) × (1 ≤ version) × (version ≤ newest) × StartsOf version image x
+    × IsOneRow (pos version) x.desk
 
 -- ---- faults
 

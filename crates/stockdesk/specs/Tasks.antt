@@ -1,9 +1,10 @@
 -- The words that the program takes, and the task that they ask for, as `clap` sees them.
-use Rattle.std.specs.Prelude.{◌≡◌, ◌<◌, ◌≤◌, ◌∷◌, ◌^◌, [], Bool, List, None, Option, Some, false, true, codes, decimal}
+use Rattle.std.specs.Prelude.{◌≡◌, ◌≢◌, ◌<◌, ◌≤◌, ◌∷◌, ◌^◌, [], Bool, List, None, Option, Some, false, true, codes, decimal}
 use Rattle.std.specs.Int.NonZero.{non_zero_usize_get}
 use Rattle.std.specs.declared.num.NonZeroUsize.{NonZeroUsize}
 use Rattle.clap.specs.Words.{App, Row, Rule, Text, first_of, new_app, new_rule, with_rule, with_subcommand}
 use Rattle.clap.specs.declared.builder.action.ArgAction.TheVariants.{Set}
+use Rattle.escrow.specs.Codes.{IsArticle, IsBranch}
 use Rattle.stockdesk.specs.declared.loopback.Service.{Service}
 use Rattle.stockdesk.specs.declared.sheet.SheetOf.TheVariants.{Article, Branch}
 use Rattle.stockdesk.specs.declared.tasks.Task.{Task}
@@ -132,6 +133,81 @@ AsksFor name rows (InFile path work) = (first_of (codes "FILE") rows ≡ Some pa
 abbrev pub Asks : Option (Text × List Row) → Task → Type 0
 Asks found task = (name : Text) × (rows : List Row) × (found ≡ Some (name, rows)) × AsksFor name rows task
 
--- the words are the program's name and `run`
-abbrev pub IsPlainRun : List Text → Type 0
-IsPlainRun words = (name : Text) × (words ≡ name ∷ codes "run" ∷ [])
+-- ---- the words for a task, written out
+
+-- the word is no option: it begins with no hyphen
+abbrev pub IsNoOption : Text → Type 0
+IsNoOption [] = Unit {0}
+IsNoOption (first ∷ rest) = first ≢ 45
+
+-- so many together
+abbrev pub together_words : Option NonZeroUsize → List Text
+together_words None = []
+together_words (Some most) = codes "--together" ∷ decimal (non_zero_usize_get most) ∷ []
+
+-- the words for work on the desk in a file
+abbrev pub work_words : Text → Work → List Text
+work_words path Script = codes "run" ∷ path ∷ []
+work_words path (Requests kind csv together) = command_of kind ∷ path ∷ csv.now ∷ together_words together
+work_words path (Sheet (Branch branch)) = codes "sheet" ∷ path ∷ branch ∷ []
+work_words path (Sheet (Article article)) = codes "article" ∷ path ∷ article ∷ []
+work_words path (Serve service) = codes "serve" ∷ path ∷ codes "--port" ∷ decimal service.port
+    ∷ codes "--connections" ∷ decimal service.connections ∷ []
+
+-- the words for a task, behind the program's name
+abbrev pub task_words : Task → List Text
+task_words (Init path) = codes "init" ∷ path.now ∷ []
+task_words (Upgrade path) = codes "upgrade" ∷ path.now ∷ []
+task_words InMemory = codes "run" ∷ []
+task_words (InFile path work) = work_words path.now work
+
+-- from 1 to a thousand, where it is said how many
+abbrev pub IsFew : Option NonZeroUsize → Type 0
+IsFew None = Unit {0}
+IsFew (Some most) = (1 ≤ non_zero_usize_get most) × (non_zero_usize_get most ≤ 1000)
+
+-- the work can be asked for: the name of its file is no option, its code has the form, and its numbers are in range
+abbrev pub IsWorkToAsk : Work → Type 0
+IsWorkToAsk Script = Unit {0}
+IsWorkToAsk (Requests kind csv together) = IsNoOption csv.now × IsFew together
+IsWorkToAsk (Sheet (Branch branch)) = IsBranch branch
+IsWorkToAsk (Sheet (Article article)) = IsArticle article
+IsWorkToAsk (Serve service) = (service.port < 2 ^ 16) × (1 ≤ service.connections) × (service.connections ≤ 1000000)
+
+-- the task can be asked for, likewise
+abbrev pub IsToAsk : Task → Type 0
+IsToAsk (Init path) = IsNoOption path.now
+IsToAsk (Upgrade path) = IsNoOption path.now
+IsToAsk InMemory = Unit {0}
+IsToAsk (InFile path work) = IsNoOption path.now × IsWorkToAsk work
+
+-- the words are the program's name, and those for this task, which can be asked for
+abbrev pub AreWordsFor : Task → List Text → Type 0
+AreWordsFor task words = (name : Text) × (words ≡ name ∷ task_words task) × IsToAsk task
+
+-- ---- which words are taken (private)
+
+-- a command, and what was found behind it, give work
+pub record TakesWork (name : Text) (rows : List Row) (Taken : Type 0) : Type 0 where
+  pub of_script : name ≡ codes "run" → Taken
+  pub of_requests : (kind : Kind) (csv : Text) (together : Option NonZeroUsize) → name ≡ command_of kind
+      → first_of (codes "CSV") rows ≡ Some csv → AsksTogether (first_of (codes "together") rows) together
+      → IsFew together → Taken
+  pub of_branch : (branch : Text) → name ≡ codes "sheet" → first_of (codes "BRANCH") rows ≡ Some branch
+      → IsBranch branch → Taken
+  pub of_article : (article : Text) → name ≡ codes "article" → first_of (codes "ARTICLE") rows ≡ Some article
+      → IsArticle article → Taken
+  pub of_service : (port connections : Text) (service : Service) → name ≡ codes "serve"
+      → first_of (codes "port") rows ≡ Some port → first_of (codes "connections") rows ≡ Some connections
+      → IsService port connections service → Taken
+
+-- a command with the file of a desk gives a task
+pub record TakesOn (name : Text) (rows : List Row) (Taken : Type 0) : Type 0 where
+  pub of_init : name ≡ codes "init" → Taken
+  pub of_upgrade : name ≡ codes "upgrade" → Taken
+  pub of_work : TakesWork name rows Taken
+
+-- a command gives a task
+pub record Takes (name : Text) (rows : List Row) (Taken : Type 0) : Type 0 where
+  pub on_file : (path : Text) → first_of (codes "FILE") rows ≡ Some path → TakesOn name rows Taken
+  pub in_memory : name ≡ codes "run" → first_of (codes "FILE") rows ≡ None → Taken

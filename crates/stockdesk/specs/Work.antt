@@ -10,8 +10,9 @@ use Rattle.desk.specs.Script.{Writes, lines}
 use Rattle.desk.specs.Streams.{IsSilent, Streams}
 use Rattle.desk.specs.Text.{items_of}
 use Rattle.words.specs.declared.command.Request.{Request}
-use Rattle.stockdesk.specs.Connections.{IsFoundAfterService, PortTold, ServesAll, ServiceCut}
-use Rattle.stockdesk.specs.Requests.{FileCut, RequestsAnswered}
+use Rattle.stockdesk.specs.Connections.{IsFoundAfterService, ServesAll, ServiceCut}
+use Rattle.stockdesk.specs.Outside.{Outside}
+use Rattle.stockdesk.specs.Requests.{BlamesFileAt, FileCut, IsFileAt, RequestsAnswered}
 use Rattle.stockdesk.specs.Sessions.{IsNoDesk, ScriptCut, Session, SessionInPart, SessionWhole, desk_left}
 use Rattle.stockdesk.specs.Sheets.{SheetCut, SheetWritten}
 use Rattle.stockdesk.specs.declared.session.Fault.{Fault}
@@ -21,34 +22,34 @@ use Rattle.stockdesk.specs.declared.work.Work.TheVariants.{Requests, Script, Ser
 -- ---- what is done
 
 -- The work is done, on a desk that was so before and is so after it: all of the input was read, and its text written;
--- some requests are answered; the sheet was written, and the ledger is as it was; the port was told, and so many
--- connections were served.
-abbrev pub WorkDone : Work → (old new : DeskState) → Streams → Type 0
-WorkDone Script old new s = EndsWhole lines old new s
-WorkDone (Requests kind csv together) old new s =
-    Keeps s.reader_old s.reader_new × ((requests : List Request) × RequestsAnswered requests old.ledger new.ledger s)
-WorkDone (Sheet of) old new s = Keeps s.reader_old s.reader_new × (new.ledger ≡ old.ledger)
+-- the requests of the file are answered; the sheet was written, and the ledger is as it was; the port was told, and so
+-- many of the connections that came there were served.
+abbrev pub WorkDone : {C L R W : Type 0} → Outside C L R W → Work → (old new : DeskState) → Streams → Type 0
+WorkDone out Script old new s = EndsWhole lines old new s
+WorkDone out (Requests kind csv together) old new s = Keeps s.reader_old s.reader_new
+    × ((requests : List Request) × IsFileAt out.files kind csv.now requests
+    × RequestsAnswered requests old.ledger new.ledger s)
+WorkDone out (Sheet of) old new s = Keeps s.reader_old s.reader_new × (new.ledger ≡ old.ledger)
     × SheetWritten of old.ledger s.writer_old s.writer_new
-WorkDone (Serve service) old new s = Keeps s.reader_old s.reader_new × PortTold s.writer_old s.writer_new
-    × ServesAll service.connections old new
+WorkDone out (Serve service) old new s = Keeps s.reader_old s.reader_new × ServesAll out service old new s
 
 -- the work is cut
-abbrev pub WorkCut : Work → Fault → (old new : DeskState) → Streams → Type 0
-WorkCut Script fault old new s = ScriptCut fault old new s
-WorkCut (Requests kind csv together) fault old new s =
-    Keeps s.reader_old s.reader_new × FileCut together fault old new s
-WorkCut (Sheet of) fault old new s = Keeps s.reader_old s.reader_new × (new.ledger ≡ old.ledger)
+abbrev pub WorkCut : {C L R W : Type 0} → Outside C L R W → Work → Fault → (old new : DeskState) → Streams → Type 0
+WorkCut out Script fault old new s = ScriptCut fault old new s
+WorkCut out (Requests kind csv together) fault old new s = Keeps s.reader_old s.reader_new
+    × FileCut (IsFileAt out.files kind csv.now) together fault old new s × BlamesFileAt out.files kind csv.now fault
+WorkCut out (Sheet of) fault old new s = Keeps s.reader_old s.reader_new × (new.ledger ≡ old.ledger)
     × SheetCut of fault old.ledger s.writer_old s.writer_new
-WorkCut (Serve service) fault old new s =
-    Keeps s.reader_old s.reader_new × ServiceCut fault service.connections old new s
+WorkCut out (Serve service) fault old new s =
+    Keeps s.reader_old s.reader_new × ServiceCut out service fault old new s
 
 -- the desk was opened, and the work done
-abbrev pub WorkWhole : {K : Type 0} → Session K → Work → Streams → Type 0
-WorkWhole on work s = SessionWhole on (λ old new. WorkDone work old new s)
+abbrev pub WorkWhole : {K C L R W : Type 0} → Outside C L R W → Session K → Work → Streams → Type 0
+WorkWhole out on work s = SessionWhole on (λ old new. WorkDone out work old new s)
 
 -- no desk was opened, and nothing read or written; or one was, and the work cut
-abbrev pub WorkInPart : {K : Type 0} → Session K → Work → Fault → Streams → Type 0
-WorkInPart on work fault s = SessionInPart on fault (IsSilent s) (λ old new. WorkCut work fault old new s)
+abbrev pub WorkInPart : {K C L R W : Type 0} → Outside C L R W → Session K → Work → Fault → Streams → Type 0
+WorkInPart out on work fault s = SessionInPart on fault (IsSilent s) (λ old new. WorkCut out work fault old new s)
 
 -- ---- what is found after a session
 

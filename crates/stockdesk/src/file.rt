@@ -1,11 +1,15 @@
 //! A desk in a file.
 
 ghost use Rattle.std.specs.Prelude.{◌≡◌, ◌≢◌, ◌⊎◌, ◌↔◌, ◌∷◌, ℕ, [], false, pos, Err, IfErr, IfOk, OnErr, OnOk};
+ghost use Rattle.sqlite_wal.specs.Reads.{AreClean};
+ghost use Rattle.sqlite_store.specs.FileStore.{recovers, view};
 ghost use Rattle.desk.specs.Streams.{IsSilent, streams};
 ghost use Rattle.sqlite.specs.WalFiles.{image_at};
-ghost use Rattle.sqlite.specs.Files.{file_state};
+ghost use Rattle.sqlite.specs.Closing.{IsCopied};
+ghost use Rattle.sqlite.specs.Files.{IsClosed, file_state};
 ghost use Rattle.sqlite.specs.State.{HasCleanDisk};
 ghost use Rattle.sqlite_trees.specs.Tree.{Trees};
+ghost use Rattle.sqlite_trees.specs.View.{IsClean};
 ghost use Rattle.book.specs.Good.{Good};
 ghost use Rattle.book.specs.Ledger.{Ledger};
 ghost use Rattle.book.specs.Rows.{Content, DeskCells, IsRowsOf};
@@ -13,16 +17,19 @@ ghost use Rattle.keep.specs.Content.{Holds, HoldsOf, IsContent, LeavesOnly};
 ghost use Rattle.keep.specs.Description.{IsOlder};
 ghost use Rattle.keep.specs.Old.{HoldsOld, IsOldContent, upgraded};
 ghost use Rattle.keep.specs.Starts.{StartsOf, StartsOld, StartsWith};
-ghost use Rattle.stockdesk.specs.Sessions.{HoldsOnly, IsNewDesk, IsNotOpened, session_in};
+ghost use Rattle.stockdesk.specs.Closing.{LeavesInFile};
+ghost use Rattle.stockdesk.specs.Outside.{listening, outside, paths};
+ghost use Rattle.stockdesk.specs.Sessions.{HoldsOnly, IsNewDesk, IsNotOpened, StartsAsDesk, session_in};
 ghost use Rattle.stockdesk.specs.Work.{GoesOnFrom, WorkInPart, WorkWhole};
 
+use crate::machine::Machine;
 use crate::new_desk::new_desk;
 use crate::session::Fault;
 use crate::upgrade;
 use crate::work::{self, Work};
 use keep::{Keep, SqlKeep, open_path};
 use sqlite::{Connection, Error, ErrorCode, FileFrom, FileStore, Start};
-use sqlite_disk::Disk;
+use sqlite_disk::{Disk, Files};
 use std::fs;
 use std::io::{ErrorKind, Read, Write};
 
@@ -69,17 +76,31 @@ impl From<Error> for Fault {
     }
 }
 
-/// Copies the log into the file where that succeeds, and closes both.
-fn close_connection<D: Disk + Drop>(conn: Connection<FileStore<D>>) {
+/// Copies the log into the file and gives both, or the store where that failed.
+fn close_connection<D: Disk + Drop>(
+    conn: Connection<FileStore<D>>,
+) -> Result<Files<D>, FileStore<D>>
+    ensures copied { IfOk result (λ files. AreClean D.Disk files.log files.db → IsCopied conn files) }
+    ensures kept { IfErr result (IsClosed conn) }
+{
     match conn.close_files() {
-        Ok(files) => drop(files),
-        Err((_, store)) => drop(store.close()),
+        Ok(files) => Ok(files),
+        Err((_, store)) => Err(store),
     }
 }
 
-/// Closes the file of a keeper. What is committed is in it, or in the log beside it where copying that failed.
-pub fn close<D: Disk + Drop>(keep: SqlKeep<FileStore<D>>) {
-    close_connection(keep.into_connection());
+/// Ends a keeper, and gives its file and the log beside it, to be dropped. Whatever it held is in the file alone, also
+/// after a stop; or, where copying the log failed, a stop leaves what it could leave before.
+pub fn close<D: Disk + Drop>(keep: SqlKeep<FileStore<D>>) -> Result<Files<D>, FileStore<D>>
+    ensures copied { IfOk result (λ files. AreClean D.Disk files.log files.db → (version : ℕ) (x : Content)
+        → HoldsOf version (file_state keep.connection).now x → LeavesInFile D.Disk files version x) }
+    ensures kept { IfErr result (λ store. IsClean (view store) → (trees : Trees) → recovers store trees
+        → (file_state keep.connection).may_leave trees) }
+{
+    let conn = keep.into_connection();
+    // between transactions an open store shows what is committed
+    let _settled = conn.is_autocommit();
+    close_connection(conn)
 }
 
 /// Makes a new desk over the connection. Where that fails its files are closed.
@@ -91,7 +112,7 @@ fn init_over<D: Disk + Drop>(conn: Connection<FileStore<D>>) -> Result<SqlKeep<F
     match new_desk(conn) {
         Ok(keep) => Ok(keep),
         Err((fault, conn)) => {
-            close_connection(conn);
+            drop(close_connection(conn));
             Err(fault)
         }
     }
@@ -133,18 +154,23 @@ pub fn open<S: Start>(rt: &HostRuntime, path: &str, start: S) -> Result<FileKeep
 /// Does the work on the desk in the file at the path, whose bytes are named by `start`. The keeper comes back as the
 /// session leaves it, and is still open. Where the file was not opened nothing is read or written: a file that is not
 /// there or has no bytes is `NotADesk`, and none is made.
-pub fn session<S: Start, R: Read, W: Write>(
+pub fn session<S: Start, M: Machine, R: Read, W: Write>(
     rt: &HostRuntime,
+    machine: &M,
     path: &str,
     start: S,
     work: &Work<'_>,
     reader: &mut R,
     writer: &mut W,
 ) -> Result<(FileKeep<S>, Result<(), Fault>), Fault>
-    ensures whole { IfOk result (λ r. OnOk r.1 (WorkWhole
+    ensures whole { IfOk result (λ r. OnOk r.1 (WorkWhole (outside (paths (M.opens machine.now) M.Csv.remaining)
+        (M.listens machine.now) (listening M.Listener.comes M.Listener.closes M.Listener.Reader.remaining
+        M.Listener.Writer.contents))
         (session_in ⟦<FileKeep<S> as Keep>⟧ (StartsWith (image_at S.Start)) r.0) work.now
         (streams (R.remaining reader.old) (R.remaining reader.new) (W.contents writer.old) (W.contents writer.new)))) }
-    ensures cut { IfOk result (λ r. IfErr r.1 (λ fault. WorkInPart
+    ensures cut { IfOk result (λ r. IfErr r.1 (λ fault. WorkInPart (outside (paths (M.opens machine.now) M.Csv.remaining)
+        (M.listens machine.now) (listening M.Listener.comes M.Listener.closes M.Listener.Reader.remaining
+        M.Listener.Writer.contents))
         (session_in ⟦<FileKeep<S> as Keep>⟧ (StartsWith (image_at S.Start)) r.0) work.now fault
         (streams (R.remaining reader.old) (R.remaining reader.new) (W.contents writer.old) (W.contents writer.new)))) }
     // what is of an older version is told as that, and as nothing else but want of memory or the store
@@ -162,7 +188,7 @@ pub fn session<S: Start, R: Read, W: Write>(
         (streams (R.remaining reader.old) (R.remaining reader.new) (W.contents writer.old) (W.contents writer.new))) }
 {
     let keep = open(rt, path, start)?;
-    Ok(work::session(rt, keep, work, reader, writer))
+    Ok(work::session(rt, machine, keep, work, reader, writer))
 }
 
 /// Makes the newest version of the desk in the file at the path, whose bytes are named by `start`, where it is of an
@@ -189,10 +215,9 @@ pub fn upgrade<S: Start>(
     ensures unchanged { IfOk result (λ r. HasCleanDisk (file_state r.0.connection) → r.1 ≡ Err Fault.NotADesk
         → (x : Content) → (StartsWith (image_at S.Start) x → Holds (file_state r.0.connection).now x)
         × (StartsOld (image_at S.Start) x → HoldsOld (file_state r.0.connection).now x)) }
-    // what is of an older version is never called no desk
-    ensures desk { IfOk result (λ r. HasCleanDisk (file_state r.0.connection) → IfErr r.1
-        (λ fault. fault ≡ Fault.NotADesk → (version : ℕ) (x : Content) (row : DeskCells) → IsOlder version
-        → x.desk ≡ row ∷ [] → row.version ≡ pos version → ¬ StartsOf version (image_at S.Start) x)) }
+    // a desk of whatever version is never told as none
+    ensures desk { IfOk result (λ r. HasCleanDisk (file_state r.0.connection) → r.1 ≡ Err Fault.NotADesk
+        → ¬ StartsAsDesk (image_at S.Start)) }
     ensures fault { IfErr result IsNotOpened }
 {
     let keep = open(rt, path, start)?;

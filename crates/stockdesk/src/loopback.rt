@@ -3,15 +3,17 @@
 ghost use Rattle.std.specs.Prelude.{◌≡◌, ◌≤◌, ◌⊎◌, false, Err, IfErr, IfOk, List, length, OnErr, OnOk};
 ghost use Rattle.desk.specs.Desk.{Goes, TellsStop, desk_state, snapshot};
 ghost use Rattle.desk.specs.Streams.{Streams};
-ghost use Rattle.stockdesk.specs.Connections.{AreServed, Pass, PortBegun, PortTold, listening, listening_line};
+ghost use Rattle.stockdesk.specs.Connections.{AreServed, Listens, Pass, PortBegun, TellsPort, listening_line};
+ghost use Rattle.stockdesk.specs.Outside.{listening};
 
+use crate::machine::Machine;
 use crate::session::Fault;
 use desk::Desk;
 use itoa::Buffer;
 use keep::Keep;
 use std::alloc::{AllocError, Global};
 use std::io::{self, Read, Write};
-use std::net::{Ipv4Addr, SocketAddr, TcpListener, TcpStream};
+use std::net::{TcpListener, TcpStream};
 use words::write_whole;
 
 /// Where a desk is served, port 0 being any that is free, and to how many connections.
@@ -115,7 +117,7 @@ fn port_line(alloc: Global, port: u16) -> Result<Vec<u8>, AllocError>
 
 /// Tells the port.
 fn tell_port<W: Write>(alloc: Global, port: u16, writer: &mut W) -> Result<(), Fault>
-    ensures whole { OnOk result (PortTold (W.contents writer.old) (W.contents writer.new)) }
+    ensures whole { OnOk result (TellsPort port (W.contents writer.old) (W.contents writer.new)) }
     ensures beginning { OnErr result (PortBegun (W.contents writer.old) (W.contents writer.new)) }
     ensures fault { IfErr result (λ fault. (fault ≡ Fault.Memory) ⊎ (fault ≡ Fault.Write)) }
 {
@@ -128,22 +130,23 @@ fn tell_port<W: Write>(alloc: Global, port: u16, writer: &mut W) -> Result<(), F
     }
 }
 
-/// Listens on this machine alone, and tells the port that it got.
-pub fn listen_at<W: Write>(
+/// Listens at a port of the machine, and tells the one that it got.
+pub fn listen_at<M: Machine, W: Write>(
     rt: &HostRuntime,
+    machine: &M,
     port: u16,
     writer: &mut W,
-) -> Result<TcpListener, Fault>
-    ensures whole { OnOk result (PortTold (W.contents writer.old) (W.contents writer.new)) }
+) -> Result<M::Listener, Fault>
+    ensures whole { IfOk result (Listens (M.listens machine.now) port (W.contents writer.old)
+        (W.contents writer.new)) }
     ensures beginning { OnErr result (PortBegun (W.contents writer.old) (W.contents writer.new)) }
     ensures fault { IfErr result (λ fault. (fault ≡ Fault.Socket) ⊎ ((fault ≡ Fault.Memory) ⊎ (fault ≡ Fault.Write))) }
 {
-    let Ok(listener) = TcpListener::bind(rt, SocketAddr::from((Ipv4Addr::LOCALHOST, port))) else {
+    let Ok((listener, got)) = machine.listen(rt, port) else {
         return Err(Fault::Socket);
     };
-    let Ok(address) = listener.local_addr() else {
-        return Err(Fault::Socket);
-    };
-    tell_port(rt.alloc(), address.port(), writer)?;
-    Ok(listener)
+    match tell_port(rt.alloc(), got, writer) {
+        Ok(()) => Ok(listener),
+        Err(fault) => Err(fault),
+    }
 }

@@ -8,10 +8,12 @@ ghost use Rattle.clap.specs.Words.{kind_of};
 ghost use Rattle.stockdesk.specs.Done.{DoesAsked, DoesAskedInPart};
 ghost use Rattle.stockdesk.specs.Runs.{AnswersText, BeginsText};
 ghost use Rattle.stockdesk.specs.Sessions.{IsBadFile, IsNoDesk, IsUnbegun};
-ghost use Rattle.stockdesk.specs.Tasks.{IsPlainRun};
+ghost use Rattle.stockdesk.specs.Tasks.{AreWordsFor};
+ghost use Rattle.stockdesk.specs.declared.tasks.Task.{Task};
 
 mod file;
 mod loopback;
+mod machine;
 mod memory;
 mod new_desk;
 mod perform;
@@ -22,6 +24,7 @@ mod tasks;
 mod upgrade;
 mod work;
 
+use crate::machine::Host;
 use crate::perform::perform;
 use crate::session::Fault;
 use crate::tasks::read_task;
@@ -84,8 +87,10 @@ where
         (streams (R.remaining reader.old) (R.remaining reader.new) (W.contents writer.old) (W.contents writer.new)) }
     ensures untouched { (result ≡ 2) ⊎ ((result ≡ 3) ⊎ (result ≡ 4)) → IsSilent
         (streams (R.remaining reader.old) (R.remaining reader.new) (W.contents writer.old) (W.contents writer.new)) }
+    // words for a task, as they are written out, are no other words
+    ensures words { (task : Task) → AreWordsFor task (map (λ s. s.now) words.entry.now) → result ≢ 2 }
     // the one word `run`: status 0, and all that was there is answered, or status 1 and a beginning of that
-    ensures plain { IsPlainRun (map (λ s. s.now) words.entry.now)
+    ensures plain { AreWordsFor Task.InMemory (map (λ s. s.now) words.entry.now)
         → ((result ≡ 0) × AnswersText new_ledger
         (streams (R.remaining reader.old) (R.remaining reader.new) (W.contents writer.old) (W.contents writer.new)))
         ⊎ ((result ≡ 1) × BeginsText new_ledger
@@ -96,7 +101,7 @@ where
         Ok(None) => return tell(errors, b"stockdesk: usage\n", 2),
         Err(error) => return tell_words(errors, &error),
     };
-    match perform(rt, &task, reader, writer) {
+    match perform(rt, &Host, &task, reader, writer) {
         Ok(()) => 0,
         Err(fault) => tell_fault(errors, fault),
     }

@@ -6,6 +6,7 @@ ghost use Rattle.desk.specs.Streams.{streams};
 ghost use Rattle.stockdesk.specs.Runs.{AnswersLines, AnswersText, BeginsText};
 ghost use Rattle.stockdesk.specs.Sessions.{IsUnbegun};
 
+use crate::machine::Host;
 use crate::new_desk::new_desk;
 use crate::session::Fault;
 use crate::work::{Work, session};
@@ -31,6 +32,6 @@ pub fn run<R: Read, W: Write>(rt: &HostRuntime, reader: &mut R, writer: &mut W) 
         Ok(keep) => keep,
         Err((fault, _)) => return Err(fault),
     };
-    let (_, ended) = session(rt, keep, &Work::Script, reader, writer);
+    let (_, ended) = session(rt, &Host, keep, &Work::Script, reader, writer);
     ended
 }

@@ -5,6 +5,7 @@ ghost use Rattle.desk.specs.Streams.{IsSilent, streams};
 ghost use Rattle.stockdesk.specs.Done.{Does, DoesInPart};
 ghost use Rattle.stockdesk.specs.Sessions.{IsUnbegun};
 
+use crate::machine::Machine;
 use crate::session::Fault;
 use crate::tasks::Task;
 use crate::{file, memory};
@@ -12,8 +13,9 @@ use sqlite::Unknown;
 use std::io::{Read, Write};
 
 /// Does what is asked for, and closes the file in which it is done.
-pub fn perform<R: Read, W: Write>(
+pub fn perform<M: Machine, R: Read, W: Write>(
     rt: &HostRuntime,
+    machine: &M,
     task: &Task<'_>,
     reader: &mut R,
     writer: &mut W,
@@ -28,18 +30,19 @@ pub fn perform<R: Read, W: Write>(
 {
     match task {
         Task::Init(path) => {
-            file::close(file::init(rt, *path, Unknown)?);
+            let keep = file::init(rt, *path, Unknown)?;
+            drop(file::close(keep));
             Ok(())
         }
         Task::Upgrade(path) => {
             let (keep, ended) = file::upgrade(rt, *path, Unknown)?;
-            file::close(keep);
+            drop(file::close(keep));
             ended
         }
         Task::InMemory => memory::run(rt, reader, writer),
         Task::InFile(path, work) => {
-            let (keep, ended) = file::session(rt, *path, Unknown, work, reader, writer)?;
-            file::close(keep);
+            let (keep, ended) = file::session(rt, machine, *path, Unknown, work, reader, writer)?;
+            drop(file::close(keep));
             ended
         }
     }

@@ -3,17 +3,18 @@
 ghost use Rattle.std.specs.Prelude.{◌≡◌, ◌⊎◌, Err, IfErr, IfOk, IfSome, List, OnOk};
 ghost use Rattle.desk.specs.Desk.{Goes, TellsStop, desk_state};
 ghost use Rattle.desk.specs.Streams.{only_written};
-ghost use Rattle.stockdesk.specs.Requests.{FileCut, IsFileFault, IsFileOf, NamesFirstOf, RequestsAnswered};
+ghost use Rattle.stockdesk.specs.Outside.{paths};
+ghost use Rattle.stockdesk.specs.Requests.{BlamesFileAt, FileCut, IsFileAt, IsFileFault, IsFileOf, NamesFirstOf, RequestsAnswered};
 ghost use Rattle.stockdesk.specs.Sessions.{IsBadFile, IsNoDesk, IsUnbegun};
 ghost use Rattle.words.specs.declared.command.Request.{Request};
 ghost use Rattle.files.specs.declared.fault.FileFault.{FileFault};
 
+use crate::machine::Machine;
 use crate::session::Fault;
 use desk::{Desk, answer_lists};
 use files::{FileFault, read_bounds, read_deliveries, read_orders};
 use keep::Keep;
 use std::alloc::Global;
-use std::fs::File;
 use std::io::{ErrorKind, Read, Write};
 use std::num::NonZeroUsize;
 use words::Request;
@@ -57,7 +58,7 @@ impl From<FileFault> for Fault {
 
 /// The fault that an error of opening the file is told as.
 fn csv_fault(kind: ErrorKind) -> Fault
-    ensures { (result ≡ Fault.Memory) ⊎ IsBadFile result }
+    ensures { (result ≡ Fault.Memory) ⊎ (result ≡ Fault.Csv) }
 {
     match kind {
         ErrorKind::OutOfMemory => Fault::Memory,
@@ -75,8 +76,9 @@ fn answer_requests<K: Keep, W: Write>(
 ) -> Result<(), Fault>
     ensures whole { OnOk result (RequestsAnswered requests.now desk.old.ledger desk.new.ledger
         (only_written (W.contents writer.old) (W.contents writer.new))) }
-    ensures cut { IfErr result (λ fault. FileCut together fault (desk_state K.Keep desk.old)
-        (desk_state K.Keep desk.new) (only_written (W.contents writer.old) (W.contents writer.new))) }
+    ensures cut { IfErr result (λ fault. FileCut (λ answered. answered ≡ requests.now) together fault
+        (desk_state K.Keep desk.old) (desk_state K.Keep desk.new)
+        (only_written (W.contents writer.old) (W.contents writer.new))) }
     ensures begun { IfErr result (λ fault. ¬ IsUnbegun fault) }
     ensures stop { TellsStop (result ≡ Err Fault.Store) (desk_state K.Keep desk.old) (desk_state K.Keep desk.new) }
     ensures goes { Goes K.Keep desk.old desk.new }
@@ -98,7 +100,8 @@ fn answer_from<K: Keep, R: Read + Drop, W: Write>(
         (only_written (W.contents writer.old) (W.contents writer.new))) }
     ensures unread { IfErr result (λ fault. IsBadFile fault → IfSome (R.remaining reader)
         (λ bytes. (cause : FileFault) × IsFileFault cause fault × NamesFirstOf kind bytes cause)) }
-    ensures cut { IfErr result (λ fault. FileCut together fault (desk_state K.Keep desk.old)
+    ensures cut { IfErr result (λ fault. FileCut (λ requests. IfSome (R.remaining reader)
+        (λ bytes. IsFileOf kind bytes requests)) together fault (desk_state K.Keep desk.old)
         (desk_state K.Keep desk.new) (only_written (W.contents writer.old) (W.contents writer.new))) }
     ensures desk { IfErr result (λ fault. ¬ IsNoDesk fault) }
     ensures stop { TellsStop (result ≡ Err Fault.Store) (desk_state K.Keep desk.old) (desk_state K.Keep desk.new) }
@@ -109,27 +112,35 @@ fn answer_from<K: Keep, R: Read + Drop, W: Write>(
     answer_requests(alloc, desk, &requests, together, writer)
 }
 
-/// Reads the file of requests at the path, and then answers its requests on a desk in their order: each reply line is
-/// written before the next request is called, or, with `together`, those of a batch of at most so many before the next is
-/// begun. A file that cannot be read is `Csv`, a record at fault `BadRecord`; then nothing is done, and nothing written.
-pub fn answer_file<K: Keep, W: Write>(
+/// Reads the file of requests that opens at the path, and then answers its requests on a desk in their order: each reply
+/// line is written before the next request is called, or, with `together`, those of a batch of at most so many before the
+/// next is begun. A file that cannot be read is `Csv`, a record at fault `BadRecord`; then nothing is done, and nothing
+/// written.
+pub fn answer_file<K: Keep, M: Machine, W: Write>(
     rt: &HostRuntime,
+    machine: &M,
     desk: &mut Desk<K>,
     kind: Kind,
     path: &str,
     together: Option<NonZeroUsize>,
     writer: &mut W,
 ) -> Result<(), Fault>
-    ensures whole { OnOk result ((requests : List Request) × RequestsAnswered requests desk.old.ledger
-        desk.new.ledger (only_written (W.contents writer.old) (W.contents writer.new))) }
-    ensures cut { IfErr result (λ fault. FileCut together fault (desk_state K.Keep desk.old)
-        (desk_state K.Keep desk.new) (only_written (W.contents writer.old) (W.contents writer.new))) }
+    ensures whole { OnOk result ((requests : List Request)
+        × IsFileAt (paths (M.opens machine.now) M.Csv.remaining) kind path.now requests
+        × RequestsAnswered requests desk.old.ledger desk.new.ledger
+        (only_written (W.contents writer.old) (W.contents writer.new))) }
+    ensures cut { IfErr result (λ fault. FileCut
+        (IsFileAt (paths (M.opens machine.now) M.Csv.remaining) kind path.now) together fault
+        (desk_state K.Keep desk.old) (desk_state K.Keep desk.new)
+        (only_written (W.contents writer.old) (W.contents writer.new))) }
+    ensures unread { IfErr result
+        (BlamesFileAt (paths (M.opens machine.now) M.Csv.remaining) kind path.now) }
     ensures desk { IfErr result (λ fault. ¬ IsNoDesk fault) }
     ensures stop { TellsStop (result ≡ Err Fault.Store) (desk_state K.Keep desk.old) (desk_state K.Keep desk.new) }
     ensures goes { Goes K.Keep desk.old desk.new }
 {
     desk.is_stopped();
-    match File::open(rt, path) {
+    match machine.open_csv(rt, path) {
         Ok(reader) => answer_from(rt.alloc(), desk, kind, reader, together, writer),
         Err(error) => Err(csv_fault(error.kind())),
     }

@@ -1,10 +1,15 @@
 //! What the words behind the program's name ask for.
 
-ghost use Rattle.std.specs.Prelude.{◌≡◌, ◌≤◌, Some, None, codes, [], false, true, decimal, map, option_map, IfErr, IfOk, IfSome};
+ghost use Rattle.std.specs.Prelude.{◌≡◌, ◌<◌, ◌≤◌, ◌^◌, Some, None, codes, ℕ, List, Option, false, true, decimal, map, option_map, IfErr, IfOk, IfSome, IsSome};
 ghost use Rattle.std.specs.Int.NonZero.{non_zero_usize_get};
-ghost use Rattle.clap.specs.Words.{App, app_of, first_of, found_of, kind_of, rows_of, subcommand_of, subcommand_rows_of, takes, with_rule, with_subcommand};
+ghost use Rattle.clap.specs.Words.{App, Row, Text, app_of, first_of, found_of, kind_of, rows_of, subcommand_of, subcommand_rows_of, takes, with_rule, with_subcommand};
 ghost use Rattle.clap.specs.declared.builder.command.Command.TheViews.{out-Command as fields_of};
-ghost use Rattle.stockdesk.specs.Tasks.{Asks, AsksFor, AsksForWork, AsksTogether, IsPlainRun, IsService, article, bounds, command_of, deliveries, on_file, on_path, on_requests, option, orders, run, scripts, serve, sheet, stockdesk, upgrade, with_both};
+ghost use Rattle.escrow.specs.Codes.{IsArticle, IsBranch};
+ghost use Rattle.std.specs.declared.num.NonZeroUsize.{NonZeroUsize};
+ghost use Rattle.stockdesk.specs.Tasks.{AreWordsFor, Asks, AsksFor, AsksForWork, AsksTogether, IsFew, IsService, Takes, TakesOn, TakesWork, article, bounds, command_of, deliveries, on_file, on_path, on_requests, option, orders, run, scripts, serve, sheet, stockdesk, upgrade, with_both};
+ghost use Rattle.stockdesk.specs.declared.loopback.Service.{Service};
+ghost use Rattle.stockdesk.specs.declared.requests.Kind.{Kind};
+ghost use Rattle.stockdesk.specs.declared.tasks.Task.{Task};
 
 use crate::loopback::Service;
 use crate::requests::Kind;
@@ -214,7 +219,8 @@ fn command<'a>(alloc: Global) -> Result<Command<'a>, AllocError>
 
 /// The sheet of the branch that a word names.
 fn branch_named(word: &str) -> Option<SheetOf>
-    ensures { IfSome result (λ of. of ≡ SheetOf.Branch word.now) }
+    ensures named { IfSome result (λ of. of ≡ SheetOf.Branch word.now) }
+    ensures taken { IsBranch word.now → IsSome result }
 {
     let branch = Branch::read(word.as_bytes()).ok()?;
     Some(SheetOf::Branch(branch))
@@ -222,7 +228,8 @@ fn branch_named(word: &str) -> Option<SheetOf>
 
 /// The sheet of the article that a word names.
 fn article_named(word: &str) -> Option<SheetOf>
-    ensures { IfSome result (λ of. of ≡ SheetOf.Article word.now) }
+    ensures named { IfSome result (λ of. of ≡ SheetOf.Article word.now) }
+    ensures taken { IsArticle word.now → IsSome result }
 {
     let article = Article::read(word.as_bytes()).ok()?;
     Some(SheetOf::Article(article))
@@ -230,7 +237,8 @@ fn article_named(word: &str) -> Option<SheetOf>
 
 /// The port that a word is.
 fn port_named(word: &str) -> Option<u16>
-    ensures { IfSome result (λ port. word.now ≡ decimal port) }
+    ensures named { IfSome result (λ port. word.now ≡ decimal port) }
+    ensures taken { (port : ℕ) → port < 2 ^ 16 → word.now ≡ decimal port → IsSome result }
 {
     let number = read_number(word.as_bytes())?;
     u16::try_from(number).ok()
@@ -238,7 +246,8 @@ fn port_named(word: &str) -> Option<u16>
 
 /// How many connections a word says.
 fn connections_named(word: &str) -> Option<u32>
-    ensures { IfSome result (λ count. (word.now ≡ decimal count) × (1 ≤ count) × (count ≤ 1000000)) }
+    ensures named { IfSome result (λ count. (word.now ≡ decimal count) × (1 ≤ count) × (count ≤ 1000000)) }
+    ensures taken { (count : ℕ) → 1 ≤ count → count ≤ 1000000 → word.now ≡ decimal count → IsSome result }
 {
     let number = read_number(word.as_bytes())?;
     let count = u32::try_from(number).ok()?;
@@ -251,7 +260,8 @@ fn connections_named(word: &str) -> Option<u32>
 
 /// The service that two words ask for.
 fn service_named(port: &str, connections: &str) -> Option<Service>
-    ensures { IfSome result (IsService port.now connections.now) }
+    ensures named { IfSome result (IsService port.now connections.now) }
+    ensures taken { (service : Service) → IsService port.now connections.now service → IsSome result }
 {
     let port = port_named(port)?;
     let connections = connections_named(connections)?;
@@ -267,7 +277,8 @@ fn word<'a>(found: &ArgMatches<'a>, name: &str) -> Option<&'a str>
 
 /// What a command reads a file of.
 fn kind_named(name: &str) -> Option<Kind>
-    ensures { IfSome result (λ kind. name.now ≡ command_of kind) }
+    ensures named { IfSome result (λ kind. name.now ≡ command_of kind) }
+    ensures taken { (kind : Kind) → name.now ≡ command_of kind → IsSome result }
 {
     match name {
         "orders" => Some(Kind::Orders),
@@ -279,8 +290,9 @@ fn kind_named(name: &str) -> Option<Kind>
 
 /// How many requests a word says are carried out together.
 fn count_named(word: &str) -> Option<NonZeroUsize>
-    ensures { IfSome result (λ most. (word.now ≡ decimal (non_zero_usize_get most))
+    ensures named { IfSome result (λ most. (word.now ≡ decimal (non_zero_usize_get most))
         × (non_zero_usize_get most ≤ 1000)) }
+    ensures taken { (count : ℕ) → 1 ≤ count → count ≤ 1000 → word.now ≡ decimal count → IsSome result }
 {
     let number = read_number(word.as_bytes())?;
     let count = usize::try_from(number).ok()?;
@@ -294,7 +306,9 @@ fn count_named(word: &str) -> Option<NonZeroUsize>
 /// How many requests are to be carried out together, if that is asked for; none where the word behind it is no such
 /// number.
 fn together_asked(word: Option<&str>) -> Option<Option<NonZeroUsize>>
-    ensures { IfSome result (AsksTogether (option_map (λ s. s.now) word.entry)) }
+    ensures named { IfSome result (AsksTogether (option_map (λ s. s.now) word.entry)) }
+    ensures taken { (together : Option NonZeroUsize) → AsksTogether (option_map (λ s. s.now) word.entry) together
+        → IsFew together → IsSome result }
 {
     match word {
         Some(word) => Some(Some(count_named(word)?)),
@@ -302,32 +316,71 @@ fn together_asked(word: Option<&str>) -> Option<Option<NonZeroUsize>>
     }
 }
 
+/// The sheet of a branch that is asked for; none where the word behind it is no code.
+fn branch_sheet_found<'a>(found: &ArgMatches<'a>) -> Option<Work<'a>>
+    ensures asked { IfSome result (AsksForWork (codes "sheet") (rows_of (found_of found.now))) }
+    ensures taken { (branch : Text) → first_of (codes "BRANCH") (rows_of (found_of found.now)) ≡ Some branch
+        → IsBranch branch → IsSome result }
+{
+    let branch = word(found, "BRANCH")?;
+    Some(Work::Sheet(branch_named(branch)?))
+}
+
+/// The sheet of an article that is asked for, likewise.
+fn article_sheet_found<'a>(found: &ArgMatches<'a>) -> Option<Work<'a>>
+    ensures asked { IfSome result (AsksForWork (codes "article") (rows_of (found_of found.now))) }
+    ensures taken { (code : Text) → first_of (codes "ARTICLE") (rows_of (found_of found.now)) ≡ Some code
+        → IsArticle code → IsSome result }
+{
+    let article = word(found, "ARTICLE")?;
+    Some(Work::Sheet(article_named(article)?))
+}
+
+/// The service that is asked for; none where a word behind it is no such number.
+fn service_found<'a>(found: &ArgMatches<'a>) -> Option<Work<'a>>
+    ensures asked { IfSome result (AsksForWork (codes "serve") (rows_of (found_of found.now))) }
+    ensures taken { (port connections : Text) (service : Service)
+        → first_of (codes "port") (rows_of (found_of found.now)) ≡ Some port
+        → first_of (codes "connections") (rows_of (found_of found.now)) ≡ Some connections
+        → IsService port connections service → IsSome result }
+{
+    let port = word(found, "port")?;
+    let connections = word(found, "connections")?;
+    Some(Work::Serve(service_named(port, connections)?))
+}
+
+/// The file of requests of a kind that is asked for; none where the word for how many together is no such number.
+fn requests_found<'a>(kind: Kind, found: &ArgMatches<'a>) -> Option<Work<'a>>
+    ensures asked { IfSome result (AsksForWork (command_of kind) (rows_of (found_of found.now))) }
+    ensures taken { (csv : Text) (together : Option NonZeroUsize)
+        → first_of (codes "CSV") (rows_of (found_of found.now)) ≡ Some csv
+        → AsksTogether (first_of (codes "together") (rows_of (found_of found.now))) together → IsFew together
+        → IsSome result }
+{
+    let csv = word(found, "CSV")?;
+    let together = together_asked(word(found, "together"))?;
+    Some(Work::Requests(kind, csv, together))
+}
+
 /// The work that a command asks for; none where a word behind it is no code or number.
 fn work_named<'a>(name: &str, found: &ArgMatches<'a>) -> Option<Work<'a>>
-    ensures { IfSome result (AsksForWork name.now (rows_of (found_of found.now))) }
+    ensures asked { IfSome result (AsksForWork name.now (rows_of (found_of found.now))) }
+    ensures taken { TakesWork name.now (rows_of (found_of found.now)) (IsSome result) }
 {
     match name {
         "run" => Some(Work::Script),
-        "sheet" => Some(Work::Sheet(branch_named(word(found, "BRANCH")?)?)),
-        "article" => Some(Work::Sheet(article_named(word(found, "ARTICLE")?)?)),
-        "serve" => {
-            let port = word(found, "port")?;
-            let connections = word(found, "connections")?;
-            Some(Work::Serve(service_named(port, connections)?))
-        }
-        _ => {
-            let kind = kind_named(name)?;
-            let csv = word(found, "CSV")?;
-            let together = together_asked(word(found, "together"))?;
-            Some(Work::Requests(kind, csv, together))
-        }
+        "sheet" => branch_sheet_found(found),
+        "article" => article_sheet_found(found),
+        "serve" => service_found(found),
+        _ => requests_found(kind_named(name)?, found),
     }
 }
 
 /// The task that a command with the file of a desk asks for, likewise.
 fn task_on<'a>(name: &str, path: &'a str, found: &ArgMatches<'a>) -> Option<Task<'a>>
-    ensures { IfSome result (λ task. first_of (codes "FILE") (rows_of (found_of found.now)) ≡ Some path.entry.now
+    ensures asked { IfSome result (λ task. first_of (codes "FILE") (rows_of (found_of found.now)) ≡ Some path.entry.now
         → AsksFor name.now (rows_of (found_of found.now)) task) }
+    ensures taken { TakesOn name.now (rows_of (found_of found.now)) (IsSome result) }
 {
     match name {
         "init" => Some(Task::Init(path)),
@@ -343,7 +396,7 @@ fn task_on<'a>(name: &str, path: &'a str, found: &ArgMatches<'a>) -> Option<Task
 /// it is one in memory.
 fn task_named<'a>(name: &str, found: &ArgMatches<'a>) -> Option<Task<'a>>
     ensures asked { IfSome result (AsksFor name.now (rows_of (found_of found.now))) }
-    ensures run { name.now ≡ codes "run" → rows_of (found_of found.now) ≡ [] → result ≡ Some Task.InMemory }
+    ensures taken { Takes name.now (rows_of (found_of found.now)) (IsSome result) }
 {
     match word(found, "FILE") {
         Some(path) => task_on(name, path, found),
@@ -357,7 +410,8 @@ fn task_named<'a>(name: &str, found: &ArgMatches<'a>) -> Option<Task<'a>>
 /// The task that the words have been read as.
 fn task_of<'a>(matches: &ArgMatches<'a>) -> Option<Task<'a>>
     ensures asked { IfSome result (Asks (subcommand_rows_of matches.now)) }
-    ensures run { subcommand_rows_of matches.now ≡ Some (codes "run", []) → result ≡ Some Task.InMemory }
+    ensures taken { (name : Text) (rows : List Row) → subcommand_rows_of matches.now ≡ Some (name, rows)
+        → Takes name rows (IsSome result) }
 {
     match matches.subcommand() {
         Some((name, found)) => task_named(name, found),
@@ -366,12 +420,18 @@ fn task_of<'a>(matches: &ArgMatches<'a>) -> Option<Task<'a>>
 }
 
 /// The task that the words ask for, of which the first is the program's name. Words that the program takes fail only
-/// for want of memory.
+/// for want of memory, and so do the words for a task as they are written out, which give one that they ask for.
 pub fn read_task<'a>(alloc: Global, words: &'a [&'a str]) -> Result<Option<Task<'a>>, Error>
     ensures asks { IfOk result (λ task. IfSome task
         (Asks (subcommand_of stockdesk (map (λ s. s.now) words.entry.now)))) }
-    ensures asked { IsPlainRun (map (λ s. s.now) words.entry.now) → IfOk result (λ task. task ≡ Some Task.InMemory) }
+    ensures given { (task : Task) → AreWordsFor task (map (λ s. s.now) words.entry.now)
+        → Asks (subcommand_of stockdesk (map (λ s. s.now) words.entry.now)) task }
+    ensures asked { (task : Task) → AreWordsFor task (map (λ s. s.now) words.entry.now) → IfOk result IsSome }
+    ensures run { AreWordsFor Task.InMemory (map (λ s. s.now) words.entry.now)
+        → IfOk result (λ task. task ≡ Some Task.InMemory) }
     ensures taken { takes stockdesk (map (λ s. s.now) words.entry.now) ≡ true
+        → IfErr result (λ error. kind_of error ≡ ErrorKind.OutOfMemory) }
+    ensures written { (task : Task) → AreWordsFor task (map (λ s. s.now) words.entry.now)
         → IfErr result (λ error. kind_of error ≡ ErrorKind.OutOfMemory) }
 {
     let matches = command(alloc)?.try_get_matches_from(words)?;

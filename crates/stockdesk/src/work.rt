@@ -6,10 +6,12 @@ ghost use Rattle.book.specs.Ledger.{Ledger};
 ghost use Rattle.book.specs.Rows.{Content, IsRowsOf};
 ghost use Rattle.desk.specs.Desk.{Goes, TellsStop, desk_state};
 ghost use Rattle.desk.specs.Streams.{streams};
+ghost use Rattle.stockdesk.specs.Outside.{listening, outside, paths};
 ghost use Rattle.stockdesk.specs.Sessions.{IsNoDesk, session_on};
 ghost use Rattle.stockdesk.specs.Work.{GoesOnFrom, WorkCut, WorkDone, WorkInPart, WorkWhole};
 
 use crate::loopback::{Service, listen_at, serve_all};
+use crate::machine::Machine;
 use crate::requests::{Kind, answer_file};
 use crate::session::Fault;
 use crate::sheet::{SheetOf, write_sheet};
@@ -32,17 +34,22 @@ pub enum Work<'a> {
 }
 
 /// Does the work on a desk.
-fn work_on<K: Keep, R: Read, W: Write>(
+fn work_on<K: Keep, M: Machine, R: Read, W: Write>(
     rt: &HostRuntime,
+    machine: &M,
     desk: &mut Desk<K>,
     work: &Work<'_>,
     reader: &mut R,
     writer: &mut W,
 ) -> Result<(), Fault>
     requires { K.stopped desk.old.keep ≡ false }
-    ensures whole { OnOk result (WorkDone work.now (desk_state K.Keep desk.old) (desk_state K.Keep desk.new)
+    ensures whole { OnOk result (WorkDone (outside (paths (M.opens machine.now) M.Csv.remaining)
+        (M.listens machine.now) (listening M.Listener.comes M.Listener.closes M.Listener.Reader.remaining
+        M.Listener.Writer.contents)) work.now (desk_state K.Keep desk.old) (desk_state K.Keep desk.new)
         (streams (R.remaining reader.old) (R.remaining reader.new) (W.contents writer.old) (W.contents writer.new))) }
-    ensures cut { IfErr result (λ fault. WorkCut work.now fault (desk_state K.Keep desk.old) (desk_state K.Keep desk.new)
+    ensures cut { IfErr result (λ fault. WorkCut (outside (paths (M.opens machine.now) M.Csv.remaining)
+        (M.listens machine.now) (listening M.Listener.comes M.Listener.closes M.Listener.Reader.remaining
+        M.Listener.Writer.contents)) work.now fault (desk_state K.Keep desk.old) (desk_state K.Keep desk.new)
         (streams (R.remaining reader.old) (R.remaining reader.new) (W.contents writer.old) (W.contents writer.new))) }
     ensures desk { IfErr result (λ fault. ¬ IsNoDesk fault) }
     ensures stop { TellsStop (result ≡ Err Fault.Store) (desk_state K.Keep desk.old) (desk_state K.Keep desk.new) }
@@ -51,7 +58,7 @@ fn work_on<K: Keep, R: Read, W: Write>(
     match work {
         Work::Script => Ok(script(rt.alloc(), reader, writer, desk)?),
         Work::Requests(kind, path, together) => {
-            answer_file(rt, desk, *kind, *path, *together, writer)
+            answer_file(rt, machine, desk, *kind, *path, *together, writer)
         }
         Work::Sheet(of) => {
             desk.is_stopped();
@@ -59,7 +66,7 @@ fn work_on<K: Keep, R: Read, W: Write>(
         }
         Work::Serve(service) => {
             desk.is_stopped();
-            match listen_at(rt, service.port, writer) {
+            match listen_at(rt, machine, service.port, writer) {
                 Ok(mut listener) => serve_all(rt.alloc(), desk, &mut listener, service.connections),
                 Err(fault) => Err(fault),
             }
@@ -74,16 +81,21 @@ fn work_on<K: Keep, R: Read, W: Write>(
 /// store failed, those or the rows after one request more, or after so many as are carried out together. Where no desk
 /// was opened nothing is read or written, the keeper holds what it held, and nothing is added to what a stop may leave.
 /// A keeper that was stopped comes back as it was.
-pub fn session<K: Keep, R: Read, W: Write>(
+pub fn session<K: Keep, M: Machine, R: Read, W: Write>(
     rt: &HostRuntime,
+    machine: &M,
     keep: K,
     work: &Work<'_>,
     reader: &mut R,
     writer: &mut W,
 ) -> (K, Result<(), Fault>)
-    ensures whole { OnOk result.1 (WorkWhole (session_on K.Keep keep result.0) work.now
+    ensures whole { OnOk result.1 (WorkWhole (outside (paths (M.opens machine.now) M.Csv.remaining)
+        (M.listens machine.now) (listening M.Listener.comes M.Listener.closes M.Listener.Reader.remaining
+        M.Listener.Writer.contents)) (session_on K.Keep keep result.0) work.now
         (streams (R.remaining reader.old) (R.remaining reader.new) (W.contents writer.old) (W.contents writer.new))) }
-    ensures cut { IfErr result.1 (λ fault. WorkInPart (session_on K.Keep keep result.0) work.now fault
+    ensures cut { IfErr result.1 (λ fault. WorkInPart (outside (paths (M.opens machine.now) M.Csv.remaining)
+        (M.listens machine.now) (listening M.Listener.comes M.Listener.closes M.Listener.Reader.remaining
+        M.Listener.Writer.contents)) (session_on K.Keep keep result.0) work.now fault
         (streams (R.remaining reader.old) (R.remaining reader.new) (W.contents writer.old) (W.contents writer.new))) }
     // what is of an older version is told as that, and as nothing else but want of memory or the store
     ensures old { K.is_honest result.0 → K.stopped keep ≡ false → K.is_old keep → (result.1 ≡ Err Fault.OldVersion)
@@ -99,6 +111,6 @@ pub fn session<K: Keep, R: Read, W: Write>(
         Ok(desk) => desk,
         Err((fault, keep)) => return (keep, Err(Fault::from(fault))),
     };
-    let ended = work_on(rt, &mut desk, work, reader, writer);
+    let ended = work_on(rt, machine, &mut desk, work, reader, writer);
     (desk.into_keep(), ended)
 }

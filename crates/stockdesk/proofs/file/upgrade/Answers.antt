@@ -1,4 +1,5 @@
-use Rattle.std.proofs.Common.{Err, ap, inl, inr, subst, sym, ◌∙◌}
+use Rattle.std.proofs.Common.{◌≤◌, inl, inr, pos, subst, sym, ℕ}
+use Rattle.std.proofs.Math.Nat.{eq-or-lt_of_le}
 use Rattle.std.proofs.lemmas.Result.{on_ok_weaker}
 use Rattle.sqlite.specs.Effect.{Database}
 use Rattle.sqlite.specs.Files.{file_state}
@@ -6,12 +7,12 @@ use Rattle.sqlite.specs.State.{HasCleanDisk}
 use Rattle.sqlite.specs.WalFiles.{image_at}
 use Rattle.sqlite_trees.specs.Tree.{Trees}
 use Rattle.book.specs.Rows.{Content}
-use Rattle.keep.specs.Content.{Holds}
+use Rattle.keep.specs.Content.{HasTables, Holds, HoldsOf, IsDesk, IsOneRow}
+use Rattle.keep.specs.Description.{newest}
 use Rattle.keep.specs.Laws.{holds_tables, old_is_apart}
-use Rattle.keep.specs.Old.{HoldsOld, IsOldContent}
+use Rattle.keep.specs.Old.{HoldsOld, IsOld, IsOldContent}
 use Rattle.keep.specs.Starts.{StartsOld}
 use Rattle.keep.proofs.Schemas.{holds_one_row}
-use Rattle.desk.proofs.Faults.{of_error}
 use Rattle.stockdesk.proofs.file.upgrade.Goals as goal
 
 -- what the bytes hold of an older version the store holds
@@ -50,10 +51,14 @@ returns-clause-unchanged g c clean told x =
     let same = sym ((c.upgrade.ensures.upgrades clean).unchanged told).0 in
     (λ there. subst (λ (d : Database). Holds d x) same (c.in_ok-keep.ensures.opened.held was x there), λ there. subst (λ (d : Database). HoldsOld d x) same (held_old g c was x there))
 
+-- what holds a desk of whatever version is told as one
+is_told : (db : Database) (version : ℕ) (x : Content) → 1 ≤ version → version ≤ newest → HoldsOf version db x → IsOneRow (pos version) x.desk → ¬ IsOld db → ((y : Content) → HasTables db y → ¬ IsDesk y) → ⊥
+is_told db version x some late held (row, one, is) not_old none = elim (eq-or-lt_of_le late) [
+  | inl same ↦ none x (holds_tables db x (subst (λ w. HoldsOf w db x) same held)) (subst (λ w. IsOneRow (pos w) x.desk) same (row, one, is))
+  | inr older ↦ not_old (version, (some, older), holds_one_row db version x row held one is)
+]
+
 pub returns-clause-desk : goal.returns-clause-desk
-returns-clause-desk g c clean =
-    let upgrades = c.upgrade.ensures.upgrades clean in
-    of_error c.upgrade.result.1 _ _
-    (λ fault is kind told v x row late one version there.
-    (upgrades.desk (is ∙ ap (λ f. Err f) told)).0 (v, late, holds_one_row _ v x row (c.in_ok-keep.ensures.old (c.upgrade.ensures.clean clean) v x there) one version))
-    c.upgrade.ensures.fault
+returns-clause-desk g c clean told (version, x, some, late, there, one) =
+    let none = (c.upgrade.ensures.upgrades clean).desk told in
+    is_told _ version x some late (c.in_ok-keep.ensures.old (c.upgrade.ensures.clean clean) version x there) one none.0 none.1

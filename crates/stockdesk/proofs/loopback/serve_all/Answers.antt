@@ -1,7 +1,7 @@
 use Rattle.std.proofs.Common.{[], ◌∙◌, refl, rules, sym}
 use Rattle.desk.proofs.GoesOn.{goes_on, goes_same}
 use Rattle.desk.specs.Desk.{desk_state}
-use Rattle.stockdesk.specs.Connections.{listening}
+use Rattle.stockdesk.specs.Outside.{listening}
 use Rattle.stockdesk.proofs.Connections.{is_served, passes, serves_one, serves_so_far}
 use Rattle.stockdesk.proofs.loopback.serve_all.Goals as goal
 

@@ -1,7 +1,7 @@
 -- so many connections are served, as they came, and the desk goes on
 use Rattle.std.proofs.Common.{◌≡◌, false}
 use Rattle.desk.specs.Desk.{Goes, desk_state, snapshot}
-use Rattle.stockdesk.specs.Connections.{listening}
+use Rattle.stockdesk.specs.Outside.{listening}
 use Rattle.stockdesk.proofs.Connections.{ServesFrom}
 use Rattle.stockdesk.proofs.loopback.serve_all.Given as goal
 

@@ -7,6 +7,7 @@ use Rattle.desk.proofs.Faults.{of_error}
 use Rattle.desk.proofs.FoundAfter.{stored_left}
 use Rattle.desk.specs.Headline.{LeavesRowsOf}
 use Rattle.desk.specs.Streams.{streams}
+use Rattle.stockdesk.specs.Outside.{listening, outside, paths}
 use Rattle.stockdesk.specs.Sessions.{desk_left, session_on}
 use Rattle.stockdesk.specs.Work.{IsFoundAfterWork, WorkInPart, WorkWhole}
 use Rattle.stockdesk.proofs.NextSession.{nothing_found, opens_desk, work_left}
@@ -32,19 +33,23 @@ returns-in-Err-clause-cut g c =
 
 pub returns-clause-whole : goal.returns-clause-whole
 returns-clause-whole g c =
+    let out = outside (paths (g.M.Machine.opens c.args.machine.now) g.M.Csv.Read.remaining) (g.M.Machine.listens c.args.machine.now)
+    (listening g.M.Listener.Listen.comes g.M.Listener.Listen.closes g.M.Listener.Reader.Read.remaining g.M.Listener.Writer.Write.contents) in
     let opened = c.in-Ok.ensures.opened in
     let ended = c.work_on-ended.ensures in
     let s = streams (g.R.Read.remaining c.args.reader.now) (g.R.Read.remaining c.work_on-ended.new.reader) (g.W.Write.contents c.args.writer.now) (g.W.Write.contents c.work_on-ended.new.writer) in
-    subst (λ keep. OnOk c.work_on-ended.result (WorkWhole (session_on g.K.Keep c.args.keep keep) c.args.work.now s)) (sym c.into_keep.ensures.keep)
+    subst (λ keep. OnOk c.work_on-ended.result (WorkWhole out (session_on g.K.Keep c.args.keep keep) c.args.work.now s)) (sym c.into_keep.ensures.keep)
     (whole_by (session_on g.K.Keep c.args.keep c.work_on-ended.new.desk.keep) c.work_on-ended.result c.in-Ok.desk c.work_on-ended.new.desk.ledger _ opened.going opened.good (λ honest. opened.rows (ended.goes.honest honest)) ended.stop ended.goes.stored ended.whole)
 
 pub returns-clause-cut : goal.returns-clause-cut
 returns-clause-cut g c =
+    let out = outside (paths (g.M.Machine.opens c.args.machine.now) g.M.Csv.Read.remaining) (g.M.Machine.listens c.args.machine.now)
+    (listening g.M.Listener.Listen.comes g.M.Listener.Listen.closes g.M.Listener.Reader.Read.remaining g.M.Listener.Writer.Write.contents) in
     let opened = c.in-Ok.ensures.opened in
     let ended = c.work_on-ended.ensures in
     let s = streams (g.R.Read.remaining c.args.reader.now) (g.R.Read.remaining c.work_on-ended.new.reader) (g.W.Write.contents c.args.writer.now) (g.W.Write.contents c.work_on-ended.new.writer) in
     of_error c.work_on-ended.result _ _
-    (λ fault is cut. subst (λ keep. WorkInPart (session_on g.K.Keep c.args.keep keep) c.args.work.now fault s) (sym c.into_keep.ensures.keep)
+    (λ fault is cut. subst (λ keep. WorkInPart out (session_on g.K.Keep c.args.keep keep) c.args.work.now fault s) (sym c.into_keep.ensures.keep)
     (inr (cut_by (session_on g.K.Keep c.args.keep c.work_on-ended.new.desk.keep) c.work_on-ended.result c.in-Ok.desk c.work_on-ended.new.desk.ledger _ opened.going opened.good (λ honest. opened.rows (ended.goes.honest honest)) ended.stop ended.goes.stored
     fault is cut ended.desk)))
     ended.cut
@@ -77,7 +82,7 @@ returns-clause-goes_on g c honest A x good rows held alone =
     let s = streams (g.R.Read.remaining c.args.reader.now) (g.R.Read.remaining c.work_on-ended.new.reader) (g.W.Write.contents c.args.writer.now) (g.W.Write.contents c.work_on-ended.new.writer) in
     let still = subst (λ keep. g.K.Keep.is_honest keep) c.into_keep.ensures.keep honest in
     let same : c.in-Ok.desk.ledger ≡ A = told_by_rows c.in-Ok.desk.ledger A x opened.good good (opened.rows (ended.goes.honest still) x held) rows in
-    let left = work_left _ _ s (g.K.Keep.holds c.work_on-ended.new.desk.keep) opened.going c.into_keep.ensures.good still (λ going. ended.goes.stored going still) c.work_on-ended.result c.args.work.now ended.whole ended.cut ended.stop in
+    let left = work_left _ _ _ s (g.K.Keep.holds c.work_on-ended.new.desk.keep) opened.going c.into_keep.ensures.good still (λ going. ended.goes.stored going still) c.work_on-ended.result c.args.work.now ended.whole ended.cut ended.stop in
     record {
       opens = ended.desk;
       leaves = subst (λ keep. LeavesRowsOf (g.K.Keep.leaves keep) (IsFoundAfterWork c.args.work.now (desk_left (session_on g.K.Keep c.args.keep keep) A) s)) (sym c.into_keep.ensures.keep)
