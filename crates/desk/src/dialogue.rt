@@ -111,10 +111,8 @@ pub trait Begin: Dialogue + Sized {
 
     /// A dialogue in which nothing has come yet.
     fn begin(alloc: Global) -> Result<Self, Memory>
-        ensures { IfOk result (λ dialogue. Self.has_found dialogue [] false []) };
-
-    // Nothing has come in an empty input.
-    ghost none_come: { Self.language.have_come [] [] };
+        ensures new { IfOk result (λ dialogue. Self.has_found dialogue [] false []) }
+        ensures none { Self.language.have_come [] [] };
 }
 
 /// Answers the questions that have come, and writes each answer before the next is made. Whether the dialogue is over.

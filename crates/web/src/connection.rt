@@ -56,10 +56,6 @@ impl Begin for HttpDialogue {
             is_over: false,
         })
     }
-
-    ghost use Rattle.web.proofs.Parts.{none_yet};
-
-    ghost none_come = { none_yet };
 }
 
 impl HttpDialogue {
