@@ -319,5 +319,5 @@ module _ {S P T Q A : Type 0} (g : Speaks S P T Q A) where
 -- memory was refused, and nothing has changed
 pub memory_same : {Q A : Type 0} (L : Language Q A) (fault : CallFault) (old : DeskState) (q : Q) (new : DeskState) → fault ≡ Memory
     → FailsOne L fault old q new → snapshot new ≡ snapshot old
-memory_same L Memory old q new is (ledger, stopped) = λ i. record { ledger = ledger i; is_stopped = stopped i }
+memory_same L Memory old q new is (ledger, stopped, more) = λ i. record { ledger = ledger i; is_stopped = stopped i }
 memory_same L Stopped old q new is h = absurd (cc)

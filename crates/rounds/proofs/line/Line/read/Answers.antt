@@ -15,7 +15,7 @@ returns-in-Ok-clause-heard g c =
       subst (λ v. Consumes (g.S.Stream.remaining v.stream) (g.S.Stream.remaining c.read_piece.new.self) bytes) c.self.view_is c.in_ok-count.ensures.bytes.0,
       λ h is there. heard_piece talk _ _ h bytes wants refl (subst (λ v. IsHeard talk v h []) (sym c.self.view_is) is) refl refl refl refl
           (λ read questions found come. subst (λ xs. g.D.Dialogue.has_found c.take_in.new.self (read ++ xs) (is_end xs) questions) c.front_of.ensures
-          (c.in-Ok.ensures read questions found come)),
+          (c.in-Ok.ensures.taken read questions found come)),
     )
 
 pub returns-in-Err-clause-heard : goal.returns-in-Err-clause-heard
