@@ -69,7 +69,7 @@ pub same_count : (xs ys : List Change) → rows_among xs ≡ rows_among ys → l
 same_count xs ys same = counted xs ∙ ap count_of same ∙ sym (counted ys)
 
 -- the rows of `desk` among two lists
-desk_joined : (xs ys : List Change) → (rows_among (xs ++ ys)).desk ≡ (rows_among xs).desk ++ (rows_among ys).desk
+pub desk_joined : (xs ys : List Change) → (rows_among (xs ++ ys)).desk ≡ (rows_among xs).desk ++ (rows_among ys).desk
 desk_joined [] ys = refl
 desk_joined (change.Desk r ∷ xs) ys = ap (λ (rows : List DeskCells). desk_cells r ∷ rows) (desk_joined xs ys)
 desk_joined (change.Field r ∷ xs) ys = desk_joined xs ys

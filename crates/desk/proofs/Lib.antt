@@ -18,3 +18,4 @@ pub mod BatchesAgain
 pub mod ListLines
 pub mod ShortLines
 pub mod ManyBatches
+pub mod PutOff

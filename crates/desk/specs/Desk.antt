@@ -77,6 +77,10 @@ pub record Goes {K : Type 0} (g : Ghosts K) (old new : DeskView K) : Type 0 wher
   pub stored : StaysStored g new
   pub honest : g.is_honest new.keep → g.is_honest old.keep
 
+-- the keeper is set as it was, where it was touched at all
+abbrev pub StaysSet : {K : Type 0} → (K → K → Type 0) → (old new : DeskView K) → Type 0
+StaysSet same_settings old new = (new ≡ old) ⊎ same_settings old.keep new.keep
+
 -- It is told where this has stopped the desk. Where that is not told, it goes on if it did before.
 pub record TellsStop (told : Type 0) (old new : DeskState) : Type 0 where
   pub stopped : told → IsTrue new.is_stopped

@@ -1,6 +1,6 @@
 //! A ledger, and the keeper of its rows.
 
-ghost use Rattle.std.specs.Prelude.{◌≡◌, ◌≢◌, ◌*◌, ◌<◌, ◌≤◌, ◌⊎◌, [], false, length, take, IsTrue, IfOk, IfErr, IsSomeAnd, MatchOption, OnOk, Err};
+ghost use Rattle.std.specs.Prelude.{◌≡◌, ◌≢◌, ◌*◌, ◌<◌, ◌≤◌, ◌⊎◌, [], false, length, take, IsTrue, IfOk, IfErr, IsSomeAnd, MatchOption, OnErr, OnOk, Err};
 ghost use Rattle.escrow.specs.Codes.{IsKey};
 ghost use Rattle.words.specs.Spelling.{IsInRange};
 ghost use Rattle.book.specs.Answers.{Answers, IsAccepted};
@@ -15,9 +15,10 @@ ghost use Rattle.desk.specs.Text.{RepliesAll, items_of};
 ghost use Rattle.desk.specs.Headline.{answered};
 ghost use Rattle.desk.specs.Together.{FailsAt, IsBatch};
 ghost use Rattle.desk.specs.declared.reply.TheConstants.{LONGEST_LINE};
-ghost use Rattle.desk.specs.Desk.{Goes, IsInOrder, LeavesEither, StaysStored, StopsCall, TellsStop, desk_state};
+ghost use Rattle.desk.specs.Desk.{Goes, IsInOrder, IsStored, LeavesEither, StaysSet, StaysStored, StopsCall, TellsStop, desk_state};
 ghost use Rattle.desk.specs.Opening.{IsLeft, IsOpened, IsRefusedAsOld, IsUnopened, OpensAt, keeper_after};
 
+use crate::deferred::Deferred;
 use crate::fault::{CallFault, OpenFault, load_fault};
 use crate::run::{Ending, Run};
 use crate::telling::{AsReply, Teller, tell_reply};
@@ -120,6 +121,7 @@ impl<K: Keep> Desk<K> {
         ensures either { result ≡ Err CallFault.Stopped → K.stopped self.old.keep ≡ false
             → StopsCall request.now (desk_state K.Keep self.old) (desk_state K.Keep self.new) }
         ensures refused { IsTrue (K.stopped self.old.keep) → result ≡ Err CallFault.Stopped }
+        ensures set { StaysSet K.same_settings self.old self.new }
         ensures goes { Goes K.Keep self.old self.new }
     {
         if self.is_stopped() {
@@ -155,6 +157,7 @@ impl<K: Keep> Desk<K> {
             × (self.new.ledger ≡ self.old.ledger) }
         ensures either { result ≡ Err CallFault.Stopped
             → StopsCall request.now (desk_state K.Keep self.old) (desk_state K.Keep self.new) }
+        ensures set { StaysSet K.same_settings self.old self.new }
         ensures goes { Goes K.Keep self.old self.new }
     {
         // so that the proof has the invariants
@@ -181,6 +184,7 @@ impl<K: Keep> Desk<K> {
             × (self.new.ledger ≡ self.old.ledger) }
         ensures either { result ≡ Err CallFault.Stopped → K.is_honest self.new.keep
             → LeavesEither (K.leaves self.new.keep) self.old.ledger (accept self.old.ledger plan.request) }
+        ensures set { StaysSet K.same_settings self.old self.new }
         ensures goes { Goes K.Keep self.old self.new }
     {
         let place = plan.place();
@@ -277,5 +281,64 @@ impl<K: Keep> Desk<K> {
     {
         let Desk { book: _, keep } = self;
         keep
+    }
+
+    /// The same desk, whose commits are put off until it is settled. Takes no memory.
+    pub fn defer(self, alloc: Global) -> Desk<Deferred<K>>
+        ensures ledger { result.ledger ≡ self.ledger }
+    {
+        let Desk { book, keep } = self;
+        Desk {
+            book,
+            keep: Deferred::over(alloc, keep),
+        }
+    }
+}
+
+impl<K: Keep> Desk<Deferred<K>> {
+    /// Whether nothing is put off.
+    pub fn is_settled(&self) -> bool
+        ensures { IsTrue result → self.now.keep.changes ≡ [] }
+    {
+        self.keep.is_settled()
+    }
+
+    /// How many rows are put off.
+    pub fn put_off(&self) -> usize
+        ensures { result ≡ length self.now.keep.changes }
+    {
+        self.keep.put_off()
+    }
+
+    /// Where nothing is put off, the keeper behind it holds the rows of the ledger, and a stop leaves these alone.
+    pub fn is_kept(&self)
+        ensures good { Good self.now.ledger }
+        ensures stored { self.now.keep.changes ≡ [] → self.now.keep.stopped ≡ false → K.is_honest self.now.keep.keep
+            → IsStored (K.holds self.now.keep.keep) (K.leaves self.now.keep.keep) self.now.ledger }
+    {
+        // what is always so of a desk is known where it is read
+        let _book = &self.book;
+    }
+
+    /// Keeps all that was put off, in one transaction. With Ok the keeper behind it holds the rows of the ledger, and a stop
+    /// leaves these alone. Where that failed the desk is stopped: of a keeper that held the rows of one ledger, a stop leaves
+    /// those, or the rows of the ledger that the desk shows.
+    pub fn settle(&mut self) -> Result<(), CallFault>
+        ensures ledger { self.new.ledger ≡ self.old.ledger }
+        ensures ok { OnOk result (self.new.keep.stopped ≡ self.old.keep.stopped) }
+        ensures err { OnErr result (IsTrue self.new.keep.stopped × (self.old.keep.changes ≢ [])) }
+        ensures none { self.new.keep.changes ≡ [] }
+        ensures honest { K.is_honest self.new.keep.keep → K.is_honest self.old.keep.keep }
+        ensures untouched { IsTrue self.old.keep.stopped → self.new.keep.keep ≡ self.old.keep.keep }
+        ensures stored { OnOk result (self.new.keep.stopped ≡ false → K.is_honest self.new.keep.keep
+            → IsStored (K.holds self.new.keep.keep) (K.leaves self.new.keep.keep) self.new.ledger) }
+        ensures either { OnErr result (self.old.keep.stopped ≡ false → K.is_honest self.new.keep.keep → (A : Ledger) → Good A
+            → IsStored (K.holds self.old.keep.keep) (K.leaves self.old.keep.keep) A
+            → LeavesEither (K.leaves self.new.keep.keep) A self.old.ledger) }
+    {
+        match self.keep.settle() {
+            Ok(()) => Ok(()),
+            Err(_) => Err(CallFault::Stopped),
+        }
     }
 }

@@ -30,7 +30,7 @@ pub enum Next<Q> {
 /// What is spoken with a desk: it takes bytes in, finds the questions in them, and has each answered.
 pub trait Dialogue {
     ghost use Rattle.std.specs.Prelude.{◌≡◌, ◌++◌, ◌∷◌, ◌<◌, [], Bool, false, true, IfErr, IfOk, IsOk, ℕ, List, OnOk};
-    ghost use Rattle.desk.specs.Desk.{DeskState, Goes, desk_state};
+    ghost use Rattle.desk.specs.Desk.{DeskState, Goes, StaysSet, desk_state};
     ghost use Rattle.desk.specs.Dialogue.{AnswersOne, Begins, FailsOne, Language, bytes_of, is_end};
     ghost use Rattle.desk.specs.declared.dialogue.Next.{Next};
     ghost use Rattle.desk.specs.declared.dialogue.Next.TheVariants as next;
@@ -96,12 +96,23 @@ pub trait Dialogue {
             → FailsOne language fault (desk_state K.Keep desk.old) asked (desk_state K.Keep desk.new)) }
         ensures stop { result ≡ Err CallFault.Stopped → may_stop }
         ensures memory { result ≡ Err CallFault.Memory → may_want }
+        ensures set { StaysSet K.same_settings desk.old desk.new }
         ensures goes { Goes K.Keep desk.old desk.new };
 
     // Whatever comes behind what was taken in, the first questions are those that were found.
     ghost settled: { (self : Self) (read : List ℕ) (ended : Bool) (questions : List Asked)
         → has_found self read ended questions → (more : List ℕ) → (ended ≡ true → more ≡ [])
         → Begins language (read ++ more) questions };
+}
+
+/// A dialogue that can be begun.
+pub trait Begin: Dialogue + Sized {
+    ghost use Rattle.std.specs.Prelude.{[], false, IfOk};
+
+    /// A dialogue in which nothing has come yet.
+    fn begin(alloc: Global) -> Result<Self, Memory>
+        ensures new { IfOk result (λ dialogue. Self.has_found dialogue [] false []) }
+        ensures none { Self.language.have_come [] [] };
 }
 
 /// Answers the questions that have come, and writes each answer before the next is made. Whether the dialogue is over.

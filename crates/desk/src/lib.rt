@@ -2,6 +2,8 @@
 #![tactic(auto)]
 
 mod answer;
+mod copies;
+mod deferred;
 mod desk;
 mod dialogue;
 mod fault;
@@ -16,8 +18,9 @@ mod telling;
 mod together;
 
 pub use answer::Answer;
+pub use deferred::Deferred;
 pub use desk::Desk;
-pub use dialogue::{Dialogue, Next, converse};
+pub use dialogue::{Begin, Dialogue, Next, converse};
 pub use fault::{CallFault, OpenFault, ScriptFault};
 pub use headline::{
     any_number_of_cuts, cut_and_open, run_and_stop, run_cut_and_open, run_cut_and_resume,

@@ -1,7 +1,7 @@
 //! What is answered to an ask.
 
 ghost use Rattle.std.specs.Prelude.{IfOk};
-ghost use Rattle.desk.specs.Desk.{Goes, desk_state, snapshot};
+ghost use Rattle.desk.specs.Desk.{Goes, StaysSet, desk_state, snapshot};
 ghost use Rattle.web.specs.Turns.{IsAnswered, IsNoCall, Shows};
 ghost use Rattle.web.specs.declared.ask.Ask.TheVariants as ask;
 
@@ -40,6 +40,7 @@ impl Teller for AsAnswer {
 /// nothing that is done.
 fn answer_call<K: Keep>(alloc: Global, desk: &mut Desk<K>, request: &Request) -> Answer
     ensures answers { IsAnswered (desk_state K.Keep desk.old) (ask.Call request.now) result (desk_state K.Keep desk.new) }
+    ensures set { StaysSet K.same_settings desk.old desk.new }
     ensures goes { Goes K.Keep desk.old desk.new }
 {
     match desk.call_and_tell(alloc, &AsAnswer, request) {
@@ -67,6 +68,7 @@ fn answer_view<K: Keep>(alloc: Global, desk: &Desk<K>, ask: &Ask) -> Result<Answ
 /// The answer to an ask. Where memory is refused for it, nothing is done.
 pub fn answer_ask<K: Keep>(alloc: Global, desk: &mut Desk<K>, ask: &Ask) -> Answer
     ensures answers { IsAnswered (desk_state K.Keep desk.old) ask.now result (desk_state K.Keep desk.new) }
+    ensures set { StaysSet K.same_settings desk.old desk.new }
     ensures goes { Goes K.Keep desk.old desk.new }
 {
     desk.is_stopped();

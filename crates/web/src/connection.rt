@@ -1,6 +1,6 @@
 //! A connection, served.
 
-ghost use Rattle.std.specs.Prelude.{◌≡◌, ◌≢◌, Err, IfErr, IfOk, drop, true};
+ghost use Rattle.std.specs.Prelude.{◌≡◌, ◌≢◌, [], Err, IfErr, IfOk, drop, false, true};
 ghost use Rattle.desk.specs.Desk.{Goes, desk_state, snapshot};
 ghost use Rattle.desk.specs.Dialogue.{BeginsTranscript, EndsCut, EndsUntaken, EndsWhole};
 ghost use Rattle.desk.specs.Streams.{streams};
@@ -16,7 +16,7 @@ use crate::fixed::Fixed;
 use crate::intake::{Found, Next as Held, next_message};
 use crate::route::Routes;
 use crate::served::{Ending, Served, WebFault};
-use desk::{Answer, CallFault, Desk, Dialogue, Next, ScriptFault, converse};
+use desk::{Answer, Begin, CallFault, Desk, Dialogue, Next, ScriptFault, converse};
 use keep::Keep;
 use std::alloc::{AllocError, Global};
 use std::io::{Read, Write};
@@ -35,13 +35,27 @@ pub enum Asked {
 
 /// A dialogue in HTTP.
 #[derive(Drop)]
-struct HttpDialogue {
+pub struct HttpDialogue {
     routes: Routes,
     /// What has come and stands behind the messages that were found.
     held: Vec<u8>,
     has_ended: bool,
     /// What is held is no message, and that was found.
     is_over: bool,
+}
+
+impl Begin for HttpDialogue {
+    fn begin(alloc: Global) -> Result<HttpDialogue, Memory> {
+        let Ok(routes) = Routes::new(alloc) else {
+            return Err(Memory);
+        };
+        Ok(HttpDialogue {
+            routes,
+            held: Vec::new(alloc),
+            has_ended: false,
+            is_over: false,
+        })
+    }
 }
 
 impl HttpDialogue {

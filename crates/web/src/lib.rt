@@ -21,7 +21,7 @@ mod views;
 mod word;
 
 pub use ask::Ask;
-pub use connection::serve;
+pub use connection::{Asked, HttpDialogue, serve};
 pub use examples::worked_answers_hold;
 pub use laws::{exactly_one_answer, exactly_one_list_of_parts, kinds_are_told, stopped_is_told};
 pub use served::{Ending, Served, WebFault};

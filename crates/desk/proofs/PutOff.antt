@@ -1,0 +1,120 @@
+-- Changes that are put off.
+use Rattle.std.proofs.Common.{◌≡◌, ◌∙◌, List, [], ◌∷◌, ◌++◌, All, Err, Ok, Result, ap, inl, inr, refl, subst, sym}
+use Rattle.std.proofs.Math.Logic.{∥∥₁_elim}
+use Rattle.std.proofs.Props.{props}
+use Rattle.std.proofs.lemmas.List.Elements.{All-append}
+use Rattle.book.specs.Good.{Good}
+use Rattle.book.specs.Ledger.{Ledger}
+use Rattle.book.specs.Rows.{Content, DeskCells, IsRowsOf}
+use Rattle.book.specs.Changes.{put_content}
+use Rattle.book.specs.Tables.{rows_among}
+use Rattle.book.specs.declared.rows.Change.{Change}
+use Rattle.book.proofs.Puts.{put_in_turn}
+use Rattle.keep.specs.Content.{IsAmong, IsTheRow}
+use Rattle.keep.specs.declared.keep.Keep.{Ghosts}
+use Rattle.desk.specs.Deferred.{PutsOff, PutsOffOneOf}
+use Rattle.desk.specs.Desk.{IsStored, LeavesEither}
+use Rattle.std.specs.Prelude.{OnErr, OnOk}
+use Rattle.keep.specs.Transactions.{with_changes}
+use Rattle.desk.proofs.Batches.{desk_joined}
+
+-- the rows of `desk` among copies, behind others
+pub rows_joined : (xs ys zs all : List Change) → all ≡ xs ++ zs → rows_among zs ≡ rows_among ys → All IsTheRow (rows_among xs).desk
+    → All IsTheRow (rows_among ys).desk → All IsTheRow (rows_among all).desk
+rows_joined xs ys zs all is same h k =
+    subst (λ (cs : List Change). All IsTheRow (rows_among cs).desk) (sym is)
+    (subst (λ (rows : List DeskCells). All IsTheRow rows) (sym (desk_joined xs zs)) (All-append IsTheRow (rows_among xs).desk (rows_among zs).desk h (subst (λ (c : Content). All IsTheRow c.desk) (sym same) k)))
+
+-- copies are put in behind others as what they are copies of
+pub put_joined : (xs ys zs all : List Change) (x : Content) → all ≡ xs ++ zs → rows_among zs ≡ rows_among ys
+    → with_changes all x ≡ with_changes ys (with_changes xs x)
+put_joined xs ys zs all x is same =
+    ap (λ (cs : List Change). with_changes cs x) is ∙ put_in_turn xs zs x ∙ ap (λ (rows : Content). put_content rows (with_changes xs x)) same
+
+-- ---- one content behind it
+
+content_set : IsSet Content
+content_set = hlevel props
+
+one_of : (x y : Content) → IsAmong (y ∷ []) x → x ≡ y
+one_of x y (inl e) = e
+one_of x y (inr h) = absurd h
+
+-- a keeper that leaves one content alone leaves no other
+pub one_base : (leaves : List Content → Type 0) (may_leave : Content → Type 0) → ((these : List Content) → leaves these → ∥ ((x : Content) × may_leave x) ∥₁)
+    → ((these : List Content) (x : Content) → leaves these → may_leave x → IsAmong these x) → (b c : Content) → leaves (b ∷ []) → leaves (c ∷ []) → b ≡ c
+one_base leaves may_leave some among b c hb hc =
+    ∥∥₁_elim (some (b ∷ []) hb) (content_set b c) (λ (x : (x : Content) × may_leave x). sym (one_of x.0 b (among (b ∷ []) x.0 hb x.1)) ∙ one_of x.0 c (among (c ∷ []) x.0 hc x.1))
+
+module _ {K : Type 0} (g : Ghosts K) (keep : K) where
+  -- what is put off more
+  pub off_more : (changes more all : List Change) → ((x : Content) → with_changes all x ≡ with_changes more (with_changes changes x)) → (x : Content)
+      → PutsOff g keep changes x → PutsOff g keep all (with_changes more x)
+  off_more changes more all is x h = record { base = h.base; held = h.held; alone = h.alone; with_them = ap (λ (c : Content). with_changes more c) h.with_them ∙ sym (is h.base) }
+
+  pub off_either : (changes more all : List Change) → ((x : Content) → with_changes all x ≡ with_changes more (with_changes changes x)) → (x : Content)
+      → PutsOff g keep changes x → PutsOffOneOf g keep changes (x ∷ []) → PutsOffOneOf g keep all (x ∷ with_changes more x ∷ [])
+  off_either changes more all is x h only = record {
+    some = with_changes more x;
+    put_off = off_more changes more all is x h;
+    among = λ y k.
+        let was : PutsOff g keep changes (with_changes changes k.base) = record { base = k.base; held = k.held; alone = k.alone; with_them = refl } in
+        let same : with_changes changes k.base ≡ x = one_of _ x (only.among (with_changes changes k.base) was) in
+        inr (inl (k.with_them ∙ is k.base ∙ ap (λ (c : Content). with_changes more c) same));
+  }
+
+  pub off_still : (changes more : List Change) (x : Content) → PutsOff g keep changes x → PutsOffOneOf g keep changes (x ∷ []) → PutsOffOneOf g keep changes (x ∷ with_changes more x ∷ [])
+  off_still changes more x h only = record { some = x; put_off = h; among = λ y k. inl (one_of y x (only.among y k)) }
+
+  pub off_alone : ((these : List Content) → g.leaves keep these → ∥ ((x : Content) × g.may_leave keep x) ∥₁) → ((these : List Content) (x : Content) → g.leaves keep these → g.may_leave keep x → IsAmong these x)
+      → (changes : List Change) (x : Content) → PutsOff g keep changes x → PutsOffOneOf g keep changes (x ∷ [])
+  off_alone some among changes x h = record {
+    some = x;
+    put_off = h;
+    among = λ y k. inl (k.with_them ∙ ap (λ (b : Content). with_changes changes b) (one_base (g.leaves keep) (g.may_leave keep) some among k.base h.base k.alone h.alone) ∙ sym h.with_them);
+  }
+
+  -- what is stored behind it is what it holds
+  pub stored_off : ((these : List Content) → g.leaves keep these → ∥ ((x : Content) × g.may_leave keep x) ∥₁) → ((these : List Content) (x : Content) → g.leaves keep these → g.may_leave keep x → IsAmong these x)
+      → (changes : List Change) → changes ≡ [] → (A : Ledger) → IsStored (g.holds keep) (g.leaves keep) A → IsStored (PutsOff g keep changes) (PutsOffOneOf g keep changes) A
+  stored_off some among changes none A was =
+      let here : PutsOff g keep changes was.rows = record { base = was.rows; held = was.held; alone = was.alone; with_them = ap (λ (cs : List Change). with_changes cs was.rows) (sym none) } in
+      record { rows = was.rows; are_rows = was.are_rows; held = here; alone = off_alone some among changes was.rows here }
+
+  -- and the other way round, where nothing is put off
+  pub stored_behind : (A : Ledger) → IsStored (PutsOff g keep []) (PutsOffOneOf g keep []) A → IsStored (g.holds keep) (g.leaves keep) A
+  stored_behind A was = record {
+    rows = was.held.base;
+    are_rows = subst (IsRowsOf A) was.held.with_them was.are_rows;
+    held = was.held.held;
+    alone = was.held.alone;
+  }
+
+  -- where it could not be kept, a stop leaves what was stored, or that with what was put off
+  pub lost_off : ((these : List Content) → g.leaves keep these → ∥ ((x : Content) × g.may_leave keep x) ∥₁) → ((these : List Content) (x : Content) → g.leaves keep these → g.may_leave keep x → IsAmong these x)
+      → (changes : List Change) (A B : Ledger) → Good A → Good B → IsStored (g.holds keep) (g.leaves keep) A → IsStored (PutsOff g keep changes) (PutsOffOneOf g keep changes) B
+      → (leaves : List Content → Type 0) → ((x : Content) → g.holds keep x → g.leaves keep (x ∷ []) → leaves (x ∷ with_changes changes x ∷ [])) → LeavesEither leaves A B
+  lost_off some among changes A B good_A good_B was is leaves either = record {
+    good_before = good_A;
+    good_after = good_B;
+    before = was.rows;
+    after = with_changes changes was.rows;
+    are_before = was.are_rows;
+    are_after = subst (IsRowsOf B) (is.held.with_them ∙ ap (λ (b : Content). with_changes changes b) (one_base (g.leaves keep) (g.may_leave keep) some among is.held.base was.rows is.held.alone was.alone)) is.are_rows;
+    either = either was.rows was.held was.alone;
+  }
+
+-- what a result without an error tells
+pub of_ok : {T E : Type 0} (r : Result T E) (X Y : Type 0) → OnOk r X → OnErr r Y → (Y → ⊥) → X
+of_ok (Ok t) X Y h k never = h
+of_ok (Err e) X Y h k never = absurd (never k)
+
+-- what is so whatever the result
+pub ok_anyway : {T E : Type 0} (r : Result T E) (X : Type 0) → X → OnOk r X
+ok_anyway (Ok t) X h = h
+ok_anyway (Err e) X h = tt
+
+-- what is so where it is an error
+pub err_when : {T E : Type 0} (r : Result T E) (X : Type 0) → ((e : E) → r ≡ Err e → X) → OnErr r X
+err_when (Ok t) X h = tt
+err_when (Err e) X h = h e refl

@@ -1,0 +1,216 @@
+//! A keeper that puts commits off, so that many of them are one transaction.
+
+use crate::copies::put_off;
+use book::{Change, Tables};
+use keep::{Keep, KeepFault};
+use std::alloc::Global;
+use std::marker::Model;
+
+/// Takes what is committed up, and puts all of it into the keeper behind it when it is settled.
+#[derive(Drop)]
+pub struct Deferred<K: Keep> {
+    keep: K,
+    alloc: Global,
+    /// The rows that are put off.
+    changes: Vec<Change>,
+    stopped: bool,
+}
+
+impl<K: Keep> Model for Deferred<K> {
+    ghost use Rattle.std.specs.Prelude.{◌≡◌, All, false};
+    ghost use Rattle.book.specs.Tables.{rows_among};
+    ghost use Rattle.keep.specs.Content.{IsTheRow};
+    ghost use Rattle.desk.specs.Deferred.{DeferredView};
+
+    ghost Value = { DeferredView K };
+
+    ghost view = { λ d. record { keep = d.keep; changes = d.changes.items; stopped = d.stopped } };
+
+    // one that goes on has a keeper behind it that does
+    ghost invariant = { λ d. All IsTheRow (rows_among d.changes.items).desk × (d.stopped ≡ false → K.stopped d.keep ≡ false) };
+}
+
+impl<K: Keep> Deferred<K> {
+    ghost use Rattle.std.specs.Prelude.{◌≡◌, ◌≢◌, ◌∷◌, [], false, length, IsTrue, OnErr, OnOk};
+    ghost use Rattle.book.specs.Rows.{Content};
+    ghost use Rattle.desk.specs.Deferred.{PutsOff};
+    ghost use Rattle.keep.specs.Transactions.{with_changes};
+
+    /// Puts off what is committed to the keeper. Takes no memory.
+    pub fn over(alloc: Global, keep: K) -> Deferred<K>
+        ensures keep { result.keep ≡ keep }
+        ensures none { result.changes ≡ [] }
+        ensures stopped { result.stopped ≡ K.stopped keep }
+    {
+        let stopped = keep.is_stopped();
+        Deferred {
+            keep,
+            alloc,
+            changes: Vec::new(alloc),
+            stopped,
+        }
+    }
+
+    /// Whether nothing is put off.
+    pub fn is_settled(&self) -> bool
+        ensures { IsTrue result → self.now.changes ≡ [] }
+    {
+        self.changes.is_empty()
+    }
+
+    /// How many rows are put off.
+    pub fn put_off(&self) -> usize
+        ensures { result ≡ length self.now.changes }
+    {
+        self.changes.len()
+    }
+
+    /// Puts all that was put off into the keeper, in one transaction. Nothing is put off then, whatever is answered: an
+    /// error stops it.
+    pub fn settle(&mut self) -> Result<(), KeepFault>
+        ensures none { self.new.changes ≡ [] }
+        ensures ok { OnOk result (self.new.stopped ≡ self.old.stopped) }
+        ensures err { OnErr result (IsTrue self.new.stopped × (self.old.changes ≢ [])) }
+        ensures honest { K.is_honest self.new.keep → K.is_honest self.old.keep }
+        ensures untouched { IsTrue self.old.stopped → self.new.keep ≡ self.old.keep }
+        // what was put off is held then, and a stop leaves that alone
+        ensures kept { K.is_honest self.new.keep → OnOk result ((x : Content)
+            → PutsOff K.Keep self.old.keep self.old.changes x → PutsOff K.Keep self.new.keep [] x) }
+        // a stop leaves what was held before, or that with what was put off
+        ensures either { K.is_honest self.new.keep → OnErr result (self.old.stopped ≡ false → (x : Content)
+            → K.holds self.old.keep x → K.leaves self.old.keep (x ∷ [])
+            → K.leaves self.new.keep (x ∷ with_changes self.old.changes x ∷ [])) }
+    {
+        if self.changes.is_empty() {
+            return Ok(());
+        }
+        let done = self.commit_all();
+        self.changes.clear();
+        done
+    }
+
+    fn commit_all(&mut self) -> Result<(), KeepFault>
+        ensures changes { self.new.changes ≡ self.old.changes }
+        ensures ok { OnOk result (self.new.stopped ≡ self.old.stopped) }
+        ensures err { OnErr result (IsTrue self.new.stopped) }
+        ensures honest { K.is_honest self.new.keep → K.is_honest self.old.keep }
+        ensures untouched { IsTrue self.old.stopped → self.new.keep ≡ self.old.keep }
+        ensures put { K.is_honest self.new.keep → OnOk result ((x : Content) → K.holds self.old.keep x
+            → K.holds self.new.keep (with_changes self.old.changes x)) }
+        ensures alone { K.is_honest self.new.keep → OnOk result ((x : Content) → K.holds self.new.keep x
+            → K.leaves self.new.keep (x ∷ [])) }
+        ensures either { K.is_honest self.new.keep → OnErr result (self.old.stopped ≡ false → (x : Content)
+            → K.holds self.old.keep x → K.leaves self.old.keep (x ∷ [])
+            → K.leaves self.new.keep (x ∷ with_changes self.old.changes x ∷ [])) }
+    {
+        if self.stopped {
+            return Err(KeepFault::Stopped);
+        }
+        match self.keep.commit(&self.changes) {
+            Ok(()) => Ok(()),
+            Err(fault) => {
+                self.stopped = true;
+                Err(fault)
+            }
+        }
+    }
+
+    /// The keeper behind it, as it stands.
+    pub fn into_inner(self) -> K
+        ensures { result ≡ self.keep }
+    {
+        let Deferred {
+            keep,
+            alloc: _,
+            changes: _,
+            stopped: _,
+        } = self;
+        keep
+    }
+}
+
+impl<K: Keep> Keep for Deferred<K> {
+    ghost use Rattle.std.specs.Prelude.{◌≡◌};
+    ghost use Rattle.desk.specs.Deferred.{HasTablesOff, PutsOff, PutsOffOneOf};
+    ghost use Rattle.book.specs.Rows.{Content};
+    ghost use Rattle.std.proofs.Common.{◌∙◌};
+    ghost use Rattle.keep.specs.Content.{IsContent};
+    ghost use Rattle.keep.specs.OneContent.{only_content};
+    ghost use Rattle.keep.specs.Description.{desk_schema};
+
+    ghost is_honest = { λ d. K.is_honest d.keep };
+
+    // what the keeper behind it holds, with what was put off
+    ghost holds = { λ d. PutsOff K.Keep d.keep d.changes };
+
+    ghost has_tables = { λ d. HasTablesOff K.Keep d.keep d.changes };
+
+    ghost is_old = { λ d. K.is_old d.keep };
+
+    // once it is settled
+    ghost leaves = { λ d. PutsOffOneOf K.Keep d.keep d.changes };
+
+    ghost may_leave = { λ d. PutsOff K.Keep d.keep d.changes };
+
+    // trees with a content that it may leave
+    ghost may_leave_trees = { λ d trees. (x : Content) × PutsOff K.Keep d.keep d.changes x × IsContent trees x };
+
+    ghost stopped = { λ d. d.stopped };
+
+    // the keeper behind it is untouched
+    ghost same_settings = { λ old new. new.keep ≡ old.keep };
+
+    // of another schema it is known when it is settled
+    ghost schema = { λ _. desk_schema };
+
+    // no store of another schema is told
+    ghost when_stopped = { λ d. d };
+
+    fn is_stopped(&self) -> bool {
+        self.stopped
+    }
+
+    fn load(&mut self, _alloc: Global) -> Result<Tables, KeepFault> {
+        if self.stopped {
+            return Err(KeepFault::Stopped);
+        }
+        self.stopped = true;
+        Err(KeepFault::Store)
+    }
+
+    fn commit(&mut self, changes: &[Change]) -> Result<(), KeepFault> {
+        if self.stopped {
+            return Err(KeepFault::Stopped);
+        }
+        match put_off(self.alloc, &mut self.changes, changes) {
+            Ok(()) => Ok(()),
+            Err(_) => {
+                self.stopped = true;
+                Err(KeepFault::Memory)
+            }
+        }
+    }
+
+    ghost in_tables = { λ d x held. (held.base, K.in_tables d.keep held.base held.held, held.with_them) };
+
+    ghost apart = { λ d x old has. K.apart d.keep has.0 old has.1 };
+
+    ghost something = { λ d honest none. none.among none.some none.put_off };
+
+    ghost widens = { λ d these those more only. record {
+      some = only.some;
+      put_off = only.put_off;
+      among = λ x may. more x (only.among x may);
+    } };
+
+    ghost of_trees = { λ d trees x left has. record {
+      base = left.1.base;
+      held = left.1.held;
+      alone = left.1.alone;
+      with_them = only_content trees left.0 x left.2 has ∙ left.1.with_them;
+    } };
+
+    ghost among = { λ d these x only may. only.among x may };
+
+    ghost some_content = { λ d these honest only. ∣ (only.some, only.put_off) ∣₁ };
+}

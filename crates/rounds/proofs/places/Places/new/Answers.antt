@@ -1,0 +1,15 @@
+use Rattle.std.proofs.Common.{◌≡◌, ◌∙◌, Some, ◌+◌, ap, length, length-append, refl, subst}
+use Rattle.std.specs.Prelude.{slice_get}
+use Rattle.rounds.specs.Lines.{speaks}
+use Rattle.rounds.proofs.Lists.{free_more}
+use Rattle.rounds.proofs.Reaching.{reach_none}
+use Rattle.rounds.proofs.places.Places.new.Goals as goal
+
+pub loop-place-preserved : goal.loop-place-preserved
+loop-place-preserved g c = record {
+  size = ap length c.in_ok-push.ensures.items ∙ length-append c.loop-place.lines.items _ ∙ ap (λ n. n + 1) c.loop-place.invariant.size;
+  free = λ place v e. free_more c.loop-place.lines.items c.loop-place.invariant.free place v (subst (λ xs. slice_get xs place ≡ Some (Some v)) c.in_ok-push.ensures.items e);
+}
+
+pub returns-clause-reached : goal.returns-clause-reached
+returns-clause-reached g c = λ loss start. reach_none (speaks g.D.Dialogue.language g.D.Dialogue.has_found g.D.Dialogue.asks g.S.Stream.remaining g.S.Stream.contents) loss start _ refl c.loop-place.invariant.free

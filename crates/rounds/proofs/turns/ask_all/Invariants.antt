@@ -1,0 +1,16 @@
+-- so many had their turns
+use Rattle.std.proofs.Common.{ℕ}
+use Rattle.desk.specs.Deferred.{snapshot_off}
+use Rattle.desk.specs.Desk.{Snapshot}
+use Rattle.rounds.specs.Lines.{Heard, speaks}
+use Rattle.rounds.specs.Rounds.{AtEach, InRound, OnlyPutsOff, SameAt}
+use Rattle.rounds.proofs.turns.ask_all.Given as goal
+
+abbrev pub invariant-loop-turns : goal.invariant-loop-turns
+invariant-loop-turns g l = record {
+  seats : AtEach SameAt l.initial.lines l.lines;
+  asked : (heard : ℕ → Heard g.D.Dialogue.Asked g.D.Dialogue.Told) (start : Snapshot)
+      → InRound (speaks g.D.Dialogue.language g.D.Dialogue.has_found g.D.Dialogue.asks g.S.Stream.remaining g.S.Stream.contents) start (snapshot_off l.initial.desk) l.initial.lines heard
+      → InRound (speaks g.D.Dialogue.language g.D.Dialogue.has_found g.D.Dialogue.asks g.S.Stream.remaining g.S.Stream.contents) start (snapshot_off l.desk) l.lines heard;
+  off : OnlyPutsOff l.initial.desk l.desk;
+}

@@ -1,0 +1,49 @@
+//! What connections come to.
+
+use crate::stream::Stream;
+use std::io;
+use std::time::Duration;
+
+/// What can be done at a place, as far as it is known.
+#[derive(Clone, Copy)]
+pub struct Readiness {
+    /// A read may bring something.
+    pub can_read: bool,
+    /// A write may take something.
+    pub can_write: bool,
+}
+
+/// What connections come to, and what tells which of them can be read or written.
+pub trait Crowd {
+    ghost use Rattle.std.specs.Prelude.{IfNone, IfSome, OnErr, OnOk, length, ◌≡◌};
+
+    type Stream: Stream + Drop;
+
+    // A connection that may come, and the crowd after that.
+    ghost comes: { Self → Self.Stream → Self → Type 0 };
+
+    // A connection that is closed as it stands, and the crowd after that.
+    ghost closes: { Self → Self.Stream → Self → Type 0 };
+
+    // What the crowd may be after it was waited for.
+    ghost waits: { Self → Self → Type 0 };
+
+    /// Waits until something can be done at a place or somebody comes, at most so long; marks what can be done, place by
+    /// place. Whether anything happened.
+    fn wait(&mut self, most: Option<Duration>, ready: &mut [Readiness]) -> io::Result<bool>
+        ensures waits { waits self.old self.new }
+        ensures size { length ready.new ≡ length ready.old };
+
+    /// One that waits to be let in, if there is one.
+    fn next(&mut self) -> Option<Self::Stream>
+        ensures { waits self.old self.new };
+
+    /// Lets it in, to a place.
+    fn admit(&mut self, place: usize, stream: &mut Self::Stream) -> io::Result<()>
+        ensures ok { OnOk result (comes self.old stream.new self.new) }
+        ensures err { OnErr result (waits self.old self.new) };
+
+    /// Closes a connection, as it stands.
+    fn close(&mut self, stream: Self::Stream)
+        ensures { closes self.old stream self.new };
+}

@@ -1,0 +1,456 @@
+//! A service of many connections, in rounds.
+
+ghost use Rattle.std.specs.Prelude.{◌≡◌, ◌≢◌, ◌+◌, ◌-◌, ◌<◌, ◌≤◌, ◌^◌, [], length, slice_get, ℕ, None, Option, Some, IfErr, IfOk};
+ghost use Rattle.desk.specs.Desk.{Snapshot};
+ghost use Rattle.rounds.specs.Crowds.{IsServing, listening};
+ghost use Rattle.rounds.specs.Lines.{speaks};
+ghost use Rattle.rounds.specs.Rounds.{Loss};
+ghost use Rattle.rounds.specs.Services.{InService};
+
+use crate::crowd::{Crowd, Readiness};
+use crate::places::Places;
+use crate::standing::Standing;
+use desk::{Begin, Deferred, Desk, Dialogue};
+use keep::Keep;
+use std::alloc::{AllocError, Global};
+use std::io::{self, ErrorKind};
+use std::marker::Model;
+use std::time::Duration;
+
+/// Connections that have come, each at a place.
+#[derive(Drop)]
+pub struct Hub<D: Dialogue + Drop, C: Crowd + Drop> {
+    crowd: C,
+    places: Places<D, C::Stream>,
+    /// What can be done at each place.
+    ready: Vec<Readiness>,
+    /// The turn in which something came there or was taken last.
+    heard: Vec<u64>,
+    /// Who was answered there, and may ask again at once.
+    awaited: Vec<bool>,
+    turn: u64,
+    /// How many rounds go by without waiting for more.
+    hasty: u32,
+}
+
+impl<D: Dialogue + Drop, C: Crowd + Drop> Model for Hub<D, C> {
+    ghost use Rattle.std.specs.Prelude.{◌≡◌, ◌≤◌, length};
+    ghost use Rattle.rounds.specs.Crowds.{HubView};
+    ghost use Rattle.rounds.specs.Lines.{LineView};
+
+    ghost Value = { HubView C (LineView D D.Question C.Stream) };
+
+    ghost view = { λ h. record { crowd = h.crowd; places = h.places } };
+
+    ghost invariant = { λ h. (length h.ready.items ≡ length h.places.lines)
+        × (length h.heard.items ≡ length h.places.lines) × (length h.awaited.items ≡ length h.places.lines) };
+}
+
+/// How often more is waited for before a round, at the most.
+const GATHERS: u32 = 16;
+
+/// How many rounds go by without waiting for more, where nobody came.
+const HASTY: u32 = 32;
+
+/// So many of it.
+fn many<T: Copy + Drop>(alloc: Global, one: T, count: usize) -> Result<Vec<T>, AllocError>
+    ensures { IfOk result (λ all. length all.items ≡ count) }
+{
+    let mut all = Vec::with_capacity(alloc, count)?;
+    for _one in 0..count {
+        all.push(one)?;
+    }
+    Ok(all)
+}
+
+/// Whether a call failed only since there was nothing to do.
+fn would_block(error: &io::Error) -> bool {
+    matches!(error.kind(), ErrorKind::WouldBlock | ErrorKind::Interrupted)
+}
+
+/// Takes all marks away.
+fn clear(marks: &mut [bool])
+    ensures { length marks.new ≡ length marks.old }
+{
+    for place in 0..marks.len() {
+        marks[place] = false;
+    }
+}
+
+/// The place of the least number, the first of several.
+fn least_of(numbers: &[u64]) -> usize
+    requires { 1 ≤ length numbers.now }
+    ensures { result < length numbers.now }
+{
+    let mut least = 0;
+    for place in 1..numbers.len() {
+        if numbers[place] < numbers[least] {
+            least = place;
+        }
+    }
+    least
+}
+
+impl<D: Dialogue + Drop, C: Crowd + Drop> Hub<D, C> {
+    /// Closes the connection at a place, if there is one.
+    fn close(&mut self, place: usize)
+        requires place { place < length self.old.places.lines }
+        ensures served { (first : C) (loss : Option Loss) (start now : Snapshot)
+            → IsServing (speaks D.language D.has_found D.asks C.Stream.remaining C.Stream.contents) (listening C.comes C.closes C.waits)
+            first loss start now self.old
+            → IsServing (speaks D.language D.has_found D.asks C.Stream.remaining C.Stream.contents) (listening C.comes C.closes C.waits)
+            first loss start now self.new }
+        ensures others { (other : ℕ) → other ≢ place
+            → slice_get self.new.places.lines other ≡ slice_get self.old.places.lines other }
+        ensures free { slice_get self.new.places.lines place ≡ Some None }
+        ensures same { (length self.new.places.lines ≡ length self.old.places.lines)
+            × (self.new.places.connections ≡ self.old.places.connections) }
+    {
+        if let Some(stream) = self.places.leave(place) {
+            self.crowd.close(stream);
+        }
+    }
+
+    /// A place at which nobody is; where there is none, the connection that was silent longest is closed.
+    fn make_place(&mut self) -> usize
+        requires some { 1 ≤ length self.old.places.lines }
+        ensures served { (first : C) (loss : Option Loss) (start now : Snapshot)
+            → IsServing (speaks D.language D.has_found D.asks C.Stream.remaining C.Stream.contents) (listening C.comes C.closes C.waits)
+            first loss start now self.old
+            → IsServing (speaks D.language D.has_found D.asks C.Stream.remaining C.Stream.contents) (listening C.comes C.closes C.waits)
+            first loss start now self.new }
+        ensures free { slice_get self.new.places.lines result ≡ Some None }
+        ensures within { result < length self.new.places.lines }
+        ensures same { (length self.new.places.lines ≡ length self.old.places.lines)
+            × (self.new.places.connections ≡ self.old.places.connections) }
+    {
+        match self.places.free_place() {
+            Some(place) => place,
+            None => {
+                let place = least_of(&self.heard);
+                self.close(place);
+                place
+            }
+        }
+    }
+
+    /// Reads at a place, where something may have come and more is wanted, and looks for a question in it. Where a read fails the
+    /// connection is closed.
+    fn read(&mut self, alloc: Global, place: usize, piece: &mut [u8])
+        requires place { place < length self.old.places.lines }
+        requires room { 0 < length piece.old }
+        ensures served { (first : C) (loss : Option Loss) (start now : Snapshot)
+            → IsServing (speaks D.language D.has_found D.asks C.Stream.remaining C.Stream.contents) (listening C.comes C.closes C.waits)
+            first loss start now self.old
+            → IsServing (speaks D.language D.has_found D.asks C.Stream.remaining C.Stream.contents) (listening C.comes C.closes C.waits)
+            first loss start now self.new }
+        ensures same { (length self.new.places.lines ≡ length self.old.places.lines)
+            × (self.new.places.connections ≡ self.old.places.connections) }
+    {
+        if !self.ready[place].can_read {
+            return;
+        }
+        match self.places.read(alloc, place, piece) {
+            Ok(Some(_)) => {
+                self.heard[place] = self.turn;
+                self.places.look(alloc, place);
+            }
+            Ok(None) => {}
+            Err(error) if would_block(&error) => self.ready[place].can_read = false,
+            Err(_) => self.close(place),
+        }
+    }
+
+    /// Writes what is to be written at a place, as far as it is taken, and looks for the next question there. Where a write fails
+    /// the connection is closed.
+    fn write(&mut self, alloc: Global, place: usize)
+        requires place { place < length self.old.places.lines }
+        ensures served { (first : C) (loss : Option Loss) (start now : Snapshot)
+            → IsServing (speaks D.language D.has_found D.asks C.Stream.remaining C.Stream.contents) (listening C.comes C.closes C.waits)
+            first loss start now self.old
+            → IsServing (speaks D.language D.has_found D.asks C.Stream.remaining C.Stream.contents) (listening C.comes C.closes C.waits)
+            first loss start now self.new }
+        ensures same { (length self.new.places.lines ≡ length self.old.places.lines)
+            × (self.new.places.connections ≡ self.old.places.connections) }
+    {
+        if !self.ready[place].can_write {
+            return;
+        }
+        match self.places.write(place) {
+            Ok(Some(0)) => self.close(place),
+            Ok(Some(_)) => {
+                self.heard[place] = self.turn;
+                self.awaited[place] = true;
+                self.places.look(alloc, place);
+            }
+            Ok(None) => {}
+            Err(error) if would_block(&error) => self.ready[place].can_write = false,
+            Err(_) => self.close(place),
+        }
+    }
+
+    /// Reads at a place; whether a question is to be answered there, and whether one is awaited.
+    fn hear_at(&mut self, alloc: Global, place: usize, piece: &mut [u8]) -> (bool, bool)
+        requires place { place < length self.old.places.lines }
+        requires room { 0 < length piece.old }
+        ensures served { (first : C) (loss : Option Loss) (start now : Snapshot)
+            → IsServing (speaks D.language D.has_found D.asks C.Stream.remaining C.Stream.contents) (listening C.comes C.closes C.waits)
+            first loss start now self.old
+            → IsServing (speaks D.language D.has_found D.asks C.Stream.remaining C.Stream.contents) (listening C.comes C.closes C.waits)
+            first loss start now self.new }
+        ensures same { (length self.new.places.lines ≡ length self.old.places.lines)
+            × (self.new.places.connections ≡ self.old.places.connections) }
+    {
+        self.read(alloc, place, piece);
+        let has_question = self.places.standing(place) == Standing::Asks;
+        if has_question {
+            self.awaited[place] = false;
+        }
+        (has_question, self.awaited[place])
+    }
+
+    /// Reads at each place: at how many a question is to be answered, and how many that were answered have not asked again.
+    pub fn read_all(&mut self, alloc: Global, piece: &mut [u8]) -> (usize, usize)
+        requires room { 0 < length piece.old }
+        ensures served { (first : C) (loss : Option Loss) (start now : Snapshot)
+            → IsServing (speaks D.language D.has_found D.asks C.Stream.remaining C.Stream.contents) (listening C.comes C.closes C.waits)
+            first loss start now self.old
+            → IsServing (speaks D.language D.has_found D.asks C.Stream.remaining C.Stream.contents) (listening C.comes C.closes C.waits)
+            first loss start now self.new }
+        ensures same { (length self.new.places.lines ≡ length self.old.places.lines)
+            × (self.new.places.connections ≡ self.old.places.connections) }
+    {
+        let mut asking = 0usize;
+        let mut awaited = 0usize;
+        for place in 0..self.places.len() {
+            let (has_question, is_awaited) = self.hear_at(alloc, place, piece);
+            asking = asking.saturating_add(usize::from(has_question));
+            awaited = awaited.saturating_add(usize::from(is_awaited));
+        }
+        (asking, awaited)
+    }
+
+    /// Waits for nobody that was answered.
+    pub fn await_none(&mut self)
+        ensures { self.new ≡ self.old }
+    {
+        clear(&mut self.awaited);
+    }
+
+    /// Writes at a place, and closes the connection if nothing more comes of it; how the place stands then.
+    fn tell_at(&mut self, alloc: Global, place: usize) -> Standing
+        requires place { place < length self.old.places.lines }
+        ensures served { (first : C) (loss : Option Loss) (start now : Snapshot)
+            → IsServing (speaks D.language D.has_found D.asks C.Stream.remaining C.Stream.contents) (listening C.comes C.closes C.waits)
+            first loss start now self.old
+            → IsServing (speaks D.language D.has_found D.asks C.Stream.remaining C.Stream.contents) (listening C.comes C.closes C.waits)
+            first loss start now self.new }
+        ensures same { (length self.new.places.lines ≡ length self.old.places.lines)
+            × (self.new.places.connections ≡ self.old.places.connections) }
+    {
+        self.write(alloc, place);
+        if self.places.standing(place) == Standing::Over {
+            self.close(place);
+        }
+        self.places.standing(place)
+    }
+
+    /// Whether something can be done at a place before the crowd tells more.
+    fn is_busy(&self, place: usize, standing: Standing) -> bool
+        requires { place < length self.now.places.lines }
+    {
+        match standing {
+            Standing::Asks => true,
+            Standing::Reads => self.ready[place].can_read,
+            Standing::Writes => self.ready[place].can_write,
+            Standing::Free | Standing::Over => false,
+        }
+    }
+
+    /// Writes at each place: whether anybody is there, and whether something can be done before the crowd tells more.
+    pub fn tell_all(&mut self, alloc: Global) -> (bool, bool)
+        ensures served { (first : C) (loss : Option Loss) (start now : Snapshot)
+            → IsServing (speaks D.language D.has_found D.asks C.Stream.remaining C.Stream.contents) (listening C.comes C.closes C.waits)
+            first loss start now self.old
+            → IsServing (speaks D.language D.has_found D.asks C.Stream.remaining C.Stream.contents) (listening C.comes C.closes C.waits)
+            first loss start now self.new }
+        ensures same { (length self.new.places.lines ≡ length self.old.places.lines)
+            × (self.new.places.connections ≡ self.old.places.connections) }
+    {
+        let mut is_open = false;
+        let mut is_busy = false;
+        for place in 0..self.places.len() {
+            let standing = self.tell_at(alloc, place);
+            is_open = is_open || standing != Standing::Free;
+            is_busy = is_busy || self.is_busy(place, standing);
+        }
+        (is_open, is_busy)
+    }
+
+    /// Closes all connections.
+    pub fn close_all(&mut self)
+        ensures served { (first : C) (loss : Option Loss) (start now : Snapshot)
+            → IsServing (speaks D.language D.has_found D.asks C.Stream.remaining C.Stream.contents) (listening C.comes C.closes C.waits)
+            first loss start now self.old
+            → IsServing (speaks D.language D.has_found D.asks C.Stream.remaining C.Stream.contents) (listening C.comes C.closes C.waits)
+            first loss start now self.new }
+        ensures same { (length self.new.places.lines ≡ length self.old.places.lines)
+            × (self.new.places.connections ≡ self.old.places.connections) }
+        ensures free { (place : ℕ) → place < length self.new.places.lines
+            → slice_get self.new.places.lines place ≡ Some None }
+    {
+        for place in 0..self.places.len() {
+            self.close(place);
+        }
+    }
+
+    /// Waits until something can be done or somebody comes, at most so long; whether anything
+    /// happened.
+    pub fn wait(&mut self, most: Option<Duration>) -> io::Result<bool>
+        ensures served { (first : C) (loss : Option Loss) (start now : Snapshot)
+            → IsServing (speaks D.language D.has_found D.asks C.Stream.remaining C.Stream.contents) (listening C.comes C.closes C.waits)
+            first loss start now self.old
+            → IsServing (speaks D.language D.has_found D.asks C.Stream.remaining C.Stream.contents) (listening C.comes C.closes C.waits)
+            first loss start now self.new }
+        ensures same { (length self.new.places.lines ≡ length self.old.places.lines)
+            × (self.new.places.connections ≡ self.old.places.connections) }
+    {
+        self.crowd.wait(most, &mut self.ready)
+    }
+
+    /// Holds a round: questions of all connections are answered, up to `most`, and kept in one transaction.
+    pub fn round<K: Keep>(&mut self, alloc: Global, most: usize, desk: &mut Desk<Deferred<K>>)
+        requires going { D.may_stop → ⊥ }
+        requires settled { desk.old.keep.changes ≡ [] }
+        ensures served { (first : C) (start : Snapshot) → InService (speaks D.language D.has_found D.asks C.Stream.remaining C.Stream.contents) (listening C.comes C.closes C.waits) K.Keep
+            first start desk.old self.old
+            → InService (speaks D.language D.has_found D.asks C.Stream.remaining C.Stream.contents) (listening C.comes C.closes C.waits) K.Keep
+            first start desk.new self.new }
+        ensures settled { desk.new.keep.changes ≡ [] }
+        ensures same { (length self.new.places.lines ≡ length self.old.places.lines)
+            × (self.new.places.connections ≡ self.old.places.connections) }
+    {
+        let _ = self.places.round(alloc, most, desk);
+    }
+
+    /// So many places, at which nobody is. Where memory is refused the crowd comes back.
+    pub fn new(alloc: Global, crowd: C, clients: usize) -> Result<Hub<D, C>, C>
+        ensures serving { IfOk result (λ hub. (loss : Option Loss) (start : Snapshot)
+            → IsServing (speaks D.language D.has_found D.asks C.Stream.remaining C.Stream.contents) (listening C.comes C.closes C.waits) crowd loss start start hub) }
+        ensures size { IfOk result (λ hub. (length hub.places.lines ≡ clients) × (hub.places.connections ≡ 0)) }
+        ensures err { IfErr result (λ back. back ≡ crowd) }
+    {
+        let Ok(places) = Places::new(alloc, clients) else {
+            return Err(crowd);
+        };
+        let silent = Readiness {
+            can_read: false,
+            can_write: false,
+        };
+        let (Ok(ready), Ok(heard), Ok(awaited)) = (
+            many(alloc, silent, clients),
+            many(alloc, 0, clients),
+            many(alloc, false, clients),
+        ) else {
+            return Err(crowd);
+        };
+        Ok(Hub {
+            crowd,
+            places,
+            ready,
+            heard,
+            awaited,
+            turn: 0,
+            hasty: 0,
+        })
+    }
+
+    /// How many connections have come.
+    pub fn connections(&self) -> usize
+        ensures { result ≡ self.now.places.connections }
+    {
+        self.places.connections()
+    }
+
+    /// The crowd, as it is.
+    pub fn into_crowd(self) -> C
+        ensures { result ≡ self.crowd }
+    {
+        let Hub { crowd, .. } = self;
+        crowd
+    }
+
+    /// Begins a turn.
+    pub fn begin_turn(&mut self)
+        ensures { self.new ≡ self.old }
+    {
+        self.turn = self.turn.saturating_add(1);
+    }
+
+    /// Reads what has come. Behind a round those that it answered may ask again at once: they are waited for, until nothing
+    /// happens for a millisecond, so that all ask in one round and not by turns in two. Where they did not come, some rounds go
+    /// by without waiting.
+    pub fn gather(&mut self, alloc: Global, most: usize, piece: &mut [u8]) -> io::Result<()>
+        requires room { 0 < length piece.old }
+        ensures served { (first : C) (loss : Option Loss) (start now : Snapshot)
+            → IsServing (speaks D.language D.has_found D.asks C.Stream.remaining C.Stream.contents) (listening C.comes C.closes C.waits)
+            first loss start now self.old
+            → IsServing (speaks D.language D.has_found D.asks C.Stream.remaining C.Stream.contents) (listening C.comes C.closes C.waits)
+            first loss start now self.new }
+        ensures same { (length self.new.places.lines ≡ length self.old.places.lines)
+            × (self.new.places.connections ≡ self.old.places.connections) }
+    {
+        let (mut asking, mut awaited) = self.read_all(alloc, piece);
+        if self.hasty > 0 {
+            self.hasty -= 1;
+            self.await_none();
+            return Ok(());
+        }
+        for _more in 0..GATHERS {
+            if asking == 0 || awaited == 0 || most <= asking {
+                break;
+            }
+            if !self.wait(Some(Duration::from_millis(1)))? {
+                self.hasty = HASTY;
+                self.await_none();
+                break;
+            }
+            (asking, awaited) = self.read_all(alloc, piece);
+        }
+        Ok(())
+    }
+}
+
+impl<D: Begin + Drop, C: Crowd + Drop> Hub<D, C> {
+    /// Lets one more in, if somebody waits. Whether somebody did.
+    pub fn let_in(&mut self, alloc: Global) -> bool
+        requires some { 1 ≤ length self.old.places.lines }
+        requires count { self.old.places.connections < 2 ^ 64 - 1 }
+        ensures served { (first : C) (loss : Option Loss) (start now : Snapshot)
+            → IsServing (speaks D.language D.has_found D.asks C.Stream.remaining C.Stream.contents) (listening C.comes C.closes C.waits)
+            first loss start now self.old
+            → IsServing (speaks D.language D.has_found D.asks C.Stream.remaining C.Stream.contents) (listening C.comes C.closes C.waits)
+            first loss start now self.new }
+        ensures size { length self.new.places.lines ≡ length self.old.places.lines }
+        ensures count { self.new.places.connections ≤ self.old.places.connections + 1 }
+    {
+        let Some(mut stream) = self.crowd.next() else {
+            return false;
+        };
+        let Ok(dialogue) = D::begin(alloc) else {
+            return true;
+        };
+        let place = self.make_place();
+        let Ok(()) = self.crowd.admit(place, &mut stream) else {
+            return true;
+        };
+        self.places.seat(alloc, place, dialogue, stream);
+        self.ready[place] = Readiness {
+            can_read: true,
+            can_write: true,
+        };
+        self.heard[place] = self.turn;
+        self.awaited[place] = false;
+        true
+    }
+}

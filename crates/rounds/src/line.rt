@@ -1,0 +1,370 @@
+//! One connection of many.
+
+ghost use Rattle.std.specs.Prelude.{◌≡◌, ◌≢◌, ◌<◌, ◌≤◌, ◌↔◌, [], ◌∷◌, ◌++◌, false, true, drop, length, take, List, ℕ, OnErr, OnOk, IsTrue};
+ghost use Rattle.std.specs.Io.KnownBytes.{Appends, Consumes, IsAtEnd, Keeps};
+ghost use Rattle.desk.specs.Deferred.{snapshot_off};
+ghost use Rattle.desk.specs.Dialogue.{bytes_of};
+ghost use Rattle.rounds.specs.Lines.{Heard, IsHeard, Said, Stands, speaks, unheard, with_piece, with_said, with_written};
+ghost use Rattle.rounds.specs.Rounds.{HasTurn, OnlyPutsOff, standing_of};
+
+use crate::phase::Phase;
+use crate::standing::Standing;
+use crate::stream::Stream;
+use desk::{Answer, CallFault, Deferred, Desk, Dialogue, Next};
+use keep::Keep;
+use std::alloc::{AllocError, Global};
+use std::collections::VecDeque;
+use std::marker::Model;
+use std::{io, mem};
+
+/// How many bytes of answers may be hidden where one more question is answered.
+const MOST_HIDDEN: usize = 32 * 1024;
+
+/// Room that is made before a command is carried out, for its answer.
+const ROOM: usize = 512;
+
+/// A dialogue, and the stream that it is with.
+#[derive(Drop)]
+pub struct Line<D: Dialogue + Drop, S: Drop> {
+    dialogue: D,
+    stream: S,
+    /// Its number, from 0, in the order in which connections came.
+    connection: usize,
+    phase: Phase,
+    /// Questions that were found, each up to the time when its answer is shown.
+    questions: VecDeque<D::Question>,
+    /// How many of them are answered in this round.
+    answered: usize,
+    /// Their answers, while it is not known whether they are kept.
+    hidden: Vec<u8>,
+    /// Answers that may be written.
+    output: Vec<u8>,
+    /// How many bytes of them are written.
+    written: usize,
+    /// What was asked last in this round has changed nothing.
+    is_still: bool,
+}
+
+impl<D: Dialogue + Drop, S: Drop> Model for Line<D, S> {
+    ghost use Rattle.std.specs.Prelude.{◌≤◌, drop, length, take};
+    ghost use Rattle.rounds.specs.Lines.{LineView};
+
+    ghost Value = { LineView D D.Question S };
+
+    ghost view = { λ l. record {
+      dialogue = l.dialogue;
+      stream = l.stream;
+      connection = l.connection;
+      phase = l.phase;
+      asked = take l.answered l.questions.items;
+      waiting = drop l.answered l.questions.items;
+      hidden = l.hidden.items;
+      output = drop l.written l.output.items;
+    } };
+
+    ghost invariant = { λ l. (l.answered ≤ length l.questions.items) × (l.written ≤ length l.output.items) };
+}
+
+impl<D: Dialogue + Drop, S: Stream + Drop> Line<D, S> {
+    /// A connection on which nothing has come yet.
+    pub fn new(alloc: Global, connection: usize, dialogue: D, stream: S) -> Line<D, S>
+        requires new { D.has_found dialogue [] false [] }
+        requires none { D.language.have_come [] [] }
+        ensures heard { IsHeard (speaks D.language D.has_found D.asks S.remaining S.contents) result unheard [] }
+        ensures stream { result.stream ≡ stream }
+        ensures connection { result.connection ≡ connection }
+    {
+        Line {
+            dialogue,
+            stream,
+            connection,
+            phase: Phase::Wants,
+            questions: VecDeque::new(alloc),
+            answered: 0,
+            hidden: Vec::new(alloc),
+            output: Vec::new(alloc),
+            written: 0,
+            is_still: false,
+        }
+    }
+
+    /// What is to be written.
+    pub fn output(&self) -> &[u8]
+        ensures { result.now ≡ self.now.output }
+    {
+        rest_of(&self.output, self.written)
+    }
+
+    /// Whether more bytes are wanted: all that has come is answered, and the answers are written.
+    pub fn wants(&self) -> bool
+        ensures phase { IsTrue result → self.now.phase ≡ Phase.Wants }
+        ensures quiet { IsTrue result → self.now.output ≡ [] }
+    {
+        self.phase == Phase::Wants && self.output().is_empty()
+    }
+
+    /// Whether a question may stand in what has come, and its answer may be written.
+    pub fn may_ask(&self) -> bool
+        ensures phase { IsTrue result → self.now.phase ≡ Phase.Asks }
+        ensures quiet { IsTrue result → self.now.output ≡ [] }
+    {
+        self.phase == Phase::Asks && self.output().is_empty()
+    }
+
+    /// Whether a question was found that is not answered.
+    pub fn has_question(&self) -> bool
+        ensures waits { IsTrue result → 1 ≤ length self.now.waiting }
+        ensures none { result ≡ false → self.now.waiting ≡ [] }
+    {
+        self.answered < self.questions.len()
+    }
+
+    /// Whether memory was refused for it.
+    pub fn is_gone(&self) -> bool
+        ensures { IsTrue result ↔ (self.now.phase ≡ Phase.Gone) }
+    {
+        self.phase == Phase::Gone
+    }
+
+    /// How it stands.
+    pub fn standing(&self) -> Standing
+        ensures { result ≡ standing_of self.now }
+    {
+        if self.phase == Phase::Gone {
+            return Standing::Over;
+        }
+        if !self.output().is_empty() {
+            return Standing::Writes;
+        }
+        match self.phase {
+            Phase::Wants => Standing::Reads,
+            Phase::Asks => Standing::Asks,
+            Phase::Over | Phase::Gone => Standing::Over,
+        }
+    }
+
+    /// The stream, as it is.
+    pub fn into_stream(self) -> S
+        ensures { result ≡ self.stream }
+    {
+        let Line { stream, .. } = self;
+        stream
+    }
+
+    /// Reads a piece, where more is wanted: how many bytes these are, none only at the end of what there is. A failing read
+    /// brings nothing.
+    pub fn read(&mut self, alloc: Global, piece: &mut [u8]) -> io::Result<usize>
+        requires wants { self.old.phase ≡ Phase.Wants }
+        requires room { 0 < length piece.old }
+        ensures heard { OnOk result ((bytes : List ℕ)
+            × Consumes (S.remaining self.old.stream) (S.remaining self.new.stream) bytes
+            × ((h : Heard D.Asked D.Told)
+            → IsHeard (speaks D.language D.has_found D.asks S.remaining S.contents) self.old h []
+            → Stands (speaks D.language D.has_found D.asks S.remaining S.contents) self.new (with_piece h bytes) [])) }
+        ensures failed { OnErr result (Keeps (S.remaining self.old.stream) (S.remaining self.new.stream)
+            × ((h : Heard D.Asked D.Told)
+            → IsHeard (speaks D.language D.has_found D.asks S.remaining S.contents) self.old h []
+            → IsHeard (speaks D.language D.has_found D.asks S.remaining S.contents) self.new h [])) }
+        ensures others { Keeps (S.contents self.old.stream) (S.contents self.new.stream) }
+        ensures connection { self.new.connection ≡ self.old.connection }
+    {
+        let count = self.stream.read_piece(piece)?;
+        match self.dialogue.take_in(alloc, front_of(piece, count)) {
+            Ok(()) => self.phase = Phase::Asks,
+            Err(_) => self.phase = Phase::Gone,
+        }
+        Ok(count)
+    }
+
+    /// Writes what is to be written, as far as it is taken: how many bytes these are. A failing write takes nothing.
+    pub fn write(&mut self) -> io::Result<usize>
+        ensures heard { OnOk result ((bytes : List ℕ) × Appends (S.contents self.old.stream) (S.contents self.new.stream) bytes
+            × ((h : Heard D.Asked D.Told)
+            → IsHeard (speaks D.language D.has_found D.asks S.remaining S.contents) self.old h []
+            → IsHeard (speaks D.language D.has_found D.asks S.remaining S.contents) self.new (with_written h bytes) [])) }
+        ensures failed { OnErr result (Keeps (S.contents self.old.stream) (S.contents self.new.stream)
+            × ((h : Heard D.Asked D.Told)
+            → IsHeard (speaks D.language D.has_found D.asks S.remaining S.contents) self.old h []
+            → IsHeard (speaks D.language D.has_found D.asks S.remaining S.contents) self.new h [])) }
+        ensures others { Keeps (S.remaining self.old.stream) (S.remaining self.new.stream) }
+        ensures same { (self.new.connection ≡ self.old.connection) × (self.new.phase ≡ self.old.phase) }
+    {
+        let count = self.stream.write_some(rest_of(&self.output, self.written))?;
+        self.written += count;
+        Ok(count)
+    }
+
+    /// Looks for a question in what has come, where none waits; whether one waits then.
+    pub fn look(&mut self, alloc: Global) -> bool
+        ensures heard { (h : Heard D.Asked D.Told) (said : List (Said D.Asked D.Told))
+            → Stands (speaks D.language D.has_found D.asks S.remaining S.contents) self.old h said
+            → Stands (speaks D.language D.has_found D.asks S.remaining S.contents) self.new h said }
+        ensures waits { IsTrue result → 1 ≤ length self.new.waiting }
+        ensures asks { IsTrue result → self.old.phase ≡ Phase.Asks → self.new.phase ≡ Phase.Asks }
+        ensures same { (self.new.connection ≡ self.old.connection) × (self.new.stream ≡ self.old.stream)
+            × (self.new.output ≡ self.old.output) }
+    {
+        if self.has_question() {
+            return true;
+        }
+        if self.phase != Phase::Asks {
+            return false;
+        }
+        let Ok(()) = self.questions.reserve(1) else {
+            self.phase = Phase::Gone;
+            return false;
+        };
+        match self.dialogue.next(alloc) {
+            Next::Question(question) => {
+                self.questions.push_back_reserved(question);
+                return true;
+            }
+            Next::More => self.phase = Phase::Wants,
+            Next::Over => self.phase = Phase::Over,
+        }
+        false
+    }
+
+    /// Answers its next question, where there is one that may be answered in this round: what was answered before it is
+    /// written, or was answered in this round and has changed something. The answer is hidden. Whether there was one.
+    pub fn turn<K: Keep>(&mut self, alloc: Global, desk: &mut Desk<Deferred<K>>) -> bool
+        requires going { D.may_stop → ⊥ }
+        ensures turn { (h : Heard D.Asked D.Told) (said : List (Said D.Asked D.Told))
+            → Stands (speaks D.language D.has_found D.asks S.remaining S.contents) self.old h said
+            → HasTurn (speaks D.language D.has_found D.asks S.remaining S.contents) self.old self.new
+            (snapshot_off desk.old) (snapshot_off desk.new)
+            h said }
+        ensures same { (self.new.connection ≡ self.old.connection) × (self.new.stream ≡ self.old.stream) }
+        ensures off { OnlyPutsOff desk.old desk.new }
+    {
+        desk.is_stopped();
+        if !self.may_ask() || self.is_still || MOST_HIDDEN < self.hidden.len() {
+            return false;
+        }
+        if !self.look(alloc) {
+            return false;
+        }
+        self.answer(alloc, desk)
+    }
+
+    /// Answers the first question that waits.
+    fn answer<K: Keep>(&mut self, alloc: Global, desk: &mut Desk<Deferred<K>>) -> bool
+        requires going { D.may_stop → ⊥ }
+        requires waits { 1 ≤ length self.old.waiting }
+        requires asks { self.old.phase ≡ Phase.Asks }
+        requires quiet { self.old.output ≡ [] }
+        ensures turn { (h : Heard D.Asked D.Told) (said : List (Said D.Asked D.Told))
+            → Stands (speaks D.language D.has_found D.asks S.remaining S.contents) self.old h said
+            → HasTurn (speaks D.language D.has_found D.asks S.remaining S.contents) self.old self.new
+            (snapshot_off desk.old) (snapshot_off desk.new)
+            h said }
+        ensures same { (self.new.connection ≡ self.old.connection) × (self.new.stream ≡ self.old.stream) }
+        ensures off { OnlyPutsOff desk.old desk.new }
+    {
+        desk.is_stopped();
+        let put_off = desk.put_off();
+        let Ok(()) = self.hidden.reserve(ROOM) else {
+            self.phase = Phase::Gone;
+            return false;
+        };
+        match self
+            .dialogue
+            .answer(alloc, desk, &self.questions[self.answered])
+        {
+            Ok(answer) => {
+                self.is_still = desk.put_off() == put_off;
+                self.hide(&answer);
+                true
+            }
+            Err(CallFault::Memory) => {
+                self.phase = Phase::Gone;
+                false
+            }
+            Err(CallFault::Stopped) => unreachable!(),
+        }
+    }
+
+    /// Hides an answer to the first question that waits.
+    fn hide(&mut self, answer: &Answer)
+        requires { 1 ≤ length self.old.waiting }
+        ensures hidden { self.new.phase ≢ Phase.Gone → self.new ≡ record self.old {
+          asked = self.old.asked ++ take 1 self.old.waiting;
+          waiting = drop 1 self.old.waiting;
+          hidden = self.old.hidden ++ bytes_of answer.now;
+        } }
+        ensures same { (self.new.connection ≡ self.old.connection) × (self.new.stream ≡ self.old.stream) }
+    {
+        match self.hidden.extend_from_slice(answer.as_bytes()) {
+            Ok(()) => self.answered += 1,
+            Err(_) => self.phase = Phase::Gone,
+        }
+    }
+
+    /// Shows what is hidden, which may then be written.
+    pub fn show(&mut self, alloc: Global)
+        ensures shown { (h : Heard D.Asked D.Told) (said : List (Said D.Asked D.Told))
+            → Stands (speaks D.language D.has_found D.asks S.remaining S.contents) self.old h said
+            → Stands (speaks D.language D.has_found D.asks S.remaining S.contents) self.new (with_said h said) [] }
+        ensures same { (self.new.connection ≡ self.old.connection) × (self.new.stream ≡ self.old.stream) }
+    {
+        self.is_still = false;
+        if self.answered == 0 {
+            return;
+        }
+        let_go(&mut self.questions, self.answered);
+        self.answered = 0;
+        self.output = mem::replace(&mut self.hidden, Vec::new(alloc));
+        self.written = 0;
+    }
+
+    /// Forgets what is hidden: its questions are to be answered anew.
+    pub fn forget(&mut self)
+        ensures forgotten { (h : Heard D.Asked D.Told) (said : List (Said D.Asked D.Told))
+            → Stands (speaks D.language D.has_found D.asks S.remaining S.contents) self.old h said
+            → Stands (speaks D.language D.has_found D.asks S.remaining S.contents) self.new h [] }
+        ensures same { (self.new.connection ≡ self.old.connection) × (self.new.stream ≡ self.old.stream) }
+    {
+        self.is_still = false;
+        if self.answered == 0 {
+            return;
+        }
+        self.answered = 0;
+        self.hidden.clear();
+        self.phase = asking_again(self.phase);
+    }
+}
+
+/// The first so many bytes.
+fn front_of(bytes: &[u8], count: usize) -> &[u8]
+    requires { count ≤ length bytes.now }
+    ensures { result.now ≡ take count bytes.now }
+{
+    &bytes[..count]
+}
+
+/// The bytes behind so many.
+fn rest_of(bytes: &[u8], count: usize) -> &[u8]
+    requires { count ≤ length bytes.now }
+    ensures { result.now ≡ drop count bytes.now }
+{
+    &bytes[count..]
+}
+
+/// How far a dialogue is whose questions are to be answered anew.
+fn asking_again(phase: Phase) -> Phase
+    ensures { result ≢ Phase.Gone → (phase ≢ Phase.Gone) × (result ≡ Phase.Asks) }
+{
+    match phase {
+        Phase::Gone => Phase::Gone,
+        Phase::Wants | Phase::Asks | Phase::Over => Phase::Asks,
+    }
+}
+
+/// Lets the first so many questions go.
+fn let_go<Q: Drop>(questions: &mut VecDeque<Q>, count: usize)
+    ensures { questions.new.items ≡ drop count questions.old.items }
+{
+    for _question in 0..count {
+        questions.pop_front();
+    }
+}

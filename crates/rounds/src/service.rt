@@ -1,0 +1,173 @@
+//! A service of so many connections, in rounds.
+
+ghost use Rattle.std.specs.Prelude.{◌≡◌, ◌<◌, ◌≤◌, ◌^◌, [], false, length, Err, Option, OnErr, OnOk, IsTrue, ℕ};
+ghost use Rattle.desk.specs.Deferred.{snapshot_off};
+ghost use Rattle.desk.specs.Desk.{Snapshot};
+ghost use Rattle.rounds.specs.Crowds.{IsServing, listening};
+ghost use Rattle.rounds.specs.Lines.{speaks};
+ghost use Rattle.rounds.specs.Rounds.{Loss};
+ghost use Rattle.rounds.specs.Services.{HasServed, InService};
+
+use crate::crowd::Crowd;
+use crate::hub::Hub;
+use desk::{Begin, Deferred, Desk};
+use keep::Keep;
+use std::alloc::Global;
+use std::io;
+use std::time::Duration;
+
+/// How many bytes are read at a time, at the most.
+const PIECE: usize = 32 * 1024;
+
+/// How many turns go by behind the one that stopped the desk, so that connections are told.
+const LAST_TURNS: u32 = 3;
+
+/// What a service is asked for.
+#[derive(Clone, Copy)]
+pub struct Terms {
+    /// How many connections are served.
+    pub connections: usize,
+    /// How many may be there at once, at least one.
+    pub clients: usize,
+    /// How many questions are answered in a round, at the most.
+    pub together: usize,
+}
+
+/// Why a service has ended before its time.
+#[derive(Clone, Copy, Debug, PartialEq, Eq)]
+pub enum ServiceFault {
+    /// Memory was refused before anything was begun.
+    Memory,
+    /// The crowd failed.
+    Crowd,
+    /// The desk is stopped.
+    Stopped,
+}
+
+impl<D: Begin + Drop, C: Crowd + Drop> Hub<D, C> {
+    /// Lets in all who wait, up to so many in all.
+    fn let_in_all(&mut self, alloc: Global, most: usize)
+        requires some { 1 ≤ length self.old.places.lines }
+        requires within { self.old.places.connections ≤ most }
+        ensures served { (first : C) (loss : Option Loss) (start now : Snapshot)
+            → IsServing (speaks D.language D.has_found D.asks C.Stream.remaining C.Stream.contents) (listening C.comes C.closes C.waits)
+            first loss start now self.old
+            → IsServing (speaks D.language D.has_found D.asks C.Stream.remaining C.Stream.contents) (listening C.comes C.closes C.waits)
+            first loss start now self.new }
+        ensures size { length self.new.places.lines ≡ length self.old.places.lines }
+        ensures within { self.new.places.connections ≤ most }
+    {
+        for _one in 0..most {
+            if most <= self.connections() || !self.let_in(alloc) {
+                return;
+            }
+        }
+    }
+
+    /// A turn: whoever waits is let in, what has come is read, a round is held and its answers are written. Whether anybody is
+    /// there, and whether something can be done before the crowd tells more.
+    fn turn<K: Keep>(
+        &mut self,
+        alloc: Global,
+        terms: &Terms,
+        is_busy: bool,
+        piece: &mut [u8],
+        desk: &mut Desk<Deferred<K>>,
+    ) -> io::Result<(bool, bool)>
+        requires going { D.may_stop → ⊥ }
+        requires settled { desk.old.keep.changes ≡ [] }
+        requires some { 1 ≤ length self.old.places.lines }
+        requires within { self.old.places.connections ≤ terms.now.connections }
+        requires room { 0 < length piece.old }
+        ensures served { (first : C) (start : Snapshot) → InService (speaks D.language D.has_found D.asks C.Stream.remaining C.Stream.contents) (listening C.comes C.closes C.waits) K.Keep
+            first start desk.old self.old
+            → InService (speaks D.language D.has_found D.asks C.Stream.remaining C.Stream.contents) (listening C.comes C.closes C.waits) K.Keep
+            first start desk.new self.new }
+        ensures settled { desk.new.keep.changes ≡ [] }
+        ensures size { length self.new.places.lines ≡ length self.old.places.lines }
+        ensures within { self.new.places.connections ≤ terms.now.connections }
+    {
+        self.begin_turn();
+        let most = if is_busy { Some(Duration::ZERO) } else { None };
+        self.wait(most)?;
+        self.let_in_all(alloc, terms.connections);
+        self.gather(alloc, terms.together, piece)?;
+        self.round(alloc, terms.together, desk);
+        Ok(self.tell_all(alloc))
+    }
+
+    /// Turn by turn, until so many have come and all have left again, or, where the desk is stopped, some turns behind that.
+    fn serve<K: Keep>(
+        &mut self,
+        alloc: Global,
+        terms: &Terms,
+        desk: &mut Desk<Deferred<K>>,
+    ) -> Result<(), ServiceFault>
+        requires going { D.may_stop → ⊥ }
+        requires settled { desk.old.keep.changes ≡ [] }
+        requires some { 1 ≤ length self.old.places.lines }
+        requires within { self.old.places.connections ≤ terms.now.connections }
+        ensures served { (first : C) (start : Snapshot) → InService (speaks D.language D.has_found D.asks C.Stream.remaining C.Stream.contents) (listening C.comes C.closes C.waits) K.Keep
+            first start desk.old self.old
+            → InService (speaks D.language D.has_found D.asks C.Stream.remaining C.Stream.contents) (listening C.comes C.closes C.waits) K.Keep
+            first start desk.new self.new }
+        ensures within { self.new.places.connections ≤ terms.now.connections }
+        ensures all { OnOk result ((self.new.places.connections ≡ terms.now.connections)
+            × (desk.new.keep.stopped ≡ false)) }
+        ensures stop { result ≡ Err ServiceFault.Stopped → IsTrue desk.new.keep.stopped }
+    {
+        let mut piece = [0; PIECE];
+        let mut is_busy = true;
+        let mut last = 0u32;
+        for _turn in 0..u64::MAX {
+            let Ok((is_open, more)) = self.turn(alloc, terms, is_busy, &mut piece, desk) else {
+                return Err(ServiceFault::Crowd);
+            };
+            is_busy = more;
+            if desk.is_stopped() {
+                if last == LAST_TURNS {
+                    return Err(ServiceFault::Stopped);
+                }
+                last += 1;
+                is_busy = true;
+            } else if !is_open && self.connections() == terms.connections {
+                return Ok(());
+            }
+        }
+        Err(ServiceFault::Crowd)
+    }
+}
+
+/// Serves so many connections, many at once, on a desk whose commits are put off: in rounds, each of which is kept in one
+/// transaction before its answers are written. All connections are closed at the end, and the crowd comes back.
+///
+/// `Memory` where memory is refused before anything is begun; `Crowd` where the crowd fails; `Stopped` where a round could not
+/// be kept, which stops the desk. Of that round nothing is told but `stopped`: a stop then leaves the rows before it, or those
+/// behind it.
+pub fn serve_rounds<D: Begin + Drop, C: Crowd + Drop, K: Keep>(
+    alloc: Global,
+    desk: &mut Desk<Deferred<K>>,
+    crowd: C,
+    terms: &Terms,
+) -> (C, Result<(), ServiceFault>)
+    requires going { D.may_stop → ⊥ }
+    requires goes { desk.old.keep.stopped ≡ false }
+    requires settled { desk.old.keep.changes ≡ [] }
+    requires clients { 1 ≤ terms.now.clients }
+    ensures whole { OnOk result.1 ((desk.new.keep.stopped ≡ false)
+        × HasServed (speaks D.language D.has_found D.asks C.Stream.remaining C.Stream.contents) (listening C.comes C.closes C.waits) K.Keep
+        crowd result.0 terms.now.connections desk.old desk.new) }
+    ensures cut { OnErr result.1 ((count : ℕ) × (count ≤ terms.now.connections)
+        × HasServed (speaks D.language D.has_found D.asks C.Stream.remaining C.Stream.contents) (listening C.comes C.closes C.waits) K.Keep
+        crowd result.0 count desk.old desk.new) }
+    ensures stop { result.1 ≡ Err ServiceFault.Stopped → IsTrue desk.new.keep.stopped }
+{
+    desk.is_kept();
+    let mut hub = match Hub::<D, C>::new(alloc, crowd, terms.clients) {
+        Ok(hub) => hub,
+        Err(crowd) => return (crowd, Err(ServiceFault::Memory)),
+    };
+    let ended = hub.serve(alloc, terms, desk);
+    hub.close_all();
+    (hub.into_crowd(), ended)
+}

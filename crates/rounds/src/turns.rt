@@ -1,0 +1,246 @@
+//! The turns of a round: what is asked at each place, and what becomes of the answers.
+
+ghost use Rattle.std.specs.Prelude.{◌≡◌, ◌≢◌, ◌<◌, ◌≤◌, ◌⊎◌, [], false, length, List, ℕ, option_map, IsTrue, OnErr, OnOk};
+ghost use Rattle.book.specs.Good.{Good};
+ghost use Rattle.book.specs.Ledger.{Ledger};
+ghost use Rattle.desk.specs.Deferred.{snapshot_off};
+ghost use Rattle.desk.specs.Desk.{IsStored, LeavesEither, Snapshot};
+ghost use Rattle.rounds.specs.Lines.{Heard, Said, speaks};
+ghost use Rattle.rounds.specs.Rounds.{AtEach, HasTurnAt, InRound, IsForgotten, IsLooked, IsRead, IsShown, IsWritten, OnlyPutsOff, SameAt, standing_at};
+
+use crate::line::Line;
+use crate::standing::Standing;
+use crate::stream::Stream;
+use desk::{CallFault, Deferred, Desk, Dialogue};
+use keep::Keep;
+use std::alloc::Global;
+use std::io;
+
+/// The stream at a place that somebody left.
+pub fn stream_of<D: Dialogue + Drop, S: Stream + Drop>(line: Option<Line<D, S>>) -> Option<S>
+    ensures { result ≡ option_map (λ l. l.stream) line }
+{
+    match line {
+        Some(line) => Some(line.into_stream()),
+        None => None,
+    }
+}
+
+/// How a place stands.
+pub fn standing_at<D: Dialogue + Drop, S: Stream + Drop>(line: &Option<Line<D, S>>) -> Standing
+    ensures { result ≡ standing_at line.now }
+{
+    match line {
+        Some(line) => line.standing(),
+        None => Standing::Free,
+    }
+}
+
+/// Looks for a question at a place, where none waits; whether one waits then.
+pub fn look_at<D: Dialogue + Drop, S: Stream + Drop>(
+    alloc: Global,
+    line: &mut Option<Line<D, S>>,
+) -> bool
+    ensures { IsLooked (speaks D.language D.has_found D.asks S.remaining S.contents) line.old line.new }
+{
+    match line {
+        Some(line) => line.look(alloc),
+        None => false,
+    }
+}
+
+/// Reads a piece at a place, where more is wanted.
+pub fn read_at<D: Dialogue + Drop, S: Stream + Drop>(
+    alloc: Global,
+    line: &mut Option<Line<D, S>>,
+    piece: &mut [u8],
+) -> io::Result<Option<usize>>
+    requires { 0 < length piece.old }
+    ensures { IsRead (speaks D.language D.has_found D.asks S.remaining S.contents) line.old line.new }
+{
+    let Some(line) = line else {
+        return Ok(None);
+    };
+    if !line.wants() {
+        return Ok(None);
+    }
+    match line.read(alloc, piece) {
+        Ok(count) => Ok(Some(count)),
+        Err(error) => Err(error),
+    }
+}
+
+/// Writes what is to be written at a place, as far as it is taken.
+pub fn write_at<D: Dialogue + Drop, S: Stream + Drop>(
+    line: &mut Option<Line<D, S>>,
+) -> io::Result<Option<usize>>
+    ensures { IsWritten (speaks D.language D.has_found D.asks S.remaining S.contents) line.old line.new }
+{
+    let Some(line) = line else {
+        return Ok(None);
+    };
+    if line.is_gone() || line.output().is_empty() {
+        return Ok(None);
+    }
+    match line.write() {
+        Ok(count) => Ok(Some(count)),
+        Err(error) => Err(error),
+    }
+}
+
+/// One place has its turn. Whether a question was answered.
+fn turn_at<D: Dialogue + Drop, S: Stream + Drop, K: Keep>(
+    alloc: Global,
+    line: &mut Option<Line<D, S>>,
+    desk: &mut Desk<Deferred<K>>,
+) -> bool
+    requires going { D.may_stop → ⊥ }
+    ensures turn { HasTurnAt (speaks D.language D.has_found D.asks S.remaining S.contents) line.old line.new
+        (snapshot_off desk.old) (snapshot_off desk.new) }
+    ensures off { OnlyPutsOff desk.old desk.new }
+{
+    desk.is_stopped();
+    match line {
+        Some(line) => line.turn(alloc, desk),
+        None => false,
+    }
+}
+
+/// How many more may be answered.
+fn left_of(left: usize, is_answered: bool) -> usize {
+    if is_answered {
+        left.saturating_sub(1)
+    } else {
+        left
+    }
+}
+
+/// Answers a question of each connection from a place on, up to `most` of them: how many more may be answered, and the place
+/// behind the last.
+fn ask_from<D: Dialogue + Drop, S: Stream + Drop, K: Keep>(
+    alloc: Global,
+    lines: &mut [Option<Line<D, S>>],
+    first: usize,
+    most: usize,
+    desk: &mut Desk<Deferred<K>>,
+) -> (usize, usize)
+    requires going { D.may_stop → ⊥ }
+    ensures seats { AtEach SameAt lines.old lines.new }
+    ensures asked { (heard : ℕ → Heard D.Asked D.Told) (start : Snapshot)
+        → InRound (speaks D.language D.has_found D.asks S.remaining S.contents) start (snapshot_off desk.old) lines.old heard
+        → InRound (speaks D.language D.has_found D.asks S.remaining S.contents) start (snapshot_off desk.new) lines.new heard }
+    ensures off { OnlyPutsOff desk.old desk.new }
+{
+    desk.is_stopped();
+    let mut left = most;
+    for place in first..lines.len() {
+        if left == 0 {
+            return (0, place);
+        }
+        let is_answered = turn_at(alloc, &mut lines[place], desk);
+        left = left_of(left, is_answered);
+    }
+    (left, lines.len())
+}
+
+/// Answers questions of all connections in turn, one of each from a place on, and then more of those that have more, up to
+/// `most` of them: the place with which the next round begins.
+pub fn ask_all<D: Dialogue + Drop, S: Stream + Drop, K: Keep>(
+    alloc: Global,
+    lines: &mut [Option<Line<D, S>>],
+    first: usize,
+    most: usize,
+    desk: &mut Desk<Deferred<K>>,
+) -> usize
+    requires going { D.may_stop → ⊥ }
+    ensures seats { AtEach SameAt lines.old lines.new }
+    ensures asked { (heard : ℕ → Heard D.Asked D.Told) (start : Snapshot)
+        → InRound (speaks D.language D.has_found D.asks S.remaining S.contents) start (snapshot_off desk.old) lines.old heard
+        → InRound (speaks D.language D.has_found D.asks S.remaining S.contents) start (snapshot_off desk.new) lines.new heard }
+    ensures off { OnlyPutsOff desk.old desk.new }
+{
+    desk.is_stopped();
+    let mut left = most;
+    let mut from = first;
+    for _turns in 0..most {
+        let (rest, end) = ask_from(alloc, lines, from, left, desk);
+        if rest == 0 {
+            return end;
+        }
+        if rest == left && from == 0 {
+            return 0;
+        }
+        left = rest;
+        from = 0;
+    }
+    0
+}
+
+/// Shows what is hidden at a place.
+fn show_at<D: Dialogue + Drop, S: Stream + Drop>(alloc: Global, line: &mut Option<Line<D, S>>)
+    ensures { IsShown (speaks D.language D.has_found D.asks S.remaining S.contents) line.old line.new }
+{
+    if let Some(line) = line {
+        line.show(alloc);
+    }
+}
+
+/// Shows what is hidden at each place.
+pub fn show_all<D: Dialogue + Drop, S: Stream + Drop>(
+    alloc: Global,
+    lines: &mut [Option<Line<D, S>>],
+)
+    ensures { AtEach (IsShown (speaks D.language D.has_found D.asks S.remaining S.contents)) lines.old lines.new }
+{
+    for place in 0..lines.len() {
+        show_at(alloc, &mut lines[place]);
+    }
+}
+
+/// Forgets what is hidden at a place.
+fn forget_at<D: Dialogue + Drop, S: Stream + Drop>(line: &mut Option<Line<D, S>>)
+    ensures { IsForgotten (speaks D.language D.has_found D.asks S.remaining S.contents) line.old line.new }
+{
+    if let Some(line) = line {
+        line.forget();
+    }
+}
+
+/// Forgets what is hidden at each place.
+pub fn forget_all<D: Dialogue + Drop, S: Stream + Drop>(lines: &mut [Option<Line<D, S>>])
+    ensures { AtEach (IsForgotten (speaks D.language D.has_found D.asks S.remaining S.contents)) lines.old lines.new }
+{
+    for place in 0..lines.len() {
+        forget_at(&mut lines[place]);
+    }
+}
+
+/// Keeps what was put off in a round of a desk that was stopped before it, or not. Where it is stopped by the round, nothing of
+/// that is told.
+pub fn settle_round<K: Keep>(
+    desk: &mut Desk<Deferred<K>>,
+    was_stopped: bool,
+) -> Result<(), CallFault>
+    ensures ledger { desk.new.ledger ≡ desk.old.ledger }
+    ensures ok { OnOk result ((desk.new.keep.stopped ≡ desk.old.keep.stopped)
+        × (was_stopped ≡ false → desk.new.keep.stopped ≡ false)) }
+    ensures err { OnErr result (IsTrue desk.new.keep.stopped × (IsTrue was_stopped → desk.old.keep.changes ≢ [])) }
+    ensures none { desk.new.keep.changes ≡ [] }
+    ensures honest { K.is_honest desk.new.keep.keep → K.is_honest desk.old.keep.keep }
+    ensures untouched { IsTrue desk.old.keep.stopped → desk.new.keep.keep ≡ desk.old.keep.keep }
+    ensures stored { OnOk result (desk.new.keep.stopped ≡ false → K.is_honest desk.new.keep.keep
+        → IsStored (K.holds desk.new.keep.keep) (K.leaves desk.new.keep.keep) desk.new.ledger) }
+    ensures either { OnErr result (desk.old.keep.stopped ≡ false → K.is_honest desk.new.keep.keep → (A : Ledger) → Good A
+        → IsStored (K.holds desk.old.keep.keep) (K.leaves desk.old.keep.keep) A
+        → LeavesEither (K.leaves desk.new.keep.keep) A desk.old.ledger) }
+{
+    match desk.settle() {
+        Ok(()) => {
+            if desk.is_stopped() && !was_stopped {
+                return Err(CallFault::Stopped);
+            }
+            Ok(())
+        }
+        Err(fault) => Err(fault),
+    }
+}
