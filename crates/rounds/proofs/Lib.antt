@@ -3,6 +3,7 @@ pub mod Orders
 pub mod OneLine
 pub mod Saying
 pub mod OneTurn
+pub mod Telling
 pub mod Reaching
 pub mod Settings
 pub mod Serving

@@ -9,7 +9,7 @@ use Rattle.desk.specs.declared.fault.CallFault.TheVariants.{Memory, Stopped}
 use Rattle.rounds.specs.declared.phase.Phase.TheVariants.{Asks, Over, Wants}
 use Rattle.rounds.specs.Lines.{Ask, Heard, IsHeard, IsTold, LineView, Said, Speaks, answers_of, questions_of, with_piece, with_said, with_written}
 use Rattle.rounds.specs.Rounds.{HasTurn}
-use Rattle.rounds.proofs.Reaching.{AreSettled, begins_shorter, texts_joined}
+use Rattle.rounds.proofs.Telling.{AreSettled, begins_shorter, texts_joined}
 use Rattle.rounds.proofs.Saying.{with_none}
 
 -- ---- lists

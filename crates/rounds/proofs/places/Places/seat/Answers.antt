@@ -2,7 +2,8 @@ use Rattle.std.proofs.Common.{◌≡◌, ◌++◌, ◌∷◌, ◌+◌, [], None,
 use Rattle.std.specs.Prelude.{slice_get}
 use Rattle.rounds.specs.Histories.{IsReached, visit_of}
 use Rattle.rounds.specs.Lines.{IsTold, speaks, unheard}
-use Rattle.rounds.proofs.Reaching.{reach_seat, told_of}
+use Rattle.rounds.proofs.Reaching.{reach_seat}
+use Rattle.rounds.proofs.Telling.{told_of}
 use Rattle.rounds.proofs.Saying.{with_none}
 use Rattle.rounds.proofs.places.Places.seat.Goals as goal
 
