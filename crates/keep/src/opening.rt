@@ -2,7 +2,8 @@
 
 ghost use Rattle.std.specs.Prelude.{◌≡◌, ℕ, [], ◌∷◌, false, None, IsTrue, IfErr, IfOk};
 ghost use Rattle.sqlite.specs.State.{HasCleanDisk};
-ghost use Rattle.sqlite.specs.Files.{file_state, HoldsDatabase};
+ghost use Rattle.sqlite.specs.Files.{file_state, HoldsDatabase, IsBlankAs};
+ghost use Rattle.sqlite_store.specs.FileStore.{view};
 ghost use Rattle.sqlite.specs.Opening.{is_open_error};
 ghost use Rattle.sqlite.specs.WalFiles.{image_at};
 ghost use Rattle.sqlite_trees.specs.Tree.{Trees};
@@ -26,8 +27,8 @@ pub(crate) fn over_files<D: Disk + Drop>(conn: Connection<FileStore<D>>) -> SqlK
 }
 
 /// A keeper over the file of this path, whose bytes at the start are named by `start`: it holds what they hold, and a
-/// stop leaves that alone; its connection is set as a new one. A file that is not there is made, without tables. The
-/// error is that of the open, and none of a statement.
+/// stop leaves that alone; its connection is set as a new one. A file that is not there is made, without tables and
+/// without sums of its pages. The error is that of the open, and none of a statement.
 pub fn open_path<S: Start>(
     rt: &HostRuntime,
     path: &str,
@@ -43,6 +44,9 @@ pub fn open_path<S: Start>(
         → (file_state keep.connection).may_leave trees → trees ≡ (file_state keep.connection).now.trees) }
     ensures alone { IfOk result (λ keep. HasCleanDisk (file_state keep.connection) → (x : Content)
         → Holds (file_state keep.connection).now x → LeavesOnly (file_state keep.connection).may_leave (x ∷ [])) }
+    // the pages of a blank file get no sums
+    ensures plain { IfOk result (λ keep. HasCleanDisk (file_state keep.connection) → IsBlankAs false (image_at S.Start)
+        → (view keep.connection.store).has_sums ≡ false) }
     ensures error { IfErr result (λ error. IsTrue (is_open_error error)) }
 {
     match Connection::open_from(rt, path, false, start) {

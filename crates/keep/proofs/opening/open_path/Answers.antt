@@ -1,7 +1,8 @@
-use Rattle.std.proofs.Common.{[], ◌∷◌, ◌≡◌, ap, rules, subst, sym}
+use Rattle.std.proofs.Common.{[], ◌∷◌, ◌≡◌, ap, false, rules, subst, sym}
 use Rattle.sqlite.specs.State.{HasCleanDisk}
 use Rattle.sqlite.specs.Files.{file_state}
 use Rattle.sqlite.specs.Effect.{Database}
+use Rattle.sqlite_store.specs.FileStore.{view}
 use Rattle.keep.specs.Content.{Holds, HoldsOf, IsContentOf, LeavesOnly}
 use Rattle.keep.proofs.NextOpen.{holds_content}
 use Rattle.keep.proofs.opening.open_path.Goals as goal
@@ -30,6 +31,12 @@ returns-in-Ok-clause-shown g c clean trees left =
     let first : HasCleanDisk (file_state c.in-Ok.conn) = subst (λ h. HasCleanDisk (file_state h)) same clean in
     let opened = c.in-Ok.ensures.opened first in
     subst (λ h. trees ≡ (file_state h).now.trees) (sym same) (c.over_files.ensures.shown opened.0.is_open trees (subst (λ h. (file_state h).may_leave trees) same left))
+
+pub returns-in-Ok-clause-plain : goal.returns-in-Ok-clause-plain
+returns-in-Ok-clause-plain g c clean blank =
+    let same : c.over_files.result.connection ≡ c.in-Ok.conn = ap (λ k. k.connection) c.over_files.ensures.keeper in
+    let first : HasCleanDisk (file_state c.in-Ok.conn) = subst (λ h. HasCleanDisk (file_state h)) same clean in
+    subst (λ h. (view h.store).has_sums ≡ false) (sym same) (c.in-Ok.ensures.sums first blank)
 
 pub returns-in-Ok-clause-going : goal.returns-in-Ok-clause-going
 returns-in-Ok-clause-going g c = search rules
