@@ -15,6 +15,7 @@ use keep::Keep;
 use std::alloc::Global;
 use std::io;
 use std::time::Duration;
+use thiserror::Error;
 
 /// How many bytes are read at a time, at the most.
 const PIECE: usize = 32 * 1024;
@@ -34,13 +35,16 @@ pub struct Terms {
 }
 
 /// Why a service has ended before its time.
-#[derive(Clone, Copy, Debug, PartialEq, Eq)]
+#[derive(Clone, Copy, Debug, PartialEq, Eq, Error)]
 pub enum ServiceFault {
     /// Memory was refused before anything was begun.
+    #[error("no memory")]
     Memory,
     /// The crowd failed.
+    #[error("no connection can be had")]
     Crowd,
     /// The desk is stopped.
+    #[error("the desk is stopped")]
     Stopped,
 }
 
