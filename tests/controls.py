@@ -17,6 +17,7 @@ from collections.abc import Callable
 from concurrent.futures import ThreadPoolExecutor
 from dataclasses import dataclass
 from queue import SimpleQueue
+from typing import NoReturn
 
 # no folder of compiled modules beside the sources
 sys.dont_write_bytecode = True
@@ -178,10 +179,25 @@ def attempt_all(edits: list[Edit]) -> int:
         return sum(pool.map(failed_in, crates))
 
 
+def refuse(why: str) -> NoReturn:
+    print(f"check: {why}", file=sys.stderr)
+    sys.exit(2)
+
+
+def named_crates(names: list[str]) -> list[str]:
+    """The crates of these names, or all of them where none is named."""
+    known = crates_of(os.path.join(TOP, "crates.txt"))
+    for name in names:
+        if name not in known:
+            refuse(f"crates.txt has no crate {name}")
+    return names or known
+
+
 def main():
     named, _, words = " ".join(sys.argv[1:]).partition("-- ")
-    crates = named.split() or crates_of(os.path.join(TOP, "crates.txt"))
-    edits, without = chosen(crates, words.split())
+    edits, without = chosen(named_crates(named.split()), words.split())
+    if not edits and not without:
+        refuse("no edit has such a name")
     for edit in without:
         print(f"{edit}: HAS NO CONTROL", flush=True)
     failed = attempt_all(edits) + len(without)

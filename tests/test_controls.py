@@ -63,3 +63,10 @@ class Controls(unittest.TestCase):
         for control in ["1 + 1", "1 + 2"]:
             lines, failed = told({"more-edits/a.edit": WITH.replace("control: 2", f"control: {control}")})
             expect(failed and "NOT PROVED" in lines[0], f"{control}: {lines}")
+
+    def test_a_look_at_nothing_is_refused(self):
+        """As a crate is named that is not there, or a part of no edit's name."""
+        for words in [["none"], ["small", "none"], ["small", "--", "none"]]:
+            with contextlib.redirect_stderr(io.StringIO()) as why:
+                found = told({"must-fail/a.edit": WITH}, *words)
+            expect(found == ([], 2) and why.getvalue().startswith("check: "), f"{words}: {found}, {why.getvalue()}")
